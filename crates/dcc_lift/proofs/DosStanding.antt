@@ -29,7 +29,7 @@ use Rattle.dcc_lift.proofs.MirrorLaws.{mirrors_half, mirrors_state, fits_taking,
 use Rattle.dcc_lift.proofs.Standing.{BothStand, IsInstruction, IsPassed, IsLeft, is_lifted_number, step-is, successors-are, first-of-one, no-some}
 
 -- the four numbers
-data IsLiftedNumber : ℕ → Type 0 where
+pub data IsLiftedNumber : ℕ → Type 0 where
   put : IsLiftedNumber 0x02
   leave : IsLiftedNumber 0x4C
   echoed_key : IsLiftedNumber 0x01
@@ -39,7 +39,7 @@ either : (a b : Bool) → (a || b) ≡ true → (a ≡ true) ⊎ (b ≡ true)
 either true b e = inl refl
 either false b e = inr e
 
-lifted-number : (n : ℕ) → is_lifted_number n ≡ true → IsLiftedNumber n
+pub lifted-number : (n : ℕ) → is_lifted_number n ≡ true → IsLiftedNumber n
 lifted-number n h =
     elim (either (n == 0x02) ((n == 0x4C) || ((n == 0x01) || (n == 0x08))) h) [
       | inl two ↦ subst IsLiftedNumber (sym (eqb-true n 0x02 two)) put

@@ -42,6 +42,7 @@ pub mod WantedLaws
 pub mod WantedChains
 pub mod WantedFound
 pub mod DosStanding
+pub mod CleanSteps
 pub mod StartLaws
 pub mod RunLaws
 pub mod EndsLaws

@@ -1,18 +1,23 @@
 -- The lifted program is to the executable what the contract says.
-use Rattle.std.proofs.Common.{All, ◌≡◌, true, List, [], sym, subst}
+use Rattle.std.proofs.Common.{All, ◌≡◌, true, false, List, [], sym, subst}
 use Rattle.std.specs.List.{list_all}
+use Rattle.dcc_run.specs.Watched.{state}
+use Rattle.dcc_run.specs.Shadows.{Shadows, KeepsPace, only}
 use Rattle.dcc_prog.specs.declared.image.Image.{Image}
 use Rattle.dcc_prog.specs.declared.procedure.Layout.{Layout}
 use Rattle.dcc_prog.specs.declared.procedure.Proc.{Proc}
 use Rattle.dcc_prog.specs.MzImage.{IsLoaded}
 use Rattle.dcc_prog.specs.Layout.{HasLayout}
+use Rattle.dcc_prog.specs.Watch.{is_foul, watched_machine, first_watch}
 use Rattle.dcc_lift.proofs.OneProcedure.{IsOneFound}
 use Rattle.dcc_ir.specs.Tree.{Program}
 use Rattle.dcc_ir.specs.WellFormed.{is_stmt}
+use Rattle.dcc_ir.specs.Run.{watched_inner, first_state}
+use Rattle.dcc_ir.specs.Keeps.{has_block}
 use Rattle.dcc_lift.specs.Statements.{op_stmts}
 use Rattle.dcc_lift.specs.Translation.{IsTranslation}
 use Rattle.dcc_lift.specs.Lifting.{IsLiftableProcedure}
-use Rattle.dcc_lift.specs.Lifted.{ShadowsMachine, MachineKeepsPace, IsLifted, IsLiftOf}
+use Rattle.dcc_lift.specs.Lifted.{ShadowsMachine, IsAlwaysClean, MachineKeepsPace, steps_between, steps_at_start, IsLifted, IsLiftOf}
 use Rattle.dcc_lift.proofs.MirrorLaws.{values_fit}
 use Rattle.dcc_lift.proofs.OperationMirrors.{OthersMirror, op_mirrors, op_keeps, op_single, op_tested}
 use Rattle.dcc_lift.proofs.ShiftMirrors.{shift_op_mirrors}
@@ -29,7 +34,7 @@ use Rattle.dcc_lift.specs.Demand.{WantsTheSame}
 use Rattle.dcc_lift.proofs.WantedFound.{found_wants}
 use Rattle.std.proofs.lemmas.List.Elements.{All-cons, All-nil}
 use Rattle.dcc_lift.proofs.EndsLaws.{never-stuck}
-use Rattle.dcc_lift.proofs.RunLaws.{run-shadows, machine-paced}
+use Rattle.dcc_lift.proofs.RunLaws.{run-shadows, always-clean, machine-paced}
 
 -- shifts, products and sign extensions
 others : OthersMirror
@@ -57,10 +62,22 @@ operations-lifted = record {
 module _ (image : Image) (layout : Layout) (procs : List Proc) (loaded : IsLoaded image) (has : HasLayout image layout) (are : IsOneFound image layout procs)
     (p : Program) (translation : IsTranslation image layout are.start p) where
   shadows-machine : ShadowsMachine image layout p
-  shadows-machine fill input small bytes = run-shadows operations-lifted image layout procs loaded has are p translation fill input bytes
+  shadows-machine analysed fill input same small bytes =
+      subst (λ l. (x : HasLayout image l) (y : IsOneFound image l procs) → IsTranslation image l y.start p
+      → Shadows (only (has_block p) (watched_machine analysed)) (first_watch image input) (watched_inner p fill) (first_state p fill input)) same
+      (λ x y z. run-shadows operations-lifted image analysed procs loaded x y p z fill input bytes) has are translation
 
   keeps-pace : MachineKeepsPace image layout p
-  keeps-pace input bytes = machine-paced operations-lifted image layout procs loaded has are p translation 0 input bytes
+  keeps-pace analysed input same bytes =
+      subst (λ l. (x : HasLayout image l) (y : IsOneFound image l procs) → IsTranslation image l y.start p
+      → KeepsPace (only (has_block p) (watched_machine analysed)) (first_watch image input) steps_at_start steps_between) same
+      (λ x y z. machine-paced operations-lifted image analysed procs loaded x y p z 0 input bytes) has are translation
+
+  runs-clean : IsAlwaysClean image layout
+  runs-clean analysed input n same bytes =
+      subst (λ l. (x : HasLayout image l) (y : IsOneFound image l procs) → IsTranslation image l y.start p
+      → is_foul (state (watched_machine analysed) n (first_watch image input)) ≡ false) same
+      (λ x y z. always-clean operations-lifted image analysed procs loaded x y p z 0 input bytes n) has are translation
 
   liftable : IsLiftableProcedure image layout are.start
   liftable = found-liftable image layout procs loaded has are
@@ -74,6 +91,7 @@ module _ (image : Image) (layout : Layout) (procs : List Proc) (loaded : IsLoade
     flags = translation-few image layout are.start p liftable translation;
     shallow = translation-shallow image layout are.start p loaded has liftable translation;
     runs = shadows-machine;
+    clean = runs-clean;
     pace = keeps-pace;
     never_stuck = never-stuck image layout procs loaded has are p translation;
     blocks = translation_has_blocks image layout are.start p translation are.entry liftable;

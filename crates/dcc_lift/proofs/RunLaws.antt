@@ -1,10 +1,13 @@
 -- The run of the lifted program shadows the machine's, which keeps pace: one step of the program, a block, stands for the
 -- machine's steps through the block's instructions, or at the start through the prelude.
-use Rattle.std.proofs.Common.{◌≡◌, ◌≢◌, ℕ, suc, ◌<◌, ◌≤◌, Bool, true, false, List, [], ◌∷◌, ◌++◌, length, Some, None, All, Contains, refl, sym, ap, ap₂, ◌∙◌, subst, ◌⊎◌, inl, inr, arith, eqb-true, true≢false}
-use Rattle.std.specs.Prelude.{if◌then◌else◌, ◌==◌, ◌||◌, flat_map, slice_get}
+use Rattle.std.proofs.Common.{◌≡◌, ℕ, zero, suc, ◌+◌, ◌-◌, ◌<◌, ◌≤◌, Bool, true, false, List, [], ◌∷◌, ◌++◌, length, Some, None, All, Contains, refl, sym, ap, ap₂, ◌∙◌, subst, inl, inr, arith, lit<, eqb-true}
+use Rattle.std.specs.Prelude.{if◌then◌else◌, ◌==◌, ◌||◌, flat_map, slice_get, slice_index, replicate}
 use Rattle.std.specs.List.{list_any}
+use Rattle.std.proofs.lemmas.Bool.{cases_lt}
+use Rattle.std.proofs.lemmas.List.{get_or_past}
 use Rattle.std.proofs.lemmas.List.Elements.{All-cons, All-weaker}
 use Rattle.dcc_run.specs.End.{Running, is_over}
+use Rattle.dcc_run.specs.System.{after}
 use Rattle.dcc_run.specs.Place.{Place}
 use Rattle.dcc_run.specs.Watched.{Watched, state, IsWatchable, IsQuiet, IsQuietUntil}
 use Rattle.dcc_run.specs.Shadows.{ComesTo, still_related, both_over, AreMatched, Matches, Shadows, IsMarked, KeepsPace, kept_mark, only}
@@ -15,25 +18,29 @@ use Rattle.dcc_prog.specs.declared.image.Image.{Image}
 use Rattle.dcc_prog.specs.declared.procedure.Layout.{Layout}
 use Rattle.dcc_prog.specs.declared.procedure.Node.{Node}
 use Rattle.dcc_prog.specs.declared.procedure.Proc.{Proc}
-use Rattle.dcc_prog.specs.declared.instr.Op.{Op}
-use Rattle.dcc_prog.specs.declared.instr.Op.TheVariants.{Call, Ret, Int21}
-use Rattle.dcc_prog.specs.Machine.{State as Machine}
+use Rattle.dcc_prog.specs.declared.frame.Program.{Program as Analysed}
+use Rattle.dcc_prog.specs.Machine.{State as Machine, start_state}
 use Rattle.dcc_prog.specs.Step.{step as machine_step}
 use Rattle.dcc_prog.specs.MzImage.{IsLoaded}
 use Rattle.dcc_prog.specs.Code.{code_of}
-use Rattle.dcc_prog.specs.Layout.{HasLayout}
+use Rattle.dcc_prog.specs.Layout.{HasLayout, state_after}
+use Rattle.dcc_prog.specs.StateForm.{IsState}
 use Rattle.dcc_lift.proofs.OneProcedure.{IsOneFound}
-use Rattle.dcc_prog.specs.Watch.{InProcedures, Watch, procedures_after, stage_after, watch_step, place_of, watched_machine, first_watch}
+use Rattle.dcc_prog.specs.Clean.{Stack, top_in, foul_of, stack_after, first_stack}
+use Rattle.dcc_prog.specs.Watch.{InProcedures, Watch, is_foul, watch_step, place_of, watched_machine, first_watch}
 use Rattle.dcc_prog.proofs.FetchLaws.{IsPlaced}
 use Rattle.dcc_prog.proofs.PreludeOffsets.{offset-far, offset-end, prelude-short, prelude-some, start-below}
-use Rattle.dcc_prog.proofs.WatchLaws.{machine_watchable, watch_moves, clean_after, watch_at, machine_at, prelude_running, in_the_prelude, past_the_prelude}
+use Rattle.dcc_prog.proofs.PreludeSteps.{state_after-is}
+use Rattle.dcc_prog.proofs.StateKept.{states-kept}
+use Rattle.dcc_prog.proofs.StartState.{starts-are}
+use Rattle.dcc_prog.proofs.CleanLaws.{no_stack-clean, no_stack-unmarked}
+use Rattle.dcc_prog.proofs.WatchLaws.{or-true, next-watch, machine_watchable, watch_moves, prelude_clean, watch_at, machine_at, prelude_running, in_the_prelude, past_the_prelude}
 use Rattle.dcc_ir.specs.Tree.{Exit, Graph, Program}
 use Rattle.dcc_ir.specs.Run.{State as Inner, value_in, block_step, exit_step, going_to, entering, watched_inner, first_state, step as inner_step}
 use Rattle.dcc_ir.specs.Keeps.{has_block}
 use Rattle.dcc_ir.proofs.PathLaws.{decided}
 use Rattle.dcc_ir.proofs.RunLaws.{inner_watchable}
 use Rattle.dcc_lift.specs.Statements.{op_test}
-use Rattle.dcc_lift.specs.Liftable.{is_liftable}
 use Rattle.dcc_lift.specs.Blocks.{Nodes, node_in, node_stmts, successors_in, IsChain, block_place, stmts_at, exit_at, last_of, IsBlockAt}
 use Rattle.dcc_lift.specs.Sound.{offsets_of, AreSound}
 use Rattle.dcc_lift.specs.Translation.{IsTranslation}
@@ -46,26 +53,15 @@ use Rattle.dcc_lift.proofs.TranslationLaws.{the_graph, block_at_leader, program_
 use Rattle.dcc_lift.proofs.CodeBounds.{loaded-placed}
 use Rattle.dcc_lift.proofs.FoundSound.{found-sound, node-instruction, few-nodes}
 use Rattle.dcc_lift.proofs.Standing.{AreLifted, IsInstruction, BothStand, IsPassed, fetched, passed}
+use Rattle.dcc_lift.proofs.CleanSteps.{int-or-other, AtTop, uses_no_stack, stays_at_top}
 use Rattle.dcc_lift.proofs.DosStanding.{IsDone, goes_on, ends, dos-done}
 use Rattle.dcc_lift.proofs.StartLaws.{begin, first-is, begin-step, set_up, after_prelude, prelude-steps, begun-stand}
 
--- an operation is INT 21h or another one
-int-or-other : (op : Op) → (op ≡ Int21) ⊎ (op ≢ Int21)
-int-or-other Int21 = inl refl
-int-or-other op = inr (λ e. cc)
+module _ (laws : AreLifted) (image : Image) (analysed : Analysed) (procs : List Proc) (loaded : IsLoaded image) (has : HasLayout image analysed.layout)
+    (are : IsOneFound image analysed.layout procs) (p : Program) (translation : IsTranslation image analysed.layout are.start p) (fill : ℕ) where
+  abbrev layout : Layout
+  layout = analysed.layout
 
--- what is lifted neither calls nor returns
-no-call : (op : Op) (entries : List ℕ) → is_liftable op ≡ true → procedures_after op entries ≡ entries
-no-call (Call target) entries l = absurd (true≢false (sym l))
-no-call (Ret count) entries l = absurd (true≢false (sym l))
-no-call op entries l = refl
-
-or-true : (b : Bool) → (b || true) ≡ true
-or-true true = refl
-or-true false = refl
-
-module _ (laws : AreLifted) (image : Image) (layout : Layout) (procs : List Proc) (loaded : IsLoaded image) (has : HasLayout image layout)
-    (are : IsOneFound image layout procs) (p : Program) (translation : IsTranslation image layout are.start p) (fill : ℕ) where
   abbrev start : Proc
   start = are.start
 
@@ -86,14 +82,18 @@ module _ (laws : AreLifted) (image : Image) (layout : Layout) (procs : List Proc
 
   -- the machine's run, of which the places of blocks are marked, and the program's
   abbrev pub machine : Watched Watch Place
-  machine = only (has_block p) (watched_machine layout)
+  machine = only (has_block p) (watched_machine analysed)
 
   abbrev pub inner : Watched Inner Place
   inner = watched_inner p fill
 
+  -- the stack where the procedure begins, as it stays
+  abbrev pub began : Stack
+  began = first_stack layout (state_after layout.cpu image has.prelude)
+
   -- the machine within the procedure
   abbrev pub within : Machine → Watch
-  within s = record { machine = s; stage = InProcedures (entry ∷ []) }
+  within s = record { machine = s; stage = InProcedures began }
 
   abbrev place : ℕ → Place
   place at = record { entry = entry; at = at }
@@ -103,6 +103,7 @@ module _ (laws : AreLifted) (image : Image) (layout : Layout) (procs : List Proc
     pub at : ℕ
     pub before : List ℕ
     pub both : BothStand image layout graph s t at before
+    pub top : AtTop layout s
     pub leader : is_leader nodes entry at ≡ true
     pub is_block : IsBlockAt layout.cpu nodes entry at t.running.block
     pub begins : t.running.begins ≡ true
@@ -118,9 +119,9 @@ module _ (laws : AreLifted) (image : Image) (layout : Layout) (procs : List Proc
       ]
 
   -- the run comes to the block at a leader
-  pub arrived : (s : Machine) (v : Inner) (to : ℕ) (before : List ℕ) → BothStand image layout graph s v to before → is_leader nodes entry to ≡ true
+  pub arrived : (s : Machine) (v : Inner) (to : ℕ) (before : List ℕ) → BothStand image layout graph s v to before → AtTop layout s → is_leader nodes entry to ≡ true
       → AtBlock s (going_to (block_place nodes entry to) v)
-  arrived s v to before both leader =
+  arrived s v to before both top leader =
       let h = block_at_leader image layout start p translation sound to leader in
       let found : slice_get v.running.graph.blocks (block_place nodes entry to) ≡ Some h.block = ap (λ (g : Graph). slice_get g.blocks (block_place nodes entry to)) both.graph_is ∙ h.found in
       subst (AtBlock s) (sym (ap (λ b. entering b v) found)) (record {
@@ -140,6 +141,7 @@ module _ (laws : AreLifted) (image : Image) (layout : Layout) (procs : List Proc
           bytes = both.bytes;
           ah = both.ah;
         };
+        top = top;
         leader = leader;
         is_block = h.is_block;
         begins = refl;
@@ -169,14 +171,18 @@ module _ (laws : AreLifted) (image : Image) (layout : Layout) (procs : List Proc
       ] in
       program_has_block image layout start p translation sound next ∙ ap₂ (λ a b. a || b) other no
 
-  -- an instruction that is lifted leaves the machine within the procedure
+  -- an instruction that is lifted is clean, and leaves the machine within the procedure
   within-steps : (s : Machine) (t : Inner) (at : ℕ) (before : List ℕ) (both : BothStand image layout graph s t at before) (node : Node)
-      → IsInstruction image layout nodes at node → watch_step layout (within s) ≡ within (machine_step layout.cpu s)
-  within-steps s t at before both node is =
-      watch_moves layout (within s) (not-over s both.running) refl
-      ∙ ap (λ found. record { machine = machine_step layout.cpu s; stage = stage_after layout found (machine_step layout.cpu s).ip (InProcedures (entry ∷ [])) })
-      (fetched image layout graph s t at before node.instr placed both is.stands)
-      ∙ ap (λ entries. record { machine = machine_step layout.cpu s; stage = InProcedures entries }) (no-call node.instr.op (entry ∷ []) is.liftable)
+      → IsInstruction image layout nodes at node → AtTop layout s → watch_step analysed (within s) ≡ within (machine_step layout.cpu s)
+  within-steps s t at before both node is top =
+      let uses = uses_no_stack image layout graph nodes placed has s t at before node both is top in
+      let found = fetched image layout graph s t at before node.instr placed both is.stands in
+      let start_of = state_after layout.cpu image has.prelude in
+      watch_moves analysed (within s) (not-over s both.running) refl
+      (ap (foul_of analysed began s) found ∙ no_stack-clean analysed began s node.instr uses)
+      ∙ ap (λ f. record { machine = machine_step layout.cpu s; stage = InProcedures (stack_after layout f s (machine_step layout.cpu s) began) }) found
+      ∙ ap (λ stack. record { machine = machine_step layout.cpu s; stage = InProcedures stack })
+      (no_stack-unmarked layout start_of s (machine_step layout.cpu s) node.instr uses)
 
   -- the machine's steps through what is left of a block, one and so many further ones, and where both runs then are
   record Through (further : ℕ) (s : Machine) (v : Inner) : Type 0 where
@@ -202,7 +208,7 @@ module _ (laws : AreLifted) (image : Image) (layout : Layout) (procs : List Proc
 
   -- the step through the last instruction of a block
   module _ (s : Machine) (t : Inner) (at : ℕ) (before : List ℕ) (both : BothStand image layout graph s t at before) (node : Node)
-      (is : IsInstruction image layout nodes at node) where
+      (is : IsInstruction image layout nodes at node) (top : AtTop layout s) where
     -- how the program's block ends, and where the machine has gone
     last-goes : (x : IsPassed image layout graph p.graphs fill node s t at before) (exit : Exit) → IsExitOf nodes entry node exit → exit_step exit x.next
         ≡ going_to (block_place nodes entry x.to) x.next
@@ -225,7 +231,7 @@ module _ (laws : AreLifted) (image : Image) (layout : Layout) (procs : List Proc
     last-through chain exit_is = record {
       quiet = quiet_once machine (within s);
       comes = subst (λ w. ComesTo machine inner InBlock w (block_step p.graphs fill (stmts_at layout.cpu nodes at ++ []) t))
-          (sym (within-steps s t at before both node is)) (come (instruction-done s t at before both node is));
+          (sym (within-steps s t at before both node is top)) (come (instruction-done s t at before both node is));
     }
       where
         stmts : stmts_at layout.cpu nodes at ≡ node_stmts layout.cpu (Some node)
@@ -244,7 +250,8 @@ module _ (laws : AreLifted) (image : Image) (layout : Layout) (procs : List Proc
             still_related (record {
               state_of = machine_step layout.cpu s;
               same = refl;
-              at_block = subst (AtBlock (machine_step layout.cpu s)) (sym run) (arrived (machine_step layout.cpu s) x.next x.to (at ∷ before) x.stand leader);
+              at_block = subst (AtBlock (machine_step layout.cpu s)) (sym run) (arrived (machine_step layout.cpu s) x.next x.to (at ∷ before) x.stand
+                  (stays_at_top image layout graph nodes placed has s t at before node both is top) leader);
             })
         come (ends x) =
             both_over (ap is_over x.machine)
@@ -252,26 +259,27 @@ module _ (laws : AreLifted) (image : Image) (layout : Layout) (procs : List Proc
             (ap (λ l. (block_step p.graphs fill (l ++ []) t).events) stmts ∙ x.inner_events [] ∙ both.events ∙ sym x.events)
 
   -- the steps through what is left of a block
-  chain-through : (rest : List ℕ) (s : Machine) (t : Inner) (at : ℕ) (before : List ℕ) → BothStand image layout graph s t at before
+  chain-through : (rest : List ℕ) (s : Machine) (t : Inner) (at : ℕ) (before : List ℕ) → BothStand image layout graph s t at before → AtTop layout s
       → IsChain nodes entry at rest → t.running.block.exit ≡ exit_at nodes entry (last_of at rest)
       → Through (length rest) s (block_step p.graphs fill (flat_map (stmts_at layout.cpu nodes) (at ∷ rest)) t)
-  chain-through [] s t at before both chain exit_is =
+  chain-through [] s t at before both top chain exit_is =
       let x = node-instruction image layout procs loaded has are at (record { before = before; trail = both.trail }) in
-      last-through s t at before both x.0 x.1 chain exit_is
-  chain-through (next ∷ rest) s t at before both chain exit_is =
+      last-through s t at before both x.0 x.1 top chain exit_is
+  chain-through (next ∷ rest) s t at before both top chain exit_is =
       let x = node-instruction image layout procs loaded has are at (record { before = before; trail = both.trail }) in
       let node : Node = x.0 in
       let is : IsInstruction image layout nodes at node = x.1 in
       let onwards = onward_tells nodes entry image.ip sound at next chain.0 in
       let succ : node.succ.items ≡ next ∷ [] = sym (succ-of at node is.found) ∙ onwards.succ in
       let stmts : stmts_at layout.cpu nodes at ≡ node_stmts layout.cpu (Some node) = ap (node_stmts layout.cpu) is.found in
-      let steps = sym (within-steps s t at before both node is) in
+      let steps = sym (within-steps s t at before both node is top) in
+      let after = stays_at_top image layout graph nodes placed has s t at before node both is top in
       elim (instruction-done s t at before both node is) [
         | ends y ↦ absurd (one-of-none next node.succ.items succ y.none)
         | goes_on y ↦
             let stand : BothStand image layout graph (machine_step layout.cpu s) y.next next (at ∷ before) =
             subst (λ n. BothStand image layout graph (machine_step layout.cpu s) y.next n (at ∷ before)) (only-to s t at before node y next succ) y.stand in
-            let later = chain-through rest (machine_step layout.cpu s) y.next next (at ∷ before) stand chain.1 (ap (λ b. b.exit) y.block ∙ exit_is) in
+            let later = chain-through rest (machine_step layout.cpu s) y.next next (at ∷ before) stand after chain.1 (ap (λ b. b.exit) y.block ∙ exit_is) in
             let run : block_step p.graphs fill (flat_map (stmts_at layout.cpu nodes) (at ∷ next ∷ rest)) t ≡ block_step p.graphs fill (flat_map (stmts_at layout.cpu nodes) (next ∷ rest)) y.next =
             ap (λ l. block_step p.graphs fill (l ++ flat_map (stmts_at layout.cpu nodes) (next ∷ rest)) t) stmts ∙ y.runs (flat_map (stmts_at layout.cpu nodes) (next ∷ rest)) in
             let here : IsQuiet machine (within (machine_step layout.cpu s)) = record {
@@ -316,7 +324,7 @@ module _ (laws : AreLifted) (image : Image) (layout : Layout) (procs : List Proc
       let s = x.state_of in
       let b = x.at_block in
       let block = b.is_block in
-      let y = chain-through block.rest s t b.at b.before b.both block.chain block.exit_is in
+      let y = chain-through block.rest s t b.at b.before b.both b.top block.chain block.exit_is in
       let stmts : t.running.rest ≡ flat_map (stmts_at layout.cpu nodes) (b.at ∷ block.rest) = b.rest_is ∙ block.stmts_are in
       let step_is : inner_step p fill t ≡ block_step p.graphs fill (flat_map (stmts_at layout.cpu nodes) (b.at ∷ block.rest)) t =
       ap (λ e. if is_over e then t else block_step p.graphs fill t.running.rest t) b.both.going ∙ ap (λ l. block_step p.graphs fill l t) stmts in
@@ -359,12 +367,38 @@ module _ (laws : AreLifted) (image : Image) (layout : Layout) (procs : List Proc
     abbrev far : ℕ
     far = length has.prelude
 
+    abbrev entered : Machine
+    entered = after_prelude image layout start p fill input loaded has translation bytes
+
+    -- SP is the same after the prelude, whatever the input
+    same-top : top_in layout entered ≡ top_in layout (state_after layout.cpu image has.prelude)
+    same-top = sym (ap (top_in layout) (state_after-is layout.cpu image has.prelude loaded has.is_prelude.run))
+
+    entered-top : AtTop layout entered
+    entered-top = record {
+      form = subst IsState (prelude-steps image layout start p fill input loaded has translation bytes)
+          (state-by far (start_state image input) (starts-are image input loaded input-bytes));
+      top = same-top ∙ sym has.left.hi;
+    }
+      where
+        input-bytes : (k : ℕ) → slice_index input k < 256
+        input-bytes k = elim (cases_lt k (length input)) [
+          | inl less ↦ bytes k 0 less
+          | inr past ↦ subst (λ b. b < 256) (sym (get_or_past input k 0 past)) (lit< tt)
+        ]
+
+        state-by : (n : ℕ) (s : Machine) → IsState s → IsState (after (machine_step layout.cpu) n s)
+        state-by zero s form = form
+        state-by (suc n) s form = state-by n (machine_step layout.cpu s) (states-kept.step layout.cpu s form)
+
     -- after the prelude the machine is in the procedure
-    past : watch_at image layout loaded has input far ≡ within (after_prelude image layout start p fill input loaded has translation bytes)
+    past : watch_at image analysed loaded has input far ≡ within entered
     past =
         ap₂ (λ m stage. record { machine = m; stage = stage })
-        (machine_at image layout loaded has input far ∙ prelude-steps image layout start p fill input loaded has translation bytes)
-        (past_the_prelude image layout loaded has input)
+        (machine_at image analysed loaded has input far (omega arith) ∙ prelude-steps image layout start p fill input loaded has translation bytes)
+        (past_the_prelude image analysed loaded has input
+        ∙ ap (λ m. InProcedures (first_stack layout m)) (prelude-steps image layout start p fill input loaded has translation bytes)
+        ∙ ap (λ n. InProcedures (record { frames = (record { entry = entry; base = n + 2 }) ∷ []; written = replicate 65536 false })) same-top)
 
     -- the first block stands for the machine's steps through the prelude
     start-matched : AreMatched machine inner InBlock (first_watch image input) begun
@@ -385,24 +419,65 @@ module _ (laws : AreLifted) (image : Image) (layout : Layout) (procs : List Proc
           other_steps = 1;
           others = omega arith;
           quiet = λ k some lt. record {
-            unmarked = ap (λ stage. kept_mark (has_block p) (place_of layout (record { machine = (watch_at image layout loaded has input k).machine; stage = stage })))
-                (in_the_prelude image layout loaded has input k some lt);
-            running = prelude_running image layout loaded has input k (omega (arith, lt));
-            clean = clean_after layout k (first_watch image input) refl;
+            unmarked = ap (λ stage. kept_mark (has_block p) (place_of layout (record { machine = (watch_at image analysed loaded has input k).machine; stage = stage })))
+                (in_the_prelude image analysed loaded has input k some lt);
+            running = prelude_running image analysed loaded has input k (omega (arith, lt));
+            clean = prelude_clean image analysed loaded has input k (omega (arith, lt));
           };
           other_quiet = quiet_once inner begun;
           comes = still_related (record {
-            state_of = after_prelude image layout start p fill input loaded has translation bytes;
+            state_of = entered;
             same = past;
-            at_block = subst (AtBlock (after_prelude image layout start p fill input loaded has translation bytes))
+            at_block = subst (AtBlock entered)
                 (sym (begin-step image layout start p fill input loaded has translation bytes))
-                (arrived (after_prelude image layout start p fill input loaded has translation bytes) set entry []
-                (begun-stand image layout start p fill input loaded has translation bytes (start-below image layout loaded has)) (entry_is_leader nodes entry image.ip sound));
+                (arrived entered set entry []
+                (begun-stand image layout start p fill input loaded has translation bytes (start-below image layout loaded has)) entered-top (entry_is_leader nodes entry image.ip sound));
           });
         }
 
+    -- No step is foul.
+
+    -- the machine is within the procedure beside some run of the program, or it has ended there
+    data IsWithin (v : Watch) : Type 0 where
+      beside : (s : Machine) (t : Inner) (at : ℕ) (before : List ℕ) → v ≡ within s → BothStand image layout graph s t at before → AtTop layout s → IsWithin v
+      ended : (s : Machine) → v ≡ within s → is_over s.end ≡ true → IsWithin v
+
+    steps-within : (v : Watch) → IsWithin v → IsWithin (watch_step analysed v)
+    steps-within v (ended s same over) = ended s (ap (watch_step analysed) same ∙ (machine_watchable analysed).lawful.stays (within s) over) over
+    steps-within v (beside s t at before same both top) =
+        let x = node-instruction image layout procs loaded has are at (record { before = before; trail = both.trail }) in
+        let next : watch_step analysed v ≡ within (machine_step layout.cpu s) = ap (watch_step analysed) same ∙ within-steps s t at before both x.0 x.1 top in
+        elim (instruction-done s t at before both x.0 x.1) [
+          | goes_on y ↦ beside (machine_step layout.cpu s) y.next y.to (at ∷ before) next y.stand
+              (stays_at_top image layout graph nodes placed has s t at before x.0 both x.1 top)
+          | ends y ↦ ended (machine_step layout.cpu s) next (ap is_over y.machine)
+        ]
+
+    within-by : (d : ℕ) → IsWithin (watch_at image analysed loaded has input (far + d))
+    within-by zero =
+        let e : far + 0 ≡ far = omega arith in
+        beside entered (set_up image layout start p fill input loaded has translation bytes) entry [] (ap (watch_at image analysed loaded has input) e ∙ past)
+        (begun-stand image layout start p fill input loaded has translation bytes (start-below image layout loaded has)) entered-top
+    within-by (suc d) =
+        let e : far + suc d ≡ suc (far + d) = omega arith in
+        subst IsWithin (sym (ap (watch_at image analysed loaded has input) e ∙ next-watch image analysed loaded has input (far + d)))
+        (steps-within (watch_at image analysed loaded has input (far + d)) (within-by d))
+
+    not-foul : (v : Watch) → IsWithin v → is_foul v ≡ false
+    not-foul v (beside s t at before same both top) = ap is_foul same
+    not-foul v (ended s same over) = ap is_foul same
+
+    pub always-clean : (n : ℕ) → is_foul (watch_at image analysed loaded has input n) ≡ false
+    always-clean n = elim (cases_lt n far) [
+      | inl less ↦ prelude_clean image analysed loaded has input n (omega (arith, less))
+      | inr le ↦
+          let e : far + (n - far) ≡ n = omega (arith, le) in
+          subst (λ m. is_foul (watch_at image analysed loaded has input m) ≡ false) e
+          (not-foul (watch_at image analysed loaded has input (far + (n - far))) (within-by (n - far)))
+    ]
+
     law : IsWatchable machine
-    law = only_watchable (watched_machine layout) (has_block p) (machine_watchable layout)
+    law = only_watchable (watched_machine analysed) (has_block p) (machine_watchable analysed)
 
     -- the program's run shadows the machine's
     pub run-shadows : Shadows machine (first_watch image input) inner (first_state p fill input)

@@ -1,14 +1,16 @@
 -- What the lifted program is to the executable.
-use Rattle.std.specs.Prelude.{◌≡◌, ◌≤◌, ◌<◌, ℕ, ◌+◌, ◌==◌, true, ◌&&◌, ◌||◌, List, [], ◌∷◌, All}
+use Rattle.std.specs.Prelude.{◌≡◌, ◌≤◌, ◌<◌, ℕ, ◌+◌, ◌==◌, true, false, ◌&&◌, ◌||◌, List, [], ◌∷◌, All}
 use Rattle.std.specs.List.{list_any}
+use Rattle.dcc_run.specs.Watched.{state}
 use Rattle.dcc_run.specs.Shadows.{Shadows, KeepsPace, only}
 use Rattle.dcc_prog.specs.declared.image.Image.{Image}
 use Rattle.dcc_prog.specs.declared.procedure.Node.{Node}
 use Rattle.dcc_prog.specs.declared.procedure.Proc.{Proc}
 use Rattle.dcc_prog.specs.declared.procedure.Layout.{Layout}
+use Rattle.dcc_prog.specs.declared.frame.Program.{Program as Analysed}
 use Rattle.dcc_prog.specs.declared.instr.Op.TheVariants.{Call}
 use Rattle.dcc_prog.specs.Trail.{next_of}
-use Rattle.dcc_prog.specs.Watch.{watched_machine, first_watch}
+use Rattle.dcc_prog.specs.Watch.{is_foul, watched_machine, first_watch}
 use Rattle.dcc_ir.specs.Tree.{Graph, Program}
 use Rattle.dcc_ir.specs.Use.{graph_exprs}
 use Rattle.dcc_ir.specs.Measure.{depth_of}
@@ -24,15 +26,24 @@ use Rattle.dcc_lift.specs.Translation.{data_image}
 
 -- Runs.
 
--- For every fill and input the program's run shadows the machine's: for each clean number of the machine's steps there
--- is a number of the program's, in which it has come to just those of its blocks at whose places the machine stood, in
--- their order and with equal events, and has ended alike where the machine has; and wherever it begins a block or ends
--- from then on, its events begin with the machine's.
+-- For every fill and input, and whatever analysed program with this layout tells which steps are clean, the program's
+-- run shadows the machine's: for each clean number of the machine's steps there is a number of the program's, in
+-- which it has come to just those of its blocks at whose places the machine stood, in their order and with equal
+-- events, and has ended alike where the machine has; and wherever it begins a block or ends from then on, its events
+-- begin with the machine's.
 abbrev pub ShadowsMachine : Image → Layout → Program → Type 0
 ShadowsMachine image layout p =
-    (fill : ℕ) (input : List ℕ) → fill < 65536 → All (λ byte. byte < 256) input
-    → Shadows (only (has_block p) (watched_machine layout)) (first_watch image input)
+    (analysed : Analysed) (fill : ℕ) (input : List ℕ) → analysed.layout ≡ layout → fill < 65536
+    → All (λ byte. byte < 256) input
+    → Shadows (only (has_block p) (watched_machine analysed)) (first_watch image input)
     (watched_inner p fill) (first_state p fill input)
+
+-- What is built so far uses no stack: no step of the machine is foul, on any input, whatever analysed program with this
+-- layout tells which steps are.
+abbrev pub IsAlwaysClean : Image → Layout → Type 0
+IsAlwaysClean image layout =
+    (analysed : Analysed) (input : List ℕ) (n : ℕ) → analysed.layout ≡ layout → All (λ byte. byte < 256) input
+    → is_foul (state (watched_machine analysed) n (first_watch image input)) ≡ false
 
 -- Between two places of blocks the machine runs no instruction of a procedure twice, and passes at most one call or
 -- return; a procedure has at most 4,096 instructions. So these are the most steps from the one place to the next.
@@ -43,11 +54,12 @@ steps_between = 8192
 abbrev pub steps_at_start : ℕ
 steps_at_start = 65535 + steps_between
 
--- for every input the machine comes to places of blocks, to its end or to where it is foul, within such numbers of steps
+-- for every input and analysed program with this layout the machine comes to places of blocks, to its end or to where
+-- it is foul, within such numbers of steps
 abbrev pub MachineKeepsPace : Image → Layout → Program → Type 0
 MachineKeepsPace image layout p =
-    (input : List ℕ) → All (λ byte. byte < 256) input
-    → KeepsPace (only (has_block p) (watched_machine layout)) (first_watch image input) steps_at_start steps_between
+    (analysed : Analysed) (input : List ℕ) → analysed.layout ≡ layout → All (λ byte. byte < 256) input
+    → KeepsPace (only (has_block p) (watched_machine analysed)) (first_watch image input) steps_at_start steps_between
 
 -- Blocks.
 
@@ -111,6 +123,7 @@ pub record IsLifted (image : Image) (layout : Layout) (start : Proc) (p : Progra
   pub flags : All (HasFewFlagStmts start) p.graphs
   pub shallow : All (IsShallow 7) p.graphs
   pub runs : ShadowsMachine image layout p
+  pub clean : IsAlwaysClean image layout
   pub pace : MachineKeepsPace image layout p
   pub never_stuck : IsNeverStuck p
   pub blocks : HasBlocks image start p

@@ -9,14 +9,15 @@ use Rattle.dcc_run.specs.Place.{Place}
 use Rattle.dcc_run.specs.Prefix.{IsPrefix}
 use Rattle.dcc_run.specs.System.{System, after, events_after, end_after}
 use Rattle.dcc_run.specs.Agreement.{KeepsUp}
-use Rattle.dcc_run.specs.Watched.{Watched, IsWatchable, is_shown}
+use Rattle.dcc_run.specs.Watched.{Watched, IsWatchable, state, is_shown}
 use Rattle.dcc_run.specs.Shadows.{only, Counts}
 use Rattle.dcc_run.proofs.KeptLaws.{only_watchable, pace_of_all}
 use Rattle.dcc_run.proofs.CountLaws.{kept_count, third_keeps_up, first_keeps_up_with_third, never_stuck}
 use Rattle.dcc_prog.specs.declared.image.Image.{Image}
 use Rattle.dcc_prog.specs.declared.procedure.Layout.{Layout}
 use Rattle.dcc_prog.specs.declared.procedure.Proc.{Proc}
-use Rattle.dcc_prog.specs.Layout.{HasLayout}
+use Rattle.dcc_prog.specs.declared.frame.Program.{Program}
+use Rattle.dcc_prog.specs.Analysed.{IsProgramOf}
 use Rattle.dcc_prog.specs.Machine.{State as Machine, start_state}
 use Rattle.dcc_prog.specs.Step.{machine_system}
 use Rattle.dcc_prog.specs.Watch.{Watch, is_foul, watched_machine, first_watch, IsClean}
@@ -77,14 +78,17 @@ program-is p g one bits = ap (λ graphs. with_graph graphs p) one ∙ ap (λ ws.
 head-equal : {A : Type 0} {a b : A} {xs ys : List A} → a ∷ xs ≡ b ∷ ys → a ≡ b
 head-equal e = cc
 
--- What keeps up with the machine watched keeps up with the machine, and the other way.
-module _ {T : Type 0} (layout : Layout) (w : Watch) (clean : is_foul w ≡ false) (other : System T) (t : T) where
+-- As far as it isn't foul, what keeps up with the machine watched keeps up with the machine, and the other way.
+module _ {T : Type 0} (program : Program) (w : Watch) (other : System T) (t : T) where
   abbrev watched : System Watch
-  watched = (watched_machine layout).system
+  watched = (watched_machine program).system
 
-  pub machine-first : (n m : ℕ) → KeepsUp watched w n other t m → KeepsUp (machine_system layout.cpu) w.machine n other t m
-  machine-first n m up =
-      let same = machine_after layout n w clean in
+  abbrev unwatched : System Machine
+  unwatched = machine_system program.layout.cpu
+
+  pub machine-first : (n m : ℕ) → is_foul (state (watched_machine program) n w) ≡ false → KeepsUp watched w n other t m → KeepsUp unwatched w.machine n other t m
+  machine-first n m clean up =
+      let same = machine_after program n w clean in
       record {
         events = subst (λ (s : Machine). IsPrefix s.events (events_after other m t)) same up.events;
         alike = λ over.
@@ -92,9 +96,9 @@ module _ {T : Type 0} (layout : Layout) (w : Watch) (clean : is_foul w ≡ false
             record { end = z.end ∙ ap (λ (s : Machine). s.end) same; events = z.events ∙ ap (λ (s : Machine). s.events) same };
       }
 
-  pub machine-second : (n m : ℕ) → KeepsUp other t n watched w m → KeepsUp other t n (machine_system layout.cpu) w.machine m
-  machine-second n m up =
-      let same = machine_after layout m w clean in
+  pub machine-second : (n m : ℕ) → is_foul (state (watched_machine program) m w) ≡ false → KeepsUp other t n watched w m → KeepsUp other t n unwatched w.machine m
+  machine-second n m clean up =
+      let same = machine_after program m w clean in
       record {
         events = subst (λ (s : Machine). IsPrefix (events_after other n t) s.events) same up.events;
         alike = λ over.
@@ -102,9 +106,12 @@ module _ {T : Type 0} (layout : Layout) (w : Watch) (clean : is_foul w ≡ false
             record { end = ap (λ (s : Machine). s.end) (sym same) ∙ z.end; events = ap (λ (s : Machine). s.events) (sym same) ∙ z.events };
       }
 
-module _ (image : Image) (layout : Layout) (start_proc : Proc) (p : inner.Program) (has : HasLayout image layout)
-    (lifted : IsLifted image layout start_proc p) (text : List ℕ) (stands : StandsFor text (numbered (goto_tree p)))
+module _ (image : Image) (program : Program) (start_proc : Proc) (p : inner.Program) (is_program : IsProgramOf program.layout.cpu image program)
+    (lifted : IsLifted image program.layout start_proc p) (text : List ℕ) (stands : StandsFor text (numbered (goto_tree p)))
     (input : List ℕ) (fill : ℕ) (bytes : All (λ b. b < 256) input) (fits : fill < 2 ^ 16) where
+  abbrev layout : Layout
+  layout = program.layout
+
   abbrev g : inner.Graph
   g = lifted.framed.graph
 
@@ -154,10 +161,10 @@ module _ (image : Image) (layout : Layout) (start_proc : Proc) (p : inner.Progra
 
   -- The machine watched, in the places of blocks.
   abbrev machine : Watched Watch Place
-  machine = only (has_block p) (watched_machine layout)
+  machine = only (has_block p) (watched_machine program)
 
   machine-law : IsWatchable machine
-  machine-law = only_watchable (watched_machine layout) (has_block p) (machine_watchable layout)
+  machine-law = only_watchable (watched_machine program) (has_block p) (machine_watchable program)
 
   abbrev w : Watch
   w = first_watch image input
@@ -171,9 +178,9 @@ module _ (image : Image) (layout : Layout) (start_proc : Proc) (p : inner.Progra
   text-keeps_up : (n : ℕ) → IsClean layout.cpu image input n → KeepsUp (machine_system layout.cpu) (start_state image input) n (text_system tree) t ((n + 1) * tokens)
   text-keeps_up n clean =
       subst (λ m. KeepsUp (machine_system layout.cpu) (start_state image input) n (text_system tree) t m) (mul_comm tokens (n + 1))
-      (machine-first layout w refl (text_system tree) t n (tokens * (n + 1))
+      (machine-first program w (text_system tree) t n (tokens * (n + 1)) (clean program is_program)
       (third_keeps_up (λ place. true) machine (run.watched_inner p fill) (text_system tree) machine-law (text_lawful tree) w i t tokens together.counts
-      (lifted.runs fill input fits bytes) together.shows n (clean layout refl has)))
+      (lifted.runs program fill input refl fits bytes) together.shows n (clean program is_program)))
 
   machine-keeps_up : (k : ℕ) → IsClean layout.cpu image input ((k + 1) * 65536) → KeepsUp (text_system tree) t k (machine_system layout.cpu) (start_state image input) ((k + 1) * 65536)
   machine-keeps_up zero clean = record {
@@ -182,10 +189,10 @@ module _ (image : Image) (layout : Layout) (start_proc : Proc) (p : inner.Progra
   }
   machine-keeps_up (suc k) clean =
       let enough_steps : steps_at_start + suc k * steps_between < (suc k + 1) * 65536 = omega arith in
-      machine-second layout w refl (text_system tree) t (suc k) ((suc k + 1) * 65536)
+      machine-second program w (text_system tree) t (suc k) ((suc k + 1) * 65536) (clean program is_program)
       (first_keeps_up_with_third (λ place. true) machine (run.watched_inner p fill) (text_system tree) machine-law (text_lawful tree) w i t tokens together.counts
-      (lifted.runs fill input fits bytes) steps_at_start steps_between (pace_of_all machine w steps_at_start steps_between (lifted.pace input bytes))
-      (suc k) ((suc k + 1) * 65536) enough_steps (clean layout refl has))
+      (lifted.runs program fill input refl fits bytes) steps_at_start steps_between (pace_of_all machine w steps_at_start steps_between (lifted.pace program input refl bytes))
+      (suc k) ((suc k + 1) * 65536) enough_steps (clean program is_program))
 
   pub text-agrees : RunsAgree layout.cpu image tree start tokens input fill
   text-agrees = record {

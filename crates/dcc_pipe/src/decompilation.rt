@@ -2,9 +2,8 @@
 
 ghost use Rattle.std.specs.Prelude.{◌≡◌, IfOk, IfErr};
 ghost use Rattle.dcc_prog.specs.MzImage.{IsLoaded};
-ghost use Rattle.dcc_prog.specs.Layout.{HasLayout};
 ghost use Rattle.dcc_prog.specs.Built.{IsBuilt};
-ghost use Rattle.dcc_prog.specs.Found.{AreFound};
+ghost use Rattle.dcc_prog.specs.Analysed.{IsProgramOf};
 ghost use Rattle.dcc_prog.specs.Refused.{IsAcceptedProgram, IsRefusedFor};
 ghost use Rattle.dcc_c.specs.Views.{tree_of};
 ghost use Rattle.dcc_c.specs.Written.{written_form};
@@ -16,24 +15,18 @@ use crate::goto_text::goto_text;
 use crate::number::number;
 use dcc_c::Unit;
 use dcc_lift::lift;
-use dcc_prog::{Cpu, Image, Layout, Proc, Refusal};
+use dcc_prog::{Cpu, Image, Program, Refusal};
 use std::alloc::{AllocError, Global};
 
-// The text of a program whose layout and procedures are found, and of which each form is built.
-fn text_of(
-    alloc: Global,
-    image: &Image,
-    layout: &Layout,
-    procs: &Vec<Proc>,
-) -> Result<Unit, AllocError>
+// The text of a program that is analysed, and of which each form is built.
+fn text_of(alloc: Global, image: &Image, program: &Program) -> Result<Unit, AllocError>
     requires loaded { IsLoaded image.now }
-    requires layout { HasLayout image.now layout.now }
-    requires found { AreFound image.now layout.now procs.now.items }
-    requires built { IsBuilt image.now layout.now }
-    ensures { IfOk result (λ unit. IsTextOf layout.now.cpu image.now (written_form (tree_of unit)) (tree_of unit)) }
+    requires program { IsProgramOf program.now.layout.cpu image.now program.now }
+    requires built { IsBuilt image.now program.now.layout }
+    ensures { IfOk result (λ unit. IsTextOf program.now.layout.cpu image.now (written_form (tree_of unit)) (tree_of unit)) }
 {
-    let program = lift(alloc, image, layout, procs)?;
-    let unit = goto_text(alloc, &program)?;
+    let lifted = lift(alloc, image, &program.layout, &program.procs)?;
+    let unit = goto_text(alloc, &lifted)?;
     number(alloc, unit)
 }
 
@@ -55,5 +48,5 @@ pub fn decompile(alloc: Global, image: &Image, cpu: Cpu) -> Result<Unit, Refusal
     if let Some(at) = reached_unbuilt(&program.procs) {
         return Err(Refusal::NotYet { at });
     }
-    Ok(text_of(alloc, image, &program.layout, &program.procs)?)
+    Ok(text_of(alloc, image, &program)?)
 }

@@ -74,7 +74,8 @@ fn makes_frame(image: &Image, layout: &Layout, entry: u16, at: u16, op: Op) -> b
 {
     let first = instruction_in(image, layout, entry);
     (begins_by_push(image, layout, entry)
-        && ((op.is_push_bp() && at == entry) || (op.is_mov_bp_sp() && at == second_of(entry, first))))
+        && ((op.is_push_bp() && at == entry)
+            || (op.is_mov_bp_sp() && at == second_of(entry, first))))
         || (op.is_enter() && at == entry)
 }
 

@@ -16,6 +16,10 @@ pub mod FoundNodes
 pub mod RefusedLaws
 pub mod MachineEnds
 pub mod WatchLaws
+pub mod StackMarks
+pub mod CleanLaws
+pub mod StoredMarks
+pub mod SpLaws
 pub mod OperationForms
 pub mod AccessLaws
 pub mod MemoryKept
@@ -34,3 +38,5 @@ mod DivisionExamples
 mod LayoutExamples
 mod FrameExamples
 mod AccessExamples
+mod CleanExamples
+pub mod WatchedAlike

@@ -1,4 +1,4 @@
--- The frames of procedures, byte by byte: which bytes are used together, and whose address may be computed. Offsets
+-- The frames of procedures, byte by byte: which bytes belong together, and whose address may be computed. Offsets
 -- count from the frame's base less 4, which is BP's value in a framed procedure: argument j is the word at 4 + 2 * j,
 -- the return address stands at 2, and at height h SP stands at 2 - h.
 use Rattle.std.specs.Prelude.{◌≡◌, ◌≢◌, ◌≤◌, ◌<◌, ◌⊎◌, ℕ, ◌+◌, ◌*◌, ◌/◌, ℤ, pos, ◌+ℤ◌, ◌-ℤ◌, neg_ℤ, ◌<ℤ◌, ◌≤ℤ◌, true, false, if◌then◌else◌, Option, Some, None, is_some}
@@ -184,7 +184,7 @@ pub record IsCrossed (image : Image) (layout : Layout) (entry : ℕ) (offset : �
   pub before : span.first <ℤ offset
   pub after : offset <ℤ span.end
 
--- a run: pieces that overlap, joined; it has a piece, each offset within it is crossed, and none of its ends is
+-- a run: pieces that overlap, joined; a piece begins it, each offset within it is crossed, and none of its ends is
 pub record IsRun (image : Image) (layout : Layout) (entry : ℕ) (run : Span) : Type 0 where
   pub span : Span
   pub piece : IsPiece image layout entry span

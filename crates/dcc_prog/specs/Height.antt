@@ -46,7 +46,7 @@ pub data IsRemoved (image : Image) (layout : Layout) (entry : ℕ) : ℕ → Typ
   without_ret : ((count : ℕ) → ¬ ReachesRet image layout entry count) → IsRemoved image layout entry 0
 
 -- the height after an operation at an offset is the second one, where before it it is the first; there is none after
--- an operation that writes SP in a form that the procedure hasn't
+-- another operation than PUSH and POP that writes SP in a form that the procedure hasn't
 pub data MovesHeight (image : Image) (layout : Layout) (entry at : ℕ) : Op → ℤ → ℤ → Type 0 where
   push : {a : _} {height : ℤ} → MovesHeight image layout entry at (Push a) height (height +ℤ pos 2)
   pop : {a : _} {height : ℤ} → MovesHeight image layout entry at (Pop a) height (height -ℤ pos 2)

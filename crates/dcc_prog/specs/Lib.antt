@@ -23,10 +23,13 @@ pub mod Built
 pub mod Found
 pub mod Refused
 pub mod Analysed
-pub mod Watch
 pub mod StateForm
 pub mod Access
+pub mod Clean
+pub mod Watch
+pub mod CleanLaws
 pub mod MemoryLaws
 pub mod LocationLaws
 pub mod AlikeLaws
 pub mod RunLaws
+pub mod WatchedAlike

@@ -1,18 +1,18 @@
--- The machine's run with its procedures, and how far it is clean.
-use Rattle.std.specs.Prelude.{◌≡◌, ℕ, ◌==◌, Bool, true, false, ◌||◌, if◌then◌else◌, List, [], ◌∷◌, drop, Option, Some, None}
+-- The machine's run with the frames that live, and how far it is clean.
+use Rattle.std.specs.Prelude.{◌≡◌, ℕ, ◌==◌, Bool, true, false, ◌||◌, if◌then◌else◌, List, [], ◌∷◌, Option, Some, None}
 use Rattle.dcc_run.specs.End.{is_over}
 use Rattle.dcc_run.specs.Place.{Place}
 use Rattle.dcc_run.specs.Watched.{Watched, state}
 use Rattle.dcc_prog.specs.declared.cpu.Cpu.{Cpu}
 use Rattle.dcc_prog.specs.declared.image.Image.{Image}
 use Rattle.dcc_prog.specs.declared.procedure.Layout.{Layout}
+use Rattle.dcc_prog.specs.declared.frame.Program.{Program}
 use Rattle.dcc_prog.specs.declared.instr.Instr.{Instr}
-use Rattle.dcc_prog.specs.declared.instr.Op.{Op}
-use Rattle.dcc_prog.specs.declared.instr.Op.TheVariants.{Call, Ret}
 use Rattle.dcc_prog.specs.Table.{instruction_at}
 use Rattle.dcc_prog.specs.Machine.{State, start_state}
 use Rattle.dcc_prog.specs.Step.{step, code_bytes}
-use Rattle.dcc_prog.specs.Layout.{HasLayout}
+use Rattle.dcc_prog.specs.Analysed.{IsProgramOf}
+use Rattle.dcc_prog.specs.Clean.{Stack, Foul, foul_of, stack_after, first_stack}
 
 -- where a run stands
 pub data Stage : Type 0 where
@@ -20,48 +20,57 @@ pub data Stage : Type 0 where
   AtStart : Stage
   -- after that, and not yet past the prelude
   InPrelude : Stage
-  -- in procedures whose frames live, by their entries, the newest first
-  InProcedures : List ℕ → Stage
-  -- it was stopped at a step that is not clean
-  Stopped : Stage
+  -- in procedures, with their frames
+  InProcedures : Stack → Stage
+  -- it was stopped at a step that is foul, before it was made
+  Stopped : Foul → Stage
 
 -- the machine, and where its run stands
 pub record Watch : Type 0 where
   pub machine : State
   pub stage : Stage
 
--- the procedures whose frames live after an operation: a CALL begins a frame, and a RET ends one
-abbrev pub procedures_after : Op → List ℕ → List ℕ
-procedures_after (Call target) entries = target ∷ entries
-procedures_after (Ret count) entries = drop 1 entries
-procedures_after op entries = entries
-
--- where the run stands after an instruction, if one was found, which leads to an offset; the first frame begins where
--- the run first comes to the offset after the prelude
-abbrev pub stage_after : Layout → Option Instr → ℕ → Stage → Stage
-stage_after layout (Some instr) at (InProcedures entries) = InProcedures (procedures_after instr.op entries)
-stage_after layout None at (InProcedures entries) = InProcedures entries
-stage_after layout found at Stopped = Stopped
-stage_after layout found at stage =
-    if at == layout.start_ip then InProcedures (layout.start_ip ∷ []) else InPrelude
+-- where the run stands after the step of an instruction, if one was found, from one state to another; the first frame
+-- begins where the run first comes to the offset after the prelude
+abbrev pub stage_after : Layout → Option Instr → State → State → Stage → Stage
+stage_after layout found s t (InProcedures stack) = InProcedures (stack_after layout found s t stack)
+stage_after layout found s t (Stopped foul) = Stopped foul
+stage_after layout found s t stage =
+    if t.ip == layout.start_ip then InProcedures (first_stack layout t) else InPrelude
 
 -- the instruction that the machine executes next, if one stands there
 abbrev pub next_instruction : Cpu → State → Option Instr
 next_instruction cpu s = instruction_at cpu s.ip (code_bytes s)
 
--- The run has been stopped at a step that is not clean. No step of the programs that are accepted so far touches the
--- stack, so each is clean.
+-- what is foul of the next step, if anything; the steps before the first frame are clean
+abbrev pub next_foul : Program → Watch → Option Foul
+next_foul program w = elim w.stage [
+  | AtStart ↦ None
+  | InPrelude ↦ None
+  | InProcedures stack ↦ foul_of program stack w.machine (next_instruction program.layout.cpu w.machine)
+  | Stopped foul ↦ None
+]
+
+-- the run has been stopped at a foul step
 abbrev pub is_foul : Watch → Bool
-is_foul w = elim w.stage [ AtStart ↦ false | InPrelude ↦ false | InProcedures entries ↦ false | Stopped ↦ true ]
+is_foul w = elim w.stage [ AtStart ↦ false | InPrelude ↦ false | InProcedures stack ↦ false | Stopped foul ↦ true ]
+
+-- the watch after the next step is made
+abbrev pub moved : Layout → Watch → Watch
+moved layout w =
+    let next = step layout.cpu w.machine in record {
+      machine = next;
+      stage = stage_after layout (next_instruction layout.cpu w.machine) w.machine next w.stage;
+    }
+
+-- the next step is made, unless it is foul
+abbrev pub made : Layout → Option Foul → Watch → Watch
+made layout None w = moved layout w
+made layout (Some foul) w = record w { stage = Stopped foul }
 
 -- one step; a run that has ended or was stopped stays
-abbrev pub watch_step : Layout → Watch → Watch
-watch_step layout w =
-    if is_over w.machine.end || is_foul w then w
-    else (let next = step layout.cpu w.machine in record {
-      machine = next;
-      stage = stage_after layout (next_instruction layout.cpu w.machine) next.ip w.stage;
-    })
+abbrev pub watch_step : Program → Watch → Watch
+watch_step program w = if is_over w.machine.end || is_foul w then w else made program.layout (next_foul program w) w
 
 -- The place where the run stands: an offset in the procedure of the newest frame. The first instruction counts as one
 -- of the entry procedure's, and those that follow it in the prelude are at no place.
@@ -69,18 +78,18 @@ abbrev pub place_of : Layout → Watch → Option Place
 place_of layout w = elim w.stage [
   | AtStart ↦ Some (record { entry = layout.start_ip; at = w.machine.ip })
   | InPrelude ↦ None
-  | InProcedures entries ↦ elim entries [
+  | InProcedures stack ↦ elim stack.frames [
     | [] ↦ None
-    | entry ∷ callers ↦ Some (record { entry = entry; at = w.machine.ip })
+    | live ∷ callers ↦ Some (record { entry = live.entry; at = w.machine.ip })
   ]
-  | Stopped ↦ None
+  | Stopped foul ↦ None
 ]
 
--- the runs of the machine with the layout's processor, watched
-abbrev pub watched_machine : Layout → Watched Watch Place
-watched_machine layout = record {
-  system = record { step = watch_step layout; events = λ w. w.machine.events; end = λ w. w.machine.end };
-  mark = place_of layout;
+-- the runs of the machine with the program's processor, watched
+abbrev pub watched_machine : Program → Watched Watch Place
+watched_machine program = record {
+  system = record { step = watch_step program; events = λ w. w.machine.events; end = λ w. w.machine.end };
+  mark = place_of program.layout;
   foul = is_foul;
 }
 
@@ -88,8 +97,9 @@ watched_machine layout = record {
 abbrev pub first_watch : Image → List ℕ → Watch
 first_watch image input = record { machine = start_state image input; stage = AtStart }
 
--- none of the first n steps of the image's run on a processor and an input is foul, or none of those before it ended
+-- none of the first n steps of the image's run on a processor and an input is foul, or none of those before it ended; of
+-- an image that is refused this says nothing
 abbrev pub IsClean : Cpu → Image → List ℕ → ℕ → Type 0
 IsClean cpu image input n =
-    (layout : Layout) → layout.cpu ≡ cpu → HasLayout image layout
-    → is_foul (state (watched_machine layout) n (first_watch image input)) ≡ false
+    (program : Program) → IsProgramOf cpu image program
+    → is_foul (state (watched_machine program) n (first_watch image input)) ≡ false

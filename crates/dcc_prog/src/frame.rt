@@ -13,7 +13,7 @@ pub struct Heights {
     pub ret: Vec<u16>,
 }
 
-/// One or two bytes of a frame that are always used together.
+/// One or two bytes of a frame that belong together: no instruction uses more at once that overlap them.
 #[derive(Clone, Copy, PartialEq, Eq, Debug)]
 pub struct Cell {
     /// The signed offset of the first byte from BP, which is the frame's base less 4.

@@ -10,6 +10,7 @@ pub mod laws;
 pub mod procedure;
 pub mod refusal;
 pub mod segment;
+pub mod watch;
 
 pub use cpu::Cpu;
 pub use frame::{Cell, Cells, Exposed, Frame, Heights, Program};
@@ -18,3 +19,4 @@ pub use instr::{Alu, Cond, Count, Ea, Instr, Op, Operand, Plain, Shift, Unary};
 pub use procedure::{Layout, Node, Proc};
 pub use refusal::{LimitName, Refusal, construct};
 pub use segment::{CS, DS, ES, SS};
+pub use watch::FoulKind;

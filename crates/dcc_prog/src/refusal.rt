@@ -9,7 +9,7 @@ pub mod construct {
     pub const NO_LAYOUT: u8 = 1;
 
     /// No instruction of the table lies there wholly in the code; or it moves a segment register, or is CLI, STI or
-    /// CLD, after the prelude; or it uses SP or BP in a form that no frame has.
+    /// CLD, after the prelude; or it uses SP or BP in a form that no frame has, or at a height at which the form is none.
     pub const OUTSIDE: u8 = 2;
 
     /// A jump through a register or memory that is no jump through a table; or one through a table of which trails tell
@@ -22,8 +22,9 @@ pub mod construct {
     /// INT 21h where AH is not known, has two values, or has another number than the five.
     pub const DOS_NUMBER: u8 = 5;
 
-    /// Two trails give the stack two heights; or it is taken above the procedure's entry or its saved BP, or is not
-    /// empty at a RET; or two RETs of the procedure remove different sizes; or the height is above 32,766.
+    /// Two trails give the stack two heights; or it is taken above the procedure's entry, or into its saved BP otherwise
+    /// than by POP BP or LEAVE, or is not empty at a RET; or two RETs of the procedure remove different sizes; or the
+    /// height is above 32,766.
     pub const HEIGHTS: u8 = 6;
 
     /// A frame is accessed outside of its arguments and of the bytes between SP and BP; or the address of its bytes may

@@ -11,5 +11,5 @@ mod operand;
 mod stack;
 mod step;
 
-pub use ending::Stepped;
+pub use ending::{Ending, Stepped};
 pub use machine::Machine;

@@ -4,6 +4,7 @@ ghost use Rattle.std.specs.Prelude.{◌≡◌, ◌+◌, ◌<◌, ◌≤◌, ◌^
 ghost use Rattle.dcc_prog.specs.Load.{image_address};
 ghost use Rattle.dcc_prog.specs.Machine.{start_state, word_in};
 ghost use Rattle.dcc_step.specs.Core.{core_of, state_of};
+ghost use Rattle.dcc_step.specs.Ending.{end_of};
 
 use crate::cache::{Decoded, first_cache};
 use crate::ending::Ending;
@@ -99,6 +100,13 @@ impl Machine {
         ensures { result ≡ self.now.ip }
     {
         self.ip
+    }
+
+    /// How the run has ended, if it has.
+    pub fn ending(&self) -> Ending
+        ensures { self.now.end ≡ end_of result }
+    {
+        self.end
     }
 
     /// The byte at a physical address below 1,048,576.

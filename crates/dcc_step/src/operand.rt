@@ -2,6 +2,7 @@
 
 ghost use Rattle.std.specs.Prelude.{◌≡◌, ◌<◌, ◌^◌};
 ghost use Rattle.dcc_num.specs.Numbers.{limit_of};
+ghost use Rattle.dcc_prog.specs.declared.instr.Operand.TheVariants.{Seg as seg_operand};
 ghost use Rattle.dcc_prog.specs.Machine.{physical, byte_in, word_at_offset, with_byte_in, with_word_at_offset, with_word_in, code_segment, stack_segment, data_segment, part_of, offset_of, is_bp, segment_of, operand_value, with_operand, operand_width};
 ghost use Rattle.dcc_prog.specs.WellFormed.{IsOperand};
 ghost use Rattle.dcc_step.specs.Core.{state_of, changed_by};
@@ -27,7 +28,7 @@ fn uses_bp(part: Option<Reg>) -> bool
 
 impl Machine {
     /// The byte at an offset in a segment.
-    pub(crate) fn load_byte(&self, segment: u16, offset: u16) -> u8
+    pub fn load_byte(&self, segment: u16, offset: u16) -> u8
         ensures { result ≡ byte_in (state_of self.now) segment offset }
     {
         self.memory[physical_address(segment, offset)]
@@ -65,21 +66,21 @@ impl Machine {
     }
 
     /// The code segment.
-    pub(crate) fn cs(&self) -> u16
+    pub fn cs(&self) -> u16
         ensures { result ≡ code_segment (state_of self.now) }
     {
         self.segs[CS as usize]
     }
 
     /// The stack segment.
-    pub(crate) fn ss(&self) -> u16
+    pub fn ss(&self) -> u16
         ensures { result ≡ stack_segment (state_of self.now) }
     {
         self.segs[SS as usize]
     }
 
     /// The data segment.
-    pub(crate) fn ds(&self) -> u16
+    pub fn ds(&self) -> u16
         ensures { result ≡ data_segment (state_of self.now) }
     {
         self.segs[DS as usize]
@@ -96,15 +97,50 @@ impl Machine {
     }
 
     /// The offset of a memory operand.
-    pub(crate) fn offset(&self, ea: Ea) -> u16
+    pub fn offset(&self, ea: Ea) -> u16
         ensures { result ≡ offset_of (state_of self.now) ea }
     {
         let sum = u32::from(self.part(ea.base)) + u32::from(self.part(ea.index));
         ((sum + u32::from(ea.disp)) % 0x1_0000) as u16
     }
 
-    // The segment of a memory operand: that of the stack where the address uses BP.
-    fn segment(&self, ea: Ea) -> u16
+    // What a part of an address would add to it if a word register held this word.
+    fn part_with(&self, part: Option<Reg>, r: Reg, word: u16) -> u16
+        ensures { result ≡ part_of (with_word_in (state_of self.now) r word) part }
+    {
+        let mut regs = self.regs;
+        regs[r as usize] = word;
+        match part {
+            None => 0,
+            Some(q) => regs[q as usize],
+        }
+    }
+
+    /// The offset that a memory operand would have if a word register held this word.
+    pub fn offset_with(&self, ea: Ea, r: Reg, word: u16) -> u16
+        ensures { result ≡ offset_of (with_word_in (state_of self.now) r word) ea }
+    {
+        let sum = u32::from(self.part_with(ea.base, r, word))
+            + u32::from(self.part_with(ea.index, r, word));
+        ((sum + u32::from(ea.disp)) % 0x1_0000) as u16
+    }
+
+    /// The segment that a memory operand would have if the segment register of a number below 4 held this word.
+    pub fn segment_with(&self, ea: Ea, number: u8, word: u16) -> u16
+        requires { number < 4 }
+        ensures { result ≡ segment_of (with_operand (state_of self.now) (seg_operand number) word) ea }
+    {
+        let mut segs = self.segs;
+        segs[number as usize] = word;
+        if ea.uses_bp() {
+            segs[SS as usize]
+        } else {
+            segs[DS as usize]
+        }
+    }
+
+    /// The segment of a memory operand: that of the stack where the address uses BP.
+    pub fn segment(&self, ea: Ea) -> u16
         ensures { result ≡ segment_of (state_of self.now) ea }
     {
         if uses_bp(ea.base) || uses_bp(ea.index) {
@@ -115,7 +151,7 @@ impl Machine {
     }
 
     /// What an operand holds.
-    pub(crate) fn value(&self, operand: Operand) -> u16
+    pub fn value(&self, operand: Operand) -> u16
         requires { IsOperand operand }
         ensures value { result ≡ operand_value (state_of self.now) operand }
         ensures width { result < limit_of (operand_width operand) }

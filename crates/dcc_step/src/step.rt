@@ -1,6 +1,7 @@
 //! Steps and runs.
 
 ghost use Rattle.std.specs.Prelude.{◌≡◌, ◌≢◌, IfSome, OnOk, IfErr, IsErrOf, Option, Some, None};
+ghost use Rattle.dcc_run.specs.End.{Running as running};
 ghost use Rattle.dcc_prog.specs.declared.instr.Op.{Op};
 ghost use Rattle.dcc_prog.specs.Table.{instruction_at};
 ghost use Rattle.dcc_prog.specs.Step.{code_byte, code_bytes, op_step};
@@ -55,9 +56,10 @@ impl Machine {
         }
     }
 
-    // The instruction at the instruction pointer. It is decoded where the cache holds another offset
-    // or other bytes, so it is right whatever was written to memory.
-    fn fetch(&mut self) -> Option<Instr>
+    /// The instruction that the machine executes next, or `None` where none of its processor's stands at the
+    /// instruction pointer. It is decoded where the cache holds another offset or other bytes, so it is right whatever
+    /// was written to memory.
+    pub fn next_instruction(&mut self) -> Option<Instr>
         ensures kept { self.new ≡ self.old }
         ensures found { result ≡ instruction_at self.old.cpu self.old.ip (code_bytes (state_of self.old)) }
         ensures operation { IfSome result (λ instr. IsOperation instr.op) }
@@ -132,6 +134,37 @@ impl Machine {
         }
     }
 
+    /// Makes the step of the instruction that `next_instruction` answered, of a machine that runs. It answers as `step`
+    /// does.
+    pub fn make<I: Source, O: Sink>(
+        &mut self,
+        found: Option<Instr>,
+        input: &mut I,
+        out: &mut O,
+    ) -> Stepped
+        requires runs { self.old.end ≡ running }
+        requires found { found ≡ instruction_at self.old.cpu self.old.ip (code_bytes (state_of self.old)) }
+        requires operation { IfSome found (λ instr. IsOperation instr.op) }
+        ensures step { Steps machine (outcome_of result)
+            (scene self.old (I.left input.old) (O.taken out.old))
+            (scene self.new (I.left input.new) (O.taken out.new)) }
+        ensures answer { HasEnded machine self.new (end_told result) }
+        ensures faults { CountsFaults (result ≡ Stepped.InFault) (result ≡ Stepped.OutFault)
+            (I.faults input.old) (I.faults input.new) (O.faults out.old) (O.faults out.new) }
+    {
+        let at = self.ip;
+        let Some(instr) = found else {
+            self.finish(Ending::Outside(at), at);
+            return self.end.answer();
+        };
+        self.ip = instr.next_of(at);
+        if let Err(fault) = self.perform(instr.op, at, input, out) {
+            self.ip = at;
+            return Stepped::from(fault);
+        }
+        self.end.answer()
+    }
+
     /// Makes one instruction of the machine's processor (8086 Family User's Manual, table 2-21; iAPX 86/88,
     /// 186/188 User's Manual, Programmer's Reference). A machine whose run has ended answers its end again and
     /// changes nothing.
@@ -150,17 +183,8 @@ impl Machine {
         let Ending::Running = self.end else {
             return self.end.answer();
         };
-        let at = self.ip;
-        let Some(instr) = self.fetch() else {
-            self.finish(Ending::Outside(at), at);
-            return self.end.answer();
-        };
-        self.ip = instr.next_of(at);
-        if let Err(fault) = self.perform(instr.op, at, input, out) {
-            self.ip = at;
-            return Stepped::from(fault);
-        }
-        self.end.answer()
+        let found = self.next_instruction();
+        self.make(found, input, out)
     }
 
     /// Makes steps until one answers something else than Running, at most so many. After a fault the

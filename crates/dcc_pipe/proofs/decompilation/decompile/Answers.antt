@@ -2,6 +2,7 @@ use Rattle.std.proofs.Common.{refl, sym, subst}
 use Rattle.std.proofs.lemmas.Result.{err_from_is_err_and}
 use Rattle.dcc_c.specs.Views.{tree_of}
 use Rattle.dcc_c.specs.Written.{written_form}
+use Rattle.dcc_prog.specs.Analysed.{IsProgramOf}
 use Rattle.dcc_prog.specs.Found.{AreFound}
 use Rattle.dcc_prog.specs.Refused.{IsRefusedByAnalysis, by_analysis, not_yet}
 use Rattle.dcc_pipe.specs.Agreement.{IsTextOf}
@@ -24,12 +25,11 @@ returns-in-Some-clause-refused c =
 pub text_of-requires : goal.text_of-requires
 text_of-requires c =
     let image = c.args.image.now in
-    let layout = c.in_ok-program.program.layout in
+    let program = c.in_ok-program.program in
     let is = c.in_ok-program.ensures.program in record {
       loaded = c.requires;
-      layout = is.layout;
-      found = is.procs;
-      built = c.in_default.ensures.built refl image layout (subst (AreFound image layout) (sym c.deref.ensures.value) is.procs);
+      program = subst (λ cpu. IsProgramOf cpu image program) (sym is.runs_on) is;
+      built = c.in_default.ensures.built refl image program.layout (subst (AreFound image program.layout) (sym c.deref.ensures.value) is.procs);
     }
 
 pub returns-in_err-text_of-clause-refused : goal.returns-in_err-text_of-clause-refused

@@ -10,8 +10,10 @@ use Rattle.dcc_pipe.proofs.decompilation.text_of.Goals as goal
 
 pub returns : goal.returns
 returns c =
-    let p = program_of c.in_ok-program.program in
-    let unbroken = ap is_unbroken_tree c.in_ok-unit.ensures
-    ∙ tree-unbroken (goto_tree p) (lifted-writable c.args.image.now c.args.layout.now c.args.procs.now.items p c.requires.layout c.in_ok-program.ensures.lifted) in
-    text-is c.args.image.now c.args.layout.now c.args.procs.now.items p c.requires.layout c.in_ok-program.ensures.lifted c.number.result
+    let image = c.args.image.now in
+    let program = c.args.program.now in
+    let p = program_of c.in_ok-lifted.lifted in
+    let of = c.in_ok-lifted.ensures.lifted in
+    let unbroken = ap is_unbroken_tree c.in_ok-unit.ensures ∙ tree-unbroken (goto_tree p) (lifted-writable image program p c.requires.program of) in
+    text-is image program p c.requires.program of c.number.result
     (IfOk-weaker c.number.result _ _ (λ unit is. is ∙ ap numbered c.in_ok-unit.ensures) (c.number.ensures unbroken))

@@ -1,10 +1,9 @@
-use Rattle.std.proofs.Common.{◌≡◌, ◌+◌, ◌%◌, sym, ap, ◌∙◌}
-use Rattle.dcc_run.specs.End.{Running, Outside, is_over}
-use Rattle.dcc_prog.specs.Operations.{with_end}
-use Rattle.dcc_step.specs.Core.{Core, changed_by}
+use Rattle.std.proofs.Common.{◌≡◌, sym, ap, ◌∙◌}
+use Rattle.dcc_run.specs.End.{is_over}
+use Rattle.dcc_step.specs.Core.{Core}
 use Rattle.dcc_step.specs.Ending.{end_of}
 use Rattle.dcc_console.specs.Scene.{scene}
-use Rattle.dcc_step.proofs.Steps.{answered, answers, refused, over, stays_over, step_outside, step_made_at, step_refused_at}
+use Rattle.dcc_step.proofs.Steps.{answered, answers, over, stays_over}
 use Rattle.dcc_step.proofs.machine.Machine.step.Goals as goal
 
 pub returns-in_default-clause-step : goal.returns-in_default-clause-step
@@ -19,41 +18,3 @@ returns-in_default-clause-answer g c =
     let m = c.args.self.now in
     let end : m.end ≡ end_of c.self.inside.end = sym (ap (λ (k : Core). k.end) c.self.view_is) in
     answers c.self.inside.end c.answer.result m c.answer.ensures end
-
-pub returns-in_default-fetch-clause-step : goal.returns-in_default-fetch-clause-step
-returns-in_default-fetch-clause-step g c =
-    let m = c.args.self.now in
-    let left = g.I.Source.left c.args.input.now in
-    let taken = g.O.Sink.taken c.args.out.now in
-    let runs : m.end ≡ Running = sym (ap (λ (k : Core). k.end) c.self.view_is) ∙ ap end_of c.in-Running.is in
-    let ip : c.self.inside.ip ≡ m.ip = ap (λ (k : Core). k.ip) c.self.view_is in
-    answered c.self-in_default-fetch.inside.end c.answer-in_default-fetch.result _ _ c.answer-in_default-fetch.ensures
-    (step_outside m c.finish.new.self left taken runs (sym c.fetch.ensures.found ∙ c.in_default-fetch.is)
-    (c.finish.ensures
-    ∙ ap (changed_by (with_end (Outside c.self.inside.ip) c.self.inside.ip)) c.fetch.ensures.kept
-    ∙ ap (λ at. changed_by (with_end (Outside at) at) m) ip))
-
-pub returns-in-Err-clause-step : goal.returns-in-Err-clause-step
-returns-in-Err-clause-step g c =
-    let m : Core = c.args.self.now in
-    let runs : m.end ≡ Running = sym (ap (λ (k : Core). k.end) c.self.view_is) ∙ ap end_of c.in-Running.is in
-    let ip : c.self.inside.ip ≡ m.ip = ap (λ (k : Core). k.ip) c.self.view_is in
-    let moved =
-    ap (λ (k : Core). record k { ip = c.next_of-self-inside.result }) (c.self-2.view_is ∙ c.fetch.ensures.kept)
-    ∙ ap (λ i. record m { ip = i }) c.next_of-self-inside.ensures ∙ ap (λ at. record m { ip = (at + c.in-Some.instr.len) % 65536 }) ip in
-    refused c.in-Err.fault c.from.result _ _ c.from.ensures
-    (step_refused_at m _ c.perform.new.self _ c.self.inside.ip c.in-Some.instr c.in-Err.fault _ _ _ _ runs (sym c.fetch.ensures.found ∙ c.in-Some.is)
-    c.in-Err.ensures.refused ip moved
-    (λ kept. ap (λ (k : Core). record k { ip = c.self.inside.ip }) (c.self-3.view_is ∙ kept) ∙ ap (λ i. record m { ip = i }) ip))
-
-pub returns-clause-step : goal.returns-clause-step
-returns-clause-step g c =
-    let m : Core = c.args.self.now in
-    let runs : m.end ≡ Running = sym (ap (λ (k : Core). k.end) c.self.view_is) ∙ ap end_of c.in-Running.is in
-    let ip : c.self.inside.ip ≡ m.ip = ap (λ (k : Core). k.ip) c.self.view_is in
-    let moved =
-    ap (λ (k : Core). record k { ip = c.next_of-self-inside.result }) (c.self-2.view_is ∙ c.fetch.ensures.kept)
-    ∙ ap (λ i. record m { ip = i }) c.next_of-self-inside.ensures ∙ ap (λ at. record m { ip = (at + c.in-Some.instr.len) % 65536 }) ip in
-    answered c.self-3.inside.end c.answer-2.result _ _ c.answer-2.ensures
-    (step_made_at m _ c.self.inside.ip c.in-Some.instr _ _ _ runs (sym c.fetch.ensures.found ∙ c.in-Some.is)
-    c.in_default-perform.ensures.made ip moved)

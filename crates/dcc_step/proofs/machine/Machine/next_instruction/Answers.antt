@@ -1,7 +1,7 @@
 use Rattle.std.proofs.Common.{◌%◌}
 use Rattle.std.proofs.lemmas.List.Elements.{All-set}
 use Rattle.dcc_step.specs.Cache.{IsDecoded}
-use Rattle.dcc_step.proofs.machine.Machine.fetch.Goals as goal
+use Rattle.dcc_step.proofs.machine.Machine.next_instruction.Goals as goal
 
 pub invariant_of-self : goal.invariant_of-self
 invariant_of-self c =

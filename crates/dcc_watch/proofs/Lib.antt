@@ -1,0 +1,11 @@
+pub mod Bytes
+pub mod FrameFacts
+pub mod KeptLaws
+pub mod LiveLaws
+pub mod MarkLaws
+pub mod Quiet
+pub mod RunProofs
+pub mod ShapeLaws
+pub mod StepLaws
+pub mod Stored
+pub mod Strings

@@ -1,0 +1,108 @@
+-- The watch as code that executes watched machines, and what its answers tell.
+use Rattle.std.specs.Prelude.{◌≡◌, ◌≤◌, ℕ, ◌+◌, ◌-◌, ◌/◌, Bool, true, false, not, ◌&&◌, List, [], length}
+use Rattle.dcc_run.specs.End.{Running as running, is_over}
+use Rattle.dcc_prog.specs.declared.image.Image.{Image}
+use Rattle.dcc_prog.specs.declared.frame.Program.{Program}
+use Rattle.dcc_prog.specs.Machine.{start_state}
+use Rattle.dcc_prog.specs.Clean.{Stack}
+use Rattle.dcc_prog.specs.Watch.{Watch, Stage, AtStart, InPrelude, InProcedures, Stopped, watched_machine}
+use Rattle.dcc_console.specs.Console.{Console, Executor}
+use Rattle.dcc_console.specs.Steps.{Outcome, made, no_memory}
+use Rattle.dcc_step.specs.declared.ending.Stepped.{Stepped}
+use Rattle.dcc_step.specs.declared.ending.Stepped.TheVariants.{Running as StillRunning, InFault, OutFault}
+use Rattle.dcc_step.specs.Core.{core_of}
+use Rattle.dcc_step.specs.Stepped as machine
+use Rattle.dcc_watch.specs.declared.judge.Foul.{Foul as FoulStep}
+use Rattle.dcc_watch.specs.declared.watched.Watched.{Watched}
+use Rattle.dcc_watch.specs.declared.watched.Watched.TheVariants.{Clean, Foul, NoRoom}
+use Rattle.dcc_watch.specs.Shapes.{shapes_of}
+use Rattle.dcc_watch.specs.Watching.{Watching}
+
+-- a program's watched machine, with its console
+abbrev pub console_of : Program → Console Watch
+console_of program = record {
+  system = (watched_machine program).system;
+  left = λ w. w.machine.input;
+  with_left = λ input w. record { machine = record w.machine { input = input }; stage = w.stage };
+}
+
+-- what is kept stands for a state of a program's watched machine
+pub record Stands (program : Program) (code : Watching) (w : Watch) : Type 0 where
+  pub layout : code.layout ≡ program.layout
+  pub shapes : code.shapes ≡ shapes_of program.procs.items program.cells.frames.items
+  pub machine : core_of program.layout.cpu w.machine ≡ code.machine
+  pub stage : w.stage ≡ code.stage
+
+-- the code that makes the steps of watched machines
+abbrev pub watched : Executor Program Watching Watch
+watched = record { console = console_of; stands = Stands }
+
+-- the run has been stopped at a foul step
+abbrev pub is_stopped : Stage → Bool
+is_stopped AtStart = false
+is_stopped InPrelude = false
+is_stopped (InProcedures stack) = false
+is_stopped (Stopped foul) = true
+
+-- it stands before the first frame
+abbrev pub is_at_first : Stage → Bool
+is_at_first AtStart = true
+is_at_first InPrelude = true
+is_at_first (InProcedures stack) = false
+is_at_first (Stopped foul) = false
+
+-- it stands in procedures
+abbrev pub is_in_procedures : Stage → Bool
+is_in_procedures AtStart = false
+is_in_procedures InPrelude = false
+is_in_procedures (InProcedures stack) = true
+is_in_procedures (Stopped foul) = false
+
+-- the run has neither ended nor been stopped
+abbrev pub is_going : Watching → Bool
+is_going code = not (is_over code.machine.end) && not (is_stopped code.stage)
+
+-- a step that answers so was made, and the run goes on
+abbrev pub goes_on : Watched → Bool
+goes_on (Clean StillRunning) = true
+goes_on answer = false
+
+-- a step was refused
+abbrev pub is_refused : Stepped → Bool
+is_refused InFault = true
+is_refused OutFault = true
+is_refused stepped = false
+
+-- how a step or a run came out that answers so
+abbrev pub outcome_of : Watched → Outcome
+outcome_of (Clean stepped) = machine.outcome_of stepped
+outcome_of (Foul at address kind) = made
+outcome_of NoRoom = no_memory
+
+-- what a step answers that is foul
+abbrev pub foul_answer : FoulStep → Watched
+foul_answer foul = Foul foul.at foul.address foul.kind
+
+-- in procedures, with as many frames as there is room for
+pub record IsFull (code : Watching) : Type 0 where
+  pub stack : Stack
+  pub stage : code.stage ≡ InProcedures stack
+  pub full : code.room ≤ length stack.frames
+
+-- What an answer tells of where the run stands after it: how it has ended, or goes on; that it was stopped at this foul
+-- step, and only then that; or that there is no room for the frame that the next step begins.
+abbrev pub Tells : Watched → Watching → Type 0
+Tells (Clean stepped) code = (code.machine.end ≡ machine.end_told stepped) × (is_stopped code.stage ≡ false)
+Tells (Foul at address kind) code = code.stage ≡ Stopped (record { at = at; kind = kind; address = address })
+Tells NoRoom code = (code.machine.end ≡ running) × IsFull code
+
+-- the watch at the start of an image's run on a program's processor: there is room for as many frames as return addresses
+-- fit the stack, and for that of the entry procedure
+abbrev pub first_watching : Image → Program → Watching
+first_watching image program = record {
+  layout = program.layout;
+  shapes = shapes_of program.procs.items program.cells.frames.items;
+  room = (program.layout.hi - program.layout.lo) / 2 + 1;
+  machine = core_of program.layout.cpu (start_state image []);
+  stage = AtStart;
+}

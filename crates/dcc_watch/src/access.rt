@@ -1,0 +1,51 @@
+//! One access of an operation to memory.
+
+ghost use Rattle.std.specs.Prelude.{◌≡◌, ◌<◌, ◌^◌};
+ghost use Rattle.dcc_prog.specs.Access.{address_in};
+ghost use Rattle.dcc_watch.specs.Accesses.{access_of};
+
+/// Whether bytes are read or written.
+#[derive(Clone, Copy, PartialEq, Eq, Debug)]
+pub(crate) enum Direction {
+    /// They are read.
+    Reading,
+    /// They are written.
+    Writing,
+}
+
+/// In which way an operation comes to the bytes.
+#[derive(Clone, Copy, PartialEq, Eq, Debug)]
+pub(crate) enum Kind {
+    /// The word that PUSH, POP, CALL, RET, ENTER or LEAVE moves to the stack or from it.
+    OfStack,
+    /// A memory operand at BP plus a displacement, without an index.
+    OfFrame,
+    /// Any other.
+    Other,
+}
+
+/// So many bytes from an offset in a segment on.
+#[derive(Clone, Copy)]
+pub(crate) struct Access {
+    /// Whether they are read or written.
+    pub(crate) direction: Direction,
+    /// In which way.
+    pub(crate) kind: Kind,
+    /// The segment.
+    pub(crate) segment: u16,
+    /// The offset of the first byte.
+    pub(crate) offset: u16,
+    /// The number of bytes.
+    pub(crate) size: u32,
+}
+
+impl Access {
+    /// The physical address of the byte at an index, whose offset wraps.
+    pub(crate) fn address(self, k: u32) -> u32
+        ensures address { result ≡ address_in (access_of self) k }
+        ensures within { result < 2 ^ 20 }
+    {
+        let offset = ((u64::from(self.offset) + u64::from(k)) % 0x1_0000) as u32;
+        (u32::from(self.segment) * 16 + offset) % 0x10_0000
+    }
+}
