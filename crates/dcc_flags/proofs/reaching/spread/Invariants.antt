@@ -1,9 +1,0 @@
-use Rattle.std.proofs.Common.{◌≡◌, length, drop}
-use Rattle.dcc_flags.specs.Sources.{spread}
-use Rattle.dcc_flags.proofs.reaching.spread.Given as goal
-
-abbrev pub invariant-loop-block : goal.invariant-loop-block
-invariant-loop-block l = record {
-  count : length l.table ≡ length l.initial.table;
-  rest : spread l.source l.table (drop l.block-index l.blocks) ≡ spread l.source l.initial.table l.blocks;
-}
