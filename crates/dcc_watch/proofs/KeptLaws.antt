@@ -1,5 +1,5 @@
 -- From what the code keeps to the steps of the watched machine.
-use Rattle.std.proofs.Common.{◌≡◌, ◌≢◌, ◌⊎◌, inl, inr, ℕ, ◌+◌, ◌<◌, ◌≤◌, Bool, true, false, List, [], ◌∷◌, map, length, replicate, Option, Some, None, refl, sym, ap, ◌∙◌, subst, arith}
+use Rattle.std.proofs.Common.{◌≡◌, ◌≢◌, ◌⊎◌, inl, inr, ℕ, ◌+◌, ◌<◌, ◌≤◌, Bool, true, false, List, [], ◌∷◌, map, replicate, Option, Some, None, refl, sym, ap, ◌∙◌, subst, arith}
 use Rattle.std.specs.Prelude.{◌&&◌, ◌==◌, not, nat_lt, if◌then◌else◌}
 use Rattle.std.proofs.lemmas.Bool.Decides.{nat_tests}
 use Rattle.dcc_run.specs.End.{Running as running}
@@ -23,7 +23,7 @@ use Rattle.dcc_watch.specs.declared.judge.Foul.{Foul}
 use Rattle.dcc_watch.specs.declared.progress.Progress.{Progress}
 use Rattle.dcc_watch.specs.declared.progress.Progress.TheVariants.{AtStart, InPrelude, InProcedures, Stopped}
 use Rattle.dcc_watch.specs.declared.watched.Watched.{Watched}
-use Rattle.dcc_watch.specs.declared.watched.Watched.TheVariants.{Clean, NoRoom}
+use Rattle.dcc_watch.specs.declared.watched.Watched.TheVariants.{Clean}
 use Rattle.dcc_watch.specs.Foul.{foul_in, told_foul}
 use Rattle.dcc_watch.specs.Following.{live_after, written_following}
 use Rattle.dcc_watch.specs.Marks.{no_marks}

@@ -1,12 +1,11 @@
 -- From steps of the watch to its runs.
-use Rattle.std.proofs.Common.{◌≡◌, ◌≢◌, ◌⊎◌, inl, inr, ℕ, zero, suc, ◌+◌, ◌-◌, ◌<◌, ◌≤◌, Bool, true, false, List, Option, refl, sym, ap, ◌∙◌, subst, arith}
+use Rattle.std.proofs.Common.{◌≡◌, ◌≢◌, ◌⊎◌, inl, inr, ℕ, zero, suc, ◌+◌, ◌-◌, ◌<◌, Bool, true, false, List, Option, refl, ap, subst, arith}
 use Rattle.std.specs.Prelude.{◌&&◌, not}
 use Rattle.dcc_run.specs.End.{End, Running as running, Exit as exited, Divide as divided, Outside as outside, Stuck, is_over}
 use Rattle.dcc_prog.specs.Watch as stage
 use Rattle.dcc_console.specs.Scene.{Scene, scene}
 use Rattle.dcc_console.specs.Steps.{Makes, MakesSteps, Steps, Runs, made}
 use Rattle.dcc_console.proofs.Runs.{one_more}
-use Rattle.dcc_step.specs.declared.ending.Stepped.{Stepped}
 use Rattle.dcc_step.specs.declared.ending.Stepped.TheVariants.{Running, Exit, Divide, Outside, InFault, OutFault}
 use Rattle.dcc_step.specs.declared.ending.Ending.{Ending}
 use Rattle.dcc_step.specs.declared.ending.Ending.TheVariants.{Running as EndRunning, Exit as EndExit, Divide as EndDivide, Outside as EndOutside}

@@ -1,8 +1,8 @@
 -- From a step of the machine to a step of the watched machine.
-use Rattle.std.proofs.Common.{◌≡◌, ◌⊎◌, inl, inr, ℕ, ◌+◌, Bool, true, false, List, [], ◌∷◌, ◌++◌, map, drop, Option, Some, None, refl, sym, ap, ◌∙◌, subst}
+use Rattle.std.proofs.Common.{◌≡◌, ◌⊎◌, inl, inr, ℕ, Bool, true, false, List, [], ◌∷◌, ◌++◌, map, Option, Some, None, refl, sym, ap, ◌∙◌, subst}
 use Rattle.std.specs.Prelude.{◌||◌, if◌then◌else◌}
 use Rattle.std.proofs.lemmas.List.{append-nil}
-use Rattle.dcc_run.specs.End.{End, Running as running, is_over}
+use Rattle.dcc_run.specs.End.{Running as running, is_over}
 use Rattle.dcc_prog.specs.declared.procedure.Layout.{Layout}
 use Rattle.dcc_prog.specs.declared.frame.Program.{Program}
 use Rattle.dcc_prog.specs.declared.instr.Instr.{Instr}
@@ -15,13 +15,12 @@ use Rattle.dcc_prog.specs.Access.{found_accesses}
 use Rattle.dcc_prog.specs.Clean as told
 use Rattle.dcc_prog.specs.Clean.{top_in, frames_after, stack_after}
 use Rattle.dcc_prog.specs.Watch.{Watch, Stage, AtStart, InPrelude, InProcedures, Stopped, stage_after, next_instruction, next_foul, is_foul, moved, made as made_step, watch_step}
-use Rattle.dcc_io.specs.Told.{prepend_told, append_told}
 use Rattle.dcc_io.proofs.ToldLemmas.{append_told-nil, prepend_told-nil}
 use Rattle.dcc_console.specs.Scene.{Scene, scene, told_bytes}
-use Rattle.dcc_console.specs.Steps.{Comes, Makes, IsRefusedRead, IsRefusedWrite, IsSame, Steps, made, read_failed, write_failed}
+use Rattle.dcc_console.specs.Steps.{Comes, Makes, IsRefusedRead, IsRefusedWrite, Steps, made}
 use Rattle.dcc_step.specs.declared.ending.Stepped.{Stepped}
 use Rattle.dcc_step.specs.declared.ending.Stepped.TheVariants.{Running, Exit, Divide, Outside, InFault, OutFault}
-use Rattle.dcc_step.specs.Core.{Core, core_of, state_of}
+use Rattle.dcc_step.specs.Core.{Core, state_of}
 use Rattle.dcc_step.specs.Stepped as step_told
 use Rattle.dcc_watch.specs.declared.frames.Live.{Live}
 use Rattle.dcc_watch.specs.declared.shape.Shape.{Shape}

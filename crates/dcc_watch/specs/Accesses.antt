@@ -1,5 +1,5 @@
 -- Accesses as the code keeps them.
-use Rattle.std.specs.Prelude.{ℕ, List, map}
+use Rattle.std.specs.Prelude.{List, map}
 use Rattle.dcc_prog.specs.Access as told
 use Rattle.dcc_watch.specs.declared.access.Direction.{Direction}
 use Rattle.dcc_watch.specs.declared.access.Direction.TheVariants.{Reading, Writing}

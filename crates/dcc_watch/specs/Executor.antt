@@ -1,5 +1,5 @@
 -- The watch as code that executes watched machines, and what its answers tell.
-use Rattle.std.specs.Prelude.{◌≡◌, ◌≤◌, ℕ, ◌+◌, ◌-◌, ◌/◌, Bool, true, false, not, ◌&&◌, List, [], length}
+use Rattle.std.specs.Prelude.{◌≡◌, ◌≤◌, ◌+◌, ◌-◌, ◌/◌, Bool, true, false, not, ◌&&◌, [], length}
 use Rattle.dcc_run.specs.End.{Running as running, is_over}
 use Rattle.dcc_prog.specs.declared.image.Image.{Image}
 use Rattle.dcc_prog.specs.declared.frame.Program.{Program}

@@ -1,4 +1,4 @@
-use Rattle.std.proofs.Common.{◌≡◌, ℕ, None, ap, sym, ◌∙◌, ◌∷◌, [], arith}
+use Rattle.std.proofs.Common.{◌≡◌, ℕ, ap, sym, ◌∙◌, ◌∷◌, [], arith}
 use Rattle.std.specs.Prelude.{not}
 use Rattle.dcc_prog.specs.Clean.{is_marked}
 use Rattle.dcc_watch.specs.Accesses.{access_of}

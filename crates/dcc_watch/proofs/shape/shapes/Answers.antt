@@ -1,4 +1,4 @@
-use Rattle.std.proofs.Common.{◌≡◌, ◌+◌, ◌-◌, ◌<◌, ◌≤◌, ◌⊎◌, inl, inr, length, min, ap, sym, ◌∙◌, arith, length-set}
+use Rattle.std.proofs.Common.{◌≡◌, ◌-◌, ◌≤◌, ◌⊎◌, length, min, ap, ◌∙◌, arith, length-set}
 use Rattle.std.proofs.lemmas.List.{length-replicate}
 use Rattle.dcc_watch.specs.declared.shape.TheConstants.{NO_SHAPE}
 use Rattle.dcc_watch.specs.Shapes.{no_shapes}

@@ -1,4 +1,4 @@
-use Rattle.std.proofs.Common.{◌≡◌, refl, sym, ◌∙◌}
+use Rattle.std.proofs.Common.{refl, sym, ◌∙◌}
 use Rattle.dcc_watch.proofs.LiveLaws.{lives, not_this, this, none}
 use Rattle.dcc_watch.proofs.frames.Frames.is_exposed.Goals as goal
 

@@ -1,4 +1,4 @@
-use Rattle.std.proofs.Common.{◌≡◌, sym, ap, ◌∙◌}
+use Rattle.std.proofs.Common.{sym, ap, ◌∙◌}
 use Rattle.dcc_step.specs.Stepped as step_told
 use Rattle.dcc_step.proofs.Steps.{answer_made, answer_tells}
 use Rattle.dcc_watch.specs.Watching.{Watching, stage_of}

@@ -1,10 +1,10 @@
-use Rattle.std.proofs.Common.{◌≡◌, arith, subst, sym, ap, ◌∙◌}
+use Rattle.std.proofs.Common.{◌≡◌, arith, subst, sym, ◌∙◌}
 use Rattle.dcc_io.proofs.CountLemmas.{Rose-since}
 use Rattle.dcc_console.specs.Scene.{Scene, scene}
-use Rattle.dcc_console.specs.Steps.{Makes, MakesSteps, Steps, Runs}
+use Rattle.dcc_console.specs.Steps.{MakesSteps, Steps, Runs}
 use Rattle.dcc_console.proofs.Runs.{no_steps, one_more}
 use Rattle.dcc_watch.specs.Watching.{Watching}
-use Rattle.dcc_watch.specs.Executor.{watched, outcome_of}
+use Rattle.dcc_watch.specs.Executor.{watched}
 use Rattle.dcc_watch.proofs.RunProofs.{on_made, run_stops}
 use Rattle.dcc_watch.proofs.watch.Watch.run.Goals as goal
 

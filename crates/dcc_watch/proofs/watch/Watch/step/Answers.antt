@@ -1,4 +1,4 @@
-use Rattle.std.proofs.Common.{◌≡◌, sym, ap, ◌∙◌, subst, arith}
+use Rattle.std.proofs.Common.{sym, ◌∙◌, subst, arith}
 use Rattle.dcc_console.specs.Scene.{scene}
 use Rattle.dcc_console.specs.Steps.{Steps}
 use Rattle.dcc_watch.specs.Executor.{watched}

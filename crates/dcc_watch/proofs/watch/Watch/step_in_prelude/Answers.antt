@@ -1,16 +1,15 @@
-use Rattle.std.proofs.Common.{◌≡◌, ◌≢◌, ◌+◌, ◌<◌, ◌∷◌, [], List, length, true, false, refl, sym, ap, ◌∙◌, subst, arith}
-use Rattle.std.specs.Prelude.{◌==◌, if◌then◌else◌}
+use Rattle.std.proofs.Common.{◌≡◌, ◌≢◌, ◌<◌, ◌∷◌, List, length, true, refl, sym, ap, ◌∙◌, subst}
 use Rattle.dcc_prog.specs.Clean as told
 use Rattle.dcc_prog.specs.Watch as stage
 use Rattle.dcc_console.specs.Scene.{scene}
 use Rattle.dcc_console.specs.Steps.{Steps}
-use Rattle.dcc_step.specs.Core.{Core, state_of}
+use Rattle.dcc_step.specs.Core.{state_of}
 use Rattle.dcc_watch.specs.declared.progress.Progress.TheVariants.{InPrelude, InProcedures}
 use Rattle.dcc_watch.specs.declared.watched.Watched.TheVariants.{Clean}
 use Rattle.dcc_watch.specs.Following.{first_live}
 use Rattle.dcc_watch.specs.Kept.{Kept}
-use Rattle.dcc_watch.specs.Watching.{Watching, AllHaveShapes, is_before, stage_of}
-use Rattle.dcc_watch.specs.Executor.{watched, outcome_of, is_stopped, is_at_first}
+use Rattle.dcc_watch.specs.Watching.{Watching, AllHaveShapes, stage_of}
+use Rattle.dcc_watch.specs.Executor.{watched, outcome_of, is_at_first}
 use Rattle.dcc_watch.proofs.KeptLaws.{viewed, IsFirst, first_refused, first_made, first_unstopped, first_stage, not_there, is_there, machine_end}
 use Rattle.dcc_watch.proofs.RunProofs.{first_before}
 use Rattle.dcc_watch.proofs.watch.Watch.step_in_prelude.Goals as goal

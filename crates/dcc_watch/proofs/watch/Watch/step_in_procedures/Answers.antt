@@ -1,23 +1,18 @@
-use Rattle.std.proofs.Common.{◌≡◌, ◌<◌, ◌≤◌, ◌⊎◌, inl, inr, List, map, length, Option, Some, None, true, false, refl, sym, ap, ◌∙◌, subst, arith}
+use Rattle.std.proofs.Common.{◌≡◌, ◌<◌, ◌≤◌, map, length, true, false, refl, sym, ap, ◌∙◌, subst, arith}
 use Rattle.std.specs.Prelude.{option_map}
 use Rattle.std.proofs.lemmas.List.{length-map}
 use Rattle.dcc_prog.specs.Table.{instruction_at}
 use Rattle.dcc_prog.specs.Step.{code_bytes}
-use Rattle.dcc_prog.specs.Clean.{top_in}
-use Rattle.dcc_prog.specs.Access.{found_accesses}
 use Rattle.dcc_console.specs.Scene.{scene}
 use Rattle.dcc_console.specs.Steps.{Steps}
-use Rattle.dcc_step.specs.declared.ending.Stepped.{Stepped}
 use Rattle.dcc_step.specs.Core.{Core, state_of}
-use Rattle.dcc_watch.specs.declared.progress.Progress.TheVariants.{InProcedures, Stopped}
-use Rattle.dcc_watch.specs.declared.watched.Watched.TheVariants.{Clean, NoRoom}
-use Rattle.dcc_watch.specs.Foul.{foul_in, told_foul}
-use Rattle.dcc_watch.specs.Following.{live_after, written_following}
+use Rattle.dcc_watch.specs.declared.progress.Progress.TheVariants.{Stopped}
+use Rattle.dcc_watch.specs.declared.watched.Watched.TheVariants.{Clean}
+use Rattle.dcc_watch.specs.Foul.{told_foul}
 use Rattle.dcc_watch.specs.Kept.{Kept}
 use Rattle.dcc_watch.specs.Shapes.{live_frame}
 use Rattle.dcc_watch.specs.Watching.{Watching, AllHaveShapes, is_before, stage_of}
-use Rattle.dcc_watch.specs.Executor.{watched, outcome_of, is_stopped, is_in_procedures, Tells}
-use Rattle.dcc_watch.proofs.StepLaws.{stage-follows}
+use Rattle.dcc_watch.specs.Executor.{watched, outcome_of, is_stopped, is_in_procedures}
 use Rattle.dcc_watch.proofs.KeptLaws.{viewed, foul_tells, follow_after, IsInside, in_procedures, inside_unstopped, is_full, has_room, step_foul, step_refused, step_made, same_kept, machine_end}
 use Rattle.dcc_watch.proofs.watch.Watch.step_in_procedures.Goals as goal
 
