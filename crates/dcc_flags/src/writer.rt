@@ -1,0 +1,309 @@
+//! The writer of folded statements.
+
+ghost use Rattle.std.specs.Prelude.{◌≡◌, ◌++◌, length, map, IfOk, OnOk};
+ghost use Rattle.dcc_ir.specs.Views.{expr_of, stmt_of};
+ghost use Rattle.dcc_ir.specs.Location.{location_width};
+ghost use Rattle.dcc_ir.specs.Value as value;
+ghost use Rattle.dcc_flags.specs.Folding as spec;
+ghost use Rattle.dcc_flags.specs.Folding.{choices_of};
+
+use crate::choices::{Choices, copied};
+use crate::kept::Kept;
+use dcc_ir::{BinOp, Expr, Loc, Stmt, UnOp};
+use std::alloc::{AllocError, Global};
+
+// Whether an operator gives one bit.
+fn is_test(operator: UnOp) -> bool
+    ensures { result ≡ value.is_test operator }
+{
+    match operator {
+        UnOp::IsZero => true,
+        UnOp::Neg | UnOp::Not => false,
+    }
+}
+
+// Whether an operator gives one bit.
+fn is_comparison(operator: BinOp) -> bool
+    ensures { result ≡ value.is_comparison operator }
+{
+    match operator {
+        BinOp::Eq | BinOp::LtS | BinOp::LtU | BinOp::LeS | BinOp::LeU => true,
+        _ => false,
+    }
+}
+
+// Whether a truth node stands in an expression.
+fn has_truth(e: &Expr) -> bool
+    ensures { result ≡ spec.has_truth (expr_of e.now) }
+{
+    match e {
+        Expr::Const { .. } | Expr::Get(_) | Expr::Address(_) => false,
+        Expr::Load { address: a, .. }
+        | Expr::Widen { operand: a, .. }
+        | Expr::Part { operand: a, .. } => has_truth(a),
+        Expr::Un {
+            operator,
+            operand,
+            ..
+        } => is_test(*operator) || has_truth(operand),
+        Expr::Bin {
+            operator,
+            left,
+            right,
+            ..
+        } => is_comparison(*operator) || has_truth(left) || has_truth(right),
+        Expr::Join { high, low } => has_truth(high) || has_truth(low),
+        Expr::Choose { .. } => true,
+    }
+}
+
+// How many bits a location has.
+fn location_width(bits: &[u8], location: Loc) -> u8
+    ensures { result ≡ location_width bits.now location }
+{
+    match location {
+        Loc::Half(..) | Loc::Cell(..) => 8,
+        Loc::Flag(_) => 1,
+        Loc::Temp(n) => {
+            if (n as usize) < bits.len() {
+                bits[n as usize]
+            } else {
+                0
+            }
+        }
+    }
+}
+
+// How many bits an expression has, at most 255.
+fn bits_in(bits: &[u8], e: &Expr) -> u8
+    ensures { result ≡ spec.bits_in bits.now (expr_of e.now) }
+{
+    match e {
+        Expr::Const { width, .. }
+        | Expr::Load { width, .. }
+        | Expr::Widen { width, .. }
+        | Expr::Part { width, .. } => *width,
+        Expr::Get(location) => location_width(bits, *location),
+        Expr::Un {
+            operator,
+            width,
+            ..
+        } => if is_test(*operator) { 1 } else { *width },
+        Expr::Bin {
+            operator,
+            width,
+            ..
+        } => if is_comparison(*operator) { 1 } else { *width },
+        Expr::Join { high, low } => bits_in(bits, high).saturating_add(bits_in(bits, low)),
+        Expr::Choose { one, .. } => bits_in(bits, one),
+        Expr::Address(_) => 16,
+    }
+}
+
+/// The number of the temporary after these.
+///
+/// # Errors
+///
+/// Where there are 2^32.
+pub fn next_temporary(bits: &[u8]) -> Result<u32, AllocError>
+    ensures { IfOk result (λ n. n ≡ length bits.now) }
+{
+    u32::try_from(bits.len()).map_err(|_| AllocError)
+}
+
+/// Writes statements, and makes fresh temporaries.
+#[derive(Drop)]
+pub struct Writer {
+    pub alloc: Global,
+    /// Which flags are kept.
+    pub kept: Kept,
+    /// The bits of each temporary.
+    pub bits: Vec<u8>,
+    /// What is written.
+    pub stmts: Vec<Stmt>,
+}
+
+impl Writer {
+    // A fresh temporary takes the expression.
+    fn copy(&mut self, e: &Expr) -> Result<Expr, AllocError>
+        ensures value { IfOk result (λ r. expr_of r ≡ (spec.copied self.old.bits.items (expr_of e.now)).value) }
+        ensures stmts { OnOk result (map stmt_of self.new.stmts.items ≡ map stmt_of self.old.stmts.items ++ (spec.copied self.old.bits.items (expr_of e.now)).copies) }
+        ensures bits { OnOk result (self.new.bits.items ≡ self.old.bits.items ++ (spec.copied self.old.bits.items (expr_of e.now)).widths) }
+        ensures kept { self.new.kept ≡ self.old.kept }
+    {
+        let fresh = Loc::Temp(next_temporary(self.bits.as_slice())?);
+        self.bits.push(bits_in(self.bits.as_slice(), e))?;
+        self.stmts.push(Stmt::Set {
+            place: fresh,
+            value: copied(self.alloc, e)?,
+        })?;
+        Ok(Expr::Get(fresh))
+    }
+
+    // The expression over fresh temporaries, which take its greatest parts without a truth node, and its loads.
+    fn take(&mut self, e: &Expr) -> Result<Expr, AllocError>
+        ensures value { IfOk result (λ r. expr_of r ≡ (spec.taken self.old.bits.items (expr_of e.now)).value) }
+        ensures stmts { OnOk result (map stmt_of self.new.stmts.items ≡ map stmt_of self.old.stmts.items ++ (spec.taken self.old.bits.items (expr_of e.now)).copies) }
+        ensures bits { OnOk result (self.new.bits.items ≡ self.old.bits.items ++ (spec.taken self.old.bits.items (expr_of e.now)).widths) }
+        ensures kept { self.new.kept ≡ self.old.kept }
+    {
+        match e {
+            Expr::Const { width, number } => Ok(Expr::Const {
+                width: *width,
+                number: *number,
+            }),
+            Expr::Get(_) | Expr::Load { .. } | Expr::Address(_) => self.copy(e),
+            Expr::Un {
+                operator,
+                width,
+                operand,
+            } => {
+                if has_truth(e) {
+                    let operand = self.take(operand)?;
+                    Ok(Expr::Un {
+                        operator: *operator,
+                        width: *width,
+                        operand: Box::new(self.alloc, operand)?,
+                    })
+                } else {
+                    self.copy(e)
+                }
+            }
+            Expr::Bin {
+                operator,
+                width,
+                left,
+                right,
+            } => {
+                if has_truth(e) {
+                    let left = self.take(left)?;
+                    let right = self.take(right)?;
+                    Ok(Expr::Bin {
+                        operator: *operator,
+                        width: *width,
+                        left: Box::new(self.alloc, left)?,
+                        right: Box::new(self.alloc, right)?,
+                    })
+                } else {
+                    self.copy(e)
+                }
+            }
+            Expr::Widen {
+                by_sign,
+                width,
+                operand,
+            } => {
+                if has_truth(operand) {
+                    let operand = self.take(operand)?;
+                    Ok(Expr::Widen {
+                        by_sign: *by_sign,
+                        width: *width,
+                        operand: Box::new(self.alloc, operand)?,
+                    })
+                } else {
+                    self.copy(e)
+                }
+            }
+            Expr::Part {
+                width,
+                first,
+                operand,
+            } => {
+                if has_truth(operand) {
+                    let operand = self.take(operand)?;
+                    Ok(Expr::Part {
+                        width: *width,
+                        first: *first,
+                        operand: Box::new(self.alloc, operand)?,
+                    })
+                } else {
+                    self.copy(e)
+                }
+            }
+            Expr::Join { high, low } => {
+                if has_truth(e) {
+                    let high = self.take(high)?;
+                    let low = self.take(low)?;
+                    Ok(Expr::Join {
+                        high: Box::new(self.alloc, high)?,
+                        low: Box::new(self.alloc, low)?,
+                    })
+                } else {
+                    self.copy(e)
+                }
+            }
+            Expr::Choose { test, one, other } => {
+                let test = self.take(test)?;
+                let one = self.take(one)?;
+                let other = self.take(other)?;
+                Ok(Expr::Choose {
+                    test: Box::new(self.alloc, test)?,
+                    one: Box::new(self.alloc, one)?,
+                    other: Box::new(self.alloc, other)?,
+                })
+            }
+        }
+    }
+
+    // A location takes the expression. A flag that is not kept goes, and is chosen over fresh temporaries.
+    fn set(&mut self, choices: &mut Choices, place: Loc, e: Expr) -> Result<(), AllocError>
+        ensures stmts { OnOk result (map stmt_of self.new.stmts.items ≡ map stmt_of self.old.stmts.items
+            ++ (spec.set_folded self.old.kept self.old.bits.items (choices_of choices.old) place (expr_of e)).stmts) }
+        ensures bits { OnOk result (self.new.bits.items ≡ self.old.bits.items
+            ++ (spec.set_folded self.old.kept self.old.bits.items (choices_of choices.old) place (expr_of e)).widths) }
+        ensures choices { OnOk result (choices_of choices.new
+            ≡ (spec.set_folded self.old.kept self.old.bits.items (choices_of choices.old) place (expr_of e)).choices) }
+        ensures kept { self.new.kept ≡ self.old.kept }
+    {
+        match place {
+            Loc::Flag(f) if !self.kept.has(f) => {
+                let value = self.take(&e)?;
+                choices.choose(f, value);
+            }
+            _ => self.stmts.push(Stmt::Set { place, value: e })?,
+        }
+        Ok(())
+    }
+
+    // The statement with the choices in it, or what stands in its place.
+    fn fold_stmt(&mut self, choices: &mut Choices, stmt: &Stmt) -> Result<(), AllocError>
+        ensures stmts { OnOk result (map stmt_of self.new.stmts.items ≡ map stmt_of self.old.stmts.items
+            ++ (spec.stmt_folded self.old.kept self.old.bits.items (choices_of choices.old) (stmt_of stmt.now)).stmts) }
+        ensures bits { OnOk result (self.new.bits.items ≡ self.old.bits.items
+            ++ (spec.stmt_folded self.old.kept self.old.bits.items (choices_of choices.old) (stmt_of stmt.now)).widths) }
+        ensures choices { OnOk result (choices_of choices.new
+            ≡ (spec.stmt_folded self.old.kept self.old.bits.items (choices_of choices.old) (stmt_of stmt.now)).choices) }
+        ensures kept { self.new.kept ≡ self.old.kept }
+    {
+        match stmt {
+            Stmt::Set { place, value } => {
+                let e = choices.within(self.alloc, value)?;
+                self.set(choices, *place, e)
+            }
+            Stmt::Load { .. }
+            | Stmt::Store { .. }
+            | Stmt::Div { .. }
+            | Stmt::Call { .. }
+            | Stmt::Dos { .. } => {
+                self.stmts.push(choices.within_stmt(self.alloc, stmt)?)?;
+                Ok(())
+            }
+        }
+    }
+
+    /// What stands in place of these statements, and the choices after them.
+    pub fn fold_stmts(&mut self, choices: &mut Choices, stmts: &[Stmt]) -> Result<(), AllocError>
+        ensures stmts { OnOk result (map stmt_of self.new.stmts.items ≡ map stmt_of self.old.stmts.items
+            ++ (spec.stmts_folded self.old.kept self.old.bits.items (choices_of choices.old) (map stmt_of stmts.now)).stmts) }
+        ensures bits { OnOk result (self.new.bits.items ≡ self.old.bits.items
+            ++ (spec.stmts_folded self.old.kept self.old.bits.items (choices_of choices.old) (map stmt_of stmts.now)).widths) }
+        ensures choices { OnOk result (choices_of choices.new
+            ≡ (spec.stmts_folded self.old.kept self.old.bits.items (choices_of choices.old) (map stmt_of stmts.now)).choices) }
+        ensures kept { self.new.kept ≡ self.old.kept }
+    {
+        for stmt in stmts {
+            self.fold_stmt(choices, stmt)?;
+        }
+        Ok(())
+    }
+}

@@ -1,0 +1,60 @@
+-- The laws of the machine's stack in clean runs.
+use Rattle.std.specs.Prelude.{◌≡◌, ◌≤◌, ◌<◌, ℕ, ◌+◌, ◌-◌, ◌/◌, false, List, length, slice_index, Some, None}
+use Rattle.dcc_run.specs.End.{is_over}
+use Rattle.dcc_run.specs.Watched.{state}
+use Rattle.dcc_prog.specs.declared.cpu.Cpu.{Cpu}
+use Rattle.dcc_prog.specs.declared.image.Image.{Image}
+use Rattle.dcc_prog.specs.declared.frame.Program.{Program}
+use Rattle.dcc_prog.specs.declared.instr.Op.TheVariants.{Call}
+use Rattle.dcc_prog.specs.declared.instr.Instr.{Instr}
+use Rattle.dcc_prog.specs.Machine.{State}
+use Rattle.dcc_prog.specs.Step.{step}
+use Rattle.dcc_prog.specs.Clean.{Stack, foul_of, stack_after}
+use Rattle.dcc_prog.specs.Watch.{Watch, InProcedures, next_instruction, watched_machine, first_watch}
+use Rattle.dcc_stack.specs.Accepted.{IsProgramOfFile}
+use Rattle.dcc_stack.specs.Standing.{StackStands}
+
+-- a file's image with the program that the analyses find in it, and an input of bytes
+pub record IsRunOf (cpu : Cpu) (image : Image) (program : Program) (input : List ℕ) : Type 0 where
+  pub program_is : IsProgramOfFile cpu image program
+  pub bytes : (k : ℕ) → slice_index input k < 256
+
+-- the watched run after so many steps
+abbrev pub watch_after : Program → Image → List ℕ → ℕ → Watch
+watch_after program image input n = state (watched_machine program) n (first_watch image input)
+
+-- a clean step that doesn't end the run leads from a stack that stands to one that does
+abbrev pub CleanStepsStand : Type 0
+CleanStepsStand =
+    (cpu : Cpu) (image : Image) (program : Program) (s : State) (stack : Stack)
+    → IsProgramOfFile cpu image program → StackStands image program.layout s stack → is_over s.end ≡ false
+    → foul_of program stack s (next_instruction program.layout.cpu s) ≡ None
+    → is_over (step program.layout.cpu s).end ≡ false
+    → StackStands image program.layout (step program.layout.cpu s)
+    (stack_after program.layout (next_instruction program.layout.cpu s) s (step program.layout.cpu s) stack)
+
+-- as long as the run neither has ended nor was stopped, the stack stands wherever it is in procedures
+abbrev pub FramesStand : Type 0
+FramesStand =
+    (cpu : Cpu) (image : Image) (program : Program) (input : List ℕ) (n : ℕ) (stack : Stack)
+    → IsRunOf cpu image program input
+    → is_over (watch_after program image input n).machine.end ≡ false
+    → (watch_after program image input n).stage ≡ InProcedures stack
+    → StackStands image program.layout (watch_after program image input n).machine stack
+
+-- so there are no more frames than return addresses fit the stack, and one more
+abbrev pub FramesAreFew : Type 0
+FramesAreFew =
+    (cpu : Cpu) (image : Image) (program : Program) (input : List ℕ) (n : ℕ) (stack : Stack)
+    → IsRunOf cpu image program input
+    → is_over (watch_after program image input n).machine.end ≡ false
+    → (watch_after program image input n).stage ≡ InProcedures stack
+    → length stack.frames ≤ (program.layout.hi - program.layout.lo) / 2 + 1
+
+-- and where a CALL is clean there is room for one more
+abbrev pub CallsHaveRoom : Type 0
+CallsHaveRoom =
+    (image : Image) (program : Program) (s : State) (stack : Stack) (instr : Instr) (target : ℕ)
+    → StackStands image program.layout s stack → instr.op ≡ Call target
+    → foul_of program stack s (Some instr) ≡ None
+    → length stack.frames + 1 ≤ (program.layout.hi - program.layout.lo) / 2 + 1

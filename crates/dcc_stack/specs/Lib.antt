@@ -1,0 +1,7 @@
+pub mod Accepted
+pub mod Standing
+pub mod Apart
+pub mod Tables
+pub mod Slots
+pub mod SlotLaws
+pub mod Laws
