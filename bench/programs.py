@@ -27,6 +27,8 @@ PROGRAMS = {
     "REGISTER.EXE": "03C3 33D0 41 8BF0 2BFA 3BC2 EBF3",
     # mov bx,100h; add [bx],ax; mov cx,[bx]; inc word [bx+si]; mov [bx+2],cx; add ax,[bx+2]; jmp to the add
     "MEMORY.EXE": "BB0001 0107 8B0F FF00 894F02 034702 EBF2",
+    # mov bx,2000h; mov cx,ffffh; mov ax,[bx]; mov [bx+2],ax; add ax,dx; xor dx,ax; dec cx; jnz to the load; jmp to 2nd
+    "MIXED.EXE": "BB0020 B9FFFF 8B07 894702 03C2 33D0 49 75F4 EBEF",
 }
 
 

@@ -28,8 +28,9 @@ output_after subject steps input = out_after subject.console.system steps (subje
 abbrev pub ending_after : {S : Type 0} → Subject S → ℕ → List ℕ → End
 ending_after subject steps input = end_after subject.console.system steps (subject.start input)
 
--- Code that executes systems with a console. There is a system for each W: the texts, say, or one machine alone. What
--- the code keeps, a C, stands for states of them, whatever these have left to read and has happened at their consoles.
+-- Code that executes systems with a console. There is a system for each W: for each text, say, or for each processor.
+-- What the code keeps, a C, stands for states of them, whatever these have left to read and has happened at their
+-- consoles.
 pub record Executor (W C S : Type 0) : Type 1 where
   pub console : W → Console S
   pub stands : W → C → S → Type 0

@@ -8,16 +8,12 @@ use Rattle.dcc_prog.specs.declared.instr.Op.{Op}
 use Rattle.dcc_prog.specs.declared.instr.Op.TheVariants.{Push, Leave}
 use Rattle.dcc_prog.specs.Operands.{reg_field}
 use Rattle.dcc_prog.specs.Table.{BytePattern, Row, Parts, fits, table, later_rows, IsRow, between, bytes_between, modrm_bytes, imm16, constant_shift, triple_product}
-use Rattle.dcc_prog.proofs.TableLaws.{and_both, find-get, find-passes}
+use Rattle.dcc_prog.proofs.TableLaws.{both_tables, and_both, find-get, find-passes}
 use Rattle.dcc_decode.specs.Reading.{operation_of}
 use Rattle.dcc_decode.proofs.Forms.{fits-this, fits-any_operand, fits-one}
 use Rattle.dcc_decode.proofs.LowerRows.{of_row_for, none_for, no_row_fits, empty, one, two, any, this}
 
 -- The rows of both --------------------------------------------------------------------------------
-
-table-later : table I186 ≡ table I8086 ++ later_rows
-unfolding table
-table-later = refl
 
 get-append :
     {X : Type 0} (xs ys : List X) (k : ℕ) (x : X) → slice_get xs k ≡ Some x → slice_get (xs ++ ys) k ≡ Some x
@@ -34,7 +30,7 @@ find-append_none {X} test (y ∷ xs) ys e =
 
 -- each row of a processor is one of the 80186
 pub row_of_later : (cpu : Cpu) (row : Row) → IsRow cpu row → IsRow I186 row
-row_of_later I8086 row at = (at.0, rw table-later (get-append (table I8086) later_rows at.0 row at.1))
+row_of_later I8086 row at = (at.0, rw both_tables (get-append (table I8086) later_rows at.0 row at.1))
 row_of_later I186 row at = at
 
 -- Operations of both --------------------------------------------------------------------------------
@@ -68,7 +64,7 @@ unfolding operation_of
 unlike_later form p e h none =
     let test : Row → Bool = λ row. fits row.pattern (p.opcode ∷ p.modrm ∷ []) in
     let later = no_row_fits later_rows form p.opcode p.modrm e h in
-    rw (table-later, find-append_none test (table I8086) later_rows later) none
+    rw (both_tables, find-append_none test (table I8086) later_rows later) none
 
 pub neither :
     (p : Parts) → p.opcode < 256 → p.opcode ≢ 0x68 → p.opcode ≢ 0x69 → p.opcode ≢ 0x6a → p.opcode ≢ 0x6b

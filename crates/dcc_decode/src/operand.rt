@@ -2,7 +2,7 @@
 //! tables 4-8 to 4-10).
 
 ghost use Rattle.std.specs.Prelude.{◌≡◌, ◌<◌, length, get_or, None};
-ghost use Rattle.dcc_prog.specs.Operands.{word_register, byte_register, register, mod_field, reg_field, rm_field, is_direct, displacement_size, base_registers, index_registers, address, rm_operand};
+ghost use Rattle.dcc_prog.specs.Operands.{word_register, byte_register, register, mod_field, reg_field, rm_field, has_direct_address, displacement_size, base_registers, index_registers, address, rm_operand};
 
 use dcc_num::{Half, Reg, Width};
 use dcc_prog::{Ea, Operand};
@@ -69,8 +69,8 @@ pub fn rm_field(modrm: u8) -> u8
 }
 
 /// Whether the ModRM byte names a memory operand by a word displacement alone.
-pub fn is_direct(modrm: u8) -> bool
-    ensures { result ≡ is_direct modrm }
+pub fn has_direct_address(modrm: u8) -> bool
+    ensures { result ≡ has_direct_address modrm }
 {
     mod_field(modrm) == 0 && rm_field(modrm) == 6
 }
@@ -82,7 +82,7 @@ pub fn displacement_size(modrm: u8) -> u8
     match mod_field(modrm) {
         1 => 1,
         2 => 2,
-        _ if is_direct(modrm) => 2,
+        _ if has_direct_address(modrm) => 2,
         _ => 0,
     }
 }
@@ -111,7 +111,11 @@ pub fn address(modrm: u8, displacement: u16) -> Ea
 {
     let (base, index) = address_registers(rm_field(modrm));
     Ea {
-        base: if is_direct(modrm) { None } else { base },
+        base: if has_direct_address(modrm) {
+            None
+        } else {
+            base
+        },
         index,
         disp: displacement,
     }

@@ -11,9 +11,8 @@ use Rattle.dcc_ir.specs.Tree.{Expr, Const, Get, Load, Unary, Binary, Widen, Part
 use Rattle.dcc_ir.specs.Location.{flag_number}
 use Rattle.dcc_ir.specs.Measure.{depth_of, deepest}
 use Rattle.dcc_ir.specs.Use.{parts_of, got_by, exprs_of, exit_exprs}
-use Rattle.dcc_flags.specs.Reaching.{gets}
+use Rattle.dcc_ir.specs.FlagReads.{is_flag_place, reads_flag, gets}
 use Rattle.dcc_flags.specs.Folding.{Choices, choice, negated, with_operator, with_choices, stmt_with_choices, exit_with_choices, has_truth, Taken, taken}
-use Rattle.dcc_flags.specs.Folded.{is_flag_place, reads_flag}
 use Rattle.dcc_flags.proofs.PartLaws.{has_part}
 
 -- Lists of expressions.

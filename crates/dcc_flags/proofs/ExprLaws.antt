@@ -17,7 +17,7 @@ use Rattle.dcc_ir.proofs.FitLaws.{both, value_fits}
 use Rattle.dcc_ir.proofs.ListLaws.{left_part}
 use Rattle.std.proofs.lemmas.List.Concat.{flat_map-append}
 use Rattle.dcc_flags.specs.Folding.{Choices, choice, negated, with_operator, chosen, with_choices}
-use Rattle.dcc_flags.proofs.FormLaws.{width_more}
+use Rattle.dcc_ir.proofs.passes.FormLaws.{width_more}
 
 pub and_both : (a b : Bool) → a ≡ true → b ≡ true → (a && b) ≡ true
 and_both a b e f = ap (λ c. c && b) e ∙ f

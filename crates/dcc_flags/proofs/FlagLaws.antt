@@ -16,14 +16,15 @@ use Rattle.dcc_ir.specs.Joinable.{places_of}
 use Rattle.dcc_ir.proofs.FitLaws.{both}
 use Rattle.dcc_ir.proofs.PathLaws.{decided}
 use Rattle.dcc_ir.proofs.LocationLaws.{flag_same, Contains-here, Contains-later}
+use Rattle.dcc_ir.specs.FlagReads.{gets}
 use Rattle.dcc_flags.specs.declared.kept.Kept.{Kept}
-use Rattle.dcc_flags.specs.Reaching.{gets, has_result, IsKept, param, result}
+use Rattle.dcc_flags.specs.Reaching.{has_result, IsKept, param, result}
 use Rattle.dcc_flags.specs.Folding.{is_kept, Choices, choice, with_choices, stmt_with_choices, exit_with_choices, Taken, taken, has_truth, goes_with, stmt_folded, stmts_folded, bare_stmts, first_choice, first_choices, folded_graph}
 use Rattle.dcc_flags.specs.Folded.{mentions}
 use Rattle.dcc_flags.proofs.ExprLaws.{and_both}
 use Rattle.dcc_flags.proofs.MeetLaws.{by_kept}
 use Rattle.dcc_flags.proofs.PartLaws.{neither, none_in, has_part, OfKind, in_chosen, chosen_lacks, none_has, copies_lack, OfReads, value_lacks, got_is}
-use Rattle.dcc_flags.proofs.EachLaws.{Each, each_at, each_past, each_end, each_block}
+use Rattle.dcc_flags.proofs.EachLaws.{Each, each_at, ValuesHave, each_past, each_end, each_block}
 
 module _ (f : FlagName) where
   gets_kind : OfKind (gets f)
@@ -160,6 +161,9 @@ module _ (f : FlagName) where
     abbrev pub is_fine : Stmt → Bool
     is_fine stmt = is_stmt old stmt && not (has_result f stmt)
 
+    values_lack : ValuesHave Lacks is_fine
+    values_lack bits c g e fine h = value_lacks (gets f) gets_reads bits (with_choices c e)
+
     negation : (b : Bool) → not b ≡ true → b ≡ false
     negation true e = absurd (true≢false (sym e))
     negation false e = refl
@@ -234,7 +238,7 @@ module _ (f : FlagName) where
         let parts = both (is_fine stmt) (list_all is_fine rest) fine in
         let first = stmt_folded kept bits c stmt in
         gone_more first.stmts (stmts_folded kept (bits ++ first.widths) first.choices rest).stmts (folded_gone bits c h stmt parts.0)
-        (stmts_gone (bits ++ first.widths) first.choices (each_past kept Lacks (value_lacks (gets f) gets_reads) bits c stmt h) rest parts.1)
+        (stmts_gone (bits ++ first.widths) first.choices (each_past kept Lacks is_fine values_lack bits c stmt parts.0 h) rest parts.1)
 
     bare_gone : (c : Choices) → Each Lacks c → (stmts : List Stmt) → list_all is_fine stmts ≡ true → Gone (bare_stmts kept c stmts)
     bare_gone c h [] fine = record { reads = refl; writes = refl }
@@ -267,11 +271,11 @@ module _ (f : FlagName) where
       first_each = record { cf = first_lacks (length graph.bits) Cf; zf = first_lacks (length graph.bits) Zf; sf = first_lacks (length graph.bits) Sf; of = first_lacks (length graph.bits) Of }
 
       without : AllZip Without graph.blocks (folded_graph kept graph order).blocks
-      without = each_block kept Lacks (value_lacks (gets f) gets_reads) graph first first_each (λ b. list_all is_fine b.stmts) Without
+      without = each_block kept Lacks is_fine values_lack graph first first_each Without
           (λ b all. record { stmts = bare_gone first first_each b.stmts all; exit = exit_lacks first first_each b.exit })
           (λ bits c b all h. record {
             stmts = stmts_gone bits c h b.stmts all;
-            exit = exit_lacks (stmts_folded kept bits c b.stmts).choices (each_end kept Lacks (value_lacks (gets f) gets_reads) bits c b.stmts h) b.exit;
+            exit = exit_lacks (stmts_folded kept bits c b.stmts).choices (each_end kept Lacks is_fine values_lack bits c b.stmts all h) b.exit;
           }) fine order
 
       -- no block reads or writes the flag

@@ -11,9 +11,9 @@ use Rattle.dcc_ir.specs.Measure.{depth_of}
 use Rattle.dcc_ir.specs.Value.{width_of}
 use Rattle.dcc_ir.specs.Use.{parts_of, got_by}
 use Rattle.dcc_ir.proofs.FitLaws.{both}
-use Rattle.dcc_flags.specs.Reaching.{gets, has_arm}
+use Rattle.dcc_ir.specs.FlagReads.{is_flag_place, reads_flag, gets, nests}
+use Rattle.dcc_flags.specs.Reaching.{has_arm}
 use Rattle.dcc_flags.specs.Folding.{negated, has_truth, one_taken, copied, taken}
-use Rattle.dcc_flags.specs.Folded.{is_flag_place, reads_flag, nests}
 use Rattle.dcc_flags.proofs.PartLaws.{none_in}
 use Rattle.dcc_flags.proofs.DepthLaws.{value_depth}
 

@@ -19,7 +19,7 @@ use Rattle.dcc_ir.proofs.FitLaws.{both}
 use Rattle.dcc_ir.proofs.PathLaws.{decided}
 use Rattle.dcc_ir.proofs.LocationLaws.{flag_same, contains_among, Contains-here, Contains-later, Contains-none, Contains-cases}
 use Rattle.dcc_ir.proofs.ReachedLaws.{contained, all_at}
-use Rattle.dcc_ir.proofs.passes.AgreeLaws.{all_had}
+use Rattle.dcc_ir.proofs.ListLaws.{all_had}
 use Rattle.dcc_flags.specs.declared.kept.Kept.{Kept}
 use Rattle.dcc_flags.specs.Reaching.{Definition, Start, At, defines, chooses, rest_at, Reaches, begins, defined, passes, goes, reads_at, has_result, IsKept, result, both as both_reach}
 use Rattle.dcc_flags.specs.Folding.{is_kept, choice, with_choice, with_choices, chosen, taken, Taken, Folded, stmt_folded}
@@ -70,6 +70,22 @@ spot_whole graph after kept is plan b k known =
     let front = walked_front kept (stmts_at graph after kept b) k (plan.start b) in
     let whole = plan.prefix b known in
     (front.0 ++ whole.0, whole.1 ∙ ap (λ l. l ++ whole.0) front.1 ∙ append_assoc (spot_at graph after kept plan.start b k).bits front.0 whole.0)
+
+-- What an expression of a list reads, the list reads.
+
+pub in_append_left : (xs ys : List Loc) (l : Loc) → Contains xs l → Contains (xs ++ ys) l
+in_append_left [] ys l c = absurd (Contains-none l c)
+in_append_left (x ∷ xs) ys l c = Contains-cases x xs l (Contains (x ∷ (xs ++ ys)) l) (λ e. subst (Contains (x ∷ (xs ++ ys))) e (Contains-here x (xs ++ ys))) (λ d. Contains-later x (xs ++ ys) l (in_append_left xs ys l d)) c
+
+pub in_append_right : (xs ys : List Loc) (l : Loc) → Contains ys l → Contains (xs ++ ys) l
+in_append_right [] ys l c = c
+in_append_right (x ∷ xs) ys l c = Contains-later x (xs ++ ys) l (in_append_right xs ys l c)
+
+pub in_flat : (es : List Expr) (e : Expr) (l : Loc) → Contains es e → Contains (reads_of e) l → Contains (flat_map reads_of es) l
+in_flat [] e l c d = absurd (Contains-none e c)
+in_flat (x ∷ es) e l c d = Contains-cases x es e (Contains (flat_map reads_of (x ∷ es)) l)
+    (λ same. in_append_left (reads_of x) (flat_map reads_of es) l (subst (λ y. Contains (reads_of y) l) (sym same) d))
+    (λ further. in_append_right (reads_of x) (flat_map reads_of es) l (in_flat es e l further d)) c
 
 module _ (graph after : Graph) (kept : Kept) (is : IsGraph graph) (exact : (f : FlagName) → is_kept kept f ≡ false → IsKept graph f → ⊥) (plan : Plan graph after kept) where
   abbrev pub old : List ℕ
@@ -227,20 +243,6 @@ module _ (graph after : Graph) (kept : Kept) (is : IsGraph graph) (exact : (f : 
       all_had (λ l. value_of t (chosen (spot b k).choices l) ≡ v l) (reads_of e)
       (λ l d. read_location b k v v' h es at t bits values l (All-contains (λ l. is_location old l ≡ true) (reads_of e) l (reads_placed old e ok) d)
       (contains_among (flat_map reads_of es) l (in_flat es e l c d)))
-    where
-      in_append_left : (xs ys : List Loc) (l : Loc) → Contains xs l → Contains (xs ++ ys) l
-      in_append_left [] ys l c = absurd (Contains-none l c)
-      in_append_left (x ∷ xs) ys l c = Contains-cases x xs l (Contains (x ∷ (xs ++ ys)) l) (λ e. subst (Contains (x ∷ (xs ++ ys))) e (Contains-here x (xs ++ ys))) (λ d. Contains-later x (xs ++ ys) l (in_append_left xs ys l d)) c
-
-      in_append_right : (xs ys : List Loc) (l : Loc) → Contains ys l → Contains (xs ++ ys) l
-      in_append_right [] ys l c = c
-      in_append_right (x ∷ xs) ys l c = Contains-later x (xs ++ ys) l (in_append_right xs ys l c)
-
-      in_flat : (es : List Expr) (e : Expr) (l : Loc) → Contains es e → Contains (reads_of e) l → Contains (flat_map reads_of es) l
-      in_flat [] e l c d = absurd (Contains-none e c)
-      in_flat (x ∷ es) e l c d = Contains-cases x es e (Contains (flat_map reads_of (x ∷ es)) l)
-          (λ same. in_append_left (reads_of x) (flat_map reads_of es) l (subst (λ y. Contains (reads_of y) l) (sym same) d))
-          (λ further. in_append_right (reads_of x) (flat_map reads_of es) l (in_flat es e l further d)) c
 
   -- an expression has the value that it had before
   pub value_holds : (b k : ℕ) (v v' : Values) → Holding b k v v' → (es : List Expr) → ((f : FlagName) → reads es (Flag f) ≡ true → reads_at graph f b k ≡ true) →

@@ -24,6 +24,7 @@ use Rattle.dcc_ir.proofs.FitLaws.{both}
 use Rattle.dcc_ir.proofs.PathLaws.{decided}
 use Rattle.dcc_ir.proofs.FitStates.{IsFit, scene-fits, stmt-fit}
 use Rattle.dcc_ir.proofs.LocationLaws.{Contains-here, Contains-later, Contains-none, Contains-cases, contains_among}
+use Rattle.dcc_ir.proofs.ReachedLaws.{all_at}
 use Rattle.dcc_ir.proofs.passes.LocalLaws.{some_same, is_running, Frame, stmt-frame}
 use Rattle.dcc_flags.specs.declared.kept.Kept.{Kept}
 use Rattle.dcc_flags.specs.Reaching.{Start, rest_at, begins, goes, reads_at, IsKept, param}
@@ -34,8 +35,8 @@ use Rattle.dcc_flags.proofs.PlanLaws.{Plan, stmts_at}
 use Rattle.dcc_flags.proofs.HoldLaws.{spot, plain, Holding, holding_set, holding_moves, own, own_bits, holding_results, holding_defined, stmts_fine, spot_fine, spot_whole, value_holds, drop_next, drop_all}
 use Rattle.dcc_flags.proofs.MeetLaws.{Both, Stays, stuck_both, step_value, step_both, written_plain, moves, by_kept}
 use Rattle.dcc_flags.proofs.PassLaws.{Invariant, at_graph, one_pass, BeginsIn, GoesIn, may_stand}
-use Rattle.dcc_flags.proofs.FormLaws.{width_more}
-use Rattle.dcc_flags.specs.Form.{GraphStays}
+use Rattle.dcc_ir.proofs.passes.FormLaws.{width_more}
+use Rattle.dcc_ir.specs.Form.{GraphStays}
 use Rattle.dcc_ir.specs.Replaced.{IsKeptWith}
 use Rattle.dcc_ir.specs.Fitting.{StateFits}
 
@@ -85,6 +86,11 @@ copy_calls low bits (Store w a e ∷ cs) rest ok = absurd (true≢false (sym ok)
 copy_calls low bits (Div l e ∷ cs) rest ok = absurd (true≢false (sym ok))
 copy_calls low bits (Call r n a d ∷ cs) rest ok = absurd (true≢false (sym ok))
 copy_calls low bits (Dos n p a ∷ cs) rest ok = absurd (true≢false (sym ok))
+
+-- expressions have their values with choices in them
+same_values : (c : Choices) (s t : State) (es : List Expr) → ((e : Expr) → Contains es e → value_in t (with_choices c e) ≡ value_in s e) → map (value_in t) (map (with_choices c) es) ≡ map (value_in s) es
+same_values c s t [] same = refl
+same_values c s t (e ∷ es) same = ap₂ (λ n ns. n ∷ ns) (same e (Contains-here e es)) (same_values c s t es (λ x d. same x (Contains-later e es x d)))
 
 module _ (graph after : Graph) (kept : Kept) (is : IsGraph graph) (exact : (f : FlagName) → is_kept kept f ≡ false → IsKept graph f → ⊥) (plan : Plan graph after kept) (same_entry : after.entry ≡ graph.entry) where
   abbrev olds : ℕ → List Stmt
@@ -187,16 +193,6 @@ module _ (graph after : Graph) (kept : Kept) (is : IsGraph graph) (exact : (f : 
             value_holds graph after kept is exact plan b k s.running.values t.running.values st.alike.holds (exit_exprs exit) (λ f r. read_at f (ap (λ x. reads (exit_exprs x) (Flag f)) same ∙ r)) (scene_of s) (scene_of t)
             (ap (λ (g : Graph). g.bits) st.graph_is) (ap (λ (g : Graph). g.bits) st.graph'_is) st.alike.outside.base st.alike.outside.memory (scene-fits t st.fits) (λ l. refl) (λ l. refl) e c ok
 
-        values : (es : List Expr) → ((e : Expr) → Contains es e → value_in t (with_choices (at_spot b k).choices e) ≡ value_in s e) → map (value_in t) (map (with_choices (at_spot b k).choices) es) ≡ map (value_in s) es
-        values [] same = refl
-        values (e ∷ es) same = ap₂ (λ n ns. n ∷ ns) (same e (Contains-here e es)) (values es (λ x c. same x (Contains-later e es x c)))
-
-        all_ok : (es : List Expr) → list_all (is_expr graph.bits) es ≡ true → (e : Expr) → Contains es e → is_expr graph.bits e ≡ true
-        all_ok [] ok e c = absurd (Contains-none e c)
-        all_ok (x ∷ es) ok e c =
-            let parts = both (is_expr graph.bits x) (list_all (is_expr graph.bits) es) ok in
-            Contains-cases x es e (is_expr graph.bits e ≡ true) (λ same. subst (λ y. is_expr graph.bits y ≡ true) same parts.0) (λ d. all_ok es parts.1 e d) c
-
         switched : (e : Expr) (places : List ℕ) → (block_in graph b).exit ≡ Switch e places → (n : ℕ) (place : Option ℕ) → slice_get places n ≡ place → Meets (switch_halt place s) (switch_halt place t)
         switched e places same n (Some place) found = jumps k place place s t at (subst (λ x. Contains (targets x) place) (sym same) (slice_contained places n place found)) refl st.alike
         switched e places same n None found = let over = stuck_both graph after kept is exact plan b k s t st.alike in record { end = over.end; events = over.outside.events }
@@ -213,7 +209,7 @@ module _ (graph after : Graph) (kept : Kept) (is : IsGraph graph) (exact : (f : 
             let ok = (both (is_expr graph.bits e) _ (both (is_expr_of graph.bits 16 e) (nat_le (length places) 65536) two.0).0).0 in
             subst (λ n. Meets (switch_halt (slice_get places (value_in s e)) s) (switch_halt (slice_get places n) t)) (sym (value (Switch e places) same e (Contains-here e []) ok))
             (switched e places same (value_in s e) (slice_get places (value_in s e)) refl)
-        go (Ret es) same fine = record { outside = st.alike.outside; leaves = values es (λ e c. value (Ret es) same e c (all_ok es fine e c)) }
+        go (Ret es) same fine = record { outside = st.alike.outside; leaves = same_values (at_spot b k).choices s t es (λ e c. value (Ret es) same e c (all_at (is_expr graph.bits) es e fine c)) }
         go Stop same fine = let over = stuck_both graph after kept is exact plan b k s t st.alike in record { end = over.end; events = over.outside.events }
 
     -- The statements.
@@ -350,7 +346,7 @@ module _ (graph after : Graph) (kept : Kept) (is : IsGraph graph) (exact : (f : 
           entry = refl;
           depth = refl;
           outside = record { memory = st.alike.outside.memory; input = st.alike.outside.input; events = st.alike.outside.events; base = st.alike.outside.base };
-          enters = values arguments (λ e c. step_value graph after kept is exact plan b k known stmt rest stays s t st.graph_is st.graph'_is st.fits st.alike e c (all_ok arguments one.1 e c));
+          enters = same_values w.choices s t arguments (λ e c. step_value graph after kept is exact plan b k known stmt rest stays s t st.graph_is st.graph'_is st.fits st.alike e c (all_at (is_expr graph.bits) arguments e one.1 c));
           resumes = λ r r' fit fit' leaves. there_holds (next_of point) refl (with_values s.running.values results r) (with_values t.running.values results r')
               (subst (λ r'. Here (next_of point) (with_values s.running.values results r) (with_values t.running.values results r')) (sym leaves) (record {
                 k = suc k;
@@ -362,16 +358,6 @@ module _ (graph after : Graph) (kept : Kept) (is : IsGraph graph) (exact : (f : 
               }));
         }
       where
-        values : (es : List Expr) → ((e : Expr) → Contains es e → value_in t (with_choices (at_spot b k).choices e) ≡ value_in s e) → map (value_in t) (map (with_choices (at_spot b k).choices) es) ≡ map (value_in s) es
-        values [] same = refl
-        values (e ∷ es) same = ap₂ (λ n ns. n ∷ ns) (same e (Contains-here e es)) (values es (λ x c. same x (Contains-later e es x c)))
-
-        all_ok : (es : List Expr) → list_all (is_expr graph.bits) es ≡ true → (e : Expr) → Contains es e → is_expr graph.bits e ≡ true
-        all_ok [] ok e c = absurd (Contains-none e c)
-        all_ok (x ∷ es) ok e c =
-            let parts = both (is_expr graph.bits x) (list_all (is_expr graph.bits) es) ok in
-            Contains-cases x es e (is_expr graph.bits e ≡ true) (λ same. subst (λ y. is_expr graph.bits y ≡ true) same parts.0) (λ d. all_ok es parts.1 e d) c
-
         all_plain : (k : ℕ) (known : plan.known b ≡ true) (stmt : Stmt) (rest : List Stmt) → Stays graph after kept is exact plan b k stmt rest → (ls : List Loc) → list_all (is_location graph.bits) ls ≡ true → ((l : Loc) → Contains ls l → Contains (writes_of stmt) l) → All (λ l. plain graph after kept is exact plan l ≡ true) ls
         all_plain k known stmt rest stays [] ok among = All-nil (λ l. plain graph after kept is exact plan l ≡ true)
         all_plain k known stmt rest stays (l ∷ ls) ok among =

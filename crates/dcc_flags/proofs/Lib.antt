@@ -1,4 +1,3 @@
-pub mod FormLaws
 pub mod PassLaws
 pub mod ExprLaws
 pub mod TakenLaws
@@ -13,6 +12,7 @@ pub mod PartLaws
 pub mod EachLaws
 pub mod TruthLaws
 pub mod FlagLaws
+pub mod KindLaws
 pub mod DepthLaws
 pub mod FlatLaws
 pub mod ShallowLaws

@@ -26,21 +26,7 @@ use Rattle.dcc_flags.specs.Reaching.{defines, chooses, rest_at, passes, reads_at
 use Rattle.dcc_flags.specs.Folding.{is_kept, Choices, choice, with_choice, with_choices, stmt_with_choices, taken, Folded, stmt_folded}
 use Rattle.dcc_flags.proofs.SpotLaws.{Spot, walked_more}
 use Rattle.dcc_flags.proofs.PlanLaws.{sets_of, Plan}
-use Rattle.dcc_flags.proofs.HoldLaws.{old, stmts, spot, plain, Holding, Moves, holding_moves, holding_set, no_result, value_holds}
-
-in_append_left : (xs ys : List Loc) (l : Loc) → Contains xs l → Contains (xs ++ ys) l
-in_append_left [] ys l c = absurd (Contains-none l c)
-in_append_left (x ∷ xs) ys l c = Contains-cases x xs l (Contains (x ∷ (xs ++ ys)) l) (λ e. subst (Contains (x ∷ (xs ++ ys))) e (Contains-here x (xs ++ ys))) (λ d. Contains-later x (xs ++ ys) l (in_append_left xs ys l d)) c
-
-in_append_right : (xs ys : List Loc) (l : Loc) → Contains ys l → Contains (xs ++ ys) l
-in_append_right [] ys l c = c
-in_append_right (x ∷ xs) ys l c = Contains-later x (xs ++ ys) l (in_append_right xs ys l c)
-
-in_flat : (es : List Expr) (e : Expr) (l : Loc) → Contains es e → Contains (reads_of e) l → Contains (flat_map reads_of es) l
-in_flat [] e l c d = absurd (Contains-none e c)
-in_flat (x ∷ es) e l c d = Contains-cases x es e (Contains (flat_map reads_of (x ∷ es)) l)
-    (λ same. in_append_left (reads_of x) (flat_map reads_of es) l (subst (λ y. Contains (reads_of y) l) (sym same) d))
-    (λ further. in_append_right (reads_of x) (flat_map reads_of es) l (in_flat es e l further d)) c
+use Rattle.dcc_flags.proofs.HoldLaws.{old, stmts, spot, plain, Holding, Moves, holding_moves, holding_set, no_result, value_holds, in_append_left, in_append_right, in_flat}
 
 -- what an operand reads, the operator reads
 in_left : (x y : Expr) (l : Loc) → Contains (reads_of x) l → Contains (flat_map got_by (parts_of x ++ parts_of y)) l

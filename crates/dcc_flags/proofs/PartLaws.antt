@@ -13,7 +13,7 @@ use Rattle.dcc_ir.specs.Tree.{Expr, Const, Get, Load, Unary, Binary, Widen, Part
 use Rattle.dcc_ir.specs.Location.{same_location}
 use Rattle.dcc_ir.specs.Live.{is_among, reads}
 use Rattle.dcc_ir.specs.Use.{parts_of, got_by, reads_of, exprs_of}
-use Rattle.dcc_flags.specs.Reaching.{gets}
+use Rattle.dcc_ir.specs.FlagReads.{gets}
 use Rattle.dcc_flags.specs.Folding.{Choices, choice, negated, with_operator, with_choices, has_truth, Taken, taken}
 
 -- Tests of parts.
@@ -165,7 +165,7 @@ copies_lack test bits (Address d) p = copy_has test (Address d) p
 
 -- Values that are taken.
 
-value_if : (test : Expr → Bool) (b : Bool) (t u : Taken) → has_part test t.value ≡ false → has_part test u.value ≡ false → has_part test (if b then t else u).value ≡ false
+pub value_if : (test : Expr → Bool) (b : Bool) (t u : Taken) → has_part test t.value ≡ false → has_part test u.value ≡ false → has_part test (if b then t else u).value ≡ false
 value_if test true t u p q = p
 value_if test false t u p q = q
 

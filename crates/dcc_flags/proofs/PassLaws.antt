@@ -20,15 +20,14 @@ use Rattle.dcc_ir.proofs.ReachedLaws.{found_contained}
 use Rattle.dcc_ir.proofs.passes.LocalLaws.{some_same, is_running, Frame, stmt-frame}
 use Rattle.dcc_ir.proofs.passes.AgreeLaws.{AgreeOn, StillOn, ReadsIn, value-on, values-on, stuck-on, weaker-on, stmt-agrees}
 use Rattle.dcc_ir.proofs.passes.Theorem.{keeps_runs}
-use Rattle.dcc_flags.specs.Form.{BlockStays, GraphStays}
-use Rattle.dcc_flags.proofs.FormLaws.{zip_back, one_graph, swap, swapped_at, entries_stay, graph_stays, program_stays, kept_where}
+use Rattle.dcc_ir.specs.Form.{BlockStays, GraphStays}
+use Rattle.dcc_ir.proofs.ZipLaws.{zip_back}
+use Rattle.dcc_ir.proofs.passes.SameLaws.{Everywhere, with_values-same, taken_same}
+use Rattle.dcc_ir.proofs.passes.FormLaws.{changed_at, same_entries, one_graph, swap, graph_stays, swapped_formed, kept_swapped}
 
 -- what holds between the values at a point: what the pass says of the one graph, and elsewhere equality
 abbrev pub Invariant : Type 1
 Invariant = Point → Values → Values → Type 0
-
-abbrev pub Everywhere : Values → Values → Type 0
-Everywhere v v' = (l : Loc) → v' l ≡ v l
 
 abbrev pub at_graph : Bool → Invariant → Invariant
 at_graph true inv = inv
@@ -46,34 +45,6 @@ one_pass entry inv = record {
 
 abbrev All_same : Loc → Type 0
 All_same l = Unit {0}
-
-with_value-same : (v v' : Values) (x : Loc) (n : ℕ) → Everywhere v v' → Everywhere (with_value v x n) (with_value v' x n)
-with_value-same v v' x n same l = ap (λ m. if same_location l x then n else m) (same l)
-
-pub with_values-same : (v v' : Values) (results : List Loc) (r : List ℕ) → Everywhere v v' → Everywhere (with_values v results r) (with_values v' results r)
-with_values-same v v' [] r same = same
-with_values-same v v' (x ∷ results) [] same = same
-with_values-same v v' (x ∷ results) (n ∷ r) same = with_values-same (with_value v x n) (with_value v' x n) results r (with_value-same v v' x n same)
-
-record Open (s t : State) : Type 0 where
-  values : Everywhere s.running.values t.running.values
-  memory : t.memory ≡ s.memory
-  base : t.running.base ≡ s.running.base
-
-put_same : (j : ℕ) (put : Put) (n : ℕ) (s t : State) → Open s t → Open (putting j put n s) (putting j put n t)
-put_same j Memory n s t o = record { values = o.values; memory = let m = o.memory in let b = o.base in cc; base = o.base }
-put_same j (One x) n s t o = record { values = with_value-same s.running.values t.running.values x n o.values; memory = o.memory; base = o.base }
-put_same j (Two low high) n s t o = record {
-  values = with_value-same (with_value s.running.values low (n % 256)) (with_value t.running.values low (n % 256)) high (n / 256)
-      (with_value-same s.running.values t.running.values low (n % 256) o.values);
-  memory = o.memory;
-  base = o.base;
-}
-
-taken_same : (j : ℕ) (params : List Param) (a : List ℕ) (s t : State) → Open s t → Open (passing j params a s) (passing j params a t)
-taken_same j [] a s t o = o
-taken_same j (q ∷ params) [] s t o = o
-taken_same j (q ∷ params) (n ∷ a) s t o = taken_same (j + 1) params a (putting j q.put n s) (putting j q.put n t) (put_same j q.put n s t o)
 
 any_of : {A : Type 0} (P : A → Type 0) (xs : List A) → ((x : A) → P x) → All P xs
 any_of P [] h = All-nil P
@@ -160,12 +131,15 @@ module _ (before after : Graph) (inv : Invariant) (stays : GraphStays before aft
   abbrev change : Graph → Graph
   change = swap p before after formed known stays fine
 
+  entry_stays : (g : Graph) → Contains p.graphs g → (change g).entry ≡ g.entry
+  entry_stays g c = (graph_stays p before after formed known stays fine g c).entry
+
   abbrev the_pass : Pass
   the_pass = one_pass before.entry inv
 
   there_is : (n : ℕ) (g g' : Graph) → graph_at p.graphs n ≡ Some g → graph_at next.graphs n ≡ Some g' → g' ≡ change g
   there_is n g g' found found' =
-      some_same g' (change g) (sym found' ∙ swapped_at p before after formed known stays fine p.graphs n (λ h c. c) ∙ ap (option_map change) found)
+      some_same g' (change g) (sym found' ∙ changed_at change p.graphs n entry_stays ∙ ap (option_map change) found)
 
   known_at : (n : ℕ) (g : Graph) → graph_at p.graphs n ≡ Some g → Contains p.graphs g
   known_at n g found = found_contained (λ x. x.entry == n) p.graphs g found
@@ -195,7 +169,7 @@ module _ (before after : Graph) (inv : Invariant) (stays : GraphStays before aft
       go : s.running.graph.entry ≡ point.entry → Which s.running.graph t.running.graph → Meet the_pass a point 0 (halt_of s) (halt_of t)
       go entry (the_one e g g') =
           let here : (point.entry == before.entry) ≡ true = ap (λ n. n == before.entry) (sym entry) ∙ e in
-          goes p next formed (program_stays p before after formed known stays fine) a point s t (eqb-true point.entry before.entry here) together g g'
+          goes p next formed (swapped_formed p before after formed known stays fine) a point s t (eqb-true point.entry before.entry here) together g g'
           (subst (λ b. at_graph b inv point s.running.values t.running.values) here together.holds)
       go entry (another e same) =
           let there : (point.entry == before.entry) ≡ false = ap (λ n. n == before.entry) (sym entry) ∙ e in
@@ -256,13 +230,13 @@ module _ (before after : Graph) (inv : Invariant) (stays : GraphStays before aft
 
   -- The graph may stand in the place of the other.
   pub may_stand : IsKeptWith after p
-  may_stand = kept_where p before after formed known stays fine (keeps_runs p next the_pass (record {
+  may_stand = kept_swapped p before after formed known stays fine (keeps_runs p next the_pass (record {
     before = formed;
-    after = program_stays p before after formed known stays fine;
+    after = swapped_formed p before after formed known stays fine;
     image = refl;
     lo = refl;
     hi = refl;
-    entries = entries_stay p before after formed known stays fine;
+    entries = same_entries change p.graphs entry_stays;
     blocks = blocks_all;
     begin = begins_all;
     go = goes_on;

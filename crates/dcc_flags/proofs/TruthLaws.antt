@@ -13,12 +13,13 @@ use Rattle.dcc_ir.specs.Value.{is_test, is_comparison}
 use Rattle.dcc_ir.specs.Measure.{is_truth}
 use Rattle.dcc_ir.specs.Use.{parts_of, got_by}
 use Rattle.dcc_ir.proofs.FitLaws.{both}
+use Rattle.dcc_ir.specs.FlagReads.{is_flag_place, holds_truth, reads_flag, is_plain_load, loads_plainly, all_stmts}
 use Rattle.dcc_flags.specs.declared.kept.Kept.{Kept}
 use Rattle.dcc_flags.specs.Folding.{is_kept, Choices, choice, with_choices, stmt_with_choices, has_truth, Taken, taken, goes_with, stmt_folded, stmts_folded, bare_stmts, first_choice, first_choices, folded_graph}
-use Rattle.dcc_flags.specs.Folded.{is_flag_place, holds_truth, reads_flag, set_where, truth_places, flag_places, IsPartOf, none, stays, goes, TruthsStay, is_plain_load, loads_plainly, all_stmts}
+use Rattle.dcc_flags.specs.Folded.{set_where, truth_places, flag_places, IsPartOf, none, stays, goes, TruthsStay}
 use Rattle.dcc_flags.proofs.MeetLaws.{by_kept}
 use Rattle.dcc_flags.proofs.PartLaws.{or_none, neither, none_of, none_in, has_part, OfKind, in_chosen, operator_lacks, chosen_lacks, OfReads, value_lacks}
-use Rattle.dcc_flags.proofs.EachLaws.{Each, each_at, each_past, each_block}
+use Rattle.dcc_flags.proofs.EachLaws.{Each, each_at, ValuesHave, each_past, each_block}
 
 -- Expressions.
 
@@ -114,6 +115,9 @@ no_load (Address d ∷ ps) p = no_load ps p
 
 abbrev IsLoadless : Expr → Type 0
 IsLoadless e = has_part is_load e ≡ false
+
+values_loadless : ValuesHave IsLoadless loads_plainly
+values_loadless bits c f e plain h = value_lacks is_load loadless bits (with_choices c e)
 
 all_of : (test : Expr → Bool) (xs ys : List Expr) → list_all test (xs ++ ys) ≡ true → (list_all test xs ≡ true) × (list_all test ys ≡ true)
 all_of test [] ys p = (refl, p)
@@ -251,7 +255,7 @@ module _ (kept : Kept) where
       let later = stmts_folded kept (bits ++ first.widths) first.choices rest in
       subst (λ l. IsPartOf l (flag_places (stmt ∷ rest))) (sym (flat_map-append (set_where holds_truth) first.stmts later.stmts))
       (part_more (truth_places first.stmts) (truth_places later.stmts) (set_where flagged stmt) (flag_places rest) (folded_part bits c h stmt parts.0)
-      (stmts_part (bits ++ first.widths) first.choices (each_past kept IsLoadless (value_lacks is_load loadless) bits c stmt h) rest parts.1))
+      (stmts_part (bits ++ first.widths) first.choices (each_past kept IsLoadless loads_plainly values_loadless bits c stmt parts.0 h) rest parts.1))
 
   bare_part : (c : Choices) (stmts : List Stmt) → IsPartOf (truth_places (bare_stmts kept c stmts)) (flag_places stmts)
   bare_part c [] = none
@@ -273,5 +277,5 @@ module _ (kept : Kept) where
   truths_stay graph order plain =
       let n = length graph.bits in
       let first = first_loadless n in
-      each_block kept IsLoadless (value_lacks is_load loadless) graph (first_choices kept n) (record { cf = first Cf; zf = first Zf; sf = first Sf; of = first Of })
-      (λ b. list_all loads_plainly b.stmts) TruthsStay (λ b all. bare_part (first_choices kept n) b.stmts) (λ bits c b all h. stmts_part bits c h b.stmts all) plain order
+      each_block kept IsLoadless loads_plainly values_loadless graph (first_choices kept n) (record { cf = first Cf; zf = first Zf; sf = first Sf; of = first Of })
+      TruthsStay (λ b all. bare_part (first_choices kept n) b.stmts) (λ bits c b all h. stmts_part bits c h b.stmts all) plain order

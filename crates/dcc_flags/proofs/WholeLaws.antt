@@ -15,10 +15,11 @@ use Rattle.dcc_ir.specs.Flow.{targets}
 use Rattle.dcc_ir.specs.Live.{block_in, follows}
 use Rattle.dcc_ir.proofs.FitLaws.{both}
 use Rattle.dcc_flags.specs.declared.kept.Kept.{Kept}
-use Rattle.dcc_flags.specs.Form.{signatures_of, BlockStays, GraphStays}
+use Rattle.dcc_ir.specs.Form.{signatures_of, BlockStays, GraphStays}
 use Rattle.dcc_flags.specs.Reaching.{Definition, Start, At, begins, IsKept}
 use Rattle.dcc_flags.specs.Folding.{is_kept, Choices, choice, with_choices, stmt_with_choices, exit_with_choices, taken, first_choice, first_choices, stmt_folded, stmts_folded, goes_with, bare_stmts, bare_block, Folding, first_folding, fold_block, fold_blocks}
-use Rattle.dcc_flags.proofs.FormLaws.{get_more, width_more, map_zipped}
+use Rattle.dcc_ir.proofs.ZipLaws.{map_zipped}
+use Rattle.dcc_ir.proofs.passes.FormLaws.{get_more, width_more}
 use Rattle.dcc_flags.proofs.PlanLaws.{Plan, left_by as plan_left}
 use Rattle.dcc_flags.proofs.KeepLaws.{folded_stands}
 use Rattle.dcc_ir.specs.Replaced.{MayReplace}
@@ -203,20 +204,18 @@ module _ (old : List ℕ) (kept : Kept) where
 
 -- The order of the blocks.
 
+-- the successors of a block in their list
+listed_targets : (bs : List Block) (a : ℕ) → get_or (map (λ (b : Block). targets b.exit) bs) a [] ≡ targets (get_or bs a no_block).exit
+listed_targets [] a = refl
+listed_targets (b ∷ bs) zero = refl
+listed_targets (b ∷ bs) (suc a) = listed_targets bs a
+
 module _ (graph : Graph) (is : IsGraph graph) (order : List ℕ) (searched : IsReversePostOrder graph order) where
   abbrev next : List (List ℕ)
   next = successors_of graph
 
   leads_follows : (a b : ℕ) → leads next a b ≡ true → follows graph a b ≡ true
-  leads_follows a b h = ap (λ l. list_any (λ m. m == b) l) (sym (get_or-map_targets a)) ∙ h
-    where
-      get_or-map_targets : (a : ℕ) → get_or next a [] ≡ targets (block_in graph a).exit
-      get_or-map_targets a = map_targets graph.blocks a
-        where
-          map_targets : (bs : List Block) (a : ℕ) → get_or (map (λ (b : Block). targets b.exit) bs) a [] ≡ targets (get_or bs a no_block).exit
-          map_targets [] a = refl
-          map_targets (b ∷ bs) zero = refl
-          map_targets (b ∷ bs) (suc a) = map_targets bs a
+  leads_follows a b h = ap (λ l. list_any (λ m. m == b) l) (sym (listed_targets graph.blocks a)) ∙ h
 
   -- a listed block but the first has one before it that leads to it
   record HasParent (x : ℕ) : Type 0 where
@@ -486,12 +485,7 @@ module _ (graph : Graph) (is : IsGraph graph) (order : List ℕ) (searched : IsR
         (λ same. known_kept (0 ∷ []) (tail_of.0) x (in_here 0 x [] same)) (λ other later. known_listed (0 ∷ []) (tail_of.0) x later) (ap (λ l. is_in l x) (sym (tail_of.1)) ∙ e)
 
     follows_leads : (a b : ℕ) → follows graph a b ≡ true → leads next a b ≡ true
-    follows_leads a b h = ap (λ l. list_any (λ m. m == b) l) (map_targets graph.blocks a) ∙ h
-      where
-        map_targets : (bs : List Block) (a : ℕ) → get_or (map (λ (b : Block). targets b.exit) bs) a [] ≡ targets (get_or bs a no_block).exit
-        map_targets [] a = refl
-        map_targets (b ∷ bs) zero = refl
-        map_targets (b ∷ bs) (suc a) = map_targets bs a
+    follows_leads a b h = ap (λ l. list_any (λ m. m == b) l) (listed_targets graph.blocks a) ∙ h
 
     known_edges : (b c : ℕ) → is_in known b ≡ true → follows graph b c ≡ true → is_in known c ≡ true
     known_edges b c e edge = elim (closed next searched b c (known_order b e) (follows_leads b c edge)) [

@@ -6,12 +6,14 @@ use Rattle.dcc_ir.specs.Tree.{Graph}
 use Rattle.dcc_ir.specs.WellFormed.{IsGraph}
 use Rattle.dcc_ir.specs.Use.{graph_exprs}
 use Rattle.dcc_ir.specs.Measure.{deepest}
+use Rattle.dcc_ir.specs.FlagReads.{loads_plainly, nests_flatly, all_stmts}
 use Rattle.dcc_ir.specs.Replaced.{MayReplace}
 use Rattle.dcc_flow.specs.Order.{IsReversePostOrder}
 use Rattle.dcc_flags.specs.declared.kept.Kept.{Kept}
-use Rattle.dcc_flags.specs.Form.{GraphStays}
+use Rattle.dcc_ir.specs.Form.{GraphStays}
+use Rattle.dcc_flags.specs.Kinds.{KindsStay}
 use Rattle.dcc_flags.specs.Reaching.{IsKept}
-use Rattle.dcc_flags.specs.Folded.{mentions, TruthsStay, loads_plainly, nests_flatly, all_stmts}
+use Rattle.dcc_flags.specs.Folded.{mentions, TruthsStay}
 use Rattle.dcc_flags.specs.Folding.{is_kept, folded_graph}
 
 -- the graph is well formed, its form stays, and it may stand in the place of the other in each program
@@ -25,6 +27,11 @@ abbrev pub FoldedGraphsStand : Type 0
 FoldedGraphsStand =
     (graph : Graph) → IsGraph graph → (order : List ℕ) → IsReversePostOrder graph order → (kept : Kept)
     → ((f : FlagName) → is_kept kept f ≡ false → ¬ IsKept graph f) → Stands graph (folded_graph kept graph order)
+
+-- the folded graph has kinds of parts and statements that the graph has
+abbrev pub FoldedGraphsKeepKinds : Type 0
+FoldedGraphsKeepKinds =
+    (graph : Graph) (order : List ℕ) (kept : Kept) → KindsStay graph (folded_graph kept graph order)
 
 -- where definitions of flags load from plain addresses, each truth statement of the folded graph was a flag statement at
 -- the same location
@@ -40,8 +47,8 @@ FoldedGraphsLackFlags =
     → ((f : FlagName) → is_kept kept f ≡ false → ¬ IsKept graph f)
     → (f : FlagName) → is_kept kept f ≡ false → mentions (folded_graph kept graph order) f ≡ false
 
--- where no flag goes that is kept, and definitions of flags read flags as the lifter makes them do, expressions are at
--- most twice as deep
+-- where no flag goes that is kept, and a definition of a flag reads flags only as a negation, or as arms of a choice
+-- that are that flag, expressions are at most twice as deep
 abbrev pub FoldedGraphsStayShallow : Type 0
 FoldedGraphsStayShallow =
     (graph : Graph) → IsGraph graph → (order : List ℕ) → IsReversePostOrder graph order → (kept : Kept)

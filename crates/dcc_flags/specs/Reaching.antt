@@ -3,8 +3,8 @@
 use Rattle.std.specs.Prelude.{◌≡◌, ◌≢◌, ℕ, suc, Bool, true, false, ◌||◌, not, List, [], ◌∷◌, drop, flat_map, Contains}
 use Rattle.dcc_num.specs.declared.FlagName.{FlagName}
 use Rattle.dcc_ir.specs.declared.syntax.Loc.TheVariants.{Flag}
-use Rattle.dcc_ir.specs.Tree.{Expr, Get, Choose, Stmt, Set, Call, Block, Graph}
-use Rattle.dcc_ir.specs.Location.{same_location}
+use Rattle.dcc_ir.specs.Tree.{Expr, Choose, Stmt, Set, Call, Block, Graph}
+use Rattle.dcc_ir.specs.FlagReads.{gets}
 use Rattle.dcc_ir.specs.Use.{writes_of}
 use Rattle.dcc_ir.specs.Live.{is_among, reads, block_in, follows}
 use Rattle.dcc_ir.specs.Joinable.{places_of, next_exprs}
@@ -13,11 +13,6 @@ use Rattle.dcc_ir.specs.Joinable.{places_of, next_exprs}
 pub data Definition : Type 0 where
   Start : Definition
   At : ℕ → ℕ → Definition
-
--- the expression is a read of the flag, and nothing else
-abbrev pub gets : FlagName → Expr → Bool
-gets f (Get location) = same_location (Flag f) location
-gets f _ = false
 
 abbrev pub has_arm : FlagName → Expr → Bool
 has_arm f (Choose test a b) = gets f a || gets f b

@@ -6,6 +6,7 @@ ghost use Rattle.dcc_ir.specs.Location.{same_location};
 ghost use Rattle.dcc_ir.specs.Views.{expr_of, stmt_of, exit_of};
 ghost use Rattle.dcc_ir.specs.Live.{is_among, reads};
 ghost use Rattle.dcc_ir.specs.Use.{reads_of, exprs_of, exit_exprs};
+ghost use Rattle.dcc_ir.specs.FlagReads.{gets};
 ghost use Rattle.dcc_flags.specs.Reaching as spec;
 
 use dcc_ir::{End, Expr, Loc, Stmt};
@@ -57,7 +58,7 @@ pub fn has_result(f: FlagName, stmt: &Stmt) -> bool
 
 // Whether an expression is a read of the flag, and nothing else.
 fn gets(f: FlagName, e: &Expr) -> bool
-    ensures { result ≡ spec.gets f (expr_of e.now) }
+    ensures { result ≡ gets f (expr_of e.now) }
 {
     match e {
         Expr::Get(location) => is_flag(f, *location),

@@ -12,6 +12,7 @@ use Rattle.dcc_prog.specs.Trail.{StandsAt, IsNode, called}
 use Rattle.dcc_prog.specs.FrameForm.{is_framed}
 use Rattle.dcc_prog.specs.Height.{HasHeight}
 use Rattle.dcc_prog.specs.Frame.{Span, span_of, IsDirectAccess, StartsExposure, IsOutsideFrame, LacksAddresses, HasBadAccess, access_outside, start_outside, no_addresses, IsShortCall}
+use Rattle.dcc_prog.proofs.FrameLaws.{arguments-once}
 use Rattle.dcc_frames.specs.declared.bytes.Bytes.{Bytes}
 use Rattle.dcc_frames.specs.declared.steps.Step.{Step}
 use Rattle.dcc_frames.specs.declared.body.Body.{Body}
@@ -22,7 +23,7 @@ use Rattle.dcc_frames.specs.Ready.{lacks_addresses}
 use Rattle.dcc_frames.specs.Body.{IsStep, IsBody, HasCounts}
 use Rattle.dcc_frames.proofs.Told.{access-told, access-tells, start-told, start-tells}
 use Rattle.dcc_frames.proofs.StepLists.{at-node}
-use Rattle.dcc_frames.proofs.PieceLaws.{one-count, call-count, is-passing}
+use Rattle.dcc_frames.proofs.PieceLaws.{call-count, is-passing}
 
 -- Tests.
 
@@ -119,7 +120,7 @@ module _ (image : Image) (layout : Layout) (body : Body) (is : IsBody image layo
       → ¬ IsOutsideFrame image layout body.entry height (as_span bytes)
   not-outside height number bytes same e out = elim (inside-told body.args number bytes e) [
     | in_arguments low high ↦
-        (let count = one-count image layout body.entry out.count body.args out.arguments is.arguments in
+        (let count = arguments-once out.arguments is.arguments in
         out.no_argument (low, omega (arith, ints, high, count)))
     | in_locals low high ↦ out.no_local (omega (arith, ints, low, same), high)
   ]

@@ -54,8 +54,17 @@ element (x ∷ xs) (suc i) inside = element xs i (omega (arith, inside))
 
 module _ (image : Image) (layout : Layout) (procs : List Proc) (heights : Heights) (delta : ℕ)
     (a : AreAnalysed image layout procs heights delta) where
-  pub measured : AreMeasured image layout procs heights
-  measured = record { found = a.found; heights_are = a.heights_are }
+  -- what the code has read is what was analysed
+  pub measured : (read : List Proc) → read ≡ procs → AreMeasured image layout read heights
+  measured read same =
+      subst (λ l. AreMeasured image layout l heights) (sym same)
+      (record { found = a.found; heights_are = a.heights_are })
+
+  pub bodies-of :
+      (read : List Proc) (bodies : List Body) → read ≡ procs
+      → (AreMeasured image layout read heights → AreBodies image layout read bodies)
+      → AreBodies image layout procs bodies
+  bodies-of read bodies same made = subst (λ l. AreBodies image layout l bodies) same (made (measured read same))
 
   module _ (bodies : List Body) (are : AreBodies image layout procs bodies) where
     all-bodies : All (IsBody image layout) bodies
@@ -104,8 +113,10 @@ module _ (image : Image) (layout : Layout) (procs : List Proc) (heights : Height
                 (subst (HasArguments image layout other.body.entry) other.count_is is.arguments);
           }
 
-      pub all-ready : AreAllReady image layout bodies counts delta
-      all-ready = record { are_bodies = all-bodies; has_counts = has-counts; delta_is = a.delta_is }
+      pub all-ready : (read : List Body) → read ≡ bodies → AreAllReady image layout read counts delta
+      all-ready read same =
+          subst (λ l. AreAllReady image layout l counts delta) (sym same)
+          (record { are_bodies = all-bodies; has_counts = has-counts; delta_is = a.delta_is })
 
     module _ (frames : List Frame) (told : AreFramesAt image layout bodies frames) where
       -- the frame at a place

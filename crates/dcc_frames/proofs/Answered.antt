@@ -15,6 +15,7 @@ use Rattle.dcc_prog.specs.Frame.{HasArguments, IsCell}
 use Rattle.dcc_prog.specs.Limit.{cells}
 use Rattle.dcc_prog.specs.Analysed.{bytes_of}
 use Rattle.dcc_prog.specs.Refused.{IsRefusedByFrames, construct, limit, no_memory}
+use Rattle.dcc_prog.proofs.FrameLaws.{arguments-once}
 use Rattle.dcc_frames.specs.declared.bytes.Piece.{Piece}
 use Rattle.dcc_frames.specs.declared.steps.Step.{Step}
 use Rattle.dcc_frames.specs.declared.body.Body.{Body}
@@ -26,10 +27,29 @@ use Rattle.dcc_frames.specs.CellLists as lists
 use Rattle.dcc_frames.specs.Starts.{starts_of, IsNear, IsLocalBy, IsArgumentBy}
 use Rattle.dcc_frames.specs.Ready.{IsReady, IsFrameAt, lacks_addresses}
 use Rattle.dcc_frames.proofs.StepLists.{is-step}
-use Rattle.dcc_frames.proofs.PieceLaws.{one-count}
 use Rattle.dcc_frames.proofs.RunsTold.{sorted-ascend}
 use Rattle.dcc_frames.proofs.AccessTold.{access-refused, call-refused, no-short-call}
 use Rattle.dcc_frames.proofs.FrameLaws.{starts-near, cells-are, every-cell, cells-ordered, local-told, argument-told, run-refused, no-bad-access, few-cells, many-cells}
+
+-- the accesses and the calls of a body are let through, and its pieces are put in order
+pub record AreSorted (body : Body) (counts : ℕ → Option ℕ) (lacks : Bool) (sorted : List Piece) : Type 0 where
+  pub allowed : All (λ (step : Step). is_allowed body.framed body.args lacks step ≡ true) body.steps.items
+  pub enough : All (λ (step : Step). has_words counts body.framed step ≡ true) body.steps.items
+  pub permuted : IsPermutation (pieces_of body counts) sorted
+  pub order : AllPairs (λ (a b : Piece). a.bytes.first ≤ℤ b.bytes.first) sorted
+
+pub are-sorted :
+    (body : Body) (counts : ℕ → Option ℕ) (lacks : Bool) (pieces sorted : List Piece)
+    → All (λ (step : Step). is_allowed body.framed body.args lacks step ≡ true) body.steps.items
+    → All (λ (step : Step). has_words counts body.framed step ≡ true) body.steps.items
+    → pieces ≡ pieces_of body counts → IsPermutation pieces sorted
+    → AllPairs (λ (a b : Piece). a.bytes.first ≤ℤ b.bytes.first) sorted → AreSorted body counts lacks sorted
+are-sorted body counts lacks pieces sorted allowed enough pieces_are permuted order = record {
+  allowed = allowed;
+  enough = enough;
+  permuted = subst (λ l. IsPermutation l sorted) pieces_are permuted;
+  order = order;
+}
 
 module _ (image : Image) (layout : Layout) (body : Body) (counts : ℕ → Option ℕ) (delta : ℕ)
     (ready : IsReady image layout body counts delta) (lacks : Bool)
@@ -58,23 +78,26 @@ module _ (image : Image) (layout : Layout) (body : Body) (counts : ℕ → Optio
       construct (at-frame ARGUMENTS_SHORT step.at s.node
       (short_call (call-refused image layout body ready.is_body counts ready.has_counts step s bad)))
 
-  module _ (allowed : All (λ (step : Step). is_allowed body.framed body.args lacks step ≡ true) body.steps.items)
-      (enough : All (λ (step : Step). has_words counts body.framed step ≡ true) body.steps.items)
-      (pieces sorted : List Piece) (pieces_are : pieces ≡ pieces_of body counts)
-      (permuted : IsPermutation pieces sorted)
-      (order : AllPairs (λ (a b : Piece). a.bytes.first ≤ℤ b.bytes.first) sorted) where
+  module _ (sorted : List Piece) (s : AreSorted body counts lacks sorted) where
     allowed' : All (λ (step : Step). is_allowed body.framed body.args (lacks_addresses delta body.framed) step ≡
         true) body.steps.items
     allowed' = subst (λ l. All (λ (step : Step). is_allowed body.framed body.args l step ≡ true) body.steps.items)
-        lacks_is allowed
+        lacks_is s.allowed
+
+    enough : All (λ (step : Step). has_words counts body.framed step ≡ true) body.steps.items
+    enough = s.enough
 
     permuted' : IsPermutation (pieces_of body counts) sorted
-    permuted' = subst (λ l. IsPermutation l sorted) pieces_are permuted
+    permuted' = s.permuted
 
-    pub are-ascending : AreAscending sorted
-    are-ascending = sorted-ascend image layout body ready.is_body counts ready.has_counts enough sorted permuted' order
+    are-ascending : AreAscending sorted
+    are-ascending = sorted-ascend image layout body ready.is_body counts ready.has_counts enough sorted permuted' s.order
 
-    module _ (runs : List Piece) (are : AreRuns sorted runs) where
+    -- runs that are made of what the code has read
+    module _ (read runs : List Piece) (same : read ≡ sorted) (joined : AreAscending read → AreRuns read runs) where
+      are : AreRuns sorted runs
+      are = subst (λ l. AreRuns l runs) same (joined (subst AreAscending (sym same) are-ascending))
+
       pub runs-refused : (refusal : Refusal) → IsToldOfRuns lacks runs refusal → IsRefusedByFrames image layout refusal
       runs-refused _ (lists.told {run} {at} among user) =
           let r = run-refused image layout body ready.is_body counts ready.has_counts delta ready.delta_is allowed'
@@ -154,6 +177,6 @@ module _ (image : Image) (layout : Layout) (body : Body) (counts : ℕ → Optio
                   runs are
                   (let same = ap length cells_are in omega (arith, same, few));
               few_arguments = λ count given.
-                  (let same = one-count image layout body.entry count body.args given is.arguments in
+                  (let same = arguments-once given is.arguments in
                   let most = is.few in omega (arith, same, most));
             }

@@ -20,8 +20,8 @@ use Rattle.dcc_frames.proofs.Measured.{are-steps, has-arguments}
 module _ (image : Image) (layout : Layout) (proc : Proc) (heights : List (ℕ × ℕ)) (removed : ℕ) (is_start : Bool)
     (m : IsMeasured image layout proc heights removed is_start) (framed : Bool)
     (framed_is : framed ≡ is_framed image layout proc.entry)
-    (steps : List Step) (steps_are : steps ≡ steps_of proc.nodes.entries heights) (count : ℕ)
-    (counted : IsCounted is_start framed removed steps count) where
+    (steps : List Step) (steps_are : steps ≡ steps_of proc.nodes.entries heights) (count : ℕ) (read : List Step)
+    (read_is : read ≡ steps) (counted : IsCounted is_start framed removed read count) where
   pub steps-told : AreSteps image layout proc.entry steps
   steps-told =
       subst (AreSteps image layout proc.entry) (sym steps_are)
@@ -37,7 +37,8 @@ module _ (image : Image) (layout : Layout) (proc : Proc) (heights : List (ℕ ×
       (subst (λ f. IsLeast (HasRoomIn f removed steps) count) framed_is least)
 
   pub arguments-counted : HasArguments image layout proc.entry count
-  arguments-counted = by-case counted
+  arguments-counted =
+      by-case (subst (λ l. IsCounted is_start framed removed l count) read_is counted)
 
   pub too-many : 32 < count → IsRefusedByFrames image layout (Limit Arguments count)
   too-many more = limit (arguments m.is_entry arguments-counted more)

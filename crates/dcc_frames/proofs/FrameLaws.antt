@@ -13,6 +13,7 @@ use Rattle.dcc_prog.specs.Frame.{Span, IsDirectAccess, IsMovedWord, pushed, popp
 use Rattle.dcc_prog.specs.Frame as frame
 use Rattle.dcc_prog.specs.Limit.{HasMany}
 use Rattle.dcc_prog.specs.Analysed.{bytes_of}
+use Rattle.dcc_prog.proofs.FrameLaws.{arguments-once}
 use Rattle.dcc_prog.proofs.Counting as counting
 use Rattle.dcc_frames.specs.declared.bytes.Bytes.{Bytes}
 use Rattle.dcc_frames.specs.declared.bytes.Piece.{Piece}
@@ -29,7 +30,7 @@ use Rattle.dcc_frames.specs.Ready.{lacks_addresses}
 use Rattle.dcc_frames.specs.Body.{IsStep, IsBody, HasCounts}
 use Rattle.dcc_frames.proofs.Told.{start-told, start-tells}
 use Rattle.dcc_frames.proofs.StepLists.{at-node, is-step}
-use Rattle.dcc_frames.proofs.PieceLaws.{one-count, used-told, used-tells}
+use Rattle.dcc_frames.proofs.PieceLaws.{used-told, used-tells}
 use Rattle.dcc_frames.proofs.RunLaws.{one-run}
 use Rattle.dcc_frames.proofs.RunsTold.{used-some, in-sorted, from-sorted, sorted-tells, run-tells, run-told}
 use Rattle.dcc_frames.proofs.FrameTold.{map-in, small-told, small-tells, long-told, long-tells, cell-bytes, HasRun, cell-run, run-cell, cells-ascend, IsStart, of_step, of_run, start-of-step, start-of-run}
@@ -94,7 +95,7 @@ module _ (image : Image) (layout : Layout) (body : Body) (is : IsBody image layo
       (λ at. IsUsed image layout body.entry at span → IsNear span.first)
       (λ step among s u. used-near step among s span u) at node uses
   piece-near _ (argument {count} {number} arguments less) =
-      let same = one-count image layout body.entry count body.args arguments is.arguments in
+      let same = arguments-once arguments is.arguments in
       let few = is.few in
       record { low = omega (arith, ints); high = omega (arith, ints, less, same, few) }
 

@@ -13,6 +13,7 @@ use Rattle.dcc_prog.specs.declared.instr.Op.{Op}
 use Rattle.dcc_prog.specs.declared.instr.Op.TheVariants.{Call}
 use Rattle.dcc_prog.specs.Trail.{StandsAt, IsNode, called}
 use Rattle.dcc_prog.specs.Frame.{Span, span_of, HasArguments, of_start, of_procedure, argument_word, own_bytes, IsPassedWord, passed, IsUsed, moved, accessed, IsPiece, used, argument}
+use Rattle.dcc_prog.proofs.FrameLaws.{arguments-once}
 use Rattle.dcc_frames.specs.declared.bytes.Bytes.{Bytes}
 use Rattle.dcc_frames.specs.declared.bytes.Piece.{Piece}
 use Rattle.dcc_frames.specs.declared.steps.Step.{Step}
@@ -25,16 +26,6 @@ use Rattle.dcc_frames.specs.Body.{IsStep, IsBody, HasCounts}
 use Rattle.dcc_frames.proofs.Flat.{none-in, one-in, from-flat, to-flat}
 use Rattle.dcc_frames.proofs.StepLists.{at-node, is-step}
 use Rattle.dcc_frames.proofs.Told.{same_op, access-told, access-tells, moved-told, moved-tells}
-
--- a procedure has one number of arguments
-pub one-count :
-    (image : Image) (layout : Layout) (entry a b : ℕ) → HasArguments image layout entry a
-    → HasArguments image layout entry b → a ≡ b
-one-count image layout entry _ _ (of_start e) (of_start f) = refl
-one-count image layout entry _ b (of_start e) (of_procedure other room least) = absurd (other e)
-one-count image layout entry a _ (of_procedure other room least) (of_start e) = absurd (other e)
-one-count image layout entry a b (of_procedure other room least) (of_procedure other' room' least') =
-    let le = least b room' in let ge = least' a room in omega (arith, le, ge)
 
 -- Words from an offset on.
 
@@ -98,7 +89,7 @@ module _ (image : Image) (layout : Layout) (body : Body) (is : IsBody image layo
       let h = has target (called is.is_entry s.node stands) in
       ap (passed_of counts) (same_op image layout step.at step.op (Call target) s.stands stands)
       ∙ ap (λ o. unwrap_or o 0) h.found
-      ∙ one-count image layout target h.count count h.arguments arguments
+      ∙ arguments-once h.arguments arguments
 
   used-in :
       (step : Step) → IsStep image layout body.entry step → (span : Span) → IsUsed image layout body.entry step.at span
@@ -143,7 +134,7 @@ module _ (image : Image) (layout : Layout) (body : Body) (is : IsBody image layo
       → (user : Option ℕ) × Contains (pieces_of body counts) (record { bytes = as_bytes span; user = user })
   piece-told span (used {at} node uses) = (Some at, used-told at span node uses)
   piece-told _ (argument {count} {number} arguments less) =
-      let same = one-count image layout body.entry count body.args arguments is.arguments in
+      let same = arguments-once arguments is.arguments in
       let first : (pos 4 +ℤ pos (2 * number)) ≡ pos (4 + 2 * number) = omega (arith, ints) in (
         None,
         Contains-append_left (words_from (pos 4) body.args None) _ _

@@ -9,7 +9,7 @@ use Rattle.dcc_num.specs.declared.Width.TheVariants.{Byte, Word}
 use Rattle.dcc_prog.specs.declared.image.Image.{Image}
 use Rattle.dcc_prog.specs.declared.procedure.Layout.{Layout}
 use Rattle.dcc_prog.specs.Access.{bytes_in}
-use Rattle.dcc_prog.specs.Frame.{Span, direct, offset_in_frame, pushed, popped, passed, IsUsed, moved, accessed, IsPiece, used, argument, IsCrossed, IsRun}
+use Rattle.dcc_prog.specs.Frame.{Span, direct, offset_in_frame, pushed, popped, passed, IsUsed, moved, accessed, IsPiece, used, argument, IsCrossed, IsRunOfPieces}
 use Rattle.dcc_frames.specs.declared.bytes.Bytes.{Bytes}
 use Rattle.dcc_frames.specs.declared.bytes.Piece.{Piece}
 use Rattle.dcc_frames.specs.declared.steps.Step.{Step}
@@ -84,7 +84,7 @@ module _ (image : Image) (layout : Layout) (body : Body) (is : IsBody image layo
     after = c.after;
   }
 
-  pub run-tells : (run : Bytes) → IsRunIn sorted run → IsRun image layout body.entry (as_span run)
+  pub run-tells : (run : Bytes) → IsRunIn sorted run → IsRunOfPieces image layout body.entry (as_span run)
   run-tells run r = record {
     span = as_span r.piece.bytes;
     piece = sorted-tells r.piece r.among;
@@ -95,7 +95,7 @@ module _ (image : Image) (layout : Layout) (body : Body) (is : IsBody image layo
     apart_after = λ c. r.apart_after (crossed-told run.end c);
   }
 
-  run-in : (span : Span) → IsRun image layout body.entry span → IsRunIn sorted (as_bytes span)
+  run-in : (span : Span) → IsRunOfPieces image layout body.entry span → IsRunIn sorted (as_bytes span)
   run-in span r =
       let told = piece-told image layout body is counts has r.span r.piece in
       record {
@@ -109,6 +109,6 @@ module _ (image : Image) (layout : Layout) (body : Body) (is : IsBody image layo
       }
 
   pub run-told :
-      (runs : List Piece) → AreRuns sorted runs → (span : Span) → IsRun image layout body.entry span
+      (runs : List Piece) → AreRuns sorted runs → (span : Span) → IsRunOfPieces image layout body.entry span
       → IsAmong runs (as_bytes span)
   run-told runs are span r = run-among sorted runs are sorted-some (as_bytes span) (run-in span r)

@@ -18,17 +18,17 @@ use Rattle.dcc_prog.specs.declared.refusal.Refusal.{Refusal}
 use Rattle.dcc_prog.specs.declared.refusal.Refusal.TheVariants.{Construct}
 use Rattle.dcc_prog.specs.Trail.{StandsAt, IsNode, called}
 use Rattle.dcc_prog.specs.FrameForm.{is_framed, is_frame_form}
-use Rattle.dcc_prog.specs.Height.{needs_frame, is_raise, MovesHeight, HasHeight, IsMisplaced, HasBadHeight, two_heights, too_far, returns_early, too_great, grows_too_great, above_entry, into_saved_bp}
+use Rattle.dcc_prog.specs.Height.{needs_frame, MovesHeight, HasHeight, IsMisplaced, IsTooFar, HasBadHeight, two_heights, too_far, returns_early, too_great, grows_too_great, above_entry, into_saved_bp}
 use Rattle.dcc_prog.specs.Construct.{IsAtHeight, misplaced, bad_height}
 use Rattle.dcc_prog.specs.Refused.{IsRefusedByHeights}
 use Rattle.dcc_prog.specs.Refused as refused
 use Rattle.dcc_prog.specs.Found.{AreFound}
-use Rattle.dcc_heights.specs.Moves.{removed_in, IsLeaWord}
-use Rattle.dcc_heights.specs.Form.{is_pop_bp, is_ret, is_misplaced, is_into_saved_bp, is_too_far, is_bad}
+use Rattle.dcc_heights.specs.Moves.{removed_in}
+use Rattle.dcc_heights.specs.Form.{is_pop_bp, is_leave, is_ret, is_misplaced, is_into_saved_bp, is_too_far, is_bad}
 use Rattle.dcc_heights.specs.Removed.{AreByEntry}
 use Rattle.dcc_heights.specs.Search.{Scene, scene_of, node_in, after_in, is_misplaced_in, IsStepFault, IsReachedAt, IsFault}
 use Rattle.dcc_heights.specs.Search as search
-use Rattle.dcc_heights.proofs.Moving.{or-true, and-left, and-right, not-true, form-case, moves-so, low-raises}
+use Rattle.dcc_heights.proofs.Moving.{or-true, and-left, and-right, not-true, moves-so}
 use Rattle.dcc_heights.proofs.Removing.{call-removes}
 use Rattle.dcc_heights.proofs.Giving.{gives-trail, is-entry, node-at, form-at, reached-has}
 
@@ -46,9 +46,6 @@ ret-is op e = absurd (true≢false (sym e))
 ret-cases : (op : Op) → ((count : ℕ) × (op ≡ Ret count)) ⊎ ((count : ℕ) → op ≢ Ret count)
 ret-cases (Ret count) = inl (count, refl)
 ret-cases op = inr (λ count e. true≢false (sym (ap is_ret e)))
-
-no-ret : (op : Op) → is_raise op ≡ true → (count : ℕ) → op ≢ Ret count
-no-ret op raise count e = true≢false (sym raise ∙ ap is_raise e)
 
 same-level : (a b : ℕ) → pos a ≡ pos b → a ≡ b
 same-level a b e = cc
@@ -132,13 +129,17 @@ module _ (image : Image) (layout : Layout) (procs : List Proc) (found : AreFound
               ];
         }
 
-    below-entry : IsLeaWord node.instr.op → after_in scene node.instr.op height <ℤ pos 0 → HasBadHeight image layout
-        proc.entry at
-    below-entry word below =
-        let op = node.instr.op in
-        let raise =
-        low-raises (removed_in removed) op height (form-case image layout proc.entry at op form) word below in
-        too_far stands raise has (moves (no-ret op raise)) (omega (arith, ints, below)) (above_entry below)
+    -- an operation that lets SP rise goes on
+    risen :
+        IsTooFar image layout proc.entry node.instr.op (pos height) (after_in scene node.instr.op height)
+        → after_in scene node.instr.op height <ℤ pos height → HasBadHeight image layout proc.entry at
+    risen far less =
+        elim (ret-cases node.instr.op) [
+          | inl ret ↦
+              let still : after_in scene node.instr.op height ≡ pos height = ap (λ o. after_in scene o height) ret.1 in
+              absurd (omega (arith, ints, still, less))
+          | inr no_ret ↦ too_far stands has (moves no_ret) less far
+        ]
 
     into-saved : is_into_saved_bp framed node.instr.op height (after_in scene node.instr.op height) ≡ true →
         HasBadHeight image layout proc.entry at
@@ -146,21 +147,22 @@ module _ (image : Image) (layout : Layout) (procs : List Proc) (found : AreFound
         let op = node.instr.op in
         let after = after_in scene op height in
         let low = and-right _ (int_lt after (pos 2)) e in
-        let e4 = and-left (framed && is_raise op && not (is_pop_bp op) && nat_lt 0 height && int_lt after
+        let e4 = and-left (framed && not (is_pop_bp op) && not (is_leave op) && nat_lt 0 height && int_lt after
         (pos height)) (int_lt after (pos 2)) e in
         let less = and-right _ (int_lt after (pos height)) e4 in
-        let e3 = and-left (framed && is_raise op && not (is_pop_bp op) && nat_lt 0 height) (int_lt after (pos height))
-        e4 in
+        let e3 = and-left (framed && not (is_pop_bp op) && not (is_leave op) && nat_lt 0 height)
+        (int_lt after (pos height)) e4 in
         let up = and-right _ (nat_lt 0 height) e3 in
-        let e2 = and-left (framed && is_raise op && not (is_pop_bp op)) (nat_lt 0 height) e3 in
-        let no_pop = not-true (is_pop_bp op) (and-right _ (not (is_pop_bp op)) e2) in
-        let e1 = and-left (framed && is_raise op) (not (is_pop_bp op)) e2 in
-        let raise = and-right _ (is_raise op) e1 in
-        let is_so = and-left framed (is_raise op) e1 in
+        let e2 = and-left (framed && not (is_pop_bp op) && not (is_leave op)) (nat_lt 0 height) e3 in
+        let no_leave = not-true (is_leave op) (and-right _ (not (is_leave op)) e2) in
+        let e1 = and-left (framed && not (is_pop_bp op)) (not (is_leave op)) e2 in
+        let no_pop = not-true (is_pop_bp op) (and-right _ (not (is_pop_bp op)) e1) in
+        let is_so = and-left framed (not (is_pop_bp op)) e1 in
         let above : pos 0 <ℤ pos height = grind (arith, ints, nat_tests) in
-        too_far stands raise has (moves (no-ret op raise)) (lt-of after (pos height) less)
-        (into_saved_bp (sym framed_is ∙ is_so) (λ same. true≢false (sym (ap is_pop_bp same) ∙ no_pop)) above
-        (lt-of after (pos 2) low))
+        risen
+        (into_saved_bp (sym framed_is ∙ is_so) (λ same. true≢false (sym (ap is_pop_bp same) ∙ no_pop))
+        (λ same. true≢false (sym (ap is_leave same) ∙ no_leave)) above (lt-of after (pos 2) low))
+        (lt-of after (pos height) less)
 
     early : (is_ret node.instr.op && not (height == 0)) ≡ true → HasBadHeight image layout proc.entry at
     unfolding stands
@@ -181,16 +183,17 @@ module _ (image : Image) (layout : Layout) (procs : List Proc) (found : AreFound
         ]
 
     bad-height :
-        IsLeaWord node.instr.op → is_bad framed node.instr.op height (after_in scene node.instr.op height) ≡ true
+        is_bad framed node.instr.op height (after_in scene node.instr.op height) ≡ true
         → HasBadHeight image layout proc.entry at
-    bad-height word e =
+    bad-height e =
         let op = node.instr.op in
         let after = after_in scene op height in
         elim (or-true (is_too_far framed op height after || (is_ret op && not (height == 0)))
         (int_lt (pos 32766) after) e) [
           | inl rest ↦ elim (or-true (is_too_far framed op height after) (is_ret op && not (height == 0)) rest) [
             | inl far ↦ elim (or-true (int_lt after (pos 0)) (is_into_saved_bp framed op height after) far) [
-              | inl below ↦ below-entry word (lt-of after (pos 0) below)
+              | inl below ↦
+                  let under = lt-of after (pos 0) below in risen (above_entry under) (omega (arith, ints, under))
               | inr saved ↦ into-saved saved
             ]
             | inr ret ↦ early ret
@@ -203,8 +206,8 @@ module _ (image : Image) (layout : Layout) (procs : List Proc) (found : AreFound
         → IsRefusedByHeights image layout refusal
     step-refused _ (search.IsStepFault.misplaced e) =
         refused-at OUTSIDE at height reached (misplaced (placed-wrong e))
-    step-refused _ (search.IsStepFault.bad word e) =
-        refused-at HEIGHTS at height reached (bad_height (bad-height word e))
+    step-refused _ (search.IsStepFault.bad e) =
+        refused-at HEIGHTS at height reached (bad_height (bad-height e))
 
   pub fault-refused : (refusal : Refusal) → IsFault scene refusal → IsRefusedByHeights image layout refusal
   fault-refused refusal (search.IsFault.of_step {at} {height} {node} reached is fault) =

@@ -10,14 +10,14 @@ use Rattle.dcc_prog.specs.declared.procedure.Layout.{Layout}
 use Rattle.dcc_prog.specs.declared.procedure.Proc.{Proc}
 use Rattle.dcc_prog.specs.declared.instr.Operand.TheVariants.{Word}
 use Rattle.dcc_prog.specs.declared.instr.Op.{Op}
-use Rattle.dcc_prog.specs.declared.instr.Op.TheVariants.{Pop, Ret}
+use Rattle.dcc_prog.specs.declared.instr.Op.TheVariants.{Pop, Leave, Ret}
 use Rattle.dcc_prog.specs.Trail.{StandsAt, IsNode}
 use Rattle.dcc_prog.specs.FrameForm.{is_framed}
-use Rattle.dcc_prog.specs.Height.{needs_frame, is_raise, by_ret, MovesHeight, HasHeight, IsMisplaced, HasBadHeight, two_heights, too_far, returns_early, two_sizes, too_great, grows_too_great, above_entry, into_saved_bp}
+use Rattle.dcc_prog.specs.Height.{needs_frame, by_ret, MovesHeight, HasHeight, IsMisplaced, HasBadHeight, two_heights, too_far, returns_early, two_sizes, too_great, grows_too_great, above_entry, into_saved_bp}
 use Rattle.dcc_prog.specs.Construct.{IsAtHeight, misplaced, bad_height}
 use Rattle.dcc_prog.specs.Found.{AreFound}
 use Rattle.dcc_heights.specs.Moves.{removed_in, height_after}
-use Rattle.dcc_heights.specs.Form.{is_pop_bp, is_ret, is_misplaced, is_into_saved_bp, is_too_far}
+use Rattle.dcc_heights.specs.Form.{is_pop_bp, is_leave, is_ret, is_misplaced, is_into_saved_bp, is_too_far}
 use Rattle.dcc_heights.specs.Removed.{AreByEntry}
 use Rattle.dcc_heights.specs.Search.{Scene, scene_of, after_in, IsStep, AreAllHeights}
 use Rattle.dcc_heights.proofs.Moving.{or-false-left, or-false-right}
@@ -56,18 +56,22 @@ not-pop : (op : Op) → op ≢ Pop (Word Bp) → is_pop_bp op ≡ false
 not-pop (Pop (Word Bp)) other = absurd (other refl)
 not-pop op other = refl
 
+not-leave : (op : Op) → op ≢ Leave → is_leave op ≡ false
+not-leave Leave other = absurd (other refl)
+not-leave op other = refl
+
 saved-so :
-    (framed : Bool) (op : Op) (level after : ℕ) → framed ≡ true → is_raise op ≡ true → is_pop_bp op ≡ false → 0 < level
-    → after < level → after < 2
-    → is_into_saved_bp framed op level (pos after) ≡ true
-saved-so framed op level after is_so raise no_pop above less low =
+    (framed : Bool) (op : Op) (level after : ℕ) → framed ≡ true → is_pop_bp op ≡ false → is_leave op ≡ false
+    → 0 < level → after < level → after < 2 → is_into_saved_bp framed op level (pos after) ≡ true
+saved-so framed op level after is_so no_pop no_leave above less low =
     let up : nat_lt 0 level ≡ true = grind (arith, nat_tests) in
     let down : int_lt (pos after) (pos level) ≡ true = grind (arith, nat_tests) in
     let lower : int_lt (pos after) (pos 2) ≡ true = grind (arith, nat_tests) in
-    and-true (framed && is_raise op && not (is_pop_bp op) && nat_lt 0 level && int_lt (pos after) (pos level)) _
-    (and-true (framed && is_raise op && not (is_pop_bp op) && nat_lt 0 level) _
-    (and-true (framed && is_raise op && not (is_pop_bp op)) _
-    (and-true (framed && is_raise op) _ (and-true framed _ is_so raise) (ap not no_pop)) up) down) lower
+    and-true (framed && not (is_pop_bp op) && not (is_leave op) && nat_lt 0 level && int_lt (pos after) (pos level)) _
+    (and-true (framed && not (is_pop_bp op) && not (is_leave op) && nat_lt 0 level) _
+    (and-true (framed && not (is_pop_bp op) && not (is_leave op)) _
+    (and-true (framed && not (is_pop_bp op)) _ (and-true framed _ is_so (ap not no_pop)) (ap not no_leave)) up) down)
+    lower
 
 -- What an operation that may stand at its height is not.
 
@@ -148,16 +152,16 @@ module _ (image : Image) (layout : Layout) (procs : List Proc) (found : AreFound
       let both = sym first_level.is ∙ second_level.is in
       let equal : first_level.level ≡ second_level.level = cc in
       apart (first_level.same ∙ ap pos equal ∙ sym second_level.same)
-  no-bad at (too_far {op} {height} {after} stands raise has moves less (above_entry below)) =
+  no-bad at (too_far {op} {height} {after} stands has moves less (above_entry below)) =
       let s = standing at op height has stands in
       let to = s.leads after moves in
       omega (arith, ints, to, below)
-  no-bad at (too_far {op} {height} {after} stands raise has moves less (into_saved_bp framed_so other above below)) =
+  no-bad at (too_far {op} {height} {after} stands has moves less (into_saved_bp framed_so other stays above below)) =
       let s = standing at op height has stands in
       let to = s.leads after moves in
       let same = s.same in
       let saved =
-      saved-so framed op s.level s.after (framed_is ∙ framed_so) raise (not-pop op other)
+      saved-so framed op s.level s.after (framed_is ∙ framed_so) (not-pop op other) (not-leave op stays)
       (omega (arith, ints, above, same)) (omega (arith, ints, less, to, same)) (omega (arith, ints, below, to)) in
       true≢false (sym saved ∙ not-saved (scene_of proc framed removed) at op s.level s.after s.step)
   no-bad at (returns_early {count} {height} stands has other) =

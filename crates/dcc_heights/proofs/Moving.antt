@@ -24,8 +24,8 @@ use Rattle.dcc_prog.specs.Writes.{is_same_register, is_half_of, writes_operand, 
 use Rattle.dcc_prog.specs.Machine.{operand_width}
 use Rattle.dcc_prog.specs.Trail.{instruction_in, is_general}
 use Rattle.dcc_prog.specs.FrameForm.{is_push_bp, is_mov_bp_sp, is_enter, begins_by_push, second_of, is_framed, is_sp_or_bp, names_sp_or_bp, uses_bp_address, is_sp_move, is_at_most_zero, is_at_or_below_bp, leaves_frame, copies_bp, makes_frame, is_frame_form}
-use Rattle.dcc_prog.specs.Height.{lowering_of, height_set_by, is_raise, IsRemoved, MovesHeight, push, pop, call, move, set, keep}
-use Rattle.dcc_heights.specs.Moves.{moved_by, height_after, IsLeaWord}
+use Rattle.dcc_prog.specs.Height.{lowering_of, height_set_by, IsRemoved, MovesHeight, push, pop, call, move, set, keep}
+use Rattle.dcc_heights.specs.Moves.{moved_by, height_after}
 
 -- Tests.
 
@@ -288,57 +288,3 @@ module _ (image : Image) (layout : Layout) (removed : ℕ → ℕ) (entry at : �
   moves-once op height _ (move {bytes = bytes} e) calls = sym (moved-after removed height op bytes e)
   moves-once op height after (set form e) calls = sym (set-after removed height op after e)
   moves-once op height _ (keep e) calls = sym (kept-after removed height op e)
-
--- Heights below 0.
-
-lowering-raises : (op : Op) (bytes : ℤ) → lowering_of op ≡ Some bytes → is_raise op ≡ true
-lowering-raises (AluOp Add (Word Sp) (Const width constant)) bytes e = refl
-lowering-raises (AluOp Sub (Word Sp) (Const width constant)) bytes e = refl
-lowering-raises (UnaryOp Inc (Word Sp)) bytes e = refl
-lowering-raises (UnaryOp Dec (Word Sp)) bytes e = refl
-lowering-raises op bytes e = let clash = e in cc
-
-signed-low : (word : ℕ) → word < 65536 → is_at_most_zero word ≡ true → signed_of word_width word ≤ℤ pos 0
-unfolding signed_of
-signed-low word small e = grind (arith, ints, nat_tests)
-
-lea-case : (ea : Ea) → FormCase (Lea Sp ea) → is_at_or_below_bp ea ≡ true
-lea-case ea (moves e) = absurd (true≢false (sym e))
-lea-case ea (unnamed e) = absurd (true≢false e)
-lea-case ea (leaves e) = e
-lea-case ea (copies e) = absurd (true≢false (sym e))
-lea-case ea (pushes e) = absurd (true≢false (sym e))
-lea-case ea (takes e) = absurd (true≢false (sym e))
-lea-case ea (enters e) = absurd (true≢false (sym e))
-
-some-above : (x after : ℤ) → pos 0 ≤ℤ x → Some x ≡ Some after → pos 0 ≤ℤ after
-some-above x after above e = let same : x ≡ after = cc in subst (λ z. pos 0 ≤ℤ z) same above
-
-set-above : (op : Op) (after : ℤ) → FormCase op → IsLeaWord op → height_set_by op ≡ Some after → pos 0 ≤ℤ after
-set-above (Mov (Word Sp) (Word Bp)) after form word e = some-above (pos 2) after (omega (arith, ints)) e
-set-above (Lea Sp ea) after form word e =
-    let low = signed-low ea.disp word (and-right _ (is_at_most_zero ea.disp) (lea-case ea form)) in
-    some-above (pos 2 -ℤ signed_of word_width ea.disp) after (omega (arith, ints, low)) e
-set-above (Enter count) after form word e = some-above (pos 2 +ℤ pos count) after (omega (arith, ints)) e
-set-above Leave after form word e = some-above (pos 0) after (omega (arith, ints)) e
-set-above op after form word e = let clash = e in cc
-
-low-by :
-    (op : Op) (height : ℕ) (low set_to : Option ℤ) → FormCase op → IsLeaWord op → lowering_of op ≡ low
-    → height_set_by op ≡ set_to → moved_by low set_to (pos height) <ℤ pos 0
-    → is_raise op ≡ true
-low-by op height (Some bytes) set_to form word low_is set_is below = lowering-raises op bytes low_is
-low-by op height None (Some after) form word low_is set_is below =
-    let above = set-above op after form word set_is in absurd (omega (arith, ints, above, below))
-low-by op height None None form word low_is set_is below = absurd (omega (arith, ints, below))
-
--- it is a raise that takes SP above the entry
-pub low-raises :
-    (removed : ℕ → ℕ) (op : Op) (height : ℕ) → FormCase op → IsLeaWord op
-    → height_after removed op (pos height) <ℤ pos 0
-    → is_raise op ≡ true
-low-raises removed (Push a) height form word below = absurd (omega (arith, ints, below))
-low-raises removed (Pop a) height form word below = refl
-low-raises removed (Call target) height form word below = refl
-low-raises removed op height form word below =
-    low-by op height (lowering_of op) (height_set_by op) form word refl refl below

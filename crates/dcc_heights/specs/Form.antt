@@ -4,13 +4,18 @@ use Rattle.std.specs.Prelude.{ℕ, ◌==◌, nat_lt, Bool, true, false, not, ◌
 use Rattle.dcc_num.specs.declared.Reg.TheVariants.{Bp}
 use Rattle.dcc_prog.specs.declared.instr.Operand.TheVariants.{Word}
 use Rattle.dcc_prog.specs.declared.instr.Op.{Op}
-use Rattle.dcc_prog.specs.declared.instr.Op.TheVariants.{Pop, Ret}
-use Rattle.dcc_prog.specs.Height.{needs_frame, is_raise, greatest_height}
+use Rattle.dcc_prog.specs.declared.instr.Op.TheVariants.{Pop, Leave, Ret}
+use Rattle.dcc_prog.specs.Height.{needs_frame, greatest_height}
 
 -- `pop bp`
 abbrev pub is_pop_bp : Op → Bool
 is_pop_bp (Pop (Word Bp)) = true
 is_pop_bp op = false
+
+-- LEAVE
+abbrev pub is_leave : Op → Bool
+is_leave Leave = true
+is_leave op = false
 
 -- RET
 abbrev pub is_ret : Op → Bool
@@ -21,12 +26,12 @@ is_ret op = false
 abbrev pub is_misplaced : Op → ℕ → Bool
 is_misplaced op height = ((height == 0) && needs_frame op) || (is_pop_bp op && not (height == 2))
 
--- SP rises into the saved BP by another form than `pop bp`
+-- SP rises into the saved BP by another form than `pop bp` and LEAVE
 abbrev pub is_into_saved_bp : Bool → Op → ℕ → ℤ → Bool
 is_into_saved_bp framed op height after =
     framed
-    && is_raise op
     && not (is_pop_bp op)
+    && not (is_leave op)
     && nat_lt 0 height
     && int_lt after (pos height)
     && int_lt after (pos 2)

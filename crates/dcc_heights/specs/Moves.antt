@@ -1,19 +1,14 @@
 -- The height after an operation, as it is computed. This stands between the definitions and the code; no public
 -- contract rests on it.
-use Rattle.std.specs.Prelude.{ℕ, ◌<◌, ℤ, pos, ◌+ℤ◌, ◌-ℤ◌, nat_eq, List, Option, Some, None, unwrap_or}
+use Rattle.std.specs.Prelude.{ℕ, ℤ, pos, ◌+ℤ◌, ◌-ℤ◌, nat_eq, List, Option, Some, None, unwrap_or}
 use Rattle.std.specs.Map.{lookup}
 use Rattle.dcc_prog.specs.declared.instr.Op.{Op}
-use Rattle.dcc_prog.specs.declared.instr.Op.TheVariants.{Lea, Push, Pop, Call}
+use Rattle.dcc_prog.specs.declared.instr.Op.TheVariants.{Push, Pop, Call}
 use Rattle.dcc_prog.specs.Height.{lowering_of, height_set_by}
 
 -- how many bytes a CALL of the procedure with this entry removes, by a list of entries
 abbrev pub removed_in : List (ℕ × ℕ) → ℕ → ℕ
 removed_in removed target = unwrap_or (lookup (nat_eq target) removed) 0
-
--- the displacement of LEA is a word
-abbrev pub IsLeaWord : Op → Type 0
-IsLeaWord (Lea r ea) = ea.disp < 65536
-IsLeaWord op = Unit {0}
 
 -- by a move of SP, else by an operation that sets the height, else none
 abbrev pub moved_by : Option ℤ → Option ℤ → ℤ → ℤ

@@ -12,7 +12,7 @@ use Rattle.dcc_prog.specs.declared.refusal.Refusal.{Refusal}
 use Rattle.dcc_prog.specs.declared.refusal.Refusal.TheVariants.{Construct, Memory}
 use Rattle.dcc_prog.specs.FrameForm.{is_framed}
 use Rattle.dcc_prog.specs.Found.{IsFound}
-use Rattle.dcc_heights.specs.Moves.{removed_in, height_after, IsLeaWord}
+use Rattle.dcc_heights.specs.Moves.{removed_in, height_after}
 use Rattle.dcc_heights.specs.Form.{is_misplaced, is_bad}
 
 -- A procedure as the search sees it: with whether it is framed, and with what a CALL removes, by the entries of the
@@ -55,8 +55,7 @@ pub record IsStep (scene : Scene) (at : ℕ) (op : Op) (height after : ℕ) : Ty
 pub data IsStepFault (scene : Scene) (at : ℕ) (op : Op) (height : ℕ) : Refusal → Type 0 where
   misplaced : is_misplaced_in scene at op height ≡ true → IsStepFault scene at op height (Construct OUTSIDE at)
   bad :
-      IsLeaWord op
-      → is_bad scene.framed op height (after_in scene op height) ≡ true
+      is_bad scene.framed op height (after_in scene op height) ≡ true
       → IsStepFault scene at op height (Construct HEIGHTS at)
 
 -- a trail comes to an offset at a height, which is the first one there or the known one

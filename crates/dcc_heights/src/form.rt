@@ -1,7 +1,7 @@
 //! At which heights instructions may stand.
 
 ghost use Rattle.std.specs.Prelude.{◌≡◌, ℕ, pos};
-ghost use Rattle.dcc_prog.specs.Height.{is_sp_sub, is_frame_work, needs_frame, is_raise};
+ghost use Rattle.dcc_prog.specs.Height.{is_sp_sub, is_frame_work, needs_frame};
 ghost use Rattle.dcc_heights.specs.Form.{is_pop_bp, is_ret, is_misplaced, is_too_far, is_bad};
 
 use crate::moves::lowers;
@@ -42,13 +42,6 @@ fn needs_frame(op: Op) -> bool
     is_frame_work(op) || is_sp_sub(op) || lowers(op) || op.copies_bp() || op.uses_bp_address()
 }
 
-// A POP, a move of SP or a CALL, and by it SP may rise.
-fn is_raise(op: Op) -> bool
-    ensures { result ≡ is_raise op }
-{
-    matches!(op, Op::Pop(_) | Op::Call(_)) || op.is_sp_move()
-}
-
 // `pop bp`.
 fn is_pop_bp(op: Op) -> bool
     ensures { result ≡ is_pop_bp op }
@@ -64,14 +57,15 @@ pub fn is_misplaced(op: Op, height: u16) -> bool
     (height == 0 && needs_frame(op)) || (is_pop_bp(op) && height != 2)
 }
 
-// SP rises above its value at the entry, or in a framed procedure into the saved BP by another form than `pop bp`.
+// SP rises above its value at the entry, or in a framed procedure into the saved BP by another form than `pop bp`
+// and LEAVE.
 fn is_too_far(framed: bool, op: Op, height: u16, after: i32) -> bool
     ensures { result ≡ is_too_far framed op height after }
 {
     after < 0
         || (framed
-            && is_raise(op)
             && !is_pop_bp(op)
+            && !matches!(op, Op::Leave)
             && height > 0
             && after < i32::from(height)
             && after < 2)

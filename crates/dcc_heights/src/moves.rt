@@ -1,10 +1,10 @@
 //! The height of the stack after an operation.
 
-ghost use Rattle.std.specs.Prelude.{◌≡◌, ℕ, pos, neg_ℤ, ◌≤ℤ◌, ◌<◌, ◌<ℤ◌, IfSome};
+ghost use Rattle.std.specs.Prelude.{◌≡◌, ℕ, pos, neg_ℤ, ◌≤ℤ◌, ◌<ℤ◌, IfSome};
 ghost use Rattle.dcc_num.specs.declared.Width.TheVariants.{Word as word_width};
 ghost use Rattle.dcc_num.specs.Numbers.{signed_of};
 ghost use Rattle.dcc_prog.specs.Height.{lowering_of, height_set_by, is_above_zero};
-ghost use Rattle.dcc_heights.specs.Moves.{removed_in, height_after, IsLeaWord};
+ghost use Rattle.dcc_heights.specs.Moves.{removed_in, height_after};
 
 use dcc_num::Reg;
 use dcc_prog::{Alu, Op, Operand, Unary};
@@ -16,7 +16,6 @@ fn signed(word: u16) -> i32
     ensures value { result ≡ signed_of word_width word }
     ensures low { neg_ℤ (pos 32768) ≤ℤ result }
     ensures high { result <ℤ pos 32768 }
-    ensures word { word < 65536 }
 {
     if word >= 0x8000 {
         i32::from(word) - 0x10000
@@ -42,15 +41,11 @@ fn lowering_of(op: Op) -> Option<i32>
 
 // The height that `mov sp,bp`, LEA of SP from BP, ENTER or LEAVE gives, whatever it was.
 fn height_set_by(op: Op) -> Option<i32>
-    ensures value { result ≡ height_set_by op }
-    ensures word { IsLeaWord op }
+    ensures { result ≡ height_set_by op }
 {
     match op {
         Op::Mov(Operand::Word(Reg::Sp), Operand::Word(Reg::Bp)) => Some(2),
-        Op::Lea(r, ea) => {
-            let height = 2 - signed(ea.disp);
-            matches!(r, Reg::Sp).then_some(height)
-        }
+        Op::Lea(Reg::Sp, ea) => Some(2 - signed(ea.disp)),
         Op::Enter(bytes) => Some(2 + i32::from(bytes)),
         Op::Leave => Some(0),
         _ => None,
@@ -70,8 +65,7 @@ fn removed_in(removed: &IndexMap<u16, u16>, target: u16) -> u16
 /// The height after an operation that is no RET. `removed` tells how many bytes a CALL removes, by the entry of the
 /// procedure that it calls. A number below 0 says that SP lies above its value at the procedure's entry.
 pub fn height_after(removed: &IndexMap<u16, u16>, op: Op, height: u16) -> i32
-    ensures value { result ≡ height_after (removed_in removed.now.entries) op (pos height) }
-    ensures word { IsLeaWord op }
+    ensures { result ≡ height_after (removed_in removed.now.entries) op (pos height) }
 {
     let height = i32::from(height);
     let set = height_set_by(op);

@@ -1,4 +1,5 @@
 pub mod ListLaws
+pub mod ZipLaws
 pub mod StepLaws
 pub mod passes
 pub mod RunLaws
@@ -18,4 +19,5 @@ pub mod ExecuteLaws
 pub mod FitStates
 pub mod ReachedLaws
 pub mod UnstuckLaws
-pub mod PassingExamples
+pub mod CallingPrograms
+mod PassingExamples

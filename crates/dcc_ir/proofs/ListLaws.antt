@@ -1,8 +1,12 @@
 -- Laws of what holds of each element of a list.
 use Rattle.std.proofs.Common.{List, [], ◌∷◌, ◌++◌, flat_map}
-use Rattle.std.specs.Prelude.{All}
-use Rattle.std.proofs.lemmas.List.Elements.{All-nil, All-cons, All-head, All-tail}
+use Rattle.std.specs.Prelude.{All, Contains}
+use Rattle.std.proofs.lemmas.List.Elements.{All-nil, All-cons, All-head, All-tail, All-weaker, All-contains_itself}
 use Rattle.dcc_run.proofs.KeptLaws.{right_part}
+
+-- what holds wherever a list has something holds of all of it
+pub all_had : {A : Type 0} (P : A → Type 0) (xs : List A) → ((x : A) → Contains xs x → P x) → All P xs
+all_had P xs h = All-weaker (Contains xs) P h xs (All-contains_itself xs)
 
 -- what holds of all of two lists joined holds of the first
 pub left_part : {A : Type 0} (P : A → Type 0) (xs ys : List A) → All P (xs ++ ys) → All P xs

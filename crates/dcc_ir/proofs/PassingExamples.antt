@@ -1,6 +1,6 @@
 -- A small program that is well formed, has the form of calls and returns and is never stuck, and near misses.
 use Rattle.std.proofs.Common.{arith, lit<, ◌≡◌, ℕ, zero, suc, ◌+◌, ◌<◌, refl, sym, ap, ◌∙◌, true, false, List, [], ◌∷◌, ◌++◌, map, length, Some, None}
-use Rattle.std.specs.Prelude.{All, Contains, slice_index_or}
+use Rattle.std.specs.Prelude.{All}
 use Rattle.std.specs.List.Sorted.{IsStrictlyIncreasing}
 use Rattle.std.proofs.lemmas.List.Elements.{All-nil, All-cons}
 use Rattle.dcc_num.specs.declared.Half.TheVariants.{Low, High}
@@ -10,12 +10,12 @@ use Rattle.dcc_ir.specs.declared.syntax.Put.TheVariants.{Memory, Two}
 use Rattle.dcc_ir.specs.declared.syntax.Param.{Param}
 use Rattle.dcc_ir.specs.declared.syntax.BinOp.TheVariants.{DivU}
 use Rattle.dcc_ir.specs.Tree.{Expr, Const, Get, Load, Binary, Address, Stmt, Div, Call, Dos, Exit, Goto, Ret, Stop, Block, Graph, Program}
-use Rattle.dcc_ir.specs.Location.{location_width}
-use Rattle.dcc_ir.specs.WellFormed.{is_stmt, is_param_list, memory_params_last, jumps_after_call, all_ret_widths, IsGraph, IsCalling, IsProgram}
+use Rattle.dcc_ir.specs.WellFormed.{is_stmt, memory_params_last, jumps_after_call, IsProgram}
 use Rattle.dcc_ir.specs.Ends.{IsNeverStuck, is_ret, is_switch, stops_soundly, HasSoundEnds}
 use Rattle.dcc_ir.specs.Passing.{passed, param_of, RetPasses, GraphPasses, CallPasses, StmtPasses, PassesAll}
 use Rattle.std.proofs.lemmas.List.{length-map}
 use Rattle.dcc_ir.proofs.UnstuckLaws.{never_stuck, no_switch_places}
+use Rattle.dcc_ir.proofs.CallingPrograms.{one, formed}
 
 -- The callee takes two words, the first in two locations, the second in memory, and gives both back.
 
@@ -78,9 +78,6 @@ both_ascend : IsStrictlyIncreasing both_words
 both_ascend zero less = lit< tt
 both_ascend (suc k) less = let past : suc k + 1 < 2 = less in absurd (omega (arith, past))
 
-pub one : {X : Type 0} (P : X → Type 0) (x : X) → P x → All P (x ∷ [])
-one P x h = All-cons P x [] h (All-nil P)
-
 callee_passes : GraphPasses both_words callee
 callee_passes = record {
   words = words;
@@ -111,64 +108,12 @@ program_passes = record {
 
 -- The program is well formed, and its ends are sound: so no run of it is ever stuck.
 
-calling_formed : IsCalling program caller call
-calling_formed = record { callee = callee; named = refl; taken = refl; given = one (λ widths. widths ≡ map (location_width caller.bits) (passed ++ places)) _ refl }
-
-caller_formed : IsGraph caller
-caller_formed = record {
-  begins = lit< tt;
-  entry = lit< tt;
-  offsets = All-cons (λ b. b.at < 65536) calling_block (last_block ∷ []) (lit< tt) (one (λ b. b.at < 65536) last_block (lit< tt));
-  jumps = All-cons (λ b. jumps_after_call b.stmts b.exit ≡ true) calling_block (last_block ∷ []) refl (one (λ b. jumps_after_call b.stmts b.exit ≡ true) last_block refl);
-  addresses = refl;
-  bits = refl;
-  params = refl;
-  blocks = refl;
-}
-
-callee_formed : IsGraph callee
-callee_formed = record {
-  begins = lit< tt;
-  entry = lit< tt;
-  offsets = one (λ b. b.at < 65536) callee_block (lit< tt);
-  jumps = one (λ b. jumps_after_call b.stmts b.exit ≡ true) callee_block refl;
-  addresses = refl;
-  bits = refl;
-  params = refl;
-  blocks = refl;
-}
-
 -- the same of both graphs
 of_both : (P : Graph → Type 0) → P caller → P callee → All P program.graphs
 of_both P h k = All-cons P caller (callee ∷ []) h (one P callee k)
 
-pub only_element : {X : Type 0} (x y : X) → Contains (x ∷ []) y → y ≡ x
-only_element x y c = go c.0 c.1 c.2
-  where
-    go : (k : ℕ) → k < 1 → slice_index_or (x ∷ []) k y ≡ y → y ≡ x
-    go zero less same = sym same
-    go (suc k) less same = absurd (let past : suc k < 1 = less in omega (arith, past))
-
 program_formed : IsProgram program
-program_formed = record {
-  image = All-nil (λ byte. byte < 256);
-  lo = lit< tt;
-  hi = lit< tt;
-  begins = lit< tt;
-  entries = refl;
-  graphs = of_both IsGraph caller_formed callee_formed;
-  params = of_both (λ g. is_param_list g.bits g.params ≡ true) refl refl;
-  memory_last = of_both (λ g. memory_params_last g.params ≡ true) refl refl;
-  start = one (λ g. g.params ≡ []) caller refl;
-  start_rets = one (λ g. All (λ widths. widths ≡ []) (all_ret_widths g)) caller (All-nil (λ widths. widths ≡ []));
-  rets = of_both (λ g. (a b : List ℕ) → Contains (all_ret_widths g) a → Contains (all_ret_widths g) b → a ≡ b)
-      (λ a b c d. absurd (let less : c.0 < 0 = c.1 in omega (arith, less)))
-      (λ a b c d. only_element _ a c ∙ sym (only_element _ b d));
-  calls = of_both (λ g. All (λ b. All (IsCalling program g) b.stmts) g.blocks)
-      (All-cons (λ b. All (IsCalling program caller) b.stmts) calling_block (last_block ∷ []) (one (IsCalling program caller) call calling_formed)
-      (one (λ b. All (IsCalling program caller) b.stmts) last_block (one (IsCalling program caller) exit_call tt)))
-      (one (λ b. All (IsCalling program callee) b.stmts) callee_block (All-nil (IsCalling program callee)));
-}
+program_formed = formed 0x4C (Const 8 0) caller.bits callee.bits (passed ++ places) (arguments ++ map Get passed) callee.params (map Get passed ++ in_order) refl refl refl refl refl refl refl refl refl
 
 -- the same of each block
 of_blocks : (P : Block → Type 0) → P calling_block → P last_block → P callee_block → All (λ g. All P g.blocks) program.graphs

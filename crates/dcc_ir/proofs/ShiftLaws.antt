@@ -1,4 +1,4 @@
--- What is left of numbers of 32 bits that are shifted by 32 places or more.
+-- What is left of numbers that are shifted by their width or more.
 use Rattle.std.proofs.Common.{arith, ◌≡◌, ◌∙◌, refl, sym, ap, ℕ, ◌+◌, ◌-◌, ◌*◌, ◌/◌, ◌%◌, ◌^◌, ◌<◌, ◌≤◌, min, inl, inr, lit<, add-zero, ℤ, pos, negsuc, neg_ℤ, ◌≤ℤ◌, ◌<ℤ◌, FitsSigned, to_z, of_z, to_z-of_z, w64}
 use Rattle.std.proofs.lemmas.Bool.{cases_lt}
 use Rattle.std.proofs.lemmas.Int.{ints}
@@ -8,8 +8,8 @@ use Rattle.std.proofs.Math.Nat.{div-eq_of_lt, div-le_self, pow-le-pow_right}
 use Rattle.dcc_num.specs.Numbers.{halved_of}
 
 -- nothing is left at the top
-pub all_out_up : (a width count : ℕ) → width ≤ 32 → 32 ≤ count → 0 ≡ a * 2 ^ count % 2 ^ width
-all_out_up a width count small far =
+pub all_out_up : (a width count : ℕ) → width ≤ count → 0 ≡ a * 2 ^ count % 2 ^ width
+all_out_up a width count far =
     let d : ℕ = count - width in
     let e : count ≡ d + width = omega arith in
     let p : 2 ^ count ≡ 2 ^ d * 2 ^ width = ap (λ n. 2 ^ n) e ∙ pow-add 2 d width in
@@ -18,19 +18,19 @@ all_out_up a width count small far =
     sym (rw q whole)
 
 -- nor at the bottom
-pub all_out_down : (a count : ℕ) → a < 2 ^ 32 → 32 ≤ count → 0 ≡ a / 2 ^ count
-all_out_down a count small far =
-    let whole : 2 ^ 32 ≤ 2 ^ count = pow-le-pow_right (lit< tt) {i = 32} {j = count} far in
+pub all_out_down : (a width count : ℕ) → a < 2 ^ width → width ≤ count → 0 ≡ a / 2 ^ count
+all_out_down a width count small far =
+    let whole : 2 ^ width ≤ 2 ^ count = pow-le-pow_right (lit< tt) {i = width} {j = count} far in
     sym (div-eq_of_lt (omega arith))
 
 -- a signed number moved down by 32 places or more
 signed_out : (z : ℤ) (count : ℕ) → neg_ℤ (pos (2 ^ 32)) ≤ℤ z → z <ℤ pos (2 ^ 32) → 32 ≤ count → shr_z z (2 ^ 32) ≡ halved_of z count
 signed_out (pos a) count low high far =
     let small : a < 2 ^ 32 = omega (arith, ints, high) in
-    ap pos (sym (all_out_down a 32 small (omega arith)) ∙ all_out_down a count small far)
+    ap pos (sym (all_out_down a 32 32 small (omega arith)) ∙ all_out_down a 32 count small far)
 signed_out (negsuc a) count low high far =
     let small : a < 2 ^ 32 = omega (arith, ints, low) in
-    ap negsuc (sym (all_out_down a 32 small (omega arith)) ∙ all_out_down a count small far)
+    ap negsuc (sym (all_out_down a 32 32 small (omega arith)) ∙ all_out_down a 32 count small far)
 
 near : (z : ℤ) (count : ℕ) → shr_z z (2 ^ count) ≡ halved_of z count
 near (pos a) count = refl

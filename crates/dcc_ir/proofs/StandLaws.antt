@@ -1,13 +1,13 @@
 -- A run stands at blocks of its program alone.
-use Rattle.std.proofs.Common.{◌≡◌, ℕ, ◌%◌, ◌+◌, Bool, true, false, cond, ◌⊎◌, inl, inr, List, [], ◌∷◌, Option, Some, None, refl, sym, ap, ◌∙◌, subst, true≢false, map, find, slice_get, get_or, eq-eqb}
+use Rattle.std.proofs.Common.{◌≡◌, ℕ, Bool, true, false, cond, ◌⊎◌, inl, inr, List, [], ◌∷◌, Option, Some, None, refl, sym, ap, ◌∙◌, subst, true≢false, map, find, slice_get, get_or, eq-eqb}
 use Rattle.std.specs.Prelude.{if◌then◌else◌, ◌==◌}
 use Rattle.std.specs.List.{list_any}
-use Rattle.dcc_run.specs.End.{Running, is_over}
+use Rattle.dcc_run.specs.End.{is_over}
 use Rattle.dcc_run.specs.Place.{Place}
 use Rattle.dcc_ir.specs.declared.syntax.Loc.{Loc}
 use Rattle.dcc_ir.specs.Tree.{Stmt, Call, Exit, Goto, If, Switch, Ret, Stop, Block, Graph, Program}
 use Rattle.dcc_ir.specs.Location.{filled}
-use Rattle.dcc_ir.specs.Run.{State, Waiting, activation, value_in, stmt_step, entering, going_to, passing, callee_base, calling, graph_at, giving, returning, switching, exit_step, block_step, step, no_graph, first_memory, first_state, block_mark}
+use Rattle.dcc_ir.specs.Run.{State, Waiting, activation, value_in, stmt_step, entering, going_to, passing, callee_base, calling, graph_at, giving, returning, switching, exit_step, block_step, step, no_graph, opened, first_state, block_mark}
 use Rattle.dcc_ir.specs.Flow.{graph_or_none}
 use Rattle.dcc_ir.specs.Keeps.{has_block}
 use Rattle.dcc_ir.proofs.StepLaws.{stmt-within, passing-alike, giving-alike}
@@ -101,16 +101,7 @@ holds_still p fill s (inr o) = inr (subst (λ t. (t.running.begins ≡ false) ×
 
 -- the state in which the first of the graphs begins
 opening : List Graph → Program → ℕ → List ℕ → State
-opening graphs p fill input =
-    let graph = get_or graphs 0 no_graph in
-    going_to 0 (record {
-      running = activation graph (filled graph.bits fill) ((p.hi + 2) % 65536);
-      waiting = [];
-      memory = first_memory p fill;
-      input = input;
-      events = [];
-      end = Running;
-    })
+opening graphs p fill input = opened (get_or graphs 0 no_graph) p fill input
 
 opening-holds : (graphs : List Graph) (p : Program) (fill : ℕ) (input : List ℕ) → StandsAt graphs (opening graphs p fill input) ⊎ (((opening graphs p fill input).running.begins ≡ false) × (is_over (opening graphs p fill input).end ≡ true))
 unfolding opening

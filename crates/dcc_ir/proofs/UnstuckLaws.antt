@@ -61,6 +61,12 @@ keyed_end echo (Some location) [] s = refl
 keyed_end echo None (byte ∷ input) s = refl
 keyed_end echo (Some location) (byte ∷ input) s = refl
 
+-- a DOS call that takes a byte is one of two
+no_key : (a b c d : Bool) → a ≡ false → b ≡ false → ((a || b) && c) ≡ true → d ≡ true
+no_key true b c d x y e = absurd (true≢false x)
+no_key false true c d x y e = absurd (true≢false y)
+no_key false false c d x y e = absurd (true≢false (sym e))
+
 -- a well-formed DOS call is one of the five
 number_is : (bits : List ℕ) (number : ℕ) (place : Option Loc) (argument : Option Expr) → is_dos bits number place argument ≡ true →
     (number == 0x02) ≡ false → (number == 0x4C) ≡ false → (number == 0x01) ≡ false → (number == 0x08) ≡ false → (number == 0x09) ≡ true
@@ -73,18 +79,8 @@ number_is bits number None (Some e) ok two exit echo key =
     neither : (a b c : Bool) → a ≡ false → b ≡ false → (a || b) ≡ true → c ≡ true
     neither true b c x y e = absurd (true≢false x)
     neither false b c x y e = absurd (true≢false (sym e ∙ y))
-number_is bits number None None ok two exit echo key = keys (number == 0x01) (number == 0x08) _ _ echo key ok
-  where
-    keys : (a b c d : Bool) → a ≡ false → b ≡ false → ((a || b) && c) ≡ true → d ≡ true
-    keys true b c d x y e = absurd (true≢false x)
-    keys false true c d x y e = absurd (true≢false y)
-    keys false false c d x y e = absurd (true≢false (sym e))
-number_is bits number (Some location) None ok two exit echo key = keys (number == 0x01) (number == 0x08) _ _ echo key ok
-  where
-    keys : (a b c d : Bool) → a ≡ false → b ≡ false → ((a || b) && c) ≡ true → d ≡ true
-    keys true b c d x y e = absurd (true≢false x)
-    keys false true c d x y e = absurd (true≢false y)
-    keys false false c d x y e = absurd (true≢false (sym e))
+number_is bits number None None ok two exit echo key = no_key (number == 0x01) (number == 0x08) _ _ echo key ok
+number_is bits number (Some location) None ok two exit echo key = no_key (number == 0x01) (number == 0x08) _ _ echo key ok
 number_is bits number (Some location) (Some e) ok two exit echo key = absurd (true≢false (sym ok))
 
 IsNotStuck : State → Type 0

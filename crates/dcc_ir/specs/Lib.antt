@@ -9,6 +9,7 @@ pub mod Fitting
 pub mod Ends
 pub mod Flow
 pub mod Keeps
+pub mod Form
 pub mod Replaced
 pub mod Use
 pub mod Live
@@ -25,3 +26,4 @@ pub mod Laws
 pub mod Plain
 pub mod Demand
 pub mod Families
+pub mod FlagReads

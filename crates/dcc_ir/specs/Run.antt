@@ -227,10 +227,9 @@ first_memory p fill =
 abbrev pub no_graph : Graph
 no_graph = record { entry = 0; params = []; local = 0; pushed = 0; blocks = []; bits = [] }
 
--- the state in which the first graph begins; the base of its frame lies 2 above the stack
-abbrev pub first_state : Program → ℕ → List ℕ → State
-first_state p fill input =
-    let graph = get_or p.graphs 0 no_graph in
+-- the state in which a graph begins as the first; the base of its frame lies 2 above the stack
+abbrev pub opened : Graph → Program → ℕ → List ℕ → State
+opened graph p fill input =
     going_to 0 (record {
       running = activation graph (filled graph.bits fill) ((p.hi + 2) % 65536);
       waiting = [];
@@ -239,6 +238,10 @@ first_state p fill input =
       events = [];
       end = Running;
     })
+
+-- the state in which the first graph begins
+abbrev pub first_state : Program → ℕ → List ℕ → State
+first_state p fill input = opened (get_or p.graphs 0 no_graph) p fill input
 
 -- the state that a run has reached after n steps
 abbrev pub reached : Program → ℕ → List ℕ → ℕ → State

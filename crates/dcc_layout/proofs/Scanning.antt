@@ -8,8 +8,8 @@ use Rattle.dcc_prog.specs.MzImage.{IsLoaded}
 use Rattle.dcc_prog.specs.Code.{code_of}
 use Rattle.dcc_prog.specs.Machine.{State, start_state}
 use Rattle.dcc_prog.specs.Step.{op_step}
-use Rattle.dcc_prog.specs.Layout.{is_prelude_form, may_end_prelude, IsFormAt, IsRun, end_of, ends_prelude}
-use Rattle.dcc_prog.proofs.PreludeLaws.{NoFormAt, run-append, run-of_append, end_of-append, none_ends, none_ends-push, ends_prelude-push, prelude-is}
+use Rattle.dcc_prog.specs.Layout.{is_prelude_form, may_end_prelude, IsFormAt, IsRun, offset_after, ends_prelude}
+use Rattle.dcc_prog.proofs.PreludeLaws.{NoFormAt, run-append, run-of_append, offset_after-append, none_ends, none_ends-push, ends_prelude-push, prelude-is}
 use Rattle.dcc_prog.proofs.PreludeSteps.{form-step, executed, executed-push, state_after-is}
 use Rattle.dcc_layout.specs.declared.registers.Registers.{Registers}
 use Rattle.dcc_layout.specs.declared.prelude.Prelude.{Prelude}
@@ -23,9 +23,9 @@ pub record Scanned (cpu : Cpu) (image : Image) (at : ℕ) (registers : Registers
   pub run : IsRun cpu (code_of image) image.ip (front ++ rest)
   pub ends : ends_prelude front ≡ true
   pub none : none_ends rest ≡ true
-  pub at_is : at ≡ end_of image.ip (front ++ rest)
+  pub at_is : at ≡ offset_after image.ip (front ++ rest)
   pub registers_are : registers ≡ registers_of (executed cpu (start_state image []) (front ++ rest))
-  pub kept_end : kept.end ≡ end_of image.ip front
+  pub kept_end : kept.end ≡ offset_after image.ip front
   pub kept_registers : kept.registers ≡ registers_of (executed cpu (start_state image []) front)
 
 pub scanned-start : (cpu : Cpu) (image : Image) (at : ℕ) (registers : Registers) (kept : Prelude) → at ≡ image.ip → registers ≡ registers_of (start_state image []) → kept.end ≡ at → kept.registers ≡ registers → Scanned cpu image at registers kept
@@ -51,13 +51,13 @@ module _ (cpu : Cpu) (image : Image) (at next : ℕ) (registers after : Register
   -- the run with the instruction
   longer-run : IsRun cpu (code_of image) image.ip (before.front ++ before.rest ++ instr ∷ [])
   longer-run =
-      let here : IsFormAt cpu (code_of image) (end_of image.ip (before.front ++ before.rest)) instr = subst (λ a. IsFormAt cpu (code_of image) a instr) before.at_is is in
+      let here : IsFormAt cpu (code_of image) (offset_after image.ip (before.front ++ before.rest)) instr = subst (λ a. IsFormAt cpu (code_of image) a instr) before.at_is is in
       run-append cpu (code_of image) image.ip (before.front ++ before.rest) (instr ∷ []) before.run (here, tt)
 
-  longer-end : next ≡ end_of image.ip (before.front ++ before.rest ++ instr ∷ [])
+  longer-end : next ≡ offset_after image.ip (before.front ++ before.rest ++ instr ∷ [])
   longer-end =
       next_is ∙ ap (λ a. a + instr.len) before.at_is
-      ∙ sym (end_of-append image.ip (before.front ++ before.rest) (instr ∷ []))
+      ∙ sym (offset_after-append image.ip (before.front ++ before.rest) (instr ∷ []))
 
   longer-registers : after ≡ registers_of (executed cpu (start_state image []) (before.front ++ before.rest ++ instr ∷ []))
   longer-registers =
@@ -74,7 +74,7 @@ module _ (cpu : Cpu) (image : Image) (at next : ℕ) (registers after : Register
         run = subst (λ l. IsRun cpu (code_of image) image.ip l) joins longer-run;
         ends = before.ends;
         none = none_ends-push before.rest instr before.none stays;
-        at_is = longer-end ∙ ap (end_of image.ip) joins;
+        at_is = longer-end ∙ ap (offset_after image.ip) joins;
         registers_are = longer-registers ∙ ap (λ l. registers_of (executed cpu (start_state image []) l)) joins;
         kept_end = before.kept_end;
         kept_registers = before.kept_registers;
@@ -91,7 +91,7 @@ module _ (cpu : Cpu) (image : Image) (at next : ℕ) (registers after : Register
         run = subst (λ l. IsRun cpu (code_of image) image.ip l) (sym none) longer-run;
         ends = ends_prelude-push (before.front ++ before.rest) instr ends;
         none = refl;
-        at_is = longer-end ∙ ap (end_of image.ip) (sym none);
+        at_is = longer-end ∙ ap (offset_after image.ip) (sym none);
         registers_are = longer-registers ∙ ap (λ l. registers_of (executed cpu (start_state image []) l)) (sym none);
         kept_end = e ∙ longer-end;
         kept_registers = r ∙ longer-registers;
@@ -100,7 +100,7 @@ module _ (cpu : Cpu) (image : Image) (at next : ℕ) (registers after : Register
 -- where the run can't go on, what is kept is what the prelude leaves
 pub scanned-end : (cpu : Cpu) (image : Image) (at : ℕ) (registers : Registers) (kept : Prelude) → IsLoaded image → Scanned cpu image at registers kept → NoFormAt cpu (code_of image) at → IsLeft cpu image kept
 scanned-end cpu image at registers kept loaded s none =
-    let stop : NoFormAt cpu (code_of image) (end_of image.ip (s.front ++ s.rest)) = subst (λ a. NoFormAt cpu (code_of image) a) s.at_is none in
+    let stop : NoFormAt cpu (code_of image) (offset_after image.ip (s.front ++ s.rest)) = subst (λ a. NoFormAt cpu (code_of image) a) s.at_is none in
     let run = run-of_append cpu (code_of image) image.ip s.front s.rest s.run in
     record {
       prelude = s.front;

@@ -4,7 +4,7 @@ use Rattle.dcc_prog.specs.declared.cpu.Cpu.{Cpu}
 use Rattle.dcc_prog.specs.declared.image.Image.{Image}
 use Rattle.dcc_prog.specs.declared.instr.Instr.{Instr}
 use Rattle.dcc_prog.specs.Code.{code_of}
-use Rattle.dcc_prog.specs.Layout.{IsPrelude, end_of, state_after}
+use Rattle.dcc_prog.specs.Layout.{IsPrelude, offset_after, state_after}
 use Rattle.dcc_layout.specs.declared.prelude.Prelude.{Prelude}
 use Rattle.dcc_layout.specs.Registers.{registers_of}
 
@@ -13,4 +13,4 @@ pub record IsLeft (cpu : Cpu) (image : Image) (left : Prelude) : Type 0 where
   pub prelude : List Instr
   pub is_prelude : IsPrelude cpu (code_of image) image.ip prelude
   pub registers : left.registers ≡ registers_of (state_after cpu image prelude)
-  pub end : left.end ≡ end_of image.ip prelude
+  pub end : left.end ≡ offset_after image.ip prelude

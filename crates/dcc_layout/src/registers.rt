@@ -4,7 +4,7 @@ ghost use Rattle.std.specs.Prelude.{◌≡◌, ◌<◌, true, []};
 ghost use Rattle.dcc_num.specs.Numbers.{limit_of};
 ghost use Rattle.dcc_prog.specs.Layout.{is_prelude_form};
 ghost use Rattle.dcc_prog.specs.Machine.{start_state, word_in, stack_segment, data_segment, operand_value, operand_width, with_operand};
-ghost use Rattle.dcc_prog.specs.Operations.{with_result, taken_count, count_in};
+ghost use Rattle.dcc_prog.specs.Operations.{with_result, count_in};
 ghost use Rattle.dcc_prog.specs.Step.{op_step};
 ghost use Rattle.dcc_prog.specs.WellFormed.{IsOperand, IsOperation};
 ghost use Rattle.dcc_layout.specs.Registers.{has_no_memory, state_of, registers_of};
@@ -108,7 +108,7 @@ impl Registers {
     {
         match count {
             Count::One => 1,
-            Count::Cl => taken_count(cpu, Half::Low.of(self.regs[Reg::Cx as usize])),
+            Count::Cl => cpu.taken_count(Half::Low.of(self.regs[Reg::Cx as usize])),
             Count::Const(number) => number % 32,
         }
     }
@@ -136,15 +136,5 @@ impl Registers {
             }
             _ => {}
         }
-    }
-}
-
-// How far the processor goes by a number in CL.
-fn taken_count(cpu: Cpu, number: u8) -> u8
-    ensures { result ≡ taken_count cpu number }
-{
-    match cpu {
-        Cpu::I8086 => number,
-        Cpu::I186 => number % 32,
     }
 }

@@ -1,8 +1,8 @@
 -- What is known of AH after an instruction holds of the location AH after its statements.
-use Rattle.std.proofs.Common.{◌≡◌, ℕ, Bool, true, false, List, [], ◌∷◌, ◌++◌, Option, Some, refl, ap, ap₂, ◌∙◌, cond, true≢false}
+use Rattle.std.proofs.Common.{◌≡◌, ℕ, Bool, true, false, List, [], ◌∷◌, ◌++◌, Option, Some, refl, sym, ap, ap₂, ◌∙◌, cond, true≢false}
 use Rattle.std.specs.Prelude.{◌&&◌, ◌||◌, ◌≢◌, if◌then◌else◌}
 use Rattle.std.specs.List.{list_any}
-use Rattle.std.proofs.lemmas.Bool.{or_parts}
+use Rattle.std.proofs.lemmas.Bool.{and_parts, or_parts}
 use Rattle.std.proofs.lemmas.List.Folds.{list_any-append}
 use Rattle.dcc_num.specs.declared.Width.{Width}
 use Rattle.dcc_num.specs.declared.Width.TheVariants.{Byte as byte_width, Word as word_width}
@@ -36,6 +36,7 @@ use Rattle.dcc_ir.specs.Value.{Scene, value_of}
 use Rattle.dcc_lift.specs.Mirrors.{executed}
 use Rattle.dcc_lift.specs.Expressions.{operand_expr, number as number_expr, result, product, bit, count_expr}
 use Rattle.dcc_lift.specs.Statements.{taking, result_taking, word_taking, storing, alu_working, alu_storing, unary_stmts, product_working, triple_product, shift_working, staying, shifting, mov_stmts, exchanging, xchg_stmts, plain_stmts, op_stmts}
+use Rattle.dcc_lift.specs.Liftable.{is_register, is_source, is_liftable}
 use Rattle.dcc_lift.proofs.ListTests.{of_either}
 
 -- the statement sets AH
@@ -200,17 +201,21 @@ unary-unset Div word_width a e h = absurd (true≢false (ap (λ x. is_in_pair x 
 unary-unset Idiv byte_width a e h = absurd (true≢false (ap (λ x. is_in_pair x Ax) e ∙ h))
 unary-unset Idiv word_width a e h = absurd (true≢false (ap (λ x. is_in_pair x Ax) e ∙ h))
 
-mov-unset : (to from : Operand) → is_half_of Ax High to ≡ false → list_any sets_ah (mov_stmts to from) ≡ false
+mov-unset : (to from : Operand) → is_register to ≡ true → is_half_of Ax High to ≡ false → list_any sets_ah (mov_stmts to from) ≡ false
 unfolding sets_ah
-mov-unset (Word r) (Word q) h = word-unset r 0 (bit 0) h
-mov-unset (Word r) (Constant width c) h = word-unset r 0 (bit 0) h
-mov-unset (Word r) (Byte q half) h = refl
-mov-unset (Word r) (Seg n) h = refl
-mov-unset (Word r) (Mem width ea) h = refl
-mov-unset (Byte r half) from h = ap (λ b. b || false) (half-unset r half h)
-mov-unset (Seg n) from h = refl
-mov-unset (Mem width ea) from h = refl
-mov-unset (Constant width c) from h = refl
+mov-unset (Word r) (Word q) g h = word-unset r 0 (bit 0) h
+mov-unset (Word r) (Constant width c) g h = word-unset r 0 (bit 0) h
+mov-unset (Word r) (Byte q half) g h = word-unset r 0 (bit 0) h
+mov-unset (Word r) (Seg n) g h = word-unset r 0 (bit 0) h
+mov-unset (Word r) (Mem width ea) g h = word-unset r 0 (bit 0) h
+mov-unset (Byte r half) (Word q) g h = ap (λ b. b || false) (half-unset r half h)
+mov-unset (Byte r half) (Byte q other) g h = ap (λ b. b || false) (half-unset r half h)
+mov-unset (Byte r half) (Constant width c) g h = ap (λ b. b || false) (half-unset r half h)
+mov-unset (Byte r half) (Seg n) g h = ap (λ b. b || false) (half-unset r half h)
+mov-unset (Byte r half) (Mem width ea) g h = ap (λ b. b || false) (half-unset r half h)
+mov-unset (Seg n) from g h = absurd (true≢false (sym g))
+mov-unset (Mem width ea) from g h = absurd (true≢false (sym g))
+mov-unset (Constant width c) from g h = absurd (true≢false (sym g))
 
 exchanging-unset : (a b : Loc) → same_location (Half Ax High) a ≡ false → same_location (Half Ax High) b ≡ false → list_any sets_ah (exchanging a b) ≡ false
 unfolding sets_ah
@@ -236,17 +241,31 @@ high-unset Bp h = refl
 high-unset Si h = refl
 high-unset Di h = refl
 
-xchg-unset : (a b : Operand) → (is_half_of Ax High a || is_half_of Ax High b) ≡ false → list_any sets_ah (xchg_stmts a b) ≡ false
+xchg-unset : (a b : Operand) → is_register a ≡ true → is_register b ≡ true → (is_half_of Ax High a || is_half_of Ax High b) ≡ false → list_any sets_ah (xchg_stmts a b) ≡ false
 unfolding sets_ah
-xchg-unset (Word r) (Word q) h =
+xchg-unset (Word r) (Word q) g k h =
     let parts = or_parts (is_same_register Ax r) (is_same_register Ax q) h in
     neither (exchanging (Half r Low) (Half q Low)) (exchanging (Half r High) (Half q High))
     (exchanging-unset (Half r Low) (Half q Low) (low-unset r) (low-unset q))
     (exchanging-unset (Half r High) (Half q High) (high-unset r parts.0) (high-unset q parts.1))
-xchg-unset (Byte r half) (Byte q other) h =
+xchg-unset (Byte r half) (Byte q other) g k h =
     let parts = or_parts (is_same_register Ax r && is_same_half High half) (is_same_register Ax q && is_same_half High other) h in
     exchanging-unset (Half r half) (Half q other) (half-unset r half parts.0) (half-unset q other parts.1)
-xchg-unset _ _ h = refl
+xchg-unset (Word r) (Byte q other) g k h =
+    let parts = or_parts (is_same_register Ax r) (is_same_register Ax q && is_same_half High other) h in
+    neither (word_taking r 0 (bit 0)) (Set (Half q other) (bit 0) ∷ []) (word-unset r 0 (bit 0) parts.0) (ap (λ b. b || false) (half-unset q other parts.1))
+xchg-unset (Byte r half) (Word q) g k h =
+    let parts = or_parts (is_same_register Ax r && is_same_half High half) (is_same_register Ax q) h in
+    neither (Set (Half r half) (bit 0) ∷ []) (word_taking q 0 (bit 0)) (ap (λ b. b || false) (half-unset r half parts.0)) (word-unset q 0 (bit 0) parts.1)
+xchg-unset (Word r) (Seg n) g k h = absurd (true≢false (sym k))
+xchg-unset (Word r) (Mem width ea) g k h = absurd (true≢false (sym k))
+xchg-unset (Word r) (Constant width c) g k h = absurd (true≢false (sym k))
+xchg-unset (Byte r half) (Seg n) g k h = absurd (true≢false (sym k))
+xchg-unset (Byte r half) (Mem width ea) g k h = absurd (true≢false (sym k))
+xchg-unset (Byte r half) (Constant width c) g k h = absurd (true≢false (sym k))
+xchg-unset (Seg n) b g k h = absurd (true≢false (sym g))
+xchg-unset (Mem width ea) b g k h = absurd (true≢false (sym g))
+xchg-unset (Constant width c) b g k h = absurd (true≢false (sym g))
 
 plain-unset : (operation : Plain) → plain_writes_half operation Ax High ≡ false → list_any sets_ah (plain_stmts operation) ≡ false
 unfolding sets_ah
@@ -262,25 +281,25 @@ plain-unset Sti h = refl
 plain-unset Cld h = refl
 
 -- an operation that does not write AH has no statement that sets it
-unset : (cpu : Cpu) (op : Op) (number : Option ℕ) → op ≢ Int21 → writes_half op Ax High ≡ false → list_any sets_ah (op_stmts cpu op number) ≡ false
+unset : (cpu : Cpu) (op : Op) (number : Option ℕ) → is_liftable op ≡ true → op ≢ Int21 → writes_half op Ax High ≡ false → list_any sets_ah (op_stmts cpu op number) ≡ false
 unfolding sets_ah
-unset cpu (AluOp operation a b) number d w =
+unset cpu (AluOp operation a b) number l d w =
     neither (taking (operand_width a) (operand_expr a) (operand_expr b)) (alu_working operation (operand_width a) ++ alu_storing operation a)
     (taking-unset (operand_width a) (operand_expr a) (operand_expr b))
     (neither (alu_working operation (operand_width a)) (alu_storing operation a) (working-unset operation (operand_width a)) (alu-storing-unset operation a w))
-unset cpu (UnaryOp operation a) number d w = unary-unset operation (operand_width a) a refl w
-unset cpu (ShiftOp operation a count) number d w =
+unset cpu (UnaryOp operation a) number l d w = unary-unset operation (operand_width a) a refl w
+unset cpu (ShiftOp operation a count) number l d w =
     of_either (λ stmts. list_any sets_ah stmts ≡ false) (never_shifts count) (staying (operand_width a) a) (shifting cpu operation (operand_width a) a count)
     (staying-unset (operand_width a) a w) (shifting-unset cpu operation (operand_width a) a count w)
-unset cpu (Imul3 r a constant) number d w = triple-unset r a constant w
-unset cpu (Mov to from) number d w = mov-unset to from w
-unset cpu (Xchg a b) number d w = xchg-unset a b w
-unset cpu (PlainOp operation) number d w = plain-unset operation w
-unset cpu (Loop target) number d w = refl
-unset cpu (LoopE target) number d w = refl
-unset cpu (LoopNe target) number d w = refl
-unset cpu Int21 number d w = absurd (d refl)
-unset cpu _ number d w = refl
+unset cpu (Imul3 r a constant) number l d w = triple-unset r a constant w
+unset cpu (Mov to from) number l d w = mov-unset to from (and_parts (is_register to) (is_source from) l).0 w
+unset cpu (Xchg a b) number l d w = let both = and_parts (is_register a) (is_register b) l in xchg-unset a b both.0 both.1 w
+unset cpu (PlainOp operation) number l d w = plain-unset operation w
+unset cpu (Loop target) number l d w = refl
+unset cpu (LoopE target) number l d w = refl
+unset cpu (LoopNe target) number l d w = refl
+unset cpu Int21 number l d w = absurd (d refl)
+unset cpu _ number l d w = refl
 
 -- the constant that is moved to AH stands there
 moved : (cpu : Cpu) (op : Op) (number : Option ℕ) (scene : Scene) (n : ℕ) → constant_to_ah op ≡ Some n → (executed (op_stmts cpu op number) scene).values (Half Ax High) ≡ n
@@ -289,11 +308,11 @@ moved cpu (Mov (Word Ax) (Constant width c)) number scene n e = cc
 moved cpu _ number scene n e = cc
 
 -- what is known of AH after an instruction holds of the location after its statements
-pub ah-after : (cpu : Cpu) (instr : Instr) (number : Option ℕ) (scene : Scene) (known : Option ℕ) → instr.op ≢ Int21
+pub ah-after : (cpu : Cpu) (instr : Instr) (number : Option ℕ) (scene : Scene) (known : Option ℕ) → is_liftable instr.op ≡ true → instr.op ≢ Int21
     → ((n : ℕ) → known ≡ Some n → scene.values (Half Ax High) ≡ n) → (n : ℕ) → ah_after (Some instr) known ≡ Some n
     → (executed (op_stmts cpu instr.op number) scene).values (Half Ax High) ≡ n
-ah-after cpu instr number scene known d holds n e = both (writes_half instr.op Ax High) refl e
+ah-after cpu instr number scene known l d holds n e = both (writes_half instr.op Ax High) refl e
   where
     both : (b : Bool) → writes_half instr.op Ax High ≡ b → (if b then constant_to_ah instr.op else known) ≡ Some n → (executed (op_stmts cpu instr.op number) scene).values (Half Ax High) ≡ n
     both true w k = moved cpu instr.op number scene n k
-    both false w k = kept (op_stmts cpu instr.op number) scene (unset cpu instr.op number d w) ∙ holds n k
+    both false w k = kept (op_stmts cpu instr.op number) scene (unset cpu instr.op number l d w) ∙ holds n k

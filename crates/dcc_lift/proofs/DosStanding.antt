@@ -21,11 +21,12 @@ use Rattle.dcc_ir.specs.Location.{Values, with_value}
 use Rattle.dcc_ir.specs.Tree.{Get, Stmt, Graph}
 use Rattle.dcc_ir.specs.Value.{Fits}
 use Rattle.dcc_ir.specs.Run.{State as Inner, scene_of, value_in, block_step, dos_step as inner_dos_step, keyed}
-use Rattle.dcc_lift.specs.Temporaries.{temporary_bits}
+use Rattle.dcc_ops.specs.Temporaries.{temporary_bits}
 use Rattle.dcc_lift.specs.Statements.{dos_stmts, op_stmts, op_test}
 use Rattle.dcc_lift.specs.Mirrors.{Mirrors}
 use Rattle.dcc_lift.specs.Blocks.{Nodes, node_stmts}
-use Rattle.dcc_lift.proofs.MirrorLaws.{mirrors_half, mirrors_state, fits_taking, word_low, word_high}
+use Rattle.dcc_ops.proofs.SceneLaws.{fits_taking}
+use Rattle.dcc_lift.proofs.MirrorLaws.{mirrors_half, mirrors_state, word_low, word_high}
 use Rattle.dcc_lift.proofs.Standing.{BothStand, IsInstruction, IsPassed, IsLeft, is_lifted_number, step-is, successors-are, first-of-one, no-some}
 
 -- the four numbers

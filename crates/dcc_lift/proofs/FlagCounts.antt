@@ -3,6 +3,7 @@
 use Rattle.std.proofs.Common.{◌≡◌, ◌≤◌, ℕ, Bool, true, false, not, cond, ◌&&◌, ◌||◌, ◌==◌, if◌then◌else◌, List, [], ◌∷◌, ◌++◌, All, Option, Some, None, refl, sym, ◌∙◌, subst, true≢false, leb-true, arith}
 use Rattle.std.specs.Prelude.{nat_le, count_by, flat_map}
 use Rattle.std.specs.List.{list_all}
+use Rattle.std.proofs.lemmas.Bool.{and_parts}
 use Rattle.dcc_num.specs.declared.Width.{Width}
 use Rattle.dcc_num.specs.declared.Width.TheVariants.{Byte as byte_width, Word as word_width}
 use Rattle.dcc_num.specs.declared.Reg.{Reg}
@@ -20,7 +21,7 @@ use Rattle.dcc_prog.specs.declared.procedure.Proc.{Proc}
 use Rattle.dcc_prog.specs.declared.instr.Alu.{Alu}
 use Rattle.dcc_prog.specs.declared.instr.Alu.TheVariants.{Add, Or, Adc, Sbb, And, Sub, Xor, Cmp, Test}
 use Rattle.dcc_prog.specs.declared.instr.Shift.{Shift}
-use Rattle.dcc_prog.specs.declared.instr.Shift.TheVariants.{Rol, Ror, Rcl, Rcr, Shl, Shr, Sar}
+use Rattle.dcc_prog.specs.declared.instr.Shift.TheVariants.{Rol}
 use Rattle.dcc_prog.specs.declared.instr.Count.{Count}
 use Rattle.dcc_prog.specs.declared.instr.Count.TheVariants.{One, Cl, Const as ConstCount}
 use Rattle.dcc_prog.specs.declared.instr.Unary.{Unary}
@@ -211,20 +212,35 @@ triple-few r (Seg number) constant s = absurd (true≢false (sym s))
 triple-few r (Mem w ea) constant s = absurd (true≢false (sym s))
 triple-few r (Constant w c) constant s = absurd (true≢false (sym s))
 
-mov-few : (a b : Operand) → are_few (Mov a b) (mov_stmts a b) ≡ true
-mov-few (Word r) (Word q) = refl
-mov-few (Word r) (Constant w constant) = refl
-mov-few (Byte r half) (Word q) = refl
-mov-few (Byte r half) (Byte q other) = refl
-mov-few (Byte r half) (Seg number) = refl
-mov-few (Byte r half) (Mem w ea) = refl
-mov-few (Byte r half) (Constant w constant) = refl
-mov-few a b = refl
+mov-few : (a b : Operand) → is_register a ≡ true → is_source b ≡ true → are_few (Mov a b) (mov_stmts a b) ≡ true
+mov-few (Word r) (Word q) s t = refl
+mov-few (Word r) (Byte q other) s t = refl
+mov-few (Word r) (Constant w constant) s t = refl
+mov-few (Byte r half) (Word q) s t = refl
+mov-few (Byte r half) (Byte q other) s t = refl
+mov-few (Byte r half) (Constant w constant) s t = refl
+mov-few (Word r) (Seg number) s t = absurd (true≢false (sym t))
+mov-few (Word r) (Mem w ea) s t = absurd (true≢false (sym t))
+mov-few (Byte r half) (Seg number) s t = absurd (true≢false (sym t))
+mov-few (Byte r half) (Mem w ea) s t = absurd (true≢false (sym t))
+mov-few (Seg number) b s t = absurd (true≢false (sym s))
+mov-few (Mem w ea) b s t = absurd (true≢false (sym s))
+mov-few (Constant w constant) b s t = absurd (true≢false (sym s))
 
-xchg-few : (a b : Operand) → are_few (Xchg a b) (xchg_stmts a b) ≡ true
-xchg-few (Word r) (Word q) = refl
-xchg-few (Byte r half) (Byte q other) = refl
-xchg-few a b = refl
+xchg-few : (a b : Operand) → is_register a ≡ true → is_register b ≡ true → are_few (Xchg a b) (xchg_stmts a b) ≡ true
+xchg-few (Word r) (Word q) s t = refl
+xchg-few (Word r) (Byte q other) s t = refl
+xchg-few (Byte r half) (Word q) s t = refl
+xchg-few (Byte r half) (Byte q other) s t = refl
+xchg-few (Word r) (Seg number) s t = absurd (true≢false (sym t))
+xchg-few (Word r) (Mem w ea) s t = absurd (true≢false (sym t))
+xchg-few (Word r) (Constant w constant) s t = absurd (true≢false (sym t))
+xchg-few (Byte r half) (Seg number) s t = absurd (true≢false (sym t))
+xchg-few (Byte r half) (Mem w ea) s t = absurd (true≢false (sym t))
+xchg-few (Byte r half) (Constant w constant) s t = absurd (true≢false (sym t))
+xchg-few (Seg number) b s t = absurd (true≢false (sym s))
+xchg-few (Mem w ea) b s t = absurd (true≢false (sym s))
+xchg-few (Constant w constant) b s t = absurd (true≢false (sym s))
 
 dos-few : (number : Option ℕ) → are_few Int21 (dos_stmts number) ≡ true
 dos-few None = refl
@@ -248,8 +264,8 @@ op-few cpu (ShiftOp operation a count) number lifted = shift-few cpu operation a
 op-few cpu (Imul3 r a constant) number lifted = triple-few r a constant (and_right (is_general r) (is_register a) lifted)
 op-few cpu (Enter count) number lifted = refl
 op-few cpu Leave number lifted = refl
-op-few cpu (Mov a b) number lifted = mov-few a b
-op-few cpu (Xchg a b) number lifted = xchg-few a b
+op-few cpu (Mov a b) number lifted = let both = and_parts (is_register a) (is_source b) lifted in mov-few a b both.0 both.1
+op-few cpu (Xchg a b) number lifted = let both = and_parts (is_register a) (is_register b) lifted in xchg-few a b both.0 both.1
 op-few cpu (Lea r ea) number lifted = refl
 op-few cpu (Push a) number lifted = refl
 op-few cpu (Pop a) number lifted = refl

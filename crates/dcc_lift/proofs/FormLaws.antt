@@ -19,7 +19,7 @@ use Rattle.dcc_prog.specs.declared.procedure.Proc.{Proc}
 use Rattle.dcc_prog.specs.declared.instr.Alu.{Alu}
 use Rattle.dcc_prog.specs.declared.instr.Alu.TheVariants.{Add, Or, Adc, Sbb, And, Sub, Xor, Cmp, Test}
 use Rattle.dcc_prog.specs.declared.instr.Shift.{Shift}
-use Rattle.dcc_prog.specs.declared.instr.Shift.TheVariants.{Rol, Ror, Rcl, Rcr, Shl, Shr, Sar}
+use Rattle.dcc_prog.specs.declared.instr.Shift.TheVariants.{Rol}
 use Rattle.dcc_prog.specs.declared.instr.Count.{Count}
 use Rattle.dcc_prog.specs.declared.instr.Count.TheVariants.{One, Cl, Const as ConstCount}
 use Rattle.dcc_prog.specs.declared.instr.Unary.{Unary}
@@ -37,6 +37,7 @@ use Rattle.dcc_prog.specs.Writes.{never_shifts}
 use Rattle.dcc_ir.specs.declared.syntax.Loc.TheVariants.{Half}
 use Rattle.dcc_ir.specs.declared.syntax.BinOp.TheVariants.{And as AndOp}
 use Rattle.dcc_ir.specs.Tree.{Expr, Const, Get, Binary, Stmt, Set, Dos, Block, Program}
+use Rattle.dcc_ops.proofs.MovePerformed.{register_source}
 use Rattle.dcc_lift.specs.Expressions.{operand_expr, product, count_expr, condition, goes_round, flag, negated, is_zero, word_of}
 use Rattle.dcc_lift.specs.Statements.{taking, word_taking, storing, alu_working, alu_storing, alu_stmts, product_working, triple_product, unary_stmts, shift_working, staying, shifting, shift_stmts, mov_stmts, xchg_stmts, plain_stmts, dos_stmts, op_stmts, op_test, exit_to}
 use Rattle.dcc_lift.specs.Form.{is_general, is_lifted_expr, is_lifted_stmt, is_lifted_exit, is_lifted_block, HasForm}
@@ -164,13 +165,6 @@ register-general r s = s
 half-general : (r : Reg) (half : HalfName) → is_register (Byte r half) ≡ true → is_general r ≡ true
 half-general r half s = s
 
-register-source : (a : Operand) → is_register a ≡ true → is_source a ≡ true
-register-source (Word r) s = s
-register-source (Byte r half) s = s
-register-source (Seg number) s = s
-register-source (Mem w ea) s = s
-register-source (Constant w constant) s = refl
-
 source-form : (b : Operand) → is_source b ≡ true → is_lifted_expr (operand_expr b) ≡ true
 source-form (Word r) s = let g = register-general r s in rw g refl
 source-form (Byte r half) s = let g = half-general r half s in rw g refl
@@ -192,7 +186,7 @@ alu_storing-form operation (Constant w constant) s = absurd (true≢false (sym s
 alu-form : (operation : Alu) (a b : Operand) → is_register a ≡ true → is_source b ≡ true → are_lifted (alu_stmts operation a b) ≡ true
 alu-form operation a b s t =
     let w = operand_width a in
-    let taken = taking-form w (operand_expr a) (operand_expr b) (source-form a (register-source a s)) (source-form b t) in
+    let taken = taking-form w (operand_expr a) (operand_expr b) (source-form a (register_source a s)) (source-form b t) in
     let worked = lifted-append (alu_working operation w) (alu_storing operation a) (alu_working-form operation w) (alu_storing-form operation a s) in
     lifted-append (taking w (operand_expr a) (operand_expr b)) (alu_working operation w ++ alu_storing operation a) taken worked
 
@@ -222,7 +216,7 @@ staying-form (Constant w constant) s = absurd (true≢false (sym s))
 shifting-form : (cpu : Cpu) (operation : Shift) (a : Operand) (count : Count) → is_register a ≡ true → are_lifted (shifting cpu operation (operand_width a) a count) ≡ true
 shifting-form cpu operation a count s =
     let w = operand_width a in
-    let taken = taking-form w (operand_expr a) (count_expr cpu w count) (source-form a (register-source a s)) (count-form cpu w count) in
+    let taken = taking-form w (operand_expr a) (count_expr cpu w count) (source-form a (register_source a s)) (count-form cpu w count) in
     let worked = lifted-append (shift_working operation w count) (storing a) (shift_working-form w count operation) (alu_storing-form Add a s) in
     lifted-append (taking w (operand_expr a) (count_expr cpu w count)) (shift_working operation w count ++ storing a) taken worked
 
@@ -234,7 +228,7 @@ shift-form cpu operation a count s =
 triple-form : (r : Reg) (a : Operand) (constant : ℕ) → is_general r ≡ true → is_register a ≡ true → are_lifted (triple_product r a constant) ≡ true
 triple-form r a constant g s =
     lifted-append (taking word_width (operand_expr a) (Const 16 constant)) (product_working word_width true ++ word_taking r 0 (product word_width))
-    (taking-form word_width (operand_expr a) (Const 16 constant) (source-form a (register-source a s)) refl) (rw g refl)
+    (taking-form word_width (operand_expr a) (Const 16 constant) (source-form a (register_source a s)) refl) (rw g refl)
 
 halves-form : (r : Reg) (low high : Expr) → is_general r ≡ true → is_lifted_expr low ≡ true → is_lifted_expr high ≡ true
     → are_lifted (Set (Half r Low) low ∷ Set (Half r High) high ∷ []) ≡ true
@@ -244,12 +238,26 @@ mov-form : (a b : Operand) → is_register a ≡ true → is_source b ≡ true �
 mov-form (Word r) (Word q) s t =
     let g = register-general q t in
     halves-form r (Get (Half q Low)) (Get (Half q High)) s (rw g refl) (rw g refl)
-mov-form (Word r) (Byte q half) s t = refl
-mov-form (Word r) (Seg number) s t = refl
-mov-form (Word r) (Mem w ea) s t = refl
+mov-form (Word r) (Byte q half) s t =
+    let g = register-general r s in
+    let h = half-general q half t in
+    rw (g, h) refl
+mov-form (Word r) (Seg number) s t = absurd (true≢false (sym t))
+mov-form (Word r) (Mem w ea) s t = absurd (true≢false (sym t))
 mov-form (Word r) (Constant w constant) s t = halves-form r (Const 8 (constant % 256)) (Const 8 (constant / 256)) s refl refl
-mov-form (Byte r half) b s t =
-    and_both (is_general r && is_lifted_expr (operand_expr b)) true (and_both (is_general r) (is_lifted_expr (operand_expr b)) s (source-form b t)) refl
+mov-form (Byte r half) (Word q) s t =
+    let g = half-general r half s in
+    let h = register-general q t in
+    rw (g, h) refl
+mov-form (Byte r half) (Byte q other) s t =
+    let g = half-general r half s in
+    let h = half-general q other t in
+    rw (g, h) refl
+mov-form (Byte r half) (Constant w constant) s t =
+    let g = half-general r half s in
+    rw g refl
+mov-form (Byte r half) (Seg number) s t = absurd (true≢false (sym t))
+mov-form (Byte r half) (Mem w ea) s t = absurd (true≢false (sym t))
 mov-form (Seg number) b s t = absurd (true≢false (sym s))
 mov-form (Mem w ea) b s t = absurd (true≢false (sym s))
 mov-form (Constant w constant) b s t = absurd (true≢false (sym s))
@@ -263,7 +271,23 @@ xchg-form (Byte r half) (Byte q other) s t =
     let g = half-general r half s in
     let h = half-general q other t in
     rw (g, h) refl
-xchg-form a b s t = refl
+xchg-form (Word r) (Byte q other) s t =
+    let g = register-general r s in
+    let h = half-general q other t in
+    rw (g, h) refl
+xchg-form (Byte r half) (Word q) s t =
+    let g = half-general r half s in
+    let h = register-general q t in
+    rw (g, h) refl
+xchg-form (Word r) (Seg number) s t = absurd (true≢false (sym t))
+xchg-form (Word r) (Mem w ea) s t = absurd (true≢false (sym t))
+xchg-form (Word r) (Constant w constant) s t = absurd (true≢false (sym t))
+xchg-form (Byte r half) (Seg number) s t = absurd (true≢false (sym t))
+xchg-form (Byte r half) (Mem w ea) s t = absurd (true≢false (sym t))
+xchg-form (Byte r half) (Constant w constant) s t = absurd (true≢false (sym t))
+xchg-form (Seg number) b s t = absurd (true≢false (sym s))
+xchg-form (Mem w ea) b s t = absurd (true≢false (sym s))
+xchg-form (Constant w constant) b s t = absurd (true≢false (sym s))
 
 dos-form : (number : Option ℕ) → are_lifted (dos_stmts number) ≡ true
 dos-form None = refl

@@ -19,7 +19,7 @@ use Rattle.dcc_prog.specs.declared.instr.Op.TheVariants.{Alu as AluOp, Shift as 
 use Rattle.dcc_prog.specs.declared.instr.Instr.{Instr}
 use Rattle.dcc_prog.specs.MzImage.{IsLoaded}
 use Rattle.dcc_prog.specs.Code.{code_of}
-use Rattle.dcc_prog.specs.Layout.{is_prelude_form, may_end_prelude, IsRun, end_of, ends_prelude, HasLayout}
+use Rattle.dcc_prog.specs.Layout.{is_prelude_form, may_end_prelude, IsRun, offset_after, ends_prelude, HasLayout}
 use Rattle.dcc_prog.specs.Trail.{code_within, instruction_in, next_of, known_ah, is_exit, op_successors, targets_of, instr_successors, successors, IsTrail, IsNode, start}
 use Rattle.dcc_prog.specs.FrameForm.{is_frame_form}
 use Rattle.dcc_prog.specs.Construct.{is_system, is_dos_number, HasAh, HasNoNumber, not_known, other_number, foreign, dos_number}
@@ -159,7 +159,7 @@ module _ (image : Image) (layout : Layout) (procs : List Proc) (are : IsOneFound
 
   -- a node at an instruction of a prelude leads to the last one, which is refused
   run-unreached :
-      (at : ℕ) (run : List Instr) → IsRun layout.cpu (code_of image) at run → end_of at run ≤ layout.code_end → end_of at run < 65536
+      (at : ℕ) (run : List Instr) → IsRun layout.cpu (code_of image) at run → offset_after at run ≤ layout.code_end → offset_after at run < 65536
       → 0 < length run → ends_prelude run ≡ true → ¬ IsNode image layout layout.start_ip at
   run-unreached at [] run within small some ends node = absurd (omega arith)
   run-unreached at (instr ∷ []) run within small some ends node =
@@ -169,7 +169,7 @@ module _ (image : Image) (layout : Layout) (procs : List Proc) (are : IsOneFound
         | inr unbuilt ↦ true≢false (sym unbuilt ∙ node-built at instr node here)
       ]
   run-unreached at (instr ∷ second ∷ rest) run within small some ends node =
-      let above : at + instr.len ≤ end_of (at + instr.len) (second ∷ rest) = run-above layout.cpu (code_of image) (second ∷ rest) (at + instr.len) run.1 in
+      let above : at + instr.len ≤ offset_after (at + instr.len) (second ∷ rest) = run-above layout.cpu (code_of image) (second ∷ rest) (at + instr.len) run.1 in
       let here : instruction_in image layout at ≡ Some instr = instruction-within image layout at instr run.0.found (omega (arith, above, within)) in
       let next : next_of at instr ≡ at + instr.len = let low : at + instr.len < 65536 = omega (arith, above, small) in mod-eq_of_lt low in
       let goes : successors image layout (at ∷ node.before) ≡ (at + instr.len) ∷ [] =
@@ -181,7 +181,7 @@ module _ (image : Image) (layout : Layout) (procs : List Proc) (are : IsOneFound
       (node-successor image layout layout.start_ip (at + instr.len) (at ∷ node.before) node.trail there)
 
   places-unreached :
-      (at : ℕ) (run : List Instr) (k : ℕ) → IsRun layout.cpu (code_of image) at run → end_of at run ≤ layout.code_end → end_of at run < 65536
+      (at : ℕ) (run : List Instr) (k : ℕ) → IsRun layout.cpu (code_of image) at run → offset_after at run ≤ layout.code_end → offset_after at run < 65536
       → ends_prelude run ≡ true → k < length run → ¬ IsNode image layout layout.start_ip (offset_in k run at)
   places-unreached at run zero is within small ends inside = run-unreached at run is within small (omega arith) ends
   places-unreached at [] (suc k) is within small ends inside = absurd (omega arith)

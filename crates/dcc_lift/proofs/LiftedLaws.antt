@@ -18,14 +18,14 @@ use Rattle.dcc_lift.specs.Statements.{op_stmts}
 use Rattle.dcc_lift.specs.Translation.{IsTranslation}
 use Rattle.dcc_lift.specs.Lifting.{IsLiftableProcedure}
 use Rattle.dcc_lift.specs.Lifted.{ShadowsMachine, IsAlwaysClean, MachineKeepsPace, steps_between, steps_at_start, IsLifted, IsLiftOf}
-use Rattle.dcc_lift.proofs.MirrorLaws.{values_fit}
-use Rattle.dcc_lift.proofs.OperationMirrors.{OthersMirror, op_mirrors, op_keeps, op_single, op_tested}
-use Rattle.dcc_lift.proofs.ShiftMirrors.{shift_op_mirrors}
-use Rattle.dcc_lift.proofs.ProductMirrors.{mul_op_mirrors, imul_op_mirrors, triple_op_mirrors, cbw_op_mirrors, cwd_op_mirrors}
-use Rattle.dcc_lift.proofs.StatementLaws.{op-well_formed, op-step}
+use Rattle.dcc_ops.proofs.SceneLaws.{values_fit}
+use Rattle.dcc_lift.proofs.OperationLaws.{op_keeps, op_single}
+use Rattle.dcc_lift.proofs.CoupledLaws.{op_mirrors, op_tested}
+use Rattle.dcc_lift.proofs.StatementLaws.{op-well_formed, op-are-set, op-step}
 use Rattle.dcc_lift.proofs.ProgramLaws.{translation-well_formed, translation-shallow}
 use Rattle.dcc_lift.proofs.FormLaws.{translation-form}
 use Rattle.dcc_lift.proofs.FlagCounts.{translation-few}
+use Rattle.dcc_lift.proofs.FlagReadLaws.{translation-reads}
 use Rattle.dcc_lift.proofs.TranslationLaws.{translation_framed}
 use Rattle.dcc_lift.proofs.ContractionLaws.{translation_has_blocks}
 use Rattle.dcc_lift.proofs.FoundSound.{found-liftable}
@@ -36,26 +36,15 @@ use Rattle.std.proofs.lemmas.List.Elements.{All-cons, All-nil}
 use Rattle.dcc_lift.proofs.EndsLaws.{never-stuck}
 use Rattle.dcc_lift.proofs.RunLaws.{run-shadows, always-clean, machine-paced}
 
--- shifts, products and sign extensions
-others : OthersMirror
-others = record {
-  shift = λ cpu s scene at number operation a count fits bits m well l. shift_op_mirrors cpu s scene at number operation a count fits bits m well l;
-  mul = mul_op_mirrors;
-  imul = imul_op_mirrors;
-  triple = triple_op_mirrors;
-  cbw = λ cpu s scene at number fits bits m. cbw_op_mirrors cpu s scene at number fits m;
-  cwd = λ cpu s scene at number fits bits m. cwd_op_mirrors cpu s scene at number fits m;
-}
-
 -- all operations that are lifted do what their statements do
 pub operations-lifted : AreLifted
 operations-lifted = record {
-  mirrors = op_mirrors others;
+  mirrors = λ cpu op number at s scene l well other bits fits m. op_mirrors cpu op number at s scene l well other bits fits m (op-are-set cpu op number l well other);
   fits = λ cpu op number scene l well other bits fits. values_fit (op_stmts cpu op number) scene
       (subst (λ b. list_all (is_stmt b) (op_stmts cpu op number) ≡ true) (sym bits) (op-well_formed cpu op number l well)) fits;
   keeps = op_keeps;
   single = op_single;
-  tested = λ cpu op number at s ah scene test l well other bits fits m e. op_tested cpu op number at s ah scene test m e;
+  tested = λ cpu op number at s ah scene test l well other bits fits m e. op_tested cpu op number at s scene l well other bits fits m (op-are-set cpu op number l well other) ah test e;
   runs = λ cpu op number graphs fill rest t l well other going. op-step cpu graphs fill op number rest t l well other going;
 }
 
@@ -89,6 +78,7 @@ module _ (image : Image) (layout : Layout) (procs : List Proc) (loaded : IsLoade
     well_formed = translation-well_formed image layout are.start p loaded has liftable translation;
     form = translation-form image layout are.start p liftable translation;
     flags = translation-few image layout are.start p liftable translation;
+    flag_reads = translation-reads image layout are.start p translation;
     shallow = translation-shallow image layout are.start p loaded has liftable translation;
     runs = shadows-machine;
     clean = runs-clean;

@@ -1,9 +1,8 @@
 -- How the mirror of the machine is kept by single writes, and how what statements read fits its widths.
-use Rattle.std.proofs.Common.{◌≡◌, ◌≢◌, ℕ, ◌+◌, ◌*◌, ◌/◌, ◌%◌, ◌^◌, ◌<◌, Bool, true, false, ◌&&◌, ◌==◌, List, [], ◌∷◌, ◌++◌, length, slice_index, refl, sym, ap, ◌∙◌, subst, arith, true≢false, eqb-true}
+use Rattle.std.proofs.Common.{◌≡◌, ◌≢◌, ℕ, ◌+◌, ◌*◌, ◌/◌, ◌%◌, ◌<◌, Bool, true, false, ◌&&◌, ◌==◌, List, length, slice_index, refl, sym, ap, ◌∙◌, arith, eqb-true}
 use Rattle.std.specs.Prelude.{if◌then◌else◌}
 use Rattle.std.specs.Int.{from_bool}
-use Rattle.std.specs.List.{list_all}
-use Rattle.std.proofs.lemmas.Bool.{and_parts, and_right, eqb-false}
+use Rattle.std.proofs.lemmas.Bool.{eqb-false}
 use Rattle.std.proofs.lemmas.Grind.{get_or-set_at}
 use Rattle.std.proofs.lemmas.List.{get_or-set_other, length-set}
 use Rattle.dcc_num.specs.declared.Reg.{Reg}
@@ -16,15 +15,10 @@ use Rattle.dcc_num.specs.declared.Flags.{Flags}
 use Rattle.dcc_prog.specs.declared.instr.Operand.TheVariants.{Byte}
 use Rattle.dcc_prog.specs.Machine.{State, reg_number, word_in, half_of_word, word_with_half, with_word_in, with_operand}
 use Rattle.dcc_prog.specs.Operations.{with_flags}
-use Rattle.dcc_prog.specs.Operands.{word_register}
-use Rattle.dcc_ir.specs.declared.syntax.Loc.{Loc}
-use Rattle.dcc_ir.specs.declared.syntax.Loc.TheVariants.{Half, Flag, Cell, Temp}
-use Rattle.dcc_ir.specs.Location.{register_number, half_number, flag_number, same_location, location_width, Values, with_value}
-use Rattle.dcc_ir.specs.Tree.{Stmt, Set, Fetch, Store, Div, Call, Dos}
-use Rattle.dcc_ir.specs.Value.{width_of, Scene, value_of, Fits}
-use Rattle.dcc_ir.specs.WellFormed.{is_location, is_expr, is_expr_of, is_stmt}
-use Rattle.dcc_ir.proofs.FitLaws.{value_fits}
-use Rattle.dcc_lift.specs.Mirrors.{is_general, Mirrors, executed}
+use Rattle.dcc_ir.specs.declared.syntax.Loc.TheVariants.{Half, Flag, Temp}
+use Rattle.dcc_ir.specs.Location.{register_number, half_number, Values, with_value}
+use Rattle.dcc_lift.specs.Mirrors.{is_general, Mirrors}
+use Rattle.dcc_ops.proofs.SceneLaws.{Alike, high_kept, low_kept, again_low, again_high}
 
 -- Registers.
 
@@ -71,74 +65,8 @@ mirrors_seen s values others halves flags m = record {
   overflow = sym (flags Of) ∙ m.overflow;
 }
 
--- two values that agree everywhere
-abbrev pub Alike : Values → Values → Type 0
-Alike values others = (location : Loc) → values location ≡ others location
-
 pub mirrors_alike : (s : State) (values others : Values) → Alike values others → Mirrors s values → Mirrors s others
 mirrors_alike s values others same m = mirrors_seen s values others (λ r h. same (Half r h)) (λ f. same (Flag f)) m
-
--- locations by their tests
-
-register_numbered : (r : Reg) → word_register (register_number r) ≡ r
-register_numbered Ax = refl
-register_numbered Cx = refl
-register_numbered Dx = refl
-register_numbered Bx = refl
-register_numbered Sp = refl
-register_numbered Bp = refl
-register_numbered Si = refl
-register_numbered Di = refl
-
-register_same : (q r : Reg) → (register_number q == register_number r) ≡ true → q ≡ r
-register_same q r t = sym (register_numbered q) ∙ ap word_register (eqb-true (register_number q) (register_number r) t) ∙ register_numbered r
-
-half_same : (h k : HalfName) → (half_number h == half_number k) ≡ true → h ≡ k
-half_same Low Low t = refl
-half_same High High t = refl
-half_same Low High t = absurd (true≢false (sym t))
-half_same High Low t = absurd (true≢false (sym t))
-
-flag_same : (f g : FlagName) → (flag_number f == flag_number g) ≡ true → f ≡ g
-flag_same Cf Cf t = refl
-flag_same Zf Zf t = refl
-flag_same Sf Sf t = refl
-flag_same Of Of t = refl
-flag_same Cf Zf t = absurd (true≢false (sym t))
-flag_same Cf Sf t = absurd (true≢false (sym t))
-flag_same Cf Of t = absurd (true≢false (sym t))
-flag_same Zf Cf t = absurd (true≢false (sym t))
-flag_same Zf Sf t = absurd (true≢false (sym t))
-flag_same Zf Of t = absurd (true≢false (sym t))
-flag_same Sf Cf t = absurd (true≢false (sym t))
-flag_same Sf Zf t = absurd (true≢false (sym t))
-flag_same Sf Of t = absurd (true≢false (sym t))
-flag_same Of Cf t = absurd (true≢false (sym t))
-flag_same Of Zf t = absurd (true≢false (sym t))
-flag_same Of Sf t = absurd (true≢false (sym t))
-
--- the test tells that two locations are one
-pub location_same : (a b : Loc) → same_location a b ≡ true → a ≡ b
-location_same (Half q h) (Half r k) t =
-    let both = and_parts (register_number q == register_number r) (half_number h == half_number k) t in
-    ap (λ x. Half x h) (register_same q r both.0) ∙ ap (Half r) (half_same h k both.1)
-location_same (Flag f) (Flag g) t = ap Flag (flag_same f g t)
-location_same (Cell m h) (Cell n k) t =
-    let both = and_parts (m == n) (half_number h == half_number k) t in
-    ap (λ x. Cell x h) (eqb-true m n both.0) ∙ ap (Cell n) (half_same h k both.1)
-location_same (Temp m) (Temp n) t = ap Temp (eqb-true m n t)
-location_same (Half q h) (Flag g) t = absurd (true≢false (sym t))
-location_same (Half q h) (Cell n k) t = absurd (true≢false (sym t))
-location_same (Half q h) (Temp n) t = absurd (true≢false (sym t))
-location_same (Flag f) (Half r k) t = absurd (true≢false (sym t))
-location_same (Flag f) (Cell n k) t = absurd (true≢false (sym t))
-location_same (Flag f) (Temp n) t = absurd (true≢false (sym t))
-location_same (Cell m h) (Half r k) t = absurd (true≢false (sym t))
-location_same (Cell m h) (Flag g) t = absurd (true≢false (sym t))
-location_same (Cell m h) (Temp n) t = absurd (true≢false (sym t))
-location_same (Temp m) (Half r k) t = absurd (true≢false (sym t))
-location_same (Temp m) (Flag g) t = absurd (true≢false (sym t))
-location_same (Temp m) (Cell n k) t = absurd (true≢false (sym t))
 
 -- the half that was written
 pub half_taken : (values : Values) (q r : Reg) (h : HalfName) (v : ℕ) → (register_number q == register_number r) ≡ true → with_value values (Half r h) v (Half q h) ≡ v
@@ -148,13 +76,6 @@ half_taken values q r High v e = ap (λ b. if b && true then v else values (Half
 -- a half of another register
 pub half_other : (values : Values) (q r : Reg) (h k : HalfName) (v : ℕ) → (register_number q == register_number r) ≡ false → with_value values (Half r h) v (Half q k) ≡ values (Half q k)
 half_other values q r h k v e = ap (λ b. if b && (half_number k == half_number h) then v else values (Half q k)) e
-
--- the other half
-pub high_kept : (values : Values) (q r : Reg) (v : ℕ) → with_value values (Half r Low) v (Half q High) ≡ values (Half q High)
-high_kept values q r v = ap (λ b. if b then v else values (Half q High)) (and_right (register_number q == register_number r) false refl)
-
-pub low_kept : (values : Values) (q r : Reg) (v : ℕ) → with_value values (Half r High) v (Half q Low) ≡ values (Half q Low)
-low_kept values q r v = ap (λ b. if b then v else values (Half q Low)) (and_right (register_number q == register_number r) false refl)
 
 -- Temporaries and flags.
 
@@ -230,24 +151,6 @@ mirrors_word s values r v l h e m = record {
 
 -- Halves.
 
--- writing again what the other half holds changes nothing
-again_low : (values : Values) (r : Reg) (v : ℕ) → Alike (with_value (with_value values (Half r Low) v) (Half r High) (values (Half r High))) (with_value values (Half r Low) v)
-again_low values r v location =
-    elim (same_location location (Half r High)) as
-    (λ b. same_location location (Half r High) ≡ b → (if b then values (Half r High) else with_value values (Half r Low) v location)
-    ≡ with_value values (Half r Low) v location) [
-      | true ↦ λ t. sym (ap (with_value values (Half r Low) v) (location_same location (Half r High) t) ∙ high_kept values r r v)
-      | false ↦ λ _. refl
-    ] refl
-
-again_high : (values : Values) (r : Reg) (v : ℕ) → Alike (with_value (with_value values (Half r Low) (values (Half r Low))) (Half r High) v) (with_value values (Half r High) v)
-again_high values r v location =
-    ap (λ n. if same_location location (Half r High) then v else n)
-    (elim (same_location location (Half r Low)) as (λ b. same_location location (Half r Low) ≡ b → (if b then values (Half r Low) else values location) ≡ values location) [
-      | true ↦ λ t. ap values (sym (location_same location (Half r Low) t))
-      | false ↦ λ _. refl
-    ] refl)
-
 -- one byte of a word register takes a byte; the bound is that of the low half, as it was
 pub mirrors_half : (s : State) (values : Values) (r : Reg) (h : HalfName) (v : ℕ) → is_general r ≡ true → values (Half r Low) < 256 → Mirrors s values
     → Mirrors (with_operand s (Byte r h) v) (with_value values (Half r h) v)
@@ -264,54 +167,3 @@ word_low s values r g small m = ap (λ k. k % 256) (m.words r g) ∙ omega (arit
 
 pub word_high : (s : State) (values : Values) (r : Reg) → is_general r ≡ true → values (Half r Low) < 256 → Mirrors s values → half_of_word High (word_in s r) ≡ values (Half r High)
 word_high s values r g small m = ap (λ k. k / 256) (m.words r g) ∙ omega (arith, small)
-
--- Statements that set locations.
-
-pub executed_append : (first rest : List Stmt) (scene : Scene) → executed (first ++ rest) scene ≡ executed rest (executed first scene)
-executed_append [] rest scene = refl
-executed_append (Set location e ∷ first) rest scene = executed_append first rest (record scene { values = with_value scene.values location (value_of scene e) })
-executed_append (Fetch location width address ∷ first) rest scene = executed_append first rest scene
-executed_append (Store width address e ∷ first) rest scene = executed_append first rest scene
-executed_append (Div location e ∷ first) rest scene = executed_append first rest scene
-executed_append (Call results entry arguments depth ∷ first) rest scene = executed_append first rest scene
-executed_append (Dos number place argument ∷ first) rest scene = executed_append first rest scene
-
--- a location takes a value of its width
-pub fits_taking : (scene : Scene) (location : Loc) (v : ℕ) → v < 2 ^ location_width scene.bits location → Fits scene → Fits (record scene { values = with_value scene.values location v })
-fits_taking scene location v small fits = record {
-  values = λ other. elim (same_location other location) as (λ b. same_location other location ≡ b → (if b then v else scene.values other) < 2 ^ location_width scene.bits other) [
-    | true ↦ λ t. subst (λ place. v < 2 ^ location_width scene.bits place) (sym (location_same other location t)) small
-    | false ↦ λ _. fits.values other
-  ] refl;
-  len = fits.len;
-  bytes = fits.bytes;
-}
-
--- statements that are well formed keep what they read within its widths
-pub executed_fits : (stmts : List Stmt) (scene : Scene) → list_all (is_stmt scene.bits) stmts ≡ true → Fits scene → Fits (executed stmts scene)
-executed_fits [] scene ok fits = fits
-executed_fits (Set location e ∷ rest) scene ok fits =
-    let all = and_parts (is_stmt scene.bits (Set location e)) (list_all (is_stmt scene.bits) rest) ok in
-    let one = and_parts (is_location scene.bits location) (is_expr_of scene.bits (location_width scene.bits location) e) all.0 in
-    let two = and_parts (is_expr scene.bits e) (width_of scene.bits e == location_width scene.bits location) one.1 in
-    let small : value_of scene e < 2 ^ location_width scene.bits location
-    = subst (λ n. value_of scene e < 2 ^ n) (eqb-true (width_of scene.bits e) (location_width scene.bits location) two.1) (value_fits scene fits e two.0) in
-    executed_fits rest (record scene { values = with_value scene.values location (value_of scene e) }) all.1 (fits_taking scene location (value_of scene e) small fits)
-executed_fits (Fetch location width address ∷ rest) scene ok fits = executed_fits rest scene (and_parts _ (list_all (is_stmt scene.bits) rest) ok).1 fits
-executed_fits (Store width address e ∷ rest) scene ok fits = executed_fits rest scene (and_parts _ (list_all (is_stmt scene.bits) rest) ok).1 fits
-executed_fits (Div location e ∷ rest) scene ok fits = executed_fits rest scene (and_parts _ (list_all (is_stmt scene.bits) rest) ok).1 fits
-executed_fits (Call results entry arguments depth ∷ rest) scene ok fits = executed_fits rest scene (and_parts _ (list_all (is_stmt scene.bits) rest) ok).1 fits
-executed_fits (Dos number place argument ∷ rest) scene ok fits = executed_fits rest scene (and_parts _ (list_all (is_stmt scene.bits) rest) ok).1 fits
-
--- they change nothing but values
-pub executed_values : (stmts : List Stmt) (scene : Scene) → executed stmts scene ≡ record scene { values = (executed stmts scene).values }
-executed_values [] scene = refl
-executed_values (Set location e ∷ rest) scene = executed_values rest (record scene { values = with_value scene.values location (value_of scene e) })
-executed_values (Fetch location width address ∷ rest) scene = executed_values rest scene
-executed_values (Store width address e ∷ rest) scene = executed_values rest scene
-executed_values (Div location e ∷ rest) scene = executed_values rest scene
-executed_values (Call results entry arguments depth ∷ rest) scene = executed_values rest scene
-executed_values (Dos number place argument ∷ rest) scene = executed_values rest scene
-
-pub values_fit : (stmts : List Stmt) (scene : Scene) → list_all (is_stmt scene.bits) stmts ≡ true → Fits scene → Fits (record scene { values = (executed stmts scene).values })
-values_fit stmts scene ok fits = subst Fits (executed_values stmts scene) (executed_fits stmts scene ok fits)

@@ -29,7 +29,7 @@ use Rattle.dcc_prog.specs.WellFormed.{IsOperation}
 use Rattle.dcc_prog.proofs.MzImageLaws.{word_at-lt}
 use Rattle.dcc_prog.proofs.PreludeSteps.{executed, state_after-is}
 use Rattle.dcc_prog.proofs.WellFormedLaws.{AreBytes, instruction-operation}
-use Rattle.dcc_lift.proofs.SumValues.{sum_below, difference_below}
+use Rattle.dcc_ops.proofs.SumValues.{sum_below, difference_below}
 use Rattle.dcc_lift.proofs.CodeBounds.{bytes-dropped, whole-bytes, loaded-bytes}
 
 -- Lists of words.

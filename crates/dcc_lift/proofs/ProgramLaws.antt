@@ -20,7 +20,7 @@ use Rattle.dcc_ir.specs.Tree.{Expr, Exit, Goto, If, Stop, Block, Graph, Program}
 use Rattle.dcc_ir.specs.WellFormed.{is_expr_of, is_stmt, is_exit, is_block, jumps_after_call, all_differ, ret_widths, all_ret_widths, is_param_list, memory_params_last, IsCalling, IsGraph, IsProgram}
 use Rattle.dcc_ir.specs.Use.{exprs_of, exit_exprs, block_exprs}
 use Rattle.dcc_ir.specs.Measure.{depth_of}
-use Rattle.dcc_lift.specs.Temporaries.{temporary_bits}
+use Rattle.dcc_ops.specs.Temporaries.{temporary_bits}
 use Rattle.dcc_lift.specs.Blocks.{Nodes, node_in, node_stmts, successors_in, block_place, stmts_at, exit_at, last_of, leaders, IsBlockAt}
 use Rattle.dcc_lift.specs.Translation.{prelude_block, data_image, IsTranslation}
 use Rattle.dcc_lift.specs.Lifted.{IsShallow}

@@ -23,24 +23,17 @@ use Rattle.dcc_ir.specs.declared.syntax.Loc.TheVariants.{Half}
 use Rattle.dcc_ir.specs.Tree.{Expr, Stmt, Graph}
 use Rattle.dcc_ir.specs.Value.{Scene, value_of, Fits}
 use Rattle.dcc_ir.specs.Run.{State as Inner, scene_of, value_in, block_step}
-use Rattle.dcc_lift.specs.Temporaries.{temporary_bits}
+use Rattle.dcc_ops.specs.Temporaries.{temporary_bits}
 use Rattle.dcc_lift.specs.Statements.{op_stmts, op_test}
 use Rattle.dcc_lift.specs.Mirrors.{Mirrors, executed}
 use Rattle.dcc_lift.specs.Liftable.{is_liftable}
 use Rattle.dcc_lift.specs.Blocks.{Nodes, node_in, node_stmts}
 use Rattle.dcc_lift.proofs.StatementLaws.{after_sets}
-use Rattle.dcc_lift.proofs.MirrorLaws.{executed_values}
+use Rattle.dcc_ops.proofs.SceneLaws.{executed_values}
+use Rattle.dcc_lift.proofs.OperationLaws.{KeepsRest}
 use Rattle.dcc_lift.proofs.AhLaws.{ah-after}
 
 -- What operations do, each by itself.
-
--- a step leaves memory, segments, input, events and end
-pub record KeepsRest (s t : Machine) : Type 0 where
-  pub memory : t.memory ≡ s.memory
-  pub segs : t.segs ≡ s.segs
-  pub input : t.input ≡ s.input
-  pub events : t.events ≡ s.events
-  pub end : t.end ≡ s.end
 
 -- of all operations but INT 21h that are lifted: what their statements do, and where they go
 pub record AreLifted : Type 0 where
@@ -209,7 +202,7 @@ module _ (laws : AreLifted) (image : Image) (layout : Layout) (graph : Graph) (n
           events = both.events ∙ sym (ap (λ u. u.events) stepped ∙ rest.events);
           bytes = subst (All (λ byte. byte < 256)) (sym (ap (λ u. u.input) stepped ∙ rest.input)) both.bytes;
           ah = λ n e.
-              ah-after layout.cpu node.instr node.number (scene_of t) (known_ah image layout before) other both.ah n
+              ah-after layout.cpu node.instr node.number (scene_of t) (known_ah image layout before) is.liftable other both.ah n
               (sym (ap (λ found. ah_after found (known_ah image layout before)) is.stands) ∙ e);
         }
 

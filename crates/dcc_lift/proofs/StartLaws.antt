@@ -30,11 +30,11 @@ use Rattle.dcc_ir.specs.Location.{Values, location_width, filled}
 use Rattle.dcc_ir.specs.Tree.{Block, Graph, Program}
 use Rattle.dcc_ir.specs.Value.{Scene, Fits}
 use Rattle.dcc_ir.specs.Run.{State as Inner, scene_of, activation, no_graph, first_memory, first_state, going_to, block_step, step as inner_step}
-use Rattle.dcc_lift.specs.Temporaries.{temporary_bits}
+use Rattle.dcc_ops.specs.Temporaries.{temporary_bits}
 use Rattle.dcc_lift.specs.Mirrors.{is_general, Mirrors, executed}
 use Rattle.dcc_lift.specs.Blocks.{block_place}
 use Rattle.dcc_lift.specs.Translation.{data_image, prelude_block, IsTranslation}
-use Rattle.dcc_lift.proofs.MirrorLaws.{values_fit}
+use Rattle.dcc_ops.proofs.SceneLaws.{values_fit}
 use Rattle.dcc_lift.proofs.TranslationLaws.{the_graph, graphs_are}
 use Rattle.dcc_lift.proofs.StatementLaws.{well_formed, prelude-sound, prelude-sets, after_sets, sets-step}
 use Rattle.dcc_lift.proofs.CodeBounds.{loaded-placed, bytes-taken, bytes-dropped, loaded-bytes}

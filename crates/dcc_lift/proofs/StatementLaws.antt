@@ -23,7 +23,7 @@ use Rattle.dcc_num.specs.Numbers.{bits_of, limit_of}
 use Rattle.dcc_prog.specs.declared.instr.Alu.{Alu}
 use Rattle.dcc_prog.specs.declared.instr.Alu.TheVariants.{Add, Or, Adc, Sbb, And, Sub, Xor, Cmp, Test}
 use Rattle.dcc_prog.specs.declared.instr.Shift.{Shift}
-use Rattle.dcc_prog.specs.declared.instr.Shift.TheVariants.{Rol, Ror, Rcl, Rcr, Shl, Shr, Sar}
+use Rattle.dcc_prog.specs.declared.instr.Shift.TheVariants.{Rol}
 use Rattle.dcc_prog.specs.declared.instr.Count.{Count}
 use Rattle.dcc_prog.specs.declared.instr.Count.TheVariants.{One, Cl, Const as ConstCount}
 use Rattle.dcc_prog.specs.declared.instr.Unary.{Unary}
@@ -47,7 +47,7 @@ use Rattle.dcc_ir.specs.WellFormed.{is_location, is_expr_of, is_stmt, is_jump, j
 use Rattle.dcc_ir.specs.Use.{exprs_of}
 use Rattle.dcc_ir.specs.Run.{State, is_call, scene_of, value_in, setting, block_step}
 use Rattle.dcc_ir.specs.Measure.{depth_of}
-use Rattle.dcc_lift.specs.Temporaries.{temporary_bits}
+use Rattle.dcc_ops.specs.Temporaries.{temporary_bits}
 use Rattle.dcc_lift.specs.Expressions.{operand_expr, product, count_expr, condition, goes_round, flag, negated, is_zero, word_of}
 use Rattle.dcc_lift.specs.Statements.{taking, word_taking, storing, alu_working, alu_storing, alu_stmts, product_working, triple_product, unary_stmts, shift_working, staying, shifting, shift_stmts, mov_stmts, xchg_stmts, plain_stmts, dos_stmts, op_stmts, op_test}
 use Rattle.dcc_lift.specs.Form.{is_general}
@@ -55,6 +55,7 @@ use Rattle.dcc_lift.specs.Mirrors.{executed}
 use Rattle.dcc_lift.specs.Liftable.{is_register, is_source, is_lifted_unary, is_liftable}
 use Rattle.dcc_lift.specs.Blocks.{Nodes}
 use Rattle.dcc_lift.specs.Translation.{general_registers, register_starting, flag_starting, flags_starting, prelude_block}
+use Rattle.dcc_ops.proofs.CouplingLaws.{is_set}
 use Rattle.dcc_lift.proofs.ListTests.{of_either}
 
 -- Tests.
@@ -298,15 +299,19 @@ halves-sound r low high p q =
     rw low_below (rw high_below refl)
 
 byte_mov-sound : (r : Reg) (half : HalfName) (b : Operand) → is_source b ≡ true → AreOperands (Byte r half) b → are_sound (mov_stmts (Byte r half) b) ≡ true
-byte_mov-sound r half b s well =
-    let sound = subst (λ v. is_sound_expr 2 (bits_of v) (operand_expr b) ≡ true) (sym well.widths) (source-sound b s well.second) in
-    both (is_sound_expr 7 8 (operand_expr b)) true (deeper 8 (operand_expr b) sound) refl
+byte_mov-sound r half (Byte q other) s well = refl
+byte_mov-sound r half (Constant w constant) s well =
+    let sound = subst (λ v. is_sound_expr 2 (bits_of v) (Const (bits_of w) constant) ≡ true) (sym well.widths) (source-sound (Constant w constant) s well.second) in
+    both (is_sound_expr 7 8 (Const (bits_of w) constant)) true (deeper 8 (Const (bits_of w) constant) sound) refl
+byte_mov-sound r half (Word q) s well = absurd (let clash = well.widths in cc)
+byte_mov-sound r half (Seg number) s well = absurd (true≢false (sym s))
+byte_mov-sound r half (Mem w ea) s well = absurd (true≢false (sym s))
 
 mov-sound : (a b : Operand) → is_register a ≡ true → is_source b ≡ true → AreOperands a b → are_sound (mov_stmts a b) ≡ true
 mov-sound (Word r) (Word q) s t well = refl
-mov-sound (Word r) (Byte q half) s t well = refl
-mov-sound (Word r) (Seg number) s t well = refl
-mov-sound (Word r) (Mem w ea) s t well = refl
+mov-sound (Word r) (Byte q half) s t well = absurd (let clash = well.widths in cc)
+mov-sound (Word r) (Seg number) s t well = absurd (true≢false (sym t))
+mov-sound (Word r) (Mem w ea) s t well = absurd (true≢false (sym t))
 mov-sound (Word r) (Constant w constant) s t well =
     let fits : constant < limit_of word_width = subst (λ v. constant < limit_of v) (sym well.widths) well.second in
     halves-sound r (constant % 256) (constant / 256) (omega arith) (omega (arith, fits))
@@ -315,10 +320,20 @@ mov-sound (Seg number) b s t well = absurd (true≢false (sym s))
 mov-sound (Mem w ea) b s t well = absurd (true≢false (sym s))
 mov-sound (Constant w constant) b s t well = absurd (true≢false (sym s))
 
-xchg-sound : (a b : Operand) → are_sound (xchg_stmts a b) ≡ true
-xchg-sound (Word r) (Word q) = refl
-xchg-sound (Byte r half) (Byte q other) = refl
-xchg-sound a b = refl
+xchg-sound : (a b : Operand) → is_register a ≡ true → is_register b ≡ true → AreOperands a b → are_sound (xchg_stmts a b) ≡ true
+xchg-sound (Word r) (Word q) s t well = refl
+xchg-sound (Byte r half) (Byte q other) s t well = refl
+xchg-sound (Word r) (Byte q other) s t well = absurd (let clash = well.widths in cc)
+xchg-sound (Byte r half) (Word q) s t well = absurd (let clash = well.widths in cc)
+xchg-sound (Word r) (Seg number) s t well = absurd (true≢false (sym t))
+xchg-sound (Word r) (Mem w ea) s t well = absurd (true≢false (sym t))
+xchg-sound (Word r) (Constant w constant) s t well = absurd (true≢false (sym t))
+xchg-sound (Byte r half) (Seg number) s t well = absurd (true≢false (sym t))
+xchg-sound (Byte r half) (Mem w ea) s t well = absurd (true≢false (sym t))
+xchg-sound (Byte r half) (Constant w constant) s t well = absurd (true≢false (sym t))
+xchg-sound (Seg number) b s t well = absurd (true≢false (sym s))
+xchg-sound (Mem w ea) b s t well = absurd (true≢false (sym s))
+xchg-sound (Constant w constant) b s t well = absurd (true≢false (sym s))
 
 -- all operations but INT 21h
 pub op-sound : (cpu : Cpu) (op : Op) (number : Option ℕ) → is_liftable op ≡ true → IsOperation op → ¬ (op ≡ Int21) → are_sound (op_stmts cpu op number) ≡ true
@@ -332,7 +347,8 @@ op-sound cpu (Enter count) number lifted well other = refl
 op-sound cpu Leave number lifted well other = refl
 op-sound cpu (Mov a b) number lifted well other =
     let places = parts (is_register a) (is_source b) lifted in mov-sound a b places.0 places.1 well
-op-sound cpu (Xchg a b) number lifted well other = xchg-sound a b
+op-sound cpu (Xchg a b) number lifted well other =
+    let places = parts (is_register a) (is_register b) lifted in xchg-sound a b places.0 places.1 well
 op-sound cpu (Lea r ea) number lifted well other = refl
 op-sound cpu (Push a) number lifted well other = refl
 op-sound cpu (Pop a) number lifted well other = refl
@@ -500,6 +516,14 @@ are_sound-sets (Set location e ∷ stmts) h =
 are_sound-sets (stmt ∷ stmts) h = absurd (true≢false (sym h))
 
 -- all operations but INT 21h
+are_sound-set : (stmts : List Stmt) → are_sound stmts ≡ true → list_all is_set stmts ≡ true
+are_sound-set [] h = refl
+are_sound-set (Set location e ∷ stmts) h = are_sound-set stmts (parts (is_sound (Set location e)) (are_sound stmts) h).1
+are_sound-set (stmt ∷ stmts) h = absurd (true≢false (sym h))
+
+pub op-are-set : (cpu : Cpu) (op : Op) (number : Option ℕ) → is_liftable op ≡ true → IsOperation op → ¬ (op ≡ Int21) → list_all is_set (op_stmts cpu op number) ≡ true
+op-are-set cpu op number lifted well other = are_sound-set (op_stmts cpu op number) (op-sound cpu op number lifted well other)
+
 pub op-sets : (cpu : Cpu) (op : Op) (number : Option ℕ) → is_liftable op ≡ true → IsOperation op → ¬ (op ≡ Int21) → All IsSet (op_stmts cpu op number)
 op-sets cpu op number lifted well other = are_sound-sets (op_stmts cpu op number) (op-sound cpu op number lifted well other)
 

@@ -7,7 +7,7 @@ use Rattle.dcc_ir.specs.Tree.{Graph, Program}
 use Rattle.dcc_ir.specs.Flow.{flow_of, flow_at, graph_or_none}
 use Rattle.dcc_ir.specs.Run.{graph_at}
 use Rattle.dcc_ir.specs.Keeps.{has_block}
-use Rattle.dcc_lift.specs.Temporaries.{temporary_bits}
+use Rattle.dcc_ops.specs.Temporaries.{temporary_bits}
 use Rattle.dcc_lift.specs.Blocks.{block_place}
 use Rattle.dcc_lift.specs.Sound.{AreSound}
 use Rattle.dcc_lift.specs.Translation.{data_image, prelude_block, IsTranslation}

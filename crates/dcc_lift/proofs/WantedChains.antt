@@ -26,7 +26,7 @@ use Rattle.dcc_lift.proofs.NodeLaws.{is_node, node_in_some, node_in_has}
 use Rattle.dcc_lift.proofs.ChainLaws.{is_leader, has_successor, onward_tells, last_goes_to_leaders, leader_node, sole}
 use Rattle.dcc_lift.proofs.BlockLaws.{blocks_stand, block_is, HasBlock, IsExitOf, stops, goes as goes_on, parts, targets_at, exit_forms}
 use Rattle.dcc_lift.proofs.Standing.{IsInstruction}
-use Rattle.dcc_lift.proofs.MirrorLaws.{location_same}
+use Rattle.dcc_ops.proofs.SceneLaws.{location_same}
 use Rattle.dcc_lift.proofs.TranslationLaws.{the_graph, graphs_are, block_at_leader}
 use Rattle.dcc_lift.proofs.WantedStatements.{alone, WantedWith, WantedAtEnd, counted, led, location_itself, location_contained, contained_location, no_location}
 use Rattle.dcc_lift.proofs.WantedMakes.{is_same, place_same, comes_from}

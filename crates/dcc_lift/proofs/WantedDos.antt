@@ -15,7 +15,7 @@ use Rattle.dcc_ir.proofs.PathLaws.{decided, clash}
 use Rattle.dcc_lift.specs.Statements.{dos_stmts}
 use Rattle.dcc_lift.specs.Demand.{place_of}
 use Rattle.dcc_lift.proofs.ListTests.{or_cases, or_here}
-use Rattle.dcc_lift.proofs.MirrorLaws.{location_same}
+use Rattle.dcc_ops.proofs.SceneLaws.{location_same}
 use Rattle.dcc_lift.proofs.Standing.{is_lifted_number}
 use Rattle.dcc_lift.proofs.WantedStatements.{WantedWith, contained_location, one_location, no_location}
 use Rattle.dcc_lift.proofs.WantedMakes.{is_same, place_same}

@@ -17,7 +17,7 @@ use Rattle.dcc_lift.specs.Blocks.{Nodes}
 use Rattle.dcc_lift.specs.Demand.{place_of}
 use Rattle.dcc_lift.proofs.ListTests.{and_left, and_right, or_cases, not_true}
 use Rattle.dcc_lift.proofs.Standing.{is_lifted_number, IsInstruction}
-use Rattle.dcc_lift.proofs.MirrorLaws.{location_same}
+use Rattle.dcc_ops.proofs.SceneLaws.{location_same}
 use Rattle.dcc_lift.proofs.WantedStatements.{before, alone, before_weaker, known_after, known_stays, known_read, wanted_known, WantedWith, leads}
 use Rattle.dcc_lift.proofs.WantedMakes.{is_same, comes_from}
 use Rattle.dcc_lift.proofs.WantedOperations.{agrees, is_visible, sets, reads_test, test_known, tests_known, uses_agree}

@@ -21,13 +21,13 @@ use Rattle.dcc_ir.specs.declared.syntax.Loc.{Loc}
 use Rattle.dcc_ir.specs.declared.syntax.Loc.TheVariants.{Half, Flag, Temp}
 use Rattle.dcc_ir.specs.Location.{register_number, half_number, flag_number, same_location}
 use Rattle.dcc_ir.specs.Tree.{Expr}
-use Rattle.dcc_lift.specs.Temporaries.{left_place, right_place, result_place}
+use Rattle.dcc_ops.specs.Temporaries.{left_place, right_place, result_place, carry_place}
 use Rattle.dcc_lift.specs.Expressions.{operand_expr}
 use Rattle.dcc_lift.specs.Statements.{taking, storing, alu_working, alu_storing, alu_stmts}
 use Rattle.dcc_lift.specs.Liftable.{is_register, is_source}
 use Rattle.dcc_lift.specs.Demand.{place_of}
 use Rattle.dcc_lift.proofs.ListTests.{or_none}
-use Rattle.dcc_lift.proofs.OperandMirrors.{register_source}
+use Rattle.dcc_ops.proofs.MovePerformed.{register_source}
 use Rattle.dcc_lift.proofs.WantedStatements.{reads, before, alone, before_both}
 
 -- Locations.
@@ -95,6 +95,9 @@ no_right to word_width = no_temporary to 4
 pub no_result : (to : Location) (w : Width) → alone (place_of to) (result_place w) ≡ false
 no_result to byte_width = no_temporary to 2
 no_result to word_width = no_temporary to 5
+
+pub no_carry : (to : Location) → alone (place_of to) carry_place ≡ false
+no_carry to = no_temporary to 7
 
 -- Operands.
 
@@ -197,6 +200,13 @@ stored_right (Constant width c) w g = absurd (true≢false (sym g))
 stored_right (Seg n) w g = absurd (true≢false (sym g))
 stored_right (Mem width ea) w g = absurd (true≢false (sym g))
 
+pub stored_carry : (a : Operand) (w : Loc → Bool) → before (storing a) w carry_place ≡ w carry_place
+stored_carry (Word r) w = refl
+stored_carry (Byte r half) w = refl
+stored_carry (Constant width c) w = refl
+stored_carry (Seg n) w = refl
+stored_carry (Mem width ea) w = refl
+
 -- Operations on two operands.
 
 -- some flag of which the operation makes no constant
@@ -221,10 +231,10 @@ alu_half byte_width Add u s k = refl
 alu_half word_width Add u s k = refl
 alu_half _ _ u s k = refl
 
-alu_flag : (operation : Alu) (w : Width) (u : Loc → Bool) (f : FlagName)
+alu_flag : (operation : Alu) (w : Width) (u : Loc → Bool) (f : FlagName) → u carry_place ≡ false
     → before (alu_working operation w) u (Flag f) ≡ (takes_carry operation && (is_flag Cf (flag_of f) && (made_flags (is_logic operation) u || u (result_place w))))
-alu_flag Add byte_width u Cf = grind arith
-alu_flag _ _ u _ = grind arith
+alu_flag Add byte_width u Cf e = grind arith
+alu_flag _ _ u _ e = grind arith
 
 -- what they leave
 
@@ -254,6 +264,11 @@ alu_stored_right : (operation : Alu) (a : Operand) (to : Location) → is_regist
 alu_stored_right Cmp a to g = no_right to (operand_width a)
 alu_stored_right Test a to g = no_right to (operand_width a)
 alu_stored_right _ a to g = stored_right a (alone (place_of to)) g ∙ no_right to (operand_width a)
+
+alu_stored_carry : (operation : Alu) (a : Operand) (to : Location) → before (alu_storing operation a) (alone (place_of to)) carry_place ≡ false
+alu_stored_carry Cmp a to = no_carry to
+alu_stored_carry Test a to = no_carry to
+alu_stored_carry _ a to = stored_carry a (alone (place_of to)) ∙ no_carry to
 
 -- what is made of the operands
 alu_made : (to : Location) (operation : Alu) (a : Operand) (u : Loc → Bool) → ((f : FlagName) → u (Flag f) ≡ is_same (flag_of f) to)
@@ -298,7 +313,7 @@ module _ (operation : Alu) (a : Operand) (to : Location) (g : is_register a ≡ 
   alu_after_flag : (f : FlagName) → alu_after (Flag f) ≡ (takes_carry operation && (is_flag Cf (flag_of f) && alu_makes operation a to))
   alu_after_flag f =
       before_both (alu_working operation (operand_width a)) (alu_storing operation a) (alone (place_of to)) (Flag f)
-      ∙ alu_flag operation (operand_width a) (before (alu_storing operation a) (alone (place_of to))) f
+      ∙ alu_flag operation (operand_width a) (before (alu_storing operation a) (alone (place_of to))) f (alu_stored_carry operation a to)
       ∙ ap (λ b. takes_carry operation && (is_flag Cf (flag_of f) && b)) alu_result_made
 
 -- a location is wanted before an operation where something is made of it, or where it is left

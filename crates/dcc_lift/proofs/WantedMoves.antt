@@ -23,8 +23,8 @@ use Rattle.dcc_lift.specs.Liftable.{is_register, is_source, is_lifted_plain}
 use Rattle.dcc_lift.specs.Mirrors.{is_general}
 use Rattle.dcc_lift.specs.Demand.{place_of}
 use Rattle.dcc_lift.proofs.WantedStatements.{reads, before, alone, before_both}
-use Rattle.dcc_lift.proofs.MirrorLaws.{location_same}
-use Rattle.dcc_lift.proofs.OperandMirrors.{register_source}
+use Rattle.dcc_ops.proofs.SceneLaws.{location_same}
+use Rattle.dcc_ops.proofs.MovePerformed.{register_source}
 use Rattle.dcc_lift.proofs.ListTests.{and_false}
 use Rattle.dcc_lift.proofs.WantedMakes.{is_same, and_true, place_same, stored_half_low, stored_half_high, turned, registers, registers_turned, halves, halves_turned, equal_both, no_temporary, operand_reads, stored_result, stored_half, comes_from}
 

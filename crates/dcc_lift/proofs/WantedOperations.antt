@@ -149,20 +149,35 @@ triple_set r (Seg n) constant g = absurd (true≢false (sym g))
 triple_set r (Mem width ea) constant g = absurd (true≢false (sym g))
 triple_set r (Constant width c) constant g = absurd (true≢false (sym g))
 
-mov_set : (a b : Operand) → is_source b ≡ true → sets_first (mov_stmts a b) is_visible ≡ true
-mov_set (Word r) (Word q) h = refl
-mov_set (Word r) (Constant width c) h = refl
-mov_set (Byte r half) (Word q) h = refl
-mov_set (Byte r half) (Byte q other) h = refl
-mov_set (Byte r half) (Constant width c) h = refl
-mov_set (Byte r half) (Seg n) h = absurd (true≢false (sym h))
-mov_set (Byte r half) (Mem width ea) h = absurd (true≢false (sym h))
-mov_set _ _ h = refl
+mov_set : (a b : Operand) → is_register a ≡ true → is_source b ≡ true → sets_first (mov_stmts a b) is_visible ≡ true
+mov_set (Word r) (Word q) g h = refl
+mov_set (Word r) (Byte q other) g h = refl
+mov_set (Word r) (Constant width c) g h = refl
+mov_set (Byte r half) (Word q) g h = refl
+mov_set (Byte r half) (Byte q other) g h = refl
+mov_set (Byte r half) (Constant width c) g h = refl
+mov_set (Word r) (Seg n) g h = absurd (true≢false (sym h))
+mov_set (Word r) (Mem width ea) g h = absurd (true≢false (sym h))
+mov_set (Byte r half) (Seg n) g h = absurd (true≢false (sym h))
+mov_set (Byte r half) (Mem width ea) g h = absurd (true≢false (sym h))
+mov_set (Seg n) b g h = absurd (true≢false (sym g))
+mov_set (Mem width ea) b g h = absurd (true≢false (sym g))
+mov_set (Constant width c) b g h = absurd (true≢false (sym g))
 
-xchg_set : (a b : Operand) → sets_first (xchg_stmts a b) is_visible ≡ true
-xchg_set (Word r) (Word q) = refl
-xchg_set (Byte r half) (Byte q other) = refl
-xchg_set _ _ = refl
+xchg_set : (a b : Operand) → is_register a ≡ true → is_register b ≡ true → sets_first (xchg_stmts a b) is_visible ≡ true
+xchg_set (Word r) (Word q) g h = refl
+xchg_set (Word r) (Byte q other) g h = refl
+xchg_set (Byte r half) (Word q) g h = refl
+xchg_set (Byte r half) (Byte q other) g h = refl
+xchg_set (Word r) (Seg n) g h = absurd (true≢false (sym h))
+xchg_set (Word r) (Mem width ea) g h = absurd (true≢false (sym h))
+xchg_set (Word r) (Constant width c) g h = absurd (true≢false (sym h))
+xchg_set (Byte r half) (Seg n) g h = absurd (true≢false (sym h))
+xchg_set (Byte r half) (Mem width ea) g h = absurd (true≢false (sym h))
+xchg_set (Byte r half) (Constant width c) g h = absurd (true≢false (sym h))
+xchg_set (Seg n) b g h = absurd (true≢false (sym g))
+xchg_set (Mem width ea) b g h = absurd (true≢false (sym g))
+xchg_set (Constant width c) b g h = absurd (true≢false (sym g))
 
 plain_set : (operation : Plain) → sets_first (plain_stmts operation) is_visible ≡ true
 plain_set Nop = refl
@@ -174,8 +189,8 @@ sets cpu (AluOp operation a b) number g other = alu_set b a operation (and_left 
 sets cpu (UnaryOp operation a) number g other = unary_set a operation (and_left (is_lifted_unary operation) (is_register a) g) (and_right (is_lifted_unary operation) (is_register a) g)
 sets cpu (ShiftOp operation a count) number g other = shift_set cpu a count operation g
 sets cpu (Imul3 r a constant) number g other = triple_set r a constant (and_right (is_general r) (is_register a) g)
-sets cpu (Mov a b) number g other = mov_set a b (and_right (is_register a) (is_source b) g)
-sets cpu (Xchg a b) number g other = xchg_set a b
+sets cpu (Mov a b) number g other = mov_set a b (and_left (is_register a) (is_source b) g) (and_right (is_register a) (is_source b) g)
+sets cpu (Xchg a b) number g other = xchg_set a b (and_left (is_register a) (is_register b) g) (and_right (is_register a) (is_register b) g)
 sets cpu (PlainOp operation) number g other = plain_set operation
 sets cpu Int21 number g other = absurd (other refl)
 sets cpu _ number g other = refl

@@ -21,17 +21,17 @@ use Rattle.dcc_prog.specs.WellFormed.{MayCount}
 use Rattle.dcc_prog.specs.Wanted.{Location, half_of, flag_of, is_part, is_read, is_flag, is_cl, is_turn, is_in_cl, is_by_cl, brings_carry, shift_reads, shift_writes, makes, surely_writes}
 use Rattle.dcc_ir.specs.declared.syntax.Loc.{Loc}
 use Rattle.dcc_ir.specs.declared.syntax.Loc.TheVariants.{Half, Flag}
-use Rattle.dcc_lift.specs.Temporaries.{left_place, right_place, result_place}
+use Rattle.dcc_ops.specs.Temporaries.{left_place, right_place, result_place, carry_place}
 use Rattle.dcc_lift.specs.Expressions.{operand_expr, count_expr}
 use Rattle.dcc_lift.specs.Statements.{taking, storing, shift_working, staying, shifting, shift_stmts}
 use Rattle.dcc_lift.specs.Liftable.{is_register}
 use Rattle.dcc_lift.specs.Demand.{place_of}
 use Rattle.dcc_lift.proofs.ListTests.{and_false}
-use Rattle.dcc_lift.proofs.OperandMirrors.{register_source}
+use Rattle.dcc_ops.proofs.MovePerformed.{register_source}
 use Rattle.dcc_lift.proofs.WantedStatements.{reads, before, alone, before_both}
-use Rattle.dcc_lift.proofs.WantedMakes.{is_same, and_true, place_same, no_left, no_right, operand_reads, taken, stored_result, stored_half, stored_flag, stored_left, stored_right, comes_from}
+use Rattle.dcc_lift.proofs.WantedMakes.{is_same, and_true, place_same, no_left, no_right, operand_reads, taken, stored_result, stored_half, stored_flag, stored_left, stored_right, no_carry, stored_carry, comes_from}
 use Rattle.dcc_lift.proofs.WantedUnary.{through_agrees}
-use Rattle.dcc_lift.proofs.ShiftMirrors.{never_turns}
+use Rattle.dcc_ops.proofs.ShiftPerformed.{never_turns}
 
 -- The count.
 
@@ -98,17 +98,17 @@ shift_half word_width Cl Rol u s k = refl
 shift_half word_width (ConstCount n) Rol u s k = refl
 shift_half _ _ _ u s k = refl
 
-shift_flag : (w : Width) (count : Count) (f : FlagName) (operation : Shift) (u : Loc → Bool)
+shift_flag : (w : Width) (count : Count) (f : FlagName) (operation : Shift) (u : Loc → Bool) → u carry_place ≡ false
     → before (shift_working operation w count) u (Flag f)
     ≡ ((is_flag Cf (flag_of f) && (is_turn operation && (u (Flag Of) || u (result_place w))))
     || (u (Flag f) && not (shift_writes_flag operation f && not (is_by_cl operation count))))
-shift_flag byte_width One Cf Rol u = grind arith
-shift_flag byte_width Cl Cf Rol u = grind arith
-shift_flag byte_width (ConstCount n) Cf Rol u = grind arith
-shift_flag word_width One Cf Rol u = grind arith
-shift_flag word_width Cl Cf Rol u = grind arith
-shift_flag word_width (ConstCount n) Cf Rol u = grind arith
-shift_flag _ _ _ _ u = grind arith
+shift_flag byte_width One Cf Rol u e = grind arith
+shift_flag byte_width Cl Cf Rol u e = grind arith
+shift_flag byte_width (ConstCount n) Cf Rol u e = grind arith
+shift_flag word_width One Cf Rol u e = grind arith
+shift_flag word_width Cl Cf Rol u e = grind arith
+shift_flag word_width (ConstCount n) Cf Rol u e = grind arith
+shift_flag _ _ _ _ u e = grind arith
 
 -- What is made of what.
 
@@ -201,7 +201,7 @@ module _ (cpu : Cpu) (operation : Shift) (a : Operand) (count : Count) (to : Loc
       ≡ ((is_flag Cf (flag_of f) && (moved_writes operation a to && brings_carry operation to)) || (is_same (flag_of f) to && not (shift_writes_flag operation f && not (is_by_cl operation count))))
   shift_after_flag f =
       before_both (shift_working operation (operand_width a) count) (storing a) (alone (place_of to)) (Flag f)
-      ∙ shift_flag (operand_width a) count f operation shift_stored
+      ∙ shift_flag (operand_width a) count f operation shift_stored (stored_carry a (alone (place_of to)) ∙ no_carry to)
       ∙ ap (λ b. (is_flag Cf (flag_of f) && (is_turn operation && (shift_stored (Flag Of) || b)))
       || (shift_stored (Flag f) && not (shift_writes_flag operation f && not (is_by_cl operation count)))) (stored_result a to g)
       ∙ ap (λ b. (is_flag Cf (flag_of f) && b) || (shift_stored (Flag f) && not (shift_writes_flag operation f && not (is_by_cl operation count))))

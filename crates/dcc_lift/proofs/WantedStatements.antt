@@ -10,7 +10,7 @@ use Rattle.dcc_ir.specs.Flow.{targets}
 use Rattle.dcc_ir.specs.Demand.{uses_of, makes_of, tests_of, IsWantedIn, used, made_of, left, tested, goes}
 use Rattle.dcc_ir.proofs.PathLaws.{decided, or_false, clash}
 use Rattle.dcc_lift.proofs.ListTests.{and_left, and_right, and_both, or_here, or_there, or_cases, or_none, not_true, same_number}
-use Rattle.dcc_lift.proofs.MirrorLaws.{location_same}
+use Rattle.dcc_ops.proofs.SceneLaws.{location_same}
 
 -- Locations.
 

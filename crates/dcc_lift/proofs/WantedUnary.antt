@@ -1,12 +1,11 @@
 -- What the statements of operations on one operand make of what.
-use Rattle.std.proofs.Common.{◌≡◌, ℕ, Bool, true, false, not, ◌&&◌, ◌||◌, List, ◌∷◌, ◌++◌, Option, None, refl, sym, ap, ◌∙◌, true≢false, arith}
+use Rattle.std.proofs.Common.{◌≡◌, ℕ, Bool, true, false, not, ◌&&◌, ◌||◌, List, ◌++◌, Option, None, refl, sym, ap, ◌∙◌, true≢false, arith}
 use Rattle.dcc_num.specs.declared.Width.{Width}
 use Rattle.dcc_num.specs.declared.Width.TheVariants.{Byte as byte_width, Word as word_width}
 use Rattle.dcc_num.specs.declared.Reg.{Reg}
 use Rattle.dcc_num.specs.declared.Half.{Half as HalfName}
 use Rattle.dcc_num.specs.declared.FlagName.{FlagName}
 use Rattle.dcc_num.specs.declared.FlagName.TheVariants.{Cf, Zf, Sf, Of}
-use Rattle.dcc_num.specs.Numbers.{bits_of}
 use Rattle.dcc_prog.specs.declared.instr.Operand.{Operand}
 use Rattle.dcc_prog.specs.declared.instr.Operand.TheVariants.{Word}
 use Rattle.dcc_prog.specs.declared.instr.Unary.{Unary}
@@ -17,15 +16,15 @@ use Rattle.dcc_prog.specs.Writes.{is_same_register, is_in_pair, is_carry, is_car
 use Rattle.dcc_prog.specs.Wanted.{Location, half_of, flag_of, is_part, is_read, is_accumulator, unary_makes, unary_reads, makes, surely_writes}
 use Rattle.dcc_ir.specs.declared.syntax.Loc.{Loc}
 use Rattle.dcc_ir.specs.declared.syntax.Loc.TheVariants.{Half, Flag}
-use Rattle.dcc_ir.specs.declared.syntax.UnOp.TheVariants.{Not as NotOp}
-use Rattle.dcc_ir.specs.Tree.{Expr, Stmt, Unary as UnaryExpr}
-use Rattle.dcc_lift.specs.Temporaries.{left_place, right_place, result_place, product_place}
+use Rattle.dcc_ir.specs.Location.{same_location}
+use Rattle.dcc_ir.specs.Tree.{Expr, Stmt}
+use Rattle.dcc_ops.specs.Temporaries.{left_place, right_place, result_place, product_place}
 use Rattle.dcc_lift.specs.Expressions.{operand_expr, product, number, sum, difference, accumulator}
-use Rattle.dcc_lift.specs.Statements.{taking, word_taking, storing, result_taking, sum_flags, difference_flags, subtracting, product_storing, product_working, multiplying, triple_product, unary_stmts}
+use Rattle.dcc_lift.specs.Statements.{taking, word_taking, storing, result_taking, sum_flags, difference_flags, subtracting, product_storing, product_working, multiplying, triple_product, complementing, unary_stmts}
 use Rattle.dcc_lift.specs.Form.{is_general}
 use Rattle.dcc_lift.specs.Liftable.{is_register, is_lifted_unary}
 use Rattle.dcc_lift.specs.Demand.{place_of}
-use Rattle.dcc_lift.proofs.OperandMirrors.{register_source}
+use Rattle.dcc_ops.proofs.MovePerformed.{register_source}
 use Rattle.dcc_lift.proofs.WantedStatements.{reads, before, alone, before_both}
 use Rattle.dcc_lift.proofs.ListTests.{and_false}
 use Rattle.dcc_lift.proofs.WantedMakes.{is_same, and_true, place_same, no_left, no_right, operand_reads, operand_reads_left, taken, stored_result, stored_half, stored_flag, stored_left, stored_right, made_flags, comes_from}
@@ -240,10 +239,44 @@ not_writes : (a : Operand) (n : Option ℕ) (l : Location) → is_part l a ≡ s
 not_writes a n (half_of s k) = refl
 not_writes a n (flag_of f) = refl
 
+left_taken : (w : Width) (e : Expr) (v : Loc → Bool) (l : Location) → ((reads (place_of l) e && v (left_place w)) || (not (same_location (place_of l) (left_place w)) && v (place_of l)))
+    ≡ ((reads (place_of l) e && v (left_place w)) || v (place_of l))
+left_taken byte_width e v (half_of s k) = refl
+left_taken byte_width e v (flag_of f) = refl
+left_taken word_width e v (half_of s k) = refl
+left_taken word_width e v (flag_of f) = refl
+
+-- the operand goes to its temporary, and its complement to that of the result
+complement_left : (w : Width) (u : Loc → Bool) → u (left_place w) ≡ false → before (complementing w) u (left_place w) ≡ u (result_place w)
+complement_left byte_width u e = grind arith
+complement_left word_width u e = grind arith
+
+complement_kept : (w : Width) (u : Loc → Bool) (l : Location) → before (complementing w) u (place_of l) ≡ u (place_of l)
+complement_kept byte_width u (half_of s k) = refl
+complement_kept byte_width u (flag_of f) = refl
+complement_kept word_width u (half_of s k) = refl
+complement_kept word_width u (flag_of f) = refl
+
+not_through : (a : Operand) (l to : Location) → is_register a ≡ true
+    → before (unary_stmts Not (operand_width a) a) (alone (place_of to)) (place_of l) ≡ ((is_part to a && is_read l a) || (is_same l to && not (is_part l a)))
+not_through a l to g =
+    let w = operand_width a in
+    let u : Loc → Bool = before (storing a) (alone (place_of to)) in
+    let v : Loc → Bool = before (complementing w ++ storing a) (alone (place_of to)) in
+    let first : v (left_place w) ≡ is_part to a =
+    before_both (complementing w) (storing a) (alone (place_of to)) (left_place w) ∙ complement_left w u (stored_left a (alone (place_of to)) g ∙ no_left to w) ∙ stored_result a to g in
+    let second : v (place_of l) ≡ (is_same l to && not (is_part l a)) =
+    before_both (complementing w) (storing a) (alone (place_of to)) (place_of l) ∙ complement_kept w u l ∙ inverted_left a l to g in
+    left_taken w (operand_expr a) v l
+    ∙ ap (λ b. (b && v (left_place w)) || v (place_of l)) (operand_reads a l (register_source a g))
+    ∙ ap (λ b. (is_read l a && b) || v (place_of l)) first
+    ∙ ap (λ b. (is_read l a && is_part to a) || b) second
+    ∙ inverted_joined (is_read l a) (is_part to a) (is_same l to && not (is_part l a))
+
 not_agrees : (a : Operand) (number : Option ℕ) (l to : Location) → is_register a ≡ true
     → before (unary_stmts Not (operand_width a) a) (alone (place_of to)) (place_of l) ≡ comes_from (UnaryOp Not a) number l to
 not_agrees a n l to g =
-    through_agrees a (UnaryExpr NotOp (bits_of (operand_width a)) (operand_expr a)) l to g (operand_reads a l (register_source a g))
+    not_through a l to g
     ∙ ap (λ b. (b && is_read l a) || (is_same l to && not (is_part l a))) (not_makes a to)
     ∙ ap (λ b. (unary_makes Not a to && is_read l a) || (is_same l to && not b)) (not_writes a n l)
 

@@ -3,7 +3,7 @@ use Rattle.std.specs.Prelude.{◌≡◌, List, [], ◌∷◌}
 use Rattle.dcc_prog.specs.declared.image.Image.{Image}
 use Rattle.dcc_prog.specs.declared.procedure.Layout.{Layout}
 use Rattle.dcc_ir.specs.Tree.{Block, Graph}
-use Rattle.dcc_lift.specs.Temporaries.{temporary_bits}
+use Rattle.dcc_ops.specs.Temporaries.{temporary_bits}
 use Rattle.dcc_lift.specs.Blocks.{Nodes, leaders, AreBlocksAt}
 use Rattle.dcc_lift.specs.Translation.{prelude_block}
 

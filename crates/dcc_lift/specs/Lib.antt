@@ -1,9 +1,8 @@
-pub mod Temporaries
 pub mod Expressions
 pub mod Statements
-pub mod Form
 pub mod Mirrors
 pub mod Liftable
+pub mod Form
 pub mod Blocks
 pub mod Sound
 pub mod Translation
@@ -12,7 +11,6 @@ pub mod Demand
 pub mod Lifting
 pub mod Laws
 pub mod Incoming
-pub mod Writing
 pub mod Known
 pub mod Graphs
 pub use Rattle.dcc_prog.specs.Built

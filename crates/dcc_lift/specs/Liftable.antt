@@ -4,23 +4,11 @@ use Rattle.dcc_prog.specs.declared.instr.Unary.{Unary}
 use Rattle.dcc_prog.specs.declared.instr.Unary.TheVariants.{Div, Idiv}
 use Rattle.dcc_prog.specs.declared.instr.Plain.{Plain}
 use Rattle.dcc_prog.specs.declared.instr.Plain.TheVariants.{Xlat}
-use Rattle.dcc_prog.specs.declared.instr.Operand.{Operand}
-use Rattle.dcc_prog.specs.declared.instr.Operand.TheVariants.{Word, Byte, Const}
 use Rattle.dcc_prog.specs.declared.instr.Op.{Op}
 use Rattle.dcc_prog.specs.declared.instr.Op.TheVariants.{Alu as AluOp, Unary as UnaryOp, Shift as ShiftOp, Mov, Xchg, Imul3, Plain as PlainOp, Jump, Branch, Loop, LoopE, LoopNe, Jcxz, Int21}
 use Rattle.dcc_prog.specs.Layout.{is_control}
-use Rattle.dcc_lift.specs.Form.{is_general}
-
--- a register whose halves are locations, or one of the halves
-abbrev pub is_register : Operand → Bool
-is_register (Word r) = is_general r
-is_register (Byte r half) = is_general r
-is_register operand = false
-
--- the same, or a constant
-abbrev pub is_source : Operand → Bool
-is_source (Const width constant) = true
-is_source operand = is_register operand
+use Rattle.dcc_prog.specs.Trail.{is_general}
+pub use Rattle.dcc_ops.specs.Registers.{is_register, is_source}
 
 -- all but divisions
 abbrev pub is_lifted_unary : Unary → Bool

@@ -14,12 +14,13 @@ use Rattle.dcc_prog.specs.Watch.{is_foul, watched_machine, first_watch}
 use Rattle.dcc_ir.specs.Tree.{Graph, Program}
 use Rattle.dcc_ir.specs.Use.{graph_exprs}
 use Rattle.dcc_ir.specs.Measure.{depth_of}
+use Rattle.dcc_ir.specs.FlagReads.{FlagsReadPlainly}
 use Rattle.dcc_ir.specs.WellFormed.{IsProgram}
 use Rattle.dcc_ir.specs.Run.{watched_inner, first_state}
 use Rattle.dcc_ir.specs.Flow.{Flow, flow_at, IsContraction, HaveOneEdge}
 use Rattle.dcc_ir.specs.Keeps.{has_block}
 use Rattle.dcc_ir.specs.Ends.{IsNeverStuck}
-use Rattle.dcc_lift.specs.Temporaries.{temporary_bits}
+use Rattle.dcc_ops.specs.Temporaries.{temporary_bits}
 use Rattle.dcc_lift.specs.Demand.{WantsTheSame}
 use Rattle.dcc_lift.specs.Form.{HasForm, HasFewFlagStmts}
 use Rattle.dcc_lift.specs.Translation.{data_image}
@@ -121,6 +122,7 @@ pub record IsLifted (image : Image) (layout : Layout) (start : Proc) (p : Progra
   pub well_formed : IsProgram p
   pub form : All HasForm p.graphs
   pub flags : All (HasFewFlagStmts start) p.graphs
+  pub flag_reads : All FlagsReadPlainly p.graphs
   pub shallow : All (IsShallow 7) p.graphs
   pub runs : ShadowsMachine image layout p
   pub clean : IsAlwaysClean image layout

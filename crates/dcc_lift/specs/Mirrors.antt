@@ -1,16 +1,15 @@
 -- How the values of locations stand for the machine's registers and flags. This stands between the runs; the public
 -- contract tells visits, events and ends.
-use Rattle.std.specs.Prelude.{◌≡◌, ◌+◌, ◌*◌, true, List, [], ◌∷◌, length}
+use Rattle.std.specs.Prelude.{◌≡◌, ◌+◌, ◌*◌, true, length}
 use Rattle.std.specs.Int.{from_bool}
 use Rattle.dcc_num.specs.declared.Reg.{Reg}
 use Rattle.dcc_num.specs.declared.Half.TheVariants.{Low, High}
 use Rattle.dcc_num.specs.declared.FlagName.TheVariants.{Cf, Zf, Sf, Of}
 use Rattle.dcc_prog.specs.Machine.{State, word_in}
 use Rattle.dcc_ir.specs.declared.syntax.Loc.TheVariants.{Half, Flag}
-use Rattle.dcc_ir.specs.Location.{Values, with_value}
-use Rattle.dcc_ir.specs.Tree.{Stmt, Set}
-use Rattle.dcc_ir.specs.Value.{Scene, value_of}
-pub use Rattle.dcc_lift.specs.Form.{is_general}
+use Rattle.dcc_ir.specs.Location.{Values}
+pub use Rattle.dcc_prog.specs.Trail.{is_general}
+pub use Rattle.dcc_ops.specs.Executed.{executed}
 
 -- the halves hold the bytes of the registers, and the flags the flags
 pub record Mirrors (s : State) (values : Values) : Type 0 where
@@ -20,10 +19,3 @@ pub record Mirrors (s : State) (values : Values) : Type 0 where
   pub zero : values (Flag Zf) ≡ from_bool s.flags.zf
   pub negative : values (Flag Sf) ≡ from_bool s.flags.sf
   pub overflow : values (Flag Of) ≡ from_bool s.flags.of
-
--- what expressions read after statements that set locations
-abbrev pub executed : List Stmt → Scene → Scene
-executed [] scene = scene
-executed (Set location e ∷ rest) scene =
-    executed rest (record scene { values = with_value scene.values location (value_of scene e) })
-executed (stmt ∷ rest) scene = executed rest scene

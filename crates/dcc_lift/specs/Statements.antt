@@ -1,97 +1,41 @@
--- The statements that stand for an instruction, and how its block ends.
-use Rattle.std.specs.Prelude.{ℕ, ◌+◌, ◌/◌, ◌%◌, ◌==◌, Bool, true, false, ◌||◌, if◌then◌else◌, List, [], ◌∷◌, ◌++◌, Option, Some, None}
+-- The statements that stand for an instruction whose operands are registers and constants. This stands between the
+-- procedure and the code; what the statements of an operation do is told for every place of its operands.
+use Rattle.std.specs.Prelude.{ℕ, Bool, true, false, if◌then◌else◌, List, [], ◌∷◌, ◌++◌, Option}
 use Rattle.dcc_num.specs.declared.Width.{Width}
 use Rattle.dcc_num.specs.declared.Width.TheVariants.{Byte as byte_width, Word as word_width}
 use Rattle.dcc_num.specs.declared.Reg.{Reg}
-use Rattle.dcc_num.specs.declared.Reg.TheVariants.{Ax, Cx, Dx}
-use Rattle.dcc_num.specs.declared.Half.TheVariants.{Low, High}
-use Rattle.dcc_num.specs.declared.FlagName.TheVariants.{Cf, Zf, Sf, Of}
-use Rattle.dcc_num.specs.Numbers.{bits_of}
 use Rattle.dcc_prog.specs.declared.cpu.Cpu.{Cpu}
 use Rattle.dcc_prog.specs.declared.instr.Alu.{Alu}
-use Rattle.dcc_prog.specs.declared.instr.Alu.TheVariants.{Add, Or, Adc, Sbb, And, Sub, Xor, Cmp, Test}
+use Rattle.dcc_prog.specs.declared.instr.Alu.TheVariants.{Cmp, Test}
 use Rattle.dcc_prog.specs.declared.instr.Shift.{Shift}
-use Rattle.dcc_prog.specs.declared.instr.Shift.TheVariants.{Rol, Ror, Rcl, Rcr, Shl, Shr, Sar}
 use Rattle.dcc_prog.specs.declared.instr.Count.{Count}
-use Rattle.dcc_prog.specs.declared.instr.Count.TheVariants.{One}
 use Rattle.dcc_prog.specs.declared.instr.Unary.{Unary}
 use Rattle.dcc_prog.specs.declared.instr.Unary.TheVariants.{Inc, Dec, Neg, Not, Mul, Imul}
-use Rattle.dcc_prog.specs.declared.instr.Plain.{Plain}
-use Rattle.dcc_prog.specs.declared.instr.Plain.TheVariants.{Cbw, Cwd, Clc, Stc, Cmc}
 use Rattle.dcc_prog.specs.declared.instr.Operand.{Operand}
-use Rattle.dcc_prog.specs.declared.instr.Operand.TheVariants.{Word, Byte, Const as Constant}
+use Rattle.dcc_prog.specs.declared.instr.Operand.TheVariants.{Word, Byte}
 use Rattle.dcc_prog.specs.declared.instr.Op.{Op}
-use Rattle.dcc_prog.specs.declared.instr.Op.TheVariants.{Alu as AluOp, Unary as UnaryOp, Shift as ShiftOp, Mov, Xchg, Imul3, Plain as PlainOp, Branch, Loop, LoopE, LoopNe, Jcxz, Int21}
+use Rattle.dcc_prog.specs.declared.instr.Op.TheVariants.{Alu as AluOp, Unary as UnaryOp, Shift as ShiftOp, Mov, Xchg, Imul3, Plain as PlainOp, Loop, LoopE, LoopNe, Int21}
 use Rattle.dcc_prog.specs.Machine.{operand_width}
 use Rattle.dcc_prog.specs.Writes.{never_shifts}
-use Rattle.dcc_ir.specs.declared.syntax.Loc.{Loc}
-use Rattle.dcc_ir.specs.declared.syntax.Loc.TheVariants.{Half, Flag}
-use Rattle.dcc_ir.specs.declared.syntax.UnOp.TheVariants.{Not as NotOp}
-use Rattle.dcc_ir.specs.declared.syntax.BinOp.{BinOp}
-use Rattle.dcc_ir.specs.declared.syntax.BinOp.TheVariants.{Sub as SubOp, And as AndOp, Or as OrOp, Xor as XorOp, Shl as ShlOp, Shr as ShrOp, Sar as SarOp, Eq as EqOp}
-use Rattle.dcc_ir.specs.Tree.{Expr, Const, Get, Unary as UnaryExpr, Binary, Widen, Part, Stmt, Set, Dos, Exit, Goto, If, Stop}
-use Rattle.dcc_lift.specs.Temporaries.{left_place, right_place, result_place, product_place}
-use Rattle.dcc_lift.specs.Expressions.{word_of, operand_expr, left, right, result, product, at_width, number, bit, flag, negated, is_zero, sign, below_sign, lowest, sum, sum_and_carry, carry_out, carry_out_of_both, sum_overflow, difference, difference_and_borrow, borrow_out, borrow_out_of_both, difference_overflow, difference_overflow_of_both, count_expr, unless_zero, if_one, shifted, nearly_shifted, rotated_left, rotated_right, turned_left, turned_right, accumulator, multiplied, needs_upper_half, condition, goes_round}
-
--- Pieces.
+use Rattle.dcc_ir.specs.declared.syntax.Loc.TheVariants.{Half}
+use Rattle.dcc_ir.specs.Tree.{Expr, Stmt, Set}
+use Rattle.dcc_ops.specs.Temporaries.{left_place, right_place}
+use Rattle.dcc_ops.specs.Expressions.{result, product, number, sum, difference, count_expr}
+pub use Rattle.dcc_ops.specs.Statements.{word_taking, flags_taking, carry_taking, result_taking, carry_in, sum_flags, difference_flags, subtracting, combining, alu_working, product_storing, product_working, complementing, shift_flags, rotate_flags, shift_working, exchanging, plain_stmts, counting, dos_stmts, op_test, exit_to}
+use Rattle.dcc_ops.specs.Statements as placed
+use Rattle.dcc_ops.specs.Place.{Place, constant}
+use Rattle.dcc_ops.specs.Registers.{register_place}
+use Rattle.dcc_lift.specs.Expressions.{operand_expr, accumulator}
 
 -- the operands go to their temporaries
 abbrev pub taking : Width → Expr → Expr → List Stmt
 taking w a b = Set (left_place w) a ∷ Set (right_place w) b ∷ []
-
--- a word register takes two bytes of an expression
-abbrev pub word_taking : Reg → ℕ → Expr → List Stmt
-word_taking r first e = Set (Half r Low) (Part 8 first e) ∷ Set (Half r High) (Part 8 (8 + first) e) ∷ []
 
 -- an operand takes the result
 abbrev pub storing : Operand → List Stmt
 storing (Word r) = word_taking r 0 (result word_width)
 storing (Byte r half) = Set (Half r half) (result byte_width) ∷ []
 storing operand = []
-
--- OF, SF and ZF
-abbrev pub flags_taking : Expr → Expr → Expr → List Stmt
-flags_taking overflow negative zero = Set (Flag Of) overflow ∷ Set (Flag Sf) negative ∷ Set (Flag Zf) zero ∷ []
-
-abbrev pub carry_taking : Expr → List Stmt
-carry_taking e = Set (Flag Cf) e ∷ []
-
-abbrev pub result_taking : Width → Expr → List Stmt
-result_taking w e = Set (result_place w) e ∷ []
-
--- the flags of a sum, and of a difference, but for CF
-abbrev pub sum_flags : Width → List Stmt
-sum_flags w = flags_taking (sum_overflow w) (sign w (result w)) (is_zero w (result w))
-
-abbrev pub difference_flags : Width → List Stmt
-difference_flags w =
-    flags_taking (difference_overflow w) (sign w (result w)) (at_width EqOp w (left w) (right w))
-
--- Operations on two operands.
-
--- without CF
-abbrev pub subtracting : Width → List Stmt
-subtracting w = result_taking w (difference w) ++ (difference_flags w ++ carry_taking (borrow_out w))
-
-abbrev pub combining : Width → BinOp → List Stmt
-combining w operator =
-    result_taking w (at_width operator w (left w) (right w))
-    ++ (flags_taking (bit 0) (sign w (result w)) (is_zero w (result w)) ++ carry_taking (bit 0))
-
--- what an operation does to the result and the flags
-abbrev pub alu_working : Alu → Width → List Stmt
-alu_working Add w = result_taking w (sum w) ++ (sum_flags w ++ carry_taking (carry_out w))
-alu_working Adc w = result_taking w (sum_and_carry w) ++ (sum_flags w ++ carry_taking (carry_out_of_both w))
-alu_working Sbb w =
-    result_taking w (difference_and_borrow w)
-    ++ (flags_taking (difference_overflow_of_both w) (sign w (result w)) (is_zero w (result w))
-    ++ carry_taking (borrow_out_of_both w))
-alu_working Sub w = subtracting w
-alu_working Cmp w = subtracting w
-alu_working And w = combining w AndOp
-alu_working Test w = combining w AndOp
-alu_working Or w = combining w OrOp
-alu_working Xor w = combining w XorOp
 
 -- CMP and TEST store nothing
 abbrev pub alu_storing : Alu → Operand → List Stmt
@@ -104,27 +48,14 @@ alu_stmts operation a b =
     taking (operand_width a) (operand_expr a) (operand_expr b)
     ++ (alu_working operation (operand_width a) ++ alu_storing operation a)
 
--- Operations on one operand.
-
--- a product goes to AX, or to DX and AX
-abbrev pub product_storing : Width → List Stmt
-product_storing byte_width = word_taking Ax 0 (product byte_width)
-product_storing word_width = word_taking Ax 0 (product word_width) ++ word_taking Dx 16 (product word_width)
-
--- what a multiplication does to the product and the flags
-abbrev pub product_working : Width → Bool → List Stmt
-product_working w signed =
-    Set (product_place w) (multiplied w signed)
-    ∷ (flags_taking (needs_upper_half w signed) (bit 0) (bit 0) ++ carry_taking (needs_upper_half w signed))
-
 abbrev pub multiplying : Width → Bool → Operand → List Stmt
 multiplying w signed a =
     taking w (accumulator w) (operand_expr a) ++ (product_working w signed ++ product_storing w)
 
 -- the register takes the lower word of the signed product of an operand and a constant
 abbrev pub triple_product : Reg → Operand → ℕ → List Stmt
-triple_product r a constant =
-    taking word_width (operand_expr a) (number word_width constant)
+triple_product r a factor =
+    taking word_width (operand_expr a) (number word_width factor)
     ++ (product_working word_width true ++ word_taking r 0 (product word_width))
 
 abbrev pub unary_stmts : Unary → Width → Operand → List Stmt
@@ -133,54 +64,10 @@ unary_stmts Inc w a =
 unary_stmts Dec w a =
     taking w (operand_expr a) (number w 1) ++ (result_taking w (difference w) ++ (difference_flags w ++ storing a))
 unary_stmts Neg w a = taking w (number w 0) (operand_expr a) ++ (subtracting w ++ storing a)
-unary_stmts Not w a = result_taking w (UnaryExpr NotOp (bits_of w) (operand_expr a)) ++ storing a
+unary_stmts Not w a = Set (left_place w) (operand_expr a) ∷ (complementing w ++ storing a)
 unary_stmts Mul w a = multiplying w false a
 unary_stmts Imul w a = multiplying w true a
 unary_stmts operation w a = []
-
--- Shifts and rotates.
-
--- the flags of a shift
-abbrev pub shift_flags : Width → Count → Expr → Expr → List Stmt
-shift_flags w count overflow carry =
-    flags_taking
-    (unless_zero w count Of overflow)
-    (unless_zero w count Sf (sign w (result w)))
-    (unless_zero w count Zf (is_zero w (result w)))
-    ++ carry_taking (unless_zero w count Cf carry)
-
--- those of a rotate
-abbrev pub rotate_flags : Width → Count → Expr → Expr → List Stmt
-rotate_flags w count overflow carry =
-    Set (Flag Of) (unless_zero w count Of overflow) ∷ carry_taking (unless_zero w count Cf carry)
-
-abbrev pub shift_working : Shift → Width → Count → List Stmt
-shift_working Shl w count =
-    result_taking w (shifted ShlOp w)
-    ++ shift_flags w count
-    (if_one w count (Binary XorOp 1 (sign w (nearly_shifted ShlOp w)) (sign w (result w))))
-    (sign w (nearly_shifted ShlOp w))
-shift_working Shr w count =
-    result_taking w (shifted ShrOp w)
-    ++ shift_flags w count (if_one w count (sign w (left w))) (lowest (nearly_shifted ShrOp w))
-shift_working Sar w count =
-    result_taking w (shifted SarOp w) ++ shift_flags w count (bit 0) (lowest (nearly_shifted SarOp w))
-shift_working Rol w count =
-    result_taking w (rotated_left w)
-    ++ rotate_flags w count
-    (if_one w count (Binary XorOp 1 (lowest (result w)) (sign w (result w))))
-    (lowest (result w))
-shift_working Ror w count =
-    result_taking w (rotated_right w)
-    ++ rotate_flags w count
-    (if_one w count (Binary XorOp 1 (sign w (result w)) (below_sign w (result w))))
-    (sign w (result w))
-shift_working Rcl w count =
-    result_taking w (turned_left w)
-    ++ rotate_flags w One (Binary XorOp 1 (sign w (left w)) (sign w (result w))) (sign w (left w))
-shift_working Rcr w count =
-    result_taking w (turned_right w)
-    ++ rotate_flags w One (Binary XorOp 1 (sign w (result w)) (below_sign w (result w))) (lowest (left w))
 
 -- an operand takes its own value, and the flags stay
 abbrev pub staying : Width → Operand → List Stmt
@@ -195,49 +82,13 @@ abbrev pub shift_stmts : Cpu → Shift → Width → Operand → Count → List 
 shift_stmts cpu operation w a count =
     if never_shifts count then staying w a else shifting cpu operation w a count
 
--- Moves. They go half by half.
+-- Moves, by the places of their operands.
 
 abbrev pub mov_stmts : Operand → Operand → List Stmt
-mov_stmts (Word r) (Word q) = Set (Half r Low) (Get (Half q Low)) ∷ Set (Half r High) (Get (Half q High)) ∷ []
-mov_stmts (Word r) (Constant width constant) =
-    Set (Half r Low) (Const 8 (constant % 256)) ∷ Set (Half r High) (Const 8 (constant / 256)) ∷ []
-mov_stmts (Byte r half) from = Set (Half r half) (operand_expr from) ∷ []
-mov_stmts to from = []
-
--- two bytes are exchanged
-abbrev pub exchanging : Loc → Loc → List Stmt
-exchanging a b = Set (left_place byte_width) (Get a) ∷ Set a (Get b) ∷ Set b (left byte_width) ∷ []
+mov_stmts to from = placed.mov_stmts (operand_width to) (register_place to) (register_place from)
 
 abbrev pub xchg_stmts : Operand → Operand → List Stmt
-xchg_stmts (Word r) (Word q) = exchanging (Half r Low) (Half q Low) ++ exchanging (Half r High) (Half q High)
-xchg_stmts (Byte r half) (Byte q other) = exchanging (Half r half) (Half q other)
-xchg_stmts a b = []
-
--- Operations without operands.
-
-abbrev pub plain_stmts : Plain → List Stmt
-plain_stmts Cbw = Set (Half Ax High) (Part 8 8 (Widen true 16 (Get (Half Ax Low)))) ∷ []
-plain_stmts Cwd =
-    Set (product_place word_width) (Widen true 32 (word_of Ax)) ∷ word_taking Dx 16 (product word_width)
-plain_stmts Clc = carry_taking (bit 0)
-plain_stmts Stc = carry_taking (bit 1)
-plain_stmts Cmc = carry_taking (negated (flag Cf))
-plain_stmts operation = []
-
--- CX is lowered by 1
-abbrev pub counting : List Stmt
-counting =
-    result_taking word_width (at_width SubOp word_width (word_of Cx) (number word_width 1))
-    ++ word_taking Cx 0 (result word_width)
-
--- the DOS call of that number
-abbrev pub dos_stmts : Option ℕ → List Stmt
-dos_stmts None = []
-dos_stmts (Some number) =
-    if number == 0x02 then Dos number None (Some (Get (Half Dx Low))) ∷ []
-    else if number == 0x4C then Dos number None (Some (Get (Half Ax Low))) ∷ []
-    else if (number == 0x01) || (number == 0x08) then Dos number (Some (Half Ax Low)) None ∷ []
-    else []
+xchg_stmts a b = placed.xchg_stmts (operand_width a) (register_place a) (register_place b)
 
 -- All operations that are built; INT 21h has the number of its call.
 abbrev pub op_stmts : Cpu → Op → Option ℕ → List Stmt
@@ -246,7 +97,7 @@ op_stmts cpu (UnaryOp operation a) number = unary_stmts operation (operand_width
 op_stmts cpu (ShiftOp operation a count) number = shift_stmts cpu operation (operand_width a) a count
 op_stmts cpu (Mov to from) number = mov_stmts to from
 op_stmts cpu (Xchg a b) number = xchg_stmts a b
-op_stmts cpu (Imul3 r a constant) number = triple_product r a constant
+op_stmts cpu (Imul3 r a factor) number = triple_product r a factor
 op_stmts cpu (PlainOp operation) number = plain_stmts operation
 op_stmts cpu (Loop target) number = counting
 op_stmts cpu (LoopE target) number = counting
@@ -254,19 +105,22 @@ op_stmts cpu (LoopNe target) number = counting
 op_stmts cpu Int21 number = dos_stmts number
 op_stmts cpu op number = []
 
--- Ends.
+-- The places of an operation's first and second operand.
 
--- the test of an operation with two successors
-abbrev pub op_test : Op → Option Expr
-op_test (Branch tested target) = Some (condition tested)
-op_test (Loop target) = Some goes_round
-op_test (LoopE target) = Some (Binary AndOp 1 (flag Zf) goes_round)
-op_test (LoopNe target) = Some (Binary AndOp 1 (negated (flag Zf)) goes_round)
-op_test (Jcxz target) = Some (is_zero word_width (word_of Cx))
-op_test op = None
+abbrev pub no_place : Place
+no_place = constant word_width 0
 
--- to the places of the successors
-abbrev pub exit_to : Option Expr → List ℕ → Exit
-exit_to (Some test) (target ∷ next ∷ []) = If test target next
-exit_to test (next ∷ []) = Goto next
-exit_to test places = Stop
+abbrev pub first_place : Op → Place
+first_place (AluOp operation a b) = register_place a
+first_place (UnaryOp operation a) = register_place a
+first_place (ShiftOp operation a count) = register_place a
+first_place (Mov to from) = register_place to
+first_place (Xchg a b) = register_place a
+first_place (Imul3 r a factor) = register_place a
+first_place op = no_place
+
+abbrev pub second_place : Op → Place
+second_place (AluOp operation a b) = register_place b
+second_place (Mov to from) = register_place from
+second_place (Xchg a b) = register_place b
+second_place op = no_place

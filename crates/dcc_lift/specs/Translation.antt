@@ -15,7 +15,7 @@ use Rattle.dcc_prog.specs.Load.{load_segment}
 use Rattle.dcc_prog.specs.Machine.{reg_number}
 use Rattle.dcc_ir.specs.declared.syntax.Loc.TheVariants.{Half, Flag}
 use Rattle.dcc_ir.specs.Tree.{Const, Stmt, Set, Goto, Block, Program}
-use Rattle.dcc_lift.specs.Temporaries.{temporary_bits}
+use Rattle.dcc_ops.specs.Temporaries.{temporary_bits}
 use Rattle.dcc_lift.specs.Blocks.{Nodes, leaders, block_place, AreBlocksAt}
 
 -- the word registers whose halves are locations, in the order of their numbers

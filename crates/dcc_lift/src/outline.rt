@@ -5,14 +5,16 @@ ghost use Rattle.std.specs.List.Sorted.{IsStrictlyIncreasing};
 ghost use Rattle.dcc_ir.specs.Views.{expr_of, exit_of, block_of};
 ghost use Rattle.dcc_lift.specs.Blocks as spec;
 ghost use Rattle.dcc_lift.specs.Blocks.{IsBlockAt, AreBlocksAt};
-ghost use Rattle.dcc_lift.specs.Statements.{exit_to};
+ghost use Rattle.dcc_ops.specs.Placing.{place_of};
+ghost use Rattle.dcc_lift.specs.Statements.{op_stmts, exit_to, first_place, second_place};
 ghost use Rattle.dcc_lift.specs.Known.{nodes_of, KnowsEdges, KnowsLeaders};
-ghost use Rattle.dcc_lift.specs.Writing.{written};
+ghost use Rattle.dcc_ops.specs.Writing.{written};
 
-use crate::control::op_test;
 use crate::flow::Instructions;
-use crate::writer::Writer;
 use dcc_ir::{Block, End, Expr};
+use dcc_num::Width;
+use dcc_ops::{Place, Writer, op_test, register_place};
+use dcc_prog::{Cpu, Op};
 use std::alloc::{AllocError, Global};
 
 /// The instructions of a procedure, and the offsets at which its blocks begin, in ascending order.
@@ -20,6 +22,36 @@ use std::alloc::{AllocError, Global};
 pub struct Outline<'a> {
     pub instructions: Instructions<'a>,
     pub leaders: Vec<u16>,
+}
+
+// The places of an operation's first and second operand, which are registers and constants. Where there is none, the place
+// is never taken.
+fn operand_places(op: Op) -> (Place, Place)
+    ensures first { place_of result.0 ≡ first_place op }
+    ensures second { place_of result.1 ≡ second_place op }
+{
+    let none = Place::Constant(Width::Word, 0);
+    match op {
+        Op::Alu(_, a, b) => (register_place(a), register_place(b)),
+        Op::Mov(to, from) => (register_place(to), register_place(from)),
+        Op::Xchg(a, b) => (register_place(a), register_place(b)),
+        Op::Unary(_, a) | Op::Shift(_, a, _) | Op::Imul3(_, a, _) => (register_place(a), none),
+        _ => (none, none),
+    }
+}
+
+// Writes an operation whose operands are registers and constants.
+#[tactic(auto, using(crate::proofs::PlaceLaws::registers_now))]
+fn write_operation(
+    writer: &mut Writer,
+    cpu: Cpu,
+    op: Op,
+    number: Option<u8>,
+) -> Result<(), AllocError>
+    ensures { OnOk result (written writer.new ≡ written writer.old ++ op_stmts cpu op number) }
+{
+    let (p, q) = operand_places(op);
+    writer.operation(cpu, op, number, p, q)
 }
 
 // The place of a number among increasing ones; how many these are, where it is not among them.
@@ -99,7 +131,9 @@ impl<'a> Outline<'a> {
             ≡ written writer.old ++ spec.stmts_at self.now.instructions.cpu (nodes_of self.now.instructions) at) }
     {
         match self.instructions.at(at) {
-            Some(node) => writer.operation(self.instructions.cpu, node.instr.op, node.number),
+            Some(node) => {
+                write_operation(writer, self.instructions.cpu, node.instr.op, node.number)
+            }
             None => Ok(()),
         }
     }

@@ -13,57 +13,50 @@ ghost use Rattle.dcc_lift.specs.Translation.{IsTranslation};
 ghost use Rattle.dcc_lift.specs.Lifted.{IsLiftOf};
 ghost use Rattle.dcc_lift.specs.Graphs.{IsGraphOf};
 ghost use Rattle.dcc_lift.specs.Known.{nodes_of, KnowsLeaders};
-ghost use Rattle.dcc_lift.specs.Writing.{written};
+ghost use Rattle.dcc_ops.specs.Writing.{written};
 
 use crate::edges::OFFSETS;
-use crate::expression::{bit, byte};
 use crate::flow::Instructions;
 use crate::outline::Outline;
-use crate::writer::Writer;
 use dcc_ir::{Block, End, Expr, Graph, IrProgram, Loc};
 use dcc_num::{FlagName, Flags, Half, Reg};
+use dcc_ops::{Writer, bit, byte, temporary_bits};
 use dcc_prog::{Image, LOAD_SEGMENT, Layout, Proc};
 use std::alloc::{AllocError, Global};
-
-// The bits of the temporaries: the left operand, the right one and the result as bytes, the same as words, and a
-// product of two words.
-const TEMPORARIES: [u8; 7] = [8, 8, 8, 16, 16, 16, 32];
 
 // The word registers whose halves are locations.
 const GENERAL: [Reg; 6] = [Reg::Ax, Reg::Cx, Reg::Dx, Reg::Bx, Reg::Si, Reg::Di];
 
-impl Writer {
-    // A word register begins with what it holds of these.
-    fn start_register(&mut self, regs: &[u16; 8], r: Reg) -> Result<(), AllocError>
-        ensures { OnOk result (written self.new ≡ written self.old ++ spec.register_starting regs.now r) }
-    {
-        let word = regs[r as usize];
-        let low = byte(Half::Low.of(word));
-        let high = byte(Half::High.of(word));
-        self.set(Loc::Half(r, Half::Low), low)?;
-        self.set(Loc::Half(r, Half::High), high)
-    }
+// A word register begins with what it holds of these.
+fn start_register(writer: &mut Writer, regs: &[u16; 8], r: Reg) -> Result<(), AllocError>
+    ensures { OnOk result (written writer.new ≡ written writer.old ++ spec.register_starting regs.now r) }
+{
+    let word = regs[r as usize];
+    let low = byte(Half::Low.of(word));
+    let high = byte(Half::High.of(word));
+    writer.set(Loc::Half(r, Half::Low), low)?;
+    writer.set(Loc::Half(r, Half::High), high)
+}
 
-    // The word registers whose halves are locations begin with what the prelude leaves.
-    fn start_registers(&mut self, regs: &[u16; 8]) -> Result<(), AllocError>
-        ensures { OnOk result (written self.new
-            ≡ written self.old ++ flat_map (spec.register_starting regs.now) spec.general_registers) }
-    {
-        for r in GENERAL {
-            self.start_register(regs, r)?;
-        }
-        Ok(())
+// The word registers whose halves are locations begin with what the prelude leaves.
+fn start_registers(writer: &mut Writer, regs: &[u16; 8]) -> Result<(), AllocError>
+    ensures { OnOk result (written writer.new
+        ≡ written writer.old ++ flat_map (spec.register_starting regs.now) spec.general_registers) }
+{
+    for r in GENERAL {
+        start_register(writer, regs, r)?;
     }
+    Ok(())
+}
 
-    // The flags begin with what the prelude leaves.
-    fn start_flags(&mut self, flags: Flags) -> Result<(), AllocError>
-        ensures { OnOk result (written self.new ≡ written self.old ++ spec.flags_starting flags) }
-    {
-        self.set(Loc::Flag(FlagName::Cf), bit(flags.cf))?;
-        self.set(Loc::Flag(FlagName::Zf), bit(flags.zf))?;
-        self.set(Loc::Flag(FlagName::Sf), bit(flags.sf))?;
-        self.set(Loc::Flag(FlagName::Of), bit(flags.of))
-    }
+// The flags begin with what the prelude leaves.
+fn start_flags(writer: &mut Writer, flags: Flags) -> Result<(), AllocError>
+    ensures { OnOk result (written writer.new ≡ written writer.old ++ spec.flags_starting flags) }
+{
+    writer.set(Loc::Flag(FlagName::Cf), bit(flags.cf))?;
+    writer.set(Loc::Flag(FlagName::Zf), bit(flags.zf))?;
+    writer.set(Loc::Flag(FlagName::Sf), bit(flags.sf))?;
+    writer.set(Loc::Flag(FlagName::Of), bit(flags.of))
 }
 
 // The block of the prelude, which goes to the block of the procedure's entry.
@@ -79,8 +72,8 @@ fn prelude_block(
         ≡ spec.prelude_block image.now layout.now (nodes_of outline.now.instructions)) }
 {
     let mut writer = Writer::new(alloc);
-    writer.start_registers(&layout.regs)?;
-    writer.start_flags(layout.flags)?;
+    start_registers(&mut writer, &layout.regs)?;
+    start_flags(&mut writer, layout.flags)?;
     Ok(Block {
         at: image.ip,
         stmts: writer.stmts,
@@ -104,7 +97,7 @@ fn graph(alloc: Global, image: &Image, layout: &Layout, start: &Proc) -> Result<
         local: 0,
         pushed: 0,
         blocks,
-        bits: TEMPORARIES.to_vec(alloc)?,
+        bits: temporary_bits(alloc)?,
     })
 }
 
@@ -145,7 +138,7 @@ fn translate(
 }
 
 /// The program of the inner language that stands for the entry procedure: one graph, over the halves of registers,
-/// the flags and seven temporaries, and the image's data segment. Its run visits its blocks as the machine comes to
+/// the flags and eight temporaries, and the image's data segment. Its run visits its blocks as the machine comes to
 /// their places, with the same events at the console and the same end, as long as that one is clean.
 ///
 /// The procedures are those that the search gives for the image and its layout, and each instruction that is reached is

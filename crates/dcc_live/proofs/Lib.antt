@@ -1,4 +1,5 @@
 pub mod MarkLaws
+pub mod MentionLaws
 pub mod RowLaws
 pub mod WantedLaws
 pub mod WorkLaws

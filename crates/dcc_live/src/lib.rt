@@ -9,12 +9,14 @@ mod access;
 mod dead;
 mod living;
 mod marks;
+mod mentions;
 mod places;
 mod rows;
 mod wanted;
 
 pub use dead::drop_dead;
 pub use living::live;
+pub use mentions::mentioned;
 
 #[cfg(test)]
 mod tests;

@@ -19,3 +19,5 @@ mod procedures;
 mod refusals;
 #[cfg(test)]
 mod steps;
+#[cfg(test)]
+mod watches;

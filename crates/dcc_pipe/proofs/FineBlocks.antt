@@ -6,15 +6,13 @@ use Rattle.std.proofs.lemmas.Bool.{and_parts, and_from, or_cases, eqb-true, ltb-
 use Rattle.std.proofs.lemmas.Bool.Decides.{nat_tests}
 use Rattle.std.proofs.lemmas.List.Elements.{All-head, All-tail}
 use Rattle.dcc_ir.specs.declared.syntax.Loc.{Loc}
-use Rattle.dcc_ir.specs.declared.syntax.Loc.TheVariants.{Half, Flag, Cell, Temp}
 use Rattle.dcc_ir.specs.Location.{location_width}
+use Rattle.dcc_ir.specs.Live.{is_among as has_location}
 use Rattle.dcc_ir.specs.Tree as inner
 use Rattle.dcc_ir.specs.Use.{exprs_of, exit_exprs, block_exprs}
 use Rattle.dcc_ir.specs.Measure.{depth_of}
 use Rattle.dcc_ir.specs.WellFormed.{is_location, is_expr, is_expr_of, is_byte_place, is_stmt, is_exit, is_block}
 use Rattle.dcc_ir.specs.Value.{width_of}
-use Rattle.dcc_lift.specs.Temporaries.{temporary_bits}
-use Rattle.dcc_lift.specs.Form.{is_lifted_location, is_lifted_half, is_lifted_expr, is_lifted_stmt, is_lifted_exit, is_lifted_block}
 use Rattle.dcc_c.specs.Tree.{Word, Stmt, Function, Tree}
 use Rattle.dcc_c.specs.Token.{same_bytes, is_word_byte}
 use Rattle.dcc_c.specs.Grammar.{is_name, is_among}
@@ -22,19 +20,20 @@ use Rattle.dcc_c.specs.Rules.{declared_in}
 use Rattle.dcc_c.proofs.Writable.{is_label}
 use Rattle.dcc_pipe.specs.GotoExpr.{text_expr}
 use Rattle.dcc_pipe.specs.GotoText.{hex_digit, label_name, label_at, text_stmt, text_exit, text_block}
-use Rattle.dcc_pipe.proofs.Places.{IsPlace}
 use Rattle.dcc_pipe.proofs.HeldLaws.{at-within}
 use Rattle.dcc_pipe.proofs.LabelLaws.{same-itself}
 use Rattle.dcc_pipe.proofs.FineStmts.{names, expr-fine, IsFine, AreFine, fine_end, fine_next, label-fine, assign-fine, give-fine, take-fine, goto-fine, if-fine, empty-fine}
+use Rattle.dcc_pipe.proofs.Named.{Naming, is_named_expr, is_named_stmt, is_named_exit, is_named_block}
+use Rattle.dcc_pipe.specs.Textable.{levels}
 
--- no expression is deeper than 7
+-- no expression is deeper
 abbrev pub AreShallow : List inner.Expr → Type 0
 AreShallow [] = Unit {0}
-AreShallow (e ∷ es) = (depth_of e ≤ 7) × AreShallow es
+AreShallow (e ∷ es) = (depth_of e ≤ levels) × AreShallow es
 
-pub shallow-of : (es : List inner.Expr) → All (λ e. depth_of e ≤ 7) es → AreShallow es
+pub shallow-of : (es : List inner.Expr) → All (λ e. depth_of e ≤ levels) es → AreShallow es
 shallow-of [] all = tt
-shallow-of (e ∷ es) all = (All-head (λ e. depth_of e ≤ 7) e es all, shallow-of es (All-tail (λ e. depth_of e ≤ 7) e es all))
+shallow-of (e ∷ es) all = (All-head (λ e. depth_of e ≤ levels) e es all, shallow-of es (All-tail (λ e. depth_of e ≤ levels) e es all))
 
 pub shallow-parts : (xs ys : List inner.Expr) → AreShallow (xs ++ ys) → AreShallow xs × AreShallow ys
 shallow-parts [] ys all = (tt, all)
@@ -91,129 +90,123 @@ is-target blocks place within =
       among = ap (is_among (labels_of blocks)) same ∙ label-among blocks place block is;
     }
 
-half-place : (location : Loc) → is_lifted_half location ≡ true → is_location temporary_bits location ≡ true → IsPlace location
-half-place (Half r h) half there = record { lifted = half; there = there }
-half-place (Flag flag) half there = absurd (true≢false (sym half))
-half-place (Cell n h) half there = absurd (true≢false (sym half))
-half-place (Temp n) half there = absurd (true≢false (sym half))
+module _ (naming : Naming) where
+  only : (b : Bool) → (b || false) ≡ true → b ≡ true
+  only true e = refl
+  only false e = absurd (true≢false (sym e))
 
-only : (b : Bool) → (b || false) ≡ true → b ≡ true
-only true e = refl
-only false e = absurd (true≢false (sym e))
+  sized : (width : ℕ) (e : inner.Expr) → is_expr_of naming.widths width e ≡ true → is_expr naming.widths e ≡ true
+  sized width e is = (and_parts (is_expr naming.widths e) (width_of naming.widths e == width) is).0
 
-sized : (width : ℕ) (e : inner.Expr) → is_expr_of temporary_bits width e ≡ true → is_expr temporary_bits e ≡ true
-sized width e is = (and_parts (is_expr temporary_bits e) (width_of temporary_bits e == width) is).0
+  -- no statement of a block is a label
+  stmt-plain : (stmt : inner.Stmt) → is_label (text_stmt naming.widths stmt) ≡ false
+  stmt-plain (inner.Set location e) = refl
+  stmt-plain (inner.Fetch location width address) = refl
+  stmt-plain (inner.Store width address e) = refl
+  stmt-plain (inner.Div location e) = refl
+  stmt-plain (inner.Call results entry arguments depth) = refl
+  stmt-plain (inner.Dos number place argument) = refl
 
--- no statement of a block is a label
-stmt-plain : (stmt : inner.Stmt) → is_label (text_stmt stmt) ≡ false
-stmt-plain (inner.Set location e) = refl
-stmt-plain (inner.Fetch location width address) = refl
-stmt-plain (inner.Store width address e) = refl
-stmt-plain (inner.Div location e) = refl
-stmt-plain (inner.Call results entry arguments depth) = refl
-stmt-plain (inner.Dos number place argument) = refl
+  exit-plain : (blocks : List inner.Block) (exit : inner.Exit) → is_label (text_exit naming.widths blocks exit) ≡ false
+  exit-plain blocks (inner.Goto place) = refl
+  exit-plain blocks (inner.If test one other) = refl
+  exit-plain blocks (inner.Switch e places) = refl
+  exit-plain blocks (inner.Ret values) = refl
+  exit-plain blocks inner.Stop = refl
 
-exit-plain : (blocks : List inner.Block) (exit : inner.Exit) → is_label (text_exit blocks exit) ≡ false
-exit-plain blocks (inner.Goto place) = refl
-exit-plain blocks (inner.If test one other) = refl
-exit-plain blocks (inner.Switch e places) = refl
-exit-plain blocks (inner.Ret values) = refl
-exit-plain blocks inner.Stop = refl
+  module _ (lo hi version : ℕ) (functions : List Function) (f : Function) (blocks : List inner.Block) where
+    abbrev tree : Tree
+    tree = record { version = version; lo = lo; hi = hi; globals = []; functions = functions }
 
-module _ (lo hi version : ℕ) (functions : List Function) (f : Function) (blocks : List inner.Block) where
-  abbrev tree : Tree
-  tree = record { version = version; lo = lo; hi = hi; globals = []; functions = functions }
+    module _ (names-are : declared_in tree f ≡ names naming) where
+      abbrev Fine : Stmt → Type 0
+      Fine stmt = IsFine naming tree f names-are (labels_of blocks) stmt
 
-  module _ (names-are : declared_in tree f ≡ names) where
-    abbrev Fine : Stmt → Type 0
-    Fine stmt = IsFine tree f names-are (labels_of blocks) stmt
+      abbrev FineAll : Bool → List Stmt → Type 0
+      FineAll labelled stmts = AreFine naming tree f names-are (labels_of blocks) labelled stmts
 
-    abbrev FineAll : Bool → List Stmt → Type 0
-    FineAll labelled stmts = AreFine tree f names-are (labels_of blocks) labelled stmts
+      argument-fine : (number : ℕ) (e : inner.Expr) → is_stmt naming.widths (inner.Dos number None (Some e)) ≡ true
+          → is_named_stmt naming.locations (inner.Dos number None (Some e)) ≡ true → depth_of e ≤ levels → Fine (text_stmt naming.widths (inner.Dos number None (Some e)))
+      argument-fine number e formed lifted low =
+          let (which, read) = and_parts (number == 2 || number == 76) (is_named_expr naming.locations e) lifted in
+          elim (or_cases (number == 2) (number == 76) which) [
+            | inl two ↦ by 2 number (eqb-true number 2 two)
+                (λ is. (give-fine naming) tree f names-are (labels_of blocks) (codes "dos_putc") (text_expr naming.widths e) refl refl
+                (expr-fine naming e (sized 8 e (only (is_expr_of naming.widths 8 e) is)) read low)) formed
+            | inr leave ↦ by 76 number (eqb-true number 76 leave)
+                (λ is. (give-fine naming) tree f names-are (labels_of blocks) (codes "dos_exit") (text_expr naming.widths e) refl refl
+                (expr-fine naming e (sized 8 e (only (is_expr_of naming.widths 8 e) is)) read low)) formed
+          ]
+        where
+          by : (known n : ℕ) → n ≡ known → (is_stmt naming.widths (inner.Dos known None (Some e)) ≡ true → Fine (text_stmt naming.widths (inner.Dos known None (Some e))))
+              → is_stmt naming.widths (inner.Dos n None (Some e)) ≡ true → Fine (text_stmt naming.widths (inner.Dos n None (Some e)))
+          by known n same fine = subst (λ k. is_stmt naming.widths (inner.Dos k None (Some e)) ≡ true → Fine (text_stmt naming.widths (inner.Dos k None (Some e)))) (sym same) fine
 
-    argument-fine : (number : ℕ) (e : inner.Expr) → is_stmt temporary_bits (inner.Dos number None (Some e)) ≡ true
-        → is_lifted_stmt (inner.Dos number None (Some e)) ≡ true → depth_of e ≤ 7 → Fine (text_stmt (inner.Dos number None (Some e)))
-    argument-fine number e formed lifted low =
-        let (which, read) = and_parts (number == 2 || number == 76) (is_lifted_expr e) lifted in
-        elim (or_cases (number == 2) (number == 76) which) [
-          | inl two ↦ by 2 number (eqb-true number 2 two)
-              (λ is. give-fine tree f names-are (labels_of blocks) (codes "dos_putc") (text_expr e) refl refl
-              (expr-fine e (sized 8 e (only (is_expr_of temporary_bits 8 e) is)) read low)) formed
-          | inr leave ↦ by 76 number (eqb-true number 76 leave)
-              (λ is. give-fine tree f names-are (labels_of blocks) (codes "dos_exit") (text_expr e) refl refl
-              (expr-fine e (sized 8 e (only (is_expr_of temporary_bits 8 e) is)) read low)) formed
-        ]
-      where
-        by : (known n : ℕ) → n ≡ known → (is_stmt temporary_bits (inner.Dos known None (Some e)) ≡ true → Fine (text_stmt (inner.Dos known None (Some e))))
-            → is_stmt temporary_bits (inner.Dos n None (Some e)) ≡ true → Fine (text_stmt (inner.Dos n None (Some e)))
-        by known n same fine = subst (λ k. is_stmt temporary_bits (inner.Dos k None (Some e)) ≡ true → Fine (text_stmt (inner.Dos k None (Some e)))) (sym same) fine
+      byte-fine : (number : ℕ) (location : Loc) → is_stmt naming.widths (inner.Dos number (Some location) None) ≡ true
+          → is_named_stmt naming.locations (inner.Dos number (Some location) None) ≡ true → Fine (text_stmt naming.widths (inner.Dos number (Some location) None))
+      byte-fine number location formed lifted =
+          let (which, is) = and_parts (number == 1 || number == 8) (has_location naming.locations location) lifted in
+          let (also, place) = and_parts (number == 1 || number == 8) (is_byte_place naming.widths (Some location)) formed in
+          let (there, wide) = and_parts (is_location naming.widths location) (location_width naming.widths location == 8) place in
+          elim (or_cases (number == 1) (number == 8) which) [
+            | inl one ↦ by 1 number (eqb-true number 1 one) (take-fine naming tree f names-are (labels_of blocks) (codes "dos_getche") location refl refl is)
+            | inr eight ↦ by 8 number (eqb-true number 8 eight) (take-fine naming tree f names-are (labels_of blocks) (codes "dos_getch") location refl refl is)
+          ]
+        where
+          by : (known n : ℕ) → n ≡ known → Fine (text_stmt naming.widths (inner.Dos known (Some location) None)) → Fine (text_stmt naming.widths (inner.Dos n (Some location) None))
+          by known n same fine = subst (λ k. Fine (text_stmt naming.widths (inner.Dos k (Some location) None))) (sym same) fine
 
-    byte-fine : (number : ℕ) (location : Loc) → is_stmt temporary_bits (inner.Dos number (Some location) None) ≡ true
-        → is_lifted_stmt (inner.Dos number (Some location) None) ≡ true → Fine (text_stmt (inner.Dos number (Some location) None))
-    byte-fine number location formed lifted =
-        let (which, half) = and_parts (number == 1 || number == 8) (is_lifted_half location) lifted in
-        let (also, place) = and_parts (number == 1 || number == 8) (is_byte_place temporary_bits (Some location)) formed in
-        let (there, wide) = and_parts (is_location temporary_bits location) (location_width temporary_bits location == 8) place in
-        let is = half-place location half there in
-        elim (or_cases (number == 1) (number == 8) which) [
-          | inl one ↦ by 1 number (eqb-true number 1 one) (take-fine tree f names-are (labels_of blocks) (codes "dos_getche") location refl refl is)
-          | inr eight ↦ by 8 number (eqb-true number 8 eight) (take-fine tree f names-are (labels_of blocks) (codes "dos_getch") location refl refl is)
-        ]
-      where
-        by : (known n : ℕ) → n ≡ known → Fine (text_stmt (inner.Dos known (Some location) None)) → Fine (text_stmt (inner.Dos n (Some location) None))
-        by known n same fine = subst (λ k. Fine (text_stmt (inner.Dos k (Some location) None))) (sym same) fine
+      stmt-fine : (stmt : inner.Stmt) → is_stmt naming.widths stmt ≡ true → is_named_stmt naming.locations stmt ≡ true → AreShallow (exprs_of stmt) → Fine (text_stmt naming.widths stmt)
+      stmt-fine (inner.Set location e) formed lifted shallow =
+          let (there, fits) = and_parts (is_location naming.widths location) (is_expr_of naming.widths (location_width naming.widths location) e) formed in
+          let (place, read) = and_parts (has_location naming.locations location) (is_named_expr naming.locations e) lifted in
+          assign-fine naming tree f names-are (labels_of blocks) location (text_expr naming.widths e) place
+          (expr-fine naming e (sized (location_width naming.widths location) e fits) read shallow.0)
+      stmt-fine (inner.Dos number None (Some e)) formed lifted shallow = argument-fine number e formed lifted shallow.0
+      stmt-fine (inner.Dos number (Some location) None) formed lifted shallow = byte-fine number location formed lifted
+      stmt-fine stmt formed lifted shallow = absurd (true≢false (sym lifted))
 
-    stmt-fine : (stmt : inner.Stmt) → is_stmt temporary_bits stmt ≡ true → is_lifted_stmt stmt ≡ true → AreShallow (exprs_of stmt) → Fine (text_stmt stmt)
-    stmt-fine (inner.Set location e) formed lifted shallow =
-        let (there, fits) = and_parts (is_location temporary_bits location) (is_expr_of temporary_bits (location_width temporary_bits location) e) formed in
-        let (place, read) = and_parts (is_lifted_location location) (is_lifted_expr e) lifted in
-        assign-fine tree f names-are (labels_of blocks) location (text_expr e) (record { lifted = place; there = there })
-        (expr-fine e (sized (location_width temporary_bits location) e fits) read shallow.0)
-    stmt-fine (inner.Dos number None (Some e)) formed lifted shallow = argument-fine number e formed lifted shallow.0
-    stmt-fine (inner.Dos number (Some location) None) formed lifted shallow = byte-fine number location formed lifted
-    stmt-fine stmt formed lifted shallow = absurd (true≢false (sym lifted))
+      exit-fine : (exit : inner.Exit) → is_exit naming.widths (length blocks) exit ≡ true → is_named_exit naming.locations exit ≡ true → AreShallow (exit_exprs exit) → Fine (text_exit naming.widths blocks exit)
+      exit-fine (inner.Goto place) formed lifted shallow =
+          let to = is-target blocks place (ltb-true place (length blocks) formed) in
+          goto-fine naming tree f names-are (labels_of blocks) (label_at blocks place) to.named to.among
+      exit-fine (inner.If test one other) formed lifted shallow =
+          let (two, second) = and_parts (is_expr_of naming.widths 1 test && nat_lt one (length blocks)) (nat_lt other (length blocks)) formed in
+          let (tested, first) = and_parts (is_expr_of naming.widths 1 test) (nat_lt one (length blocks)) two in
+          let to = is-target blocks one (ltb-true one (length blocks) first) in
+          let or_to = is-target blocks other (ltb-true other (length blocks) second) in
+          if-fine naming tree f names-are (labels_of blocks) (text_expr naming.widths test) (label_at blocks one) (label_at blocks other)
+          (expr-fine naming test (sized 1 test tested) lifted shallow.0) to.named or_to.named to.among or_to.among
+      exit-fine (inner.Switch e places) formed lifted shallow = absurd (true≢false (sym lifted))
+      exit-fine (inner.Ret values) formed lifted shallow = absurd (true≢false (sym lifted))
+      exit-fine inner.Stop formed lifted shallow = empty-fine naming tree f names-are (labels_of blocks)
 
-    exit-fine : (exit : inner.Exit) → is_exit temporary_bits (length blocks) exit ≡ true → is_lifted_exit exit ≡ true → AreShallow (exit_exprs exit) → Fine (text_exit blocks exit)
-    exit-fine (inner.Goto place) formed lifted shallow =
-        let to = is-target blocks place (ltb-true place (length blocks) formed) in
-        goto-fine tree f names-are (labels_of blocks) (label_at blocks place) to.named to.among
-    exit-fine (inner.If test one other) formed lifted shallow =
-        let (two, second) = and_parts (is_expr_of temporary_bits 1 test && nat_lt one (length blocks)) (nat_lt other (length blocks)) formed in
-        let (tested, first) = and_parts (is_expr_of temporary_bits 1 test) (nat_lt one (length blocks)) two in
-        let to = is-target blocks one (ltb-true one (length blocks) first) in
-        let or_to = is-target blocks other (ltb-true other (length blocks) second) in
-        if-fine tree f names-are (labels_of blocks) (text_expr test) (label_at blocks one) (label_at blocks other)
-        (expr-fine test (sized 1 test tested) lifted shallow.0) to.named or_to.named to.among or_to.among
-    exit-fine (inner.Switch e places) formed lifted shallow = absurd (true≢false (sym lifted))
-    exit-fine (inner.Ret values) formed lifted shallow = absurd (true≢false (sym lifted))
-    exit-fine inner.Stop formed lifted shallow = empty-fine tree f names-are (labels_of blocks)
+      -- the statements of a block, and its end, before others
+      stmts-fine : (stmts : List inner.Stmt) (exit : inner.Exit) (others : List Stmt) (labelled : Bool) → list_all (is_stmt naming.widths) stmts ≡ true
+          → list_all (is_named_stmt naming.locations) stmts ≡ true → AreShallow (flat_map exprs_of stmts) → Fine (text_exit naming.widths blocks exit) → FineAll false others
+          → FineAll labelled (map (text_stmt naming.widths) stmts ++ text_exit naming.widths blocks exit ∷ others)
+      stmts-fine [] exit others labelled formed lifted shallow end rest = fine_next end (subst (λ b. FineAll b others) (sym (exit-plain blocks exit)) rest)
+      stmts-fine (stmt ∷ stmts) exit others labelled formed lifted shallow end rest =
+          let (here, later) = and_parts (is_stmt naming.widths stmt) (list_all (is_stmt naming.widths) stmts) formed in
+          let (mine, theirs) = and_parts (is_named_stmt naming.locations stmt) (list_all (is_named_stmt naming.locations) stmts) lifted in
+          let low = shallow-parts (exprs_of stmt) (flat_map exprs_of stmts) shallow in
+          fine_next (stmt-fine stmt here mine low.0) (stmts-fine stmts exit others (is_label (text_stmt naming.widths stmt)) later theirs low.1 end rest)
 
-    -- the statements of a block, and its end, before others
-    stmts-fine : (stmts : List inner.Stmt) (exit : inner.Exit) (others : List Stmt) (labelled : Bool) → list_all (is_stmt temporary_bits) stmts ≡ true
-        → list_all is_lifted_stmt stmts ≡ true → AreShallow (flat_map exprs_of stmts) → Fine (text_exit blocks exit) → FineAll false others
-        → FineAll labelled (map text_stmt stmts ++ text_exit blocks exit ∷ others)
-    stmts-fine [] exit others labelled formed lifted shallow end rest = fine_next end (subst (λ b. FineAll b others) (sym (exit-plain blocks exit)) rest)
-    stmts-fine (stmt ∷ stmts) exit others labelled formed lifted shallow end rest =
-        let (here, later) = and_parts (is_stmt temporary_bits stmt) (list_all (is_stmt temporary_bits) stmts) formed in
-        let (mine, theirs) = and_parts (is_lifted_stmt stmt) (list_all is_lifted_stmt stmts) lifted in
-        let low = shallow-parts (exprs_of stmt) (flat_map exprs_of stmts) shallow in
-        fine_next (stmt-fine stmt here mine low.0) (stmts-fine stmts exit others (is_label (text_stmt stmt)) later theirs low.1 end rest)
+      block-fine : (block : inner.Block) (others : List Stmt) → is_block naming.widths (length blocks) block ≡ true → is_named_block naming.locations block ≡ true
+          → AreShallow (block_exprs block) → FineAll false others → FineAll false (text_block naming.widths blocks block ++ others)
+      block-fine block others formed lifted shallow rest =
+          let (stmts_formed, end_formed) = and_parts (list_all (is_stmt naming.widths) block.stmts) (is_exit naming.widths (length blocks) block.exit) formed in
+          let (stmts_lifted, end_lifted) = and_parts (list_all (is_named_stmt naming.locations) block.stmts) (is_named_exit naming.locations block.exit) lifted in
+          let low = shallow-parts (flat_map exprs_of block.stmts) (exit_exprs block.exit) shallow in
+          fine_next (label-fine naming tree f names-are (labels_of blocks) (label_name block.at) (label-name block.at))
+          (subst (FineAll true) (sym (append_assoc (map (text_stmt naming.widths) block.stmts) (text_exit naming.widths blocks block.exit ∷ []) others))
+          (stmts-fine block.stmts block.exit others true stmts_formed stmts_lifted low.0 (exit-fine block.exit end_formed end_lifted low.1) rest))
 
-    block-fine : (block : inner.Block) (others : List Stmt) → is_block temporary_bits (length blocks) block ≡ true → is_lifted_block block ≡ true
-        → AreShallow (block_exprs block) → FineAll false others → FineAll false (text_block blocks block ++ others)
-    block-fine block others formed lifted shallow rest =
-        let (stmts_formed, end_formed) = and_parts (list_all (is_stmt temporary_bits) block.stmts) (is_exit temporary_bits (length blocks) block.exit) formed in
-        let (stmts_lifted, end_lifted) = and_parts (list_all is_lifted_stmt block.stmts) (is_lifted_exit block.exit) lifted in
-        let low = shallow-parts (flat_map exprs_of block.stmts) (exit_exprs block.exit) shallow in
-        fine_next (label-fine tree f names-are (labels_of blocks) (label_name block.at) (label-name block.at))
-        (subst (FineAll true) (sym (append_assoc (map text_stmt block.stmts) (text_exit blocks block.exit ∷ []) others))
-        (stmts-fine block.stmts block.exit others true stmts_formed stmts_lifted low.0 (exit-fine block.exit end_formed end_lifted low.1) rest))
-
-    pub blocks-fine : (bs : List inner.Block) → list_all (is_block temporary_bits (length blocks)) bs ≡ true → list_all is_lifted_block bs ≡ true
-        → AreShallow (flat_map block_exprs bs) → FineAll false (flat_map (text_block blocks) bs)
-    blocks-fine [] formed lifted shallow = fine_end
-    blocks-fine (block ∷ bs) formed lifted shallow =
-        let (here, later) = and_parts (is_block temporary_bits (length blocks) block) (list_all (is_block temporary_bits (length blocks)) bs) formed in
-        let (mine, theirs) = and_parts (is_lifted_block block) (list_all is_lifted_block bs) lifted in
-        let low = shallow-parts (block_exprs block) (flat_map block_exprs bs) shallow in
-        block-fine block (flat_map (text_block blocks) bs) here mine low.0 (blocks-fine bs later theirs low.1)
+      pub blocks-fine : (bs : List inner.Block) → list_all (is_block naming.widths (length blocks)) bs ≡ true → list_all (is_named_block naming.locations) bs ≡ true
+          → AreShallow (flat_map block_exprs bs) → FineAll false (flat_map (text_block naming.widths blocks) bs)
+      blocks-fine [] formed lifted shallow = fine_end
+      blocks-fine (block ∷ bs) formed lifted shallow =
+          let (here, later) = and_parts (is_block naming.widths (length blocks) block) (list_all (is_block naming.widths (length blocks)) bs) formed in
+          let (mine, theirs) = and_parts (is_named_block naming.locations block) (list_all (is_named_block naming.locations) bs) lifted in
+          let low = shallow-parts (block_exprs block) (flat_map block_exprs bs) shallow in
+          block-fine block (flat_map (text_block naming.widths blocks) bs) here mine low.0 (blocks-fine bs later theirs low.1)

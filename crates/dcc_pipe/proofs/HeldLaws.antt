@@ -6,23 +6,24 @@ use Rattle.std.proofs.lemmas.List.Elements.{All-head, All-tail}
 use Rattle.dcc_ir.specs.declared.syntax.Loc.{Loc}
 use Rattle.dcc_ir.specs.declared.syntax.Loc.TheVariants.{Half, Flag, Cell, Temp}
 use Rattle.dcc_ir.specs.Location.{same_location, location_width, Values, with_value}
-use Rattle.dcc_lift.specs.Temporaries.{temporary_bits}
+use Rattle.dcc_pipe.proofs.Named.{Naming}
 use Rattle.dcc_pipe.proofs.ExprMeanings.{AreHeld}
 use Rattle.dcc_pipe.proofs.TextSteps.{key_of, left_of}
 
-same-width : (a b : Loc) → same_location a b ≡ true → location_width temporary_bits a ≡ location_width temporary_bits b
-same-width (Half r h) (Half r' h') is = refl
-same-width (Flag f) (Flag g) is = refl
-same-width (Cell n h) (Cell m k) is = refl
-same-width (Temp n) (Temp m) is = ap (λ k. location_width temporary_bits (Temp k)) (eqb-true n m is)
-same-width a b is = absurd (true≢false (sym is))
+module _ (naming : Naming) where
+  same-width : (a b : Loc) → same_location a b ≡ true → location_width naming.widths a ≡ location_width naming.widths b
+  same-width (Half r h) (Half r' h') is = refl
+  same-width (Flag f) (Flag g) is = refl
+  same-width (Cell n h) (Cell m k) is = refl
+  same-width (Temp n) (Temp m) is = ap (λ k. location_width naming.widths (Temp k)) (eqb-true n m is)
+  same-width a b is = absurd (true≢false (sym is))
 
--- the values stay so where a location takes a number of its width
-pub held-after : (values : Values) (location : Loc) (n : ℕ) → AreHeld values → n < 2 ^ location_width temporary_bits location → AreHeld (with_value values location n)
-held-after values location n held fits other is = elim (cases_Bool (same_location other location)) [
-  | inl same ↦ rw same (subst (λ w. n < 2 ^ w) (sym (same-width other location same)) fits)
-  | inr apart ↦ rw apart (held other is)
-]
+  -- the values stay so where a location takes a number of its width
+  pub held-after : (values : Values) (location : Loc) (n : ℕ) → AreHeld naming values → n < 2 ^ location_width naming.widths location → AreHeld naming (with_value values location n)
+  held-after values location n held fits other is = elim (cases_Bool (same_location other location)) [
+    | inl same ↦ rw same (subst (λ w. n < 2 ^ w) (sym (same-width other location same)) fits)
+    | inr apart ↦ rw apart (held other is)
+  ]
 
 -- the bytes of an input
 abbrev pub AreBytes : List ℕ → Type 0

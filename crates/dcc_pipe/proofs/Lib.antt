@@ -6,6 +6,8 @@ pub mod SignedMeanings
 pub mod CompareMeanings
 pub mod ShiftMeanings
 pub mod PartMeanings
+pub mod Named
+pub mod NameLaws
 pub mod Places
 pub mod ExprMeanings
 pub mod TextSteps
@@ -13,10 +15,14 @@ pub mod HeldLaws
 pub mod LabelLaws
 pub mod Lined
 pub mod BlockRuns
+pub mod CutRuns
 pub mod GotoRuns
-pub mod LiftedGraph
+pub mod NamedLocations
+pub mod TextGraph
 pub mod TokenCounts
-pub mod LiftedText
+pub mod TextRuns
+pub mod FoldedForm
+pub mod SimplifiedLaws
 pub mod SpelledExprs
 pub mod SpelledText
 pub mod FineStmts

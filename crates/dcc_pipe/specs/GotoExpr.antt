@@ -1,6 +1,6 @@
--- The expressions of a lifted program as expressions of a text. At 1 and at 8 bits their values are small numbers of
+-- The expressions of a graph as expressions of a text. At 1 and at 8 bits their values are small numbers of
 -- type `unsigned char` or `int`, at 16 bits they have type `unsigned int`, and at 32 bits `unsigned long`.
-use Rattle.std.specs.Prelude.{ℕ, ◌+◌, ◌==◌, nat_le, Bool, if◌then◌else◌}
+use Rattle.std.specs.Prelude.{ℕ, ◌+◌, ◌==◌, nat_le, Bool, if◌then◌else◌, List}
 use Rattle.dcc_ir.specs.declared.syntax.UnOp.{UnOp}
 use Rattle.dcc_ir.specs.declared.syntax.UnOp.TheVariants.{Neg, Not, IsZero}
 use Rattle.dcc_ir.specs.declared.syntax.BinOp.{BinOp}
@@ -8,7 +8,6 @@ use Rattle.dcc_ir.specs.declared.syntax.BinOp.TheVariants.{Add, Sub, Mul, And, O
 use Rattle.dcc_ir.specs.Location.{location_width}
 use Rattle.dcc_ir.specs.Value.{is_test, is_comparison}
 use Rattle.dcc_ir.specs.Tree as inner
-use Rattle.dcc_lift.specs.Temporaries.{temporary_bits}
 use Rattle.dcc_c.specs.declared.syntax.Base.{Base}
 use Rattle.dcc_c.specs.declared.syntax.Base.TheVariants.{Int}
 use Rattle.dcc_c.specs.declared.syntax.CUn.TheVariants.{Minus, Complement}
@@ -17,18 +16,18 @@ use Rattle.dcc_c.specs.Types.{plain}
 use Rattle.dcc_c.specs.Tree.{Expr, Number, Name, Unary, Binary, Conditional, Cast}
 use Rattle.dcc_pipe.specs.Variables.{variable_name, unsigned_type, signed_type}
 
--- how many bits a well-formed expression has; two halves of a byte each make a word
-abbrev pub bits_in : inner.Expr → ℕ
-bits_in (inner.Const width n) = width
-bits_in (inner.Get location) = location_width temporary_bits location
-bits_in (inner.Load width address) = width
-bits_in (inner.Unary operator width a) = if is_test operator then 1 else width
-bits_in (inner.Binary operator width a b) = if is_comparison operator then 1 else width
-bits_in (inner.Widen signed width a) = width
-bits_in (inner.Part width first a) = width
-bits_in (inner.Join high low) = if bits_in low == 8 then 16 else 32
-bits_in (inner.Choose test a b) = bits_in a
-bits_in (inner.Address distance) = 16
+-- how many bits a well-formed expression has, where the temporaries have these; two halves of a byte each make a word
+abbrev pub bits_in : List ℕ → inner.Expr → ℕ
+bits_in bits (inner.Const width n) = width
+bits_in bits (inner.Get location) = location_width bits location
+bits_in bits (inner.Load width address) = width
+bits_in bits (inner.Unary operator width a) = if is_test operator then 1 else width
+bits_in bits (inner.Binary operator width a b) = if is_comparison operator then 1 else width
+bits_in bits (inner.Widen signed width a) = width
+bits_in bits (inner.Part width first a) = width
+bits_in bits (inner.Join high low) = if bits_in bits low == 8 then 16 else 32
+bits_in bits (inner.Choose test a b) = bits_in bits a
+bits_in bits (inner.Address distance) = 16
 
 -- a small number, as a bit or a count
 abbrev pub small : ℕ → Expr
@@ -57,7 +56,7 @@ unary_expr Neg width a = wrapped width (Unary Minus a)
 unary_expr Not width a = if width == 1 then Binary BitXor a (small 1) else wrapped width (Unary Complement a)
 unary_expr IsZero width a = Binary Equal a (small 0)
 
--- a lifted program has no divisions
+-- the programs that have a text have no divisions
 abbrev pub binary_expr : BinOp → ℕ → Expr → Expr → Expr
 binary_expr Add width a b = wrapped width (Binary Plus a b)
 binary_expr Sub width a b = wrapped width (Binary Less a b)
@@ -88,15 +87,15 @@ abbrev pub joined : ℕ → Expr → Expr → Expr
 joined width high low =
     Binary BitOr (Binary ShiftLeft (Cast (plain (unsigned_type (width + width))) high) (small width)) low
 
--- The expression; a lifted program reads no memory and takes no addresses.
-abbrev pub text_expr : inner.Expr → Expr
-text_expr (inner.Const width n) = Number n (constant_type width)
-text_expr (inner.Get location) = Name (variable_name location)
-text_expr (inner.Load width address) = small 0
-text_expr (inner.Unary operator width a) = unary_expr operator width (text_expr a)
-text_expr (inner.Binary operator width a b) = binary_expr operator width (text_expr a) (text_expr b)
-text_expr (inner.Widen signed width a) = widened signed (bits_in a) width (text_expr a)
-text_expr (inner.Part width first a) = part_expr width first (text_expr a)
-text_expr (inner.Join high low) = joined (bits_in low) (text_expr high) (text_expr low)
-text_expr (inner.Choose test a b) = Conditional (text_expr test) (text_expr a) (text_expr b)
-text_expr (inner.Address distance) = small 0
+-- The expression; the programs that have a text read no memory and take no addresses.
+abbrev pub text_expr : List ℕ → inner.Expr → Expr
+text_expr bits (inner.Const width n) = Number n (constant_type width)
+text_expr bits (inner.Get location) = Name (variable_name location)
+text_expr bits (inner.Load width address) = small 0
+text_expr bits (inner.Unary operator width a) = unary_expr operator width (text_expr bits a)
+text_expr bits (inner.Binary operator width a b) = binary_expr operator width (text_expr bits a) (text_expr bits b)
+text_expr bits (inner.Widen signed width a) = widened signed (bits_in bits a) width (text_expr bits a)
+text_expr bits (inner.Part width first a) = part_expr width first (text_expr bits a)
+text_expr bits (inner.Join high low) = joined (bits_in bits low) (text_expr bits high) (text_expr bits low)
+text_expr bits (inner.Choose test a b) = Conditional (text_expr bits test) (text_expr bits a) (text_expr bits b)
+text_expr bits (inner.Address distance) = small 0

@@ -1,4 +1,6 @@
 pub mod Variables
+pub mod Textable
+pub mod Simplified
 pub mod GotoExpr
 pub mod GotoText
 pub mod Agreement

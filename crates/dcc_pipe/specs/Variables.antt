@@ -1,5 +1,6 @@
--- The variables of a lifted program's text: one for each half of a word register, each flag and each temporary.
-use Rattle.std.specs.Prelude.{ℕ, ◌+◌, ◌*◌, nat_le, if◌then◌else◌, List, [], ◌∷◌, ◌++◌, codes, None}
+-- The variables of a graph's text: one for each location that the graph reads or writes.
+use Rattle.std.specs.Prelude.{ℕ, ◌+◌, ◌*◌, nat_le, if◌then◌else◌, List, [], ◌∷◌, ◌++◌, filter, length, map, codes, None}
+use Rattle.std.specs.List.{range_with_len}
 use Rattle.std.specs.Fmt.{decimal}
 use Rattle.dcc_num.specs.declared.Reg.{Reg}
 use Rattle.dcc_num.specs.declared.Reg.TheVariants.{Ax, Cx, Dx, Bx, Sp, Bp, Si, Di}
@@ -8,24 +9,29 @@ use Rattle.dcc_num.specs.declared.FlagName.TheVariants.{Cf, Zf, Sf, Of}
 use Rattle.dcc_ir.specs.declared.syntax.Loc.{Loc}
 use Rattle.dcc_ir.specs.declared.syntax.Loc.TheVariants.{Half, Flag, Cell, Temp}
 use Rattle.dcc_ir.specs.Location.{half_number, flag_number, location_width}
-use Rattle.dcc_lift.specs.Temporaries.{temporary_bits}
+use Rattle.dcc_ir.specs.Tree.{Graph}
+use Rattle.dcc_ir.specs.Live.{is_among}
+use Rattle.dcc_live.specs.Mentions.{graph_mentions}
 use Rattle.dcc_c.specs.declared.syntax.Base.{Base}
 use Rattle.dcc_c.specs.declared.syntax.Base.TheVariants.{Schar, Uchar, Int, Uint, Long, Ulong}
 use Rattle.dcc_c.specs.declared.syntax.Class.TheVariants.{Plain}
 use Rattle.dcc_c.specs.Types.{plain}
 use Rattle.dcc_c.specs.Tree.{Word, Variable}
 
--- the flags
-abbrev pub flags : List Loc
-flags = Flag Cf ∷ Flag Zf ∷ Flag Sf ∷ Flag Of ∷ []
-
--- the locations that have variables, in the variables' order
-abbrev pub locations : List Loc
-locations =
+-- the halves of word registers and the flags
+unfoldable pub named_locations : List Loc
+named_locations =
     Half Ax Low ∷ Half Ax High ∷ Half Cx Low ∷ Half Cx High ∷ Half Dx Low ∷ Half Dx High
     ∷ Half Bx Low ∷ Half Bx High ∷ Half Si Low ∷ Half Si High ∷ Half Di Low ∷ Half Di High
-    ∷ Flag Cf ∷ Flag Zf ∷ Flag Sf ∷ Flag Of
-    ∷ Temp 0 ∷ Temp 1 ∷ Temp 2 ∷ Temp 3 ∷ Temp 4 ∷ Temp 5 ∷ Temp 6 ∷ []
+    ∷ Flag Cf ∷ Flag Zf ∷ Flag Sf ∷ Flag Of ∷ []
+
+-- the locations that may have variables, in the variables' order: these, and then the temporaries by their numbers
+abbrev pub all_locations : List ℕ → List Loc
+all_locations bits = named_locations ++ map Temp (range_with_len 0 (length bits))
+
+-- those that have variables: the graph reads or writes them
+abbrev pub locations : Graph → List Loc
+locations graph = filter (is_among (graph_mentions graph)) (all_locations graph.bits)
 
 -- the place of a register among those whose halves have variables; SP and BP come after
 abbrev pub place_among : Reg → ℕ
@@ -56,10 +62,11 @@ unsigned_type width = if nat_le width 8 then Uchar else if nat_le width 16 then 
 abbrev pub signed_type : ℕ → Base
 signed_type width = if nat_le width 8 then Schar else if nat_le width 16 then Int else Long
 
-abbrev pub variable : Loc → Variable
-variable location = record {
+-- the declaration of a location's variable, where the temporaries have these bits
+abbrev pub variable : List ℕ → Loc → Variable
+variable bits location = record {
   name = variable_name location;
-  type = plain (unsigned_type (location_width temporary_bits location));
+  type = plain (unsigned_type (location_width bits location));
   len = None;
   class = Plain;
 }

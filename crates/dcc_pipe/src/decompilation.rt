@@ -13,6 +13,7 @@ use crate::analysis::analyse;
 use crate::built::reached_unbuilt;
 use crate::goto_text::goto_text;
 use crate::number::number;
+use crate::passes::simplified;
 use dcc_c::Unit;
 use dcc_lift::lift;
 use dcc_prog::{Cpu, Image, Program, Refusal};
@@ -26,14 +27,15 @@ fn text_of(alloc: Global, image: &Image, program: &Program) -> Result<Unit, Allo
     ensures { IfOk result (λ unit. IsTextOf program.now.layout.cpu image.now (written_form (tree_of unit)) (tree_of unit)) }
 {
     let lifted = lift(alloc, image, &program.layout, &program.procs)?;
-    let unit = goto_text(alloc, &lifted)?;
+    let simple = simplified(alloc, lifted)?;
+    let unit = goto_text(alloc, &simple)?;
     number(alloc, unit)
 }
 
 /// The text of a loaded program for a processor: a variable for each half of a word register, each flag and each
-/// temporary, a label before each block, and jumps, with the lines where statements stand in the written form. The
-/// written form stands for the unit's tree, whose run on every input and from every fill agrees with that of the
-/// program on the processor.
+/// temporary that it needs, a label before each block, and jumps, with the lines where statements stand in the written
+/// form. What nothing wants is not computed. The written form stands for the unit's tree, whose run on every input and
+/// from every fill agrees with that of the program on the processor.
 ///
 /// A program that is accepted has no construct, passes no limit, and reaches no instruction that is not built. One that
 /// is refused is told why, in this order: what `analyse` refuses; and where it refuses nothing, an instruction that is

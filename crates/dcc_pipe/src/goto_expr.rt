@@ -31,16 +31,16 @@ fn is_comparison(operator: BinOp) -> bool
     )
 }
 
-// How many bits an expression has.
-fn bits_in(e: &Expr) -> u8
-    ensures { result ≡ spec.bits_in (inner_of e.now) }
+// How many bits an expression has, where the temporaries have these.
+fn bits_in(bits: &[u8], e: &Expr) -> u8
+    ensures { result ≡ spec.bits_in bits.now (inner_of e.now) }
 {
     match e {
         Expr::Const { width, .. }
         | Expr::Load { width, .. }
         | Expr::Widen { width, .. }
         | Expr::Part { width, .. } => *width,
-        Expr::Get(location) => location_width(*location),
+        Expr::Get(location) => location_width(bits, *location),
         Expr::Un {
             operator,
             width,
@@ -51,8 +51,8 @@ fn bits_in(e: &Expr) -> u8
             width,
             ..
         } => { if is_comparison(*operator) { 1 } else { *width } }
-        Expr::Join { low, .. } => { if bits_in(low) == 8 { 16 } else { 32 } }
-        Expr::Choose { one, .. } => bits_in(one),
+        Expr::Join { low, .. } => { if bits_in(bits, low) == 8 { 16 } else { 32 } }
+        Expr::Choose { one, .. } => bits_in(bits, one),
         Expr::Address(_) => 16,
     }
 }
@@ -266,9 +266,9 @@ fn conditional(alloc: Global, test: CExpr, a: CExpr, b: CExpr) -> Result<CExpr, 
     Ok(CExpr::Cond(test, a, b))
 }
 
-/// An expression of a program as one of its text.
-pub fn text_expr(alloc: Global, e: &Expr) -> Result<CExpr, AllocError>
-    ensures { IfOk result (λ r. expr_of r ≡ spec.text_expr (inner_of e.now)) }
+/// An expression of a program as one of its text, where the temporaries have these bits.
+pub fn text_expr(alloc: Global, bits: &[u8], e: &Expr) -> Result<CExpr, AllocError>
+    ensures { IfOk result (λ r. expr_of r ≡ spec.text_expr bits.now (inner_of e.now)) }
 {
     match e {
         Expr::Const { width, number } => Ok(CExpr::Num(*number, constant_type(*width))),
@@ -277,15 +277,15 @@ pub fn text_expr(alloc: Global, e: &Expr) -> Result<CExpr, AllocError>
             operator,
             width,
             operand: a,
-        } => unary_expr(alloc, *operator, *width, text_expr(alloc, a)?),
+        } => unary_expr(alloc, *operator, *width, text_expr(alloc, bits, a)?),
         Expr::Bin {
             operator,
             width,
             left,
             right,
         } => {
-            let left = text_expr(alloc, left)?;
-            let right = text_expr(alloc, right)?;
+            let left = text_expr(alloc, bits, left)?;
+            let right = text_expr(alloc, bits, right)?;
             binary_expr(alloc, *operator, *width, left, right)
         }
         Expr::Widen {
@@ -293,23 +293,23 @@ pub fn text_expr(alloc: Global, e: &Expr) -> Result<CExpr, AllocError>
             width,
             operand: a,
         } => {
-            let inner = text_expr(alloc, a)?;
-            widened(alloc, *by_sign, bits_in(a), *width, inner)
+            let inner = text_expr(alloc, bits, a)?;
+            widened(alloc, *by_sign, bits_in(bits, a), *width, inner)
         }
         Expr::Part {
             width,
             first,
             operand: a,
-        } => part(alloc, *width, *first, text_expr(alloc, a)?),
+        } => part(alloc, *width, *first, text_expr(alloc, bits, a)?),
         Expr::Join { high, low } => {
-            let upper = text_expr(alloc, high)?;
-            let lower = text_expr(alloc, low)?;
-            joined(alloc, bits_in(low), upper, lower)
+            let upper = text_expr(alloc, bits, high)?;
+            let lower = text_expr(alloc, bits, low)?;
+            joined(alloc, bits_in(bits, low), upper, lower)
         }
         Expr::Choose { test, one, other } => {
-            let test = text_expr(alloc, test)?;
-            let first = text_expr(alloc, one)?;
-            let second = text_expr(alloc, other)?;
+            let test = text_expr(alloc, bits, test)?;
+            let first = text_expr(alloc, bits, one)?;
+            let second = text_expr(alloc, bits, other)?;
             conditional(alloc, test, first, second)
         }
         Expr::Load { .. } | Expr::Address(_) => Ok(small(0)),

@@ -1,6 +1,6 @@
 //! The text of a program with labels and jumps.
 
-ghost use Rattle.std.specs.Prelude.{◌≡◌, ◌<◌, ◌++◌, ◌∷◌, [], OnOk, IfOk, map, option_map, option_to_list, string_bytes};
+ghost use Rattle.std.specs.Prelude.{◌≡◌, ◌<◌, ◌^◌, ◌++◌, ◌∷◌, [], OnOk, IfOk, All, length, map, flat_map, take, option_map, option_to_list, string_bytes};
 ghost use Rattle.dcc_ir.specs.Views as inner;
 ghost use Rattle.dcc_c.specs.Tree as tree;
 ghost use Rattle.dcc_c.specs.Views.{expr_of, stmt_of, lines_of, tree_of, function_of};
@@ -9,10 +9,10 @@ ghost use Rattle.dcc_pipe.specs.GotoText as spec;
 ghost use Rattle.dcc_pipe.specs.Uncounted.{uncounted_line};
 
 use crate::goto_expr::text_expr;
-use crate::variables::{place_of, variables};
+use crate::variables::{location_width, locations, place_of, variables};
 use dcc_c::{Base, CBin, CExpr, CStmt, Func, Line, Unit};
 use dcc_ir::{Block, End, Expr, Graph, IrProgram, Loc, Stmt};
-use dcc_num::{FlagName, dos};
+use dcc_num::dos;
 use std::alloc::{AllocError, Global};
 
 // The depth of calls, in bytes, that is in force where no pragma stands.
@@ -88,20 +88,20 @@ fn taken(alloc: Global, place: Option<Loc>) -> Result<Option<CExpr>, AllocError>
 }
 
 // The argument of a DOS call, where there is one.
-fn arguments(alloc: Global, argument: &Option<Expr>) -> Result<Vec<CExpr>, AllocError>
+fn arguments(alloc: Global, bits: &[u8], argument: &Option<Expr>) -> Result<Vec<CExpr>, AllocError>
     ensures { IfOk result (λ es. map expr_of es.items
-        ≡ map text_expr (option_to_list (option_map inner.expr_of argument.now))) }
+        ≡ map (text_expr bits.now) (option_to_list (option_map inner.expr_of argument.now))) }
 {
     let mut arguments = Vec::new(alloc);
     if let Some(e) = argument {
-        arguments.push(text_expr(alloc, e)?)?;
+        arguments.push(text_expr(alloc, bits, e)?)?;
     }
     Ok(arguments)
 }
 
 // A statement of a program as one of its text.
-fn text_stmt(alloc: Global, stmt: &Stmt) -> Result<CStmt, AllocError>
-    ensures { IfOk result (λ r. stmt_of r ≡ spec.text_stmt (inner.stmt_of stmt.now)) }
+fn text_stmt(alloc: Global, bits: &[u8], stmt: &Stmt) -> Result<CStmt, AllocError>
+    ensures { IfOk result (λ r. stmt_of r ≡ spec.text_stmt bits.now (inner.stmt_of stmt.now)) }
 {
     match stmt {
         Stmt::Set {
@@ -109,7 +109,7 @@ fn text_stmt(alloc: Global, stmt: &Stmt) -> Result<CStmt, AllocError>
             value: e,
         } => {
             let place = place_of(alloc, *location)?;
-            Ok(CStmt::Assign(place, text_expr(alloc, e)?))
+            Ok(CStmt::Assign(place, text_expr(alloc, bits, e)?))
         }
         Stmt::Dos {
             number,
@@ -118,7 +118,7 @@ fn text_stmt(alloc: Global, stmt: &Stmt) -> Result<CStmt, AllocError>
         } => {
             let place = taken(alloc, *place)?;
             let function = String::from_str(alloc, dos_function(*number))?;
-            Ok(CStmt::Call(place, function, arguments(alloc, argument)?, DEPTH))
+            Ok(CStmt::Call(place, function, arguments(alloc, bits, argument)?, DEPTH))
         }
         _ => Ok(CStmt::Empty),
     }
@@ -142,13 +142,14 @@ fn jump_inside(alloc: Global, blocks: &[Block], place: u32) -> Result<Vec<Line>,
 }
 
 // The statement at the end of a block.
-fn text_exit(alloc: Global, blocks: &[Block], end: &End) -> Result<CStmt, AllocError>
-    ensures { IfOk result (λ r. stmt_of r ≡ spec.text_exit (map inner.block_of blocks.now) (inner.exit_of end.now)) }
+fn text_exit(alloc: Global, bits: &[u8], blocks: &[Block], end: &End) -> Result<CStmt, AllocError>
+    ensures { IfOk result (λ r. stmt_of r
+        ≡ spec.text_exit bits.now (map inner.block_of blocks.now) (inner.exit_of end.now)) }
 {
     match end {
         End::Goto(place) => jump(alloc, blocks, *place),
         End::If { test, one, other } => {
-            let test = text_expr(alloc, test)?;
+            let test = text_expr(alloc, bits, test)?;
             let then = jump_inside(alloc, blocks, *one)?;
             let otherwise = jump_inside(alloc, blocks, *other)?;
             Ok(CStmt::If(test, then, otherwise))
@@ -161,17 +162,34 @@ fn text_exit(alloc: Global, blocks: &[Block], end: &End) -> Result<CStmt, AllocE
 fn push_block(
     alloc: Global,
     stmts: &mut Vec<CStmt>,
+    bits: &[u8],
     blocks: &[Block],
     block: &Block,
 ) -> Result<(), AllocError>
-    ensures { OnOk result (map stmt_of stmts.new.items
-        ≡ map stmt_of stmts.old.items ++ spec.text_block (map inner.block_of blocks.now) (inner.block_of block.now)) }
+    ensures { OnOk result (map stmt_of stmts.new.items ≡ map stmt_of stmts.old.items
+        ++ spec.text_block bits.now (map inner.block_of blocks.now) (inner.block_of block.now)) }
 {
     stmts.push(CStmt::Label(label_name(alloc, block.at)?))?;
     for stmt in &block.stmts {
-        stmts.push(text_stmt(alloc, stmt)?)?;
+        stmts.push(text_stmt(alloc, bits, stmt)?)?;
     }
-    stmts.push(text_exit(alloc, blocks, &block.end)?)?;
+    stmts.push(text_exit(alloc, bits, blocks, &block.end)?)?;
+    Ok(())
+}
+
+// Appends the blocks of a graph that has no others.
+fn push_blocks(
+    alloc: Global,
+    stmts: &mut Vec<CStmt>,
+    bits: &[u8],
+    blocks: &[Block],
+) -> Result<(), AllocError>
+    ensures { OnOk result (map stmt_of stmts.new.items ≡ map stmt_of stmts.old.items
+        ++ flat_map (spec.text_block bits.now (map inner.block_of blocks.now)) (map inner.block_of blocks.now)) }
+{
+    for block in blocks {
+        push_block(alloc, stmts, bits, blocks, block)?;
+    }
     Ok(())
 }
 
@@ -180,33 +198,28 @@ fn push_graph(alloc: Global, stmts: &mut Vec<CStmt>, graph: &Graph) -> Result<()
     ensures { OnOk result (map stmt_of stmts.new.items
         ≡ map stmt_of stmts.old.items ++ spec.text_graph (inner.graph_of graph.now)) }
 {
-    for block in &graph.blocks {
-        push_block(alloc, stmts, &graph.blocks, block)?;
-    }
-    Ok(())
+    push_blocks(alloc, stmts, graph.bits.as_slice(), graph.blocks.as_slice())
 }
 
-// The statement that leaves only the lowest bit of a flag's variable.
-fn flag_cut(alloc: Global, flag: FlagName) -> Result<CStmt, AllocError>
-    ensures { IfOk result (λ stmt. stmt_of stmt ≡ spec.flag_cut (Loc.Flag flag)) }
+// The statement that leaves only the lowest bit of a location's variable.
+fn bit_cut(alloc: Global, location: Loc) -> Result<CStmt, AllocError>
+    ensures { IfOk result (λ stmt. stmt_of stmt ≡ spec.bit_cut location) }
 {
-    let place = place_of(alloc, Loc::Flag(flag))?;
-    let a = Box::new(alloc, place_of(alloc, Loc::Flag(flag))?)?;
+    let place = place_of(alloc, location)?;
+    let a = Box::new(alloc, place_of(alloc, location)?)?;
     let b = Box::new(alloc, CExpr::Num(1, Base::Int))?;
     Ok(CStmt::Assign(place, CExpr::Bin(CBin::And, a, b)))
 }
 
-// The statements of the text.
-fn text_stmts(alloc: Global, graphs: &[Graph]) -> Result<Vec<CStmt>, AllocError>
-    ensures { IfOk result (λ stmts. map stmt_of stmts.items ≡ spec.text_stmts (map inner.graph_of graphs.now)) }
+// These statements for the locations that have one bit.
+fn bit_cuts(alloc: Global, bits: &[u8], locations: &[Loc]) -> Result<Vec<CStmt>, AllocError>
+    ensures { IfOk result (λ stmts. map stmt_of stmts.items ≡ spec.bit_cuts bits.now locations.now) }
 {
     let mut stmts = Vec::new(alloc);
-    stmts.push(flag_cut(alloc, FlagName::Cf)?)?;
-    stmts.push(flag_cut(alloc, FlagName::Zf)?)?;
-    stmts.push(flag_cut(alloc, FlagName::Sf)?)?;
-    stmts.push(flag_cut(alloc, FlagName::Of)?)?;
-    for graph in graphs {
-        push_graph(alloc, &mut stmts, graph)?;
+    for location in locations {
+        if location_width(bits, *location) == 1 {
+            stmts.push(bit_cut(alloc, *location)?)?;
+        }
     }
     Ok(stmts)
 }
@@ -229,20 +242,35 @@ fn uncounted(alloc: Global, stmts: Vec<CStmt>) -> Result<Vec<Line>, AllocError>
     lines(alloc, stmts)
 }
 
-/// The text of a lifted program, whose lines are not counted yet: a variable for each location, a label before each
-/// block, and jumps between them.
-pub(crate) fn goto_text(alloc: Global, p: &IrProgram) -> Result<Unit, AllocError>
-    ensures { IfOk result (λ unit. tree_of unit ≡ spec.goto_tree (inner.program_of p.now)) }
+// The function of the text of a graph.
+fn goto_start(alloc: Global, graph: &Graph) -> Result<Func, AllocError>
+    ensures start { IfOk result (λ f. function_of f ≡ spec.goto_start (inner.graph_of graph.now)) }
+    ensures few { OnOk result (length graph.now.bits.items < 2 ^ 32) }
 {
-    let mut funcs = Vec::new(alloc);
-    funcs.push(Func {
+    let bits = graph.bits.as_slice();
+    let locations = locations(alloc, graph)?;
+    let mut stmts = bit_cuts(alloc, bits, locations.as_slice())?;
+    push_graph(alloc, &mut stmts, graph)?;
+    Ok(Func {
         name: String::from_str(alloc, "start")?,
         result: None,
         params: Vec::new(alloc),
-        locals: variables(alloc)?,
-        body: uncounted(alloc, text_stmts(alloc, &p.graphs)?)?,
+        locals: variables(alloc, bits, locations.as_slice())?,
+        body: uncounted(alloc, stmts)?,
         last: 0,
-    })?;
+    })
+}
+
+/// The text of a program that has one graph, whose lines are not counted yet: a variable for each location that the
+/// graph reads or writes, a label before each block, and jumps between them. A program with more temporaries than 32
+/// bits can number is refused, as if memory were wanting.
+pub(crate) fn goto_text(alloc: Global, p: &IrProgram) -> Result<Unit, AllocError>
+    requires { 0 < length p.now.graphs.items }
+    ensures text { IfOk result (λ unit. tree_of unit ≡ spec.goto_tree (inner.program_of p.now)) }
+    ensures few { OnOk result (All (λ g. length g.bits < 2 ^ 32) (take 1 (inner.program_of p.now).graphs)) }
+{
+    let mut funcs = Vec::new(alloc);
+    funcs.push(goto_start(alloc, &p.graphs[0])?)?;
     Ok(Unit {
         version: 1,
         lo: p.lo,

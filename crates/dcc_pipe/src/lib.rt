@@ -7,6 +7,7 @@ mod decompilation;
 mod goto_expr;
 mod goto_text;
 mod number;
+mod passes;
 mod variables;
 
 pub use analysis::analyse;

@@ -1,19 +1,20 @@
-//! The variables of a text: one for each half of a word register, each flag and each temporary.
+//! The variables of a text: one for each location that its graph reads or writes.
 
-ghost use Rattle.std.specs.Prelude.{◌≡◌, ◌≤◌, IfOk, map, string_bytes};
+ghost use Rattle.std.specs.Prelude.{◌≡◌, ◌<◌, ◌≤◌, ◌^◌, IfOk, OnOk, length, map, string_bytes};
 ghost use Rattle.dcc_ir.specs.Location.{half_number, flag_number, location_width};
-ghost use Rattle.dcc_lift.specs.Temporaries.{temporary_bits};
+ghost use Rattle.dcc_ir.specs.Views.{graph_of};
 ghost use Rattle.dcc_c.specs.Tree as tree;
 ghost use Rattle.dcc_c.specs.Views.{expr_of, variable_of};
 ghost use Rattle.dcc_pipe.specs.Variables as spec;
 
 use dcc_c::{Base, CExpr, CType, Class, Var};
-use dcc_ir::Loc;
+use dcc_ir::{Graph, Loc};
+use dcc_live::mentioned;
 use dcc_num::{FlagName, Half, Reg};
 use std::alloc::{AllocError, Global};
 
-// The locations that have variables, in the variables' order.
-const LOCATIONS: [Loc; 23] = [
+// The halves of word registers and the flags, in the variables' order.
+const NAMED_LOCATIONS: [Loc; 16] = [
     Loc::Half(Reg::Ax, Half::Low),
     Loc::Half(Reg::Ax, Half::High),
     Loc::Half(Reg::Cx, Half::Low),
@@ -30,13 +31,6 @@ const LOCATIONS: [Loc; 23] = [
     Loc::Flag(FlagName::Zf),
     Loc::Flag(FlagName::Sf),
     Loc::Flag(FlagName::Of),
-    Loc::Temp(0),
-    Loc::Temp(1),
-    Loc::Temp(2),
-    Loc::Temp(3),
-    Loc::Temp(4),
-    Loc::Temp(5),
-    Loc::Temp(6),
 ];
 
 // The place of a register among those whose halves have variables.
@@ -87,17 +81,17 @@ pub fn place_of(alloc: Global, location: Loc) -> Result<CExpr, AllocError>
     Ok(CExpr::Name(variable_name(alloc, location)?))
 }
 
-/// How many bits a location has; 0 for a temporary that there is not.
-pub fn location_width(location: Loc) -> u8
-    ensures { result ≡ location_width temporary_bits location }
+/// How many bits a location has, where the temporaries have these; 0 for a temporary that there is not.
+pub fn location_width(bits: &[u8], location: Loc) -> u8
+    ensures { result ≡ location_width bits.now location }
 {
     match location {
         Loc::Half(_, _) | Loc::Cell(_, _) => 8,
         Loc::Flag(_) => 1,
-        Loc::Temp(0..=2) => 8,
-        Loc::Temp(3..=5) => 16,
-        Loc::Temp(6) => 32,
-        Loc::Temp(_) => 0,
+        Loc::Temp(n) => match bits.get(n as usize) {
+            Some(width) => *width,
+            None => 0,
+        },
     }
 }
 
@@ -128,31 +122,51 @@ pub fn signed_type(width: u8) -> Base
 }
 
 // The declaration of a location's variable.
-fn variable(alloc: Global, location: Loc) -> Result<Var, AllocError>
-    ensures { IfOk result (λ v. variable_of v ≡ spec.variable location) }
+fn variable(alloc: Global, bits: &[u8], location: Loc) -> Result<Var, AllocError>
+    ensures { IfOk result (λ v. variable_of v ≡ spec.variable bits.now location) }
 {
     Ok(Var {
         name: variable_name(alloc, location)?,
-        ty: CType::plain(unsigned_type(location_width(location))),
+        ty: CType::plain(unsigned_type(location_width(bits, location))),
         len: None,
         class: Class::Plain,
     })
 }
 
-// The declarations of the variables of some locations.
-fn declared(alloc: Global, locations: &[Loc]) -> Result<Vec<Var>, AllocError>
-    ensures { IfOk result (λ vs. map variable_of vs.items ≡ map spec.variable locations.now) }
+/// The declarations of the variables of some locations.
+pub fn variables(alloc: Global, bits: &[u8], locations: &[Loc]) -> Result<Vec<Var>, AllocError>
+    ensures { IfOk result (λ vs. map variable_of vs.items ≡ map (spec.variable bits.now) locations.now) }
 {
     let mut variables = Vec::new(alloc);
     for location in locations {
-        variables.push(variable(alloc, *location)?)?;
+        variables.push(variable(alloc, bits, *location)?)?;
     }
     Ok(variables)
 }
 
-/// The declarations of all variables.
-pub fn variables(alloc: Global) -> Result<Vec<Var>, AllocError>
-    ensures { IfOk result (λ vs. map variable_of vs.items ≡ map spec.variable spec.locations) }
+// The locations that may have variables, in the variables' order. That there are more temporaries than 32 bits can
+// number is told as want of memory.
+#[tactic(auto, unfolding(crate::specs::Variables::named_locations))]
+fn all_locations(alloc: Global, bits: &[u8]) -> Result<Vec<Loc>, AllocError>
+    ensures locations { IfOk result (λ list. list.items ≡ spec.all_locations bits.now) }
+    ensures few { OnOk result (length bits.now < 2 ^ 32) }
 {
-    declared(alloc, &LOCATIONS)
+    let Ok(count) = u32::try_from(bits.len()) else {
+        return Err(AllocError);
+    };
+    let mut list = NAMED_LOCATIONS.to_vec(alloc)?;
+    for n in 0..count {
+        list.push(Loc::Temp(n))?;
+    }
+    Ok(list)
+}
+
+/// The locations that have variables, in the variables' order. That there are more temporaries than 32 bits can number
+/// is told as want of memory.
+pub fn locations(alloc: Global, graph: &Graph) -> Result<Vec<Loc>, AllocError>
+    ensures locations { IfOk result (λ list. list.items ≡ spec.locations (graph_of graph.now)) }
+    ensures few { OnOk result (length graph.now.bits.items < 2 ^ 32) }
+{
+    let all = all_locations(alloc, graph.bits.as_slice())?;
+    mentioned(alloc, graph, all.as_slice())
 }

@@ -1,6 +1,6 @@
 -- The accesses of an operation tell what its step does to memory and takes from it.
 use Rattle.std.proofs.Common.{◌≡◌, ℕ, zero, suc, ◌+◌, ◌/◌, ◌%◌, ◌<◌, Bool, true, false, List, [], ◌∷◌, ◌++◌, map, length, min, Option, Some, None, refl, sym, ap, ◌∙◌, subst, append_assoc, arith}
-use Rattle.std.proofs.lemmas.List.{append-nil, map-append, get_or-set_same}
+use Rattle.std.proofs.lemmas.List.{append-nil, map-append}
 use Rattle.std.proofs.lemmas.List.Elements.{Contains-append_left, Contains-append_right}
 use Rattle.std.proofs.lemmas.List.FromFn.{get_or-map-range_with_len, length-map-range_with_len}
 use Rattle.std.proofs.lemmas.List.Sums.{take_while-cons}
@@ -9,10 +9,10 @@ use Rattle.std.specs.List.{range_with_len, take_while}
 use Rattle.dcc_num.specs.declared.Width.{Width}
 use Rattle.dcc_num.specs.declared.Width.TheVariants.{Byte as byte_width, Word as word_width}
 use Rattle.dcc_num.specs.declared.Reg.{Reg}
-use Rattle.dcc_num.specs.declared.Reg.TheVariants.{Ax, Cx, Dx, Bx, Sp, Bp, Si, Di}
+use Rattle.dcc_num.specs.declared.Reg.TheVariants.{Ax, Dx, Bx, Sp, Bp}
 use Rattle.dcc_num.specs.declared.Half.TheVariants.{Low}
 use Rattle.dcc_num.specs.declared.Flags.{Flags}
-use Rattle.dcc_num.specs.declared.dos.TheConstants.{GETCHE, PUTC, GETCH, PUTS, EXIT, STRING_MOST}
+use Rattle.dcc_num.specs.declared.dos.TheConstants.{PUTS, STRING_MOST}
 use Rattle.dcc_num.specs.Product.{signed_product_of}
 use Rattle.dcc_prog.specs.declared.cpu.Cpu.{Cpu}
 use Rattle.dcc_prog.specs.declared.instr.Alu.{Alu as AluName}
@@ -28,15 +28,16 @@ use Rattle.dcc_prog.specs.declared.instr.Operand.TheVariants.{Word, Byte, Seg, M
 use Rattle.dcc_prog.specs.declared.instr.Ea.{Ea}
 use Rattle.dcc_prog.specs.declared.instr.Op.{Op}
 use Rattle.dcc_prog.specs.declared.instr.Op.TheVariants.{Alu, Unary, Shift, Mov, Xchg, Lea, Imul3, Push, Pop, Enter, Leave, Plain, Jump, Branch, Loop, LoopE, LoopNe, Jcxz, Table, Call, Ret, Int21}
-use Rattle.dcc_run.specs.End.{Exit, Outside}
-use Rattle.dcc_prog.specs.Machine.{State, reg_number, word_in, with_word_in, half_of_word, part_of, offset_of, segment_of, physical, byte_in, word_at_offset, with_byte_in, with_word_at_offset, operand_value, operand_width, with_operand, code_segment, stack_segment, data_segment}
-use Rattle.dcc_prog.specs.Operations.{with_end, with_al, after_jump, with_flags, with_result, accumulator_in, upper_in, count_in, shift_result, alu_step, unary_step, with_sp_raised, after_push, top_word, with_product}
-use Rattle.dcc_prog.specs.Dos.{bytes_from, dos_string, is_not_dollar, dos_step, with_key, key_step, after_write}
+use Rattle.dcc_prog.specs.Machine.{State, word_in, with_word_in, half_of_word, part_of, offset_of, segment_of, physical, byte_in, word_at_offset, with_byte_in, with_word_at_offset, operand_value, operand_width, with_operand, code_segment, stack_segment, data_segment}
+use Rattle.dcc_prog.specs.Operations.{with_al, after_jump, with_flags, with_result, accumulator_in, upper_in, count_in, shift_result, alu_step, unary_step, with_sp_raised, after_push, top_word, with_product}
+use Rattle.dcc_prog.specs.Dos.{bytes_from, dos_string, is_not_dollar, dos_step, with_key, after_write}
 use Rattle.dcc_prog.specs.Step.{op_step}
 use Rattle.dcc_prog.specs.Writes.{writes_operand}
 use Rattle.dcc_prog.specs.Access.{Reading, Writing, Access, operand_accesses, result_accesses, writes_back, accesses, stack_access, push_access, other_read, string_size, dos_accesses, plain_accesses, address_in, addresses_of, read_in, written_in, read_by, written_by, with_memory, AgreeAt, Store, stored, ActsByAccesses}
 use Rattle.dcc_prog.specs.StateForm.{HasRegisters}
 use Rattle.dcc_prog.proofs.OperationForms.{alu_result, alu_written, alu-form, Outcome, in_operand, in_pair, in_fault, divided, unary_outcome, outcome_step, unary-form}
+use Rattle.dcc_prog.proofs.DosLaws.{calls-relate}
+use Rattle.dcc_prog.proofs.LocationKept.{word-taken}
 
 -- Agreement on addresses.
 
@@ -439,23 +440,6 @@ imul3-acts cpu r a constant at s = record {
 
 -- The stack.
 
--- a register holds what it has taken
-pub register-taken : (s : State) (r : Reg) (word : ℕ) → HasRegisters s → word_in (with_word_in s r word) r ≡ word
-register-taken s r word form =
-    let low : reg_number r < 8 = number-low r in
-    let inside : reg_number r < length s.regs = omega (arith, form.count) in
-    get_or-set_same s.regs (reg_number r) word 0 inside
-  where
-    number-low : (q : Reg) → reg_number q < 8
-    number-low Ax = omega arith
-    number-low Cx = omega arith
-    number-low Dx = omega arith
-    number-low Bx = omega arith
-    number-low Sp = omega arith
-    number-low Bp = omega arith
-    number-low Si = omega arith
-    number-low Di = omega arith
-
 -- the bytes that are stored where a word is pushed
 abbrev push_stores : ℕ → State → List Store
 push_stores word s = word_stores (stack_segment s) (word_in (with_sp_raised 65534 s) Sp) word
@@ -467,7 +451,7 @@ push-addresses :
     (word : ℕ) (s : State) → HasRegisters s → addresses_stored (push_stores word s) ≡ written_by (push_access s ∷ [])
 push-addresses word s form =
     let n = (word_in s Sp + 65534) % 65536 in
-    let fallen : word_in (with_sp_raised 65534 s) Sp ≡ n = register-taken s Sp n form in
+    let fallen : word_in (with_sp_raised 65534 s) Sp ≡ n = word-taken s Sp Sp n form.count refl in
     let low : n < 65536 = omega arith in
     ap (λ k. physical (stack_segment s) k ∷ physical (stack_segment s) ((k + 1) % 65536) ∷ []) fallen
     ∙ ap (λ k. physical (stack_segment s) k ∷ physical (stack_segment s) ((n + 1) % 65536) ∷ [])
@@ -517,7 +501,7 @@ leave-acts cpu at s form = record {
   addresses = refl;
   alike = λ memory agree.
       let u = with_word_in s Sp (word_in s Bp) in
-      let taken : word_in u Sp ≡ word_in s Bp = register-taken s Sp (word_in s Bp) form in
+      let taken : word_in u Sp ≡ word_in s Bp = word-taken s Sp Sp (word_in s Bp) form.count refl in
       let word = word-agrees s (stack_segment s) (word_in s Bp) memory [] (form.words Bp) agree in
       let top : top_word (with_memory memory u) ≡ top_word u =
       ap (λ n. word_at_offset (with_memory memory s) (stack_segment s) n) taken
@@ -649,25 +633,6 @@ key-stores : (echo : Bool) (input : List ℕ) (s : State) → Stores (with_key e
 key-stores echo [] s memory = refl
 key-stores echo (byte ∷ rest) s memory = refl
 
--- one of two states
-chosen-stores :
-    (so : Bool) (f g : State → State) (s : State) (memory : List ℕ)
-    → f (with_memory memory s) ≡ with_memory memory (f s) → g (with_memory memory s) ≡ with_memory memory (g s)
-    → (if so then f (with_memory memory s) else g (with_memory memory s)) ≡ with_memory memory (if so then f s else g s)
-chosen-stores true f g s memory p q = p
-chosen-stores false f g s memory p q = q
-
-write-stores :
-    (so : Bool) (at : ℕ) (s : State) (memory : List ℕ)
-    → AgreeAt
-    (read_by (if so then other_read (data_segment s) (word_in s Dx) (string_size s) ∷ [] else [])) memory s.memory
-    →
-    (if so then after_write (dos_string (with_memory memory s)) (with_memory memory s) else with_end (Outside at) at
-    (with_memory memory s))
-    ≡ with_memory memory (if so then after_write (dos_string s) s else with_end (Outside at) at s)
-write-stores true at s memory agree = ap (λ l. after_write l (with_memory memory s)) (string-same memory s agree)
-write-stores false at s memory agree = refl
-
 dos-writes :
     (so : Bool) (access : Access) → access.direction ≡ Reading → [] ≡ written_by (if so then access ∷ [] else [])
 dos-writes true access reads = ap (λ d. written_in d (addresses_of access) ++ []) (sym reads)
@@ -677,16 +642,19 @@ dos-alike :
     (number at : ℕ) (s : State) (memory : List ℕ) → AgreeAt (read_by (dos_accesses number s)) memory s.memory
     → dos_step number at (with_memory memory s) ≡ with_memory memory (dos_step number at s)
 dos-alike number at s memory agree =
-    let string : State → State =
-    λ t. if number == PUTS then after_write (dos_string t) t else with_end (Outside at) at t in
-    let key : State → State = λ t. if number == GETCH then key_step false t else string t in
-    let echoed : State → State = λ t. if number == GETCHE then key_step true t else key t in
-    let leave : State → State = λ t. if number == EXIT then with_end (Exit (word_in t Ax % 256)) at t else echoed t in
-    chosen-stores (number == PUTC) (λ t. after_write (word_in t Dx % 256 ∷ []) t) leave s memory refl
-    (chosen-stores (number == EXIT) (λ t. with_end (Exit (word_in t Ax % 256)) at t) echoed s memory refl
-    (chosen-stores (number == GETCHE) (key_step true) key s memory (key-stores true s.input s memory)
-    (chosen-stores (number == GETCH) (key_step false) string s memory (key-stores false s.input s memory)
-    (write-stores (number == PUTS) at s memory agree))))
+    calls-relate (λ t u. t ≡ with_memory memory u) number at (with_memory memory s) s (record {
+      putc = λ is. refl;
+      exit = λ is. refl;
+      key = λ echo. key-stores echo s.input s memory;
+      puts = λ is.
+          ap (λ l. after_write l (with_memory memory s))
+          (string-same memory s
+          (subst
+          (λ so. AgreeAt
+          (read_by (if so then other_read (data_segment s) (word_in s Dx) (string_size s) ∷ [] else [])) memory s.memory)
+          is agree));
+      outside = λ no_getche no_getch. refl;
+    })
 
 dos-acts : (cpu : Cpu) (at : ℕ) (s : State) → ActsByAccesses (accesses Int21 s) (op_step cpu Int21 at) s
 dos-acts cpu at s =

@@ -32,7 +32,7 @@ use Rattle.dcc_prog.specs.declared.instr.Operand.{Operand}
 use Rattle.dcc_prog.specs.declared.instr.Op.{Op}
 use Rattle.dcc_prog.specs.declared.instr.Op.TheVariants.{Alu, Unary, Shift, Mov, Xchg, Lea, Imul3, Push, Pop, Enter, Leave, Plain, Jump, Branch, Loop, LoopE, LoopNe, Jcxz, Table, Call, Ret, Int21}
 use Rattle.dcc_prog.specs.Machine.{State, operand_value, operand_width}
-use Rattle.dcc_prog.specs.Operations.{with_flags, with_result, accumulator_in, upper_in, with_product, with_division, count_in, shift_result}
+use Rattle.dcc_prog.specs.Operations.{with_flags, with_result, accumulator_in, with_product, with_division, count_in, shift_result}
 use Rattle.dcc_prog.specs.Step.{op_step}
 use Rattle.dcc_prog.specs.Writes.{writes_operand, is_carry_or_overflow, unary_writes_flag, shift_writes_flag, never_shifts, plain_writes_flag, writes_flag}
 use Rattle.dcc_prog.specs.Wanted.{Location, half_of, flag_of, is_read, is_flag, is_accumulator, is_logic, is_cl, is_turn, is_in_cl, is_by_cl, brings_carry, shift_reads, plain_makes, makes}
@@ -41,7 +41,7 @@ use Rattle.dcc_prog.specs.AlikeLaws.{AgreeIn, divides_by, AreAlikeFor}
 use Rattle.dcc_prog.proofs.OperationForms.{alu_result, alu_written, alu-form}
 use Rattle.dcc_prog.proofs.LocationKept.{operand-flags}
 use Rattle.dcc_prog.proofs.AlikeValues.{and-both, and-parts, or-first, or-second, AgreeWhere, AreTwo, value-alike, count-alike}
-use Rattle.dcc_prog.proofs.AlikeHalves.{all_of, alu_reads, alu-results, factors-alike, divided-alike}
+use Rattle.dcc_prog.proofs.AlikeHalves.{all_of, alu_reads, alu-results, factors-alike, same-division}
 
 -- the flags after an operand has taken a result
 result-flags : (x : Operand) (result : ℕ × Flags) (s : State) → (with_result x result s).flags ≡ result.1
@@ -200,27 +200,13 @@ unary-flag cpu Imul a at s t flag two e made divided goes =
     ∙ signed_product-flag w _ _ _ _ flag same
     ∙ sym (ap (λ f. flag_in f flag) (product-step w (signed_product_of w (accumulator_in w t) (operand_value t a)) t))
 unary-flag cpu Div a at s t flag two e made divided goes =
-    let w = operand_width a in
-    let alike = divided-alike a s t two.beside divided in
-    let same :
-    division_of w (upper_in w s) (accumulator_in w s) (operand_value s a)
-    ≡ division_of w (upper_in w t) (accumulator_in w t) (operand_value t a) =
-    ap (λ n. division_of w n (accumulator_in w s) (operand_value s a)) alike.high
-    ∙ ap (λ n. division_of w (upper_in w t) n (operand_value s a)) alike.low
-    ∙ ap (division_of w (upper_in w t) (accumulator_in w t)) alike.by in
-    ap (λ f. flag_in f flag) (division-step w at _ s t goes)
-    ∙ ap (λ d. flag_in (with_division w at d t).flags flag) same
+    ap (λ f. flag_in f flag) (division-step (operand_width a) at _ s t goes)
+    ∙ ap (λ d. flag_in (with_division (operand_width a) at d t).flags flag)
+    (same-division division_of a s t two.beside divided)
 unary-flag cpu Idiv a at s t flag two e made divided goes =
-    let w = operand_width a in
-    let alike = divided-alike a s t two.beside divided in
-    let same :
-    signed_division_of w (upper_in w s) (accumulator_in w s) (operand_value s a)
-    ≡ signed_division_of w (upper_in w t) (accumulator_in w t) (operand_value t a) =
-    ap (λ n. signed_division_of w n (accumulator_in w s) (operand_value s a)) alike.high
-    ∙ ap (λ n. signed_division_of w (upper_in w t) n (operand_value s a)) alike.low
-    ∙ ap (signed_division_of w (upper_in w t) (accumulator_in w t)) alike.by in
-    ap (λ f. flag_in f flag) (division-step w at _ s t goes)
-    ∙ ap (λ d. flag_in (with_division w at d t).flags flag) same
+    ap (λ f. flag_in f flag) (division-step (operand_width a) at _ s t goes)
+    ∙ ap (λ d. flag_in (with_division (operand_width a) at d t).flags flag)
+    (same-division signed_division_of a s t two.beside divided)
 
 -- Shifts and rotates.
 

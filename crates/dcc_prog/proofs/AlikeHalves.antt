@@ -3,7 +3,7 @@ use Rattle.std.proofs.Common.{◌≡◌, inl, inr, ℕ, ◌+◌, ◌-◌, ◌*�
 use Rattle.std.proofs.lemmas.Bool.{eqb-true}
 use Rattle.std.specs.Int.{from_bool}
 use Rattle.std.specs.Prelude.{not, ◌&&◌, ◌||◌, slice_index, if◌then◌else◌, ◌==◌}
-use Rattle.dcc_run.specs.End.{Exit, Outside, is_over}
+use Rattle.dcc_run.specs.End.{is_over}
 use Rattle.dcc_num.specs.declared.Width.{Width}
 use Rattle.dcc_num.specs.declared.Width.TheVariants.{Byte as byte_width, Word as word_width}
 use Rattle.dcc_num.specs.declared.Reg.{Reg}
@@ -34,8 +34,8 @@ use Rattle.dcc_prog.specs.declared.instr.Ea.{Ea}
 use Rattle.dcc_prog.specs.declared.instr.Op.{Op}
 use Rattle.dcc_prog.specs.declared.instr.Op.TheVariants.{Alu, Unary, Shift, Mov, Xchg, Lea, Imul3, Push, Pop, Enter, Leave, Plain, Jump, Branch, Loop, LoopE, LoopNe, Jcxz, Table, Call, Ret, Int21}
 use Rattle.dcc_prog.specs.Machine.{State, word_in, with_word_in, half_of_word, data_segment, byte_in, operand_value, operand_width, with_operand}
-use Rattle.dcc_prog.specs.Operations.{with_end, with_flags, with_result, accumulator_in, upper_in, with_product, with_division, count_in, shift_result, after_push, top_word, with_sp_raised, loop_step}
-use Rattle.dcc_prog.specs.Dos.{dos_step, dos_string, with_key, key_step, after_write}
+use Rattle.dcc_prog.specs.Operations.{with_flags, with_result, accumulator_in, upper_in, with_product, with_division, count_in, shift_result, after_push, top_word, with_sp_raised, loop_step}
+use Rattle.dcc_prog.specs.Dos.{dos_step, with_key, key_step}
 use Rattle.dcc_prog.specs.Step.{op_step}
 use Rattle.dcc_prog.specs.WellFormed.{IsOperation, AreOperands}
 use Rattle.dcc_prog.specs.Writes.{is_same_register, is_same_half, is_half_of, writes_operand, is_in_pair, plain_writes_half, writes_half}
@@ -44,6 +44,7 @@ use Rattle.dcc_prog.specs.StateForm.{IsState}
 use Rattle.dcc_prog.specs.LocationLaws.{half_in}
 use Rattle.dcc_prog.specs.AlikeLaws.{AgreeBeside, IsCallNumber, divides_by, AreAlikeFor}
 use Rattle.dcc_prog.proofs.OperationForms.{alu_result, alu_written, alu-form}
+use Rattle.dcc_prog.proofs.DosLaws.{calls-relate}
 use Rattle.dcc_prog.proofs.StateKept.{value-fits, of_width, top-below}
 use Rattle.dcc_prog.proofs.LocationKept.{word-taken, word-other, half-other, operand-half, operand-count}
 use Rattle.dcc_prog.proofs.AlikeValues.{and-both, and-parts, or-first, or-second, or-parts, register-self, half-self, AgreeWhere, AreTwo, word-alike, offset-alike, byte-alike, value-alike, accumulator-alike, dividend-alike, count-alike, top-alike, alu-alike, taken-alike, written-alike, pair-alike}
@@ -132,13 +133,13 @@ factors-alike a s t beside agree = (
   value-alike s t a beside (λ from e. agree from (or-second (is_accumulator (operand_width a) from) _ e)),
 )
 
-pub record AreDividedAlike (a : Operand) (s t : State) : Type 0 where
-  pub low : accumulator_in (operand_width a) s ≡ accumulator_in (operand_width a) t
-  pub high : upper_in (operand_width a) s ≡ upper_in (operand_width a) t
-  pub by : operand_value s a ≡ operand_value t a
+record AreDividedAlike (a : Operand) (s t : State) : Type 0 where
+  low : accumulator_in (operand_width a) s ≡ accumulator_in (operand_width a) t
+  high : upper_in (operand_width a) s ≡ upper_in (operand_width a) t
+  by : operand_value s a ≡ operand_value t a
 
 -- what a division uses
-pub divided-alike :
+divided-alike :
     (a : Operand) (s t : State) → AgreeBeside s t
     → AgreeWhere (λ from. is_dividend (operand_width a) from || is_read from a) s t → AreDividedAlike a s t
 divided-alike a s t beside agree =
@@ -149,6 +150,19 @@ divided-alike a s t beside agree =
       high = dividend.1;
       by = value-alike s t a beside (λ from e. agree from (or-second (is_dividend (operand_width a) from) _ e));
     }
+
+-- so a division, signed or not, gives the same
+pub same-division :
+    {Division : Type 0} (divide : Width → ℕ → ℕ → ℕ → Division) (a : Operand) (s t : State) → AgreeBeside s t
+    → AgreeWhere (λ from. is_dividend (operand_width a) from || is_read from a) s t
+    → divide (operand_width a) (upper_in (operand_width a) s) (accumulator_in (operand_width a) s) (operand_value s a)
+    ≡ divide (operand_width a) (upper_in (operand_width a) t) (accumulator_in (operand_width a) t) (operand_value t a)
+same-division divide a s t beside agree =
+    let w = operand_width a in
+    let alike = divided-alike a s t beside agree in
+    ap (λ n. divide w n (accumulator_in w s) (operand_value s a)) alike.high
+    ∙ ap (λ n. divide w (upper_in w t) n (operand_value s a)) alike.low
+    ∙ ap (divide w (upper_in w t) (accumulator_in w t)) alike.by
 
 unary-half :
     (cpu : Cpu) (operation : UnaryName) (a : Operand) (at : ℕ) (s t : State) (r : Reg) (half : Half) → AreTwo s t
@@ -195,27 +209,13 @@ unary-half cpu Imul a at s t r half two e made divided goes =
     pair-alike w _ s t r half two.first.registers.count two.second.registers.count e
     ∙ ap (λ p. half_in (with_product w p t) r half) same
 unary-half cpu Div a at s t r half two e made divided goes =
-    let w = operand_width a in
-    let alike = divided-alike a s t two.beside divided in
-    let same :
-    division_of w (upper_in w s) (accumulator_in w s) (operand_value s a)
-    ≡ division_of w (upper_in w t) (accumulator_in w t) (operand_value t a) =
-    ap (λ n. division_of w n (accumulator_in w s) (operand_value s a)) alike.high
-    ∙ ap (λ n. division_of w (upper_in w t) n (operand_value s a)) alike.low
-    ∙ ap (division_of w (upper_in w t) (accumulator_in w t)) alike.by in
-    division-alike w at _ s t r half two.first.registers.count two.second.registers.count e goes
-    ∙ ap (λ d. half_in (with_division w at d t) r half) same
+    division-alike (operand_width a) at _ s t r half two.first.registers.count two.second.registers.count e goes
+    ∙ ap (λ d. half_in (with_division (operand_width a) at d t) r half)
+    (same-division division_of a s t two.beside divided)
 unary-half cpu Idiv a at s t r half two e made divided goes =
-    let w = operand_width a in
-    let alike = divided-alike a s t two.beside divided in
-    let same :
-    signed_division_of w (upper_in w s) (accumulator_in w s) (operand_value s a)
-    ≡ signed_division_of w (upper_in w t) (accumulator_in w t) (operand_value t a) =
-    ap (λ n. signed_division_of w n (accumulator_in w s) (operand_value s a)) alike.high
-    ∙ ap (λ n. signed_division_of w (upper_in w t) n (operand_value s a)) alike.low
-    ∙ ap (signed_division_of w (upper_in w t) (accumulator_in w t)) alike.by in
-    division-alike w at _ s t r half two.first.registers.count two.second.registers.count e goes
-    ∙ ap (λ d. half_in (with_division w at d t) r half) same
+    division-alike (operand_width a) at _ s t r half two.first.registers.count two.second.registers.count e goes
+    ∙ ap (λ d. half_in (with_division (operand_width a) at d t) r half)
+    (same-division signed_division_of a s t two.beside divided)
 
 -- Shifts and rotates.
 
@@ -556,14 +556,6 @@ key_step-alike echo s t r half two e =
     key-alike echo s.input s t r half two.first.registers.count two.second.registers.count e
     ∙ ap (λ input. half_in (with_key echo input t) r half) two.beside.outside.input
 
--- one of two states
-chosen-alike :
-    (so : Bool) (a b c d : State) (r : Reg) (half : Half) → (so ≡ true → half_in a r half ≡ half_in c r half)
-    → (so ≡ false → half_in b r half ≡ half_in d r half)
-    → half_in (if so then a else b) r half ≡ half_in (if so then c else d) r half
-chosen-alike true a b c d r half p q = p refl
-chosen-alike false a b c d r half p q = q refl
-
 or-neither : (a b : Bool) → a ≡ false → b ≡ false → (a || b) ≡ false
 or-neither a b p q = cc
 
@@ -577,24 +569,13 @@ dos-half-alike :
     → (gives_byte (Some n) ≡ false → half_in s r half ≡ half_in t r half)
     → half_in (dos_step n at s) r half ≡ half_in (dos_step n at t) r half
 dos-half-alike n at s t r half two e kept =
-    let last : State → State = λ u. with_end (Outside at) at u in
-    let string : State → State = λ u. if n == PUTS then after_write (dos_string u) u else last u in
-    let key : State → State = λ u. if n == GETCH then key_step false u else string u in
-    let echoed : State → State = λ u. if n == GETCHE then key_step true u else key u in
-    let leave : State → State = λ u. if n == EXIT then with_end (Exit (word_in u Ax % 256)) at u else echoed u in
-    chosen-alike (n == PUTC) (after_write (word_in s Dx % 256 ∷ []) s) (leave s)
-    (after_write (word_in t Dx % 256 ∷ []) t) (leave t) r half
-    (λ is. kept (no_byte n PUTC is refl)) (λ no_putc.
-    chosen-alike (n == EXIT) (with_end (Exit (word_in s Ax % 256)) at s) (echoed s)
-    (with_end (Exit (word_in t Ax % 256)) at t) (echoed t) r half
-    (λ is. kept (no_byte n EXIT is refl)) (λ no_exit.
-    chosen-alike (n == GETCHE) (key_step true s) (key s) (key_step true t) (key t) r half
-    (λ is. key_step-alike true s t r half two e) (λ no_getche.
-    chosen-alike (n == GETCH) (key_step false s) (string s) (key_step false t) (string t) r half
-    (λ is. key_step-alike false s t r half two e) (λ no_getch.
-    chosen-alike (n == PUTS) (after_write (dos_string s) s) (last s) (after_write (dos_string t) t) (last t) r half
-    (λ is. kept (no_byte n PUTS is refl))
-    (λ no_puts. kept (or-neither (n == GETCHE) (n == GETCH) no_getche no_getch))))))
+    calls-relate (λ u v. half_in u r half ≡ half_in v r half) n at s t (record {
+      putc = λ is. kept (no_byte n PUTC is refl);
+      exit = λ is. kept (no_byte n EXIT is refl);
+      key = λ echo. key_step-alike echo s t r half two e;
+      puts = λ is. kept (no_byte n PUTS is refl);
+      outside = λ no_getche no_getch. kept (or-neither (n == GETCHE) (n == GETCH) no_getche no_getch);
+    })
 
 -- All operations.
 

@@ -5,7 +5,7 @@ use Rattle.std.proofs.lemmas.List.{get_or-set_same, get_or-set_other, get_or_pas
 use Rattle.std.proofs.Math.Decide.{ℕ_discrete, dec_lt}
 use Rattle.std.specs.List.{range_with_len, take_while}
 use Rattle.std.specs.Prelude.{not, ◌&&◌, ◌||◌, slice_index, slice_set, if◌then◌else◌, ◌==◌}
-use Rattle.dcc_run.specs.End.{End, Exit, Outside}
+use Rattle.dcc_run.specs.End.{End, Exit}
 use Rattle.dcc_run.specs.Event.{Event, MetEnd, writes}
 use Rattle.dcc_num.specs.declared.Width.{Width}
 use Rattle.dcc_num.specs.declared.Width.TheVariants.{Byte as byte_width, Word as word_width}
@@ -16,7 +16,7 @@ use Rattle.dcc_num.specs.declared.Half.TheVariants.{Low, High}
 use Rattle.dcc_num.specs.declared.Flags.{Flags}
 use Rattle.dcc_num.specs.declared.FlagName.{FlagName}
 use Rattle.dcc_num.specs.declared.FlagName.TheVariants.{Cf, Zf, Sf, Of}
-use Rattle.dcc_num.specs.declared.dos.TheConstants.{GETCHE, PUTC, GETCH, PUTS, EXIT, STRING_MOST}
+use Rattle.dcc_num.specs.declared.dos.TheConstants.{PUTC, PUTS, EXIT, STRING_MOST}
 use Rattle.dcc_num.specs.Numbers.{limit_of, differ, no_flags}
 use Rattle.dcc_num.specs.Sum.{negation_of}
 use Rattle.dcc_num.specs.Quotient.{division_of, signed_division_of}
@@ -36,8 +36,8 @@ use Rattle.dcc_prog.specs.declared.instr.Operand.TheVariants.{Word, Byte, Seg, M
 use Rattle.dcc_prog.specs.declared.instr.Op.{Op}
 use Rattle.dcc_prog.specs.declared.instr.Op.TheVariants.{Alu, Unary, Shift, Mov, Xchg, Lea, Imul3, Push, Pop, Enter, Leave, Plain, Jump, Branch, Loop, LoopE, LoopNe, Jcxz, Table, Call, Ret, Int21}
 use Rattle.dcc_prog.specs.Machine.{State, half_of_word, word_in, code_segment, stack_segment, data_segment, physical, offset_of, segment_of, operand_value, operand_width, with_operand}
-use Rattle.dcc_prog.specs.Operations.{with_end, with_flags, with_result, accumulator_in, upper_in, with_product, with_division, count_in, shift_result, after_push, top_word, with_sp_raised, holds, loop_step}
-use Rattle.dcc_prog.specs.Dos.{bytes_from, dos_string, is_not_dollar, dos_step, with_key, key_step, key_events, after_write}
+use Rattle.dcc_prog.specs.Operations.{with_end, with_flags, with_result, with_product, with_division, count_in, shift_result, after_push, top_word, with_sp_raised, holds, loop_step}
+use Rattle.dcc_prog.specs.Dos.{bytes_from, dos_string, is_not_dollar, dos_step, with_key, key_events, after_write}
 use Rattle.dcc_prog.specs.Step.{op_step}
 use Rattle.dcc_prog.specs.WellFormed.{IsOperation, AreOperands}
 use Rattle.dcc_prog.specs.Construct.{is_segment}
@@ -46,10 +46,11 @@ use Rattle.dcc_prog.specs.Wanted.{Location, half_of, flag_of, is_half, is_half_o
 use Rattle.dcc_prog.specs.LocationLaws.{half_in, flag_in}
 use Rattle.dcc_prog.specs.AlikeLaws.{AgreeOutside, IsCallNumber, spares_segments, is_pushed_of, pushed_at, AreAlikeOutside, WhatIsUsedAlikeShowsAlike}
 use Rattle.dcc_prog.proofs.OperationForms.{alu_result, alu_written, alu-form}
+use Rattle.dcc_prog.proofs.DosLaws.{calls-relate, calls-leave}
 use Rattle.dcc_prog.proofs.StateKept.{value-fits, of_width}
 use Rattle.dcc_prog.proofs.LocationKept.{word-taken, half-other, operand-half, operand-flags}
 use Rattle.dcc_prog.proofs.AlikeValues.{and-both, and-parts, or-first, or-second, register-self, half-self, AgreeWhere, AreTwo, word-alike, offset-alike, segment-alike, word_at-alike, value-alike, top-alike}
-use Rattle.dcc_prog.proofs.AlikeHalves.{increment-alike, decrement-alike, all_of, alu_reads, alu-results, divided-alike, shift_value_reads, shift-results, memory-alike, same-moved, raised-alike, fallen-alike}
+use Rattle.dcc_prog.proofs.AlikeHalves.{increment-alike, decrement-alike, all_of, alu_reads, alu-results, same-division, shift_value_reads, shift-results, memory-alike, same-moved, raised-alike, fallen-alike}
 
 -- Bytes and words that are stored.
 
@@ -281,27 +282,13 @@ unary-used cpu Not a at number s t two spares used =
 unary-used cpu Mul a at number s t two spares used = product-used (Unary Mul a) (operand_width a) _ _ s t two
 unary-used cpu Imul a at number s t two spares used = product-used (Unary Imul a) (operand_width a) _ _ s t two
 unary-used cpu Div a at number s t two spares used =
-    let w = operand_width a in
-    let alike = divided-alike a s t two.beside used in
-    let same :
-    division_of w (upper_in w s) (accumulator_in w s) (operand_value s a)
-    ≡ division_of w (upper_in w t) (accumulator_in w t) (operand_value t a) =
-    ap (λ n. division_of w n (accumulator_in w s) (operand_value s a)) alike.high
-    ∙ ap (λ n. division_of w (upper_in w t) n (operand_value s a)) alike.low
-    ∙ ap (division_of w (upper_in w t) (accumulator_in w t)) alike.by in
-    subst (λ d. AreAlikeOutside (Unary Div a) s t (op_step cpu (Unary Div a) at s) (with_division w at d t)) same
-    (division-used (Unary Div a) w at _ s t two)
+    subst
+    (λ d. AreAlikeOutside (Unary Div a) s t (op_step cpu (Unary Div a) at s) (with_division (operand_width a) at d t))
+    (same-division division_of a s t two.beside used) (division-used (Unary Div a) (operand_width a) at _ s t two)
 unary-used cpu Idiv a at number s t two spares used =
-    let w = operand_width a in
-    let alike = divided-alike a s t two.beside used in
-    let same :
-    signed_division_of w (upper_in w s) (accumulator_in w s) (operand_value s a)
-    ≡ signed_division_of w (upper_in w t) (accumulator_in w t) (operand_value t a) =
-    ap (λ n. signed_division_of w n (accumulator_in w s) (operand_value s a)) alike.high
-    ∙ ap (λ n. signed_division_of w (upper_in w t) n (operand_value s a)) alike.low
-    ∙ ap (signed_division_of w (upper_in w t) (accumulator_in w t)) alike.by in
-    subst (λ d. AreAlikeOutside (Unary Idiv a) s t (op_step cpu (Unary Idiv a) at s) (with_division w at d t)) same
-    (division-used (Unary Idiv a) w at _ s t two)
+    subst
+    (λ d. AreAlikeOutside (Unary Idiv a) s t (op_step cpu (Unary Idiv a) at s) (with_division (operand_width a) at d t))
+    (same-division signed_division_of a s t two.beside used) (division-used (Unary Idiv a) (operand_width a) at _ s t two)
 
 shift-used :
     (cpu :
@@ -643,33 +630,13 @@ end-outside :
 end-outside end other at s t o same =
     record { segs = o.segs; ip = refl; input = o.input; events = o.events; end = same }
 
-chosen-outside :
-    (so : Bool) (a b c d : State) → (so ≡ true → AgreeOutside a c) → (so ≡ false → AgreeOutside b d)
-    → AgreeOutside (if so then a else b) (if so then c else d)
-chosen-outside true a b c d p q = p refl
-chosen-outside false a b c d p q = q refl
-
-chosen-memory :
-    (so : Bool) (s t u : State) → t.memory ≡ s.memory → u.memory ≡ s.memory → (if so then t else u).memory ≡ s.memory
-chosen-memory true s t u p q = p
-chosen-memory false s t u p q = q
-
 key-memory : (echo : Bool) (input : List ℕ) (s : State) → (with_key echo input s).memory ≡ s.memory
 key-memory echo [] s = refl
 key-memory echo (byte ∷ rest) s = refl
 
 dos-memory : (n at : ℕ) (s : State) → (dos_step n at s).memory ≡ s.memory
 dos-memory n at s =
-    let last : State = with_end (Outside at) at s in
-    let string : State = if n == PUTS then after_write (dos_string s) s else last in
-    let key : State = if n == GETCH then key_step false s else string in
-    let echoed : State = if n == GETCHE then key_step true s else key in
-    let leave : State = if n == EXIT then with_end (Exit (word_in s Ax % 256)) at s else echoed in
-    chosen-memory (n == PUTC) s (after_write (word_in s Dx % 256 ∷ []) s) leave refl
-    (chosen-memory (n == EXIT) s (with_end (Exit (word_in s Ax % 256)) at s) echoed refl
-    (chosen-memory (n == GETCHE) s (key_step true s) key (key-memory true s.input s)
-    (chosen-memory (n == GETCH) s (key_step false s) string (key-memory false s.input s)
-    (chosen-memory (n == PUTS) s (after_write (dos_string s) s) last refl refl))))
+    calls-leave (λ t. t.memory ≡ s.memory) n at s refl refl (λ echo. key-memory echo s.input s) refl refl
 
 -- what the call of a number uses
 uses-number :
@@ -682,27 +649,19 @@ dos-outside :
     → AgreeOutside (dos_step n at s) (dos_step n at t)
 dos-outside n at s t two used =
     let o = two.beside.outside in
-    let last : State → State = λ u. with_end (Outside at) at u in
-    let string : State → State = λ u. if n == PUTS then after_write (dos_string u) u else last u in
-    let key : State → State = λ u. if n == GETCH then key_step false u else string u in
-    let echoed : State → State = λ u. if n == GETCHE then key_step true u else key u in
-    let leave : State → State = λ u. if n == EXIT then with_end (Exit (word_in u Ax % 256)) at u else echoed u in
-    chosen-outside (n == PUTC) (after_write (word_in s Dx % 256 ∷ []) s) (leave s)
-    (after_write (word_in t Dx % 256 ∷ []) t) (leave t)
-    (λ is. write-outside _ _ s t o
-    (ap (λ b. b ∷ []) (used (half_of Dx Low) (uses-number n PUTC (half_of Dx Low) is refl)))) (λ no_putc.
-    chosen-outside (n == EXIT) (with_end (Exit (word_in s Ax % 256)) at s) (echoed s)
-    (with_end (Exit (word_in t Ax % 256)) at t) (echoed t)
-    (λ is. end-outside _ _ at s t o (ap Exit (used (half_of Ax Low) (uses-number n EXIT (half_of Ax Low) is refl))))
-    (λ no_exit.
-    chosen-outside (n == GETCHE) (key_step true s) (key s) (key_step true t) (key t)
-    (λ is. key-outside true s.input t.input s t o o.input) (λ no_getche.
-    chosen-outside (n == GETCH) (key_step false s) (string s) (key_step false t) (string t)
-    (λ is. key-outside false s.input t.input s t o o.input) (λ no_getch.
-    chosen-outside (n == PUTS) (after_write (dos_string s) s) (last s) (after_write (dos_string t) t) (last t)
-    (λ is. write-outside _ _ s t o
-    (string-alike s t two (word-alike s t Dx (λ from h. used from (uses-number n PUTS from is h)))))
-    (λ no_puts. end-outside _ _ at s t o refl)))))
+    calls-relate AgreeOutside n at s t (record {
+      putc = λ is.
+          write-outside _ _ s t o
+          (ap (λ b. b ∷ []) (used (half_of Dx Low) (uses-number n PUTC (half_of Dx Low) is refl)));
+      exit = λ is.
+          end-outside _ _ at s t o
+          (ap Exit (used (half_of Ax Low) (uses-number n EXIT (half_of Ax Low) is refl)));
+      key = λ echo. key-outside echo s.input t.input s t o o.input;
+      puts = λ is.
+          write-outside _ _ s t o
+          (string-alike s t two (word-alike s t Dx (λ from h. used from (uses-number n PUTS from is h))));
+      outside = λ no_getche no_getch. end-outside _ _ at s t o refl;
+    })
 
 -- All operations.
 

@@ -69,7 +69,7 @@ no_stack-clean program stack s instr uses =
     (foul_as s.ip Unwritten (unwritten_of program.layout stack list))) (fewer-none program.layout is_other list uses.bytes)
     ∙ ap (λ l. foul_as s.ip Unwritten (find (λ offset. not (is_marked stack.written offset)) l)) (fewer-none program.layout is_reading list uses.bytes)
 
-frames-stay : (op : Op) (top : ℕ) (frames : List LiveFrame) → moves_frames op ≡ false
+pub frames-stay : (op : Op) (top : ℕ) (frames : List LiveFrame) → moves_frames op ≡ false
     → frames_after op top frames ≡ frames
 frames-stay (Call target) top frames apart = cc
 frames-stay (Ret count) top frames apart = cc

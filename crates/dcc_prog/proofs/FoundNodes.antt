@@ -81,7 +81,7 @@ or-false false b none = none
 module _ (image : Image) (layout : Layout) (entry : ℕ) (first : Instr)
     (is : instruction_in image layout entry ≡ Some first) where
   -- `push bp` goes on to the next instruction
-  pub second-node : is_push_bp first.op ≡ true → IsNode image layout entry (next_of entry first)
+  second-node : is_push_bp first.op ≡ true → IsNode image layout entry (next_of entry first)
   second-node push =
       let onward : successors image layout (entry ∷ []) ≡ next_of entry first ∷ [] =
       ap (instr_successors image layout entry []) is
@@ -102,7 +102,7 @@ module _ (image : Image) (layout : Layout) (entry : ℕ) (first : Instr)
       ap (λ (i : Option Instr). (stands_push_bp i && stands_mov_bp_sp (instruction_in image layout (second_of entry i))) || stands_enter i)
       is
 
-  pub framed-push :
+  framed-push :
       is_push_bp first.op ≡ true
       → is_framed image layout entry ≡ stands_mov_bp_sp (instruction_in image layout (next_of entry first))
   framed-push push =
@@ -110,3 +110,12 @@ module _ (image : Image) (layout : Layout) (entry : ℕ) (first : Instr)
       framed-by
       ∙ or-false (is_push_bp first.op && second) (is_enter first.op) (push-no_enter first.op push)
       ∙ ap (λ b. b && second) push
+
+  -- so it is told by what is found at the second offset
+  pub framed-second :
+      is_push_bp first.op ≡ true → (next : ℕ) → next ≡ next_of entry first → (second : Option Instr)
+      → (IsNode image layout entry next → second ≡ instruction_in image layout next)
+      → stands_mov_bp_sp second ≡ is_framed image layout entry
+  framed-second push next next_is second found =
+      let node = subst (IsNode image layout entry) (sym next_is) (second-node push) in
+      ap stands_mov_bp_sp (found node ∙ ap (instruction_in image layout) next_is) ∙ sym (framed-push push)

@@ -17,7 +17,7 @@ use Rattle.dcc_prog.specs.Bytes.{word_at}
 use Rattle.dcc_prog.specs.Code.{code_of}
 use Rattle.dcc_prog.specs.Table.{table, instruction_at}
 use Rattle.dcc_prog.specs.Machine.{word_in, stack_segment, data_segment, start_state}
-use Rattle.dcc_prog.specs.Layout.{is_prelude_form, writes_ds, IsRun, end_of, state_after, IsPrelude, HasLayout}
+use Rattle.dcc_prog.specs.Layout.{is_prelude_form, writes_ds, IsRun, offset_after, state_after, IsPrelude, HasLayout}
 use Rattle.dcc_prog.specs.Construct.{IsConstruct, lacks_layout, of_trails}
 use Rattle.dcc_prog.proofs.MzImageLaws.{vec_of}
 use Rattle.dcc_prog.proofs.FetchLaws.{IsPlaced}
@@ -81,7 +81,7 @@ left-is code few short =
 has-layout :
     (code : List ℕ) (few : length code < 2 ^ 62) (more : List Instr)
     → 0 < length code → length code ≤ 11
-    → IsRun I8086 (whole code) 5 more → NoFormAt I8086 (whole code) (end_of 5 more) → none_ends more ≡ true
+    → IsRun I8086 (whole code) 5 more → NoFormAt I8086 (whole code) (offset_after 5 more) → none_ends more ≡ true
     → HasLayout (image_of code few) (layout_of code)
 unfolding vec_of
 has-layout code few more some short run stop none =

@@ -10,7 +10,7 @@ use Rattle.dcc_prog.specs.declared.procedure.Layout.{Layout}
 use Rattle.dcc_prog.specs.declared.instr.Instr.{Instr}
 use Rattle.dcc_prog.specs.Code.{code_of}
 use Rattle.dcc_prog.specs.Machine.{State, word_in, stack_segment, data_segment}
-use Rattle.dcc_prog.specs.Layout.{writes_ds, end_of, IsPrelude, state_after, lowest_of_stack, IsLeftBy, IsSmall, HasLayout}
+use Rattle.dcc_prog.specs.Layout.{writes_ds, offset_after, IsPrelude, state_after, lowest_of_stack, IsLeftBy, IsSmall, HasLayout}
 use Rattle.dcc_prog.specs.Construct.{LacksLayout}
 use Rattle.dcc_prog.proofs.PreludeLaws.{prelude-of, prelude-once}
 
@@ -75,7 +75,7 @@ layout-after cpu image prelude =
       delta = delta;
       lo = lowest_of_stack image (data_segment s);
       hi = word_in s Sp + delta;
-      start_ip = end_of image.ip prelude;
+      start_ip = offset_after image.ip prelude;
       code_end = min ((data_segment s - image.cs) * 16) image.code_len;
       regs = s.regs;
       flags = s.flags;

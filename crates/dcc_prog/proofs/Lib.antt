@@ -21,6 +21,7 @@ pub mod CleanLaws
 pub mod StoredMarks
 pub mod SpLaws
 pub mod OperationForms
+pub mod DosLaws
 pub mod AccessLaws
 pub mod MemoryKept
 pub mod ResultBounds
@@ -39,4 +40,5 @@ mod LayoutExamples
 mod FrameExamples
 mod AccessExamples
 mod CleanExamples
+pub mod FrameLaws
 pub mod WatchedAlike

@@ -4,7 +4,6 @@ use Rattle.std.proofs.lemmas.Bool.{eqb-true, eq-eqb}
 use Rattle.std.proofs.lemmas.List.{get_or-set_other}
 use Rattle.std.proofs.lemmas.Grind.{get_or-set_at}
 use Rattle.std.specs.Prelude.{not, ◌&&◌, ◌||◌, slice_index, if◌then◌else◌, ◌==◌}
-use Rattle.dcc_run.specs.End.{Exit, Outside}
 use Rattle.dcc_num.specs.declared.Width.{Width}
 use Rattle.dcc_num.specs.declared.Width.TheVariants.{Byte as byte_width, Word as word_width}
 use Rattle.dcc_num.specs.declared.Reg.{Reg}
@@ -14,7 +13,7 @@ use Rattle.dcc_num.specs.declared.Half.TheVariants.{Low, High}
 use Rattle.dcc_num.specs.declared.Flags.{Flags}
 use Rattle.dcc_num.specs.declared.FlagName.{FlagName}
 use Rattle.dcc_num.specs.declared.FlagName.TheVariants.{Cf, Zf, Sf, Of}
-use Rattle.dcc_num.specs.declared.dos.TheConstants.{GETCHE, PUTC, GETCH, PUTS, EXIT, END_OF_INPUT}
+use Rattle.dcc_num.specs.declared.dos.TheConstants.{END_OF_INPUT}
 use Rattle.dcc_num.specs.Numbers.{limit_of, sign_extension_of}
 use Rattle.dcc_num.specs.Sum.{increment_of, decrement_of}
 use Rattle.dcc_num.specs.Shift.{unless_zero, rotate_flags, left_rotation_of, right_rotation_of, left_turn_of, right_turn_of, shl_of, shr_of, sar_of}
@@ -33,14 +32,15 @@ use Rattle.dcc_prog.specs.declared.instr.Operand.TheVariants.{Word, Byte, Seg, M
 use Rattle.dcc_prog.specs.declared.instr.Op.{Op}
 use Rattle.dcc_prog.specs.declared.instr.Op.TheVariants.{Alu, Unary, Shift, Mov, Xchg, Lea, Imul3, Push, Pop, Enter, Leave, Plain, Jump, Branch, Loop, LoopE, LoopNe, Jcxz, Table, Call, Ret, Int21}
 use Rattle.dcc_prog.specs.Machine.{State, reg_number, word_in, with_word_in, half_of_word, word_with_half, offset_of, operand_value, operand_width, with_operand}
-use Rattle.dcc_prog.specs.Operations.{with_end, with_flags, accumulator_in, upper_in, with_product, count_in, shift_result, after_push, top_word, with_sp_raised}
-use Rattle.dcc_prog.specs.Dos.{dos_step, dos_string, with_key, key_step, after_write}
+use Rattle.dcc_prog.specs.Operations.{with_flags, accumulator_in, upper_in, with_product, count_in, shift_result, after_push, top_word, with_sp_raised}
+use Rattle.dcc_prog.specs.Dos.{dos_step, with_key}
 use Rattle.dcc_prog.specs.Step.{op_step}
 use Rattle.dcc_prog.specs.WellFormed.{IsOperation, MayCount}
 use Rattle.dcc_prog.specs.Writes.{is_same_register, is_same_half, is_half_of, writes_operand, is_in_pair, is_carry, is_carry_or_overflow, unary_writes_half, plain_writes_half, writes_half, unary_writes_flag, shift_writes_flag, never_shifts, plain_writes_flag, writes_flag}
 use Rattle.dcc_prog.specs.StateForm.{IsState}
 use Rattle.dcc_prog.specs.LocationLaws.{half_in, flag_in, WhatIsNotWrittenStays}
 use Rattle.dcc_prog.proofs.OperationForms.{alu_result, alu_written, alu-form, Outcome, in_operand, in_pair, in_fault, divided, unary_outcome, outcome_step, unary-form}
+use Rattle.dcc_prog.proofs.DosLaws.{calls-leave}
 use Rattle.dcc_prog.proofs.ResultBounds.{alu-below, shift-below, OutcomeFits, outcome-fits, sign_extension-low}
 use Rattle.dcc_prog.proofs.StateKept.{top-below, value-fits, of_width, accumulator-below}
 
@@ -93,7 +93,8 @@ half-beside Low High word v fits apart = omega arith
 half-beside High Low word v fits apart = omega arith
 half-beside High High word v fits apart = cc
 
-same-word : (s : State) (q r : Reg) → is_same_register r q ≡ true → word_in s q ≡ word_in s r
+-- two names of one register
+pub same-word : (s : State) (q r : Reg) → is_same_register r q ≡ true → word_in s q ≡ word_in s r
 same-word s q r same = ap (slice_index s.regs) (sym (eqb-true (reg_number r) (reg_number q) same))
 
 byte-half :
@@ -222,30 +223,13 @@ key-half echo [] s r half bytes count clear =
 key-half echo (byte ∷ rest) s r half bytes count clear =
     byte-half (is_same_register r Ax) s Ax r half Low byte count (bytes 0) refl clear
 
--- one of two states
-chosen-half :
-    (so : Bool) (s t u : State) (r : Reg) (half : Half) → half_in t r half ≡ half_in s r half
-    → half_in u r half ≡ half_in s r half → half_in (if so then t else u) r half ≡ half_in s r half
-chosen-half true s t u r half p q = p
-chosen-half false s t u r half p q = q
-
 dos-half :
     (number at : ℕ) (s : State) (r : Reg) (half : Half) → IsState s
     → (is_same_register r Ax && is_same_half half Low) ≡ false
     → half_in (dos_step number at s) r half ≡ half_in s r half
 dos-half number at s r half form clear =
-    let last : State = with_end (Outside at) at s in
-    let string : State = if number == PUTS then after_write (dos_string s) s else last in
-    let key : State = if number == GETCH then key_step false s else string in
-    let echoed : State = if number == GETCHE then key_step true s else key in
-    let leave : State = if number == EXIT then with_end (Exit (word_in s Ax % 256)) at s else echoed in
-    chosen-half (number == PUTC) s (after_write (word_in s Dx % 256 ∷ []) s) leave r half refl
-    (chosen-half (number == EXIT) s (with_end (Exit (word_in s Ax % 256)) at s) echoed r half refl
-    (chosen-half (number == GETCHE) s (key_step true s) key r half
-    (key-half true s.input s r half form.input form.registers.count clear)
-    (chosen-half (number == GETCH) s (key_step false s) string r half
-    (key-half false s.input s r half form.input form.registers.count clear)
-    (chosen-half (number == PUTS) s (after_write (dos_string s) s) last r half refl refl))))
+    calls-leave (λ t. half_in t r half ≡ half_in s r half) number at s refl refl
+    (λ echo. key-half echo s.input s r half form.input form.registers.count clear) refl refl
 
 -- All operations.
 
@@ -448,23 +432,9 @@ key-flags : (echo : Bool) (input : List ℕ) (s : State) → (with_key echo inpu
 key-flags echo [] s = refl
 key-flags echo (byte ∷ rest) s = refl
 
-chosen-flags :
-    (so : Bool) (s t u : State) → t.flags ≡ s.flags → u.flags ≡ s.flags → (if so then t else u).flags ≡ s.flags
-chosen-flags true s t u p q = p
-chosen-flags false s t u p q = q
-
 pub dos-flags : (number at : ℕ) (s : State) → (dos_step number at s).flags ≡ s.flags
 dos-flags number at s =
-    let last : State = with_end (Outside at) at s in
-    let string : State = if number == PUTS then after_write (dos_string s) s else last in
-    let key : State = if number == GETCH then key_step false s else string in
-    let echoed : State = if number == GETCHE then key_step true s else key in
-    let leave : State = if number == EXIT then with_end (Exit (word_in s Ax % 256)) at s else echoed in
-    chosen-flags (number == PUTC) s (after_write (word_in s Dx % 256 ∷ []) s) leave refl
-    (chosen-flags (number == EXIT) s (with_end (Exit (word_in s Ax % 256)) at s) echoed refl
-    (chosen-flags (number == GETCHE) s (key_step true s) key (key-flags true s.input s)
-    (chosen-flags (number == GETCH) s (key_step false s) string (key-flags false s.input s)
-    (chosen-flags (number == PUTS) s (after_write (dos_string s) s) last refl refl))))
+    calls-leave (λ t. t.flags ≡ s.flags) number at s refl refl (λ echo. key-flags echo s.input s) refl refl
 
 pub op-flag :
     (cpu : Cpu) (op : Op) (at : ℕ) (s : State) (flag : FlagName) → IsOperation op → writes_flag op flag ≡ false

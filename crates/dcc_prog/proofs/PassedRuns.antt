@@ -89,7 +89,8 @@ kept-along layout instr s r half steps clear =
     ap (λ t. half_in t r half) steps.is
     ∙ op-half layout.cpu instr.op s.ip (fetched instr s) r half steps.good steps.next clear
 
-passed-state :
+-- the state after a run along a trail is one of the machine's
+pub passed-state :
     (image : Image) (layout : Layout) (before : List ℕ) (s : State) → HasPassed image layout before s → IsState s
 passed-state image layout before s (begun u form) = form
 passed-state image layout before s (stepped {s = u} passed here goes holds found) =

@@ -4,7 +4,7 @@ use Rattle.std.proofs.lemmas.Bool.{not-true}
 use Rattle.dcc_prog.specs.declared.cpu.Cpu.{Cpu}
 use Rattle.dcc_prog.specs.declared.instr.Instr.{Instr}
 use Rattle.dcc_prog.specs.Table.{instruction_at}
-use Rattle.dcc_prog.specs.Layout.{is_prelude_form, may_end_prelude, IsFormAt, IsRun, end_of, ends_prelude, IsPrelude}
+use Rattle.dcc_prog.specs.Layout.{is_prelude_form, may_end_prelude, IsFormAt, IsRun, offset_after, ends_prelude, IsPrelude}
 use Rattle.dcc_prog.proofs.TableLaws.{and_left, and_right, and_both, instruction-length}
 
 -- Runs.
@@ -39,13 +39,13 @@ form-or_none cpu code at =
     ] refl
 
 -- a run that begins in the code ends in it
-pub run-inside : (cpu : Cpu) (code : List ℕ) (at : ℕ) (run : List Instr) → at ≤ length code → IsRun cpu code at run → end_of at run ≤ length code
+pub run-inside : (cpu : Cpu) (code : List ℕ) (at : ℕ) (run : List Instr) → at ≤ length code → IsRun cpu code at run → offset_after at run ≤ length code
 run-inside cpu code at [] le r = le
 run-inside cpu code at (i ∷ rest) le r =
     run-inside cpu code (at + i.len) rest (form-inside cpu code at i r.0).1 r.1
 
 -- a run goes on by a run from its end
-pub run-append : (cpu : Cpu) (code : List ℕ) (at : ℕ) (run more : List Instr) → IsRun cpu code at run → IsRun cpu code (end_of at run) more → IsRun cpu code at (run ++ more)
+pub run-append : (cpu : Cpu) (code : List ℕ) (at : ℕ) (run more : List Instr) → IsRun cpu code at run → IsRun cpu code (offset_after at run) more → IsRun cpu code at (run ++ more)
 run-append cpu code at [] more r s = s
 run-append cpu code at (i ∷ rest) more r s = (r.0, run-append cpu code (at + i.len) rest more r.1 s)
 
@@ -54,20 +54,20 @@ pub run-of_append : (cpu : Cpu) (code : List ℕ) (at : ℕ) (run more : List In
 run-of_append cpu code at [] more r = tt
 run-of_append cpu code at (i ∷ rest) more r = (r.0, run-of_append cpu code (at + i.len) rest more r.1)
 
-pub end_of-append : (at : ℕ) (run more : List Instr) → end_of at (run ++ more) ≡ end_of (end_of at run) more
-end_of-append at [] more = refl
-end_of-append at (i ∷ rest) more = end_of-append (at + i.len) rest more
+pub offset_after-append : (at : ℕ) (run more : List Instr) → offset_after at (run ++ more) ≡ offset_after (offset_after at run) more
+offset_after-append at [] more = refl
+offset_after-append at (i ∷ rest) more = offset_after-append (at + i.len) rest more
 
 -- a run is the front of one that can't go on
 run-front :
     (cpu : Cpu) (code : List ℕ) (at : ℕ) (run whole : List Instr) → IsRun cpu code at run → IsRun cpu code at whole
-    → NoFormAt cpu code (end_of at whole) → (more : List Instr) × (whole ≡ run ++ more)
+    → NoFormAt cpu code (offset_after at whole) → (more : List Instr) × (whole ≡ run ++ more)
 run-front cpu code at [] whole r w none = (whole, refl)
 run-front cpu code at (i ∷ rest) [] r w none = absurd (none i r.0)
 run-front cpu code at (i ∷ rest) (j ∷ others) r w none =
     let same : j ≡ i = form-same cpu code at j i w.0 r.0 in
     let tail_run : IsRun cpu code (at + i.len) others = subst (λ (k : Instr). IsRun cpu code (at + k.len) others) same w.1 in
-    let stop : NoFormAt cpu code (end_of (at + i.len) others) = subst (λ (k : Instr). NoFormAt cpu code (end_of (at + k.len) others)) same none in
+    let stop : NoFormAt cpu code (offset_after (at + i.len) others) = subst (λ (k : Instr). NoFormAt cpu code (offset_after (at + k.len) others)) same none in
     let tail = run-front cpu code (at + i.len) rest others r.1 tail_run stop in
     (tail.0, let e = tail.1 in cc)
 
@@ -83,7 +83,7 @@ run-same cpu code at (i ∷ rest) (j ∷ others) r s e =
     cc
 
 -- a run goes on until it can't
-whole-run : (fuel : ℕ) (cpu : Cpu) (code : List ℕ) (at : ℕ) → length code ≤ at + fuel → (run : List Instr) × IsRun cpu code at run × NoFormAt cpu code (end_of at run)
+whole-run : (fuel : ℕ) (cpu : Cpu) (code : List ℕ) (at : ℕ) → length code ≤ at + fuel → (run : List Instr) × IsRun cpu code at run × NoFormAt cpu code (offset_after at run)
 whole-run zero cpu code at le =
     ([], tt, λ i f. absurd (let b = form-inside cpu code at i f in omega (arith, b.0, b.1)))
 whole-run (suc fuel) cpu code at le =
@@ -138,7 +138,7 @@ ends-within (f ∷ front) rest (o ∷ other) more e n h =
 -- the prelude is the front of a run that can't go on, up to the last instruction after which it may end
 pub prelude-is :
     (cpu : Cpu) (code : List ℕ) (entry : ℕ) (front rest : List Instr) → IsRun cpu code entry (front ++ rest)
-    → NoFormAt cpu code (end_of entry (front ++ rest)) → ends_prelude front ≡ true → none_ends rest ≡ true
+    → NoFormAt cpu code (offset_after entry (front ++ rest)) → ends_prelude front ≡ true → none_ends rest ≡ true
     → IsPrelude cpu code entry front
 prelude-is cpu code entry front rest run stop ends none = record {
   run = run-of_append cpu code entry front rest run;
@@ -175,7 +175,7 @@ prelude-of cpu code entry =
     let whole = whole-run (length code) cpu code entry (omega arith) in
     let c = cut-of whole.0 in
     let run : IsRun cpu code entry (c.front ++ c.rest) = subst (λ l. IsRun cpu code entry l) c.joins whole.1 in
-    let stop : NoFormAt cpu code (end_of entry (c.front ++ c.rest)) = subst (λ l. NoFormAt cpu code (end_of entry l)) c.joins whole.2 in
+    let stop : NoFormAt cpu code (offset_after entry (c.front ++ c.rest)) = subst (λ l. NoFormAt cpu code (offset_after entry l)) c.joins whole.2 in
     (c.front, prelude-is cpu code entry c.front c.rest run stop c.ends c.none)
 
 -- and just one

@@ -7,7 +7,7 @@ use Rattle.dcc_prog.specs.declared.procedure.Layout.{Layout}
 use Rattle.dcc_prog.specs.declared.instr.Instr.{Instr}
 use Rattle.dcc_prog.specs.MzImage.{IsLoaded}
 use Rattle.dcc_prog.specs.Code.{code_of}
-use Rattle.dcc_prog.specs.Layout.{writes_ds, IsFormAt, IsRun, end_of, HasLayout}
+use Rattle.dcc_prog.specs.Layout.{writes_ds, IsFormAt, IsRun, offset_after, HasLayout}
 use Rattle.dcc_prog.proofs.FetchLaws.{image-placed}
 use Rattle.dcc_prog.proofs.PreludeLaws.{form-inside}
 
@@ -18,12 +18,12 @@ offset_in (suc k) [] at = at
 offset_in (suc k) (instr ∷ rest) at = offset_in k rest (at + instr.len)
 
 -- it is the end of the run's front
-pub offset-taken : (k : ℕ) (run : List Instr) (at : ℕ) → offset_in k run at ≡ end_of at (take k run)
+pub offset-taken : (k : ℕ) (run : List Instr) (at : ℕ) → offset_in k run at ≡ offset_after at (take k run)
 offset-taken zero run at = refl
 offset-taken (suc k) [] at = refl
 offset-taken (suc k) (instr ∷ rest) at = offset-taken k rest (at + instr.len)
 
-pub offset-end : (run : List Instr) (at : ℕ) → offset_in (length run) run at ≡ end_of at run
+pub offset-end : (run : List Instr) (at : ℕ) → offset_in (length run) run at ≡ offset_after at run
 offset-end [] at = refl
 offset-end (instr ∷ rest) at = offset-end rest (at + instr.len)
 
@@ -70,13 +70,13 @@ offset-far cpu code (suc k) (instr ∷ rest) at r inside =
     let more = offset-far cpu code k rest (at + instr.len) r.1 (omega (arith, inside)) in
     omega (arith, some, more)
 
-pub run-above : (cpu : Cpu) (code : List ℕ) (run : List Instr) (at : ℕ) → IsRun cpu code at run → at ≤ end_of at run
+pub run-above : (cpu : Cpu) (code : List ℕ) (run : List Instr) (at : ℕ) → IsRun cpu code at run → at ≤ offset_after at run
 run-above cpu code run at r =
     let above = offset-above cpu code (length run) run at r in
     omega (arith, above, offset-end run at)
 
 -- they lie before the run's end
-pub offset-before_end : (cpu : Cpu) (code : List ℕ) (k : ℕ) (run : List Instr) (at : ℕ) → IsRun cpu code at run → k < length run → offset_in k run at < end_of at run
+pub offset-before_end : (cpu : Cpu) (code : List ℕ) (k : ℕ) (run : List Instr) (at : ℕ) → IsRun cpu code at run → k < length run → offset_in k run at < offset_after at run
 offset-before_end cpu code k run at r inside =
     let up = offset-ascends cpu code k (length run) run at r inside (omega arith) in
     omega (arith, up, offset-end run at)
@@ -92,10 +92,10 @@ offset-first cpu code (suc k) run at r inside same =
 
 module _ (image : Image) (layout : Layout) (loaded : IsLoaded image) (has : HasLayout image layout) where
   -- the prelude's end, and with it the procedure's entry, lies below the code's end, which is below offset 65536
-  pub prelude-within : end_of image.ip has.prelude ≤ layout.code_end
+  pub prelude-within : offset_after image.ip has.prelude ≤ layout.code_end
   prelude-within = omega (arith, has.left.start_ip, has.small.has_code)
 
-  pub prelude-short : end_of image.ip has.prelude < 65536
+  pub prelude-short : offset_after image.ip has.prelude < 65536
   prelude-short =
       let placed = image-placed loaded.file image loaded.is_image in
       omega (arith, has.left.start_ip, has.small.has_code, has.left.code_end, placed.short)

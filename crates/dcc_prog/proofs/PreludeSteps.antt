@@ -21,7 +21,7 @@ use Rattle.dcc_prog.specs.Code.{code_of}
 use Rattle.dcc_prog.specs.Table.{instruction_at}
 use Rattle.dcc_prog.specs.Machine.{State, word_in, code_segment, data_segment, start_state}
 use Rattle.dcc_prog.specs.Step.{op_step, instruction_step, step}
-use Rattle.dcc_prog.specs.Layout.{is_data_segment, is_prelude_form, writes_ds, IsFormAt, IsRun, end_of, state_after}
+use Rattle.dcc_prog.specs.Layout.{is_data_segment, is_prelude_form, writes_ds, IsFormAt, IsRun, offset_after, state_after}
 use Rattle.dcc_prog.proofs.FetchLaws.{IsPlaced, image-placed, length-code_of, start-holds, code-kept, fetched-whole}
 use Rattle.dcc_prog.proofs.MzImageLaws.{ip-loaded}
 use Rattle.dcc_prog.proofs.PreludeLaws.{form-inside}
@@ -142,7 +142,7 @@ step-at cpu image input r at instr placed cs is =
 pub run-steps :
     (cpu : Cpu) (image : Image) (input : List ℕ) (r : State) (at : ℕ) (run : List Instr) → IsPlaced image
     → code_segment r ≡ image.cs → IsRun cpu (code_of image) at run
-    → after (step cpu) (length run) (at_offset image input r at) ≡ at_offset image input (executed cpu r run) (end_of at run)
+    → after (step cpu) (length run) (at_offset image input r at) ≡ at_offset image input (executed cpu r run) (offset_after at run)
 run-steps cpu image input r at [] placed cs is = refl
 run-steps cpu image input r at (i ∷ rest) placed cs is =
     ap (λ s. after (step cpu) (length rest) s) (step-at cpu image input r at i placed cs is.0)
@@ -161,13 +161,13 @@ start-at image input loaded =
 pub steps-from_start :
     (cpu : Cpu) (image : Image) (input : List ℕ) (run : List Instr) → IsLoaded image
     → IsRun cpu (code_of image) image.ip run
-    → after (step cpu) (length run) (start_state image input) ≡ at_offset image input (executed cpu (start_state image []) run) (end_of image.ip run)
+    → after (step cpu) (length run) (start_state image input) ≡ at_offset image input (executed cpu (start_state image []) run) (offset_after image.ip run)
 steps-from_start cpu image input run loaded is =
     ap (λ s. after (step cpu) (length run) s) (start-at image input loaded)
     ∙ run-steps cpu image input (start_state image []) image.ip run (image-placed loaded.file image loaded.is_image) refl is
 
 pub state_after-is :
     (cpu : Cpu) (image : Image) (prelude : List Instr) → IsLoaded image → IsRun cpu (code_of image) image.ip prelude
-    → state_after cpu image prelude ≡ at_offset image [] (executed cpu (start_state image []) prelude) (end_of image.ip prelude)
+    → state_after cpu image prelude ≡ at_offset image [] (executed cpu (start_state image []) prelude) (offset_after image.ip prelude)
 unfolding state_after
 state_after-is cpu image prelude loaded is = steps-from_start cpu image [] prelude loaded is

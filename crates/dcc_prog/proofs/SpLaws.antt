@@ -133,7 +133,7 @@ clear-high false false e = refl
 clear-high false true e = cc
 clear-high true c e = cc
 
-part-bp : (s : State) (base : Option Reg) → is_bp base ≡ true → part_of s base ≡ word_in s Bp
+pub part-bp : (s : State) (base : Option Reg) → is_bp base ≡ true → part_of s base ≡ word_in s Bp
 part-bp s (Some Bp) is = refl
 part-bp s _ is = cc
 

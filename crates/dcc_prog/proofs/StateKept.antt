@@ -1,7 +1,7 @@
 -- Steps keep what holds of each state.
 use Rattle.std.proofs.Common.{◌≡◌, ℕ, zero, suc, ◌+◌, ◌-◌, ◌*◌, ◌/◌, ◌%◌, ◌<◌, Bool, true, false, List, [], ◌∷◌, length, get_or, set, Option, Some, None, refl, sym, ap, ◌∙◌, subst, arith, length-set}
-use Rattle.std.specs.Prelude.{not, slice_index, slice_set, if◌then◌else◌, ◌==◌, IfSome}
-use Rattle.dcc_run.specs.End.{Exit, Outside, is_over}
+use Rattle.std.specs.Prelude.{not, slice_index, slice_set, if◌then◌else◌, IfSome}
+use Rattle.dcc_run.specs.End.{is_over}
 use Rattle.dcc_num.specs.declared.Width.{Width}
 use Rattle.dcc_num.specs.declared.Width.TheVariants.{Byte as byte_width, Word as word_width}
 use Rattle.dcc_num.specs.declared.Reg.{Reg}
@@ -9,7 +9,7 @@ use Rattle.dcc_num.specs.declared.Reg.TheVariants.{Ax, Cx, Dx, Sp, Bp}
 use Rattle.dcc_num.specs.declared.Half.{Half}
 use Rattle.dcc_num.specs.declared.Half.TheVariants.{Low, High}
 use Rattle.dcc_num.specs.declared.Flags.{Flags}
-use Rattle.dcc_num.specs.declared.dos.TheConstants.{GETCHE, PUTC, GETCH, PUTS, EXIT, END_OF_INPUT}
+use Rattle.dcc_num.specs.declared.dos.TheConstants.{END_OF_INPUT}
 use Rattle.dcc_num.specs.Numbers.{limit_of}
 use Rattle.dcc_num.specs.Product.{signed_product_of}
 use Rattle.dcc_prog.specs.declared.cpu.Cpu.{Cpu}
@@ -22,14 +22,15 @@ use Rattle.dcc_prog.specs.declared.instr.Op.TheVariants.{Alu, Unary, Shift, Mov,
 use Rattle.dcc_prog.specs.declared.instr.Instr.{Instr}
 use Rattle.dcc_prog.specs.Table.{instruction_at}
 use Rattle.dcc_prog.specs.Machine.{State, reg_number, word_in, with_word_in, half_of_word, word_with_half, stack_segment, physical, byte_in, word_at_offset, with_byte_in, with_word_at_offset, offset_of, segment_of, operand_value, operand_width, with_operand}
-use Rattle.dcc_prog.specs.Operations.{with_end, with_flags, with_result, with_al, accumulator_in, upper_in, with_product, count_in, shift_result, after_push, top_word, with_sp_raised}
-use Rattle.dcc_prog.specs.Dos.{dos_step, dos_string, with_key, key_step, after_write}
+use Rattle.dcc_prog.specs.Operations.{with_flags, with_result, with_al, accumulator_in, upper_in, with_product, count_in, shift_result, after_push, top_word, with_sp_raised}
+use Rattle.dcc_prog.specs.Dos.{dos_step, with_key}
 use Rattle.dcc_prog.specs.Step.{code_bytes, op_step, instruction_step, step, loop_step}
 use Rattle.dcc_prog.specs.WellFormed.{IsOperand, IsOperation}
 use Rattle.dcc_prog.specs.Writes.{writes_operand}
 use Rattle.dcc_prog.specs.StateForm.{IsState, StepsKeepStates}
 use Rattle.dcc_prog.proofs.WellFormedLaws.{AreBytes, found-operation}
 use Rattle.dcc_prog.proofs.OperationForms.{alu_result, alu_written, alu-form, Outcome, in_operand, in_pair, in_fault, unary_outcome, outcome_step, unary-form}
+use Rattle.dcc_prog.proofs.DosLaws.{calls-leave}
 use Rattle.dcc_prog.proofs.ResultBounds.{alu-below, shift-below, OutcomeFits, outcome-fits, signed_product-below, extension-below, sign_extension-below}
 
 -- Places of a state.
@@ -250,19 +251,9 @@ chosen-state false s t p q = q
 
 dos-state : (number at : ℕ) (s : State) → IsState s → IsState (dos_step number at s)
 dos-state number at s form =
-    let last : State = with_end (Outside at) at s in
-    let string : State = if number == PUTS then after_write (dos_string s) s else last in
-    let key : State = if number == GETCH then key_step false s else string in
-    let echoed : State = if number == GETCHE then key_step true s else key in
-    let leave : State = if number == EXIT then with_end (Exit (word_in s Ax % 256)) at s else echoed in
-    chosen-state (number == PUTC) (after_write (word_in s Dx % 256 ∷ []) s) leave
+    calls-leave IsState number at s (same-state s _ refl refl refl refl form) (same-state s _ refl refl refl refl form)
+    (λ echo. key-state echo s.input s form.input form) (same-state s _ refl refl refl refl form)
     (same-state s _ refl refl refl refl form)
-    (chosen-state (number == EXIT) (with_end (Exit (word_in s Ax % 256)) at s) echoed
-    (same-state s _ refl refl refl refl form)
-    (chosen-state (number == GETCHE) (key_step true s) key (key-state true s.input s form.input form)
-    (chosen-state (number == GETCH) (key_step false s) string (key-state false s.input s form.input form)
-    (chosen-state (number == PUTS) (after_write (dos_string s) s) last (same-state s _ refl refl refl refl form)
-    (same-state s _ refl refl refl refl form)))))
 
 -- All operations.
 

@@ -395,7 +395,7 @@ find-front test (r ∷ rows) more row e =
     cases (test r) e
 
 -- the rows of the 8086 stand first among those of the 80186
-both_tables : table I186 ≡ table I8086 ++ later_rows
+pub both_tables : table I186 ≡ table I8086 ++ later_rows
 unfolding table
 both_tables = refl
 

@@ -1,9 +1,8 @@
 -- Programs of one image watch its runs alike: they have one layout, and what they tell of each frame is the same.
-use Rattle.std.proofs.Common.{◌≡◌, ◌≢◌, ℕ, zero, suc, Bool, true, false, List, [], ◌∷◌, Option, Some, None, All, refl, sym, ap, ap₂, ◌∙◌, subst, arith, eqb-true}
-use Rattle.std.specs.Prelude.{◌==◌, ◌+◌, ◌<◌, ◌≤◌, ◌*◌, ◌&&◌, ◌||◌, not, nat_le, if◌then◌else◌, slice_get, ℤ, pos, ◌-ℤ◌, neg_ℤ, ◌≤ℤ◌, ◌<ℤ◌, int_le, int_lt}
+use Rattle.std.proofs.Common.{◌≡◌, ◌≢◌, ℕ, zero, suc, Bool, true, false, List, [], ◌∷◌, Option, Some, None, All, refl, sym, ap, ap₂, ◌∙◌, subst, eqb-true}
+use Rattle.std.specs.Prelude.{◌==◌, ◌+◌, ◌*◌, ◌&&◌, ◌||◌, not, nat_le, if◌then◌else◌, slice_get, ℤ, pos, ◌-ℤ◌, neg_ℤ, int_le, int_lt}
 use Rattle.std.specs.List.{AllZip, find, filter}
 use Rattle.std.proofs.lemmas.Bool.{eq-eqb}
-use Rattle.std.proofs.lemmas.Int.{ints}
 use Rattle.std.proofs.lemmas.List.Elements.{All-head, All-tail}
 use Rattle.dcc_run.specs.End.{is_over}
 use Rattle.dcc_run.specs.System.{after}
@@ -20,44 +19,14 @@ use Rattle.dcc_prog.specs.declared.instr.Instr.{Instr}
 use Rattle.dcc_prog.specs.Machine.{State}
 use Rattle.dcc_prog.specs.Trail.{IsEntry}
 use Rattle.dcc_prog.specs.Access.{Access, found_accesses}
-use Rattle.dcc_prog.specs.Frame.{HasArguments, of_start, of_procedure, HasExposedLocal, no_local, local, HasExposedArguments, no_argument, from_argument}
+use Rattle.dcc_prog.specs.Frame.{HasArguments, HasExposedLocal, HasExposedArguments}
 use Rattle.dcc_prog.specs.Found.{HasEntry, AreFound}
 use Rattle.dcc_prog.specs.Analysed.{IsFrameOf, IsProgramOf}
-use Rattle.dcc_prog.specs.Clean.{LiveFrame, Stack, Foul, frame_in, frame_of, end_of, owner, exposes, exposed_by, is_exposed_byte, top_in, stack_bytes, is_other, sp_after, foul_as, or_else, low_of, hidden_of, unwritten_of, foul_of}
-use Rattle.dcc_prog.specs.Watch.{Stage, AtStart, InPrelude, InProcedures, Stopped, Watch, next_instruction, next_foul, is_foul, made, watch_step, watched_machine, first_watch, IsClean}
+use Rattle.dcc_prog.specs.Clean.{LiveFrame, Stack, frame_in, end_of, owner, exposed_by, is_exposed_byte, top_in, stack_bytes, is_other, sp_after, foul_as, or_else, low_of, hidden_of, unwritten_of, foul_of}
+use Rattle.dcc_prog.specs.Watch.{Stage, AtStart, InPrelude, InProcedures, Stopped, Watch, next_instruction, next_foul, is_foul, made, watch_step, watched_machine, first_watch}
 use Rattle.dcc_prog.specs.WatchedAlike.{ProgramsWatchAlike}
 use Rattle.dcc_prog.proofs.LayoutLaws.{layout-once}
-
--- One number of arguments, one extent of exposed bytes.
-
-module _ {image : Image} {layout : Layout} {entry : ℕ} where
-  arguments-once : {a b : ℕ} → HasArguments image layout entry a → HasArguments image layout entry b → a ≡ b
-  arguments-once (of_start s) (of_start t) = refl
-  arguments-once (of_start s) (of_procedure apart room least) = absurd (apart s)
-  arguments-once (of_procedure apart room least) (of_start s) = absurd (apart s)
-  arguments-once {a = a} {b = b} (of_procedure apart room least) (of_procedure apart' room' least') =
-      let le = least b room' in let ge = least' a room in omega (arith, ints, le, ge)
-
-  local-once : {a b : ℕ} → HasExposedLocal image layout entry a → HasExposedLocal image layout entry b → a ≡ b
-  local-once (no_local none) (no_local none') = refl
-  local-once {b = b} (no_local none) (local some start least) = let le = none (neg_ℤ (pos b)) start in absurd (omega (arith, ints, le, some))
-  local-once {a = a} (local some start least) (no_local none) = let le = none (neg_ℤ (pos a)) start in absurd (omega (arith, ints, le, some))
-  local-once {a = a} {b = b} (local some start least) (local some' start' least') =
-      let le = least (neg_ℤ (pos b)) start' in let ge = least' (neg_ℤ (pos a)) start in omega (arith, ints, le, ge)
-
-  argument-once :
-      {a b : Option ℕ} → HasExposedArguments image layout entry a → HasExposedArguments image layout entry b → a ≡ b
-  argument-once (no_argument none) (no_argument none') = refl
-  argument-once (no_argument none) (from_argument {least = least} far start lowest) =
-      let lt = none (pos least) start in absurd (omega (arith, ints, lt, far))
-  argument-once (from_argument {least = least} far start lowest) (no_argument none) =
-      let lt = none (pos least) start in absurd (omega (arith, ints, lt, far))
-  argument-once (from_argument {least = a} far start lowest) (from_argument {least = b} far' start' lowest') =
-      let farther : pos 4 ≤ℤ pos b = omega (arith, ints, far') in
-      let farther' : pos 4 ≤ℤ pos a = omega (arith, ints, far) in
-      let le = lowest (pos b) start' farther in
-      let ge = lowest' (pos a) start farther' in
-      ap Some (omega (arith, ints, le, ge))
+use Rattle.dcc_prog.proofs.FrameLaws.{arguments-once, local-once, argument-once}
 
 -- Frames by their entries.
 

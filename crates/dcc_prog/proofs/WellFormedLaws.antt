@@ -267,35 +267,15 @@ move-good =
 
 control-good : AllGood control_rows
 control-good =
-    (λ p c. tt)
-    & (λ p c. tt)
-    & (λ p c. tt)
-    & (λ p c. tt)
-    & (λ p c. tt)
-    & (λ p c. tt)
-    & (λ p c. tt)
-    & (λ p c. tt)
-    & (λ p c. tt)
-    & (λ p c. tt)
-    & (λ p c. tt)
-    & (λ p c. tt)
-    & (λ p c. tt)
-    & (λ p c. tt)
-    & (λ p c. tt)
+    (λ p c. tt) & (λ p c. tt) & (λ p c. tt) & (λ p c. tt) & (λ p c. tt)
+    & (λ p c. tt) & (λ p c. tt) & (λ p c. tt) & (λ p c. tt) & (λ p c. tt)
+    & (λ p c. tt) & (λ p c. tt) & (λ p c. tt) & (λ p c. tt) & (λ p c. tt)
     & none_left
 
 plain-good : AllGood plain_rows
 plain-good =
-    (λ p c. tt)
-    & (λ p c. tt)
-    & (λ p c. tt)
-    & (λ p c. tt)
-    & (λ p c. tt)
-    & (λ p c. tt)
-    & (λ p c. tt)
-    & (λ p c. tt)
-    & (λ p c. tt)
-    & (λ p c. tt)
+    (λ p c. tt) & (λ p c. tt) & (λ p c. tt) & (λ p c. tt) & (λ p c. tt)
+    & (λ p c. tt) & (λ p c. tt) & (λ p c. tt) & (λ p c. tt) & (λ p c. tt)
     & none_left
 
 later-good : AllGood later_rows

@@ -185,7 +185,7 @@ pub record IsCrossed (image : Image) (layout : Layout) (entry : ℕ) (offset : �
   pub after : offset <ℤ span.end
 
 -- a run: pieces that overlap, joined; a piece begins it, each offset within it is crossed, and none of its ends is
-pub record IsRun (image : Image) (layout : Layout) (entry : ℕ) (run : Span) : Type 0 where
+pub record IsRunOfPieces (image : Image) (layout : Layout) (entry : ℕ) (run : Span) : Type 0 where
   pub span : Span
   pub piece : IsPiece image layout entry span
   pub begins : span.first ≡ run.first
@@ -196,12 +196,12 @@ pub record IsRun (image : Image) (layout : Layout) (entry : ℕ) (run : Span) : 
 
 -- a run of at most two bytes is a cell
 pub record IsCell (image : Image) (layout : Layout) (entry : ℕ) (cell : Span) : Type 0 where
-  pub run : IsRun image layout entry cell
+  pub run : IsRunOfPieces image layout entry cell
   pub small : cell.end ≤ℤ (cell.first +ℤ pos 2)
 
 -- a longer one isn't
 pub record IsLongRun (image : Image) (layout : Layout) (entry : ℕ) (run : Span) : Type 0 where
-  pub is_run : IsRun image layout entry run
+  pub is_run : IsRunOfPieces image layout entry run
   pub long : (run.first +ℤ pos 2) <ℤ run.end
 
 -- Exposure.

@@ -134,22 +134,14 @@ pub record IsMisplaced (image : Image) (layout : Layout) (entry at : ℕ) : Type
 abbrev pub greatest_height : ℕ
 greatest_height = 32766
 
--- a POP, a move of SP or a CALL, and by it SP may rise
-abbrev pub is_raise : Op → Bool
-is_raise (Pop a) = true
-is_raise (Call target) = true
-is_raise (AluOp Add (Word Sp) (Const width constant)) = true
-is_raise (AluOp Sub (Word Sp) (Const width constant)) = true
-is_raise (UnaryOp Inc (Word Sp)) = true
-is_raise (UnaryOp Dec (Word Sp)) = true
-is_raise op = false
-
--- SP rises above its value at the entry, or in a framed procedure into the saved BP by another form than `pop bp`
+-- SP rises above its value at the entry, or in a framed procedure into the saved BP by another form than `pop bp` and
+-- LEAVE
 pub data IsTooFar (image : Image) (layout : Layout) (entry : ℕ) (op : Op) (height after : ℤ) : Type 0 where
   above_entry : after <ℤ pos 0 → IsTooFar image layout entry op height after
   into_saved_bp :
       is_framed image layout entry ≡ true
       → op ≢ Pop (Word Bp)
+      → op ≢ Leave
       → pos 0 <ℤ height
       → after <ℤ pos 2
       → IsTooFar image layout entry op height after
@@ -165,7 +157,6 @@ pub data HasBadHeight (image : Image) (layout : Layout) (entry at : ℕ) : Type 
   too_far :
       {op : Op} {height after : ℤ}
       → StandsAt image layout at op
-      → is_raise op ≡ true
       → HasHeight image layout entry at height
       → MovesHeight image layout entry at op height after
       → after <ℤ height

@@ -106,9 +106,9 @@ IsRun cpu code at [] = Unit {0}
 IsRun cpu code at (instr ∷ rest) = IsFormAt cpu code at instr × IsRun cpu code (at + instr.len) rest
 
 -- the offset after instructions that stand one after another from an offset on
-abbrev pub end_of : ℕ → List Instr → ℕ
-end_of at [] = at
-end_of at (instr ∷ rest) = end_of (at + instr.len) rest
+abbrev pub offset_after : ℕ → List Instr → ℕ
+offset_after at [] = at
+offset_after at (instr ∷ rest) = offset_after (at + instr.len) rest
 
 -- there is no instruction, or a prelude may end after the last one
 abbrev pub ends_prelude : List Instr → Bool
@@ -144,7 +144,7 @@ pub record IsLeftBy (image : Image) (prelude : List Instr) (layout : Layout) : T
   pub delta : layout.ds * 16 + layout.delta ≡ stack_segment (state_after layout.cpu image prelude) * 16
   pub lo : layout.lo ≡ lowest_of_stack image layout.ds
   pub hi : layout.hi ≡ word_in (state_after layout.cpu image prelude) Sp + layout.delta
-  pub start_ip : layout.start_ip ≡ end_of image.ip prelude
+  pub start_ip : layout.start_ip ≡ offset_after image.ip prelude
   -- the code ends where the data segment begins, or before, where the image ends or at offset 65536
   pub code_end : layout.code_end ≡ min ((layout.ds - image.cs) * 16) image.code_len
 

@@ -42,21 +42,21 @@ abbrev pub rm_field : ℕ → ℕ
 rm_field modrm = modrm % 8
 
 -- whether the ModRM byte names a memory operand by a word displacement alone: mod 0, rm 6
-abbrev pub is_direct : ℕ → Bool
-is_direct modrm = (mod_field modrm == 0) && (rm_field modrm == 6)
+abbrev pub has_direct_address : ℕ → Bool
+has_direct_address modrm = (mod_field modrm == 0) && (rm_field modrm == 6)
 
 -- how many bytes of displacement follow a ModRM byte
 abbrev pub displacement_size : ℕ → ℕ
 displacement_size modrm =
     if mod_field modrm == 1 then 1
-    else if (mod_field modrm == 2) || is_direct modrm then 2
+    else if (mod_field modrm == 2) || has_direct_address modrm then 2
     else 0
 
 -- the displacement that stands at an index after a ModRM byte
 abbrev pub displacement_at : ℕ → List ℕ → ℕ → ℕ
 displacement_at modrm bytes index =
     if mod_field modrm == 1 then sign_extension_of (byte_at bytes index)
-    else if (mod_field modrm == 2) || is_direct modrm then word_at bytes index
+    else if (mod_field modrm == 2) || has_direct_address modrm then word_at bytes index
     else 0
 
 -- the registers whose sum with the displacement is the address of a memory operand, by rm
@@ -70,7 +70,7 @@ index_registers = Some Si ∷ Some Di ∷ Some Si ∷ Some Di ∷ Some Si ∷ So
 -- the address of a memory operand with that displacement
 abbrev pub address : ℕ → ℕ → Ea
 address modrm displacement = record {
-  base = if is_direct modrm then None else get_or base_registers (rm_field modrm) None;
+  base = if has_direct_address modrm then None else get_or base_registers (rm_field modrm) None;
   index = get_or index_registers (rm_field modrm) None;
   disp = displacement;
 }

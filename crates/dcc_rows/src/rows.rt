@@ -9,4 +9,5 @@ mod listings;
 mod processors;
 mod runs;
 mod texts;
+mod watches;
 mod words;

@@ -8,6 +8,7 @@ use Rattle.dcc_num.specs.declared.Width.{Width}
 use Rattle.dcc_num.specs.declared.Reg.{Reg}
 use Rattle.dcc_num.specs.declared.Reg.TheVariants.{Dx, Sp, Bp}
 use Rattle.dcc_num.specs.declared.dos.TheConstants.{PUTS}
+use Rattle.dcc_prog.specs.declared.procedure.Layout.{Layout}
 use Rattle.dcc_prog.specs.declared.frame.Program.{Program}
 use Rattle.dcc_prog.specs.declared.instr.Plain.{Plain as PlainKind}
 use Rattle.dcc_prog.specs.declared.instr.Plain.TheVariants.{Xlat}
@@ -24,7 +25,8 @@ use Rattle.dcc_prog.specs.Operations.{with_sp_raised}
 use Rattle.dcc_prog.specs.Writes.{writes_operand}
 use Rattle.dcc_prog.specs.Access.{Direction, Reading, Writing, Access, bytes_in, is_direct, kind_of, operand_accesses, result_accesses, writes_back, push_access, other_read, string_size, dos_accesses, plain_accesses, accesses, found_accesses, addresses_of, written_in, written_by}
 use Rattle.dcc_prog.specs.Frame.{memory_of, memory_of_two, memory_operand}
-use Rattle.dcc_prog.specs.Clean.{Stack, Foul, stack_offset, is_other, is_exposed_byte, top_in, sp_after, is_low, low_of, foul_as, or_else, hidden_of, unwritten_of, foul_of}
+use Rattle.dcc_prog.specs.Clean.{Stack, Foul, stack_offset, stack_bytes, is_other, is_reading, is_exposed_byte, is_marked, top_in, sp_after, is_low, low_of, foul_as, or_else, hidden_of, unwritten_of, foul_of}
+use Rattle.dcc_prog.proofs.SpLaws.{part-bp}
 use Rattle.dcc_prog.proofs.LocationKept.{word-other}
 use Rattle.dcc_prog.proofs.AlikeValues.{and-parts}
 use Rattle.dcc_stack.specs.Apart.{is_pushing}
@@ -97,26 +99,34 @@ all-written P (access ∷ rest) all =
 
 -- Clean steps.
 
-module _ (program : Program) (stack : Stack) (s : State) where
-  -- the stack's bytes of an access are exposed
-  abbrev pub IsShown : Access → Type 0
-  IsShown access =
-      is_other access ≡ true
-      → All (λ address. (offset : ℕ) → stack_offset program.layout address ≡ Some offset
-      → is_exposed_byte program (top_in program.layout s) stack.frames offset ≡ true) (addresses_of access)
+-- the stack's bytes of an access of a kind pass a test
+abbrev pub Pass : Layout → (Access → Bool) → (ℕ → Bool) → Access → Type 0
+Pass layout kind test access =
+    kind access ≡ true
+    → All (λ address. (offset : ℕ) → stack_offset layout address ≡ Some offset → test offset ≡ true)
+    (addresses_of access)
 
-  hidden-none : (list : List Access) → hidden_of program stack s list ≡ None → All IsShown list
-  hidden-none list none =
-      let exposed = λ (offset : ℕ). is_exposed_byte program (top_in program.layout s) stack.frames offset in
-      let P = λ (address : ℕ). (offset : ℕ) → stack_offset program.layout address ≡ Some offset
-      → not (exposed offset) ≡ false in
-      let some = filter is_other list in
-      let each = all-filtered (λ (x : Access). All P (addresses_of x)) is_other list
-      (all-flat P addresses_of some
-      (all-mapped (λ offset. not (exposed offset) ≡ false) (stack_offset program.layout) (flat_map addresses_of some)
-      (none-found (λ offset. not (exposed offset))
-      (filter_map (stack_offset program.layout) (flat_map addresses_of some)) none))) in
-      λ k d less other j e within offset is. not-false (exposed _) (each k d less other j e within offset is)
+all-pass : (layout : Layout) (kind : Access → Bool) (test : ℕ → Bool) (list : List Access)
+    → find (λ offset. not (test offset)) (stack_bytes layout (filter kind list)) ≡ None
+    → All (Pass layout kind test) list
+all-pass layout kind test list none =
+    let P = λ (address : ℕ). (offset : ℕ) → stack_offset layout address ≡ Some offset
+    → not (test offset) ≡ false in
+    let some = filter kind list in
+    let each = all-filtered (λ (x : Access). All P (addresses_of x)) kind list
+    (all-flat P addresses_of some
+    (all-mapped (λ offset. not (test offset) ≡ false) (stack_offset layout) (flat_map addresses_of some)
+    (none-found (λ offset. not (test offset)) (filter_map (stack_offset layout) (flat_map addresses_of some)) none))) in
+    λ k d less so j e within offset is. not-false (test _) (each k d less so j e within offset is)
+
+module _ (program : Program) (stack : Stack) (s : State) where
+  -- the stack's bytes of an access are exposed, but for those of the stack's own accesses and of direct ones
+  abbrev pub IsShown : Access → Type 0
+  IsShown = Pass program.layout is_other (is_exposed_byte program (top_in program.layout s) stack.frames)
+
+  -- and, where it reads, written
+  abbrev pub IsTold : Access → Type 0
+  IsTold = Pass program.layout is_reading (is_marked stack.written)
 
 or_else-none : (a b : Option Foul) → or_else a b ≡ None → (a ≡ None) × (b ≡ None)
 or_else-none None b e = (refl, e)
@@ -130,10 +140,11 @@ if-none : (b : Bool) (address : ℕ) → (if b then Some address else None) ≡ 
 if-none true address e = cc
 if-none false address e = refl
 
--- a step that isn't foul leaves SP in the stack, and its accesses are shown
+-- a step that isn't foul leaves SP in the stack, and its accesses are shown and told
 pub record IsCleanStep (program : Program) (stack : Stack) (s : State) (instr : Instr) : Type 0 where
   pub low : is_low program.layout (sp_after instr.op s) ≡ false
   pub shown : All (IsShown program stack s) (found_accesses (Some instr) s)
+  pub told : All (IsTold program stack s) (found_accesses (Some instr) s)
 
 pub clean-step : (program : Program) (stack : Stack) (s : State) (instr : Instr)
     → foul_of program stack s (Some instr) ≡ None → IsCleanStep program stack s instr
@@ -146,7 +157,12 @@ clean-step program stack s instr clean =
     let others = or_else-none (foul_as s.ip Hidden hidden) (foul_as s.ip Unwritten unwritten) parts.1 in
     record {
       low = if-none (is_low program.layout (sp_after instr.op s)) _ (foul_as-none s.ip Low low parts.0);
-      shown = hidden-none program stack s (found_accesses (Some instr) s) (foul_as-none s.ip Hidden hidden others.0);
+      shown =
+          all-pass program.layout is_other (is_exposed_byte program (top_in program.layout s) stack.frames)
+          (found_accesses (Some instr) s) (foul_as-none s.ip Hidden hidden others.0);
+      told =
+          all-pass program.layout is_reading (is_marked stack.written) (found_accesses (Some instr) s)
+          (foul_as-none s.ip Unwritten unwritten others.1);
     }
 
 -- Forms of accesses.
@@ -173,15 +189,11 @@ abbrev pub exchanges_second : Op → Bool
 exchanges_second (Xchg a b) = is_some (memory_of b)
 exchanges_second op = false
 
-part-bp : (s : State) (base : Option Reg) → is_bp base ≡ true → part_of s base ≡ word_in s Bp
-part-bp s (Some Bp) is = refl
-part-bp s _ is = cc
-
 part-none : (s : State) (index : Option Reg) → is_none index ≡ true → part_of s index ≡ 0
 part-none s None is = refl
 part-none s (Some r) is = cc
 
-direct-offset : (s : State) (ea : Ea) → is_direct ea ≡ true → offset_of s ea ≡ (word_in s Bp + 0 + ea.disp) % 65536
+pub direct-offset : (s : State) (ea : Ea) → is_direct ea ≡ true → offset_of s ea ≡ (word_in s Bp + 0 + ea.disp) % 65536
 direct-offset s ea direct =
     let both = and-parts (is_bp ea.base) (is_none ea.index) direct in
     let b = part-bp s ea.base both.0 in

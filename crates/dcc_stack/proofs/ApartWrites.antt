@@ -34,12 +34,12 @@ use Rattle.dcc_stack.proofs.ApartAccesses.{IsShown, IsCleanStep, IsOperandAccess
 
 -- Numbers.
 
-natural : (z : ℤ) → pos 0 ≤ℤ z → (n : ℕ) × (z ≡ pos n)
+pub natural : (z : ℤ) → pos 0 ≤ℤ z → (n : ℕ) × (z ≡ pos n)
 natural (pos n) le = (n, refl)
 natural (negsuc n) le = absurd (omega (arith, ints, le))
 
 -- BP plus a displacement, where the sum doesn't wrap
-direct-sum : (bp disp n : ℕ) → n < 65536 → (pos bp +ℤ signed_of word_width disp) ≡ pos n → (bp + 0 + disp) % 65536 ≡ n
+pub direct-sum : (bp disp n : ℕ) → n < 65536 → (pos bp +ℤ signed_of word_width disp) ≡ pos n → (bp + 0 + disp) % 65536 ≡ n
 unfolding signed_of
 direct-sum bp disp n low e =
     elim (has_sign word_width disp) as (λ b. (pos bp +ℤ (if b then pos disp -ℤ pos 65536 else pos disp)) ≡ pos n
@@ -49,7 +49,7 @@ direct-sum bp disp n low e =
     ] e
 
 -- where a segment begins at so many bytes after the data segment
-in-data : (ds segment delta n : ℕ) → segment * 16 ≡ ds * 16 + delta → ds ≤ 0xF000 → n + delta ≤ 65535
+pub in-data : (ds segment delta n : ℕ) → segment * 16 ≡ ds * 16 + delta → ds ≤ 0xF000 → n + delta ≤ 65535
     → physical segment n ≡ ds * 16 + (n + delta)
 in-data ds segment delta n begins fits low =
     let less : segment * 16 + n < 1048576 = omega (arith, begins, fits, low) in
@@ -76,7 +76,7 @@ each-byte word_width P holds =
     All-cons P 0 (1 ∷ []) (holds 0 (omega arith)) (All-cons P 1 [] (holds 1 (omega arith)) (All-nil P))
 
 -- the offset of a stack byte
-offset-of_address : (layout : Layout) (address offset : ℕ) → layout.ds * 16 ≤ address
+pub offset-of_address : (layout : Layout) (address offset : ℕ) → layout.ds * 16 ≤ address
     → stack_offset layout address ≡ Some offset → address ≡ layout.ds * 16 + offset
 offset-of_address layout address offset above is =
     elim (nat_le (layout.ds * 16 + layout.lo) address && not (nat_le (layout.ds * 16 + layout.hi) address)) as (λ b.
@@ -128,7 +128,7 @@ module _ (cpu : Cpu) (image : Image) (program : Program) (memory : List ℕ) (fo
 -- One step.
 
 -- two operations at one offset are one
-same-instruction : (found : Option Instr) (instr other : Instr) → found ≡ Some instr → found ≡ Some other
+pub same-instruction : (found : Option Instr) (instr other : Instr) → found ≡ Some instr → found ≡ Some other
     → instr ≡ other
 same-instruction found instr other p q = cc
 

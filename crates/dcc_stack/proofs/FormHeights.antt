@@ -13,11 +13,11 @@ use Rattle.dcc_prog.specs.declared.frame.Program.{Program}
 use Rattle.dcc_prog.specs.declared.instr.Operand.{Operand}
 use Rattle.dcc_prog.specs.declared.instr.Operand.TheVariants.{Word}
 use Rattle.dcc_prog.specs.declared.instr.Op.{Op}
-use Rattle.dcc_prog.specs.declared.instr.Op.TheVariants.{Push, Pop, Enter, Call, Ret}
+use Rattle.dcc_prog.specs.declared.instr.Op.TheVariants.{Push, Pop, Enter, Leave, Call, Ret}
 use Rattle.dcc_prog.specs.declared.instr.Instr.{Instr}
 use Rattle.dcc_prog.specs.Trail.{instruction_in, StandsAt, IsNode, IsEntry, called}
 use Rattle.dcc_prog.specs.FrameForm.{is_push_bp, is_enter, begins_by_push, stands_push_bp, stands_mov_bp_sp, second_of, stands_enter, is_framed, is_frame_form}
-use Rattle.dcc_prog.specs.Height.{needs_frame, is_raise, by_ret, without_ret, IsRemoved, MovesHeight, GivesHeight, entered, gone_on, HasHeight, HasBadHeight, two_heights, too_far, two_sizes, grows_too_great, above_entry, into_saved_bp}
+use Rattle.dcc_prog.specs.Height.{needs_frame, by_ret, without_ret, IsRemoved, MovesHeight, GivesHeight, entered, gone_on, HasHeight, HasBadHeight, two_heights, too_far, two_sizes, grows_too_great, above_entry, into_saved_bp}
 use Rattle.dcc_prog.specs.Construct.{is_system, IsAtNode, unknown, foreign, indirect_jump, indirect_call, IsAtHeight, misplaced, bad_height, IsAtFrame}
 use Rattle.dcc_prog.specs.Found.{HasEntry}
 use Rattle.dcc_stack.specs.Accepted.{IsAt, IsProgramOfFile, HeightFits, changes_frame, FrameStays}
@@ -214,20 +214,20 @@ module _ (cpu : Cpu) (image : Image) (program : Program) (p : IsProgramOfFile cp
       }
 
       -- SP doesn't rise above the entry
-      not-above : is_raise op ≡ true → after <ℤ height → pos 0 ≤ℤ after
-      not-above raise less =
+      not-above : after <ℤ height → pos 0 ≤ℤ after
+      not-above less =
           by_lt_z after (pos 0)
-          (λ below. absurd (no-bad (too_far stands raise has-height moves less (above_entry below)))) (λ le. le)
+          (λ below. absurd (no-bad (too_far stands has-height moves less (above_entry below)))) (λ le. le)
 
-      -- nor into the saved BP, but by `pop bp`
+      -- nor into the saved BP, but by `pop bp` and LEAVE
       not-saved :
-          is_framed image layout entry ≡ true → is_raise op ≡ true → op ≢ Pop (Word Bp) → pos 0 <ℤ height
+          is_framed image layout entry ≡ true → op ≢ Pop (Word Bp) → op ≢ Leave → pos 0 <ℤ height
           → after <ℤ height
           → pos 2 ≤ℤ after
-      not-saved framed raise other above less =
+      not-saved framed other stays above less =
           by_lt_z after (pos 2)
-          (λ below. absurd (no-bad (too_far stands raise has-height moves less
-          (into_saved_bp framed other above below)))) (λ le. le)
+          (λ below. absurd (no-bad (too_far stands has-height moves less
+          (into_saved_bp framed other stays above below)))) (λ le. le)
 
       by-effect : HeightFits image layout entry height → Effect op height after → HeightFits image layout entry after
       by-effect fits (pushes is_push same) =
@@ -235,17 +235,17 @@ module _ (cpu : Cpu) (image : Image) (program : Program) (p : IsProgramOfFile cp
           fits-with (suc (suc fits.number)) (omega (arith, ints, same, from)) (λ framed. inr (omega arith))
       by-effect fits (restores is_pop same) =
           let from = fits.is in
-          let n = natural after (not-above (ap is_raise is_pop) (omega (arith, ints, same))) in
+          let n = natural after (not-above (omega (arith, ints, same))) in
           let to = n.1 in
           fits-with n.0 n.1 (λ framed.
           let two = pop-bp-at (subst (λ o. StandsAt image layout at o) is_pop stands) framed in
           inl (omega (arith, ints, same, two, to)))
-      by-effect fits (raises raise other less) =
+      by-effect fits (raises other stays less) =
           let from = fits.is in
-          let n = natural after (not-above raise less) in
+          let n = natural after (not-above less) in
           let to = n.1 in
           fits-with n.0 n.1 (λ framed.
-          let deep = not-saved framed raise other (omega (arith, ints, less, to)) less in
+          let deep = not-saved framed other stays (omega (arith, ints, less, to)) less in
           inr (omega (arith, ints, deep, to)))
       by-effect fits (lowers inner more) =
           let from = fits.is in

@@ -18,7 +18,7 @@ use Rattle.dcc_prog.specs.declared.instr.Operand.TheVariants.{Word, Const}
 use Rattle.dcc_prog.specs.declared.instr.Op.{Op}
 use Rattle.dcc_prog.specs.declared.instr.Op.TheVariants.{Alu as AluOp, Unary as UnaryOp, Mov, Lea, Push, Pop, Enter, Leave, Call, Ret}
 use Rattle.dcc_prog.specs.FrameForm.{is_push_bp, is_mov_bp_sp, is_enter, names_sp_or_bp, uses_bp_address, is_sp_move, is_at_most_zero, is_at_or_below_bp, leaves_frame, copies_bp, is_frame_form}
-use Rattle.dcc_prog.specs.Height.{lowering_of, height_set_by, is_above_zero, is_sp_sub, is_frame_work, needs_frame, is_raise, IsRemoved, MovesHeight, push, pop, call, move, set, keep}
+use Rattle.dcc_prog.specs.Height.{lowering_of, height_set_by, is_above_zero, is_sp_sub, is_frame_work, needs_frame, IsRemoved, MovesHeight, push, pop, call, move, set, keep}
 use Rattle.dcc_stack.proofs.FormWords.{IsLeaWord}
 use Rattle.dcc_stack.proofs.FormOps.{FormOf, moves, unnamed, leaves, copies, saves, points, enters, unnamed-still, copied-still}
 
@@ -84,7 +84,7 @@ enter-needs_none op e = absurd (true≢false (sym e))
 pub data Effect (op : Op) (height after : ℤ) : Type 0 where
   pushes : {a : Operand} → op ≡ Push a → after ≡ height +ℤ pos 2 → Effect op height after
   restores : op ≡ Pop (Word Bp) → after ≡ height -ℤ pos 2 → Effect op height after
-  raises : is_raise op ≡ true → op ≢ Pop (Word Bp) → after <ℤ height → Effect op height after
+  raises : op ≢ Pop (Word Bp) → op ≢ Leave → after <ℤ height → Effect op height after
   lowers : IsInner op → height <ℤ after → Effect op height after
   sets : (IsInner op ⊎ (is_enter op ≡ true)) → pos 2 ≤ℤ after → Effect op height after
   clears : op ≡ Leave → after ≡ pos 0 → Effect op height after
@@ -96,15 +96,15 @@ pop-case a = inr (λ e. cc)
 
 -- a move of SP
 record IsMove (op : Op) : Type 0 where
-  raise : is_raise op ≡ true
   other : is_push_bp op ≡ false
   no_pop : op ≢ Pop (Word Bp)
+  no_leave : op ≢ Leave
 
 move-of : (op : Op) (bytes : ℤ) → lowering_of op ≡ Some bytes → IsMove op
-move-of (AluOp Add (Word Sp) (Const width constant)) bytes e = record { raise = refl; other = refl; no_pop = λ p. cc }
-move-of (AluOp Sub (Word Sp) (Const width constant)) bytes e = record { raise = refl; other = refl; no_pop = λ p. cc }
-move-of (UnaryOp Inc (Word Sp)) bytes e = record { raise = refl; other = refl; no_pop = λ p. cc }
-move-of (UnaryOp Dec (Word Sp)) bytes e = record { raise = refl; other = refl; no_pop = λ p. cc }
+move-of (AluOp Add (Word Sp) (Const width constant)) bytes e = record { other = refl; no_pop = λ p. cc; no_leave = λ p. cc }
+move-of (AluOp Sub (Word Sp) (Const width constant)) bytes e = record { other = refl; no_pop = λ p. cc; no_leave = λ p. cc }
+move-of (UnaryOp Inc (Word Sp)) bytes e = record { other = refl; no_pop = λ p. cc; no_leave = λ p. cc }
+move-of (UnaryOp Dec (Word Sp)) bytes e = record { other = refl; no_pop = λ p. cc; no_leave = λ p. cc }
 move-of op bytes e = let clash = e in cc
 
 moved-effect :
@@ -112,7 +112,7 @@ moved-effect :
 moved-effect op height bytes e =
     let m = move-of op bytes e in
     by_lt_z bytes (pos 0)
-    (λ below. raises m.raise m.no_pop (omega (arith, ints, below)))
+    (λ below. raises m.no_pop m.no_leave (omega (arith, ints, below)))
     (λ above. by_lt_z (pos 0) bytes
     (λ more. lowers (record { needs = lowering-needs op bytes e more; other = m.other }) (omega (arith, ints, more)))
     (λ none. keeps (omega (arith, ints, above, none))))
@@ -123,7 +123,7 @@ signed-low word small e = grind (arith, ints, nat_tests)
 
 call-effect : (target count : ℕ) (height : ℤ) → Effect (Call target) height (height -ℤ pos count)
 call-effect target zero height = keeps (omega (arith, ints))
-call-effect target (suc count) height = raises refl (λ e. cc) (omega (arith, ints))
+call-effect target (suc count) height = raises (λ e. cc) (λ e. cc) (omega (arith, ints))
 
 module _ (image : Image) (layout : Layout) (entry at : ℕ) where
   lea-form : (ea : Ea) → FormOf image layout entry at (Lea Sp ea) → is_at_or_below_bp ea ≡ true
@@ -158,7 +158,7 @@ module _ (image : Image) (layout : Layout) (entry at : ℕ) where
   effect-of (pop {a} {height}) form word =
       elim (pop-case a) [
         | inl same ↦ restores (ap Pop same) refl
-        | inr other ↦ raises refl other (omega (arith, ints))
+        | inr other ↦ raises other (λ e. cc) (omega (arith, ints))
       ]
   effect-of (call {target} {count} {height} is) form word = call-effect target count height
   effect-of (move {op} {height} {bytes} e) form word = moved-effect op height bytes e

@@ -16,7 +16,7 @@ use Rattle.dcc_prog.specs.Bytes.{byte_at}
 use Rattle.dcc_prog.specs.Load.{load_segment}
 use Rattle.dcc_prog.specs.MzImage.{IsLoaded}
 use Rattle.dcc_prog.specs.Code.{code_of}
-use Rattle.dcc_prog.specs.Operands.{mod_field, is_direct, displacement_at}
+use Rattle.dcc_prog.specs.Operands.{mod_field, has_direct_address, displacement_at}
 use Rattle.dcc_prog.specs.Table.{Row, Parts, row_parts, row_instruction, table, instruction_at}
 use Rattle.dcc_prog.specs.Trail.{code_within, instruction_in}
 use Rattle.dcc_prog.proofs.TableLaws.{instruction-row}
@@ -48,7 +48,7 @@ displacement-below :
     (modrm : ℕ) (bytes : List ℕ) (index : ℕ) → All (λ b. b < 256) bytes → displacement_at modrm bytes index < 65536
 displacement-below modrm bytes index all =
     chosen-below (mod_field modrm == 1) _ _ 65536 (extended-below (byte_at bytes index))
-    (chosen-below ((mod_field modrm == 2) || is_direct modrm) _ _ 65536 (word_at-lt bytes index all) (omega arith))
+    (chosen-below ((mod_field modrm == 2) || has_direct_address modrm) _ _ 65536 (word_at-lt bytes index all) (omega arith))
 
 parts-below :
     (row : Row) (offset : ℕ) (bytes : List ℕ) → All (λ b. b < 256) bytes

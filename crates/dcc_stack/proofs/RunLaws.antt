@@ -18,7 +18,7 @@ use Rattle.dcc_prog.specs.Machine.{State, word_in, code_segment, start_state}
 use Rattle.dcc_prog.specs.Code.{HoldsCode}
 use Rattle.dcc_prog.specs.Step.{step}
 use Rattle.dcc_prog.specs.StateForm.{IsState}
-use Rattle.dcc_prog.specs.Layout.{HasLayout, end_of, state_after}
+use Rattle.dcc_prog.specs.Layout.{HasLayout, offset_after, state_after}
 use Rattle.dcc_prog.specs.Trail.{start}
 use Rattle.dcc_prog.specs.Height.{entered}
 use Rattle.dcc_prog.specs.RunLaws.{begun}
@@ -50,12 +50,12 @@ module _ (image : Image) (program : Program) (loaded : IsLoaded image) (has : Ha
   begin = machine_run image program loaded has input (length has.prelude)
 
   begin-is :
-      begin ≡ at_offset image input (executed cpu (start_state image []) has.prelude) (end_of image.ip has.prelude)
+      begin ≡ at_offset image input (executed cpu (start_state image []) has.prelude) (offset_after image.ip has.prelude)
   begin-is = steps-from_start cpu image input has.prelude loaded has.is_prelude.run
 
   after-is :
       state_after cpu image has.prelude
-      ≡ at_offset image [] (executed cpu (start_state image []) has.prelude) (end_of image.ip has.prelude)
+      ≡ at_offset image [] (executed cpu (start_state image []) has.prelude) (offset_after image.ip has.prelude)
   after-is = state_after-is cpu image has.prelude loaded has.is_prelude.run
 
   begin-segs : begin.segs ≡ (state_after cpu image has.prelude).segs
@@ -172,7 +172,8 @@ module _ (steps : CleanStepsStand) (cpu : Cpu) (image : Image) (program : Progra
           → HasStood image program.layout (moved program.layout w)
       goes true e clean = over e
       goes false e clean =
-          standing _ stage-is (steps cpu image program w.machine stack of_file stands running (sym foul-is ∙ clean) e)
+          standing _ stage-is
+          (steps cpu image program w.machine stack of_file stands running (sym foul-is ∙ clean) e).after
 
       by :
           (foul : Option Foul)

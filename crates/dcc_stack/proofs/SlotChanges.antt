@@ -23,6 +23,7 @@ use Rattle.dcc_prog.specs.FrameForm.{is_framed}
 use Rattle.dcc_prog.specs.Frame.{Span, span_of, memory_operand, offset_in_frame, argument_word, own_bytes, IsDirectAccess, direct, IsSlot}
 use Rattle.dcc_prog.specs.Found.{IsNodeFound, IsFound}
 use Rattle.dcc_prog.specs.Clean.{LiveFrame, end_of}
+use Rattle.dcc_prog.proofs.FrameLaws.{arguments-once}
 use Rattle.dcc_prog.proofs.AlikeValues.{or-parts}
 use Rattle.dcc_stack.specs.Accepted.{IsProgramOfFile, IsFrameFor, IsInFrame, in_arguments, in_locals, AcceptedProgramsAreInForm}
 use Rattle.dcc_stack.specs.Standing.{Activation, StandsIn}
@@ -30,7 +31,7 @@ use Rattle.dcc_stack.specs.Apart.{IsApart}
 use Rattle.dcc_stack.specs.Slots.{writes_memory, IsGivenBack, by_write, by_exposure, IsChangeable, exposes_of, direct_bytes, overlaps, writes_directly, gives_back}
 use Rattle.dcc_stack.specs.SlotLaws.{IsArgumentByte}
 use Rattle.dcc_stack.proofs.ApartFrames.{control-most}
-use Rattle.dcc_stack.proofs.SlotPlaces.{lt-tells, lt-told, any-tells, any-told, arguments-most, exposed-slot-tells, exposed-slot-told}
+use Rattle.dcc_stack.proofs.SlotPlaces.{lt-tells, lt-told, any-tells, any-told, exposed-slot-tells, exposed-slot-told}
 use Rattle.dcc_stack.proofs.SlotFrames.{end-is, base-end}
 use Rattle.dcc_stack.proofs.SlotWrites.{argument-changeable}
 
@@ -154,7 +155,7 @@ module _ (cpu : Cpu) (image : Image) (program : Program) (form : AcceptedProgram
       → (top ≤ offset) × (offset < end_of program a.frame) × IsApart image layout' offset a
   frame-own memory a top bp span offset stands (in_arguments {count = count} has low high) from to =
       let f = form.frames cpu image program a.frame.entry is stands.is_at.is_entry in
-      let most = arguments-most image layout' a.frame.entry count f.0.args has f.1.arguments in
+      let most = arguments-once has f.1.arguments in
       let end = end-is image program a.frame f.0 f.1 in
       let above : a.frame.base ≤ offset = omega (arith, ints, low, from) in
       let below : offset < a.frame.base + 2 * count = omega (arith, ints, high, to) in

@@ -17,6 +17,7 @@ use Rattle.dcc_prog.specs.declared.frame.Program.{Program}
 use Rattle.dcc_prog.specs.Frame.{Span, argument_word, HasArguments, of_start, of_procedure, IsPiece, IsCell, HasExposedLocal, no_local, local, HasExposedArguments, no_argument, from_argument, IsExposed, below_bp, in_arguments, IsSlot, IsExposedSlot, IsPlaced, by_itself, by_slot}
 use Rattle.dcc_prog.specs.Analysed.{bytes_of}
 use Rattle.dcc_prog.specs.Clean.{exposes}
+use Rattle.dcc_prog.proofs.FrameLaws.{arguments-once}
 use Rattle.dcc_prog.proofs.AlikeValues.{or-parts}
 use Rattle.dcc_stack.specs.Accepted.{IsFrameFor}
 use Rattle.dcc_stack.specs.Slots.{is_within, exposes_of, slots_of, is_placed, IsGivenBack, by_exposure}
@@ -59,10 +60,10 @@ map-in f xs x (k, inside, is) =
     (k, omega (arith, inside, length-map xs f), get_or-map f xs k x (f x) inside ∙ ap f is)
 
 -- a span has the byte
-abbrev Has : Span → ℤ → Type 0
+abbrev pub Has : Span → ℤ → Type 0
 Has span k = (span.first ≤ℤ k) × (k <ℤ span.end)
 
-within-tells : (k : ℤ) (span : Span) → is_within k span ≡ true → Has span k
+pub within-tells : (k : ℤ) (span : Span) → is_within k span ≡ true → Has span k
 within-tells k span e =
     let both = and_parts (int_le span.first k) (int_lt k span.end) e in
     (le-tells span.first k both.0, lt-tells k span.end both.1)
@@ -72,13 +73,6 @@ within-told k span has =
     and_from (int_le span.first k) (int_lt k span.end) (le-told span.first k has.0) (lt-told k span.end has.1)
 
 -- The frame that is found.
-
-pub arguments-most : (image : Image) (layout : Layout) (entry count args : ℕ) → HasArguments image layout entry count
-    → HasArguments image layout entry args
-    → count ≤ args
-arguments-most image layout entry _ _ (of_start start) other = omega arith
-arguments-most image layout entry count _ (of_procedure apart room least) (of_start start) = absurd (apart start)
-arguments-most image layout entry count args (of_procedure apart room least) (of_procedure _ other _) = least args other
 
 module _ (image : Image) (program : Program) (entry : ℕ) (frame : Frame)
     (f : IsFrameFor image program entry frame) where
@@ -127,7 +121,7 @@ module _ (image : Image) (program : Program) (entry : ℕ) (frame : Frame)
       (from_argument far start lowest) has low high =
       let above : pos 4 ≤ℤ pos least = omega (arith, ints, far) in
       let le = lowest' (pos least) start above in
-      let most = arguments-most image layout entry count frame.args has f.arguments in
+      let most = arguments-once has f.arguments in
       and_from (int_le (pos first) k) (int_lt k (pos (4 + 2 * frame.args)))
       (le-told (pos first) k (omega (arith, ints, le, low)))
       (lt-told k (pos (4 + 2 * frame.args)) (omega (arith, ints, high, most)))
@@ -163,7 +157,7 @@ module _ (image : Image) (program : Program) (entry : ℕ) (frame : Frame)
       Contains-append_left (map bytes_of frame.cells.items) (map argument_word (range_with_len 0 frame.args)) span
       (f.every span is)
   slot-listed _ (IsSlot.argument {count = count} {number = number} has less) =
-      let most = arguments-most image layout entry count frame.args has f.arguments in
+      let most = arguments-once has f.arguments in
       let inside : number < frame.args = omega (arith, most, less) in
       let is : 0 + number ≡ number = omega arith in
       Contains-append_right (map bytes_of frame.cells.items) (map argument_word (range_with_len 0 frame.args))

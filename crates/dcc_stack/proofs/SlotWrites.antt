@@ -13,12 +13,13 @@ use Rattle.dcc_prog.specs.FrameForm.{is_framed}
 use Rattle.dcc_prog.specs.Trail.{IsEntry}
 use Rattle.dcc_prog.specs.Frame.{argument_word, IsPlaced, by_itself}
 use Rattle.dcc_prog.specs.Clean.{LiveFrame, end_of, owner, exposes, exposed_by, is_marked}
+use Rattle.dcc_prog.proofs.FrameLaws.{arguments-once}
 use Rattle.dcc_stack.specs.Accepted.{IsProgramOfFile, IsFrameFor, AcceptedProgramsAreInForm}
 use Rattle.dcc_stack.specs.Standing.{Activation}
 use Rattle.dcc_stack.specs.Apart.{IsApart}
 use Rattle.dcc_stack.specs.Slots.{IsGivenBack, Typed, place_in, IsChangeable, AreNested, activations_of, IsExposedIn, MarksAt}
 use Rattle.dcc_stack.proofs.ApartFrames.{control-most, exposed-places}
-use Rattle.dcc_stack.proofs.SlotPlaces.{arguments-most, exposed-tells, placed-given-back}
+use Rattle.dcc_stack.proofs.SlotPlaces.{exposed-tells, placed-given-back}
 use Rattle.dcc_stack.proofs.SlotFrames.{end-is, base-end, parts-low}
 use Rattle.dcc_stack.proofs.SlotHeld.{Sides, value_at, Held, ChangeableIn, Stays, head-stays, newest-puts}
 
@@ -193,7 +194,7 @@ module _ (cpu : Cpu) (image : Image) (program : Program) (form : AcceptedProgram
       → (frame.base ≤ offset) × (offset < end_of program frame)
   changeable-inside frame offset reached c =
       let f = frame-for frame.entry reached in
-      let most = arguments-most image layout frame.entry c.count f.0.args c.arguments f.1.arguments in
+      let most = arguments-once c.arguments f.1.arguments in
       let end = end-is image program frame f.0 f.1 in
       (omega (arith, c.from), omega (arith, c.to, c.is_argument, most, end))
 

@@ -31,13 +31,13 @@ use Rattle.dcc_stack.specs.Accepted.{IsAt, IsForm, enters, returns, moves, keeps
 use Rattle.dcc_stack.specs.Standing.{Activation, word_at, HoldsBp, outside, StandsIn, Stand, called, HoldsSegments, StackStands}
 use Rattle.dcc_stack.specs.Apart.{is_pushing, DifferApart, CleanStepsWriteApart}
 use Rattle.dcc_stack.specs.Tables.{RunsFollowTrails}
-use Rattle.dcc_stack.specs.Laws.{CleanStepsStand}
+use Rattle.dcc_stack.specs.Laws.{at_next, newest_at, activations_after, StandsAfter, CleanStepsStand}
 use Rattle.dcc_stack.proofs.ApartFrames.{newest-stands}
 use Rattle.dcc_stack.proofs.ApartAccesses.{clean-step}
 use Rattle.dcc_stack.proofs.TableSteps.{IsStepOf, step-of}
 use Rattle.dcc_stack.proofs.StepSegments.{op-segs, instruction-spared}
 use Rattle.dcc_stack.proofs.StepMemory.{IsStackWord, word-read, pushed-sp, word-pushed, differs}
-use Rattle.dcc_stack.proofs.StepFrames.{stand-few, base-below, at_next, stand-renewed, is-awaited, bp-begun, bp-left}
+use Rattle.dcc_stack.proofs.StepFrames.{stand-few, base-below, stand-renewed, is-awaited, bp-begun, bp-left}
 use Rattle.dcc_stack.proofs.StepMarks.{marks-above}
 use Rattle.dcc_stack.proofs.StepInner.{push-height, enter-height, call-height, OpStep, stands-there, word-within, inner-lands, inner-bp}
 
@@ -48,6 +48,12 @@ frames-stay : (op : Op) (top : ℕ) (frames : List LiveFrame) → moves_frames o
 frames-stay (Call target) top frames apart = cc
 frames-stay (Ret count) top frames apart = cc
 frames-stay op top frames apart = refl
+
+activations-go : (op : Op) (top bp next : ℕ) (activations : List Activation) → moves_frames op ≡ false
+    → activations_after op top bp next activations ≡ newest_at next activations
+activations-go (Call target) top bp next activations apart = cc
+activations-go (Ret count) top bp next activations apart = cc
+activations-go op top bp next activations apart = refl
 
 -- a CALL goes on at the next instruction
 call-successors :
@@ -142,8 +148,11 @@ module _ (form : AcceptedProgramsAreInForm) (apart : CleanStepsWriteApart) (cpu 
   clean = ap (foul_of program stack s) (sym fetched) ∙ is.clean
 
   -- what is to be shown
-  abbrev StandsAfter : Type 0
-  StandsAfter = StackStands image layout after (stack_after layout (next_instruction layout.cpu s) s after stack)
+  abbrev IsAfter : Type 0
+  IsAfter = StandsAfter image program s stack is.stands
+
+  abbrev activations : List Activation
+  activations = newest ∷ is.stands.callers
 
   abbrev next : State
   next = record s { ip = next_of s.ip instr }
@@ -237,22 +246,31 @@ module _ (form : AcceptedProgramsAreInForm) (apart : CleanStepsWriteApart) (cpu 
       → Stand image layout after.memory (a ∷ callers) (top_in layout after) (word_in after Bp)
       → layout.lo ≤ top_in layout after
       → (is_pushing op ≡ true → top_in layout after + 2 ≤ top_in layout s)
-      → StandsAfter
-  stands-after a callers frames place passed stand low falls =
-      subst (λ o. StackStands image layout after (stack_after layout o s after stack)) (sym fetched) (record {
-        segments = segments-stay;
-        newest = a;
-        callers = callers;
-        frames = frames;
-        place = place;
-        passed = passed;
-        stand = stand;
-        low = low;
-        written = marked-above falls;
-      })
+      → a ∷ callers ≡ activations_after op (top_in layout s) (word_in s Bp) after.ip activations
+      → IsAfter
+  stands-after a callers frames place passed stand low falls are =
+      let both =
+      subst (λ o.
+      (u : StackStands image layout after (stack_after layout o s after stack))
+      × (u.newest ∷ u.callers ≡ activations_after op (top_in layout s) (word_in s Bp) after.ip activations))
+      (sym fetched) (
+        record {
+          segments = segments-stay;
+          newest = a;
+          callers = callers;
+          frames = frames;
+          place = place;
+          passed = passed;
+          stand = stand;
+          low = low;
+          written = marked-above falls;
+        },
+        are,
+      ) in
+      record { instr = instr; found = fetched; after = both.0; activations = both.1 }
 
   -- an operation other than CALL and RET
-  inner-step : RunsFollowTrails → moves_frames op ≡ false → StandsAfter
+  inner-step : RunsFollowTrails → moves_frames op ≡ false → IsAfter
   inner-step trails same_frames =
       let entry = newest.frame.entry in
       let not_call : (target : ℕ) → ¬ (op ≡ Call target) =
@@ -285,9 +303,10 @@ module _ (form : AcceptedProgramsAreInForm) (apart : CleanStepsWriteApart) (cpu 
       (λ pushing.
       let rises = pushing-rises op pushing same_frames node.form going.1 in
       omega (arith, rises, lands.top, here.top_is))
+      (sym (activations-go op (top_in layout s) (word_in s Bp) after.ip activations same_frames))
 
   -- a CALL
-  call-step : (target : ℕ) → op ≡ Call target → StandsAfter
+  call-step : (target : ℕ) → op ≡ Call target → IsAfter
   call-step target e =
       let it : OpStep image layout newest here.height s after (Call target) =
       subst (OpStep image layout newest here.height s after) e step-is in
@@ -333,9 +352,10 @@ module _ (form : AcceptedProgramsAreInForm) (apart : CleanStepsWriteApart) (cpu 
         state = s;
         passed = is.stands.passed;
       }) carried) low (λ pushing. omega (arith, pushes_it))
+      (sym (ap (λ o. activations_after o top (word_in s Bp) after.ip activations) e))
 
   -- a RET
-  return-step : (count : ℕ) → op ≡ Ret count → StandsAfter
+  return-step : (count : ℕ) → op ≡ Ret count → IsAfter
   return-step count e =
       let top = top_in layout s in
       let ret = ret-form (subst (IsForm image layout newest.frame.entry newest.at here.height) e node.form) in
@@ -402,14 +422,16 @@ module _ (form : AcceptedProgramsAreInForm) (apart : CleanStepsWriteApart) (cpu 
         holds = subst (HoldsBp image layout after.memory (at_next caller after.ip) risen) (sym bp) holds;
       })) (omega (arith, to_sp, is.stands.low))
       (λ pushing. let other = sym (ap is_pushing e) ∙ pushing in cc)
+      (sym (ap (λ o. activations_after o top (word_in s Bp) after.ip activations) e
+      ∙ ap (newest_at after.ip) await.are))
 
   -- any operation
-  pub any-step : RunsFollowTrails → StandsAfter
+  pub any-step : RunsFollowTrails → IsAfter
   any-step trails = by op refl (frame-kind op)
     where
       by :
           (other : Op) → op ≡ other → FrameKind other
-          → StandsAfter
+          → IsAfter
       by other e (of_other apart') = inner-step trails (ap moves_frames e ∙ apart')
       by _ e (of_call {target}) = call-step target e
       by _ e (of_ret {count}) = return-step count e

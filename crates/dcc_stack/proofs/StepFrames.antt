@@ -25,6 +25,7 @@ use Rattle.dcc_prog.proofs.LocationKept.{op-half, or-none}
 use Rattle.dcc_prog.proofs.SpLaws.{sp-told, by_halves}
 use Rattle.dcc_stack.specs.Accepted.{FrameStays, IsSetUp}
 use Rattle.dcc_stack.specs.Standing.{Activation, word_at, HoldsBp, outside, at_mov, inside, StandsIn, WaitsFor, Stand, first, called}
+use Rattle.dcc_stack.specs.Laws.{at_next}
 use Rattle.dcc_stack.proofs.StepForms.{SpGoes, moved, stayed, sp_after-ip, LeavesBp}
 
 -- Depth.
@@ -50,10 +51,7 @@ base-below (called stands waits older) = let few = stand-few older in omega (ari
 
 -- The newest procedure.
 
--- it stands in another place, and has passed this one
-abbrev pub at_next : Activation → ℕ → Activation
-at_next a next = record { frame = a.frame; at = next; before = a.at ∷ a.before; caller_bp = a.caller_bp }
-
+-- it stands in another place
 pub stand-renewed :
     {image : Image} {layout : Layout} {memory : List ℕ} {a : Activation} {callers : List Activation} {top bp : ℕ}
     (next to_top to_bp : ℕ) → Stand image layout memory (a ∷ callers) top bp

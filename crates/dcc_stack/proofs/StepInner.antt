@@ -26,8 +26,9 @@ use Rattle.dcc_prog.proofs.LocationKept.{word-taken, word-other, or-none}
 use Rattle.dcc_stack.specs.Accepted.{changes_frame, FrameStays, IsSetUp, IsForm, saves, points, enters, falls_back, falls_to, restores, leaves, pushes, pops, calls, returns, moves, keeps}
 use Rattle.dcc_stack.specs.Standing.{Activation, word_at, HoldsBp, outside, at_mov, inside}
 use Rattle.dcc_stack.proofs.StepMemory.{IsStackWord, word-read, pushed-sp, word-pushed}
+use Rattle.dcc_stack.specs.Laws.{at_next}
 use Rattle.dcc_stack.proofs.StepForms.{stays-at, sp-goes, LeavesBp, push-leaves, pop-leaves, move-leaves, keep-leaves}
-use Rattle.dcc_stack.proofs.StepFrames.{at_next, bp-begun, bp-saved, bp-points, bp-left, Lands, sp-lands, bp-stays}
+use Rattle.dcc_stack.proofs.StepFrames.{bp-begun, bp-saved, bp-points, bp-left, Lands, sp-lands, bp-stays}
 
 -- Heights.
 
@@ -40,7 +41,7 @@ module _ {image : Image} {layout : Layout} {entry at : ℕ} where
   push-height (set form given) = cc
   push-height (keep clear) = cc
 
-  pop-height :
+  pub pop-height :
       {a : Operand} {height after : ℤ} → MovesHeight image layout entry at (Pop a) height after
       → after ≡ (height -ℤ pos 2)
   pop-height pop = refl

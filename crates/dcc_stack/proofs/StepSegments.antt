@@ -24,6 +24,7 @@ use Rattle.dcc_prog.specs.Step.{op_step}
 use Rattle.dcc_prog.specs.Writes.{writes_operand}
 use Rattle.dcc_prog.specs.Construct.{is_segment, is_system}
 use Rattle.dcc_prog.proofs.OperationForms.{alu_result, alu_written, alu-form, Outcome, in_operand, in_pair, in_fault, unary_outcome, outcome_step, unary-form}
+use Rattle.dcc_prog.proofs.DosLaws.{calls-leave}
 use Rattle.dcc_prog.proofs.LocationKept.{or-none}
 use Rattle.dcc_stack.proofs.Rows.{each-instruction}
 
@@ -82,22 +83,9 @@ key-segs : (echo : Bool) (input : List ℕ) (s : State) → (with_key echo input
 key-segs echo [] s = refl
 key-segs echo (byte ∷ rest) s = refl
 
-chosen-segs : (so : Bool) (s t u : State) → t.segs ≡ s.segs → u.segs ≡ s.segs → (if so then t else u).segs ≡ s.segs
-chosen-segs true s t u p q = p
-chosen-segs false s t u p q = q
-
 dos-segs : (number at : ℕ) (s : State) → (dos_step number at s).segs ≡ s.segs
 dos-segs number at s =
-    let last : State = with_end (Outside at) at s in
-    let string : State = if number == PUTS then after_write (dos_string s) s else last in
-    let key : State = if number == GETCH then key_step false s else string in
-    let echoed : State = if number == GETCHE then key_step true s else key in
-    let leave : State = if number == EXIT then with_end (Exit (word_in s Ax % 256)) at s else echoed in
-    chosen-segs (number == PUTC) s (after_write (word_in s Dx % 256 ∷ []) s) leave refl
-    (chosen-segs (number == EXIT) s (with_end (Exit (word_in s Ax % 256)) at s) echoed refl
-    (chosen-segs (number == GETCHE) s (key_step true s) key (key-segs true s.input s)
-    (chosen-segs (number == GETCH) s (key_step false s) string (key-segs false s.input s)
-    (chosen-segs (number == PUTS) s (after_write (dos_string s) s) last refl refl))))
+    calls-leave (λ t. t.segs ≡ s.segs) number at s refl refl (λ echo. key-segs echo s.input s) refl refl
 
 pub op-segs : (cpu : Cpu) (op : Op) (at : ℕ) (s : State) → WritesNoSegment op → (op_step cpu op at s).segs ≡ s.segs
 op-segs cpu (Alu operation a b) at s other =

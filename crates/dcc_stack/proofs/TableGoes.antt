@@ -22,6 +22,7 @@ use Rattle.dcc_prog.specs.Step.{op_step}
 use Rattle.dcc_prog.specs.Writes.{writes_operand}
 use Rattle.dcc_prog.specs.Trail.{is_exit, op_successors}
 use Rattle.dcc_prog.proofs.OperationForms.{alu_result, alu_written, alu-form, Outcome, in_operand, in_pair, in_fault, unary_outcome, outcome_step, unary-form}
+use Rattle.dcc_prog.proofs.DosLaws.{calls-leave}
 
 -- Operations that go on to the next instruction.
 
@@ -65,20 +66,11 @@ key-ip : (echo : Bool) (input : List ℕ) (s : State) → (with_key echo input s
 key-ip echo [] s = refl
 key-ip echo (byte ∷ rest) s = refl
 
--- one of two states
-either : (b : Bool) (s t u : State) → (is_over t.end ≡ false → t.ip ≡ s.ip) → (is_over u.end ≡ false → u.ip ≡ s.ip)
-    → is_over (if b then t else u).end ≡ false → (if b then t else u).ip ≡ s.ip
-either true s t u p q goes = p goes
-either false s t u p q goes = q goes
-
 -- a call that doesn't end the run goes on to the next instruction
 dos-ip : (number at : ℕ) (s : State) → is_over (dos_step number at s).end ≡ false → (dos_step number at s).ip ≡ s.ip
 dos-ip number at s goes =
-    either (number == PUTC) s _ _ (λ running. refl)
-    (either (number == EXIT) s _ _ (λ running. cc)
-    (either (number == GETCHE) s _ _ (λ running. key-ip true s.input s)
-    (either (number == GETCH) s _ _ (λ running. key-ip false s.input s)
-    (either (number == PUTS) s _ _ (λ running. refl) (λ running. cc))))) goes
+    calls-leave (λ t. is_over t.end ≡ false → t.ip ≡ s.ip) number at s (λ running. refl) (λ running. cc)
+    (λ echo running. key-ip echo s.input s) (λ running. refl) (λ running. cc) goes
 
 -- call 4Ch ends it
 pub exit-over : (number at : ℕ) (s : State) → (number == EXIT) ≡ true → is_over (dos_step number at s).end ≡ true

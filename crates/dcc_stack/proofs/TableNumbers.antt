@@ -34,7 +34,7 @@ use Rattle.dcc_prog.specs.Trail.{instruction_in, next_of, operation_in, is_gener
 use Rattle.dcc_prog.specs.StateForm.{IsState}
 use Rattle.dcc_prog.specs.RunLaws.{HasPassed}
 use Rattle.dcc_prog.proofs.StateKept.{same-state, value-fits, of_width}
-use Rattle.dcc_prog.proofs.LocationKept.{word-taken}
+use Rattle.dcc_prog.proofs.LocationKept.{same-word, word-taken}
 use Rattle.dcc_prog.proofs.AlikeValues.{and-parts}
 use Rattle.dcc_stack.specs.Tables.{HoldsTwice}
 use Rattle.dcc_stack.proofs.TableSteps.{CameBy, came-by}
@@ -74,10 +74,6 @@ in_register r regs = slice_index regs (reg_number r)
 abbrev in_al : List ℕ → ℕ
 in_al regs = half_of_word Low (in_register Ax regs)
 
--- two names of one register
-same-word : (s : State) (r q : Reg) → is_same_register r q ≡ true → word_in s q ≡ word_in s r
-same-word s r q same = ap (slice_index s.regs) (sym (eqb-true (reg_number r) (reg_number q) same))
-
 compares-word : (r : Reg) → Compares (compared_with r) (in_register r)
 compares-word r (Some (AluOp Cmp (Word q) (Const width constant))) number e =
     by (is_general r && is_same_register r q) refl e
@@ -90,7 +86,7 @@ compares-word r (Some (AluOp Cmp (Word q) (Const width constant))) number e =
           operand = Word q;
           width = width;
           is = ap (λ n. Some (AluOp Cmp (Word q) (Const width n))) same;
-          value_is = λ s. same-word s r q (and-parts (is_general r) (is_same_register r q) both).1;
+          value_is = λ s. same-word s q r (and-parts (is_general r) (is_same_register r q) both).1;
         }
     by false none e = cc
 compares-word r found number e = cc
@@ -296,7 +292,7 @@ module _ (image : Image) (layout : Layout) (loaded : IsLoaded image) where
       → word_in (op_step layout.cpu (ShiftOp Shl (Word q) One) at u) r ≡ word_in u r * 2 % 65536
   unfolding shl_of
   doubled-word r q at u count same =
-      word-taken u q r _ count same ∙ ap (λ n. n * 2 % 65536) (same-word u r q same)
+      word-taken u q r _ count same ∙ ap (λ n. n * 2 % 65536) (same-word u q r same)
 
   doubled-is : (r q : Reg) (at : ℕ) (before : List ℕ) (s : State) → is_same_register r q ≡ true
       → (came : Came at before (ShiftOp Shl (Word q) One) s) → word_in s r ≡ word_in came.from r * 2 % 65536

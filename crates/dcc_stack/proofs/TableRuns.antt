@@ -29,7 +29,8 @@ use Rattle.dcc_prog.proofs.FetchLaws.{image-placed, length-code_of}
 use Rattle.dcc_prog.proofs.PassedRuns.{ah-held}
 use Rattle.dcc_stack.specs.Accepted.{IsProgramOfFile}
 use Rattle.dcc_stack.specs.Tables.{RunsFollowTrails}
-use Rattle.dcc_stack.proofs.TableSteps.{passed-state, step-of}
+use Rattle.dcc_prog.proofs.PassedRuns.{passed-state}
+use Rattle.dcc_stack.proofs.TableSteps.{step-of}
 use Rattle.dcc_stack.proofs.TableNumbers.{twice-held}
 use Rattle.dcc_stack.proofs.TableGoes.{exit-over, op-goes}
 
@@ -169,7 +170,7 @@ module _ (cpu : Cpu) (image : Image) (program : Program) (is : IsProgramOfFile c
       → is_over (step layout.cpu s).end ≡ false
       → Contains (successors image layout (at ∷ before)) (step layout.cpu s).ip
   goes-on entry at before s instr reached trail passed here goes holds found no_call no_ret running =
-      let steps = step-of image layout is.loaded at s instr (passed-state image layout is.loaded passed) here goes
+      let steps = step-of image layout is.loaded at s instr (passed-state image layout _ _ passed) here goes
       holds found in
       let t = record s { ip = next_of at instr } in
       let ah = known_ah image layout before in

@@ -18,15 +18,10 @@ use Rattle.dcc_prog.specs.StateForm.{IsState}
 use Rattle.dcc_prog.specs.RunLaws.{HasPassed, begun, stepped, returned}
 use Rattle.dcc_prog.proofs.FetchLaws.{image-placed, fetched-instruction}
 use Rattle.dcc_prog.proofs.WellFormedLaws.{instruction-operation}
-use Rattle.dcc_prog.proofs.StateKept.{states-kept, code-bytes}
+use Rattle.dcc_prog.proofs.StateKept.{code-bytes}
+use Rattle.dcc_prog.proofs.PassedRuns.{passed-state}
 
 module _ (image : Image) (layout : Layout) (loaded : IsLoaded image) where
-  -- the state after a run along a trail is one of the machine's
-  pub passed-state : {before : List ℕ} {s : State} → HasPassed image layout before s → IsState s
-  passed-state (begun s form) = form
-  passed-state (stepped {s = u} passed here goes holds found) = states-kept.step layout.cpu u (passed-state passed)
-  passed-state (returned passed stands t form) = form
-
   -- the step of an instruction that stands in the code
   pub record IsStepOf (at : ℕ) (instr : Instr) (s : State) : Type 0 where
     pub good : IsOperation instr.op
@@ -70,7 +65,7 @@ module _ (image : Image) (layout : Layout) (loaded : IsLoaded image) where
   pub came-by : (at : ℕ) (before : List ℕ) (op : Op) (s : State) → HasPassed image layout (at ∷ before) s
       → operation_in image layout at ≡ Some op → ((target : ℕ) → op ≡ Call target → ⊥) → CameBy at before op s
   came-by at before op s (stepped {s = u} {instr = instr} passed here goes holds found) stands other =
-      let form = passed-state passed in
+      let form = passed-state image layout before u passed in
       let steps = step-of at u instr form here goes holds found in
       let op_is = operation-of (instruction_in image layout at) instr op found stands in
       record {

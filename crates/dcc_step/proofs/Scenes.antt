@@ -1,6 +1,6 @@
 -- Operations on the machine and its console, made or refused.
-use Rattle.std.proofs.Common.{◌≡◌, ◌≢◌, ℕ, Bool, false, List, [], ◌∷◌, ◌++◌, refl, sym, ap, ◌∙◌, subst, arith}
-use Rattle.std.specs.Prelude.{Option, Result, Ok, Err, OnOk, if◌then◌else◌, ◌==◌}
+use Rattle.std.proofs.Common.{◌≡◌, ◌≢◌, ℕ, zero, suc, ◌<◌, Bool, false, List, [], ◌∷◌, ◌++◌, refl, sym, ap, ◌∙◌, subst, arith}
+use Rattle.std.specs.Prelude.{Option, Result, Ok, Err, OnOk, if◌then◌else◌, ◌==◌, slice_index}
 use Rattle.std.proofs.lemmas.Bool.Decides.{nat_tests}
 use Rattle.std.proofs.lemmas.List.{append-nil}
 use Rattle.dcc_run.specs.End.{Outside}
@@ -21,7 +21,7 @@ use Rattle.dcc_console.specs.Scene.{Scene, scene, told_bytes}
 use Rattle.dcc_console.specs.Steps.{Comes, Makes, IsRefusedWrite, Steps, refusal_of}
 use Rattle.dcc_console.proofs.KeyLaws.{key-taken}
 use Rattle.dcc_step.specs.Core.{Core, with_console, core_of, state_of, changed_by}
-use Rattle.dcc_step.specs.Stepped.{machine_by}
+use Rattle.dcc_step.specs.Stepped.{machine_by, LeadsOnBytes}
 
 -- what follows for a call that answers
 pub on_ok : {T E P Q : Type 0} (r : Result T E) → (P → Q) → OnOk r P → OnOk r Q
@@ -103,6 +103,39 @@ refused_as f g Output from old new left taken left_now taken_now same refused = 
   unchanged = refl;
   took = refused.took;
   part = refused.part;
+}
+
+-- What is taken is a byte.
+
+none_bytes : (k : ℕ) → slice_index [] k < 256
+none_bytes zero = omega arith
+none_bytes (suc k) = omega arith
+
+one_byte : (byte k : ℕ) → byte < 256 → slice_index (byte ∷ []) k < 256
+one_byte byte zero small = small
+one_byte byte (suc k) small = none_bytes k
+
+-- an operation that needs no input
+pub leads_quiet : (operation : Cpu → State → State) (old new : Core) → core_of old.cpu (operation old.cpu (state_of old)) ≡ new
+    → LeadsOnBytes operation old new
+leads_quiet operation old new is = record { input = []; bytes = none_bytes; leads = is }
+
+-- a key of a byte, or 1Ah at the input's end
+pub leads_by_key : (echo : Bool) (old new : Core) (key : ℕ) → key < 256 → new ≡ changed_by (with_al key) old
+    → LeadsOnBytes (λ cpu. key_step echo) old new
+leads_by_key echo old new key small is = record { input = key ∷ []; bytes = λ k. one_byte key k small; leads = sym is }
+
+-- an operation that does, from one machine, what another does from another machine
+pub leads_as : (f g : Cpu → State → State) (from old now : Core) → old.cpu ≡ from.cpu
+    → ((input : List ℕ) (events : List Event) → g from.cpu (with_console from input events) ≡ f old.cpu (with_console old input events))
+    → LeadsOnBytes f old now → LeadsOnBytes g from now
+leads_as f g from old now kept same led = record {
+  input = led.input;
+  bytes = led.bytes;
+  leads =
+      ap (core_of from.cpu) (same led.input [])
+      ∙ ap (λ c. core_of c (f old.cpu (with_console old led.input []))) (sym kept)
+      ∙ led.leads;
 }
 
 -- a refused operation leaves the machine

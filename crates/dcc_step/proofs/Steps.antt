@@ -1,5 +1,5 @@
 -- How a step is made of an operation.
-use Rattle.std.proofs.Common.{◌≡◌, ◌≢◌, ℕ, ◌+◌, ◌%◌, true, List, Option, Some, None, refl, sym, ap, ◌∙◌, subst}
+use Rattle.std.proofs.Common.{◌≡◌, ◌≢◌, ℕ, ◌+◌, ◌%◌, true, List, [], Option, Some, None, refl, sym, ap, ◌∙◌, subst}
 use Rattle.std.specs.Prelude.{if◌then◌else◌}
 use Rattle.dcc_run.specs.End.{End, Running as running, Outside as outside, is_over}
 use Rattle.dcc_run.specs.Event.{Event}
@@ -18,10 +18,10 @@ use Rattle.dcc_console.specs.declared.fault.Fault.{Fault}
 use Rattle.dcc_console.specs.declared.fault.Fault.TheVariants.{Input, Output}
 use Rattle.dcc_console.specs.Scene.{Scene, scene}
 use Rattle.dcc_console.specs.Steps.{HasEnded, Makes, MakesSteps, made, Steps, Runs, refusal_of}
-use Rattle.dcc_step.specs.Core.{Core, with_console, state_of, changed_by}
+use Rattle.dcc_step.specs.Core.{Core, with_console, core_of, state_of, changed_by}
 use Rattle.dcc_step.specs.Ending.{end_of, answer_of, fault_answer_of}
-use Rattle.dcc_step.specs.Stepped.{machine, machine_by, outcome_of, end_told}
-use Rattle.dcc_step.proofs.Scenes.{made_quiet, made_as, refused_as, refused_core}
+use Rattle.dcc_step.specs.Stepped.{machine, machine_by, LeadsOnBytes, outcome_of, end_told}
+use Rattle.dcc_step.proofs.Scenes.{made_quiet, made_as, refused_as, refused_core, leads_quiet, leads_as}
 
 -- an operation other than INT 21h
 pub operation_made : (op : Op) (at : ℕ) (m new : Core) (left taken : Option (List ℕ)) → op ≢ Int21
@@ -30,6 +30,13 @@ pub operation_made : (op : Op) (at : ℕ) (m new : Core) (left taken : Option (L
 operation_made op at m new left taken other is =
     made_quiet (λ cpu. op_step cpu op at) m new left taken (ap (λ (k : Core). k.cpu) is)
     (λ input events. op-keeps m.cpu op at other input events (state_of m) ∙ ap (λ k. with_console k input events) (sym is))
+
+-- the machine with the instruction pointer after an instruction
+pub moved_on : (inside m : Core) (len next : ℕ) → inside ≡ m → next ≡ (inside.ip + len) % 65536
+    → record inside { ip = next } ≡ record m { ip = (m.ip + len) % 65536 }
+moved_on inside m len next view next_is =
+    ap (λ (k : Core). record k { ip = next }) view
+    ∙ ap (λ i. record m { ip = i }) (next_is ∙ ap (λ (k : Core). (k.ip + len) % 65536) view)
 
 -- what a step answers
 
@@ -137,6 +144,30 @@ step_refused_at m old new back at instr fault left taken left_now taken_now runs
     (step_refused m new instr fault left taken left_now taken_now runs found
     (subst (λ k. Steps (machine_by (λ cpu. op_step cpu instr.op m.ip)) (refusal_of fault) (scene k left taken) (scene new left_now taken_now)) moved
     (subst (λ a. Steps (machine_by (λ cpu. op_step cpu instr.op a)) (refusal_of fault) (scene old left taken) (scene new left_now taken_now)) here refused)))
+
+-- What is taken is a byte.
+
+pub leads_over : (m : Core) → is_over m.end ≡ true → LeadsOnBytes step m m
+leads_over m over =
+    let s = state_of m in
+    leads_quiet step m m
+    (ap (λ b. core_of m.cpu (if b then s else instruction_step m.cpu (instruction_at m.cpu m.ip (code_bytes s)) s)) over)
+
+pub leads_outside : (m new : Core) → m.end ≡ running → instruction_at m.cpu m.ip (code_bytes (state_of m)) ≡ None
+    → new ≡ changed_by (with_end (outside m.ip) m.ip) m → LeadsOnBytes step m new
+leads_outside m new runs none is = leads_quiet step m new (ap (core_of m.cpu) (step_is m None runs none [] []) ∙ sym is)
+
+pub leads_at : (m old new : Core) (at : ℕ) (instr : Instr) → m.end ≡ running
+    → instruction_at m.cpu m.ip (code_bytes (state_of m)) ≡ Some instr
+    → LeadsOnBytes (λ cpu. op_step cpu instr.op at) old new → at ≡ m.ip → old ≡ moved_past instr m → LeadsOnBytes step m new
+leads_at m old new at instr runs found led here moved =
+    leads_as (λ cpu. op_step cpu instr.op m.ip) step m (moved_past instr m) new refl (step_is m (Some instr) runs found)
+    (subst (λ k. LeadsOnBytes (λ cpu. op_step cpu instr.op m.ip) k new) moved
+    (subst (λ a. LeadsOnBytes (λ cpu. op_step cpu instr.op a) old new) here led))
+
+pub not_made : (fault : Fault) (answer : Stepped) → answer ≡ fault_answer_of fault → outcome_of answer ≡ made → ⊥
+not_made Input answer is did = let both = sym (ap outcome_of is) ∙ did in cc
+not_made Output answer is did = let both = sym (ap outcome_of is) ∙ did in cc
 
 -- what a step answers that is refused
 pub refused_outcome : (fault : Fault) → outcome_of (fault_answer_of fault) ≡ refusal_of fault

@@ -1,12 +1,12 @@
 -- What steps of the machine leave, and what they answer.
-use Rattle.std.specs.Prelude.{◌≡◌}
+use Rattle.std.specs.Prelude.{◌≡◌, ◌<◌, ℕ, List, [], slice_index}
 use Rattle.dcc_run.specs.End.{End, Running as running, Exit as exited, Divide as divided, Outside as outside}
 use Rattle.dcc_prog.specs.declared.cpu.Cpu.{Cpu}
 use Rattle.dcc_prog.specs.Machine.{State}
 use Rattle.dcc_prog.specs.Step.{step}
 use Rattle.dcc_console.specs.Console.{Console, Executor}
 use Rattle.dcc_console.specs.Steps.{Outcome, made, read_failed, write_failed}
-use Rattle.dcc_step.specs.Core.{Core, core_of}
+use Rattle.dcc_step.specs.Core.{Core, core_of, with_console}
 use Rattle.dcc_step.specs.declared.ending.Stepped.{Stepped}
 use Rattle.dcc_step.specs.declared.ending.Stepped.TheVariants.{Running, Exit, Divide, Outside, InFault, OutFault}
 
@@ -29,6 +29,12 @@ machine_by operation = record {
 -- the code that makes its processor's steps
 abbrev pub machine : Executor Cpu Core State
 machine = machine_by step
+
+-- beside some input of bytes the operation leads from one machine to another
+pub record LeadsOnBytes (operation : Cpu → State → State) (before now : Core) : Type 0 where
+  pub input : List ℕ
+  pub bytes : (k : ℕ) → slice_index input k < 256
+  pub leads : core_of before.cpu (operation before.cpu (with_console before input [])) ≡ now
 
 -- how a step or a run came out that answers so
 abbrev pub outcome_of : Stepped → Outcome

@@ -3,7 +3,7 @@
 ghost use Rattle.std.specs.Prelude.{◌≡◌, ◌<◌, ◌-◌, IfSome, Option, Some, None};
 ghost use Rattle.dcc_num.specs.Numbers.{limit_of};
 ghost use Rattle.dcc_prog.specs.Machine.{operand_value, operand_width};
-ghost use Rattle.dcc_prog.specs.Operations.{with_result, accumulator_in, upper_in, with_pair, with_product, with_division, alu_step, unary_step, imul3_step, taken_count, count_in, shift_result, shift_step};
+ghost use Rattle.dcc_prog.specs.Operations.{with_result, accumulator_in, upper_in, with_pair, with_product, with_division, alu_step, unary_step, imul3_step, count_in, shift_result, shift_step};
 ghost use Rattle.dcc_prog.specs.WellFormed.{IsOperand, AreOperands, IsWordOperand};
 ghost use Rattle.dcc_step.specs.Core.{state_of, changed_by};
 
@@ -13,7 +13,7 @@ use dcc_num::{
     Flags, Half, NO_FLAGS, Reg, Width, add, and, dec, div, idiv, imul, inc, mul, neg, or, rcl1,
     rcr1, rol, ror, sar, shl, shr, sub, xor,
 };
-use dcc_prog::{Alu, Count, Cpu, Operand, Shift, Unary};
+use dcc_prog::{Alu, Count, Operand, Shift, Unary};
 
 // NOT: the bits that are not in the operand.
 fn complement(w: Width, a: u16) -> u16
@@ -41,16 +41,6 @@ fn shift_by(kind: Shift, w: Width, a: u16, count: u8, was: Flags) -> (u16, Flags
         Shift::Shl => shl(w, a, count, was),
         Shift::Shr => shr(w, a, count, was),
         Shift::Sar => sar(w, a, count, was),
-    }
-}
-
-// How far the processor goes by a number in CL: the 80186 takes it modulo 32.
-fn taken_count(cpu: Cpu, number: u8) -> u8
-    ensures { result ≡ taken_count cpu number }
-{
-    match cpu {
-        Cpu::I8086 => number,
-        Cpu::I186 => number % 32,
     }
 }
 
@@ -190,7 +180,7 @@ impl Machine {
     {
         match count {
             Count::One => 1,
-            Count::Cl => taken_count(self.cpu, Half::Low.of(self.reg(Reg::Cx))),
+            Count::Cl => self.cpu.taken_count(Half::Low.of(self.reg(Reg::Cx))),
             Count::Const(number) => number % 32,
         }
     }

@@ -10,7 +10,7 @@ ghost use Rattle.dcc_step.specs.Ending.{end_of};
 ghost use Rattle.dcc_console.specs.Counts.{CountsFaults};
 ghost use Rattle.dcc_console.specs.Scene.{scene};
 ghost use Rattle.dcc_console.specs.Steps.{Makes, Steps, refusal_of};
-ghost use Rattle.dcc_step.specs.Stepped.{machine_by};
+ghost use Rattle.dcc_step.specs.Stepped.{machine_by, LeadsOnBytes};
 
 use crate::ending::Ending;
 use crate::machine::Machine;
@@ -65,6 +65,7 @@ impl Machine {
         ensures made { OnOk result (Makes (machine_by (λ cpu. key_step echo))
             (scene self.old (I.left input.old) (O.taken out.old))
             (scene self.new (I.left input.new) (O.taken out.new))) }
+        ensures bytes { OnOk result (LeadsOnBytes (λ cpu. key_step echo) self.old self.new) }
         ensures refused { IfErr result (λ fault. Steps (machine_by (λ cpu. key_step echo)) (refusal_of fault)
             (scene self.old (I.left input.old) (O.taken out.old))
             (scene self.new (I.left input.new) (O.taken out.new))) }
@@ -86,6 +87,7 @@ impl Machine {
         ensures made { OnOk result (Makes (machine_by (λ cpu. dos_call at))
             (scene self.old (I.left input.old) (O.taken out.old))
             (scene self.new (I.left input.new) (O.taken out.new))) }
+        ensures bytes { OnOk result (LeadsOnBytes (λ cpu. dos_call at) self.old self.new) }
         ensures refused { IfErr result (λ fault. Steps (machine_by (λ cpu. dos_call at)) (refusal_of fault)
             (scene self.old (I.left input.old) (O.taken out.old))
             (scene self.new (I.left input.new) (O.taken out.new))) }

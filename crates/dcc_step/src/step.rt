@@ -9,8 +9,9 @@ ghost use Rattle.dcc_prog.specs.WellFormed.{IsOperation};
 ghost use Rattle.dcc_step.specs.Core.{state_of, changed_by};
 ghost use Rattle.dcc_console.specs.Counts.{CountsFaults};
 ghost use Rattle.dcc_console.specs.Scene.{scene};
-ghost use Rattle.dcc_console.specs.Steps.{Makes, Steps, HasEnded, Runs, refusal_of};
-ghost use Rattle.dcc_step.specs.Stepped.{machine, machine_by, outcome_of, end_told};
+ghost use Rattle.dcc_console.specs.Steps.{Makes, Steps, HasEnded, Runs, made, refusal_of};
+ghost use Rattle.dcc_prog.specs.Step as definition;
+ghost use Rattle.dcc_step.specs.Stepped.{machine, machine_by, LeadsOnBytes, outcome_of, end_told};
 
 use crate::cache::{CACHE_SIZE, Decoded};
 use crate::ending::{Ending, Stepped};
@@ -119,6 +120,7 @@ impl Machine {
         ensures made { OnOk result (Makes (machine_by (λ cpu. op_step cpu op at))
             (scene self.old (I.left input.old) (O.taken out.old))
             (scene self.new (I.left input.new) (O.taken out.new))) }
+        ensures bytes { OnOk result (LeadsOnBytes (λ cpu. op_step cpu op at) self.old self.new) }
         ensures refused { IfErr result (λ fault. Steps (machine_by (λ cpu. op_step cpu op at)) (refusal_of fault)
             (scene self.old (I.left input.old) (O.taken out.old))
             (scene self.new (I.left input.new) (O.taken out.new))) }
@@ -148,6 +150,9 @@ impl Machine {
         ensures step { Steps machine (outcome_of result)
             (scene self.old (I.left input.old) (O.taken out.old))
             (scene self.new (I.left input.new) (O.taken out.new)) }
+
+        // What is taken is a byte: where the step was made, the machine's step on an input of bytes leads here too.
+        ensures bytes { outcome_of result ≡ made → LeadsOnBytes definition.step self.old self.new }
         ensures answer { HasEnded machine self.new (end_told result) }
         ensures faults { CountsFaults (result ≡ Stepped.InFault) (result ≡ Stepped.OutFault)
             (I.faults input.old) (I.faults input.new) (O.faults out.old) (O.faults out.new) }
@@ -176,6 +181,9 @@ impl Machine {
         ensures step { Steps machine (outcome_of result)
             (scene self.old (I.left input.old) (O.taken out.old))
             (scene self.new (I.left input.new) (O.taken out.new)) }
+
+        // What is taken is a byte: where the step was made, the machine's step on an input of bytes leads here too.
+        ensures bytes { outcome_of result ≡ made → LeadsOnBytes definition.step self.old self.new }
         ensures answer { HasEnded machine self.new (end_told result) }
         ensures faults { CountsFaults (result ≡ Stepped.InFault) (result ≡ Stepped.OutFault)
             (I.faults input.old) (I.faults input.new) (O.faults out.old) (O.faults out.new) }

@@ -9,7 +9,7 @@ use Rattle.dcc_prog.specs.Machine.{start_state}
 use Rattle.dcc_prog.specs.MzImage.{IsImageOf}
 use Rattle.dcc_top.specs.declared.reply.Reply.{Reply}
 use Rattle.dcc_top.specs.Words.{Product, Text, Listing, job_to_make}
-use Rattle.dcc_top.specs.Answer.{Files, OfFile, IsMadeOf, AllowsImage, image_made, image_refused, Makes, AllowsProduct, made_of_file, refused, Allows, for_text, for_listing, IsCut, cut_text, cut_listing}
+use Rattle.dcc_top.specs.Answer.{Files, OfFile, IsMadeOf, AllowsImage, image_made, image_refused, Makes, AllowsProduct, made_of_file, unmade, refused, Allows, for_text, for_listing, IsCut, cut_text, cut_listing}
 use Rattle.dcc_top.specs.Change.{Change, same}
 use Rattle.dcc_top.specs.Delivery.{Answers, CutsShort}
 
@@ -33,7 +33,7 @@ product-of_image : (product : Product) (cpu : Cpu) (told : Files) (name : List �
 product-of_image product cpu told name image _ output f (image_made m) =
     made_of_file (record { file = f.file; has = f.has; holds = makes-image product cpu f.file output image f.holds m })
 product-of_image product cpu told name image _ _ f (image_refused refusal h) =
-    refused refusal (record { file = f.file; has = f.has; holds = record { image = image; is_image = f.holds; refused = h } })
+    unmade (refused refusal (record { file = f.file; has = f.has; holds = record { image = image; is_image = f.holds; refused = h } }))
 
 -- the same for the job that asks for it, by which none of the input is read
 allowed-job : (product : Product) (cpu : Cpu) (told : Files) (name : List ℕ) (left : Option (List ℕ)) (reply : Reply) (output : List ℕ) → AllowsProduct product cpu told name reply output →

@@ -14,16 +14,17 @@ use Rattle.dcc_reader.specs.declared.offence.ParseKind.{ParseKind}
 use Rattle.dcc_parse.specs.Fault.{IsRefusal as IsTextRefusal}
 use Rattle.dcc_top.specs.declared.reply.Reply.{Reply}
 use Rattle.dcc_top.specs.declared.reply.Reply.TheVariants.{Done, Format, TextFault}
-use Rattle.dcc_top.specs.Words.{Job, Decompile, ListProcedures, Execute, ExecuteText, Product, Text, Listing, job_to_make, name_of, file_of, IsExecution, LoadsImage}
-use Rattle.dcc_top.specs.Answer.{Files, OfFile, HasNoFile, no_file, file_fault, no_memory, HasNoImage, no_executable, misshapen, HasNoUnit, no_text, offends, AllowsProduct, made_of_file, refused, no_image, Makes, IsRefusedAs, OfImages, Runs, Allows, no_job, for_text, for_listing, ran_file, ran_no_file, ran_text, ran_no_text, ShelfLacks, status_of, line_of, refusal_reply}
+use Rattle.dcc_top.specs.Words.{Job, Decompile, ListProcedures, Execute, ExecuteWatched, ExecuteText, Product, Text, Listing, job_to_make, Analyses, to_make, to_watch, name_of, file_of, IsExecution, LoadsImage}
+use Rattle.dcc_top.specs.Answer.{Files, OfFile, HasNoFile, no_file, file_fault, no_memory, HasNoImage, no_executable, misshapen, HasNoUnit, no_text, offends, IsUnmade, refused, no_image, AllowsProduct, made_of_file, unmade, Makes, IsRefusedAs, OfImages, Runs, Allows, no_job, for_text, for_listing, ran_file, ran_no_file, watched_file, watched_no_file, ran_text, ran_no_text, ShelfLacks, status_of, line_of, refusal_reply}
 use Rattle.dcc_top.specs.Call.{Call, Rises, Appends}
 use Rattle.dcc_top.specs.Causes.{IsAnswered, answered, found_no_memory, broke_off, IsCaused, HasRunFile, IsAbsent, IsUnreadable, HasFormatFault, HasRefusal, HasTextFault, Names, IsMissing, IsNoText, EndsSo, IsOutOfMemory, IsCutOff}
 use Rattle.dcc_top.specs.Headline.{HasText, HasListing}
+use Rattle.dcc_top.specs.WatchedRun.{MeetsFoul}
 use Rattle.dcc_top.specs.Status.{IsOneOf, end_status}
 use Rattle.dcc_top.specs.Status as exit
 use Rattle.dcc_top.proofs.HeadlineLaws.{has-text, has-listing}
-use Rattle.dcc_top.proofs.StatusLaws.{apart, are_apart, image_faults, refusals, text_faults, product_statuses, product-status, status-not_six, reply-at_3, reply-at_4, reply-at_5, reply-at_7, no_file-status, no_image-status, no_unit-status, refusal-status, run_statuses, run-status, text_run-status}
-use Rattle.dcc_top.proofs.NamedLaws.{name-of, file-name, IsAcceptedIn, refused_statuses, accepted-one, refused-always as always-refused, job-misshapen, job-missing, text-refused, job-ended}
+use Rattle.dcc_top.proofs.StatusLaws.{apart, are_apart, image_faults, refusals, text_faults, unmade_statuses, unmade-status, product_statuses, product-status, watched_run-status, status-not_six, reply-at_3, reply-at_4, reply-at_5, reply-at_7, no_file-status, no_image-status, no_unit-status, refusal-status, run_statuses, run-status, text_run-status}
+use Rattle.dcc_top.proofs.NamedLaws.{name-of, file-name, IsAcceptedIn, refused_statuses, accepted-one, refused-always as always-refused, job-misshapen, job-missing, text-refused, job-ended, watch-refused, watch-foul}
 
 module _ (call : Call) where
   abbrev told : Files
@@ -90,6 +91,8 @@ module _ (call : Call) where
   runs-status (Decompile name cpu) file reply output h = absurd h
   runs-status (ListProcedures name cpu) file reply output h = absurd h
   runs-status (Execute name steps cpu) file reply output h = run-status _ steps before left reply output h.finishes
+  runs-status (ExecuteWatched name steps cpu) file reply output h =
+      watched_run-status cpu h.image steps before left reply output h.watches.finishes
   runs-status (ExecuteText name steps fill) file reply output h =
       text_run-status _ steps before left reply output (h.runs file h.is_read.stands)
 
@@ -105,6 +108,10 @@ module _ (call : Call) where
       absurd (apart (status_of reply) (2 ∷ []) run_statuses refl is (runs-status (Execute name steps cpu) f.file reply output f.holds))
   usage-of _ reply _ (ran_no_file {name = name} h same) is =
       absurd (apart (status_of reply) (2 ∷ []) image_faults refl is (no_image-status told name reply h))
+  usage-of _ reply output (watched_file {name = name} {steps = steps} {cpu = cpu} f) is =
+      absurd (apart (status_of reply) (2 ∷ []) run_statuses refl is (runs-status (ExecuteWatched name steps cpu) f.file reply output f.holds))
+  usage-of _ reply _ (watched_no_file {name = name} {cpu = cpu} h same) is =
+      absurd (apart (status_of reply) (2 ∷ []) unmade_statuses refl is (unmade-status Listing cpu told name reply h))
   usage-of _ reply output (ran_text {name = name} {steps = steps} {fill = fill} f) is =
       absurd (apart (status_of reply) (2 ∷ []) run_statuses refl is (runs-status (ExecuteText name steps fill) f.file reply output f.holds))
   usage-of _ reply _ (ran_no_text {name = name} h same) is =
@@ -126,10 +133,8 @@ module _ (call : Call) where
 
   made-of : (product : Product) (name : List ℕ) (cpu : Cpu) (reply : Reply) (output : List ℕ) → AllowsProduct product cpu told name reply output → status_of reply ≡ 0 → OfFile told name (λ file. Makes product cpu file output)
   made-of product name cpu _ output (made_of_file f) is = f
-  made-of product name cpu _ _ (refused refusal f) is =
-      absurd (apart (status_of (refusal_reply refusal)) (0 ∷ []) refusals refl (inl is) (refusal-status refusal))
-  made-of product name cpu reply _ (no_image h) is =
-      absurd (apart (status_of reply) (0 ∷ []) image_faults refl (inl is) (no_image-status told name reply h))
+  made-of product name cpu reply _ (unmade h) is =
+      absurd (apart (status_of reply) (0 ∷ []) unmade_statuses refl (inl is) (unmade-status product cpu told name reply h))
 
   -- what is allowed for the text of an executable, and for its list
   for-text : (name : List ℕ) (cpu : Cpu) (reply : Reply) (output : List ℕ) → Allowed (Some (Decompile name cpu)) reply output → AllowsProduct Text cpu told name reply output
@@ -200,6 +205,10 @@ module _ (call : Call) where
       record { asked = Execute name steps cpu; named = refl; ran = f }
   ended-of _ reply _ (ran_no_file {name = name} h same) is =
       absurd (apart (status_of reply) exit.stops image_faults refl is (no_image-status told name reply h))
+  ended-of _ reply output (watched_file {name = name} {steps = steps} {cpu = cpu} f) is =
+      record { asked = ExecuteWatched name steps cpu; named = refl; ran = f }
+  ended-of _ reply _ (watched_no_file {name = name} {cpu = cpu} h same) is =
+      absurd (apart (status_of reply) exit.stops unmade_statuses refl is (unmade-status Listing cpu told name reply h))
   ended-of _ reply output (ran_text {name = name} {steps = steps} {fill = fill} f) is =
       record { asked = ExecuteText name steps fill; named = refl; ran = f }
   ended-of _ reply _ (ran_no_text {name = name} h same) is =
@@ -218,6 +227,10 @@ module _ (call : Call) where
       record { asked = Execute name steps cpu; named = refl; ran = f }
   exited-of _ reply _ (ran_no_file {name = name} h same) execution is =
       absurd (apart (status_of reply) (0 ∷ []) image_faults refl is (no_image-status told name reply h))
+  exited-of _ reply output (watched_file {name = name} {steps = steps} {cpu = cpu} f) execution is =
+      record { asked = ExecuteWatched name steps cpu; named = refl; ran = f }
+  exited-of _ reply _ (watched_no_file {name = name} {cpu = cpu} h same) execution is =
+      absurd (apart (status_of reply) (0 ∷ []) unmade_statuses refl is (unmade-status Listing cpu told name reply h))
   exited-of _ reply output (ran_text {name = name} {steps = steps} {fill = fill} f) execution is =
       record { asked = ExecuteText name steps fill; named = refl; ran = f }
   exited-of _ reply _ (ran_no_text {name = name} h same) execution is =
@@ -237,6 +250,12 @@ module _ (call : Call) where
   ran-always a j file bytes end named n told_left ends =
       one-of (end_status end ∷ exit.run_faults) (inr (inr (inr (inl refl)))) (inr (inr (inr (inr (inl refl)))))
       (λ reply output h. job-ended told before left n.files n.tells j file bytes end (named-file j file named n) told_left ends reply output (subst (λ x. Allowed x reply output) named h)) a
+
+  pub foul-always : Comes → (name file bytes : List ℕ) (steps : ℕ) (cpu : Cpu) → call.job ≡ Some (ExecuteWatched name steps cpu) → Names call file → before ≡ Some bytes → OfImages file (MeetsFoul cpu steps bytes) →
+      IsOneOf call.status (23 ∷ exit.run_faults)
+  foul-always a name file bytes steps cpu named n told_left meets =
+      one-of (23 ∷ exit.run_faults) (inr (inr (inr (inl refl)))) (inr (inr (inr (inr (inl refl)))))
+      (λ reply output h. watch-foul told before left n.files n.tells name steps cpu file bytes (named-file (ExecuteWatched name steps cpu) file named n) told_left meets reply output (subst (λ x. Allowed x reply output) named h)) a
 
   -- The file has no image.
 
@@ -259,13 +278,16 @@ module _ (call : Call) where
   names-file Text name cpu = refl
   names-file Listing name cpu = refl
 
+  unmade-misshapen : (j : Option Job) (product : Product) (name : List ℕ) (cpu : Cpu) (reply : Reply) → file_of j ≡ Some name → IsUnmade product cpu told name reply → status_of reply ≡ 8 → IsMisshapen j reply
+  unmade-misshapen j product name cpu _ named (refused refusal f) is =
+      absurd (apart (status_of (refusal_reply refusal)) (8 ∷ []) refusals refl (inl is) (refusal-status refusal))
+  unmade-misshapen j product name cpu reply named (no_image h) is = misshapen-of j name reply named h is
+
   product-misshapen : (product : Product) (name : List ℕ) (cpu : Cpu) (reply : Reply) (output : List ℕ) → AllowsProduct product cpu told name reply output → status_of reply ≡ 8 →
       IsMisshapen (Some (job_to_make product name cpu)) reply
   product-misshapen product name cpu _ output (made_of_file f) is = absurd (omega (arith, is))
-  product-misshapen product name cpu _ _ (refused refusal f) is =
-      absurd (apart (status_of (refusal_reply refusal)) (8 ∷ []) refusals refl (inl is) (refusal-status refusal))
-  product-misshapen product name cpu reply _ (no_image h) is =
-      misshapen-of (Some (job_to_make product name cpu)) name reply (names-file product name cpu) h is
+  product-misshapen product name cpu reply _ (unmade h) is =
+      unmade-misshapen (Some (job_to_make product name cpu)) product name cpu reply (names-file product name cpu) h is
 
   format-of : (j : Option Job) (reply : Reply) (output : List ℕ) → Allowed j reply output → status_of reply ≡ 8 → IsMisshapen j reply
   format-of _ _ _ (no_job same) is = absurd (omega (arith, is))
@@ -276,6 +298,10 @@ module _ (call : Call) where
       absurd (apart (status_of reply) (8 ∷ []) run_statuses refl (inl is) (runs-status (Execute name steps cpu) f.file reply output f.holds))
   format-of _ reply _ (ran_no_file {name = name} {steps = steps} {cpu = cpu} h same) is =
       misshapen-of (Some (Execute name steps cpu)) name reply refl h is
+  format-of _ reply output (watched_file {name = name} {steps = steps} {cpu = cpu} f) is =
+      absurd (apart (status_of reply) (8 ∷ []) run_statuses refl (inl is) (runs-status (ExecuteWatched name steps cpu) f.file reply output f.holds))
+  format-of _ reply _ (watched_no_file {name = name} {steps = steps} {cpu = cpu} h same) is =
+      unmade-misshapen (Some (ExecuteWatched name steps cpu)) Listing name cpu reply refl h is
   format-of _ reply output (ran_text {name = name} {steps = steps} {fill = fill} f) is =
       absurd (apart (status_of reply) (8 ∷ []) run_statuses refl (inl is) (runs-status (ExecuteText name steps fill) f.file reply output f.holds))
   format-of _ reply _ (ran_no_text {name = name} h same) is =
@@ -324,18 +350,34 @@ module _ (call : Call) where
     name : List ℕ
     cpu : Cpu
     refusal : Refusal
-    named : j ≡ Some (job_to_make product name cpu)
+    job : Job
+    named : j ≡ Some job
+    analyses : Analyses name cpu product job
     reply_is : reply ≡ refusal_reply refusal
     is_refused : OfFile told name (IsRefusedAs product cpu refusal)
+
+  unmade-down : (job : Job) (product : Product) (name : List ℕ) (cpu : Cpu) → Analyses name cpu product job → (reply : Reply) → IsUnmade product cpu told name reply → IsOneOf (status_of reply) exit.refusals →
+      IsTurnedDown (Some job) reply
+  unmade-down job product name cpu analyses _ (refused refusal f) is = record {
+    product = product;
+    name = name;
+    cpu = cpu;
+    refusal = refusal;
+    job = job;
+    named = refl;
+    analyses = analyses;
+    reply_is = refl;
+    is_refused = f;
+  }
+  unmade-down job product name cpu analyses reply (no_image h) is =
+      absurd (apart (status_of reply) exit.refusals image_faults refl is (no_image-status told name reply h))
 
   turned-down : (product : Product) (name : List ℕ) (cpu : Cpu) (reply : Reply) (output : List ℕ) → AllowsProduct product cpu told name reply output → IsOneOf (status_of reply) exit.refusals →
       IsTurnedDown (Some (job_to_make product name cpu)) reply
   turned-down product name cpu _ output (made_of_file f) is =
       absurd (apart 0 (0 ∷ []) exit.refusals refl (inl refl) is)
-  turned-down product name cpu _ _ (refused refusal f) is =
-      record { product = product; name = name; cpu = cpu; refusal = refusal; named = refl; reply_is = refl; is_refused = f }
-  turned-down product name cpu reply _ (no_image h) is =
-      absurd (apart (status_of reply) exit.refusals image_faults refl is (no_image-status told name reply h))
+  turned-down product name cpu reply _ (unmade h) is =
+      unmade-down (job_to_make product name cpu) product name cpu (to_make product) reply h is
 
   refusal-of : (j : Option Job) (reply : Reply) (output : List ℕ) → Allowed j reply output → IsOneOf (status_of reply) exit.refusals → IsTurnedDown j reply
   refusal-of _ _ _ (no_job same) is = absurd (apart 2 (2 ∷ []) exit.refusals refl (inl refl) is)
@@ -346,6 +388,10 @@ module _ (call : Call) where
       absurd (apart (status_of reply) exit.refusals run_statuses refl is (runs-status (Execute name steps cpu) f.file reply output f.holds))
   refusal-of _ reply _ (ran_no_file {name = name} h same) is =
       absurd (apart (status_of reply) exit.refusals image_faults refl is (no_image-status told name reply h))
+  refusal-of _ reply output (watched_file {name = name} {steps = steps} {cpu = cpu} f) is =
+      absurd (apart (status_of reply) exit.refusals run_statuses refl is (runs-status (ExecuteWatched name steps cpu) f.file reply output f.holds))
+  refusal-of _ reply _ (watched_no_file {name = name} {steps = steps} {cpu = cpu} h same) is =
+      unmade-down (ExecuteWatched name steps cpu) Listing name cpu (to_watch steps) reply h is
   refusal-of _ reply output (ran_text {name = name} {steps = steps} {fill = fill} f) is =
       absurd (apart (status_of reply) exit.refusals run_statuses refl is (runs-status (ExecuteText name steps fill) f.file reply output f.holds))
   refusal-of _ reply _ (ran_no_text {name = name} h same) is =
@@ -361,7 +407,9 @@ module _ (call : Call) where
         cpu = r.cpu;
         file = r.is_refused.file;
         refusal = r.refusal;
+        job = r.job;
         named = r.named;
+        analyses = r.analyses;
         has = r.is_refused.has;
         refused = r.is_refused.holds;
         status_is = t.status_is ∙ ap status_of r.reply_is;
@@ -383,6 +431,12 @@ module _ (call : Call) where
   listing_refused-always a name file cpu named n each =
       of-product Listing name cpu (refused_statuses Listing) (inr (inr (inr (inl refl)))) (inr (inr (inr (inr (inl refl))))) named a
       (always-refused told name n.files n.tells Listing cpu file (named-file (ListProcedures name cpu) file named n) each)
+
+  pub watch_refused-always : Comes → (name file : List ℕ) (steps : ℕ) (cpu : Cpu) → call.job ≡ Some (ExecuteWatched name steps cpu) → Names call file → OfImages file (IsUnsound cpu) →
+      IsOneOf call.status (9 ∷ (10 ∷ exit.faults))
+  watch_refused-always a name file steps cpu named n each =
+      one-of (9 ∷ (10 ∷ exit.faults)) (inr (inr (inr (inl refl)))) (inr (inr (inr (inr (inl refl)))))
+      (λ reply output h. watch-refused told before left n.files n.tells name steps cpu file (named-file (ExecuteWatched name steps cpu) file named n) each reply output (subst (λ x. Allowed x reply output) named h)) a
 
   product-always : (product : Product) (name file : List ℕ) (cpu : Cpu) → Comes → call.job ≡ Some (job_to_make product name cpu) → (n : Names call file) → n.files name ≡ Some file → OfImages file (IsAcceptedIn product cpu) →
       IsOneOf call.status (0 ∷ exit.faults)
@@ -426,6 +480,10 @@ module _ (call : Call) where
       absurd (apart (status_of reply) (11 ∷ []) run_statuses refl (inl is) (runs-status (Execute name steps cpu) f.file reply output f.holds))
   offended-of _ reply _ (ran_no_file {name = name} h same) is =
       absurd (apart (status_of reply) (11 ∷ []) image_faults refl (inl is) (no_image-status told name reply h))
+  offended-of _ reply output (watched_file {name = name} {steps = steps} {cpu = cpu} f) is =
+      absurd (apart (status_of reply) (11 ∷ []) run_statuses refl (inl is) (runs-status (ExecuteWatched name steps cpu) f.file reply output f.holds))
+  offended-of _ reply _ (watched_no_file {name = name} {cpu = cpu} h same) is =
+      absurd (apart (status_of reply) (11 ∷ []) unmade_statuses refl (inl is) (unmade-status Listing cpu told name reply h))
   offended-of _ reply output (ran_text {name = name} {steps = steps} {fill = fill} f) is =
       absurd (apart (status_of reply) (11 ∷ []) run_statuses refl (inl is) (runs-status (ExecuteText name steps fill) f.file reply output f.holds))
   offended-of _ reply _ (ran_no_text {name = name} {steps = steps} {fill = fill} h same) is =
@@ -458,8 +516,7 @@ module _ (call : Call) where
   product-none : (product : Product) (name : List ℕ) (cpu : Cpu) (reply : Reply) (output : List ℕ) → AllowsProduct product cpu told name reply output → IsOneOf (status_of reply) exit.without_output → output ≡ []
   product-none product name cpu _ output (made_of_file f) is =
       absurd (apart 0 (0 ∷ []) exit.without_output refl (inl refl) is)
-  product-none product name cpu _ _ (refused refusal f) is = refl
-  product-none product name cpu _ _ (no_image h) is = refl
+  product-none product name cpu _ _ (unmade h) is = refl
 
   -- no job has put anything out at a refusal
   output-none : (j : Option Job) (reply : Reply) (output : List ℕ) → Allowed j reply output → IsOneOf (status_of reply) exit.without_output → output ≡ []
@@ -470,6 +527,9 @@ module _ (call : Call) where
   output-none _ reply output (ran_file {name = name} {steps = steps} {cpu = cpu} f) is =
       absurd (apart (status_of reply) exit.without_output run_statuses refl is (runs-status (Execute name steps cpu) f.file reply output f.holds))
   output-none _ _ _ (ran_no_file h same) is = refl
+  output-none _ reply output (watched_file {name = name} {steps = steps} {cpu = cpu} f) is =
+      absurd (apart (status_of reply) exit.without_output run_statuses refl is (runs-status (ExecuteWatched name steps cpu) f.file reply output f.holds))
+  output-none _ _ _ (watched_no_file h same) is = refl
   output-none _ reply output (ran_text {name = name} {steps = steps} {fill = fill} f) is =
       absurd (apart (status_of reply) exit.without_output run_statuses refl is (runs-status (ExecuteText name steps fill) f.file reply output f.holds))
   output-none _ _ _ (ran_no_text h same) is = refl
@@ -521,11 +581,14 @@ module _ (call : Call) where
   lacks-of_no_image name reply (no_executable h) is = lacks-of_no_file name reply h is
   lacks-of_no_image name _ (misshapen f) is = absurd (omega (arith, is))
 
+  lacks-of_unmade : (product : Product) (name : List ℕ) (cpu : Cpu) (reply : Reply) → IsUnmade product cpu told name reply → status_of reply ≡ 3 → ShelfLacks told name
+  lacks-of_unmade product name cpu _ (refused refusal f) is =
+      absurd (apart (status_of (refusal_reply refusal)) (3 ∷ []) refusals refl (inl is) (refusal-status refusal))
+  lacks-of_unmade product name cpu reply (no_image h) is = lacks-of_no_image name reply h is
+
   lacks-of_product : (product : Product) (name : List ℕ) (cpu : Cpu) (reply : Reply) (output : List ℕ) → AllowsProduct product cpu told name reply output → status_of reply ≡ 3 → ShelfLacks told name
   lacks-of_product product name cpu _ output (made_of_file f) is = absurd (omega (arith, is))
-  lacks-of_product product name cpu _ _ (refused refusal f) is =
-      absurd (apart (status_of (refusal_reply refusal)) (3 ∷ []) refusals refl (inl is) (refusal-status refusal))
-  lacks-of_product product name cpu reply _ (no_image h) is = lacks-of_no_image name reply h is
+  lacks-of_product product name cpu reply _ (unmade h) is = lacks-of_unmade product name cpu reply h is
 
   absent-of : (j : Option Job) (reply : Reply) (output : List ℕ) → Allowed j reply output → status_of reply ≡ 3 → (name : List ℕ) × (file_of j ≡ Some name) × ShelfLacks told name
   absent-of _ _ _ (no_job same) is = absurd (omega (arith, is))
@@ -536,6 +599,10 @@ module _ (call : Call) where
   absent-of _ reply output (ran_file {name = name} {steps = steps} {cpu = cpu} f) is =
       absurd (apart (status_of reply) (3 ∷ []) run_statuses refl (inl is) (runs-status (Execute name steps cpu) f.file reply output f.holds))
   absent-of _ reply _ (ran_no_file {name = name} h same) is = (name, refl, lacks-of_no_image name reply h is)
+  absent-of _ reply output (watched_file {name = name} {steps = steps} {cpu = cpu} f) is =
+      absurd (apart (status_of reply) (3 ∷ []) run_statuses refl (inl is) (runs-status (ExecuteWatched name steps cpu) f.file reply output f.holds))
+  absent-of _ reply _ (watched_no_file {name = name} {cpu = cpu} h same) is =
+      (name, refl, lacks-of_unmade Listing name cpu reply h is)
   absent-of _ reply output (ran_text {name = name} {steps = steps} {fill = fill} f) is =
       absurd (apart (status_of reply) (3 ∷ []) run_statuses refl (inl is) (runs-status (ExecuteText name steps fill) f.file reply output f.holds))
   absent-of _ reply _ (ran_no_text {name = name} (no_text h) same) is =

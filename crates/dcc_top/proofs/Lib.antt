@@ -2,11 +2,14 @@ pub mod StatusLaws
 pub mod FetchedLaws
 pub mod ExecuteLaws
 pub mod TextRunLaws
+pub mod WatchedLaws
+pub mod WatchedJobLaws
 pub mod AnswerLaws
 pub mod ReplyLaws
 pub mod HeadlineLaws
 pub mod NamedLaws
 pub mod CauseLaws
+pub mod WatchedCauses
 pub mod PromiseLaws
 pub mod HexLaws
 pub mod ListingLaws

@@ -1,10 +1,11 @@
 -- What is known of the file that the words name, where the shelf tells it.
-use Rattle.std.proofs.Common.{◌≡◌, ℕ, ◌⊎◌, inl, inr, List, [], ◌∷◌, Option, Some, None, refl, sym, ap, ◌∙◌, subst, arith}
+use Rattle.std.proofs.Common.{◌≡◌, ℕ, ◌+◌, ◌<◌, ◌≤◌, ◌⊎◌, inl, inr, true, false, List, [], ◌∷◌, Option, Some, None, refl, sym, ap, ◌∙◌, subst, arith}
 use Rattle.dcc_mz.specs.declared.fault.MzFault.{MzFault}
 use Rattle.dcc_mz.specs.declared.fault.MzFault.TheVariants.{Short, NotMz, Pages, HeaderPastImage, Reloc, EntryOutside, TooLarge, Memory as NoMemory}
 use Rattle.dcc_mz.specs.Fault.{IsRefusal}
 use Rattle.dcc_run.specs.End.{End}
 use Rattle.dcc_run.specs.System.{end_after}
+use Rattle.dcc_run.specs.Watched.{state}
 use Rattle.dcc_prog.specs.declared.cpu.Cpu.{Cpu}
 use Rattle.dcc_prog.specs.declared.image.Image.{Image}
 use Rattle.dcc_prog.specs.declared.refusal.LimitName.{LimitName}
@@ -13,14 +14,20 @@ use Rattle.dcc_prog.specs.declared.refusal.Refusal.TheVariants.{Construct as Con
 use Rattle.dcc_prog.specs.MzImage.{IsImageOf, FormatFault, IsFirstFault, too_large, short, not_mz, bad_pages, header_past_image, bad_relocation, entry_outside}
 use Rattle.dcc_prog.specs.Refused.{IsSound, IsAcceptedProgram, IsUnsound, IsRefusedImage, IsRefusedBy, IsRefusedByAnalysis, by_trails, by_heights, by_frames}
 use Rattle.dcc_prog.specs.Step.{machine_system}
+use Rattle.dcc_prog.specs.Clean.{Foul as FoulStep}
+use Rattle.dcc_prog.specs.Watch.{IsClean, is_foul, watched_machine, first_watch}
 use Rattle.dcc_prog.proofs.MzImageLaws.{not_both}
+use Rattle.dcc_prog.proofs.WatchLaws.{not_foul_before}
+use Rattle.dcc_watch.proofs.StepLaws.{foul-stopped}
+use Rattle.dcc_watch.specs.Executor.{is_stopped}
 use Rattle.dcc_prog.proofs.RefusedLaws.{sound-not_unsound, sound-memory, accepted-not_refused, accepted-memory}
 use Rattle.dcc_top.specs.declared.reply.Reply.{Reply}
-use Rattle.dcc_top.specs.Words.{Job, Decompile, ListProcedures, Execute, ExecuteText, Product, Text, Listing, name_of, file_of, LoadsImage}
+use Rattle.dcc_top.specs.Words.{Job, Decompile, ListProcedures, Execute, ExecuteWatched, ExecuteText, Product, Text, Listing, name_of, file_of, LoadsImage}
 use Rattle.dcc_top.specs.Execution.{Subject, machine_of, text_of, Finishes, ended, stopped_at_read, not_begun, FinishesOrStops, finishes, found_none}
-use Rattle.dcc_top.specs.Answer.{Files, OfFile, HasNoFile, no_file, file_fault, no_memory, HasNoImage, no_executable, misshapen, HasNoUnit, no_text, offends, IsMadeOf, Refuses, AllowsProduct, made_of_file, refused, no_image, Makes, IsRefusedAs, OfImages, RunsFile, RunsText, RunsUnit, Allows, for_text, for_listing, ran_file, ran_no_file, ran_text, ran_no_text, ShelfLacks, status_of, refusal_reply}
+use Rattle.dcc_top.specs.Answer.{Files, OfFile, HasNoFile, no_file, file_fault, no_memory, HasNoImage, no_executable, misshapen, HasNoUnit, no_text, offends, IsMadeOf, Refuses, IsUnmade, refused, no_image, AllowsProduct, made_of_file, unmade, Makes, IsRefusedAs, OfImages, RunsFile, Watches, WatchesFile, RunsText, RunsUnit, Allows, for_text, for_listing, ran_file, ran_no_file, watched_file, watched_no_file, ran_text, ran_no_text, ShelfLacks, status_of, refusal_reply}
 use Rattle.dcc_top.specs.Call.{Call}
-use Rattle.dcc_top.specs.Causes.{Names, IsNoText, EndsSo, file_ends, text_ends}
+use Rattle.dcc_top.specs.WatchedRun.{IsFoulAfter, FinishesWatched, stayed_clean, met_foul, clean_to_read, lacked_memory, EndsClean, MeetsFoul}
+use Rattle.dcc_top.specs.Causes.{Names, IsNoText, EndsSo, file_ends, watched_ends, text_ends}
 use Rattle.dcc_top.specs.Status.{IsOneOf, end_status}
 use Rattle.dcc_top.proofs.AnswerLaws.{same-start}
 use Rattle.dcc_top.proofs.StatusLaws.{end-status}
@@ -107,6 +114,40 @@ text-run-ended subject steps before left reply output bytes told (finishes h) =
     run-ended subject steps before left reply output bytes told h
 text-run-ended subject steps before left _ output bytes told (found_none h) = inr (inr (inr (inr (inl refl))))
 
+-- Watched runs.
+
+-- a run with a foul step isn't clean
+foul-not_clean : (cpu : Cpu) (image : Image) (input : List ℕ) (n steps : ℕ) (foul : FoulStep) → IsFoulAfter cpu image input n foul → n < steps → IsClean cpu image input steps → ⊥
+foul-not_clean cpu image input n steps foul is below clean =
+    let le : n + 1 ≤ steps = omega (arith, below) in
+    let going = not_foul_before is.program (n + 1) steps (first_watch image input) le (clean is.program is.is_program) in
+    let w = state (watched_machine is.program) (n + 1) (first_watch image input) in
+    let stopped : is_foul w ≡ true = foul-stopped w.machine w.stage ∙ ap is_stopped is.stopped in
+    let bad : false ≡ true = sym going ∙ stopped in
+    cc
+
+-- the status of a watched run whose steps are known to be clean, or of which one is known to be foul
+watched-clean : (cpu : Cpu) (image : Image) (steps : ℕ) (before left : Option (List ℕ)) (bytes : List ℕ) (end : End) → before ≡ Some bytes → EndsClean cpu steps bytes end image → (reply : Reply) (output : List ℕ) →
+    (w : Watches cpu image steps before left reply output) → IsOneOf (status_of reply) (end_status end ∷ (4 ∷ (5 ∷ (6 ∷ (7 ∷ [])))))
+watched-clean cpu image steps before left bytes end told e reply output w = by reply output w.finishes
+  where
+    by : (r : Reply) (o : List ℕ) → FinishesWatched cpu image steps before left r o → IsOneOf (status_of r) (end_status end ∷ (4 ∷ (5 ∷ (6 ∷ (7 ∷ [])))))
+    by _ o (stayed_clean other h) = inl (end-status steps other ∙ ap end_status (sym (h bytes told).run.end_is ∙ e.end_is))
+    by _ o (met_foul foul h) =
+        let s = h bytes told in absurd (foul-not_clean cpu image bytes s.stops.made steps foul s.is_foul s.stops.short e.clean)
+    by _ o (clean_to_read h) = inr (inr (inl refl))
+    by _ _ (lacked_memory h) = inr (inr (inr (inr (inl refl))))
+
+watched-foul : (cpu : Cpu) (image : Image) (steps : ℕ) (before left : Option (List ℕ)) (bytes : List ℕ) → before ≡ Some bytes → MeetsFoul cpu steps bytes image → (reply : Reply) (output : List ℕ) →
+    (w : Watches cpu image steps before left reply output) → IsOneOf (status_of reply) (23 ∷ (4 ∷ (5 ∷ (6 ∷ (7 ∷ [])))))
+watched-foul cpu image steps before left bytes told m reply output w = by reply output w.finishes
+  where
+    by : (r : Reply) (o : List ℕ) → FinishesWatched cpu image steps before left r o → IsOneOf (status_of r) (23 ∷ (4 ∷ (5 ∷ (6 ∷ (7 ∷ [])))))
+    by _ o (stayed_clean other h) = absurd (foul-not_clean cpu image bytes m.made steps m.foul m.is_foul m.short (h bytes told).clean)
+    by _ o (met_foul foul h) = inl refl
+    by _ o (clean_to_read h) = inr (inr (inl refl))
+    by _ _ (lacked_memory h) = inr (inr (inr (inr (inl refl))))
+
 -- What is known of the file of a name that the shelf tells.
 
 module _ (told : Files) (name : List ℕ) (files : List ℕ → Option (List ℕ)) (tells : told ≡ Some files) where
@@ -162,41 +203,56 @@ module _ (told : Files) (name : List ℕ) (files : List ℕ → Option (List ℕ
 
   -- the file has no image
 
+  unmade-misshapen : (product : Product) (cpu : Cpu) (file : List ℕ) (fault : FormatFault) → files name ≡ Some file → IsFirstFault file fault → (reply : Reply) → IsUnmade product cpu told name reply →
+      IsOneOf (status_of reply) (8 ∷ (4 ∷ (6 ∷ (7 ∷ []))))
+  unmade-misshapen product cpu file fault has first _ (refused refusal f) =
+      let d = held file (IsRefusedAs product cpu refusal) has f in absurd (not_both file d.image fault d.is_image first)
+  unmade-misshapen product cpu file fault has first reply (no_image h) = misshapen-one file has reply h
+
   product-misshapen : (product : Product) (cpu : Cpu) (file : List ℕ) (fault : FormatFault) → files name ≡ Some file → IsFirstFault file fault → (reply : Reply) (output : List ℕ) →
       AllowsProduct product cpu told name reply output → IsOneOf (status_of reply) (8 ∷ (4 ∷ (6 ∷ (7 ∷ []))))
   product-misshapen product cpu file fault has first _ output (made_of_file f) =
       let d = held file (λ x. Makes product cpu x output) has f in absurd (not_both file d.image fault d.is_image first)
-  product-misshapen product cpu file fault has first _ _ (refused refusal f) =
-      let d = held file (IsRefusedAs product cpu refusal) has f in absurd (not_both file d.image fault d.is_image first)
-  product-misshapen product cpu file fault has first reply _ (no_image h) = misshapen-one file has reply h
+  product-misshapen product cpu file fault has first reply _ (unmade h) = unmade-misshapen product cpu file fault has first reply h
+
+  unmade-missing : (product : Product) (cpu : Cpu) → files name ≡ None → (reply : Reply) → IsUnmade product cpu told name reply → IsOneOf (status_of reply) (3 ∷ (4 ∷ (6 ∷ (7 ∷ []))))
+  unmade-missing product cpu lacks _ (refused refusal f) = absurd (not-held (IsRefusedAs product cpu refusal) lacks f)
+  unmade-missing product cpu lacks reply (no_image h) = missing-image lacks reply h
 
   product-missing : (product : Product) (cpu : Cpu) → files name ≡ None → (reply : Reply) (output : List ℕ) → AllowsProduct product cpu told name reply output →
       IsOneOf (status_of reply) (3 ∷ (4 ∷ (6 ∷ (7 ∷ []))))
   product-missing product cpu lacks _ output (made_of_file f) = absurd (not-held (λ x. Makes product cpu x output) lacks f)
-  product-missing product cpu lacks _ _ (refused refusal f) = absurd (not-held (IsRefusedAs product cpu refusal) lacks f)
-  product-missing product cpu lacks reply _ (no_image h) = missing-image lacks reply h
+  product-missing product cpu lacks reply _ (unmade h) = unmade-missing product cpu lacks reply h
 
   -- the program is accepted, or it is refused
+
+  -- a program that is accepted is refused for the shelf's fault or want of memory alone
+  unmade-faulty : (product : Product) (cpu : Cpu) (file : List ℕ) → files name ≡ Some file → OfImages file (IsAcceptedIn product cpu) → (reply : Reply) → IsUnmade product cpu told name reply →
+      (status_of reply ≡ 4) ⊎ (status_of reply ≡ 7)
+  unmade-faulty product cpu file has a _ (refused refusal f) =
+      let d = held file (IsRefusedAs product cpu refusal) has f in
+      inr (ap (λ r. status_of (refusal_reply r)) (accepted-by_memory product cpu d.image refusal (a.each d.image d.is_image) d.refused))
+  unmade-faulty product cpu file has a reply (no_image h) = no_image-faulty file has a.image a.is_image reply h
 
   pub accepted-one : (product : Product) (cpu : Cpu) (file : List ℕ) → files name ≡ Some file → OfImages file (IsAcceptedIn product cpu) → (reply : Reply) (output : List ℕ) →
       AllowsProduct product cpu told name reply output → IsOneOf (status_of reply) (0 ∷ (4 ∷ (6 ∷ (7 ∷ []))))
   accepted-one product cpu file has a _ output (made_of_file f) = inl refl
-  accepted-one product cpu file has a _ _ (refused refusal f) =
+  accepted-one product cpu file has a reply _ (unmade h) = faulty-one 0 (status_of reply) (unmade-faulty product cpu file has a reply h)
+
+  unmade-refused : (product : Product) (cpu : Cpu) (file : List ℕ) → files name ≡ Some file → OfImages file (IsRefusedIn product cpu) → (reply : Reply) → IsUnmade product cpu told name reply →
+      IsOneOf (status_of reply) (refused_statuses product)
+  unmade-refused product cpu file has a _ (refused refusal f) =
       let d = held file (IsRefusedAs product cpu refusal) has f in
-      inr (inr (inr (inl (ap (λ r. status_of (refusal_reply r)) (accepted-by_memory product cpu d.image refusal (a.each d.image d.is_image) d.refused)))))
-  accepted-one product cpu file has a reply _ (no_image h) =
-      faulty-one 0 (status_of reply) (no_image-faulty file has a.image a.is_image reply h)
+      refused-one product cpu d.image refusal d.refused
+  unmade-refused product cpu file has a reply (no_image h) =
+      faulty-refused product (status_of reply) (no_image-faulty file has a.image a.is_image reply h)
 
   pub refused-always : (product : Product) (cpu : Cpu) (file : List ℕ) → files name ≡ Some file → OfImages file (IsRefusedIn product cpu) → (reply : Reply) (output : List ℕ) →
       AllowsProduct product cpu told name reply output → IsOneOf (status_of reply) (refused_statuses product)
   refused-always product cpu file has a _ output (made_of_file f) =
       let d = held file (λ x. Makes product cpu x output) has f in
       absurd (made-not_refused product cpu d.image output d.is_made (a.each d.image d.is_image))
-  refused-always product cpu file has a _ _ (refused refusal f) =
-      let d = held file (IsRefusedAs product cpu refusal) has f in
-      refused-one product cpu d.image refusal d.refused
-  refused-always product cpu file has a reply _ (no_image h) =
-      faulty-refused product (status_of reply) (no_image-faulty file has a.image a.is_image reply h)
+  refused-always product cpu file has a reply _ (unmade h) = unmade-refused product cpu file has a reply h
 
   -- runs
 
@@ -227,6 +283,11 @@ module _ (told : Files) (before left : Option (List ℕ)) (files : List ℕ → 
       absurd (not_both file r.image fault r.is_image first)
   job-misshapen _ file fault has loads first reply _ (ran_no_file {name = name} h same) =
       misshapen-one told name files tells file has reply h
+  job-misshapen _ file fault has loads first reply output (watched_file {name = name} {steps = steps} {cpu = cpu} f) =
+      let r = held told name files tells file (λ x. WatchesFile cpu x steps before left reply output) has f in
+      absurd (not_both file r.image fault r.is_image first)
+  job-misshapen _ file fault has loads first reply _ (watched_no_file {name = name} {cpu = cpu} h same) =
+      unmade-misshapen told name files tells Listing cpu file fault has first reply h
   job-misshapen _ file fault has loads first reply output (ran_text f) = absurd loads
   job-misshapen _ file fault has loads first reply _ (ran_no_text h same) = absurd loads
 
@@ -239,6 +300,10 @@ module _ (told : Files) (before left : Option (List ℕ)) (files : List ℕ → 
   job-missing _ lacks reply output (ran_file {name = name} {steps = steps} {cpu = cpu} f) =
       absurd (not-held told name files tells (λ x. RunsFile cpu x steps before left reply output) lacks f)
   job-missing _ lacks reply _ (ran_no_file {name = name} h same) = missing-image told name files tells lacks reply h
+  job-missing _ lacks reply output (watched_file {name = name} {steps = steps} {cpu = cpu} f) =
+      absurd (not-held told name files tells (λ x. WatchesFile cpu x steps before left reply output) lacks f)
+  job-missing _ lacks reply _ (watched_no_file {name = name} {cpu = cpu} h same) =
+      unmade-missing told name files tells Listing cpu lacks reply h
   job-missing _ lacks reply output (ran_text {name = name} {steps = steps} {fill = fill} f) =
       absurd (not-held told name files tells (λ x. RunsText x steps fill before left reply output) lacks f)
   job-missing _ lacks reply _ (ran_no_text {name = name} (no_text h) same) =
@@ -283,6 +348,44 @@ module _ (told : Files) (before left : Option (List ℕ)) (files : List ℕ → 
   no_image-ended name steps cpu file bytes end has (file_ends {image = image} is) reply h =
       faulty-run told name files tells (end_status end) (status_of reply) (no_image-faulty told name files tells file has image is reply h)
 
+  -- a watched run is refused where a construct stands or a count is too great
+  pub watch-refused : (name : List ℕ) (steps : ℕ) (cpu : Cpu) (file : List ℕ) → files name ≡ Some file → OfImages file (IsUnsound cpu) → (reply : Reply) (output : List ℕ) →
+      Allows told before left (Some (ExecuteWatched name steps cpu)) reply output → IsOneOf (status_of reply) (refused_statuses Listing)
+  watch-refused name steps cpu file has a reply output (watched_file f) =
+      let r = held told name files tells file (λ x. WatchesFile cpu x steps before left reply output) has f in
+      absurd (sound-not_unsound cpu r.image r.watches.sound (a.each r.image r.is_image))
+  watch-refused name steps cpu file has a reply _ (watched_no_file h same) =
+      unmade-refused told name files tells Listing cpu file has a reply h
+
+  -- and else made, for the faults that yield to nothing
+  watch-faulty : (name : List ℕ) (cpu : Cpu) (file : List ℕ) (first : ℕ) → files name ≡ Some file → OfImages file (IsSound cpu) → (reply : Reply) → IsUnmade Listing cpu told name reply →
+      IsOneOf (status_of reply) (first ∷ (4 ∷ (5 ∷ (6 ∷ (7 ∷ [])))))
+  watch-faulty name cpu file first has a reply h =
+      faulty-run told name files tells first (status_of reply) (unmade-faulty told name files tells Listing cpu file has a reply h)
+
+  all-sound : {P : Image → Type 0} (file : List ℕ) (cpu : Cpu) → ((image : Image) → P image → IsSound cpu image) → OfImages file P → OfImages file (IsSound cpu)
+  all-sound file cpu sound a = record { image = a.image; is_image = a.is_image; each = λ other is. sound other (a.each other is) }
+
+  watch-ended : (name : List ℕ) (steps : ℕ) (cpu : Cpu) (file bytes : List ℕ) (end : End) → files name ≡ Some file → before ≡ Some bytes → EndsSo file bytes (ExecuteWatched name steps cpu) end → (reply : Reply)
+      (output : List ℕ) → OfFile told name (λ x. WatchesFile cpu x steps before left reply output) → IsOneOf (status_of reply) (end_status end ∷ (4 ∷ (5 ∷ (6 ∷ (7 ∷ [])))))
+  watch-ended name steps cpu file bytes _ has told_left (watched_ends {end = end} a) reply output f =
+      let r = held told name files tells file (λ x. WatchesFile cpu x steps before left reply output) has f in
+      watched-clean cpu r.image steps before left bytes end told_left (a.each r.image r.is_image) reply output r.watches
+
+  watch-unmade_ended : (name : List ℕ) (steps : ℕ) (cpu : Cpu) (file bytes : List ℕ) (end : End) → files name ≡ Some file → EndsSo file bytes (ExecuteWatched name steps cpu) end → (reply : Reply) →
+      IsUnmade Listing cpu told name reply → IsOneOf (status_of reply) (end_status end ∷ (4 ∷ (5 ∷ (6 ∷ (7 ∷ [])))))
+  watch-unmade_ended name steps cpu file bytes _ has (watched_ends {end = end} a) reply h =
+      watch-faulty name cpu file (end_status end) has (all-sound file cpu (λ image e. e.sound) a) reply h
+
+  -- a foul step is told wherever the run meets one
+  pub watch-foul : (name : List ℕ) (steps : ℕ) (cpu : Cpu) (file bytes : List ℕ) → files name ≡ Some file → before ≡ Some bytes → OfImages file (MeetsFoul cpu steps bytes) → (reply : Reply)
+      (output : List ℕ) → Allows told before left (Some (ExecuteWatched name steps cpu)) reply output → IsOneOf (status_of reply) (23 ∷ (4 ∷ (5 ∷ (6 ∷ (7 ∷ [])))))
+  watch-foul name steps cpu file bytes has told_left a reply output (watched_file f) =
+      let r = held told name files tells file (λ x. WatchesFile cpu x steps before left reply output) has f in
+      watched-foul cpu r.image steps before left bytes told_left (a.each r.image r.is_image) reply output r.watches
+  watch-foul name steps cpu file bytes has told_left a reply _ (watched_no_file h same) =
+      watch-faulty name cpu file 23 has (all-sound file cpu (λ image m. m.sound) a) reply h
+
   no-text_end : (name : List ℕ) (cpu : Cpu) (file bytes : List ℕ) (end : End) → EndsSo file bytes (Decompile name cpu) end → ⊥
   no-text_end name cpu file bytes end e = elim e [ ]
 
@@ -300,6 +403,10 @@ module _ (told : Files) (before left : Option (List ℕ)) (files : List ℕ → 
       run-of_file name steps cpu file bytes end has told_left e reply output f
   job-ended _ file bytes end has told_left e reply _ (ran_no_file {name = name} {steps = steps} {cpu = cpu} h same) =
       no_image-ended name steps cpu file bytes end has e reply h
+  job-ended _ file bytes end has told_left e reply output (watched_file {name = name} {steps = steps} {cpu = cpu} f) =
+      watch-ended name steps cpu file bytes end has told_left e reply output f
+  job-ended _ file bytes end has told_left e reply _ (watched_no_file {name = name} {steps = steps} {cpu = cpu} h same) =
+      watch-unmade_ended name steps cpu file bytes end has e reply h
   job-ended _ file bytes end has told_left e reply output (ran_text {name = name} {steps = steps} {fill = fill} f) =
       text-ended name steps fill file bytes end has told_left e reply output f
   job-ended _ file bytes end has told_left e reply _ (ran_no_text {name = name} {steps = steps} {fill = fill} h same) =

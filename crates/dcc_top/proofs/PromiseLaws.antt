@@ -10,7 +10,8 @@ use Rattle.dcc_top.specs.Causes.{IsAnswered, answered, found_no_memory, broke_of
 use Rattle.dcc_top.specs.Delivery.{TellsReply}
 use Rattle.dcc_top.specs.Promises.{KeepsPromises}
 use Rattle.dcc_top.proofs.StatusLaws.{status-not_six}
-use Rattle.dcc_top.proofs.CauseLaws.{usage, usage-always, text, listing, exited, ran, ran-always, read-failed, format, format-always, absent, absent-always, unreadable, program-refused, refused-always, listing_refused-always, text-always, listing-always, text-fault, text_fault-always, nothing, out-of_memory, cut-off, write-failed}
+use Rattle.dcc_top.proofs.WatchedCauses.{watched-clean, watched-foul}
+use Rattle.dcc_top.proofs.CauseLaws.{usage, usage-always, text, listing, exited, ran, ran-always, foul-always, read-failed, format, format-always, absent, absent-always, unreadable, program-refused, refused-always, listing_refused-always, watch_refused-always, text-always, listing-always, text-fault, text_fault-always, nothing, out-of_memory, cut-off, write-failed}
 
 module _ (call : Call) where
   -- all that holds of what a call comes to, with what it has asked
@@ -25,6 +26,7 @@ module _ (call : Call) where
       ran_always = ran-always call a;
       read_failed = read-failed call a;
     };
+    watch = record { clean = watched-clean call a; foul = watched-foul call a; foul_always = foul-always call a };
     refusals = record {
       usage = usage call a;
       usage_always = usage-always call a;
@@ -33,6 +35,7 @@ module _ (call : Call) where
       refused = program-refused call a;
       refused_always = refused-always call a;
       listing_refused_always = listing_refused-always call a;
+      watch_refused_always = watch_refused-always call a;
       text_fault = text-fault call a;
       text_fault_always = text_fault-always call a;
       nothing = nothing call a;

@@ -6,6 +6,7 @@ use Rattle.std.specs.Prelude.{Result, Ok, Err, IfOk}
 use Rattle.dcc_io.specs.declared.outside.Failed.{Failed}
 use Rattle.dcc_prog.specs.declared.cpu.Cpu.{Cpu}
 use Rattle.dcc_prog.specs.declared.image.Image.{Image}
+use Rattle.dcc_prog.specs.declared.frame.Program.{Program}
 use Rattle.dcc_run.specs.End.{End, Running, Exit, Divide, Outside as outside, Stuck as stuck}
 use Rattle.dcc_prog.specs.declared.refusal.Refusal.{Refusal}
 use Rattle.dcc_prog.specs.declared.refusal.Refusal.TheVariants.{Construct as ConstructRefused, Limit as LimitRefused, NotYet as NotYetRefused, Memory as MemoryRefused}
@@ -13,7 +14,8 @@ use Rattle.dcc_prog.proofs.TableLaws.{and_right}
 use Rattle.dcc_top.specs.declared.reply.Reply.{Reply}
 use Rattle.dcc_top.specs.declared.reply.Reply.TheVariants.{Done, NoFile, FileFault, InputFault, Memory}
 use Rattle.dcc_top.specs.Execution.{Subject, end_reply, Finishes, ended, stopped_at_read, not_begun, FinishesOrStops, finishes, found_none}
-use Rattle.dcc_top.specs.Answer.{Files, HasNoFile, no_file, file_fault, no_memory, HasNoImage, no_executable, misshapen, HasNoUnit, no_text, offends, AllowsImage, image_made, image_refused, AllowsProduct, made_of_file, refused, no_image, status_of, refusal_reply}
+use Rattle.dcc_top.specs.Answer.{Files, HasNoFile, no_file, file_fault, no_memory, HasNoImage, no_executable, misshapen, HasNoUnit, no_text, offends, AllowsImage, image_made, image_refused, IsUnmade, refused, no_image, AllowsProduct, made_of_file, unmade, AllowsWatched, image_watched, image_unwatched, status_of, refusal_reply}
+use Rattle.dcc_top.specs.WatchedRun.{FinishesWatched, stayed_clean, met_foul, clean_to_read, lacked_memory}
 use Rattle.dcc_top.specs.Status.{IsOneOf, end_status}
 use Rattle.dcc_top.specs.Words.{Product}
 use Rattle.dcc_top.specs.Delivery.{Answers}
@@ -102,21 +104,29 @@ pub image-status : (product : Product) (cpu : Cpu) (image : Image) (reply : Repl
 image-status product cpu image _ output (image_made m) = inl refl
 image-status product cpu image _ _ (image_refused refusal h) = inr (refusal-status refusal)
 
+-- the statuses where nothing is made of an executable
+abbrev pub unmade_statuses : List ℕ
+unmade_statuses = 9 ∷ (10 ∷ (12 ∷ (8 ∷ (3 ∷ (4 ∷ (7 ∷ []))))))
+
+among-unmade : (refusal : Refusal) → IsOneOf (status_of (refusal_reply refusal)) unmade_statuses
+among-unmade (ConstructRefused kind at) = inl refl
+among-unmade (LimitRefused what count) = inr (inl refl)
+among-unmade (NotYetRefused at) = inr (inr (inl refl))
+among-unmade MemoryRefused = inr (inr (inr (inr (inr (inr (inl refl))))))
+
+pub unmade-status : (product : Product) (cpu : Cpu) (told : Files) (name : List ℕ) (reply : Reply) → IsUnmade product cpu told name reply →
+    IsOneOf (status_of reply) unmade_statuses
+unmade-status product cpu told name _ (refused refusal f) = among-unmade refusal
+unmade-status product cpu told name reply (no_image h) = inr (inr (inr (no_image-status told name reply h)))
+
 -- the statuses of what is made of an executable
 abbrev pub product_statuses : List ℕ
-product_statuses = 0 ∷ (9 ∷ (10 ∷ (12 ∷ (8 ∷ (3 ∷ (4 ∷ (7 ∷ [])))))))
-
-among-product : (refusal : Refusal) → IsOneOf (status_of (refusal_reply refusal)) product_statuses
-among-product (ConstructRefused kind at) = inr (inl refl)
-among-product (LimitRefused what count) = inr (inr (inl refl))
-among-product (NotYetRefused at) = inr (inr (inr (inl refl)))
-among-product MemoryRefused = inr (inr (inr (inr (inr (inr (inr (inl refl)))))))
+product_statuses = 0 ∷ unmade_statuses
 
 pub product-status : (product : Product) (cpu : Cpu) (told : Files) (name : List ℕ) (reply : Reply) (output : List ℕ) → AllowsProduct product cpu told name reply output →
     IsOneOf (status_of reply) product_statuses
 product-status product cpu told name _ output (made_of_file f) = inl refl
-product-status product cpu told name _ _ (refused refusal f) = among-product refusal
-product-status product cpu told name reply _ (no_image h) = inr (inr (inr (inr (no_image-status told name reply h))))
+product-status product cpu told name reply _ (unmade h) = inr (unmade-status product cpu told name reply h)
 
 -- the status of a run that has ended
 pub end-status : (steps : ℕ) (end : End) → status_of (end_reply steps end) ≡ end_status end
@@ -135,12 +145,15 @@ end_status-one (outside at) = inr (inr (inr (inl refl)))
 end_status-one (stuck line) = inr (inr (inr (inr (inl refl))))
 
 abbrev pub run_statuses : List ℕ
-run_statuses = 5 ∷ (7 ∷ (0 ∷ (20 ∷ (21 ∷ (22 ∷ (24 ∷ []))))))
+run_statuses = 5 ∷ (7 ∷ (23 ∷ (0 ∷ (20 ∷ (21 ∷ (22 ∷ (24 ∷ [])))))))
+
+among-run : (steps : ℕ) (end : End) → IsOneOf (status_of (end_reply steps end)) run_statuses
+among-run steps end =
+    inr (inr (inr (subst (λ n. IsOneOf n (0 ∷ (20 ∷ (21 ∷ (22 ∷ (24 ∷ [])))))) (sym (end-status steps end)) (end_status-one end))))
 
 pub run-status : {S : Type 0} (subject : Subject S) (steps : ℕ) (before left : Option (List ℕ)) (reply : Reply) (output : List ℕ) → Finishes subject steps before left reply output → IsOneOf
     (status_of reply) run_statuses
-run-status subject steps before left _ output (ended end h) =
-    inr (inr (subst (λ n. IsOneOf n (0 ∷ (20 ∷ (21 ∷ (22 ∷ (24 ∷ [])))))) (sym (end-status steps end)) (end_status-one end)))
+run-status subject steps before left _ output (ended end h) = among-run steps end
 run-status subject steps before left _ output (stopped_at_read h) = inl refl
 run-status subject steps before left _ _ (not_begun same) = inr (inl refl)
 
@@ -149,6 +162,27 @@ pub text_run-status : {S : Type 0} (subject : Subject S) (steps : ℕ) (before l
 text_run-status subject steps before left reply output (finishes h) =
     run-status subject steps before left reply output h
 text_run-status subject steps before left _ output (found_none h) = inr (inl refl)
+
+-- the statuses of a watched run
+pub watched_run-status : (cpu : Cpu) (image : Image) (steps : ℕ) (before left : Option (List ℕ)) (reply : Reply) (output : List ℕ)
+    → FinishesWatched cpu image steps before left reply output → IsOneOf (status_of reply) run_statuses
+watched_run-status cpu image steps before left _ output (stayed_clean end h) = among-run steps end
+watched_run-status cpu image steps before left _ output (met_foul foul h) = inr (inr (inl refl))
+watched_run-status cpu image steps before left _ output (clean_to_read h) = inl refl
+watched_run-status cpu image steps before left _ _ (lacked_memory h) = inr (inl refl)
+
+-- and those of one that may be refused
+abbrev pub watched_statuses : List ℕ
+watched_statuses = 9 ∷ (10 ∷ (12 ∷ run_statuses))
+
+pub watched-status : (cpu : Cpu) (image : Image) (steps : ℕ) (before left : Option (List ℕ)) (reply : Reply) (output : List ℕ)
+    → AllowsWatched cpu image steps before left reply output → IsOneOf (status_of reply) watched_statuses
+watched-status cpu image steps before left reply output (image_watched w) =
+    inr (inr (inr (watched_run-status cpu image steps before left reply output w.finishes)))
+watched-status cpu image steps before left _ _ (image_unwatched (ConstructRefused kind at) h same) = inl refl
+watched-status cpu image steps before left _ _ (image_unwatched (LimitRefused what count) h same) = inr (inl refl)
+watched-status cpu image steps before left _ _ (image_unwatched (NotYetRefused at) h same) = inr (inr (inl refl))
+watched-status cpu image steps before left _ _ (image_unwatched MemoryRefused h same) = inr (inr (inr (inr (inl refl))))
 
 -- an answer with one of these statuses is not another
 pub other-than : (reply other : Reply) (ns : List ℕ) → are_apart (status_of other ∷ []) ns ≡ true → IsOneOf (status_of reply) ns → reply ≡ other → ⊥

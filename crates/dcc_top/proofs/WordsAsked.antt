@@ -7,9 +7,9 @@ use Rattle.std.specs.Str.{bytes_eq}
 use Rattle.std.proofs.lemmas.Bool.{eqb-true, ltb-true, lt-ltb}
 use Rattle.std.proofs.lemmas.List.Sums.{split_at_first, passes_at_first}
 use Rattle.std.proofs.lemmas.Slice.Eq.{bytes_eq-Decides}
-use Rattle.dcc_top.specs.Words.{Job, Decompile, ListProcedures, Execute, ExecuteText, Parts, only_positional, with_word, with_value, set_value, value_in, is_positional, option_word, command_word, HasParts, no_word, positional_word, option_in_two, option_in_one, end_of_options, AskFor, decompile, list_procedures, execute, execute_text, steps_of, fill_of, cpu_of, Kind, Positional, End, Names, Gives, Unknown, option_of, command_of, named, given, is_equals, option_kind, kind_of, parts_after, parts_of, job_for, job_with, job_of}
+use Rattle.dcc_top.specs.Words.{Job, Decompile, ListProcedures, Execute, ExecuteWatched, ExecuteText, Parts, only_positional, with_word, with_value, set_value, value_in, is_positional, option_word, command_word, HasParts, no_word, positional_word, option_in_two, option_in_one, end_of_options, AskFor, decompile, list_procedures, execute, execute_watched, execute_text, steps_of, fill_of, cpu_of, Kind, Positional, End, Names, Gives, Unknown, option_of, command_of, named, given, is_equals, option_kind, kind_of, parts_after, parts_of, job_for, job_with, job_of}
 use Rattle.dcc_top.specs.declared.words.Command.{Command}
-use Rattle.dcc_top.specs.declared.words.Command.TheVariants.{C, Procs, Run, RunC}
+use Rattle.dcc_top.specs.declared.words.Command.TheVariants.{C, Procs, Run, Watch, RunC}
 use Rattle.dcc_top.specs.declared.words.OptionName.{OptionName}
 use Rattle.dcc_top.specs.declared.words.OptionName.TheVariants.{Steps, Fill, Cpu}
 use Rattle.dcc_prog.specs.declared.cpu.Cpu.{Cpu as Processor}
@@ -64,6 +64,10 @@ asked-is _ _ (execute {words} {file} {value} {other} {steps} {cpu} parts is also
     ap (λ o. option_and_then (job_with Run) o) (parts-is words _ parts)
     ∙ ap (λ o. option_and_then (λ n. option_map (Execute file n) (cpu_of other)) o) is
     ∙ ap (λ o. option_map (Execute file steps) o) also
+asked-is _ _ (execute_watched {words} {file} {value} {other} {steps} {cpu} parts is also) =
+    ap (λ o. option_and_then (job_with Watch) o) (parts-is words _ parts)
+    ∙ ap (λ o. option_and_then (λ n. option_map (ExecuteWatched file n) (cpu_of other)) o) is
+    ∙ ap (λ o. option_map (ExecuteWatched file steps) o) also
 asked-is _ _ (execute_text {words} {file} {value} {other} {steps} {fill} parts is also) =
     ap (λ o. option_and_then (job_with RunC) o) (parts-is words _ parts)
     ∙ ap (λ o. option_and_then (λ n. option_map (ExecuteText file n) (fill_of other)) o) is
@@ -101,9 +105,12 @@ command-from word c h = elim (chosen (bytes_eq word (codes "c")) C c _ h) [
     | inl a ↦ word-same word (codes "procs") a.0 ∙ ap command_word a.1
     | inr j ↦ elim (chosen (bytes_eq word (codes "run")) Run c _ j) [
       | inl a ↦ word-same word (codes "run") a.0 ∙ ap command_word a.1
-      | inr k ↦ elim (chosen (bytes_eq word (codes "runc")) RunC c _ k) [
-        | inl a ↦ word-same word (codes "runc") a.0 ∙ ap command_word a.1
-        | inr l ↦ nothing-chosen c l
+      | inr k ↦ elim (chosen (bytes_eq word (codes "watch")) Watch c _ k) [
+        | inl a ↦ word-same word (codes "watch") a.0 ∙ ap command_word a.1
+        | inr l ↦ elim (chosen (bytes_eq word (codes "runc")) RunC c _ l) [
+          | inl a ↦ word-same word (codes "runc") a.0 ∙ ap command_word a.1
+          | inr m ↦ nothing-chosen c m
+        ]
       ]
     ]
   ]
@@ -222,6 +229,15 @@ run-asked words job file value other (Some n) (Some cpu) is also has h =
     let same : Execute file n cpu ≡ job = cc in
     subst (λ j. AskFor (command_word Run ∷ words) j) same (execute has is also)
 
+watch-asked : (words : List (List ℕ)) (job : Job) (file : List ℕ) (value other : Option (List ℕ)) (steps : Option ℕ) (cpu : Option Processor) → steps_of value ≡ steps → cpu_of other ≡ cpu →
+    HasParts words (record { positional = file ∷ []; steps = value; fill = None; cpu = other }) →
+    option_and_then (λ n. option_map (ExecuteWatched file n) cpu) steps ≡ Some job → AskFor (command_word Watch ∷ words) job
+watch-asked words job file value other None cpu is also has h = absurd (let f : ⊥ = cc in f)
+watch-asked words job file value other (Some n) None is also has h = absurd (let f : ⊥ = cc in f)
+watch-asked words job file value other (Some n) (Some cpu) is also has h =
+    let same : ExecuteWatched file n cpu ≡ job = cc in
+    subst (λ j. AskFor (command_word Watch ∷ words) j) same (execute_watched has is also)
+
 text_run-asked : (words : List (List ℕ)) (job : Job) (file : List ℕ) (value other : Option (List ℕ)) (steps fill : Option ℕ) → steps_of value ≡ steps → fill_of other ≡ fill →
     HasParts words (record { positional = file ∷ []; steps = value; fill = other; cpu = None }) →
     option_and_then (λ n. option_map (ExecuteText file n) fill) steps ≡ Some job → AskFor (command_word RunC ∷ words) job
@@ -243,16 +259,21 @@ job-asked words job Procs (file ∷ []) (Some value) fill cpu has h = absurd (le
 job-asked words job Run (file ∷ []) steps None cpu has h =
     run-asked words job file steps cpu (steps_of steps) (cpu_of cpu) refl refl has h
 job-asked words job Run (file ∷ []) steps (Some other) cpu has h = absurd (let f : ⊥ = cc in f)
+job-asked words job Watch (file ∷ []) steps None cpu has h =
+    watch-asked words job file steps cpu (steps_of steps) (cpu_of cpu) refl refl has h
+job-asked words job Watch (file ∷ []) steps (Some other) cpu has h = absurd (let f : ⊥ = cc in f)
 job-asked words job RunC (file ∷ []) steps fill None has h =
     text_run-asked words job file steps fill (steps_of steps) (fill_of fill) refl refl has h
 job-asked words job RunC (file ∷ []) steps fill (Some cpu) has h = absurd (let f : ⊥ = cc in f)
 job-asked words job C [] steps fill cpu has h = absurd (let f : ⊥ = cc in f)
 job-asked words job Procs [] steps fill cpu has h = absurd (let f : ⊥ = cc in f)
 job-asked words job Run [] steps fill cpu has h = absurd (let f : ⊥ = cc in f)
+job-asked words job Watch [] steps fill cpu has h = absurd (let f : ⊥ = cc in f)
 job-asked words job RunC [] steps fill cpu has h = absurd (let f : ⊥ = cc in f)
 job-asked words job C (a ∷ (b ∷ ws)) steps fill cpu has h = absurd (let f : ⊥ = cc in f)
 job-asked words job Procs (a ∷ (b ∷ ws)) steps fill cpu has h = absurd (let f : ⊥ = cc in f)
 job-asked words job Run (a ∷ (b ∷ ws)) steps fill cpu has h = absurd (let f : ⊥ = cc in f)
+job-asked words job Watch (a ∷ (b ∷ ws)) steps fill cpu has h = absurd (let f : ⊥ = cc in f)
 job-asked words job RunC (a ∷ (b ∷ ws)) steps fill cpu has h = absurd (let f : ⊥ = cc in f)
 
 parts-asked : (words : List (List ℕ)) (job : Job) (c : Command) (parts : Option Parts) → ((p : Parts) → parts ≡ Some p → HasParts words p) →

@@ -9,6 +9,9 @@ use Rattle.dcc_io.specs.declared.outside.ShelfFault.{ShelfFault}
 use Rattle.dcc_io.specs.declared.outside.ShelfFault.TheVariants.{Absent, Failed as ShelfFailed, Memory as ShelfMemory}
 use Rattle.dcc_io.specs.Told.{WhenTold}
 use Rattle.dcc_prog.specs.declared.cpu.Cpu.{Cpu}
+use Rattle.dcc_prog.specs.declared.watch.FoulKind.{FoulKind}
+use Rattle.dcc_prog.specs.declared.watch.FoulKind.TheVariants.{Low, Hidden, Unwritten}
+use Rattle.dcc_prog.specs.declared.frame.Program.{Program}
 use Rattle.dcc_prog.specs.declared.image.Image.{Image}
 use Rattle.dcc_prog.specs.declared.refusal.LimitName.{LimitName}
 use Rattle.dcc_prog.specs.declared.refusal.LimitName.TheVariants.{Procedures, Instructions, Total, Cells, Entries}
@@ -16,8 +19,9 @@ use Rattle.dcc_prog.specs.declared.refusal.LimitName.TheVariants.{Arguments}
 use Rattle.dcc_prog.specs.declared.refusal.Refusal.{Refusal}
 use Rattle.dcc_prog.specs.declared.refusal.Refusal.TheVariants.{Construct as ConstructRefused, Limit as LimitRefused}
 use Rattle.dcc_prog.specs.declared.refusal.Refusal.TheVariants.{NotYet as NotYetRefused, Memory as MemoryRefused}
+use Rattle.dcc_prog.specs.Analysed.{IsProgramOf}
 use Rattle.dcc_prog.specs.MzImage.{IsImageOf}
-use Rattle.dcc_prog.specs.Refused.{IsRefusedFor, IsRefusedByAnalysis, IsAcceptedProgram}
+use Rattle.dcc_prog.specs.Refused.{IsRefusedFor, IsRefusedByAnalysis, IsAcceptedProgram, IsSound}
 use Rattle.dcc_c.specs.Text.{StandsFor}
 use Rattle.dcc_c.specs.Tree.{Tree}
 use Rattle.dcc_c.specs.Written.{written_form}
@@ -30,14 +34,15 @@ use Rattle.dcc_pipe.specs.Agreement.{IsTextOf}
 use Rattle.dcc_top.specs.declared.reply.Reply.{Reply}
 use Rattle.dcc_top.specs.declared.reply.Reply.TheVariants.{Done, Exited, Usage, NoFile, FileFault, InputFault, Memory}
 use Rattle.dcc_top.specs.declared.reply.Reply.TheVariants.{Format, Construct, Limit, NotYet, TextFault, Unfinished}
-use Rattle.dcc_top.specs.declared.reply.Reply.TheVariants.{Divided, Outside, Stuck}
+use Rattle.dcc_top.specs.declared.reply.Reply.TheVariants.{Divided, Outside, Foul, Stuck}
 use Rattle.dcc_top.specs.Change.{Change}
 use Rattle.dcc_top.specs.Execution.{machine_of, text_of, Finishes, FinishesOrStops, IsCutRun}
 use Rattle.dcc_top.specs.Listing.{IsListingOf}
 use Rattle.dcc_top.specs.Offset.{hex_offset}
 use Rattle.dcc_top.specs.Status as exit
-use Rattle.dcc_top.specs.Words.{Job, Decompile, ListProcedures, Execute, ExecuteText, Product, Text, Listing}
-use Rattle.dcc_top.specs.Words.{greatest_text}
+use Rattle.dcc_top.specs.WatchedRun.{watch_of, FinishesWatched}
+use Rattle.dcc_top.specs.Words.{Job, Decompile, ListProcedures, Execute, ExecuteWatched, ExecuteText, Product, Text}
+use Rattle.dcc_top.specs.Words.{Listing, greatest_text}
 
 -- the name of a count, as it is told
 abbrev pub limit_word : LimitName → List ℕ
@@ -47,6 +52,12 @@ limit_word Total = codes "total"
 limit_word Cells = codes "cells"
 limit_word Entries = codes "entries"
 limit_word Arguments = codes "arguments"
+
+-- the word for the way in which a step is foul
+abbrev pub foul_word : FoulKind → List ℕ
+foul_word Low = codes "low"
+foul_word Hidden = codes "hidden"
+foul_word Unwritten = codes "unwritten"
 
 -- the exit status
 abbrev pub status_of : Reply → ℕ
@@ -65,6 +76,7 @@ status_of (NotYet at) = exit.not_yet
 status_of (Unfinished steps) = exit.unfinished
 status_of Divided = exit.divided
 status_of (Outside at) = exit.outside
+status_of (Foul at address kind) = exit.foul
 status_of (Stuck line) = exit.stuck
 
 -- the line on the error stream; none where the text or the list is written
@@ -88,6 +100,9 @@ line_of (NotYet at) = codes "dcc: not yet at " ++ (hex_offset at ++ codes "\n")
 line_of (Unfinished steps) = codes "running after " ++ (decimal steps ++ codes " steps\n")
 line_of Divided = codes "divide\n"
 line_of (Outside at) = codes "outside at " ++ (hex_offset at ++ codes "\n")
+line_of (Foul at address kind) =
+    codes "foul at "
+    ++ (hex_offset at ++ (codes ": " ++ (foul_word kind ++ (codes " " ++ (hex_offset address ++ codes "\n")))))
 line_of (Stuck line) = codes "stuck at line " ++ (decimal line ++ codes "\n")
 
 -- the answer where the shelf does not give a file
@@ -197,15 +212,20 @@ pub record OfImages (file : List ℕ) (P : Image → Type 0) : Type 0 where
   pub is_image : IsImageOf file image
   pub each : (other : Image) → IsImageOf file other → P other
 
+-- The answer says why this isn't made of the file of this name on this processor: the program is refused, or there is
+-- no image.
+pub data IsUnmade (product : Product) (cpu : Cpu) (told : Files) (name : List ℕ) : Reply → Type 0 where
+  refused : (refusal : Refusal)
+      → OfFile told name (IsRefusedAs product cpu refusal)
+      → IsUnmade product cpu told name (refusal_reply refusal)
+  no_image : {reply : Reply} → HasNoImage told name reply → IsUnmade product cpu told name reply
+
 -- The answer is allowed for the file of this name, of which this is asked for on this processor, after these bytes.
 pub data AllowsProduct (product : Product) (cpu : Cpu) (told : Files) (name : List ℕ) : Reply → List ℕ → Type 0 where
   made_of_file : {made : List ℕ}
       → OfFile told name (λ file. Makes product cpu file made)
       → AllowsProduct product cpu told name Done made
-  refused : (refusal : Refusal)
-      → OfFile told name (IsRefusedAs product cpu refusal)
-      → AllowsProduct product cpu told name (refusal_reply refusal) []
-  no_image : {reply : Reply} → HasNoImage told name reply → AllowsProduct product cpu told name reply []
+  unmade : {reply : Reply} → IsUnmade product cpu told name reply → AllowsProduct product cpu told name reply []
 
 -- Runs.
 
@@ -222,6 +242,50 @@ pub record IsCutFile (cpu : Cpu) (file : List ℕ) (steps : ℕ) (input output :
   pub image : Image
   pub is_image : IsImageOf file image
   pub cut : IsCutRun (machine_of cpu image) steps input output due
+
+-- Watched runs, of programs that nothing refuses which the analyses tell.
+
+-- the answer is one for a watched run of the image on this processor
+pub record Watches (cpu : Cpu) (image : Image) (steps : ℕ) (before left : Option (List ℕ)) (reply : Reply)
+    (output : List ℕ) : Type 0 where
+  pub sound : IsSound cpu image
+  pub program : Program
+  pub is_program : IsProgramOf cpu image program
+  pub finishes : FinishesWatched cpu image steps before left reply output
+
+-- the answer is allowed for the image of which a watched run is asked for on this processor, after these bytes
+pub data AllowsWatched (cpu : Cpu) (image : Image) (steps : ℕ) (before left : Option (List ℕ)) :
+    Reply → List ℕ → Type 0 where
+  image_watched : {reply : Reply} {output : List ℕ}
+      → Watches cpu image steps before left reply output
+      → AllowsWatched cpu image steps before left reply output
+  image_unwatched : (refusal : Refusal)
+      → IsRefusedByAnalysis cpu image refusal
+      → left ≡ before
+      → AllowsWatched cpu image steps before left (refusal_reply refusal) []
+
+-- the image's watched run was cut off
+pub record IsCutWatched (cpu : Cpu) (image : Image) (steps : ℕ) (input output : Change (Option (List ℕ)))
+    (due : List ℕ) : Type 0 where
+  pub sound : IsSound cpu image
+  pub program : Program
+  pub is_program : IsProgramOf cpu image program
+  pub cut : IsCutRun (watch_of image program) steps input output due
+
+-- the same of the file's image
+pub record WatchesFile (cpu : Cpu) (file : List ℕ) (steps : ℕ) (before left : Option (List ℕ)) (reply : Reply)
+    (output : List ℕ) : Type 0 where
+  pub image : Image
+  pub is_image : IsImageOf file image
+  pub watches : Watches cpu image steps before left reply output
+
+pub record IsCutWatchedFile (cpu : Cpu) (file : List ℕ) (steps : ℕ) (input output : Change (Option (List ℕ)))
+    (due : List ℕ) : Type 0 where
+  pub image : Image
+  pub is_image : IsImageOf file image
+  pub cut : IsCutWatched cpu image steps input output due
+
+-- Texts.
 
 -- the text stands for this tree alone, and is not too long
 pub record IsReadAs (text : List ℕ) (tree : Tree) : Type 0 where
@@ -265,6 +329,8 @@ abbrev pub Runs : Job → List ℕ → Option (List ℕ) → Option (List ℕ) �
 Runs (Decompile name cpu) file before left reply output = ⊥
 Runs (ListProcedures name cpu) file before left reply output = ⊥
 Runs (Execute name steps cpu) file before left reply output = RunsFile cpu file steps before left reply output
+Runs (ExecuteWatched name steps cpu) file before left reply output =
+    WatchesFile cpu file steps before left reply output
 Runs (ExecuteText name steps fill) file before left reply output = RunsText file steps fill before left reply output
 
 -- All jobs.
@@ -287,6 +353,13 @@ pub data Allows (told : Files) (before left : Option (List ℕ)) : Option Job �
       → HasNoImage told name reply
       → left ≡ before
       → Allows told before left (Some (Execute name steps cpu)) reply []
+  watched_file : {name : List ℕ} {steps : ℕ} {cpu : Cpu} {reply : Reply} {output : List ℕ}
+      → OfFile told name (λ file. WatchesFile cpu file steps before left reply output)
+      → Allows told before left (Some (ExecuteWatched name steps cpu)) reply output
+  watched_no_file : {name : List ℕ} {steps : ℕ} {cpu : Cpu} {reply : Reply}
+      → IsUnmade Listing cpu told name reply
+      → left ≡ before
+      → Allows told before left (Some (ExecuteWatched name steps cpu)) reply []
   ran_text : {name : List ℕ} {steps fill : ℕ} {reply : Reply} {output : List ℕ}
       → OfFile told name (λ text. RunsText text steps fill before left reply output)
       → Allows told before left (Some (ExecuteText name steps fill)) reply output
@@ -310,6 +383,9 @@ pub data IsCut (told : Files) (input output : Change (Option (List ℕ))) : Opti
   cut_run : {name due : List ℕ} {steps : ℕ} {cpu : Cpu}
       → OfFile told name (λ file. IsCutFile cpu file steps input output due)
       → IsCut told input output (Some (Execute name steps cpu)) due
+  cut_watched : {name due : List ℕ} {steps : ℕ} {cpu : Cpu}
+      → OfFile told name (λ file. IsCutWatchedFile cpu file steps input output due)
+      → IsCut told input output (Some (ExecuteWatched name steps cpu)) due
   cut_text_run : {name due : List ℕ} {steps fill : ℕ}
       → OfFile told name (λ text. IsCutText text steps fill input output due)
       → IsCut told input output (Some (ExecuteText name steps fill)) due

@@ -9,7 +9,9 @@ use Rattle.dcc_run.specs.Prefix.{IsPrefix}
 use Rattle.dcc_prog.specs.declared.cpu.Cpu.{Cpu}
 use Rattle.dcc_prog.specs.declared.image.Image.{Image}
 use Rattle.dcc_prog.specs.declared.refusal.Refusal.{Refusal}
+use Rattle.dcc_prog.specs.Clean.{Foul as FoulStep}
 use Rattle.dcc_prog.specs.MzImage.{IsImageOf}
+use Rattle.dcc_prog.specs.Refused.{IsSound}
 use Rattle.dcc_c.specs.Text.{StandsFor}
 use Rattle.dcc_c.specs.Tree.{Tree}
 use Rattle.dcc_reader.specs.declared.offence.ParseKind.{ParseKind}
@@ -17,10 +19,11 @@ use Rattle.dcc_parse.specs.Fault.{IsRefusal as IsTextRefusal}
 use Rattle.dcc_top.specs.declared.reply.Reply.{Reply}
 use Rattle.dcc_top.specs.declared.reply.Reply.TheVariants.{Done, NoFile, FileFault, InputFault, Memory, Format}
 use Rattle.dcc_top.specs.declared.reply.Reply.TheVariants.{TextFault}
-use Rattle.dcc_top.specs.Words.{Job, Execute, ExecuteText, Product, job_to_make, name_of, file_of, requests_of}
-use Rattle.dcc_top.specs.Words.{greatest_text}
-use Rattle.dcc_top.specs.Execution.{machine_of, text_of, ending_after}
-use Rattle.dcc_top.specs.Answer.{Allows, IsCut, IsRefusedAs, Runs, ShelfHas, ShelfLacks, status_of, line_of}
+use Rattle.dcc_top.specs.Words.{Job, Execute, ExecuteWatched, ExecuteText, Product, Analyses, name_of, file_of}
+use Rattle.dcc_top.specs.Words.{requests_of, greatest_text}
+use Rattle.dcc_top.specs.Execution.{machine_of, text_of, ending_after, end_reply}
+use Rattle.dcc_top.specs.WatchedRun.{EndsClean, HasRunClean, StopsAtFoul, foul_reply}
+use Rattle.dcc_top.specs.Answer.{Allows, IsCut, IsRefusedAs, OfImages, Runs, ShelfHas, ShelfLacks, status_of, line_of}
 use Rattle.dcc_top.specs.Answer.{refusal_reply}
 use Rattle.dcc_top.specs.Call.{Call, Change, Requests, ShelfChange, SourceChange, SinkChange, Rises, Appends}
 use Rattle.dcc_top.specs.Call.{AppendsPart}
@@ -123,16 +126,49 @@ pub record HasRunFile (call : Call) : Type 0 where
   pub appended : Appends call.output output
   pub line : Appends call.errors (line_of reply)
 
--- the run that the job asks for on the file and the input ends so, after the steps that are asked for
+-- the run that the job asks for on the file and the input ends so, after the steps that are asked for; where it is
+-- watched, nothing refuses the program, and all of these steps are clean
 pub data EndsSo (file input : List ℕ) : Job → End → Type 0 where
   file_ends : {name : List ℕ} {steps : ℕ} {cpu : Cpu} {image : Image}
       → IsImageOf file image
       → EndsSo file input (Execute name steps cpu) (ending_after (machine_of cpu image) steps input)
+  watched_ends : {name : List ℕ} {steps : ℕ} {cpu : Cpu} {end : End}
+      → OfImages file (EndsClean cpu steps input end)
+      → EndsSo file input (ExecuteWatched name steps cpu) end
   text_ends : {name : List ℕ} {steps fill : ℕ} {tree : Tree}
       → (stands : StandsFor file tree)
       → length file ≤ greatest_text
       → EndsSo file input (ExecuteText name steps fill)
       (ending_after (text_of tree stands.allowed.start fill) steps input)
+
+-- The file of the words was run on the input, watched: the machine's run has put out what was appended, left the input
+-- and ended as the status and the line tell, and all the steps that were asked for are clean.
+pub record HasCleanRun (call : Call) (name : List ℕ) (steps : ℕ) (cpu : Cpu) (input : List ℕ) : Type 0 where
+  pub file : List ℕ
+  pub image : Image
+  pub output : List ℕ
+  pub end : End
+  pub has : ShelfHas call.shelf.files name file
+  pub is_image : IsImageOf file image
+  pub sound : IsSound cpu image
+  pub ran : HasRunClean cpu image steps call.input.left.after output end input
+  pub status_is : call.status ≡ exit.end_status end
+  pub appended : Appends call.output output
+  pub line : Appends call.errors (line_of (end_reply steps end))
+
+-- The same up to a foul step, which is the next one, and whose place, kind and first byte the line tells.
+pub record HasFoulStep (call : Call) (name : List ℕ) (steps : ℕ) (cpu : Cpu) (input : List ℕ) : Type 0 where
+  pub file : List ℕ
+  pub image : Image
+  pub output : List ℕ
+  pub foul : FoulStep
+  pub has : ShelfHas call.shelf.files name file
+  pub is_image : IsImageOf file image
+  pub sound : IsSound cpu image
+  pub stops : StopsAtFoul cpu image steps call.input.left.after output foul input
+  pub status_is : call.status ≡ exit.foul
+  pub appended : Appends call.output output
+  pub line : Appends call.errors (line_of (foul_reply foul))
 
 -- Files that are not to be had.
 
@@ -177,16 +213,18 @@ pub record HasFormatFault (call : Call) : Type 0 where
   pub first : IsFormatRefusal file fault
   pub line : Appends call.errors (line_of (Format fault))
 
--- The program that the words name is refused on their processor, where its text or its procedures are asked for, and
--- the line tells why: a construct stands at the offset, the count passes its number, or an instruction that is reached
--- at the offset is of a form that is not built.
+-- The program that the words name is refused on their processor, where its text, its procedures or its watched run are
+-- asked for, and the line tells why: a construct stands at the offset, the count passes its number, or an instruction
+-- that is reached at the offset is of a form that is not built.
 pub record HasRefusal (call : Call) : Type 0 where
   pub product : Product
   pub name : List ℕ
   pub cpu : Cpu
   pub file : List ℕ
   pub refusal : Refusal
-  pub named : call.job ≡ Some (job_to_make product name cpu)
+  pub job : Job
+  pub named : call.job ≡ Some job
+  pub analyses : Analyses name cpu product job
   pub has : ShelfHas call.shelf.files name file
   pub refused : IsRefusedAs product cpu refusal file
   pub status_is : call.status ≡ status_of (refusal_reply refusal)

@@ -5,6 +5,7 @@ pub mod Execution
 pub mod Status
 pub mod Offset
 pub mod Listing
+pub mod WatchedRun
 pub mod Answer
 pub mod Headline
 pub mod Call

@@ -1,16 +1,18 @@
--- What the program promises of each call: the text of `c`, the list of `procs`, runs, refusals, faults, and what is
--- asked and told.
+-- What the program promises of each call: the text of `c`, the list of `procs`, runs, watched runs, refusals, faults,
+-- and what is asked and told.
 use Rattle.std.specs.Prelude.{◌≡◌, ◌≢◌, ◌⊎◌, ℕ, List, [], ◌∷◌, Some, None}
 use Rattle.dcc_run.specs.End.{End}
 use Rattle.dcc_prog.specs.declared.cpu.Cpu.{Cpu}
 use Rattle.dcc_prog.specs.MzImage.{FormatFault, IsFirstFault}
 use Rattle.dcc_prog.specs.Refused.{IsSound, IsAcceptedProgram, IsUnsound, IsRefusedImage}
 use Rattle.dcc_top.specs.declared.reply.Reply.TheVariants.{Memory}
-use Rattle.dcc_top.specs.Words.{Job, Decompile, ListProcedures, ExecuteText, IsExecution, LoadsImage}
+use Rattle.dcc_top.specs.WatchedRun.{MeetsFoul}
+use Rattle.dcc_top.specs.Words.{Job, Decompile, ListProcedures, ExecuteWatched, ExecuteText, IsExecution, LoadsImage}
 use Rattle.dcc_top.specs.Answer.{OfImages, line_of}
 use Rattle.dcc_top.specs.Call.{Call, Rises, AppendsPart}
 use Rattle.dcc_top.specs.Headline.{HasText, HasListing}
-use Rattle.dcc_top.specs.Causes.{IsAnswered, HasRunFile, EndsSo, Names, IsMissing, IsAbsent, IsUnreadable}
+use Rattle.dcc_top.specs.Causes.{IsAnswered, HasRunFile, EndsSo, HasCleanRun, HasFoulStep}
+use Rattle.dcc_top.specs.Causes.{Names, IsMissing, IsAbsent, IsUnreadable}
 use Rattle.dcc_top.specs.Causes.{HasFormatFault, HasRefusal, HasTextFault, IsNoText, IsOutOfMemory, IsCutOff}
 use Rattle.dcc_top.specs.Causes.{AsksPrefix, AsksAll}
 use Rattle.dcc_top.specs.Status.{IsOneOf, end_status}
@@ -42,7 +44,7 @@ pub record KeepsListing (call : Call) : Type 0 where
       → OfImages file (IsSound cpu)
       → IsOneOf call.status (exit.done ∷ exit.faults)
 
--- What `run` and `runc` put out and take, and how the run has ended, are those of the file.
+-- What `run`, `watch` and `runc` put out and take, and how the run has ended, are those of the file.
 pub record KeepsRuns (call : Call) : Type 0 where
   pub exited : IsExecution call.job → call.status ≡ exit.done → HasRunFile call
   pub ran : IsOneOf call.status exit.stops → HasRunFile call
@@ -53,6 +55,27 @@ pub record KeepsRuns (call : Call) : Type 0 where
       → EndsSo file bytes job end
       → IsOneOf call.status (end_status end ∷ exit.run_faults)
   pub read_failed : call.status ≡ exit.input_fault → Rises call.input.faults
+
+-- A run that `watch` says has ended, or goes on, is clean; and where it says that the next of the asked steps is foul,
+-- that one is, and the steps before are clean. A foul step is told wherever the run of a program meets one that nothing
+-- refuses which the analyses tell.
+pub record KeepsWatch (call : Call) : Type 0 where
+  pub clean : (name bytes : List ℕ) (steps : ℕ) (cpu : Cpu)
+      → call.job ≡ Some (ExecuteWatched name steps cpu)
+      → call.input.left.before ≡ Some bytes
+      → IsOneOf call.status exit.ends
+      → HasCleanRun call name steps cpu bytes
+  pub foul : (name bytes : List ℕ) (steps : ℕ) (cpu : Cpu)
+      → call.job ≡ Some (ExecuteWatched name steps cpu)
+      → call.input.left.before ≡ Some bytes
+      → call.status ≡ exit.foul
+      → HasFoulStep call name steps cpu bytes
+  pub foul_always : (name file bytes : List ℕ) (steps : ℕ) (cpu : Cpu)
+      → call.job ≡ Some (ExecuteWatched name steps cpu)
+      → Names call file
+      → call.input.left.before ≡ Some bytes
+      → OfImages file (MeetsFoul cpu steps bytes)
+      → IsOneOf call.status (exit.foul ∷ exit.run_faults)
 
 -- Words, files, programs and texts are refused for what is told of them, and wherever there is that to tell; then
 -- nothing is put out.
@@ -77,6 +100,12 @@ pub record KeepsRefusals (call : Call) : Type 0 where
   -- `procs` is refused wherever a construct stands or a count is too great, and for nothing else
   pub listing_refused_always : (name file : List ℕ) (cpu : Cpu)
       → call.job ≡ Some (ListProcedures name cpu)
+      → Names call file
+      → OfImages file (IsUnsound cpu)
+      → IsOneOf call.status (exit.construct ∷ (exit.limit ∷ exit.faults))
+  -- and so is `watch`
+  pub watch_refused_always : (name file : List ℕ) (steps : ℕ) (cpu : Cpu)
+      → call.job ≡ Some (ExecuteWatched name steps cpu)
       → Names call file
       → OfImages file (IsUnsound cpu)
       → IsOneOf call.status (exit.construct ∷ (exit.limit ∷ exit.faults))
@@ -116,6 +145,7 @@ pub record KeepsPromises (call : Call) : Type 0 where
   pub text : KeepsText call
   pub listing : KeepsListing call
   pub runs : KeepsRuns call
+  pub watch : KeepsWatch call
   pub refusals : KeepsRefusals call
   pub faults : KeepsFaults call
   pub answer : KeepsAnswer call

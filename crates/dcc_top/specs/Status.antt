@@ -48,6 +48,9 @@ divided = 21
 abbrev pub outside : ℕ
 outside = 22
 
+abbrev pub foul : ℕ
+foul = 23
+
 abbrev pub stuck : ℕ
 stuck = 24
 
@@ -65,7 +68,11 @@ refusals = construct ∷ (limit ∷ (not_yet ∷ []))
 
 -- a run that has not ended by its exit
 abbrev pub stops : List ℕ
-stops = input_fault ∷ (unfinished ∷ (divided ∷ (outside ∷ (stuck ∷ []))))
+stops = input_fault ∷ (unfinished ∷ (divided ∷ (outside ∷ (foul ∷ (stuck ∷ [])))))
+
+-- a run of an executable that has ended, or goes on
+abbrev pub ends : List ℕ
+ends = done ∷ (unfinished ∷ (divided ∷ (outside ∷ [])))
 
 -- an answer after no output
 abbrev pub without_output : List ℕ

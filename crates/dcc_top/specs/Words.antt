@@ -10,7 +10,7 @@ use Rattle.std.specs.Str.Parse.{digits_value}
 use Rattle.dcc_prog.specs.declared.cpu.Cpu.{Cpu}
 use Rattle.dcc_prog.specs.declared.cpu.Cpu.TheVariants.{I8086, I186}
 use Rattle.dcc_top.specs.declared.words.Command.{Command}
-use Rattle.dcc_top.specs.declared.words.Command.TheVariants.{C, Procs, Run, RunC}
+use Rattle.dcc_top.specs.declared.words.Command.TheVariants.{C, Procs, Run, Watch, RunC}
 use Rattle.dcc_top.specs.declared.words.OptionName.{OptionName}
 use Rattle.dcc_top.specs.declared.words.OptionName.TheVariants.{Steps, Fill, Cpu as CpuOption}
 
@@ -22,6 +22,8 @@ pub data Job : Type 0 where
   ListProcedures : List ℕ → Cpu → Job
   -- run the executable with this name, for at most so many steps, on this processor
   Execute : List ℕ → ℕ → Cpu → Job
+  -- the same, with each step's cleanness tested before the step is made
+  ExecuteWatched : List ℕ → ℕ → Cpu → Job
   -- run the text with this name, for at most so many steps, with this fill
   ExecuteText : List ℕ → ℕ → ℕ → Job
 
@@ -35,11 +37,18 @@ abbrev pub job_to_make : Product → List ℕ → Cpu → Job
 job_to_make Text name cpu = Decompile name cpu
 job_to_make Listing name cpu = ListProcedures name cpu
 
+-- The job analyses the executable with this name, for this processor, as far as this product needs: it makes it; or it
+-- runs the executable watched, for which the analyses of the list are made.
+pub data Analyses (name : List ℕ) (cpu : Cpu) : Product → Job → Type 0 where
+  to_make : (product : Product) → Analyses name cpu product (job_to_make product name cpu)
+  to_watch : (steps : ℕ) → Analyses name cpu Listing (ExecuteWatched name steps cpu)
+
 -- the first word, as a command
 abbrev pub command_word : Command → List ℕ
 command_word C = codes "c"
 command_word Procs = codes "procs"
 command_word Run = codes "run"
+command_word Watch = codes "watch"
 command_word RunC = codes "runc"
 
 -- an option's name, as it is written
@@ -146,6 +155,11 @@ pub data AskFor : List (List ℕ) → Job → Type 0 where
       → steps_of value ≡ Some steps
       → cpu_of other ≡ Some cpu
       → AskFor (command_word Run ∷ words) (Execute file steps cpu)
+  execute_watched : {words : List (List ℕ)} {file : List ℕ} {value other : Option (List ℕ)} {steps : ℕ} {cpu : Cpu}
+      → HasParts words (record { positional = file ∷ []; steps = value; fill = None; cpu = other })
+      → steps_of value ≡ Some steps
+      → cpu_of other ≡ Some cpu
+      → AskFor (command_word Watch ∷ words) (ExecuteWatched file steps cpu)
   execute_text : {words : List (List ℕ)} {file : List ℕ} {value other : Option (List ℕ)} {steps fill : ℕ}
       → HasParts words (record { positional = file ∷ []; steps = value; fill = other; cpu = None })
       → steps_of value ≡ Some steps
@@ -178,6 +192,7 @@ command_of word =
     if bytes_eq word (codes "c") then Some C
     else if bytes_eq word (codes "procs") then Some Procs
     else if bytes_eq word (codes "run") then Some Run
+    else if bytes_eq word (codes "watch") then Some Watch
     else if bytes_eq word (codes "runc") then Some RunC
     else None
 
@@ -209,26 +224,29 @@ abbrev pub with_value : OptionName → List ℕ → Option Parts → Option Part
 with_value name value None = None
 with_value name value (Some parts) = if is_some (value_in name parts) then None else Some (set_value name value parts)
 
+-- the parts with a word of this kind in front: of the words after it, and where they begin with an option's value
+abbrev pub with_kind : List ℕ → List (List ℕ) → Option Parts → (OptionName → Option Parts) → Kind → Option Parts
+with_kind word words parts valued Positional = option_map (with_word word) parts
+with_kind word words parts valued End = Some (only_positional words)
+with_kind word words parts valued (Names name) = valued name
+with_kind word words parts valued (Gives name value) = with_value name value parts
+with_kind word words parts valued Unknown = None
+
 -- the parts of the words; where an option waits for its value, the first word is the value
 abbrev pub parts_after : Option OptionName → List (List ℕ) → Option Parts
 parts_after None [] = Some (only_positional [])
-parts_after None (word ∷ words) = elim (kind_of word) [
-  | Positional ↦ option_map (with_word word) (parts_after None words)
-  | End ↦ Some (only_positional words)
-  | Names name ↦ parts_after (Some name) words
-  | Gives name value ↦ with_value name value (parts_after None words)
-  | Unknown ↦ None
-]
+parts_after None (word ∷ words) =
+    with_kind word words (parts_after None words) (λ name. parts_after (Some name) words) (kind_of word)
 parts_after (Some name) [] = None
 parts_after (Some name) (value ∷ words) = with_value name value (parts_after None words)
 
 abbrev pub parts_of : List (List ℕ) → Option Parts
 parts_of words = parts_after None words
 
--- the job of `run` for a file
-abbrev pub run_job : List ℕ → Option (List ℕ) → Option (List ℕ) → Option Job
-run_job file value other =
-    option_and_then (λ steps. option_map (Execute file steps) (cpu_of other)) (steps_of value)
+-- the job of `run` for a file, and that of `watch`
+abbrev pub run_job : (List ℕ → ℕ → Cpu → Job) → List ℕ → Option (List ℕ) → Option (List ℕ) → Option Job
+run_job job file value other =
+    option_and_then (λ steps. option_map (job file steps) (cpu_of other)) (steps_of value)
 
 -- the job of `runc` for a file
 abbrev pub text_job : List ℕ → Option (List ℕ) → Option (List ℕ) → Option Job
@@ -239,7 +257,8 @@ text_job file value other =
 abbrev pub job_for : Command → List (List ℕ) → Option (List ℕ) → Option (List ℕ) → Option (List ℕ) → Option Job
 job_for C (file ∷ []) None None value = option_map (Decompile file) (cpu_of value)
 job_for Procs (file ∷ []) None None value = option_map (ListProcedures file) (cpu_of value)
-job_for Run (file ∷ []) value None other = run_job file value other
+job_for Run (file ∷ []) value None other = run_job Execute file value other
+job_for Watch (file ∷ []) value None other = run_job ExecuteWatched file value other
 job_for RunC (file ∷ []) value other None = text_job file value other
 job_for _ _ _ _ _ = None
 
@@ -266,6 +285,7 @@ abbrev pub name_of : Job → List ℕ
 name_of (Decompile file cpu) = file
 name_of (ListProcedures file cpu) = file
 name_of (Execute file steps cpu) = file
+name_of (ExecuteWatched file steps cpu) = file
 name_of (ExecuteText file steps fill) = file
 
 abbrev pub file_of : Option Job → Option (List ℕ)
@@ -277,6 +297,7 @@ IsExecution None = ⊥
 IsExecution (Some (Decompile file cpu)) = ⊥
 IsExecution (Some (ListProcedures file cpu)) = ⊥
 IsExecution (Some (Execute file steps cpu)) = Unit {0}
+IsExecution (Some (ExecuteWatched file steps cpu)) = Unit {0}
 IsExecution (Some (ExecuteText file steps fill)) = Unit {0}
 
 -- the file of the job is an executable
@@ -285,6 +306,7 @@ LoadsImage None = ⊥
 LoadsImage (Some (Decompile file cpu)) = Unit {0}
 LoadsImage (Some (ListProcedures file cpu)) = Unit {0}
 LoadsImage (Some (Execute file steps cpu)) = Unit {0}
+LoadsImage (Some (ExecuteWatched file steps cpu)) = Unit {0}
 LoadsImage (Some (ExecuteText file steps fill)) = ⊥
 
 -- the greatest length of an executable that is fetched, and that of a text, in bytes
@@ -298,6 +320,7 @@ abbrev pub greatest_of : Job → ℕ
 greatest_of (Decompile file cpu) = greatest_file
 greatest_of (ListProcedures file cpu) = greatest_file
 greatest_of (Execute file steps cpu) = greatest_file
+greatest_of (ExecuteWatched file steps cpu) = greatest_file
 greatest_of (ExecuteText file steps fill) = greatest_text
 
 -- what a job asks the shelf for: names, each with the greatest number of bytes

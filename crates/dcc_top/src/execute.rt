@@ -1,7 +1,8 @@
 //! Running an executable.
 
-ghost use Rattle.std.specs.Prelude.{◌≡◌, ◌≤◌, IfOk, OnErr};
-ghost use Rattle.dcc_io.specs.Count.{Rose};
+ghost use Rattle.std.specs.Prelude.{◌≡◌, Ok, IfOk, OnErr};
+ghost use Rattle.std.specs.Result.{IsErr};
+ghost use Rattle.dcc_console.specs.Counts.{CountsFaults};
 ghost use Rattle.dcc_prog.specs.MzImage.{IsLoaded};
 ghost use Rattle.dcc_top.specs.declared.reply.Reply.TheVariants.{InputFault};
 ghost use Rattle.dcc_top.specs.Change.{change};
@@ -31,12 +32,8 @@ pub fn execute<I: Source, O: Sink>(
     ensures broke_off { OnErr result (CutsShort (IsCutRun (machine_of cpu image.now) steps
         (change I.left input.old input.new) (change O.taken out.old out.new))
         (O.taken out.old) (O.taken out.new)) }
-
-    // The counts never fall, and a fault comes only where its count rose.
-    ensures output_faults { O.faults out.old ≤ O.faults out.new }
-    ensures read_failed { IfOk result (λ reply. reply ≡ InputFault
-        → Rose (I.faults input.old) (I.faults input.new)) }
-    ensures write_failed { OnErr result (Rose (O.faults out.old) (O.faults out.new)) }
+    ensures faults { CountsFaults (result ≡ Ok InputFault) (IsErr result)
+        (I.faults input.old) (I.faults input.new) (O.faults out.old) (O.faults out.new) }
 {
     let Ok(mut machine) = Machine::new(alloc, image, cpu) else {
         return Ok(Reply::Memory);

@@ -10,4 +10,5 @@ pub mod listing_job;
 pub mod reply;
 pub mod text_job;
 pub mod top;
+pub mod watch_job;
 pub mod words;

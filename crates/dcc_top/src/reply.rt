@@ -1,13 +1,13 @@
 //! What the program answers: a status, and a line on the error stream.
 
 ghost use Rattle.std.specs.Prelude.{◌≡◌, Some, IfOk, IsOk, string_bytes};
-ghost use Rattle.dcc_top.specs.Answer.{status_of, line_of, limit_word, shelf_reply, fault_reply, parse_reply};
+ghost use Rattle.dcc_top.specs.Answer.{status_of, line_of, limit_word, foul_word, shelf_reply, fault_reply, parse_reply};
 ghost use Rattle.dcc_top.specs.Answer.{refusal_reply};
 
 use dcc_io::ShelfFault;
 use dcc_mz::MzFault;
 use dcc_parse::{ParseFault, ParseKind};
-use dcc_prog::{LimitName, Refusal};
+use dcc_prog::{FoulKind, LimitName, Refusal};
 use std::alloc::{AllocError, Global};
 use std::fmt;
 
@@ -31,19 +31,35 @@ pub enum Reply {
     /// The file has no load image.
     Format(MzFault),
     /// A construct of this kind, for which nothing is written, stands at the offset in the code segment.
-    Construct { kind: u8, at: u16 },
+    Construct {
+        kind: u8,
+        at: u16,
+    },
     /// This count of the program is above its greatest number.
-    Limit { what: LimitName, count: u32 },
+    Limit {
+        what: LimitName,
+        count: u32,
+    },
     /// The instruction at this offset in the code segment is of a form that is not built yet.
     NotYet(u16),
     /// The text is refused for what offends first, in this line.
-    TextFault { line: u32, kind: ParseKind },
+    TextFault {
+        line: u32,
+        kind: ParseKind,
+    },
     /// The run goes on after this number of steps.
     Unfinished(u64),
     /// The run ended by a divide fault.
     Divided,
     /// The run came to what is no instruction of the machine, at this offset in the code segment.
     Outside(u16),
+    /// The watched run stopped before the step at the offset `at` in the code segment, which isn't clean; `address` is
+    /// the first byte of which this is so, by its offset in the data segment.
+    Foul {
+        at: u16,
+        address: u16,
+        kind: FoulKind,
+    },
     /// The run of the text came to where it has no step, in this line.
     Stuck(u32),
 }
@@ -115,6 +131,7 @@ impl Reply {
             Reply::Unfinished(_) => 20,
             Reply::Divided => 21,
             Reply::Outside(_) => 22,
+            Reply::Foul { .. } => 23,
             Reply::Stuck(_) => 24,
         }
     }
@@ -162,6 +179,10 @@ impl fmt::Display for Reply {
             Reply::Unfinished(steps) => writeln!(f, "running after {steps} steps"),
             Reply::Divided => writeln!(f, "divide"),
             Reply::Outside(at) => writeln!(f, "outside at {at:04X}"),
+            Reply::Foul { at, address, kind } => {
+                let word = foul_word(kind);
+                writeln!(f, "foul at {at:04X}: {word} {address:04X}")
+            }
             Reply::Stuck(line) => writeln!(f, "stuck at line {line}"),
         }
     }
@@ -178,5 +199,16 @@ fn limit_word(what: LimitName) -> &'static str
         LimitName::Cells => "cells",
         LimitName::Entries => "entries",
         LimitName::Arguments => "arguments",
+    }
+}
+
+// The word for the way in which a step is foul.
+fn foul_word(kind: FoulKind) -> &'static str
+    ensures { result.now ≡ foul_word kind }
+{
+    match kind {
+        FoulKind::Low => "low",
+        FoulKind::Hidden => "hidden",
+        FoulKind::Unwritten => "unwritten",
     }
 }

@@ -1,8 +1,9 @@
 //! Running a text.
 
-ghost use Rattle.std.specs.Prelude.{◌≡◌, ◌≤◌, IfOk, OnErr};
+ghost use Rattle.std.specs.Prelude.{◌≡◌, Ok, IfOk, OnErr};
+ghost use Rattle.std.specs.Result.{IsErr};
 ghost use Rattle.dcc_c.specs.Views.{tree_of};
-ghost use Rattle.dcc_io.specs.Count.{Rose};
+ghost use Rattle.dcc_console.specs.Counts.{CountsFaults};
 ghost use Rattle.dcc_top.specs.declared.reply.Reply.TheVariants.{InputFault};
 ghost use Rattle.dcc_top.specs.Answer.{HasSomeText, RunsUnit, IsCutUnit};
 ghost use Rattle.dcc_top.specs.Change.{change};
@@ -31,12 +32,8 @@ pub fn execute_unit<I: Source, O: Sink>(
     ensures broke_off { OnErr result (CutsShort (IsCutUnit (tree_of unit.now) steps fill
         (change I.left input.old input.new) (change O.taken out.old out.new))
         (O.taken out.old) (O.taken out.new)) }
-
-    // The counts never fall, and a fault comes only where its count rose.
-    ensures output_faults { O.faults out.old ≤ O.faults out.new }
-    ensures read_failed { IfOk result (λ reply. reply ≡ InputFault
-        → Rose (I.faults input.old) (I.faults input.new)) }
-    ensures write_failed { OnErr result (Rose (O.faults out.old) (O.faults out.new)) }
+    ensures faults { CountsFaults (result ≡ Ok InputFault) (IsErr result)
+        (I.faults input.old) (I.faults input.new) (O.faults out.old) (O.faults out.new) }
 {
     let Ok(mut running) = CRun::new(alloc, unit, fill) else {
         return Ok(Reply::Memory);

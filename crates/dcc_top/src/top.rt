@@ -1,7 +1,7 @@
 //! The top call.
 
 ghost use Rattle.std.specs.Prelude.{◌≡◌, Some};
-ghost use Rattle.dcc_top.specs.Words.{Execute, ExecuteText, IsExecution, job_in};
+ghost use Rattle.dcc_top.specs.Words.{Execute, ExecuteText, ExecuteWatched, IsExecution, job_in};
 ghost use Rattle.dcc_top.specs.Call.{shelf_change, source_change, sink_change};
 ghost use Rattle.dcc_top.specs.Causes.{Replies};
 ghost use Rattle.dcc_top.specs.Promises.{KeepsPromises};
@@ -13,6 +13,7 @@ use crate::fetch::{fetch_image, fetch_unit};
 use crate::listing_job::listing_reply;
 use crate::reply::Reply;
 use crate::text_job::execute_unit;
+use crate::watch_job::watch_image;
 use crate::words::{Execution, Job, TextExecution, job_of};
 use dcc_io::{Failed, Shelf, Sink, Source};
 use std::alloc::Global;
@@ -32,6 +33,25 @@ fn run_reply<H: Shelf, I: Source, O: Sink>(
 {
     match fetch_image(alloc, run.file, shelf) {
         Ok(image) => execute(alloc, &image, run.cpu, run.steps, input, out),
+        Err(reply) => Ok(reply),
+    }
+}
+
+// The answer of `watch`. The error is a failed write of what the program puts out.
+fn watch_reply<H: Shelf, I: Source, O: Sink>(
+    alloc: Global,
+    run: Execution<'_>,
+    shelf: &mut H,
+    input: &mut I,
+    out: &mut O,
+) -> Result<Reply, Failed>
+    ensures { Replies (Some (ExecuteWatched run.entry.file.now run.entry.steps run.entry.cpu))
+        (shelf_change H.files H.asked H.absences H.faults shelf.old shelf.new)
+        (source_change I.left I.faults input.old input.new)
+        (sink_change O.taken O.faults out.old out.new) result }
+{
+    match fetch_image(alloc, run.file, shelf) {
+        Ok(image) => watch_image(alloc, &image, run.cpu, run.steps, input, out),
         Err(reply) => Ok(reply),
     }
 }
@@ -75,6 +95,7 @@ fn reply_for<H: Shelf, I: Source, O: Sink>(
         Some(Job::Decompile { file, cpu }) => text_reply(alloc, file, cpu, shelf, out),
         Some(Job::ListProcedures { file, cpu }) => listing_reply(alloc, file, cpu, shelf, out),
         Some(Job::Execute(run)) => run_reply(alloc, run, shelf, input, out),
+        Some(Job::ExecuteWatched(run)) => watch_reply(alloc, run, shelf, input, out),
         Some(Job::ExecuteText(run)) => runc_reply(alloc, run, shelf, input, out),
     }
 }
@@ -82,16 +103,16 @@ fn reply_for<H: Shelf, I: Source, O: Sink>(
 /// Does what the words after the program's name say, and answers the exit status.
 ///
 /// `c FILE` writes the text of the executable FILE to `out`, and `procs FILE` the list of its procedures. `run FILE`
-/// runs it, on the input and to the output, for at most the steps of `--steps N`. These take the program as one of the
-/// processor of `--cpu CPU`. `runc FILE` runs the text FILE so, with the fill of `--fill N`. No other words are a
-/// command.
+/// runs it, on the input and to the output, for at most the steps of `--steps N`; `watch FILE` runs it so up to the first
+/// step that isn't clean. These take the program as one of the processor of `--cpu CPU`. `runc FILE` runs the text FILE,
+/// with the fill of `--fill N`. No other words are a command.
 ///
 /// Statuses: 0 where the text or the list is written or the run has ended by its exit; 2 usage, 3 no file, 4 the file
 /// could not be read, 5 the input could not, 6 a write failed, 7 memory ran out, 8 the file is no executable, 9 a
 /// construct stands in the program for which nothing is written, 10 a count of the program is too great, 11 the file is
 /// no text, 12 an instruction that the program reaches is not built yet, 20 the run goes on after the steps that were
-/// asked for, 21 it ended by a divide fault, 22 it came to what is no instruction, 24 the text has no step there. A
-/// status other than 0 and 6 has its line on `err`, and the exit of a run too.
+/// asked for, 21 it ended by a divide fault, 22 it came to what is no instruction, 23 the next step isn't clean, 24 the
+/// text has no step there. A status other than 0 and 6 has its line on `err`, and the exit of a run too.
 pub fn dcc<H: Shelf, I: Source, O: Sink, E: Sink>(
     alloc: Global,
     words: &Vec<String>,

@@ -46,6 +46,8 @@ pub enum Job<'a> {
     ListProcedures { file: &'a str, cpu: Cpu },
     /// Run an executable.
     Execute(Execution<'a>),
+    /// Run an executable with each step's cleanness tested before the step is made.
+    ExecuteWatched(Execution<'a>),
     /// Run a text.
     ExecuteText(TextExecution<'a>),
 }
@@ -59,6 +61,8 @@ pub enum Command {
     Procs,
     /// `run`
     Run,
+    /// `watch`
+    Watch,
     /// `runc`
     RunC,
 }
@@ -128,6 +132,8 @@ fn command_of(word: &str) -> Option<Command>
         Some(Command::Procs)
     } else if word == "run" {
         Some(Command::Run)
+    } else if word == "watch" {
+        Some(Command::Watch)
     } else if word == "runc" {
         Some(Command::RunC)
     } else {
@@ -341,10 +347,10 @@ fn found_in(words: &[String]) -> Option<Found<'_>>
 /// The job of the words after the program's name; none where the words are no command.
 ///
 /// `c FILE` writes a text, and `procs FILE` lists procedures. `run FILE` runs an executable, for at most the steps of
-/// `--steps N`: 0 to 1000000000 in at most 10 digits, and 1000000 where the option doesn't stand. The three are for the
-/// processor of `--cpu CPU`: 8086 or 186, and 8086 where the option doesn't stand. `runc FILE` runs a text, for at most
-/// the steps of `--steps N` and with the fill of `--fill N`: 0 to 65535 in at most 5 digits, and 0 where the option
-/// doesn't stand.
+/// `--steps N`: 0 to 1000000000 in at most 10 digits, and 1000000 where the option doesn't stand. `watch FILE` is the
+/// same, up to the first step that isn't clean. The four are for the processor of `--cpu CPU`: 8086 or 186, and 8086
+/// where the option doesn't stand. `runc FILE` runs a text, for at most the steps of `--steps N` and with the fill of
+/// `--fill N`: 0 to 65535 in at most 5 digits, and 0 where the option doesn't stand.
 #[tactic(auto, unfolding(crate::specs::Words::job_of))]
 pub fn job_of(words: &[String]) -> Option<Job<'_>>
     ensures { MatchOption result (job_of (map string_bytes words.now) ≡ None)
@@ -364,6 +370,11 @@ pub fn job_of(words: &[String]) -> Option<Job<'_>>
             cpu: cpu_of(cpu)?,
         }),
         (Command::Run, steps, None, cpu) => Some(Job::Execute(Execution {
+            file,
+            steps: steps_of(steps)?,
+            cpu: cpu_of(cpu)?,
+        })),
+        (Command::Watch, steps, None, cpu) => Some(Job::ExecuteWatched(Execution {
             file,
             steps: steps_of(steps)?,
             cpu: cpu_of(cpu)?,

@@ -1,22 +1,23 @@
 -- From what the code keeps to the steps of the watched machine.
-use Rattle.std.proofs.Common.{◌≡◌, ◌≢◌, ◌⊎◌, inl, inr, ℕ, ◌+◌, ◌<◌, ◌≤◌, Bool, true, false, List, [], ◌∷◌, map, replicate, Option, Some, None, refl, sym, ap, ◌∙◌, subst, arith}
-use Rattle.std.specs.Prelude.{◌&&◌, ◌==◌, not, nat_lt, if◌then◌else◌}
+use Rattle.std.proofs.Common.{◌≡◌, ◌≢◌, ◌⊎◌, inl, inr, ℕ, ◌+◌, ◌-◌, ◌/◌, ◌<◌, length, Bool, true, false, List, [], ◌∷◌, map, replicate, Option, Some, None, refl, sym, ap, ◌∙◌, subst, arith}
+use Rattle.std.specs.Prelude.{◌==◌, if◌then◌else◌}
 use Rattle.std.proofs.lemmas.Bool.Decides.{nat_tests}
 use Rattle.dcc_run.specs.End.{Running as running}
 use Rattle.dcc_prog.specs.declared.procedure.Layout.{Layout}
 use Rattle.dcc_prog.specs.declared.instr.Instr.{Instr}
 use Rattle.dcc_prog.specs.Table.{instruction_at}
-use Rattle.dcc_prog.specs.Step.{code_bytes}
+use Rattle.dcc_prog.specs.Step.{code_bytes, step as machine_step}
 use Rattle.dcc_prog.specs.Machine.{State}
 use Rattle.dcc_prog.specs.Access.{Access, found_accesses}
 use Rattle.dcc_prog.specs.Clean.{top_in}
 use Rattle.dcc_prog.specs.Clean as told
 use Rattle.dcc_prog.specs.Watch as stage
 use Rattle.dcc_console.specs.Scene.{scene}
-use Rattle.dcc_console.specs.Steps.{HasEnded, Makes, Steps, IsSame}
+use Rattle.dcc_console.specs.Steps.{HasEnded, Makes, Steps}
 use Rattle.dcc_step.specs.declared.ending.Stepped.{Stepped}
 use Rattle.dcc_step.specs.Core.{Core, state_of}
 use Rattle.dcc_step.specs.Stepped as step_told
+use Rattle.dcc_step.specs.Stepped.{LeadsOnBytes}
 use Rattle.dcc_watch.specs.declared.frames.Live.{Live}
 use Rattle.dcc_watch.specs.declared.shape.Shape.{Shape}
 use Rattle.dcc_watch.specs.declared.judge.Foul.{Foul}
@@ -25,12 +26,14 @@ use Rattle.dcc_watch.specs.declared.progress.Progress.TheVariants.{AtStart, InPr
 use Rattle.dcc_watch.specs.declared.watched.Watched.{Watched}
 use Rattle.dcc_watch.specs.declared.watched.Watched.TheVariants.{Clean}
 use Rattle.dcc_watch.specs.Foul.{foul_in, told_foul}
-use Rattle.dcc_watch.specs.Following.{live_after, written_following}
+use Rattle.dcc_watch.specs.Following.{is_call, live_after, written_following}
 use Rattle.dcc_watch.specs.Marks.{no_marks}
 use Rattle.dcc_watch.specs.Shapes.{live_frame}
 use Rattle.dcc_watch.specs.Watching.{Watching, AllHaveShapes, stage_of}
-use Rattle.dcc_watch.specs.Executor.{Stands, watched, outcome_of, foul_answer, is_stopped, is_refused, is_at_first, is_in_procedures, Tells}
+use Rattle.dcc_watch.specs.Reached.{IsReached}
+use Rattle.dcc_watch.specs.Executor.{watched, outcome_of, foul_answer, is_stopped, is_refused, is_at_first, is_in_procedures, Tells}
 use Rattle.dcc_watch.proofs.StepLaws.{IsGoing, NextIs, next_is, none_before, made_so, Follows, refused_so, made_unless, fouled, stage-follows}
+use Rattle.dcc_watch.proofs.ReachedLaws.{reached-foul, reached-made, reached-room}
 
 -- what the code keeps, as contracts see it
 abbrev pub viewed : Layout → List Shape → ℕ → Core → Progress → List Live → List Bool → Watching
@@ -63,12 +66,6 @@ first_cases stage.AtStart is = inl refl
 first_cases stage.InPrelude is = inr refl
 first_cases (stage.InProcedures stack) is = cc
 first_cases (stage.Stopped foul) is = cc
-
-pub is_full : (b : Bool) (n room : ℕ) → (b && not (nat_lt n room)) ≡ true → room ≤ n
-is_full b n room is = grind (arith, nat_tests)
-
-pub has_room : (b : Bool) (n room : ℕ) → (b && not (nat_lt n room)) ≡ false → b ≡ true → n < room
-has_room b n room is call = grind (arith, nat_tests)
 
 -- a step in procedures
 module _ (layout : Layout) (shapes : List Shape) (room : ℕ) (m : Core) (progress : Progress) (live : List Live) (written : List Bool)
@@ -105,6 +102,20 @@ module _ (layout : Layout) (shapes : List Shape) (room : ℕ) (m : Core) (progre
   step_refused left taken h stepped now left_now taken_now clean is step =
       refused_so code found left taken left_now taken_now now stepped is (going_in h) (next_in h None clean) step
 
+  follows_in : IsInside → (now : Core) (live_now : List Live) (written_now : List Bool)
+      → stage.InProcedures (record { frames = map live_frame live_now; written = written_now })
+      ≡ stage.stage_after layout found (state_of m) (state_of now) (stage.InProcedures (record { frames = map live_frame live; written = written }))
+      → Follows code (viewed layout shapes room now progress live_now written_now) found
+  follows_in h now live_now written_now after =
+      let here = in_procedures progress live written h.inside in
+      record {
+        layout = refl;
+        shapes = refl;
+        stage =
+            ap (λ p. stage_of p live_now written_now) here ∙ after
+            ∙ ap (λ p. stage.stage_after layout found (state_of m) (state_of now) (stage_of p live written)) (sym here);
+      }
+
   pub step_made : (left taken : Option (List ℕ)) → IsInside → (stepped : Stepped) (now : Core) (live_now : List Live) (written_now : List Bool) (left_now taken_now : Option (List ℕ))
       → None ≡ foul_in layout live written (state_of m) found → is_refused stepped ≡ false
       → stage.InProcedures (record { frames = map live_frame live_now; written = written_now })
@@ -113,26 +124,31 @@ module _ (layout : Layout) (shapes : List Shape) (room : ℕ) (m : Core) (progre
       → Steps watched (outcome_of (Clean stepped)) (scene code left taken) (scene (viewed layout shapes room now progress live_now written_now) left_now taken_now)
   step_made left taken h stepped now live_now written_now left_now taken_now clean is after step =
       let new : Watching = viewed layout shapes room now progress live_now written_now in
-      let here = in_procedures progress live written h.inside in
       let makes : Makes step_told.machine (scene m left taken) (scene now left_now taken_now) =
       subst (λ o. Steps step_told.machine o (scene m left taken) (scene now left_now taken_now)) (made_unless stepped is) step in
-      let follows : Follows code new found left taken left_now taken_now = record {
-        layout = refl;
-        shapes = refl;
-        stage =
-            ap (λ p. stage_of p live_now written_now) here ∙ after
-            ∙ ap (λ p. stage.stage_after layout found (state_of m) (state_of now) (stage_of p live written)) (sym here);
-      } in
       subst (λ o. Steps watched o (scene code left taken) (scene new left_now taken_now)) (sym (made_unless stepped is))
-      (made_so code new found left taken left_now taken_now (going_in h) (next_in h None clean) follows makes)
+      (made_so code new found left taken left_now taken_now (going_in h) (next_in h None clean) (follows_in h now live_now written_now after) makes)
 
--- nothing has changed
-pub same_kept : (before now : Watching) (left taken : Option (List ℕ)) → before ≡ now → IsSame watched (scene before left taken) (scene now left taken)
-same_kept before now left taken same = record {
-  stands = λ program w stands. subst (λ k. Stands program k w) same stands;
-  same_left = refl;
-  same_taken = refl;
-}
+  -- and a run comes there
+  pub foul_reached : IsInside → (foul : Foul) → Some (told_foul foul) ≡ foul_in layout live written (state_of m) found → IsReached code
+      → IsReached (viewed layout shapes room m (Stopped foul) live written)
+  foul_reached h foul is reached = reached-foul code found (told_foul foul) (going_in h) (next_in h (Some (told_foul foul)) is) reached
+
+  pub made_reached : IsInside → (now : Core) (live_now : List Live) (written_now : List Bool)
+      → None ≡ foul_in layout live written (state_of m) found
+      → stage.InProcedures (record { frames = map live_frame live_now; written = written_now })
+      ≡ stage.stage_after layout found (state_of m) (state_of now) (stage.InProcedures (record { frames = map live_frame live; written = written }))
+      → LeadsOnBytes machine_step m now → IsReached code → IsReached (viewed layout shapes room now progress live_now written_now)
+  made_reached h now live_now written_now clean after led reached =
+      reached-made code (viewed layout shapes room now progress live_now written_now) found (going_in h) (next_in h None clean)
+      (follows_in h now live_now written_now after) led reached
+
+  -- so where a CALL is clean there is room for its frame
+  pub call_has_room : IsInside → None ≡ foul_in layout live written (state_of m) found → room ≡ (layout.hi - layout.lo) / 2 + 1 → IsReached code
+      → is_call found ≡ true → length live < room
+  call_has_room h clean is reached call =
+      reached-room code found live written (going_in h)
+      (ap (λ p. stage_of p live written) (in_procedures progress live written h.inside)) (next_in h None clean) is reached call
 
 -- how the run of a machine has ended
 pub machine_end : (m : Core) (stepped : Stepped) → HasEnded step_told.machine m (step_told.end_told stepped)
@@ -190,6 +206,16 @@ module _ (layout : Layout) (shapes : List Shape) (room : ℕ) (m : Core) (progre
       refused_so first_code there left taken left_now taken_now now stepped is (going_first h)
       (none_before first_code (first_cases (stage_of progress live written) h.first)) step
 
+  follows_first : IsFirst → (now : Core) (progress_now : Progress) (live_now : List Live) (written_now : List Bool)
+      → stage_of progress_now live_now written_now
+      ≡ (if now.ip == layout.start_ip then stage.InProcedures (told.first_stack layout (state_of now)) else stage.InPrelude)
+      → Follows first_code (viewed layout shapes room now progress_now live_now written_now) there
+  follows_first h now progress_now live_now written_now after = record {
+    layout = refl;
+    shapes = refl;
+    stage = after ∙ sym (first-after layout there (state_of m) (state_of now) (stage_of progress live written) h.first);
+  }
+
   pub first_made : (left taken : Option (List ℕ)) → IsFirst → (stepped : Stepped) (now : Core) (progress_now : Progress) (live_now : List Live) (written_now : List Bool)
       (left_now taken_now : Option (List ℕ)) → is_refused stepped ≡ false
       → stage_of progress_now live_now written_now
@@ -201,14 +227,20 @@ module _ (layout : Layout) (shapes : List Shape) (room : ℕ) (m : Core) (progre
       let new : Watching = viewed layout shapes room now progress_now live_now written_now in
       let makes : Makes step_told.machine (scene m left taken) (scene now left_now taken_now) =
       subst (λ o. Steps step_told.machine o (scene m left taken) (scene now left_now taken_now)) (made_unless stepped is) step in
-      let follows : Follows first_code new there left taken left_now taken_now = record {
-        layout = refl;
-        shapes = refl;
-        stage = after ∙ sym (first-after layout there (state_of m) (state_of now) (stage_of progress live written) h.first);
-      } in
       subst (λ o. Steps watched o (scene first_code left taken) (scene new left_now taken_now)) (sym (made_unless stepped is))
       (made_so first_code new there left taken left_now taken_now (going_first h)
-      (none_before first_code (first_cases (stage_of progress live written) h.first)) follows makes)
+      (none_before first_code (first_cases (stage_of progress live written) h.first))
+      (follows_first h now progress_now live_now written_now after) makes)
+
+  pub first_reached : IsFirst → (now : Core) (progress_now : Progress) (live_now : List Live) (written_now : List Bool)
+      → stage_of progress_now live_now written_now
+      ≡ (if now.ip == layout.start_ip then stage.InProcedures (told.first_stack layout (state_of now)) else stage.InPrelude)
+      → LeadsOnBytes machine_step m now → IsReached first_code
+      → IsReached (viewed layout shapes room now progress_now live_now written_now)
+  first_reached h now progress_now live_now written_now after led reached =
+      reached-made first_code (viewed layout shapes room now progress_now live_now written_now) there (going_first h)
+      (none_before first_code (first_cases (stage_of progress live written) h.first))
+      (follows_first h now progress_now live_now written_now after) led reached
 
 differs : (a b : ℕ) → a ≢ b → (a == b) ≡ false
 differs a b other = grind (arith, nat_tests)

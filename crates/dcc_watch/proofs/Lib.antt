@@ -1,9 +1,14 @@
 pub mod Bytes
 pub mod FrameFacts
+pub mod Inputs
+pub mod InputRuns
 pub mod KeptLaws
+pub mod InsideLaws
+pub mod Laws
 pub mod LiveLaws
 pub mod MarkLaws
 pub mod Quiet
+pub mod ReachedLaws
 pub mod RunProofs
 pub mod ShapeLaws
 pub mod StepLaws

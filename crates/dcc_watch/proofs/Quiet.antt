@@ -7,6 +7,7 @@ use Rattle.dcc_num.specs.declared.Reg.{Reg}
 use Rattle.dcc_num.specs.declared.Reg.TheVariants.{Dx, Sp, Bp}
 use Rattle.dcc_num.specs.declared.dos.TheConstants.{PUTS, STRING_MOST}
 use Rattle.dcc_prog.specs.declared.procedure.Layout.{Layout}
+use Rattle.dcc_prog.specs.declared.frame.Program.{Program}
 use Rattle.dcc_prog.specs.declared.instr.Plain.{Plain as PlainKind}
 use Rattle.dcc_prog.specs.declared.instr.Plain.TheVariants.{Xlat}
 use Rattle.dcc_prog.specs.declared.instr.Ea.{Ea}
@@ -21,7 +22,7 @@ use Rattle.dcc_prog.specs.Operations.{with_sp_raised}
 use Rattle.dcc_prog.specs.Dos.{bytes_from, dos_string}
 use Rattle.dcc_prog.specs.Writes.{writes_operand}
 use Rattle.dcc_prog.specs.Access.{Access, Direction, Reading, Writing, bytes_in, kind_of, operand_accesses, result_accesses, writes_back, exchange_accesses, stack_access, push_access, other_read, dos_accesses, plain_accesses, accesses, found_accesses}
-use Rattle.dcc_prog.specs.Clean.{Stack, foul_as, or_else, low_of, sp_after, top_in, frames_after, written_after, stack_after}
+use Rattle.dcc_prog.specs.Clean.{Stack, foul_as, or_else, low_of, hidden_of, unwritten_of, foul_of, sp_after, top_in, frames_after, written_after, stack_after}
 use Rattle.dcc_prog.specs.Watch.{Stage, AtStart, InPrelude, InProcedures, Stopped, stage_after}
 use Rattle.dcc_watch.specs.declared.frames.Live.{Live}
 use Rattle.dcc_watch.specs.Foul.{hidden_in, unwritten_in, foul_in}
@@ -130,18 +131,32 @@ sp_after-quiet (Mov (Word Sp) (Word Bp)) s = refl
 sp_after-quiet (Lea Sp ea) s = refl
 sp_after-quiet op s = refl
 
+-- what is judged by where SP goes and by the accesses
+judged-quiet : (layout : Layout) (hidden unwritten : List Access → Option ℕ) (s : State) (instr : Instr)
+    → or_else (foul_as s.ip Low (low_of layout (sp_after instr.op (quiet s))))
+    (or_else (foul_as s.ip Hidden (hidden (found_accesses (Some instr) (quiet s))))
+    (foul_as s.ip Unwritten (unwritten (found_accesses (Some instr) (quiet s)))))
+    ≡ or_else (foul_as s.ip Low (low_of layout (sp_after instr.op s)))
+    (or_else (foul_as s.ip Hidden (hidden (found_accesses (Some instr) s)))
+    (foul_as s.ip Unwritten (unwritten (found_accesses (Some instr) s))))
+judged-quiet layout hidden unwritten s instr =
+    let low = λ (z : _). foul_as s.ip Low (low_of layout z) in
+    let rest = λ (l : List Access). or_else (foul_as s.ip Hidden (hidden l)) (foul_as s.ip Unwritten (unwritten l)) in
+    ap (λ z. or_else (low z) (rest (found_accesses (Some instr) (quiet s)))) (sp_after-quiet instr.op s)
+    ∙ ap (λ l. or_else (low (sp_after instr.op s)) (rest l)) (found_accesses-quiet (Some instr) s)
+
 -- what is foul
 pub foul-quiet : (layout : Layout) (live : List Live) (written : List Bool) (s : State) (found : Option Instr)
     → foul_in layout live written (quiet s) found ≡ foul_in layout live written s found
 foul-quiet layout live written s None = refl
 foul-quiet layout live written s (Some instr) =
-    let so = found_accesses-quiet (Some instr) s in
-    let low = λ (z : _). foul_as s.ip Low (low_of layout z) in
-    let rest = λ (l : List Access).
-    or_else (foul_as s.ip Hidden (hidden_in layout (top_in layout s) live l))
-    (foul_as s.ip Unwritten (unwritten_in layout written l)) in
-    ap (λ z. or_else (low z) (rest (found_accesses (Some instr) (quiet s)))) (sp_after-quiet instr.op s)
-    ∙ ap (λ l. or_else (low (sp_after instr.op s)) (rest l)) so
+    judged-quiet layout (hidden_in layout (top_in layout s) live) (unwritten_in layout written) s instr
+
+pub foul_of-quiet : (program : Program) (stack : Stack) (s : State) (found : Option Instr)
+    → foul_of program stack (quiet s) found ≡ foul_of program stack s found
+foul_of-quiet program stack s None = refl
+foul_of-quiet program stack s (Some instr) =
+    judged-quiet program.layout (hidden_of program stack s) (unwritten_of program.layout stack) s instr
 
 -- what a step leaves of the stack, and where the run stands then
 stack_after-quiet : (layout : Layout) (found : Option Instr) (s t : State) (stack : Stack)

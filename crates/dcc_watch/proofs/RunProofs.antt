@@ -14,8 +14,9 @@ use Rattle.dcc_watch.specs.declared.frames.Live.{Live}
 use Rattle.dcc_watch.specs.declared.progress.Progress.{Progress}
 use Rattle.dcc_watch.specs.declared.progress.Progress.TheVariants.{AtStart, InPrelude, InProcedures, Stopped}
 use Rattle.dcc_watch.specs.declared.watched.Watched.{Watched}
-use Rattle.dcc_watch.specs.declared.watched.Watched.TheVariants.{Clean, Foul, NoRoom}
-use Rattle.dcc_watch.specs.Watching.{Watching, stage_of, is_before}
+use Rattle.dcc_watch.specs.declared.watched.Watched.TheVariants.{Clean, Foul}
+use Rattle.dcc_watch.specs.Watching.{Watching, stage_of}
+use Rattle.dcc_watch.specs.Reached.{is_before}
 use Rattle.dcc_watch.specs.Executor.{watched, outcome_of, is_stopped, is_at_first, is_in_procedures, is_going, goes_on, Tells}
 use Rattle.dcc_watch.proofs.StepLaws.{stays}
 
@@ -88,7 +89,6 @@ on_made (Clean (Outside at)) is = cc
 on_made (Clean InFault) is = cc
 on_made (Clean OutFault) is = cc
 on_made (Foul at address kind) is = cc
-on_made NoRoom is = cc
 
 -- what stays makes any further steps
 still : (more count : ℕ) (before now : Scene Watching) → Makes watched now now → MakesSteps watched count before now → MakesSteps watched (count + more) before now
@@ -125,5 +125,3 @@ run_stops (Clean OutFault) count most before mid code left taken lt is run last 
     record { count = count; short = lt; stop = mid; made = run; refused = last }
 run_stops (Foul at address kind) count most before mid code left taken lt is run last tells =
     ends count most before mid code left taken lt (inr (ap is_stopped tells)) run last
-run_stops NoRoom count most before mid code left taken lt is run last tells =
-    record { count = count; short = lt; stop = mid; made = run; refused = last }

@@ -16,14 +16,16 @@ use Rattle.dcc_prog.specs.Clean as told
 use Rattle.dcc_prog.specs.Clean.{top_in, frames_after, stack_after}
 use Rattle.dcc_prog.specs.Watch.{Watch, Stage, AtStart, InPrelude, InProcedures, Stopped, stage_after, next_instruction, next_foul, is_foul, moved, made as made_step, watch_step}
 use Rattle.dcc_io.proofs.ToldLemmas.{append_told-nil, prepend_told-nil}
+use Rattle.dcc_console.specs.Counts.{CountsFaults}
 use Rattle.dcc_console.specs.Scene.{Scene, scene, told_bytes}
 use Rattle.dcc_console.specs.Steps.{Comes, Makes, IsRefusedRead, IsRefusedWrite, Steps, made}
 use Rattle.dcc_step.specs.declared.ending.Stepped.{Stepped}
 use Rattle.dcc_step.specs.declared.ending.Stepped.TheVariants.{Running, Exit, Divide, Outside, InFault, OutFault}
-use Rattle.dcc_step.specs.Core.{Core, state_of}
+use Rattle.dcc_step.specs.Core.{Core, core_of, state_of}
 use Rattle.dcc_step.specs.Stepped as step_told
 use Rattle.dcc_watch.specs.declared.frames.Live.{Live}
 use Rattle.dcc_watch.specs.declared.shape.Shape.{Shape}
+use Rattle.dcc_watch.specs.declared.watched.Watched.TheVariants.{Clean}
 use Rattle.dcc_watch.specs.Foul.{foul_in}
 use Rattle.dcc_watch.specs.Following.{live_after, live_after_op, written_following}
 use Rattle.dcc_watch.specs.Shapes.{live_frame, shapes_of}
@@ -44,12 +46,12 @@ pub record IsGoing (code : Watching) (found : Option Instr) : Type 0 where
 abbrev pub NextIs : Watching → Option told.Foul → Type 0
 NextIs code foul = (program : Program) (w : Watch) → Stands program code w → next_foul program w ≡ foul
 
-found-is : (code : Watching) (found : Option Instr) (program : Program) (w : Watch) → IsGoing code found → Stands program code w
+pub found-is : (code : Watching) (found : Option Instr) (program : Program) (w : Watch) → IsGoing code found → Stands program code w
     → next_instruction program.layout.cpu w.machine ≡ found
 found-is code found program w going stands =
     ap (λ (c : Core). instruction_at c.cpu c.ip (code_bytes (state_of c))) stands.machine ∙ sym going.is_found
 
-foul-stopped : (m : State) (stage : Stage) → is_foul (record { machine = m; stage = stage }) ≡ is_stopped stage
+pub foul-stopped : (m : State) (stage : Stage) → is_foul (record { machine = m; stage = stage }) ≡ is_stopped stage
 foul-stopped m AtStart = refl
 foul-stopped m InPrelude = refl
 foul-stopped m (InProcedures stack) = refl
@@ -90,40 +92,51 @@ step-is code found foul program w going next stands =
     ap (λ b. if b || is_foul w then w else all) over ∙ ap (λ b. if b then w else all) stopped
     ∙ ap (λ f. made_step program.layout f w) (next program w stands)
 
-module _ (code now : Watching) (found : Option Instr) (left taken left_now taken_now : Option (List ℕ)) where
+module _ (code now : Watching) (found : Option Instr) where
   -- what is kept follows the step that the machine made
   pub record Follows : Type 0 where
     pub layout : now.layout ≡ code.layout
     pub shapes : now.shapes ≡ code.shapes
     pub stage : now.stage ≡ stage_after code.layout found (state_of code.machine) (state_of now.machine) code.stage
 
-  pub made_so : IsGoing code found → NextIs code None → Follows → Makes step_told.machine (scene code.machine left taken) (scene now.machine left_now taken_now)
+  -- so from a state that the code stood for the step leads to one that it stands for, where the machine's does
+  pub stands_made : IsGoing code found → NextIs code None → Follows → (program : Program) (w : Watch) → Stands program code w
+      → core_of program.layout.cpu (step program.layout.cpu w.machine) ≡ now.machine
+      → Stands program now (watch_step program w)
+  stands_made going next follows program w stands there =
+      let cpu = program.layout.cpu in
+      let s = w.machine in
+      let stage : stage_after program.layout (next_instruction cpu s) s (step cpu s) w.stage ≡ now.stage =
+      ap (λ f. stage_after program.layout f s (step cpu s) w.stage) (found-is code found program w going stands)
+      ∙ ap (stage_after program.layout found s (step cpu s)) stands.stage
+      ∙ ap (λ l. stage_after l found s (step cpu s) code.stage) (sym stands.layout)
+      ∙ sym (stage_after-quiet code.layout found s (step cpu s) code.stage)
+      ∙ ap (λ (c : Core). stage_after code.layout found (state_of c) (quiet (step cpu s)) code.stage) stands.machine
+      ∙ ap (λ (c : Core). stage_after code.layout found (state_of code.machine) (state_of c) code.stage) there
+      ∙ sym follows.stage in
+      let next_stands : Stands program now (moved program.layout w) = record {
+        layout = follows.layout ∙ stands.layout;
+        shapes = follows.shapes ∙ stands.shapes;
+        machine = there;
+        stage = stage;
+      } in
+      subst (Stands program now) (sym (step-is code found None program w going next stands)) next_stands
+
+  pub made_so : (left taken left_now taken_now : Option (List ℕ)) → IsGoing code found → NextIs code None → Follows
+      → Makes step_told.machine (scene code.machine left taken) (scene now.machine left_now taken_now)
       → Makes watched (scene code left taken) (scene now left_now taken_now)
-  made_so going next follows m = record {
+  made_so left taken left_now taken_now going next follows m = record {
     happened = m.happened;
     took = m.took;
     wrote = m.wrote;
     made = λ program w stands has.
-        let cpu = program.layout.cpu in
-        let s = w.machine in
-        let there = m.made cpu s stands.machine has in
-        let stage : stage_after program.layout (next_instruction cpu s) s (step cpu s) w.stage ≡ now.stage =
-        ap (λ f. stage_after program.layout f s (step cpu s) w.stage) (found-is code found program w going stands)
-        ∙ ap (stage_after program.layout found s (step cpu s)) stands.stage
-        ∙ ap (λ l. stage_after l found s (step cpu s) code.stage) (sym stands.layout)
-        ∙ sym (stage_after-quiet code.layout found s (step cpu s) code.stage)
-        ∙ ap (λ (c : Core). stage_after code.layout found (state_of c) (quiet (step cpu s)) code.stage) stands.machine
-        ∙ ap (λ (c : Core). stage_after code.layout found (state_of code.machine) (state_of c) code.stage) there.stands
-        ∙ sym follows.stage in
-        let next_stands : Stands program now (moved program.layout w) = record {
-          layout = follows.layout ∙ stands.layout;
-          shapes = follows.shapes ∙ stands.shapes;
-          machine = there.stands;
-          stage = stage;
-        } in
-        subst (λ (u : Watch). Comes watched program now (told_bytes left_now) (w.machine.events ++ m.happened) u)
-        (sym (step-is code found None program w going next stands))
-        (record { stands = next_stands; left = there.left; events = there.events });
+        let there = m.made program.layout.cpu w.machine stands.machine has in
+        let is = step-is code found None program w going next stands in
+        record {
+          stands = stands_made going next follows program w stands there.stands;
+          left = ap (λ (u : Watch). u.machine.input) is ∙ there.left;
+          events = ap (λ (u : Watch). u.machine.events) is ∙ there.events;
+        };
   }
 
 module _ (code : Watching) (found : Option Instr) (left taken left_now taken_now : Option (List ℕ)) (m : Core) where
@@ -162,6 +175,16 @@ module _ (code : Watching) (found : Option Instr) (left taken left_now taken_now
   refused_so Divide is going next r = cc
   refused_so (Outside at) is going next r = cc
 
+-- a step that was refused leaves the machine
+pub refused_kept : (stepped : Stepped) (m now : Core) (left taken left_now taken_now : Option (List ℕ)) → is_refused stepped ≡ true
+    → Steps step_told.machine (step_told.outcome_of stepped) (scene m left taken) (scene now left_now taken_now) → now ≡ m
+refused_kept InFault m now left taken left_now taken_now is r = ap (λ (s : Scene Core). s.code) r.unchanged
+refused_kept OutFault m now left taken left_now taken_now is r = r.unchanged
+refused_kept Running m now left taken left_now taken_now is r = cc
+refused_kept (Exit number) m now left taken left_now taken_now is r = cc
+refused_kept Divide m now left taken left_now taken_now is r = cc
+refused_kept (Outside at) m now left taken left_now taken_now is r = cc
+
 -- a step that was made
 pub made_unless : (stepped : Stepped) → is_refused stepped ≡ false → step_told.outcome_of stepped ≡ made
 made_unless Running is = refl
@@ -171,7 +194,25 @@ made_unless (Outside at) is = refl
 made_unless InFault is = cc
 made_unless OutFault is = cc
 
+-- a clean step has the faults of the machine's step
+pub clean_faults : (stepped : Stepped) (reads reads_now writes writes_now : ℕ)
+    → CountsFaults (stepped ≡ InFault) (stepped ≡ OutFault) reads reads_now writes writes_now
+    → CountsFaults (Clean stepped ≡ Clean InFault) (Clean stepped ≡ Clean OutFault) reads reads_now writes writes_now
+clean_faults stepped reads reads_now writes writes_now faults = record {
+  input_faults = faults.input_faults;
+  output_faults = faults.output_faults;
+  read_failed = λ e. faults.read_failed (cc);
+  write_failed = λ e. faults.write_failed (cc);
+}
+
 -- a foul step
+pub stands_fouled : (code : Watching) (found : Option Instr) (foul : told.Foul) → IsGoing code found → NextIs code (Some foul)
+    → (program : Program) (w : Watch) → Stands program code w
+    → Stands program (record code { stage = Stopped foul }) (watch_step program w)
+stands_fouled code found foul going next program w stands =
+    subst (Stands program (record code { stage = Stopped foul })) (sym (step-is code found (Some foul) program w going next stands))
+    (record { layout = stands.layout; shapes = stands.shapes; machine = stands.machine; stage = refl })
+
 pub fouled : (code : Watching) (found : Option Instr) (foul : told.Foul) (left taken : Option (List ℕ)) → IsGoing code found → NextIs code (Some foul)
     → Makes watched (scene code left taken) (scene (record code { stage = Stopped foul }) left taken)
 fouled code found foul left taken going next = record {
@@ -179,15 +220,12 @@ fouled code found foul left taken going next = record {
   took = sym (prepend_told-nil left);
   wrote = sym (append_told-nil taken);
   made = λ program w stands has.
-      let next_stands : Stands program (record code { stage = Stopped foul }) (record w { stage = Stopped foul }) = record {
-        layout = stands.layout;
-        shapes = stands.shapes;
-        machine = stands.machine;
-        stage = refl;
-      } in
-      subst (λ (u : Watch). Comes watched program (record code { stage = Stopped foul }) (told_bytes left) (w.machine.events ++ []) u)
-      (sym (step-is code found (Some foul) program w going next stands))
-      (record { stands = next_stands; left = has; events = sym (append-nil w.machine.events) });
+      let is = step-is code found (Some foul) program w going next stands in
+      record {
+        stands = stands_fouled code found foul going next program w stands;
+        left = ap (λ (u : Watch). u.machine.input) is ∙ has;
+        events = ap (λ (u : Watch). u.machine.events) is ∙ sym (append-nil w.machine.events);
+      };
 }
 
 or-true : (b : Bool) → (b || true) ≡ true

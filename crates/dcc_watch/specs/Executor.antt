@@ -1,20 +1,19 @@
 -- The watch as code that executes watched machines, and what its answers tell.
-use Rattle.std.specs.Prelude.{◌≡◌, ◌≤◌, ◌+◌, ◌-◌, ◌/◌, Bool, true, false, not, ◌&&◌, [], length}
-use Rattle.dcc_run.specs.End.{Running as running, is_over}
+use Rattle.std.specs.Prelude.{◌≡◌, ◌+◌, ◌-◌, ◌/◌, Bool, true, false, not, ◌&&◌, []}
+use Rattle.dcc_run.specs.End.{is_over}
 use Rattle.dcc_prog.specs.declared.image.Image.{Image}
 use Rattle.dcc_prog.specs.declared.frame.Program.{Program}
 use Rattle.dcc_prog.specs.Machine.{start_state}
-use Rattle.dcc_prog.specs.Clean.{Stack}
 use Rattle.dcc_prog.specs.Watch.{Watch, Stage, AtStart, InPrelude, InProcedures, Stopped, watched_machine}
 use Rattle.dcc_console.specs.Console.{Console, Executor}
-use Rattle.dcc_console.specs.Steps.{Outcome, made, no_memory}
+use Rattle.dcc_console.specs.Steps.{Outcome, made}
 use Rattle.dcc_step.specs.declared.ending.Stepped.{Stepped}
 use Rattle.dcc_step.specs.declared.ending.Stepped.TheVariants.{Running as StillRunning, InFault, OutFault}
 use Rattle.dcc_step.specs.Core.{core_of}
 use Rattle.dcc_step.specs.Stepped as machine
 use Rattle.dcc_watch.specs.declared.judge.Foul.{Foul as FoulStep}
 use Rattle.dcc_watch.specs.declared.watched.Watched.{Watched}
-use Rattle.dcc_watch.specs.declared.watched.Watched.TheVariants.{Clean, Foul, NoRoom}
+use Rattle.dcc_watch.specs.declared.watched.Watched.TheVariants.{Clean, Foul}
 use Rattle.dcc_watch.specs.Shapes.{shapes_of}
 use Rattle.dcc_watch.specs.Watching.{Watching}
 
@@ -77,24 +76,16 @@ is_refused stepped = false
 abbrev pub outcome_of : Watched → Outcome
 outcome_of (Clean stepped) = machine.outcome_of stepped
 outcome_of (Foul at address kind) = made
-outcome_of NoRoom = no_memory
 
 -- what a step answers that is foul
 abbrev pub foul_answer : FoulStep → Watched
 foul_answer foul = Foul foul.at foul.address foul.kind
 
--- in procedures, with as many frames as there is room for
-pub record IsFull (code : Watching) : Type 0 where
-  pub stack : Stack
-  pub stage : code.stage ≡ InProcedures stack
-  pub full : code.room ≤ length stack.frames
-
--- What an answer tells of where the run stands after it: how it has ended, or goes on; that it was stopped at this foul
--- step, and only then that; or that there is no room for the frame that the next step begins.
+-- What an answer tells of where the run stands after it: how it has ended, or goes on; or that it was stopped at this
+-- foul step, and only then that.
 abbrev pub Tells : Watched → Watching → Type 0
 Tells (Clean stepped) code = (code.machine.end ≡ machine.end_told stepped) × (is_stopped code.stage ≡ false)
 Tells (Foul at address kind) code = code.stage ≡ Stopped (record { at = at; kind = kind; address = address })
-Tells NoRoom code = (code.machine.end ≡ running) × IsFull code
 
 -- the watch at the start of an image's run on a program's processor: there is room for as many frames as return addresses
 -- fit the stack, and for that of the entry procedure

@@ -4,5 +4,6 @@ pub mod Following
 pub mod Foul
 pub mod Kept
 pub mod Marks
+pub mod Reached
 pub mod Shapes
 pub mod Watching

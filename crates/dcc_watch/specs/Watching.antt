@@ -1,5 +1,5 @@
 -- What the watch keeps.
-use Rattle.std.specs.Prelude.{◌≡◌, ◌<◌, ℕ, Bool, true, false, List, [], ◌∷◌, map, length, slice_get, Some}
+use Rattle.std.specs.Prelude.{◌≡◌, ℕ, Bool, List, [], ◌∷◌, map, slice_get, Some}
 use Rattle.dcc_prog.specs.declared.procedure.Layout.{Layout}
 use Rattle.dcc_prog.specs.Watch as told
 use Rattle.dcc_step.specs.Core.{Core}
@@ -8,7 +8,6 @@ use Rattle.dcc_watch.specs.declared.frames.Live.{Live}
 use Rattle.dcc_watch.specs.declared.progress.Progress.{Progress}
 use Rattle.dcc_watch.specs.declared.progress.Progress.TheVariants.{AtStart, InPrelude, InProcedures, Stopped}
 use Rattle.dcc_watch.specs.Foul.{told_foul}
-use Rattle.dcc_watch.specs.Marks.{no_marks}
 use Rattle.dcc_watch.specs.Shapes.{live_frame}
 
 -- The layout and the shapes of a program's frames, by the offset where a procedure begins; how many frames there is room
@@ -34,18 +33,3 @@ HasShape shapes live = slice_get shapes live.entry ≡ Some live.shape
 abbrev pub AllHaveShapes : List Shape → List Live → Type 0
 AllHaveShapes shapes [] = Unit {0}
 AllHaveShapes shapes (live ∷ older) = HasShape shapes live × AllHaveShapes shapes older
-
--- the run is not past the prelude
-abbrev pub is_before : Progress → Bool
-is_before AtStart = true
-is_before InPrelude = true
-is_before InProcedures = false
-is_before (Stopped foul) = false
-
--- what holds of all that is kept: before the first frame begins, there is no frame and no mark
-pub record IsKept (shapes : List Shape) (room : ℕ) (live : List Live) (written : List Bool) (progress : Progress) : Type 0 where
-  pub table : length shapes ≡ 65536
-  pub some_room : 0 < room
-  pub known : AllHaveShapes shapes live
-  pub no_frame : is_before progress ≡ true → live ≡ []
-  pub no_mark : is_before progress ≡ true → written ≡ no_marks

@@ -1,6 +1,6 @@
 //! The frames that live.
 
-ghost use Rattle.std.specs.Prelude.{◌≡◌, ◌+◌, ◌*◌, ◌<◌, [], ◌∷◌, drop, length, not, ◌&&◌, IfOk, nat_le, nat_lt};
+ghost use Rattle.std.specs.Prelude.{◌≡◌, ◌+◌, ◌*◌, ◌<◌, [], ◌∷◌, drop, length, not, ◌&&◌, IfOk, nat_le};
 ghost use Rattle.dcc_watch.specs.Shapes.{end_of, exposed_in};
 
 use crate::shape::{NO_SHAPE, Shape};
@@ -65,13 +65,6 @@ impl Frames {
             items,
             newest: room,
         })
-    }
-
-    /// Whether there is room for another frame.
-    pub(crate) fn has_room(&self) -> bool
-        ensures { result ≡ nat_lt (length self.now.live) self.now.room }
-    {
-        self.newest > 0
     }
 
     /// Another frame begins.

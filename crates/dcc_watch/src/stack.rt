@@ -1,6 +1,6 @@
 //! What is kept of the stack beside the machine.
 
-ghost use Rattle.std.specs.Prelude.{◌≡◌, ◌+◌, ◌<◌, ◌^◌, ◌∷◌, ◌&&◌, length, nat_lt, not, true, IfSome};
+ghost use Rattle.std.specs.Prelude.{◌≡◌, ◌+◌, ◌<◌, ◌^◌, ◌∷◌, length, true, IfSome};
 ghost use Rattle.dcc_prog.specs.Access.{found_accesses};
 ghost use Rattle.dcc_prog.specs.WellFormed.{IsOperation};
 ghost use Rattle.dcc_prog.specs.Clean.{top_in};
@@ -47,23 +47,6 @@ impl Before {
             top: top(machine, layout),
         }
     }
-}
-
-// Whether the instruction that was found is a CALL.
-fn calls(found: Option<Instr>) -> bool
-    ensures { result ≡ is_call found }
-{
-    match found {
-        Some(instr) => matches!(instr.op, Op::Call(_)),
-        None => false,
-    }
-}
-
-/// Whether the instruction that was found is a CALL, and there is no room for the frame that it begins.
-pub(crate) fn lacks_room(stack: &Stack, found: Option<Instr>) -> bool
-    ensures { result ≡ (is_call found && not (nat_lt (length stack.now.frames.live) stack.now.frames.room)) }
-{
-    calls(found) && !stack.frames.has_room()
 }
 
 // A CALL begins a frame, and a RET ends one.

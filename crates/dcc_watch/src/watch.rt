@@ -14,7 +14,7 @@ use crate::judge::{Foul, next_foul};
 use crate::marks::Marks;
 use crate::progress::Progress;
 use crate::shape::{Shape, shapes};
-use crate::stack::{Before, Stack, begin_first, follow, lacks_room};
+use crate::stack::{Before, Stack, begin_first, follow};
 use crate::watched::Watched;
 use dcc_io::{Sink, Source};
 use dcc_prog::{Image, Layout, Program};
@@ -35,7 +35,8 @@ pub struct Watch {
 }
 
 impl Model for Watch {
-    ghost use Rattle.dcc_watch.specs.Watching.{Watching, stage_of, IsKept};
+    ghost use Rattle.dcc_watch.specs.Watching.{Watching, stage_of};
+    ghost use Rattle.dcc_watch.specs.Reached.{IsKept};
 
     ghost Value = { Watching };
 
@@ -47,7 +48,8 @@ impl Model for Watch {
       stage = stage_of w.progress w.stack.frames.live w.stack.written;
     } };
 
-    ghost invariant = { λ w. IsKept w.shapes.items w.stack.frames.room w.stack.frames.live w.stack.written w.progress };
+    ghost invariant = { λ w. IsKept w.layout w.shapes.items w.stack.frames.room w.machine w.stack.frames.live
+        w.stack.written w.progress };
 }
 
 // A layout with these values.
@@ -164,9 +166,6 @@ impl Watch {
             self.progress = Progress::Stopped(foul);
             return foul.answer();
         }
-        if lacks_room(&self.stack, found) {
-            return Watched::NoRoom;
-        }
         let stepped = self.machine.make(found, input, out);
         if is_refused(stepped) {
             return Watched::Clean(stepped);
@@ -188,8 +187,8 @@ impl Watch {
     /// last left it behind. A foul step is not made, and is answered again by each later step.
     ///
     /// `Clean` is what the machine's step answers: Exit, Divide and Outside where the run has ended, and InFault and
-    /// OutFault where a read or a write failed, after which nothing has changed. `NoRoom` comes at a CALL where as many
-    /// frames live as return addresses fit the stack, and one more: the step was not made. No step takes memory.
+    /// OutFault where a read or a write failed, after which nothing has changed. No step takes memory: at a clean CALL fewer
+    /// frames live than return addresses fit the stack, and one more, for which `new` took room.
     pub fn step<I: Source, O: Sink>(&mut self, input: &mut I, out: &mut O) -> Watched
         ensures step { Steps watched (outcome_of result)
             (scene self.old (I.left input.old) (O.taken out.old))
@@ -209,7 +208,7 @@ impl Watch {
     }
 
     /// Makes steps until one answers something else than `Clean(Running)`, at most so many. After a fault, and where a step
-    /// is foul or has no room, the steps before it stay made.
+    /// is foul, the steps before it stay made.
     pub fn run<I: Source, O: Sink>(&mut self, input: &mut I, out: &mut O, most: u64) -> Watched
         ensures run { Runs watched most (outcome_of result)
             (scene self.old (I.left input.old) (O.taken out.old))

@@ -17,6 +17,4 @@ pub enum Watched {
         /// In which way it is foul.
         kind: FoulKind,
     },
-    /// The next step is a CALL, and as many frames live as there is room for: it was not made.
-    NoRoom,
 }

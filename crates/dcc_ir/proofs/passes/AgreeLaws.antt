@@ -1,14 +1,14 @@
 -- Two states that agree on the locations that matter before a statement agree on those that matter after it.
 use Rattle.std.proofs.Common.{◌≡◌, ℕ, ◌+◌, Bool, true, false, ◌&&◌, ◌||◌, ◌⊎◌, inl, inr, List, [], ◌∷◌, ◌++◌, Option, Some, None, refl, sym, ap, ap₂, ◌∙◌, subst, map, flat_map, true≢false, eqb-true}
 use Rattle.std.specs.Prelude.{if◌then◌else◌, ◌==◌, ◌/◌, ◌%◌, ◌^◌, All, Contains, option_to_list}
-use Rattle.std.proofs.lemmas.List.Elements.{All-nil, All-head, All-tail, All-contains, All-contains_itself, All-append, All-weaker}
+use Rattle.std.proofs.lemmas.List.Elements.{All-nil, All-head, All-tail, All-contains, All-append, All-weaker}
 use Rattle.std.proofs.lemmas.List.Concat.{flat_map-append}
 use Rattle.dcc_run.specs.Event.{Event, Wrote, Took, MetEnd, writes}
 use Rattle.dcc_run.specs.End.{End, Exit, Divide, Stuck, is_over}
 use Rattle.dcc_run.proofs.KeptLaws.{right_part}
 use Rattle.dcc_ir.specs.declared.syntax.Loc.{Loc}
 use Rattle.dcc_ir.specs.Tree.{Expr, Const, Get, Load, Unary, Binary, Widen, Part, Join, Choose, Address, Stmt, Set, Fetch, Store, Div, Call, Dos}
-use Rattle.dcc_ir.specs.Location.{same_location}
+use Rattle.dcc_ir.specs.Location.{same_location, Values, with_value}
 use Rattle.dcc_ir.specs.Value.{Scene, value_of, unary_value, binary_value, bytes_at, division_of, division_at, width_of, pattern_at, signed_at}
 use Rattle.dcc_ir.specs.Dos.{dos_string}
 use Rattle.dcc_ir.specs.Use.{parts_of, got_by, reads_of, exprs_of, writes_of}
@@ -17,7 +17,7 @@ use Rattle.dcc_ir.specs.Run.{State, scene_of, value_in, is_call, ended, stuck, s
 use Rattle.dcc_ir.specs.Passes.{AgreeOutside}
 use Rattle.dcc_ir.specs.WellFormed.{is_byte_place, is_dos, is_stmt}
 use Rattle.dcc_ir.proofs.LocationLaws.{location_same, Contains-here, Contains-none, contains_among}
-use Rattle.dcc_ir.proofs.ListLaws.{left_part}
+use Rattle.dcc_ir.proofs.ListLaws.{left_part, all_had}
 
 -- Expressions.
 
@@ -66,10 +66,6 @@ pub record AgreeOn (Has : Loc → Type 0) (s t : State) : Type 0 where
 -- the expression reads these locations alone
 abbrev pub ReadsIn : (Loc → Type 0) → Expr → Type 0
 ReadsIn Has e = All Has (reads_of e)
-
--- what holds wherever a list has something holds of all of it
-pub all_had : {A : Type 0} (P : A → Type 0) (xs : List A) → ((x : A) → Contains xs x → P x) → All P xs
-all_had P xs h = All-weaker (Contains xs) P h xs (All-contains_itself xs)
 
 module _ (Has : Loc → Type 0) where
   pub value-on : (s t : State) → AgreeOn Has s t → (e : Expr) → ReadsIn Has e → value_in t e ≡ value_in s e
@@ -138,6 +134,10 @@ Alike After s t = AgreeOn (StillOn After s) s t
 pub weaker-on : (Has After : Loc → Type 0) (s t : State) → ((l : Loc) → After l → Has l) → AgreeOn Has s t → AgreeOn After s t
 weaker-on Has After s t less h = record { values = λ l a. h.values l (less l a); outside = h.outside; end = h.end; bits = h.bits; entry = h.entry }
 
+-- the state with these values of its locations
+abbrev pub revalued : Values → State → State
+revalued v s = record s { running = record s.running { values = v } }
+
 -- a DOS call that takes no byte has no place for one
 no_place : (bits : List ℕ) (number : ℕ) (place : Option Loc) (argument : Option Expr) (l : Loc) → (number == 0x01 || number == 0x08) ≡ false → is_dos bits number place argument ≡ true →
     Contains (option_to_list place) l → ⊥
@@ -146,16 +146,21 @@ no_place bits number (Some x) (Some e) l other formed c = true≢false (sym form
 no_place bits number (Some x) None l other formed c = true≢false (sym formed ∙ ap (λ b. b && is_byte_place bits (Some x)) other)
 
 module _ (Has After : Loc → Type 0) where
-  -- a location takes the same value, if it matters
-  pub setting-on : (location : Loc) (n n' : ℕ) (s t : State) → (After location → n' ≡ n) → ((l : Loc) → After l → Has l ⊎ Contains (location ∷ []) l) → AgreeOn Has s t →
-      AgreeOn After (setting location n s) (setting location n' t)
-  setting-on location n n' s t same left h = record {
-    values = λ l a. here l a (same_location l location) refl;
+  -- values change, and nothing else
+  pub revalued-on : (v v' : Values) (s t : State) → ((l : Loc) → After l → v' l ≡ v l) → AgreeOn Has s t → AgreeOn After (revalued v s) (revalued v' t)
+  revalued-on v v' s t same h = record {
+    values = same;
     outside = record { memory = h.outside.memory; input = h.outside.input; events = h.outside.events; base = h.outside.base };
     end = h.end;
     bits = h.bits;
     entry = h.entry;
   }
+
+  -- a location takes the same value, if it matters
+  pub setting-on : (location : Loc) (n n' : ℕ) (s t : State) → (After location → n' ≡ n) → ((l : Loc) → After l → Has l ⊎ Contains (location ∷ []) l) → AgreeOn Has s t →
+      AgreeOn After (setting location n s) (setting location n' t)
+  setting-on location n n' s t same left h =
+      revalued-on (with_value s.running.values location n) (with_value t.running.values location n') s t (λ l a. here l a (same_location l location) refl) h
     where
       here : (l : Loc) → After l → (b : Bool) → same_location l location ≡ b → (if b then n' else t.running.values l) ≡ (if b then n else s.running.values l)
       here l a true e = same (subst After (location_same l location e) a)

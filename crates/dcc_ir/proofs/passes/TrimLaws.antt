@@ -23,9 +23,9 @@ use Rattle.dcc_ir.specs.Passes.{Pass, with_values, FitIn, param_widths, EndAlike
 use Rattle.dcc_ir.specs.Trimmed.{Trim, nothing_trimmed, kept, dropped, trim_stmt, trim_exit, trim_block, trim_graph, trimmed, reads_in, IsUnread, GivesRead, IsTrimmable, trimming}
 use Rattle.dcc_ir.proofs.GraphLaws.{found_entry}
 use Rattle.dcc_ir.proofs.ReachedLaws.{contained, found_contained}
-use Rattle.dcc_ir.proofs.ListLaws.{left_part, all_parts}
+use Rattle.dcc_ir.proofs.ListLaws.{all_had, left_part, all_parts}
 use Rattle.dcc_ir.proofs.passes.LocalLaws.{some_same, is_running, Frame, stmt-frame}
-use Rattle.dcc_ir.proofs.passes.AgreeLaws.{AgreeOn, ReadsIn, all_had, value-on, values-on, stuck-on, weaker-on, StillOn, stmt-agrees}
+use Rattle.dcc_ir.proofs.passes.AgreeLaws.{AgreeOn, ReadsIn, value-on, values-on, stuck-on, weaker-on, StillOn, stmt-agrees}
 use Rattle.dcc_ir.proofs.passes.Theorem.{keeps_runs}
 
 -- What stays of a list.

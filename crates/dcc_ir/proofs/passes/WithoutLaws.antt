@@ -1,14 +1,11 @@
 -- Assignments to locations that don't matter may go: the pass meets what it owes.
-use Rattle.std.proofs.Common.{◌≡◌, ℕ, zero, suc, ◌+◌, ◌/◌, ◌%◌, Bool, true, false, cond, ◌⊎◌, inl, inr, List, [], ◌∷◌, length, Option, Some, None, refl, sym, ap, ap₂, ◌∙◌, subst, true≢false, map, take, slice_get, flat_map, Contains}
+use Rattle.std.proofs.Common.{◌≡◌, ℕ, zero, suc, Bool, true, false, ◌⊎◌, inl, inr, List, [], ◌∷◌, length, Option, Some, None, refl, sym, ap, ◌∙◌, subst, true≢false, map, take, slice_get, flat_map, Contains}
 use Rattle.std.specs.Prelude.{if◌then◌else◌, ◌==◌, option_map, All}
-use Rattle.std.specs.List.{AllZip, list_all}
+use Rattle.std.specs.List.{list_all}
 use Rattle.std.proofs.lemmas.List.{length-map}
 use Rattle.std.proofs.lemmas.List.Elements.{All-contains}
 use Rattle.dcc_run.specs.End.{is_over}
 use Rattle.dcc_ir.specs.declared.syntax.Loc.{Loc}
-use Rattle.dcc_ir.specs.declared.syntax.Put.{Put}
-use Rattle.dcc_ir.specs.declared.syntax.Put.TheVariants.{Memory, One, Two}
-use Rattle.dcc_ir.specs.declared.syntax.Param.{Param}
 use Rattle.dcc_ir.specs.Tree.{Expr, Stmt, Set, Fetch, Store, Div, Call, Dos, Exit, Goto, If, Switch, Ret, Stop, Block, Graph, Program}
 use Rattle.dcc_ir.specs.Location.{same_location, location_width, Values, with_value, filled}
 use Rattle.dcc_ir.specs.Use.{reads_of, writes_of}
@@ -16,7 +13,7 @@ use Rattle.dcc_ir.specs.Demand.{is_assignment, tests_of}
 use Rattle.dcc_ir.specs.Families.{Family, IsClosed, IsWithout, done, stays, goes, WritesNone, IsBlockWithout, IsGraphWithout}
 use Rattle.dcc_ir.specs.WellFormed.{is_stmt, is_exit, is_block, IsGraph, IsProgram}
 use Rattle.dcc_ir.specs.Flow.{targets}
-use Rattle.dcc_ir.specs.Run.{State, Activation, setting, putting, passing, stmt_step, value_in, graph_at}
+use Rattle.dcc_ir.specs.Run.{State, Activation, setting, passing, stmt_step, value_in, graph_at}
 use Rattle.dcc_ir.specs.Local.{Point, Halt, Over, Jumps, after_call, after_calls, switch_halt, exit_halt, local_run}
 use Rattle.dcc_ir.specs.Keeps.{KeepsRuns}
 use Rattle.dcc_ir.specs.Passes.{Pass, with_values, FitIn, EndAlike, Meet, BlocksStay, BeginAlike, OwesBegin, OwesGo}
@@ -24,20 +21,13 @@ use Rattle.dcc_ir.proofs.FitLaws.{both}
 use Rattle.dcc_ir.proofs.GraphLaws.{found_entry}
 use Rattle.dcc_ir.proofs.LocationLaws.{location_same, location_itself, Contains-here, Contains-later, Contains-none, Contains-cases, location_decided}
 use Rattle.dcc_ir.proofs.ReachedLaws.{contained, found_contained, all_at}
-use Rattle.dcc_ir.proofs.ListLaws.{all_parts}
+use Rattle.dcc_ir.proofs.ListLaws.{all_had, all_parts}
+use Rattle.dcc_ir.proofs.ZipLaws.{zip_back}
 use Rattle.dcc_ir.proofs.passes.LocalLaws.{some_same, is_running, Frame, stmt-frame}
-use Rattle.dcc_ir.proofs.passes.AgreeLaws.{AgreeOn, StillOn, all_had, value-on, values-on, stuck-on, weaker-on, stmt-on}
+use Rattle.dcc_ir.proofs.passes.AgreeLaws.{AgreeOn, StillOn, revalued-on, value-on, values-on, stuck-on, weaker-on, stmt-on}
+use Rattle.dcc_ir.proofs.passes.SameLaws.{taken_same}
+use Rattle.dcc_ir.proofs.passes.FormLaws.{changed, changed_at, same_entries}
 use Rattle.dcc_ir.proofs.passes.Theorem.{keeps_runs}
-
--- Lists, place by place.
-
-module _ {A B : Type 0} (R : A → B → Type 0) where
-  pub zip_back : (xs : List A) (ys : List B) (k : ℕ) (y : B) → AllZip R xs ys → slice_get ys k ≡ Some y → (x : A) × (slice_get xs k ≡ Some x) × R x y
-  zip_back [] [] k y h e = absurd (cc)
-  zip_back [] (z ∷ ys) k y h e = absurd h
-  zip_back (x ∷ xs) [] k y h e = absurd h
-  zip_back (x ∷ xs) (z ∷ ys) zero y h e = let same : z ≡ y = cc in (x, refl, subst (R x) same h.0)
-  zip_back (x ∷ xs) (z ∷ ys) (suc k) y h e = zip_back xs ys k y h.1 e
 
 -- What is left after calls.
 
@@ -86,36 +76,11 @@ given-same l (w ∷ widths) (x ∷ results) [] v v' len fit same = absurd fit
 given-same l [] (x ∷ results) r v v' len fit same = absurd (cc)
 given-same l (w ∷ widths) [] r v v' len fit same = absurd (cc)
 
--- the states hold the same everywhere
-record Open (s t : State) : Type 0 where
-  values : (l : Loc) → t.running.values l ≡ s.running.values l
-  memory : t.memory ≡ s.memory
-  base : t.running.base ≡ s.running.base
-
-with_value-same : (v v' : Values) (x : Loc) (n : ℕ) → ((l : Loc) → v' l ≡ v l) → (l : Loc) → with_value v' x n l ≡ with_value v x n l
-with_value-same v v' x n same l = ap (λ m. if same_location l x then n else m) (same l)
-
-put_same : (j : ℕ) (put : Put) (n : ℕ) (s t : State) → Open s t → Open (putting j put n s) (putting j put n t)
-put_same j Memory n s t o = record { values = o.values; memory = let m = o.memory in let b = o.base in cc; base = o.base }
-put_same j (One x) n s t o = record { values = with_value-same s.running.values t.running.values x n o.values; memory = o.memory; base = o.base }
-put_same j (Two low high) n s t o = record {
-  values = with_value-same (with_value s.running.values low (n % 256)) (with_value t.running.values low (n % 256)) high (n / 256)
-      (with_value-same s.running.values t.running.values low (n % 256) o.values);
-  memory = o.memory;
-  base = o.base;
-}
-
-taken_same : (j : ℕ) (params : List Param) (a : List ℕ) (s t : State) → Open s t → Open (passing j params a s) (passing j params a t)
-taken_same j [] a s t o = o
-taken_same j (q ∷ params) [] s t o = o
-taken_same j (q ∷ params) (n ∷ a) s t o = taken_same (j + 1) params a (putting j q.put n s) (putting j q.put n t) (put_same j q.put n s t o)
-
 -- The pass.
 
 module _ (p : Program) (change : Graph → Graph) (family : ℕ → Family) where
-  -- the program in which each graph is changed
-  abbrev pub changed : Program
-  changed = record p { graphs = map change p.graphs }
+  abbrev after : Program
+  after = changed p change
 
   -- each block stays in its place, arguments and values given back stay the same, and what matters holds the same
   abbrev pass : Pass
@@ -126,16 +91,6 @@ module _ (p : Program) (change : Graph → Graph) (family : ℕ → Family) wher
     Inv = λ a point v v'. (g : Graph) (block : Block) → graph_at p.graphs point.entry ≡ Some g → slice_get g.blocks point.place ≡ Some block
         → (l : Loc) → family point.entry block (after_calls point.calls block.stmts) l → v' l ≡ v l;
   }
-
-  -- a graph and the changed one stand under one entry
-  pub changed_at : (graphs : List Graph) (entry : ℕ) → ((g : Graph) → Contains graphs g → (change g).entry ≡ g.entry) → graph_at (map change graphs) entry ≡ option_map change (graph_at graphs entry)
-  changed_at [] entry same = refl
-  changed_at (g ∷ graphs) entry same =
-      ap (λ n. cond (n == entry) (Some (change g)) (graph_at (map change graphs) entry)) (same g (Contains-here g graphs))
-      ∙ elim (g.entry == entry) as (λ b. cond b (Some (change g)) (graph_at (map change graphs) entry) ≡ option_map change (cond b (Some g) (graph_at graphs entry))) [
-        | true ↦ refl
-        | false ↦ changed_at graphs entry (λ h c. same h (Contains-later g graphs h c))
-      ]
 
   -- From a point of a block.
   module _ (a : List ℕ) (point : Point) (g : Graph) (found : graph_at p.graphs point.entry ≡ Some g) (closed : IsClosed g (family point.entry))
@@ -200,13 +155,8 @@ module _ (p : Program) (change : Graph → Graph) (family : ℕ → Family) wher
 
     -- an assignment that doesn't matter goes
     left_out : (x : Loc) (n : ℕ) (stmt : Stmt) (rest : List Stmt) (s t : State) → writes_of stmt ≡ x ∷ [] → WritesNone (Has rest) stmt → AgreeOn (Has (stmt ∷ rest)) s t → AgreeOn (Has rest) (setting x n s) t
-    left_out x n stmt rest s t writes none h = record {
-      values = λ l m. differs l m (same_location l x) refl;
-      outside = record { memory = h.outside.memory; input = h.outside.input; events = h.outside.events; base = h.outside.base };
-      end = h.end;
-      bits = h.bits;
-      entry = h.entry;
-    }
+    left_out x n stmt rest s t writes none h =
+        revalued-on (Has (stmt ∷ rest)) (Has rest) (with_value s.running.values x n) t.running.values s t (λ l m. differs l m (same_location l x) refl) h
       where
         writes_it : Contains (writes_of stmt) x
         writes_it = subst (λ xs. Contains xs x) (sym writes) (Contains-here x [])
@@ -287,15 +237,15 @@ module _ (p : Program) (change : Graph → Graph) (family : ℕ → Family) wher
   -- The whole.
   module _ (formed : IsProgram p) (closed : (g : Graph) → Contains p.graphs g → IsClosed g (family g.entry))
       (without : (g : Graph) → Contains p.graphs g → IsGraphWithout (family g.entry) g (change g)) where
-    there_is : (entry : ℕ) (g g' : Graph) → graph_at p.graphs entry ≡ Some g → graph_at changed.graphs entry ≡ Some g' → g' ≡ change g
+    there_is : (entry : ℕ) (g g' : Graph) → graph_at p.graphs entry ≡ Some g → graph_at after.graphs entry ≡ Some g' → g' ≡ change g
     there_is entry g g' found found' =
-        some_same g' (change g) (sym found' ∙ changed_at p.graphs entry (λ h c. (without h c).entry) ∙ ap (option_map change) found)
+        some_same g' (change g) (sym found' ∙ changed_at change p.graphs entry (λ h c. (without h c).entry) ∙ ap (option_map change) found)
 
     known : (entry : ℕ) (g : Graph) → graph_at p.graphs entry ≡ Some g → Contains p.graphs g
     known entry g found = found_contained (λ x. x.entry == entry) p.graphs g found
 
     -- the graphs with that entry
-    related : (entry : ℕ) (g g' : Graph) → graph_at p.graphs entry ≡ Some g → graph_at changed.graphs entry ≡ Some g' → IsGraphWithout (family entry) g g'
+    related : (entry : ℕ) (g g' : Graph) → graph_at p.graphs entry ≡ Some g → graph_at after.graphs entry ≡ Some g' → IsGraphWithout (family entry) g g'
     related entry g g' found found' =
         subst (λ n. IsGraphWithout (family n) g g') (found_entry p.graphs entry g found) (subst (IsGraphWithout (family g.entry) g) (sym (there_is entry g g' found found')) (without g (known entry g found)))
 
@@ -303,7 +253,7 @@ module _ (p : Program) (change : Graph → Graph) (family : ℕ → Family) wher
     closed_at : (entry : ℕ) (g : Graph) → graph_at p.graphs entry ≡ Some g → IsClosed g (family entry)
     closed_at entry g found = subst (λ n. IsClosed g (family n)) (found_entry p.graphs entry g found) (closed g (known entry g found))
 
-    goes_on : OwesGo p changed pass
+    goes_on : OwesGo p after pass
     goes_on a point s t together =
         let g = s.running.graph in
         let block = s.running.block in
@@ -336,7 +286,7 @@ module _ (p : Program) (change : Graph → Graph) (family : ℕ → Family) wher
           }),
         )
 
-    begins : (entry : ℕ) (old new : Graph) → graph_at p.graphs entry ≡ Some old → graph_at changed.graphs entry ≡ Some new → OwesBegin pass entry old new
+    begins : (entry : ℕ) (old new : Graph) → graph_at p.graphs entry ≡ Some old → graph_at after.graphs entry ≡ Some new → OwesBegin pass entry old new
     begins entry old new found found' = record {
       begin = λ fill base a a' s t small fit fit' enters outside opened opened'.
           let graphs = related entry old new found found' in
@@ -350,7 +300,7 @@ module _ (p : Program) (change : Graph → Graph) (family : ℕ → Family) wher
           (record { memory = o.memory; holds = λ g block there placed l m. o.values l }));
     }
 
-    stay : (entry : ℕ) (old new : Graph) → graph_at p.graphs entry ≡ Some old → graph_at changed.graphs entry ≡ Some new → BlocksStay old new (λ n. n)
+    stay : (entry : ℕ) (old new : Graph) → graph_at p.graphs entry ≡ Some old → graph_at after.graphs entry ≡ Some new → BlocksStay old new (λ n. n)
     stay entry old new found found' = record {
       first = refl;
       stays = λ n block placed.
@@ -358,22 +308,15 @@ module _ (p : Program) (change : Graph → Graph) (family : ℕ → Family) wher
           (back.0, back.1, sym back.2.at);
     }
 
-    same_entries : (graphs : List Graph) → ((g : Graph) → Contains graphs g → (change g).entry ≡ g.entry) → map (λ (g : Graph). g.entry) (map change graphs) ≡ map (λ (g : Graph). g.entry) graphs
-    same_entries [] same = refl
-    same_entries (g ∷ graphs) same = ap₂ (λ n l. n ∷ l) (same g (Contains-here g graphs)) (same_entries graphs (λ h c. same h (Contains-later g graphs h c)))
-
-    pub entries_kept : map (λ (g : Graph). g.entry) changed.graphs ≡ map (λ (g : Graph). g.entry) p.graphs
-    entries_kept = same_entries p.graphs (λ g c. (without g c).entry)
-
     -- Assignments that don't matter may go.
-    pub runs_kept_without : IsProgram changed → KeepsRuns p changed
-    runs_kept_without formed' = keeps_runs p changed pass (record {
+    pub runs_kept_without : IsProgram (changed p change) → KeepsRuns p (changed p change)
+    runs_kept_without formed' = keeps_runs p after pass (record {
       before = formed;
       after = formed';
       image = refl;
       lo = refl;
       hi = refl;
-      entries = entries_kept;
+      entries = same_entries change p.graphs (λ g c. (without g c).entry);
       blocks = stay;
       begin = begins;
       go = goes_on;

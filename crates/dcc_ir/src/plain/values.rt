@@ -1,6 +1,6 @@
 //! Numbers of a width, and the operators on them.
 
-ghost use Rattle.std.specs.Prelude.{◌≡◌, ℕ, ◌-◌, ◌*◌, ◌/◌, ◌%◌, ◌^◌, ◌<◌, ◌≤◌, ◌<ℤ◌, ◌≤ℤ◌, pos, neg_ℤ, int_div, int_rem, IfSome};
+ghost use Rattle.std.specs.Prelude.{if◌then◌else◌, ◌≡◌, ℕ, ◌-◌, ◌*◌, ◌/◌, ◌%◌, ◌^◌, ◌<◌, ◌≤◌, ◌<ℤ◌, ◌≤ℤ◌, pos, neg_ℤ, int_div, int_rem, IfSome};
 ghost use Rattle.dcc_num.specs.Numbers.{residue_of, halved_of};
 ghost use Rattle.dcc_ir.specs.Value.{signed_at, pattern_at, faults_signed, divided_signed, division_at, unary_value, binary_value};
 
@@ -117,9 +117,10 @@ fn faults_signed(width: u8, a: u32, b: u32) -> Option<bool>
     Some(b == 0 || (u64::from(a) == half && u64::from(b) == limit - 1))
 }
 
-// The quotient of signed numbers, or none where it faults; none around it where the numbers have not the width.
-fn signed_quotient(width: u8, a: u32, b: u32) -> Option<Option<u32>>
-    ensures { IfSome result (λ r. r ≡ divided_signed int_div width a b) }
+// The quotient or remainder of signed numbers, or none where the division faults; none around it where the numbers have
+// not the width.
+fn signed_division(remainder: bool, width: u8, a: u32, b: u32) -> Option<Option<u32>>
+    ensures { IfSome result (λ r. r ≡ divided_signed (if remainder then int_rem else int_div) width a b) }
 {
     if faults_signed(width, a, b)? {
         return Some(None);
@@ -129,22 +130,11 @@ fn signed_quotient(width: u8, a: u32, b: u32) -> Option<Option<u32>>
     if by == 0 {
         return None;
     }
-    Some(Some(pattern(width, dividend / by)?))
-}
-
-// The remainder of the same division.
-fn signed_remainder(width: u8, a: u32, b: u32) -> Option<Option<u32>>
-    ensures { IfSome result (λ r. r ≡ divided_signed int_rem width a b) }
-{
-    if faults_signed(width, a, b)? {
-        return Some(None);
+    if remainder {
+        Some(Some(pattern(width, dividend % by)?))
+    } else {
+        Some(Some(pattern(width, dividend / by)?))
     }
-    let dividend = signed(width, a)?;
-    let by = signed(width, b)?;
-    if by == 0 {
-        return None;
-    }
-    Some(Some(pattern(width, dividend % by)?))
 }
 
 /// The quotient or remainder of a division, or none where it faults; none around it where the numbers have not the
@@ -155,8 +145,8 @@ pub fn division(operator: BinOp, width: u8, a: u32, b: u32) -> Option<Option<u32
     match operator {
         BinOp::DivU if b != 0 => Some(Some(a / b)),
         BinOp::RemU if b != 0 => Some(Some(a % b)),
-        BinOp::DivS => signed_quotient(width, a, b),
-        BinOp::RemS => signed_remainder(width, a, b),
+        BinOp::DivS => signed_division(false, width, a, b),
+        BinOp::RemS => signed_division(true, width, a, b),
         _ => Some(None),
     }
 }

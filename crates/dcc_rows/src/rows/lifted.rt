@@ -11,6 +11,9 @@ use std::alloc::{AllocError, Global};
 use std::process::Abort;
 use std::test::Fail;
 
+// Adds 1 to 255, and ends with 1 where that carries, else with 0.
+const CARRIES: &[u8] = b"\xB0\xFF\x04\x01\x72\x05\xB8\x00\x4C\xCD\x21\xB8\x01\x4C\xCD\x21";
+
 // The unit of the program of some code.
 fn decompiled(rt: &impl Abort, alloc: Global, code: &[u8]) -> Result<Unit, Fail> {
     let image = load(alloc, &program(rt, alloc, code)?)?;
@@ -63,5 +66,29 @@ fn lines_are_those_of_the_printed_text(rt: HostRuntime) -> Result<(), Fail> {
     assert!(&rt; start.last > 0);
     assert_eq!(&rt; text.split('\n').nth(start.last as usize - 1), Some("}"));
     assert_eq!(&rt; text.split('\n').nth(start.last as usize), Some(""));
+    Ok(())
+}
+
+#[test]
+fn a_flag_that_one_definition_gives_has_no_variable(rt: HostRuntime) -> Result<(), Fail> {
+    let alloc = rt.alloc();
+    let unit = decompiled(&rt, alloc, CARRIES)?;
+    assert_eq!(&rt; unit.globals.len(), 0);
+    assert_eq!(&rt; unit.funcs.len(), 1);
+    let variables = &unit.funcs[0].locals;
+    // AL has one, where the carry is told from.
+    assert!(&rt;
+        variables
+            .iter()
+            .any(|variable| variable.name.as_str() == "v1")
+    );
+    // These would be the carry, zero, sign and overflow.
+    for flag in ["v13", "v14", "v15", "v16"] {
+        assert!(&rt;
+            !variables
+                .iter()
+                .any(|variable| variable.name.as_str() == flag)
+        );
+    }
     Ok(())
 }

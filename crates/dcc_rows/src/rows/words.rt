@@ -30,6 +30,10 @@ fn run(file: &str, steps: u64) -> Option<Job<'_>> {
     run_on(file, steps, Cpu::I8086)
 }
 
+fn watch_on(file: &str, steps: u64, cpu: Cpu) -> Option<Job<'_>> {
+    Some(Job::ExecuteWatched(Execution { file, steps, cpu }))
+}
+
 fn runc(file: &str, steps: u64, fill: u16) -> Option<Job<'_>> {
     Some(Job::ExecuteText(TextExecution { file, steps, fill }))
 }
@@ -60,6 +64,11 @@ fn commands_have_a_job(rt: HostRuntime) -> Result<(), Fail> {
         ("run F --cpu 186", run_on("F", 1_000_000, Cpu::I186)),
         ("run --cpu=8086 F --steps 7", run("F", 7)),
         ("run --steps=7 --cpu 186 F", run_on("F", 7, Cpu::I186)),
+        ("watch F", watch_on("F", 1_000_000, Cpu::I8086)),
+        (
+            "watch --steps=7 --cpu 186 -- -F",
+            watch_on("-F", 7, Cpu::I186),
+        ),
         ("runc F", runc("F", 1_000_000, 0)),
         ("runc -- --fill", runc("--fill", 1_000_000, 0)),
         ("runc F --fill 65535", runc("F", 1_000_000, 65_535)),
@@ -110,6 +119,11 @@ fn other_words_are_no_command(rt: HostRuntime) -> Result<(), Fail> {
         "run a --steps 1 --steps=1",
         "run F --fill 1",
         "c F --fill 1",
+        "watch",
+        "watch a b",
+        "watch F --fill 1",
+        "watch F --steps 1000000001",
+        "watch F --cpu 286",
         "runc",
         "runc a b",
         "runc F --fill",

@@ -17,6 +17,7 @@ use Rattle.dcc_flags.specs.Folded.{IsFolded}
 use Rattle.dcc_flags.specs.Folding.{is_kept, Folding, choices_of, folding_of, first_choices, first_folding, fold_blocks, folded_graph}
 use Rattle.dcc_flags.proofs.WholeLaws.{form_stays, graph_formed, may_replace, listed_below}
 use Rattle.dcc_flags.proofs.FlagLaws.{not_mentioned}
+use Rattle.dcc_flags.proofs.KindLaws.{kinds_stay}
 use Rattle.dcc_flags.proofs.TruthLaws.{truths_stay}
 use Rattle.dcc_flags.proofs.ShallowLaws.{stays_shallow}
 use Rattle.dcc_flags.proofs.fold.fold_flags.Goals as goal
@@ -29,6 +30,7 @@ folded graph is order searched kept are = record {
   formed = graph_formed graph is order searched kept exact;
   form = form_stays graph is order searched kept exact;
   keeps = may_replace graph is order searched kept exact;
+  kinds = kinds_stay kept graph order;
   flags = λ f mentioned. elim (decided (is_kept kept f)) [
     | inl stays ↦ subst (λ b. MatchBool b (IsKept graph f) (¬ IsKept graph f)) stays (are f)
     | inr goes ↦ absurd (true≢false (sym mentioned ∙ not_mentioned graph is kept exact f goes order))

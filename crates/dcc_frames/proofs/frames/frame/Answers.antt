@@ -1,13 +1,12 @@
-use Rattle.std.proofs.Common.{◌≡◌, ℕ, Option, None, All, nat_eq, refl, sym, ap, ◌∙◌, subst, rules}
+use Rattle.std.proofs.Common.{◌≡◌, ℕ, Option, None, All, nat_eq, refl, ap, ◌∙◌, subst, rules}
 use Rattle.indexmap.specs.IndexMap.{get}
 use Rattle.dcc_frames.specs.declared.bytes.Piece.{Piece}
-use Rattle.dcc_frames.specs.Runs.{AreRuns, AreAscending}
 use Rattle.dcc_frames.specs.CellLists.{cells_from, long_user, IsOverfull, IsToldOfRuns}
 use Rattle.dcc_frames.specs.Starts.{starts_of, IsNear, IsLocalBy, IsArgumentBy}
 use Rattle.dcc_prog.specs.declared.refusal.Refusal.TheVariants.{Memory}
 use Rattle.dcc_prog.specs.Refused.{no_memory}
 use Rattle.dcc_frames.specs.Ready.{IsFrameRefusal}
-use Rattle.dcc_frames.proofs.Answered.{accesses-refused, calls-refused, are-ascending, runs-refused, cells-refused, frame-told}
+use Rattle.dcc_frames.proofs.Answered.{accesses-refused, calls-refused, are-sorted, runs-refused, cells-refused, frame-told}
 use Rattle.dcc_frames.proofs.frames.frame.Goals as goal
 
 pub returns-in_err-check_accesses-clause-refused : goal.returns-in_err-check_accesses-clause-refused
@@ -54,85 +53,58 @@ returns-in_err-starts-clause-refused c =
 
 pub returns-in_err-check_runs-clause-refused : goal.returns-in_err-check_runs-clause-refused
 returns-in_err-check_runs-clause-refused c =
-    let body = c.args.body.now in
-    let counts : ℕ → Option ℕ = λ entry. get nat_eq c.args.counts.now entry in
-    let lacks = c.lacks_addresses-lacks.result in
-    let lacks_is = c.lacks_addresses-lacks.ensures in
-    let allowed = c.in_ok-check_accesses.ensures.allowed in
-    let enough = c.in_ok-check_calls.ensures.enough in
-    let pieces = c.in_ok-pieces.pieces.items in
-    let sorted = c.sort.new.pieces.items in
-    let runs = c.in_ok-runs.runs.items in
-    let refusal = c.in_err-check_runs.field-0.0 in
-    let named : IsFrameRefusal body counts c.args.delta refusal = λ image layout ready.
-    (let ascend = are-ascending image layout body counts c.args.delta ready lacks lacks_is allowed enough pieces sorted
+    let s =
+    are-sorted c.args.body.now (get nat_eq c.args.counts.now) c.lacks_addresses-lacks.result _
+    c.sort.new.pieces.items c.in_ok-check_accesses.ensures.allowed c.in_ok-check_calls.ensures.enough
     c.in_ok-pieces.ensures c.in_ok-sort.ensures.permutation c.in_ok-sort.ensures.order in
-    let are : AreRuns sorted runs =
-    subst (λ l. AreRuns l runs) c.deref.ensures.value
-    (c.in_ok-runs.ensures (subst AreAscending (sym c.deref.ensures.value) ascend)) in
-    runs-refused image layout body counts c.args.delta ready lacks lacks_is allowed enough pieces sorted
-    c.in_ok-pieces.ensures
-    c.in_ok-sort.ensures.permutation c.in_ok-sort.ensures.order runs are
+    let refusal = c.in_err-check_runs.field-0.0 in
+    let named : IsFrameRefusal c.args.body.now (get nat_eq c.args.counts.now) c.args.delta refusal = λ image layout ready.
+    runs-refused image layout c.args.body.now (get nat_eq c.args.counts.now) c.args.delta ready
+    c.lacks_addresses-lacks.result c.lacks_addresses-lacks.ensures c.sort.new.pieces.items s c.deref.result.now
+    c.in_ok-runs.runs.items c.deref.ensures.value c.in_ok-runs.ensures
     refusal
-    (subst (λ l. IsToldOfRuns lacks l refusal) c.deref-2.ensures.value c.in_err-check_runs.ensures.refused)) in
+    (subst (λ l. IsToldOfRuns c.lacks_addresses-lacks.result l refusal) c.deref-2.ensures.value
+    c.in_err-check_runs.ensures.refused) in
     search rules
 
 pub returns-in_err-cells_of-clause-refused : goal.returns-in_err-cells_of-clause-refused
 returns-in_err-cells_of-clause-refused c =
-    let body = c.args.body.now in
-    let counts : ℕ → Option ℕ = λ entry. get nat_eq c.args.counts.now entry in
-    let lacks = c.lacks_addresses-lacks.result in
-    let lacks_is = c.lacks_addresses-lacks.ensures in
-    let allowed = c.in_ok-check_accesses.ensures.allowed in
-    let enough = c.in_ok-check_calls.ensures.enough in
-    let pieces = c.in_ok-pieces.pieces.items in
-    let sorted = c.sort.new.pieces.items in
-    let runs = c.in_ok-runs.runs.items in
-    let refusal = c.in_err-cells_of.field-0.0 in
-    let named : IsFrameRefusal body counts c.args.delta refusal = λ image layout ready.
-    (let ascend = are-ascending image layout body counts c.args.delta ready lacks lacks_is allowed enough pieces sorted
+    let s =
+    are-sorted c.args.body.now (get nat_eq c.args.counts.now) c.lacks_addresses-lacks.result _
+    c.sort.new.pieces.items c.in_ok-check_accesses.ensures.allowed c.in_ok-check_calls.ensures.enough
     c.in_ok-pieces.ensures c.in_ok-sort.ensures.permutation c.in_ok-sort.ensures.order in
-    let are : AreRuns sorted runs =
-    subst (λ l. AreRuns l runs) c.deref.ensures.value
-    (c.in_ok-runs.ensures (subst AreAscending (sym c.deref.ensures.value) ascend)) in
-    cells-refused image layout body counts c.args.delta ready lacks lacks_is allowed enough pieces sorted
-    c.in_ok-pieces.ensures
-    c.in_ok-sort.ensures.permutation c.in_ok-sort.ensures.order runs are
+    let refusal = c.in_err-cells_of.field-0.0 in
+    let named : IsFrameRefusal c.args.body.now (get nat_eq c.args.counts.now) c.args.delta refusal = λ image layout ready.
+    cells-refused image layout c.args.body.now (get nat_eq c.args.counts.now) c.args.delta ready
+    c.lacks_addresses-lacks.result c.lacks_addresses-lacks.ensures c.sort.new.pieces.items s c.deref.result.now
+    c.in_ok-runs.runs.items c.deref.ensures.value c.in_ok-runs.ensures
     refusal
-    (subst (λ l. IsOverfull (cells_from l) refusal) c.deref-5.ensures.value c.in_err-cells_of.ensures.refused)) in
+    (subst (λ l. IsOverfull (cells_from l) refusal) c.deref-5.ensures.value c.in_err-cells_of.ensures.refused) in
     search rules
 
 pub returns-clause-frame : goal.returns-clause-frame
 returns-clause-frame c = λ image layout ready.
-    let body = c.args.body.now in
-    let counts : ℕ → Option ℕ = λ entry. get nat_eq c.args.counts.now entry in
-    let lacks = c.lacks_addresses-lacks.result in
-    let lacks_is = c.lacks_addresses-lacks.ensures in
-    let allowed = c.in_ok-check_accesses.ensures.allowed in
-    let enough = c.in_ok-check_calls.ensures.enough in
-    let pieces = c.in_ok-pieces.pieces.items in
-    let sorted = c.sort.new.pieces.items in
-    let runs = c.in_ok-runs.runs.items in
-    let ascend = are-ascending image layout body counts c.args.delta ready lacks lacks_is allowed enough pieces sorted
+    let s =
+    are-sorted c.args.body.now (get nat_eq c.args.counts.now) c.lacks_addresses-lacks.result _
+    c.sort.new.pieces.items c.in_ok-check_accesses.ensures.allowed c.in_ok-check_calls.ensures.enough
     c.in_ok-pieces.ensures c.in_ok-sort.ensures.permutation c.in_ok-sort.ensures.order in
-    let are : AreRuns sorted runs =
-    subst (λ l. AreRuns l runs) c.deref.ensures.value
-    (c.in_ok-runs.ensures (subst AreAscending (sym c.deref.ensures.value) ascend)) in
-    let none : All (λ (run : Piece). long_user lacks run ≡ None) runs =
-    subst (All (λ (run : Piece). long_user lacks run ≡ None)) c.deref-2.ensures.value c.in_ok-check_runs.ensures.none in
+    let body = c.args.body.now in
+    let runs = c.in_ok-runs.runs.items in
+    let none =
+    subst (All (λ (run : Piece). long_user c.lacks_addresses-lacks.result run ≡ None)) c.deref-2.ensures.value
+    c.in_ok-check_runs.ensures.none in
     let starts : c.deref-6.result.now ≡ starts_of body.steps.items runs =
     c.deref-6.ensures.value ∙ c.in_ok-starts.ensures
     ∙ ap (λ l. starts_of l c.deref-4.result.now) c.deref-3.ensures.value
     ∙ ap (starts_of body.steps.items) c.deref-4.ensures.value in
-    frame-told image layout body counts c.args.delta ready lacks lacks_is allowed enough pieces sorted
-    c.in_ok-pieces.ensures
-    c.in_ok-sort.ensures.permutation c.in_ok-sort.ensures.order runs are
-    none (record {
+    frame-told image layout c.args.body.now (get nat_eq c.args.counts.now) c.args.delta ready
+    c.lacks_addresses-lacks.result c.lacks_addresses-lacks.ensures c.sort.new.pieces.items s c.deref.result.now
+    c.in_ok-runs.runs.items c.deref.ensures.value c.in_ok-runs.ensures none
+    (record {
       framed = body.framed;
       args = body.args;
       cells = c.in_ok-cells_of.field-0;
-      exposed =
-          c.exposed.result;
+      exposed = c.exposed.result;
     }) refl refl
     (c.in_ok-cells_of.ensures.cells ∙ ap cells_from c.deref-5.ensures.value) c.in_ok-cells_of.ensures.few
     (subst (λ l. All IsNear l → IsLocalBy l c.exposed.result.local) starts c.exposed.ensures.local)

@@ -21,7 +21,7 @@ returns-then-is_bad-clause-refused c =
     let after = c.height_after-after.result in
     let fits : FitsSigned w32 after = search rules in
     let told = simp to_z-of_z at c.is_bad.ensures in
-    bad c.height_after-after.ensures.word
-    (ap (is_bad c.args.framed c.args.op c.args.height) (sym c.height_after-after.ensures.value)
+    bad
+    (ap (is_bad c.args.framed c.args.op c.args.height) (sym c.height_after-after.ensures)
     ∙ sym told
     ∙ c.if-is_bad.true)

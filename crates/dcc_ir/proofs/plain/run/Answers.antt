@@ -22,22 +22,13 @@ loop-done-preserved c =
       fill = c.in_ok-step.ensures.fill ∙ c.loop-done.invariant.fill;
     }
 
-pub returns-clause-events : goal.returns-clause-events
-returns-clause-events c =
+pub returns : goal.returns
+returns c =
     let p = program_of c.args.program.now in
     let last : (c.loop-done.done ≡ c.args.steps) ⊎ (is_over (state_of c.loop-done.run).end ≡ true) = elim c.loop-done-test.branch [
       | then-loop-done-test+else-not-is_over w ↦ inr (sym w.is_over.ensures ∙ w.if-not-is_over.false)
       | else-loop-done-test w ↦ inl (omega (arith, c.loop-done.invariant.within))
     ]
     in
-    ap (λ s. s.events) (stands_at_last p c.args.fill c.args.steps c.loop-done.done (state_of c.loop-done.run) (first_state p c.args.fill c.args.input.now) c.loop-done.invariant.within c.loop-done.invariant.stands last)
-
-pub returns-clause-end : goal.returns-clause-end
-returns-clause-end c =
-    let p = program_of c.args.program.now in
-    let last : (c.loop-done.done ≡ c.args.steps) ⊎ (is_over (state_of c.loop-done.run).end ≡ true) = elim c.loop-done-test.branch [
-      | then-loop-done-test+else-not-is_over w ↦ inr (sym w.is_over.ensures ∙ w.if-not-is_over.false)
-      | else-loop-done-test w ↦ inl (omega (arith, c.loop-done.invariant.within))
-    ]
-    in
-    ap (λ s. s.end) (stands_at_last p c.args.fill c.args.steps c.loop-done.done (state_of c.loop-done.run) (first_state p c.args.fill c.args.input.now) c.loop-done.invariant.within c.loop-done.invariant.stands last)
+    let stands = stands_at_last p c.args.fill c.args.steps c.loop-done.done (state_of c.loop-done.run) (first_state p c.args.fill c.args.input.now) c.loop-done.invariant.within c.loop-done.invariant.stands last in
+    record { events = ap (λ s. s.events) stands; end = ap (λ s. s.end) stands }

@@ -6,4 +6,4 @@ use Rattle.dcc_pipe.proofs.goto_text.push_block.Given as goal
 
 abbrev pub invariant-loop-stmt : goal.invariant-loop-stmt
 invariant-loop-stmt l =
-    map stmt_of l.stmts.items ≡ map stmt_of l.initial.stmts.items ++ map text_stmt (map inner.stmt_of (take l.stmt-index l.stmt-items))
+    map stmt_of l.stmts.items ≡ map stmt_of l.initial.stmts.items ++ map (text_stmt l.bits) (map inner.stmt_of (take l.stmt-index l.stmt-items))

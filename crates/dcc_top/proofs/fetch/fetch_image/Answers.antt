@@ -5,11 +5,11 @@ use Rattle.dcc_top.proofs.fetch.fetch_image.Goals as goal
 
 pub returns-in_err-fetch-clause-refused : goal.returns-in_err-fetch-clause-refused
 returns-in_err-fetch-clause-refused g c =
-    let files = g.H.Shelf.files c.args.shelf.now in
-    let name = c.args.name.now in
     let fault = c.in_err-fetch.field-0.0 in
-    by-error c.from_residual.result (shelf_reply fault) (HasNoImage files name) c.from_residual.ensures.1
-    (no_executable (no_file-of_fault files name c.fetch.new.into.items 262144 fault c.in_err-fetch.ensures.answer))
+    by-error c.from_residual.result (shelf_reply fault) (HasNoImage (g.H.Shelf.files c.args.shelf.now)
+    c.args.name.now) c.from_residual.ensures.1
+    (no_executable (no_file-of_fault (g.H.Shelf.files c.args.shelf.now) c.args.name.now c.fetch.new.into.items 262144
+    fault c.in_err-fetch.ensures.answer))
 
 pub returns-in_err-load-in-Whole-clause-refused : goal.returns-in_err-load-in-Whole-clause-refused
 returns-in_err-load-in-Whole-clause-refused g c =

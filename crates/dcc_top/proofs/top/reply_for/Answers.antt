@@ -25,3 +25,8 @@ pub returns-in-Some-ExecuteText-clause-replies : goal.returns-in-Some-ExecuteTex
 returns-in-Some-ExecuteText-clause-replies g c =
     let job = rw (c.deref.ensures.value, c.in-Some-ExecuteText.field-0-is) at c.in-Some-ExecuteText.ensures in
     rw job c.runc_reply.ensures
+
+pub returns-in-Some-ExecuteWatched-clause-replies : goal.returns-in-Some-ExecuteWatched-clause-replies
+returns-in-Some-ExecuteWatched-clause-replies g c =
+    let job = rw (c.deref.ensures.value, c.in-Some-ExecuteWatched.field-0-is) at c.in-Some-ExecuteWatched.ensures in
+    rw job c.watch_reply.ensures

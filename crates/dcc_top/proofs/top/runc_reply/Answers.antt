@@ -1,12 +1,12 @@
 use Rattle.std.proofs.Common.{List, ℕ, refl}
 use Rattle.dcc_c.specs.Views.{tree_of}
 use Rattle.dcc_top.specs.declared.reply.Reply.{Reply}
-use Rattle.dcc_top.specs.declared.reply.Reply.TheVariants.{NoFile, FileFault, InputFault}
+use Rattle.dcc_top.specs.declared.reply.Reply.TheVariants.{InputFault}
 use Rattle.dcc_top.specs.Words.{ExecuteText}
 use Rattle.dcc_top.specs.Answer.{RunsUnit, ran_no_text, status_of}
 use Rattle.dcc_top.specs.Status.{IsOneOf}
-use Rattle.dcc_top.proofs.StatusLaws.{text_faults, no_unit-status, run_statuses, text_run-status, never, other-than}
-use Rattle.dcc_top.proofs.ReplyLaws.{replies-fetched, replies-unfetched}
+use Rattle.dcc_top.proofs.StatusLaws.{text_faults, no_unit-status, run_statuses, text_run-status, other-than}
+use Rattle.dcc_top.proofs.ReplyLaws.{replies-run, replies-unfetched}
 use Rattle.dcc_top.proofs.TextRunLaws.{reply-of_text, cut-of_text}
 use Rattle.dcc_top.proofs.top.runc_reply.Given as given
 use Rattle.dcc_top.proofs.top.runc_reply.Goals as goal
@@ -15,7 +15,8 @@ pub execute_unit-requires : goal.execute_unit-requires
 execute_unit-requires g c = record { text = c.in-Ok.ensures.unit.file; stands = c.in-Ok.ensures.unit.holds.stands }
 
 -- the statuses of a run of the unit
-run : (g : given.Over) (c : goal.After-drop-unit-in-Ok g) → (reply : Reply) (output : List ℕ) → RunsUnit (tree_of c.in-Ok.unit) c.args.run.steps c.args.run.fill (g.I.Source.left c.args.input.now)
+run : (g : given.Over) (c : goal.After-drop-unit-in-Ok g) → (reply : Reply) (output : List ℕ)
+    → RunsUnit (tree_of c.in-Ok.unit) c.args.run.steps c.args.run.fill (g.I.Source.left c.args.input.now)
     (g.I.Source.left c.execute_unit.new.input) reply output → IsOneOf (status_of reply) run_statuses
 run g c reply output h =
     let read = c.in-Ok.ensures.unit in
@@ -24,17 +25,16 @@ run g c reply output h =
 pub returns-in-Ok : goal.returns-in-Ok
 returns-in-Ok g c =
     let files = g.H.Shelf.files c.args.shelf.now in
-    let name = c.args.run.file.now in
-    let steps = c.args.run.steps in
-    let fill = c.args.run.fill in
+    let text = c.args.run in
     let tree = tree_of c.in-Ok.unit in
     let e = c.execute_unit.ensures in
-    replies-fetched (ExecuteText name steps fill) _ _ _ c.execute_unit.result c.in-Ok.unit c.in-Ok.ensures.asks
-    (reply-of_text files name steps fill tree _ _ _ _ c.execute_unit.result c.in-Ok.ensures.unit e.ran)
-    (cut-of_text files name steps fill tree _ _ c.execute_unit.result c.in-Ok.ensures.unit e.broke_off)
-    (never (RunsUnit tree steps fill _ _) run_statuses (run g c) NoFile refl _ _ _ c.execute_unit.result e.ran)
-    (never (RunsUnit tree steps fill _ _) run_statuses (run g c) FileFault refl _ _ _ c.execute_unit.result e.ran)
-    e.read_failed e.output_faults e.write_failed
+    replies-run (RunsUnit tree text.steps text.fill _ _) run_statuses (run g c) refl refl
+    (ExecuteText text.file.now text.steps text.fill) _ _ _ c.execute_unit.result c.in-Ok.unit c.in-Ok.ensures.asks e.ran
+    (reply-of_text files text.file.now text.steps text.fill tree _ _ _ _ c.execute_unit.result c.in-Ok.ensures.unit
+    e.ran)
+    (cut-of_text files text.file.now text.steps text.fill tree _ _ c.execute_unit.result c.in-Ok.ensures.unit
+    e.broke_off)
+    e.faults
 
 pub returns-in-Err : goal.returns-in-Err
 returns-in-Err g c =

@@ -2,7 +2,6 @@ use Rattle.std.proofs.Common.{refl, sym, subst, rules}
 use Rattle.dcc_prog.specs.declared.refusal.LimitName.TheVariants.{Arguments}
 use Rattle.dcc_prog.specs.declared.refusal.Refusal.TheVariants.{Limit, Memory}
 use Rattle.dcc_prog.specs.Refused.{IsRefusedByFrames, no_memory}
-use Rattle.dcc_frames.specs.Arguments.{IsCounted}
 use Rattle.dcc_frames.specs.Body.{IsBodyRefusal}
 use Rattle.dcc_frames.proofs.BodyLaws.{too-many, is-body}
 use Rattle.dcc_frames.proofs.body.Body.new.Goals as goal
@@ -20,10 +19,7 @@ returns-then-args-gt-MOST_ARGUMENTS-clause-refused c = λ image layout m.
     (too-many image layout c.args.proc.now c.args.heights.now.entries c.args.removed c.args.is_start m
     c.is_framed-framed.result
     (c.is_framed-framed.ensures image layout m.found) c.in_ok-steps.steps.items c.in_ok-steps.ensures
-    c.arguments-args.result
-    (subst
-    (λ l. IsCounted c.args.is_start c.is_framed-framed.result c.args.removed l c.arguments-args.result)
-    c.deref.ensures.value c.arguments-args.ensures)
+    c.arguments-args.result c.deref.result.now c.deref.ensures.value c.arguments-args.ensures
     c.if-args-gt-MOST_ARGUMENTS.true)
 
 pub returns-clause-body : goal.returns-clause-body
@@ -31,8 +27,5 @@ returns-clause-body c = λ image layout m.
     is-body image layout c.args.proc.now c.args.heights.now.entries c.args.removed c.args.is_start m
     c.is_framed-framed.result
     (c.is_framed-framed.ensures image layout m.found) c.in_ok-steps.steps.items c.in_ok-steps.ensures
-    c.arguments-args.result
-    (subst
-    (λ l. IsCounted c.args.is_start c.is_framed-framed.result c.args.removed l c.arguments-args.result)
-    c.deref.ensures.value c.arguments-args.ensures)
+    c.arguments-args.result c.deref.result.now c.deref.ensures.value c.arguments-args.ensures
     _ refl refl refl refl c.if-args-gt-MOST_ARGUMENTS.false

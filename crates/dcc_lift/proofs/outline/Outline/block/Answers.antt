@@ -1,7 +1,7 @@
 use Rattle.std.proofs.Common.{sym, ◌∙◌, refl}
 use Rattle.dcc_ir.specs.Views.{block_of}
 use Rattle.dcc_lift.specs.Known.{nodes_of}
-use Rattle.dcc_lift.specs.Writing.{written}
+use Rattle.dcc_ops.specs.Writing.{written}
 use Rattle.dcc_lift.proofs.BegunLaws.{begun-more, begun-all}
 use Rattle.dcc_lift.proofs.outline.Outline.block.Goals as goal
 

@@ -1,7 +1,7 @@
 -- The statements so far, and the offset of the last instruction.
 use Rattle.std.proofs.Common.{◌-◌}
 use Rattle.dcc_lift.specs.Known.{nodes_of}
-use Rattle.dcc_lift.specs.Writing.{written}
+use Rattle.dcc_ops.specs.Writing.{written}
 use Rattle.dcc_lift.proofs.BegunLaws.{IsBegun}
 use Rattle.dcc_lift.proofs.outline.Outline.block.Given as goal
 

@@ -24,3 +24,13 @@ returns-in-Outside-clause-writes g c =
     let written : styled_digits_output c.in_radix-in-Outside.result c.laid_out-in-Outside.result ≡ Some (hex_offset c.in-Outside.at) =
     rw (c.laid_out-in-Outside.ensures, c.in_radix-in-Outside.ensures) (ap Some (hex_offset-padded c.in-Outside.at small)) in
     rw c.in-Outside.is (rw written at c.writeln-in-Outside.ensures.writes)
+
+pub returns-in-Foul-clause-writes : goal.returns-in-Foul-clause-writes
+returns-in-Foul-clause-writes g c =
+    let small : c.in-Foul.at < 2 ^ 16 = omega arith in
+    let low : c.in-Foul.address < 2 ^ 16 = omega arith in
+    let place : styled_digits_output c.in_radix-in-Foul.result c.laid_out-in-Foul.result ≡ Some (hex_offset c.in-Foul.at) =
+    rw (c.laid_out-in-Foul.ensures, c.in_radix-in-Foul.ensures) (ap Some (hex_offset-padded c.in-Foul.at small)) in
+    let byte : styled_digits_output c.in_radix-in-Foul-2.result c.laid_out-in-Foul-2.result ≡ Some (hex_offset c.in-Foul.address) =
+    rw (c.laid_out-in-Foul-2.ensures, c.in_radix-in-Foul-2.ensures) (ap Some (hex_offset-padded c.in-Foul.address low)) in
+    rw c.in-Foul.is (rw (c.foul_word-word.ensures, place, byte) at c.writeln-in-Foul.ensures.writes)

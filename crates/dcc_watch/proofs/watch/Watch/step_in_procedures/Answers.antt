@@ -1,19 +1,17 @@
-use Rattle.std.proofs.Common.{◌≡◌, ◌<◌, ◌≤◌, map, length, true, false, refl, sym, ap, ◌∙◌, subst, arith}
+use Rattle.std.proofs.Common.{◌≡◌, length, true, false, refl, sym, ap, ◌∙◌, subst, arith}
 use Rattle.std.specs.Prelude.{option_map}
-use Rattle.std.proofs.lemmas.List.{length-map}
 use Rattle.dcc_prog.specs.Table.{instruction_at}
 use Rattle.dcc_prog.specs.Step.{code_bytes}
-use Rattle.dcc_console.specs.Scene.{scene}
-use Rattle.dcc_console.specs.Steps.{Steps}
 use Rattle.dcc_step.specs.Core.{Core, state_of}
 use Rattle.dcc_watch.specs.declared.progress.Progress.TheVariants.{Stopped}
-use Rattle.dcc_watch.specs.declared.watched.Watched.TheVariants.{Clean}
 use Rattle.dcc_watch.specs.Foul.{told_foul}
 use Rattle.dcc_watch.specs.Kept.{Kept}
-use Rattle.dcc_watch.specs.Shapes.{live_frame}
-use Rattle.dcc_watch.specs.Watching.{Watching, AllHaveShapes, is_before, stage_of}
-use Rattle.dcc_watch.specs.Executor.{watched, outcome_of, is_stopped, is_in_procedures}
-use Rattle.dcc_watch.proofs.KeptLaws.{viewed, foul_tells, follow_after, IsInside, in_procedures, inside_unstopped, is_full, has_room, step_foul, step_refused, step_made, same_kept, machine_end}
+use Rattle.dcc_watch.specs.Watching.{Watching, AllHaveShapes, stage_of}
+use Rattle.dcc_watch.specs.Reached.{IsKept, is_before}
+use Rattle.dcc_watch.specs.Executor.{is_stopped, is_in_procedures}
+use Rattle.dcc_watch.proofs.KeptLaws.{viewed, foul_tells, follow_after, in_procedures, inside_unstopped, machine_end}
+use Rattle.dcc_watch.proofs.InsideLaws.{inside_of, foul_step, foul_comes, refused_step, room_for_call, made_step, made_comes}
+use Rattle.dcc_watch.proofs.StepLaws.{refused_kept, made_unless, clean_faults}
 use Rattle.dcc_watch.proofs.watch.Watch.step_in_procedures.Goals as goal
 
 pub of-before-requires : goal.of-before-requires
@@ -25,30 +23,25 @@ next_foul-requires g c = c.of-before.ensures.list
 pub invariant_of-self : goal.invariant_of-self
 invariant_of-self g c = record {
   table = c.self.invariant.table;
-  some_room = c.self.invariant.some_room;
+  room_is = c.self.invariant.room_is;
   known = c.self.invariant.known;
   no_frame = λ is. cc;
   no_mark = λ is. cc;
+  reached =
+      foul_comes c.self.inside c.next_instruction-found.new.self c.next_instruction-found.result c.args.self.now
+      (inside_of c.self.inside c.next_instruction-found.new.self c.next_instruction-found.result c.args.self.now
+      c.next_instruction-found.ensures.kept c.self.view_is c.requires.runs c.requires.inside
+      c.next_instruction-found.ensures.found c.self.invariant.known)
+      c.in-Some.foul (ap (option_map told_foul) (sym c.in-Some.is) ∙ c.next_foul.ensures) c.self.invariant.reached;
 }
 
 pub returns-in-Some-clause-step : goal.returns-in-Some-clause-step
 returns-in-Some-clause-step g c =
-    let i = c.self.inside in
-    let m : Core = c.next_instruction-found.new.self in
-    let found = c.next_instruction-found.result in
-    let kept = c.next_instruction-found.ensures.kept in
-    let view : viewed i.layout i.shapes.items i.stack.frames.room m i.progress i.stack.frames.live i.stack.written ≡ c.args.self.now =
-    ap (λ (k : Core). viewed i.layout i.shapes.items i.stack.frames.room k i.progress i.stack.frames.live i.stack.written) kept ∙ c.self.view_is in
-    let h : IsInside i.layout i.shapes.items i.stack.frames.room m i.progress i.stack.frames.live i.stack.written found = record {
-      runs = ap (λ (k : Watching). k.machine.end) view ∙ c.requires.runs;
-      is_found = c.next_instruction-found.ensures.found ∙ ap (λ (k : Core). instruction_at k.cpu k.ip (code_bytes (state_of k))) (sym kept);
-      inside = ap (λ (k : Watching). is_in_procedures k.stage) view ∙ c.requires.inside;
-      known = c.self.invariant.known;
-    } in
-    let new = viewed i.layout i.shapes.items i.stack.frames.room m (Stopped c.in-Some.foul) i.stack.frames.live i.stack.written in
-    subst (λ (k : Watching). Steps watched (outcome_of c.answer.result) (scene k (g.I.Source.left c.args.input.now) (g.O.Sink.taken c.args.out.now)) (scene new (g.I.Source.left c.args.input.now) (g.O.Sink.taken c.args.out.now))) view
-    (step_foul i.layout i.shapes.items i.stack.frames.room m i.progress i.stack.frames.live i.stack.written found (g.I.Source.left c.args.input.now) (g.O.Sink.taken c.args.out.now) h c.in-Some.foul c.answer.result
-    (ap (option_map told_foul) (sym c.in-Some.is) ∙ c.next_foul.ensures) c.answer.ensures)
+    foul_step c.self.inside c.next_instruction-found.new.self c.next_instruction-found.result c.args.self.now
+    (inside_of c.self.inside c.next_instruction-found.new.self c.next_instruction-found.result c.args.self.now
+    c.next_instruction-found.ensures.kept c.self.view_is c.requires.runs c.requires.inside
+    c.next_instruction-found.ensures.found c.self.invariant.known)
+    (g.I.Source.left c.args.input.now) (g.O.Sink.taken c.args.out.now) c.in-Some.foul c.answer.result (ap (option_map told_foul) (sym c.in-Some.is) ∙ c.next_foul.ensures) c.answer.ensures
 
 pub returns-in-Some-clause-tells : goal.returns-in-Some-clause-tells
 returns-in-Some-clause-tells g c =
@@ -65,41 +58,6 @@ returns-in-Some-clause-faults g c = record {
   write_failed = λ e. cc c.answer.ensures;
 }
 
-pub invariant_of-self-then-lacks_room : goal.invariant_of-self-then-lacks_room
-invariant_of-self-then-lacks_room g c = c.self.invariant
-
-pub returns-then-lacks_room-clause-step : goal.returns-then-lacks_room-clause-step
-returns-then-lacks_room-clause-step g c =
-    let i = c.self.inside in
-    let view : viewed i.layout i.shapes.items i.stack.frames.room c.next_instruction-found.new.self i.progress i.stack.frames.live i.stack.written ≡ c.args.self.now =
-    ap (λ (k : Core). viewed i.layout i.shapes.items i.stack.frames.room k i.progress i.stack.frames.live i.stack.written) c.next_instruction-found.ensures.kept ∙ c.self.view_is in
-    same_kept c.args.self.now _ (g.I.Source.left c.args.input.now) (g.O.Sink.taken c.args.out.now) (sym view)
-
-pub returns-then-lacks_room-clause-tells : goal.returns-then-lacks_room-clause-tells
-returns-then-lacks_room-clause-tells g c =
-    let inside : is_in_procedures (stage_of c.self.inside.progress c.self.inside.stack.frames.live c.self.inside.stack.written) ≡ true =
-    ap (λ (k : Watching). is_in_procedures k.stage) c.self.view_is ∙ c.requires.inside in
-    let here = in_procedures c.self.inside.progress c.self.inside.stack.frames.live c.self.inside.stack.written inside in
-    let live = c.self.inside.stack.frames.live in
-    let runs = ap (λ (m : Core). m.end) c.next_instruction-found.ensures.kept ∙ ap (λ (k : Watching). k.machine.end) c.self.view_is ∙ c.requires.runs in (
-      runs,
-      record {
-        stack = record { frames = map live_frame live; written = c.self.inside.stack.written };
-        stage = ap (λ p. stage_of p live c.self.inside.stack.written) here;
-        full =
-            subst (λ n. c.self.inside.stack.frames.room ≤ n) (sym (length-map live live_frame))
-            (is_full _ (length live) c.self.inside.stack.frames.room (sym c.lacks_room.ensures ∙ c.if-lacks_room.true));
-      },
-    )
-
-pub returns-then-lacks_room-clause-faults : goal.returns-then-lacks_room-clause-faults
-returns-then-lacks_room-clause-faults g c = record {
-  input_faults = omega arith;
-  output_faults = omega arith;
-  read_failed = λ e. cc;
-  write_failed = λ e. cc;
-}
-
 pub make-stepped-requires-clause-runs : goal.make-stepped-requires-clause-runs
 make-stepped-requires-clause-runs g c =
     ap (λ (m : Core). m.end) c.next_instruction-found.ensures.kept ∙ ap (λ (k : Watching). k.machine.end) c.self.view_is ∙ c.requires.runs
@@ -112,29 +70,24 @@ pub make-stepped-requires-clause-operation : goal.make-stepped-requires-clause-o
 make-stepped-requires-clause-operation g c = c.next_instruction-found.ensures.operation
 
 pub invariant_of-self-then-is_refused : goal.invariant_of-self-then-is_refused
-invariant_of-self-then-is_refused g c = c.self.invariant
+invariant_of-self-then-is_refused g c =
+    let i = c.self.inside in
+    let same : c.make-stepped.new.self ≡ i.machine =
+    refused_kept c.make-stepped.result c.next_instruction-found.new.self c.make-stepped.new.self _ _ _ _
+    (sym c.is_refused.ensures ∙ c.if-is_refused.true) c.make-stepped.ensures.step
+    ∙ c.next_instruction-found.ensures.kept in
+    subst (λ k. IsKept i.layout i.shapes.items i.stack.frames.room k i.stack.frames.live i.stack.written i.progress) (sym same)
+    c.self.invariant
 
 pub returns-then-is_refused-clause-step : goal.returns-then-is_refused-clause-step
 returns-then-is_refused-clause-step g c =
-    let i = c.self.inside in
-    let m : Core = c.next_instruction-found.new.self in
-    let found = c.next_instruction-found.result in
-    let kept = c.next_instruction-found.ensures.kept in
-    let view : viewed i.layout i.shapes.items i.stack.frames.room m i.progress i.stack.frames.live i.stack.written ≡ c.args.self.now =
-    ap (λ (k : Core). viewed i.layout i.shapes.items i.stack.frames.room k i.progress i.stack.frames.live i.stack.written) kept ∙ c.self.view_is in
-    let h : IsInside i.layout i.shapes.items i.stack.frames.room m i.progress i.stack.frames.live i.stack.written found = record {
-      runs = ap (λ (k : Watching). k.machine.end) view ∙ c.requires.runs;
-      is_found = c.next_instruction-found.ensures.found ∙ ap (λ (k : Core). instruction_at k.cpu k.ip (code_bytes (state_of k))) (sym kept);
-      inside = ap (λ (k : Watching). is_in_procedures k.stage) view ∙ c.requires.inside;
-      known = c.self.invariant.known;
-    } in
-    let l = g.I.Source.left c.make-stepped.new.input in
-    let t = g.O.Sink.taken c.make-stepped.new.out in
-    let new = viewed i.layout i.shapes.items i.stack.frames.room c.make-stepped.new.self i.progress i.stack.frames.live i.stack.written in
-    subst (λ (k : Watching). Steps watched (outcome_of (Clean c.make-stepped.result)) (scene k (g.I.Source.left c.args.input.now) (g.O.Sink.taken c.args.out.now)) (scene new l t)) view
-    (step_refused i.layout i.shapes.items i.stack.frames.room m i.progress i.stack.frames.live i.stack.written found (g.I.Source.left c.args.input.now) (g.O.Sink.taken c.args.out.now) h c.make-stepped.result
-    c.make-stepped.new.self l t (ap (option_map told_foul) (sym c.in_default.is) ∙ c.next_foul.ensures)
-    (sym c.is_refused.ensures ∙ c.if-is_refused.true) c.make-stepped.ensures.step)
+    refused_step c.self.inside c.next_instruction-found.new.self c.next_instruction-found.result c.args.self.now
+    (inside_of c.self.inside c.next_instruction-found.new.self c.next_instruction-found.result c.args.self.now
+    c.next_instruction-found.ensures.kept c.self.view_is c.requires.runs c.requires.inside
+    c.next_instruction-found.ensures.found c.self.invariant.known)
+    (g.I.Source.left c.args.input.now) (g.O.Sink.taken c.args.out.now) (g.I.Source.left c.make-stepped.new.input) (g.O.Sink.taken c.make-stepped.new.out) c.make-stepped.result
+    c.make-stepped.new.self (ap (option_map told_foul) (sym c.in_default.is) ∙ c.next_foul.ensures)
+    (sym c.is_refused.ensures ∙ c.if-is_refused.true) c.make-stepped.ensures.step
 
 pub returns-then-is_refused-clause-tells : goal.returns-then-is_refused-clause-tells
 returns-then-is_refused-clause-tells g c =
@@ -143,12 +96,7 @@ returns-then-is_refused-clause-tells g c =
     (machine_end c.make-stepped.new.self c.make-stepped.result c.make-stepped.ensures.answer, inside_unstopped _ inside)
 
 pub returns-then-is_refused-clause-faults : goal.returns-then-is_refused-clause-faults
-returns-then-is_refused-clause-faults g c = record {
-  input_faults = c.make-stepped.ensures.faults.input_faults;
-  output_faults = c.make-stepped.ensures.faults.output_faults;
-  read_failed = λ e. c.make-stepped.ensures.faults.read_failed (cc);
-  write_failed = λ e. c.make-stepped.ensures.faults.write_failed (cc);
-}
+returns-then-is_refused-clause-faults g c = clean_faults c.make-stepped.result _ _ _ _ c.make-stepped.ensures.faults
 
 pub follow-requires-clause-table : goal.follow-requires-clause-table
 follow-requires-clause-table g c =
@@ -156,54 +104,60 @@ follow-requires-clause-table g c =
 
 pub follow-requires-clause-room : goal.follow-requires-clause-room
 follow-requires-clause-room g c =
-    λ call. has_room _ (length c.self.inside.stack.frames.live) c.self.inside.stack.frames.room (sym c.lacks_room.ensures ∙ c.if-lacks_room.false) call
+    room_for_call c.self.inside c.next_instruction-found.new.self c.next_instruction-found.result c.args.self.now
+    (inside_of c.self.inside c.next_instruction-found.new.self c.next_instruction-found.result c.args.self.now
+    c.next_instruction-found.ensures.kept c.self.view_is c.requires.runs c.requires.inside
+    c.next_instruction-found.ensures.found c.self.invariant.known)
+    (ap (option_map told_foul) (sym c.in_default.is) ∙ c.next_foul.ensures) c.self.invariant.room_is c.self.invariant.reached
 
 pub invariant_of-self-2 : goal.invariant_of-self-2
 invariant_of-self-2 g c =
-    let inside : is_in_procedures (stage_of c.self.inside.progress c.self.inside.stack.frames.live c.self.inside.stack.written) ≡ true =
-    ap (λ (k : Watching). is_in_procedures k.stage) c.self.view_is ∙ c.requires.inside in
-    let here = in_procedures c.self.inside.progress c.self.inside.stack.frames.live c.self.inside.stack.written inside in
-    let shapes = c.self.inside.shapes.items in
-    let old = c.self.inside.stack.frames.live in
-    let new = c.follow.new.stack.frames.live in
+    let i = c.self.inside in
+    let here = in_procedures i.progress i.stack.frames.live i.stack.written
+    (ap (λ (k : Watching). is_in_procedures k.stage) c.self.view_is ∙ c.requires.inside) in
+    let stack = c.follow.new.stack in
+    let room : stack.frames.room ≡ i.stack.frames.room = ap (λ (k : Kept). k.room) c.follow.ensures.frames in
+    let after =
+    follow_after c.self.inside.layout c.deref.result.now c.next_instruction-found.result c.self.inside.stack.frames.live
+    c.self.inside.stack.written (state_of c.next_instruction-found.new.self) (state_of c.make-stepped.new.self)
+    c.of-before.result.list c.of-before.result.top c.follow.new.stack.frames.live c.follow.new.stack.written
+    c.of-before.ensures.list c.of-before.ensures.top (ap (λ (k : Kept). k.live) c.follow.ensures.frames)
+    c.follow.ensures.written in
     record {
       table = c.self.invariant.table;
-      some_room = subst (λ n. 0 < n) (sym (ap (λ (k : Kept). k.room) c.follow.ensures.frames)) c.self.invariant.some_room;
+      room_is = room ∙ c.self.invariant.room_is;
       known =
-          subst (λ s. AllHaveShapes s new) c.deref.ensures.value
-          (c.follow.ensures.known (subst (λ s. AllHaveShapes s old) (sym c.deref.ensures.value) c.self.invariant.known));
+          subst (λ s. AllHaveShapes s stack.frames.live) c.deref.ensures.value
+          (c.follow.ensures.known (subst (λ s. AllHaveShapes s i.stack.frames.live) (sym c.deref.ensures.value) c.self.invariant.known));
       no_frame = λ is. let no : true ≡ false = sym is ∙ ap is_before here in cc;
       no_mark = λ is. let no : true ≡ false = sym is ∙ ap is_before here in cc;
+      reached =
+          made_comes c.self.inside c.next_instruction-found.new.self c.next_instruction-found.result c.args.self.now
+          (inside_of c.self.inside c.next_instruction-found.new.self c.next_instruction-found.result c.args.self.now
+          c.next_instruction-found.ensures.kept c.self.view_is c.requires.runs c.requires.inside
+          c.next_instruction-found.ensures.found c.self.invariant.known)
+          c.make-stepped.new.self stack.frames stack.written room
+          (ap (option_map told_foul) (sym c.in_default.is) ∙ c.next_foul.ensures) after
+          (c.make-stepped.ensures.bytes (made_unless c.make-stepped.result (sym c.is_refused.ensures ∙ c.if-is_refused.false)))
+          c.self.invariant.reached;
     }
 
 pub returns-clause-step : goal.returns-clause-step
 returns-clause-step g c =
-    let i = c.self.inside in
-    let m : Core = c.next_instruction-found.new.self in
-    let found = c.next_instruction-found.result in
-    let kept = c.next_instruction-found.ensures.kept in
-    let view : viewed i.layout i.shapes.items i.stack.frames.room m i.progress i.stack.frames.live i.stack.written ≡ c.args.self.now =
-    ap (λ (k : Core). viewed i.layout i.shapes.items i.stack.frames.room k i.progress i.stack.frames.live i.stack.written) kept ∙ c.self.view_is in
-    let h : IsInside i.layout i.shapes.items i.stack.frames.room m i.progress i.stack.frames.live i.stack.written found = record {
-      runs = ap (λ (k : Watching). k.machine.end) view ∙ c.requires.runs;
-      is_found = c.next_instruction-found.ensures.found ∙ ap (λ (k : Core). instruction_at k.cpu k.ip (code_bytes (state_of k))) (sym kept);
-      inside = ap (λ (k : Watching). is_in_procedures k.stage) view ∙ c.requires.inside;
-      known = c.self.invariant.known;
-    } in
-    let l = g.I.Source.left c.make-stepped.new.input in
-    let t = g.O.Sink.taken c.make-stepped.new.out in
-    let now = c.make-stepped.new.self in
-    let stack = c.follow.new.stack in
-    let after = follow_after i.layout c.deref.result.now found i.stack.frames.live i.stack.written (state_of m) (state_of now) c.of-before.result.list c.of-before.result.top
-    stack.frames.live stack.written c.of-before.ensures.list c.of-before.ensures.top (ap (λ (k : Kept). k.live) c.follow.ensures.frames) c.follow.ensures.written in
-    let new = viewed i.layout i.shapes.items i.stack.frames.room now i.progress stack.frames.live stack.written in
-    let same_room : new ≡ viewed i.layout i.shapes.items stack.frames.room now i.progress stack.frames.live stack.written =
-    ap (λ r. viewed i.layout i.shapes.items r now i.progress stack.frames.live stack.written) (sym (ap (λ (k : Kept). k.room) c.follow.ensures.frames)) in
-    subst (λ (k : Watching). Steps watched (outcome_of (Clean c.make-stepped.result)) (scene c.args.self.now (g.I.Source.left c.args.input.now) (g.O.Sink.taken c.args.out.now)) (scene k l t)) same_room
-    (subst (λ (k : Watching). Steps watched (outcome_of (Clean c.make-stepped.result)) (scene k (g.I.Source.left c.args.input.now) (g.O.Sink.taken c.args.out.now)) (scene new l t)) view
-    (step_made i.layout i.shapes.items i.stack.frames.room m i.progress i.stack.frames.live i.stack.written found (g.I.Source.left c.args.input.now) (g.O.Sink.taken c.args.out.now) h c.make-stepped.result
-    now stack.frames.live stack.written l t (ap (option_map told_foul) (sym c.in_default.is) ∙ c.next_foul.ensures)
-    (sym c.is_refused.ensures ∙ c.if-is_refused.false) after c.make-stepped.ensures.step))
+    made_step c.self.inside c.next_instruction-found.new.self c.next_instruction-found.result c.args.self.now
+    (inside_of c.self.inside c.next_instruction-found.new.self c.next_instruction-found.result c.args.self.now
+    c.next_instruction-found.ensures.kept c.self.view_is c.requires.runs c.requires.inside
+    c.next_instruction-found.ensures.found c.self.invariant.known)
+    (g.I.Source.left c.args.input.now) (g.O.Sink.taken c.args.out.now) (g.I.Source.left c.make-stepped.new.input) (g.O.Sink.taken c.make-stepped.new.out) c.make-stepped.result
+    c.make-stepped.new.self c.follow.new.stack.frames c.follow.new.stack.written
+    (ap (λ (k : Kept). k.room) c.follow.ensures.frames) (ap (option_map told_foul) (sym c.in_default.is) ∙ c.next_foul.ensures)
+    (sym c.is_refused.ensures ∙ c.if-is_refused.false)
+    (follow_after c.self.inside.layout c.deref.result.now c.next_instruction-found.result c.self.inside.stack.frames.live
+    c.self.inside.stack.written (state_of c.next_instruction-found.new.self) (state_of c.make-stepped.new.self)
+    c.of-before.result.list c.of-before.result.top c.follow.new.stack.frames.live c.follow.new.stack.written
+    c.of-before.ensures.list c.of-before.ensures.top (ap (λ (k : Kept). k.live) c.follow.ensures.frames)
+    c.follow.ensures.written)
+    c.make-stepped.ensures.step
 
 pub returns-clause-tells : goal.returns-clause-tells
 returns-clause-tells g c =
@@ -215,9 +169,4 @@ returns-clause-tells g c =
     )
 
 pub returns-clause-faults : goal.returns-clause-faults
-returns-clause-faults g c = record {
-  input_faults = c.make-stepped.ensures.faults.input_faults;
-  output_faults = c.make-stepped.ensures.faults.output_faults;
-  read_failed = λ e. c.make-stepped.ensures.faults.read_failed (cc);
-  write_failed = λ e. c.make-stepped.ensures.faults.write_failed (cc);
-}
+returns-clause-faults g c = clean_faults c.make-stepped.result _ _ _ _ c.make-stepped.ensures.faults

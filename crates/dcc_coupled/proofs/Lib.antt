@@ -1,0 +1,11 @@
+pub mod Coupling
+pub mod CellSlots
+pub mod FrameBytes
+pub mod OperandBytes
+pub mod PlacesRead
+pub mod PlacesWritten
+pub mod StepsAgree
+pub mod OperationsAgree
+pub mod Pushes
+pub mod Pops
+pub mod Begins

@@ -1,0 +1,292 @@
+-- A PUSH: SP falls, and the word below it takes the operand in both runs.
+use Rattle.std.proofs.Common.{◌≡◌, ◌≤◌, ◌<◌, inl, inr, ℕ, ◌+◌, ◌-◌, ◌*◌, ◌/◌, ◌%◌, Bool, true, false, List, [], ◌∷◌, ◌++◌, filter, Some, refl, sym, ap, ap₂, ◌∙◌, subst, arith}
+use Rattle.std.specs.Prelude.{pos, neg_ℤ, ◌+ℤ◌, ◌-ℤ◌, ◌<ℤ◌, int_lt, not, if◌then◌else◌, slice_set}
+use Rattle.std.proofs.lemmas.Bool.{eq-eqb}
+use Rattle.std.proofs.lemmas.Int.{ints}
+use Rattle.std.proofs.Math.Nat.{mod-eq_of_lt}
+use Rattle.dcc_run.specs.End.{is_over}
+use Rattle.dcc_num.specs.declared.Width.TheVariants.{Word as word_width}
+use Rattle.dcc_num.specs.declared.Reg.TheVariants.{Sp, Bp}
+use Rattle.dcc_num.specs.Numbers.{limit_of}
+use Rattle.dcc_prog.specs.declared.procedure.Layout.{Layout}
+use Rattle.dcc_prog.specs.declared.instr.Operand.{Operand}
+use Rattle.dcc_prog.specs.declared.instr.Operand.TheVariants.{Word, Byte, Seg, Mem, Const}
+use Rattle.dcc_prog.specs.declared.instr.Op.TheVariants.{Push}
+use Rattle.dcc_prog.specs.declared.instr.Instr.{Instr}
+use Rattle.dcc_prog.specs.Machine.{State as Machine, word_in, with_word_in, with_word_at_offset, stack_segment, physical, operand_value}
+use Rattle.dcc_prog.specs.Operations.{after_push}
+use Rattle.dcc_prog.specs.Step.{op_step, step}
+use Rattle.dcc_prog.specs.StateForm.{IsState}
+use Rattle.dcc_prog.specs.WellFormed.{IsWordOperand, IsOperation}
+use Rattle.dcc_prog.specs.Trail.{next_of, StandsAt}
+use Rattle.dcc_prog.specs.Height.{MovesHeight}
+use Rattle.dcc_prog.specs.FrameForm.{is_framed, is_sp_or_bp}
+use Rattle.dcc_prog.specs.Access.{Reading, operand_accesses, push_access, accesses, stored}
+use Rattle.dcc_prog.specs.CleanLaws.{moves_frames}
+use Rattle.dcc_prog.specs.Clean.{Stack, top_in, end_of, is_low, is_reading, with_marks, stack_bytes, stored_bytes, stack_after, sp_after}
+use Rattle.dcc_prog.proofs.LocationKept.{or-none, word-taken}
+use Rattle.dcc_prog.proofs.StateKept.{same-state, value-fits}
+use Rattle.dcc_stack.specs.Accepted.{FrameStays, changes_frame}
+use Rattle.dcc_stack.specs.Standing.{Activation, StandsIn}
+use Rattle.dcc_stack.specs.Apart.{IsApart}
+use Rattle.dcc_stack.specs.Slots.{IsChangeable}
+use Rattle.dcc_stack.specs.SlotLaws.{stores_at, marks_at}
+use Rattle.dcc_stack.proofs.ApartAccesses.{clean-step}
+use Rattle.dcc_stack.proofs.ApartFrames.{top-below}
+use Rattle.dcc_stack.proofs.ApartWrites.{in-data}
+use Rattle.dcc_stack.proofs.FormLaws.{in-form}
+use Rattle.dcc_stack.proofs.StepInner.{push-height}
+use Rattle.dcc_stack.proofs.TableSteps.{IsStepOf, step-of}
+use Rattle.dcc_ir.specs.Run.{State}
+use Rattle.dcc_ops.specs.Place.{Place}
+use Rattle.dcc_coupled.specs.Coupled.{Setting, AreCoupled}
+use Rattle.dcc_coupled.specs.Places.{IsFramePlace, taken, bytes_from, offsets_of, IsOfFrame}
+use Rattle.dcc_coupled.specs.Laws.{IsCleanInstruction, Within, WordsArePushed}
+use Rattle.dcc_coupled.proofs.Coupling.{carried_laws, coupled}
+use Rattle.dcc_coupled.proofs.FrameBytes.{not-equal, frames-written}
+use Rattle.dcc_coupled.proofs.OperandBytes.{there}
+use Rattle.dcc_coupled.proofs.PlacesWritten.{marks-same}
+use Rattle.dcc_coupled.proofs.StepsAgree.{pointers-move, none-rises, steps-agree}
+
+value-of : (s : Machine) (ip : ℕ) (x : Operand) → operand_value (record s { ip = ip }) x ≡ operand_value s x
+value-of s ip (Word r) = refl
+value-of s ip (Byte r half) = refl
+value-of s ip (Seg number) = refl
+value-of s ip (Mem width ea) = refl
+value-of s ip (Const width constant) = refl
+
+plain-frame : (x : Operand) → is_sp_or_bp x ≡ false → changes_frame (Push x) ≡ false
+plain-frame (Word Sp) plain = cc
+plain-frame (Word Bp) plain = cc
+plain-frame x plain = refl
+
+-- what a push stores is the word that is pushed alone
+push-stores : (x : Operand) (s u : Machine)
+    → filter (λ access. not (is_reading access)) (operand_accesses Reading x s ++ push_access u ∷ []) ≡ push_access u
+    ∷ []
+push-stores (Mem width ea) s u = refl
+push-stores x s u = refl
+
+-- a word is stored in two bytes
+two-stored : (u : Machine) (segment offset v base first : ℕ) → physical segment offset ≡ base + (first + 0)
+    → physical segment ((offset + 1) % 65536) ≡ base + (first + 1)
+    → with_word_at_offset u segment offset v
+    ≡ record u {
+      memory =
+          stored (stores_at (λ n. base + n) (offsets_of word_width (λ index. first + index)) (bytes_from first v))
+          u.memory;
+    }
+two-stored u segment offset v base first low high =
+    ap₂ (λ n m. record u { memory = slice_set (slice_set u.memory n (v % 256)) m (v / 256) }) low high
+    ∙ ap₂ (λ x y. record u { memory = slice_set (slice_set u.memory (base + (first + 0)) x) (base + (first + 1)) y })
+    (sym (ap (λ b. if b then v % 256 else v / 256) (eq-eqb (first + 0) first (omega arith))))
+    (sym (ap (λ b. if b then v % 256 else v / 256) (not-equal (first + 1) first (λ same. omega (arith, same)))))
+
+-- a push with SP and the offsets told
+pushed-is : (s : Machine) (v sp base first : ℕ) → IsState s → (word_in s Sp + 65534) % 65536 ≡ sp
+    → physical (stack_segment s) sp ≡ base + (first + 0)
+    → physical (stack_segment s) ((sp + 1) % 65536) ≡ base + (first + 1)
+    → after_push v s
+    ≡ record (with_word_in s Sp sp) {
+      memory =
+          stored (stores_at (λ n. base + n) (offsets_of word_width (λ index. first + index)) (bytes_from first v))
+          s.memory;
+    }
+pushed-is s v sp base first form falls low high =
+    ap (λ n. with_word_at_offset (with_word_in s Sp n) (stack_segment s) (word_in (with_word_in s Sp n) Sp) v) falls
+    ∙ ap (λ n. with_word_at_offset (with_word_in s Sp sp) (stack_segment s) n v)
+    (word-taken s Sp Sp sp form.registers.count refl)
+    ∙ two-stored (with_word_in s Sp sp) (stack_segment s) sp v base first low high
+
+module _ (e : Setting) (s : Machine) (stack : Stack) (instr : Instr) (x : Operand) (t : State) (place : Place)
+    (is : IsCleanInstruction e s stack instr)
+    (stands :
+    StandsIn e.image e.program.layout s.memory is.stands.newest (top_in e.program.layout s) (word_in s Bp))
+    (push : instr.op ≡ Push x) (plain : is_sp_or_bp x ≡ false) (before : Within is stack.written s t)
+    (at : IsFramePlace e is.stands.newest.frame.entry (neg_ℤ (pos stands.height)) word_width place) where
+  abbrev layout : Layout
+  layout = e.program.layout
+
+  abbrev a : Activation
+  a = is.stands.newest
+
+  abbrev top : ℕ
+  top = top_in e.program.layout s
+
+  abbrev sp : ℕ
+  sp = word_in s Sp - 2
+
+  abbrev first : ℕ
+  first = word_in s Sp - 2 + e.program.layout.delta
+
+  abbrev here : Machine
+  here = record s { ip = next_of s.ip instr }
+
+  abbrev lowered : Machine
+  lowered = with_word_in (record s { ip = next_of s.ip instr }) Sp (word_in s Sp - 2)
+
+  -- SP
+
+  bounds : (int_lt (pos (word_in s Sp) -ℤ pos 2) (pos 0) ≡ false)
+      × (int_lt ((pos (word_in s Sp) -ℤ pos 2) +ℤ pos layout.delta) (pos layout.lo) ≡ false)
+  bounds =
+      or-none (int_lt (pos (word_in s Sp) -ℤ pos 2) (pos 0))
+      (int_lt ((pos (word_in s Sp) -ℤ pos 2) +ℤ pos layout.delta) (pos layout.lo))
+      (subst (λ o. is_low layout (sp_after o s) ≡ false) push (clean-step e.program stack s instr is.clean).low)
+
+  falls : sp + 2 ≡ word_in s Sp
+  falls = let room = bounds.0 in omega (arith, ints, room)
+
+  above-low : layout.lo ≤ sp + layout.delta
+  above-low = let above = bounds.1 in let down = falls in omega (arith, ints, above, down)
+
+  below-high : top ≤ layout.hi
+  below-high = top-below e.image layout s.memory is.stands.stand
+
+  sp-small : word_in s Sp < 65536
+  sp-small = is.stands.segments.state.registers.words Sp
+
+  -- the frame
+
+  pushes-there : StandsAt e.image layout a.at (Push x)
+  pushes-there = subst (StandsAt e.image layout a.at) push (there e s stack instr is)
+
+  deep : is_framed e.image layout a.frame.entry ≡ true → 2 ≤ stands.height
+  deep framed = by (in-form.stays e.cpu e.image e.program a.frame.entry a.at a.before stands.height going.0 (Push x)
+      is.of_file stands.is_at pushes-there going.1 framed (plain-frame x plain))
+    where
+      going : (after : ℕ) × MovesHeight e.image e.program.layout a.frame.entry a.at (Push x) (pos stands.height) (pos
+          after)
+      going =
+          in-form.moved e.cpu e.image e.program a.frame.entry a.at a.before stands.height (Push x) is.of_file
+          stands.is_at
+          pushes-there (λ count other. cc)
+
+      by : FrameStays stands.height going.0 → 2 ≤ stands.height
+      by (inl both) = both.0
+      by (inr both) =
+          let rises = push-height going.1 in
+          let none = both.0 in
+          let still = both.1 in
+          absurd (omega (arith, ints, rises, none, still))
+
+  own-at : (index : ℕ) → index < 2
+      → (first + index < end_of e.program a.frame) × IsApart e.image layout (first + index) a
+  own-at index less =
+      carried_laws.own (first + index) is.of_file stands (by (is_framed e.image layout a.frame.entry) refl)
+    where
+      by : (b : Bool) → is_framed e.image layout a.frame.entry ≡ b
+          → pos (first + index) <ℤ (pos top +ℤ (if b then pos stands.height -ℤ pos 2 else pos stands.height))
+      by true framed = let down = falls in let two = deep framed in omega (arith, ints, less, down, two)
+      by false framed = let down = falls in omega (arith, ints, less, down)
+
+  lowered-top : top_in layout lowered ≡ first
+  lowered-top =
+      ap (λ n. n + layout.delta)
+      (word-taken here Sp Sp (word_in s Sp - 2) is.stands.segments.state.registers.count refl)
+
+  of-frame : IsOfFrame e a (top_in layout lowered) (neg_ℤ (pos stands.height)) word_width first
+  of-frame = record {
+    place = let on_top = stands.top_is in let down = falls in omega (arith, ints, on_top, down);
+    low = let same = lowered-top in omega (arith, same);
+    within = let last = (own-at 1 (omega arith)).0 in omega (arith, last);
+    apart = λ index less. (own-at index less).1;
+  }
+
+  changes : (index : ℕ) → index < 2 → a.frame.base ≤ first + index
+      → IsChangeable e.image layout a.frame (first + index)
+  changes index less from =
+      let on_top = stands.top_is in
+      let down = falls in
+      absurd (omega (arith, less, from, on_top, down))
+
+  -- the word's addresses
+
+  lies : (index : ℕ) → index < 2
+      → physical (stack_segment s) ((sp + index) % 65536) ≡ layout.ds * 16 + (first + index)
+  lies index less =
+      let high = below-high in
+      let down = falls in
+      let fits = is.of_file.is_program.layout.small.hi_fits in
+      let same : sp + index + layout.delta ≡ first + index = omega arith in
+      ap (physical (stack_segment s)) (mod-eq_of_lt (omega (arith, less, down, high, fits)))
+      ∙ in-data layout.ds (stack_segment s) layout.delta (sp + index) is.stands.segments.stack_is
+      is.of_file.is_program.layout.small.ds_fits (omega (arith, less, down, high, fits))
+      ∙ ap (λ n. layout.ds * 16 + n) same
+
+  wraps : (word_in s Sp + 65534) % 65536 ≡ sp
+  wraps = let down = falls in let small = sp-small in omega (arith, down, small)
+
+  -- the step
+
+  taken-step : IsStepOf e.image layout is.of_file.loaded s.ip instr s
+  taken-step =
+      step-of e.image layout is.of_file.loaded s.ip s instr is.stands.segments.state refl (ap is_over before.goes)
+      is.stands.segments.code is.found
+
+  word-operand : IsWordOperand x
+  word-operand = subst IsOperation push taken-step.good
+
+  value : ℕ
+  value = operand_value s x
+
+  small : operand_value s x < 65536
+  small =
+      subst (λ w. operand_value s x < limit_of w) word-operand.width
+      (value-fits s x word-operand.operand is.stands.segments.state)
+
+  abbrev stored_memory : List ℕ
+  stored_memory =
+      stored
+      (stores_at (λ n. e.program.layout.ds * 16 + n)
+      (offsets_of word_width (λ index. word_in s Sp - 2 + e.program.layout.delta + index))
+      (bytes_from (word_in s Sp - 2 + e.program.layout.delta) (operand_value s x))) s.memory
+
+  step-is : step layout.cpu s ≡ record lowered { memory = stored_memory }
+  step-is =
+      taken-step.is ∙ ap (λ o. op_step layout.cpu o s.ip here) push
+      ∙ ap (λ n. after_push n here) (value-of s (next_of s.ip instr) x)
+      ∙ pushed-is here (operand_value s x) sp (layout.ds * 16) first
+      (same-state s here refl refl refl refl is.stands.segments.state) wraps
+      (ap (physical (stack_segment s)) (zeroth sp (let small' = sp-small in let down = falls in omega (
+        arith,
+        small',
+        down,
+      )))
+      ∙ lies 0 (omega arith)) (lies 1 (omega arith))
+    where
+      zeroth : (n : ℕ) → n < 65536 → n ≡ (n + 0) % 65536
+      zeroth n less = omega (arith, less)
+
+  -- what is written
+
+  marks-are : marks_at layout (offsets_of word_width (λ index. first + index)) stack.written
+      ≡ (stack_after layout (Some instr) s (step layout.cpu s) stack).written
+  marks-are =
+      marks-same layout (push_access here) word_width (λ index. first + index) stack.written refl
+      (λ index less. ap (λ n. physical (stack_segment s) ((n + index) % 65536)) wraps ∙ lies index less)
+      ∙ ap (λ l. with_marks true (stack_bytes layout l) stack.written) (sym (push-stores x here here))
+      ∙ ap (λ o. with_marks true (stored_bytes layout (accesses o here)) stack.written) (sym push)
+      ∙ sym (none-rises top (top_in layout (step layout.cpu s))
+      (with_marks true (stored_bytes layout (accesses instr.op here)) stack.written)
+      (let same = ap (top_in layout) step-is ∙ lowered-top in let down = falls in omega (arith, same, down)))
+
+  pub word-pushed :
+      AreCoupled e (step layout.cpu s) (stack_after layout (Some instr) s (step layout.cpu s) stack)
+      (taken place (operand_value s x) t)
+  word-pushed =
+      steps-agree e s stack instr t (taken place (operand_value s x) t) is (ap moves_frames push) before
+      (subst (λ marks. Within is marks (step layout.cpu s) (taken place (operand_value s x) t)) marks-are
+      (subst (λ u. Within is (marks_at layout (offsets_of word_width (λ index. first + index)) stack.written) u
+      (taken place (operand_value s x) t)) (sym step-is)
+      (frames-written e a is.stands.callers stack.written lowered t word_width (neg_ℤ (pos stands.height)) first place
+      (operand_value s x) is.numbered
+      (pointers-move.falls e a is.stands.callers stack.written here t sp
+      ((coupled e a is.stands.callers stack.written).anywhere s t (next_of s.ip instr) before)
+      (let wide = sp-small in let down = falls in omega (arith, wide, down)) above-low
+      (let down = falls in omega (arith, down)) is.stands.written)
+      of-frame changes at small)))
+
+pub words-pushed : WordsArePushed
+words-pushed e s stack instr x t place is stands push plain before at =
+    word-pushed e s stack instr x t place is stands push plain before at

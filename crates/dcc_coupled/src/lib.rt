@@ -1,0 +1,9 @@
+//! The machine in clean runs of accepted programs, and the inner language's run beside it.
+#![tactic(auto)]
+
+mod laws;
+
+pub use laws::{
+    frames_are_read, frames_are_written, operands_are_read, operands_are_written, operations_agree,
+    pointers_move, runs_are_coupled, runs_begin, steps_agree, words_are_popped, words_are_pushed,
+};

@@ -1,9 +1,0 @@
-use Rattle.dcc_lift.specs.Translation.{general_registers, register_starting}
-use Rattle.dcc_lift.specs.Writing.{written}
-use Rattle.dcc_lift.proofs.StartingLaws.{written-more}
-use Rattle.dcc_lift.proofs.writer.Writer.start_registers.Goals as goal
-
-pub loop-r-preserved : goal.loop-r-preserved
-loop-r-preserved c =
-    written-more (register_starting c.args.regs.now) general_registers c.loop-r.r-index _ (written c.args.self.now) (written c.loop-r.self)
-    (written c.start_register.new.self) c.loop-r-test.true c.loop-r.invariant c.in_ok-start_register.ensures

@@ -1,0 +1,13 @@
+pub mod SceneLaws
+pub mod SumValues
+pub mod ShiftValues
+pub mod ProductValues
+pub mod CouplingLaws
+pub mod AluPerformed
+pub mod UnaryPerformed
+pub mod ShiftPerformed
+pub mod ProductPerformed
+pub mod MovePerformed
+pub mod PerformedLaws
+pub mod TestLaws
+pub mod FlagReadLaws

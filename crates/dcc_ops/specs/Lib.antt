@@ -1,0 +1,12 @@
+pub mod Temporaries
+pub mod Place
+pub mod Registers
+pub mod Expressions
+pub mod Statements
+pub mod Executed
+pub mod Coupling
+pub mod Performed
+pub mod FlagReading
+pub mod Placing
+pub mod Writing
+pub use Rattle.dcc_ir.specs.Views

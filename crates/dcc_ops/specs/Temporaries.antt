@@ -1,0 +1,40 @@
+-- The temporaries in which an instruction holds its operands and its result.
+use Rattle.std.specs.Prelude.{ℕ, ◌==◌, Bool, false, List, [], ◌∷◌, get_or}
+use Rattle.dcc_num.specs.declared.Width.{Width}
+use Rattle.dcc_num.specs.declared.Width.TheVariants.{Byte as byte_width, Word as word_width}
+use Rattle.dcc_num.specs.Numbers.{bits_of}
+use Rattle.dcc_ir.specs.declared.syntax.Loc.{Loc}
+use Rattle.dcc_ir.specs.declared.syntax.Loc.TheVariants.{Temp}
+
+-- the bits of the temporaries, by their numbers
+abbrev pub temporary_bits : List ℕ
+temporary_bits = 8 ∷ 8 ∷ 8 ∷ 16 ∷ 16 ∷ 16 ∷ 32 ∷ 1 ∷ []
+
+-- the left operand
+abbrev pub left_place : Width → Loc
+left_place byte_width = Temp 0
+left_place word_width = Temp 3
+
+-- the right operand
+abbrev pub right_place : Width → Loc
+right_place byte_width = Temp 1
+right_place word_width = Temp 4
+
+-- the result
+abbrev pub result_place : Width → Loc
+result_place byte_width = Temp 2
+result_place word_width = Temp 5
+
+-- a product, of twice the width
+abbrev pub product_place : Width → Loc
+product_place byte_width = Temp 5
+product_place word_width = Temp 6
+
+-- CF as it comes in
+abbrev pub carry_place : Loc
+carry_place = Temp 7
+
+-- a temporary of that width
+abbrev pub is_temporary_of : Width → Loc → Bool
+is_temporary_of w (Temp n) = get_or temporary_bits n 0 == bits_of w
+is_temporary_of w location = false

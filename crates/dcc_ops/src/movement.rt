@@ -1,0 +1,120 @@
+//! Moves, which go half by half, and operations without operands.
+
+ghost use Rattle.std.specs.Prelude.{◌≡◌, ◌++◌, ◌∷◌, OnOk};
+ghost use Rattle.dcc_ops.specs.Temporaries as temporaries;
+ghost use Rattle.dcc_ops.specs.Expressions as expressions;
+ghost use Rattle.dcc_ops.specs.Place as places;
+ghost use Rattle.dcc_ops.specs.Statements as spec;
+ghost use Rattle.dcc_ops.specs.Placing.{place_of};
+ghost use Rattle.dcc_ops.specs.Writing.{written};
+
+use crate::expression::{bit, byte, constant, flag, half, left_place, product_place, right_place};
+use crate::place::Place;
+use crate::writer::Writer;
+use dcc_ir::{Expr, Loc};
+use dcc_num::{FlagName, Half, Reg, Width};
+use dcc_prog::Plain;
+use std::alloc::AllocError;
+
+impl Writer {
+    // The one place takes what the other holds, through a temporary of that width.
+    fn move_through(&mut self, w: Width, to: Place, from: Place) -> Result<(), AllocError>
+        ensures { OnOk result (written self.new ≡ written self.old
+            ++ places.taking (temporaries.left_place w) (place_of from) ∷ places.storing (place_of to) (expressions.left w)) }
+    {
+        self.take(left_place(w), from)?;
+        self.store(to, left_place(w))
+    }
+
+    /// MOV of operands of that width.
+    pub fn mov(&mut self, w: Width, to: Place, from: Place) -> Result<(), AllocError>
+        ensures { OnOk result (written self.new ≡ written self.old ++ spec.mov_stmts w (place_of to) (place_of from)) }
+    {
+        match (to, from) {
+            (Place::Byte(to), Place::Byte(from)) => self.set(to, Expr::Get(from)),
+            (Place::Byte(to), Place::Constant(width, number)) => {
+                self.set(to, constant(width.bits(), u32::from(number)))
+            }
+            (Place::Word(low, high), Place::Word(l, h)) => {
+                self.set(low, Expr::Get(l))?;
+                self.set(high, Expr::Get(h))
+            }
+            (Place::Word(low, high), Place::Constant(_, number)) => {
+                self.set(low, byte(Half::Low.of(number)))?;
+                self.set(high, byte(Half::High.of(number)))
+            }
+            _ => self.move_through(w, to, from),
+        }
+    }
+
+    // Two bytes are exchanged.
+    fn exchange(&mut self, a: Loc, b: Loc) -> Result<(), AllocError>
+        ensures { OnOk result (written self.new ≡ written self.old ++ spec.exchanging a b) }
+    {
+        let kept = left_place(Width::Byte);
+        self.set(kept, Expr::Get(a))?;
+        self.set(a, Expr::Get(b))?;
+        self.set(b, Expr::Get(kept))
+    }
+
+    // Two places are exchanged through temporaries of that width; the first is stored first.
+    fn exchange_through(&mut self, w: Width, p: Place, q: Place) -> Result<(), AllocError>
+        ensures { OnOk result (written self.new ≡ written self.old ++ (spec.operands_taking w (place_of p) (place_of q)
+            ++ (places.storing (place_of p) (expressions.right w) ++ places.storing (place_of q) (expressions.left w)))) }
+    {
+        self.take_operands(w, p, q)?;
+        self.store(p, right_place(w))?;
+        self.store(q, left_place(w))
+    }
+
+    /// XCHG of operands of that width.
+    pub fn xchg(&mut self, w: Width, p: Place, q: Place) -> Result<(), AllocError>
+        ensures { OnOk result (written self.new ≡ written self.old ++ spec.xchg_stmts w (place_of p) (place_of q)) }
+    {
+        match (p, q) {
+            (Place::Byte(a), Place::Byte(b)) => self.exchange(a, b),
+            (Place::Word(low, high), Place::Word(l, h)) => {
+                self.exchange(low, l)?;
+                self.exchange(high, h)
+            }
+            _ => self.exchange_through(w, p, q),
+        }
+    }
+
+    // CBW.
+    fn extend_byte(&mut self) -> Result<(), AllocError>
+        ensures { OnOk result (written self.new ≡ written self.old ++ spec.plain_stmts Plain.Cbw) }
+    {
+        let maker = self.maker(Width::Byte);
+        let word = maker.widen(true, 16, half(Reg::Ax, Half::Low))?;
+        self.set(Loc::Half(Reg::Ax, Half::High), maker.part(8, 8, word)?)
+    }
+
+    // CWD.
+    fn extend_word(&mut self) -> Result<(), AllocError>
+        ensures { OnOk result (written self.new ≡ written self.old ++ spec.plain_stmts Plain.Cwd) }
+    {
+        let maker = self.maker(Width::Word);
+        let product = product_place(Width::Word);
+        let extended = maker.widen(true, 32, maker.word_of(Reg::Ax)?)?;
+        self.set(product, extended)?;
+        self.take_word(Reg::Dx, 16, product)
+    }
+
+    /// An operation without operands. XLAT and those of a prelude do not come here or do nothing.
+    pub fn plain(&mut self, operation: Plain) -> Result<(), AllocError>
+        ensures { OnOk result (written self.new ≡ written self.old ++ spec.plain_stmts operation) }
+    {
+        match operation {
+            Plain::Cbw => self.extend_byte(),
+            Plain::Cwd => self.extend_word(),
+            Plain::Clc => self.take_carry(bit(false)),
+            Plain::Stc => self.take_carry(bit(true)),
+            Plain::Cmc => {
+                let carry = self.maker(Width::Byte).negated(flag(FlagName::Cf))?;
+                self.take_carry(carry)
+            }
+            Plain::Nop | Plain::Xlat | Plain::Cli | Plain::Sti | Plain::Cld => Ok(()),
+        }
+    }
+}

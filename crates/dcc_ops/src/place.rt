@@ -1,0 +1,34 @@
+//! Where operands stand.
+
+ghost use Rattle.std.specs.Prelude.{◌≡◌};
+ghost use Rattle.dcc_ops.specs.Registers as registers;
+ghost use Rattle.dcc_ops.specs.Placing.{place_of};
+
+use dcc_ir::Loc;
+use dcc_num::{Half, Width};
+use dcc_prog::Operand;
+
+/// Where an operand stands that lies in no memory.
+#[derive(Clone, Copy)]
+pub enum Place {
+    /// A number of that width.
+    Constant(Width, u16),
+    /// A half of a register or of a cell, 8 bits.
+    Byte(Loc),
+    /// The low and the high half of a register or of a cell.
+    Word(Loc, Loc),
+    /// The address at that distance from the base of the frame. Nothing is stored there.
+    Address(u16),
+}
+
+/// The place of a register or a constant. Others are refused before, and are 0 here.
+pub fn register_place(operand: Operand) -> Place
+    ensures { place_of result ≡ registers.register_place operand }
+{
+    match operand {
+        Operand::Word(r) => Place::Word(Loc::Half(r, Half::Low), Loc::Half(r, Half::High)),
+        Operand::Byte(r, half) => Place::Byte(Loc::Half(r, half)),
+        Operand::Const(width, number) => Place::Constant(width, number),
+        Operand::Seg(_) | Operand::Mem(..) => Place::Constant(Width::Word, 0),
+    }
+}
