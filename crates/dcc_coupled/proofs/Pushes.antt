@@ -1,9 +1,7 @@
 -- A PUSH: SP falls, and the word below it takes the operand in both runs.
-use Rattle.std.proofs.Common.{◌≡◌, ◌≤◌, ◌<◌, inl, inr, ℕ, ◌+◌, ◌-◌, ◌*◌, ◌/◌, ◌%◌, Bool, true, false, List, [], ◌∷◌, ◌++◌, filter, Some, refl, sym, ap, ap₂, ◌∙◌, subst, arith}
-use Rattle.std.specs.Prelude.{pos, neg_ℤ, ◌+ℤ◌, ◌-ℤ◌, ◌<ℤ◌, int_lt, not, if◌then◌else◌, slice_set}
-use Rattle.std.proofs.lemmas.Bool.{eq-eqb}
+use Rattle.std.proofs.Common.{◌≡◌, ◌≤◌, ◌<◌, inl, inr, ℕ, ◌+◌, ◌-◌, ◌*◌, ◌%◌, Bool, true, false, List, [], ◌∷◌, ◌++◌, filter, Some, refl, sym, ap, ◌∙◌, subst, arith}
+use Rattle.std.specs.Prelude.{pos, neg_ℤ, ◌+ℤ◌, ◌-ℤ◌, ◌<ℤ◌, not, if◌then◌else◌}
 use Rattle.std.proofs.lemmas.Int.{ints}
-use Rattle.std.proofs.Math.Nat.{mod-eq_of_lt}
 use Rattle.dcc_run.specs.End.{is_over}
 use Rattle.dcc_num.specs.declared.Width.TheVariants.{Word as word_width}
 use Rattle.dcc_num.specs.declared.Reg.TheVariants.{Sp, Bp}
@@ -13,27 +11,23 @@ use Rattle.dcc_prog.specs.declared.instr.Operand.{Operand}
 use Rattle.dcc_prog.specs.declared.instr.Operand.TheVariants.{Word, Byte, Seg, Mem, Const}
 use Rattle.dcc_prog.specs.declared.instr.Op.TheVariants.{Push}
 use Rattle.dcc_prog.specs.declared.instr.Instr.{Instr}
-use Rattle.dcc_prog.specs.Machine.{State as Machine, word_in, with_word_in, with_word_at_offset, stack_segment, physical, operand_value}
+use Rattle.dcc_prog.specs.Machine.{State as Machine, word_in, with_word_in, stack_segment, physical, operand_value}
 use Rattle.dcc_prog.specs.Operations.{after_push}
 use Rattle.dcc_prog.specs.Step.{op_step, step}
-use Rattle.dcc_prog.specs.StateForm.{IsState}
 use Rattle.dcc_prog.specs.WellFormed.{IsWordOperand, IsOperation}
 use Rattle.dcc_prog.specs.Trail.{next_of, StandsAt}
 use Rattle.dcc_prog.specs.Height.{MovesHeight}
 use Rattle.dcc_prog.specs.FrameForm.{is_framed, is_sp_or_bp}
 use Rattle.dcc_prog.specs.Access.{Reading, operand_accesses, push_access, accesses, stored}
 use Rattle.dcc_prog.specs.CleanLaws.{moves_frames}
-use Rattle.dcc_prog.specs.Clean.{Stack, top_in, end_of, is_low, is_reading, with_marks, stack_bytes, stored_bytes, stack_after, sp_after}
-use Rattle.dcc_prog.proofs.LocationKept.{or-none, word-taken}
-use Rattle.dcc_prog.proofs.StateKept.{same-state, value-fits}
+use Rattle.dcc_prog.specs.Clean.{Stack, top_in, end_of, is_reading, with_marks, stack_bytes, stored_bytes, stack_after, sp_after}
+use Rattle.dcc_prog.proofs.LocationKept.{word-taken}
+use Rattle.dcc_prog.proofs.StateKept.{value-fits}
 use Rattle.dcc_stack.specs.Accepted.{FrameStays, changes_frame}
 use Rattle.dcc_stack.specs.Standing.{Activation, StandsIn}
 use Rattle.dcc_stack.specs.Apart.{IsApart}
 use Rattle.dcc_stack.specs.Slots.{IsChangeable}
 use Rattle.dcc_stack.specs.SlotLaws.{stores_at, marks_at}
-use Rattle.dcc_stack.proofs.ApartAccesses.{clean-step}
-use Rattle.dcc_stack.proofs.ApartFrames.{top-below}
-use Rattle.dcc_stack.proofs.ApartWrites.{in-data}
 use Rattle.dcc_stack.proofs.FormLaws.{in-form}
 use Rattle.dcc_stack.proofs.StepInner.{push-height}
 use Rattle.dcc_stack.proofs.TableSteps.{IsStepOf, step-of}
@@ -43,7 +37,8 @@ use Rattle.dcc_coupled.specs.Coupled.{Setting, AreCoupled}
 use Rattle.dcc_coupled.specs.Places.{IsFramePlace, taken, bytes_from, offsets_of, IsOfFrame}
 use Rattle.dcc_coupled.specs.Laws.{IsCleanInstruction, Within, WordsArePushed}
 use Rattle.dcc_coupled.proofs.Coupling.{carried_laws, coupled}
-use Rattle.dcc_coupled.proofs.FrameBytes.{not-equal, frames-written}
+use Rattle.dcc_coupled.proofs.FrameBytes.{frames-written}
+use Rattle.dcc_coupled.proofs.Lowered.{word-falls, word-above, word-lies, word-wraps, word-stored}
 use Rattle.dcc_coupled.proofs.OperandBytes.{there}
 use Rattle.dcc_coupled.proofs.PlacesWritten.{marks-same}
 use Rattle.dcc_coupled.proofs.StepsAgree.{pointers-move, none-rises, steps-agree}
@@ -66,37 +61,6 @@ push-stores : (x : Operand) (s u : Machine)
     ∷ []
 push-stores (Mem width ea) s u = refl
 push-stores x s u = refl
-
--- a word is stored in two bytes
-two-stored : (u : Machine) (segment offset v base first : ℕ) → physical segment offset ≡ base + (first + 0)
-    → physical segment ((offset + 1) % 65536) ≡ base + (first + 1)
-    → with_word_at_offset u segment offset v
-    ≡ record u {
-      memory =
-          stored (stores_at (λ n. base + n) (offsets_of word_width (λ index. first + index)) (bytes_from first v))
-          u.memory;
-    }
-two-stored u segment offset v base first low high =
-    ap₂ (λ n m. record u { memory = slice_set (slice_set u.memory n (v % 256)) m (v / 256) }) low high
-    ∙ ap₂ (λ x y. record u { memory = slice_set (slice_set u.memory (base + (first + 0)) x) (base + (first + 1)) y })
-    (sym (ap (λ b. if b then v % 256 else v / 256) (eq-eqb (first + 0) first (omega arith))))
-    (sym (ap (λ b. if b then v % 256 else v / 256) (not-equal (first + 1) first (λ same. omega (arith, same)))))
-
--- a push with SP and the offsets told
-pushed-is : (s : Machine) (v sp base first : ℕ) → IsState s → (word_in s Sp + 65534) % 65536 ≡ sp
-    → physical (stack_segment s) sp ≡ base + (first + 0)
-    → physical (stack_segment s) ((sp + 1) % 65536) ≡ base + (first + 1)
-    → after_push v s
-    ≡ record (with_word_in s Sp sp) {
-      memory =
-          stored (stores_at (λ n. base + n) (offsets_of word_width (λ index. first + index)) (bytes_from first v))
-          s.memory;
-    }
-pushed-is s v sp base first form falls low high =
-    ap (λ n. with_word_at_offset (with_word_in s Sp n) (stack_segment s) (word_in (with_word_in s Sp n) Sp) v) falls
-    ∙ ap (λ n. with_word_at_offset (with_word_in s Sp sp) (stack_segment s) n v)
-    (word-taken s Sp Sp sp form.registers.count refl)
-    ∙ two-stored (with_word_in s Sp sp) (stack_segment s) sp v base first low high
 
 module _ (e : Setting) (s : Machine) (stack : Stack) (instr : Instr) (x : Operand) (t : State) (place : Place)
     (is : IsCleanInstruction e s stack instr)
@@ -127,24 +91,11 @@ module _ (e : Setting) (s : Machine) (stack : Stack) (instr : Instr) (x : Operan
 
   -- SP
 
-  bounds : (int_lt (pos (word_in s Sp) -ℤ pos 2) (pos 0) ≡ false)
-      × (int_lt ((pos (word_in s Sp) -ℤ pos 2) +ℤ pos layout.delta) (pos layout.lo) ≡ false)
-  bounds =
-      or-none (int_lt (pos (word_in s Sp) -ℤ pos 2) (pos 0))
-      (int_lt ((pos (word_in s Sp) -ℤ pos 2) +ℤ pos layout.delta) (pos layout.lo))
-      (subst (λ o. is_low layout (sp_after o s) ≡ false) push (clean-step e.program stack s instr is.clean).low)
+  lowers : sp_after instr.op s ≡ (pos (word_in s Sp) -ℤ pos 2)
+  lowers = ap (λ o. sp_after o s) push
 
   falls : sp + 2 ≡ word_in s Sp
-  falls = let room = bounds.0 in omega (arith, ints, room)
-
-  above-low : layout.lo ≤ sp + layout.delta
-  above-low = let above = bounds.1 in let down = falls in omega (arith, ints, above, down)
-
-  below-high : top ≤ layout.hi
-  below-high = top-below e.image layout s.memory is.stands.stand
-
-  sp-small : word_in s Sp < 65536
-  sp-small = is.stands.segments.state.registers.words Sp
+  falls = word-falls e s stack instr is lowers
 
   -- the frame
 
@@ -200,23 +151,6 @@ module _ (e : Setting) (s : Machine) (stack : Stack) (instr : Instr) (x : Operan
       let down = falls in
       absurd (omega (arith, less, from, on_top, down))
 
-  -- the word's addresses
-
-  lies : (index : ℕ) → index < 2
-      → physical (stack_segment s) ((sp + index) % 65536) ≡ layout.ds * 16 + (first + index)
-  lies index less =
-      let high = below-high in
-      let down = falls in
-      let fits = is.of_file.is_program.layout.small.hi_fits in
-      let same : sp + index + layout.delta ≡ first + index = omega arith in
-      ap (physical (stack_segment s)) (mod-eq_of_lt (omega (arith, less, down, high, fits)))
-      ∙ in-data layout.ds (stack_segment s) layout.delta (sp + index) is.stands.segments.stack_is
-      is.of_file.is_program.layout.small.ds_fits (omega (arith, less, down, high, fits))
-      ∙ ap (λ n. layout.ds * 16 + n) same
-
-  wraps : (word_in s Sp + 65534) % 65536 ≡ sp
-  wraps = let down = falls in let small = sp-small in omega (arith, down, small)
-
   -- the step
 
   taken-step : IsStepOf e.image layout is.of_file.loaded s.ip instr s
@@ -246,17 +180,7 @@ module _ (e : Setting) (s : Machine) (stack : Stack) (instr : Instr) (x : Operan
   step-is =
       taken-step.is ∙ ap (λ o. op_step layout.cpu o s.ip here) push
       ∙ ap (λ n. after_push n here) (value-of s (next_of s.ip instr) x)
-      ∙ pushed-is here (operand_value s x) sp (layout.ds * 16) first
-      (same-state s here refl refl refl refl is.stands.segments.state) wraps
-      (ap (physical (stack_segment s)) (zeroth sp (let small' = sp-small in let down = falls in omega (
-        arith,
-        small',
-        down,
-      )))
-      ∙ lies 0 (omega arith)) (lies 1 (omega arith))
-    where
-      zeroth : (n : ℕ) → n < 65536 → n ≡ (n + 0) % 65536
-      zeroth n less = omega (arith, less)
+      ∙ word-stored e s stack instr is lowers (operand_value s x)
 
   -- what is written
 
@@ -264,7 +188,8 @@ module _ (e : Setting) (s : Machine) (stack : Stack) (instr : Instr) (x : Operan
       ≡ (stack_after layout (Some instr) s (step layout.cpu s) stack).written
   marks-are =
       marks-same layout (push_access here) word_width (λ index. first + index) stack.written refl
-      (λ index less. ap (λ n. physical (stack_segment s) ((n + index) % 65536)) wraps ∙ lies index less)
+      (λ index less. ap (λ n. physical (stack_segment s) ((n + index) % 65536)) (word-wraps e s stack instr is lowers)
+      ∙ word-lies e s stack instr is lowers index less)
       ∙ ap (λ l. with_marks true (stack_bytes layout l) stack.written) (sym (push-stores x here here))
       ∙ ap (λ o. with_marks true (stored_bytes layout (accesses o here)) stack.written) (sym push)
       ∙ sym (none-rises top (top_in layout (step layout.cpu s))
@@ -283,7 +208,8 @@ module _ (e : Setting) (s : Machine) (stack : Stack) (instr : Instr) (x : Operan
       (operand_value s x) is.numbered
       (pointers-move.falls e a is.stands.callers stack.written here t sp
       ((coupled e a is.stands.callers stack.written).anywhere s t (next_of s.ip instr) before)
-      (let wide = sp-small in let down = falls in omega (arith, wide, down)) above-low
+      (let wide = is.stands.segments.state.registers.words Sp in let down = falls in omega (arith, wide, down))
+      (word-above e s stack instr is lowers)
       (let down = falls in omega (arith, down)) is.stands.written)
       of-frame changes at small)))
 

@@ -1,30 +1,25 @@
 -- SP and BP move, and whole steps.
 use Rattle.std.specs.List.{range_with_len}
-use Rattle.std.proofs.Common.{◌≡◌, ◌≤◌, ◌<◌, ℕ, ◌+◌, ◌-◌, Bool, true, false, List, [], ◌∷◌, Option, Some, refl, sym, ap, ◌∙◌, subst, arith}
-use Rattle.dcc_run.specs.End.{is_over}
+use Rattle.std.proofs.Common.{◌≡◌, ◌≤◌, ◌<◌, ℕ, ◌+◌, ◌-◌, Bool, true, false, List, [], ◌∷◌, Some, refl, sym, ap, ◌∙◌, subst, arith}
 use Rattle.dcc_num.specs.declared.Reg.{Reg}
 use Rattle.dcc_num.specs.declared.Reg.TheVariants.{Sp, Bp}
 use Rattle.dcc_prog.specs.declared.instr.Op.{Op}
 use Rattle.dcc_prog.specs.declared.instr.Op.TheVariants.{Call, Ret}
-use Rattle.dcc_prog.specs.declared.instr.Instr.{Instr}
 use Rattle.dcc_prog.specs.Machine.{State as Machine, word_in, with_word_in}
 use Rattle.dcc_prog.specs.Step.{step}
 use Rattle.dcc_prog.specs.StateForm.{IsState}
 use Rattle.dcc_prog.specs.Trail.{is_general}
-use Rattle.dcc_prog.specs.Clean.{top_in, with_marks, foul_of, stack_after}
+use Rattle.dcc_prog.specs.Clean.{top_in, with_marks, stack_after}
 use Rattle.dcc_prog.specs.CleanLaws.{moves_frames}
-use Rattle.dcc_prog.specs.Watch.{next_instruction}
 use Rattle.dcc_prog.proofs.LocationKept.{word-taken, word-other}
 use Rattle.dcc_prog.proofs.StateKept.{word-state}
 use Rattle.dcc_stack.specs.Standing.{Activation, StackStands}
 use Rattle.dcc_stack.specs.SlotLaws.{AreCarried}
-use Rattle.dcc_stack.specs.Laws.{at_next, activations_after, StandsAfter}
-use Rattle.dcc_stack.proofs.ApartLaws.{writes-apart}
-use Rattle.dcc_stack.proofs.FormLaws.{in-form}
-use Rattle.dcc_stack.proofs.StackLaws.{steps_stand}
+use Rattle.dcc_stack.specs.Laws.{at_next, activations_after}
 use Rattle.dcc_ir.specs.Run.{State, Waiting}
 use Rattle.dcc_coupled.specs.Coupled.{Setting, typed_by, typed_waiting, AreWaiting, Coupled}
 use Rattle.dcc_coupled.specs.Laws.{PointersMove, StepsAgree}
+use Rattle.dcc_coupled.proofs.Next.{AgreeOn, next-stands}
 use Rattle.dcc_coupled.proofs.Coupling.{carried_laws, alike-all, registers-apart}
 
 -- Pointers.
@@ -114,7 +109,7 @@ waiting-on e a place (caller ∷ callers) (w ∷ waiting) are = (
 )
 
 -- nor for itself
-on-at : (e : Setting) (a : Activation) (callers : List Activation) (written : List Bool) (s : Machine) (t : State)
+pub on-at : (e : Setting) (a : Activation) (callers : List Activation) (written : List Bool) (s : Machine) (t : State)
     (place : ℕ) → Coupled e a callers written s t
     → Coupled e (at_next a place) callers written s t
 on-at e a callers written s t place c = record {
@@ -137,52 +132,27 @@ on-at e a callers written s t place c = record {
       (record { frame = refl; slots = λ k. refl }, alike-all (typed_waiting e callers t.waiting));
 }
 
--- the runs agree, with these activations
-abbrev AgreeOn : Setting → List Bool → Machine → State → List Activation → Type 0
-AgreeOn e written s t [] = ⊥
-AgreeOn e written s t (a ∷ callers) = Coupled e a callers written s t
-
 activations-go : (op : Op) (top bp next : ℕ) (a : Activation) (callers : List Activation) → moves_frames op ≡ false
     → activations_after op top bp next (a ∷ callers) ≡ at_next a next ∷ callers
 activations-go (Call target) top bp next a callers apart = cc
 activations-go (Ret count) top bp next a callers apart = cc
 activations-go op top bp next a callers apart = refl
 
-same-found : (found : Option Instr) (instr other : Instr) → found ≡ Some instr → found ≡ Some other → other ≡ instr
-same-found found instr other p q = cc
-
 pub steps-agree : StepsAgree
 steps-agree e s stack instr t u is apart before after = record { stands = both.0; coupled = agree }
   where
-    fetched : next_instruction e.program.layout.cpu s ≡ Some instr
-    fetched = (writes-apart in-form).fetched e.cpu e.image e.program s instr is.of_file is.stands.segments is.found
-
-    went : StandsAfter e.image e.program s stack is.stands
-    went =
-        steps_stand e.cpu e.image e.program s stack is.of_file is.stands (ap is_over before.goes)
-        (ap (foul_of e.program stack s) fetched ∙ is.clean) (ap is_over after.goes)
-
-    both : (v : StackStands e.image e.program.layout (step e.program.layout.cpu s)
+    both :
+        (v : StackStands e.image e.program.layout (step e.program.layout.cpu s)
         (stack_after e.program.layout (Some instr) s (step e.program.layout.cpu s) stack))
         × (v.newest ∷ v.callers
-        ≡ activations_after went.instr.op (top_in e.program.layout s) (word_in s Bp) (step e.program.layout.cpu s).ip
+        ≡ activations_after instr.op (top_in e.program.layout s) (word_in s Bp) (step e.program.layout.cpu s).ip
         (is.stands.newest ∷ is.stands.callers))
-    both =
-        subst (λ o.
-        (v : StackStands e.image e.program.layout (step e.program.layout.cpu s)
-        (stack_after e.program.layout o s (step e.program.layout.cpu s) stack))
-        × (v.newest ∷ v.callers
-        ≡ activations_after went.instr.op (top_in e.program.layout s) (word_in s Bp) (step e.program.layout.cpu s).ip
-        (is.stands.newest ∷ is.stands.callers))) fetched (went.after, went.activations)
+    both = next-stands e s stack instr is before.goes after.goes
 
     are : both.0.newest ∷ both.0.callers
         ≡ at_next is.stands.newest (step e.program.layout.cpu s).ip ∷ is.stands.callers
     are =
         both.1
-        ∙ ap (λ (i : Instr).
-        activations_after i.op (top_in e.program.layout s) (word_in s Bp) (step e.program.layout.cpu s).ip
-        (is.stands.newest ∷ is.stands.callers))
-        (same-found (next_instruction e.program.layout.cpu s) instr went.instr fetched went.found)
         ∙ activations-go instr.op (top_in e.program.layout s) (word_in s Bp) (step e.program.layout.cpu s).ip
         is.stands.newest is.stands.callers apart
 

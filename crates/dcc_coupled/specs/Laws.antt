@@ -1,23 +1,25 @@
 -- The laws of both runs side by side.
-use Rattle.std.specs.Prelude.{◌≡◌, ◌≤◌, ◌<◌, ◌⊎◌, ℕ, ◌+◌, ◌*◌, ℤ, pos, ◌-ℤ◌, neg_ℤ, true, false, Bool, List, [], ◌∷◌, Contains, Option, Some, None, length, slice_index}
+use Rattle.std.specs.Prelude.{◌≡◌, ◌≤◌, ◌<◌, ◌⊎◌, ℕ, ◌+◌, ◌*◌, ◌%◌, ◌||◌, ℤ, pos, ◌+ℤ◌, ◌-ℤ◌, ◌≤ℤ◌, neg_ℤ, true, false, Bool, List, [], ◌∷◌, Contains, Option, Some, None, length, slice_index}
 use Rattle.dcc_run.specs.End.{Running}
 use Rattle.dcc_num.specs.declared.Half.TheVariants.{Low, High}
 use Rattle.dcc_num.specs.declared.Width.{Width}
 use Rattle.dcc_num.specs.declared.Width.TheVariants.{Word as word_width}
 use Rattle.dcc_num.specs.declared.Reg.{Reg}
 use Rattle.dcc_num.specs.declared.Reg.TheVariants.{Sp, Bp}
-use Rattle.dcc_num.specs.Numbers.{limit_of}
+use Rattle.dcc_num.specs.declared.Flags.{Flags}
+use Rattle.dcc_num.specs.Numbers.{limit_of, wrapped_of}
 use Rattle.dcc_prog.specs.declared.instr.Ea.{Ea}
 use Rattle.dcc_prog.specs.declared.instr.Operand.{Operand}
 use Rattle.dcc_prog.specs.declared.instr.Operand.TheVariants.{Word, Mem}
-use Rattle.dcc_prog.specs.declared.instr.Op.TheVariants.{Push, Pop}
+use Rattle.dcc_prog.specs.declared.instr.Op.TheVariants.{Push, Pop, Call, Ret}
 use Rattle.dcc_prog.specs.declared.instr.Instr.{Instr}
-use Rattle.dcc_prog.specs.Machine.{State as Machine, word_in, with_word_in, segment_of, offset_of, operand_value}
-use Rattle.dcc_prog.specs.FrameForm.{is_sp_or_bp}
+use Rattle.dcc_prog.specs.Machine.{State as Machine, word_in, with_word_in, is_bp, segment_of, offset_of, operand_value}
+use Rattle.dcc_prog.specs.Operations.{with_flags}
+use Rattle.dcc_prog.specs.FrameForm.{is_mov_bp_sp, is_sp_or_bp, leaves_frame}
 use Rattle.dcc_prog.specs.Step.{step}
-use Rattle.dcc_prog.specs.Trail.{is_general, instruction_in, next_of}
+use Rattle.dcc_prog.specs.Trail.{is_general, instruction_in, next_of, IsEntry}
 use Rattle.dcc_prog.specs.Access.{Direction, Reading, Writing, Access, bytes_in, kind_of, found_accesses, stored}
-use Rattle.dcc_prog.specs.Frame.{memory_operand}
+use Rattle.dcc_prog.specs.Frame.{Span, memory_operand, offset_in_frame, IsPiece, StartsExposure}
 use Rattle.dcc_prog.specs.Clean.{Stack, top_in, is_marked, stack_bytes, stored_bytes, with_marks, foul_of, stack_after}
 use Rattle.dcc_prog.specs.CleanLaws.{moves_frames}
 use Rattle.dcc_stack.specs.Accepted.{IsProgramOfFile}
@@ -25,6 +27,7 @@ use Rattle.dcc_stack.specs.Standing.{Activation, StandsIn, StackStands}
 use Rattle.dcc_stack.specs.Slots.{IsChangeable, writes_memory}
 use Rattle.dcc_stack.specs.SlotLaws.{stores_at, marks_at}
 use Rattle.dcc_ir.specs.declared.syntax.Loc.TheVariants.{Half}
+use Rattle.dcc_ir.specs.Tree.{Expr}
 use Rattle.dcc_ir.specs.Run.{State, value_in, execute}
 use Rattle.dcc_ops.specs.Place.{Place, place_value}
 use Rattle.dcc_ops.specs.Registers.{register_place}
@@ -32,7 +35,8 @@ use Rattle.dcc_ops.specs.Coupling.{Relation, HoldFlags, IsCoupling, IsRead, IsWr
 use Rattle.dcc_ops.specs.Performed.{Stands}
 use Rattle.dcc_ops.specs.Statements.{op_stmts}
 use Rattle.dcc_coupled.specs.Coupled.{Setting, AreNumbered, IsActivationOf, Coupled, AreCoupled}
-use Rattle.dcc_coupled.specs.Places.{IsFramePlace, IsOperandPlace, taken, number_of, bytes_from, offsets_of, IsOfFrame}
+use Rattle.dcc_coupled.specs.Calls.{begun, Begins, Returns}
+use Rattle.dcc_coupled.specs.Places.{IsFramePlace, IsOffset, IsPlainAddress, frame_address, address_value, IsOperandPlace, taken, number_of, bytes_from, offsets_of, IsOfFrame}
 
 -- both runs side by side are a coupling
 abbrev pub RunsAreCoupled : Type 0
@@ -85,6 +89,15 @@ FramesAreWritten =
           (bytes_from first v)) s.memory;
     }) (taken place v t)
 
+-- Bytes that an instruction uses together, and those of an argument's word, have one place, and so has each part of
+-- them.
+abbrev pub PiecesHavePlaces : Type 0
+PiecesHavePlaces =
+    (e : Setting) (entry : ℕ) (piece : Span) (w : Width) (k : ℤ) → IsProgramOfFile e.cpu e.image e.program
+    → AreNumbered e → IsEntry e.image e.program.layout entry → IsPiece e.image e.program.layout entry piece
+    → piece.first ≤ℤ k → (k +ℤ pos (bytes_in w)) ≤ℤ piece.end
+    → (place : Place) × IsFramePlace e entry k w place
+
 -- One instruction.
 
 -- a clean step of an instruction is about to be made, where the stack stands
@@ -135,6 +148,33 @@ OperandsAreWritten =
     → IsOperandPlace e is.stands.newest.frame.entry (Within is stack.written) (record s { ip = ip }) ea w place
     → IsWritten (Within is stack.written) (Within is (written_by is (operand_access is Writing w ea)))
     (record s { ip = ip }) (Mem w ea) place
+
+-- Addresses in the inner run, where the instruction's flags don't matter.
+
+pub record AddressesAreTold : Type 0 where
+  -- SP is the address of a byte of the frame and a number
+  pub sp :
+      (e : Setting) (a : Activation) (callers : List Activation) (written : List Bool) (s : Machine) (t : State)
+      (k : ℤ) (stands : StandsIn e.image e.program.layout s.memory a (top_in e.program.layout s) (word_in s Bp))
+      → Coupled e a callers written s t
+      → (value_in t (frame_address k)
+      + wrapped_of word_width (((pos 2 -ℤ pos stands.height) -ℤ pos e.program.layout.delta) -ℤ k)) % 65536
+      ≡ word_in s Sp
+  -- so is BP, where an instruction exposes bytes of the frame
+  pub bp :
+      (e : Setting) (s : Machine) (stack : Stack) (instr : Instr) (ip : ℕ) (start k : ℤ) (flags : Flags) (t : State)
+      (is : IsCleanInstruction e s stack instr)
+      → StartsExposure e.image e.program.layout is.stands.newest.frame.entry is.stands.newest.at start
+      → Within is stack.written (with_flags flags (record s { ip = ip })) t
+      → (value_in t (frame_address k) + wrapped_of word_width (neg_ℤ k)) % 65536 ≡ word_in s Bp
+  -- and an expression with the sum of an address is its offset; with BP it exposes bytes of the frame
+  pub offset :
+      (e : Setting) (s : Machine) (stack : Stack) (instr : Instr) (ip : ℕ) (ea : Ea) (at : Expr)
+      (is : IsCleanInstruction e s stack instr) → IsPlainAddress ea
+      → (is_bp ea.base ≡ true
+      → StartsExposure e.image e.program.layout is.stands.newest.frame.entry is.stands.newest.at (offset_in_frame ea))
+      → ((t : State) → value_in t at ≡ address_value t ea)
+      → IsOffset (Within is stack.written) (record s { ip = ip }) ea at
 
 -- SP and BP.
 
@@ -210,3 +250,30 @@ WordsArePopped =
     → AreCoupled e (step e.program.layout.cpu s)
     (stack_after e.program.layout (Some instr) s (step e.program.layout.cpu s) stack)
     (taken (register_place (Word r)) (value_in t (place_value place)) t)
+
+-- After `mov bp,sp`, `mov sp,bp`, LEA of SP from BP, `pop bp` and LEAVE they agree, and the inner run stays as it is.
+abbrev pub PointersAreSet : Type 0
+PointersAreSet =
+    (e : Setting) (s : Machine) (stack : Stack) (instr : Instr) (t : State) (is : IsCleanInstruction e s stack instr)
+    → (is_mov_bp_sp instr.op || leaves_frame instr.op) ≡ true → Within is stack.written s t
+    → AreCoupled e (step e.program.layout.cpu s)
+    (stack_after e.program.layout (Some instr) s (step e.program.layout.cpu s) stack) t
+
+-- After a CALL they agree, where the inner run has begun the procedure that is called.
+abbrev pub CallsBegin : Type 0
+CallsBegin =
+    (e : Setting) (s : Machine) (stack : Stack) (instr : Instr) (target : ℕ) (t u : State)
+    (is : IsCleanInstruction e s stack instr) → instr.op ≡ Call target → Within is stack.written s t
+    → Begins e (begun target (top_in e.program.layout s) (word_in s Bp)) is.stands.newest is.stands.callers
+    stack.written s t u
+    → AreCoupled e (step e.program.layout.cpu s)
+    (stack_after e.program.layout (Some instr) s (step e.program.layout.cpu s) stack) u
+
+-- After a RET they agree, where the inner run has returned to the procedure that waits.
+abbrev pub CallsReturn : Type 0
+CallsReturn =
+    (e : Setting) (s : Machine) (stack : Stack) (instr : Instr) (count : ℕ) (t u : State)
+    (is : IsCleanInstruction e s stack instr) → instr.op ≡ Ret count → Within is stack.written s t
+    → Returns e is.stands.newest is.stands.callers stack.written t u
+    → AreCoupled e (step e.program.layout.cpu s)
+    (stack_after e.program.layout (Some instr) s (step e.program.layout.cpu s) stack) u

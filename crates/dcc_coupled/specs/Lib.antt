@@ -1,3 +1,4 @@
 pub mod Coupled
 pub mod Places
+pub mod Calls
 pub mod Laws

@@ -1,16 +1,18 @@
 -- Where a memory operand of the newest procedure's instruction stands: a direct access reaches bytes of its frame, in
 -- halves of cells or in memory; any other operand stands in memory.
-use Rattle.std.specs.Prelude.{◌≡◌, ◌≤◌, ◌<◌, ℕ, ◌+◌, ◌*◌, ◌/◌, ◌%◌, ◌==◌, if◌then◌else◌, ℤ, pos, ◌+ℤ◌, ◌-ℤ◌, true, false, List, map, Some}
+use Rattle.std.specs.Prelude.{◌≡◌, ◌≤◌, ◌<◌, ℕ, ◌+◌, ◌*◌, ◌/◌, ◌%◌, ◌==◌, ◌||◌, if◌then◌else◌, ℤ, pos, ◌+ℤ◌, ◌-ℤ◌, Bool, true, false, List, map, Option, Some, None}
 use Rattle.std.specs.List.{range_with_len}
 use Rattle.dcc_num.specs.declared.Width.{Width}
 use Rattle.dcc_num.specs.declared.Width.TheVariants.{Byte as byte_width, Word as word_width}
 use Rattle.dcc_num.specs.declared.Flags.{Flags}
+use Rattle.dcc_num.specs.declared.Reg.{Reg}
 use Rattle.dcc_num.specs.declared.Half.{Half as HalfName}
 use Rattle.dcc_num.specs.declared.Half.TheVariants.{Low, High}
 use Rattle.dcc_num.specs.Numbers.{bits_of, wrapped_of}
 use Rattle.dcc_prog.specs.declared.instr.Ea.{Ea}
-use Rattle.dcc_prog.specs.Machine.{State as Machine, offset_of}
+use Rattle.dcc_prog.specs.Machine.{State as Machine, is_bp, offset_of}
 use Rattle.dcc_prog.specs.Operations.{with_flags}
+use Rattle.dcc_prog.specs.Trail.{is_general}
 use Rattle.dcc_prog.specs.Access.{bytes_in, is_direct}
 use Rattle.dcc_prog.specs.Frame.{offset_in_frame, IsPlaced}
 use Rattle.dcc_prog.specs.Clean.{end_of}
@@ -20,6 +22,7 @@ use Rattle.dcc_ir.specs.declared.syntax.Loc.{Loc}
 use Rattle.dcc_ir.specs.declared.syntax.Loc.TheVariants.{Cell as CellHalf}
 use Rattle.dcc_ir.specs.Tree.{Expr, Address}
 use Rattle.dcc_ir.specs.Run.{State, value_in, setting, storing}
+use Rattle.dcc_ops.specs.Expressions.{word_of}
 use Rattle.dcc_ops.specs.Place.{Place, byte, word, memory}
 use Rattle.dcc_ops.specs.Coupling.{Relation}
 use Rattle.dcc_coupled.specs.Coupled.{Setting, half_in}
@@ -49,6 +52,31 @@ pub data IsFramePlace (e : Setting) (entry : ℕ) (k : ℤ) : Width → Place �
 -- the expression is the operand's offset wherever the relation holds of this state, whatever its flags are
 abbrev pub IsOffset : Relation → Machine → Ea → Expr → Type 0
 IsOffset R s ea at = (flags : Flags) (t : State) → R (with_flags flags s) t → value_in t at ≡ offset_of s ea
+
+-- an address is summed from general registers, where its base isn't BP
+abbrev pub is_plain : Option Reg → Bool
+is_plain None = true
+is_plain (Some r) = is_general r
+
+pub record IsPlainAddress (ea : Ea) : Type 0 where
+  pub base : (is_bp ea.base || is_plain ea.base) ≡ true
+  pub index : is_plain ea.index ≡ true
+
+-- what a register adds to the sum in the inner run
+abbrev pub part_value : State → Option Reg → ℕ
+part_value t None = 0
+part_value t (Some r) = value_in t (word_of r)
+
+-- the address of the byte at so many bytes from the base less 4 of the running frame
+abbrev pub frame_address : ℤ → Expr
+frame_address k = Address (wrapped_of word_width (k -ℤ pos 4))
+
+-- the sum: BP with the displacement is the address of a byte of the frame
+abbrev pub address_value : State → Ea → ℕ
+address_value t ea =
+    ((if is_bp ea.base then value_in t (frame_address (offset_in_frame ea)) else part_value t ea.base + ea.disp)
+    + part_value t ea.index)
+    % 65536
 
 -- the place of a memory operand of a width, in a procedure and a state of the machine
 pub data IsOperandPlace (e : Setting) (entry : ℕ) (R : Relation) (s : Machine) (ea : Ea) : Width → Place → Type 0 where

@@ -4,6 +4,7 @@ use Rattle.dcc_prog.specs.declared.cpu.Cpu.{Cpu}
 use Rattle.dcc_prog.specs.declared.image.Image.{Image}
 use Rattle.dcc_prog.specs.declared.frame.Program.{Program}
 use Rattle.dcc_prog.specs.MzImage.{IsImageOf}
+use Rattle.dcc_prog.specs.Analysed.{IsProgramOf}
 use Rattle.dcc_prog.specs.Refused.{IsSound}
 use Rattle.dcc_top.specs.declared.reply.Reply.{Reply}
 use Rattle.dcc_top.specs.Words.{Job, ExecuteWatched, IsExecution, name_of}
@@ -63,7 +64,7 @@ module _ (call : Call) (name : List ℕ) (steps : ℕ) (cpu : Cpu)
 
   module _ (bytes file : List ℕ) (told : call.input.left.before ≡ Some bytes)
       (has : ShelfHas call.shelf.files name file) (image : Image) (is_image : IsImageOf file image)
-      (sound : IsSound cpu image) where
+      (sound : IsSound cpu image) (program : Program) (is_program : IsProgramOf cpu image program) where
     clean-by : (reply : Reply) (output : List ℕ)
         → FinishesWatched cpu image steps call.input.left.before call.input.left.after reply output
         → call.status ≡ status_of reply → Appends call.output output
@@ -77,6 +78,8 @@ module _ (call : Call) (name : List ℕ) (steps : ℕ) (cpu : Cpu)
       has = has;
       is_image = is_image;
       sound = sound;
+      program = program;
+      is_program = is_program;
       ran = h bytes told;
       status_is = status_is ∙ end-status steps end;
       appended = appended;
@@ -119,8 +122,8 @@ pub watched-clean : (call : Call) → IsAnswered call → (name bytes : List ℕ
 watched-clean call a name bytes steps cpu named told is =
     let w = is-watched call name steps cpu named a (ends-run call.status is) in
     let i = w.watches in
-    clean-by call name steps cpu named bytes w.file told w.has i.image i.is_image i.watches.sound w.reply w.output
-    i.watches.finishes w.status_is w.appended w.line
+    clean-by call name steps cpu named bytes w.file told w.has i.image i.is_image i.watches.sound i.watches.program
+    i.watches.is_program w.reply w.output i.watches.finishes w.status_is w.appended w.line
     (subst (λ n. IsOneOf n exit.ends) w.status_is is)
 
 pub watched-foul : (call : Call) → IsAnswered call → (name bytes : List ℕ) (steps : ℕ) (cpu : Cpu)
@@ -129,6 +132,6 @@ pub watched-foul : (call : Call) → IsAnswered call → (name bytes : List ℕ)
 watched-foul call a name bytes steps cpu named told is =
     let w = is-watched call name steps cpu named a (inr (inr (inr (inr (inr (inl is)))))) in
     let i = w.watches in
-    foul-by call name steps cpu named bytes w.file told w.has i.image i.is_image i.watches.sound w.reply w.output
-    i.watches.finishes w.status_is w.appended w.line
+    foul-by call name steps cpu named bytes w.file told w.has i.image i.is_image i.watches.sound i.watches.program
+    i.watches.is_program w.reply w.output i.watches.finishes w.status_is w.appended w.line
     (inl (sym w.status_is ∙ is))

@@ -8,7 +8,9 @@ use Rattle.dcc_run.specs.End.{End}
 use Rattle.dcc_run.specs.Prefix.{IsPrefix}
 use Rattle.dcc_prog.specs.declared.cpu.Cpu.{Cpu}
 use Rattle.dcc_prog.specs.declared.image.Image.{Image}
+use Rattle.dcc_prog.specs.declared.frame.Program.{Program}
 use Rattle.dcc_prog.specs.declared.refusal.Refusal.{Refusal}
+use Rattle.dcc_prog.specs.Analysed.{IsProgramOf}
 use Rattle.dcc_prog.specs.Clean.{Foul as FoulStep}
 use Rattle.dcc_prog.specs.MzImage.{IsImageOf}
 use Rattle.dcc_prog.specs.Refused.{IsSound}
@@ -141,8 +143,9 @@ pub data EndsSo (file input : List ℕ) : Job → End → Type 0 where
       → EndsSo file input (ExecuteText name steps fill)
       (ending_after (text_of tree stands.allowed.start fill) steps input)
 
--- The file of the words was run on the input, watched: the machine's run has put out what was appended, left the input
--- and ended as the status and the line tell, and all the steps that were asked for are clean.
+-- The file of the words was run on the input, watched, with the program that the analyses find in it: the machine's run
+-- has put out what was appended, left the input and ended as the status and the line tell, and all the steps that were
+-- asked for are clean.
 pub record HasCleanRun (call : Call) (name : List ℕ) (steps : ℕ) (cpu : Cpu) (input : List ℕ) : Type 0 where
   pub file : List ℕ
   pub image : Image
@@ -151,6 +154,8 @@ pub record HasCleanRun (call : Call) (name : List ℕ) (steps : ℕ) (cpu : Cpu)
   pub has : ShelfHas call.shelf.files name file
   pub is_image : IsImageOf file image
   pub sound : IsSound cpu image
+  pub program : Program
+  pub is_program : IsProgramOf cpu image program
   pub ran : HasRunClean cpu image steps call.input.left.after output end input
   pub status_is : call.status ≡ exit.end_status end
   pub appended : Appends call.output output
