@@ -163,9 +163,10 @@ module _ (e : Setting) (s : Machine) (stack : Stack) (instr : Instr) (ip : ℕ)
           ap (λ n. (n + ea.disp) % 65536)
           (part-told ea.base (sym (ap (λ b. b || is_plain ea.base) other) ∙ plain.base))
 
-      sum-told : address_value t ea ≡ offset_of s ea
+      pub sum-told : address_value t ea ≡ offset_of s ea
       sum-told =
-          adds (if is_bp ea.base then value_in t (frame_address (offset_in_frame ea)) else part_value t ea.base + ea.disp)
+          adds
+          (if is_bp ea.base then value_in t (frame_address (offset_in_frame ea)) else part_value t ea.base + ea.disp)
           (part_of s ea.base) (part_value t ea.index) (part_of s ea.index) ea.disp (base-told (is_bp ea.base) refl)
           (part-told ea.index plain.index)
         where

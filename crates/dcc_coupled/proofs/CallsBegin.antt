@@ -1,8 +1,7 @@
 -- A CALL: the return address is stored below SP, in the machine alone, and the frame that begins holds its arguments.
 use Rattle.std.specs.Int.{from_bool}
-use Rattle.std.specs.List.{cons_option}
-use Rattle.std.proofs.Common.{◌≡◌, ◌≤◌, ◌<◌, inl, inr, ℕ, ◌+◌, ◌-◌, ◌*◌, ◌%◌, Bool, true, List, [], ◌∷◌, Some, refl, sym, ap, ap₂, ◌∙◌, subst, arith}
-use Rattle.std.specs.Prelude.{pos, ◌-ℤ◌, slice_set}
+use Rattle.std.proofs.Common.{◌≡◌, ◌≤◌, ◌<◌, inl, inr, ℕ, ◌+◌, ◌-◌, ◌*◌, ◌%◌, Bool, true, List, ◌∷◌, Some, refl, sym, ap, ap₂, ◌∙◌, subst, arith}
+use Rattle.std.specs.Prelude.{pos, ◌-ℤ◌}
 use Rattle.dcc_run.specs.End.{Running, is_over}
 use Rattle.dcc_num.specs.declared.Width.TheVariants.{Word as word_width}
 use Rattle.dcc_num.specs.declared.Reg.{Reg}
@@ -17,12 +16,12 @@ use Rattle.dcc_prog.specs.Step.{op_step, step}
 use Rattle.dcc_prog.specs.Operations.{after_jump}
 use Rattle.dcc_prog.specs.Trail.{next_of, is_general}
 use Rattle.dcc_prog.specs.Access.{push_access, accesses, stored}
-use Rattle.dcc_prog.specs.Clean.{Stack, top_in, with_marks, stack_offset, stored_bytes, stack_after, sp_after}
+use Rattle.dcc_prog.specs.Clean.{Stack, top_in, with_marks, stored_bytes, stack_after, sp_after}
 use Rattle.dcc_prog.proofs.LocationKept.{word-taken, word-other}
 use Rattle.dcc_stack.specs.Standing.{Activation, StackStands}
 use Rattle.dcc_stack.specs.Apart.{IsApart}
 use Rattle.dcc_stack.specs.Slots.{Typed, AreNested}
-use Rattle.dcc_stack.specs.SlotLaws.{AreCarried, stores_at, marks_at}
+use Rattle.dcc_stack.specs.SlotLaws.{AreCarried, stores_at}
 use Rattle.dcc_stack.specs.Laws.{activations_after}
 use Rattle.dcc_stack.proofs.SlotFrames.{control-some}
 use Rattle.dcc_stack.proofs.TableSteps.{IsStepOf, step-of}
@@ -33,18 +32,11 @@ use Rattle.dcc_coupled.specs.Places.{bytes_from, offsets_of}
 use Rattle.dcc_coupled.specs.Calls.{begun, Begins}
 use Rattle.dcc_coupled.specs.Laws.{IsCleanInstruction, Within, CallsBegin}
 use Rattle.dcc_coupled.proofs.Next.{AgreeOn, next-stands}
+use Rattle.dcc_coupled.proofs.ControlWords.{control_marks, control-stored, control-marked}
 use Rattle.dcc_coupled.proofs.Coupling.{carried_laws, registers-apart}
-use Rattle.dcc_coupled.proofs.OperandBytes.{stack-offset}
 use Rattle.dcc_coupled.proofs.PlacesWritten.{marks-same}
 use Rattle.dcc_coupled.proofs.Lowered.{word-falls, word-above, high-top, word-lies, word-wraps, word-stored}
 use Rattle.dcc_coupled.proofs.StepsAgree.{none-rises}
-
--- two bytes of the stack are marked
-two-marks : (layout : Layout) (a b : ℕ) (written : List Bool) → stack_offset layout (layout.ds * 16 + a) ≡ Some a
-    → stack_offset layout (layout.ds * 16 + b) ≡ Some b
-    → marks_at layout (a ∷ b ∷ []) written ≡ slice_set (slice_set written a true) b true
-two-marks layout a b written one other =
-    ap₂ (λ o p. with_marks true (cons_option o (cons_option p [])) written) one other
 
 -- frames that stand, with the newest one
 abbrev NestedOn : Setting → List Activation → Type 0
@@ -82,13 +74,13 @@ module _ (e : Setting) (s : Machine) (stack : Stack) (instr : Instr) (target : �
   lowers = ap (λ o. sp_after o s) call
 
   falls : sp + 2 ≡ word_in s Sp
-  falls = word-falls e s stack instr is lowers
+  falls = word-falls e s stack instr is 0 lowers
 
   above-low : layout.lo ≤ sp + layout.delta
-  above-low = word-above e s stack instr is lowers
+  above-low = word-above e s stack instr is 0 lowers
 
   below-high : top ≤ layout.hi
-  below-high = high-top e s stack instr is lowers
+  below-high = high-top e s stack instr is 0 lowers
 
   -- the step
 
@@ -109,7 +101,7 @@ module _ (e : Setting) (s : Machine) (stack : Stack) (instr : Instr) (target : �
   step-is =
       taken-step.is ∙ ap (λ o. op_step layout.cpu o s.ip here) call
       ∙ ap (after_jump target)
-      (word-stored e s stack instr is lowers (next_of s.ip instr))
+      (word-stored e s stack instr is 0 lowers (next_of s.ip instr))
 
   abbrev after : Machine
   after = step e.program.layout.cpu s
@@ -160,35 +152,24 @@ module _ (e : Setting) (s : Machine) (stack : Stack) (instr : Instr) (target : �
   high : (index : ℕ) → index < 2 → first + index < layout.hi
   high index less = let top' = below-high in let down = falls in omega (arith, less, top', down)
 
-  abbrev value : ℕ → ℕ
-  value = bytes_from (word_in s Sp - 2 + e.program.layout.delta) (next_of s.ip instr)
+  abbrev marks_after : List Bool
+  marks_after = control_marks (word_in s Sp - 2 + e.program.layout.delta) stack.written
 
-  carried : AreCarried e.cpu e.image e.program stored_memory u.memory
-      (slice_set (slice_set stack.written (first + 0) true) (first + 1) true) first
+  carried : AreCarried e.cpu e.image e.program stored_memory u.memory marks_after first
       (typed_by e callee u.running ∷ older)
   carried =
-      carried_laws.writes_control (first + 1) (value (first + 1))
-      (slice_set (slice_set stack.written (first + 0) true) (first + 1) true)
-      (carried_laws.writes_control (first + 0) (value (first + 0)) (slice_set stack.written (first + 0) true)
+      control-stored e first (next_of s.ip instr) (typed_by e callee u.running) older
       (carried_laws.lowers first begins above-low (let down = falls in omega (arith, down)) is.stands.written)
-      (omega arith) (high 0 (omega arith)) (not-apart 0 (omega arith))
-      (carried_laws.marks_one (first + 0) stack.written))
-      (omega arith) (high 1 (omega arith)) (not-apart 1 (omega arith))
-      (carried_laws.marks_one (first + 1) (slice_set stack.written (first + 0) true))
+      (omega arith) (high 1 (omega arith)) not-apart
 
   -- what is written
 
-  offset-at : (index : ℕ) → index < 2 → stack_offset layout (layout.ds * 16 + (first + index)) ≡ Some (first + index)
-  offset-at index less =
-      let low = above-low in stack-offset layout (first + index) (omega (arith, low)) (high index less)
-
-  marks-are : slice_set (slice_set stack.written (first + 0) true) (first + 1) true
-      ≡ (stack_after layout (Some instr) s after stack).written
+  marks-are : marks_after ≡ (stack_after layout (Some instr) s after stack).written
   marks-are =
-      sym (two-marks layout (first + 0) (first + 1) stack.written (offset-at 0 (omega arith)) (offset-at 1 (omega arith)))
+      control-marked e first stack.written above-low (high 1 (omega arith))
       ∙ marks-same layout (push_access here) word_width (λ index. first + index) stack.written refl
-      (λ index less. ap (λ n. physical (stack_segment s) ((n + index) % 65536)) (word-wraps e s stack instr is lowers)
-      ∙ word-lies e s stack instr is lowers index less)
+      (λ index less. ap (λ n. physical (stack_segment s) ((n + index) % 65536)) (word-wraps e s stack instr is 0 lowers)
+      ∙ word-lies e s stack instr is 0 lowers index less)
       ∙ ap (λ o. with_marks true (stored_bytes layout (accesses o here)) stack.written) (sym call)
       ∙ sym (none-rises top (top_in layout after)
       (with_marks true (stored_bytes layout (accesses instr.op here)) stack.written)

@@ -62,12 +62,12 @@ module _ (cpu : Cpu) (image : Image) (program : Program) (p : IsProgramOfFile cp
   not-higher next number is' = not-higher-by is'.gives number refl
 
 -- the caller of the newest procedure
-record IsBelow (image : Image) (layout : Layout) (memory : List ℕ) (a caller : Activation) (top bp : ℕ) : Type 0 where
-  here : StandsIn image layout memory a top bp
-  waits : WaitsFor image layout memory caller a
-  stands : StandsIn image layout memory caller a.frame.base a.caller_bp
+pub record IsBelow (image : Image) (layout : Layout) (memory : List ℕ) (a caller : Activation) (top bp : ℕ) : Type 0 where
+  pub here : StandsIn image layout memory a top bp
+  pub waits : WaitsFor image layout memory caller a
+  pub stands : StandsIn image layout memory caller a.frame.base a.caller_bp
 
-caller-below : (image : Image) (layout : Layout) (memory : List ℕ) {a caller : Activation} {older : List Activation}
+pub caller-below : (image : Image) (layout : Layout) (memory : List ℕ) {a caller : Activation} {older : List Activation}
     {top bp : ℕ} → Stand image layout memory (a ∷ caller ∷ older) top bp
     → IsBelow image layout memory a caller top bp
 caller-below image layout memory (called stands waits older) =

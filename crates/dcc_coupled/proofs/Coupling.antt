@@ -118,7 +118,7 @@ half-apart : (values : Values) (q r : Reg) (h k : HalfName) (v : ℕ) → (regis
 half-apart values q r h k v e = ap (λ b. if b && (half_number k == half_number h) then v else values (Half q k)) e
 
 -- a word register is its halves in these values
-abbrev IsHalves : Values → Reg → ℕ → Type 0
+abbrev pub IsHalves : Values → Reg → ℕ → Type 0
 IsHalves values q word = word ≡ values (Half q High) * 256 + values (Half q Low)
 
 both-halves : (values : Values) (q : Reg) (word low high : ℕ) → values (Half q High) ≡ high → values (Half q Low) ≡ low
@@ -128,7 +128,7 @@ both-halves values q word low high high_is low_is is =
     is ∙ sym (ap (λ n. n * 256 + values (Half q Low)) high_is ∙ ap (λ n. high * 256 + n) low_is)
 
 -- a register takes a word, and its halves take the bytes
-words-set : (s : Machine) (values : Values) (r q : Reg) (low high : ℕ) → length s.regs ≡ 8
+pub words-set : (s : Machine) (values : Values) (r q : Reg) (low high : ℕ) → length s.regs ≡ 8
     → IsHalves values q (word_in s q)
     → IsHalves (with_value (with_value values (Half r Low) low) (Half r High) high) q
     (word_in (with_word_in s r (high * 256 + low)) q)

@@ -63,14 +63,14 @@ word-small byte_width v small = less small
 word-small word_width v small = small
 
 -- the distance of an offset from a base, both modulo 65,536
-address-sum : (base offset index : ℕ) (z : ℤ) → pos offset ≡ ((pos base +ℤ z) +ℤ pos index) → offset < 65536
+pub address-sum : (base offset index : ℕ) (z : ℤ) → pos offset ≡ ((pos base +ℤ z) +ℤ pos index) → offset < 65536
     → ((base % 65536 + residue_of 65536 z) % 65536 + index) % 65536 ≡ offset
 address-sum base offset index (pos n) is small =
     let sum : offset ≡ base + n + index = omega (arith, ints, is) in omega (arith, sum, small)
 address-sum base offset index (negsuc n) is small =
     let sum : offset + n + 1 ≡ base + index = omega (arith, ints, is) in omega (arith, sum, small)
 
-no-further : (z : ℤ) → z ≡ (z +ℤ pos 0)
+pub no-further : (z : ℤ) → z ≡ (z +ℤ pos 0)
 no-further z = omega (arith, ints)
 
 -- the bytes of a number
@@ -197,7 +197,7 @@ load-is word_width t at bytes each =
 -- Both runs.
 
 -- cells have two bytes at most
-cells-small : (e : Setting) (entry : ℕ) → AreNumbered e → IsEntry e.image e.program.layout entry
+pub cells-small : (e : Setting) (entry : ℕ) → AreNumbered e → IsEntry e.image e.program.layout entry
     → All IsSmall (e.cells entry)
 cells-small e entry are reached =
     All-weaker (λ cell. IsCell e.image e.program.layout entry (bytes_of cell)) IsSmall

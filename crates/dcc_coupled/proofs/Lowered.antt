@@ -1,4 +1,4 @@
--- The word below SP, where an operation stores one there and SP falls to it.
+-- The word below SP, where an operation stores one there and SP falls to it, and then so many bytes more.
 use Rattle.std.proofs.Common.{◌≡◌, ◌≤◌, ◌<◌, ℕ, ◌+◌, ◌-◌, ◌*◌, ◌%◌, false, refl, ap, ◌∙◌, subst, arith}
 use Rattle.std.specs.Prelude.{pos, ◌+ℤ◌, ◌-ℤ◌, int_lt}
 use Rattle.std.proofs.lemmas.Int.{ints}
@@ -24,7 +24,7 @@ use Rattle.dcc_coupled.specs.Laws.{IsCleanInstruction}
 use Rattle.dcc_coupled.proofs.StoredWords.{pushed-is}
 
 module _ (e : Setting) (s : Machine) (stack : Stack) (instr : Instr) (is : IsCleanInstruction e s stack instr)
-    (lowers : sp_after instr.op s ≡ (pos (word_in s Sp) -ℤ pos 2)) where
+    (more : ℕ) (lowers : sp_after instr.op s ≡ (pos (word_in s Sp) -ℤ pos (2 + more))) where
   abbrev layout : Layout
   layout = e.program.layout
 
@@ -37,15 +37,18 @@ module _ (e : Setting) (s : Machine) (stack : Stack) (instr : Instr) (is : IsCle
   abbrev here : Machine
   here = record s { ip = next_of s.ip instr }
 
-  bounds : (int_lt (pos (word_in s Sp) -ℤ pos 2) (pos 0) ≡ false)
-      × (int_lt ((pos (word_in s Sp) -ℤ pos 2) +ℤ pos layout.delta) (pos layout.lo) ≡ false)
+  bounds : (int_lt (pos (word_in s Sp) -ℤ pos (2 + more)) (pos 0) ≡ false)
+      × (int_lt ((pos (word_in s Sp) -ℤ pos (2 + more)) +ℤ pos layout.delta) (pos layout.lo) ≡ false)
   bounds =
-      or-none (int_lt (pos (word_in s Sp) -ℤ pos 2) (pos 0))
-      (int_lt ((pos (word_in s Sp) -ℤ pos 2) +ℤ pos layout.delta) (pos layout.lo))
+      or-none (int_lt (pos (word_in s Sp) -ℤ pos (2 + more)) (pos 0))
+      (int_lt ((pos (word_in s Sp) -ℤ pos (2 + more)) +ℤ pos layout.delta) (pos layout.lo))
       (subst (λ z. is_low layout z ≡ false) lowers (clean-step e.program stack s instr is.clean).low)
 
   pub word-falls : sp + 2 ≡ word_in s Sp
   word-falls = let room = bounds.0 in omega (arith, ints, room)
+
+  pub word-room : more ≤ sp
+  word-room = let room = bounds.0 in omega (arith, ints, room)
 
   pub word-above : layout.lo ≤ sp + layout.delta
   word-above = let above = bounds.1 in let down = word-falls in omega (arith, ints, above, down)

@@ -81,7 +81,8 @@ module _ (cpu : Cpu) (image : Image) (program : Program) (p : IsProgramOfFile cp
 
     exposed-local : {count : ℕ} → HasExposedLocal image layout entry count → run.first <ℤ pos 0
         → neg_ℤ (pos count) ≤ℤ run.first
-    exposed-local (no_local none) below = let above = none run.first starts in absurd (omega (arith, ints, above, below))
+    exposed-local (no_local none) below =
+        let above = none run.first starts in absurd (omega (arith, ints, above, below))
     exposed-local (local some start least) below = least run.first starts
 
     exposed-argument : (arg : Option ℕ) → HasExposedArguments image layout entry arg → pos 4 ≤ℤ run.first
@@ -113,7 +114,8 @@ module _ (cpu : Cpu) (image : Image) (program : Program) (p : IsProgramOfFile cp
         | inl below ↦
             let some = (lies is).some in
             let least = exposed-local f.local (omega (arith, ints, inside.0, some, below)) in
-            by_itself (below_bp f.local (omega (arith, ints, least, inside.0, has.0)) (omega (arith, ints, below, has.1)))
+            by_itself
+            (below_bp f.local (omega (arith, ints, least, inside.0, has.0)) (omega (arith, ints, below, has.1)))
         | inr above ↦
             let least = exposed-argument frame.exposed.arg f.argument (from-argument above) in
             let high = (lies is).high in

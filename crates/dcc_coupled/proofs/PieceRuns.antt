@@ -83,7 +83,12 @@ module _ (image : Image) (layout : Layout) (entry : ℕ) where
           c.piece,
           (omega (arith, ints, before, is_start.1)),
           λ offset from to. by_lt_z start.first offset (λ less. is_start.2 offset less to)
-              (λ le. record { span = c.span; piece = c.piece; before = from; after = omega (arith, ints, le, c.after) }),
+              (λ le. record {
+                span = c.span;
+                piece = c.piece;
+                before = from;
+                after = omega (arith, ints, le, c.after);
+              }),
         ) goal)
 
     abbrev Ends : ℤ → Type 0

@@ -46,7 +46,7 @@ value-small : (s : Machine) (w : Width) (ea : Ea) → IsState s → operand_valu
 value-small s byte_width ea form = form.memory (physical (segment_of s ea) (offset_of s ea))
 value-small s word_width ea form = word-at-below s (segment_of s ea) (offset_of s ea) form
 
-frame-wide : (e : Setting) (entry : ℕ) (k : ℤ) (w : Width) (place : Place) → IsFramePlace e entry k w place
+pub frame-wide : (e : Setting) (entry : ℕ) (k : ℤ) (w : Width) (place : Place) → IsFramePlace e entry k w place
     → place_width place ≡ w
 frame-wide e entry k _ _ (in_half in_it) = refl
 frame-wide e entry k _ _ (in_cell low high) = refl

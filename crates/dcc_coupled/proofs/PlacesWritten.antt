@@ -117,7 +117,7 @@ cell-runs number n t running small =
     highest : (m : ℕ) → m < 65536 → m / 2 ^ 8 % 2 ^ 8 ≡ m / 256
     highest m less = omega (arith, less)
 
-frame-runs : (e : Setting) (entry : ℕ) (k : ℤ) (w : Width) (place : Place) (from : Loc) (t : State)
+pub frame-runs : (e : Setting) (entry : ℕ) (k : ℤ) (w : Width) (place : Place) (from : Loc) (t : State)
     → IsFramePlace e entry k w place → is_temporary_of w from ≡ true → t.end ≡ Running
     → t.running.values from < limit_of w
     → execute (storing place (Get from)) t ≡ taken place (t.running.values from) t
@@ -131,7 +131,7 @@ frame-runs e entry k _ _ (CellHalf number half) t (in_cell low high) temporary r
 frame-runs e entry k w _ from t (in_memory placed) temporary running small = memory-runs w (Address (wrapped_of
     word_width (k -ℤ pos 4))) from t running
 
-frame-sound : (e : Setting) (entry : ℕ) (k : ℤ) (w : Width) (place : Place) → IsFramePlace e entry k w place
+pub frame-sound : (e : Setting) (entry : ℕ) (k : ℤ) (w : Width) (place : Place) → IsFramePlace e entry k w place
     → is_sound_place place ≡ true
 frame-sound e entry k _ _ (in_half in_it) = refl
 frame-sound e entry k _ _ (in_cell low high) = refl

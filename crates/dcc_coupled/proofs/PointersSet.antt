@@ -32,15 +32,15 @@ use Rattle.dcc_coupled.proofs.Coupling.{carried_laws, registers-apart}
 use Rattle.dcc_coupled.proofs.StepsAgree.{none-rises, steps-agree}
 
 -- a state has all that another has, but for SP, BP and the instruction pointer
-record IsLike (s u : Machine) : Type 0 where
-  end : u.end ≡ s.end
-  memory : u.memory ≡ s.memory
-  flags : u.flags ≡ s.flags
-  input : u.input ≡ s.input
-  events : u.events ≡ s.events
-  words : (r : Reg) → is_general r ≡ true → word_in u r ≡ word_in s r
+pub record IsLike (s u : Machine) : Type 0 where
+  pub end : u.end ≡ s.end
+  pub memory : u.memory ≡ s.memory
+  pub flags : u.flags ≡ s.flags
+  pub input : u.input ≡ s.input
+  pub events : u.events ≡ s.events
+  pub words : (r : Reg) → is_general r ≡ true → word_in u r ≡ word_in s r
 
-sp-set : (s : Machine) (sp : ℕ) → IsLike s (with_word_in s Sp sp)
+pub sp-set : (s : Machine) (sp : ℕ) → IsLike s (with_word_in s Sp sp)
 sp-set s sp = record {
   end = refl;
   memory = refl;
@@ -50,7 +50,7 @@ sp-set s sp = record {
   words = λ r g. word-other s Sp r sp (registers-apart r Sp true g refl);
 }
 
-bp-set : (s : Machine) (bp : ℕ) → IsLike s (with_word_in s Bp bp)
+pub bp-set : (s : Machine) (bp : ℕ) → IsLike s (with_word_in s Bp bp)
 bp-set s bp = record {
   end = refl;
   memory = refl;
@@ -60,7 +60,7 @@ bp-set s bp = record {
   words = λ r g. word-other s Bp r bp (registers-apart r Bp true g refl);
 }
 
-like-both : (s u v : Machine) → IsLike s u → IsLike u v → IsLike s v
+pub like-both : (s u v : Machine) → IsLike s u → IsLike u v → IsLike s v
 like-both s u v first second = record {
   end = second.end ∙ first.end;
   memory = second.memory ∙ first.memory;

@@ -43,7 +43,7 @@ use Rattle.dcc_coupled.proofs.OperandBytes.{there}
 use Rattle.dcc_coupled.proofs.PlacesWritten.{marks-same}
 use Rattle.dcc_coupled.proofs.StepsAgree.{pointers-move, none-rises, steps-agree}
 
-value-of : (s : Machine) (ip : ℕ) (x : Operand) → operand_value (record s { ip = ip }) x ≡ operand_value s x
+pub value-of : (s : Machine) (ip : ℕ) (x : Operand) → operand_value (record s { ip = ip }) x ≡ operand_value s x
 value-of s ip (Word r) = refl
 value-of s ip (Byte r half) = refl
 value-of s ip (Seg number) = refl
@@ -95,7 +95,7 @@ module _ (e : Setting) (s : Machine) (stack : Stack) (instr : Instr) (x : Operan
   lowers = ap (λ o. sp_after o s) push
 
   falls : sp + 2 ≡ word_in s Sp
-  falls = word-falls e s stack instr is lowers
+  falls = word-falls e s stack instr is 0 lowers
 
   -- the frame
 
@@ -180,7 +180,7 @@ module _ (e : Setting) (s : Machine) (stack : Stack) (instr : Instr) (x : Operan
   step-is =
       taken-step.is ∙ ap (λ o. op_step layout.cpu o s.ip here) push
       ∙ ap (λ n. after_push n here) (value-of s (next_of s.ip instr) x)
-      ∙ word-stored e s stack instr is lowers (operand_value s x)
+      ∙ word-stored e s stack instr is 0 lowers (operand_value s x)
 
   -- what is written
 
@@ -188,8 +188,8 @@ module _ (e : Setting) (s : Machine) (stack : Stack) (instr : Instr) (x : Operan
       ≡ (stack_after layout (Some instr) s (step layout.cpu s) stack).written
   marks-are =
       marks-same layout (push_access here) word_width (λ index. first + index) stack.written refl
-      (λ index less. ap (λ n. physical (stack_segment s) ((n + index) % 65536)) (word-wraps e s stack instr is lowers)
-      ∙ word-lies e s stack instr is lowers index less)
+      (λ index less. ap (λ n. physical (stack_segment s) ((n + index) % 65536)) (word-wraps e s stack instr is 0 lowers)
+      ∙ word-lies e s stack instr is 0 lowers index less)
       ∙ ap (λ l. with_marks true (stack_bytes layout l) stack.written) (sym (push-stores x here here))
       ∙ ap (λ o. with_marks true (stored_bytes layout (accesses o here)) stack.written) (sym push)
       ∙ sym (none-rises top (top_in layout (step layout.cpu s))
@@ -209,7 +209,7 @@ module _ (e : Setting) (s : Machine) (stack : Stack) (instr : Instr) (x : Operan
       (pointers-move.falls e a is.stands.callers stack.written here t sp
       ((coupled e a is.stands.callers stack.written).anywhere s t (next_of s.ip instr) before)
       (let wide = is.stands.segments.state.registers.words Sp in let down = falls in omega (arith, wide, down))
-      (word-above e s stack instr is lowers)
+      (word-above e s stack instr is 0 lowers)
       (let down = falls in omega (arith, down)) is.stands.written)
       of-frame changes at small)))
 

@@ -20,8 +20,8 @@ abbrev pub begun : ℕ → ℕ → ℕ → Activation
 begun target top bp =
     record { frame = record { entry = target; base = top }; at = target; before = []; caller_bp = bp }
 
--- A procedure begins in the inner run, called by one with these callers, where these bytes of the stack are written: its
--- halves, flags and argument words are the caller's, and all else is as it was.
+-- A procedure begins in the inner run, called by one with these callers, where these bytes of the stack are written:
+-- its halves, flags and argument words are the caller's, and all else is as it was.
 pub record Begins (e : Setting) (callee caller : Activation) (callers : List Activation) (written : List Bool)
     (s : Machine) (t u : State) : Type 0 where
   pub running : u.end ≡ Running
@@ -51,8 +51,8 @@ pub record Begins (e : Setting) (callee caller : Activation) (callers : List Act
       ⊎ (IsArgumentByte e.program callee.frame offset
       × IsPlaced e.image e.program.layout callee.frame.entry (place_in (typed_by e callee u.running) offset))
 
--- The procedure returns in the inner run to the caller that waits: its halves and flags are the caller's, which takes the
--- bytes of arguments that it may have changed, one after another, and all else is as it was.
+-- The procedure returns in the inner run to the caller that waits: its halves and flags are the caller's, which takes
+-- the bytes of arguments that it may have changed, one after another, and all else is as it was.
 pub record Returns (e : Setting) (callee : Activation) (callers : List Activation) (written : List Bool) (t u : State)
     : Type 0 where
   pub running : u.end ≡ Running

@@ -11,7 +11,7 @@ use Rattle.dcc_num.specs.Numbers.{limit_of, wrapped_of}
 use Rattle.dcc_prog.specs.declared.instr.Ea.{Ea}
 use Rattle.dcc_prog.specs.declared.instr.Operand.{Operand}
 use Rattle.dcc_prog.specs.declared.instr.Operand.TheVariants.{Word, Mem}
-use Rattle.dcc_prog.specs.declared.instr.Op.TheVariants.{Push, Pop, Call, Ret}
+use Rattle.dcc_prog.specs.declared.instr.Op.TheVariants.{Push, Call, Ret}
 use Rattle.dcc_prog.specs.declared.instr.Instr.{Instr}
 use Rattle.dcc_prog.specs.Machine.{State as Machine, word_in, with_word_in, is_bp, segment_of, offset_of, operand_value}
 use Rattle.dcc_prog.specs.Operations.{with_flags}
@@ -30,7 +30,6 @@ use Rattle.dcc_ir.specs.declared.syntax.Loc.TheVariants.{Half}
 use Rattle.dcc_ir.specs.Tree.{Expr}
 use Rattle.dcc_ir.specs.Run.{State, value_in, execute}
 use Rattle.dcc_ops.specs.Place.{Place, place_value}
-use Rattle.dcc_ops.specs.Registers.{register_place}
 use Rattle.dcc_ops.specs.Coupling.{Relation, HoldFlags, IsCoupling, IsRead, IsWritten}
 use Rattle.dcc_ops.specs.Performed.{Stands}
 use Rattle.dcc_ops.specs.Statements.{op_stmts}
@@ -237,19 +236,6 @@ WordsArePushed =
     → AreCoupled e (step e.program.layout.cpu s)
     (stack_after e.program.layout (Some instr) s (step e.program.layout.cpu s) stack) (taken place (operand_value s
     x) t)
-
--- A POP of a general register: it takes the word of the frame at SP, as it stands at its place.
-abbrev pub WordsArePopped : Type 0
-WordsArePopped =
-    (e : Setting) (s : Machine) (stack : Stack) (instr : Instr) (r : Reg) (t : State) (place : Place)
-    (is : IsCleanInstruction e s stack instr)
-    (stands :
-    StandsIn e.image e.program.layout s.memory is.stands.newest (top_in e.program.layout s) (word_in s Bp))
-    → instr.op ≡ Pop (Word r) → is_general r ≡ true → Within is stack.written s t
-    → IsFramePlace e is.stands.newest.frame.entry (pos 2 -ℤ pos stands.height) word_width place
-    → AreCoupled e (step e.program.layout.cpu s)
-    (stack_after e.program.layout (Some instr) s (step e.program.layout.cpu s) stack)
-    (taken (register_place (Word r)) (value_in t (place_value place)) t)
 
 -- After `mov bp,sp`, `mov sp,bp`, LEA of SP from BP, `pop bp` and LEAVE they agree, and the inner run stays as it is.
 abbrev pub PointersAreSet : Type 0

@@ -2,3 +2,12 @@ pub mod Coupled
 pub mod Places
 pub mod Calls
 pub mod Laws
+pub mod Procedures
+pub mod Operands
+pub mod Passed
+pub mod Statements
+pub mod Nodes
+pub mod FoundPlaces
+pub mod Operation
+pub mod Special
+pub mod StackNodes

@@ -1,7 +1,12 @@
 //! Laws of the machine in clean runs and the inner language's run beside it. The functions do nothing: their contracts
 //! are proved for all.
 
-ghost use Rattle.dcc_coupled.specs.Laws.{AddressesAreTold, CallsBegin, CallsReturn, FramesAreRead, FramesAreWritten, OperandsAreRead, OperandsAreWritten, OperationsAgree, PiecesHavePlaces, PointersAreSet, PointersMove, RunsAreCoupled, RunsBegin, StepsAgree, WordsArePopped, WordsArePushed};
+ghost use Rattle.dcc_coupled.specs.Nodes.{CallNodesAgree, ExitsLead, NodesAgree, ReturnNodesAgree};
+ghost use Rattle.dcc_coupled.specs.FoundPlaces.{FoundPlacesStand};
+ghost use Rattle.dcc_coupled.specs.Operation.{OperationNodesAgree};
+ghost use Rattle.dcc_coupled.specs.Special.{SpecialNodesAgree};
+ghost use Rattle.dcc_coupled.specs.StackNodes.{StackNodesAgree};
+ghost use Rattle.dcc_coupled.specs.Laws.{AddressesAreTold, CallsBegin, CallsReturn, FramesAreRead, FramesAreWritten, OperandsAreRead, OperandsAreWritten, OperationsAgree, PiecesHavePlaces, PointersAreSet, PointersMove, RunsAreCoupled, RunsBegin, StepsAgree, WordsArePushed};
 
 /// The machine and the inner run, whose frames are cells and memory, are a coupling: anywhere within an instruction
 /// temporaries, flags and general registers are taken alike.
@@ -9,7 +14,8 @@ pub fn runs_are_coupled()
     ensures { RunsAreCoupled }
 {}
 
-/// Where the entry procedure begins they agree, where registers, flags, the console and the memory outside the stack do.
+/// Where the entry procedure begins they agree, where registers, flags, the console and the memory outside the stack
+/// do.
 pub fn runs_begin()
     ensures { RunsBegin }
 {}
@@ -64,11 +70,6 @@ pub fn words_are_pushed()
     ensures { WordsArePushed }
 {}
 
-/// After a POP of a general register they agree, where it takes the word of the frame at SP.
-pub fn words_are_popped()
-    ensures { WordsArePopped }
-{}
-
 /// After `mov bp,sp`, `mov sp,bp`, LEA of SP from BP, `pop bp` and LEAVE they agree, with the inner run as it was.
 pub fn pointers_are_set()
     ensures { PointersAreSet }
@@ -82,4 +83,47 @@ pub fn calls_begin()
 /// After a RET they agree, where the inner run has returned to the procedure that waits.
 pub fn calls_return()
     ensures { CallsReturn }
+{}
+
+/// The cells of the procedures that are found are theirs, and the places that are named for bytes of a frame are its
+/// places in both runs.
+pub fn found_places_stand()
+    ensures { FoundPlacesStand }
+{}
+
+/// After the statements of an instruction that takes operands from the places that are named, puts its result there, and
+/// leaves SP and BP, the runs agree.
+pub fn operation_nodes_agree()
+    ensures { OperationNodesAgree }
+{}
+
+/// The end of an instruction's block leads where the machine goes on, other than by CALL and RET.
+pub fn exits_lead()
+    ensures { ExitsLead }
+{}
+
+/// After the statements of a division, of a DOS call, of XLAT, of a jump through a table, and of LEA of another register
+/// than SP the runs agree, or both have ended alike.
+pub fn special_nodes_agree()
+    ensures { SpecialNodesAgree }
+{}
+
+/// After the statements of a PUSH, of a POP, and of an instruction that moves SP or BP alone the runs agree.
+pub fn stack_nodes_agree()
+    ensures { StackNodesAgree }
+{}
+
+/// So they do after those of each instruction but CALL and RET, or both have ended alike.
+pub fn nodes_agree()
+    ensures { NodesAgree }
+{}
+
+/// At the block of a CALL the inner run begins the callee with what passes to it, and they agree.
+pub fn call_nodes_agree()
+    ensures { CallNodesAgree }
+{}
+
+/// At a RET it returns to the caller that waits, which takes back what the callee may have changed, and they agree.
+pub fn return_nodes_agree()
+    ensures { ReturnNodesAgree }
 {}

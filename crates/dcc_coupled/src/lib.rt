@@ -4,8 +4,9 @@
 mod laws;
 
 pub use laws::{
-    addresses_are_told, calls_begin, calls_return, frames_are_read, frames_are_written,
-    operands_are_read, operands_are_written, operations_agree, pieces_have_places,
-    pointers_are_set, pointers_move, runs_are_coupled, runs_begin, steps_agree, words_are_popped,
-    words_are_pushed,
+    addresses_are_told, call_nodes_agree, calls_begin, calls_return, exits_lead,
+    found_places_stand, frames_are_read, frames_are_written, nodes_agree, operands_are_read,
+    operands_are_written, operation_nodes_agree, operations_agree, pieces_have_places,
+    pointers_are_set, pointers_move, return_nodes_agree, runs_are_coupled, runs_begin,
+    special_nodes_agree, stack_nodes_agree, steps_agree, words_are_pushed,
 };

@@ -22,7 +22,8 @@ loaded-placed image loaded = image-placed loaded.file image loaded.is_image
 -- Bounds.
 
 -- an instruction of the code ends at offset 65536 or before
-pub instruction-below : (image : Image) (layout : Layout) (at : ℕ) (instr : Instr) → IsPlaced image → instruction_in image layout at ≡ Some instr
+pub instruction-below : (image : Image) (layout : Layout) (at : ℕ) (instr : Instr) → IsPlaced image
+    → instruction_in image layout at ≡ Some instr
     → (0 < instr.len) × (at + instr.len ≤ 65536)
 instruction-below image layout at instr placed found =
     let code = code_of image in
@@ -34,14 +35,16 @@ instruction-below image layout at instr placed found =
     (bounds.0, omega (arith, bounds.0, bounds.1, len, cut, whole, placed.short))
 
 -- an instruction of the whole code that ends at the code's end or before stands in the code
-pub instruction-within : (image : Image) (layout : Layout) (at : ℕ) (instr : Instr) → instruction_at layout.cpu at (drop at (code_of image)) ≡ Some instr
+pub instruction-within : (image : Image) (layout : Layout) (at : ℕ) (instr : Instr)
+    → instruction_at layout.cpu at (drop at (code_of image)) ≡ Some instr
     → at + instr.len ≤ layout.code_end → instruction_in image layout at ≡ Some instr
 instruction-within image layout at instr found within =
     let code = code_of image in
     let e : ℕ = layout.code_end in
     let more : ℕ = e - at in
     let whole : e ≡ at + more = omega (arith, within) in
-    let cut : drop at (take e code) ≡ take more (drop at code) = ap (λ n. drop at (take n code)) whole ∙ drop-take at more code in
+    let cut : drop at (take e code) ≡ take more (drop at code) = ap (λ n. drop at (take n code)) whole
+    ∙ drop-take at more code in
     let same : take instr.len (drop at (take e code)) ≡ take instr.len (drop at code) =
     ap (take instr.len) cut ∙ take-take instr.len more (drop at code) (omega (arith, within)) in
     instruction-prefix layout.cpu at (drop at code) (drop at (take e code)) instr found same

@@ -1,5 +1,5 @@
 -- The edges to an offset, one instruction after another.
-use Rattle.std.proofs.Common.{◌≡◌, ◌≢◌, inl, inr, ℕ, ◌+◌, ◌≤◌, ◌<◌, Bool, true, false, ◌==◌, ◌&&◌, if◌then◌else◌, List, [], ◌∷◌, ◌++◌, length, map, filter, take, set, replicate, get_or, Contains, Some, refl, sym, ap, ◌∙◌, subst, append_assoc, arith}
+use Rattle.std.proofs.Common.{◌≡◌, ◌≢◌, inl, inr, ℕ, ◌+◌, ◌≤◌, ◌<◌, Bool, true, false, ◌==◌, if◌then◌else◌, List, [], ◌∷◌, ◌++◌, length, map, filter, take, set, replicate, get_or, Contains, Some, refl, sym, ap, ◌∙◌, subst, append_assoc, arith}
 use Rattle.std.proofs.lemmas.Bool.{eq-eqb, eqb-true, eqb-false, cases_lt}
 use Rattle.std.proofs.lemmas.Grind.{flat_map-append}
 use Rattle.std.proofs.lemmas.List.{take_more, map-append, append-nil, get_or-set_same, get_or-set_other, get_or-replicate, length-replicate, get_or_past}
@@ -8,6 +8,7 @@ use Rattle.dcc_prog.specs.declared.procedure.Node.{Node}
 use Rattle.dcc_lift.specs.declared.edges.Incoming.{Incoming}
 use Rattle.dcc_lift.specs.declared.edges.Incoming.TheVariants.{Nowhere, From}
 use Rattle.dcc_lift.specs.Incoming.{incoming_of, AreIncoming}
+use Rattle.dcc_lift.proofs.ListTests.{and_left, and_right}
 use Rattle.dcc_lift.specs.Blocks.{Nodes, node_in, edges_into, comes_from_below, joins}
 
 -- from an offset to one of these
@@ -15,12 +16,14 @@ abbrev pub noted : ℕ → ℕ → List ℕ → List ℕ
 noted from to successors = map (λ _. from) (filter (λ next. next == to) successors)
 
 -- one successor more
-pub noted-more : (from to : ℕ) (successors : List ℕ) (i : ℕ) → i < length successors → noted from to (take (i + 1) successors)
+pub noted-more : (from to : ℕ) (successors : List ℕ) (i : ℕ) → i < length successors
+    → noted from to (take (i + 1) successors)
     ≡ noted from to (take i successors) ++ noted from to (get_or successors i 0 ∷ [])
 noted-more from to successors i l =
     ap (noted from to) (take_more successors i 0 l)
     ∙ (ap (map (λ _. from)) (filter-append (λ next. next == to) (take i successors) (get_or successors i 0 ∷ []))
-    ∙ map-append (λ _. from) (filter (λ next. next == to) (take i successors)) (filter (λ next. next == to) (get_or successors i 0 ∷ [])))
+    ∙ map-append (λ _. from) (filter (λ next. next == to) (take i successors))
+    (filter (λ next. next == to) (get_or successors i 0 ∷ [])))
 
 -- it leads there
 pub noted-same : (from to next : ℕ) → next ≡ to → noted from to (next ∷ []) ≡ from ∷ []
@@ -32,9 +35,13 @@ noted-other from to next e = ap (λ b. map (λ _. from) (if b then next ∷ [] e
 
 -- the table, where one successor more is noted
 module _ (table : List Incoming) (from next to : ℕ) (successors edges : List ℕ) (i : ℕ) (r : Incoming) where
-  noted-whole : i < length successors → next ≡ get_or successors i 0 → edges ++ noted from to (take (i + 1) successors) ≡ (edges ++ noted from to (take i successors)) ++ noted from to (next ∷ [])
+  noted-whole : i < length successors → next ≡ get_or successors i 0
+      → edges ++ noted from to (take (i + 1) successors) ≡ (edges ++ noted from to (take i successors)) ++ noted from
+      to (next ∷ [])
   noted-whole l e =
-      ap (λ more. edges ++ more) (noted-more from to successors i l ∙ ap (λ n. noted from to (take i successors) ++ noted from to (n ∷ [])) (sym e))
+      ap (λ more. edges ++ more)
+      (noted-more from to successors i l
+      ∙ ap (λ n. noted from to (take i successors) ++ noted from to (n ∷ [])) (sym e))
       ∙ sym (append_assoc edges _ _)
 
   pub noted-step : next < length table → i < length successors → next ≡ get_or successors i 0
@@ -43,19 +50,28 @@ module _ (table : List Incoming) (from next to : ℕ) (successors edges : List �
       → get_or (set table next r) to Nowhere ≡ incoming_of (edges ++ noted from to (take (i + 1) successors))
   noted-step room l e more told = by (next == to) refl
     where
-      by : (same : Bool) → (next == to) ≡ same → get_or (set table next r) to Nowhere ≡ incoming_of (edges ++ noted from to (take (i + 1) successors))
+      by : (same : Bool) → (next == to) ≡ same
+          → get_or (set table next r) to Nowhere ≡ incoming_of (edges ++ noted from to (take (i + 1) successors))
       by true t =
           let is : next ≡ to = eqb-true next to t in
-          let here : get_or (set table next r) to Nowhere ≡ r = subst (λ k. get_or (set table next r) k Nowhere ≡ r) is (get_or-set_same table next r Nowhere room) in
-          let grown = more (edges ++ noted from to (take i successors)) (ap (λ k. get_or table k Nowhere) is ∙ told) in
-          here ∙ (grown ∙ ap incoming_of (sym (noted-whole l e ∙ ap (λ last. (edges ++ noted from to (take i successors)) ++ last) (noted-same from to next is))))
+          let here : get_or (set table next r) to Nowhere ≡ r =
+          subst (λ k. get_or (set table next r) k Nowhere ≡ r) is (get_or-set_same table next r Nowhere room) in
+          let grown = more (edges ++ noted from to (take i successors)) (ap (λ k. get_or table k Nowhere) is ∙ told)
+          in
+          here ∙ (grown ∙ ap incoming_of
+          (sym (noted-whole l e
+          ∙ ap (λ last. (edges ++ noted from to (take i successors)) ++ last) (noted-same from to next is))))
       by false t =
           let differ : to ≢ next = λ same. eqb-false next to t (sym same) in
           get_or-set_other table next to r Nowhere differ
-          ∙ (told ∙ ap incoming_of (sym (noted-whole l e ∙ (ap (λ last. (edges ++ noted from to (take i successors)) ++ last) (noted-other from to next t) ∙ append-nil _))))
+          ∙ (told ∙ ap incoming_of
+          (sym (noted-whole l e
+          ∙ (ap (λ last. (edges ++ noted from to (take i successors)) ++ last) (noted-other from to next t)
+          ∙ append-nil _))))
 
 -- one instruction more
-pub edges-more : (nodes : Nodes) (found : ℕ × Node) (to : ℕ) → edges_into (nodes ++ found ∷ []) to ≡ edges_into nodes to ++ noted found.0 to found.1.succ.items
+pub edges-more : (nodes : Nodes) (found : ℕ × Node) (to : ℕ)
+    → edges_into (nodes ++ found ∷ []) to ≡ edges_into nodes to ++ noted found.0 to found.1.succ.items
 edges-more nodes found to =
     flat_map-append (λ (first : ℕ × Node). noted first.0 to first.1.succ.items) nodes (found ∷ [])
     ∙ ap (λ last. edges_into nodes to ++ last) (append-nil _)
@@ -74,8 +90,10 @@ noted-none table e = record {
 }
 
 -- the edges of one instruction more are noted
-pub noted-all : (nodes : Nodes) (found : ℕ × Node) (table more : List Incoming) → AreIncoming nodes table → length more ≡ length table
-    → ((to : ℕ) (edges : List ℕ) → get_or table to Nowhere ≡ incoming_of edges → get_or more to Nowhere ≡ incoming_of (edges ++ noted found.0 to found.1.succ.items))
+pub noted-all : (nodes : Nodes) (found : ℕ × Node) (table more : List Incoming) → AreIncoming nodes table
+    → length more ≡ length table
+    → ((to : ℕ) (edges : List ℕ) → get_or table to Nowhere ≡ incoming_of edges
+    → get_or more to Nowhere ≡ incoming_of (edges ++ noted found.0 to found.1.succ.items))
     → AreIncoming (nodes ++ found ∷ []) more
 noted-all nodes found table more are len step = record {
   length_is = len ∙ are.length_is;
@@ -89,19 +107,25 @@ sole-edge (other ∷ []) from e = let same = e in cc
 sole-edge (other ∷ more ∷ edges) from e = let clash = e in cc
 
 -- an instruction that goes on at one place alone has an edge there
-edge-from : (nodes : Nodes) (at next : ℕ) (node : Node) → node_in nodes at ≡ Some node → node.succ.items ≡ next ∷ [] → Contains (edges_into nodes next) at
+edge-from : (nodes : Nodes) (at next : ℕ) (node : Node) → node_in nodes at ≡ Some node → node.succ.items ≡ next ∷ []
+    → Contains (edges_into nodes next) at
 edge-from [] at next node found succ = let clash = found in cc
 edge-from (first ∷ nodes) at next node found succ = by (first.0 == at) refl (edge-from nodes at next node)
   where
-    by : (same : Bool) → (first.0 == at) ≡ same → (node_in nodes at ≡ Some node → node.succ.items ≡ next ∷ [] → Contains (edges_into nodes next) at) → Contains (edges_into (first ∷ nodes) next) at
+    by : (same : Bool) → (first.0 == at) ≡ same
+        → (node_in nodes at ≡ Some node → node.succ.items ≡ next ∷ [] → Contains (edges_into nodes next) at)
+        → Contains (edges_into (first ∷ nodes) next) at
     by true e rest =
-        let here : Some first.1 ≡ Some node = sym (ap (λ b. if b then Some first.1 else node_in nodes at) e) ∙ found in
+        let here : Some first.1 ≡ Some node = sym (ap (λ b. if b then Some first.1 else node_in nodes at) e)
+        ∙ found in
         let is : first.1 ≡ node = cc in
-        let one : noted first.0 next first.1.succ.items ≡ first.0 ∷ [] = ap (noted first.0 next) (ap (λ (n : Node). n.succ.items) is ∙ succ) ∙ noted-same first.0 next next refl in
+        let one : noted first.0 next first.1.succ.items ≡ first.0 ∷ [] =
+        ap (noted first.0 next) (ap (λ (n : Node). n.succ.items) is ∙ succ) ∙ noted-same first.0 next next refl in
         let has : Contains (first.0 ∷ []) at = (0, omega arith, eqb-true first.0 at e) in
         Contains-append_left _ _ at (subst (λ l. Contains l at) (sym one) has)
     by false e rest =
-        let there : node_in nodes at ≡ Some node = sym (ap (λ b. if b then Some first.1 else node_in nodes at) e) ∙ found in
+        let there : node_in nodes at ≡ Some node = sym (ap (λ b. if b then Some first.1 else node_in nodes at) e)
+        ∙ found in
         Contains-append_right (noted first.0 next first.1.succ.items) (edges_into nodes next) at (rest there succ)
 
 sole : (from at : ℕ) → Contains (from ∷ []) at → from ≡ at
@@ -109,14 +133,11 @@ sole from at has =
     let first : has.0 ≡ 0 = omega (arith, has.1) in
     subst (λ k. get_or (from ∷ []) k at ≡ at) first has.2
 
-below-at : (nodes : Nodes) (edges : List ℕ) (at next : ℕ) → comes_from_below nodes edges next ≡ true → Contains edges at → at < next
+below-at : (nodes : Nodes) (edges : List ℕ) (at next : ℕ) → comes_from_below nodes edges next ≡ true
+    → Contains edges at → at < next
 below-at nodes [] at next e has = let clash = e in cc
 below-at nodes (from ∷ []) at next e has = let is = sole from at has in grind arith
 below-at nodes (from ∷ other ∷ edges) at next e has = let clash = e in cc
-
-not-both : (a b : Bool) → (a && b) ≡ true → b ≡ true
-not-both true b e = e
-not-both false b e = let clash = e in cc
 
 -- a list of one
 pub single : (xs : List ℕ) → 1 ≤ length xs → length xs < 2 → xs ≡ get_or xs 0 0 ∷ []
@@ -125,6 +146,8 @@ single (x ∷ []) some few = refl
 single (x ∷ y ∷ xs) some few = absurd (omega arith)
 
 -- offsets rise along a block
-pub joins-rises : (nodes : Nodes) (entry at next : ℕ) (node : Node) → node_in nodes at ≡ Some node → node.succ.items ≡ next ∷ [] → joins nodes entry next ≡ true → at < next
+pub joins-rises : (nodes : Nodes) (entry at next : ℕ) (node : Node) → node_in nodes at ≡ Some node
+    → node.succ.items ≡ next ∷ [] → joins nodes entry next ≡ true → at < next
 joins-rises nodes entry at next node found succ e =
-    below-at nodes (edges_into nodes next) at next (not-both _ _ e) (edge-from nodes at next node found succ)
+    below-at nodes (edges_into nodes next) at next (and_right _ _ (and_left _ _ e))
+    (edge-from nodes at next node found succ)

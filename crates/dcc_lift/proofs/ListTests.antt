@@ -62,31 +62,39 @@ pub any_agree : {X : Type 0} (f g : X → Bool) → ((x : X) → f x ≡ g x) �
 any_agree f g same [] = refl
 any_agree f g same (x ∷ xs) = rw (same x, any_agree f g same xs) refl
 
-pub any_map : {X Y : Type 0} (p : Y → Bool) (h : X → Y) (xs : List X) → list_any p (map h xs) ≡ list_any (λ x. p (h x)) xs
+pub any_map : {X Y : Type 0} (p : Y → Bool) (h : X → Y) (xs : List X)
+    → list_any p (map h xs) ≡ list_any (λ x. p (h x)) xs
 any_map p h [] = refl
 any_map p h (x ∷ xs) = ap (λ b. p (h x) || b) (any_map p h xs)
 
-pub any_flat_map : {X Y : Type 0} (p : Y → Bool) (f : X → List Y) (xs : List X) → list_any p (flat_map f xs) ≡ list_any (λ x. list_any p (f x)) xs
+pub any_flat_map : {X Y : Type 0} (p : Y → Bool) (f : X → List Y) (xs : List X)
+    → list_any p (flat_map f xs) ≡ list_any (λ x. list_any p (f x)) xs
 any_flat_map p f [] = refl
-any_flat_map p f (x ∷ xs) = list_any-append p (f x) (flat_map f xs) ∙ ap (λ b. list_any p (f x) || b) (any_flat_map p f xs)
+any_flat_map p f (x ∷ xs) = list_any-append p (f x) (flat_map f xs)
+    ∙ ap (λ b. list_any p (f x) || b) (any_flat_map p f xs)
 
 -- a test that does not look at the elements
-pub any_constant : {X : Type 0} (c : Bool) (test : X → Bool) (xs : List X) → list_any (λ x. c) (filter test xs) ≡ (c && list_any test xs)
+pub any_constant : {X : Type 0} (c : Bool) (test : X → Bool) (xs : List X)
+    → list_any (λ x. c) (filter test xs) ≡ (c && list_any test xs)
 any_constant c test [] = sym (and_false c)
 any_constant {X = X} c test (x ∷ xs) = go (test x) c (filter test xs) (list_any test xs) (any_constant c test xs)
   where
-    go : (b c : Bool) (kept : List X) (rest : Bool) → list_any (λ x. c) kept ≡ (c && rest) → list_any (λ x. c) (cond b (x ∷ kept) kept) ≡ (c && (b || rest))
+    go : (b c : Bool) (kept : List X) (rest : Bool) → list_any (λ x. c) kept ≡ (c && rest)
+        → list_any (λ x. c) (cond b (x ∷ kept) kept) ≡ (c && (b || rest))
     go true true kept rest e = refl
     go true false kept rest e = e
     go false c kept rest e = e
 
 -- a number among those that pass a test
-pub any_filter : (test : ℕ → Bool) (a : ℕ) (xs : List ℕ) → list_any (λ x. x == a) (filter test xs) ≡ (list_any (λ x. x == a) xs && test a)
+pub any_filter : (test : ℕ → Bool) (a : ℕ) (xs : List ℕ)
+    → list_any (λ x. x == a) (filter test xs) ≡ (list_any (λ x. x == a) xs && test a)
 any_filter test a [] = refl
 any_filter test a (x ∷ xs) = go (test x) refl (x == a) refl (any_filter test a xs)
   where
-    go : (b : Bool) → test x ≡ b → (c : Bool) → (x == a) ≡ c → list_any (λ x. x == a) (filter test xs) ≡ (list_any (λ x. x == a) xs && test a)
-        → list_any (λ x. x == a) (cond b (x ∷ filter test xs) (filter test xs)) ≡ ((c || list_any (λ x. x == a) xs) && test a)
+    go : (b : Bool) → test x ≡ b → (c : Bool) → (x == a) ≡ c
+        → list_any (λ x. x == a) (filter test xs) ≡ (list_any (λ x. x == a) xs && test a)
+        → list_any (λ x. x == a)
+        (cond b (x ∷ filter test xs) (filter test xs)) ≡ ((c || list_any (λ x. x == a) xs) && test a)
     go true t true s e = ap (λ d. d || list_any (λ x. x == a) (filter test xs)) s ∙ sym t ∙ ap test (eqb-true x a s)
     go true t false s e = ap (λ d. d || list_any (λ x. x == a) (filter test xs)) s ∙ e
     go false t true s e =
@@ -95,7 +103,8 @@ any_filter test a (x ∷ xs) = go (test x) refl (x == a) refl (any_filter test a
     go false t false s e = e
 
 -- a number, where another test passes at it
-pub any_same : (test : ℕ → Bool) (b : ℕ) (xs : List ℕ) → list_any (λ x. test x && (x == b)) xs ≡ (test b && list_any (λ x. x == b) xs)
+pub any_same : (test : ℕ → Bool) (b : ℕ) (xs : List ℕ)
+    → list_any (λ x. test x && (x == b)) xs ≡ (test b && list_any (λ x. x == b) xs)
 any_same test b [] = sym (and_false (test b))
 any_same test b (x ∷ xs) = go (x == b) refl (any_same test b xs)
   where
@@ -125,7 +134,8 @@ passing test (x ∷ xs) e = elim (decided (test x)) [
 ]
 
 -- an element of a list that passes a test
-pub any_at : {X : Type 0} (test : X → Bool) (xs : List X) (place : ℕ) (x : X) → slice_get xs place ≡ Some x → test x ≡ true → list_any test xs ≡ true
+pub any_at : {X : Type 0} (test : X → Bool) (xs : List X) (place : ℕ) (x : X) → slice_get xs place ≡ Some x
+    → test x ≡ true → list_any test xs ≡ true
 any_at test [] place x e t = absurd (cc)
 any_at test (y ∷ ys) zero x e t = let same : y ≡ x = cc in or_here (test y) (list_any test ys) (ap test same ∙ t)
 any_at test (y ∷ ys) (suc place) x e t = or_there (test y) (list_any test ys) (any_at test ys place x e t)
@@ -135,7 +145,8 @@ pub any_contained : (xs : List ℕ) (a : ℕ) → Contains xs a → list_any (λ
 any_contained [] a h = absurd (omega (arith, h.1))
 any_contained (x ∷ xs) a h = go (λ k less e. any_contained xs a (k, less, e)) h.0 h.1 h.2
   where
-    go : ((k : ℕ) → k < length xs → get_or xs k a ≡ a → list_any (λ x. x == a) xs ≡ true) → (k : ℕ) → k < length (x ∷ xs) → get_or (x ∷ xs) k a ≡ a
+    go : ((k : ℕ) → k < length xs → get_or xs k a ≡ a → list_any (λ x. x == a) xs ≡ true) → (k : ℕ)
+        → k < length (x ∷ xs) → get_or (x ∷ xs) k a ≡ a
         → list_any (λ x. x == a) (x ∷ xs) ≡ true
     go later zero less e = or_here (x == a) (list_any (λ x. x == a) xs) (eq-eqb x a e)
     go later (suc k) less e = or_there (x == a) (list_any (λ x. x == a) xs) (later k (omega arith) e)
@@ -144,5 +155,6 @@ pub contained_any : (xs : List ℕ) (a : ℕ) → list_any (λ x. x == a) xs ≡
 contained_any [] a e = absurd (true≢false (sym e))
 contained_any (x ∷ xs) a e = elim (decided (x == a)) [
   | inl t ↦ (0, omega arith, eqb-true x a t)
-  | inr n ↦ let later = contained_any xs a (or_false (x == a) (list_any (λ x. x == a) xs) n e) in (suc later.0, omega (arith, later.1), later.2)
+  | inr n ↦ let later = contained_any xs a (or_false (x == a) (list_any (λ x. x == a) xs) n e) in
+      (suc later.0, omega (arith, later.1), later.2)
 ]

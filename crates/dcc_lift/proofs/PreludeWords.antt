@@ -53,7 +53,8 @@ pub record HasWords (s : State) : Type 0 where
   pub segments : AreWords s.segs
 
 -- a register takes a word
-word-taken : (s t : State) (k v : ℕ) → t.regs ≡ slice_set s.regs k v → t.segs ≡ s.segs → v < 65536 → HasWords s → HasWords t
+word-taken : (s t : State) (k v : ℕ) → t.regs ≡ slice_set s.regs k v → t.segs ≡ s.segs → v < 65536 → HasWords s
+    → HasWords t
 word-taken s t k v regs segs small h = record {
   eight = ap length regs ∙ length-set s.regs k v ∙ h.eight;
   words = subst AreWords (sym regs) (words-set s.regs k v h.words small);
@@ -68,7 +69,8 @@ half-taken : (half : Half) (word byte : ℕ) → word < 65536 → byte < 256 →
 half-taken Low word byte small fits = omega arith
 half-taken High word byte small fits = omega arith
 
-either-below : (b : Bool) (same moved : ℕ × Flags) → same.0 < 65536 → moved.0 < 65536 → (let r : ℕ × Flags = if b then same else moved in r.0 < 65536)
+either-below : (b : Bool) (same moved : ℕ × Flags) → same.0 < 65536 → moved.0 < 65536
+    → (let r : ℕ × Flags = if b then same else moved in r.0 < 65536)
 either-below true same moved p q = p
 either-below false same moved p q = q
 
@@ -77,19 +79,22 @@ unfolding shl_of
 shifted-below a count flags small = either-below (count == 0) (a, flags) _ small (omega arith)
 
 -- an operation of a prelude leaves words
-form-words : (cpu : Cpu) (op : Op) (at : ℕ) (s : State) → is_prelude_form op ≡ true → IsOperation op → HasWords s → HasWords (op_step cpu op at s)
+form-words : (cpu : Cpu) (op : Op) (at : ℕ) (s : State) → is_prelude_form op ≡ true → IsOperation op → HasWords s
+    → HasWords (op_step cpu op at s)
 form-words cpu (Mov (Word r) (Const width c)) at s form well h =
     let fits : c < 65536 = subst (λ w. c < limit_of w) (sym well.widths) well.second in
     word-taken s _ (reg_number r) c refl refl fits h
 form-words cpu (Mov (Byte r half) (Const width c)) at s form well h =
     let fits : c < 256 = subst (λ w. c < limit_of w) (sym well.widths) well.second in
-    word-taken s _ (reg_number r) (word_with_half half (word_in s r) c) refl refl (half-taken half (word_in s r) c (h.words (reg_number r)) fits) h
+    word-taken s _ (reg_number r) (word_with_half half (word_in s r) c) refl refl
+    (half-taken half (word_in s r) c (h.words (reg_number r)) fits) h
 form-words cpu (Mov (Word r) (Word q)) at s form well h =
     word-taken s _ (reg_number r) (word_in s q) refl refl (h.words (reg_number q)) h
 form-words cpu (Mov (Byte r half) (Byte q part)) at s form well h =
     let byte = half_of_word part (word_in s q) in
     let fits : byte < 256 = half-byte part (word_in s q) (h.words (reg_number q)) in
-    word-taken s _ (reg_number r) (word_with_half half (word_in s r) byte) refl refl (half-taken half (word_in s r) byte (h.words (reg_number r)) fits) h
+    word-taken s _ (reg_number r) (word_with_half half (word_in s r) byte) refl refl
+    (half-taken half (word_in s r) byte (h.words (reg_number r)) fits) h
 form-words cpu (Mov (Word r) (Seg number)) at s form well h =
     word-taken s _ (reg_number r) (slice_index s.segs number) refl refl (h.segments number) h
 form-words cpu (Mov (Seg number) (Word r)) at s form well h = record {
@@ -106,7 +111,8 @@ form-words cpu (AluOp Sub (Word r) (Word q)) at s form well h =
 form-words cpu (AluOp Sub (Word r) (Const width c)) at s form well h =
     word-taken s _ (reg_number r) _ refl refl (difference_below word_width (word_in s r) c false) h
 form-words cpu (ShiftOp Shl (Word r) count) at s form well h =
-    word-taken s _ (reg_number r) _ refl refl (shifted-below (word_in s r) (count_in cpu count s) s.flags (h.words (reg_number r))) h
+    word-taken s _ (reg_number r) _ refl refl
+    (shifted-below (word_in s r) (count_in cpu count s) s.flags (h.words (reg_number r))) h
 form-words cpu (PlainOp Nop) at s form well h = h
 form-words cpu (PlainOp Cli) at s form well h = h
 form-words cpu (PlainOp Sti) at s form well h = h
@@ -114,11 +120,14 @@ form-words cpu (PlainOp Cld) at s form well h = h
 form-words cpu op at s form well h = cc
 
 -- and so does a run
-run-words : (cpu : Cpu) (code : List ℕ) (at : ℕ) (run : List Instr) (s : State) → AreBytes code → IsRun cpu code at run → HasWords s → HasWords (executed cpu s run)
+run-words : (cpu : Cpu) (code : List ℕ) (at : ℕ) (run : List Instr) (s : State) → AreBytes code
+    → IsRun cpu code at run → HasWords s → HasWords (executed cpu s run)
 run-words cpu code at [] s bytes is h = h
 run-words cpu code at (instr ∷ rest) s bytes is h =
-    let well : IsOperation instr.op = instruction-operation cpu at (drop at code) instr (bytes-dropped at code bytes) is.0.found in
-    run-words cpu code (at + instr.len) rest (op_step cpu instr.op 0 s) bytes is.1 (form-words cpu instr.op 0 s is.0.form well h)
+    let well : IsOperation instr.op =
+    instruction-operation cpu at (drop at code) instr (bytes-dropped at code bytes) is.0.found in
+    run-words cpu code (at + instr.len) rest (op_step cpu instr.op 0 s) bytes is.1
+    (form-words cpu instr.op 0 s is.0.form well h)
 
 -- the registers at the start
 start-registers : (sp : ℕ) → sp < 65536 → (i : ℕ) → slice_index (0 ∷ 0 ∷ 0 ∷ 0 ∷ sp ∷ 0 ∷ 0 ∷ 0 ∷ []) i < 65536
@@ -132,7 +141,8 @@ start-registers sp small (suc (suc (suc (suc (suc (suc zero)))))) = omega arith
 start-registers sp small (suc (suc (suc (suc (suc (suc (suc zero))))))) = omega arith
 start-registers sp small (suc (suc (suc (suc (suc (suc (suc (suc i)))))))) = omega arith
 
-start-segments : (es cs ss ds : ℕ) → es < 65536 → cs < 65536 → ss < 65536 → ds < 65536 → (i : ℕ) → slice_index (es ∷ cs ∷ ss ∷ ds ∷ []) i < 65536
+start-segments : (es cs ss ds : ℕ) → es < 65536 → cs < 65536 → ss < 65536 → ds < 65536 → (i : ℕ)
+    → slice_index (es ∷ cs ∷ ss ∷ ds ∷ []) i < 65536
 start-segments es cs ss ds e c s d zero = e
 start-segments es cs ss ds e c s d (suc zero) = c
 start-segments es cs ss ds e c s d (suc (suc zero)) = s
@@ -153,11 +163,13 @@ start-words image loaded =
 
 module _ (image : Image) (layout : Layout) (loaded : IsLoaded image) (has : HasLayout image layout) where
   following-words : HasWords (executed layout.cpu (start_state image []) has.prelude)
-  following-words = run-words layout.cpu (code_of image) image.ip has.prelude (start_state image []) (whole-bytes image (loaded-bytes image loaded)) has.is_prelude.run (start-words image loaded)
+  following-words = run-words layout.cpu (code_of image) image.ip has.prelude (start_state image [])
+      (whole-bytes image (loaded-bytes image loaded)) has.is_prelude.run (start-words image loaded)
 
   -- the layout's registers are those after the prelude's instructions
   pub layout-registers : layout.regs ≡ (executed layout.cpu (start_state image []) has.prelude).regs
-  layout-registers = has.left.regs ∙ ap (λ (s : State). s.regs) (state_after-is layout.cpu image has.prelude loaded has.is_prelude.run)
+  layout-registers = has.left.regs
+      ∙ ap (λ (s : State). s.regs) (state_after-is layout.cpu image has.prelude loaded has.is_prelude.run)
 
   -- they are eight words
   pub layout-eight : length layout.regs ≡ 8

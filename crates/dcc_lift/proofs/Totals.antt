@@ -38,15 +38,18 @@ total-none f none [] = refl
 total-none f none (x ∷ xs) = let here = none x in let rest = total-none f none xs in omega (arith, here, rest)
 
 -- where one number has a value of its own, the sum grows by that value as often as the number stands in the list
-pub total-split : (c k : ℕ) (f g : ℕ → ℕ) → ((x : ℕ) → x ≡ c → f x ≤ k + g x) → ((x : ℕ) → (x == c) ≡ false → f x ≤ g x) → (xs : List ℕ) → total f xs ≤ times c xs * k + total g xs
+pub total-split : (c k : ℕ) (f g : ℕ → ℕ) → ((x : ℕ) → x ≡ c → f x ≤ k + g x)
+    → ((x : ℕ) → (x == c) ≡ false → f x ≤ g x) → (xs : List ℕ) → total f xs ≤ times c xs * k + total g xs
 total-split c k f g at other [] = omega arith
 total-split c k f g at other (x ∷ xs) = go (x == c) refl (total-split c k f g at other xs)
   where
-    more : (b : Bool) → f x ≤ one b * k + g x → total f xs ≤ times c xs * k + total g xs → f x + total f xs ≤ (one b + times c xs) * k + (g x + total g xs)
+    more : (b : Bool) → f x ≤ one b * k + g x → total f xs ≤ times c xs * k + total g xs
+        → f x + total f xs ≤ (one b + times c xs) * k + (g x + total g xs)
     more true p q = omega (arith, p, q)
     more false p q = omega (arith, p, q)
 
-    go : (b : Bool) → (x == c) ≡ b → total f xs ≤ times c xs * k + total g xs → f x + total f xs ≤ (one b + times c xs) * k + (g x + total g xs)
+    go : (b : Bool) → (x == c) ≡ b → total f xs ≤ times c xs * k + total g xs
+        → f x + total f xs ≤ (one b + times c xs) * k + (g x + total g xs)
     go true e rest = let here = at x (eqb-true x c e) in more true (omega (arith, here)) rest
     go false e rest = let here = other x e in more false (omega (arith, here)) rest
 
@@ -55,7 +58,8 @@ pub times-filter : (c : ℕ) (keep : ℕ → Bool) (xs : List ℕ) → times c (
 times-filter c keep [] = omega arith
 times-filter c keep (x ∷ xs) = go (keep x) (times-filter c keep xs)
   where
-    go : (b : Bool) → times c (filter keep xs) ≤ times c xs → times c (cond b (x ∷ filter keep xs) (filter keep xs)) ≤ one (x == c) + times c xs
+    go : (b : Bool) → times c (filter keep xs) ≤ times c xs
+        → times c (cond b (x ∷ filter keep xs) (filter keep xs)) ≤ one (x == c) + times c xs
     go true rest = omega (arith, rest)
     go false rest = omega (arith, rest)
 
@@ -63,6 +67,7 @@ pub filter-all : (keep : ℕ → Bool) (xs : List ℕ) → list_all keep (filter
 filter-all keep [] = refl
 filter-all keep (x ∷ xs) = go (keep x) refl (filter-all keep xs)
   where
-    go : (b : Bool) → keep x ≡ b → list_all keep (filter keep xs) ≡ true → list_all keep (cond b (x ∷ filter keep xs) (filter keep xs)) ≡ true
+    go : (b : Bool) → keep x ≡ b → list_all keep (filter keep xs) ≡ true
+        → list_all keep (cond b (x ∷ filter keep xs) (filter keep xs)) ≡ true
     go true e rest = rw e rest
     go false e rest = rest

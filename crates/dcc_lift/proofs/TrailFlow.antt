@@ -19,7 +19,8 @@ module _ (image : Image) (layout : Layout) (proc : Proc) (is : IsFound image lay
   differ = ascending_differ proc.nodes.entries is.ascending
 
   -- what is listed is found, and a node is listed
-  listed : (at : ℕ) (node : Node) → node_in proc.nodes.entries at ≡ Some node → IsNodeFound image layout proc.entry (at, node)
+  listed : (at : ℕ) (node : Node) → node_in proc.nodes.entries at ≡ Some node
+      → IsNodeFound image layout proc.entry (at, node)
   listed at node e = node_in_holds (IsNodeFound image layout proc.entry) proc.nodes.entries at node is.nodes e
 
   in_list : (at : ℕ) → IsNode image layout proc.entry at → (node : Node) × (node_in proc.nodes.entries at ≡ Some node)
@@ -42,8 +43,10 @@ module _ (image : Image) (layout : Layout) (proc : Proc) (is : IsFound image lay
       let before = found.node.before in
       let told : node.succ.items ≡ successors image layout (a ∷ before) = found.succ before found.node.trail in
       let goes : list_any (λ next. next == b) node.succ.items ≡ true =
-      sym (ap (λ o. list_any (λ next. next == b) (successors_in o)) there.1) ∙ sym (goes_on_is proc.nodes.entries a b differ) ∙ e in
-      let on : Contains (successors image layout (a ∷ before)) b = subst (λ xs. Contains xs b) told (contained_any node.succ.items b goes) in
+      sym (ap (λ o. list_any (λ next. next == b) (successors_in o)) there.1)
+      ∙ sym (goes_on_is proc.nodes.entries a b differ) ∙ e in
+      let on : Contains (successors image layout (a ∷ before)) b =
+      subst (λ xs. Contains xs b) told (contained_any node.succ.items b goes) in
       record { before = before; trail = (on, found.node.trail) }
 
   to_goes : (a b : ℕ) → IsEdge image layout proc.entry a b → goes_on proc.nodes.entries a b ≡ true
@@ -60,8 +63,14 @@ module _ (image : Image) (layout : Layout) (proc : Proc) (is : IsFound image lay
 
   -- of each procedure that is found
   pub found-flow : IsFlowOfTrails image layout proc.entry (procedure_flow proc)
-  found-flow = record { start = refl; nodes = λ a. (from_has a, to_has a); edges = λ a b. (from_goes a b, to_goes a b) }
+  found-flow = record {
+    start = refl;
+    nodes = λ a. (from_has a, to_has a);
+    edges =
+        λ a b. (from_goes a b, to_goes a b);
+  }
 
 pub flow-of_trails : FlowIsOfTrails
 flow-of_trails image layout procs are =
-    All-weaker (IsFound image layout) (λ (proc : Proc). IsFlowOfTrails image layout proc.entry (procedure_flow proc)) (found-flow image layout) procs are.found
+    All-weaker (IsFound image layout) (λ (proc : Proc). IsFlowOfTrails image layout proc.entry (procedure_flow proc))
+    (found-flow image layout) procs are.found

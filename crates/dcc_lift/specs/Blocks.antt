@@ -1,11 +1,15 @@
 -- The blocks of a procedure's instructions: which instructions begin one, and which stand in it. An instruction joins
--- the block of the one before it where nothing else leads to it. This stands between the procedure and the code; the
--- public contract tells what the blocks are by paths.
-use Rattle.std.specs.Prelude.{◌≡◌, ℕ, suc, ◌==◌, nat_lt, Bool, true, false, not, ◌&&◌, if◌then◌else◌, List, [], ◌∷◌, map, filter, flat_map, Option, Some, None}
+-- the block of the one before it where nothing else leads to it and neither of them is a CALL. This stands between the
+-- procedure and the code; the public contract tells what the blocks are by paths.
+use Rattle.std.specs.Prelude.{◌≡◌, ℕ, suc, ◌==◌, nat_lt, Bool, true, false, not, ◌&&◌, if◌then◌else◌, List, [], ◌∷◌, ◌+◌, map, filter, flat_map, Option, Some, None}
 use Rattle.dcc_prog.specs.declared.cpu.Cpu.{Cpu}
+use Rattle.dcc_prog.specs.declared.instr.Op.{Op}
+use Rattle.dcc_prog.specs.declared.instr.Op.TheVariants.{Call}
 use Rattle.dcc_prog.specs.declared.procedure.Node.{Node}
 use Rattle.dcc_ir.specs.Tree.{Stmt, Exit, Stop, Block}
-use Rattle.dcc_lift.specs.Statements.{op_stmts, op_test, exit_to}
+use Rattle.dcc_coupled.specs.Procedures.{Procedure}
+use Rattle.dcc_coupled.specs.Statements as placed
+use Rattle.dcc_coupled.specs.Passed as passed
 
 -- instructions by their offsets, in ascending order
 abbrev pub Nodes : Type 0
@@ -30,14 +34,25 @@ abbrev pub is_one : List ℕ → Bool
 is_one (x ∷ []) = true
 is_one xs = false
 
--- the only edge comes from a lower offset, whose instruction goes on nowhere else
+-- the instruction is a CALL
+abbrev pub is_call : Op → Bool
+is_call (Call target) = true
+is_call op = false
+
+abbrev pub calls_in : Option Node → Bool
+calls_in None = false
+calls_in (Some node) = is_call node.instr.op
+
+-- the only edge comes from a lower offset, whose instruction is no CALL and goes on nowhere else
 abbrev pub comes_from_below : Nodes → List ℕ → ℕ → Bool
-comes_from_below nodes (from ∷ []) at = nat_lt from at && is_one (successors_in (node_in nodes from))
+comes_from_below nodes (from ∷ []) at =
+    nat_lt from at && is_one (successors_in (node_in nodes from)) && not (calls_in (node_in nodes from))
 comes_from_below nodes edges at = false
 
 -- the instruction joins the block of the one before it; that at the entry begins a block, for the start leads there too
 abbrev pub joins : Nodes → ℕ → ℕ → Bool
-joins nodes entry at = not (at == entry) && comes_from_below nodes (edges_into nodes at) at
+joins nodes entry at =
+    not (at == entry) && comes_from_below nodes (edges_into nodes at) at && not (calls_in (node_in nodes at))
 
 -- the offset, where the instruction there joins the block
 abbrev pub if_joins : Nodes → ℕ → List ℕ → Option ℕ
@@ -53,52 +68,77 @@ abbrev pub IsChain : Nodes → ℕ → ℕ → List ℕ → Type 0
 IsChain nodes entry at [] = onward nodes entry at ≡ None
 IsChain nodes entry at (next ∷ rest) = (onward nodes entry at ≡ Some next) × IsChain nodes entry next rest
 
--- the offsets at which blocks begin
+-- the offsets at which blocks begin: the entry, then the others in ascending order
 abbrev pub leaders : Nodes → ℕ → List ℕ
-leaders nodes entry = filter (λ at. not (joins nodes entry at)) (map (λ found. found.0) nodes)
+leaders nodes entry =
+    entry ∷ filter (λ at. not (at == entry) && not (joins nodes entry at)) (map (λ found. found.0) nodes)
 
 -- the place of an offset in a list
 abbrev pub place_in : List ℕ → ℕ → ℕ
 place_in [] at = 0
 place_in (x ∷ xs) at = if x == at then 0 else suc (place_in xs at)
 
--- the place of the block that begins at an offset; block 0 is that of the prelude
-abbrev pub block_place : Nodes → ℕ → ℕ → ℕ
-block_place nodes entry at = suc (place_in (leaders nodes entry) at)
+-- What the blocks of a procedure are made of.
+pub record Scene : Type 0 where
+  -- the processor
+  pub cpu : Cpu
+  -- all procedures, and the one whose blocks these are
+  pub procedures : List Procedure
+  pub procedure : Procedure
+  -- the heights of the stack at its instructions, by their offsets
+  pub heights : List (ℕ × ℕ)
+  -- how many blocks come before those of its instructions
+  pub before : ℕ
+
+abbrev pub nodes_in : Scene → Nodes
+nodes_in scene = scene.procedure.proc.nodes.entries
+
+abbrev pub entry_in : Scene → ℕ
+entry_in scene = scene.procedure.proc.entry
+
+-- the place of the block that begins at an offset
+abbrev pub block_place : Scene → ℕ → ℕ
+block_place scene at = scene.before + place_in (leaders (nodes_in scene) (entry_in scene)) at
 
 -- Statements.
 
-abbrev pub node_stmts : Cpu → Option Node → List Stmt
-node_stmts cpu None = []
-node_stmts cpu (Some node) = op_stmts cpu node.instr.op node.number
+-- the height at an offset
+abbrev pub height_in : List (ℕ × ℕ) → ℕ → Option ℕ
+height_in [] at = None
+height_in (found ∷ heights) at = if found.0 == at then Some found.1 else height_in heights at
 
-abbrev pub stmts_at : Cpu → Nodes → ℕ → List Stmt
-stmts_at cpu nodes at = node_stmts cpu (node_in nodes at)
+abbrev pub node_stmts : Scene → Option ℕ → Option Node → List Stmt
+node_stmts scene (Some height) (Some node) =
+    placed.node_stmts scene.cpu scene.procedures scene.procedure height node
+node_stmts scene _ _ = []
 
-abbrev pub node_exit : Nodes → ℕ → Option Node → Exit
-node_exit nodes entry None = Stop
-node_exit nodes entry (Some node) = exit_to (op_test node.instr.op) (map (block_place nodes entry) node.succ.items)
+abbrev pub stmts_at : Scene → ℕ → List Stmt
+stmts_at scene at = node_stmts scene (height_in scene.heights at) (node_in (nodes_in scene) at)
+
+abbrev pub node_exit : Scene → Option Node → Exit
+node_exit scene None = Stop
+node_exit scene (Some node) =
+    passed.exit_of scene.procedure node.instr.op (map (block_place scene) node.succ.items)
 
 -- how the block ends that has its last instruction at an offset
-abbrev pub exit_at : Nodes → ℕ → ℕ → Exit
-exit_at nodes entry at = node_exit nodes entry (node_in nodes at)
+abbrev pub exit_at : Scene → ℕ → Exit
+exit_at scene at = node_exit scene (node_in (nodes_in scene) at)
 
 -- the last of some offsets
 abbrev pub last_of : ℕ → List ℕ → ℕ
 last_of at [] = at
 last_of at (next ∷ rest) = last_of next rest
 
--- the block that begins at an offset, on a processor
-pub record IsBlockAt (cpu : Cpu) (nodes : Nodes) (entry at : ℕ) (block : Block) : Type 0 where
+-- the block that begins at an offset
+pub record IsBlockAt (scene : Scene) (at : ℕ) (block : Block) : Type 0 where
   pub rest : List ℕ
-  pub chain : IsChain nodes entry at rest
+  pub chain : IsChain (nodes_in scene) (entry_in scene) at rest
   pub at_is : block.at ≡ at
-  pub stmts_are : block.stmts ≡ flat_map (stmts_at cpu nodes) (at ∷ rest)
-  pub exit_is : block.exit ≡ exit_at nodes entry (last_of at rest)
+  pub stmts_are : block.stmts ≡ flat_map (stmts_at scene) (at ∷ rest)
+  pub exit_is : block.exit ≡ exit_at scene (last_of at rest)
 
 -- the blocks that begin at these offsets, in their order
-abbrev pub AreBlocksAt : Cpu → Nodes → ℕ → List ℕ → List Block → Type 0
-AreBlocksAt cpu nodes entry [] [] = Unit {0}
-AreBlocksAt cpu nodes entry (at ∷ places) (block ∷ blocks) =
-    IsBlockAt cpu nodes entry at block × AreBlocksAt cpu nodes entry places blocks
-AreBlocksAt cpu nodes entry _ _ = ⊥
+abbrev pub AreBlocksAt : Scene → List ℕ → List Block → Type 0
+AreBlocksAt scene [] [] = Unit {0}
+AreBlocksAt scene (at ∷ places) (block ∷ blocks) = IsBlockAt scene at block × AreBlocksAt scene places blocks
+AreBlocksAt scene _ _ = ⊥

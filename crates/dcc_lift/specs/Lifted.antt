@@ -1,6 +1,6 @@
 -- What the lifted program is to the executable.
-use Rattle.std.specs.Prelude.{◌≡◌, ◌≤◌, ◌<◌, ℕ, ◌+◌, ◌==◌, true, false, ◌&&◌, ◌||◌, List, [], ◌∷◌, All}
-use Rattle.std.specs.List.{list_any}
+use Rattle.std.specs.Prelude.{◌≡◌, ◌≤◌, ◌<◌, ℕ, ◌+◌, ◌==◌, true, false, ◌&&◌, ◌||◌, List, [], ◌∷◌, All, Some, None}
+use Rattle.std.specs.List.{AllZip, list_any}
 use Rattle.dcc_run.specs.Watched.{state}
 use Rattle.dcc_run.specs.Shadows.{Shadows, KeepsPace, only}
 use Rattle.dcc_prog.specs.declared.image.Image.{Image}
@@ -10,41 +10,36 @@ use Rattle.dcc_prog.specs.declared.procedure.Layout.{Layout}
 use Rattle.dcc_prog.specs.declared.frame.Program.{Program as Analysed}
 use Rattle.dcc_prog.specs.declared.instr.Op.TheVariants.{Call}
 use Rattle.dcc_prog.specs.Trail.{next_of}
+use Rattle.dcc_prog.specs.Built.{IsBuilt}
 use Rattle.dcc_prog.specs.Watch.{is_foul, watched_machine, first_watch}
 use Rattle.dcc_ir.specs.Tree.{Graph, Program}
 use Rattle.dcc_ir.specs.Use.{graph_exprs}
 use Rattle.dcc_ir.specs.Measure.{depth_of}
 use Rattle.dcc_ir.specs.FlagReads.{FlagsReadPlainly}
 use Rattle.dcc_ir.specs.WellFormed.{IsProgram}
+use Rattle.dcc_ir.specs.Passing.{PassesAll}
 use Rattle.dcc_ir.specs.Run.{watched_inner, first_state}
 use Rattle.dcc_ir.specs.Flow.{Flow, flow_at, IsContraction, HaveOneEdge}
 use Rattle.dcc_ir.specs.Keeps.{has_block}
 use Rattle.dcc_ir.specs.Ends.{IsNeverStuck}
 use Rattle.dcc_ops.specs.Temporaries.{temporary_bits}
-use Rattle.dcc_lift.specs.Demand.{WantsTheSame}
-use Rattle.dcc_lift.specs.Form.{HasForm, HasFewFlagStmts}
-use Rattle.dcc_lift.specs.Translation.{data_image}
+use Rattle.dcc_coupled.specs.Procedures.{Procedure, procedure_at, given_back, pushed_of}
+use Rattle.dcc_coupled.specs.Nodes.{procedures_in}
+use Rattle.dcc_lift.specs.Form.{HasForm}
+use Rattle.dcc_lift.specs.FlagStmts.{HasFewFlagStmts}
+use Rattle.dcc_lift.specs.Translation.{data_image, IsTranslation}
 
 -- Runs.
 
--- For every fill and input, and whatever analysed program with this layout tells which steps are clean, the program's
--- run shadows the machine's: for each clean number of the machine's steps there is a number of the program's, in
--- which it has come to just those of its blocks at whose places the machine stood, in their order and with equal
--- events, and has ended alike where the machine has; and wherever it begins a block or ends from then on, its events
--- begin with the machine's.
-abbrev pub ShadowsMachine : Image → Layout → Program → Type 0
-ShadowsMachine image layout p =
-    (analysed : Analysed) (fill : ℕ) (input : List ℕ) → analysed.layout ≡ layout → fill < 65536
-    → All (λ byte. byte < 256) input
-    → Shadows (only (has_block p) (watched_machine analysed)) (first_watch image input)
+-- For every fill and input the program's run shadows the machine's: for each clean number of the machine's steps there is
+-- a number of the program's, in which it has come to just those of its blocks at whose places the machine stood, in
+-- their order and with equal events, and has ended alike where the machine has; and wherever it begins a block or ends
+-- from then on, its events begin with the machine's.
+abbrev pub ShadowsMachine : Image → Analysed → Program → Type 0
+ShadowsMachine image program p =
+    (fill : ℕ) (input : List ℕ) → fill < 65536 → All (λ byte. byte < 256) input
+    → Shadows (only (has_block p) (watched_machine program)) (first_watch image input)
     (watched_inner p fill) (first_state p fill input)
-
--- What is built so far uses no stack: no step of the machine is foul, on any input, whatever analysed program with this
--- layout tells which steps are.
-abbrev pub IsAlwaysClean : Image → Layout → Type 0
-IsAlwaysClean image layout =
-    (analysed : Analysed) (input : List ℕ) (n : ℕ) → analysed.layout ≡ layout → All (λ byte. byte < 256) input
-    → is_foul (state (watched_machine analysed) n (first_watch image input)) ≡ false
 
 -- Between two places of blocks the machine runs no instruction of a procedure twice, and passes at most one call or
 -- return; a procedure has at most 4,096 instructions. So these are the most steps from the one place to the next.
@@ -55,12 +50,11 @@ steps_between = 8192
 abbrev pub steps_at_start : ℕ
 steps_at_start = 65535 + steps_between
 
--- for every input and analysed program with this layout the machine comes to places of blocks, to its end or to where
--- it is foul, within such numbers of steps
-abbrev pub MachineKeepsPace : Image → Layout → Program → Type 0
-MachineKeepsPace image layout p =
-    (analysed : Analysed) (input : List ℕ) → analysed.layout ≡ layout → All (λ byte. byte < 256) input
-    → KeepsPace (only (has_block p) (watched_machine analysed)) (first_watch image input) steps_at_start steps_between
+-- for every input the machine comes to places of blocks, to its end or to where it is foul, within such numbers of steps
+abbrev pub MachineKeepsPace : Image → Analysed → Program → Type 0
+MachineKeepsPace image program p =
+    (input : List ℕ) → All (λ byte. byte < 256) input
+    → KeepsPace (only (has_block p) (watched_machine program)) (first_watch image input) steps_at_start steps_between
 
 -- Blocks.
 
@@ -86,53 +80,74 @@ pub record IsBlockOfCall (flow : Flow) (found : ℕ × Node) : Type 0 where
   pub begins : flow.has found.0 ≡ true
   pub after : flow.has (next_of found.0 found.1.instr) ≡ true
 
--- Every closed path of instructions holds a block. Each instruction that begins no block has one edge in, and the edges
--- of the graph are those of the instructions, with each such one taken into the one before it. A call stands alone in
--- its block.
-pub record HasBlocks (image : Image) (start : Proc) (p : Program) : Type 0 where
-  pub contraction : IsContraction (after_prelude image.ip (procedure_flow start)) (flow_at p start.entry)
-  pub one_edge : HaveOneEdge (after_prelude image.ip (procedure_flow start)) (flow_at p start.entry)
+-- Every closed path of a procedure's instructions holds a block. Each instruction that begins no block has one edge in,
+-- and the edges of the graph are those of the instructions, with each such one taken into the one before it. A call
+-- stands alone in its block.
+pub record HasBlocksOf (flow : Flow) (p : Program) (proc : Proc) : Type 0 where
+  pub contraction : IsContraction flow (flow_at p proc.entry)
+  pub one_edge : HaveOneEdge flow (flow_at p proc.entry)
   pub calls :
       All (λ (found : ℕ × Node). (target : ℕ) → found.1.instr.op ≡ Call target
-      → IsBlockOfCall (flow_at p start.entry) found) start.nodes.entries
+      → IsBlockOfCall (flow_at p proc.entry) found) proc.nodes.entries
 
--- The whole.
+-- so of each procedure; the entry procedure's graph begins with one block more, for the prelude
+abbrev pub AllHaveBlocks : Image → Program → List Proc → Type 0
+AllHaveBlocks image p [] = Unit {0}
+AllHaveBlocks image p (start ∷ procs) =
+    HasBlocksOf (after_prelude image.ip (procedure_flow start)) p start
+    × All (λ proc. HasBlocksOf (procedure_flow proc) p proc) procs
+
+-- Graphs.
+
+-- the numbers of the arguments that the procedure with an entry gives back
+abbrev pub back_of : List Procedure → ℕ → List ℕ
+back_of procedures entry = elim (procedure_at procedures entry) [ None ↦ [] | Some p ↦ given_back p ]
 
 -- no expression is deeper
 abbrev pub IsShallow : ℕ → Graph → Type 0
 IsShallow depth graph = All (λ e. depth_of e ≤ depth) (graph_exprs graph)
 
--- what the program is made of: the one graph is that of the entry procedure, without params, without bytes of the frame
--- and with cells for pushes alone, and it has these temporaries; the memory holds the image's data segment, and the
--- stack is the layout's
-pub record IsFramed (image : Image) (layout : Layout) (p : Program) : Type 0 where
+-- what a graph has of its procedure's frame
+pub record HasFrameOf (p : Procedure) (graph : Graph) : Type 0 where
+  pub entry : graph.entry ≡ p.proc.entry
+  pub local : graph.local ≡ p.frame.exposed.local
+  pub pushed : graph.pushed ≡ pushed_of p
+  pub bits : graph.bits ≡ temporary_bits
+
+-- The program has a graph for each procedure, which passes all halves and flags and the argument words; its memory holds
+-- the image's data segment, and its stack is the layout's. It runs as the machine does while that is clean, and no run of
+-- it is stuck.
+pub record IsLifted (image : Image) (program : Analysed) (p : Program) : Type 0 where
+  pub well_formed : IsProgram p
+  pub frames : AllZip HasFrameOf (procedures_in program) p.graphs
+  pub passes : PassesAll (back_of (procedures_in program)) p
+  pub image_is : p.image ≡ data_image image program.layout
+  pub lo : p.lo ≡ program.layout.lo
+  pub hi : p.hi ≡ program.layout.hi
+  pub shallow : All (IsShallow 7) p.graphs
+  pub flag_reads : All FlagsReadPlainly p.graphs
+  pub flags : AllZip HasFewFlagStmts program.procs.items p.graphs
+  pub runs : ShadowsMachine image program p
+  pub pace : MachineKeepsPace image program p
+  pub never_stuck : IsNeverStuck p
+  pub blocks : AllHaveBlocks image p program.procs.items
+
+-- No step of the machine is foul, on any input, whatever analysed program with this layout tells which steps are.
+abbrev pub IsAlwaysClean : Image → Layout → Type 0
+IsAlwaysClean image layout =
+    (analysed : Analysed) (input : List ℕ) (n : ℕ) → analysed.layout ≡ layout → All (λ byte. byte < 256) input
+    → is_foul (state (watched_machine analysed) n (first_watch image input)) ≡ false
+
+-- what a program of one procedure has whose instructions use registers and constants alone: its graph neither uses memory
+-- nor calls, divides nor switches, and no step of the machine is foul
+pub record IsPlainlyLifted (image : Image) (layout : Layout) (p : Program) : Type 0 where
   pub graph : Graph
   pub one : p.graphs ≡ graph ∷ []
-  pub entry : graph.entry ≡ layout.start_ip
-  pub params : graph.params ≡ []
-  pub local : graph.local ≡ 0
-  pub pushed : graph.pushed ≡ 0
-  pub bits : graph.bits ≡ temporary_bits
-  pub image_is : p.image ≡ data_image image layout
-  pub lo : p.lo ≡ layout.lo
-  pub hi : p.hi ≡ layout.hi
-
-pub record IsLifted (image : Image) (layout : Layout) (start : Proc) (p : Program) : Type 0 where
-  pub framed : IsFramed image layout p
-  pub well_formed : IsProgram p
-  pub form : All HasForm p.graphs
-  pub flags : All (HasFewFlagStmts start) p.graphs
-  pub flag_reads : All FlagsReadPlainly p.graphs
-  pub shallow : All (IsShallow 7) p.graphs
-  pub runs : ShadowsMachine image layout p
+  pub form : HasForm graph
   pub clean : IsAlwaysClean image layout
-  pub pace : MachineKeepsPace image layout p
-  pub never_stuck : IsNeverStuck p
-  pub blocks : HasBlocks image start p
-  pub wanted : All (WantsTheSame image layout) p.graphs
 
--- the same of the one procedure that is found
-pub record IsLiftOf (image : Image) (layout : Layout) (procs : List Proc) (p : Program) : Type 0 where
-  pub start : Proc
-  pub one : procs ≡ start ∷ []
-  pub lifted : IsLifted image layout start p
+-- all that is known of the program that `lift` gives
+pub record IsLiftOf (image : Image) (program : Analysed) (p : Program) : Type 0 where
+  pub translation : IsTranslation image program.layout program.procs.items program.heights program.cells p
+  pub lifted : IsLifted image program p
+  pub plain : IsBuilt image program.layout → IsPlainlyLifted image program.layout p

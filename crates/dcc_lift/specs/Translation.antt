@@ -1,7 +1,8 @@
--- The program that stands for a procedure, statement by statement. This stands between the procedure and the code; the
--- public contract tells what the program does.
-use Rattle.std.specs.Prelude.{◌≡◌, ℕ, ◌-◌, ◌*◌, ◌/◌, ◌%◌, Bool, List, [], ◌∷◌, ◌++◌, flat_map, slice_index, take, drop}
+-- The program that stands for all procedures, statement by statement. This stands between the procedures and the code;
+-- the public contract tells what the program does.
+use Rattle.std.specs.Prelude.{◌≡◌, ℕ, ◌-◌, ◌*◌, ◌/◌, ◌%◌, ◌==◌, Bool, if◌then◌else◌, List, [], ◌∷◌, ◌++◌, map, flat_map, slice_index, take, drop}
 use Rattle.std.specs.Int.{from_bool}
+use Rattle.std.specs.List.{AllZip}
 use Rattle.dcc_num.specs.declared.Reg.{Reg}
 use Rattle.dcc_num.specs.declared.Reg.TheVariants.{Ax, Cx, Dx, Bx, Si, Di}
 use Rattle.dcc_num.specs.declared.Half.TheVariants.{Low, High}
@@ -14,9 +15,13 @@ use Rattle.dcc_prog.specs.declared.procedure.Proc.{Proc}
 use Rattle.dcc_prog.specs.Load.{load_segment}
 use Rattle.dcc_prog.specs.Machine.{reg_number}
 use Rattle.dcc_ir.specs.declared.syntax.Loc.TheVariants.{Half, Flag}
-use Rattle.dcc_ir.specs.Tree.{Const, Stmt, Set, Goto, Block, Program}
+use Rattle.dcc_prog.specs.declared.frame.Heights.{Heights}
+use Rattle.dcc_prog.specs.declared.frame.Cells.{Cells}
+use Rattle.dcc_ir.specs.Tree.{Const, Stmt, Set, Goto, Block, Graph, Program}
+use Rattle.dcc_coupled.specs.Procedures.{Procedure, procedures_of, pushed_of}
 use Rattle.dcc_ops.specs.Temporaries.{temporary_bits}
-use Rattle.dcc_lift.specs.Blocks.{Nodes, leaders, block_place, AreBlocksAt}
+use Rattle.dcc_coupled.specs.Passed.{params_of}
+use Rattle.dcc_lift.specs.Blocks.{Scene, nodes_in, entry_in, leaders, block_place, AreBlocksAt}
 
 -- the word registers whose halves are locations, in the order of their numbers
 abbrev pub general_registers : List Reg
@@ -36,31 +41,51 @@ flags_starting flags =
     flag_starting Cf flags.cf ∷ flag_starting Zf flags.zf ∷ flag_starting Sf flags.sf ∷ flag_starting Of flags.of ∷ []
 
 -- the block of the prelude, at the offset where the program begins: registers and flags take what the prelude leaves
-abbrev pub prelude_block : Image → Layout → Nodes → Block
-prelude_block image layout nodes = record {
+abbrev pub prelude_block : Image → Layout → Scene → Block
+prelude_block image layout scene = record {
   at = image.ip;
   stmts = flat_map (register_starting layout.regs) general_registers ++ flags_starting layout.flags;
-  exit = Goto (block_place nodes layout.start_ip layout.start_ip);
+  exit = Goto (block_place scene layout.start_ip);
 }
 
 -- the bytes of the image in the data segment
 unfoldable pub data_image : Image → Layout → List ℕ
 data_image image layout = take 65536 (drop ((layout.ds - load_segment) * 16) image.bytes.items)
 
--- the program that stands for the procedure
-pub record IsTranslation (image : Image) (layout : Layout) (start : Proc) (p : Program) : Type 0 where
+-- the graph of a procedure, with its own blocks; where other blocks come before them that is the prelude's, and the graph
+-- takes nothing
+abbrev pub graph_with : Image → Layout → Scene → List Block → Graph
+graph_with image layout scene blocks = record {
+  entry = entry_in scene;
+  params = if scene.before == 0 then params_of scene.procedure else [];
+  local = scene.procedure.frame.exposed.local;
+  pushed = pushed_of scene.procedure;
+  blocks = if scene.before == 0 then blocks else prelude_block image layout scene ∷ blocks;
+  bits = temporary_bits;
+}
+
+pub record IsGraphOf (image : Image) (layout : Layout) (scene : Scene) (g : Graph) : Type 0 where
   pub blocks : List Block
-  pub blocks_are : AreBlocksAt layout.cpu start.nodes.entries layout.start_ip (leaders start.nodes.entries layout.start_ip) blocks
-  pub program_is : p ≡ record {
-    graphs = record {
-      entry = layout.start_ip;
-      params = [];
-      local = 0;
-      pushed = 0;
-      blocks = prelude_block image layout start.nodes.entries ∷ blocks;
-      bits = temporary_bits;
-    } ∷ [];
-    image = data_image image layout;
-    lo = layout.lo;
-    hi = layout.hi;
-  }
+  pub blocks_are : AreBlocksAt scene (leaders (nodes_in scene) (entry_in scene)) blocks
+  pub graph_is : g ≡ graph_with image layout scene blocks
+
+-- the scenes of procedures among all, in their order, with the heights of each; the first graph has a block before those
+-- of its instructions
+abbrev pub scenes_of : Layout → List Procedure → ℕ → List Procedure → List (List (ℕ × ℕ)) → List Scene
+scenes_of layout all before (procedure ∷ procedures) (heights ∷ rest) =
+    record { cpu = layout.cpu; procedures = all; procedure = procedure; heights = heights; before = before }
+    ∷ scenes_of layout all 0 procedures rest
+scenes_of layout all before _ _ = []
+
+abbrev pub program_scenes : Layout → List Proc → Heights → Cells → List Scene
+program_scenes layout procs heights cells =
+    let procedures = procedures_of layout procs cells.frames.items in
+    scenes_of layout procedures 1 procedures (map (λ found. found.entries) heights.at.items)
+
+-- a graph for each procedure, the entry procedure's first, and the image's data segment
+pub record IsTranslation (image : Image) (layout : Layout) (procs : List Proc) (heights : Heights) (cells : Cells)
+    (p : Program) : Type 0 where
+  pub graphs : AllZip (IsGraphOf image layout) (program_scenes layout procs heights cells) p.graphs
+  pub image_is : p.image ≡ data_image image layout
+  pub lo_is : p.lo ≡ layout.lo
+  pub hi_is : p.hi ≡ layout.hi

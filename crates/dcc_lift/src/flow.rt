@@ -6,7 +6,7 @@ ghost use Rattle.dcc_lift.specs.Blocks as spec;
 ghost use Rattle.dcc_lift.specs.Known.{nodes_of, KnowsEdges};
 
 use crate::edges::{Incoming, edges_of};
-use dcc_prog::{Cpu, Node};
+use dcc_prog::{Node, Op};
 use indexmap::IndexMap;
 use std::alloc::{AllocError, Global};
 
@@ -14,8 +14,6 @@ use std::alloc::{AllocError, Global};
 #[derive(Drop)]
 pub struct Instructions<'a> {
     pub nodes: &'a IndexMap<u16, Node>,
-    /// The processor that runs it.
-    pub cpu: Cpu,
     /// The offset at which the procedure begins.
     pub start: u16,
     /// By offset.
@@ -27,18 +25,15 @@ impl<'a> Instructions<'a> {
     pub fn new(
         alloc: Global,
         nodes: &'a IndexMap<u16, Node>,
-        cpu: Cpu,
         start: u16,
     ) -> Result<Instructions<'a>, AllocError>
         ensures nodes { IfOk result (λ instructions. nodes_of instructions ≡ nodes.entry.now.entries) }
-        ensures cpu { IfOk result (λ instructions. instructions.cpu ≡ cpu) }
         ensures start { IfOk result (λ instructions. instructions.start ≡ start) }
         ensures edges { IfOk result KnowsEdges }
     {
         let incoming = edges_of(alloc, nodes)?;
         Ok(Instructions {
             nodes,
-            cpu,
             start,
             incoming,
         })
@@ -49,6 +44,16 @@ impl<'a> Instructions<'a> {
         ensures { option_copied result ≡ spec.node_in (nodes_of self.now) at }
     {
         self.nodes.get(&at)
+    }
+
+    // The instruction at an offset is a CALL.
+    fn calls(&self, at: u16) -> bool
+        ensures { result ≡ spec.calls_in (spec.node_in (nodes_of self.now) at) }
+    {
+        match self.at(at) {
+            Some(node) => matches!(node.instr.op, Op::Call(_)),
+            None => false,
+        }
     }
 
     // The instruction at an offset goes on at one place alone.
@@ -67,7 +72,13 @@ impl<'a> Instructions<'a> {
         ensures { result ≡ spec.joins (nodes_of self.now) self.now.start at }
     {
         match self.incoming[usize::from(at)] {
-            Incoming::From(from) => at != self.start && from < at && self.goes_one_way(from),
+            Incoming::From(from) => {
+                at != self.start
+                    && from < at
+                    && self.goes_one_way(from)
+                    && !self.calls(from)
+                    && !self.calls(at)
+            }
             _ => false,
         }
     }
@@ -84,14 +95,15 @@ impl<'a> Instructions<'a> {
         }
     }
 
-    /// The offsets at which blocks begin.
+    /// The offsets at which blocks begin: the procedure's first, then the others in ascending order.
     pub fn leaders(&self, alloc: Global) -> Result<Vec<u16>, AllocError>
         requires { KnowsEdges self.now }
         ensures { IfOk result (λ leaders. leaders.items ≡ spec.leaders (nodes_of self.now) self.now.start) }
     {
         let mut leaders = Vec::new(alloc);
+        leaders.push(self.start)?;
         for at in self.nodes.keys() {
-            if !self.joins(*at) {
+            if self.start != *at && !self.joins(*at) {
                 leaders.push(*at)?;
             }
         }

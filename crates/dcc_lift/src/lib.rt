@@ -1,13 +1,20 @@
 //! From the machine's instructions to the inner language.
 //!
-//! Each instruction becomes statements over the halves of registers, the flags and eight temporaries. Instructions that
-//! follow each other without a branch become one block.
+//! The operands of each procedure's instructions stand in halves of registers, in the cells of its frame or in memory;
+//! each instruction becomes statements over these places. Instructions that follow each other without a branch become
+//! one block, and the blocks of a procedure a graph.
 #![tactic(auto)]
 
+mod access;
+mod call;
 mod edges;
 mod flow;
+mod instruction;
 pub mod laws;
+mod operand;
 mod outline;
+mod passed;
+mod procedure;
 mod program;
 
 pub use program::lift;

@@ -1,31 +1,27 @@
 //! The lifted program.
 
-ghost use Rattle.std.specs.Prelude.{◌≡◌, [], ◌∷◌, ◌++◌, OnOk, IfOk, flat_map};
+ghost use Rattle.std.specs.Prelude.{◌≡◌, ◌++◌, OnOk, IfOk, map, flat_map};
 ghost use Rattle.dcc_prog.specs.MzImage.{IsLoaded};
 ghost use Rattle.dcc_prog.specs.Layout.{HasLayout};
-ghost use Rattle.dcc_prog.specs.declared.procedure.Proc.{Proc};
-ghost use Rattle.dcc_prog.specs.Found.{IsFound, AreFound};
-ghost use Rattle.dcc_prog.specs.Built.{IsBuilt};
+ghost use Rattle.dcc_prog.specs.Found.{AreFound};
+ghost use Rattle.dcc_prog.specs.Analysed.{AreHeights, AreFrames};
 ghost use Rattle.dcc_ir.specs.Views.{block_of, graph_of, program_of};
-ghost use Rattle.dcc_ir.specs.Tree as tree;
 ghost use Rattle.dcc_lift.specs.Translation as spec;
-ghost use Rattle.dcc_lift.specs.Translation.{IsTranslation};
+ghost use Rattle.dcc_lift.specs.Translation.{IsTranslation, IsGraphOf};
+ghost use Rattle.dcc_lift.specs.Known as known;
+ghost use Rattle.dcc_lift.specs.Known.{scene_given, scene_of, KnowsScene, KnowsLeaders, AreBlocksOf};
 ghost use Rattle.dcc_lift.specs.Lifted.{IsLiftOf};
-ghost use Rattle.dcc_lift.specs.Graphs.{IsGraphOf};
-ghost use Rattle.dcc_lift.specs.Known.{nodes_of, KnowsLeaders};
 ghost use Rattle.dcc_ops.specs.Writing.{written};
 
 use crate::edges::OFFSETS;
-use crate::flow::Instructions;
-use crate::outline::Outline;
-use dcc_ir::{Block, End, Expr, Graph, IrProgram, Loc};
+use crate::outline::{Outline, Scene};
+use crate::passed::PASSED_REGISTERS;
+use crate::procedure::procedures_of;
+use dcc_ir::{Block, End, Graph, IrProgram, Loc, Param};
 use dcc_num::{FlagName, Flags, Half, Reg};
 use dcc_ops::{Writer, bit, byte, temporary_bits};
-use dcc_prog::{Image, LOAD_SEGMENT, Layout, Proc};
+use dcc_prog::{Cells, Heights, Image, LOAD_SEGMENT, Layout, Proc};
 use std::alloc::{AllocError, Global};
-
-// The word registers whose halves are locations.
-const GENERAL: [Reg; 6] = [Reg::Ax, Reg::Cx, Reg::Dx, Reg::Bx, Reg::Si, Reg::Di];
 
 // A word register begins with what it holds of these.
 fn start_register(writer: &mut Writer, regs: &[u16; 8], r: Reg) -> Result<(), AllocError>
@@ -43,7 +39,7 @@ fn start_registers(writer: &mut Writer, regs: &[u16; 8]) -> Result<(), AllocErro
     ensures { OnOk result (written writer.new
         ≡ written writer.old ++ flat_map (spec.register_starting regs.now) spec.general_registers) }
 {
-    for r in GENERAL {
+    for r in PASSED_REGISTERS {
         start_register(writer, regs, r)?;
     }
     Ok(())
@@ -64,12 +60,10 @@ fn prelude_block(
     alloc: Global,
     image: &Image,
     layout: &Layout,
-    outline: &Outline<'_>,
+    outline: &Outline<'_, '_>,
 ) -> Result<Block, AllocError>
     requires leaders { KnowsLeaders outline.now }
-    requires entry { outline.now.instructions.start ≡ layout.now.start_ip }
-    ensures { IfOk result (λ block. block_of block
-        ≡ spec.prelude_block image.now layout.now (nodes_of outline.now.instructions)) }
+    ensures { IfOk result (λ block. block_of block ≡ spec.prelude_block image.now layout.now (scene_of outline.now)) }
 {
     let mut writer = Writer::new(alloc);
     start_registers(&mut writer, &layout.regs)?;
@@ -81,24 +75,65 @@ fn prelude_block(
     })
 }
 
-// The graph of the entry procedure.
-fn graph(alloc: Global, image: &Image, layout: &Layout, start: &Proc) -> Result<Graph, AllocError>
-    requires { IsFound image.now layout.now start.now }
-    ensures { IfOk result (λ graph. IsGraphOf image.now layout.now start.now.nodes.entries (graph_of graph)) }
+// The blocks of a graph: those of the instructions, after the prelude's where there is one before them.
+fn graph_blocks(
+    alloc: Global,
+    image: &Image,
+    layout: &Layout,
+    outline: &Outline<'_, '_>,
+) -> Result<Vec<Block>, AllocError>
+    requires { KnowsLeaders outline.now }
+    ensures { IfOk result (λ blocks.
+        AreBlocksOf image.now layout.now (scene_of outline.now) (map block_of blocks.items)) }
 {
-    let instructions = Instructions::new(alloc, &start.nodes, layout.cpu, layout.start_ip)?;
-    let outline = Outline::new(alloc, instructions)?;
-    let mut blocks = outline.blocks(alloc)?;
-    let first = prelude_block(alloc, image, layout, &outline)?;
-    blocks.insert(0, first)?;
+    let mut own = outline.blocks(alloc)?;
+    if outline.scene.before == 0 {
+        return Ok(own);
+    }
+    let mut blocks = Vec::new(alloc);
+    blocks.push(prelude_block(alloc, image, layout, outline)?)?;
+    blocks.append(&mut own)?;
+    Ok(blocks)
+}
+
+// What a graph takes: nothing where the prelude's block comes first.
+fn graph_params(alloc: Global, scene: Scene<'_, '_>) -> Result<Vec<Param>, AllocError>
+    requires { KnowsScene scene }
+    ensures { IfOk result (λ params. params.items ≡ known.graph_params (scene_given scene.entry)) }
+{
+    if scene.before == 0 {
+        scene.procedure.params(alloc)
+    } else {
+        Ok(Vec::new(alloc))
+    }
+}
+
+// The graph of a procedure. That of the entry procedure begins with the prelude, and takes nothing.
+fn graph(
+    alloc: Global,
+    image: &Image,
+    layout: &Layout,
+    scene: Scene<'_, '_>,
+) -> Result<Graph, AllocError>
+    requires { KnowsScene scene }
+    ensures { IfOk result (λ graph. IsGraphOf image.now layout.now (scene_given scene.entry) (graph_of graph)) }
+{
+    let outline = Outline::new(alloc, scene)?;
     Ok(Graph {
-        entry: layout.start_ip,
-        params: Vec::new(alloc),
-        local: 0,
-        pushed: 0,
-        blocks,
+        entry: scene.procedure.proc.entry,
+        params: graph_params(alloc, scene)?,
+        local: scene.procedure.frame.exposed.local,
+        pushed: scene.procedure.pushed,
+        blocks: graph_blocks(alloc, image, layout, &outline)?,
         bits: temporary_bits(alloc)?,
     })
+}
+
+// How many blocks come before those of the instructions in the graph of that number: the prelude's in the first.
+fn before_of(number: usize) -> u32
+    ensures { result ≡ known.before_of number }
+{
+    if number == 0 { 1 } else { 0 }
 }
 
 // The bytes of the image in the data segment.
@@ -116,19 +151,35 @@ fn data_image(alloc: Global, image: &Image, layout: &Layout) -> Result<Vec<u8>, 
         .collect(alloc)
 }
 
-// The program that stands for the entry procedure, statement by statement.
-fn translate(
+// The program that stands for all procedures, statement by statement.
+fn translated(
     alloc: Global,
     image: &Image,
     layout: &Layout,
     procs: &Vec<Proc>,
+    heights: &Heights,
+    cells: &Cells,
 ) -> Result<IrProgram, AllocError>
-    requires { AreFound image.now layout.now procs.now.items }
-    ensures { IfOk result (λ program. (start : Proc) → procs.now.items ≡ start ∷ []
-        → IsTranslation image.now layout.now start (program_of program)) }
+    requires loaded { IsLoaded image.now }
+    requires layout { HasLayout image.now layout.now }
+    requires found { AreFound image.now layout.now procs.now.items }
+    requires heights { AreHeights image.now layout.now procs.now.items heights.now }
+    requires cells { AreFrames image.now layout.now procs.now.items cells.now }
+    ensures lifted { IfOk result (λ program.
+        IsTranslation image.now layout.now procs.now.items heights.now cells.now (program_of program)) }
 {
+    let procedures = procedures_of(alloc, layout, procs, cells)?;
     let mut graphs = Vec::new(alloc);
-    graphs.push(graph(alloc, image, layout, &procs[0])?)?;
+    for number in 0..procedures.len().min(heights.at.len()) {
+        let scene = Scene {
+            cpu: layout.cpu,
+            procedures: procedures.as_slice(),
+            procedure: &procedures[number],
+            heights: &heights.at[number],
+            before: before_of(number),
+        };
+        graphs.push(graph(alloc, image, layout, scene)?)?;
+    }
     Ok(IrProgram {
         graphs,
         image: data_image(alloc, image, layout)?,
@@ -137,23 +188,27 @@ fn translate(
     })
 }
 
-/// The program of the inner language that stands for the entry procedure: one graph, over the halves of registers,
-/// the flags and eight temporaries, and the image's data segment. Its run visits its blocks as the machine comes to
-/// their places, with the same events at the console and the same end, as long as that one is clean.
+/// The program of the inner language that stands for all procedures: a graph for each, over the halves of registers,
+/// the flags, the cells of its frame and temporaries, and the image's data segment. Its run visits its blocks as the
+/// machine comes to their places, with the same events at the console and the same end, as long as that one is clean.
 ///
-/// The procedures are those that the search gives for the image and its layout, and each instruction that is reached is
-/// built; so there is one procedure.
+/// The procedures, heights and frames are those that the analyses give for the image and its layout.
 pub fn lift(
     alloc: Global,
     image: &Image,
     layout: &Layout,
     procs: &Vec<Proc>,
+    heights: &Heights,
+    cells: &Cells,
 ) -> Result<IrProgram, AllocError>
     requires loaded { IsLoaded image.now }
     requires layout { HasLayout image.now layout.now }
     requires found { AreFound image.now layout.now procs.now.items }
-    requires built { IsBuilt image.now layout.now }
-    ensures lifted { IfOk result (λ program. IsLiftOf image.now layout.now procs.now.items (program_of program)) }
+    requires heights { AreHeights image.now layout.now procs.now.items heights.now }
+    requires cells { AreFrames image.now layout.now procs.now.items cells.now }
+    ensures lifted { IfOk result (λ program. IsLiftOf image.now
+        (record { layout = layout.now; procs = procs.now; heights = heights.now; cells = cells.now })
+        (program_of program)) }
 {
-    translate(alloc, image, layout, procs)
+    translated(alloc, image, layout, procs, heights, cells)
 }

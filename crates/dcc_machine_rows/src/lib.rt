@@ -12,6 +12,8 @@ mod inner_runs;
 #[cfg(test)]
 mod layouts;
 #[cfg(test)]
+mod lifted_runs;
+#[cfg(test)]
 mod loading;
 #[cfg(test)]
 mod procedures;

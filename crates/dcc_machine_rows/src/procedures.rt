@@ -20,9 +20,9 @@ use std::test::Fail;
 // The offset after the prelude, at which the code begins.
 const START: u16 = 5;
 
-/// The image of a file of 96 bytes: the header, whose one relocation moves the word at offset 1; a prelude that sets DS
-/// to the segment above the image of 64 bytes; the code; zeros.
-pub fn image_of(rt: &impl Abort, alloc: Global, code: &[u8]) -> Result<Image, Fail>
+/// The image of a file: the header of 32 bytes, whose one relocation moves the word at offset 1; 64 bytes with a prelude
+/// that sets DS to the segment above them, the code and zeros; and the rest, with which that segment begins.
+pub fn image_with(rt: &impl Abort, alloc: Global, code: &[u8], rest: &[u8]) -> Result<Image, Fail>
     ensures { IfOk result IsLoaded }
 {
     let mut file =
@@ -31,9 +31,19 @@ pub fn image_of(rt: &impl Abort, alloc: Global, code: &[u8]) -> Result<Image, Fa
         )?;
     file.extend_from_slice(code)?;
     file.resize(96, 0)?;
+    file.extend_from_slice(rest)?;
+    assert!(rt; rest.len() < 128);
+    file[2] = 0x60 + rest.len() as u8;
     let image = load(alloc, &file)?;
-    assert_eq!(rt; image.bytes.len(), 64);
+    assert_eq!(rt; image.bytes.len(), 64 + rest.len());
     Ok(image)
+}
+
+/// The same without a rest.
+pub fn image_of(rt: &impl Abort, alloc: Global, code: &[u8]) -> Result<Image, Fail>
+    ensures { IfOk result IsLoaded }
+{
+    image_with(rt, alloc, code, &[])
 }
 
 // An offset with the successors of its instruction and the number of its DOS call.

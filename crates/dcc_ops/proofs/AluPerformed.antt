@@ -1,5 +1,5 @@
--- The operations on two operands: what their statements leave in the temporary of the result and in the flags is what the
--- machine gives.
+-- The operations on two operands: what their statements leave in the temporary of the result and in the flags is what
+-- the machine gives.
 use Rattle.std.proofs.Common.{◌≡◌, ◌∙◌, sym, ap, refl, subst, ℕ, ◌+◌, ◌-◌, ◌/◌, ◌%◌, ◌^◌, ◌<◌, Bool, true, false, nat_lt, nat_le, ◌++◌, arith}
 use Rattle.std.specs.Prelude.{if◌then◌else◌, ◌==◌, int_lt, int_le, bit_and, bit_xor}
 use Rattle.std.specs.Int.{from_bool}
@@ -47,28 +47,38 @@ after_set location e scene = record scene { values = with_value scene.values loc
 pub worked : (w : Width) (scene : Scene) (e o n z c : Expr) (outcome : ℕ × Flags) → value_of scene e ≡ outcome.0
     → value_of (after_set (result_place w) e scene) o ≡ from_bool outcome.1.of
     → value_of (after_set (Flag Of) o (after_set (result_place w) e scene)) n ≡ from_bool outcome.1.sf
-    → value_of (after_set (Flag Sf) n (after_set (Flag Of) o (after_set (result_place w) e scene))) z ≡ from_bool outcome.1.zf
-    → value_of (after_set (Flag Zf) z (after_set (Flag Sf) n (after_set (Flag Of) o (after_set (result_place w) e scene)))) c ≡ from_bool outcome.1.cf
+    → value_of (after_set (Flag Sf) n (after_set (Flag Of) o (after_set (result_place w) e scene))) z
+    ≡ from_bool outcome.1.zf
+    → value_of (after_set (Flag Zf) z
+    (after_set (Flag Sf) n (after_set (Flag Of) o (after_set (result_place w) e scene)))) c ≡ from_bool outcome.1.cf
     → Working w outcome (executed (result_taking w e ++ (flags_taking o n z ++ carry_taking c)) scene)
-worked byte_width scene e o n z c outcome er eo en ez ec = record { value = er; flags = record { carry = ec; zero = ez; negative = en; overflow = eo } }
-worked word_width scene e o n z c outcome er eo en ez ec = record { value = er; flags = record { carry = ec; zero = ez; negative = en; overflow = eo } }
+worked byte_width scene e o n z c outcome er eo en ez ec =
+    record { value = er; flags = record { carry = ec; zero = ez; negative = en; overflow = eo } }
+worked word_width scene e o n z c outcome er eo en ez ec =
+    record { value = er; flags = record { carry = ec; zero = ez; negative = en; overflow = eo } }
 
 -- the same where CF stays
 pub worked_three : (w : Width) (scene : Scene) (e o n z : Expr) (outcome : ℕ × Flags) → value_of scene e ≡ outcome.0
     → value_of (after_set (result_place w) e scene) o ≡ from_bool outcome.1.of
     → value_of (after_set (Flag Of) o (after_set (result_place w) e scene)) n ≡ from_bool outcome.1.sf
-    → value_of (after_set (Flag Sf) n (after_set (Flag Of) o (after_set (result_place w) e scene))) z ≡ from_bool outcome.1.zf
+    → value_of (after_set (Flag Sf) n (after_set (Flag Of) o (after_set (result_place w) e scene))) z
+    ≡ from_bool outcome.1.zf
     → scene.values (Flag Cf) ≡ from_bool outcome.1.cf
     → Working w outcome (executed (result_taking w e ++ flags_taking o n z) scene)
-worked_three byte_width scene e o n z outcome er eo en ez kept = record { value = er; flags = record { carry = kept; zero = ez; negative = en; overflow = eo } }
-worked_three word_width scene e o n z outcome er eo en ez kept = record { value = er; flags = record { carry = kept; zero = ez; negative = en; overflow = eo } }
+worked_three byte_width scene e o n z outcome er eo en ez kept =
+    record { value = er; flags = record { carry = kept; zero = ez; negative = en; overflow = eo } }
+worked_three word_width scene e o n z outcome er eo en ez kept =
+    record { value = er; flags = record { carry = kept; zero = ez; negative = en; overflow = eo } }
 
 -- Flags, as the expressions compute them of the operands a and b and of a result r.
 
-pub sign_flag : (w : Width) (r : ℕ) (outcome : ℕ × Flags) → r ≡ outcome.0 → outcome.0 < limit_of w → has_sign w outcome.0 ≡ outcome.1.sf → r / 2 ^ (bits_of w - 1) % 2 ^ 1 ≡ from_bool outcome.1.sf
-sign_flag w r outcome e small is = ap (λ n. n / 2 ^ (bits_of w - 1) % 2 ^ 1) e ∙ sign_value w outcome.0 small ∙ ap from_bool is
+pub sign_flag : (w : Width) (r : ℕ) (outcome : ℕ × Flags) → r ≡ outcome.0 → outcome.0 < limit_of w
+    → has_sign w outcome.0 ≡ outcome.1.sf → r / 2 ^ (bits_of w - 1) % 2 ^ 1 ≡ from_bool outcome.1.sf
+sign_flag w r outcome e small is = ap (λ n. n / 2 ^ (bits_of w - 1) % 2 ^ 1) e ∙ sign_value w outcome.0 small
+    ∙ ap from_bool is
 
-pub zero_flag : (r : ℕ) (outcome : ℕ × Flags) → r ≡ outcome.0 → (outcome.0 == 0) ≡ outcome.1.zf → from_bool (r == 0) ≡ from_bool outcome.1.zf
+pub zero_flag : (r : ℕ) (outcome : ℕ × Flags) → r ≡ outcome.0 → (outcome.0 == 0) ≡ outcome.1.zf
+    → from_bool (r == 0) ≡ from_bool outcome.1.zf
 zero_flag r outcome e is = ap (λ n. from_bool (n == 0)) e ∙ ap from_bool is
 
 -- OF of a sum
@@ -89,31 +99,38 @@ sum_overflow_value w a b r c first second e =
     (ap from_bool (sum_overflow_flag w a b c first second))
 
 -- CF of a sum
-sum_carry_value : (w : Width) (a b r : ℕ) → a < limit_of w → b < limit_of w → r ≡ (sum_of w a b false).0 → from_bool (nat_lt r a) ≡ from_bool (sum_of w a b false).1.cf
+sum_carry_value : (w : Width) (a b r : ℕ) → a < limit_of w → b < limit_of w → r ≡ (sum_of w a b false).0
+    → from_bool (nat_lt r a) ≡ from_bool (sum_of w a b false).1.cf
 sum_carry_value w a b r first second e = rw e (ap from_bool (sum_carry w a b first second))
 
 -- a choice between two tests by CF
-chosen_test : (k : ℕ) (c p q : Bool) → k ≡ from_bool c → (if k == 1 then from_bool p else from_bool q) ≡ from_bool (if c then p else q)
+chosen_test : (k : ℕ) (c p q : Bool) → k ≡ from_bool c
+    → (if k == 1 then from_bool p else from_bool q) ≡ from_bool (if c then p else q)
 chosen_test k true p q e = ap (λ n. if n == 1 then from_bool p else from_bool q) e
 chosen_test k false p q e = ap (λ n. if n == 1 then from_bool p else from_bool q) e
 
-sum_carry_of_both_value : (w : Width) (a b k r : ℕ) (c : Bool) → a < limit_of w → b < limit_of w → k ≡ from_bool c → r ≡ (sum_of w a b c).0
+sum_carry_of_both_value : (w : Width) (a b k r : ℕ) (c : Bool) → a < limit_of w → b < limit_of w → k ≡ from_bool c
+    → r ≡ (sum_of w a b c).0
     → (if k == 1 then from_bool (nat_le r a) else from_bool (nat_lt r a)) ≡ from_bool (sum_of w a b c).1.cf
 sum_carry_of_both_value w a b k r c first second flag e =
     chosen_test k c (nat_le r a) (nat_lt r a) flag ∙ rw e (ap from_bool (sum_carry_of_both w a b c first second))
 
-sum_with_carry_value : (w : Width) (a b k : ℕ) (c : Bool) → k ≡ from_bool c → ((a + b) % 2 ^ bits_of w + k) % 2 ^ bits_of w ≡ (sum_of w a b c).0
+sum_with_carry_value : (w : Width) (a b k : ℕ) (c : Bool) → k ≡ from_bool c
+    → ((a + b) % 2 ^ bits_of w + k) % 2 ^ bits_of w ≡ (sum_of w a b c).0
 sum_with_carry_value w a b k c flag = rw flag (sum_with_carry w a b c)
 
 -- OF of a difference
-pub difference_overflow_value : (w : Width) (a b k r : ℕ) (c : Bool) → a < limit_of w → b < limit_of w → k ≡ from_bool c → r ≡ (difference_of w a b c).0
+pub difference_overflow_value : (w : Width) (a b k r : ℕ) (c : Bool) → a < limit_of w → b < limit_of w → k ≡ from_bool c
+    → r ≡ (difference_of w a b c).0
     → bit_xor (if k == 1 then from_bool (int_le (signed_at (bits_of w) a) (signed_at (bits_of w) b)) else from_bool
     (int_lt (signed_at (bits_of w) a) (signed_at (bits_of w) b))) (r / 2 ^ (bits_of w - 1) % 2 ^ 1)
     ≡ from_bool (difference_of w a b c).1.of
 difference_overflow_value w a b k r c first second flag e =
     ap (λ n. bit_xor n (r / 2 ^ (bits_of w - 1) % 2 ^ 1))
-    (chosen_test k c (int_le (signed_at (bits_of w) a) (signed_at (bits_of w) b)) (int_lt (signed_at (bits_of w) a) (signed_at (bits_of w) b)) flag)
-    ∙ rw (e, signed_same w a, signed_same w b, sign_value w (difference_of w a b c).0 (difference_below w a b c)) (xor_bits _ _)
+    (chosen_test k c (int_le (signed_at (bits_of w) a) (signed_at (bits_of w) b))
+    (int_lt (signed_at (bits_of w) a) (signed_at (bits_of w) b)) flag)
+    ∙ rw (e, signed_same w a, signed_same w b, sign_value w (difference_of w a b c).0 (difference_below w a b c))
+    (xor_bits _ _)
     ∙ ap from_bool (difference_overflow_flag w a b c first second)
 
 difference_with_borrow_value : (w : Width) (a b k : ℕ) (c : Bool) → a < limit_of w → b < limit_of w → k ≡ from_bool c
@@ -123,14 +140,17 @@ difference_with_borrow_value w a b k c first second flag = rw flag (difference_w
 -- What operations do to the result and the flags.
 
 -- ADD
-sum_worked : (w : Width) (scene : Scene) → scene.values (left_place w) < limit_of w → scene.values (right_place w) < limit_of w
-    → Working w (sum_of w (scene.values (left_place w)) (scene.values (right_place w)) false) (executed (alu_working Add w) scene)
+sum_worked : (w : Width) (scene : Scene) → scene.values (left_place w) < limit_of w
+    → scene.values (right_place w) < limit_of w
+    → Working w (sum_of w (scene.values (left_place w)) (scene.values (right_place w)) false)
+    (executed (alu_working Add w) scene)
 sum_worked byte_width scene first second =
     let a = scene.values (Temp 0) in
     let b = scene.values (Temp 1) in
     let outcome : ℕ × Flags = sum_of byte_width a b false in
     let r = sum_result byte_width a b in
-    worked byte_width scene (sum byte_width) (sum_overflow byte_width) (sign byte_width (result byte_width)) (is_zero byte_width (result byte_width)) (carry_out byte_width) outcome r
+    worked byte_width scene (sum byte_width) (sum_overflow byte_width) (sign byte_width (result byte_width))
+    (is_zero byte_width (result byte_width)) (carry_out byte_width) outcome r
     (sum_overflow_value byte_width a b _ false first second r)
     (sign_flag byte_width _ outcome r (sum_below byte_width a b false) (sum_sign byte_width a b false))
     (zero_flag _ outcome r (sum_zero byte_width a b false))
@@ -140,23 +160,28 @@ sum_worked word_width scene first second =
     let b = scene.values (Temp 4) in
     let outcome : ℕ × Flags = sum_of word_width a b false in
     let r = sum_result word_width a b in
-    worked word_width scene (sum word_width) (sum_overflow word_width) (sign word_width (result word_width)) (is_zero word_width (result word_width)) (carry_out word_width) outcome r
+    worked word_width scene (sum word_width) (sum_overflow word_width) (sign word_width (result word_width))
+    (is_zero word_width (result word_width)) (carry_out word_width) outcome r
     (sum_overflow_value word_width a b _ false first second r)
     (sign_flag word_width _ outcome r (sum_below word_width a b false) (sum_sign word_width a b false))
     (zero_flag _ outcome r (sum_zero word_width a b false))
     (sum_carry_value word_width a b _ first second r)
 
 -- ADC
-sum_with_carry_worked : (w : Width) (c : Bool) (scene : Scene) → scene.values (Flag Cf) ≡ from_bool c → scene.values (left_place w) < limit_of w → scene.values (right_place w) < limit_of w
-    → Working w (sum_of w (scene.values (left_place w)) (scene.values (right_place w)) c) (executed (alu_working Adc w) scene)
+sum_with_carry_worked : (w : Width) (c : Bool) (scene : Scene) → scene.values (Flag Cf) ≡ from_bool c
+    → scene.values (left_place w) < limit_of w → scene.values (right_place w) < limit_of w
+    → Working w (sum_of w (scene.values (left_place w)) (scene.values (right_place w)) c)
+    (executed (alu_working Adc w) scene)
 sum_with_carry_worked byte_width c scene carry first second =
     let a = scene.values (Temp 0) in
     let b = scene.values (Temp 1) in
     let outcome : ℕ × Flags = sum_of byte_width a b c in
     let r = sum_with_carry_value byte_width a b (scene.values (Flag Cf)) c carry in
-    worked byte_width (after_set carry_place (flag Cf) scene) (sum_and_carry byte_width) (sum_overflow byte_width) (sign byte_width (result byte_width))
+    worked byte_width (after_set carry_place (flag Cf) scene) (sum_and_carry byte_width) (sum_overflow byte_width)
+    (sign byte_width (result byte_width))
     (is_zero byte_width (result byte_width)) (carry_out_of_both byte_width) outcome r
-    (sum_overflow_value byte_width a b _ c first second r) (sign_flag byte_width _ outcome r (sum_below byte_width a b c) (sum_sign byte_width a b c))
+    (sum_overflow_value byte_width a b _ c first second r)
+    (sign_flag byte_width _ outcome r (sum_below byte_width a b c) (sum_sign byte_width a b c))
     (zero_flag _ outcome r (sum_zero byte_width a b c))
     (sum_carry_of_both_value byte_width a b (scene.values (Flag Cf)) _ c first second carry r)
 sum_with_carry_worked word_width c scene carry first second =
@@ -164,21 +189,26 @@ sum_with_carry_worked word_width c scene carry first second =
     let b = scene.values (Temp 4) in
     let outcome : ℕ × Flags = sum_of word_width a b c in
     let r = sum_with_carry_value word_width a b (scene.values (Flag Cf)) c carry in
-    worked word_width (after_set carry_place (flag Cf) scene) (sum_and_carry word_width) (sum_overflow word_width) (sign word_width (result word_width))
+    worked word_width (after_set carry_place (flag Cf) scene) (sum_and_carry word_width) (sum_overflow word_width)
+    (sign word_width (result word_width))
     (is_zero word_width (result word_width)) (carry_out_of_both word_width) outcome r
-    (sum_overflow_value word_width a b _ c first second r) (sign_flag word_width _ outcome r (sum_below word_width a b c) (sum_sign word_width a b c))
+    (sum_overflow_value word_width a b _ c first second r)
+    (sign_flag word_width _ outcome r (sum_below word_width a b c) (sum_sign word_width a b c))
     (zero_flag _ outcome r (sum_zero word_width a b c))
     (sum_carry_of_both_value word_width a b (scene.values (Flag Cf)) _ c first second carry r)
 
 -- SUB, CMP and NEG
-pub difference_worked : (w : Width) (scene : Scene) → scene.values (left_place w) < limit_of w → scene.values (right_place w) < limit_of w
-    → Working w (difference_of w (scene.values (left_place w)) (scene.values (right_place w)) false) (executed (subtracting w) scene)
+pub difference_worked : (w : Width) (scene : Scene) → scene.values (left_place w) < limit_of w
+    → scene.values (right_place w) < limit_of w
+    → Working w (difference_of w (scene.values (left_place w)) (scene.values (right_place w)) false)
+    (executed (subtracting w) scene)
 difference_worked byte_width scene first second =
     let a = scene.values (Temp 0) in
     let b = scene.values (Temp 1) in
     let outcome : ℕ × Flags = difference_of byte_width a b false in
     let r = difference_result byte_width a b in
-    worked byte_width scene (difference byte_width) (difference_overflow byte_width) (sign byte_width (result byte_width))
+    worked byte_width scene (difference byte_width) (difference_overflow byte_width)
+    (sign byte_width (result byte_width))
     (at_width Eq byte_width (left byte_width) (right byte_width)) (borrow_out byte_width) outcome r
     (difference_overflow_value byte_width a b 0 _ false first second refl r)
     (sign_flag byte_width _ outcome r (difference_below byte_width a b false) (difference_sign byte_width a b false))
@@ -189,7 +219,8 @@ difference_worked word_width scene first second =
     let b = scene.values (Temp 4) in
     let outcome : ℕ × Flags = difference_of word_width a b false in
     let r = difference_result word_width a b in
-    worked word_width scene (difference word_width) (difference_overflow word_width) (sign word_width (result word_width))
+    worked word_width scene (difference word_width) (difference_overflow word_width)
+    (sign word_width (result word_width))
     (at_width Eq word_width (left word_width) (right word_width)) (borrow_out word_width) outcome r
     (difference_overflow_value word_width a b 0 _ false first second refl r)
     (sign_flag word_width _ outcome r (difference_below word_width a b false) (difference_sign word_width a b false))
@@ -197,15 +228,18 @@ difference_worked word_width scene first second =
     (ap from_bool (difference_borrow word_width a b first second))
 
 -- SBB
-difference_with_borrow_worked : (w : Width) (c : Bool) (scene : Scene) → scene.values (Flag Cf) ≡ from_bool c → scene.values (left_place w) < limit_of w → scene.values (right_place w) < limit_of w
-    → Working w (difference_of w (scene.values (left_place w)) (scene.values (right_place w)) c) (executed (alu_working Sbb w) scene)
+difference_with_borrow_worked : (w : Width) (c : Bool) (scene : Scene) → scene.values (Flag Cf) ≡ from_bool c
+    → scene.values (left_place w) < limit_of w → scene.values (right_place w) < limit_of w
+    → Working w (difference_of w (scene.values (left_place w)) (scene.values (right_place w)) c)
+    (executed (alu_working Sbb w) scene)
 difference_with_borrow_worked byte_width c scene carry first second =
     let a = scene.values (Temp 0) in
     let b = scene.values (Temp 1) in
     let k = scene.values (Flag Cf) in
     let outcome : ℕ × Flags = difference_of byte_width a b c in
     let r = difference_with_borrow_value byte_width a b k c first second carry in
-    worked byte_width (after_set carry_place (flag Cf) scene) (difference_and_borrow byte_width) (difference_overflow_of_both byte_width) (sign byte_width (result byte_width))
+    worked byte_width (after_set carry_place (flag Cf) scene) (difference_and_borrow byte_width)
+    (difference_overflow_of_both byte_width) (sign byte_width (result byte_width))
     (is_zero byte_width (result byte_width)) (borrow_out_of_both byte_width) outcome r
     (difference_overflow_value byte_width a b k _ c first second carry r)
     (sign_flag byte_width _ outcome r (difference_below byte_width a b c) (difference_sign byte_width a b c))
@@ -217,7 +251,8 @@ difference_with_borrow_worked word_width c scene carry first second =
     let k = scene.values (Flag Cf) in
     let outcome : ℕ × Flags = difference_of word_width a b c in
     let r = difference_with_borrow_value word_width a b k c first second carry in
-    worked word_width (after_set carry_place (flag Cf) scene) (difference_and_borrow word_width) (difference_overflow_of_both word_width) (sign word_width (result word_width))
+    worked word_width (after_set carry_place (flag Cf) scene) (difference_and_borrow word_width)
+    (difference_overflow_of_both word_width) (sign word_width (result word_width))
     (is_zero word_width (result word_width)) (borrow_out_of_both word_width) outcome r
     (difference_overflow_value word_width a b k _ c first second carry r)
     (sign_flag word_width _ outcome r (difference_below word_width a b c) (difference_sign word_width a b c))
@@ -226,18 +261,25 @@ difference_with_borrow_worked word_width c scene carry first second =
 
 -- AND, OR, XOR and TEST
 combined_worked : (w : Width) (scene : Scene) (operator : BinOp) (outcome : ℕ × Flags)
-    → binary_value operator (bits_of w) (scene.values (left_place w)) (scene.values (right_place w)) ≡ outcome.0 → outcome.0 < limit_of w → outcome.1 ≡ result_flags w outcome.0 false false
+    → binary_value operator (bits_of w) (scene.values (left_place w)) (scene.values (right_place w)) ≡ outcome.0
+    → outcome.0 < limit_of w → outcome.1 ≡ result_flags w outcome.0 false false
     → Working w outcome (executed (combining w operator) scene)
 unfolding result_flags
 combined_worked byte_width scene operator outcome e small flags =
-    worked byte_width scene (at_width operator byte_width (left byte_width) (right byte_width)) (bit 0) (sign byte_width (result byte_width))
+    worked byte_width scene (at_width operator byte_width (left byte_width) (right byte_width)) (bit 0)
+    (sign byte_width (result byte_width))
     (is_zero byte_width (result byte_width)) (bit 0) outcome e
-    (ap (λ (f : Flags). from_bool f.of) (sym flags)) (sign_flag byte_width _ outcome e small (ap (λ (f : Flags). f.sf) (sym flags))) (zero_flag _ outcome e (ap (λ (f : Flags). f.zf) (sym flags)))
+    (ap (λ (f : Flags). from_bool f.of) (sym flags))
+    (sign_flag byte_width _ outcome e small (ap (λ (f : Flags). f.sf) (sym flags)))
+    (zero_flag _ outcome e (ap (λ (f : Flags). f.zf) (sym flags)))
     (ap (λ (f : Flags). from_bool f.cf) (sym flags))
 combined_worked word_width scene operator outcome e small flags =
-    worked word_width scene (at_width operator word_width (left word_width) (right word_width)) (bit 0) (sign word_width (result word_width))
+    worked word_width scene (at_width operator word_width (left word_width) (right word_width)) (bit 0)
+    (sign word_width (result word_width))
     (is_zero word_width (result word_width)) (bit 0) outcome e
-    (ap (λ (f : Flags). from_bool f.of) (sym flags)) (sign_flag word_width _ outcome e small (ap (λ (f : Flags). f.sf) (sym flags))) (zero_flag _ outcome e (ap (λ (f : Flags). f.zf) (sym flags)))
+    (ap (λ (f : Flags). from_bool f.of) (sym flags))
+    (sign_flag word_width _ outcome e small (ap (λ (f : Flags). f.sf) (sym flags)))
+    (zero_flag _ outcome e (ap (λ (f : Flags). f.zf) (sym flags)))
     (ap (λ (f : Flags). from_bool f.cf) (sym flags))
 
 and_below : (w : Width) (a b : ℕ) → a < limit_of w → bit_and a b < limit_of w
@@ -255,22 +297,28 @@ alu_outcome Xor w a b c = exclusive_of w a b
 alu_outcome Cmp w a b c = difference_of w a b false
 alu_outcome Test w a b c = conjunction_of w a b
 
-pub alu_worked : (operation : Alu) (w : Width) (c : Bool) (scene : Scene) → scene.values (Flag Cf) ≡ from_bool c → scene.values (left_place w) < limit_of w → scene.values (right_place w) < limit_of w
-    → Working w (alu_outcome operation w (scene.values (left_place w)) (scene.values (right_place w)) c) (executed (alu_working operation w) scene)
+pub alu_worked : (operation : Alu) (w : Width) (c : Bool) (scene : Scene) → scene.values (Flag Cf) ≡ from_bool c
+    → scene.values (left_place w) < limit_of w → scene.values (right_place w) < limit_of w
+    → Working w (alu_outcome operation w (scene.values (left_place w)) (scene.values (right_place w)) c)
+    (executed (alu_working operation w) scene)
 unfolding conjunction_of disjunction_of exclusive_of
 alu_worked Add w c scene carry first second = sum_worked w scene first second
 alu_worked Or w c scene carry first second =
-    combined_worked w scene OrOp (disjunction_of w (scene.values (left_place w)) (scene.values (right_place w))) refl (or_lt (bits_of w) _ _ first second) refl
+    combined_worked w scene OrOp (disjunction_of w (scene.values (left_place w)) (scene.values (right_place w))) refl
+    (or_lt (bits_of w) _ _ first second) refl
 alu_worked Adc w c scene carry first second = sum_with_carry_worked w c scene carry first second
 alu_worked Sbb w c scene carry first second = difference_with_borrow_worked w c scene carry first second
 alu_worked And w c scene carry first second =
-    combined_worked w scene AndOp (conjunction_of w (scene.values (left_place w)) (scene.values (right_place w))) refl (and_below w _ _ first) refl
+    combined_worked w scene AndOp (conjunction_of w (scene.values (left_place w)) (scene.values (right_place w))) refl
+    (and_below w _ _ first) refl
 alu_worked Sub w c scene carry first second = difference_worked w scene first second
 alu_worked Xor w c scene carry first second =
-    combined_worked w scene XorOp (exclusive_of w (scene.values (left_place w)) (scene.values (right_place w))) refl (xor_lt (bits_of w) _ _ first second) refl
+    combined_worked w scene XorOp (exclusive_of w (scene.values (left_place w)) (scene.values (right_place w))) refl
+    (xor_lt (bits_of w) _ _ first second) refl
 alu_worked Cmp w c scene carry first second = difference_worked w scene first second
 alu_worked Test w c scene carry first second =
-    combined_worked w scene AndOp (conjunction_of w (scene.values (left_place w)) (scene.values (right_place w))) refl (and_below w _ _ first) refl
+    combined_worked w scene AndOp (conjunction_of w (scene.values (left_place w)) (scene.values (right_place w))) refl
+    (and_below w _ _ first) refl
 
 -- they are statements on temporaries and flags
 pub alu_scratch : (operation : Alu) (w : Width) → list_all sets_scratch (alu_working operation w) ≡ true
@@ -297,31 +345,45 @@ alu_scratch Test word_width = refl
 
 module _ (R After : Relation) (coupling : IsCoupling R) where
   -- CMP and TEST set the flags alone
-  alu_finished : (operation : Alu) (x : Operand) (p : Place) (a b : ℕ) (s : Machine) (u : State) → IsWrittenIf (writes_operand operation) R After s x p
-      → Working (operand_width x) (alu_outcome operation (operand_width x) a b s.flags.cf) (executed (alu_working operation (operand_width x)) (scene_of u)) → R s u
-      → After (alu_step operation (operand_width x) x a b s) (execute (alu_working operation (operand_width x) ++ alu_storing operation (operand_width x) p) u)
+  alu_finished : (operation : Alu) (x : Operand) (p : Place) (a b : ℕ) (s : Machine) (u : State)
+      → IsWrittenIf (writes_operand operation) R After s x p
+      → Working (operand_width x) (alu_outcome operation (operand_width x) a b s.flags.cf)
+      (executed (alu_working operation (operand_width x)) (scene_of u)) → R s u
+      → After (alu_step operation (operand_width x) x a b s)
+      (execute (alu_working operation (operand_width x) ++ alu_storing operation (operand_width x) p) u)
   alu_finished Add x p a b s u written work rel =
-      finished R coupling After s u x p (alu_working Add (operand_width x)) (alu_outcome Add (operand_width x) a b s.flags.cf) written (alu_scratch Add (operand_width x)) work rel
+      finished R coupling After s u x p (alu_working Add (operand_width x))
+      (alu_outcome Add (operand_width x) a b s.flags.cf) written (alu_scratch Add (operand_width x)) work rel
   alu_finished Or x p a b s u written work rel =
-      finished R coupling After s u x p (alu_working Or (operand_width x)) (alu_outcome Or (operand_width x) a b s.flags.cf) written (alu_scratch Or (operand_width x)) work rel
+      finished R coupling After s u x p (alu_working Or (operand_width x))
+      (alu_outcome Or (operand_width x) a b s.flags.cf) written (alu_scratch Or (operand_width x)) work rel
   alu_finished Adc x p a b s u written work rel =
-      finished R coupling After s u x p (alu_working Adc (operand_width x)) (alu_outcome Adc (operand_width x) a b s.flags.cf) written (alu_scratch Adc (operand_width x)) work rel
+      finished R coupling After s u x p (alu_working Adc (operand_width x))
+      (alu_outcome Adc (operand_width x) a b s.flags.cf) written (alu_scratch Adc (operand_width x)) work rel
   alu_finished Sbb x p a b s u written work rel =
-      finished R coupling After s u x p (alu_working Sbb (operand_width x)) (alu_outcome Sbb (operand_width x) a b s.flags.cf) written (alu_scratch Sbb (operand_width x)) work rel
+      finished R coupling After s u x p (alu_working Sbb (operand_width x))
+      (alu_outcome Sbb (operand_width x) a b s.flags.cf) written (alu_scratch Sbb (operand_width x)) work rel
   alu_finished And x p a b s u written work rel =
-      finished R coupling After s u x p (alu_working And (operand_width x)) (alu_outcome And (operand_width x) a b s.flags.cf) written (alu_scratch And (operand_width x)) work rel
+      finished R coupling After s u x p (alu_working And (operand_width x))
+      (alu_outcome And (operand_width x) a b s.flags.cf) written (alu_scratch And (operand_width x)) work rel
   alu_finished Sub x p a b s u written work rel =
-      finished R coupling After s u x p (alu_working Sub (operand_width x)) (alu_outcome Sub (operand_width x) a b s.flags.cf) written (alu_scratch Sub (operand_width x)) work rel
+      finished R coupling After s u x p (alu_working Sub (operand_width x))
+      (alu_outcome Sub (operand_width x) a b s.flags.cf) written (alu_scratch Sub (operand_width x)) work rel
   alu_finished Xor x p a b s u written work rel =
-      finished R coupling After s u x p (alu_working Xor (operand_width x)) (alu_outcome Xor (operand_width x) a b s.flags.cf) written (alu_scratch Xor (operand_width x)) work rel
+      finished R coupling After s u x p (alu_working Xor (operand_width x))
+      (alu_outcome Xor (operand_width x) a b s.flags.cf) written (alu_scratch Xor (operand_width x)) work rel
   alu_finished Cmp x p a b s u follows work rel =
-      follows _ _ (worked_on R coupling (alu_working Cmp (operand_width x)) s u (difference_of (operand_width x) a b false).1 (alu_scratch Cmp (operand_width x)) work.flags rel)
+      follows _ _ (worked_on R coupling (alu_working Cmp (operand_width x)) s u
+      (difference_of (operand_width x) a b false).1 (alu_scratch Cmp (operand_width x)) work.flags rel)
   alu_finished Test x p a b s u follows work rel =
-      follows _ _ (worked_on R coupling (alu_working Test (operand_width x)) s u (conjunction_of (operand_width x) a b).1 (alu_scratch Test (operand_width x)) work.flags rel)
+      follows _ _ (worked_on R coupling (alu_working Test (operand_width x)) s u
+      (conjunction_of (operand_width x) a b).1 (alu_scratch Test (operand_width x)) work.flags rel)
 
-  pub alu_performed : (operation : Alu) (a b : Operand) (p q : Place) (s : Machine) (t : State) → AreOperands a b → IsRead R s a p → IsRead R s b q
+  pub alu_performed : (operation : Alu) (a b : Operand) (p q : Place) (s : Machine) (t : State) → AreOperands a b
+      → IsRead R s a p → IsRead R s b q
       → IsWrittenIf (writes_operand operation) R After s a p → R s t
-      → After (alu_step operation (operand_width a) a (operand_value s a) (operand_value s b) s) (execute (alu_stmts operation (operand_width a) p q) t)
+      → After (alu_step operation (operand_width a) a (operand_value s a) (operand_value s b) s)
+      (execute (alu_stmts operation (operand_width a) p q) t)
   alu_performed operation a b p q s t are first second written rel =
       let w = operand_width a in
       let m = operand_value s a in
@@ -331,9 +393,14 @@ module _ (R After : Relation) (coupling : IsCoupling R) where
       let below : m < limit_of w = first.small s.flags t rel in
       let less : n < limit_of w = subst (λ v. n < limit_of v) (sym are.widths) (second.small s.flags t rel) in
       let work : Working w (alu_outcome operation w m n s.flags.cf) (executed (alu_working operation w) (scene_of u))
-      = subst (λ v. Working w (alu_outcome operation w v n s.flags.cf) (executed (alu_working operation w) (scene_of u))) hold.left
-      (subst (λ v. Working w (alu_outcome operation w (u.running.values (left_place w)) v s.flags.cf) (executed (alu_working operation w) (scene_of u))) hold.right
-      (alu_worked operation w s.flags.cf (scene_of u) (coupling.flags s u hold.stands).carry (subst (λ v. v < limit_of w) (sym hold.left) below)
+      = subst
+      (λ v. Working w (alu_outcome operation w v n s.flags.cf) (executed (alu_working operation w) (scene_of u)))
+      hold.left
+      (subst (λ v. Working w (alu_outcome operation w (u.running.values (left_place w)) v s.flags.cf)
+      (executed (alu_working operation w) (scene_of u))) hold.right
+      (alu_worked operation w s.flags.cf (scene_of u) (coupling.flags s u hold.stands).carry
+      (subst (λ v. v < limit_of w) (sym hold.left) below)
       (subst (λ v. v < limit_of w) (sym hold.right) less))) in
-      subst (After (alu_step operation w a m n s)) (sym (execute-append (operands_taking w p q) (alu_working operation w ++ alu_storing operation w p) t))
+      subst (After (alu_step operation w a m n s))
+      (sym (execute-append (operands_taking w p q) (alu_working operation w ++ alu_storing operation w p) t))
       (alu_finished operation a p m n s u written work hold.stands)

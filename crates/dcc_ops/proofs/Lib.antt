@@ -11,3 +11,7 @@ pub mod MovePerformed
 pub mod PerformedLaws
 pub mod TestLaws
 pub mod FlagReadLaws
+pub mod DivisionValues
+pub mod DivisionPerformed
+pub mod TableLaws
+pub mod HeldLaws

@@ -1,4 +1,5 @@
--- The arithmetic of products and sign extensions: the numbers that the operators of the inner language give are those of the machine.
+-- The arithmetic of products and sign extensions: the numbers that the operators of the inner language give are those
+-- of the machine.
 use Rattle.std.proofs.Common.{arith, ◌≡◌, ◌∙◌, refl, sym, ap, subst, inl, inr, ℕ, zero, suc, ◌+◌, ◌-◌, ◌*◌, ◌/◌, ◌%◌, ◌^◌, ◌<◌, ◌≤◌, not, ℤ, pos, negsuc, neg_ℤ, ◌*ℤ◌, nat_eq, nat_lt}
 use Rattle.std.specs.Prelude.{unsigned_abs}
 use Rattle.std.specs.Int.{from_bool}
@@ -27,7 +28,8 @@ product_small Byte a b first second = mul-lt a b 256 256 first second
 product_small Word a b first second = mul-lt a b 65536 65536 first second
 
 -- it needs its upper half
-pub needs_half : (w : Width) (p : ℕ) → p < 2 ^ double w → from_bool (nat_lt 0 (p / 2 ^ bits_of w % 2 ^ bits_of w)) ≡ from_bool (not (nat_eq (p / limit_of w) 0))
+pub needs_half : (w : Width) (p : ℕ) → p < 2 ^ double w
+    → from_bool (nat_lt 0 (p / 2 ^ bits_of w % 2 ^ bits_of w)) ≡ from_bool (not (nat_eq (p / limit_of w) 0))
 needs_half Byte p small = grind (arith, nat_tests)
 needs_half Word p small = grind (arith, nat_tests)
 
@@ -49,7 +51,8 @@ negated_is m (suc k) x (suc q) e small some =
 up_down : (m a b : ℕ) → a * suc b ≤ m → suc b ≤ m → 0 < m → a * (m - suc b) % m ≡ residue_of m (neg_ℤ (pos (a * suc b)))
 up_down m a b whole small some =
     let e : (m - suc b) + suc b ≡ m = omega arith in
-    negated_is m (a * suc b) (a * (m - suc b)) a (sym (mul-add a (m - suc b) (suc b)) ∙ ap (λ (n : ℕ). a * n) e) whole some
+    negated_is m (a * suc b) (a * (m - suc b)) a (sym (mul-add a (m - suc b) (suc b)) ∙ ap (λ (n : ℕ). a * n) e)
+    whole some
 
 down_down : (m a b : ℕ) → suc a ≤ m → suc b ≤ m → (m - suc a) * (m - suc b) % m ≡ suc a * suc b % m
 down_down m a b first second =
@@ -64,7 +67,8 @@ down_down m a b first second =
         omega (arith, one, two)
 
 -- the product of two patterns is the pattern of the product
-pattern_product : (m : ℕ) (x y : ℤ) → unsigned_abs x * unsigned_abs y ≤ m → unsigned_abs x ≤ m → unsigned_abs y ≤ m → 0 < m
+pattern_product : (m : ℕ) (x y : ℤ) → unsigned_abs x * unsigned_abs y ≤ m → unsigned_abs x ≤ m → unsigned_abs y ≤ m
+    → 0 < m
     → residue_of m x * residue_of m y % m ≡ residue_of m (x *ℤ y)
 pattern_product m (pos a) (pos b) whole first second some = sym (mul-mod a b m)
 pattern_product m (pos a) (negsuc b) whole first second some =
@@ -75,7 +79,8 @@ pattern_product m (negsuc a) (pos b) whole first second some =
     let less : a % m ≡ a = mod-eq_of_lt first in
     let e : m - 1 - a ≡ m - suc a = omega arith in
     mul-mod_second (m - 1 - a % m) b m
-    ∙ rw (less, e) (ap (λ (n : ℕ). n % m) (mul_comm (m - suc a) b) ∙ up_down m b a (subst (λ (n : ℕ). n ≤ m) (mul_comm (suc a) b) whole) first some
+    ∙ rw (less, e) (ap (λ (n : ℕ). n % m) (mul_comm (m - suc a) b)
+    ∙ up_down m b a (subst (λ (n : ℕ). n ≤ m) (mul_comm (suc a) b) whole) first some
     ∙ ap (λ (n : ℕ). residue_of m (neg_ℤ (pos n))) (mul_comm b (suc a)))
 pattern_product m (negsuc a) (negsuc b) whole first second some =
     let one : a % m ≡ a = mod-eq_of_lt first in
@@ -96,18 +101,23 @@ magnitude w a small = elim (signed_cases w a small) [
     down Word a = omega arith
 
 pub product_pattern : (w : Width) (a b : ℕ) → a < limit_of w → b < limit_of w
-    → pattern_at (double w) (signed_at (bits_of w) a) * pattern_at (double w) (signed_at (bits_of w) b) % 2 ^ double w ≡ pattern_at (double w) (signed_of w a *ℤ signed_of w b)
+    → pattern_at (double w) (signed_at (bits_of w) a) * pattern_at (double w) (signed_at (bits_of w) b) % 2 ^ double w
+    ≡ pattern_at (double w) (signed_of w a *ℤ signed_of w b)
 product_pattern w a b first second =
-    rw (signed_is w a, signed_is w b) (pattern_product (2 ^ double w) (signed_of w a) (signed_of w b) (whole w a b first second) (wide w a first) (wide w b second) (pow_pos (double w)))
+    rw (signed_is w a, signed_is w b)
+    (pattern_product (2 ^ double w) (signed_of w a) (signed_of w b) (whole w a b first second) (wide w a first)
+    (wide w b second) (pow_pos (double w)))
   where
     square : (w : Width) → limit_of w * limit_of w ≡ 2 ^ double w
     square Byte = refl
     square Word = refl
 
-    whole : (w : Width) (a b : ℕ) → a < limit_of w → b < limit_of w → unsigned_abs (signed_of w a) * unsigned_abs (signed_of w b) ≤ 2 ^ double w
+    whole : (w : Width) (a b : ℕ) → a < limit_of w → b < limit_of w
+        → unsigned_abs (signed_of w a) * unsigned_abs (signed_of w b) ≤ 2 ^ double w
     whole w a b first second =
         subst (λ (n : ℕ). unsigned_abs (signed_of w a) * unsigned_abs (signed_of w b) ≤ n) (square w)
-        (mul-le (unsigned_abs (signed_of w a)) (unsigned_abs (signed_of w b)) (limit_of w) (limit_of w) (magnitude w a first) (magnitude w b second))
+        (mul-le (unsigned_abs (signed_of w a)) (unsigned_abs (signed_of w b)) (limit_of w) (limit_of w)
+        (magnitude w a first) (magnitude w b second))
 
     widen : (w : Width) (n : ℕ) → n ≤ limit_of w → n ≤ 2 ^ double w
     widen Byte n h = omega arith
@@ -137,7 +147,8 @@ pattern_high Word (negsuc n) = omega arith
 
 -- it needs its upper half where that is not the sign extension of the lower one
 pub needs_signed_half : (w : Width) (p : ℕ) → p < 2 ^ double w
-    → nat_eq (pattern_at (double w) (signed_at (bits_of w) (p / 2 ^ 0 % 2 ^ bits_of w))) p ≡ nat_eq (p / limit_of w) (extension_of w (p % limit_of w))
+    → nat_eq (pattern_at (double w) (signed_at (bits_of w) (p / 2 ^ 0 % 2 ^ bits_of w))) p
+    ≡ nat_eq (p / limit_of w) (extension_of w (p % limit_of w))
 needs_signed_half Byte p small = grind (arith, nat_tests)
 needs_signed_half Word p small = grind (arith, nat_tests)
 

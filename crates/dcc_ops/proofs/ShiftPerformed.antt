@@ -1,4 +1,5 @@
--- Shifts and rotates: what their statements leave in the temporary of the result and in the flags is what the machine gives.
+-- Shifts and rotates: what their statements leave in the temporary of the result and in the flags is what the machine
+-- gives.
 use Rattle.std.proofs.Common.{arith, ◌≡◌, ◌∙◌, refl, sym, ap, subst, ℕ, ◌+◌, ◌-◌, ◌*◌, ◌/◌, ◌%◌, ◌^◌, ◌<◌, ◌≤◌, Bool, true, false, ◌&&◌, nat_eq, true≢false, eqb-true, ne_eqb, [], ◌∷◌, ◌++◌}
 use Rattle.std.specs.Prelude.{if◌then◌else◌, ◌==◌, bit_and, bit_xor}
 use Rattle.std.specs.Int.{from_bool}
@@ -64,26 +65,35 @@ pub record Yields (w : Width) (scene : Scene) (a b r : ℕ) : Type 0 where
   pub result : scene.values (result_place w) ≡ r
 
 -- the result goes there
-yields : (w : Width) (scene : Scene) (e : Expr) (a b r : ℕ) → Holds w scene a b → value_of scene e ≡ r → Yields w (executed (result_taking w e) scene) a b r
+yields : (w : Width) (scene : Scene) (e : Expr) (a b r : ℕ) → Holds w scene a b → value_of scene e ≡ r
+    → Yields w (executed (result_taking w e) scene) a b r
 yields byte_width scene e a b r h is = record { holds = record { left = h.left; right = h.right }; result = is }
 yields word_width scene e a b r h is = record { holds = record { left = h.left; right = h.right }; result = is }
 
 -- a flag changes none of this
-yields_flag : (w : Width) (scene : Scene) (f : FlagName) (v a b r : ℕ) → Yields w scene a b r → Yields w (scene_with scene (with_value scene.values (Flag f) v)) a b r
-yields_flag byte_width scene f v a b r y = record { holds = record { left = y.holds.left; right = y.holds.right }; result = y.result }
-yields_flag word_width scene f v a b r y = record { holds = record { left = y.holds.left; right = y.holds.right }; result = y.result }
+yields_flag : (w : Width) (scene : Scene) (f : FlagName) (v a b r : ℕ) → Yields w scene a b r
+    → Yields w (scene_with scene (with_value scene.values (Flag f) v)) a b r
+yields_flag byte_width scene f v a b r y =
+    record { holds = record { left = y.holds.left; right = y.holds.right }; result = y.result }
+yields_flag word_width scene f v a b r y =
+    record { holds = record { left = y.holds.left; right = y.holds.right }; result = y.result }
 
 -- nor does CF that comes in
-holds_carry : (w : Width) (scene : Scene) (v a b : ℕ) → Holds w scene a b → Holds w (scene_with scene (with_value scene.values carry_place v)) a b
+holds_carry : (w : Width) (scene : Scene) (v a b : ℕ) → Holds w scene a b
+    → Holds w (scene_with scene (with_value scene.values carry_place v)) a b
 holds_carry byte_width scene v a b h = record { left = h.left; right = h.right }
 holds_carry word_width scene v a b h = record { left = h.left; right = h.right }
 
-flags_carry : (was : Flags) (scene : Scene) (v : ℕ) → HoldFlags was scene.values → HoldFlags was (with_value scene.values carry_place v)
+flags_carry : (was : Flags) (scene : Scene) (v : ℕ) → HoldFlags was scene.values
+    → HoldFlags was (with_value scene.values carry_place v)
 flags_carry was scene v h = record { carry = h.carry; zero = h.zero; negative = h.negative; overflow = h.overflow }
 
-flags_result : (w : Width) (was : Flags) (scene : Scene) (v : ℕ) → HoldFlags was scene.values → HoldFlags was (with_value scene.values (result_place w) v)
-flags_result byte_width was scene v h = record { carry = h.carry; zero = h.zero; negative = h.negative; overflow = h.overflow }
-flags_result word_width was scene v h = record { carry = h.carry; zero = h.zero; negative = h.negative; overflow = h.overflow }
+flags_result : (w : Width) (was : Flags) (scene : Scene) (v : ℕ) → HoldFlags was scene.values
+    → HoldFlags was (with_value scene.values (result_place w) v)
+flags_result byte_width was scene v h =
+    record { carry = h.carry; zero = h.zero; negative = h.negative; overflow = h.overflow }
+flags_result word_width was scene v h =
+    record { carry = h.carry; zero = h.zero; negative = h.negative; overflow = h.overflow }
 
 result_taken : (w : Width) (values : Values) (a : ℕ) → with_value values (result_place w) a (result_place w) ≡ a
 result_taken byte_width values a = refl
@@ -91,17 +101,22 @@ result_taken word_width values a = refl
 
 -- Bits of what the temporaries hold.
 
-sign_bit : (w : Width) (scene : Scene) (e : Expr) (x : ℕ) → value_of scene e ≡ x → x < limit_of w → value_of scene (sign w e) ≡ from_bool (has_sign w x)
+sign_bit : (w : Width) (scene : Scene) (e : Expr) (x : ℕ) → value_of scene e ≡ x → x < limit_of w
+    → value_of scene (sign w e) ≡ from_bool (has_sign w x)
 sign_bit w scene e x is small = ap (λ (n : ℕ). n / 2 ^ (bits_of w - 1) % 2 ^ 1) is ∙ sign_value w x small
 
-below_sign_bit : (w : Width) (scene : Scene) (e : Expr) (x : ℕ) → value_of scene e ≡ x → value_of scene (below_sign w e) ≡ from_bool (is_set x (bits_of w - 2))
+below_sign_bit : (w : Width) (scene : Scene) (e : Expr) (x : ℕ) → value_of scene e ≡ x
+    → value_of scene (below_sign w e) ≡ from_bool (is_set x (bits_of w - 2))
 below_sign_bit w scene e x is = ap (λ (n : ℕ). n / 2 ^ (bits_of w - 2) % 2 ^ 1) is ∙ bit_value x (bits_of w - 2)
 
-lowest_bit : (scene : Scene) (e : Expr) (x : ℕ) → value_of scene e ≡ x → value_of scene (lowest e) ≡ from_bool (is_set x 0)
+lowest_bit : (scene : Scene) (e : Expr) (x : ℕ) → value_of scene e ≡ x
+    → value_of scene (lowest e) ≡ from_bool (is_set x 0)
 lowest_bit scene e x is = ap (λ (n : ℕ). n / 2 ^ 0 % 2 ^ 1) is ∙ bit_value x 0
 
-differing : (scene : Scene) (e f : Expr) (p q : Bool) → value_of scene e ≡ from_bool p → value_of scene f ≡ from_bool q → value_of scene (Binary XorOp 1 e f) ≡ from_bool (differ p q)
-differing scene e f p q first second = ap (λ (n : ℕ). bit_xor n (value_of scene f)) first ∙ ap (λ (n : ℕ). bit_xor (from_bool p) n) second ∙ differ_value p q
+differing : (scene : Scene) (e f : Expr) (p q : Bool) → value_of scene e ≡ from_bool p → value_of scene f ≡ from_bool q
+    → value_of scene (Binary XorOp 1 e f) ≡ from_bool (differ p q)
+differing scene e f p q first second = ap (λ (n : ℕ). bit_xor n (value_of scene f)) first
+    ∙ ap (λ (n : ℕ). bit_xor (from_bool p) n) second ∙ differ_value p q
 
 -- a number that the count may be: a count of 1 is 1, and a constant by which something is shifted is not 0
 pub record Counts (count : Count) (n : ℕ) : Type 0 where
@@ -109,28 +124,36 @@ pub record Counts (count : Count) (n : ℕ) : Type 0 where
   pub some : is_in_cl count ≡ false → 0 < n
 
 -- a bit for a count of 1
-one_counted : (w : Width) (scene : Scene) (e : Expr) (n : ℕ) (x : Bool) → scene.values (right_place w) ≡ n → value_of scene e ≡ from_bool x
+one_counted : (w : Width) (scene : Scene) (e : Expr) (n : ℕ) (x : Bool) → scene.values (right_place w) ≡ n
+    → value_of scene e ≡ from_bool x
     → value_of scene (if_one w Cl e) ≡ from_bool ((n == 1) && x)
 one_counted w scene e n x counted is = ap (λ (k : ℕ). bit_and (from_bool (nat_eq k 1)) (value_of scene e)) counted
     ∙ ap (λ (k : ℕ). bit_and (from_bool (nat_eq n 1)) k) is ∙ both_value (nat_eq n 1) x
 
-one_bit : (w : Width) (count : Count) (scene : Scene) (e : Expr) (n : ℕ) (x : Bool) → scene.values (right_place w) ≡ n → Counts count n
+one_bit : (w : Width) (count : Count) (scene : Scene) (e : Expr) (n : ℕ) (x : Bool) → scene.values (right_place w) ≡ n
+    → Counts count n
     → value_of scene e ≡ from_bool x → value_of scene (if_one w count e) ≡ from_bool ((n == 1) && x)
 one_bit w One scene e n x counted c is = is ∙ ap (λ (k : ℕ). from_bool (nat_eq k 1 && x)) (sym (c.one refl))
 one_bit w Cl scene e n x counted c is = one_counted w scene e n x counted is
 one_bit w (ConstCount m) scene e n x counted c is = one_counted w scene e n x counted is
 
 -- a flag that stays where the count is 0
-shifted_bit : (scene : Scene) (e : Expr) (n : ℕ) (was x : Bool) → 0 < n → (0 < n → value_of scene e ≡ from_bool x) → value_of scene e ≡ from_bool (if n == 0 then was else x)
-shifted_bit scene e n was x some is = is some ∙ ap (λ b. from_bool (if b then was else x)) (sym (ne_eqb n 0 (λ none. absurd (omega (arith, some, none)))))
+shifted_bit : (scene : Scene) (e : Expr) (n : ℕ) (was x : Bool) → 0 < n → (0 < n → value_of scene e ≡ from_bool x)
+    → value_of scene e ≡ from_bool (if n == 0 then was else x)
+shifted_bit scene e n was x some is = is some
+    ∙ ap (λ b. from_bool (if b then was else x)) (sym (ne_eqb n 0 (λ none. absurd (omega (arith, some, none)))))
 
-kept_bit : (w : Width) (count : Count) (f : FlagName) (scene : Scene) (e : Expr) (n : ℕ) (was x : Bool) → scene.values (right_place w) ≡ n → Counts count n
-    → scene.values (Flag f) ≡ from_bool was → (0 < n → value_of scene e ≡ from_bool x) → value_of scene (unless_zero w count f e) ≡ from_bool (if n == 0 then was else x)
+kept_bit : (w : Width) (count : Count) (f : FlagName) (scene : Scene) (e : Expr) (n : ℕ) (was x : Bool)
+    → scene.values (right_place w) ≡ n → Counts count n
+    → scene.values (Flag f) ≡ from_bool was → (0 < n → value_of scene e ≡ from_bool x)
+    → value_of scene (unless_zero w count f e) ≡ from_bool (if n == 0 then was else x)
 kept_bit w Cl f scene e n was x counted c stood is =
     ap (λ (k : ℕ). if nat_eq (from_bool (nat_eq k 0)) 1 then scene.values (Flag f) else value_of scene e) counted
     ∙ chosen (nat_eq n 0) refl
   where
-    chosen : (b : Bool) → nat_eq n 0 ≡ b → (if nat_eq (from_bool b) 1 then scene.values (Flag f) else value_of scene e) ≡ from_bool (if b then was else x)
+    chosen : (b : Bool) → nat_eq n 0 ≡ b
+        → (if nat_eq (from_bool b) 1 then scene.values (Flag f) else value_of scene e)
+        ≡ from_bool (if b then was else x)
     chosen true e = stood
     chosen false e = is (omega (arith, eqb-false n 0 e))
 kept_bit w One f scene e n was x counted c stood is = shifted_bit scene e n was x (c.some refl) is
@@ -139,12 +162,14 @@ kept_bit w (ConstCount m) f scene e n was x counted c stood is = shifted_bit sce
 -- Flags.
 
 -- after the flags of a shift, where these numbers are in the temporaries
-shift_flags_kept : (w : Width) (count : Count) (overflow carry : Expr) (was : Flags) (scene : Scene) (a n r : ℕ) (o c : Bool) (f : Flags)
+shift_flags_kept : (w : Width) (count : Count) (overflow carry : Expr) (was : Flags) (scene : Scene) (a n r : ℕ)
+    (o c : Bool) (f : Flags)
     → HoldFlags was scene.values → Yields w scene a n r → r < limit_of w → Counts count n
     → ((seen : Scene) → Yields w seen a n r → 0 < n → value_of seen overflow ≡ from_bool o)
     → ((seen : Scene) → Yields w seen a n r → 0 < n → value_of seen carry ≡ from_bool c)
     → f ≡ (if n == 0 then was else record { cf = c; zf = r == 0; sf = has_sign w r; of = o })
-    → HoldFlags f (executed (shift_flags w count overflow carry) scene).values × Yields w (executed (shift_flags w count overflow carry) scene) a n r
+    → HoldFlags f (executed (shift_flags w count overflow carry) scene).values
+    × Yields w (executed (shift_flags w count overflow carry) scene) a n r
 shift_flags_kept w count overflow carry was scene a n r o c f p y small one of_is cf_is e =
     let v1 : ℕ = value_of scene (unless_zero w count Of overflow) in
     let scene1 : Scene = scene_with scene (with_value scene.values (Flag Of) v1) in
@@ -157,10 +182,14 @@ shift_flags_kept w count overflow carry was scene a n r o c f p y small one of_i
     let y3 : Yields w scene3 a n r = yields_flag w scene2 Zf v3 a n r y2 in
     let v4 : ℕ = value_of scene3 (unless_zero w count Cf carry) in (
       record {
-        overflow = kept_bit w count Of scene overflow n was.of o y.holds.right one p.overflow (of_is scene y) ∙ told (λ g. g.of);
-        negative = kept_bit w count Sf scene1 (sign w (result w)) n was.sf (has_sign w r) y1.holds.right one p.negative (λ _. sign_bit w scene1 (result w) r y1.result small) ∙ told (λ g. g.sf);
-        zero = kept_bit w count Zf scene2 (is_zero w (result w)) n was.zf (nat_eq r 0) y2.holds.right one p.zero (λ _. ap (λ (k : ℕ). from_bool (nat_eq k 0)) y2.result) ∙ told (λ g. g.zf);
-        carry = kept_bit w count Cf scene3 carry n was.cf c y3.holds.right one p.carry (cf_is scene3 y3) ∙ told (λ g. g.cf);
+        overflow = kept_bit w count Of scene overflow n was.of o y.holds.right one p.overflow (of_is scene y)
+            ∙ told (λ g. g.of);
+        negative = kept_bit w count Sf scene1 (sign w (result w)) n was.sf (has_sign w r) y1.holds.right one p.negative
+            (λ _. sign_bit w scene1 (result w) r y1.result small) ∙ told (λ g. g.sf);
+        zero = kept_bit w count Zf scene2 (is_zero w (result w)) n was.zf (nat_eq r 0) y2.holds.right one p.zero
+            (λ _. ap (λ (k : ℕ). from_bool (nat_eq k 0)) y2.result) ∙ told (λ g. g.zf);
+        carry = kept_bit w count Cf scene3 carry n was.cf c y3.holds.right one p.carry (cf_is scene3 y3)
+            ∙ told (λ g. g.cf);
       },
       yields_flag w scene3 Cf v4 a n r y3,
     )
@@ -168,7 +197,8 @@ shift_flags_kept w count overflow carry was scene a n r o c f p y small one of_i
     moved : Flags
     moved = record { cf = c; zf = r == 0; sf = has_sign w r; of = o }
 
-    of_both : (b : Bool) (g : Flags → Bool) → from_bool (if b then g was else g moved) ≡ from_bool (g (if b then was else moved))
+    of_both : (b : Bool) (g : Flags → Bool)
+        → from_bool (if b then g was else g moved) ≡ from_bool (g (if b then was else moved))
     of_both true g = refl
     of_both false g = refl
 
@@ -176,12 +206,14 @@ shift_flags_kept w count overflow carry was scene a n r o c f p y small one of_i
     told g = of_both (n == 0) g ∙ ap (λ (x : Flags). from_bool (g x)) (sym e)
 
 -- and after those of a rotate by a count
-rotate_flags_kept : (w : Width) (count : Count) (overflow carry : Expr) (was : Flags) (scene : Scene) (a n r : ℕ) (o c : Bool) (f : Flags)
+rotate_flags_kept : (w : Width) (count : Count) (overflow carry : Expr) (was : Flags) (scene : Scene) (a n r : ℕ)
+    (o c : Bool) (f : Flags)
     → HoldFlags was scene.values → Yields w scene a n r → Counts count n
     → ((seen : Scene) → Yields w seen a n r → 0 < n → value_of seen overflow ≡ from_bool o)
     → ((seen : Scene) → Yields w seen a n r → 0 < n → value_of seen carry ≡ from_bool c)
     → f ≡ (if n == 0 then was else turned_flags was c o)
-    → HoldFlags f (executed (rotate_flags w count overflow carry) scene).values × Yields w (executed (rotate_flags w count overflow carry) scene) a n r
+    → HoldFlags f (executed (rotate_flags w count overflow carry) scene).values
+    × Yields w (executed (rotate_flags w count overflow carry) scene) a n r
 rotate_flags_kept w count overflow carry was scene a n r o c f p y one of_is cf_is e =
     let v1 : ℕ = value_of scene (unless_zero w count Of overflow) in
     let scene1 : Scene = scene_with scene (with_value scene.values (Flag Of) v1) in
@@ -190,8 +222,10 @@ rotate_flags_kept w count overflow carry was scene a n r o c f p y one of_is cf_
       record {
         zero = p.zero ∙ sym (ap from_bool (ap (λ (x : Flags). x.zf) e ∙ same_zf (n == 0)));
         negative = p.negative ∙ sym (ap from_bool (ap (λ (x : Flags). x.sf) e ∙ same_sf (n == 0)));
-        overflow = kept_bit w count Of scene overflow n was.of o y.holds.right one p.overflow (of_is scene y) ∙ told (λ g. g.of);
-        carry = kept_bit w count Cf scene1 carry n was.cf c y1.holds.right one p.carry (cf_is scene1 y1) ∙ told (λ g. g.cf);
+        overflow = kept_bit w count Of scene overflow n was.of o y.holds.right one p.overflow (of_is scene y)
+            ∙ told (λ g. g.of);
+        carry = kept_bit w count Cf scene1 carry n was.cf c y1.holds.right one p.carry (cf_is scene1 y1)
+            ∙ told (λ g. g.cf);
       },
       yields_flag w scene1 Cf v2 a n r y1,
     )
@@ -207,7 +241,8 @@ rotate_flags_kept w count overflow carry was scene a n r o c f p y one of_is cf_
     same_sf true = refl
     same_sf false = refl
 
-    of_both : (b : Bool) (g : Flags → Bool) → from_bool (if b then g was else g moved) ≡ from_bool (g (if b then was else moved))
+    of_both : (b : Bool) (g : Flags → Bool)
+        → from_bool (if b then g was else g moved) ≡ from_bool (g (if b then was else moved))
     of_both true g = refl
     of_both false g = refl
 
@@ -219,13 +254,17 @@ turn_flags_kept : (w : Width) (overflow carry : Expr) (was : Flags) (scene : Sce
     → HoldFlags was scene.values → Yields w scene a n r
     → ((seen : Scene) → Yields w seen a n r → value_of seen overflow ≡ from_bool o)
     → ((seen : Scene) → Yields w seen a n r → value_of seen carry ≡ from_bool c)
-    → HoldFlags (turned_flags was c o) (executed (rotate_flags w One overflow carry) scene).values × Yields w (executed (rotate_flags w One overflow carry) scene) a n r
+    → HoldFlags (turned_flags was c o) (executed (rotate_flags w One overflow carry) scene).values
+    × Yields w (executed (rotate_flags w One overflow carry) scene) a n r
 turn_flags_kept w overflow carry was scene a n r o c p y of_is cf_is =
     let v1 : ℕ = value_of scene overflow in
     let scene1 : Scene = scene_with scene (with_value scene.values (Flag Of) v1) in
     let y1 : Yields w scene1 a n r = yields_flag w scene Of v1 a n r y in
-    let v2 : ℕ = value_of scene1 carry in
-    (record { zero = p.zero; negative = p.negative; overflow = of_is scene y; carry = cf_is scene1 y1 }, yields_flag w scene1 Cf v2 a n r y1)
+    let v2 : ℕ = value_of scene1 carry in (
+      record { zero = p.zero; negative = p.negative; overflow = of_is scene y; carry = cf_is scene1 y1 },
+      yields_flag w
+          scene1 Cf v2 a n r y1,
+    )
 
 -- Operations.
 
@@ -234,7 +273,8 @@ flags_chosen : (b : Bool) (x y : ℕ × Flags) → (if b then x else y).1 ≡ (i
 flags_chosen true x y = refl
 flags_chosen false x y = refl
 
-value_chosen : (n : ℕ) (x y : ℕ × Flags) → (n ≡ 0 → x.0 ≡ y.0) → (b : Bool) → nat_eq n 0 ≡ b → (if b then x else y).0 ≡ y.0
+value_chosen : (n : ℕ) (x y : ℕ × Flags) → (n ≡ 0 → x.0 ≡ y.0) → (b : Bool) → nat_eq n 0 ≡ b
+    → (if b then x else y).0 ≡ y.0
 value_chosen n x y still true e = still (eqb-true n 0 e)
 value_chosen n x y still false e = refl
 
@@ -255,7 +295,8 @@ remainder_small byte_width x = omega arith
 remainder_small word_width x = omega arith
 
 -- the operand but for the last place
-nearly_left : (w : Width) (seen : Scene) (a n : ℕ) → Holds w seen a n → 0 < n → n < 256 → value_of seen (nearly_shifted ShlOp w) ≡ a * 2 ^ (n - 1) % limit_of w
+nearly_left : (w : Width) (seen : Scene) (a n : ℕ) → Holds w seen a n → 0 < n → n < 256
+    → value_of seen (nearly_shifted ShlOp w) ≡ a * 2 ^ (n - 1) % limit_of w
 nearly_left w seen a n h some small = rw (h.left, h.right, one_less w n some (count_small w n small)) refl
 
 shl_works : (w : Width) (count : Count) (was : Flags) (scene : Scene) (a n : ℕ) → Takes w count was scene a n
@@ -270,18 +311,29 @@ shl_works w count was scene a n t =
     let y = yields w scene (shifted ShlOp w) a n r t.holds is in
     let after : Scene = executed (result_taking w (shifted ShlOp w)) scene in
     let small : r < limit_of w = remainder_small w (a * 2 ^ n) in
-    let top : (seen : Scene) → Yields w seen a n r → 0 < n → value_of seen (sign w (nearly_shifted ShlOp w)) ≡ from_bool out =
-    λ seen z some. sign_bit w seen (nearly_shifted ShlOp w) (a * 2 ^ (n - 1) % limit_of w) (nearly_left w seen a n z.holds some t.below)
+    let top : (seen : Scene) → Yields w seen a n r → 0 < n
+    → value_of seen (sign w (nearly_shifted ShlOp w)) ≡ from_bool out =
+    λ seen z some. sign_bit w seen (nearly_shifted ShlOp w) (a * 2 ^ (n - 1) % limit_of w)
+    (nearly_left w seen a n z.holds some t.below)
     (remainder_small w (a * 2 ^ (n - 1))) ∙ ap from_bool (last_out w a n some) in
-    let over : (seen : Scene) → Yields w seen a n r → 0 < n → value_of seen (if_one w count (Binary XorOp 1 (sign w (nearly_shifted ShlOp w)) (sign w (result w)))) ≡ from_bool o =
-    λ seen z some. one_bit w count seen (Binary XorOp 1 (sign w (nearly_shifted ShlOp w)) (sign w (result w))) n (differ out (has_sign w r)) z.holds.right t.counts
-    (differing seen (sign w (nearly_shifted ShlOp w)) (sign w (result w)) out (has_sign w r) (top seen z some) (sign_bit w seen (result w) r z.result small)) in
-    let kept = shift_flags_kept w count (if_one w count (Binary XorOp 1 (sign w (nearly_shifted ShlOp w)) (sign w (result w)))) (sign w (nearly_shifted ShlOp w)) was after a n r o out
-    (shl_of w a n was).1 (flags_result w was scene (value_of scene (shifted ShlOp w)) t.shown) y small t.counts over top (flags_chosen (n == 0) (a, was) (r, g)) in
-    let value : (shl_of w a n was).0 ≡ r = value_chosen n (a, was) (r, g) (λ e. rw e (sym (unmoved w a t.operand))) (n == 0) refl in
+    let over : (seen : Scene) → Yields w seen a n r → 0 < n
+    → value_of seen (if_one w count (Binary XorOp 1 (sign w (nearly_shifted ShlOp w)) (sign w (result w))))
+    ≡ from_bool o =
+    λ seen z some. one_bit w count seen (Binary XorOp 1 (sign w (nearly_shifted ShlOp w)) (sign w (result w))) n
+    (differ out (has_sign w r)) z.holds.right t.counts
+    (differing seen (sign w (nearly_shifted ShlOp w)) (sign w (result w)) out (has_sign w r) (top seen z some)
+    (sign_bit w seen (result w) r z.result small)) in
+    let kept = shift_flags_kept w count
+    (if_one w count (Binary XorOp 1 (sign w (nearly_shifted ShlOp w)) (sign w (result w))))
+    (sign w (nearly_shifted ShlOp w)) was after a n r o out
+    (shl_of w a n was).1 (flags_result w was scene (value_of scene (shifted ShlOp w)) t.shown) y small t.counts over top
+    (flags_chosen (n == 0) (a, was) (r, g)) in
+    let value : (shl_of w a n was).0 ≡ r =
+    value_chosen n (a, was) (r, g) (λ e. rw e (sym (unmoved w a t.operand))) (n == 0) refl in
     record { value = kept.1.result ∙ sym value; flags = kept.0 }
 
-nearly_right : (w : Width) (seen : Scene) (a n : ℕ) → Holds w seen a n → 0 < n → n < 256 → value_of seen (nearly_shifted ShrOp w) ≡ a / 2 ^ (n - 1)
+nearly_right : (w : Width) (seen : Scene) (a n : ℕ) → Holds w seen a n → 0 < n → n < 256
+    → value_of seen (nearly_shifted ShrOp w) ≡ a / 2 ^ (n - 1)
 nearly_right w seen a n h some small = rw (h.left, h.right, one_less w n some (count_small w n small)) refl
 
 shr_works : (w : Width) (count : Count) (was : Flags) (scene : Scene) (a n : ℕ) → Takes w count was scene a n
@@ -297,20 +349,29 @@ shr_works w count was scene a n t =
     let after : Scene = executed (result_taking w (shifted ShrOp w)) scene in
     let less : r ≤ a = shr_le a n in
     let small : r < limit_of w = omega (arith, less, t.operand) in
-    let last : (seen : Scene) → Yields w seen a n r → 0 < n → value_of seen (lowest (nearly_shifted ShrOp w)) ≡ from_bool out =
-    λ seen z some. lowest_bit seen (nearly_shifted ShrOp w) (a / 2 ^ (n - 1)) (nearly_right w seen a n z.holds some t.below) ∙ ap from_bool (lowest_out a n) in
-    let over : (seen : Scene) → Yields w seen a n r → 0 < n → value_of seen (if_one w count (sign w (left w))) ≡ from_bool o =
-    λ seen z some. one_bit w count seen (sign w (left w)) n (has_sign w a) z.holds.right t.counts (sign_bit w seen (left w) a z.holds.left t.operand) in
-    let kept = shift_flags_kept w count (if_one w count (sign w (left w))) (lowest (nearly_shifted ShrOp w)) was after a n r o out
-    (shr_of w a n was).1 (flags_result w was scene (value_of scene (shifted ShrOp w)) t.shown) y small t.counts over last (flags_chosen (n == 0) (a, was) (r, g)) in
+    let last : (seen : Scene) → Yields w seen a n r → 0 < n
+    → value_of seen (lowest (nearly_shifted ShrOp w)) ≡ from_bool out =
+    λ seen z some. lowest_bit seen (nearly_shifted ShrOp w) (a / 2 ^ (n - 1))
+    (nearly_right w seen a n z.holds some t.below) ∙ ap from_bool (lowest_out a n) in
+    let over : (seen : Scene) → Yields w seen a n r → 0 < n
+    → value_of seen (if_one w count (sign w (left w))) ≡ from_bool o =
+    λ seen z some. one_bit w count seen (sign w (left w)) n (has_sign w a) z.holds.right t.counts
+    (sign_bit w seen (left w) a z.holds.left t.operand) in
+    let kept =
+    shift_flags_kept w count (if_one w count (sign w (left w))) (lowest (nearly_shifted ShrOp w)) was after a n r o out
+    (shr_of w a n was).1 (flags_result w was scene (value_of scene (shifted ShrOp w)) t.shown)
+    y small t.counts over last (flags_chosen (n == 0) (a, was) (r, g)) in
     let value : (shr_of w a n was).0 ≡ r = value_chosen n (a, was) (r, g) (λ e. rw e (omega arith)) (n == 0) refl in
     record { value = kept.1.result ∙ sym value; flags = kept.0 }
 
-signed_moved : (w : Width) (seen : Scene) (a n : ℕ) → Holds w seen a n → value_of seen (shifted SarOp w) ≡ wrapped_of w (halved_of (signed_of w a) n)
+signed_moved : (w : Width) (seen : Scene) (a n : ℕ) → Holds w seen a n
+    → value_of seen (shifted SarOp w) ≡ wrapped_of w (halved_of (signed_of w a) n)
 signed_moved w seen a n h = rw (h.left, h.right, signed_is w a) refl
 
-nearly_signed : (w : Width) (seen : Scene) (a n : ℕ) → Holds w seen a n → 0 < n → n < 256 → value_of seen (nearly_shifted SarOp w) ≡ wrapped_of w (halved_of (signed_of w a) (n - 1))
-nearly_signed w seen a n h some small = rw (h.left, h.right, one_less w n some (count_small w n small), signed_is w a) refl
+nearly_signed : (w : Width) (seen : Scene) (a n : ℕ) → Holds w seen a n → 0 < n → n < 256
+    → value_of seen (nearly_shifted SarOp w) ≡ wrapped_of w (halved_of (signed_of w a) (n - 1))
+nearly_signed w seen a n h some small =
+    rw (h.left, h.right, one_less w n some (count_small w n small), signed_is w a) refl
 
 sar_works : (w : Width) (count : Count) (was : Flags) (scene : Scene) (a n : ℕ) → Takes w count was scene a n
     → Working w (sar_of w a n was) (executed (shift_working Sar w count) scene)
@@ -322,12 +383,16 @@ sar_works w count was scene a n t =
     let y = yields w scene (shifted SarOp w) a n r t.holds (signed_moved w scene a n t.holds) in
     let after : Scene = executed (result_taking w (shifted SarOp w)) scene in
     let small : r < limit_of w = wrapped_below w (halved_of (signed_of w a) n) in
-    let last : (seen : Scene) → Yields w seen a n r → 0 < n → value_of seen (lowest (nearly_shifted SarOp w)) ≡ from_bool out =
-    λ seen z some. lowest_bit seen (nearly_shifted SarOp w) (wrapped_of w (halved_of (signed_of w a) (n - 1))) (nearly_signed w seen a n z.holds some t.below)
+    let last : (seen : Scene) → Yields w seen a n r → 0 < n
+    → value_of seen (lowest (nearly_shifted SarOp w)) ≡ from_bool out =
+    λ seen z some. lowest_bit seen (nearly_shifted SarOp w) (wrapped_of w (halved_of (signed_of w a) (n - 1)))
+    (nearly_signed w seen a n z.holds some t.below)
     ∙ ap from_bool (lowest_of_signed w (halved_of (signed_of w a) (n - 1))) in
     let kept = shift_flags_kept w count (bit 0) (lowest (nearly_shifted SarOp w)) was after a n r false out
-    (sar_of w a n was).1 (flags_result w was scene (value_of scene (shifted SarOp w)) t.shown) y small t.counts (λ seen z some. refl) last (flags_chosen (n == 0) (a, was) (r, g)) in
-    let value : (sar_of w a n was).0 ≡ r = value_chosen n (a, was) (r, g) (λ e. rw e (wrapped_signed w a t.operand)) (n == 0) refl in
+    (sar_of w a n was).1 (flags_result w was scene (value_of scene (shifted SarOp w)) t.shown) y small t.counts
+    (λ seen z some. refl) last (flags_chosen (n == 0) (a, was) (r, g)) in
+    let value : (sar_of w a n was).0 ≡ r =
+    value_chosen n (a, was) (r, g) (λ e. rw e (wrapped_signed w a t.operand)) (n == 0) refl in
     record { value = kept.1.result ∙ sym value; flags = kept.0 }
 
 rol_works : (w : Width) (count : Count) (was : Flags) (scene : Scene) (a n : ℕ) → Takes w count was scene a n
@@ -340,17 +405,26 @@ rol_works w count was scene a n t =
     let r : ℕ = turned_of w a places in
     let out : Bool = is_set r 0 in
     let o : Bool = (n == 1) && differ out (has_sign w r) in
-    let is : value_of scene (rotated_left w) ≡ r = rw (t.holds.left, t.holds.right, turn_is w n, rest_is w places fewer) (or_turned a (bits_of w) places t.operand within) in
+    let is : value_of scene (rotated_left w) ≡ r =
+    rw (t.holds.left, t.holds.right, turn_is w n, rest_is w places fewer)
+    (or_turned a (bits_of w) places t.operand within) in
     let y = yields w scene (rotated_left w) a n r t.holds is in
     let after : Scene = executed (result_taking w (rotated_left w)) scene in
     let small : r < limit_of w = turned_below a (bits_of w) places t.operand within in
-    let last : (seen : Scene) → Yields w seen a n r → 0 < n → value_of seen (lowest (result w)) ≡ from_bool out = λ seen z some. lowest_bit seen (result w) r z.result in
-    let over : (seen : Scene) → Yields w seen a n r → 0 < n → value_of seen (if_one w count (Binary XorOp 1 (lowest (result w)) (sign w (result w)))) ≡ from_bool o =
-    λ seen z some. one_bit w count seen (Binary XorOp 1 (lowest (result w)) (sign w (result w))) n (differ out (has_sign w r)) z.holds.right t.counts
-    (differing seen (lowest (result w)) (sign w (result w)) out (has_sign w r) (last seen z some) (sign_bit w seen (result w) r z.result small)) in
-    let kept = rotate_flags_kept w count (if_one w count (Binary XorOp 1 (lowest (result w)) (sign w (result w)))) (lowest (result w)) was after a n r o out
-    (left_rotation_of w a n was).1 (flags_result w was scene (value_of scene (rotated_left w)) t.shown) y t.counts over last (flags_chosen (n == 0) (a, was) (r, turned_flags was out o)) in
-    let value : (left_rotation_of w a n was).0 ≡ r = value_chosen n (a, was) (r, turned_flags was out o) (λ e. rw e (unturned w a t.operand)) (n == 0) refl in
+    let last : (seen : Scene) → Yields w seen a n r → 0 < n
+    → value_of seen (lowest (result w)) ≡ from_bool out = λ seen z some. lowest_bit seen (result w) r z.result in
+    let over : (seen : Scene) → Yields w seen a n r → 0 < n
+    → value_of seen (if_one w count (Binary XorOp 1 (lowest (result w)) (sign w (result w)))) ≡ from_bool o =
+    λ seen z some. one_bit w count seen (Binary XorOp 1 (lowest (result w)) (sign w (result w))) n
+    (differ out (has_sign w r)) z.holds.right t.counts
+    (differing seen (lowest (result w)) (sign w (result w)) out (has_sign w r) (last seen z some)
+    (sign_bit w seen (result w) r z.result small)) in
+    let kept = rotate_flags_kept w count (if_one w count (Binary XorOp 1 (lowest (result w)) (sign w (result w))))
+    (lowest (result w)) was after a n r o out
+    (left_rotation_of w a n was).1 (flags_result w was scene (value_of scene (rotated_left w)) t.shown)
+    y t.counts over last (flags_chosen (n == 0) (a, was) (r, turned_flags was out o)) in
+    let value : (left_rotation_of w a n was).0 ≡ r =
+    value_chosen n (a, was) (r, turned_flags was out o) (λ e. rw e (unturned w a t.operand)) (n == 0) refl in
     record { value = kept.1.result ∙ sym value; flags = kept.0 }
 
 ror_works : (w : Width) (count : Count) (was : Flags) (scene : Scene) (a n : ℕ) → Takes w count was scene a n
@@ -363,25 +437,36 @@ ror_works w count was scene a n t =
     let r : ℕ = turned_of w a places in
     let out : Bool = has_sign w r in
     let o : Bool = (n == 1) && top_bits_differ w r in
-    let is : value_of scene (rotated_right w) ≡ r = rw (t.holds.left, t.holds.right, turn_is w n, rest_is w (n % bits_of w) fewer) (or_turned_back w a (n % bits_of w) t.operand fewer) in
+    let is : value_of scene (rotated_right w) ≡ r =
+    rw (t.holds.left, t.holds.right, turn_is w n, rest_is w (n % bits_of w) fewer)
+    (or_turned_back w a (n % bits_of w) t.operand fewer) in
     let y = yields w scene (rotated_right w) a n r t.holds is in
     let after : Scene = executed (result_taking w (rotated_right w)) scene in
     let small : r < limit_of w = turned_below a (bits_of w) places t.operand within in
-    let top : (seen : Scene) → Yields w seen a n r → 0 < n → value_of seen (sign w (result w)) ≡ from_bool out = λ seen z some. sign_bit w seen (result w) r z.result small in
-    let over : (seen : Scene) → Yields w seen a n r → 0 < n → value_of seen (if_one w count (Binary XorOp 1 (sign w (result w)) (below_sign w (result w)))) ≡ from_bool o =
-    λ seen z some. one_bit w count seen (Binary XorOp 1 (sign w (result w)) (below_sign w (result w))) n (top_bits_differ w r) z.holds.right t.counts
-    (differing seen (sign w (result w)) (below_sign w (result w)) out (is_set r (bits_of w - 2)) (top seen z some) (below_sign_bit w seen (result w) r z.result)) in
-    let kept = rotate_flags_kept w count (if_one w count (Binary XorOp 1 (sign w (result w)) (below_sign w (result w)))) (sign w (result w)) was after a n r o out
-    (right_rotation_of w a n was).1 (flags_result w was scene (value_of scene (rotated_right w)) t.shown) y t.counts over top (flags_chosen (n == 0) (a, was) (r, turned_flags was out o)) in
-    let value : (right_rotation_of w a n was).0 ≡ r = value_chosen n (a, was) (r, turned_flags was out o) (λ e. rw e (unturned_back w a t.operand)) (n == 0) refl in
+    let top : (seen : Scene) → Yields w seen a n r → 0 < n
+    → value_of seen (sign w (result w)) ≡ from_bool out = λ seen z some. sign_bit w seen (result w) r z.result small in
+    let over : (seen : Scene) → Yields w seen a n r → 0 < n
+    → value_of seen (if_one w count (Binary XorOp 1 (sign w (result w)) (below_sign w (result w)))) ≡ from_bool o =
+    λ seen z some. one_bit w count seen (Binary XorOp 1 (sign w (result w)) (below_sign w (result w))) n
+    (top_bits_differ w r) z.holds.right t.counts
+    (differing seen (sign w (result w)) (below_sign w (result w)) out (is_set r (bits_of w - 2)) (top seen z some)
+    (below_sign_bit w seen (result w) r z.result)) in
+    let kept = rotate_flags_kept w count (if_one w count (Binary XorOp 1 (sign w (result w)) (below_sign w (result w))))
+    (sign w (result w)) was after a n r o out
+    (right_rotation_of w a n was).1 (flags_result w was scene (value_of scene (rotated_right w)) t.shown)
+    y t.counts over top (flags_chosen (n == 0) (a, was) (r, turned_flags was out o)) in
+    let value : (right_rotation_of w a n was).0 ≡ r =
+    value_chosen n (a, was) (r, turned_flags was out o) (λ e. rw e (unturned_back w a t.operand)) (n == 0) refl in
     record { value = kept.1.result ∙ sym value; flags = kept.0 }
 
 -- CF comes in
-turned_left_is : (w : Width) (seen : Scene) (a : ℕ) (c : Bool) → seen.values (left_place w) ≡ a → seen.values carry_place ≡ from_bool c
+turned_left_is : (w : Width) (seen : Scene) (a : ℕ) (c : Bool) → seen.values (left_place w) ≡ a
+    → seen.values carry_place ≡ from_bool c
     → value_of seen (turned_left w) ≡ (2 * a + from_bool c) % limit_of w
 turned_left_is w seen a c held came = rw (held, came) (carry_below w a c)
 
-turned_right_is : (w : Width) (seen : Scene) (a : ℕ) (c : Bool) → a < limit_of w → seen.values (left_place w) ≡ a → seen.values carry_place ≡ from_bool c
+turned_right_is : (w : Width) (seen : Scene) (a : ℕ) (c : Bool) → a < limit_of w → seen.values (left_place w) ≡ a
+    → seen.values carry_place ≡ from_bool c
     → value_of seen (turned_right w) ≡ a / 2 + from_bool c * half_of w
 turned_right_is w seen a c small held came = rw (held, came) (carry_above w a c small)
 
@@ -396,10 +481,14 @@ rcl_works w count was scene a n t =
     let y = yields w brought (turned_left w) a n r holds (turned_left_is w brought a was.cf holds.left t.shown.carry) in
     let after : Scene = executed (result_taking w (turned_left w)) brought in
     let small : r < limit_of w = remainder_small w (2 * a + from_bool was.cf) in
-    let out : (seen : Scene) → Yields w seen a n r → value_of seen (sign w (left w)) ≡ from_bool (has_sign w a) = λ seen z. sign_bit w seen (left w) a z.holds.left t.operand in
-    let kept = turn_flags_kept w (Binary XorOp 1 (sign w (left w)) (sign w (result w))) (sign w (left w)) was after a n r (differ (has_sign w a) (has_sign w r)) (has_sign w a)
+    let out : (seen : Scene) → Yields w seen a n r
+    → value_of seen (sign w (left w)) ≡ from_bool (has_sign w a) =
+    λ seen z. sign_bit w seen (left w) a z.holds.left t.operand in
+    let kept = turn_flags_kept w (Binary XorOp 1 (sign w (left w)) (sign w (result w))) (sign w (left w))
+    was after a n r (differ (has_sign w a) (has_sign w r)) (has_sign w a)
     (flags_result w was brought (value_of brought (turned_left w)) shown) y
-    (λ seen z. differing seen (sign w (left w)) (sign w (result w)) (has_sign w a) (has_sign w r) (out seen z) (sign_bit w seen (result w) r z.result small)) out in
+    (λ seen z. differing seen (sign w (left w)) (sign w (result w)) (has_sign w a) (has_sign w r) (out seen z)
+    (sign_bit w seen (result w) r z.result small)) out in
     record { value = kept.1.result; flags = kept.0 }
 
 rcr_works : (w : Width) (count : Count) (was : Flags) (scene : Scene) (a n : ℕ) → Takes w count was scene a n
@@ -410,17 +499,20 @@ rcr_works w count was scene a n t =
     let brought : Scene = scene_with scene (with_value scene.values carry_place (scene.values (Flag Cf))) in
     let holds = holds_carry w scene (scene.values (Flag Cf)) a n t.holds in
     let shown : HoldFlags was brought.values = flags_carry was scene (scene.values (Flag Cf)) t.shown in
-    let y = yields w brought (turned_right w) a n r holds (turned_right_is w brought a was.cf t.operand holds.left t.shown.carry) in
+    let y = yields w brought (turned_right w) a n r holds
+    (turned_right_is w brought a was.cf t.operand holds.left t.shown.carry) in
     let after : Scene = executed (result_taking w (turned_right w)) brought in
     let small : r < limit_of w = carry_above_small w a was.cf t.operand in
-    let kept = turn_flags_kept w (Binary XorOp 1 (sign w (result w)) (below_sign w (result w))) (lowest (left w)) was after a n r (top_bits_differ w r) (is_set a 0)
+    let kept = turn_flags_kept w (Binary XorOp 1 (sign w (result w)) (below_sign w (result w))) (lowest (left w))
+    was after a n r (top_bits_differ w r) (is_set a 0)
     (flags_result w was brought (value_of brought (turned_right w)) shown) y
     (λ seen z. differing seen (sign w (result w)) (below_sign w (result w)) (has_sign w r) (is_set r (bits_of w - 2))
     (sign_bit w seen (result w) r z.result small) (below_sign_bit w seen (result w) r z.result))
     (λ seen z. lowest_bit seen (left w) a z.holds.left) in
     record { value = kept.1.result; flags = kept.0 }
 
-pub shift_works : (operation : Shift) (w : Width) (count : Count) (was : Flags) (scene : Scene) (a n : ℕ) → Takes w count was scene a n
+pub shift_works : (operation : Shift) (w : Width) (count : Count) (was : Flags) (scene : Scene) (a n : ℕ)
+    → Takes w count was scene a n
     → Working w (shift_result operation w a n was) (executed (shift_working operation w count) scene)
 shift_works Rol w count was scene a n t = rol_works w count was scene a n t
 shift_works Ror w count was scene a n t = ror_works w count was scene a n t
@@ -433,7 +525,8 @@ shift_works Sar w count was scene a n t = sar_works w count was scene a n t
 -- The whole.
 
 -- by no place, but for RCL and RCR, nothing changes
-unshifted : (operation : Shift) (w : Width) (a : ℕ) (was : Flags) → is_turn operation ≡ false → shift_result operation w a 0 was ≡ (a, was)
+unshifted : (operation : Shift) (w : Width) (a : ℕ) (was : Flags) → is_turn operation ≡ false
+    → shift_result operation w a 0 was ≡ (a, was)
 unfolding shl_of shr_of sar_of left_rotation_of right_rotation_of
 unshifted Rol w a was straight = refl
 unshifted Ror w a was straight = refl
@@ -449,20 +542,23 @@ none_counted cpu One s never = absurd (true≢false (sym never))
 none_counted cpu Cl s never = absurd (true≢false (sym never))
 none_counted cpu (ConstCount n) s never = eqb-true (n % 32) 0 never
 
-pub never_turns : (operation : Shift) (count : Count) → MayCount operation count → never_shifts count ≡ true → is_turn operation ≡ false
+pub never_turns : (operation : Shift) (count : Count) → MayCount operation count → never_shifts count ≡ true
+    → is_turn operation ≡ false
 never_turns operation One may never = absurd (true≢false (sym never))
 never_turns operation Cl may never = absurd (true≢false (sym never))
 never_turns Rcl (ConstCount n) may never = absurd may
 never_turns Rcr (ConstCount n) may never = absurd may
 never_turns operation (ConstCount n) may never = refl
 
-some_counted : (cpu : Cpu) (count : Count) (s : Machine) → never_shifts count ≡ false → is_in_cl count ≡ false → 0 < count_in cpu count s
+some_counted : (cpu : Cpu) (count : Count) (s : Machine) → never_shifts count ≡ false → is_in_cl count ≡ false
+    → 0 < count_in cpu count s
 some_counted cpu One s shifts constant = omega arith
 some_counted cpu Cl s shifts constant = absurd (true≢false constant)
 some_counted cpu (ConstCount n) s shifts constant = omega (arith, eqb-false (n % 32) 0 shifts)
 
 -- they are statements on temporaries and flags
-shift_scratch : (operation : Shift) (w : Width) (count : Count) → list_all sets_scratch (shift_working operation w count) ≡ true
+shift_scratch : (operation : Shift) (w : Width) (count : Count)
+    → list_all sets_scratch (shift_working operation w count) ≡ true
 shift_scratch Rol byte_width One = refl
 shift_scratch Rol byte_width Cl = refl
 shift_scratch Rol byte_width (ConstCount n) = refl
@@ -511,11 +607,14 @@ module _ (R After : Relation) (coupling : IsCoupling R) where
   cl_value : (s : Machine) (t : State) → R s t → t.running.values (Half Cx Low) ≡ operand_value s (Byte Cx Low)
   cl_value s t rel = register_value R coupling s t (Byte Cx Low) refl rel
 
-  count_value : (cpu : Cpu) (w : Width) (count : Count) (s : Machine) (t : State) → R s t → value_in t (count_expr cpu w count) ≡ count_in cpu count s
+  count_value : (cpu : Cpu) (w : Width) (count : Count) (s : Machine) (t : State) → R s t
+      → value_in t (count_expr cpu w count) ≡ count_in cpu count s
   count_value I8086 byte_width Cl s t rel = cl_value s t rel
   count_value I8086 word_width Cl s t rel = cl_value s t rel
-  count_value I186 byte_width Cl s t rel = and_mask (t.running.values (Half Cx Low)) 5 ∙ ap (λ n. n % 32) (cl_value s t rel)
-  count_value I186 word_width Cl s t rel = and_mask (t.running.values (Half Cx Low)) 5 ∙ ap (λ n. n % 32) (cl_value s t rel)
+  count_value I186 byte_width Cl s t rel = and_mask (t.running.values (Half Cx Low)) 5
+      ∙ ap (λ n. n % 32) (cl_value s t rel)
+  count_value I186 word_width Cl s t rel = and_mask (t.running.values (Half Cx Low)) 5
+      ∙ ap (λ n. n % 32) (cl_value s t rel)
   count_value cpu w One s t rel = refl
   count_value cpu w (ConstCount n) s t rel = refl
 
@@ -525,26 +624,35 @@ module _ (R After : Relation) (coupling : IsCoupling R) where
   count_below cpu One s t rel = omega arith
   count_below cpu (ConstCount n) s t rel = omega arith
 
-  counted_took : (cpu : Cpu) (x : Operand) (p : Place) (count : Count) (s : Machine) (t : State) → IsRead R s x p → R s t
-      → Holding R (operand_width x) s (execute (count_taking cpu (operand_width x) p count) t) (operand_value s x) (count_in cpu count s)
+  counted_took : (cpu : Cpu) (x : Operand) (p : Place) (count : Count) (s : Machine) (t : State) → IsRead R s x p
+      → R s t
+      → Holding R (operand_width x) s (execute (count_taking cpu (operand_width x) p count) t) (operand_value s x)
+      (count_in cpu count s)
   counted_took cpu x p count s t read rel =
       let w = operand_width x in
       let a = operand_value s x in
       let n = count_in cpu count s in
       let e = count_expr cpu w count in
-      let one : Took R s t (execute (taking (left_place w) p ∷ []) t) (left_place w) a = took R coupling s t w x p (left_place w) read refl (left_is w) rel in
+      let one : Took R s t (execute (taking (left_place w) p ∷ []) t) (left_place w) a =
+      took R coupling s t w x p (left_place w) read refl (left_is w) rel in
       let t1 = execute (taking (left_place w) p ∷ []) t in
       let run : execute (Set (right_place w) e ∷ []) t1 ≡ setting (right_place w) n t1
-      = ap (λ end. if is_over end then t1 else setting (right_place w) (value_in t1 e) t1) (coupling.running s t1 one.stands) ∙ ap (λ v. setting (right_place w) v t1) (count_value cpu w count s t1 one.stands) in
+      = ap (λ end. if is_over end then t1 else setting (right_place w) (value_in t1 e) t1)
+      (coupling.running s t1 one.stands)
+      ∙ ap (λ v. setting (right_place w) v t1) (count_value cpu w count s t1 one.stands) in
       let fits : n < limit_of w = count_small w n (count_below cpu count s t1 one.stands) in
-      subst (λ (u : State). Holding R w s u a n) (sym (execute-append (taking (left_place w) p ∷ []) (Set (right_place w) e ∷ []) t ∙ run)) (record {
+      subst (λ (u : State). Holding R w s u a n)
+      (sym (execute-append (taking (left_place w) p ∷ []) (Set (right_place w) e ∷ []) t ∙ run)) (record {
         stands = temporary_set R coupling s t1 w (right_place w) n (right_is w) fits one.stands;
-        left = ap (λ (f : Values). with_value f (right_place w) n (left_place w)) one.values ∙ left_stays w t.running.values a n;
+        left = ap (λ (f : Values). with_value f (right_place w) n (left_place w)) one.values
+            ∙ left_stays w t.running.values a n;
         right = right_taken w t1.running.values n;
       })
 
-  shifting_performed : (cpu : Cpu) (operation : Shift) (x : Operand) (p : Place) (count : Count) (s : Machine) (t : State) → IsRead R s x p → IsWritten R After s x p
-      → never_shifts count ≡ false → R s t → After (shift_step cpu operation x count s) (execute (shifting cpu operation (operand_width x) p count) t)
+  shifting_performed : (cpu : Cpu) (operation : Shift) (x : Operand) (p : Place) (count : Count) (s : Machine)
+      (t : State) → IsRead R s x p → IsWritten R After s x p
+      → never_shifts count ≡ false → R s t
+      → After (shift_step cpu operation x count s) (execute (shifting cpu operation (operand_width x) p count) t)
   shifting_performed cpu operation x p count s t read written shifts rel =
       let w = operand_width x in
       let a = operand_value s x in
@@ -558,29 +666,44 @@ module _ (R After : Relation) (coupling : IsCoupling R) where
         below = count_below cpu count s t rel;
         counts = record { one = λ e. ap (λ c. count_in cpu c s) e; some = some_counted cpu count s shifts };
       } in
-      let work : Working w (shift_result operation w a n s.flags) (executed (shift_working operation w count) (scene_of u)) = shift_works operation w count s.flags (scene_of u) a n takes in
-      subst (After (shift_step cpu operation x count s)) (sym (execute-append (count_taking cpu w p count) (shift_working operation w count ++ storing p (result w)) t))
-      (finished R coupling After s u x p (shift_working operation w count) (shift_result operation w a n s.flags) written (shift_scratch operation w count) work hold.stands)
+      let work : Working w (shift_result operation w a n s.flags)
+      (executed (shift_working operation w count) (scene_of u)) =
+      shift_works operation w count s.flags (scene_of u) a n takes in
+      subst (After (shift_step cpu operation x count s))
+      (sym (execute-append (count_taking cpu w p count) (shift_working operation w count ++ storing p (result w)) t))
+      (finished R coupling After s u x p (shift_working operation w count) (shift_result operation w a n s.flags)
+      written (shift_scratch operation w count) work hold.stands)
 
   -- by no place it takes its own value
-  staying_performed : (cpu : Cpu) (operation : Shift) (x : Operand) (p : Place) (count : Count) (s : Machine) (t : State) → MayCount operation count → IsRead R s x p
-      → IsWritten R After s x p → never_shifts count ≡ true → R s t → After (shift_step cpu operation x count s) (execute (staying (operand_width x) p) t)
+  staying_performed : (cpu : Cpu) (operation : Shift) (x : Operand) (p : Place) (count : Count) (s : Machine)
+      (t : State) → MayCount operation count → IsRead R s x p
+      → IsWritten R After s x p → never_shifts count ≡ true → R s t
+      → After (shift_step cpu operation x count s) (execute (staying (operand_width x) p) t)
   staying_performed cpu operation x p count s t may read written never rel =
       let w = operand_width x in
       let a = operand_value s x in
       let u = execute (taking (result_place w) p ∷ []) t in
-      let one : Took R s t u (result_place w) a = took R coupling s t w x p (result_place w) read refl (result_is w) rel in
-      let held : u.running.values (result_place w) ≡ a = ap (λ (f : Values). f (result_place w)) one.values ∙ result_taken w t.running.values a in
+      let one : Took R s t u (result_place w) a =
+      took R coupling s t w x p (result_place w) read refl (result_is w) rel in
+      let held : u.running.values (result_place w) ≡ a = ap (λ (f : Values). f (result_place w)) one.values
+      ∙ result_taken w t.running.values a in
       let same : shift_result operation w a (count_in cpu count s) s.flags ≡ (a, s.flags) =
-      ap (λ n. shift_result operation w a n s.flags) (none_counted cpu count s never) ∙ unshifted operation w a s.flags (never_turns operation count may never) in
+      ap (λ n. shift_result operation w a n s.flags) (none_counted cpu count s never)
+      ∙ unshifted operation w a s.flags (never_turns operation count may never) in
       subst (λ outcome. After (with_result x outcome s) (execute (staying w p) t)) (sym same)
-      (subst (After (with_result x (a, s.flags) s)) (sym (execute-append (taking (result_place w) p ∷ []) (storing p (result w)) t))
-      (subst (λ n. After (with_result x (n, s.flags) s) (execute (storing p (Get (result_place w))) u)) held (written.taken s.flags u (result_place w) one.stands (result_is w))))
+      (subst (After (with_result x (a, s.flags) s))
+      (sym (execute-append (taking (result_place w) p ∷ []) (storing p (result w)) t))
+      (subst (λ n. After (with_result x (n, s.flags) s) (execute (storing p (Get (result_place w))) u)) held
+      (written.taken s.flags u (result_place w) one.stands (result_is w))))
 
-  pub shift_performed : (cpu : Cpu) (operation : Shift) (x : Operand) (p : Place) (count : Count) (s : Machine) (t : State) → IsShift operation x count → IsRead R s x p
-      → IsWritten R After s x p → R s t → After (shift_step cpu operation x count s) (execute (shift_stmts cpu operation (operand_width x) p count) t)
-  shift_performed cpu operation x p count s t ok read written rel = elim (never_shifts count) as (λ b. never_shifts count ≡ b
-      → After (shift_step cpu operation x count s) (execute (if b then staying (operand_width x) p else shifting cpu operation (operand_width x) p count) t)) [
+  pub shift_performed : (cpu : Cpu) (operation : Shift) (x : Operand) (p : Place) (count : Count) (s : Machine)
+      (t : State) → IsShift operation x count → IsRead R s x p
+      → IsWritten R After s x p → R s t
+      → After (shift_step cpu operation x count s) (execute (shift_stmts cpu operation (operand_width x) p count) t)
+  shift_performed cpu operation x p count s t ok read written rel =
+      elim (never_shifts count) as (λ b. never_shifts count ≡ b
+      → After (shift_step cpu operation x count s)
+      (execute (if b then staying (operand_width x) p else shifting cpu operation (operand_width x) p count) t)) [
         | true ↦ λ never. staying_performed cpu operation x p count s t ok.may read written never rel
         | false ↦ λ shifts. shifting_performed cpu operation x p count s t read written shifts rel
       ] refl

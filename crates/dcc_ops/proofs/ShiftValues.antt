@@ -1,4 +1,5 @@
--- The arithmetic of shifts and rotates: the numbers that the operators of the inner language give are those of the machine.
+-- The arithmetic of shifts and rotates: the numbers that the operators of the inner language give are those of the
+-- machine.
 use Rattle.std.proofs.Common.{arith, ◌≡◌, ◌∙◌, refl, sym, ap, subst, ℕ, ◌+◌, ◌-◌, ◌*◌, ◌/◌, ◌%◌, ◌^◌, ◌<◌, ◌≤◌, Bool, true, false, ◌&&◌, ℤ, pos, negsuc, nat_eq}
 use Rattle.std.specs.Prelude.{bit_and, bit_or, bit_xor}
 use Rattle.std.specs.Int.{from_bool}
@@ -48,7 +49,8 @@ doubled a n some =
     rw p (omega arith)
 
 -- the last bit that a shift to the left moves out stands at the top one place before
-pub last_out : (w : Width) (a n : ℕ) → 0 < n → has_sign w (a * 2 ^ (n - 1) % limit_of w) ≡ is_set (a * 2 ^ n) (bits_of w)
+pub last_out : (w : Width) (a n : ℕ) → 0 < n
+    → has_sign w (a * 2 ^ (n - 1) % limit_of w) ≡ is_set (a * 2 ^ n) (bits_of w)
 last_out w a n some = top w (a * 2 ^ (n - 1)) (a * 2 ^ n) (doubled a n some)
   where
     top : (w : Width) (x y : ℕ) → y ≡ x * 2 → has_sign w (x % limit_of w) ≡ is_set y (bits_of w)
@@ -102,7 +104,8 @@ rest_is Byte t less = omega arith
 rest_is Word t less = omega arith
 
 -- what stays, and what comes round, share no bit
-parts_apart : (a c p k : ℕ) → 0 < c → p ≡ 2 ^ k → a < p * c → bit_or (a * p % (c * p)) (a / c) ≡ a * p % (c * p) + a * p / (c * p)
+parts_apart : (a c p k : ℕ) → 0 < c → p ≡ 2 ^ k → a < p * c
+    → bit_or (a * p % (c * p)) (a / c) ≡ a * p % (c * p) + a * p / (c * p)
 parts_apart a c p k some e small =
     let more : 0 < p = rw e (pow_pos k) in
     let high : a * p / (c * p) ≡ a / c = mul-div-mul_right a c more in
@@ -115,7 +118,8 @@ parts_apart a c p k some e small =
     let apart : bit_or (a % c * p) (a / c) ≡ a % c * p + a / c = rw e (or_shifted (a % c) k (a / c) last) in
     rw (high, rest) apart
 
-pub or_turned : (a b k : ℕ) → a < 2 ^ b → k ≤ b → bit_or (a * 2 ^ k % 2 ^ b) (a / 2 ^ (b - k)) ≡ a * 2 ^ k % 2 ^ b + a * 2 ^ k / 2 ^ b
+pub or_turned : (a b k : ℕ) → a < 2 ^ b → k ≤ b
+    → bit_or (a * 2 ^ k % 2 ^ b) (a / 2 ^ (b - k)) ≡ a * 2 ^ k % 2 ^ b + a * 2 ^ k / 2 ^ b
 or_turned a b k small within =
     let e : b ≡ (b - k) + k = omega arith in
     let p : 2 ^ b ≡ 2 ^ (b - k) * 2 ^ k = ap (λ n. 2 ^ n) e ∙ pow-add 2 (b - k) k in
@@ -131,8 +135,10 @@ or_turned_back w a t small less =
     ∙ or_turned a (bits_of w) (bits_of w - t) small (omega arith)
 
 -- CF comes in at the bottom, and at the top
-pub carry_below : (w : Width) (a : ℕ) (c : Bool) → bit_or (a * 2 ^ 1 % limit_of w) (from_bool c) ≡ (2 * a + from_bool c) % limit_of w
-carry_below w a c = ap (λ (n : ℕ). bit_or n (from_bool c)) (even w a) ∙ or_shifted (a % half_of w) 1 (from_bool c) (one c) ∙ sum w a c
+pub carry_below : (w : Width) (a : ℕ) (c : Bool)
+    → bit_or (a * 2 ^ 1 % limit_of w) (from_bool c) ≡ (2 * a + from_bool c) % limit_of w
+carry_below w a c = ap (λ (n : ℕ). bit_or n (from_bool c)) (even w a)
+    ∙ or_shifted (a % half_of w) 1 (from_bool c) (one c) ∙ sum w a c
   where
     one : (c : Bool) → from_bool c < 2 ^ 1
     one true = omega arith
@@ -148,7 +154,8 @@ carry_below w a c = ap (λ (n : ℕ). bit_or n (from_bool c)) (even w a) ∙ or_
     sum Word a true = omega arith
     sum Word a false = omega arith
 
-pub carry_above : (w : Width) (a : ℕ) (c : Bool) → a < limit_of w → bit_or (a / 2 ^ 1) (from_bool c * 2 ^ (bits_of w - 1) % limit_of w) ≡ a / 2 + from_bool c * half_of w
+pub carry_above : (w : Width) (a : ℕ) (c : Bool) → a < limit_of w
+    → bit_or (a / 2 ^ 1) (from_bool c * 2 ^ (bits_of w - 1) % limit_of w) ≡ a / 2 + from_bool c * half_of w
 carry_above w a c small =
     ap (λ (n : ℕ). bit_or (a / 2) n) (whole w c) ∙ or_comm (a / 2) (from_bool c * half_of w)
     ∙ or_shifted (from_bool c) (bits_of w - 1) (a / 2) (less w a small) ∙ omega arith

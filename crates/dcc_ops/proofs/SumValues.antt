@@ -55,7 +55,8 @@ pub sum_result : (w : Width) (a b : ℕ) → (a + b) % 2 ^ bits_of w ≡ (sum_of
 unfolding sum_of
 sum_result w a b = ap (λ n. n % limit_of w) (omega arith)
 
-pub sum_with_carry : (w : Width) (a b : ℕ) (c : Bool) → ((a + b) % 2 ^ bits_of w + from_bool c) % 2 ^ bits_of w ≡ (sum_of w a b c).0
+pub sum_with_carry : (w : Width) (a b : ℕ) (c : Bool)
+    → ((a + b) % 2 ^ bits_of w + from_bool c) % 2 ^ bits_of w ≡ (sum_of w a b c).0
 unfolding sum_of
 sum_with_carry Byte a b c = omega arith
 sum_with_carry Word a b c = omega arith
@@ -64,7 +65,8 @@ pub sum_below : (w : Width) (a b : ℕ) (c : Bool) → (sum_of w a b c).0 < limi
 unfolding sum_of
 sum_below w a b c = below w (a + b + from_bool c)
 
-pub sum_carry : (w : Width) (a b : ℕ) → a < limit_of w → b < limit_of w → nat_lt (sum_of w a b false).0 a ≡ (sum_of w a b false).1.cf
+pub sum_carry : (w : Width) (a b : ℕ) → a < limit_of w → b < limit_of w
+    → nat_lt (sum_of w a b false).0 a ≡ (sum_of w a b false).1.cf
 unfolding sum_of result_flags
 sum_carry Byte a b first second = grind (arith, nat_tests)
 sum_carry Word a b first second = grind (arith, nat_tests)
@@ -86,17 +88,23 @@ unfolding sum_of result_flags
 sum_zero w a b c = refl
 
 -- the signs of both operands differ from that of the sum exactly where the sum of the signed numbers does not fit
-sum_overflows : (w : Width) (a b : ℕ) (c : Bool) (x y : ℤ) → a < limit_of w → b < limit_of w → Stands w a x → Stands w b y
-    → (differ (has_sign w a) (has_sign w ((a + b + from_bool c) % limit_of w)) && differ (has_sign w b) (has_sign w ((a + b + from_bool c) % limit_of w)))
+sum_overflows : (w : Width) (a b : ℕ) (c : Bool) (x y : ℤ) → a < limit_of w → b < limit_of w → Stands w a x
+    → Stands w b y
+    → (differ (has_sign w a) (has_sign w ((a + b + from_bool c) % limit_of w)) && differ (has_sign w b)
+    (has_sign w ((a + b + from_bool c) % limit_of w)))
     ≡ not (fits_signed w (x +ℤ y +ℤ pos (from_bool c)))
 unfolding fits_signed
-sum_overflows Byte a b c x y first second p q = grind (arith, ints, nat_tests, p.value, q.value, p.range.low, p.range.high, q.range.low, q.range.high)
-sum_overflows Word a b c x y first second p q = grind (arith, ints, nat_tests, p.value, q.value, p.range.low, p.range.high, q.range.low, q.range.high)
+sum_overflows Byte a b c x y first second p q =
+    grind (arith, ints, nat_tests, p.value, q.value, p.range.low, p.range.high, q.range.low, q.range.high)
+sum_overflows Word a b c x y first second p q =
+    grind (arith, ints, nat_tests, p.value, q.value, p.range.low, p.range.high, q.range.low, q.range.high)
 
 pub sum_overflow_flag : (w : Width) (a b : ℕ) (c : Bool) → a < limit_of w → b < limit_of w
-    → (differ (has_sign w a) (has_sign w (sum_of w a b c).0) && differ (has_sign w b) (has_sign w (sum_of w a b c).0)) ≡ (sum_of w a b c).1.of
+    → (differ (has_sign w a) (has_sign w (sum_of w a b c).0) && differ (has_sign w b) (has_sign w (sum_of w a b c).0))
+    ≡ (sum_of w a b c).1.of
 unfolding sum_of result_flags
-sum_overflow_flag w a b c first second = sum_overflows w a b c (signed_of w a) (signed_of w b) first second (stands w a first) (stands w b second)
+sum_overflow_flag w a b c first second =
+    sum_overflows w a b c (signed_of w a) (signed_of w b) first second (stands w a first) (stands w b second)
 
 -- Differences.
 
@@ -105,7 +113,8 @@ unfolding difference_of
 difference_result w a b = ap (λ n. (a + limit_of w - n) % limit_of w) (omega arith)
 
 pub difference_with_borrow : (w : Width) (a b : ℕ) (c : Bool) → a < limit_of w → b < limit_of w
-    → ((a + 2 ^ bits_of w - b) % 2 ^ bits_of w + 2 ^ bits_of w - from_bool c) % 2 ^ bits_of w ≡ (difference_of w a b c).0
+    → ((a + 2 ^ bits_of w - b) % 2 ^ bits_of w + 2 ^ bits_of w - from_bool c) % 2 ^ bits_of w
+    ≡ (difference_of w a b c).0
 unfolding difference_of
 difference_with_borrow Byte a b true first second = omega arith
 difference_with_borrow Byte a b false first second = omega arith
@@ -116,15 +125,18 @@ pub difference_below : (w : Width) (a b : ℕ) (c : Bool) → (difference_of w a
 unfolding difference_of
 difference_below w a b c = below w (a + limit_of w - (b + from_bool c))
 
-pub difference_borrow : (w : Width) (a b : ℕ) → a < limit_of w → b < limit_of w → nat_lt a b ≡ (difference_of w a b false).1.cf
+pub difference_borrow : (w : Width) (a b : ℕ) → a < limit_of w → b < limit_of w
+    → nat_lt a b ≡ (difference_of w a b false).1.cf
 difference_borrow w a b first second = sym (differences_compare w a b first second).below
 
-pub difference_borrow_of_both : (w : Width) (a b : ℕ) (c : Bool) → (if c then nat_le a b else nat_lt a b) ≡ (difference_of w a b c).1.cf
+pub difference_borrow_of_both : (w : Width) (a b : ℕ) (c : Bool)
+    → (if c then nat_le a b else nat_lt a b) ≡ (difference_of w a b c).1.cf
 unfolding difference_of result_flags
 difference_borrow_of_both w a b true = grind (arith, nat_tests)
 difference_borrow_of_both w a b false = grind (arith, nat_tests)
 
-pub difference_sign : (w : Width) (a b : ℕ) (c : Bool) → has_sign w (difference_of w a b c).0 ≡ (difference_of w a b c).1.sf
+pub difference_sign : (w : Width) (a b : ℕ) (c : Bool)
+    → has_sign w (difference_of w a b c).0 ≡ (difference_of w a b c).1.sf
 unfolding difference_of result_flags
 difference_sign w a b c = refl
 
@@ -132,7 +144,8 @@ pub difference_zero : (w : Width) (a b : ℕ) (c : Bool) → ((difference_of w a
 unfolding difference_of result_flags
 difference_zero w a b c = refl
 
-pub difference_equal : (w : Width) (a b : ℕ) → a < limit_of w → b < limit_of w → (a == b) ≡ (difference_of w a b false).1.zf
+pub difference_equal : (w : Width) (a b : ℕ) → a < limit_of w → b < limit_of w
+    → (a == b) ≡ (difference_of w a b false).1.zf
 difference_equal w a b first second = sym (differences_compare w a b first second).equal
 
 -- the number that the bits stand for is that of both crates
@@ -142,15 +155,23 @@ signed_same Byte a = refl
 signed_same Word a = refl
 
 -- the comparison of the signed numbers and the sign of the difference differ exactly where the difference does not fit
-difference_overflows : (w : Width) (a b : ℕ) (c : Bool) (x y : ℤ) → a < limit_of w → b < limit_of w → Stands w a x → Stands w b y
-    → differ (if c then int_le x y else int_lt x y) (has_sign w ((a + limit_of w - (b + from_bool c)) % limit_of w)) ≡ not (fits_signed w (x -ℤ y -ℤ pos (from_bool c)))
+difference_overflows : (w : Width) (a b : ℕ) (c : Bool) (x y : ℤ) → a < limit_of w → b < limit_of w → Stands w a x
+    → Stands w b y
+    → differ (if c then int_le x y else int_lt x y) (has_sign w ((a + limit_of w - (b + from_bool c)) % limit_of w))
+    ≡ not (fits_signed w (x -ℤ y -ℤ pos (from_bool c)))
 unfolding fits_signed
-difference_overflows Byte a b true x y first second p q = grind (arith, ints, nat_tests, p.value, q.value, p.range.low, p.range.high, q.range.low, q.range.high)
-difference_overflows Byte a b false x y first second p q = grind (arith, ints, nat_tests, p.value, q.value, p.range.low, p.range.high, q.range.low, q.range.high)
-difference_overflows Word a b true x y first second p q = grind (arith, ints, nat_tests, p.value, q.value, p.range.low, p.range.high, q.range.low, q.range.high)
-difference_overflows Word a b false x y first second p q = grind (arith, ints, nat_tests, p.value, q.value, p.range.low, p.range.high, q.range.low, q.range.high)
+difference_overflows Byte a b true x y first second p q =
+    grind (arith, ints, nat_tests, p.value, q.value, p.range.low, p.range.high, q.range.low, q.range.high)
+difference_overflows Byte a b false x y first second p q =
+    grind (arith, ints, nat_tests, p.value, q.value, p.range.low, p.range.high, q.range.low, q.range.high)
+difference_overflows Word a b true x y first second p q =
+    grind (arith, ints, nat_tests, p.value, q.value, p.range.low, p.range.high, q.range.low, q.range.high)
+difference_overflows Word a b false x y first second p q =
+    grind (arith, ints, nat_tests, p.value, q.value, p.range.low, p.range.high, q.range.low, q.range.high)
 
 pub difference_overflow_flag : (w : Width) (a b : ℕ) (c : Bool) → a < limit_of w → b < limit_of w
-    → differ (if c then int_le (signed_of w a) (signed_of w b) else int_lt (signed_of w a) (signed_of w b)) (has_sign w (difference_of w a b c).0) ≡ (difference_of w a b c).1.of
+    → differ (if c then int_le (signed_of w a) (signed_of w b) else int_lt (signed_of w a) (signed_of w b))
+    (has_sign w (difference_of w a b c).0) ≡ (difference_of w a b c).1.of
 unfolding difference_of result_flags
-difference_overflow_flag w a b c first second = difference_overflows w a b c (signed_of w a) (signed_of w b) first second (stands w a first) (stands w b second)
+difference_overflow_flag w a b c first second =
+    difference_overflows w a b c (signed_of w a) (signed_of w b) first second (stands w a first) (stands w b second)

@@ -36,14 +36,17 @@ one_below byte_width = omega arith
 one_below word_width = omega arith
 
 -- a sum that keeps CF
-increment_worked : (w : Width) (flags : Flags) (scene : Scene) → scene.values (Flag Cf) ≡ from_bool flags.cf → scene.values (left_place w) < limit_of w → scene.values (right_place w) < limit_of w
-    → Working w (keeping_carry flags (sum_of w (scene.values (left_place w)) (scene.values (right_place w)) false)) (executed (result_taking w (sum w) ++ sum_flags w) scene)
+increment_worked : (w : Width) (flags : Flags) (scene : Scene) → scene.values (Flag Cf) ≡ from_bool flags.cf
+    → scene.values (left_place w) < limit_of w → scene.values (right_place w) < limit_of w
+    → Working w (keeping_carry flags (sum_of w (scene.values (left_place w)) (scene.values (right_place w)) false))
+    (executed (result_taking w (sum w) ++ sum_flags w) scene)
 increment_worked byte_width flags scene carry first second =
     let a = scene.values (Temp 0) in
     let b = scene.values (Temp 1) in
     let outcome : ℕ × Flags = sum_of byte_width a b false in
     let r = sum_result byte_width a b in
-    worked_three byte_width scene (sum byte_width) (sum_overflow byte_width) (sign byte_width (result byte_width)) (is_zero byte_width (result byte_width)) (keeping_carry flags outcome) r
+    worked_three byte_width scene (sum byte_width) (sum_overflow byte_width) (sign byte_width (result byte_width))
+    (is_zero byte_width (result byte_width)) (keeping_carry flags outcome) r
     (sum_overflow_value byte_width a b _ false first second r)
     (sign_flag byte_width _ outcome r (sum_below byte_width a b false) (sum_sign byte_width a b false))
     (zero_flag _ outcome r (sum_zero byte_width a b false))
@@ -53,21 +56,26 @@ increment_worked word_width flags scene carry first second =
     let b = scene.values (Temp 4) in
     let outcome : ℕ × Flags = sum_of word_width a b false in
     let r = sum_result word_width a b in
-    worked_three word_width scene (sum word_width) (sum_overflow word_width) (sign word_width (result word_width)) (is_zero word_width (result word_width)) (keeping_carry flags outcome) r
+    worked_three word_width scene (sum word_width) (sum_overflow word_width) (sign word_width (result word_width))
+    (is_zero word_width (result word_width)) (keeping_carry flags outcome) r
     (sum_overflow_value word_width a b _ false first second r)
     (sign_flag word_width _ outcome r (sum_below word_width a b false) (sum_sign word_width a b false))
     (zero_flag _ outcome r (sum_zero word_width a b false))
     carry
 
 -- a difference that keeps CF
-decrement_worked : (w : Width) (flags : Flags) (scene : Scene) → scene.values (Flag Cf) ≡ from_bool flags.cf → scene.values (left_place w) < limit_of w → scene.values (right_place w) < limit_of w
-    → Working w (keeping_carry flags (difference_of w (scene.values (left_place w)) (scene.values (right_place w)) false)) (executed (result_taking w (difference w) ++ difference_flags w) scene)
+decrement_worked : (w : Width) (flags : Flags) (scene : Scene) → scene.values (Flag Cf) ≡ from_bool flags.cf
+    → scene.values (left_place w) < limit_of w → scene.values (right_place w) < limit_of w
+    → Working w (keeping_carry flags
+    (difference_of w (scene.values (left_place w)) (scene.values (right_place w)) false))
+    (executed (result_taking w (difference w) ++ difference_flags w) scene)
 decrement_worked byte_width flags scene carry first second =
     let a = scene.values (Temp 0) in
     let b = scene.values (Temp 1) in
     let outcome : ℕ × Flags = difference_of byte_width a b false in
     let r = difference_result byte_width a b in
-    worked_three byte_width scene (difference byte_width) (difference_overflow byte_width) (sign byte_width (result byte_width))
+    worked_three byte_width scene (difference byte_width) (difference_overflow byte_width)
+    (sign byte_width (result byte_width))
     (at_width Eq byte_width (left byte_width) (right byte_width)) (keeping_carry flags outcome) r
     (difference_overflow_value byte_width a b 0 _ false first second refl r)
     (sign_flag byte_width _ outcome r (difference_below byte_width a b false) (difference_sign byte_width a b false))
@@ -78,7 +86,8 @@ decrement_worked word_width flags scene carry first second =
     let b = scene.values (Temp 4) in
     let outcome : ℕ × Flags = difference_of word_width a b false in
     let r = difference_result word_width a b in
-    worked_three word_width scene (difference word_width) (difference_overflow word_width) (sign word_width (result word_width))
+    worked_three word_width scene (difference word_width) (difference_overflow word_width)
+    (sign word_width (result word_width))
     (at_width Eq word_width (left word_width) (right word_width)) (keeping_carry flags outcome) r
     (difference_overflow_value word_width a b 0 _ false first second refl r)
     (sign_flag word_width _ outcome r (difference_below word_width a b false) (difference_sign word_width a b false))
@@ -102,7 +111,8 @@ complement_scratch byte_width = refl
 complement_scratch word_width = refl
 
 -- NOT sets no flags
-complement_worked : (w : Width) (flags : Flags) (scene : Scene) (a : ℕ) → HoldFlags flags scene.values → scene.values (left_place w) ≡ a
+complement_worked : (w : Width) (flags : Flags) (scene : Scene) (a : ℕ) → HoldFlags flags scene.values
+    → scene.values (left_place w) ≡ a
     → Working w (limit_of w - 1 - a, flags) (executed (complementing w) scene)
 complement_worked byte_width flags scene a h e = record {
   value = ap (λ n. 256 - 1 - n) e;
@@ -117,63 +127,90 @@ left_taken : (w : Width) (values : Values) (a : ℕ) → with_value values (left
 left_taken byte_width values a = refl
 left_taken word_width values a = refl
 
-module _ (R After : Relation) (coupling : IsCoupling R) (x : Operand) (p : Place) (s : Machine) (t : State) (read : IsRead R s x p) (written : IsWritten R After s x p) (rel : R s t) where
+module _ (R After : Relation) (coupling : IsCoupling R) (x : Operand) (p : Place) (s : Machine) (t : State)
+    (read : IsRead R s x p) (written : IsWritten R After s x p) (rel : R s t) where
   small : operand_value s x < limit_of (operand_width x)
   small = read.small s.flags t rel
 
   -- two operands are taken, a result and flags are made of them, and the operand takes the result
-  combined : (a b : Operand) (c d : Place) (stmts : List Stmt) (outcome : ℕ × Flags) → IsRead R s a c → IsRead R s b d → operand_width a ≡ operand_width x → operand_width b ≡ operand_width x
+  combined : (a b : Operand) (c d : Place) (stmts : List Stmt) (outcome : ℕ × Flags) → IsRead R s a c → IsRead R s b d
+      → operand_width a ≡ operand_width x → operand_width b ≡ operand_width x
       → list_all sets_scratch stmts ≡ true
-      → ((u : State) → Holding R (operand_width x) s u (operand_value s a) (operand_value s b) → Working (operand_width x) outcome (executed stmts (scene_of u)))
-      → After (with_result x outcome s) (execute (operands_taking (operand_width x) c d ++ (stmts ++ storing p (result (operand_width x)))) t)
+      → ((u : State) → Holding R (operand_width x) s u (operand_value s a) (operand_value s b)
+      → Working (operand_width x) outcome (executed stmts (scene_of u)))
+      → After (with_result x outcome s)
+      (execute (operands_taking (operand_width x) c d ++ (stmts ++ storing p (result (operand_width x)))) t)
   combined a b c d stmts outcome first second one other ok works =
       let w = operand_width x in
       let u = execute (operands_taking w c d) t in
-      let hold : Holding R w s u (operand_value s a) (operand_value s b) = both_took R coupling s t w a b c d first second one other rel in
-      subst (After (with_result x outcome s)) (sym (execute-append (operands_taking w c d) (stmts ++ storing p (result w)) t))
+      let hold : Holding R w s u (operand_value s a) (operand_value s b) =
+      both_took R coupling s t w a b c d first second one other rel in
+      subst (After (with_result x outcome s))
+      (sym (execute-append (operands_taking w c d) (stmts ++ storing p (result w)) t))
       (finished R coupling After s u x p stmts outcome written ok (works u hold) hold.stands)
 
-  number_read : (n : ℕ) → n < limit_of (operand_width x) → IsRead R s (Constant (operand_width x) n) (constant (operand_width x) n)
+  number_read : (n : ℕ) → n < limit_of (operand_width x)
+      → IsRead R s (Constant (operand_width x) n) (constant (operand_width x) n)
   number_read n fits = register_read R coupling s (Constant (operand_width x) n) refl fits
 
-  pub inc_performed : After (with_result x (increment_of (operand_width x) (operand_value s x) s.flags) s) (execute (unary_stmts Inc (operand_width x) p) t)
+  pub inc_performed : After (with_result x (increment_of (operand_width x) (operand_value s x) s.flags) s)
+      (execute (unary_stmts Inc (operand_width x) p) t)
   unfolding increment_of
   inc_performed =
       let w = operand_width x in
       let a = operand_value s x in
-      combined x (Constant w 1) p (constant w 1) (result_taking w (sum w) ++ sum_flags w) (keeping_carry s.flags (sum_of w a 1 false)) read (number_read 1 (one_below w)) refl refl (increment_scratch w)
-      (λ u hold. subst (λ v. Working w (keeping_carry s.flags (sum_of w v 1 false)) (executed (result_taking w (sum w) ++ sum_flags w) (scene_of u))) hold.left
-      (subst (λ v. Working w (keeping_carry s.flags (sum_of w (u.running.values (left_place w)) v false)) (executed (result_taking w (sum w) ++ sum_flags w) (scene_of u))) hold.right
-      (increment_worked w s.flags (scene_of u) (coupling.flags s u hold.stands).carry (subst (λ n. n < limit_of w) (sym hold.left) small) (subst (λ n. n < limit_of w) (sym hold.right) (one_below w)))))
+      combined x (Constant w 1) p (constant w 1) (result_taking w (sum w) ++ sum_flags w)
+      (keeping_carry s.flags (sum_of w a 1 false)) read (number_read 1 (one_below w)) refl refl (increment_scratch w)
+      (λ u hold. subst (λ v. Working w (keeping_carry s.flags (sum_of w v 1 false))
+      (executed (result_taking w (sum w) ++ sum_flags w) (scene_of u))) hold.left
+      (subst (λ v. Working w (keeping_carry s.flags (sum_of w (u.running.values (left_place w)) v false))
+      (executed (result_taking w (sum w) ++ sum_flags w) (scene_of u))) hold.right
+      (increment_worked w s.flags (scene_of u) (coupling.flags s u hold.stands).carry
+      (subst (λ n. n < limit_of w) (sym hold.left) small)
+      (subst (λ n. n < limit_of w) (sym hold.right) (one_below w)))))
 
-  pub dec_performed : After (with_result x (decrement_of (operand_width x) (operand_value s x) s.flags) s) (execute (unary_stmts Dec (operand_width x) p) t)
+  pub dec_performed : After (with_result x (decrement_of (operand_width x) (operand_value s x) s.flags) s)
+      (execute (unary_stmts Dec (operand_width x) p) t)
   unfolding decrement_of
   dec_performed =
       let w = operand_width x in
       let a = operand_value s x in
-      combined x (Constant w 1) p (constant w 1) (result_taking w (difference w) ++ difference_flags w) (keeping_carry s.flags (difference_of w a 1 false)) read (number_read 1 (one_below w)) refl refl
+      combined x (Constant w 1) p (constant w 1) (result_taking w (difference w) ++ difference_flags w)
+      (keeping_carry s.flags (difference_of w a 1 false)) read (number_read 1 (one_below w)) refl refl
       (decrement_scratch w)
-      (λ u hold. subst (λ v. Working w (keeping_carry s.flags (difference_of w v 1 false)) (executed (result_taking w (difference w) ++ difference_flags w) (scene_of u))) hold.left
-      (subst (λ v. Working w (keeping_carry s.flags (difference_of w (u.running.values (left_place w)) v false)) (executed (result_taking w (difference w) ++ difference_flags w) (scene_of u))) hold.right
-      (decrement_worked w s.flags (scene_of u) (coupling.flags s u hold.stands).carry (subst (λ n. n < limit_of w) (sym hold.left) small) (subst (λ n. n < limit_of w) (sym hold.right) (one_below w)))))
+      (λ u hold. subst (λ v. Working w (keeping_carry s.flags (difference_of w v 1 false))
+      (executed (result_taking w (difference w) ++ difference_flags w) (scene_of u))) hold.left
+      (subst (λ v. Working w (keeping_carry s.flags (difference_of w (u.running.values (left_place w)) v false))
+      (executed (result_taking w (difference w) ++ difference_flags w) (scene_of u))) hold.right
+      (decrement_worked w s.flags (scene_of u) (coupling.flags s u hold.stands).carry
+      (subst (λ n. n < limit_of w) (sym hold.left) small)
+      (subst (λ n. n < limit_of w) (sym hold.right) (one_below w)))))
 
-  pub neg_performed : After (with_result x (negation_of (operand_width x) (operand_value s x)) s) (execute (unary_stmts Neg (operand_width x) p) t)
+  pub neg_performed : After (with_result x (negation_of (operand_width x) (operand_value s x)) s)
+      (execute (unary_stmts Neg (operand_width x) p) t)
   unfolding negation_of
   neg_performed =
       let w = operand_width x in
       let a = operand_value s x in
-      combined (Constant w 0) x (constant w 0) p (subtracting w) (difference_of w 0 a false) (number_read 0 (none_below w)) read refl refl (alu_scratch Sub w)
+      combined (Constant w 0) x (constant w 0) p (subtracting w) (difference_of w 0 a false)
+      (number_read 0 (none_below w)) read refl refl (alu_scratch Sub w)
       (λ u hold. subst (λ v. Working w (difference_of w v a false) (executed (subtracting w) (scene_of u))) hold.left
-      (subst (λ v. Working w (difference_of w (u.running.values (left_place w)) v false) (executed (subtracting w) (scene_of u))) hold.right
-      (difference_worked w (scene_of u) (subst (λ n. n < limit_of w) (sym hold.left) (none_below w)) (subst (λ n. n < limit_of w) (sym hold.right) small))))
+      (subst (λ v. Working w (difference_of w (u.running.values (left_place w)) v false)
+      (executed (subtracting w) (scene_of u))) hold.right
+      (difference_worked w (scene_of u) (subst (λ n. n < limit_of w) (sym hold.left) (none_below w))
+      (subst (λ n. n < limit_of w) (sym hold.right) small))))
 
-  pub not_performed : After (with_operand s x (limit_of (operand_width x) - 1 - operand_value s x)) (execute (unary_stmts Not (operand_width x) p) t)
+  pub not_performed : After (with_operand s x (limit_of (operand_width x) - 1 - operand_value s x))
+      (execute (unary_stmts Not (operand_width x) p) t)
   not_performed =
       let w = operand_width x in
       let a = operand_value s x in
       let u = execute (taking (left_place w) p ∷ []) t in
       let one : Took R s t u (left_place w) a = took R coupling s t w x p (left_place w) read refl (left_is w) rel in
-      let held : u.running.values (left_place w) ≡ a = ap (λ (f : Values). f (left_place w)) one.values ∙ left_taken w t.running.values a in
+      let held : u.running.values (left_place w) ≡ a = ap (λ (f : Values). f (left_place w)) one.values
+      ∙ left_taken w t.running.values a in
       let work = complement_worked w s.flags (scene_of u) a (coupling.flags s u one.stands) held in
-      subst (After (with_operand s x (limit_of w - 1 - a))) (sym (execute-append (taking (left_place w) p ∷ []) (complementing w ++ storing p (result w)) t))
-      (finished R coupling After s u x p (complementing w) (limit_of w - 1 - a, s.flags) written (complement_scratch w) work one.stands)
+      subst (After (with_operand s x (limit_of w - 1 - a)))
+      (sym (execute-append (taking (left_place w) p ∷ []) (complementing w ++ storing p (result w)) t))
+      (finished R coupling After s u x p (complementing w) (limit_of w - 1 - a, s.flags) written (complement_scratch w)
+      work one.stands)

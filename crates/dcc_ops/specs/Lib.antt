@@ -2,10 +2,14 @@ pub mod Temporaries
 pub mod Place
 pub mod Registers
 pub mod Expressions
+pub mod Computed
 pub mod Statements
 pub mod Executed
 pub mod Coupling
 pub mod Performed
+pub mod Divisions
+pub mod Tables
+pub mod Held
 pub mod FlagReading
 pub mod Placing
 pub mod Writing

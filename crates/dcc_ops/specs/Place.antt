@@ -19,6 +19,8 @@ pub data Place : Type 0 where
   memory : Width → Expr → Place
   -- the address at that distance from the base of the frame; nothing is stored there
   address : ℕ → Place
+  -- a word that is computed from general registers and the base of the frame; nothing is stored there
+  computed : Expr → Place
 
 abbrev pub place_width : Place → Width
 place_width (constant w n) = w
@@ -26,6 +28,7 @@ place_width (byte location) = byte_width
 place_width (word low high) = word_width
 place_width (memory w at) = w
 place_width (address distance) = word_width
+place_width (computed e) = word_width
 
 -- what the place holds
 abbrev pub place_value : Place → Expr
@@ -34,6 +37,7 @@ place_value (byte location) = Get location
 place_value (word low high) = Join (Get high) (Get low)
 place_value (memory w at) = Load (bits_of w) at
 place_value (address distance) = Address distance
+place_value (computed e) = e
 
 -- a location takes that; what lies in memory is loaded by a statement of its own
 abbrev pub taking : Loc → Place → Stmt

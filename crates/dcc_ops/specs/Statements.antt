@@ -1,10 +1,11 @@
--- The statements that stand for an instruction, and how its block ends. Each instruction takes every operand once into a
--- temporary, makes the result and the flags of temporaries, and stores last; moves between halves go without temporaries.
+-- The statements that stand for an instruction, and how its block ends. Each instruction takes every operand once into
+-- a temporary, makes the result and the flags of temporaries, and stores last; moves between halves go without
+-- temporaries.
 use Rattle.std.specs.Prelude.{ℕ, ◌+◌, ◌/◌, ◌%◌, ◌==◌, Bool, true, false, ◌||◌, if◌then◌else◌, List, [], ◌∷◌, ◌++◌, Option, Some, None}
 use Rattle.dcc_num.specs.declared.Width.{Width}
 use Rattle.dcc_num.specs.declared.Width.TheVariants.{Byte as byte_width, Word as word_width}
 use Rattle.dcc_num.specs.declared.Reg.{Reg}
-use Rattle.dcc_num.specs.declared.Reg.TheVariants.{Ax, Cx, Dx}
+use Rattle.dcc_num.specs.declared.Reg.TheVariants.{Ax, Cx, Dx, Bx}
 use Rattle.dcc_num.specs.declared.Half.TheVariants.{Low, High}
 use Rattle.dcc_num.specs.declared.FlagName.TheVariants.{Cf, Zf, Sf, Of}
 use Rattle.dcc_num.specs.Numbers.{bits_of}
@@ -16,9 +17,9 @@ use Rattle.dcc_prog.specs.declared.instr.Shift.TheVariants.{Rol, Ror, Rcl, Rcr, 
 use Rattle.dcc_prog.specs.declared.instr.Count.{Count}
 use Rattle.dcc_prog.specs.declared.instr.Count.TheVariants.{One}
 use Rattle.dcc_prog.specs.declared.instr.Unary.{Unary}
-use Rattle.dcc_prog.specs.declared.instr.Unary.TheVariants.{Inc, Dec, Neg, Not, Mul, Imul}
+use Rattle.dcc_prog.specs.declared.instr.Unary.TheVariants.{Inc, Dec, Neg, Not, Mul, Imul, Div as DivOf, Idiv}
 use Rattle.dcc_prog.specs.declared.instr.Plain.{Plain}
-use Rattle.dcc_prog.specs.declared.instr.Plain.TheVariants.{Cbw, Cwd, Clc, Stc, Cmc}
+use Rattle.dcc_prog.specs.declared.instr.Plain.TheVariants.{Cbw, Cwd, Xlat, Clc, Stc, Cmc}
 use Rattle.dcc_prog.specs.declared.instr.Operand.{Operand}
 use Rattle.dcc_prog.specs.declared.instr.Operand.TheVariants.{Word, Byte}
 use Rattle.dcc_prog.specs.declared.instr.Op.{Op}
@@ -29,10 +30,10 @@ use Rattle.dcc_ir.specs.declared.syntax.Loc.{Loc}
 use Rattle.dcc_ir.specs.declared.syntax.Loc.TheVariants.{Half, Flag}
 use Rattle.dcc_ir.specs.declared.syntax.UnOp.TheVariants.{Not as NotOp}
 use Rattle.dcc_ir.specs.declared.syntax.BinOp.{BinOp}
-use Rattle.dcc_ir.specs.declared.syntax.BinOp.TheVariants.{Sub as SubOp, And as AndOp, Or as OrOp, Xor as XorOp, Shl as ShlOp, Shr as ShrOp, Sar as SarOp, Eq as EqOp}
-use Rattle.dcc_ir.specs.Tree.{Expr, Const, Get, Unary as UnaryExpr, Binary, Widen, Part, Stmt, Set, Dos, Exit, Goto, If, Stop}
+use Rattle.dcc_ir.specs.declared.syntax.BinOp.TheVariants.{Add as AddOp, Sub as SubOp, DivS, DivU, RemS, RemU, And as AndOp, Or as OrOp, Xor as XorOp, Shl as ShlOp, Shr as ShrOp, Sar as SarOp, Eq as EqOp}
+use Rattle.dcc_ir.specs.Tree.{Expr, Const, Get, Unary as UnaryExpr, Binary, Widen, Part, Stmt, Set, Div, Dos, Exit, Goto, If, Stop}
 use Rattle.dcc_ops.specs.Temporaries.{left_place, right_place, result_place, product_place, carry_place}
-use Rattle.dcc_ops.specs.Place.{Place, constant, byte, word, taking, storing}
+use Rattle.dcc_ops.specs.Place.{Place, constant, byte, word, memory, taking, storing}
 use Rattle.dcc_ops.specs.Registers.{register_place}
 use Rattle.dcc_ops.specs.Expressions.{word_of, left, right, result, product, at_width, number, bit, flag, negated, is_zero, sign, below_sign, lowest, sum, sum_and_carry, carry_out, carry_out_of_both, sum_overflow, difference, difference_and_borrow, borrow_out, borrow_out_of_both, difference_overflow, difference_overflow_of_both, count_expr, unless_zero, if_one, shifted, nearly_shifted, rotated_left, rotated_right, turned_left, turned_right, multiplied, needs_upper_half, condition, goes_round}
 
@@ -132,6 +133,26 @@ triple_product r p number =
     operands_taking word_width p (constant word_width number)
     ++ (product_working word_width true ++ word_taking r 0 (product word_width))
 
+-- Divisions. The upper half of what is divided is 0, or repeats the sign of the lower one, so the lower one alone is
+-- divided.
+
+-- AL and AH, or AX and DX, take the quotient and the remainder
+abbrev pub division_storing : Width → List Stmt
+division_storing byte_width = Set (Half Ax Low) (result byte_width) ∷ Set (Half Ax High) (left byte_width) ∷ []
+division_storing word_width = word_taking Ax 0 (result word_width) ++ word_taking Dx 0 (left word_width)
+
+-- the quotient comes first; no flag stays set
+abbrev pub division_working : Width → BinOp → BinOp → List Stmt
+division_working w quotient remainder =
+    Div (result_place w) (at_width quotient w (left w) (right w))
+    ∷ Div (left_place w) (at_width remainder w (left w) (right w))
+    ∷ (flags_taking (bit 0) (bit 0) (bit 0) ++ carry_taking (bit 0))
+
+abbrev pub dividing : Width → BinOp → BinOp → Place → List Stmt
+dividing w quotient remainder p =
+    operands_taking w (register_place (accumulator w)) p
+    ++ (division_working w quotient remainder ++ division_storing w)
+
 -- what NOT does to the result
 abbrev pub complementing : Width → List Stmt
 complementing w = result_taking w (UnaryExpr NotOp (bits_of w) (left w))
@@ -146,7 +167,8 @@ unary_stmts Neg w p = operands_taking w (constant w 0) p ++ (subtracting w ++ st
 unary_stmts Not w p = taking (left_place w) p ∷ (complementing w ++ storing p (result w))
 unary_stmts Mul w p = multiplying w false p
 unary_stmts Imul w p = multiplying w true p
-unary_stmts operation w p = []
+unary_stmts DivOf w p = dividing w DivU RemU p
+unary_stmts Idiv w p = dividing w DivS RemS p
 
 -- Shifts and rotates.
 
@@ -230,6 +252,10 @@ xchg_stmts w p q = operands_taking w p q ++ (storing p (right w) ++ storing q (l
 
 -- Operations without operands.
 
+-- the address of the byte that XLAT loads
+abbrev pub xlat_address : Expr
+xlat_address = Binary AddOp 16 (word_of Bx) (Widen false 16 (Get (Half Ax Low)))
+
 abbrev pub plain_stmts : Plain → List Stmt
 plain_stmts Cbw = Set (Half Ax High) (Part 8 8 (Widen true 16 (Get (Half Ax Low)))) ∷ []
 plain_stmts Cwd =
@@ -237,6 +263,7 @@ plain_stmts Cwd =
 plain_stmts Clc = carry_taking (bit 0)
 plain_stmts Stc = carry_taking (bit 1)
 plain_stmts Cmc = carry_taking (negated (flag Cf))
+plain_stmts Xlat = mov_stmts byte_width (byte (Half Ax Low)) (memory byte_width xlat_address)
 plain_stmts operation = []
 
 -- CX is lowered by 1
@@ -251,6 +278,7 @@ dos_stmts None = []
 dos_stmts (Some number) =
     if number == 0x02 then Dos number None (Some (Get (Half Dx Low))) ∷ []
     else if number == 0x4C then Dos number None (Some (Get (Half Ax Low))) ∷ []
+    else if number == 0x09 then Dos number None (Some (word_of Dx)) ∷ []
     else if (number == 0x01) || (number == 0x08) then Dos number (Some (Half Ax Low)) None ∷ []
     else []
 

@@ -1,14 +1,18 @@
--- The temporaries in which an instruction holds its operands and its result.
-use Rattle.std.specs.Prelude.{ℕ, ◌==◌, Bool, false, List, [], ◌∷◌, get_or}
+-- The temporaries in which an instruction holds its operands and its result, and those of what calls give back.
+use Rattle.std.specs.Prelude.{ℕ, ◌+◌, ◌==◌, Bool, false, List, ◌∷◌, replicate, get_or}
 use Rattle.dcc_num.specs.declared.Width.{Width}
 use Rattle.dcc_num.specs.declared.Width.TheVariants.{Byte as byte_width, Word as word_width}
 use Rattle.dcc_num.specs.Numbers.{bits_of}
 use Rattle.dcc_ir.specs.declared.syntax.Loc.{Loc}
 use Rattle.dcc_ir.specs.declared.syntax.Loc.TheVariants.{Temp}
 
--- the bits of the temporaries, by their numbers
+-- how many bytes a call gets back at the most: those of 32 argument words
+abbrev pub most_returned : ℕ
+most_returned = 64
+
+-- the bits of the temporaries, by their numbers: those of operations, and bytes that calls get back
 abbrev pub temporary_bits : List ℕ
-temporary_bits = 8 ∷ 8 ∷ 8 ∷ 16 ∷ 16 ∷ 16 ∷ 32 ∷ 1 ∷ []
+temporary_bits = 8 ∷ 8 ∷ 8 ∷ 16 ∷ 16 ∷ 16 ∷ 32 ∷ 1 ∷ replicate most_returned 8
 
 -- the left operand
 abbrev pub left_place : Width → Loc
@@ -33,6 +37,10 @@ product_place word_width = Temp 6
 -- CF as it comes in
 abbrev pub carry_place : Loc
 carry_place = Temp 7
+
+-- a byte that a call gets back, by its index
+abbrev pub returned_place : ℕ → Loc
+returned_place index = Temp (8 + index)
 
 -- a temporary of that width
 abbrev pub is_temporary_of : Width → Loc → Bool

@@ -170,7 +170,8 @@ impl Writer {
         self.store(p, result_place(w))
     }
 
-    /// An operation on one operand of that width. Divisions are refused before.
+    /// An operation on one operand of that width. What a division divides has an upper half that is 0, or that repeats
+    /// the sign of the lower one.
     pub fn unary(&mut self, operation: Unary, w: Width, p: Place) -> Result<(), AllocError>
         ensures { OnOk result (written self.new ≡ written self.old ++ spec.unary_stmts operation w (place_of p)) }
     {
@@ -181,7 +182,8 @@ impl Writer {
             Unary::Not => self.not(w, p),
             Unary::Mul => self.multiply(w, false, p),
             Unary::Imul => self.multiply(w, true, p),
-            Unary::Div | Unary::Idiv => Ok(()),
+            Unary::Div => self.divide(w, BinOp::DivU, BinOp::RemU, p),
+            Unary::Idiv => self.divide(w, BinOp::DivS, BinOp::RemS, p),
         }
     }
 }

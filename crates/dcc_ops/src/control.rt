@@ -115,6 +115,7 @@ impl Writer {
         let (place, argument) = match number {
             dos::PUTC => (None, Some(half(Reg::Dx, Half::Low))),
             dos::EXIT => (None, Some(Expr::Get(al))),
+            dos::PUTS => (None, Some(self.maker(Width::Word).word_of(Reg::Dx)?)),
             dos::GETCHE | dos::GETCH => (Some(al), None),
             _ => return Ok(()),
         };

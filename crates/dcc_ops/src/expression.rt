@@ -11,13 +11,18 @@ use dcc_ir::{BinOp, Expr, Loc, UnOp};
 use dcc_num::{FlagName, Half, Reg, Width};
 use std::alloc::{AllocError, Global};
 
-/// The bits of the temporaries: the left operand, the right one and the result as bytes, the same as words, a product of
-/// two words, and CF as it comes in.
+/// How many bytes a call gets back at the most: those of 32 argument words.
+pub const MOST_RETURNED: usize = 64;
+
+/// The bits of the temporaries: the left operand, the right one and the result as bytes, the same as words, a product
+/// of two words, CF as it comes in, and bytes that calls get back.
 pub fn temporary_bits(alloc: Global) -> Result<Vec<u8>, AllocError>
     ensures { IfOk result (λ bits. bits.items ≡ temporaries.temporary_bits) }
 {
-    let bits: [u8; 8] = [8, 8, 8, 16, 16, 16, 32, 1];
-    bits.to_vec(alloc)
+    let operations: [u8; 8] = [8, 8, 8, 16, 16, 16, 32, 1];
+    let mut bits = operations.to_vec(alloc)?;
+    bits.resize(8 + MOST_RETURNED, 8)?;
+    Ok(bits)
 }
 
 /// The temporary of the left operand.
@@ -65,6 +70,13 @@ pub fn carry_place() -> Loc
     ensures { result ≡ temporaries.carry_place }
 {
     Loc::Temp(7)
+}
+
+/// The temporary of a byte that a call gets back.
+pub fn returned_place(index: u8) -> Loc
+    ensures { result ≡ temporaries.returned_place index }
+{
+    Loc::Temp(8 + u32::from(index))
 }
 
 /// A number of so many bits.

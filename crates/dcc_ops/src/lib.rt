@@ -6,6 +6,7 @@
 
 mod alu;
 mod control;
+mod division;
 mod expression;
 pub mod laws;
 mod movement;
@@ -17,6 +18,6 @@ mod sum;
 mod writer;
 
 pub use control::op_test;
-pub use expression::{bit, byte, temporary_bits};
-pub use place::{Place, register_place};
+pub use expression::{bit, byte, constant, returned_place, temporary_bits};
+pub use place::{Computed, Place, register_place};
 pub use writer::Writer;

@@ -11,7 +11,7 @@ ghost use Rattle.dcc_ops.specs.Writing.{written};
 use crate::expression::{bit, byte, constant, flag, half, left_place, product_place, right_place};
 use crate::place::Place;
 use crate::writer::Writer;
-use dcc_ir::{Expr, Loc};
+use dcc_ir::{BinOp, Expr, Loc};
 use dcc_num::{FlagName, Half, Reg, Width};
 use dcc_prog::Plain;
 use std::alloc::AllocError;
@@ -20,7 +20,8 @@ impl Writer {
     // The one place takes what the other holds, through a temporary of that width.
     fn move_through(&mut self, w: Width, to: Place, from: Place) -> Result<(), AllocError>
         ensures { OnOk result (written self.new ≡ written self.old
-            ++ places.taking (temporaries.left_place w) (place_of from) ∷ places.storing (place_of to) (expressions.left w)) }
+            ++ places.taking (temporaries.left_place w) (place_of from)
+            ∷ places.storing (place_of to) (expressions.left w)) }
     {
         self.take(left_place(w), from)?;
         self.store(to, left_place(w))
@@ -60,7 +61,8 @@ impl Writer {
     // Two places are exchanged through temporaries of that width; the first is stored first.
     fn exchange_through(&mut self, w: Width, p: Place, q: Place) -> Result<(), AllocError>
         ensures { OnOk result (written self.new ≡ written self.old ++ (spec.operands_taking w (place_of p) (place_of q)
-            ++ (places.storing (place_of p) (expressions.right w) ++ places.storing (place_of q) (expressions.left w)))) }
+            ++ (places.storing (place_of p) (expressions.right w)
+            ++ places.storing (place_of q) (expressions.left w)))) }
     {
         self.take_operands(w, p, q)?;
         self.store(p, right_place(w))?;
@@ -101,7 +103,20 @@ impl Writer {
         self.take_word(Reg::Dx, 16, product)
     }
 
-    /// An operation without operands. XLAT and those of a prelude do not come here or do nothing.
+    // XLAT.
+    fn look_up(&mut self) -> Result<(), AllocError>
+        ensures { OnOk result (written self.new ≡ written self.old ++ spec.plain_stmts Plain.Xlat) }
+    {
+        let maker = self.maker(Width::Word);
+        let al = Loc::Half(Reg::Ax, Half::Low);
+        let kept = left_place(Width::Byte);
+        let index = maker.widen(false, 16, Expr::Get(al))?;
+        let address = maker.binary(BinOp::Add, 16, maker.word_of(Reg::Bx)?, index)?;
+        self.fetch(kept, 8, address)?;
+        self.set(al, Expr::Get(kept))
+    }
+
+    /// An operation without operands. Those of a prelude do nothing.
     pub fn plain(&mut self, operation: Plain) -> Result<(), AllocError>
         ensures { OnOk result (written self.new ≡ written self.old ++ spec.plain_stmts operation) }
     {
@@ -114,7 +129,8 @@ impl Writer {
                 let carry = self.maker(Width::Byte).negated(flag(FlagName::Cf))?;
                 self.take_carry(carry)
             }
-            Plain::Nop | Plain::Xlat | Plain::Cli | Plain::Sti | Plain::Cld => Ok(()),
+            Plain::Xlat => self.look_up(),
+            Plain::Nop | Plain::Cli | Plain::Sti | Plain::Cld => Ok(()),
         }
     }
 }

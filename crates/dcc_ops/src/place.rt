@@ -5,10 +5,21 @@ ghost use Rattle.dcc_ops.specs.Registers as registers;
 ghost use Rattle.dcc_ops.specs.Placing.{place_of};
 
 use dcc_ir::Loc;
-use dcc_num::{Half, Width};
+use dcc_num::{Half, Reg, Width};
 use dcc_prog::Operand;
 
-/// Where an operand stands that lies in no memory.
+/// A word that is computed without a statement of its own: the sum, modulo 65536, of what is there.
+#[derive(Clone, Copy)]
+pub struct Computed {
+    /// The address at that distance from the base of the frame.
+    pub frame: Option<u16>,
+    /// Word registers.
+    pub base: Option<Reg>,
+    pub index: Option<Reg>,
+    pub number: u16,
+}
+
+/// Where an operand stands.
 #[derive(Clone, Copy)]
 pub enum Place {
     /// A number of that width.
@@ -17,8 +28,12 @@ pub enum Place {
     Byte(Loc),
     /// The low and the high half of a register or of a cell.
     Word(Loc, Loc),
+    /// So much of the memory, from an address on.
+    Memory(Width, Computed),
     /// The address at that distance from the base of the frame. Nothing is stored there.
     Address(u16),
+    /// A word that is computed. Nothing is stored there.
+    Computed(Computed),
 }
 
 /// The place of a register or a constant. Others are refused before, and are 0 here.

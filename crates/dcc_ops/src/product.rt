@@ -16,8 +16,8 @@ use dcc_num::{Half, Reg, Width};
 use dcc_prog::Operand;
 use std::alloc::AllocError;
 
-// AL or AX.
-fn accumulator(w: Width) -> Place
+/// AL or AX.
+pub fn accumulator(w: Width) -> Place
     ensures { place_of result ≡ registers.register_place (spec.accumulator w) }
 {
     register_place(match w {

@@ -1,9 +1,10 @@
 //! The writer of a block's statements.
 
-ghost use Rattle.std.specs.Prelude.{◌≡◌, ◌+◌, ◌++◌, [], ◌∷◌, ◌<◌, OnOk};
+ghost use Rattle.std.specs.Prelude.{◌≡◌, ◌+◌, ◌++◌, [], ◌∷◌, ◌<◌, OnOk, IfOk, option_map};
 ghost use Rattle.dcc_ir.specs.Views.{expr_of};
 ghost use Rattle.dcc_ir.specs.Tree as tree;
 ghost use Rattle.dcc_ops.specs.Place as places;
+ghost use Rattle.dcc_ops.specs.Computed as computed;
 ghost use Rattle.dcc_ops.specs.Placing.{place_of};
 ghost use Rattle.dcc_ops.specs.Statements as spec;
 ghost use Rattle.dcc_ops.specs.Writing.{written};
@@ -11,10 +12,17 @@ ghost use Rattle.dcc_ops.specs.Writing.{written};
 use crate::expression::{
     Maker, carry_place, constant, flag, left_place, result_place, right_place,
 };
-use crate::place::Place;
-use dcc_ir::{Expr, Loc, Stmt};
+use crate::place::{Computed, Place};
+use dcc_ir::{BinOp, Expr, Loc, Stmt};
 use dcc_num::{FlagName, Half, Reg, Width};
 use std::alloc::{AllocError, Global};
+
+// The address at a distance from the base of the frame, where there is one.
+fn address_at(frame: Option<u16>) -> Option<Expr>
+    ensures { option_map expr_of result ≡ option_map tree.Address frame }
+{
+    Some(Expr::Address(frame?))
+}
 
 /// Writes the statements of a block, one after the other.
 #[derive(Drop)]
@@ -55,25 +63,105 @@ impl Writer {
         Ok(())
     }
 
+    // A sum so far, where there is one, and a part more.
+    fn plus(&self, sum: Option<Expr>, e: Expr) -> Result<Expr, AllocError>
+        ensures { IfOk result (λ both. expr_of both ≡ computed.plus (option_map expr_of sum) (expr_of e)) }
+    {
+        match sum {
+            Some(sum) => self.maker(Width::Word).binary(BinOp::Add, 16, sum, e),
+            None => Ok(e),
+        }
+    }
+
+    // A sum so far with a register, where there is one.
+    fn adding(&self, r: Option<Reg>, sum: Option<Expr>) -> Result<Option<Expr>, AllocError>
+        ensures { IfOk result (λ both. option_map expr_of both ≡ computed.adding r (option_map expr_of sum)) }
+    {
+        match r {
+            Some(r) => {
+                let word = self.maker(Width::Word).word_of(r)?;
+                Ok(Some(self.plus(sum, word)?))
+            }
+            None => Ok(sum),
+        }
+    }
+
+    // A sum so far with a number: 0 is added to nothing.
+    fn ending(&self, sum: Option<Expr>, number: u16) -> Result<Expr, AllocError>
+        ensures { IfOk result (λ e. expr_of e ≡ computed.ending number (option_map expr_of sum)) }
+    {
+        let last = constant(16, u32::from(number));
+        match sum {
+            None => Ok(last),
+            Some(sum) => {
+                if number == 0 {
+                    return Ok(sum);
+                }
+                self.maker(Width::Word).binary(BinOp::Add, 16, sum, last)
+            }
+        }
+    }
+
+    /// The expression of a word that is computed.
+    pub fn computed(&self, c: Computed) -> Result<Expr, AllocError>
+        ensures { IfOk result (λ e. expr_of e ≡ computed.computed_expr c) }
+    {
+        let base = self.adding(c.base, address_at(c.frame))?;
+        let sum = self.adding(c.index, base)?;
+        self.ending(sum, c.number)
+    }
+
+    /// The expression of what a place holds.
+    pub fn value(&self, place: Place) -> Result<Expr, AllocError>
+        ensures { IfOk result (λ e. expr_of e ≡ places.place_value (place_of place)) }
+    {
+        match place {
+            Place::Constant(width, number) => Ok(constant(width.bits(), u32::from(number))),
+            Place::Byte(location) => Ok(Expr::Get(location)),
+            Place::Word(low, high) => self
+                .maker(Width::Word)
+                .join(Expr::Get(high), Expr::Get(low)),
+            Place::Memory(width, at) => Ok(Expr::Load {
+                width: width.bits(),
+                address: Box::new(self.alloc, self.computed(at)?)?,
+            }),
+            Place::Address(distance) => Ok(Expr::Address(distance)),
+            Place::Computed(word) => self.computed(word),
+        }
+    }
+
+    /// A location takes so many bits of the memory, from an address on.
+    pub fn fetch(&mut self, to: Loc, width: u8, address: Expr) -> Result<(), AllocError>
+        ensures { OnOk result (written self.new ≡ written self.old ++ tree.Fetch to width (expr_of address) ∷ []) }
+    {
+        self.stmts.push(Stmt::Load {
+            place: to,
+            width,
+            address,
+        })?;
+        Ok(())
+    }
+
     /// A location takes what a place holds.
     pub fn take(&mut self, to: Loc, place: Place) -> Result<(), AllocError>
         ensures { OnOk result (written self.new ≡ written self.old ++ places.taking to (place_of place) ∷ []) }
     {
-        let value = match place {
-            Place::Constant(width, number) => constant(width.bits(), u32::from(number)),
-            Place::Byte(location) => Expr::Get(location),
-            Place::Word(low, high) => {
-                let maker = self.maker(Width::Word);
-                maker.join(Expr::Get(high), Expr::Get(low))?
+        match place {
+            Place::Memory(width, at) => {
+                let address = self.computed(at)?;
+                self.fetch(to, width.bits(), address)
             }
-            Place::Address(distance) => Expr::Address(distance),
-        };
-        self.set(to, value)
+            _ => {
+                let value = self.value(place)?;
+                self.set(to, value)
+            }
+        }
     }
 
     /// The operands go to their temporaries.
     pub fn take_operands(&mut self, w: Width, p: Place, q: Place) -> Result<(), AllocError>
-        ensures { OnOk result (written self.new ≡ written self.old ++ spec.operands_taking w (place_of p) (place_of q)) }
+        ensures { OnOk result (written self.new
+            ≡ written self.old ++ spec.operands_taking w (place_of p) (place_of q)) }
     {
         self.take(left_place(w), p)?;
         self.take(right_place(w), q)
@@ -140,7 +228,16 @@ impl Writer {
                 self.set(low, first)?;
                 self.set(high, second)
             }
-            Place::Constant(..) | Place::Address(_) => Ok(()),
+            Place::Memory(width, at) => {
+                let address = self.computed(at)?;
+                self.stmts.push(Stmt::Store {
+                    width: width.bits(),
+                    address,
+                    value: Expr::Get(from),
+                })?;
+                Ok(())
+            }
+            Place::Constant(..) | Place::Address(_) | Place::Computed(_) => Ok(()),
         }
     }
 }

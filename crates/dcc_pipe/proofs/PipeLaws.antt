@@ -6,14 +6,14 @@ use Rattle.std.proofs.lemmas.List.Elements.{All-head, All-weaker}
 use Rattle.dcc_prog.specs.declared.image.Image.{Image}
 use Rattle.dcc_prog.specs.declared.frame.Program.{Program}
 use Rattle.dcc_prog.specs.Analysed.{IsProgramOf}
+use Rattle.dcc_prog.specs.Built.{IsBuilt}
 use Rattle.dcc_prog.specs.Watch.{IsClean}
 use Rattle.dcc_prog.proofs.LayoutLaws.{layout-once}
 use Rattle.dcc_ir.specs.Tree as inner
 use Rattle.dcc_ir.specs.Use.{graph_exprs}
 use Rattle.dcc_ir.specs.Measure.{depth_of}
 use Rattle.dcc_ir.specs.FlagReads.{FlagsReadPlainly}
-use Rattle.dcc_lift.specs.Form.{HasForm}
-use Rattle.dcc_lift.specs.Lifted.{IsLifted, IsLiftOf, IsShallow}
+use Rattle.dcc_lift.specs.Lifted.{IsShallow, IsLifted, IsPlainlyLifted, IsLiftOf}
 use Rattle.dcc_c.specs.declared.syntax.Unit.{Unit as TextUnit}
 use Rattle.dcc_c.specs.Views.{tree_of}
 use Rattle.dcc_c.specs.Written.{written_form}
@@ -27,33 +27,34 @@ use Rattle.dcc_pipe.specs.Agreement.{IsTextOf}
 use Rattle.dcc_pipe.proofs.WritableText.{goto-writable}
 use Rattle.dcc_pipe.proofs.TextRuns.{IsFollowing, text-agrees}
 
-module _ (image : Image) (program : Program) (p : inner.Program) (of : IsLiftOf image program.layout program.procs.items p) where
-  abbrev lifted : IsLifted image program.layout of.start p
+module _ (image : Image) (program : Program) (p : inner.Program) (of : IsLiftOf image program p) (built : IsBuilt image program.layout) where
+  abbrev lifted : IsLifted image program p
   lifted = of.lifted
 
-  -- what is lifted has what a text needs
+  abbrev plain : IsPlainlyLifted image program.layout p
+  plain = of.plain built
+
+  -- what is lifted of a program that is built has what a text needs
   pub lifted-textable : IsTextable 7 p
-  lifted-textable =
-      let g = lifted.framed.graph in
-      record {
-        graph = g;
-        one = lifted.framed.one;
-        formed = lifted.well_formed;
-        form = All-head HasForm g [] (subst (All HasForm) lifted.framed.one lifted.form);
-        shallow = All-head (IsShallow 7) g [] (subst (All (IsShallow 7)) lifted.framed.one lifted.shallow);
-        never_stuck = lifted.never_stuck;
-      }
+  lifted-textable = record {
+    graph = plain.graph;
+    one = plain.one;
+    formed = lifted.well_formed;
+    form = plain.form;
+    shallow = All-head (IsShallow 7) plain.graph [] (subst (All (IsShallow 7)) plain.one lifted.shallow);
+    never_stuck = lifted.never_stuck;
+  }
 
   pub lifted-flags : All FlagsReadPlainly p.graphs
   lifted-flags = lifted.flag_reads
 
-  pub lifted-follows : IsFollowing image program.layout p
+  pub lifted-follows : IsFollowing image program p
   lifted-follows = record { runs = lifted.runs; pace = lifted.pace }
 
   -- each run of the image is clean, for it has one layout
   pub lifted-clean : IsProgramOf program.layout.cpu image program → (input : List ℕ) (n : ℕ) → All (λ b. b < 256) input → IsClean program.layout.cpu image input n
   lifted-clean is input n bytes other is_other =
-      lifted.clean other input n (layout-once image program.layout other.layout is_other.runs_on is.layout is_other.layout) bytes
+      plain.clean other input n (layout-once image program.layout other.layout is_other.runs_on is.layout is_other.layout) bytes
 
 -- what has at most so many levels has at most more
 pub textable-weaker : (depth wider : ℕ) → depth ≤ wider → (p : inner.Program) → IsTextable depth p → IsTextable wider p
@@ -73,7 +74,7 @@ has-graph depth p is = subst (λ graphs. 0 < length graphs) (sym is.one) (omega 
 -- The text of a program that follows the image.
 module _ (image : Image) (program : Program) (p : inner.Program) (is : IsProgramOf program.layout.cpu image program)
     (clean : (input : List ℕ) (n : ℕ) → All (λ b. b < 256) input → IsClean program.layout.cpu image input n)
-    (textable : IsTextable levels p) (few : length textable.graph.bits < 2 ^ 32) (follows : IsFollowing image program.layout p) where
+    (textable : IsTextable levels p) (few : length textable.graph.bits < 2 ^ 32) (follows : IsFollowing image program p) where
   text-stands : StandsFor (written_form (goto_tree p)) (numbered (goto_tree p))
   text-stands = writable_stands (goto_tree p) (goto-writable p textable few)
 

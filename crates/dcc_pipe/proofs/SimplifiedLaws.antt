@@ -10,7 +10,7 @@ use Rattle.dcc_run.specs.Watched.{Watched}
 use Rattle.dcc_run.specs.Shadows.{Shadows, KeepsPace, kept_mark, only}
 use Rattle.dcc_run.proofs.KeptLaws.{shadows_kept, right_part}
 use Rattle.dcc_prog.specs.declared.image.Image.{Image}
-use Rattle.dcc_prog.specs.declared.procedure.Layout.{Layout}
+use Rattle.dcc_prog.specs.declared.frame.Program.{Program}
 use Rattle.dcc_prog.specs.Watch.{watched_machine, first_watch}
 use Rattle.dcc_ir.specs.declared.syntax.Loc.{Loc}
 use Rattle.dcc_ir.specs.declared.syntax.Graph.{Graph as GraphOf}
@@ -71,26 +71,26 @@ kept-twice kept (Some place) = by (kept place) refl
 only-twice : {S P : Type 0} (kept : P → Bool) (w : Watched S P) → only kept (only kept w) ≡ only kept w
 only-twice kept w = ap (λ mark. record w { mark = mark }) (fun_ext (λ s. kept-twice kept (w.mark s)))
 
-pub simplified-follows : (image : Image) (layout : Layout) (depth : ℕ) (p q : inner.Program) → IsSimplified depth p q → IsFollowing image layout p → IsFollowing image layout q
-simplified-follows image layout depth p q simple follows = record { runs = runs; pace = pace }
+pub simplified-follows : (image : Image) (program : Program) (depth : ℕ) (p q : inner.Program) → IsSimplified depth p q → IsFollowing image program p → IsFollowing image program q
+simplified-follows image program depth p q simple follows = record { runs = runs; pace = pace }
   where
     same : has_block q ≡ has_block p
     same = fun_ext simple.places
 
-    runs : ShadowsMachine image layout q
-    runs analysed fill input is fits bytes =
-        let machine = watched_machine analysed in
+    runs : ShadowsMachine image program q
+    runs fill input fits bytes =
+        let machine = watched_machine program in
         let start = first_watch image input in
         let through = shadows_kept (has_block q) (only (has_block p) machine) (run.watched_inner p fill) (run.watched_inner q fill) (inner_watchable p fill)
-        start (run.first_state p fill input) (run.first_state q fill input) (follows.runs analysed fill input is fits bytes) (simple.keeps.runs fill input fits bytes) in
+        start (run.first_state p fill input) (run.first_state q fill input) (follows.runs fill input fits bytes) (simple.keeps.runs fill input fits bytes) in
         let alone : Shadows (only (has_block p) (only (has_block p) machine)) start (run.watched_inner q fill) (run.first_state q fill input) =
         subst (λ kept. Shadows (only kept (only (has_block p) machine)) start (run.watched_inner q fill) (run.first_state q fill input)) same through in
         subst (λ kept. Shadows (only kept machine) start (run.watched_inner q fill) (run.first_state q fill input)) (sym same)
         (subst (λ w. Shadows w start (run.watched_inner q fill) (run.first_state q fill input)) (only-twice (has_block p) machine) alone)
 
-    pace : MachineKeepsPace image layout q
-    pace analysed input is bytes =
-        subst (λ kept. KeepsPace (only kept (watched_machine analysed)) (first_watch image input) steps_at_start steps_between) (sym same) (follows.pace analysed input is bytes)
+    pace : MachineKeepsPace image program q
+    pace input bytes =
+        subst (λ kept. KeepsPace (only kept (watched_machine program)) (first_watch image input) steps_at_start steps_between) (sym same) (follows.pace input bytes)
 
 -- The blocks.
 

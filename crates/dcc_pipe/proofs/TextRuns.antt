@@ -53,10 +53,10 @@ counted-start at graph =
 head-equal : {A : Type 0} {a b : A} {xs ys : List A} → a ∷ xs ≡ b ∷ ys → a ≡ b
 head-equal e = cc
 
--- What a program is to an image, whose layout is this: it shadows the machine, which keeps pace with its blocks.
-pub record IsFollowing (image : Image) (layout : Layout) (p : inner.Program) : Type 0 where
-  pub runs : ShadowsMachine image layout p
-  pub pace : MachineKeepsPace image layout p
+-- What a program is to an image, in which this is found: it shadows the machine, which keeps pace with its blocks.
+pub record IsFollowing (image : Image) (program : Program) (p : inner.Program) : Type 0 where
+  pub runs : ShadowsMachine image program p
+  pub pace : MachineKeepsPace image program p
 
 -- As far as it isn't foul, what keeps up with the machine watched keeps up with the machine, and the other way.
 module _ {T : Type 0} (program : Program) (w : Watch) (other : System T) (t : T) where
@@ -87,7 +87,7 @@ module _ {T : Type 0} (program : Program) (w : Watch) (other : System T) (t : T)
       }
 
 module _ (image : Image) (program : Program) (p : inner.Program) (is_program : IsProgramOf program.layout.cpu image program)
-    (textable : IsTextable levels p) (few : length textable.graph.bits < 2 ^ 32) (follows : IsFollowing image program.layout p)
+    (textable : IsTextable levels p) (few : length textable.graph.bits < 2 ^ 32) (follows : IsFollowing image program p)
     (text : List ℕ) (stands : StandsFor text (numbered (goto_tree p)))
     (input : List ℕ) (fill : ℕ) (bytes : All (λ b. b < 256) input) (fits : fill < 2 ^ 16) where
   abbrev layout : Layout
@@ -177,7 +177,7 @@ module _ (image : Image) (program : Program) (p : inner.Program) (is_program : I
       subst (λ m. KeepsUp (machine_system layout.cpu) (start_state image input) n (text_system tree) t m) (mul_comm tokens (n + 1))
       (machine-first program w (text_system tree) t n (tokens * (n + 1)) (clean program is_program)
       (third_keeps_up (λ place. true) machine (run.watched_inner p fill) (text_system tree) machine-law (text_lawful tree) w i t tokens together.counts
-      (follows.runs program fill input refl fits bytes) together.shows n (clean program is_program)))
+      (follows.runs fill input fits bytes) together.shows n (clean program is_program)))
 
   machine-keeps_up : (k : ℕ) → IsClean layout.cpu image input ((k + 1) * 65536) → KeepsUp (text_system tree) t k (machine_system layout.cpu) (start_state image input) ((k + 1) * 65536)
   machine-keeps_up zero clean = record {
@@ -188,7 +188,7 @@ module _ (image : Image) (program : Program) (p : inner.Program) (is_program : I
       let enough_steps : steps_at_start + suc k * steps_between < (suc k + 1) * 65536 = omega arith in
       machine-second program w (text_system tree) t (suc k) ((suc k + 1) * 65536) (clean program is_program)
       (first_keeps_up_with_third (λ place. true) machine (run.watched_inner p fill) (text_system tree) machine-law (text_lawful tree) w i t tokens together.counts
-      (follows.runs program fill input refl fits bytes) steps_at_start steps_between (pace_of_all machine w steps_at_start steps_between (follows.pace program input refl bytes))
+      (follows.runs fill input fits bytes) steps_at_start steps_between (pace_of_all machine w steps_at_start steps_between (follows.pace input bytes))
       (suc k) ((suc k + 1) * 65536) enough_steps (clean program is_program))
 
   pub text-agrees : RunsAgree layout.cpu image tree start tokens input fill

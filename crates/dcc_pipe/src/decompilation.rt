@@ -26,7 +26,14 @@ fn text_of(alloc: Global, image: &Image, program: &Program) -> Result<Unit, Allo
     requires built { IsBuilt image.now program.now.layout }
     ensures { IfOk result (λ unit. IsTextOf program.now.layout.cpu image.now (written_form (tree_of unit)) (tree_of unit)) }
 {
-    let lifted = lift(alloc, image, &program.layout, &program.procs)?;
+    let lifted = lift(
+        alloc,
+        image,
+        &program.layout,
+        &program.procs,
+        &program.heights,
+        &program.cells,
+    )?;
     let simple = simplified(alloc, lifted)?;
     let unit = goto_text(alloc, &simple)?;
     number(alloc, unit)

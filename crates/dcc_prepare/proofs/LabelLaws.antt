@@ -1,39 +1,12 @@
 -- Laws of labels, by their names.
-use Rattle.std.proofs.Common.{◌≡◌, ℕ, zero, suc, ◌+◌, ◌<◌, ◌≤◌, Bool, true, false, List, [], ◌∷◌, ◌++◌, length, drop, get_or, set, Option, Some, None, string_bytes, refl, sym, ap, ◌∙◌, add-one, drop-cons, arith}
+use Rattle.std.proofs.Common.{◌≡◌, ℕ, zero, suc, ◌<◌, Bool, true, false, List, [], ◌∷◌, ◌++◌, length, get_or, set, Option, Some, None, string_bytes, refl, sym, ap, ◌∙◌, arith}
 use Rattle.std.specs.Prelude.{option_map, if◌then◌else◌}
-use Rattle.std.proofs.lemmas.List.{drop_all}
 use Rattle.dcc_c.specs.Token.{same_bytes}
 use Rattle.dcc_c.specs.Tree.{Word}
 use Rattle.dcc_c.proofs.NameLaws.{same_bytes-equal}
 use Rattle.dcc_prepare.specs.declared.program.Label.{Label}
-use Rattle.dcc_prepare.specs.Points.{label_named, point_named, label_point}
+use Rattle.dcc_prepare.specs.Points.{label_words, label_named, point_named, label_point}
 use Rattle.dcc_prepare.specs.Emission.{KeepNumbers}
-
--- A walk over the labels.
-
-further : (i : ℕ) (o : Option ℕ) → option_map (λ k. i + k) (option_map suc o) ≡ option_map (λ k. i + 1 + k) o
-further i None = refl
-further i (Some k) = ap Some (omega arith)
-
-module _ (ls : List Label) (i : ℕ) (l : Label) (within : i < length ls) (is : l ≡ get_or ls i l) where
-  from_here : drop i ls ≡ l ∷ drop (i + 1) ls
-  from_here = drop-cons ls i l within ∙ rw add-one (ap (λ x. x ∷ drop (suc i) ls) (sym is))
-
-  pub label_named-further : (word : Word) → same_bytes (string_bytes l.name) word ≡ false →
-      option_map (λ k. i + k) (label_named (drop i ls) word) ≡ option_map (λ k. i + 1 + k) (label_named (drop (i + 1) ls) word)
-  label_named-further word e =
-      ap (λ l. option_map (λ k. i + k) (label_named l word)) from_here
-      ∙ rw e (further i (label_named (drop (i + 1) ls) word))
-
-  pub label_named-here : (word : Word) → same_bytes (string_bytes l.name) word ≡ true →
-      option_map (λ k. i + k) (label_named (drop i ls) word) ≡ Some i
-  label_named-here word e =
-      ap (λ l. option_map (λ k. i + k) (label_named l word)) from_here ∙ rw e (ap Some (omega arith))
-
--- no label has the name
-pub label_named-none : (ls : List Label) (i : ℕ) (word : Word) → length ls ≤ i →
-    label_named ls word ≡ option_map (λ k. i + k) (label_named (drop i ls) word) → label_named ls word ≡ None
-label_named-none ls i word past is = is ∙ ap (λ l. option_map (λ k. i + k) (label_named l word)) (drop_all i ls past)
 
 -- One label more.
 
@@ -81,6 +54,12 @@ suc_same k i is = cc
 
 abbrev pub standing : Label → ℕ → Label
 standing l at = record l { point = Some at }
+
+-- the names stay
+pub words-set : (ls : List Label) (i : ℕ) (l : Label) (at : ℕ) → l ≡ get_or ls i l → label_words (set ls i (standing l at)) ≡ label_words ls
+words-set [] i l at is = refl
+words-set (m ∷ ls) zero l at is = ap (λ (x : Label). string_bytes x.name ∷ label_words ls) is
+words-set (m ∷ ls) (suc i) l at is = ap (λ ws. string_bytes m.name ∷ ws) (words-set ls i l at is)
 
 numbered-same : (b : Bool) (o p : Option ℕ) → o ≡ p → (if b then Some 0 else option_map suc o) ≡ (if b then Some 0 else option_map suc p)
 numbered-same b o p is = ap (λ x. if b then Some 0 else option_map suc x) is

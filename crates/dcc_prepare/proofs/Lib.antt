@@ -7,4 +7,4 @@ pub mod PrepareLaws
 pub mod ProgramLaws
 pub mod StartLaws
 pub mod StatementLaws
-pub mod TakesLaws
+pub mod TakenLaws

@@ -1,6 +1,6 @@
 -- How a function and a text are made ready to run.
-use Rattle.std.proofs.Common.{◌≡◌, ◌⊎◌, inl, inr, ℕ, ◌+◌, ◌%◌, ◌<◌, ◌≤◌, drop, get_or, string_bytes, Bool, List, [], ◌∷◌, ◌++◌, length, map, Option, None, Some, refl, sym, ap, ◌∙◌, subst}
-use Rattle.std.specs.Prelude.{is_some, option_map, if◌then◌else◌}
+use Rattle.std.proofs.Common.{◌≡◌, ◌⊎◌, inl, inr, ℕ, suc, ◌+◌, ◌%◌, ◌<◌, ◌≤◌, true, false, drop, get_or, string_bytes, Bool, List, [], ◌∷◌, ◌++◌, length, map, Option, None, Some, refl, sym, ap, ◌∙◌, subst}
+use Rattle.std.specs.Prelude.{is_some, option_map, slice_get, if◌then◌else◌}
 use Rattle.std.proofs.lemmas.List.{at_drop_more, drop_all}
 use Rattle.dcc_c.specs.declared.syntax.Func.{Func}
 use Rattle.dcc_c.specs.declared.syntax.Var.{Var}
@@ -18,6 +18,7 @@ use Rattle.dcc_prepare.specs.Points.{Goes, MayGo, point_named, declared_with, Ar
 use Rattle.dcc_prepare.specs.Emission.{Relabels, Emits, Leads}
 use Rattle.dcc_prepare.specs.Programs.{none_open, place_in, Kind, kind_of, declared_kind}
 use Rattle.dcc_prepare.specs.Prepared.{IsBody, name_declared, names_declared}
+use Rattle.dcc_value.specs.Places.{first_place}
 use Rattle.dcc_prepare.proofs.EmissionLaws.{pushed}
 
 -- no points
@@ -106,11 +107,35 @@ declare-end vs xs i end = elim end [
   | inr le ↦ ap (λ l. names_declared (drop i vs) l) (drop_all i xs le) ∙ names-none (drop i vs)
 ]
 
--- Names of functions: the next of those that are left has the name, or it is one of the others.
-pub next_named : (fs : List Func) (i : ℕ) (f : Func) (name : Word) (is : Bool) (found : Option Function) → i < length fs → f ≡ get_or fs i f →
-    same_bytes (function_of f).name name ≡ is → found ≡ function_in (map function_of (drop i fs)) name →
-    found ≡ (if is then Some (function_of f) else function_in (map function_of (drop (i + 1) fs)) name)
-next_named fs i f name is found within here named so =
-    so ∙ at_drop_more (λ l. function_in (map function_of l) name) fs i f within
-    ∙ ap (λ g. function_in (map function_of (g ∷ drop (i + 1) fs)) name) (sym here)
-    ∙ ap (λ b. if b then Some (function_of f) else function_in (map function_of (drop (i + 1) fs)) name) named
+-- Functions, by their names.
+
+-- the first function with the name, at its place
+IsAt : List Function → Word → Option ℕ → Type 0
+IsAt fs word None = function_in fs word ≡ None
+IsAt fs word (Some number) = (f : Function) × (function_in fs word ≡ Some f) × (slice_get fs number ≡ Some f)
+
+function_at-next : (f : Function) (fs : List Function) (word : Word) (b : Bool) (o : Option ℕ) → same_bytes f.name word ≡ b → IsAt fs word o →
+    IsAt (f ∷ fs) word (if b then Some 0 else option_map suc o)
+unfolding IsAt
+function_at-next f fs word true o is at = (f, ap (λ b. if b then Some f else function_in fs word) is, refl)
+function_at-next f fs word false None is at = ap (λ b. if b then Some f else function_in fs word) is ∙ at
+function_at-next f fs word false (Some number) is at = (at.0, ap (λ b. if b then Some f else function_in fs word) is ∙ at.1, at.2)
+
+function_at : (fs : List Function) (word : Word) → IsAt fs word (first_place (map (λ (f : Function). f.name) fs) word)
+unfolding IsAt
+function_at [] word = refl
+function_at (f ∷ fs) word =
+    function_at-next f fs word (same_bytes f.name word) (first_place (map (λ (g : Function). g.name) fs) word) refl (function_at fs word)
+
+pub function_found : (fs : List Function) (word : Word) (number : ℕ) → first_place (map (λ (f : Function). f.name) fs) word ≡ Some number →
+    (f : Function) × (function_in fs word ≡ Some f) × (slice_get fs number ≡ Some f)
+unfolding IsAt
+function_found fs word number is = subst (IsAt fs word) is (function_at fs word)
+
+pub no_function : (fs : List Function) (word : Word) → first_place (map (λ (f : Function). f.name) fs) word ≡ None → function_in fs word ≡ None
+unfolding IsAt
+no_function fs word is = subst (IsAt fs word) is (function_at fs word)
+
+pub function_names-are : (fs : List Func) → map (λ (f : Func). string_bytes f.name) fs ≡ map (λ (f : Function). f.name) (map function_of fs)
+function_names-are [] = refl
+function_names-are (f ∷ fs) = ap (λ ws. string_bytes f.name ∷ ws) (function_names-are fs)

@@ -2,12 +2,12 @@
 use Rattle.std.specs.Prelude.{◌≡◌, ℕ, Bool, List, map, Option, Some, None, Result, IfOk, slice_get}
 use Rattle.dcc_c.specs.Tree.{Word, Stmt, Lines, line, Arms, Function, Tree}
 use Rattle.dcc_c.specs.Run.{Continuation, runs, arm_for, after_break, after_continue, from_label_inside}
-use Rattle.dcc_c.specs.Views.{function_of}
 use Rattle.dcc_prepare.specs.declared.program.Label.{Label}
 use Rattle.dcc_prepare.specs.declared.program.Case.{Case}
 use Rattle.dcc_prepare.specs.declared.code.Code.{Code}
 use Rattle.dcc_prepare.specs.declared.code.Context.{Context}
 use Rattle.dcc_prepare.specs.declared.emit.Following.{Following}
+use Rattle.dcc_value.specs.Places.{AreFirst}
 use Rattle.dcc_value.specs.Resolved.{names_of}
 use Rattle.dcc_prepare.specs.Points.{names_in, Goes, MayGo, label_named, point_named, case_point, AreRows}
 
@@ -55,10 +55,14 @@ pub record Leads (tree : Tree) (points : List Continuation) (following : Followi
   pub on_break : MayGo tree points following.on_break (after_break rest)
   pub on_continue : MayGo tree points following.on_continue (after_continue rest)
 
+-- the names of functions
+abbrev pub function_names : Tree → List Word
+function_names tree = map (λ (f : Function). f.name) tree.functions
+
 -- the names that statements are read with are those of the text and the function
 pub record IsContext (context : Context) (tree : Tree) (f : Function) : Type 0 where
   pub names : names_of context.names.now ≡ names_in tree f
-  pub functions : map function_of context.functions.now ≡ tree.functions
+  pub functions : AreFirst context.functions.now (function_names tree)
 
 -- In each function of a text that has the context, and whose points so far are those of the code: where the points
 -- after lead as they have to, the text goes on so from the point of the answer, with these labels found.

@@ -4,7 +4,7 @@ pub mod Placing
 pub mod Points
 pub mod Prepared
 pub mod Programs
-pub mod Takes
+pub mod Taken
 pub use Rattle.dcc_c.specs.Tree
 pub use Rattle.dcc_c.specs.Placement
 pub use Rattle.dcc_c.specs.Run

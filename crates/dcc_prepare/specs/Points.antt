@@ -1,5 +1,5 @@
 -- What stands at the points of a function's code: how the text goes on from there.
-use Rattle.std.specs.Prelude.{◌≡◌, ℕ, suc, Bool, false, ◌==◌, if◌then◌else◌, List, [], ◌∷◌, ◌++◌, length, map, string_bytes, Option, Some, None, option_map, is_some, slice_get}
+use Rattle.std.specs.Prelude.{◌≡◌, ℕ, Bool, false, ◌==◌, if◌then◌else◌, List, [], ◌∷◌, ◌++◌, length, map, string_bytes, Option, Some, None, is_some, slice_get}
 use Rattle.std.specs.List.{list_any}
 use Rattle.dcc_c.specs.declared.syntax.Base.TheVariants.{Uint}
 use Rattle.dcc_c.specs.Token.{same_bytes}
@@ -23,6 +23,7 @@ use Rattle.dcc_prepare.specs.declared.program.Action.{Action}
 use Rattle.dcc_prepare.specs.declared.program.Action.TheVariants.{Pass, Assign as Assigns, Call as Calls, Test, Switch, Goto, Return as Returns, Close, Stuck}
 use Rattle.dcc_prepare.specs.declared.program.Row.{Row}
 use Rattle.dcc_prepare.specs.declared.program.Label.{Label}
+use Rattle.dcc_value.specs.Places.{first_place}
 use Rattle.dcc_value.specs.Resolved.{Names, Stands}
 
 -- Names.
@@ -59,11 +60,13 @@ MayGo tree points None (Some rest) = ⊥
 
 -- Labels.
 
+-- the names of labels
+abbrev pub label_words : List Label → List Word
+label_words labels = map (λ l. string_bytes l.name) labels
+
 -- the number of the label with the name
 abbrev pub label_named : List Label → Word → Option ℕ
-label_named [] word = None
-label_named (l ∷ labels) word =
-    if same_bytes (string_bytes l.name) word then Some 0 else option_map suc (label_named labels word)
+label_named labels word = first_place (label_words labels) word
 
 -- the point of the label with this number
 abbrev pub label_point : List Label → ℕ → Option ℕ

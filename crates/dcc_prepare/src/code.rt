@@ -5,45 +5,53 @@ ghost use Rattle.dcc_c.specs.Token.{same_bytes};
 ghost use Rattle.dcc_c.specs.Tree.{Word};
 ghost use Rattle.dcc_c.specs.Views.{expr_of};
 ghost use Rattle.dcc_value.specs.Resolved.{names_of};
-ghost use Rattle.dcc_prepare.specs.Points.{StandsIf, StandAll, label_named, point_named};
-ghost use Rattle.dcc_prepare.specs.Emission.{KeepNumbers};
+ghost use Rattle.dcc_value.specs.Places.{AreFirst};
+ghost use Rattle.dcc_prepare.specs.Points.{StandsIf, StandAll, label_words, label_named, point_named};
 
 use crate::program::{Action, Label, Row};
-use dcc_c::{CExpr, Func};
+use dcc_c::CExpr;
 use dcc_value::expression::Resolved;
+use dcc_value::places::{add_place, place_of};
 use dcc_value::resolve::resolve;
 use dcc_value::variable::Names;
 use std::alloc::{AllocError, Global};
+use std::collections::BTreeMap;
 
 /// The points of a function that are made so far.
 #[derive(Drop)]
-pub struct Code {
+pub struct Code<'a> {
     /// The points.
     pub rows: Vec<Row>,
     /// The labels.
     pub labels: Vec<Label>,
+    // The number of the label with each name.
+    places: BTreeMap<&'a str, usize>,
+    ghost first: { AreFirst places (label_words labels.items) },
 }
 
 /// What the points of a function are made with: what its statements may name, and memory.
 #[derive(Clone, Copy)]
-pub struct Context<'a> {
+pub struct Context<'a, 'l, 'g> {
     /// Where the points are allocated.
     pub alloc: Global,
     /// The variables.
-    pub names: &'a Names<'a>,
-    /// The functions of the text.
-    pub functions: &'a [Func],
+    pub names: &'a Names<'a, 'l, 'g>,
+    /// The numbers of the functions of the text.
+    pub functions: &'a BTreeMap<&'g str, usize>,
 }
 
-impl Code {
+impl<'a> Code<'a> {
+    ghost use Rattle.dcc_prepare.specs.Emission.{KeepNumbers};
+
     /// No point.
-    pub fn new(alloc: Global) -> Code
+    pub fn new(alloc: Global) -> Code<'a>
         ensures rows { result.rows.items ≡ [] }
         ensures labels { result.labels.items ≡ [] }
     {
         Code {
             rows: Vec::new(alloc),
             labels: Vec::new(alloc),
+            places: BTreeMap::new(alloc),
         }
     }
 
@@ -71,7 +79,7 @@ impl Code {
     }
 
     /// The number of the label with the name, which may be a new one.
-    pub fn label(&mut self, alloc: Global, name: &str) -> Result<usize, AllocError>
+    pub fn label(&mut self, alloc: Global, name: &'a str) -> Result<usize, AllocError>
         ensures number { IfOk result (λ number. label_named self.new.labels.items name.now ≡ Some number) }
         ensures known { (number : ℕ) → label_named self.old.labels.items name.now ≡ Some number →
             self.new.labels ≡ self.old.labels }
@@ -80,14 +88,14 @@ impl Code {
             point_named self.new.labels.items word ≡ point_named self.old.labels.items word }
         ensures rows { self.new.rows ≡ self.old.rows }
     {
-        match label_named(&self.labels, name) {
+        match place_of(&self.places, name) {
             Some(number) => Ok(number),
             None => self.add_label(alloc, name),
         }
     }
 
     // A new label, whose number is the answer.
-    fn add_label(&mut self, alloc: Global, name: &str) -> Result<usize, AllocError>
+    fn add_label(&mut self, alloc: Global, name: &'a str) -> Result<usize, AllocError>
         ensures number { label_named self.old.labels.items name.now ≡ None →
             IfOk result (λ number. label_named self.new.labels.items name.now ≡ Some number) }
         ensures numbers { KeepNumbers self.old.labels.items self.new.labels.items }
@@ -96,13 +104,25 @@ impl Code {
         ensures rows { self.new.rows ≡ self.old.rows }
     {
         let number = self.labels.len();
-        let name = String::from_str(alloc, name)?;
-        self.labels.push(Label { name, point: None })?;
+        let own = String::from_str(alloc, name)?;
+        self.labels.push(Label {
+            name: own,
+            point: None,
+        })?;
+        if let Err(failed) = add_place(&mut self.places, name, number) {
+            let _ = self.labels.pop();
+            return Err(failed);
+        }
         Ok(number)
     }
 
     /// The label with the name stands at this point.
-    pub fn place_label(&mut self, alloc: Global, name: &str, point: usize) -> Result<(), AllocError>
+    pub fn place_label(
+        &mut self,
+        alloc: Global,
+        name: &'a str,
+        point: usize,
+    ) -> Result<(), AllocError>
         ensures numbers { KeepNumbers self.old.labels.items self.new.labels.items }
         ensures points { (word : Word) → OnOk result (point_named self.new.labels.items word
             ≡ (if same_bytes name.now word then Some point else point_named self.old.labels.items word)) }
@@ -116,22 +136,10 @@ impl Code {
     }
 }
 
-// The number of the label with the name.
-fn label_named(labels: &[Label], name: &str) -> Option<usize>
-    ensures { result ≡ label_named labels.now name.now }
-{
-    for (i, label) in labels.iter().enumerate() {
-        if label.name.as_str() == name {
-            return Some(i);
-        }
-    }
-    None
-}
-
 /// Resolves an expression, where there is one.
 pub fn resolve_option(
     alloc: Global,
-    names: &Names<'_>,
+    names: &Names<'_, '_, '_>,
     e: &Option<CExpr>,
 ) -> Result<Option<Resolved>, AllocError>
     ensures { IfOk result (λ r. StandsIf (names_of names.now) (option_map expr_of e.now) r) }
@@ -145,7 +153,7 @@ pub fn resolve_option(
 /// Resolves expressions.
 pub fn resolve_all(
     alloc: Global,
-    names: &Names<'_>,
+    names: &Names<'_, '_, '_>,
     list: &[CExpr],
 ) -> Result<Vec<Resolved>, AllocError>
     ensures { IfOk result (λ rs. StandAll (names_of names.now) (map expr_of list.now) rs.items) }

@@ -3,18 +3,21 @@
 
 ghost use Rattle.std.specs.Prelude.{◌≡◌, ℕ, Bool, List, map, Option, None, Some, IfOk, MatchOption, string_bytes, slice_get, option_map};
 ghost use Rattle.dcc_c.specs.Tree.{Lines, line as before_lines, Arms, Assign, If, While, DoWhile, Switch, Goto, Label, Return, Function, Tree};
-ghost use Rattle.dcc_c.specs.Run.{Continuation, runs, tests, turns, from_label, from_label_inside, from_label_in_arms, default_body, ends_switch, State, step_at, jump_step, goes_on, function_in};
+ghost use Rattle.dcc_c.specs.Run.{Continuation, runs, tests, turns, from_label, from_label_inside, from_label_in_arms, default_body, ends_switch, State, step_at, jump_step, goes_on};
 ghost use Rattle.dcc_c.specs.Dos.{dos_of};
-ghost use Rattle.dcc_c.specs.Views.{expr_of, stmt_of, lines_of, arms_of, function_of, arms_if};
+ghost use Rattle.dcc_c.specs.Views.{expr_of, stmt_of, lines_of, arms_of, arms_if};
 ghost use Rattle.dcc_prepare.specs.Points.{Goes, MayGo, AreRows, IsCallee, StandsIf, StandAll, dos_call};
 ghost use Rattle.dcc_value.specs.Resolved.{names_of};
-ghost use Rattle.dcc_prepare.specs.Emission.{Emits, EmitsArms, EmitsIn, EmitsBefore, EmitsStmt, Leads, IsContext};
+ghost use Rattle.dcc_prepare.specs.Emission.{Emits, EmitsArms, EmitsIn, EmitsBefore, EmitsStmt, Leads, IsContext, function_names};
+ghost use Rattle.dcc_value.specs.Places.{AreFirst};
 
 use crate::code::{Code, Context, resolve_all, resolve_option};
 use crate::program::{Action, CallRow, Callee, Case, Dos};
-use dcc_c::{Arm, CExpr, CStmt, Func, Line};
+use dcc_c::{Arm, CExpr, CStmt, Line};
+use dcc_value::places::place_of;
 use dcc_value::resolve::resolve;
 use std::alloc::{AllocError, Global};
+use std::collections::BTreeMap;
 
 /// The points after a statement.
 #[derive(Clone, Copy)]
@@ -59,11 +62,11 @@ impl Following {
 
 /// Makes the points of statements. The answer is the point where they begin.
 #[cycle(emit)]
-pub fn emit_lines(
-    context: &Context<'_>,
-    lines: &[Line],
+pub fn emit_lines<'a>(
+    context: &Context<'_, '_, '_>,
+    lines: &'a [Line],
     following: Following,
-    code: &mut Code,
+    code: &mut Code<'a>,
 ) -> Result<usize, AllocError>
     ensures { (rest : Continuation) → EmitsBefore context.now code.old code.new result following rest
         (λ word. from_label word (lines_of lines.now) rest) (runs (lines_of lines.now) rest) }
@@ -80,12 +83,12 @@ pub fn emit_lines(
 
 // Makes the points of a statement. The answer is the point where it begins.
 #[cycle(emit)]
-fn emit_stmt(
-    context: &Context<'_>,
-    stmt: &CStmt,
+fn emit_stmt<'a>(
+    context: &Context<'_, '_, '_>,
+    stmt: &'a CStmt,
     line: u32,
     following: Following,
-    code: &mut Code,
+    code: &mut Code<'a>,
 ) -> Result<usize, AllocError>
     ensures { (lines : Lines) (rest : Continuation) →
         EmitsBefore context.now code.old code.new result following (runs lines rest)
@@ -126,12 +129,12 @@ fn emit_stmt(
 
 // Makes the point of an assignment.
 fn emit_assign(
-    context: &Context<'_>,
+    context: &Context<'_, '_, '_>,
     place: &CExpr,
     e: &CExpr,
     line: u32,
     next: usize,
-    code: &mut Code,
+    code: &mut Code<'_>,
 ) -> Result<usize, AllocError>
     ensures { EmitsStmt context.now code.old code.new result next
         (Assign (expr_of place.now) (expr_of e.now)) line }
@@ -143,7 +146,7 @@ fn emit_assign(
 
 // A call of the function or the DOS call with the name.
 fn call_row(
-    context: &Context<'_>,
+    context: &Context<'_, '_, '_>,
     place: &Option<CExpr>,
     name: &str,
     arguments: &[CExpr],
@@ -152,7 +155,7 @@ fn call_row(
 ) -> Result<CallRow, AllocError>
     ensures place { IfOk result
         (λ row. StandsIf (names_of context.now.names.now) (option_map expr_of place.now) row.place) }
-    ensures callee { (tree : Tree) → map function_of context.now.functions.now ≡ tree.functions →
+    ensures callee { (tree : Tree) → AreFirst context.now.functions.now (function_names tree) →
         IfOk result (λ row. IsCallee tree name.now row.callee) }
     ensures arguments { IfOk result
         (λ row. StandAll (names_of context.now.names.now) (map expr_of arguments.now) row.arguments.items) }
@@ -171,13 +174,13 @@ fn call_row(
 // Makes the points of the body of an `if`, where the point of its other body is given, and then that of its test. The
 // answer is the point of the test.
 #[cycle(emit)]
-fn emit_if(
-    context: &Context<'_>,
+fn emit_if<'a>(
+    context: &Context<'_, '_, '_>,
     test: &Tested<'_>,
-    body: &[Line],
+    body: &'a [Line],
     no: usize,
     following: Following,
-    code: &mut Code,
+    code: &mut Code<'a>,
 ) -> Result<usize, AllocError>
     ensures { (otherwise lines : Lines) (rest : Continuation) → EmitsIn context.now code.old code.new result
         (λ tree points. Leads tree points following (runs lines rest)
@@ -192,12 +195,12 @@ fn emit_if(
 
 // Makes the points of a `while`. The answer is the point where it is tested first.
 #[cycle(emit)]
-fn emit_while(
-    context: &Context<'_>,
+fn emit_while<'a>(
+    context: &Context<'_, '_, '_>,
     test: &Tested<'_>,
-    body: &[Line],
+    body: &'a [Line],
     next: usize,
-    code: &mut Code,
+    code: &mut Code<'a>,
 ) -> Result<usize, AllocError>
     ensures { EmitsStmt context.now code.old code.new result next
         (While (expr_of test.now.e.now) (lines_of body.now)) test.now.line }
@@ -209,12 +212,12 @@ fn emit_while(
 
 // Makes the points of a `do`. The answer is the point where it begins.
 #[cycle(emit)]
-fn emit_do_while(
-    context: &Context<'_>,
+fn emit_do_while<'a>(
+    context: &Context<'_, '_, '_>,
     test: &Tested<'_>,
-    body: &[Line],
+    body: &'a [Line],
     next: usize,
-    code: &mut Code,
+    code: &mut Code<'a>,
 ) -> Result<usize, AllocError>
     ensures { EmitsStmt context.now code.old code.new result next
         (DoWhile (lines_of body.now) (expr_of test.now.e.now)) test.now.line }
@@ -226,13 +229,13 @@ fn emit_do_while(
 // Makes the points of the arms of a `switch`, where the point of its default arm is given, and then that of its value.
 // The answer is the point of the value.
 #[cycle(emit)]
-fn emit_switch(
-    context: &Context<'_>,
+fn emit_switch<'a>(
+    context: &Context<'_, '_, '_>,
     test: &Tested<'_>,
-    arms: &[Arm],
+    arms: &'a [Arm],
     otherwise: usize,
     inside: Following,
-    code: &mut Code,
+    code: &mut Code<'a>,
 ) -> Result<usize, AllocError>
     ensures { (last : Arms) (lines : Lines) (rest : Continuation) → EmitsIn context.now code.old code.new result
         (λ tree points. Leads tree points inside (ends_switch (runs lines rest))
@@ -246,7 +249,12 @@ fn emit_switch(
 }
 
 // Makes the point of a `goto`.
-fn emit_goto(alloc: Global, name: &str, line: u32, code: &mut Code) -> Result<usize, AllocError>
+fn emit_goto<'a>(
+    alloc: Global,
+    name: &'a str,
+    line: u32,
+    code: &mut Code<'a>,
+) -> Result<usize, AllocError>
     ensures { (tree : Tree) (f : Function) (is_open : ℕ → Bool) (points : List Continuation)
         (lines : Lines) (rest : Continuation) →
         AreRows tree f is_open points code.old.rows.items code.old.labels.items →
@@ -258,12 +266,12 @@ fn emit_goto(alloc: Global, name: &str, line: u32, code: &mut Code) -> Result<us
 }
 
 // Makes the point of a label, which then stands there.
-fn emit_label(
+fn emit_label<'a>(
     alloc: Global,
-    name: &str,
+    name: &'a str,
     line: u32,
     next: usize,
-    code: &mut Code,
+    code: &mut Code<'a>,
 ) -> Result<usize, AllocError>
     ensures { (tree : Tree) (f : Function) (is_open : ℕ → Bool) (points : List Continuation)
         (lines : Lines) (rest : Continuation) →
@@ -280,10 +288,10 @@ fn emit_label(
 
 // Makes the point of a `return`.
 fn emit_return(
-    context: &Context<'_>,
+    context: &Context<'_, '_, '_>,
     e: &Option<CExpr>,
     line: u32,
-    code: &mut Code,
+    code: &mut Code<'_>,
 ) -> Result<usize, AllocError>
     ensures { (tree : Tree) (f : Function) (is_open : ℕ → Bool) (points : List Continuation)
         (lines : Lines) (rest : Continuation) →
@@ -296,7 +304,7 @@ fn emit_return(
 }
 
 // Makes the point of a jump to a point, where there is one.
-fn emit_jump(line: u32, to: Option<usize>, code: &mut Code) -> Result<usize, AllocError>
+fn emit_jump(line: u32, to: Option<usize>, code: &mut Code<'_>) -> Result<usize, AllocError>
     ensures { (tree : Tree) (f : Function) (is_open : ℕ → Bool) (points : List Continuation)
         (own following : Continuation) (target : Option Continuation) →
         AreRows tree f is_open points code.old.rows.items code.old.labels.items → MayGo tree points to target →
@@ -312,12 +320,12 @@ fn emit_jump(line: u32, to: Option<usize>, code: &mut Code) -> Result<usize, All
 // Makes the points of a body that is executed again as long as the value is not 0, and then that of its test. The
 // answer is the point where the body begins.
 #[cycle(emit)]
-fn emit_repeated(
-    context: &Context<'_>,
+fn emit_repeated<'a>(
+    context: &Context<'_, '_, '_>,
     test: &Tested<'_>,
-    body: &[Line],
+    body: &'a [Line],
     next: usize,
-    code: &mut Code,
+    code: &mut Code<'a>,
 ) -> Result<usize, AllocError>
     ensures { (rest : Continuation) →
         let turn = tests (expr_of test.now.e.now) (lines_of body.now) test.now.line rest in
@@ -333,12 +341,12 @@ fn emit_repeated(
 
 // Makes the points of a body that is executed again and again. The answer is the point of its turn.
 #[cycle(emit)]
-fn emit_forever(
-    context: &Context<'_>,
-    body: &[Line],
+fn emit_forever<'a>(
+    context: &Context<'_, '_, '_>,
+    body: &'a [Line],
     line: u32,
     next: usize,
-    code: &mut Code,
+    code: &mut Code<'a>,
 ) -> Result<usize, AllocError>
     ensures { (rest : Continuation) →
         let turn = turns (lines_of body.now) rest in
@@ -353,11 +361,11 @@ fn emit_forever(
 
 // Makes the points of the arms of a `switch`, the last arm first.
 #[cycle(emit)]
-fn emit_arms(
-    context: &Context<'_>,
-    arms: &[Arm],
+fn emit_arms<'a>(
+    context: &Context<'_, '_, '_>,
+    arms: &'a [Arm],
     following: Following,
-    code: &mut Code,
+    code: &mut Code<'a>,
 ) -> Result<Vec<Case>, AllocError>
     ensures { (tree : Tree) (f : Function) (is_open : ℕ → Bool) (points : List Continuation)
         (rest : Continuation) →
@@ -381,11 +389,11 @@ fn emit_arms(
 
 // Makes the points of the default arm of a `switch`, where there is one. The answer is the point where it begins.
 #[cycle(emit)]
-fn emit_default(
-    context: &Context<'_>,
-    last: &Option<Arm>,
+fn emit_default<'a>(
+    context: &Context<'_, '_, '_>,
+    last: &'a Option<Arm>,
     following: Following,
-    code: &mut Code,
+    code: &mut Code<'a>,
 ) -> Result<usize, AllocError>
     ensures { (rest : Continuation) → EmitsBefore context.now code.old code.new result following rest
         (λ word. from_label_in_arms word (arms_if last.now) rest) (runs (default_body (arms_if last.now)) rest) }
@@ -397,12 +405,12 @@ fn emit_default(
 }
 
 // What has the name: a DOS call, or else the first of the functions with it.
-fn callee(functions: &[Func], name: &str) -> Callee
-    ensures { (tree : Tree) → map function_of functions.now ≡ tree.functions → IsCallee tree name.now result }
+fn callee(functions: &BTreeMap<&str, usize>, name: &str) -> Callee
+    ensures { (tree : Tree) → AreFirst functions.now (function_names tree) → IsCallee tree name.now result }
 {
     match dos_of(name) {
         Some(dos) => Callee::Dos(dos),
-        None => match function_in(functions, name) {
+        None => match place_of(functions, name) {
             Some(number) => Callee::Function(number),
             None => Callee::Unknown,
         },
@@ -421,18 +429,4 @@ fn dos_of(name: &str) -> Option<Dos>
         "dos_exit" => Some(Dos::Leave),
         _ => None,
     }
-}
-
-// The first of the functions with the name.
-fn function_in(functions: &[Func], name: &str) -> Option<usize>
-    ensures { MatchOption result (function_in (map function_of functions.now) name.now ≡ None)
-        (λ number. (f : Function) × (function_in (map function_of functions.now) name.now ≡ Some f)
-        × (slice_get (map function_of functions.now) number ≡ Some f)) }
-{
-    for (i, function) in functions.iter().enumerate() {
-        if function.name.as_str() == name {
-            return Some(i);
-        }
-    }
-    None
 }

@@ -9,3 +9,4 @@ pub mod placement;
 pub mod prepare;
 pub mod program;
 pub mod start;
+mod taken;

@@ -1,13 +1,14 @@
 //! From a text to a program that is ready to run.
 
-ghost use Rattle.std.specs.Prelude.{◌≡◌, ◌++◌, ℕ, List, [], map, Option, IfOk, OnOk};
+ghost use Rattle.std.specs.Prelude.{◌≡◌, ◌++◌, ℕ, List, [], map, string_bytes, Option, IfOk, OnOk};
 ghost use Rattle.dcc_c.specs.Tree.{Word, Function, Tree};
 ghost use Rattle.dcc_c.specs.Rules.{declared_global};
 ghost use Rattle.dcc_c.specs.Run.{Continuation, runs, ends_function, after_goto, global_binding};
 ghost use Rattle.dcc_c.specs.Views.{variable_of, global_of, function_of, tree_of};
 ghost use Rattle.dcc_value.specs.Evaluation.{declared_of, bindings_named};
 ghost use Rattle.dcc_prepare.specs.Points.{Goes, MayGo, point_named, declared_with, AreRows};
-ghost use Rattle.dcc_prepare.specs.Emission.{IsContext};
+ghost use Rattle.dcc_prepare.specs.Emission.{IsContext, function_names};
+ghost use Rattle.dcc_value.specs.Places.{AreFirst};
 ghost use Rattle.dcc_prepare.specs.Programs.{none_open, place_in, AreVariables, IsProcedure, IsProgram};
 ghost use Rattle.dcc_prepare.specs.Prepared.{IsBody, HasPoints, name_declared, names_declared};
 
@@ -16,17 +17,22 @@ use crate::emit::{Following, emit_lines};
 use crate::placement::{locals_of, params_of};
 use crate::program::{Action, Procedure, Program, Variable};
 use dcc_c::{Func, Global_, Unit, Var};
+use dcc_value::declarations::Declarations;
+use dcc_value::places::add_place;
 use dcc_value::variable::{Binding, Declared, Names, Storage};
 use std::alloc::{AllocError, Global};
+use std::collections::BTreeMap;
 
 /// The program of a text.
 pub fn prepare(alloc: Global, unit: &Unit) -> Result<Program, AllocError>
     ensures { IfOk result (λ program. (points : ℕ → List Continuation) × IsProgram (tree_of unit.now) points program) }
 {
     let globals = declared_globals(alloc, &unit.globals)?;
+    let globals = Declarations::new(alloc, &globals)?;
+    let functions = function_places(alloc, &unit.funcs)?;
     let mut procedures = Vec::new(alloc);
     for function in &unit.funcs {
-        procedures.push(procedure(alloc, &globals, &unit.funcs, function)?)?;
+        procedures.push(procedure(alloc, &globals, &functions, function)?)?;
     }
     Ok(Program {
         globals: global_bindings(alloc, &unit.globals)?,
@@ -34,15 +40,29 @@ pub fn prepare(alloc: Global, unit: &Unit) -> Result<Program, AllocError>
     })
 }
 
-// A function made ready to run.
-fn procedure(
+// The number of the first function with each name.
+fn function_places<'a>(
     alloc: Global,
-    globals: &[Declared],
-    functions: &[Func],
+    functions: &'a [Func],
+) -> Result<BTreeMap<&'a str, usize>, AllocError>
+    ensures { IfOk result (λ places. AreFirst places (map (λ f. string_bytes f.name) functions.now)) }
+{
+    let mut places = BTreeMap::new(alloc);
+    for (i, function) in functions.iter().enumerate() {
+        add_place(&mut places, function.name.as_str(), i)?;
+    }
+    Ok(places)
+}
+
+// A function made ready to run.
+fn procedure<'g>(
+    alloc: Global,
+    globals: &Declarations<'g>,
+    functions: &BTreeMap<&'g str, usize>,
     function: &Func,
 ) -> Result<Procedure, AllocError>
-    ensures { (tree : Tree) → map declared_of globals.now ≡ map declared_global tree.globals →
-        map function_of functions.now ≡ tree.functions →
+    ensures { (tree : Tree) → map declared_of globals.now.list.now ≡ map declared_global tree.globals →
+        AreFirst functions.now (function_names tree) →
         IfOk result (HasPoints tree (function_of function.now)) }
 {
     let params = params_of(alloc, &function.body, &function.params)?;
@@ -50,8 +70,9 @@ fn procedure(
     let mut names = Vec::new(alloc);
     declare(alloc, &function.params, &params, &mut names)?;
     declare(alloc, &function.locals, &locals, &mut names)?;
+    let own = Declarations::new(alloc, &names)?;
     let names = Names {
-        locals: &names,
+        locals: &own,
         globals,
     };
     let context = Context {
@@ -61,7 +82,7 @@ fn procedure(
     };
     let mut code = Code::new(alloc);
     let entry = body(&context, function, &mut code)?;
-    let Code { rows, labels } = code;
+    let Code { rows, labels, .. } = code;
     Ok(Procedure {
         is_start: function.name.as_str() == "start",
         result: function.result,
@@ -74,7 +95,11 @@ fn procedure(
 }
 
 // Makes the points of a function. The answer is the point where its body begins.
-fn body(context: &Context<'_>, function: &Func, code: &mut Code) -> Result<usize, AllocError>
+fn body<'a>(
+    context: &Context<'_, '_, '_>,
+    function: &'a Func,
+    code: &mut Code<'a>,
+) -> Result<usize, AllocError>
     ensures { (tree : Tree) →
         IsContext context.now tree (function_of function.now) →
         code.old.rows.items ≡ [] →

@@ -1,5 +1,5 @@
 -- The values, variables and outcomes that those of the interpreter stand for.
-use Rattle.std.specs.Prelude.{List, [], ◌∷◌, string_bytes, Result, Ok, Err}
+use Rattle.std.specs.Prelude.{List, [], ◌∷◌, map, string_bytes, Result, Ok, Err}
 use Rattle.dcc_value.specs.declared.value.Value.{Value as Held}
 use Rattle.dcc_value.specs.declared.value.NoValue.{NoValue}
 use Rattle.dcc_value.specs.declared.value.NoValue.TheVariants.{Divides as Faults, Undefined as Meaningless}
@@ -50,3 +50,7 @@ bindings_named _ _ = []
 -- what a name is declared as
 abbrev pub declared_of : Named → Declared
 declared_of d = record { name = string_bytes d.name; type = d.ty; is_array = d.is_array; is_placed = d.is_placed }
+
+-- the names of declarations
+abbrev pub names_declared : List Named → List Word
+names_declared ds = map (λ d. string_bytes d.name) ds

@@ -1,4 +1,5 @@
 pub mod Evaluation
+pub mod Places
 pub mod Resolved
 pub use Rattle.dcc_c.specs.Types
 pub use Rattle.dcc_c.specs.Memory

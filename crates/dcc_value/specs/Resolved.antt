@@ -1,9 +1,8 @@
 -- What resolved expressions come to, and the expressions of a text that they stand for.
-use Rattle.std.specs.Prelude.{◌≡◌, ℕ, suc, true, false, if◌then◌else◌, List, [], ◌∷◌, ◌++◌, map, Option, Some, None, option_map, slice_get}
+use Rattle.std.specs.Prelude.{◌≡◌, ℕ, true, false, if◌then◌else◌, List, [], ◌++◌, map, Option, Some, None, option_map, slice_get}
 use Rattle.std.specs.List.{list_all}
 use denote.Ref.{Bor}
 use Rattle.dcc_c.specs.declared.syntax.CType.{CType}
-use Rattle.dcc_c.specs.Token.{same_bytes}
 use Rattle.dcc_c.specs.Types.{plain, size_of}
 use Rattle.dcc_c.specs.Memory.{store}
 use Rattle.dcc_c.specs.Tree.{Word, Expr}
@@ -19,6 +18,7 @@ use Rattle.dcc_value.specs.declared.expression.Target.{Target as Place}
 use Rattle.dcc_value.specs.declared.expression.Target.TheVariants.{Local as ToLocal, Memory as Into}
 use Rattle.dcc_value.specs.declared.expression.Resolved.{Resolved, Constant, Variable, AddressOf, Load', Unary', Either', Both', Binary', Choose', Cast', Meaningless}
 use Rattle.dcc_value.specs.Evaluation.{typed, unnamed, bindings_named, declared_of}
+use Rattle.dcc_value.specs.Places.{first_place}
 
 -- what resolved expressions are evaluated over
 pub record Scene : Type 0 where
@@ -81,7 +81,10 @@ pub record Names : Type 0 where
   pub globals : List Declared
 
 abbrev pub names_of : Given → Names
-names_of n = record { locals = map declared_of n.locals.now; globals = map declared_of n.globals.now }
+names_of n = record {
+  locals = map declared_of n.locals.now.list.now;
+  globals = map declared_of n.globals.now.list.now;
+}
 
 -- the variables are declared as the names are, and the global ones are in memory
 pub record Fits (names : Names) (scene : Scene) : Type 0 where
@@ -98,8 +101,7 @@ scope_over names scene = record {
 
 -- the place of the first with the name
 abbrev pub index_named : List Declared → Word → Option ℕ
-index_named [] word = None
-index_named (d ∷ names) word = if same_bytes d.name word then Some 0 else option_map suc (index_named names word)
+index_named names word = first_place (map (λ (d : Declared). d.name) names) word
 
 -- the place of the variable with the name
 abbrev pub slot_named : Names → Word → Option Slot

@@ -8,6 +8,7 @@ ghost use Rattle.dcc_c.specs.Views.{expr_of};
 ghost use Rattle.dcc_value.specs.Evaluation.{declared_of};
 ghost use Rattle.dcc_value.specs.Resolved.{Names as NamesOf, names_of, all_names, index_named, slot_named, lent_declared, Stands};
 
+use crate::declarations::Declarations;
 use crate::expression::{Resolved, Slot};
 use crate::value::number;
 use crate::variable::{Declared, Names};
@@ -17,19 +18,14 @@ use dcc_types::operators::{arms_type, binary_type, both_arms_type, unary_type};
 use std::alloc::{AllocError, Global};
 
 // The place of the first with the name.
-fn index_named(names: &[Declared], name: &str) -> Option<usize>
-    ensures { result ≡ index_named (map declared_of names.now) name.now }
+fn index_named(names: &Declarations<'_>, name: &str) -> Option<usize>
+    ensures { result ≡ index_named (map declared_of names.now.list.now) name.now }
 {
-    for (i, declared) in names.iter().enumerate() {
-        if declared.name.as_str() == name {
-            return Some(i);
-        }
-    }
-    None
+    names.find(name)
 }
 
 // The place of the variable with the name.
-fn slot_named(names: &Names<'_>, name: &str) -> Option<Slot>
+fn slot_named(names: &Names<'_, '_, '_>, name: &str) -> Option<Slot>
     ensures { result ≡ slot_named (names_of names.now) name.now }
 {
     match index_named(names.locals, name) {
@@ -39,14 +35,15 @@ fn slot_named(names: &Names<'_>, name: &str) -> Option<Slot>
 }
 
 // The declaration at a place.
-fn declared_at(declared: &[Declared], i: usize) -> Option<&Declared>
-    ensures { option_map lent_declared result ≡ slice_get (map declared_of declared.now) i }
+fn declared_at<'a>(declared: &'a Declarations<'_>, i: usize) -> Option<&'a Declared>
+    ensures { option_map lent_declared result ≡ slice_get (map declared_of declared.now.list.now) i }
 {
-    declared.get(i)
+    let list: &'a [Declared] = declared.list;
+    list.get(i)
 }
 
 // What the name is declared as.
-fn declared_as<'a>(names: &Names<'a>, name: &str) -> Option<&'a Declared>
+fn declared_as<'a>(names: &Names<'a, '_, '_>, name: &str) -> Option<&'a Declared>
     ensures { option_map lent_declared result ≡ declared_as (all_names (names_of names.now)) name.now }
 {
     match slot_named(names, name)? {
@@ -56,7 +53,7 @@ fn declared_as<'a>(names: &Names<'a>, name: &str) -> Option<&'a Declared>
 }
 
 /// The type of an expression, or none where a name is not declared or an operand not allowed.
-pub fn type_of(names: &Names<'_>, e: &CExpr) -> Option<CType>
+pub fn type_of(names: &Names<'_, '_, '_>, e: &CExpr) -> Option<CType>
     ensures { result ≡ type_of (all_names (names_of names.now)) (expr_of e.now) }
 {
     match e {
@@ -85,7 +82,7 @@ pub fn type_of(names: &Names<'_>, e: &CExpr) -> Option<CType>
 }
 
 // The type of `?:` by its last two operands, where they have one.
-fn type_of_arms(names: &Names<'_>, b: &CExpr, c: &CExpr) -> Option<CType>
+fn type_of_arms(names: &Names<'_, '_, '_>, b: &CExpr, c: &CExpr) -> Option<CType>
     ensures { result ≡ both_arms_type
         (type_of (all_names (names_of names.now)) (expr_of b.now))
         (type_of (all_names (names_of names.now)) (expr_of c.now)) }
@@ -94,7 +91,7 @@ fn type_of_arms(names: &Names<'_>, b: &CExpr, c: &CExpr) -> Option<CType>
 }
 
 // The value of a variable.
-fn resolve_name(names: &Names<'_>, name: &str) -> Resolved
+fn resolve_name(names: &Names<'_, '_, '_>, name: &str) -> Resolved
     ensures { Stands (names_of names.now) (Name name.now) result }
 {
     match slot_named(names, name) {
@@ -104,7 +101,7 @@ fn resolve_name(names: &Names<'_>, name: &str) -> Resolved
 }
 
 // `&` of an expression: only a variable has an address.
-fn resolve_address(names: &Names<'_>, a: &CExpr) -> Resolved
+fn resolve_address(names: &Names<'_, '_, '_>, a: &CExpr) -> Resolved
     ensures { Stands (names_of names.now) (Unary AddressOf (expr_of a.now)) result }
 {
     match a {
@@ -129,7 +126,7 @@ fn resolve_binary(operator: CBin, left: Box<Resolved>, right: Box<Resolved>) -> 
 }
 
 /// The expression with its names resolved; one that is not declared has no meaning.
-pub fn resolve(alloc: Global, names: &Names<'_>, e: &CExpr) -> Result<Resolved, AllocError>
+pub fn resolve(alloc: Global, names: &Names<'_, '_, '_>, e: &CExpr) -> Result<Resolved, AllocError>
     ensures { IfOk result (λ r. Stands (names_of names.now) (expr_of e.now) r) }
 {
     match e {

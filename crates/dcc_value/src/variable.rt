@@ -5,6 +5,7 @@ ghost use Rattle.dcc_c.specs.Value.{variable_value, address_value, pointed_value
 ghost use Rattle.dcc_types.specs.NameViews.{unnamed as unnamed_declaration};
 ghost use Rattle.dcc_value.specs.Evaluation.{typed, outcome_of, unnamed, declared_of};
 
+use crate::declarations::Declarations;
 use crate::value::memory::loaded;
 use crate::value::{NoValue, Value};
 use dcc_c::CType;
@@ -57,11 +58,11 @@ impl Declared {
 
 /// The names that the expressions of a function may use.
 #[derive(Clone, Copy)]
-pub struct Names<'a> {
-    /// Its parameters and then its local variables, the first of which with a name counts.
-    pub locals: &'a [Declared],
+pub struct Names<'a, 'l, 'g> {
+    /// Its parameters and then its local variables.
+    pub locals: &'a Declarations<'l>,
     /// The global variables.
-    pub globals: &'a [Declared],
+    pub globals: &'a Declarations<'g>,
 }
 
 /// What expressions are evaluated over.

@@ -26,6 +26,7 @@ use Rattle.dcc_watch.specs.declared.progress.Progress.TheVariants.{AtStart, InPr
 use Rattle.dcc_watch.specs.declared.watched.Watched.{Watched}
 use Rattle.dcc_watch.specs.declared.watched.Watched.TheVariants.{Clean}
 use Rattle.dcc_watch.specs.Foul.{foul_in, told_foul}
+use Rattle.dcc_watch.specs.Accesses.{near}
 use Rattle.dcc_watch.specs.Following.{is_call, live_after, written_following}
 use Rattle.dcc_watch.specs.Marks.{no_marks}
 use Rattle.dcc_watch.specs.Shapes.{live_frame}
@@ -33,6 +34,7 @@ use Rattle.dcc_watch.specs.Watching.{Watching, AllHaveShapes, stage_of}
 use Rattle.dcc_watch.specs.Reached.{IsReached}
 use Rattle.dcc_watch.specs.Executor.{watched, outcome_of, foul_answer, is_stopped, is_refused, is_at_first, is_in_procedures, Tells}
 use Rattle.dcc_watch.proofs.StepLaws.{IsGoing, NextIs, next_is, none_before, made_so, Follows, refused_so, made_unless, fouled, stage-follows}
+use Rattle.dcc_watch.proofs.Beside.{near-following}
 use Rattle.dcc_watch.proofs.ReachedLaws.{reached-foul, reached-made, reached-room}
 
 -- what the code keeps, as contracts see it
@@ -160,7 +162,7 @@ foul_tells foul answer now is stopped = subst (λ a. Tells a now) (sym is) stopp
 
 -- where the run stands after a step in procedures that the code follows
 pub follow_after : (layout : Layout) (shapes : List Shape) (found : Option Instr) (live : List Live) (written : List Bool) (s t : State) (list : List Access) (top : ℕ)
-    (live_now : List Live) (written_now : List Bool) → list ≡ found_accesses found s → top ≡ top_in layout s
+    (live_now : List Live) (written_now : List Bool) → list ≡ near layout (found_accesses found s) → top ≡ top_in layout s
     → live_now ≡ live_after shapes found top live
     → written_now ≡ written_following layout found list top (top_in layout t) written
     → stage.InProcedures (record { frames = map live_frame live_now; written = written_now })
@@ -168,6 +170,7 @@ pub follow_after : (layout : Layout) (shapes : List Shape) (found : Option Instr
 follow_after layout shapes found live written s t list top live_now written_now list_is top_is lives writes =
     let w : written_now ≡ written_following layout found (found_accesses found s) (top_in layout s) (top_in layout t) written =
     writes ∙ ap (λ l. written_following layout found l top (top_in layout t) written) list_is
+    ∙ near-following layout found (found_accesses found s) top (top_in layout t) written
     ∙ ap (λ n. written_following layout found (found_accesses found s) n (top_in layout t) written) top_is in
     let l : live_now ≡ live_after shapes found (top_in layout s) live = lives ∙ ap (λ n. live_after shapes found n live) top_is in
     ap (λ (x : List Bool). stage.InProcedures (record { frames = map live_frame live_now; written = x })) w

@@ -2,7 +2,9 @@
 
 ghost use Rattle.std.specs.Prelude.{◌≡◌, ◌<◌, ◌^◌};
 ghost use Rattle.dcc_prog.specs.Access.{address_in};
-ghost use Rattle.dcc_watch.specs.Accesses.{access_of};
+ghost use Rattle.dcc_watch.specs.Accesses.{access_of, is_beside};
+
+use dcc_prog::Layout;
 
 /// Whether bytes are read or written.
 #[derive(Clone, Copy, PartialEq, Eq, Debug)]
@@ -47,5 +49,16 @@ impl Access {
     {
         let offset = ((u64::from(self.offset) + u64::from(k)) % 0x1_0000) as u32;
         (u32::from(self.segment) * 16 + offset) % 0x10_0000
+    }
+    /// Whether the two ends of the access tell that it touches no byte of the stack, which they do not where it wraps.
+    pub(crate) fn is_beside(self, layout: &Layout) -> bool
+        ensures { result ≡ is_beside layout.now (access_of self) }
+    {
+        let start = u64::from(self.segment) * 16 + u64::from(self.offset);
+        let end = start + u64::from(self.size);
+        let base = u64::from(layout.ds) * 16;
+        let is_whole = u64::from(self.offset) + u64::from(self.size) <= 0x1_0000
+            && end <= 0x10_0000;
+        is_whole && (end <= base + u64::from(layout.lo) || base + u64::from(layout.hi) <= start)
     }
 }

@@ -1,7 +1,8 @@
-//! The accesses of an operation, at most four, in the order of the machine.
+//! The accesses of an operation that may touch the stack, at most four, in the order of the machine.
 
 ghost use Rattle.std.specs.Prelude.{◌≡◌, ℕ, ◌+◌, ◌<◌, ◌≤◌, [], ◌∷◌, ◌++◌, length, List, IfSome, if◌then◌else◌};
-ghost use Rattle.dcc_prog.specs.declared.instr.Op.TheVariants.{Alu as AluOp, Pop, Int21};
+ghost use Rattle.dcc_prog.specs.declared.instr.Op.TheVariants.{Alu as AluOp, Push as PushOp, Pop, Int21};
+ghost use Rattle.dcc_prog.specs.declared.instr.Operand.TheVariants.{Mem as in_memory};
 ghost use Rattle.dcc_prog.specs.Writes.{writes_operand};
 ghost use Rattle.dcc_prog.specs.Machine.{with_operand, operand_value};
 ghost use Rattle.dcc_prog.specs.Operations.{with_sp_raised};
@@ -9,24 +10,25 @@ ghost use Rattle.dcc_prog.specs.Access as told;
 ghost use Rattle.dcc_prog.specs.Access.{is_direct, writes_back, operand_accesses, exchange_accesses, stack_access, push_access, dos_accesses, plain_accesses, string_size, accesses, found_accesses};
 ghost use Rattle.dcc_prog.specs.WellFormed.{IsOperand, AreOperands, IsOperation};
 ghost use Rattle.dcc_step.specs.Core.{state_of};
-ghost use Rattle.dcc_watch.specs.Accesses.{direction_of, kind_of, access_of, accesses_of};
+ghost use Rattle.dcc_watch.specs.Accesses.{direction_of, kind_of, access_of, accesses_of, near, is_memory, may_access};
 
 use crate::access::{Access, Direction, Kind};
 use dcc_num::{Half, Reg, Width, dos};
-use dcc_prog::{Alu, Ea, Instr, Op, Operand, Plain, Unary};
+use dcc_prog::{Alu, Ea, Instr, Layout, Op, Operand, Plain, Unary};
 use dcc_step::Machine;
 use std::marker::Model;
 
-// What stands where the list has no access.
+// What stands where the list has no access: all zeros, which is quickest.
 const NO_ACCESS: Access = Access {
     direction: Direction::Reading,
-    kind: Kind::Other,
+    kind: Kind::OfStack,
     segment: 0,
     offset: 0,
     size: 0,
 };
 
-/// At most four accesses.
+/// At most four accesses. Of those of an operation the ones that are told to lie beside the stack are left out, since the
+/// watch judges the bytes of the stack alone.
 #[derive(Drop)]
 pub(crate) struct Accesses {
     // The first `count` of these.
@@ -58,14 +60,17 @@ impl Accesses {
         }
     }
 
-    /// One more access, the last.
-    pub(crate) fn with(mut self, access: Access) -> Accesses
-        requires { length self < 4 }
-        ensures { result ≡ self ++ access_of access ∷ [] }
+    // One more access, the last, if it may touch the stack.
+    #[tactic(auto, unfolding(crate::specs::Accesses::near))]
+    fn add(&mut self, layout: &Layout, access: Access)
+        requires { length self.old < 4 }
+        ensures items { self.new ≡ self.old ++ near layout.now (access_of access ∷ []) }
+        ensures short { length self.new ≤ length self.old + 1 }
     {
-        self.items[self.count] = access;
-        self.count += 1;
-        self
+        if !access.is_beside(layout) {
+            self.items[self.count] = access;
+            self.count += 1;
+        }
     }
 
     /// The accesses.
@@ -73,6 +78,213 @@ impl Accesses {
         ensures { accesses_of result.now ≡ self.now }
     {
         &self.items[..self.count]
+    }
+
+    // That of an operand, where it lies in memory.
+    fn add_operand(&mut self, machine: &Machine, layout: &Layout, direction: Direction, x: Operand)
+        requires { length self.old < 4 }
+        ensures items { self.new ≡ self.old
+            ++ near layout.now (operand_accesses (direction_of direction) x (state_of machine.now)) }
+        ensures short { length self.new ≤ length self.old + 1 }
+    {
+        if let Operand::Mem(width, ea) = x {
+            self.add(
+                layout,
+                Access {
+                    direction,
+                    kind: kind_of(ea),
+                    segment: machine.segment(ea),
+                    offset: machine.offset(ea),
+                    size: bytes_in(width),
+                },
+            );
+        }
+    }
+
+    // Those of an operand that takes the value of another one, which is read before: of XCHG's second operand, which is
+    // written when the first one has taken its value.
+    fn add_exchanged(&mut self, machine: &Machine, layout: &Layout, a: Operand, b: Operand)
+        requires short { length self.old < 4 }
+        requires operands { AreOperands a b }
+        ensures { self.new ≡ self.old ++ near layout.now (operand_accesses told.Writing b
+            (with_operand (state_of machine.now) a (operand_value (state_of machine.now) b))) }
+    {
+        let Operand::Mem(width, ea) = b else {
+            return;
+        };
+        let value = machine.value(b);
+        let (segment, offset) = match a {
+            Operand::Word(r) => (machine.segment(ea), machine.offset_with(ea, r, value)),
+            Operand::Byte(r, half) => {
+                let word = half.put(machine.reg(r), value as u8);
+                (machine.segment(ea), machine.offset_with(ea, r, word))
+            }
+            Operand::Seg(number) => (machine.segment_with(ea, number, value), machine.offset(ea)),
+            Operand::Mem(..) | Operand::Const(..) => (machine.segment(ea), machine.offset(ea)),
+        };
+        self.add(
+            layout,
+            Access {
+                direction: Direction::Writing,
+                kind: kind_of(ea),
+                segment,
+                offset,
+                size: bytes_in(width),
+            },
+        );
+    }
+
+    // Those of XCHG: it reads both operands, and writes both after that.
+    fn add_exchange(&mut self, machine: &Machine, layout: &Layout, a: Operand, b: Operand)
+        requires empty { self.old ≡ [] }
+        requires operands { AreOperands a b }
+        ensures { self.new ≡ near layout.now (exchange_accesses a b (state_of machine.now)) }
+    {
+        self.add_operand(machine, layout, Direction::Reading, a);
+        self.add_operand(machine, layout, Direction::Reading, b);
+        self.add_operand(machine, layout, Direction::Writing, a);
+        self.add_exchanged(machine, layout, a, b);
+    }
+
+    // Those of POP: the word at the top of the stack is read, and the operand is written when SP has risen.
+    #[tactic(auto, using(crate::proofs::Beside::near_append, crate::proofs::Beside::near_none))]
+    fn add_pop(&mut self, machine: &Machine, layout: &Layout, x: Operand)
+        requires { self.old ≡ [] }
+        ensures { self.new ≡ near layout.now (accesses (Pop x) (state_of machine.now)) }
+    {
+        let sp = machine.reg(Reg::Sp);
+        self.add(layout, stack_access(machine, Direction::Reading, sp));
+        if let Operand::Mem(width, ea) = x {
+            self.add(layout, popped_access(machine, width, ea));
+        }
+    }
+
+    // Those of INT 21h: call 09h reads its string.
+    #[tactic(auto, using(crate::proofs::Beside::near_append, crate::proofs::Beside::near_none))]
+    fn add_dos(&mut self, machine: &Machine, layout: &Layout)
+        requires { self.old ≡ [] }
+        ensures { self.new ≡ near layout.now (accesses Int21 (state_of machine.now)) }
+    {
+        if Half::High.of(machine.reg(Reg::Ax)) == dos::PUTS {
+            let size = string_size(machine);
+            self.add(layout, other_read(machine.ds(), machine.reg(Reg::Dx), size));
+        }
+    }
+
+    // Those of an operation without operands: XLAT reads a byte.
+    #[tactic(auto, using(crate::proofs::Beside::near_append, crate::proofs::Beside::near_none))]
+    fn add_plain(&mut self, machine: &Machine, layout: &Layout, kind: Plain)
+        requires { self.old ≡ [] }
+        ensures { self.new ≡ near layout.now (plain_accesses kind (state_of machine.now)) }
+    {
+        if let Plain::Xlat = kind {
+            let al = Half::Low.of(machine.reg(Reg::Ax));
+            let offset = machine.reg(Reg::Bx).wrapping_add(u16::from(al));
+            self.add(layout, other_read(machine.ds(), offset, 1));
+        }
+    }
+
+    // Those of an operation that reads one operand, and then writes one where that is so.
+    #[tactic(auto, using(crate::proofs::Beside::near_append, crate::proofs::Beside::near_none))]
+    fn add_result(
+        &mut self,
+        machine: &Machine,
+        layout: &Layout,
+        read: Operand,
+        so: bool,
+        written: Operand,
+    )
+        requires { self.old ≡ [] }
+        ensures { self.new ≡ near layout.now (operand_accesses told.Reading read (state_of machine.now)
+            ++ told.result_accesses so written (state_of machine.now)) }
+    {
+        self.add_operand(machine, layout, Direction::Reading, read);
+        if so {
+            self.add_operand(machine, layout, Direction::Writing, written);
+        }
+    }
+
+    // Those of an operation on two operands.
+    #[tactic(auto, using(crate::proofs::Beside::near_append, crate::proofs::Beside::near_none))]
+    fn add_alu(&mut self, machine: &Machine, layout: &Layout, kind: Alu, a: Operand, b: Operand)
+        requires { self.old ≡ [] }
+        ensures { self.new ≡ near layout.now (accesses (AluOp kind a b) (state_of machine.now)) }
+    {
+        self.add_operand(machine, layout, Direction::Reading, a);
+        self.add_operand(machine, layout, Direction::Reading, b);
+        if writes_operand(kind) {
+            self.add_operand(machine, layout, Direction::Writing, a);
+        }
+    }
+
+    // Those of PUSH: the operand is read, and the word is stored below the top of the stack.
+    #[tactic(auto, using(crate::proofs::Beside::near_append, crate::proofs::Beside::near_none))]
+    fn add_push(&mut self, machine: &Machine, layout: &Layout, x: Operand)
+        requires { self.old ≡ [] }
+        ensures { self.new ≡ near layout.now (accesses (PushOp x) (state_of machine.now)) }
+    {
+        self.add_operand(machine, layout, Direction::Reading, x);
+        self.add(layout, push_access(machine));
+    }
+
+    // Those of an operation.
+    #[tactic(auto, using(crate::proofs::Beside::near_append, crate::proofs::Beside::near_none))]
+    fn add_operation(&mut self, machine: &Machine, layout: &Layout, op: Op)
+        requires empty { self.old ≡ [] }
+        requires operation { IsOperation op }
+        ensures { self.new ≡ near layout.now (accesses op (state_of machine.now)) }
+    {
+        match op {
+            Op::Alu(kind, a, b) => self.add_alu(machine, layout, kind, a, b),
+            Op::Unary(kind, a) => self.add_result(machine, layout, a, writes_back(kind), a),
+            Op::Shift(_, a, _) => self.add_result(machine, layout, a, true, a),
+            Op::Mov(to, from) => self.add_result(machine, layout, from, true, to),
+            Op::Xchg(a, b) => self.add_exchange(machine, layout, a, b),
+            Op::Imul3(_, a, _) => self.add_result(machine, layout, a, false, a),
+            Op::Push(a) => self.add_push(machine, layout, a),
+            Op::Pop(a) => self.add_pop(machine, layout, a),
+            Op::Enter(_) | Op::Call(_) => self.add(layout, push_access(machine)),
+            Op::Leave => {
+                self.add(
+                    layout,
+                    stack_access(machine, Direction::Reading, machine.reg(Reg::Bp)),
+                );
+            }
+            Op::Plain(kind) => self.add_plain(machine, layout, kind),
+            Op::Table(r, offset) => {
+                let at = machine.reg(r).wrapping_add(offset);
+                self.add(layout, other_read(machine.cs(), at, 2));
+            }
+            Op::Ret(_) => {
+                self.add(
+                    layout,
+                    stack_access(machine, Direction::Reading, machine.reg(Reg::Sp)),
+                );
+            }
+            Op::Int21 => self.add_dos(machine, layout),
+            Op::Lea(..)
+            | Op::Jump(_)
+            | Op::Branch(..)
+            | Op::Loop(_)
+            | Op::LoopE(_)
+            | Op::LoopNe(_)
+            | Op::Jcxz(_) => {}
+        }
+    }
+
+    /// Those of the instruction that was found, but for those that are told to lie beside the stack.
+    #[tactic(auto, using(crate::proofs::Beside::near_none))]
+    pub(crate) fn add_found(&mut self, machine: &Machine, layout: &Layout, found: Option<Instr>)
+        requires empty { self.old ≡ [] }
+        requires operation { IfSome found (λ instr. IsOperation instr.op) }
+        ensures { self.new ≡ near layout.now (found_accesses found (state_of machine.now)) }
+    {
+        let Some(instr) = found else {
+            return;
+        };
+        if may_access(instr.op) {
+            self.add_operation(machine, layout, instr.op);
+        }
     }
 }
 
@@ -118,80 +330,17 @@ fn kind_of(ea: Ea) -> Kind
     }
 }
 
-// After the accesses of a list, that of an operand, where it lies in memory.
-fn with_operand(list: Accesses, machine: &Machine, direction: Direction, x: Operand) -> Accesses
-    requires { length list < 4 }
-    ensures items { result ≡ list ++ operand_accesses (direction_of direction) x (state_of machine.now) }
-    ensures short { length result ≤ length list + 1 }
-{
-    match x {
-        Operand::Mem(width, ea) => list.with(Access {
-            direction,
-            kind: kind_of(ea),
-            segment: machine.segment(ea),
-            offset: machine.offset(ea),
-            size: bytes_in(width),
-        }),
-        _ => list,
-    }
-}
-
-// Those of an operand that takes the value of another one, which is read before: of XCHG's second operand, which is
-// written when the first one has taken its value.
-fn with_exchanged(list: Accesses, machine: &Machine, a: Operand, b: Operand) -> Accesses
-    requires short { length list < 4 }
-    requires operands { AreOperands a b }
-    ensures { result ≡ list ++ operand_accesses told.Writing b
-        (with_operand (state_of machine.now) a (operand_value (state_of machine.now) b)) }
-{
-    let Operand::Mem(width, ea) = b else {
-        return list;
-    };
-    let value = machine.value(b);
-    let (segment, offset) = match a {
-        Operand::Word(r) => (machine.segment(ea), machine.offset_with(ea, r, value)),
-        Operand::Byte(r, half) => {
-            let word = half.put(machine.reg(r), value as u8);
-            (machine.segment(ea), machine.offset_with(ea, r, word))
-        }
-        Operand::Seg(number) => (machine.segment_with(ea, number, value), machine.offset(ea)),
-        Operand::Mem(..) | Operand::Const(..) => (machine.segment(ea), machine.offset(ea)),
-    };
-    list.with(Access {
-        direction: Direction::Writing,
-        kind: kind_of(ea),
-        segment,
-        offset,
-        size: bytes_in(width),
-    })
-}
-
-// Those of XCHG: it reads both operands, and writes both after that.
-fn exchange_accesses(machine: &Machine, a: Operand, b: Operand) -> Accesses
-    requires { AreOperands a b }
-    ensures { result ≡ exchange_accesses a b (state_of machine.now) }
-{
-    let list = with_operand(Accesses::new(), machine, Direction::Reading, a);
-    let list = with_operand(list, machine, Direction::Reading, b);
-    let list = with_operand(list, machine, Direction::Writing, a);
-    with_exchanged(list, machine, a, b)
-}
-
-// Those of POP: the word at the top of the stack is read, and the operand is written when SP has risen.
-fn pop_accesses(machine: &Machine, x: Operand) -> Accesses
-    ensures { result ≡ accesses (Pop x) (state_of machine.now) }
+// The bytes at an address that a word is popped into, when SP has risen.
+fn popped_access(machine: &Machine, width: Width, ea: Ea) -> Access
+    ensures { access_of result ∷ [] ≡ operand_accesses told.Writing (in_memory width ea) (with_sp_raised 2 (state_of machine.now)) }
 {
     let sp = machine.reg(Reg::Sp);
-    let list = Accesses::new().with(stack_access(machine, Direction::Reading, sp));
-    match x {
-        Operand::Mem(width, ea) => list.with(Access {
-            direction: Direction::Writing,
-            kind: kind_of(ea),
-            segment: machine.segment(ea),
-            offset: machine.offset_with(ea, Reg::Sp, sp.wrapping_add(2)),
-            size: bytes_in(width),
-        }),
-        _ => list,
+    Access {
+        direction: Direction::Writing,
+        kind: kind_of(ea),
+        segment: machine.segment(ea),
+        offset: machine.offset_with(ea, Reg::Sp, sp.wrapping_add(2)),
+        size: bytes_in(width),
     }
 }
 
@@ -243,103 +392,28 @@ fn string_size(machine: &Machine) -> u32
     dos::STRING_MOST
 }
 
-// Those of INT 21h: call 09h reads its string.
-fn dos_accesses(machine: &Machine) -> Accesses
-    ensures { result ≡ accesses Int21 (state_of machine.now) }
+// Whether an operand lies in memory.
+fn is_memory(x: Operand) -> bool
+    ensures { result ≡ is_memory x }
 {
-    if Half::High.of(machine.reg(Reg::Ax)) == dos::PUTS {
-        let size = string_size(machine);
-        Accesses::new().with(other_read(machine.ds(), machine.reg(Reg::Dx), size))
-    } else {
-        Accesses::new()
-    }
+    matches!(x, Operand::Mem(..))
 }
 
-// Those of an operation without operands: XLAT reads a byte.
-fn plain_accesses(machine: &Machine, kind: Plain) -> Accesses
-    ensures { result ≡ plain_accesses kind (state_of machine.now) }
-{
-    if let Plain::Xlat = kind {
-        let al = Half::Low.of(machine.reg(Reg::Ax));
-        let offset = machine.reg(Reg::Bx).wrapping_add(u16::from(al));
-        Accesses::new().with(other_read(machine.ds(), offset, 1))
-    } else {
-        Accesses::new()
-    }
-}
-
-// Those of an operation that reads one operand, and then writes one where that is so.
-fn result_accesses(machine: &Machine, read: Operand, so: bool, written: Operand) -> Accesses
-    ensures { result ≡ operand_accesses told.Reading read (state_of machine.now)
-        ++ told.result_accesses so written (state_of machine.now) }
-{
-    let list = with_operand(Accesses::new(), machine, Direction::Reading, read);
-    if so {
-        with_operand(list, machine, Direction::Writing, written)
-    } else {
-        list
-    }
-}
-
-// Those of an operation on two operands.
-fn alu_accesses(machine: &Machine, kind: Alu, a: Operand, b: Operand) -> Accesses
-    ensures { result ≡ accesses (AluOp kind a b) (state_of machine.now) }
-{
-    let list = with_operand(Accesses::new(), machine, Direction::Reading, a);
-    let list = with_operand(list, machine, Direction::Reading, b);
-    if writes_operand(kind) {
-        with_operand(list, machine, Direction::Writing, a)
-    } else {
-        list
-    }
-}
-
-// Those of an operation.
-fn operation_accesses(machine: &Machine, op: Op) -> Accesses
-    requires { IsOperation op }
-    ensures { result ≡ accesses op (state_of machine.now) }
+// Whether an operation may come to memory, as far as its form tells: of most that work on registers, no more is looked
+// at.
+fn may_access(op: Op) -> bool
+    ensures { result ≡ may_access op }
 {
     match op {
-        Op::Alu(kind, a, b) => alu_accesses(machine, kind, a, b),
-        Op::Unary(kind, a) => result_accesses(machine, a, writes_back(kind), a),
-        Op::Shift(_, a, _) => result_accesses(machine, a, true, a),
-        Op::Mov(to, from) => result_accesses(machine, from, true, to),
-        Op::Xchg(a, b) => exchange_accesses(machine, a, b),
-        Op::Imul3(_, a, _) => result_accesses(machine, a, false, a),
-        Op::Push(a) => with_operand(Accesses::new(), machine, Direction::Reading, a).with(
-            push_access(machine),
-        ),
-        Op::Pop(a) => pop_accesses(machine, a),
-        Op::Enter(_) | Op::Call(_) => Accesses::new().with(push_access(machine)),
-        Op::Leave => {
-            Accesses::new().with(stack_access(machine, Direction::Reading, machine.reg(Reg::Bp)))
-        }
-        Op::Plain(kind) => plain_accesses(machine, kind),
-        Op::Table(r, offset) => {
-            let at = machine.reg(r).wrapping_add(offset);
-            Accesses::new().with(other_read(machine.cs(), at, 2))
-        }
-        Op::Ret(_) => {
-            Accesses::new().with(stack_access(machine, Direction::Reading, machine.reg(Reg::Sp)))
-        }
-        Op::Int21 => dos_accesses(machine),
+        Op::Alu(_, a, b) | Op::Mov(a, b) | Op::Xchg(a, b) => is_memory(a) || is_memory(b),
+        Op::Unary(_, a) | Op::Shift(_, a, _) | Op::Imul3(_, a, _) => is_memory(a),
         Op::Lea(..)
         | Op::Jump(_)
         | Op::Branch(..)
         | Op::Loop(_)
         | Op::LoopE(_)
         | Op::LoopNe(_)
-        | Op::Jcxz(_) => { Accesses::new() }
-    }
-}
-
-/// Those of the instruction that was found.
-pub(crate) fn found_accesses(machine: &Machine, found: Option<Instr>) -> Accesses
-    requires { IfSome found (λ instr. IsOperation instr.op) }
-    ensures { result ≡ found_accesses found (state_of machine.now) }
-{
-    match found {
-        None => Accesses::new(),
-        Some(instr) => operation_accesses(machine, instr.op),
+        | Op::Jcxz(_) => false,
+        _ => true,
     }
 }

@@ -1,15 +1,15 @@
 //! Whether the next step is clean.
 
-ghost use Rattle.std.specs.Prelude.{◌≡◌, IfSome, option_map};
+ghost use Rattle.std.specs.Prelude.{◌≡◌, option_map};
 ghost use Rattle.dcc_prog.specs.Access.{found_accesses};
-ghost use Rattle.dcc_prog.specs.WellFormed.{IsOperation};
+ghost use Rattle.dcc_prog.specs.Clean.{top_in};
 ghost use Rattle.dcc_step.specs.Core.{state_of};
+ghost use Rattle.dcc_watch.specs.Accesses.{near};
 ghost use Rattle.dcc_watch.specs.Foul.{foul_in, told_foul};
 
-use crate::accesses::Accesses;
 use crate::places::{hidden, unwritten};
-use crate::sp::{low, sp_after, top};
-use crate::stack::Stack;
+use crate::sp::{low, sp_after};
+use crate::stack::{Before, Stack};
 use dcc_prog::{FoulKind, Instr, Layout};
 use dcc_step::Machine;
 
@@ -24,15 +24,17 @@ pub(crate) struct Foul {
     pub(crate) address: u16,
 }
 
-/// What is foul of the step of an instruction that was found, if anything is, by its accesses.
+/// What is foul of the step of an instruction that was found, if anything is, by what is known of it.
+#[tactic(auto, using(crate::proofs::Beside::near_hidden, crate::proofs::Beside::near_unwritten))]
 pub(crate) fn next_foul(
     machine: &Machine,
     layout: &Layout,
     stack: &Stack,
     found: Option<Instr>,
-    list: &Accesses,
+    before: &Before,
 ) -> Option<Foul>
-    requires { list.now ≡ found_accesses found (state_of machine.now) }
+    requires list { before.now.list ≡ near layout.now (found_accesses found (state_of machine.now)) }
+    requires top { before.now.top ≡ top_in layout.now (state_of machine.now) }
     ensures { option_map told_foul result
         ≡ foul_in layout.now stack.now.frames.live stack.now.written (state_of machine.now) found }
 {
@@ -47,14 +49,14 @@ pub(crate) fn next_foul(
             address,
         });
     }
-    if let Some(address) = hidden(layout, &stack.frames, top(machine, layout), list) {
+    if let Some(address) = hidden(layout, &stack.frames, before.top, &before.list) {
         return Some(Foul {
             at,
             kind: FoulKind::Hidden,
             address,
         });
     }
-    let address = unwritten(layout, &stack.written, list)?;
+    let address = unwritten(layout, &stack.written, &before.list)?;
     Some(Foul {
         at,
         kind: FoulKind::Unwritten,

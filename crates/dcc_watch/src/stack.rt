@@ -1,14 +1,12 @@
 //! What is kept of the stack beside the machine.
 
-ghost use Rattle.std.specs.Prelude.{◌≡◌, ◌+◌, ◌<◌, ◌^◌, ◌∷◌, length, true, IfSome};
-ghost use Rattle.dcc_prog.specs.Access.{found_accesses};
-ghost use Rattle.dcc_prog.specs.WellFormed.{IsOperation};
+ghost use Rattle.std.specs.Prelude.{◌≡◌, ◌+◌, ◌<◌, ◌^◌, [], ◌∷◌, length, true};
 ghost use Rattle.dcc_prog.specs.Clean.{top_in};
 ghost use Rattle.dcc_step.specs.Core.{state_of};
 ghost use Rattle.dcc_watch.specs.Watching.{AllHaveShapes};
 ghost use Rattle.dcc_watch.specs.Following.{first_live, is_call, live_after, written_following};
 
-use crate::accesses::{Accesses, found_accesses};
+use crate::accesses::Accesses;
 use crate::frames::{Frames, Live};
 use crate::marks::Marks;
 use crate::places::mark_stored;
@@ -36,14 +34,13 @@ pub(crate) struct Before {
 }
 
 impl Before {
-    /// What is known of the step of an instruction that was found.
-    pub(crate) fn of(machine: &Machine, layout: &Layout, found: Option<Instr>) -> Before
-        requires { IfSome found (λ instr. IsOperation instr.op) }
-        ensures list { result.list ≡ found_accesses found (state_of machine.now) }
+    /// Where SP stands, and no access yet.
+    pub(crate) fn at(machine: &Machine, layout: &Layout) -> Before
+        ensures list { result.list ≡ [] }
         ensures top { result.top ≡ top_in layout.now (state_of machine.now) }
     {
         Before {
-            list: found_accesses(machine, found),
+            list: Accesses::new(),
             top: top(machine, layout),
         }
     }

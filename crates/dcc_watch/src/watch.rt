@@ -155,14 +155,9 @@ impl Watch {
             (I.faults input.old) (I.faults input.new) (O.faults out.old) (O.faults out.new) }
     {
         let found = self.machine.next_instruction();
-        let before = Before::of(&self.machine, &self.layout, found);
-        if let Some(foul) = next_foul(
-            &self.machine,
-            &self.layout,
-            &self.stack,
-            found,
-            &before.list,
-        ) {
+        let mut before = Before::at(&self.machine, &self.layout);
+        before.list.add_found(&self.machine, &self.layout, found);
+        if let Some(foul) = next_foul(&self.machine, &self.layout, &self.stack, found, &before) {
             self.progress = Progress::Stopped(foul);
             return foul.answer();
         }

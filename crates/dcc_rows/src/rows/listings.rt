@@ -2,6 +2,7 @@
 //! analyses apart from this one.
 
 use super::files::{Faults, NO_FAULTS, answered, program};
+use std::alloc::{AllocError, Global};
 use std::test::Fail;
 
 // A program after the instructions that set DS, the processor and the lines.
@@ -208,6 +209,30 @@ fn what_refuses_the_list_refuses_the_text(rt: HostRuntime) -> Result<(), Fail> {
             assert!(rt; given.out.is_empty(), "{command}: {line}");
         }
     }
+    Ok(())
+}
+
+// A call of a procedure, which stores a byte into each of so many bytes of its frame.
+fn stores_below_bp(alloc: Global, count: u16) -> Result<Vec<u8>, AllocError> {
+    let mut code = b"\xE8\x05\x00\xB8\x00\x4C\xCD\x21\x55\x8B\xEC\x81\xEC\x04\x02".to_vec(alloc)?;
+    for number in 0..count {
+        let [low, high] = (0xFFFF - number).to_le_bytes();
+        code.extend_from_slice(&[0xC6, 0x86, low, high, 0x41])?;
+    }
+    code.extend_from_slice(b"\x8B\xE5\x5D\xC3")?;
+    Ok(code)
+}
+
+#[test]
+fn a_frame_of_too_many_cells_is_told(rt: HostRuntime) -> Result<(), Fail> {
+    let alloc = rt.alloc();
+    let most = program(&rt, alloc, &stores_below_bp(alloc, 512)?)?;
+    let given = answered(alloc, &["procs", "ROW1.EXE"], &most, NO_FAULTS)?;
+    assert_eq!(rt; given.status, 0);
+    let more = program(&rt, alloc, &stores_below_bp(alloc, 513)?)?;
+    let given = answered(alloc, &["procs", "ROW1.EXE"], &more, NO_FAULTS)?;
+    assert_eq!(rt; given.err.as_slice(), b"dcc: limit cells 513\n".as_slice());
+    assert_eq!(rt; given.status, 10);
     Ok(())
 }
 

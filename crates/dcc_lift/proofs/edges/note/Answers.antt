@@ -10,11 +10,13 @@ loop-to-preserved c =
     record {
       len = length-set c.loop-to.table c.from-place.result c.with.result ∙ c.loop-to.invariant.len;
       told = λ to edges start.
-          noted-step c.loop-to.table c.args.from c.from-place.result to c.args.successors.now edges c.loop-to.to-index c.with.result room c.loop-to-test.true
+          noted-step c.loop-to.table c.args.from c.from-place.result to c.args.successors.now edges c.loop-to.to-index
+          c.with.result room c.loop-to-test.true
           c.from-place.ensures c.with.ensures (c.loop-to.invariant.told to edges start);
     }
 
 pub returns : goal.returns
 returns c = λ to edges start.
     c.loop-to.invariant.told to edges start
-    ∙ ap (λ l. incoming_of (edges ++ noted c.args.from to l)) (take_all c.loop-to.to-index c.args.successors.now c.loop-to-test.false)
+    ∙ ap (λ l. incoming_of (edges ++ noted c.args.from to l))
+    (take_all c.loop-to.to-index c.args.successors.now c.loop-to-test.false)

@@ -15,14 +15,14 @@ use Rattle.dcc_pipe.proofs.decompilation.text_of.Goals as goal
 pub simplified-requires : goal.simplified-requires
 simplified-requires c =
     let p = program_of c.in_ok-lifted.lifted in
-    textable-weaker 7 levels (omega arith) p (lifted-textable c.args.image.now c.args.program.now p c.in_ok-lifted.ensures.lifted)
+    textable-weaker 7 levels (omega arith) p (lifted-textable c.args.image.now c.args.program.now p c.in_ok-lifted.ensures.lifted c.requires.built)
 
 pub goto_text-requires : goal.goto_text-requires
 goto_text-requires c =
     let p = program_of c.in_ok-lifted.lifted in
     let q = program_of c.in_ok-simple.simple in
     let of = c.in_ok-lifted.ensures.lifted in
-    let simple = program-simplified 7 p q (lifted-textable c.args.image.now c.args.program.now p of) (lifted-flags c.args.image.now c.args.program.now p of) c.in_ok-simple.ensures in
+    let simple = program-simplified 7 p q (lifted-textable c.args.image.now c.args.program.now p of c.requires.built) (lifted-flags c.args.image.now c.args.program.now p of c.requires.built) c.in_ok-simple.ensures in
     omega (arith, has-graph 14 q simple.textable, length-map c.in_ok-simple.simple.graphs.items graph_of)
 
 pub returns : goal.returns
@@ -33,10 +33,11 @@ returns c =
     let q = program_of c.in_ok-simple.simple in
     let of = c.in_ok-lifted.ensures.lifted in
     let is = c.requires.program in
-    let simple = program-simplified 7 p q (lifted-textable image program p of) (lifted-flags image program p of) c.in_ok-simple.ensures in
+    let built = c.requires.built in
+    let simple = program-simplified 7 p q (lifted-textable image program p of built) (lifted-flags image program p of built) c.in_ok-simple.ensures in
     let textable = textable-weaker 14 levels (omega arith) q simple.textable in
     let few = few-of q textable c.in_ok-unit.ensures.few in
     let unbroken = ap is_unbroken_tree c.in_ok-unit.ensures.text ∙ tree-unbroken (goto_tree q) (goto-writable q textable few) in
-    let follows = simplified-follows image program.layout 14 p q simple (lifted-follows image program p of) in
-    text-is image program q is (lifted-clean image program p of is) textable few follows c.number.result
+    let follows = simplified-follows image program 14 p q simple (lifted-follows image program p of built) in
+    text-is image program q is (lifted-clean image program p of built is) textable few follows c.number.result
     (IfOk-weaker c.number.result _ _ (λ unit same. same ∙ ap numbered c.in_ok-unit.ensures.text) (c.number.ensures unbroken))

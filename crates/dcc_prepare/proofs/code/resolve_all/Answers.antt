@@ -18,5 +18,5 @@ loop-e-preserved c =
     let more : map expr_of (take (i + 1) list) ≡ map expr_of (take i list) ++ expr_of e ∷ [] =
     ap (map expr_of) (take_more list i e within ∙ ap (λ x. take i list ++ x ∷ []) (sym c.e-item.is)) ∙ map-append expr_of (take i list) (e ∷ []) in
     subst (λ (es : List Expr). StandAll names es c.push.new.self.items) (sym more)
-    (subst (λ (rs : List Resolved). StandAll names (map expr_of (take i list) ++ expr_of e ∷ []) rs) (sym c.in_ok-push.ensures.items)
+    (subst (λ (rs : List Resolved). StandAll names (map expr_of (take i list) ++ expr_of e ∷ []) rs) (sym {A = List Resolved} c.in_ok-push.ensures.items)
     (stand_push names (map expr_of (take i list)) c.loop-e.resolved.items (expr_of e) c.in_ok-resolve.field-0 c.loop-e.invariant c.in_ok-resolve.ensures))

@@ -1,4 +1,4 @@
-use Rattle.std.proofs.Common.{◌≡◌, ◌+◌, ◌<◌, ◌≤◌, ◌++◌, List, [], ◌∷◌, length, take, map, sym, ap, ◌∙◌, subst, arith}
+use Rattle.std.proofs.Common.{◌≡◌, ◌+◌, ◌<◌, ◌≤◌, ◌++◌, List, [], ◌∷◌, length, take, map, string_bytes, sym, ap, ◌∙◌, subst, arith}
 use Rattle.std.proofs.lemmas.List.{take_more, take_all, map-append}
 use Rattle.dcc_c.specs.declared.syntax.Func.{Func}
 use Rattle.dcc_c.specs.declared.syntax.Global_.{Global_}
@@ -11,6 +11,8 @@ use Rattle.dcc_prepare.specs.declared.program.Program.{Program}
 use Rattle.dcc_value.specs.Evaluation.{declared_of, bindings_named}
 use Rattle.dcc_prepare.specs.Prepared.{HasPoints, ArePrepared}
 use Rattle.dcc_prepare.proofs.ProgramLaws.{prepared_push, points_by, program_is}
+use Rattle.dcc_value.specs.Places.{AreFirst}
+use Rattle.dcc_prepare.proofs.PrepareLaws.{function_names-are}
 use Rattle.dcc_prepare.proofs.prepare.prepare.Goals as goal
 
 pub loop-function-preserved : goal.loop-function-preserved
@@ -30,8 +32,8 @@ loop-function-preserved c =
     ∙ ap (λ (l : List Func). map function_of (take i l) ++ function_of f ∷ []) same in
     let one : HasPoints tree (function_of f) p =
     c.in_ok-procedure.ensures tree
-    (ap (map declared_of) c.deref-in-loop-function.ensures.value ∙ c.in_ok-globals.ensures ∙ ap (λ (l : List Global_). map declared_global (map global_of l)) c.deref.ensures.value)
-    (ap (map function_of) c.deref-in-loop-function-2.ensures.value) in
+    (ap (map declared_of) (c.in_ok-globals-2.ensures ∙ c.deref-2.ensures.value) ∙ c.in_ok-globals.ensures ∙ ap (λ (l : List Global_). map declared_global (map global_of l)) c.deref.ensures.value)
+    (subst (AreFirst c.in_ok-functions.functions) (ap (map (λ (f : Func). string_bytes f.name)) c.deref-3.ensures.value ∙ function_names-are unit.funcs.items) c.in_ok-functions.ensures) in
     subst (λ (fs : List Function). ArePrepared tree fs c.push.new.self.items) (sym more)
     (subst (λ (ps : List Procedure). ArePrepared tree (map function_of (take i unit.funcs.items) ++ function_of f ∷ []) ps) (sym c.in_ok-push.ensures.items)
     (prepared_push tree (map function_of (take i unit.funcs.items)) c.loop-function.procedures.items (function_of f) p c.loop-function.invariant one))
@@ -49,5 +51,5 @@ returns c =
     subst (λ (fs : List Func). ArePrepared tree (map function_of fs) procedures.items) (take_all i unit.funcs.items end) c.loop-function.invariant in
     let globals : bindings_named (map declared_global tree.globals) program.globals.items ≡ map global_binding tree.globals =
     subst (λ (gs : List Global_). bindings_named (map declared_global (map global_of gs)) program.globals.items ≡ map global_binding (map global_of gs))
-    c.deref-2.ensures.value c.in_ok-global_bindings.ensures in
+    c.deref-4.ensures.value c.in_ok-global_bindings.ensures in
     (points_by tree tree.functions procedures.items are, program_is tree program are globals)

@@ -50,8 +50,8 @@ returns c tree globals functions =
     c.in_ok-entry.ensures tree
     (record {
       names =
-          ap (λ (l : List Named). make (map declared_of l) (map declared_of c.args.globals.now)) c.deref-8.ensures.value
-          ∙ ap (λ l. make l (map declared_of c.args.globals.now)) names
+          ap (λ (l : List Named). make (map declared_of l) (map declared_of c.args.globals.now.list.now)) (c.in_ok-own.ensures ∙ c.deref-8.ensures.value)
+          ∙ ap (λ l. make l (map declared_of c.args.globals.now.list.now)) names
           ∙ ap (make (locals_declared f)) globals;
       functions = functions;
     })

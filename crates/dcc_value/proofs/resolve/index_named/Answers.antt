@@ -1,14 +1,7 @@
-use Rattle.std.proofs.Common.{◌<◌, length, sym, ◌∙◌, arith}
-use Rattle.dcc_c.proofs.NameLaws.{same_bytes-answer}
-use Rattle.dcc_value.proofs.NameLaws.{index_named-further, index_named-here}
+use Rattle.std.proofs.Common.{ap, ◌∙◌}
+use Rattle.dcc_value.specs.Places.{first_place}
+use Rattle.dcc_value.proofs.NameLaws.{names-declared}
 use Rattle.dcc_value.proofs.resolve.index_named.Goals as goal
 
-pub returns-then-eq : goal.returns-then-eq
-returns-then-eq c =
-    let within : c.loop-i.i < length c.args.names.now = omega arith in
-    sym (c.loop-i.invariant ∙ index_named-here _ _ _ within c.index-names-i.is _ (same_bytes-answer _ _ c.args.name.now c.as_str.ensures.value c.eq.ensures c.if-eq.true))
-
-pub loop-i-preserved : goal.loop-i-preserved
-loop-i-preserved c =
-    let within : c.loop-i.i < length c.args.names.now = omega arith in
-    c.loop-i.invariant ∙ index_named-further _ _ _ within c.index-names-i.is _ (same_bytes-answer _ _ c.args.name.now c.as_str.ensures.value c.eq.ensures c.if-eq.false)
+pub returns : goal.returns
+returns c = c.find.ensures ∙ ap (λ l. first_place l c.args.name.now) (names-declared c.args.names.now.list.now)

@@ -1,12 +1,13 @@
-use Rattle.std.proofs.Common.{sym, subst}
-use Rattle.std.specs.List.Sorted.{IsStrictlyIncreasing}
-use Rattle.dcc_lift.specs.Known.{nodes_of}
-use Rattle.dcc_lift.proofs.LeaderLaws.{increasing_leaders}
+use Rattle.std.proofs.Common.{◌∙◌, ap₂}
+use Rattle.dcc_lift.specs.Blocks.{leaders}
 use Rattle.dcc_lift.proofs.outline.Outline.new.Goals as goal
 
 pub returns-clause-leaders : goal.returns-clause-leaders
 returns-clause-leaders c = record {
-  edges = c.requires.edges;
-  leaders_are = c.in_ok-leaders.ensures;
-  ascending = subst IsStrictlyIncreasing (sym c.in_ok-leaders.ensures) (increasing_leaders (nodes_of c.args.instructions) c.args.instructions.start c.requires.ascending);
+  scene = c.requires;
+  edges = c.in_ok-instructions.ensures.edges;
+  nodes = c.in_ok-instructions.ensures.nodes;
+  start = c.in_ok-instructions.ensures.start;
+  leaders_are = c.in_ok-leaders.ensures
+      ∙ ap₂ leaders c.in_ok-instructions.ensures.nodes c.in_ok-instructions.ensures.start;
 }

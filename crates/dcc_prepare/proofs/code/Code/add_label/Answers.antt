@@ -12,7 +12,7 @@ returns-clause-number c none =
     let name = c.args.name.now in
     let len : c.len-number.result ≡ length ls = omega (arith, c.args.self.now.labels.ok.0, c.len-number.ensures) in
     ap (λ (l : List Label). label_named l name) c.in_ok-push.ensures.items
-    ∙ label_named-new ls _ name none (ap (λ n. same_bytes n name) c.in_ok-name.ensures.ok ∙ same_bytes-refl name)
+    ∙ label_named-new ls _ name none (ap (λ n. same_bytes n name) c.in_ok-own.ensures.ok ∙ same_bytes-refl name)
     ∙ ap Some (sym len)
 
 pub returns-clause-numbers : goal.returns-clause-numbers

@@ -1,8 +1,16 @@
-use Rattle.std.proofs.Common.{Some, ap, ◌∙◌, arith}
+use Rattle.std.proofs.Common.{Some, sym, ap, ◌∙◌, arith}
 use Rattle.std.specs.Prelude.{if◌then◌else◌}
 use Rattle.dcc_c.specs.Token.{same_bytes}
-use Rattle.dcc_prepare.proofs.LabelLaws.{numbers-set, points-set, label_named-within}
+use Rattle.dcc_prepare.proofs.LabelLaws.{words-set, numbers-set, points-set, label_named-within}
+use Rattle.dcc_value.specs.Places.{first_place}
 use Rattle.dcc_prepare.proofs.code.Code.place_label.Goals as goal
+
+pub invariant_of-self : goal.invariant_of-self
+invariant_of-self c = record {
+  first = λ word.
+      c.label.new.self.first word
+      ∙ ap (λ ws. first_place ws word) (sym (words-set c.label.new.self.labels.items c.in_ok-number.number c.index_mut.result.now c.args.point c.index_mut.ensures.value));
+}
 
 pub returns-then-number-len-clause-numbers : goal.returns-then-number-len-clause-numbers
 returns-then-number-len-clause-numbers c word number is =

@@ -14,11 +14,14 @@ use Rattle.dcc_watch.proofs.InsideLaws.{inside_of, foul_step, foul_comes, refuse
 use Rattle.dcc_watch.proofs.StepLaws.{refused_kept, made_unless, clean_faults}
 use Rattle.dcc_watch.proofs.watch.Watch.step_in_procedures.Goals as goal
 
-pub of-before-requires : goal.of-before-requires
-of-before-requires g c = c.next_instruction-found.ensures.operation
+pub add_found-requires : goal.add_found-requires
+add_found-requires g c = record {
+  empty = c.at-before.ensures.list;
+  operation = c.next_instruction-found.ensures.operation;
+}
 
 pub next_foul-requires : goal.next_foul-requires
-next_foul-requires g c = c.of-before.ensures.list
+next_foul-requires g c = record { list = c.add_found.ensures; top = c.at-before.ensures.top }
 
 pub invariant_of-self : goal.invariant_of-self
 invariant_of-self g c = record {
@@ -120,8 +123,8 @@ invariant_of-self-2 g c =
     let after =
     follow_after c.self.inside.layout c.deref.result.now c.next_instruction-found.result c.self.inside.stack.frames.live
     c.self.inside.stack.written (state_of c.next_instruction-found.new.self) (state_of c.make-stepped.new.self)
-    c.of-before.result.list c.of-before.result.top c.follow.new.stack.frames.live c.follow.new.stack.written
-    c.of-before.ensures.list c.of-before.ensures.top (ap (λ (k : Kept). k.live) c.follow.ensures.frames)
+    c.add_found.new.self c.at-before.result.top c.follow.new.stack.frames.live c.follow.new.stack.written
+    c.add_found.ensures c.at-before.ensures.top (ap (λ (k : Kept). k.live) c.follow.ensures.frames)
     c.follow.ensures.written in
     record {
       table = c.self.invariant.table;
@@ -154,8 +157,8 @@ returns-clause-step g c =
     (sym c.is_refused.ensures ∙ c.if-is_refused.false)
     (follow_after c.self.inside.layout c.deref.result.now c.next_instruction-found.result c.self.inside.stack.frames.live
     c.self.inside.stack.written (state_of c.next_instruction-found.new.self) (state_of c.make-stepped.new.self)
-    c.of-before.result.list c.of-before.result.top c.follow.new.stack.frames.live c.follow.new.stack.written
-    c.of-before.ensures.list c.of-before.ensures.top (ap (λ (k : Kept). k.live) c.follow.ensures.frames)
+    c.add_found.new.self c.at-before.result.top c.follow.new.stack.frames.live c.follow.new.stack.written
+    c.add_found.ensures c.at-before.ensures.top (ap (λ (k : Kept). k.live) c.follow.ensures.frames)
     c.follow.ensures.written)
     c.make-stepped.ensures.step
 

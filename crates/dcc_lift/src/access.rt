@@ -1,0 +1,151 @@
+//! Memory operands, and direct accesses to the frame.
+
+ghost use Rattle.std.specs.Prelude.{◌≡◌, pos, neg_ℤ, ◌≤ℤ◌, ◌<ℤ◌, Some, option_map};
+ghost use Rattle.dcc_prog.specs.Access.{bytes_in, is_direct};
+ghost use Rattle.dcc_prog.specs.Frame.{memory_of, memory_operand, offset_in_frame};
+ghost use Rattle.dcc_stack.specs.Slots.{is_memory, is_within, writes_memory, writes_directly, direct_bytes, overlaps};
+ghost use Rattle.dcc_lift.specs.KnownProcedures.{span_of_bytes};
+
+use dcc_num::{Reg, Width};
+use dcc_prog::{Alu, Ea, Op, Operand, Unary};
+
+/// So many bytes of a frame, from an offset from its base less 4 on.
+#[derive(Clone, Copy)]
+pub struct Bytes {
+    pub first: i32,
+    pub size: u8,
+}
+
+impl Bytes {
+    /// The offset after them.
+    pub fn end(self) -> i64
+        ensures { result ≡ (span_of_bytes self).end }
+    {
+        i64::from(self.first) + i64::from(self.size)
+    }
+
+    /// Whether they have the byte at an offset.
+    pub fn hold(self, k: i32) -> bool
+        ensures { result ≡ is_within k (span_of_bytes self) }
+    {
+        self.first <= k && i64::from(k) < self.end()
+    }
+
+    // Whether two lists of bytes have one in common.
+    fn overlap(self, other: Bytes) -> bool
+        ensures { result ≡ overlaps (span_of_bytes self) (Some (span_of_bytes other)) }
+    {
+        i64::from(other.first) < self.end() && i64::from(self.first) < other.end()
+    }
+}
+
+// The operand, if it lies in memory.
+fn memory_of(operand: Operand) -> Option<(Width, Ea)>
+    ensures { result ≡ memory_of operand }
+{
+    match operand {
+        Operand::Mem(width, ea) => Some((width, ea)),
+        _ => None,
+    }
+}
+
+// The memory operand of an operation; LEA has none.
+fn memory_operand(op: Op) -> Option<(Width, Ea)>
+    ensures { result ≡ memory_operand op }
+{
+    match op {
+        Op::Alu(_, a, b) | Op::Mov(a, b) | Op::Xchg(a, b) => match a {
+            Operand::Mem(width, ea) => Some((width, ea)),
+            _ => memory_of(b),
+        },
+        Op::Unary(_, a) | Op::Shift(_, a, _) | Op::Imul3(_, a, _) | Op::Push(a) | Op::Pop(a) => {
+            memory_of(a)
+        }
+        _ => None,
+    }
+}
+
+/// Whether the address is BP plus a displacement, without an index.
+pub fn is_direct(ea: Ea) -> bool
+    ensures { result ≡ is_direct ea }
+{
+    matches!(ea.base, Some(Reg::Bp)) && ea.index.is_none()
+}
+
+/// The displacement, taken as a signed word.
+#[tactic(auto, unfolding(dcc_num::specs::Numbers::signed_of))]
+pub fn offset_in_frame(ea: Ea) -> i32
+    ensures value { result ≡ offset_in_frame ea }
+    ensures low { neg_ℤ (pos 32768) ≤ℤ result }
+    ensures high { result <ℤ pos 32768 }
+{
+    if ea.disp >= 32768 {
+        i32::from(ea.disp) - 65536
+    } else {
+        i32::from(ea.disp)
+    }
+}
+
+// The number of bytes of an operand.
+fn bytes_in(width: Width) -> u8
+    ensures { result ≡ bytes_in width }
+{
+    match width {
+        Width::Byte => 1,
+        Width::Word => 2,
+    }
+}
+
+// The bytes of a direct access of a framed procedure, if the operation is one.
+fn direct_bytes(op: Op) -> Option<Bytes>
+    ensures { option_map span_of_bytes result ≡ direct_bytes (memory_operand op) }
+{
+    let (width, ea) = memory_operand(op)?;
+    if !is_direct(ea) {
+        return None;
+    }
+    Some(Bytes {
+        first: offset_in_frame(ea),
+        size: bytes_in(width),
+    })
+}
+
+// Whether the operand lies in memory.
+fn is_memory(operand: Operand) -> bool
+    ensures { result ≡ is_memory operand }
+{
+    matches!(operand, Operand::Mem(..))
+}
+
+// Whether the operation writes its operand in memory.
+fn writes_memory(op: Op) -> bool
+    ensures { result ≡ writes_memory op }
+{
+    match op {
+        Op::Alu(operation, a, _) => !matches!(operation, Alu::Cmp | Alu::Test) && is_memory(a),
+        Op::Unary(operation, a) => {
+            matches!(operation, Unary::Inc | Unary::Dec | Unary::Neg | Unary::Not) && is_memory(a)
+        }
+        Op::Shift(_, a, _) | Op::Pop(a) => is_memory(a),
+        Op::Mov(to, _) => is_memory(to),
+        Op::Xchg(..) => true,
+        _ => false,
+    }
+}
+
+/// Whether the operation has one of these bytes by a direct access of a framed procedure.
+pub fn has_access(op: Op, bytes: Bytes) -> bool
+    ensures { result ≡ overlaps (span_of_bytes bytes) (direct_bytes (memory_operand op)) }
+{
+    match direct_bytes(op) {
+        Some(direct) => bytes.overlap(direct),
+        None => false,
+    }
+}
+
+/// Whether the operation writes one of these bytes by a direct access.
+pub fn writes_directly(op: Op, bytes: Bytes) -> bool
+    ensures { result ≡ writes_directly op (span_of_bytes bytes) }
+{
+    writes_memory(op) && has_access(op, bytes)
+}
