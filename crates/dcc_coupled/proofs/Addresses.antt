@@ -114,8 +114,7 @@ bp-is r e = absurd (true≢false (sym e))
 
 module _ (e : Setting) (s : Machine) (stack : Stack) (instr : Instr) (ip : ℕ)
     (is : IsCleanInstruction e s stack instr) where
-  abbrev a : Activation
-  a = is.stands.newest
+  open is.stands use {newest as a}
 
   abbrev Starts : ℤ → Type 0
   Starts start = StartsExposure e.image e.program.layout a.frame.entry a.at start

@@ -5,7 +5,6 @@ use Rattle.std.specs.List.{range_with_len}
 use Rattle.std.proofs.lemmas.Int.{ints}
 use Rattle.std.proofs.lemmas.List.{map-append}
 use Rattle.dcc_num.specs.declared.Reg.TheVariants.{Bp}
-use Rattle.dcc_prog.specs.declared.procedure.Layout.{Layout}
 use Rattle.dcc_prog.specs.declared.procedure.Node.{Node}
 use Rattle.dcc_prog.specs.declared.instr.Instr.{Instr}
 use Rattle.dcc_prog.specs.declared.instr.Op.TheVariants.{Call as CallOp}
@@ -66,11 +65,8 @@ module _ (e : Setting) (s : Machine) (stack : Stack) (instr : Instr) (t : State)
     (block_in : Contains t.running.graph.blocks t.running.block) (block_at : t.running.block.at ≡ s.ip)
     (fill_small : fill < 65536) (callee_found : procedure_at (procedures_in e.program) target ≡ Some callee)
     (graph_found : graph_at e.inner.graphs target ≡ Some graph) (first_is : slice_get graph.blocks 0 ≡ Some first) where
-  abbrev layout : Layout
-  layout = e.program.layout
-
-  abbrev a : Activation
-  a = is.stands.newest
+  open e.program use {layout}
+  open is.stands use {newest as a}
 
   abbrev top : ℕ
   top = top_in e.program.layout s
@@ -370,10 +366,12 @@ module _ (e : Setting) (s : Machine) (stack : Stack) (instr : Instr) (t : State)
     are = ap (λ (v : State). v.waiting) t2-is;
     waiting = waiting;
     values = refl;
-    halves = λ r half general. halves-given t.running.values t1 r half general;
-    flags = λ flag. flags-given t.running.values t1 flag;
-    input = ap (λ (v : State). v.input) t2-is;
-    events = ap (λ (v : State). v.events) t2-is;
+    passes = record {
+      halves = λ r half general. halves-given t.running.values t1 r half general;
+      flags = λ flag. flags-given t.running.values t1 flag;
+      input = ap (λ (v : State). v.input) t2-is;
+      events = ap (λ (v : State). v.events) t2-is;
+    };
     size = gives.fits.len;
     bytes = gives.fits.bytes;
     held = held;

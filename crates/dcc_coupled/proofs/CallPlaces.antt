@@ -4,7 +4,6 @@ use Rattle.std.specs.Prelude.{ℤ, pos, ◌+ℤ◌, ◌-ℤ◌, ◌≤ℤ◌, if
 use Rattle.std.proofs.lemmas.Int.{ints}
 use Rattle.dcc_num.specs.declared.Width.{Width}
 use Rattle.dcc_num.specs.declared.Width.TheVariants.{Byte as byte_width, Word as word_width}
-use Rattle.dcc_prog.specs.declared.procedure.Layout.{Layout}
 use Rattle.dcc_prog.specs.declared.instr.Op.TheVariants.{Call}
 use Rattle.dcc_prog.specs.Trail.{StandsAt, IsNode, IsEntry, called}
 use Rattle.dcc_prog.specs.FrameForm.{is_framed}
@@ -56,8 +55,7 @@ pub record StandsAtCall (e : Setting) (a : Activation) (p : Procedure) (height b
 
 module _ (e : Setting) (a : Activation) (p : Procedure) (height base target : ℕ) (callee : Procedure)
     (at : StandsAtCall e a p height base target callee) where
-  abbrev layout : Layout
-  layout = e.program.layout
+  open e.program use {layout}
 
   is-program : IsProgramOfFile e.cpu e.image e.program
   is-program = at.lifting.of_file

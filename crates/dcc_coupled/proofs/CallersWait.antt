@@ -125,8 +125,7 @@ got (y ∷ xs) (suc k) x is =
 module _ (e : Setting) (a : Activation) (p : Procedure) (height base target : ℕ) (callee : Procedure)
     (at : StandsAtCall e a p height base target callee) (w : Waiting) (active : IsActivationOf e a w.caller)
     (block : Contains w.caller.graph.blocks w.caller.block) (block_at : w.caller.block.at ≡ a.at) where
-  abbrev layout : Layout
-  layout = e.program.layout
+  open e.program use {layout}
 
   entry_is : p.proc.entry ≡ a.frame.entry
   entry_is = (listed e at.lifting a.frame.entry p at.found).entry_is

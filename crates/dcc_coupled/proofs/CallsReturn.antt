@@ -1,14 +1,10 @@
 -- A RET: the frame ends, and the caller takes the bytes of arguments that may have changed.
 use Rattle.std.specs.List.{range_with_len}
-use Rattle.std.specs.Int.{from_bool}
-use Rattle.std.proofs.Common.{◌≡◌, ◌≤◌, ℕ, ◌+◌, ◌-◌, ◌*◌, ◌%◌, Bool, true, false, List, ◌∷◌, Some, refl, sym, ap, ap₂, ◌∙◌, subst, arith}
+use Rattle.std.proofs.Common.{◌≡◌, ◌≤◌, ℕ, ◌+◌, ◌-◌, ◌%◌, Bool, true, false, List, ◌∷◌, Some, refl, sym, ap, ap₂, ◌∙◌, subst, arith}
 use Rattle.std.specs.Prelude.{ℤ, pos}
 use Rattle.std.proofs.lemmas.Int.{ints}
-use Rattle.dcc_run.specs.End.{Running, is_over}
-use Rattle.dcc_num.specs.declared.Reg.{Reg}
+use Rattle.dcc_run.specs.End.{is_over}
 use Rattle.dcc_num.specs.declared.Reg.TheVariants.{Sp, Bp}
-use Rattle.dcc_num.specs.declared.Half.TheVariants.{Low, High}
-use Rattle.dcc_num.specs.declared.FlagName.TheVariants.{Cf, Zf, Sf, Of}
 use Rattle.dcc_prog.specs.declared.cpu.Cpu.{Cpu}
 use Rattle.dcc_prog.specs.declared.image.Image.{Image}
 use Rattle.dcc_prog.specs.declared.procedure.Layout.{Layout}
@@ -18,16 +14,15 @@ use Rattle.dcc_prog.specs.declared.instr.Instr.{Instr}
 use Rattle.dcc_prog.specs.Machine.{State as Machine, word_in}
 use Rattle.dcc_prog.specs.Operations.{top_word, with_sp_raised, after_jump}
 use Rattle.dcc_prog.specs.Step.{op_step, step}
-use Rattle.dcc_prog.specs.Trail.{next_of, is_general, StandsAt}
+use Rattle.dcc_prog.specs.Trail.{next_of, StandsAt}
 use Rattle.dcc_prog.specs.Height.{GivesHeight, gone_on, MovesHeight}
 use Rattle.dcc_prog.specs.Access.{accesses}
 use Rattle.dcc_prog.specs.Clean.{Stack, top_in, with_marks, stored_bytes, stack_after}
-use Rattle.dcc_prog.proofs.LocationKept.{word-other}
 use Rattle.dcc_stack.specs.Accepted.{IsAt, IsProgramOfFile}
 use Rattle.dcc_stack.specs.Standing.{Activation, StandsIn, WaitsFor, Stand, called, StackStands}
 use Rattle.dcc_stack.specs.Slots.{Typed}
 use Rattle.dcc_stack.specs.SlotLaws.{AreCarried}
-use Rattle.dcc_stack.specs.Laws.{at_next, newest_at, activations_after}
+use Rattle.dcc_stack.specs.Laws.{at_next, newest_at}
 use Rattle.dcc_stack.proofs.ApartFrames.{newest-stands}
 use Rattle.dcc_stack.proofs.FormLaws.{in-form}
 use Rattle.dcc_stack.proofs.StepFrames.{stands-once}
@@ -37,8 +32,9 @@ use Rattle.dcc_ir.specs.Run.{State}
 use Rattle.dcc_coupled.specs.Coupled.{Setting, typed_by, typed_waiting, AreWaiting, Coupled, AreCoupled}
 use Rattle.dcc_coupled.specs.Calls.{Returns}
 use Rattle.dcc_coupled.specs.Laws.{IsCleanInstruction, Within, CallsReturn}
-use Rattle.dcc_coupled.proofs.Next.{AgreeOn, next-stands}
-use Rattle.dcc_coupled.proofs.Coupling.{carried_laws, alike-all, registers-apart}
+use Rattle.dcc_coupled.proofs.Next.{AgreeOn, next-with}
+use Rattle.dcc_coupled.proofs.LikeStates.{IsLike, jumped, coupled-after}
+use Rattle.dcc_coupled.proofs.Coupling.{carried_laws, alike-all}
 use Rattle.dcc_coupled.proofs.StepsAgree.{on-at}
 
 -- the caller stands no lower after a CALL than before it
@@ -76,17 +72,11 @@ caller-below image layout memory (called stands waits older) =
 module _ (e : Setting) (s : Machine) (stack : Stack) (instr : Instr) (count : ℕ) (t u : State)
     (is : IsCleanInstruction e s stack instr) (ret : instr.op ≡ Ret count) (before : Within is stack.written s t)
     (b : Returns e is.stands.newest is.stands.callers stack.written t u) where
-  abbrev layout : Layout
-  layout = e.program.layout
-
-  abbrev a : Activation
-  a = is.stands.newest
+  open e.program use {layout}
+  open is.stands use {newest as a}
 
   abbrev top : ℕ
   top = top_in e.program.layout s
-
-  abbrev here : Machine
-  here = record s { ip = next_of s.ip instr }
 
   abbrev after : Machine
   after = step e.program.layout.cpu s
@@ -98,23 +88,24 @@ module _ (e : Setting) (s : Machine) (stack : Stack) (instr : Instr) (count : �
       step-of e.image layout is.of_file.loaded s.ip s instr is.stands.segments.state refl (ap is_over before.goes)
       is.stands.segments.code is.found
 
-  step-is : step layout.cpu s ≡ after_jump (top_word here) (with_sp_raised (2 + count) here)
-  step-is = taken-step.is ∙ ap (λ o. op_step layout.cpu o s.ip here) ret
+  step-is : step layout.cpu s
+      ≡ after_jump (top_word (record s { ip = next_of s.ip instr }))
+      (with_sp_raised (2 + count) (record s { ip = next_of s.ip instr }))
+  step-is = taken-step.is ∙ ap (λ o. op_step layout.cpu o s.ip (record s { ip = next_of s.ip instr })) ret
 
-  goes-on : after.end ≡ Running
-  goes-on = ap (λ (v : Machine). v.end) step-is ∙ before.goes
+  like : IsLike s after
+  like =
+      subst (IsLike s) (sym step-is)
+      (jumped s (next_of s.ip instr) ((word_in s Sp + (2 + count)) % 65536)
+      (top_word (record s { ip = next_of s.ip instr })) s.memory)
 
   both :
       (v : StackStands e.image layout after (stack_after layout (Some instr) s after stack))
-      × (v.newest ∷ v.callers
-      ≡ activations_after instr.op top (word_in s Bp) after.ip (a ∷ is.stands.callers))
-  both = next-stands e s stack instr is before.goes goes-on
+      × (v.newest ∷ v.callers ≡ newest_at after.ip is.stands.callers)
+  both = next-with e s stack instr is before.goes (like.end ∙ before.goes) (Ret count) ret
 
   are : both.0.newest ∷ both.0.callers ≡ at_next b.caller after.ip ∷ b.older
-  are =
-      both.1
-      ∙ ap (λ o. activations_after o top (word_in s Bp) after.ip (a ∷ is.stands.callers)) ret
-      ∙ ap (newest_at after.ip) b.callers_are
+  are = both.1 ∙ ap (newest_at after.ip) b.callers_are
 
   -- the caller stands at the callee's base or above
 
@@ -170,14 +161,8 @@ module _ (e : Setting) (s : Machine) (stack : Stack) (instr : Instr) (count : �
 
   marks-are : with_marks false passed stack.written ≡ marks
   marks-are =
-      ap (λ o. with_marks false passed (with_marks true (stored_bytes layout (accesses o here)) stack.written))
-      (sym ret)
-
-  carried-after : Carried after u marks (top_in layout after) (typed_by e b.caller u.running ∷ older)
-  carried-after =
-      subst (λ m. AreCarried e.cpu e.image e.program m u.memory marks (top_in layout after)
-      (typed_by e b.caller u.running ∷ older)) (sym (ap (λ (v : Machine). v.memory) step-is))
-      (subst (λ m. Carried s u m (top_in layout after) (typed_by e b.caller u.running ∷ older)) marks-are carried)
+      ap (λ o. with_marks false passed
+      (with_marks true (stored_bytes layout (accesses o (record s { ip = next_of s.ip instr }))) stack.written)) (sym ret)
 
   -- both runs
 
@@ -186,31 +171,11 @@ module _ (e : Setting) (s : Machine) (stack : Stack) (instr : Instr) (count : �
       subst (AreWaiting e a (b.caller ∷ b.older)) b.waiting
       (subst (λ l. AreWaiting e a l t.waiting) b.callers_are before.waiting)
 
-  word-after : (r : Reg) → is_general r ≡ true → word_in after r ≡ word_in s r
-  word-after r g =
-      ap (λ (v : Machine). word_in v r) step-is
-      ∙ word-other here Sp r ((word_in s Sp + (2 + count)) % 65536) (registers-apart r Sp true g refl)
-
   agree : Coupled e b.caller b.older marks after u
-  agree = record {
-    goes = goes-on;
-    running = b.running;
-    newest = b.newest;
-    waiting = waiting.2;
-    words = λ r g.
-        word-after r g ∙ before.words r g
-        ∙ ap₂ (λ high low. high * 256 + low) (sym (b.halves r High g)) (sym (b.halves r Low g));
-    flags = record {
-      carry = b.flags Cf ∙ before.flags.carry ∙ sym (ap (λ (v : Machine). from_bool v.flags.cf) step-is);
-      zero = b.flags Zf ∙ before.flags.zero ∙ sym (ap (λ (v : Machine). from_bool v.flags.zf) step-is);
-      negative = b.flags Sf ∙ before.flags.negative ∙ sym (ap (λ (v : Machine). from_bool v.flags.sf) step-is);
-      overflow = b.flags Of ∙ before.flags.overflow ∙ sym (ap (λ (v : Machine). from_bool v.flags.of) step-is);
-    };
-    input = b.input ∙ before.input ∙ sym (ap (λ (v : Machine). v.input) step-is);
-    events = b.events ∙ before.events ∙ sym (ap (λ (v : Machine). v.events) step-is);
-    segments = both.0.segments;
-    carried = carried-after;
-  }
+  agree =
+      coupled-after e a b.caller is.stands.callers b.older stack.written marks s after s.memory t u like b.passes before
+      b.running b.newest waiting.2 both.0.segments
+      (subst (λ m. Carried s u m (top_in layout after) (typed_by e b.caller u.running ∷ older)) marks-are carried)
 
   call-returned : AreCoupled e after (stack_after layout (Some instr) s after stack) u
   call-returned = record {

@@ -15,7 +15,7 @@ use Rattle.dcc_stack.proofs.SlotPlaces.{within-tells}
 use Rattle.dcc_ir.specs.declared.syntax.Loc.{Loc}
 use Rattle.dcc_ir.specs.declared.syntax.Loc.TheVariants.{Cell as CellHalf}
 use Rattle.dcc_ir.specs.Location.{same_location, Values, with_value}
-use Rattle.dcc_ops.proofs.SceneLaws.{location_same}
+use Rattle.dcc_ir.proofs.LocationLaws.{location_same}
 use Rattle.dcc_coupled.specs.Coupled.{half_in, held_at, slots_in}
 
 -- a byte within a cell of at most two is its first or the one after it

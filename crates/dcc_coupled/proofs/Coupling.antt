@@ -1,6 +1,6 @@
 -- Both runs side by side are a coupling.
 use Rattle.std.proofs.Common.{◌≡◌, ℕ, ◌+◌, ◌*◌, ◌^◌, ◌<◌, Bool, true, false, ◌&&◌, ◌==◌, List, [], ◌∷◌, Some, length, refl, sym, ap, ◌∙◌, subst, arith, eqb-true}
-use Rattle.std.specs.Prelude.{ℤ, not, if◌then◌else◌}
+use Rattle.std.specs.Prelude.{ℤ, not, if◌then◌else◌, slice_index}
 use Rattle.std.specs.List.{AllZip}
 use Rattle.std.specs.Ordering.{int_eq}
 use Rattle.dcc_num.specs.declared.Reg.{Reg}
@@ -9,7 +9,10 @@ use Rattle.dcc_num.specs.declared.Half.{Half as HalfName}
 use Rattle.dcc_num.specs.declared.Half.TheVariants.{Low, High}
 use Rattle.dcc_num.specs.declared.Flags.{Flags}
 use Rattle.dcc_prog.specs.declared.frame.Cell.{Cell}
-use Rattle.dcc_prog.specs.Machine.{State as Machine, reg_number, word_in, with_word_in}
+use Rattle.dcc_prog.specs.StateForm.{IsState}
+use Rattle.dcc_prog.specs.declared.image.Image.{Image}
+use Rattle.dcc_prog.specs.declared.procedure.Layout.{Layout}
+use Rattle.dcc_prog.specs.Machine.{State as Machine, reg_number, word_in, with_word_in, code_segment, data_segment, stack_segment, physical}
 use Rattle.dcc_prog.specs.Operands.{word_register}
 use Rattle.dcc_prog.specs.Operations.{with_flags}
 use Rattle.dcc_prog.specs.Trail.{is_general}
@@ -18,7 +21,7 @@ use Rattle.dcc_prog.specs.Analysed.{bytes_of}
 use Rattle.dcc_prog.specs.Clean.{top_in}
 use Rattle.dcc_prog.proofs.LocationKept.{word-taken, word-other}
 use Rattle.dcc_prog.proofs.StateKept.{same-state, word-state}
-use Rattle.dcc_stack.specs.Standing.{Activation}
+use Rattle.dcc_stack.specs.Standing.{Activation, HoldsSegments}
 use Rattle.dcc_stack.specs.Slots.{Typed, IsAlike, is_within}
 use Rattle.dcc_stack.specs.SlotLaws.{AreCarried, SlotsAreCarried}
 use Rattle.dcc_stack.proofs.FormLaws.{in-form}
@@ -34,6 +37,22 @@ use Rattle.dcc_coupled.specs.Coupled.{Setting, half_in, held_at, slots_in, typed
 
 pub carried_laws : SlotsAreCarried
 carried_laws = slots-carried in-form
+
+-- Segments.
+
+-- they are held where segment registers and memory are the same
+pub segments_kept : (image : Image) (layout : Layout) (s u : Machine) → u.segs ≡ s.segs → u.memory ≡ s.memory
+    → IsState u → HoldsSegments image layout s → HoldsSegments image layout u
+segments_kept image layout s u segs memory state held = record {
+  state = state;
+  code = record {
+    segment = ap (λ l. code_segment (record s { segs = l })) segs ∙ held.code.segment;
+    bytes = λ at within.
+        ap (λ m. slice_index m (physical image.cs at)) memory ∙ held.code.bytes at within;
+  };
+  data_is = ap (λ l. data_segment (record s { segs = l })) segs ∙ held.data_is;
+  stack_is = ap (λ l. stack_segment (record s { segs = l }) * 16) segs ∙ held.stack_is;
+}
 
 -- Frames.
 
@@ -197,12 +216,9 @@ module _ (e : Setting) (a : Activation) (callers : List Activation) (written : L
     flags = hold;
     input = c.input;
     events = c.events;
-    segments = record {
-      state = same-state s (with_flags flags s) refl refl refl refl c.segments.state;
-      code = record { segment = c.segments.code.segment; bytes = c.segments.code.bytes };
-      data_is = c.segments.data_is;
-      stack_is = c.segments.stack_is;
-    };
+    segments =
+        segments_kept e.image e.program.layout s (with_flags flags s) refl refl
+        (same-state s (with_flags flags s) refl refl refl refl c.segments.state) c.segments;
     carried =
         frames_kept s.memory t.memory (top_in e.program.layout s) t.running values (typed_waiting e callers t.waiting)
         (λ number half. same (CellHalf number half) refl) c.carried;
@@ -235,12 +251,9 @@ module _ (e : Setting) (a : Activation) (callers : List Activation) (written : L
         };
         input = c.input;
         events = c.events;
-        segments = record {
-          state = word-state s r word (omega (arith, small, less)) c.segments.state;
-          code = record { segment = c.segments.code.segment; bytes = c.segments.code.bytes };
-          data_is = c.segments.data_is;
-          stack_is = c.segments.stack_is;
-        };
+        segments =
+            segments_kept e.image e.program.layout s (with_word_in s r word) refl refl
+            (word-state s r word (omega (arith, small, less)) c.segments.state) c.segments;
         carried =
             subst (λ n. AreCarried e.cpu e.image e.program s.memory t.memory written (n + e.program.layout.delta)
             (typed_by e a (record t.running { values = after }) ∷ typed_waiting e callers t.waiting)) (sym top)
@@ -264,12 +277,9 @@ module _ (e : Setting) (a : Activation) (callers : List Activation) (written : L
       flags = c.flags;
       input = c.input;
       events = c.events;
-      segments = record {
-        state = same-state s (record s { ip = ip }) refl refl refl refl c.segments.state;
-        code = record { segment = c.segments.code.segment; bytes = c.segments.code.bytes };
-        data_is = c.segments.data_is;
-        stack_is = c.segments.stack_is;
-      };
+      segments =
+          segments_kept e.image e.program.layout s (record s { ip = ip }) refl refl
+          (same-state s (record s { ip = ip }) refl refl refl refl c.segments.state) c.segments;
       carried = c.carried;
     };
     scratch = scratch-set;

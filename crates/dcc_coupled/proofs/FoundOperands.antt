@@ -22,7 +22,7 @@ use Rattle.dcc_prog.specs.FrameForm.{is_sp_or_bp}
 use Rattle.dcc_prog.specs.Access.{Direction, Reading, Writing, Access, bytes_in, is_direct, operand_accesses, accesses}
 use Rattle.dcc_prog.specs.Frame.{span_of, memory_of, memory_operand, offset_in_frame, StartsExposure, by_index, used, IsUsed}
 use Rattle.dcc_prog.specs.Clean.{Stack, top_in, stack_bytes, with_marks}
-use Rattle.dcc_stack.specs.Standing.{Activation, StandsIn}
+use Rattle.dcc_stack.specs.Standing.{StandsIn}
 use Rattle.dcc_stack.specs.Slots.{is_memory, writes_memory}
 use Rattle.dcc_ir.specs.declared.syntax.Loc.TheVariants.{Half}
 use Rattle.dcc_ir.specs.Run.{State, value_in}
@@ -76,8 +76,7 @@ pub record IsOperandIn (op : Op) (u : Machine) (direction : Direction) (x : Oper
 
 module _ (e : Setting) (s : Machine) (stack : Stack) (instr : Instr) (is : IsCleanInstruction e s stack instr)
     (p : Procedure) (at : IsFoundAt e is.stands.newest.frame.entry p) where
-  abbrev a : Activation
-  a = is.stands.newest
+  open is.stands use {newest as a}
 
   abbrev R : Machine → State → Type 0
   R = Within is stack.written

@@ -5,6 +5,7 @@ pub mod OperandBytes
 pub mod PlacesRead
 pub mod PlacesWritten
 pub mod Next
+pub mod LikeStates
 pub mod StepsAgree
 pub mod OperationsAgree
 pub mod StoredWords

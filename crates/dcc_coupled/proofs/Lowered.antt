@@ -1,11 +1,10 @@
 -- The word below SP, where an operation stores one there and SP falls to it, and then so many bytes more.
-use Rattle.std.proofs.Common.{◌≡◌, ◌≤◌, ◌<◌, ℕ, ◌+◌, ◌-◌, ◌*◌, ◌%◌, false, refl, ap, ◌∙◌, subst, arith}
+use Rattle.std.proofs.Common.{◌≡◌, ◌≤◌, ◌<◌, ℕ, List, ◌+◌, ◌-◌, ◌*◌, ◌%◌, false, refl, ap, ◌∙◌, subst, arith}
 use Rattle.std.specs.Prelude.{pos, ◌+ℤ◌, ◌-ℤ◌, int_lt}
 use Rattle.std.proofs.lemmas.Int.{ints}
 use Rattle.std.proofs.Math.Nat.{mod-eq_of_lt}
 use Rattle.dcc_num.specs.declared.Width.TheVariants.{Word as word_width}
 use Rattle.dcc_num.specs.declared.Reg.TheVariants.{Sp}
-use Rattle.dcc_prog.specs.declared.procedure.Layout.{Layout}
 use Rattle.dcc_prog.specs.declared.instr.Instr.{Instr}
 use Rattle.dcc_prog.specs.Machine.{State as Machine, word_in, with_word_in, stack_segment, physical}
 use Rattle.dcc_prog.specs.Operations.{after_push}
@@ -23,10 +22,17 @@ use Rattle.dcc_coupled.specs.Places.{bytes_from, offsets_of}
 use Rattle.dcc_coupled.specs.Laws.{IsCleanInstruction}
 use Rattle.dcc_coupled.proofs.StoredWords.{pushed-is}
 
+-- the memory where a word is stored there
+abbrev pub stored_below : Setting → Machine → ℕ → List ℕ
+stored_below e s word =
+    stored
+    (stores_at (λ n. e.program.layout.ds * 16 + n)
+    (offsets_of word_width (λ index. word_in s Sp - 2 + e.program.layout.delta + index))
+    (bytes_from (word_in s Sp - 2 + e.program.layout.delta) word)) s.memory
+
 module _ (e : Setting) (s : Machine) (stack : Stack) (instr : Instr) (is : IsCleanInstruction e s stack instr)
     (more : ℕ) (lowers : sp_after instr.op s ≡ (pos (word_in s Sp) -ℤ pos (2 + more))) where
-  abbrev layout : Layout
-  layout = e.program.layout
+  open e.program use {layout}
 
   abbrev sp : ℕ
   sp = word_in s Sp - 2
@@ -75,14 +81,7 @@ module _ (e : Setting) (s : Machine) (stack : Stack) (instr : Instr) (is : IsCle
   word-wraps = let down = word-falls in let small = sp-small in omega (arith, down, small)
 
   pub word-stored : (v : ℕ)
-      → after_push v here
-      ≡ record (with_word_in here Sp (word_in s Sp - 2)) {
-        memory =
-            stored
-            (stores_at (λ n. e.program.layout.ds * 16 + n)
-            (offsets_of word_width (λ index. word_in s Sp - 2 + e.program.layout.delta + index))
-            (bytes_from (word_in s Sp - 2 + e.program.layout.delta) v)) s.memory;
-      }
+      → after_push v here ≡ record (with_word_in here Sp (word_in s Sp - 2)) { memory = stored_below e s v }
   word-stored v =
       pushed-is here v sp (layout.ds * 16) first (same-state s here refl refl refl refl is.stands.segments.state)
       word-wraps

@@ -3,6 +3,7 @@ use Rattle.std.proofs.Common.{◌≡◌, Bool, List, [], ◌∷◌, Option, Some
 use Rattle.dcc_run.specs.End.{Running, is_over}
 use Rattle.dcc_num.specs.declared.Reg.TheVariants.{Bp}
 use Rattle.dcc_prog.specs.declared.instr.Instr.{Instr}
+use Rattle.dcc_prog.specs.declared.instr.Op.{Op}
 use Rattle.dcc_prog.specs.Machine.{State as Machine, word_in}
 use Rattle.dcc_prog.specs.Step.{step}
 use Rattle.dcc_prog.specs.Clean.{Stack, top_in, foul_of, stack_after}
@@ -50,3 +51,17 @@ module _ (e : Setting) (s : Machine) (stack : Stack) (instr : Instr) (is : IsCle
       subst (λ i. StandsWith (Some instr) i)
       (same-found (next_instruction e.program.layout.cpu s) instr went.instr fetched went.found)
       (subst (λ o. StandsWith o went.instr) fetched (went.after, went.activations))
+
+  -- where the operation is known
+  pub next-with : (op : Op) → instr.op ≡ op
+      → (v : StackStands e.image e.program.layout after
+      (stack_after e.program.layout (Some instr) s after stack))
+      × (v.newest ∷ v.callers
+      ≡ activations_after op (top_in e.program.layout s) (word_in s Bp) after.ip
+      (is.stands.newest ∷ is.stands.callers))
+  next-with op is-op = (
+    next-stands.0,
+    next-stands.1
+        ∙ ap (λ o. activations_after o (top_in e.program.layout s) (word_in s Bp) after.ip
+        (is.stands.newest ∷ is.stands.callers)) is-op,
+  )

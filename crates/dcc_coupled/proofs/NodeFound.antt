@@ -2,7 +2,6 @@
 use Rattle.std.proofs.Common.{◌≡◌, ℕ, [], ◌∷◌, Some, sym, ap, ◌∙◌, subst}
 use Rattle.std.proofs.lemmas.List.Elements.{All-contains}
 use Rattle.std.specs.Prelude.{if◌then◌else◌}
-use Rattle.dcc_prog.specs.declared.procedure.Layout.{Layout}
 use Rattle.dcc_prog.specs.declared.procedure.Node.{Node}
 use Rattle.dcc_prog.specs.declared.instr.Instr.{Instr}
 use Rattle.dcc_prog.specs.Machine.{State as Machine}
@@ -11,7 +10,6 @@ use Rattle.dcc_prog.specs.Construct.{IsAtNode}
 use Rattle.dcc_prog.specs.Found.{IsNodeFound, IsFound}
 use Rattle.dcc_prog.specs.Clean.{Stack}
 use Rattle.dcc_stack.specs.Accepted.{IsNodeOf}
-use Rattle.dcc_stack.specs.Standing.{Activation}
 use Rattle.dcc_stack.proofs.ApartWrites.{same-instruction}
 use Rattle.dcc_stack.proofs.FormLaws.{in-form}
 use Rattle.dcc_coupled.specs.Coupled.{Setting}
@@ -23,11 +21,8 @@ use Rattle.dcc_coupled.proofs.FoundProcedures.{IsListed, listed}
 
 module _ (e : Setting) (s : Machine) (stack : Stack) (instr : Instr) (p : Procedure) (node : Node) (height : ℕ)
     (is : IsCleanInstruction e s stack instr) (here : IsNodeHere e s stack instr is p node height) where
-  abbrev a : Activation
-  a = is.stands.newest
-
-  abbrev layout : Layout
-  layout = e.program.layout
+  open is.stands use {newest as a}
+  open e.program use {layout}
 
   pub found-here : instruction_in e.image layout a.at ≡ Some instr
   found-here = ap (instruction_in e.image layout) is.stands.place ∙ is.found

@@ -13,7 +13,6 @@ use Rattle.dcc_prog.specs.Construct.{is_system}
 use Rattle.dcc_prog.specs.Clean.{Stack}
 use Rattle.dcc_prog.proofs.StateKept.{same-state, code-bytes}
 use Rattle.dcc_stack.specs.Accepted.{IsAt}
-use Rattle.dcc_stack.specs.Standing.{Activation}
 use Rattle.dcc_stack.proofs.ApartLaws.{writes-apart}
 use Rattle.dcc_stack.proofs.FormHeights.{has-height, no-system, form-there}
 use Rattle.dcc_stack.proofs.FormLaws.{in-form}
@@ -29,8 +28,7 @@ use Rattle.dcc_coupled.proofs.TabledOperands.{HavePlaces, instruction-placed}
 
 module _ (e : Setting) (s : Machine) (stack : Stack) (instr : Instr) (p : Procedure) (node : Node) (height : ℕ)
     (is : IsCleanInstruction e s stack instr) (here : IsNodeHere e s stack instr is p node height) where
-  abbrev a : Activation
-  a = is.stands.newest
+  open is.stands use {newest as a}
 
   -- a trail leads to it, with that height
   pub is-at : IsAt e.image e.program.layout a.frame.entry a.at a.before (pos height)

@@ -44,21 +44,13 @@ use Rattle.dcc_coupled.proofs.Coupling.{carried_laws}
 pub stack-offset : (layout : Layout) (offset : ℕ) → layout.lo ≤ offset → offset < layout.hi
     → stack_offset layout (layout.ds * 16 + offset) ≡ Some offset
 stack-offset layout offset low high =
-    by (nat_le from address) (nat_le to address) (lower low) (upper high)
+    by (nat_le (layout.ds * 16 + layout.lo) (layout.ds * 16 + offset))
+    (nat_le (layout.ds * 16 + layout.hi) (layout.ds * 16 + offset)) (lower low) (upper high)
   where
-    address : ℕ
-    address = layout.ds * 16 + offset
-
-    from : ℕ
-    from = layout.ds * 16 + layout.lo
-
-    to : ℕ
-    to = layout.ds * 16 + layout.hi
-
-    lower : layout.lo ≤ offset → nat_le from address ≡ true
+    lower : layout.lo ≤ offset → nat_le (layout.ds * 16 + layout.lo) (layout.ds * 16 + offset) ≡ true
     lower le = grind (arith, le)
 
-    upper : offset < layout.hi → nat_le to address ≡ false
+    upper : offset < layout.hi → nat_le (layout.ds * 16 + layout.hi) (layout.ds * 16 + offset) ≡ false
     upper less = grind (arith, less)
 
     by : (b d : Bool) → b ≡ true → d ≡ false
@@ -97,11 +89,8 @@ waiting-frames e callee (caller ∷ callers) (w ∷ waiting) are =
     ap (λ rest. caller ∷ rest) (waiting-frames e caller callers waiting are.2)
 
 module _ (e : Setting) (s : Machine) (stack : Stack) (instr : Instr) (is : IsCleanInstruction e s stack instr) where
-  abbrev layout : Layout
-  layout = e.program.layout
-
-  abbrev a : Activation
-  a = is.stands.newest
+  open e.program use {layout}
+  open is.stands use {newest as a}
 
   abbrev top : ℕ
   top = top_in layout s

@@ -29,7 +29,6 @@ use Rattle.dcc_prog.specs.Clean.{Stack, top_in, with_marks, stack_bytes, stored_
 use Rattle.dcc_prog.specs.CleanLaws.{moves_frames}
 use Rattle.dcc_prog.proofs.LocationKept.{or-none, op-half}
 use Rattle.dcc_prog.proofs.SpLaws.{by_halves}
-use Rattle.dcc_stack.specs.Standing.{Activation}
 use Rattle.dcc_stack.specs.Slots.{is_memory, writes_memory}
 use Rattle.dcc_stack.proofs.FormOps.{FormOf, is_stack_op, unnamed-still, copied-still}
 use Rattle.dcc_stack.proofs.TableSteps.{IsStepOf}
@@ -147,11 +146,8 @@ stmts-same cpu procedures p height node instr same is =
 module _ (e : Setting) (s : Machine) (stack : Stack) (instr : Instr) (t : State) (p : Procedure) (node : Node)
     (height : ℕ) (is : IsCleanInstruction e s stack instr) (node-here : IsNodeHere e s stack instr is p node height)
     (plain : is_plain_operation instr.op ≡ true) (before : Within is stack.written s t) where
-  abbrev layout : Layout
-  layout = e.program.layout
-
-  abbrev a : Activation
-  a = is.stands.newest
+  open e.program use {layout}
+  open is.stands use {newest as a}
 
   abbrev here : Machine
   here = record s { ip = next_of s.ip instr }

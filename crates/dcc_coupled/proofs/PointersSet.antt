@@ -4,7 +4,6 @@ use Rattle.std.proofs.Common.{◌≡◌, ◌≤◌, inl, inr, ℕ, ◌-◌, Bool
 use Rattle.std.specs.Prelude.{not}
 use Rattle.std.proofs.lemmas.Bool.{cases_lt}
 use Rattle.dcc_run.specs.End.{Running, is_over}
-use Rattle.dcc_num.specs.declared.Reg.{Reg}
 use Rattle.dcc_num.specs.declared.Reg.TheVariants.{Sp, Bp}
 use Rattle.dcc_prog.specs.declared.cpu.Cpu.{Cpu}
 use Rattle.dcc_prog.specs.declared.instr.Operand.TheVariants.{Word}
@@ -14,61 +13,21 @@ use Rattle.dcc_prog.specs.declared.instr.Instr.{Instr}
 use Rattle.dcc_prog.specs.Machine.{State as Machine, word_in, with_word_in, offset_of}
 use Rattle.dcc_prog.specs.Operations.{with_sp_raised}
 use Rattle.dcc_prog.specs.Step.{op_step, step}
-use Rattle.dcc_prog.specs.Trail.{is_general, next_of}
+use Rattle.dcc_prog.specs.Trail.{next_of}
 use Rattle.dcc_prog.specs.FrameForm.{is_mov_bp_sp, leaves_frame}
 use Rattle.dcc_prog.specs.Access.{accesses}
 use Rattle.dcc_prog.specs.CleanLaws.{moves_frames}
 use Rattle.dcc_prog.specs.Clean.{Stack, top_in, is_reading, with_marks, stack_bytes, stack_after}
-use Rattle.dcc_prog.proofs.LocationKept.{word-other}
 use Rattle.dcc_stack.specs.SlotLaws.{AreCarried}
 use Rattle.dcc_stack.proofs.TableSteps.{IsStepOf, step-of}
 use Rattle.dcc_ir.specs.Run.{State}
-use Rattle.dcc_ops.specs.Coupling.{HoldFlags}
 use Rattle.dcc_coupled.specs.Coupled.{Setting, typed_by, typed_waiting, AreCoupled}
 use Rattle.dcc_coupled.specs.Laws.{IsCleanInstruction, Within, PointersAreSet}
 use Rattle.dcc_stack.specs.Standing.{StackStands}
 use Rattle.dcc_coupled.proofs.Next.{next-stands}
-use Rattle.dcc_coupled.proofs.Coupling.{carried_laws, registers-apart}
+use Rattle.dcc_coupled.proofs.LikeStates.{IsLike, like-both, sp-set, bp-set, stays-itself, coupled-after}
+use Rattle.dcc_coupled.proofs.Coupling.{carried_laws, coupled}
 use Rattle.dcc_coupled.proofs.StepsAgree.{none-rises, steps-agree}
-
--- a state has all that another has, but for SP, BP and the instruction pointer
-pub record IsLike (s u : Machine) : Type 0 where
-  pub end : u.end ≡ s.end
-  pub memory : u.memory ≡ s.memory
-  pub flags : u.flags ≡ s.flags
-  pub input : u.input ≡ s.input
-  pub events : u.events ≡ s.events
-  pub words : (r : Reg) → is_general r ≡ true → word_in u r ≡ word_in s r
-
-pub sp-set : (s : Machine) (sp : ℕ) → IsLike s (with_word_in s Sp sp)
-sp-set s sp = record {
-  end = refl;
-  memory = refl;
-  flags = refl;
-  input = refl;
-  events = refl;
-  words = λ r g. word-other s Sp r sp (registers-apart r Sp true g refl);
-}
-
-pub bp-set : (s : Machine) (bp : ℕ) → IsLike s (with_word_in s Bp bp)
-bp-set s bp = record {
-  end = refl;
-  memory = refl;
-  flags = refl;
-  input = refl;
-  events = refl;
-  words = λ r g. word-other s Bp r bp (registers-apart r Bp true g refl);
-}
-
-pub like-both : (s u v : Machine) → IsLike s u → IsLike u v → IsLike s v
-like-both s u v first second = record {
-  end = second.end ∙ first.end;
-  memory = second.memory ∙ first.memory;
-  flags = second.flags ∙ first.flags;
-  input = second.input ∙ first.input;
-  events = second.events ∙ first.events;
-  words = λ r g. second.words r g ∙ first.words r g;
-}
 
 -- what an operation that sets them does, and that it stores nothing
 record SetsPointers (cpu : Cpu) (op : Op) (at : ℕ) (s : Machine) : Type 0 where
@@ -157,21 +116,11 @@ module _ (e : Setting) (s : Machine) (stack : Stack) (instr : Instr) (t : State)
   ]
 
   agree : Within is marks after t
-  agree = record {
-    goes = goes-on;
-    running = before.running;
-    newest = before.newest;
-    waiting = before.waiting;
-    words = λ r g. like.words r g ∙ before.words r g;
-    flags = subst (λ f. HoldFlags f t.running.values) (sym like.flags) before.flags;
-    input = before.input ∙ sym like.input;
-    events = before.events ∙ sym like.events;
-    segments = next.segments;
-    carried =
-        subst (λ m. AreCarried e.cpu e.image e.program m t.memory marks next_top
-        (typed_by e is.stands.newest t.running ∷ typed_waiting e is.stands.callers t.waiting)) (sym like.memory)
-        carried;
-  }
+  agree =
+      coupled-after e is.stands.newest is.stands.newest is.stands.callers is.stands.callers stack.written marks here after
+      s.memory t t like (stays-itself t)
+      ((coupled e is.stands.newest is.stands.callers stack.written).anywhere s t (next_of s.ip instr) before)
+      before.running before.newest before.waiting next.segments carried
 
   pointers-are-set : AreCoupled e after (stack_after e.program.layout (Some instr) s after stack) t
   pointers-are-set =

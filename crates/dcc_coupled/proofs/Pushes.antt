@@ -1,12 +1,11 @@
 -- A PUSH: SP falls, and the word below it takes the operand in both runs.
-use Rattle.std.proofs.Common.{◌≡◌, ◌≤◌, ◌<◌, inl, inr, ℕ, ◌+◌, ◌-◌, ◌*◌, ◌%◌, Bool, true, false, List, [], ◌∷◌, ◌++◌, filter, Some, refl, sym, ap, ◌∙◌, subst, arith}
+use Rattle.std.proofs.Common.{◌≡◌, ◌≤◌, ◌<◌, inl, inr, ℕ, ◌+◌, ◌-◌, ◌%◌, Bool, true, false, [], ◌∷◌, ◌++◌, filter, Some, refl, sym, ap, ◌∙◌, subst, arith}
 use Rattle.std.specs.Prelude.{pos, neg_ℤ, ◌+ℤ◌, ◌-ℤ◌, ◌<ℤ◌, not, if◌then◌else◌}
 use Rattle.std.proofs.lemmas.Int.{ints}
 use Rattle.dcc_run.specs.End.{is_over}
 use Rattle.dcc_num.specs.declared.Width.TheVariants.{Word as word_width}
 use Rattle.dcc_num.specs.declared.Reg.TheVariants.{Sp, Bp}
 use Rattle.dcc_num.specs.Numbers.{limit_of}
-use Rattle.dcc_prog.specs.declared.procedure.Layout.{Layout}
 use Rattle.dcc_prog.specs.declared.instr.Operand.{Operand}
 use Rattle.dcc_prog.specs.declared.instr.Operand.TheVariants.{Word, Byte, Seg, Mem, Const}
 use Rattle.dcc_prog.specs.declared.instr.Op.TheVariants.{Push}
@@ -18,27 +17,27 @@ use Rattle.dcc_prog.specs.WellFormed.{IsWordOperand, IsOperation}
 use Rattle.dcc_prog.specs.Trail.{next_of, StandsAt}
 use Rattle.dcc_prog.specs.Height.{MovesHeight}
 use Rattle.dcc_prog.specs.FrameForm.{is_framed, is_sp_or_bp}
-use Rattle.dcc_prog.specs.Access.{Reading, operand_accesses, push_access, accesses, stored}
+use Rattle.dcc_prog.specs.Access.{Reading, operand_accesses, push_access, accesses}
 use Rattle.dcc_prog.specs.CleanLaws.{moves_frames}
 use Rattle.dcc_prog.specs.Clean.{Stack, top_in, end_of, is_reading, with_marks, stack_bytes, stored_bytes, stack_after, sp_after}
 use Rattle.dcc_prog.proofs.LocationKept.{word-taken}
 use Rattle.dcc_prog.proofs.StateKept.{value-fits}
 use Rattle.dcc_stack.specs.Accepted.{FrameStays, changes_frame}
-use Rattle.dcc_stack.specs.Standing.{Activation, StandsIn}
+use Rattle.dcc_stack.specs.Standing.{StandsIn}
 use Rattle.dcc_stack.specs.Apart.{IsApart}
 use Rattle.dcc_stack.specs.Slots.{IsChangeable}
-use Rattle.dcc_stack.specs.SlotLaws.{stores_at, marks_at}
+use Rattle.dcc_stack.specs.SlotLaws.{marks_at}
 use Rattle.dcc_stack.proofs.FormLaws.{in-form}
 use Rattle.dcc_stack.proofs.StepInner.{push-height}
 use Rattle.dcc_stack.proofs.TableSteps.{IsStepOf, step-of}
 use Rattle.dcc_ir.specs.Run.{State}
 use Rattle.dcc_ops.specs.Place.{Place}
 use Rattle.dcc_coupled.specs.Coupled.{Setting, AreCoupled}
-use Rattle.dcc_coupled.specs.Places.{IsFramePlace, taken, bytes_from, offsets_of, IsOfFrame}
+use Rattle.dcc_coupled.specs.Places.{IsFramePlace, taken, offsets_of, IsOfFrame}
 use Rattle.dcc_coupled.specs.Laws.{IsCleanInstruction, Within, WordsArePushed}
 use Rattle.dcc_coupled.proofs.Coupling.{carried_laws, coupled}
 use Rattle.dcc_coupled.proofs.FrameBytes.{frames-written}
-use Rattle.dcc_coupled.proofs.Lowered.{word-falls, word-above, word-lies, word-wraps, word-stored}
+use Rattle.dcc_coupled.proofs.Lowered.{stored_below, word-falls, word-above, word-lies, word-wraps, word-stored}
 use Rattle.dcc_coupled.proofs.OperandBytes.{there}
 use Rattle.dcc_coupled.proofs.PlacesWritten.{marks-same}
 use Rattle.dcc_coupled.proofs.StepsAgree.{pointers-move, none-rises, steps-agree}
@@ -68,17 +67,11 @@ module _ (e : Setting) (s : Machine) (stack : Stack) (instr : Instr) (x : Operan
     StandsIn e.image e.program.layout s.memory is.stands.newest (top_in e.program.layout s) (word_in s Bp))
     (push : instr.op ≡ Push x) (plain : is_sp_or_bp x ≡ false) (before : Within is stack.written s t)
     (at : IsFramePlace e is.stands.newest.frame.entry (neg_ℤ (pos stands.height)) word_width place) where
-  abbrev layout : Layout
-  layout = e.program.layout
-
-  abbrev a : Activation
-  a = is.stands.newest
+  open e.program use {layout}
+  open is.stands use {newest as a}
 
   abbrev top : ℕ
   top = top_in e.program.layout s
-
-  abbrev sp : ℕ
-  sp = word_in s Sp - 2
 
   abbrev first : ℕ
   first = word_in s Sp - 2 + e.program.layout.delta
@@ -94,7 +87,7 @@ module _ (e : Setting) (s : Machine) (stack : Stack) (instr : Instr) (x : Operan
   lowers : sp_after instr.op s ≡ (pos (word_in s Sp) -ℤ pos 2)
   lowers = ap (λ o. sp_after o s) push
 
-  falls : sp + 2 ≡ word_in s Sp
+  falls : word_in s Sp - 2 + 2 ≡ word_in s Sp
   falls = word-falls e s stack instr is 0 lowers
 
   -- the frame
@@ -169,14 +162,7 @@ module _ (e : Setting) (s : Machine) (stack : Stack) (instr : Instr) (x : Operan
       subst (λ w. operand_value s x < limit_of w) word-operand.width
       (value-fits s x word-operand.operand is.stands.segments.state)
 
-  abbrev stored_memory : List ℕ
-  stored_memory =
-      stored
-      (stores_at (λ n. e.program.layout.ds * 16 + n)
-      (offsets_of word_width (λ index. word_in s Sp - 2 + e.program.layout.delta + index))
-      (bytes_from (word_in s Sp - 2 + e.program.layout.delta) (operand_value s x))) s.memory
-
-  step-is : step layout.cpu s ≡ record lowered { memory = stored_memory }
+  step-is : step layout.cpu s ≡ record lowered { memory = stored_below e s (operand_value s x) }
   step-is =
       taken-step.is ∙ ap (λ o. op_step layout.cpu o s.ip here) push
       ∙ ap (λ n. after_push n here) (value-of s (next_of s.ip instr) x)
@@ -206,7 +192,7 @@ module _ (e : Setting) (s : Machine) (stack : Stack) (instr : Instr) (x : Operan
       (taken place (operand_value s x) t)) (sym step-is)
       (frames-written e a is.stands.callers stack.written lowered t word_width (neg_ℤ (pos stands.height)) first place
       (operand_value s x) is.numbered
-      (pointers-move.falls e a is.stands.callers stack.written here t sp
+      (pointers-move.falls e a is.stands.callers stack.written here t (word_in s Sp - 2)
       ((coupled e a is.stands.callers stack.written).anywhere s t (next_of s.ip instr) before)
       (let wide = is.stands.segments.state.registers.words Sp in let down = falls in omega (arith, wide, down))
       (word-above e s stack instr is 0 lowers)

@@ -9,7 +9,6 @@ use Rattle.dcc_run.specs.End.{Running}
 use Rattle.dcc_num.specs.declared.Width.TheVariants.{Word as word_width}
 use Rattle.dcc_num.specs.declared.Reg.TheVariants.{Bp}
 use Rattle.dcc_prog.specs.declared.refusal.LimitName.TheVariants.{Arguments}
-use Rattle.dcc_prog.specs.declared.procedure.Layout.{Layout}
 use Rattle.dcc_prog.specs.declared.procedure.Node.{Node}
 use Rattle.dcc_prog.specs.declared.instr.Instr.{Instr}
 use Rattle.dcc_prog.specs.declared.instr.Op.TheVariants.{Ret as RetOp}
@@ -62,11 +61,8 @@ few-filtered test numbers =
 module _ (e : Setting) (s : Machine) (stack : Stack) (instr : Instr) (t : State) (p : Procedure) (node : Node)
     (height count : ℕ) (is : IsCleanInstruction e s stack instr) (here : IsNodeHere e s stack instr is p node height)
     (ret : instr.op ≡ RetOp count) (before : Within is stack.written s t) where
-  abbrev layout : Layout
-  layout = e.program.layout
-
-  abbrev a : Activation
-  a = is.stands.newest
+  open e.program use {layout}
+  open is.stands use {newest as a}
 
   abbrev base : ℕ
   base = is.stands.newest.frame.base
@@ -354,14 +350,16 @@ module _ (e : Setting) (s : Machine) (stack : Stack) (instr : Instr) (t : State)
       base = ap (λ (v : State). v.running.base) u-is ∙ has.active.base;
       values = takes.fits.values;
     };
-    halves = λ r half general.
-        takes.others (Half r half) refl ∙ numbers-given.gives.kept (Half r half) refl
-        ∙ halves-given t.running.values t0 r half general;
-    flags = λ flag.
-        takes.others (Flag flag) refl ∙ numbers-given.gives.kept (Flag flag) refl
-        ∙ flags-given t.running.values t0 flag;
-    input = ap (λ (v : State). v.input) u-is;
-    events = ap (λ (v : State). v.events) u-is;
+    passes = record {
+      halves = λ r half general.
+          takes.others (Half r half) refl ∙ numbers-given.gives.kept (Half r half) refl
+          ∙ halves-given t.running.values t0 r half general;
+      flags = λ flag.
+          takes.others (Flag flag) refl ∙ numbers-given.gives.kept (Flag flag) refl
+          ∙ flags-given t.running.values t0 flag;
+      input = ap (λ (v : State). v.input) u-is;
+      events = ap (λ (v : State). v.events) u-is;
+    };
     offsets = offsets;
     bytes = bytes;
     small = bytes-small;

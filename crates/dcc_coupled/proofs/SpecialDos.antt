@@ -33,7 +33,7 @@ use Rattle.dcc_coupled.specs.Laws.{IsCleanInstruction, Within}
 use Rattle.dcc_coupled.specs.Procedures.{Procedure}
 use Rattle.dcc_coupled.specs.Nodes.{IsNodeHere, StepAgrees, agree, over}
 use Rattle.dcc_coupled.specs.Special.{is_special}
-use Rattle.dcc_coupled.proofs.Coupling.{coupled}
+use Rattle.dcc_coupled.proofs.Coupling.{segments_kept, coupled}
 use Rattle.dcc_coupled.proofs.NodeFound.{found-here, trail, node-of, node-is, no-construct, node-found}
 use Rattle.dcc_coupled.proofs.SpecialSteps.{taken, special-agrees}
 use Rattle.dcc_coupled.proofs.SpecialStrings.{string-same}
@@ -95,19 +95,16 @@ module _ (e : Setting) (s : Machine) (stack : Stack) (instr : Instr) (is : IsCle
     flags = c.flags;
     input = same;
     events = happened;
-    segments = record {
-      state = record {
-        registers = record { count = c.segments.state.registers.count; words = c.segments.state.registers.words };
-        segment_count = c.segments.state.segment_count;
-        segments = c.segments.state.segments;
-        memory_size = c.segments.state.memory_size;
-        memory = c.segments.state.memory;
-        input = small;
-      };
-      code = record { segment = c.segments.code.segment; bytes = c.segments.code.bytes };
-      data_is = c.segments.data_is;
-      stack_is = c.segments.stack_is;
-    };
+    segments =
+        segments_kept e.image e.program.layout u (record u { input = input; events = events }) refl refl
+        (record {
+          registers = record { count = c.segments.state.registers.count; words = c.segments.state.registers.words };
+          segment_count = c.segments.state.segment_count;
+          segments = c.segments.state.segments;
+          memory_size = c.segments.state.memory_size;
+          memory = c.segments.state.memory;
+          input = small;
+        }) c.segments;
     carried = c.carried;
   }
 

@@ -4,7 +4,6 @@ use Rattle.std.specs.Prelude.{slice_index}
 use Rattle.std.proofs.Math.Nat.{mod-eq_of_lt}
 use Rattle.std.proofs.lemmas.List.Elements.{All-contains}
 use Rattle.std.proofs.lemmas.List.FromFn.{length-map-range_with_len, get_or-map-range_with_len}
-use Rattle.dcc_prog.specs.declared.procedure.Layout.{Layout}
 use Rattle.dcc_prog.specs.declared.instr.Instr.{Instr}
 use Rattle.dcc_prog.specs.Machine.{State as Machine, physical, data_segment}
 use Rattle.dcc_prog.specs.Access.{Access, other_read, address_in, addresses_of, found_accesses}
@@ -27,8 +26,7 @@ address-among access index less = (
 
 module _ (e : Setting) (s : Machine) (stack : Stack) (instr : Instr) (is : IsCleanInstruction e s stack instr)
     (offset size : ℕ) (has : Contains (found_accesses (Some instr) s) (other_read (data_segment s) offset size)) where
-  abbrev layout : Layout
-  layout = e.program.layout
+  open e.program use {layout}
 
   abbrev access : Access
   access = other_read (data_segment s) offset size

@@ -7,7 +7,6 @@ use Rattle.dcc_run.specs.End.{Running}
 use Rattle.dcc_num.specs.declared.Width.TheVariants.{Word as word_width}
 use Rattle.dcc_num.specs.declared.Reg.TheVariants.{Sp}
 use Rattle.dcc_prog.specs.declared.cpu.Cpu.{Cpu}
-use Rattle.dcc_prog.specs.declared.procedure.Layout.{Layout}
 use Rattle.dcc_prog.specs.declared.procedure.Node.{Node}
 use Rattle.dcc_prog.specs.declared.instr.Alu.TheVariants.{Add, Sub}
 use Rattle.dcc_prog.specs.declared.instr.Unary.TheVariants.{Inc, Dec}
@@ -25,12 +24,12 @@ use Rattle.dcc_prog.specs.Access.{accesses}
 use Rattle.dcc_prog.specs.CleanLaws.{moves_frames}
 use Rattle.dcc_prog.specs.Clean.{Stack, top_in, is_reading, with_marks, stack_bytes, stack_after}
 use Rattle.dcc_prog.proofs.LocationKept.{word-taken}
-use Rattle.dcc_stack.specs.Standing.{Activation, StackStands}
+use Rattle.dcc_stack.specs.Standing.{StackStands}
 use Rattle.dcc_stack.proofs.TableSteps.{IsStepOf}
 use Rattle.dcc_ir.specs.Run.{State, execute}
 use Rattle.dcc_ops.specs.Place.{computed}
 use Rattle.dcc_ops.specs.Computed.{computed_expr}
-use Rattle.dcc_ops.specs.Coupling.{Relation, IsCoupling, IsRead}
+use Rattle.dcc_ops.specs.Coupling.{IsCoupling, IsRead}
 use Rattle.dcc_ops.specs.Held.{IsHeld}
 use Rattle.dcc_ops.proofs.CouplingLaws.{held_below}
 use Rattle.dcc_ops.proofs.HeldLaws.{results_held}
@@ -63,22 +62,16 @@ move-stays op so = absurd (true≢false (sym so))
 module _ (e : Setting) (s : Machine) (stack : Stack) (instr : Instr) (t : State) (p : Procedure) (node : Node)
     (height : ℕ) (is : IsCleanInstruction e s stack instr) (node-here : IsNodeHere e s stack instr is p node height)
     (so : is_sp_move instr.op ≡ true) (before : Within is stack.written s t) where
-  abbrev layout : Layout
-  layout = e.program.layout
-
-  abbrev a : Activation
-  a = is.stands.newest
+  open e.program use {layout}
+  open is.stands use {newest as a}
 
   abbrev here : Machine
   here = record s { ip = next_of s.ip instr }
 
-  abbrev R : Relation
-  R = Within is stack.written
-
   coupling : IsCoupling (Within is stack.written)
   coupling = coupled e a is.stands.callers stack.written
 
-  begun : R here t
+  begun : Within is stack.written here t
   begun = coupling.anywhere s t (next_of s.ip instr) before
 
   taken : IsStepOf e.image layout is.of_file.loaded s.ip instr s
@@ -98,16 +91,16 @@ module _ (e : Setting) (s : Machine) (stack : Stack) (instr : Instr) (t : State)
   held-by : (op : Op) → is_sp_move op ≡ true → IsOperation op
       → IsHeld (Within is stack.written) here (Word Sp) (op_step layout.cpu op s.ip here) (stmts_of layout.cpu op)
   held-by (Alu Add (Word Sp) (Const width number)) move good =
-      (results_held R coupling).alu layout.cpu Add (Word Sp) (Const width number) node.number s.ip here t _ _ good refl
-      sp-there ((registers_stand R coupling).read here (Const width number) refl good.second) begun
+      (results_held _ coupling).alu layout.cpu Add (Word Sp) (Const width number) node.number s.ip here t _ _ good refl
+      sp-there ((registers_stand _ coupling).read here (Const width number) refl good.second) begun
   held-by (Alu Sub (Word Sp) (Const width number)) move good =
-      (results_held R coupling).alu layout.cpu Sub (Word Sp) (Const width number) node.number s.ip here t _ _ good refl
-      sp-there ((registers_stand R coupling).read here (Const width number) refl good.second) begun
+      (results_held _ coupling).alu layout.cpu Sub (Word Sp) (Const width number) node.number s.ip here t _ _ good refl
+      sp-there ((registers_stand _ coupling).read here (Const width number) refl good.second) begun
   held-by (Unary Inc (Word Sp)) move good =
-      (results_held R coupling).unary layout.cpu Inc (Word Sp) node.number s.ip here t _ no_place refl refl sp-there
+      (results_held _ coupling).unary layout.cpu Inc (Word Sp) node.number s.ip here t _ no_place refl refl sp-there
       begun
   held-by (Unary Dec (Word Sp)) move good =
-      (results_held R coupling).unary layout.cpu Dec (Word Sp) node.number s.ip here t _ no_place refl refl sp-there
+      (results_held _ coupling).unary layout.cpu Dec (Word Sp) node.number s.ip here t _ no_place refl refl sp-there
       begun
   held-by op move good = absurd (true≢false (sym move))
 
@@ -123,7 +116,7 @@ module _ (e : Setting) (s : Machine) (stack : Stack) (instr : Instr) (t : State)
   sp = u.running.values held.temporary
 
   small : sp < 65536
-  small = held_below R coupling (with_flags held.flags here) u word_width held.temporary held.width held.stands
+  small = held_below _ coupling (with_flags held.flags here) u word_width held.temporary held.width held.stands
 
   after-is : step layout.cpu s ≡ with_word_in (with_flags held.flags here) Sp sp
   after-is = taken.is ∙ held.taken

@@ -10,7 +10,6 @@ use Rattle.dcc_prog.specs.Machine.{State as Machine}
 use Rattle.dcc_prog.specs.Step.{step}
 use Rattle.dcc_prog.specs.FrameForm.{is_push_bp, is_mov_bp_sp, is_enter, leaves_frame, is_sp_move}
 use Rattle.dcc_prog.specs.Clean.{Stack, stack_after}
-use Rattle.dcc_stack.specs.Standing.{Activation}
 use Rattle.dcc_stack.proofs.FormOps.{FormOf}
 use Rattle.dcc_ir.specs.Run.{State, execute}
 use Rattle.dcc_coupled.specs.Coupled.{Setting, AreCoupled}
@@ -43,8 +42,7 @@ left-of false b so none = absurd (true≢false (sym so ∙ none))
 module _ (e : Setting) (s : Machine) (stack : Stack) (instr : Instr) (t : State) (p : Procedure) (node : Node)
     (height : ℕ) (is : IsCleanInstruction e s stack instr) (node-here : IsNodeHere e s stack instr is p node height)
     (before : Within is stack.written s t) where
-  abbrev a : Activation
-  a = is.stands.newest
+  open is.stands use {newest as a}
 
   -- the runs agree after the step
   abbrev Agree : State → Type 0

@@ -8,7 +8,6 @@ use Rattle.std.proofs.Math.Nat.{mod-eq_of_lt}
 use Rattle.dcc_num.specs.declared.Width.TheVariants.{Byte as byte_width, Word as word_width}
 use Rattle.dcc_num.specs.declared.Reg.{Reg}
 use Rattle.dcc_num.specs.declared.Reg.TheVariants.{Ax, Cx, Dx, Bx, Sp, Bp, Si, Di}
-use Rattle.dcc_prog.specs.declared.procedure.Layout.{Layout}
 use Rattle.dcc_prog.specs.declared.procedure.Node.{Node}
 use Rattle.dcc_prog.specs.declared.instr.Ea.{Ea}
 use Rattle.dcc_prog.specs.declared.instr.Operand.{Operand}
@@ -25,12 +24,11 @@ use Rattle.dcc_prog.specs.Access.{Reading, Writing, bytes_in, kind_of, operand_a
 use Rattle.dcc_prog.specs.CleanLaws.{moves_frames}
 use Rattle.dcc_prog.specs.Clean.{Stack, top_in, with_marks, stack_bytes, stored_bytes, stack_after}
 use Rattle.dcc_prog.proofs.LocationKept.{word-other}
-use Rattle.dcc_stack.specs.Standing.{Activation}
 use Rattle.dcc_stack.specs.Slots.{writes_memory}
 use Rattle.dcc_stack.proofs.TableSteps.{IsStepOf}
 use Rattle.dcc_ir.specs.Run.{State, execute}
 use Rattle.dcc_ops.specs.Statements.{mov_stmts}
-use Rattle.dcc_ops.specs.Coupling.{Relation, IsCoupling, IsRead, IsWritten}
+use Rattle.dcc_ops.specs.Coupling.{Relation, IsRead, IsWritten}
 use Rattle.dcc_ops.proofs.MovePerformed.{mov_performed}
 use Rattle.dcc_coupled.specs.Coupled.{Setting, AreCoupled}
 use Rattle.dcc_coupled.specs.Places.{IsFramePlace, is_plain, IsPlainAddress}
@@ -141,20 +139,11 @@ module _ (e : Setting) (s : Machine) (stack : Stack) (instr : Instr) (t : State)
     (height : ℕ) (is : IsCleanInstruction e s stack instr) (node-here : IsNodeHere e s stack instr is p node height)
     (before : Within is stack.written s t) (x : Operand) (pop : instr.op ≡ Pop x) (other : is_sp_or_bp x ≡ false)
   where
-    abbrev layout : Layout
-    layout = e.program.layout
-
-    abbrev a : Activation
-    a = is.stands.newest
+    open e.program use {layout}
+    open is.stands use {newest as a}
 
     abbrev here : Machine
     here = record s { ip = next_of s.ip instr }
-
-    abbrev R : Relation
-    R = Within is stack.written
-
-    coupling : IsCoupling (Within is stack.written)
-    coupling = coupled e a is.stands.callers stack.written
 
     at : IsFoundAt e a.frame.entry p
     at = found-at e s stack instr p node height is node-here
@@ -185,7 +174,7 @@ module _ (e : Setting) (s : Machine) (stack : Stack) (instr : Instr) (t : State)
           (subst (λ l. Contains l access) (sym (accesses-apart here _ x target)) among);
     }
 
-    written : IsWritten R After here x (operand_place p height x)
+    written : IsWritten (Within is stack.written) After here x (operand_place p height x)
     written =
         operand-written e s stack instr is p at height x target other (λ memory. ap writes_memory pop ∙ memory)
         (subst (λ o. IsOperandIn o here Writing x) (sym pop) pop-written)
@@ -203,7 +192,7 @@ module _ (e : Setting) (s : Machine) (stack : Stack) (instr : Instr) (t : State)
     small : top_word here < 65536
     small = top-small e s stack instr x is node-here.stands pop other
 
-    read : IsRead R here (Const word_width word) (top_place p height)
+    read : IsRead (Within is stack.written) here (Const word_width word) (top_place p height)
     read = record {
       width = frame-wide e a.frame.entry (pos 2 -ℤ pos height) word_width (top_place p height) popped;
       value = λ flags u c.
@@ -222,9 +211,9 @@ module _ (e : Setting) (s : Machine) (stack : Stack) (instr : Instr) (t : State)
     moved =
         subst (λ w. After (with_operand here x word)
         (execute (mov_stmts w (operand_place p height x) (top_place p height)) t)) word-operand.width
-        (mov_performed R After coupling (coupled e a is.stands.callers marks) x (Const word_width word) here t
+        (mov_performed (Within is stack.written) After (coupled e a is.stands.callers stack.written) (coupled e a is.stands.callers marks) x (Const word_width word) here t
         (record { first = word-operand.operand; second = small; widths = word-operand.width })
-        (coupling.anywhere s t (next_of s.ip instr) before) (operand_place p height x) (top_place p height) read
+        ((coupled e a is.stands.callers stack.written).anywhere s t (next_of s.ip instr) before) (operand_place p height x) (top_place p height) read
         (frame-sound e a.frame.entry (pos 2 -ℤ pos height) word_width (top_place p height) popped) written)
 
     -- the step

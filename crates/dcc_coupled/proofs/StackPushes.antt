@@ -14,10 +14,8 @@ use Rattle.dcc_prog.specs.Trail.{next_of, StandsAt}
 use Rattle.dcc_prog.specs.FrameForm.{is_sp_or_bp}
 use Rattle.dcc_prog.specs.Access.{Reading, operand_accesses, push_access}
 use Rattle.dcc_prog.specs.Clean.{Stack, stack_after}
-use Rattle.dcc_stack.specs.Standing.{Activation}
 use Rattle.dcc_ir.specs.Run.{State, execute}
 use Rattle.dcc_ops.specs.Statements.{mov_stmts}
-use Rattle.dcc_ops.specs.Coupling.{Relation, IsCoupling}
 use Rattle.dcc_coupled.specs.Coupled.{Setting, AreCoupled}
 use Rattle.dcc_coupled.specs.Places.{IsFramePlace, taken}
 use Rattle.dcc_coupled.specs.Laws.{IsCleanInstruction, Within}
@@ -45,23 +43,16 @@ module _ (e : Setting) (s : Machine) (stack : Stack) (instr : Instr) (t : State)
     (height : ℕ) (is : IsCleanInstruction e s stack instr) (node-here : IsNodeHere e s stack instr is p node height)
     (before : Within is stack.written s t) (x : Operand) (push : instr.op ≡ Push x)
     (other : is_sp_or_bp x ≡ false) where
-  abbrev a : Activation
-  a = is.stands.newest
+  open is.stands use {newest as a}
 
   abbrev here : Machine
   here = record s { ip = next_of s.ip instr }
 
-  abbrev R : Relation
-  R = Within is stack.written
-
-  coupling : IsCoupling (Within is stack.written)
-  coupling = coupled e a is.stands.callers stack.written
+  source : IsSource x
+  source = subst HavePlaces push (placed-here e s stack instr p node height is node-here)
 
   at : IsFoundAt e a.frame.entry p
   at = found-at e s stack instr p node height is node-here
-
-  source : IsSource x
-  source = subst HavePlaces push (placed-here e s stack instr p node height is node-here)
 
   word-operand : IsWordOperand x
   word-operand = subst IsOperation push (taken-here e s stack instr p node height is node-here before.goes).good
@@ -74,10 +65,10 @@ module _ (e : Setting) (s : Machine) (stack : Stack) (instr : Instr) (t : State)
       pushed-place e a.frame.entry p at a.at height a.before (is-at e s stack instr p node height is node-here) x other
       (subst (StandsAt e.image e.program.layout a.at) push (there e s stack instr is))
 
-  moved : IsMoved R here (place_below_top p height) (operand_value here x)
+  moved : IsMoved (Within is stack.written) here (place_below_top p height) (operand_value here x)
       (execute (mov_stmts word_width (place_below_top p height) (operand_place p height x)) t)
   moved =
-      word-moved R coupling here x word-operand.width t (coupling.anywhere s t (next_of s.ip instr) before) e
+      word-moved _ (coupled e a is.stands.callers stack.written) here x word-operand.width t ((coupled e a is.stands.callers stack.written).anywhere s t (next_of s.ip instr) before) e
       a.frame.entry (neg_ℤ (pos height)) (place_below_top p height) (operand_place p height x) below
       (operand-read e s stack instr is p at height x source word-operand.operand other reads)
       (operand-sound e s stack instr is p at height x source other reads)
@@ -91,6 +82,6 @@ module _ (e : Setting) (s : Machine) (stack : Stack) (instr : Instr) (t : State)
       (stack_after e.program.layout (Some instr) s (step e.program.layout.cpu s) stack))
       (sym (moved.is ∙ ap (λ n. taken (place_below_top p height) n moved.from) (value-of s (next_of s.ip instr) x)))
       (words-pushed e s stack instr x moved.from (place_below_top p height) is node-here.stands push other
-      (coupling.anywhere here moved.from s.ip moved.stands)
+      ((coupled e a is.stands.callers stack.written).anywhere here moved.from s.ip moved.stands)
       (subst (λ n. IsFramePlace e a.frame.entry (neg_ℤ (pos n)) word_width (place_below_top p height))
       (sym node-here.height_is) below))

@@ -1,5 +1,5 @@
 -- `push bp` and ENTER: the machine saves BP below the return address, and the inner run stays as it is.
-use Rattle.std.proofs.Common.{◌≡◌, ◌≤◌, ◌<◌, inl, inr, ℕ, ◌+◌, ◌-◌, ◌*◌, ◌%◌, Bool, true, false, true≢false, ◌||◌, List, [], ◌∷◌, filter, Some, refl, sym, ap, ◌∙◌, subst, arith}
+use Rattle.std.proofs.Common.{◌≡◌, ◌≤◌, ◌<◌, inl, inr, ℕ, ◌+◌, ◌-◌, ◌%◌, Bool, true, false, true≢false, ◌||◌, List, [], ◌∷◌, filter, Some, refl, sym, ap, ◌∙◌, subst, arith}
 use Rattle.std.specs.Prelude.{not, pos, ◌-ℤ◌, if◌then◌else◌}
 use Rattle.dcc_run.specs.End.{Running}
 use Rattle.dcc_num.specs.declared.Width.TheVariants.{Word as word_width}
@@ -19,32 +19,30 @@ use Rattle.dcc_prog.specs.Step.{op_step, step}
 use Rattle.dcc_prog.specs.StateForm.{IsState}
 use Rattle.dcc_prog.specs.Trail.{next_of}
 use Rattle.dcc_prog.specs.FrameForm.{is_push_bp, is_enter, is_framed}
-use Rattle.dcc_prog.specs.Access.{push_access, accesses, stored}
+use Rattle.dcc_prog.specs.Access.{push_access, accesses}
 use Rattle.dcc_prog.specs.CleanLaws.{moves_frames}
 use Rattle.dcc_prog.specs.Clean.{Stack, top_in, is_reading, with_marks, stack_bytes, stack_after, sp_after}
 use Rattle.dcc_prog.proofs.LocationKept.{word-taken, word-other}
 use Rattle.dcc_prog.proofs.StateKept.{word-state, pushed-state}
 use Rattle.dcc_stack.specs.Accepted.{IsForm, saves, enters, pushes, moves, keeps}
 use Rattle.dcc_stack.specs.Apart.{control_size, IsApart}
-use Rattle.dcc_stack.specs.SlotLaws.{AreCarried, stores_at}
+use Rattle.dcc_stack.specs.SlotLaws.{AreCarried}
 use Rattle.dcc_stack.specs.Slots.{Typed}
-use Rattle.dcc_stack.specs.Standing.{Activation, StackStands}
+use Rattle.dcc_stack.specs.Standing.{StackStands}
 use Rattle.dcc_stack.proofs.TableSteps.{IsStepOf}
 use Rattle.dcc_ir.specs.Run.{State}
-use Rattle.dcc_ops.specs.Coupling.{HoldFlags}
 use Rattle.dcc_coupled.specs.Coupled.{Setting, typed_by, typed_waiting, AreCoupled}
-use Rattle.dcc_coupled.specs.Places.{bytes_from, offsets_of}
 use Rattle.dcc_coupled.specs.Laws.{IsCleanInstruction, Within}
 use Rattle.dcc_coupled.specs.Procedures.{Procedure}
 use Rattle.dcc_coupled.specs.Nodes.{IsNodeHere}
 use Rattle.dcc_coupled.proofs.ControlWords.{control_marks, control-stored, control-marked}
 use Rattle.dcc_coupled.proofs.Coupling.{carried_laws}
-use Rattle.dcc_coupled.proofs.Lowered.{word-falls, word-room, word-above, high-top, word-lies, word-wraps, word-stored}
+use Rattle.dcc_coupled.proofs.Lowered.{stored_below, word-falls, word-room, word-above, high-top, word-lies, word-wraps, word-stored}
 use Rattle.dcc_coupled.proofs.Next.{next-stands}
 use Rattle.dcc_coupled.proofs.NodeFound.{node-of, node-is}
 use Rattle.dcc_coupled.proofs.NodesHere.{taken-here, state-here}
 use Rattle.dcc_coupled.proofs.PlacesWritten.{marks-same}
-use Rattle.dcc_coupled.proofs.PointersSet.{IsLike, sp-set, bp-set, like-both}
+use Rattle.dcc_coupled.proofs.LikeStates.{IsLike, like-both, jumped, stays-itself, coupled-after, sp-set, bp-set}
 use Rattle.dcc_coupled.proofs.StepsAgree.{none-rises, steps-agree}
 
 abbrev pub saves_bp : Op → Bool
@@ -123,11 +121,8 @@ saves-of cpu op at s so form room = absurd (true≢false (sym so))
 module _ (e : Setting) (s : Machine) (stack : Stack) (instr : Instr) (t : State) (p : Procedure) (node : Node)
     (height : ℕ) (is : IsCleanInstruction e s stack instr) (node-here : IsNodeHere e s stack instr is p node height)
     (so : saves_bp instr.op ≡ true) (before : Within is stack.written s t) where
-  abbrev layout : Layout
-  layout = e.program.layout
-
-  abbrev a : Activation
-  a = is.stands.newest
+  open e.program use {layout}
+  open is.stands use {newest as a}
 
   abbrev here : Machine
   here = record s { ip = next_of s.ip instr }
@@ -178,11 +173,7 @@ module _ (e : Setting) (s : Machine) (stack : Stack) (instr : Instr) (t : State)
   pushed = after_push (word_in s Bp) here
 
   abbrev stored_memory : List ℕ
-  stored_memory =
-      stored
-      (stores_at (λ n. e.program.layout.ds * 16 + n)
-      (offsets_of word_width (λ index. word_in s Sp - 2 + e.program.layout.delta + index))
-      (bytes_from (word_in s Sp - 2 + e.program.layout.delta) (word_in s Bp))) s.memory
+  stored_memory = stored_below e s (word_in s Bp)
 
   abbrev saved : Machine
   saved = record (with_word_in here Sp (word_in s Sp - 2)) { memory = stored_memory }
@@ -253,20 +244,12 @@ module _ (e : Setting) (s : Machine) (stack : Stack) (instr : Instr) (t : State)
       is.stands.written) (omega (arith, fell)) high not-apart
 
   agree : Within is (control_marks first stack.written) (step layout.cpu s) t
-  agree = record {
-    goes = goes-on;
-    running = before.running;
-    newest = before.newest;
-    waiting = before.waiting;
-    words = λ r g. like.words r g ∙ (sp-set here (word_in s Sp - 2)).words r g ∙ before.words r g;
-    flags = subst (λ f. HoldFlags f t.running.values) (sym like.flags) before.flags;
-    input = before.input ∙ sym like.input;
-    events = before.events ∙ sym like.events;
-    segments = next.segments;
-    carried =
-        subst (λ m. AreCarried e.cpu e.image e.program m t.memory (control_marks first stack.written)
-        (top_in layout (step layout.cpu s)) (typed_by e a t.running ∷ older)) (sym like.memory) carried;
-  }
+  agree =
+      coupled-after e a a is.stands.callers is.stands.callers stack.written (control_marks first stack.written) s
+      (step layout.cpu s) stored_memory t t
+      (like-both (record s { memory = stored_memory }) saved (step layout.cpu s)
+      (jumped s (next_of s.ip instr) (word_in s Sp - 2) (next_of s.ip instr) stored_memory) like) (stays-itself t) before
+      before.running before.newest before.waiting next.segments carried
 
   pub saves-agree :
       AreCoupled e (step e.program.layout.cpu s)

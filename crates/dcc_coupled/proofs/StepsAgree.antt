@@ -20,7 +20,7 @@ use Rattle.dcc_ir.specs.Run.{State, Waiting}
 use Rattle.dcc_coupled.specs.Coupled.{Setting, typed_by, typed_waiting, AreWaiting, Coupled}
 use Rattle.dcc_coupled.specs.Laws.{PointersMove, StepsAgree}
 use Rattle.dcc_coupled.proofs.Next.{AgreeOn, next-stands}
-use Rattle.dcc_coupled.proofs.Coupling.{carried_laws, alike-all, registers-apart}
+use Rattle.dcc_coupled.proofs.Coupling.{segments_kept, carried_laws, alike-all, registers-apart}
 
 -- Pointers.
 
@@ -38,20 +38,12 @@ module _ (e : Setting) (a : Activation) (callers : List Activation) (written mar
     newest = c.newest;
     waiting = c.waiting;
     words = λ q g. word-other s r q v (registers-apart q r true g pointer) ∙ c.words q g;
-    flags = record {
-      carry = c.flags.carry;
-      zero = c.flags.zero;
-      negative = c.flags.negative;
-      overflow = c.flags.overflow;
-    };
+    flags = c.flags;
     input = c.input;
     events = c.events;
-    segments = record {
-      state = word-state s r v small c.segments.state;
-      code = record { segment = c.segments.code.segment; bytes = c.segments.code.bytes };
-      data_is = c.segments.data_is;
-      stack_is = c.segments.stack_is;
-    };
+    segments =
+        segments_kept e.image e.program.layout s (with_word_in s r v) refl refl (word-state s r v small c.segments.state)
+        c.segments;
     carried = carried;
   }
 

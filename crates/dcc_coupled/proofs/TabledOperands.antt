@@ -197,6 +197,10 @@ abbrev IsPlaced : Row → Type 0
 IsPlaced row =
     (p : Parts) → Fit p → is_system (row.operation p) ≡ false → HavePlaces (row.operation p)
 
+-- an operation without operands in places
+none : (Other : Parts → Type 0) → (p : Parts) → Fit p → Other p → Unit {0}
+none Other p fit other = tt
+
 infixr 30 ◌&◌
 data ArePlaced : List Row → Type 0 where
   none_left : ArePlaced []
@@ -272,36 +276,12 @@ move-placed =
 
 control-placed : ArePlaced control_rows
 control-placed =
-    (λ p fit other. tt)
-    & (λ p fit other. tt)
-    & (λ p fit other. tt)
-    & (λ p fit other. tt)
-    & (λ p fit other. tt)
-    & (λ p fit other. tt)
-    & (λ p fit other. tt)
-    & (λ p fit other. tt)
-    & (λ p fit other. tt)
-    & (λ p fit other. tt)
-    & (λ p fit other. tt)
-    & (λ p fit other. tt)
-    & (λ p fit other. tt)
-    & (λ p fit other. tt)
-    & (λ p fit other. tt)
-    & none_left
+    none _ & none _ & none _ & none _ & none _ & none _ & none _ & none _ & none _ & none _ & none _
+    & none _ & none _ & none _ & none _ & none_left
 
 plain-placed : ArePlaced plain_rows
 plain-placed =
-    (λ p fit other. tt)
-    & (λ p fit other. tt)
-    & (λ p fit other. tt)
-    & (λ p fit other. tt)
-    & (λ p fit other. tt)
-    & (λ p fit other. tt)
-    & (λ p fit other. tt)
-    & (λ p fit other. tt)
-    & (λ p fit other. tt)
-    & (λ p fit other. tt)
-    & none_left
+    none _ & none _ & none _ & none _ & none _ & none _ & none _ & none _ & none _ & none _ & none_left
 
 later-placed : ArePlaced later_rows
 later-placed =

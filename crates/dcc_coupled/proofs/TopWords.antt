@@ -7,7 +7,6 @@ use Rattle.std.proofs.Math.Nat.{mod-eq_of_lt}
 use Rattle.dcc_num.specs.declared.Width.TheVariants.{Word as word_width}
 use Rattle.dcc_num.specs.declared.Flags.{Flags}
 use Rattle.dcc_num.specs.declared.Reg.TheVariants.{Sp, Bp}
-use Rattle.dcc_prog.specs.declared.procedure.Layout.{Layout}
 use Rattle.dcc_prog.specs.declared.instr.Operand.{Operand}
 use Rattle.dcc_prog.specs.declared.instr.Operand.TheVariants.{Word}
 use Rattle.dcc_prog.specs.declared.instr.Op.TheVariants.{Pop}
@@ -21,7 +20,7 @@ use Rattle.dcc_prog.specs.Access.{Reading, Writing, stack_access, operand_access
 use Rattle.dcc_prog.specs.Clean.{Stack, top_in, end_of, is_reading, is_marked, stack_offset}
 use Rattle.dcc_prog.proofs.StateKept.{same-state, word-at-below}
 use Rattle.dcc_stack.specs.Accepted.{FrameStays, changes_frame}
-use Rattle.dcc_stack.specs.Standing.{Activation, StandsIn}
+use Rattle.dcc_stack.specs.Standing.{StandsIn}
 use Rattle.dcc_stack.specs.Apart.{IsApart}
 use Rattle.dcc_stack.proofs.ApartAccesses.{Pass, clean-step}
 use Rattle.dcc_stack.proofs.ApartWrites.{in-data}
@@ -46,11 +45,8 @@ module _ (e : Setting) (s : Machine) (stack : Stack) (instr : Instr) (x : Operan
     (stands :
     StandsIn e.image e.program.layout s.memory is.stands.newest (top_in e.program.layout s) (word_in s Bp))
     (pop : instr.op ≡ Pop x) (other : is_sp_or_bp x ≡ false) where
-  abbrev layout : Layout
-  layout = e.program.layout
-
-  abbrev a : Activation
-  a = is.stands.newest
+  open e.program use {layout}
+  open is.stands use {newest as a}
 
   abbrev top : ℕ
   top = top_in e.program.layout s

@@ -20,6 +20,15 @@ abbrev pub begun : ℕ → ℕ → ℕ → Activation
 begun target top bp =
     record { frame = record { entry = target; base = top }; at = target; before = []; caller_bp = bp }
 
+-- halves, flags and the console are as they were
+pub record Passes (t u : State) : Type 0 where
+  pub halves :
+      (r : Reg) (half : HalfName) → is_general r ≡ true
+      → u.running.values (Half r half) ≡ t.running.values (Half r half)
+  pub flags : (flag : FlagName) → u.running.values (Flag flag) ≡ t.running.values (Flag flag)
+  pub input : u.input ≡ t.input
+  pub events : u.events ≡ t.events
+
 -- A procedure begins in the inner run, called by one with these callers, where these bytes of the stack are written:
 -- its halves, flags and argument words are the caller's, and all else is as it was.
 pub record Begins (e : Setting) (callee caller : Activation) (callers : List Activation) (written : List Bool)
@@ -31,13 +40,7 @@ pub record Begins (e : Setting) (callee caller : Activation) (callers : List Act
   pub are : u.waiting ≡ waits ∷ t.waiting
   pub waiting : AreWaiting e callee (caller ∷ callers) (waits ∷ t.waiting)
   pub values : waits.caller.values ≡ t.running.values
-  -- what passes
-  pub halves :
-      (r : Reg) (half : HalfName) → is_general r ≡ true
-      → u.running.values (Half r half) ≡ t.running.values (Half r half)
-  pub flags : (flag : FlagName) → u.running.values (Flag flag) ≡ t.running.values (Flag flag)
-  pub input : u.input ≡ t.input
-  pub events : u.events ≡ t.events
+  pub passes : Passes t u
   -- each written byte of an argument is held; memory takes such bytes alone
   pub size : length u.memory ≡ 65536
   pub bytes : (offset : ℕ) → slice_index u.memory offset < 256
@@ -62,13 +65,7 @@ pub record Returns (e : Setting) (callee : Activation) (callers : List Activatio
   pub waits : Waiting
   pub waiting : t.waiting ≡ waits ∷ u.waiting
   pub newest : IsActivationOf e caller u.running
-  -- what passes
-  pub halves :
-      (r : Reg) (half : HalfName) → is_general r ≡ true
-      → u.running.values (Half r half) ≡ t.running.values (Half r half)
-  pub flags : (flag : FlagName) → u.running.values (Flag flag) ≡ t.running.values (Flag flag)
-  pub input : u.input ≡ t.input
-  pub events : u.events ≡ t.events
+  pub passes : Passes t u
   -- the bytes that are given back, and the caller with them
   pub offsets : List ℕ
   pub bytes : ℕ → ℕ

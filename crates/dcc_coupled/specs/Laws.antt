@@ -10,7 +10,7 @@ use Rattle.dcc_num.specs.declared.Flags.{Flags}
 use Rattle.dcc_num.specs.Numbers.{limit_of, wrapped_of}
 use Rattle.dcc_prog.specs.declared.instr.Ea.{Ea}
 use Rattle.dcc_prog.specs.declared.instr.Operand.{Operand}
-use Rattle.dcc_prog.specs.declared.instr.Operand.TheVariants.{Word, Mem}
+use Rattle.dcc_prog.specs.declared.instr.Operand.TheVariants.{Mem}
 use Rattle.dcc_prog.specs.declared.instr.Op.TheVariants.{Push, Call, Ret}
 use Rattle.dcc_prog.specs.declared.instr.Instr.{Instr}
 use Rattle.dcc_prog.specs.Machine.{State as Machine, word_in, with_word_in, is_bp, segment_of, offset_of, operand_value}

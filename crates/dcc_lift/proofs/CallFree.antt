@@ -1,11 +1,9 @@
 -- The statements of an instruction other than CALL hold no Call.
-use Rattle.std.proofs.Common.{◌≡◌, ℕ, suc, ◌+◌, ◌*◌, Bool, true, false, ◌||◌, ◌==◌, if◌then◌else◌, List, [], ◌∷◌, ◌++◌, Option, Some, None, refl, ap, ◌∙◌}
+use Rattle.std.proofs.Common.{◌≡◌, ℕ, suc, ◌+◌, ◌*◌, Bool, true, false, ◌||◌, if◌then◌else◌, List, [], ◌∷◌, ◌++◌, Option, refl, ap, ◌∙◌}
 use Rattle.std.specs.Prelude.{pos, ◌+ℤ◌}
 use Rattle.std.specs.List.{list_any}
 use Rattle.std.proofs.lemmas.List.Folds.{list_any-append}
 use Rattle.dcc_num.specs.declared.Width.{Width}
-use Rattle.dcc_num.specs.declared.Reg.TheVariants.{Ax, Dx}
-use Rattle.dcc_num.specs.declared.Half.TheVariants.{Low}
 use Rattle.dcc_num.specs.declared.Width.TheVariants.{Byte as byte_width, Word as word_width}
 use Rattle.dcc_prog.specs.declared.cpu.Cpu.{Cpu}
 use Rattle.dcc_prog.specs.declared.instr.Alu.{Alu}
@@ -24,13 +22,13 @@ use Rattle.dcc_prog.specs.declared.procedure.Node.{Node}
 use Rattle.dcc_prog.specs.Machine.{operand_width}
 use Rattle.dcc_prog.specs.Writes.{never_shifts}
 use Rattle.dcc_ir.specs.declared.syntax.Loc.{Loc}
-use Rattle.dcc_ir.specs.declared.syntax.Loc.TheVariants.{Half}
-use Rattle.dcc_ir.specs.Tree.{Expr, Get, Stmt, Dos}
+use Rattle.dcc_ir.specs.Tree.{Expr, Get, Stmt}
 use Rattle.dcc_ir.specs.Run.{is_call}
+use Rattle.dcc_ops.proofs.DosStatements.{dos_all}
 use Rattle.dcc_ops.specs.Temporaries.{returned_place, left_place, right_place, result_place}
 use Rattle.dcc_ops.specs.Place.{Place, constant, byte, word, memory, address, computed, taking, storing}
 use Rattle.dcc_ops.specs.Registers.{register_place}
-use Rattle.dcc_ops.specs.Expressions.{word_of, result, left, right}
+use Rattle.dcc_ops.specs.Expressions.{result, left, right}
 use Rattle.dcc_ops.specs.Computed.{computed_expr}
 use Rattle.dcc_ops.specs.Statements.{alu_storing, alu_working, unary_stmts, shift_working, shifting, staying, shift_stmts, mov_stmts, xchg_stmts, plain_stmts, dos_stmts, op_stmts}
 use Rattle.dcc_coupled.specs.Procedures.{Procedure, frame_place}
@@ -150,21 +148,7 @@ plain-free Cmc = refl
 plain-free operation = refl
 
 dos-free : (number : Option ℕ) → IsCallFree (dos_stmts number)
-dos-free None = refl
-dos-free (Some number) =
-    go (number == 0x02) (number == 0x4C) (number == 0x09) ((number == 0x01) || (number == 0x08))
-  where
-    go : (a b c d : Bool) → IsCallFree (
-        if a then Dos number None (Some (Get (Half Dx Low))) ∷ []
-        else if b then Dos number None (Some (Get (Half Ax Low))) ∷ []
-        else if c then Dos number None (Some (word_of Dx)) ∷ []
-        else if d then Dos number (Some (Half Ax Low)) None ∷ []
-        else [])
-    go true b c d = refl
-    go false true c d = refl
-    go false false true d = refl
-    go false false false true = refl
-    go false false false false = refl
+dos-free = dos_all (λ l. IsCallFree l) refl (λ n. refl) (λ n. refl) (λ n. refl) (λ n. refl)
 
 op-free : (cpu : Cpu) (op : Op) (number : Option ℕ) (p q : Place) → IsCallFree (op_stmts cpu op number p q)
 op-free cpu (AluOp operation a b) number p q =

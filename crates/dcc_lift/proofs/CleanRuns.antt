@@ -40,8 +40,7 @@ use Rattle.dcc_lift.proofs.CleanOperations.{built-untouching, int-or-other, buil
 
 module _ (image : Image) (program : Program) (of_file : IsProgramOfFile program.layout.cpu image program)
     (built : IsBuilt image program.layout) where
-  abbrev layout : Layout
-  layout = program.layout
+  open program use {layout}
 
   module _ (s : State) (stack : Stack) (stands : StackStands image layout s stack) where
     abbrev entry : ℕ

@@ -1,11 +1,9 @@
 -- Whatever places its operands have, an operation has few statements on flags.
-use Rattle.std.proofs.Common.{◌≡◌, ℕ, Bool, true, false, not, ◌&&◌, ◌||◌, ◌==◌, if◌then◌else◌, List, [], ◌∷◌, ◌++◌, Option, Some, None, refl, ap}
+use Rattle.std.proofs.Common.{◌≡◌, ℕ, Bool, true, false, not, ◌&&◌, ◌||◌, if◌then◌else◌, List, [], ◌∷◌, ◌++◌, Option, refl, ap}
 use Rattle.dcc_num.specs.declared.Width.{Width}
 use Rattle.dcc_num.specs.declared.Width.TheVariants.{Byte as byte_width, Word as word_width}
 use Rattle.dcc_num.specs.declared.Reg.{Reg}
-use Rattle.dcc_num.specs.declared.Reg.TheVariants.{Ax, Dx}
 use Rattle.dcc_num.specs.declared.FlagName.{FlagName}
-use Rattle.dcc_num.specs.declared.Half.TheVariants.{Low}
 use Rattle.dcc_prog.specs.declared.cpu.Cpu.{Cpu}
 use Rattle.dcc_prog.specs.declared.cpu.Cpu.TheVariants.{I8086, I186}
 use Rattle.dcc_prog.specs.declared.instr.Alu.{Alu}
@@ -25,17 +23,17 @@ use Rattle.dcc_prog.specs.Machine.{operand_width}
 use Rattle.dcc_prog.specs.Writes.{shift_writes_flag, never_shifts, writes_flag}
 use Rattle.dcc_prog.specs.Wanted.{is_turn}
 use Rattle.dcc_ir.specs.declared.syntax.Loc.{Loc}
-use Rattle.dcc_ir.specs.declared.syntax.Loc.TheVariants.{Half}
 use Rattle.dcc_ir.specs.declared.syntax.BinOp.TheVariants.{DivS, DivU, RemS, RemU}
-use Rattle.dcc_ir.specs.Tree.{Expr, Get, Stmt, Set, Dos}
+use Rattle.dcc_ir.specs.Tree.{Expr, Get, Stmt, Set}
 use Rattle.dcc_ir.specs.Measure.{is_truth}
 use Rattle.dcc_ir.proofs.PathLaws.{or_left, or_right}
 use Rattle.dcc_ops.specs.Temporaries.{left_place, right_place, result_place}
-use Rattle.dcc_ops.specs.Expressions.{word_of, left, right, result, product, sum, difference, count_expr}
+use Rattle.dcc_ops.specs.Expressions.{left, right, result, product, sum, difference, count_expr}
 use Rattle.dcc_ops.specs.Registers.{register_place}
 use Rattle.dcc_ops.specs.Place.{Place, constant, byte, word, place_value, taking, storing}
 use Rattle.dcc_ops.specs.Statements.{operands_taking, word_taking, result_taking, sum_flags, difference_flags, subtracting, alu_working, alu_storing, alu_stmts, product_storing, accumulator, product_working, triple_product, division_storing, division_working, complementing, unary_stmts, shift_working, count_taking, shifting, staying, shift_stmts, mov_stmts, exchanging, xchg_stmts, plain_stmts, counting, dos_stmts, op_stmts}
 use Rattle.dcc_lift.specs.FlagStmts.{is_flag_read, is_on_flags, has_carry_in}
+use Rattle.dcc_ops.proofs.DosStatements.{dos_all}
 use Rattle.dcc_lift.proofs.ListTests.{not_true}
 use Rattle.dcc_lift.proofs.FlagCounts.{AreWithin, AreFew, are_within, are_few, within-by, are_off_flags, off-cons, off-append, off-within, off-before, off-after, is_apart, left-apart, right-apart, result-apart, taking-off, storing-off, operands-off}
 
@@ -273,20 +271,7 @@ plain-few Sti = refl
 plain-few Cld = refl
 
 dos-off : (number : Option ℕ) → are_off_flags (dos_stmts number) ≡ true
-dos-off None = refl
-dos-off (Some n) = go (n == 0x02) (n == 0x4C) (n == 0x09) ((n == 0x01) || (n == 0x08))
-  where
-    go : (a b c d : Bool) → are_off_flags (
-        if a then Dos n None (Some (Get (Half Dx Low))) ∷ []
-        else if b then Dos n None (Some (Get (Half Ax Low))) ∷ []
-        else if c then Dos n None (Some (word_of Dx)) ∷ []
-        else if d then Dos n (Some (Half Ax Low)) None ∷ []
-        else []) ≡ true
-    go true b c d = refl
-    go false true c d = refl
-    go false false true d = refl
-    go false false false true = refl
-    go false false false false = refl
+dos-off = dos_all (λ l. are_off_flags l ≡ true) refl (λ n. refl) (λ n. refl) (λ n. refl) (λ n. refl)
 
 -- All operations.
 

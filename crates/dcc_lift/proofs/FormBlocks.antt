@@ -12,7 +12,6 @@ use Rattle.dcc_num.specs.declared.FlagName.{FlagName}
 use Rattle.dcc_num.specs.declared.FlagName.TheVariants.{Cf, Zf, Sf, Of}
 use Rattle.dcc_num.specs.declared.Flags.{Flags}
 use Rattle.dcc_prog.specs.declared.image.Image.{Image}
-use Rattle.dcc_prog.specs.declared.procedure.Layout.{Layout}
 use Rattle.dcc_prog.specs.declared.procedure.Node.{Node}
 use Rattle.dcc_prog.specs.declared.frame.Program.{Program as Analysed}
 use Rattle.dcc_prog.specs.declared.refusal.LimitName.TheVariants.{Entries, Arguments}
@@ -27,14 +26,13 @@ use Rattle.dcc_prog.proofs.PreludeOffsets.{prelude-below, prelude-some}
 use Rattle.dcc_stack.proofs.FormHeights.{no-trails}
 use Rattle.dcc_stack.proofs.FormLaws.{in-form}
 use Rattle.dcc_ir.specs.declared.syntax.Loc.TheVariants.{Half}
-use Rattle.dcc_ir.specs.Tree.{Const, Stmt, Exit, Goto, Block, Graph, Program}
+use Rattle.dcc_ir.specs.Tree.{Const, Stmt, Exit, Goto, Block, Program}
 use Rattle.dcc_ir.proofs.PathLaws.{decided}
-use Rattle.dcc_coupled.specs.Procedures.{Procedure}
 use Rattle.dcc_coupled.specs.Nodes.{procedures_in}
 use Rattle.dcc_coupled.specs.Statements as placed
 use Rattle.dcc_coupled.specs.Statements.{calling}
 use Rattle.dcc_coupled.specs.Passed.{exit_of}
-use Rattle.dcc_lift.specs.Blocks.{Nodes, Scene, node_in, successors_in, is_call, calls_in, leaders, entry_in, block_place, stmts_at, node_exit, exit_at, last_of, IsBlockAt}
+use Rattle.dcc_lift.specs.Blocks.{node_in, successors_in, is_call, calls_in, leaders, entry_in, block_place, stmts_at, node_exit, exit_at, last_of, IsBlockAt}
 use Rattle.dcc_lift.specs.Sound.{AreSound}
 use Rattle.dcc_lift.specs.Owed.{IsTranslated}
 use Rattle.dcc_lift.specs.Translation.{general_registers, register_starting, flag_starting, flags_starting, prelude_block}
@@ -47,7 +45,8 @@ use Rattle.dcc_lift.proofs.FormPlaces.{below-true, sound-append, halves-set, con
 use Rattle.dcc_lift.proofs.FormFlags.{plain-append}
 use Rattle.dcc_lift.proofs.FormCalls.{given-below, returned-good}
 use Rattle.dcc_lift.proofs.FormExits.{IsGoodExit, are_below, goto-good, exit-good, RetsAre, NoRet, exit-rets, exit-no-ret, all-of-members, op-few, table-few}
-use Rattle.dcc_lift.proofs.FormScenes.{AreWork, no-work, located_at, procedure_at_entry, scene_at, graph_of_entry, nodes_at, before-is, sound-at, leads, front, blocks-are, place-fits, IsInstructionAt, instruction-at, height-small, work-at}
+use Rattle.dcc_lift.proofs.FormScenes.{translated_at, AreWork, no-work, procedure_at_entry, leads, front, place-fits, IsInstructionAt, instruction-at, height-small, work-at}
+use Rattle.dcc_lift.proofs.LocatedBlocks.{located_at, before_is, sound_at, blocks-are}
 
 -- Work.
 
@@ -92,8 +91,7 @@ call-target (CallOp target) is = (target, refl)
 call-target op is = cc
 
 module _ (image : Image) (program : Analysed) (p : Program) (is : IsTranslated image program p) where
-  abbrev layout : Layout
-  layout = program.layout
+  open program use {layout}
 
   -- the work of a block of the procedure, or its call of another one
   pub data HasWork (entry : ℕ) (is_entry : IsEntry image layout entry) (stmts : List Stmt) (exit : Exit) : Type 0 where
@@ -108,17 +106,7 @@ module _ (image : Image) (program : Analysed) (p : Program) (is : IsTranslated i
         → HasWork entry is_entry stmts exit
 
   module _ (entry : ℕ) (is_entry : IsEntry image layout entry) where
-    abbrev procedure : Procedure
-    procedure = procedure_at_entry image program p is entry is_entry
-
-    abbrev scene : Scene
-    scene = scene_at image program p is entry is_entry
-
-    abbrev nodes : Nodes
-    nodes = nodes_at image program p is entry is_entry
-
-    abbrev graph : Graph
-    graph = graph_of_entry image program p is entry is_entry
+    open translated_at image program p is entry is_entry use {procedure, scene, nodes, graph}
 
     abbrev count : ℕ
     count = length graph.blocks
@@ -208,7 +196,7 @@ module _ (image : Image) (program : Analysed) (p : Program) (is : IsTranslated i
     module _ (at : ℕ) (block : Block) (leader : leads image program p is entry is_entry at ≡ true)
         (there : IsBlockAt scene at block) where
       abbrev sound : AreSound nodes (entry_in scene) image.ip
-      sound = sound-at image program p is entry is_entry
+      sound = sound_at image program p is entry is_entry
 
       abbrev last : ℕ
       last = last_of at there.rest
@@ -329,7 +317,7 @@ module _ (image : Image) (program : Analysed) (p : Program) (is : IsTranslated i
               (below-true (block_place scene layout.start_ip) count
               (place-fits image program p is entry is_entry layout.start_ip
               (subst (λ n. leads image program p is entry is_entry n ≡ true) begin
-              (entry_is_leader nodes (entry_in scene) image.ip (sound-at image program p is entry is_entry)))));
+              (entry_is_leader nodes (entry_in scene) image.ip (sound_at image program p is entry is_entry)))));
           rets = tt;
           start = λ _. tt;
         }
@@ -357,5 +345,5 @@ module _ (image : Image) (program : Analysed) (p : Program) (is : IsTranslated i
         before false e =
             All-cons IsFormedBlock (prelude_block image layout scene) []
             (prelude-formed (starts (layout.start_ip == entry) refl
-            (before-is image program p is entry is_entry) e))
+            (before_is image program p is entry is_entry) e))
             (All-nil IsFormedBlock)

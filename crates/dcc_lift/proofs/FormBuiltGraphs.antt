@@ -21,16 +21,16 @@ use Rattle.dcc_prog.specs.Built.{is_memory_or_stack, is_unbuilt, operation, stri
 use Rattle.dcc_stack.proofs.FormHeights.{form-there}
 use Rattle.dcc_stack.proofs.FormOps.{FormOf}
 use Rattle.dcc_ir.specs.Tree.{Stmt, Block, Program}
-use Rattle.dcc_coupled.specs.Procedures.{Procedure}
 use Rattle.dcc_coupled.specs.Nodes.{procedures_in}
 use Rattle.dcc_coupled.specs.Statements as placed
-use Rattle.dcc_lift.specs.Blocks.{Nodes, node_in, leaders, Scene, nodes_in, entry_in, height_in, node_stmts, stmts_at, node_exit, exit_at, last_of, IsBlockAt}
+use Rattle.dcc_lift.specs.Blocks.{node_in, leaders, entry_in, height_in, node_stmts, stmts_at, node_exit, exit_at, last_of, IsBlockAt}
 use Rattle.dcc_lift.specs.Owed.{IsTranslated}
 use Rattle.dcc_lift.specs.Translation.{prelude_block}
 use Rattle.dcc_lift.specs.Form.{is_lifted_exit, is_lifted_block, HasForm}
 use Rattle.dcc_lift.proofs.ListTests.{and_both}
 use Rattle.dcc_lift.proofs.BlockLaws.{blocks_all}
-use Rattle.dcc_lift.proofs.FormScenes.{located_at, procedure_at_entry, scene_at, graph_of_entry, front, blocks-are, IsInstructionAt, instruction-at}
+use Rattle.dcc_lift.proofs.FormScenes.{translated_at, graph_of_entry, front, IsInstructionAt, instruction-at}
+use Rattle.dcc_lift.proofs.LocatedBlocks.{located_at, blocks-are}
 use Rattle.dcc_lift.proofs.FormDrawn.{all-graphs}
 use Rattle.dcc_lift.proofs.FormBuilt.{are_lifted, lifted-append}
 use Rattle.dcc_lift.proofs.FormBuiltOps.{built-lifted, exit-lifted}
@@ -90,18 +90,10 @@ names-neither image layout entry at op built form = by form
 
 module _ (image : Image) (program : Analysed) (p : Program) (is : IsTranslated image program p)
     (built : IsBuilt image program.layout) where
-  abbrev layout : Layout
-  layout = program.layout
+  open program use {layout}
 
   module _ (entry : ℕ) (is_entry : IsEntry image layout entry) where
-    abbrev procedure : Procedure
-    procedure = procedure_at_entry image program p is entry is_entry
-
-    abbrev scene : Scene
-    scene = scene_at image program p is entry is_entry
-
-    abbrev nodes : Nodes
-    nodes = nodes_in scene
+    open translated_at image program p is entry is_entry use {procedure, scene, nodes}
 
     abbrev At : ℕ → Node → Type 0
     At at node = IsInstructionAt image program p is entry is_entry at node

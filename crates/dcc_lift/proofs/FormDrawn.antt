@@ -23,7 +23,8 @@ use Rattle.dcc_lift.specs.Lifted.{HasFrameOf}
 use Rattle.dcc_lift.proofs.ListTests.{and_left, and_right, and_both}
 use Rattle.dcc_lift.proofs.Lifting.{zip-map}
 use Rattle.dcc_lift.proofs.FormAddresses.{no-true}
-use Rattle.dcc_lift.proofs.FormScenes.{lifted, located_at, graph_of_entry}
+use Rattle.dcc_lift.proofs.FormScenes.{lifted, graph_of_entry}
+use Rattle.dcc_lift.proofs.LocatedBlocks.{located_at}
 
 -- Lists.
 
@@ -149,8 +150,7 @@ frames-are image lay all before (proc ∷ procs) (frame ∷ frames) (h ∷ heigh
 )
 
 module _ (image : Image) (program : Analysed) (p : Program) (is : IsTranslated image program p) where
-  abbrev layout : Layout
-  layout = program.layout
+  open program use {layout}
 
   abbrev order : AreInOrder layout program.procs.items
   order = is.of_file.is_program.procs.order

@@ -5,7 +5,6 @@ use Rattle.std.specs.List.{list_all}
 use Rattle.std.proofs.lemmas.List.Elements.{All-head, All-tail}
 use Rattle.dcc_num.specs.declared.Width.TheVariants.{Byte as byte_width}
 use Rattle.dcc_prog.specs.declared.image.Image.{Image}
-use Rattle.dcc_prog.specs.declared.procedure.Layout.{Layout}
 use Rattle.dcc_prog.specs.declared.frame.Program.{Program as Analysed}
 use Rattle.dcc_prog.specs.Trail.{IsEntry}
 use Rattle.dcc_ir.specs.declared.syntax.Loc.{Loc}
@@ -79,8 +78,7 @@ taking-all-plain caller height index (number ∷ numbers) =
     (taking-plain caller height index number) (taking-all-plain caller height (suc index) numbers)
 
 module _ (image : Image) (program : Analysed) (p : Program) (is : IsTranslated image program p) where
-  abbrev layout : Layout
-  layout = program.layout
+  open program use {layout}
 
   module _ (entry : ℕ) (is_entry : IsEntry image layout entry) where
     abbrev Formed : Block → Type 0

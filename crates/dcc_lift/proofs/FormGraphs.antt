@@ -5,7 +5,6 @@ use Rattle.std.proofs.lemmas.List.{map-append}
 use Rattle.std.proofs.lemmas.List.Elements.{All-nil, All-cons, All-head, All-tail, All-append, All-weaker}
 use Rattle.std.proofs.lemmas.List.Folds.{list_all-append}
 use Rattle.dcc_prog.specs.declared.image.Image.{Image}
-use Rattle.dcc_prog.specs.declared.procedure.Layout.{Layout}
 use Rattle.dcc_prog.specs.declared.frame.Program.{Program as Analysed}
 use Rattle.dcc_prog.specs.Trail.{IsEntry}
 use Rattle.dcc_ir.specs.declared.syntax.Param.{Param}
@@ -16,11 +15,11 @@ use Rattle.dcc_ir.specs.Run.{is_call}
 use Rattle.dcc_ir.specs.WellFormed.{is_width, is_expr, is_stmt, is_exit, is_block, is_jump, jumps_after_call, all_differ, ret_widths, all_ret_widths, is_put, is_param_list, memory_params_last, IsGraph}
 use Rattle.dcc_ir.specs.Use.{exprs_of, exit_exprs, block_exprs, graph_exprs}
 use Rattle.dcc_ops.specs.Temporaries.{temporary_bits}
-use Rattle.dcc_coupled.specs.Procedures.{Procedure, given_back}
+use Rattle.dcc_coupled.specs.Procedures.{given_back}
 use Rattle.dcc_coupled.specs.Passed.{params_of, returned_values}
 use Rattle.dcc_coupled.specs.Statements.{calling, taking_all_back, results_of, arguments_of}
 use Rattle.dcc_coupled.specs.FoundPlaces.{IsFoundAt}
-use Rattle.dcc_lift.specs.Blocks.{Nodes, leaders, Scene, entry_in}
+use Rattle.dcc_lift.specs.Blocks.{leaders, entry_in}
 use Rattle.dcc_lift.specs.Owed.{setting, IsTranslated}
 use Rattle.dcc_lift.specs.Translation.{prelude_block}
 use Rattle.dcc_lift.proofs.ListTests.{and_left, and_right, and_both}
@@ -32,7 +31,8 @@ use Rattle.dcc_lift.proofs.FormCalls.{all-both, arguments-good, params-well, par
 use Rattle.dcc_lift.proofs.FormParams.{params-last}
 use Rattle.dcc_lift.proofs.FormAddresses.{no-true, flipped, leaders-differ}
 use Rattle.dcc_lift.proofs.FormExits.{RetsAre, NoRet}
-use Rattle.dcc_lift.proofs.FormScenes.{AreWork, located_at, procedure_at_entry, scene_at, graph_of_entry, nodes_at, before-is, sound-at, front, blocks-are, place-fits, lifted}
+use Rattle.dcc_lift.proofs.FormScenes.{translated_at, AreWork, procedure_at_entry, front, place-fits, lifted}
+use Rattle.dcc_lift.proofs.LocatedBlocks.{located_at, before_is, sound_at, blocks-are}
 use Rattle.dcc_lift.proofs.FormBlocks.{HasWork, works, calls, IsFormedBlock, all-formed, args-few}
 
 -- Sound statements.
@@ -71,8 +71,7 @@ no-jumps (stmt ∷ stmts) exit none = go (is_call stmt) none (λ rest. no-jumps 
     go false e later = later e
 
 module _ (image : Image) (program : Analysed) (p : Program) (is : IsTranslated image program p) where
-  abbrev layout : Layout
-  layout = program.layout
+  open program use {layout}
 
   -- what is shown of statements that work, and of a CALL, is shown of each block
   pub by-work : (P : List Stmt → Exit → Type 0) → ((stmts : List Stmt) (exit : Exit) → AreWork stmts → P stmts exit)
@@ -88,17 +87,7 @@ module _ (image : Image) (program : Analysed) (p : Program) (is : IsTranslated i
       (subst (λ l. P l (Goto place)) (sym stmts_are) (call target height place target_entry other small))
 
   module _ (entry : ℕ) (is_entry : IsEntry image layout entry) where
-    abbrev procedure : Procedure
-    procedure = procedure_at_entry image program p is entry is_entry
-
-    abbrev scene : Scene
-    scene = scene_at image program p is entry is_entry
-
-    abbrev nodes : Nodes
-    nodes = nodes_at image program p is entry is_entry
-
-    abbrev graph : Graph
-    graph = graph_of_entry image program p is entry is_entry
+    open translated_at image program p is entry is_entry use {procedure, scene, nodes, graph}
 
     abbrev count : ℕ
     count = length graph.blocks
@@ -120,14 +109,14 @@ module _ (image : Image) (program : Analysed) (p : Program) (is : IsTranslated i
     pub params-first : entry ≡ layout.start_ip → graph.params ≡ []
     params-first first =
         ap (λ (g : Graph). g.params) (located_at image program p is entry is_entry).is_graph.graph_is
-        ∙ ap (λ n. if n == 0 then params_of procedure else []) (before-is image program p is entry is_entry)
+        ∙ ap (λ n. if n == 0 then params_of procedure else []) (before_is image program p is entry is_entry)
         ∙ ap (λ b. if (if b then 1 else 0) == 0 then params_of procedure else [])
         (eq-eqb layout.start_ip entry (sym first))
 
     pub params-later : entry ≢ layout.start_ip → graph.params ≡ params_of procedure
     params-later other =
         ap (λ (g : Graph). g.params) (located_at image program p is entry is_entry).is_graph.graph_is
-        ∙ ap (λ n. if n == 0 then params_of procedure else []) (before-is image program p is entry is_entry)
+        ∙ ap (λ n. if n == 0 then params_of procedure else []) (before_is image program p is entry is_entry)
         ∙ ap (λ b. if (if b then 1 else 0) == 0 then params_of procedure else [])
         (ne_eqb layout.start_ip entry (λ e. other (sym e)))
 
@@ -199,7 +188,7 @@ module _ (image : Image) (program : Analysed) (p : Program) (is : IsTranslated i
     addresses =
         let x = located_at image program p is entry is_entry in
         let own = x.is_graph.blocks in
-        let sound = sound-at image program p is entry is_entry in
+        let sound = sound_at image program p is entry is_entry in
         let places =
         map-append (λ (b : Block). b.at) (front image program p is entry is_entry) own
         ∙ ap (λ l. map (λ (b : Block). b.at) (front image program p is entry is_entry) ++ l)
@@ -225,7 +214,7 @@ module _ (image : Image) (program : Analysed) (p : Program) (is : IsTranslated i
     -- the graph is well formed
     pub graph-well : IsGraph graph
     graph-well =
-        let sound = sound-at image program p is entry is_entry in
+        let sound = sound_at image program p is entry is_entry in
         let leader = entry_is_leader nodes (entry_in scene) image.ip sound in
         let fits = place-fits image program p is entry is_entry (entry_in scene) leader in
         let below = leader_below nodes (entry_in scene) image.ip sound (entry_in scene) leader in

@@ -4,7 +4,6 @@ use Rattle.std.specs.List.{list_any}
 use Rattle.std.proofs.lemmas.List.Elements.{All-weaker, All-contains, All-contains_itself}
 use Rattle.std.proofs.lemmas.Option.{slice_get-get_or}
 use Rattle.dcc_prog.specs.declared.image.Image.{Image}
-use Rattle.dcc_prog.specs.declared.procedure.Layout.{Layout}
 use Rattle.dcc_prog.specs.declared.procedure.Node.{Node}
 use Rattle.dcc_prog.specs.declared.procedure.Proc.{Proc}
 use Rattle.dcc_prog.specs.declared.frame.Program.{Program as Analysed}
@@ -25,7 +24,8 @@ use Rattle.dcc_lift.proofs.ListTests.{and_left, and_right, or_none, same_number}
 use Rattle.dcc_lift.proofs.NodeLaws.{node_in_has, node_in_found, nodes_differ, successor_is_node}
 use Rattle.dcc_lift.proofs.ChainLaws.{is_leader, has_successor, joined, joined_from, begins_leader}
 use Rattle.dcc_lift.proofs.BlockLaws.{entry_edge}
-use Rattle.dcc_lift.proofs.FormScenes.{lifted, located_at, scene_at, graph_of_entry, before-is, sound-at, blocks-are, instruction-at}
+use Rattle.dcc_lift.proofs.FormScenes.{lifted, graph_of_entry, instruction-at}
+use Rattle.dcc_lift.proofs.LocatedBlocks.{located_at, scene_at, before_is, sound_at, blocks-are}
 use Rattle.dcc_lift.proofs.FormAddresses.{no-true}
 use Rattle.dcc_lift.proofs.FormBlocks.{goes-on}
 use Rattle.dcc_lift.proofs.FormDrawn.{all-of-two, ordered-entries}
@@ -84,8 +84,7 @@ one-proc (proc ∷ procs) q r differ one other e =
     by (inr here) (inr there) later = later here there
 
 module _ (image : Image) (program : Analysed) (p : Program) (is : IsTranslated image program p) where
-  abbrev layout : Layout
-  layout = program.layout
+  open program use {layout}
 
   module _ (entry : ℕ) (is_entry : IsEntry image layout entry) where
     abbrev scene : Scene
@@ -107,7 +106,7 @@ module _ (image : Image) (program : Analysed) (p : Program) (is : IsTranslated i
     begun = layout.start_ip == entry
 
     abbrev sound : AreSound nodes (entry_in scene) image.ip
-    sound = sound-at image program p is entry is_entry
+    sound = sound_at image program p is entry is_entry
 
     entry-is : entry_in scene ≡ entry
     entry-is = (located_at image program p is entry is_entry).entry_is
@@ -128,17 +127,17 @@ module _ (image : Image) (program : Analysed) (p : Program) (is : IsTranslated i
     blocks-of true begins =
         blocks-are image program p is entry is_entry
         ∙ ap (λ n. (if n == 0 then [] else prelude_block image layout scene ∷ []) ++ own)
-        (before-is image program p is entry is_entry)
+        (before_is image program p is entry is_entry)
         ∙ ap (λ b. (if (if b then 1 else 0) == 0 then [] else prelude_block image layout scene ∷ []) ++ own) begins
     blocks-of false begins =
         blocks-are image program p is entry is_entry
         ∙ ap (λ n. (if n == 0 then [] else prelude_block image layout scene ∷ []) ++ own)
-        (before-is image program p is entry is_entry)
+        (before_is image program p is entry is_entry)
         ∙ ap (λ b. (if (if b then 1 else 0) == 0 then [] else prelude_block image layout scene ∷ []) ++ own) begins
 
     before-of : (b : Bool) → begun ≡ b → AreBefore scene image.ip b (first b) own
     before-of false none = record {
-      before = sym (before-is image program p is entry is_entry ∙ ap (λ b. if b then 1 else 0) none);
+      before = sym (before_is image program p is entry is_entry ∙ ap (λ b. if b then 1 else 0) none);
       are = are;
       has = λ a. refl;
       edges = λ a b. refl;
@@ -147,7 +146,7 @@ module _ (image : Image) (program : Analysed) (p : Program) (is : IsTranslated i
     before-of true begins =
         let prelude = prelude_block image layout scene in
         let count : 1 ≡ scene.before =
-        sym (before-is image program p is entry is_entry ∙ ap (λ b. if b then 1 else 0) begins) in
+        sym (before_is image program p is entry is_entry ∙ ap (λ b. if b then 1 else 0) begins) in
         let to : layout.start_ip ≡ entry_in scene = eqb-true layout.start_ip entry begins ∙ sym entry-is in
         record {
           before = count;

@@ -8,7 +8,6 @@ use Rattle.std.proofs.lemmas.List.Kept.{IsStrictlyIncreasing-filter}
 use Rattle.std.proofs.lemmas.List.Elements.{All-nil, All-cons, All-weaker}
 use Rattle.std.proofs.lemmas.List.Folds.{list_all-map}
 use Rattle.dcc_prog.specs.declared.image.Image.{Image}
-use Rattle.dcc_prog.specs.declared.procedure.Layout.{Layout}
 use Rattle.dcc_prog.specs.declared.frame.Program.{Program as Analysed}
 use Rattle.dcc_prog.specs.Trail.{IsEntry}
 use Rattle.dcc_stack.specs.Slots.{gives_back}
@@ -29,7 +28,8 @@ use Rattle.dcc_lift.specs.Lifted.{back_of}
 use Rattle.dcc_lift.proofs.ListTests.{and_both}
 use Rattle.dcc_lift.proofs.FormCalls.{all-true, taking-all-sound, given-below, given-few}
 use Rattle.dcc_lift.proofs.FormExits.{RetsAre}
-use Rattle.dcc_lift.proofs.FormScenes.{located_at, procedure_at_entry, graph_of_entry}
+use Rattle.dcc_lift.proofs.FormScenes.{translated_at, procedure_at_entry}
+use Rattle.dcc_lift.proofs.LocatedBlocks.{located_at}
 use Rattle.dcc_lift.proofs.FormBlocks.{IsFormedBlock, all-formed, args-few}
 use Rattle.dcc_lift.proofs.FormGraphs.{sound-parts, by-work, entry-of, params-later}
 use Rattle.dcc_lift.proofs.FormDrawn.{all-graphs, later-graphs}
@@ -117,8 +117,7 @@ none-pass back (stmt ∷ stmts) none =
     All-cons (StmtPasses back) stmt stmts (no-pass back stmt both.0) (none-pass back stmts both.1)
 
 module _ (image : Image) (program : Analysed) (p : Program) (is : IsTranslated image program p) where
-  abbrev layout : Layout
-  layout = program.layout
+  open program use {layout}
 
   abbrev back : ℕ → List ℕ
   back = back_of (procedures_in program)
@@ -131,11 +130,7 @@ module _ (image : Image) (program : Analysed) (p : Program) (is : IsTranslated i
       (located_at image program p is entry is_entry).procedure_found
 
   module _ (entry : ℕ) (is_entry : IsEntry image layout entry) where
-    abbrev procedure : Procedure
-    procedure = procedure_at_entry image program p is entry is_entry
-
-    abbrev graph : Graph
-    graph = graph_of_entry image program p is entry is_entry
+    open translated_at image program p is entry is_entry use {procedure, graph}
 
     graph-passes : entry ≢ layout.start_ip → GraphPasses (back graph.entry) graph
     graph-passes other =

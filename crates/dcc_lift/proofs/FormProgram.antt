@@ -4,7 +4,6 @@ use Rattle.std.specs.Prelude.{Contains}
 use Rattle.std.specs.List.{list_any, list_all}
 use Rattle.std.proofs.lemmas.List.Elements.{All-nil, All-cons, All-weaker, All-take, All-drop, All-contains}
 use Rattle.dcc_prog.specs.declared.image.Image.{Image}
-use Rattle.dcc_prog.specs.declared.procedure.Layout.{Layout}
 use Rattle.dcc_prog.specs.declared.frame.Program.{Program as Analysed}
 use Rattle.dcc_prog.specs.Load.{load_segment}
 use Rattle.dcc_prog.specs.Trail.{IsEntry}
@@ -18,7 +17,7 @@ use Rattle.dcc_ir.specs.Use.{graph_exprs}
 use Rattle.dcc_ir.specs.Measure.{depth_of}
 use Rattle.dcc_ir.specs.WellFormed.{put_width, all_ret_widths, is_param_list, memory_params_last, IsGraph, IsCall, IsCalling, IsProgram}
 use Rattle.dcc_ops.specs.Temporaries.{temporary_bits}
-use Rattle.dcc_coupled.specs.Procedures.{Procedure, given_back}
+use Rattle.dcc_coupled.specs.Procedures.{given_back}
 use Rattle.dcc_coupled.specs.Passed.{returned_values}
 use Rattle.dcc_coupled.specs.Statements.{taking_all_back, results_of, arguments_of}
 use Rattle.dcc_lift.specs.Owed.{IsTranslated}
@@ -27,7 +26,8 @@ use Rattle.dcc_lift.specs.Lifted.{IsShallow}
 use Rattle.dcc_lift.proofs.ListTests.{and_left, and_right}
 use Rattle.dcc_lift.proofs.FormPlaces.{is_shallow}
 use Rattle.dcc_lift.proofs.FormCalls.{taken-wide, taking-all-sound, given-few}
-use Rattle.dcc_lift.proofs.FormScenes.{located_at, procedure_at_entry, graph_of_entry}
+use Rattle.dcc_lift.proofs.FormScenes.{translated_at, procedure_at_entry, graph_of_entry}
+use Rattle.dcc_lift.proofs.LocatedBlocks.{located_at}
 use Rattle.dcc_lift.proofs.FormBlocks.{IsFormedBlock, all-formed, args-few}
 use Rattle.dcc_lift.proofs.FormGraphs.{sound-parts, by-work, bits-of, params-first, params-later, graph-well, params-list, memory-last, graph-shallow, gives-widths, gives-nothing, results-wide}
 use Rattle.dcc_lift.proofs.FormDrawn.{entries-differ, parts, all-graphs, first-graph, found-later}
@@ -56,15 +56,10 @@ shallow-list (e ∷ es) shallow =
     (shallow-list es (and_right (is_shallow e) (list_all is_shallow es) shallow))
 
 module _ (image : Image) (program : Analysed) (p : Program) (is : IsTranslated image program p) where
-  abbrev layout : Layout
-  layout = program.layout
+  open program use {layout}
 
   module _ (entry : ℕ) (is_entry : IsEntry image layout entry) where
-    abbrev procedure : Procedure
-    procedure = procedure_at_entry image program p is entry is_entry
-
-    abbrev graph : Graph
-    graph = graph_of_entry image program p is entry is_entry
+    open translated_at image program p is entry is_entry use {procedure, graph}
 
     -- a CALL agrees with the graph that it names
     call-agrees : (target height : ℕ) (target_entry : IsEntry image layout target) → target ≢ layout.start_ip

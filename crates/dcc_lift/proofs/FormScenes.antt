@@ -1,7 +1,6 @@
 -- What is known of a translated program's procedures: the instructions at their offsets, and where their blocks stand.
-use Rattle.std.proofs.Common.{◌≡◌, ℕ, ◌<◌, ◌≤◌, Bool, true, false, ◌==◌, if◌then◌else◌, List, [], ◌∷◌, ◌++◌, length, map, drop, Option, Some, None, refl, sym, ap, ◌∙◌, subst, arith}
+use Rattle.std.proofs.Common.{◌≡◌, ℕ, ◌<◌, ◌≤◌, Bool, true, false, if◌then◌else◌, List, [], ◌∷◌, ◌++◌, length, drop, Option, Some, None, refl, sym, subst, arith}
 use Rattle.std.specs.Prelude.{pos}
-use Rattle.std.specs.List.{list_any}
 use Rattle.std.proofs.lemmas.Option.{slice_get_within}
 use Rattle.dcc_prog.specs.declared.image.Image.{Image}
 use Rattle.dcc_prog.specs.declared.procedure.Layout.{Layout}
@@ -9,8 +8,8 @@ use Rattle.dcc_prog.specs.declared.procedure.Node.{Node}
 use Rattle.dcc_prog.specs.declared.frame.Program.{Program as Analysed}
 use Rattle.dcc_prog.specs.declared.instr.Op.{Op}
 use Rattle.dcc_prog.specs.declared.instr.Op.TheVariants.{Call as CallOp}
-use Rattle.dcc_prog.specs.Trail.{code_within, IsTrail, IsEntry}
-use Rattle.dcc_prog.specs.Height.{GivesHeight, IsHeight}
+use Rattle.dcc_prog.specs.Trail.{code_within, IsEntry}
+use Rattle.dcc_prog.specs.Height.{GivesHeight}
 use Rattle.dcc_prog.specs.Found.{IsNodeFound}
 use Rattle.dcc_prog.specs.WellFormed.{IsOperation}
 use Rattle.dcc_prog.specs.Construct.{is_system}
@@ -23,16 +22,14 @@ use Rattle.dcc_coupled.specs.Nodes.{procedures_in, IsLifting}
 use Rattle.dcc_coupled.specs.Statements as placed
 use Rattle.dcc_coupled.proofs.TabledOperands.{HavePlaces, instruction-placed}
 use Rattle.dcc_lift.specs.Blocks.{Nodes, node_in, is_call, calls_in, Scene, nodes_in, entry_in, block_place, height_in, node_stmts, stmts_at}
-use Rattle.dcc_lift.specs.Sound.{AreSound}
 use Rattle.dcc_lift.specs.Owed.{setting, IsTranslated}
-use Rattle.dcc_lift.specs.Translation.{prelude_block}
 use Rattle.dcc_lift.proofs.CodeBounds.{bytes-dropped, code-bytes, loaded-bytes}
-use Rattle.dcc_lift.proofs.NodeLaws.{node_in_has}
 use Rattle.dcc_lift.proofs.ChainLaws.{is_leader}
 use Rattle.dcc_lift.proofs.BlockLaws.{leader_block}
-use Rattle.dcc_lift.proofs.TranslationLaws.{front_of, graph-blocks}
+use Rattle.dcc_lift.proofs.TranslationLaws.{front_of}
 use Rattle.dcc_lift.proofs.FoundSound.{listed-found}
-use Rattle.dcc_lift.proofs.Lifting.{height-told, offsets-any, Located, procedure_of, scene_of, before_of, locate, sound, lifting}
+use Rattle.dcc_lift.proofs.Lifting.{Located, procedure_of, told-at, lifting}
+use Rattle.dcc_lift.proofs.LocatedBlocks.{located_at, scene_at, sound_at, front-length, blocks-are}
 use Rattle.dcc_lift.proofs.FormPlaces.{are_sound}
 use Rattle.dcc_lift.proofs.FormNodes.{IsNoCall, working-sound}
 use Rattle.dcc_lift.proofs.FormFlags.{are_plain, working-plain}
@@ -49,6 +46,13 @@ pub record AreWork (stmts : List Stmt) : Type 0 where
 pub no-work : AreWork []
 no-work = record { sound = refl; plain = refl }
 
+-- a procedure of the program, where it is translated
+pub record Translated : Type 0 where
+  pub procedure : Procedure
+  pub scene : Scene
+  pub nodes : Nodes
+  pub graph : Graph
+
 module _ (image : Image) (program : Analysed) (p : Program) (is : IsTranslated image program p) where
   abbrev pub layout : Layout
   layout = program.layout
@@ -57,59 +61,42 @@ module _ (image : Image) (program : Analysed) (p : Program) (is : IsTranslated i
   lifted = lifting image program p is.of_file is.translation
 
   module _ (entry : ℕ) (is_entry : IsEntry image layout entry) where
-    abbrev pub located_at : Located image program p entry
-    located_at = (locate image program p is.of_file is.translation entry is_entry).0
+    abbrev x : Located image program p entry
+    x = located_at image program p is entry is_entry
+
+    abbrev scene : Scene
+    scene = scene_at image program p is entry is_entry
 
     abbrev pub procedure_at_entry : Procedure
-    procedure_at_entry = procedure_of image program p entry located_at
-
-    abbrev pub scene_at : Scene
-    scene_at = scene_of image program p entry located_at
+    procedure_at_entry = procedure_of image program p entry x
 
     abbrev pub graph_of_entry : Graph
-    graph_of_entry = located_at.graph
+    graph_of_entry = x.graph
 
     abbrev pub nodes_at : Nodes
-    nodes_at = nodes_in scene_at
+    nodes_at = nodes_in scene
 
-    pub before-is : scene_at.before ≡ before_of image program p entry
-    before-is = (locate image program p is.of_file is.translation entry is_entry).1
-
-    pub sound-at : AreSound nodes_at (entry_in scene_at) image.ip
-    sound-at = sound image program p is.of_file is.translation entry is_entry located_at
+    abbrev pub translated_at : Translated
+    translated_at =
+        record { procedure = procedure_at_entry; scene = scene; nodes = nodes_at; graph = graph_of_entry }
 
     abbrev pub leads : ℕ → Bool
-    leads at = is_leader nodes_at (entry_in scene_at) at
+    leads at = is_leader nodes_at (entry_in scene) at
 
     -- Blocks.
 
     abbrev pub front : List Block
-    front = front_of image layout scene_at
-
-    -- one block comes before those of instructions at most
-    pub front-length : length front ≡ scene_at.before
-    front-length = go (layout.start_ip == entry) scene_at.before before-is
-      where
-        go : (b : Bool) (n : ℕ) → n ≡ (if b then 1 else 0)
-            → length (if n == 0 then [] else prelude_block image layout scene_at ∷ []) ≡ n
-        go true n same =
-            subst (λ k. length (if k == 0 then [] else prelude_block image layout scene_at ∷ []) ≡ k) (sym same) refl
-        go false n same =
-            subst (λ k. length (if k == 0 then [] else prelude_block image layout scene_at ∷ []) ≡ k) (sym same) refl
-
-    pub blocks-are : graph_of_entry.blocks ≡ front ++ located_at.is_graph.blocks
-    blocks-are =
-        ap (λ (g : Graph). g.blocks) located_at.is_graph.graph_is
-        ∙ graph-blocks image layout scene_at located_at.is_graph.blocks
+    front = front_of image layout scene
 
     -- the block of a leader has a place in the graph
-    pub place-fits : (at : ℕ) → leads at ≡ true → block_place scene_at at < length graph_of_entry.blocks
+    pub place-fits : (at : ℕ) → leads at ≡ true → block_place scene at < length graph_of_entry.blocks
     place-fits at leader =
         let there =
-        leader_block scene_at image.ip sound-at front front-length located_at.is_graph.blocks
-        located_at.is_graph.blocks_are at leader in
-        let inside = slice_get_within (front ++ located_at.is_graph.blocks) _ there.block there.found in
-        subst (λ l. block_place scene_at at < length l) (sym blocks-are) inside
+        leader_block scene image.ip (sound_at image program p is entry is_entry) front
+        (front-length image program p is entry is_entry) x.is_graph.blocks
+        x.is_graph.blocks_are at leader in
+        let inside = slice_get_within (front ++ x.is_graph.blocks) _ there.block there.found in
+        subst (λ l. block_place scene at < length l) (sym (blocks-are image program p is entry is_entry)) inside
 
     -- Instructions.
 
@@ -118,7 +105,7 @@ module _ (image : Image) (program : Analysed) (p : Program) (is : IsTranslated i
       pub before : List ℕ
       pub height : ℕ
       pub is_at : IsAt image layout entry at before (pos height)
-      pub height_is : height_in located_at.heights at ≡ Some height
+      pub height_is : height_in x.heights at ≡ Some height
       pub found : IsNodeFound image layout entry (at, node)
       pub well : IsOperation node.instr.op
       pub have : HavePlaces node.instr.op
@@ -129,23 +116,14 @@ module _ (image : Image) (program : Analysed) (p : Program) (is : IsTranslated i
 
     pub instruction-at : (at : ℕ) (node : Node) → node_in nodes_at at ≡ Some node → IsInstructionAt at node
     instruction-at at node e =
-        let x = located_at in
         let found : IsNodeFound image layout entry (at, node) =
         subst (λ n. IsNodeFound image layout n (at, node)) x.entry_is
         (listed-found image layout program.procs.items is.of_file.is_program.procs is.of_file.loaded
         is.of_file.is_program.layout x.proc (subst (IsEntry image layout) (sym x.entry_is) is_entry) x.found at node
         e) in
         let before = found.node.before in
-        let among : list_any (λ n. n == at) (map (λ found. found.0) x.heights) ≡ true =
-        ap (list_any (λ n. n == at)) x.are_heights.nodes
-        ∙ sym (offsets-any nodes_at at)
-        ∙ node_in_has nodes_at at node e in
-        let told =
-        height-told (λ found. IsHeight image layout x.proc.entry found.0 (pos found.1)) x.heights at x.are_heights.each
-        among in
-        let gives : GivesHeight image layout entry (at ∷ before) (pos told.0) =
-        subst (λ n. GivesHeight image layout n (at ∷ before) (pos told.0)) x.entry_is
-        (told.2 before (subst (λ n. IsTrail image layout n (at ∷ before)) (sym x.entry_is) found.node.trail)) in
+        let told = told-at image program p is.of_file is.translation entry is_entry x at node e in
+        let gives : GivesHeight image layout entry (at ∷ before) (pos told.0) = told.2 before found.node.trail in
         let is_at : IsAt image layout entry at before (pos told.0) =
         record { is_entry = is_entry; trail = found.node.trail; gives = gives } in
         let none : is_system node.instr.op ≡ false =
@@ -173,12 +151,12 @@ module _ (image : Image) (program : Analysed) (p : Program) (is : IsTranslated i
         one-number : {m n : ℕ} → pos m ≡ pos n → m ≡ n
         one-number e = cc
 
-    none-stmts : (height : Option ℕ) → node_stmts scene_at height None ≡ []
+    none-stmts : (height : Option ℕ) → node_stmts scene height None ≡ []
     none-stmts None = refl
     none-stmts (Some height) = refl
 
     -- the statements of an instruction that is no CALL
-    pub work-at : (at : ℕ) → calls_in (node_in nodes_at at) ≡ false → AreWork (stmts_at scene_at at)
+    pub work-at : (at : ℕ) → calls_in (node_in nodes_at at) ≡ false → AreWork (stmts_at scene at)
     work-at at calls = go (node_in nodes_at at) refl calls
       where
         moved : (op : Op) (b : Bool) (stmts : List Stmt) → AreWork stmts → AreWork (if b then [] else stmts)
@@ -186,14 +164,14 @@ module _ (image : Image) (program : Analysed) (p : Program) (is : IsTranslated i
         moved op false stmts work = work
 
         go : (o : Option Node) → node_in nodes_at at ≡ o → calls_in o ≡ false
-            → AreWork (node_stmts scene_at (height_in located_at.heights at) o)
-        go None e none = subst AreWork (sym (none-stmts (height_in located_at.heights at))) no-work
+            → AreWork (node_stmts scene (height_in x.heights at) o)
+        go None e none = subst AreWork (sym (none-stmts (height_in x.heights at))) no-work
         go (Some node) e none =
             let here = instruction-at at node e in
             let op = node.instr.op in
             let procedures = procedures_in program in
             let apart = no-call op none in
-            subst (λ h. AreWork (node_stmts scene_at h (Some node))) (sym here.height_is)
+            subst (λ h. AreWork (node_stmts scene h (Some node))) (sym here.height_is)
             (moved op (placed.moves_frame op)
             (placed.working_stmts layout.cpu procedures procedure_at_entry here.height op node.number) (record {
               sound =

@@ -1,22 +1,17 @@
 -- All that is known of the program that `lift` gives, from the laws of translated programs.
-use Rattle.std.proofs.Common.{[], Result, Ok, Err, IfOk, subst}
-use Rattle.std.specs.declared.alloc.AllocError.{AllocError}
+use Rattle.std.proofs.Common.{[], subst}
 use Rattle.std.specs.Prelude.{All}
 use Rattle.std.proofs.lemmas.List.Elements.{All-head}
 use Rattle.dcc_prog.specs.declared.image.Image.{Image}
 use Rattle.dcc_prog.specs.declared.frame.Program.{Program as Analysed}
 use Rattle.dcc_prog.specs.Built.{IsBuilt}
-use Rattle.dcc_stack.specs.Accepted.{IsProgramOfFile}
-use Rattle.dcc_ir.specs.declared.syntax.IrProgram.{IrProgram}
 use Rattle.dcc_ir.specs.Tree.{Program}
-use Rattle.dcc_ir.specs.Views.{program_of}
 use Rattle.dcc_coupled.proofs.FoundProcedures.{numbered}
 use Rattle.dcc_coupled.proofs.NodesAgree.{nodes-agree}
 use Rattle.dcc_coupled.proofs.ExitsLead.{exits-lead}
 use Rattle.dcc_coupled.proofs.CallNodes.{call-nodes-agree}
 use Rattle.dcc_coupled.proofs.ReturnNodes.{return-nodes-agree}
 use Rattle.dcc_lift.specs.Form.{HasForm}
-use Rattle.dcc_lift.specs.Translation.{IsTranslation}
 use Rattle.dcc_lift.specs.Lifted.{IsLifted, IsPlainlyLifted, IsLiftOf}
 use Rattle.dcc_lift.specs.Owed.{IsTranslated, NodesAreLifted}
 use Rattle.dcc_lift.proofs.RunLaws.{shadows, paced}
@@ -71,13 +66,3 @@ module _ (image : Image) (program : Analysed) (p : Program) (of : IsTranslated i
 
   pub lift-of : IsLiftOf image program p
   lift-of = record { translation = of.translation; lifted = lifted; plain = plain }
-
--- so it is of what `lift` gives, if it gives a program
-pub lift-result : (image : Image) (program : Analysed) (result : Result IrProgram AllocError)
-    → IsProgramOfFile program.layout.cpu image program
-    → IfOk result
-    (λ p. IsTranslation image program.layout program.procs.items program.heights program.cells (program_of p))
-    → IfOk result (λ p. IsLiftOf image program (program_of p))
-lift-result image program (Ok p) is of =
-    lift-of image program (program_of p) (record { of_file = is; translation = of })
-lift-result image program (Err fault) is of = tt

@@ -126,8 +126,7 @@ module _ (image : Image) (program : Analysed) (p : Program) where
 module _ (image : Image) (program : Analysed) (p : Program)
     (of_file : IsProgramOfFile program.layout.cpu image program)
     (translation : IsTranslation image program.layout program.procs.items program.heights program.cells p) where
-  abbrev layout : Layout
-  layout = program.layout
+  open program use {layout}
 
   abbrev found-procs : AreFound image layout program.procs.items
   found-procs = of_file.is_program.procs
@@ -188,22 +187,33 @@ module _ (image : Image) (program : Analysed) (p : Program)
         start-unreached image layout program.procs.items found-procs of_file.loaded of_file.is_program.layout x.proc
         is_entry_of x.found (node-of node)
 
-    -- the height that is found at a node is that of each trail
+    -- each trail to a node gives the height that is found at it
+    pub told-at : (at : ℕ) (node : Node) → node_in (nodes_in scene) at ≡ Some node
+        → (height : ℕ) × (height_in x.heights at ≡ Some height)
+        × ((before : List ℕ) → IsTrail image layout entry (at ∷ before)
+        → GivesHeight image layout entry (at ∷ before) (pos height))
+    told-at at node found =
+        let among : list_any (λ n. n == at) (map (λ found. found.0) x.heights) ≡ true =
+        ap (list_any (λ n. n == at)) x.are_heights.nodes
+        ∙ sym (offsets-any (nodes_in scene) at)
+        ∙ node_in_has (nodes_in scene) at node found in
+        let told =
+        height-told (λ found. IsHeight image layout x.proc.entry found.0 (pos found.1)) x.heights at
+        x.are_heights.each among in (
+          told.0,
+          told.1,
+          λ before trail.
+              subst (λ n. GivesHeight image layout n (at ∷ before) (pos told.0)) x.entry_is
+              (told.2 before (subst (λ n. IsTrail image layout n (at ∷ before)) (sym x.entry_is) trail)),
+        )
+
+    -- it is that of each trail
     pub height-at : (at : ℕ) (before : List ℕ) (height : ℕ) → IsAt image layout entry at before (pos height)
         → height_in x.heights at ≡ Some height
     height-at at before height is =
         let node = node-at at (record { before = before; trail = is.trail }) in
-        let among : list_any (λ n. n == at) (map (λ found. found.0) x.heights) ≡ true =
-        ap (list_any (λ n. n == at)) x.are_heights.nodes
-        ∙ sym (offsets-any (nodes_in scene) at)
-        ∙ node_in_has (nodes_in scene) at node.0 node.1 in
-        let told =
-        height-told (λ found. IsHeight image layout x.proc.entry found.0 (pos found.1)) x.heights at
-        x.are_heights.each
-        among in
-        let gives : GivesHeight image layout entry (at ∷ before) (pos told.0) =
-        subst (λ n. GivesHeight image layout n (at ∷ before) (pos told.0)) x.entry_is
-        (told.2 before (subst (λ n. IsTrail image layout n (at ∷ before)) (sym x.entry_is) is.trail)) in
+        let told = told-at at node.0 node.1 in
+        let gives : GivesHeight image layout entry (at ∷ before) (pos told.0) = told.2 before is.trail in
         let same =
         in-form.one_height layout.cpu image program entry at before before (pos told.0) (pos height) of_file
         (record { is_entry = is.is_entry; trail = is.trail; gives = gives }) is in

@@ -103,14 +103,14 @@ module _ (image : Image) (program : Analysed) (p : Program) (well : IsProgram p)
     (of_file : IsProgramOfFile program.layout.cpu image program)
     (translation : IsTranslation image program.layout program.procs.items program.heights program.cells p) (entry : ℕ)
     (is_entry : IsEntry image program.layout entry) (x : Located image program p entry) where
+  abbrev procedure : Procedure
+  procedure = procedure_of image program p entry x
+
   abbrev scene : Scene
   scene = scene_of image program p entry x
 
   abbrev nodes : Nodes
   nodes = nodes_in scene
-
-  abbrev procedure : Procedure
-  procedure = procedure_of image program p entry x
 
   abbrev Here : ℕ → List ℕ → Type 0
   Here at before = IsHere image program p of_file translation entry is_entry x at before

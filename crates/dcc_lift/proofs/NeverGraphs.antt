@@ -71,8 +71,7 @@ module _ (image : Image) (layout : Layout) where
 
 module _ (image : Image) (program : Analysed) (p : Program) (well : IsProgram p)
     (is : IsTranslated image program p) where
-  abbrev layout : Layout
-  layout = program.layout
+  open program use {layout}
 
   entered : All (λ (g : Graph). IsEntry image layout g.entry) p.graphs
   entered =

@@ -5,7 +5,6 @@ use Rattle.std.proofs.lemmas.List.{append-nil}
 use Rattle.dcc_run.specs.End.{is_over}
 use Rattle.dcc_run.specs.System.{after}
 use Rattle.dcc_prog.specs.declared.image.Image.{Image}
-use Rattle.dcc_prog.specs.declared.procedure.Layout.{Layout}
 use Rattle.dcc_prog.specs.declared.frame.Program.{Program as Analysed}
 use Rattle.dcc_prog.specs.declared.instr.Op.{Op}
 use Rattle.dcc_prog.specs.declared.instr.Op.TheVariants.{Call as CallOp}
@@ -55,8 +54,7 @@ called-op op e = cc
 
 module _ (image : Image) (program : Analysed) (p : Program) (well : IsProgram p) (is : IsTranslated image program p)
     (fill : ℕ) where
-  abbrev layout : Layout
-  layout = program.layout
+  open program use {layout}
 
   abbrev KeepsHere : Inner → Type 0
   KeepsHere t = Keeps image program p is t

@@ -5,7 +5,6 @@ use Rattle.std.specs.Prelude.{◌==◌, slice_get, option_map, Contains}
 use Rattle.std.specs.List.{list_any}
 use Rattle.dcc_run.specs.End.{Running, is_over}
 use Rattle.dcc_prog.specs.declared.image.Image.{Image}
-use Rattle.dcc_prog.specs.declared.procedure.Layout.{Layout}
 use Rattle.dcc_prog.specs.declared.frame.Program.{Program as Analysed}
 use Rattle.dcc_prog.specs.declared.instr.Op.{Op}
 use Rattle.dcc_prog.specs.declared.instr.Op.TheVariants.{Call as CallOp}
@@ -44,8 +43,7 @@ giving-rest (location ∷ results) [] u = refl
 giving-rest (location ∷ results) (n ∷ values) u = giving-rest results values (setting location n u)
 
 module _ (image : Image) (program : Analysed) (p : Program) (is : IsTranslated image program p) where
-  abbrev layout : Layout
-  layout = program.layout
+  open program use {layout}
 
   abbrev pub procedure_at : (entry : ℕ) → IsEntry image layout entry → Procedure
   procedure_at entry is_entry = procedure_of image program p entry (located_at image program p is entry is_entry)
@@ -144,12 +142,7 @@ module _ (image : Image) (program : Analysed) (p : Program) (is : IsTranslated i
           bits = m.bits;
           fits = record { values = m.fits.values; len = m.fits.len; bytes = m.fits.bytes };
           words = m.words;
-          flags = record {
-            carry = m.flags.carry;
-            zero = m.flags.zero;
-            negative = m.flags.negative;
-            overflow = m.flags.overflow;
-          };
+          flags = m.flags;
         };
         here = f.here;
         passed = f.passed;

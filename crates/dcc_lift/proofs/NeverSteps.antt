@@ -1,8 +1,7 @@
 -- The inner run through one instruction of a procedure, after a trail: a state of the machine mirrors it that has
 -- passed the trail's last instructions, so what these tell of a table's register is so.
-use Rattle.std.proofs.Common.{◌≡◌, ℕ, ◌+◌, ◌*◌, ◌/◌, ◌<◌, pos, Bool, true, false, List, [], ◌∷◌, length, map, Some, refl, sym, ap, ap₂, ◌∙◌, subst, arith}
-use Rattle.std.specs.Prelude.{◌==◌, option_map}
-use Rattle.std.specs.List.{list_any}
+use Rattle.std.proofs.Common.{◌≡◌, ℕ, ◌+◌, ◌*◌, ◌/◌, ◌<◌, pos, Bool, true, false, List, [], ◌∷◌, length, Some, refl, sym, ap, ap₂, ◌∙◌, subst, arith}
+use Rattle.std.specs.Prelude.{option_map}
 use Rattle.std.proofs.lemmas.List.FromFn.{length-map-range_with_len}
 use Rattle.dcc_run.specs.End.{Running, is_over}
 use Rattle.dcc_num.specs.declared.Reg.{Reg}
@@ -12,7 +11,6 @@ use Rattle.dcc_prog.specs.declared.frame.Program.{Program as Analysed}
 use Rattle.dcc_prog.specs.declared.instr.Operand.TheVariants.{Word}
 use Rattle.dcc_prog.specs.declared.instr.Op.TheVariants.{Table}
 use Rattle.dcc_prog.specs.declared.instr.Instr.{Instr}
-use Rattle.dcc_prog.specs.Height.{IsHeight, GivesHeight}
 use Rattle.dcc_prog.specs.Machine.{State as Machine, word_in}
 use Rattle.dcc_prog.specs.Step.{op_step, step}
 use Rattle.dcc_prog.specs.Trail.{instruction_in, next_of, operation_in, is_general, known_ah, table_targets, word_in_segment, targets_of, op_successors, instr_successors, IsTrail, IsEntry}
@@ -40,8 +38,7 @@ use Rattle.dcc_coupled.specs.Procedures.{Procedure}
 use Rattle.dcc_coupled.proofs.ExitsLead.{IsGeneralTable, general-table}
 use Rattle.dcc_lift.specs.Blocks.{node_in, Scene, nodes_in, stmts_at}
 use Rattle.dcc_lift.specs.Translation.{IsTranslation}
-use Rattle.dcc_lift.proofs.NodeLaws.{node_in_has}
-use Rattle.dcc_lift.proofs.Lifting.{Located, procedure_of, scene_of, node-at, stmts-at, height-told, offsets-any}
+use Rattle.dcc_lift.proofs.Lifting.{Located, procedure_of, scene_of, node-at, stmts-at, told-at}
 use Rattle.dcc_lift.proofs.NeverForms.{is_followed, is_followed_in, followed, followed-more, followed-none, table-followed}
 use Rattle.dcc_lift.proofs.NeverMirrors.{Mirrors, mirroring, mirror, mirror-state, mirrors, followed-stmts, followed-performed, followed-leads}
 
@@ -72,26 +69,14 @@ module _ (image : Image) (program : Analysed) (p : Program)
   here at before trail =
       let node =
       node-at image program p of_file translation entry is_entry x at (record { before = before; trail = trail }) in
-      let among : list_any (λ n. n == at) (map (λ found. found.0) x.heights) ≡ true =
-      ap (list_any (λ n. n == at)) x.are_heights.nodes
-      ∙ sym (offsets-any (nodes_in scene) at)
-      ∙ node_in_has (nodes_in scene) at node.0 node.1 in
-      let told =
-      height-told (λ found. IsHeight image program.layout x.proc.entry found.0 (pos found.1)) x.heights at
-      x.are_heights.each among in
+      let told = told-at image program p of_file translation entry is_entry x at node.0 node.1 in
       record {
         node = node.0;
         found = node.1;
         is_node = node.2;
         trail = trail;
         height = told.0;
-        is_at = record {
-          is_entry = is_entry;
-          trail = trail;
-          gives =
-              subst (λ n. GivesHeight image program.layout n (at ∷ before) (pos told.0)) x.entry_is
-              (told.2 before (subst (λ n. IsTrail image program.layout n (at ∷ before)) (sym x.entry_is) trail));
-        };
+        is_at = record { is_entry = is_entry; trail = trail; gives = told.2 before trail };
       }
 
   -- Mirrors of the run.

@@ -5,7 +5,6 @@ use Rattle.std.proofs.lemmas.List.{length-map}
 use Rattle.dcc_run.specs.End.{Running, is_over}
 use Rattle.dcc_num.specs.declared.Reg.{Reg}
 use Rattle.dcc_prog.specs.declared.image.Image.{Image}
-use Rattle.dcc_prog.specs.declared.procedure.Layout.{Layout}
 use Rattle.dcc_prog.specs.declared.frame.Program.{Program as Analysed}
 use Rattle.dcc_prog.specs.declared.instr.Op.{Op}
 use Rattle.dcc_prog.specs.declared.instr.Op.TheVariants.{Table, Ret as RetOp}
@@ -62,8 +61,7 @@ switch-is p op places others e same = absurd (no-switch (op_test op) places othe
 
 module _ (image : Image) (program : Analysed) (p : Program) (well : IsProgram p) (is : IsTranslated image program p)
     (fill : ℕ) where
-  abbrev layout : Layout
-  layout = program.layout
+  open program use {layout}
 
   -- The start.
 

@@ -101,14 +101,8 @@ module _ (c : Runs) (input : List ℕ) where
   pub first-is : first_state c.p c.fill input ≡ begin
   first-is =
       ap (λ g. opened g c.p c.fill input) first-graph
-      ∙ ap (λ o. entering o (record {
-        running = activation graph (filled (graph).bits c.fill) ((c.p.hi + 2) % 65536);
-        waiting = [];
-        memory = first_memory c.p c.fill;
-        input = input;
-        events = [];
-        end = Running;
-      })) first-block
+      ∙ ap (λ o. entering o
+      (record begin { running = activation graph (filled (graph).bits c.fill) ((c.p.hi + 2) % 65536) })) first-block
 
   -- the state after the block's statements
   abbrev pub set_up : Inner

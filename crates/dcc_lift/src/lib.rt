@@ -17,4 +17,5 @@ mod passed;
 mod procedure;
 mod program;
 
+pub use passed::PASSED_LOCATIONS;
 pub use program::lift;

@@ -21,29 +21,31 @@ use std::alloc::{AllocError, Global};
 /// The word registers whose halves pass, in their order.
 pub const PASSED_REGISTERS: [Reg; 6] = [Reg::Ax, Reg::Cx, Reg::Dx, Reg::Bx, Reg::Si, Reg::Di];
 
+/// The halves of word registers and the flags that pass, in their order.
+pub const PASSED_LOCATIONS: [Loc; 16] = [
+    Loc::Half(Reg::Ax, Half::Low),
+    Loc::Half(Reg::Ax, Half::High),
+    Loc::Half(Reg::Cx, Half::Low),
+    Loc::Half(Reg::Cx, Half::High),
+    Loc::Half(Reg::Dx, Half::Low),
+    Loc::Half(Reg::Dx, Half::High),
+    Loc::Half(Reg::Bx, Half::Low),
+    Loc::Half(Reg::Bx, Half::High),
+    Loc::Half(Reg::Si, Half::Low),
+    Loc::Half(Reg::Si, Half::High),
+    Loc::Half(Reg::Di, Half::Low),
+    Loc::Half(Reg::Di, Half::High),
+    Loc::Flag(FlagName::Cf),
+    Loc::Flag(FlagName::Zf),
+    Loc::Flag(FlagName::Sf),
+    Loc::Flag(FlagName::Of),
+];
+
 /// The halves and flags that pass, in their order.
 pub fn passed(alloc: Global) -> Result<Vec<Loc>, AllocError>
     ensures { IfOk result (λ locations. locations.items ≡ passing.passed) }
 {
-    let locations: [Loc; 16] = [
-        Loc::Half(Reg::Ax, Half::Low),
-        Loc::Half(Reg::Ax, Half::High),
-        Loc::Half(Reg::Cx, Half::Low),
-        Loc::Half(Reg::Cx, Half::High),
-        Loc::Half(Reg::Dx, Half::Low),
-        Loc::Half(Reg::Dx, Half::High),
-        Loc::Half(Reg::Bx, Half::Low),
-        Loc::Half(Reg::Bx, Half::High),
-        Loc::Half(Reg::Si, Half::Low),
-        Loc::Half(Reg::Si, Half::High),
-        Loc::Half(Reg::Di, Half::Low),
-        Loc::Half(Reg::Di, Half::High),
-        Loc::Flag(FlagName::Cf),
-        Loc::Flag(FlagName::Zf),
-        Loc::Flag(FlagName::Sf),
-        Loc::Flag(FlagName::Of),
-    ];
-    locations.to_vec(alloc)
+    PASSED_LOCATIONS.to_vec(alloc)
 }
 
 /// The values of the halves and flags that pass.

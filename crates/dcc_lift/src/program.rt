@@ -7,7 +7,7 @@ ghost use Rattle.dcc_prog.specs.Found.{AreFound};
 ghost use Rattle.dcc_prog.specs.Analysed.{AreHeights, AreFrames};
 ghost use Rattle.dcc_ir.specs.Views.{block_of, graph_of, program_of};
 ghost use Rattle.dcc_lift.specs.Translation as spec;
-ghost use Rattle.dcc_lift.specs.Translation.{IsTranslation, IsGraphOf};
+ghost use Rattle.dcc_lift.specs.Translation.{IsGraphOf};
 ghost use Rattle.dcc_lift.specs.Known as known;
 ghost use Rattle.dcc_lift.specs.Known.{scene_given, scene_of, KnowsScene, KnowsLeaders, AreBlocksOf};
 ghost use Rattle.dcc_lift.specs.Lifted.{IsLiftOf};
@@ -151,43 +151,6 @@ fn data_image(alloc: Global, image: &Image, layout: &Layout) -> Result<Vec<u8>, 
         .collect(alloc)
 }
 
-// The program that stands for all procedures, statement by statement.
-fn translated(
-    alloc: Global,
-    image: &Image,
-    layout: &Layout,
-    procs: &Vec<Proc>,
-    heights: &Heights,
-    cells: &Cells,
-) -> Result<IrProgram, AllocError>
-    requires loaded { IsLoaded image.now }
-    requires layout { HasLayout image.now layout.now }
-    requires found { AreFound image.now layout.now procs.now.items }
-    requires heights { AreHeights image.now layout.now procs.now.items heights.now }
-    requires cells { AreFrames image.now layout.now procs.now.items cells.now }
-    ensures lifted { IfOk result (λ program.
-        IsTranslation image.now layout.now procs.now.items heights.now cells.now (program_of program)) }
-{
-    let procedures = procedures_of(alloc, layout, procs, cells)?;
-    let mut graphs = Vec::new(alloc);
-    for number in 0..procedures.len().min(heights.at.len()) {
-        let scene = Scene {
-            cpu: layout.cpu,
-            procedures: procedures.as_slice(),
-            procedure: &procedures[number],
-            heights: &heights.at[number],
-            before: before_of(number),
-        };
-        graphs.push(graph(alloc, image, layout, scene)?)?;
-    }
-    Ok(IrProgram {
-        graphs,
-        image: data_image(alloc, image, layout)?,
-        lo: layout.lo,
-        hi: layout.hi,
-    })
-}
-
 /// The program of the inner language that stands for all procedures: a graph for each, over the halves of registers,
 /// the flags, the cells of its frame and temporaries, and the image's data segment. Its run visits its blocks as the
 /// machine comes to their places, with the same events at the console and the same end, as long as that one is clean.
@@ -210,5 +173,22 @@ pub fn lift(
         (record { layout = layout.now; procs = procs.now; heights = heights.now; cells = cells.now })
         (program_of program)) }
 {
-    translated(alloc, image, layout, procs, heights, cells)
+    let procedures = procedures_of(alloc, layout, procs, cells)?;
+    let mut graphs = Vec::new(alloc);
+    for number in 0..procedures.len().min(heights.at.len()) {
+        let scene = Scene {
+            cpu: layout.cpu,
+            procedures: procedures.as_slice(),
+            procedure: &procedures[number],
+            heights: &heights.at[number],
+            before: before_of(number),
+        };
+        graphs.push(graph(alloc, image, layout, scene)?)?;
+    }
+    Ok(IrProgram {
+        graphs,
+        image: data_image(alloc, image, layout)?,
+        lo: layout.lo,
+        hi: layout.hi,
+    })
 }

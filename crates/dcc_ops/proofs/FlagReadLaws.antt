@@ -29,6 +29,7 @@ use Rattle.dcc_ir.specs.declared.syntax.BinOp.{BinOp}
 use Rattle.dcc_ir.specs.declared.syntax.BinOp.TheVariants.{DivU, DivS, RemU, RemS}
 use Rattle.dcc_ir.specs.Tree.{Expr, Const, Get, Part, Stmt, Set, Dos}
 use Rattle.dcc_ir.specs.FlagReads.{is_flag_place}
+use Rattle.dcc_ops.proofs.DosStatements.{dos_all}
 use Rattle.dcc_ops.specs.Temporaries.{left_place, right_place, result_place}
 use Rattle.dcc_ops.specs.Place.{Place, constant, byte, word, memory, address, computed, place_value, taking, storing, is_half, is_low, is_high, is_sound_place}
 use Rattle.dcc_ops.specs.Registers.{register_place}
@@ -283,20 +284,7 @@ plain_plain Sti = refl
 plain_plain Cld = refl
 
 dos_plain : (number : Option ℕ) → are_plain (dos_stmts number) ≡ true
-dos_plain None = refl
-dos_plain (Some n) = go (n == 0x02) (n == 0x4C) (n == 0x09) (n == 0x01 || n == 0x08)
-  where
-    go : (a b c d : Bool) → are_plain (
-        if a then Dos n None (Some (Get (Half Dx Low))) ∷ []
-        else if b then Dos n None (Some (Get (Half Ax Low))) ∷ []
-        else if c then Dos n None (Some (word_of Dx)) ∷ []
-        else if d then Dos n (Some (Half Ax Low)) None ∷ []
-        else []) ≡ true
-    go true b c d = refl
-    go false true c d = refl
-    go false false true d = refl
-    go false false false true = refl
-    go false false false false = refl
+dos_plain = dos_all (λ l. are_plain l ≡ true) refl (λ n. refl) (λ n. refl) (λ n. refl) (λ n. refl)
 
 -- All operations.
 pub op_plain : OperationsSetFlagsPlainly

@@ -10,6 +10,7 @@ pub mod ProductPerformed
 pub mod MovePerformed
 pub mod PerformedLaws
 pub mod TestLaws
+pub mod DosStatements
 pub mod FlagReadLaws
 pub mod DivisionValues
 pub mod DivisionPerformed

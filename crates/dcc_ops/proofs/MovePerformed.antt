@@ -29,7 +29,8 @@ use Rattle.dcc_ops.specs.Registers.{is_register, is_source, register_place}
 use Rattle.dcc_ops.specs.Expressions.{left, right}
 use Rattle.dcc_ops.specs.Statements.{operands_taking, mov_stmts, exchanging, xchg_stmts}
 use Rattle.dcc_ops.specs.Coupling.{Relation, with_values, IsCoupling, IsRead, IsWritten}
-use Rattle.dcc_ops.proofs.SceneLaws.{location_same, fits_taking}
+use Rattle.dcc_ir.proofs.LocationLaws.{location_same}
+use Rattle.dcc_ops.proofs.SceneLaws.{fits_taking}
 use Rattle.dcc_ops.proofs.CouplingLaws.{sets_run, is_temporary, left_is, right_is, Took, Holding, respects, temporary_set, half_set, word_set, half_below, register_value, register_read, register_written, took, both_took}
 
 -- Locations.

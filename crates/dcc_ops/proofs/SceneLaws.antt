@@ -17,6 +17,7 @@ use Rattle.dcc_ir.specs.Tree.{Stmt, Set, Fetch, Store, Div, Call, Dos}
 use Rattle.dcc_ir.specs.Value.{width_of, Scene, value_of, Fits}
 use Rattle.dcc_ir.specs.WellFormed.{is_location, is_expr, is_expr_of, is_stmt}
 use Rattle.dcc_ir.proofs.FitLaws.{value_fits}
+use Rattle.dcc_ir.proofs.LocationLaws.{location_same}
 use Rattle.dcc_ops.specs.Executed.{executed}
 
 -- Locations.
@@ -24,69 +25,6 @@ use Rattle.dcc_ops.specs.Executed.{executed}
 -- two values that agree everywhere
 abbrev pub Alike : Values → Values → Type 0
 Alike values others = (location : Loc) → values location ≡ others location
-
--- locations by their tests
-
-register_numbered : (r : Reg) → word_register (register_number r) ≡ r
-register_numbered Ax = refl
-register_numbered Cx = refl
-register_numbered Dx = refl
-register_numbered Bx = refl
-register_numbered Sp = refl
-register_numbered Bp = refl
-register_numbered Si = refl
-register_numbered Di = refl
-
-register_same : (q r : Reg) → (register_number q == register_number r) ≡ true → q ≡ r
-register_same q r t = sym (register_numbered q) ∙ ap word_register (eqb-true (register_number q) (register_number r) t)
-    ∙ register_numbered r
-
-half_same : (h k : HalfName) → (half_number h == half_number k) ≡ true → h ≡ k
-half_same Low Low t = refl
-half_same High High t = refl
-half_same Low High t = absurd (true≢false (sym t))
-half_same High Low t = absurd (true≢false (sym t))
-
-flag_same : (f g : FlagName) → (flag_number f == flag_number g) ≡ true → f ≡ g
-flag_same Cf Cf t = refl
-flag_same Zf Zf t = refl
-flag_same Sf Sf t = refl
-flag_same Of Of t = refl
-flag_same Cf Zf t = absurd (true≢false (sym t))
-flag_same Cf Sf t = absurd (true≢false (sym t))
-flag_same Cf Of t = absurd (true≢false (sym t))
-flag_same Zf Cf t = absurd (true≢false (sym t))
-flag_same Zf Sf t = absurd (true≢false (sym t))
-flag_same Zf Of t = absurd (true≢false (sym t))
-flag_same Sf Cf t = absurd (true≢false (sym t))
-flag_same Sf Zf t = absurd (true≢false (sym t))
-flag_same Sf Of t = absurd (true≢false (sym t))
-flag_same Of Cf t = absurd (true≢false (sym t))
-flag_same Of Zf t = absurd (true≢false (sym t))
-flag_same Of Sf t = absurd (true≢false (sym t))
-
--- the test tells that two locations are one
-pub location_same : (a b : Loc) → same_location a b ≡ true → a ≡ b
-location_same (Half q h) (Half r k) t =
-    let both = and_parts (register_number q == register_number r) (half_number h == half_number k) t in
-    ap (λ x. Half x h) (register_same q r both.0) ∙ ap (Half r) (half_same h k both.1)
-location_same (Flag f) (Flag g) t = ap Flag (flag_same f g t)
-location_same (Cell m h) (Cell n k) t =
-    let both = and_parts (m == n) (half_number h == half_number k) t in
-    ap (λ x. Cell x h) (eqb-true m n both.0) ∙ ap (Cell n) (half_same h k both.1)
-location_same (Temp m) (Temp n) t = ap Temp (eqb-true m n t)
-location_same (Half q h) (Flag g) t = absurd (true≢false (sym t))
-location_same (Half q h) (Cell n k) t = absurd (true≢false (sym t))
-location_same (Half q h) (Temp n) t = absurd (true≢false (sym t))
-location_same (Flag f) (Half r k) t = absurd (true≢false (sym t))
-location_same (Flag f) (Cell n k) t = absurd (true≢false (sym t))
-location_same (Flag f) (Temp n) t = absurd (true≢false (sym t))
-location_same (Cell m h) (Half r k) t = absurd (true≢false (sym t))
-location_same (Cell m h) (Flag g) t = absurd (true≢false (sym t))
-location_same (Cell m h) (Temp n) t = absurd (true≢false (sym t))
-location_same (Temp m) (Half r k) t = absurd (true≢false (sym t))
-location_same (Temp m) (Flag g) t = absurd (true≢false (sym t))
-location_same (Temp m) (Cell n k) t = absurd (true≢false (sym t))
 
 -- the other half
 pub high_kept : (values : Values) (q r : Reg) (v : ℕ)

@@ -161,6 +161,12 @@ kept_bit w (ConstCount m) f scene e n was x counted c stood is = shifted_bit sce
 
 -- Flags.
 
+-- a flag of the flags that are chosen
+flag_chosen : (b : Bool) (was moved f : Flags) (g : Flags → Bool) → f ≡ (if b then was else moved)
+    → from_bool (if b then g was else g moved) ≡ from_bool (g f)
+flag_chosen true was moved f g e = ap (λ (x : Flags). from_bool (g x)) (sym e)
+flag_chosen false was moved f g e = ap (λ (x : Flags). from_bool (g x)) (sym e)
+
 -- after the flags of a shift, where these numbers are in the temporaries
 shift_flags_kept : (w : Width) (count : Count) (overflow carry : Expr) (was : Flags) (scene : Scene) (a n r : ℕ)
     (o c : Bool) (f : Flags)
@@ -197,13 +203,8 @@ shift_flags_kept w count overflow carry was scene a n r o c f p y small one of_i
     moved : Flags
     moved = record { cf = c; zf = r == 0; sf = has_sign w r; of = o }
 
-    of_both : (b : Bool) (g : Flags → Bool)
-        → from_bool (if b then g was else g moved) ≡ from_bool (g (if b then was else moved))
-    of_both true g = refl
-    of_both false g = refl
-
     told : (g : Flags → Bool) → from_bool (if n == 0 then g was else g moved) ≡ from_bool (g f)
-    told g = of_both (n == 0) g ∙ ap (λ (x : Flags). from_bool (g x)) (sym e)
+    told g = flag_chosen (n == 0) was moved f g e
 
 -- and after those of a rotate by a count
 rotate_flags_kept : (w : Width) (count : Count) (overflow carry : Expr) (was : Flags) (scene : Scene) (a n r : ℕ)
@@ -241,13 +242,8 @@ rotate_flags_kept w count overflow carry was scene a n r o c f p y one of_is cf_
     same_sf true = refl
     same_sf false = refl
 
-    of_both : (b : Bool) (g : Flags → Bool)
-        → from_bool (if b then g was else g moved) ≡ from_bool (g (if b then was else moved))
-    of_both true g = refl
-    of_both false g = refl
-
     told : (g : Flags → Bool) → from_bool (if n == 0 then g was else g moved) ≡ from_bool (g f)
-    told g = of_both (n == 0) g ∙ ap (λ (x : Flags). from_bool (g x)) (sym e)
+    told g = flag_chosen (n == 0) was moved f g e
 
 -- and after those of a turn by one place through CF
 turn_flags_kept : (w : Width) (overflow carry : Expr) (was : Flags) (scene : Scene) (a n r : ℕ) (o c : Bool)

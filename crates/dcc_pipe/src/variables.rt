@@ -9,29 +9,10 @@ ghost use Rattle.dcc_pipe.specs.Variables as spec;
 
 use dcc_c::{Base, CExpr, CType, Class, Var};
 use dcc_ir::{Graph, Loc};
+use dcc_lift::PASSED_LOCATIONS;
 use dcc_live::mentioned;
 use dcc_num::{FlagName, Half, Reg};
 use std::alloc::{AllocError, Global};
-
-// The halves of word registers and the flags, in the variables' order.
-const NAMED_LOCATIONS: [Loc; 16] = [
-    Loc::Half(Reg::Ax, Half::Low),
-    Loc::Half(Reg::Ax, Half::High),
-    Loc::Half(Reg::Cx, Half::Low),
-    Loc::Half(Reg::Cx, Half::High),
-    Loc::Half(Reg::Dx, Half::Low),
-    Loc::Half(Reg::Dx, Half::High),
-    Loc::Half(Reg::Bx, Half::Low),
-    Loc::Half(Reg::Bx, Half::High),
-    Loc::Half(Reg::Si, Half::Low),
-    Loc::Half(Reg::Si, Half::High),
-    Loc::Half(Reg::Di, Half::Low),
-    Loc::Half(Reg::Di, Half::High),
-    Loc::Flag(FlagName::Cf),
-    Loc::Flag(FlagName::Zf),
-    Loc::Flag(FlagName::Sf),
-    Loc::Flag(FlagName::Of),
-];
 
 // The place of a register among those whose halves have variables.
 fn place_among(r: Reg) -> u64
@@ -154,7 +135,7 @@ fn all_locations(alloc: Global, bits: &[u8]) -> Result<Vec<Loc>, AllocError>
     let Ok(count) = u32::try_from(bits.len()) else {
         return Err(AllocError);
     };
-    let mut list = NAMED_LOCATIONS.to_vec(alloc)?;
+    let mut list = PASSED_LOCATIONS.to_vec(alloc)?;
     for n in 0..count {
         list.push(Loc::Temp(n))?;
     }

@@ -3,7 +3,7 @@ use Rattle.std.proofs.Common.{map}
 use Rattle.dcc_ir.specs.Views.{graph_of}
 use Rattle.dcc_lift.specs.KnownProcedures.{procedure_of}
 use Rattle.dcc_lift.proofs.SceneLaws.{AreGraphsOfFirst}
-use Rattle.dcc_lift.proofs.program.translated.Given as goal
+use Rattle.dcc_lift.proofs.program.lift.Given as goal
 
 abbrev pub invariant-loop-number : goal.invariant-loop-number
 invariant-loop-number l =
