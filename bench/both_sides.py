@@ -1,14 +1,15 @@
 #!/usr/bin/env python3
-"""Compares the runs of random programs with those of their texts, by the commands `c`, `run` and `runc`.
+"""Compares the runs of random programs with those of their texts, by the commands `c`, `watch` and `runc`.
 
 bench/both_sides.py [--cpu 8086|186] [COUNT [SEED]]
 
-Random programs are drawn until COUNT have a text for the processor, the 8086 where the option doesn't stand. Each has
-the built forms, with jumps to their instructions; about a third have other forms too, and are refused. Those for the
-80186 have its shifts and rotates by constants and its products of three operands besides. The program dcc is built, and
-runs each executable on the processor and its text on a random input, the text with the fills 0 and 65535. Where the executable ends, the text ends alike behind the same output; where
-it goes on after 3,000 steps, the text has put out as much after 120,000, and where the text has ended by then, the
-executable ends alike in 10,000,000 steps.
+Random programs are drawn until COUNT have a text for the processor, the 8086 where the option doesn't stand. Of three
+programs one has instructions on registers with jumps to each of them, and two use memory, frames, pushes, divisions,
+tables and strings; what is refused is counted besides. The program dcc is built, and runs each executable, with data,
+on the processor and its text on a random input, the text with the fills 0 and 65535. Where the executable's run is
+clean up to its end, the text ends alike behind the same output; where it goes on after 3,000 steps, or the next step
+isn't clean, the text has put out as much after 120,000 steps; and where the run goes on and the text has ended by then,
+the executable ends alike in 10,000,000 steps.
 Prints each program whose text differs; the status is 1 if there is one.
 """
 import argparse
@@ -19,33 +20,45 @@ import tempfile
 from collections import Counter
 
 from built import build, called
-from random_programs import code_of, file_of
+from procs_show import file_of
+from random_programs import code_of
+from random_wholes import alone_code
 
 RUNNING = 20
+FOUL = 23
 
 
 def is_alike(file, cpu, text, keys, fill):
     """Whether the runs of the executable and of its text agree."""
-    run = ["run", file, "--cpu", cpu, "--steps"]
-    machine = called([*run, 3000], keys)
+    watch = ["watch", file, "--cpu", cpu, "--steps"]
+    machine = called([*watch, 3000], keys)
     shown = called(["runc", text, "--steps", 120000, "--fill", fill], keys)
-    if machine[0] != RUNNING:
+    if machine[0] not in (RUNNING, FOUL):
         return machine == shown
-    if shown[0] == RUNNING:
+    if machine[0] == FOUL or shown[0] == RUNNING:
         return shown[1].startswith(machine[1])
-    return called([*run, 10_000_000], keys) == shown
+    later = called([*watch, 10_000_000], keys)
+    return later == shown or later[0] == FOUL
 
 
-def answer_of(folder, code, cpu, draw):
-    """What comes of a program: the status of `c`, or whether both sides agree."""
+def answer_of(folder, drawn, cpu, draw):
+    """What comes of a program's file: the status of `c`, or whether both sides agree and whether the run is clean."""
     file, text = folder / "F.EXE", folder / "F.C"
-    file.write_bytes(file_of(code))
+    file.write_bytes(drawn)
     status, out, _ = called(["c", file, "--cpu", cpu])
     if status != 0:
         return f"refused with {status}"
     text.write_bytes(out)
     keys = bytes(draw.randrange(256) for _ in range(draw.randrange(12)))
-    return "agree" if all(is_alike(file, cpu, text, keys, fill) for fill in (0, 65535)) else "differ"
+    if not all(is_alike(file, cpu, text, keys, fill) for fill in (0, 65535)):
+        return "differ"
+    return "agree and foul" if called(["watch", file, "--cpu", cpu, "--steps", 3000], keys)[0] == FOUL else "agree"
+
+
+def drawn_file(draw, cpu):
+    """A program's file, with some data."""
+    code = code_of(draw, cpu) if draw.randrange(3) == 0 else alone_code(draw, cpu == "186")
+    return file_of(code, draw.randbytes(draw.choice([0, 4, 40, 64, 300])), draw.choice([0, 0, 2, 4]))
 
 
 def main():
@@ -58,12 +71,12 @@ def main():
     build()
     answers = Counter()
     with tempfile.TemporaryDirectory() as name:
-        while answers["agree"] + answers["differ"] < asked.count:
-            code = code_of(draw, asked.cpu)
-            answer = answer_of(pathlib.Path(name), code, asked.cpu, draw)
+        while answers["agree"] + answers["agree and foul"] + answers["differ"] < asked.count:
+            file = drawn_file(draw, asked.cpu)
+            answer = answer_of(pathlib.Path(name), file, asked.cpu, draw)
             answers[answer] += 1
             if answer == "differ":
-                print(code.hex(" "), flush=True)
+                print(file.hex(" "), flush=True)
     print(", ".join(f"{n} {answer}" for answer, n in sorted(answers.items())))
     sys.exit(1 if answers["differ"] else 0)
 

@@ -7,7 +7,7 @@ class Code:
     """Bytes with the calls that are filled in when all is written; `later`: for the 80186."""
 
     def __init__(self, draw, later):
-        self.draw, self.later = draw, later
+        self.draw, self.later, self.alone = draw, later, False
         self.bytes = bytearray()
         self.entries, self.calls = [], []
 

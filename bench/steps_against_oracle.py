@@ -58,6 +58,10 @@ impl Machine {
             let place = (usize::from(probe.segs[1]) * 16 + usize::from(offset)) % MEMORY_SIZE;
             self.memory[place] = *byte;
         }
+        // The bytes were put there by no store. What stands there is looked up, so that the step is a short one if it can.
+        self.trusted = true;
+        self.cache[usize::from(probe.ip) % crate::cache::CACHE_SIZE].known = false;
+        let _found = self.next_instruction();
     }
 
     /// The state.

@@ -1,4 +1,4 @@
 pub mod KeyLaws
 pub mod RanLaws
 pub mod Runs
-pub mod Strings
+pub mod StringLaws

@@ -5,3 +5,4 @@ pub mod Laws
 pub mod Ran
 pub mod Scene
 pub mod Steps
+pub mod Strings

@@ -12,7 +12,6 @@ use Rattle.dcc_c.specs.Value.{Value, number, converted, Storage, Binding, declar
 use Rattle.dcc_c.specs.Run.{storage_of as run_storage, variable_binding, first_binding, param_bindings, local_bindings, frame_of, with_arguments}
 use Rattle.dcc_value.specs.declared.value.Value.{Value as Held}
 use Rattle.dcc_value.specs.declared.variable.Binding.{Binding as Bound}
-use Rattle.dcc_value.specs.declared.variable.Storage.TheVariants.{Unplaced, PlacedAt}
 use Rattle.dcc_prepare.specs.declared.program.Variable.{Variable}
 use Rattle.dcc_value.specs.Evaluation.{typed, bindings_named, binding_named, storage_of as kept_as}
 use Rattle.dcc_prepare.specs.Points.{declared_with, locals_declared}
@@ -34,7 +33,7 @@ rest_cons : {X : Type 0} (x y : X) (xs ys : List X) → x ∷ xs ≡ y ∷ ys �
 rest_cons x y xs ys is = cc
 
 storage_same : (place : Option ℕ) (bits : ℕ) →
-    kept_as (elim place [ Some at ↦ PlacedAt at | None ↦ Unplaced bits ]) ≡ run_storage place bits
+    kept_as (is_some place) (elim place [ Some at ↦ at | None ↦ bits ]) ≡ run_storage place bits
 storage_same None bits = refl
 storage_same (Some at) bits = refl
 
@@ -42,7 +41,7 @@ binding_same : (v : DeclaredVariable) (x : Variable) (first here : Option ℕ) (
     binding_named v.name (holding base bits x) ≡ variable_binding v here bits
 binding_same v x first here base bits one =
     let make : Kind → Storage → Binding = λ kind storage. record { name = v.name; type = kind.type; is_array = kind.is_array; storage = storage } in
-    ap (λ k. make k (kept_as (elim (place_in base x) [ Some at ↦ PlacedAt at | None ↦ Unplaced bits ]))) one.kind
+    ap (λ k. make k (kept_as (is_some (place_in base x)) (elim (place_in base x) [ Some at ↦ at | None ↦ bits ]))) one.kind
     ∙ ap (make (declared_kind v)) (storage_same (place_in base x) bits ∙ ap (λ p. run_storage p bits) one.at_here)
 
 placed_same : (base : ℕ) (offset : Option ℕ) →

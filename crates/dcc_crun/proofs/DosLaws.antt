@@ -27,6 +27,8 @@ use Rattle.dcc_crun.specs.declared.ending.Ending.TheVariants.{Exit as KeptExit}
 use Rattle.dcc_crun.specs.declared.ending.Stop.{Stop}
 use Rattle.dcc_crun.specs.declared.ending.Stop.TheVariants.{Refused}
 use Rattle.dcc_crun.specs.declared.moment.Moment.{Moment}
+use Rattle.dcc_console.specs.Strings.{string_in}
+use Rattle.dcc_crun.proofs.StringLaws.{string_is}
 use Rattle.dcc_value.specs.Evaluation.{outcome_of, typed}
 use Rattle.dcc_value.specs.Resolved.{Names, Scene, Fits, scope_over, target_named}
 use Rattle.dcc_prepare.specs.Points.{locals_declared, StandAll, dos_call}
@@ -152,11 +154,12 @@ putc_writes globals m target arguments line v dos is sole tree points s now call
 
 pub puts_writes : (globals : List Bound) (m : Moment) (target : Option Place) (arguments : List Resolved) (line : ℕ) (v : Held) (dos : DosCall) (memory : List ℕ) →
     memory ≡ m.memory.items →
-    dos ≡ calls_puts → IsSole globals m dos target arguments (Ok v) → WritesOnly globals m dos target arguments line (string_at memory v.bits)
+    dos ≡ calls_puts → IsSole globals m dos target arguments (Ok v) → WritesOnly globals m dos target arguments line (string_in memory 0 v.bits)
 puts_writes globals m target arguments line v dos memory same is sole tree points s now call =
     call_made globals m dos target arguments line tree points s now call v sole.0 sole.1
     ∙ ap (λ (d : DosCall). dos_step (dos_call d) None (typed v ∷ []) line s) is
     ∙ ap (λ (l : List ℕ). with_events (writes (string_at l v.bits)) s) (sym call.state.memory ∙ sym same)
+    ∙ ap (λ (bytes : List ℕ). with_events (writes bytes) s) (sym (string_is memory v.bits))
 
 -- the call that ends the run
 pub leave_exits : (globals : List Bound) (m : Moment) (target : Option Place) (arguments : List Resolved) (line : ℕ) (v : Held) (dos : DosCall) →

@@ -2,7 +2,6 @@
 #![tactic(auto)]
 
 mod call;
-mod dos;
 mod ending;
 mod moment;
 mod run;

@@ -20,10 +20,9 @@ ghost use Rattle.dcc_crun.specs.Doing.{scene_in, names_at, AreGlobals, single, A
 ghost use Rattle.dcc_crun.specs.Ending.{write_stop};
 
 use crate::call::{Call, Waiting};
-use crate::dos::put_string;
 use crate::ending::{Ending, Refusal, Stop};
 use dcc_c::{Base, CType};
-use dcc_console::take_key;
+use dcc_console::{put_string, take_key};
 use dcc_io::{Failed, Sink, Source, put_all};
 use dcc_prepare::program::{Action, CallRow, Callee, Case, Dos, Label, Procedure, Program, Row};
 use dcc_value::expression::{Resolved, Target, take};
@@ -424,7 +423,7 @@ impl Moment {
             }
             Dos::Puts => {
                 let string = self.sole_value(globals, Base::Uint, target, arguments)?;
-                write_stop(put_string(&self.memory, string.bits, out))
+                write_stop(put_string(&self.memory, 0, string.bits, out))
             }
             Dos::Leave => {
                 let code = self.sole_value(globals, Base::Uchar, target, arguments)?;

@@ -21,4 +21,3 @@ pub mod TableLaws
 pub mod GrowthLaws
 pub mod ToldLaws
 pub mod SweepLaws
-pub mod TestGraphs

@@ -12,6 +12,3 @@ mod uses;
 mod writer;
 
 pub use fold::fold_flags;
-
-#[cfg(test)]
-mod tests;

@@ -6,4 +6,3 @@ pub mod SourceLaws
 pub mod Sums
 pub mod WordLaws
 pub mod WorkLaws
-pub mod PlainGraphs

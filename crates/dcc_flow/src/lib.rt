@@ -16,6 +16,3 @@ pub use edges::{preds, successors};
 pub use search::order;
 pub use steps::Steps;
 pub use uses::solve;
-
-#[cfg(test)]
-mod tests;

@@ -1,4 +1,4 @@
-//! Tests of the foundation: arithmetic at the corners of its widths, files and streams, and keys. Expected values come from references apart from this code.
+//! Tests of the foundation: arithmetic at the corners of its widths, files and streams, keys and strings. Expected values come from references apart from this code.
 #![tactic(auto)]
 
 #[cfg(test)]
@@ -7,3 +7,5 @@ mod arithmetic;
 mod keys;
 #[cfg(test)]
 mod outside;
+#[cfg(test)]
+mod strings;

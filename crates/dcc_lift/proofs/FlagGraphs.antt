@@ -23,7 +23,7 @@ use Rattle.dcc_coupled.specs.Statements as placed
 use Rattle.dcc_lift.specs.FlagStmts.{is_setter_of, is_other_flag_stmt, has_carry_in, graph_stmts, HasFewFlagStmts}
 use Rattle.dcc_lift.specs.Blocks.{Scene, nodes_in, entry_in}
 use Rattle.dcc_lift.specs.Sound.{AreSound}
-use Rattle.dcc_lift.specs.Owed.{IsTranslated}
+use Rattle.dcc_lift.specs.Translated.{IsTranslated}
 use Rattle.dcc_lift.specs.Translation.{prelude_block, IsGraphOf, scenes_of}
 use Rattle.dcc_lift.proofs.FoundSound.{found-sound}
 use Rattle.dcc_lift.proofs.TranslationLaws.{front_of, graph-blocks}

@@ -34,7 +34,7 @@ use Rattle.dcc_coupled.specs.Statements.{calling}
 use Rattle.dcc_coupled.specs.Passed.{exit_of}
 use Rattle.dcc_lift.specs.Blocks.{node_in, successors_in, is_call, calls_in, leaders, entry_in, block_place, stmts_at, node_exit, exit_at, last_of, IsBlockAt}
 use Rattle.dcc_lift.specs.Sound.{AreSound}
-use Rattle.dcc_lift.specs.Owed.{IsTranslated}
+use Rattle.dcc_lift.specs.Translated.{IsTranslated}
 use Rattle.dcc_lift.specs.Translation.{general_registers, register_starting, flag_starting, flags_starting, prelude_block}
 use Rattle.dcc_lift.proofs.NodeLaws.{node_in_some}
 use Rattle.dcc_lift.proofs.ChainLaws.{IsInner, joined, chain_inner, call_ends, last_node, last_goes_to_leaders, leader_node, leader_below, entry_is_leader}

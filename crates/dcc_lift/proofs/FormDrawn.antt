@@ -17,7 +17,7 @@ use Rattle.dcc_ir.specs.Run.{graph_at}
 use Rattle.dcc_ir.specs.WellFormed.{all_differ}
 use Rattle.dcc_coupled.specs.Procedures.{Procedure, procedures_of}
 use Rattle.dcc_coupled.specs.Nodes.{procedures_in, IsGraphFor}
-use Rattle.dcc_lift.specs.Owed.{IsTranslated}
+use Rattle.dcc_lift.specs.Translated.{IsTranslated}
 use Rattle.dcc_lift.specs.Translation.{IsGraphOf, scenes_of}
 use Rattle.dcc_lift.specs.Lifted.{HasFrameOf}
 use Rattle.dcc_lift.proofs.ListTests.{and_left, and_right, and_both}
@@ -141,10 +141,8 @@ frames-are image lay all before (proc ∷ procs) (frame ∷ frames) [] graphs hi
 frames-are image lay all before (proc ∷ procs) (frame ∷ frames) (h ∷ heights) [] high are = absurd are
 frames-are image lay all before (proc ∷ procs) (frame ∷ frames) (h ∷ heights) (graph ∷ graphs) high are = (
   record {
-    entry = ap (λ (g : Graph). g.entry) are.0.graph_is;
     local = ap (λ (g : Graph). g.local) are.0.graph_is;
     pushed = ap (λ (g : Graph). g.pushed) are.0.graph_is;
-    bits = ap (λ (g : Graph). g.bits) are.0.graph_is;
   },
   frames-are image lay all 0 procs frames heights graphs high.1 are.1,
 )

@@ -20,7 +20,7 @@ use Rattle.dcc_coupled.specs.Passed.{params_of, returned_values}
 use Rattle.dcc_coupled.specs.Statements.{calling, taking_all_back, results_of, arguments_of}
 use Rattle.dcc_coupled.specs.FoundPlaces.{IsFoundAt}
 use Rattle.dcc_lift.specs.Blocks.{leaders, entry_in}
-use Rattle.dcc_lift.specs.Owed.{setting, IsTranslated}
+use Rattle.dcc_lift.specs.Translated.{setting, IsTranslated}
 use Rattle.dcc_lift.specs.Translation.{prelude_block}
 use Rattle.dcc_lift.proofs.ListTests.{and_left, and_right, and_both}
 use Rattle.dcc_lift.proofs.NodeLaws.{nodes_differ}

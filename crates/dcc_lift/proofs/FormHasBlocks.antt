@@ -16,7 +16,7 @@ use Rattle.dcc_ir.proofs.PathLaws.{decided, clash}
 use Rattle.dcc_coupled.proofs.FoundProcedures.{listed}
 use Rattle.dcc_lift.specs.Blocks.{Nodes, node_in, successors_in, is_call, calls_in, joins, leaders, Scene, nodes_in, entry_in, block_place, AreBlocksAt}
 use Rattle.dcc_lift.specs.Sound.{AreSound}
-use Rattle.dcc_lift.specs.Owed.{setting, IsTranslated}
+use Rattle.dcc_lift.specs.Translated.{setting, IsTranslated}
 use Rattle.dcc_lift.specs.Translation.{prelude_block}
 use Rattle.dcc_lift.specs.Lifted.{procedure_flow, after_prelude, IsBlockOfCall}
 use Rattle.dcc_lift.specs.Lifted.{HasBlocksOf, AllHaveBlocks}

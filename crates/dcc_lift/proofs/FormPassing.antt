@@ -23,7 +23,7 @@ use Rattle.dcc_coupled.specs.Procedures.{Procedure, frame_place, given_back}
 use Rattle.dcc_coupled.specs.Nodes.{procedures_in}
 use Rattle.dcc_coupled.specs.Passed.{put_of, argument_param, argument_params}
 use Rattle.dcc_coupled.specs.Statements.{argument_value, taking_all_back, results_of, arguments_of}
-use Rattle.dcc_lift.specs.Owed.{IsTranslated}
+use Rattle.dcc_lift.specs.Translated.{IsTranslated}
 use Rattle.dcc_lift.specs.Lifted.{back_of}
 use Rattle.dcc_lift.proofs.ListTests.{and_both}
 use Rattle.dcc_lift.proofs.FormCalls.{all-true, taking-all-sound, given-below, given-few}

@@ -20,7 +20,7 @@ use Rattle.dcc_ops.specs.Temporaries.{temporary_bits}
 use Rattle.dcc_coupled.specs.Procedures.{given_back}
 use Rattle.dcc_coupled.specs.Passed.{returned_values}
 use Rattle.dcc_coupled.specs.Statements.{taking_all_back, results_of, arguments_of}
-use Rattle.dcc_lift.specs.Owed.{IsTranslated}
+use Rattle.dcc_lift.specs.Translated.{IsTranslated}
 use Rattle.dcc_lift.specs.Translation.{data_image}
 use Rattle.dcc_lift.specs.Lifted.{IsShallow}
 use Rattle.dcc_lift.proofs.ListTests.{and_left, and_right}

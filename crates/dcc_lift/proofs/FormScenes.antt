@@ -22,7 +22,7 @@ use Rattle.dcc_coupled.specs.Nodes.{procedures_in, IsLifting}
 use Rattle.dcc_coupled.specs.Statements as placed
 use Rattle.dcc_coupled.proofs.TabledOperands.{HavePlaces, instruction-placed}
 use Rattle.dcc_lift.specs.Blocks.{Nodes, node_in, is_call, calls_in, Scene, nodes_in, entry_in, block_place, height_in, node_stmts, stmts_at}
-use Rattle.dcc_lift.specs.Owed.{setting, IsTranslated}
+use Rattle.dcc_lift.specs.Translated.{setting, IsTranslated}
 use Rattle.dcc_lift.proofs.CodeBounds.{bytes-dropped, code-bytes, loaded-bytes}
 use Rattle.dcc_lift.proofs.ChainLaws.{is_leader}
 use Rattle.dcc_lift.proofs.BlockLaws.{leader_block}

@@ -30,8 +30,6 @@ pub mod StartMemory
 pub mod RunStart
 pub mod RunBegun
 pub mod RunLaws
-pub mod CleanOperations
-pub mod CleanRuns
 pub mod OneGraph
 pub mod NeverForms
 pub mod NeverMirrors
@@ -63,9 +61,6 @@ pub mod FormPassing
 pub mod FormFlagReads
 pub mod FormContraction
 pub mod FormHasBlocks
-pub mod FormBuilt
-pub mod FormBuiltOps
-pub mod FormBuiltGraphs
 pub mod FlagCounts
 pub mod FlagOperations
 pub mod FlagNodes

@@ -27,7 +27,7 @@ use Rattle.dcc_coupled.specs.Statements.{calling}
 use Rattle.dcc_coupled.specs.Passed.{params_of, exit_of}
 use Rattle.dcc_lift.specs.Blocks.{Nodes, node_in, is_call, calls_in, leaders, Scene, nodes_in, entry_in, block_place, height_in, node_stmts, stmts_at, node_exit, exit_at, last_of, IsBlockAt}
 use Rattle.dcc_lift.specs.Sound.{AreSound}
-use Rattle.dcc_lift.specs.Owed.{setting}
+use Rattle.dcc_lift.specs.Translated.{setting}
 use Rattle.dcc_lift.specs.Translation.{prelude_block, IsGraphOf, scenes_of, IsTranslation}
 use Rattle.dcc_lift.proofs.ListTests.{any_at}
 use Rattle.dcc_lift.proofs.NodeLaws.{is_node, node_in_found, node_in_has, ascending_differ}

@@ -9,7 +9,7 @@ use Rattle.dcc_prog.specs.Trail.{IsEntry}
 use Rattle.dcc_ir.specs.Tree.{Graph, Program}
 use Rattle.dcc_ir.specs.Run.{graph_at}
 use Rattle.dcc_lift.specs.Blocks.{node_in, calls_in, IsChain, leaders, place_in, Scene, nodes_in, entry_in, block_place, height_in, node_stmts, stmts_at}
-use Rattle.dcc_lift.specs.Owed.{IsTranslated}
+use Rattle.dcc_lift.specs.Translated.{IsTranslated}
 use Rattle.dcc_lift.specs.Sound.{AreSound}
 use Rattle.dcc_lift.specs.Translation.{prelude_block}
 use Rattle.dcc_lift.proofs.CallFree.{IsCallFree, free-append, node-free}

@@ -22,7 +22,7 @@ use Rattle.dcc_coupled.specs.Passed.{exit_of}
 use Rattle.dcc_coupled.specs.Procedures.{Procedure}
 use Rattle.dcc_coupled.specs.Statements.{moves_frame, working_stmts}
 use Rattle.dcc_lift.specs.Blocks.{last_of, Scene, nodes_in, entry_in, block_place, stmts_at, node_exit, IsBlockAt}
-use Rattle.dcc_lift.specs.Owed.{IsTranslated}
+use Rattle.dcc_lift.specs.Translated.{IsTranslated}
 use Rattle.dcc_lift.proofs.ListTests.{or_here, or_there}
 use Rattle.dcc_lift.proofs.ChainLaws.{leader_node, last_node}
 use Rattle.dcc_lift.proofs.FoundSound.{contained-node}

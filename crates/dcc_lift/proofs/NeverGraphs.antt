@@ -18,7 +18,7 @@ use Rattle.dcc_ir.proofs.ReachedLaws.{named_again}
 use Rattle.dcc_coupled.specs.Nodes.{IsGraphFor}
 use Rattle.dcc_coupled.specs.Procedures.{procedures_of}
 use Rattle.dcc_lift.specs.Blocks.{leaders, nodes_in, entry_in, IsBlockAt}
-use Rattle.dcc_lift.specs.Owed.{IsTranslated}
+use Rattle.dcc_lift.specs.Translated.{IsTranslated}
 use Rattle.dcc_lift.specs.Translation.{prelude_block}
 use Rattle.dcc_lift.proofs.ListTests.{and_right}
 use Rattle.dcc_lift.proofs.BlockLaws.{blocks_all}

@@ -25,7 +25,7 @@ use Rattle.dcc_coupled.specs.Procedures.{Procedure, given_back}
 use Rattle.dcc_coupled.specs.Statements.{results_of, arguments_of, taking_all_back}
 use Rattle.dcc_coupled.specs.Statements as placed
 use Rattle.dcc_lift.specs.Blocks.{node_in, is_call, calls_in, last_of, Scene, nodes_in, entry_in, block_place, stmts_at, node_exit}
-use Rattle.dcc_lift.specs.Owed.{IsTranslated}
+use Rattle.dcc_lift.specs.Translated.{IsTranslated}
 use Rattle.dcc_lift.specs.Translation.{prelude_block}
 use Rattle.dcc_lift.proofs.CallFree.{IsCallFree, back-free}
 use Rattle.dcc_lift.proofs.ChainLaws.{last_goes_to_leaders}

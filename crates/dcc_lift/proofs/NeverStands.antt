@@ -19,7 +19,7 @@ use Rattle.dcc_coupled.specs.Nodes.{leads_to}
 use Rattle.dcc_coupled.specs.Passed.{exit_of}
 use Rattle.dcc_coupled.specs.Procedures.{Procedure}
 use Rattle.dcc_lift.specs.Blocks.{successors_in, Scene, nodes_in, entry_in, block_place, IsBlockAt}
-use Rattle.dcc_lift.specs.Owed.{IsTranslated}
+use Rattle.dcc_lift.specs.Translated.{IsTranslated}
 use Rattle.dcc_lift.specs.Translation.{prelude_block}
 use Rattle.dcc_lift.proofs.CallFree.{IsCallFree}
 use Rattle.dcc_lift.proofs.ListTests.{any_contained}

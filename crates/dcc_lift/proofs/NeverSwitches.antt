@@ -24,7 +24,7 @@ use Rattle.dcc_coupled.specs.Passed.{exit_of}
 use Rattle.dcc_coupled.specs.Procedures.{Procedure}
 use Rattle.dcc_coupled.specs.Statements.{moves_frame, working_stmts}
 use Rattle.dcc_lift.specs.Blocks.{last_of, block_place, stmts_at}
-use Rattle.dcc_lift.specs.Owed.{IsTranslated}
+use Rattle.dcc_lift.specs.Translated.{IsTranslated}
 use Rattle.dcc_lift.proofs.CallFree.{IsCallFree}
 use Rattle.dcc_lift.proofs.Lifting.{stmts-at}
 use Rattle.dcc_lift.proofs.NeverSteps.{table-fits}

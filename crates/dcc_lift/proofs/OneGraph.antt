@@ -1,14 +1,19 @@
 -- Where each instruction that is reached is built, the translated program has one graph.
 use Rattle.std.proofs.Common.{◌≡◌, ℕ, List, [], ◌∷◌, map, refl, ap, ◌∙◌, subst}
 use Rattle.std.specs.List.{AllZip}
+use Rattle.dcc_prog.specs.declared.image.Image.{Image}
 use Rattle.dcc_prog.specs.declared.procedure.Layout.{Layout}
 use Rattle.dcc_prog.specs.declared.procedure.Proc.{Proc}
 use Rattle.dcc_prog.specs.declared.frame.Frame.{Frame}
+use Rattle.dcc_prog.specs.declared.frame.Program.{Program as Analysed}
+use Rattle.dcc_prog.specs.Built.{IsBuilt}
 use Rattle.dcc_prog.proofs.FoundLaws.{one_procedure}
+use Rattle.dcc_ir.specs.Tree.{Program}
 use Rattle.dcc_coupled.specs.Procedures.{Procedure, procedures_of}
 use Rattle.dcc_lift.specs.Blocks.{Scene}
 use Rattle.dcc_lift.specs.Translation.{IsGraphOf, scenes_of}
-use Rattle.dcc_lift.specs.Plain.{BuiltProgramsHaveOneGraph}
+use Rattle.dcc_lift.specs.Translated.{IsTranslated}
+use Rattle.dcc_lift.specs.Lifted.{HasOneGraph}
 
 -- what belongs to the only element of a list is the only element of its list
 only-other : {A B : Type 0} (R : A → B → Type 0) (xs : List A) (ys : List B) (x : A) → xs ≡ x ∷ [] → AllZip R xs ys
@@ -34,7 +39,8 @@ only-scene layout procs frames heights proc frame found one frame-one height-one
           ∙ ap (scenes_of layout (procedure ∷ []) 1 (procedure ∷ [])) height-one,
     )
 
-pub one-graph : BuiltProgramsHaveOneGraph
+pub one-graph : (image : Image) (program : Analysed) (p : Program) → IsTranslated image program p
+    → IsBuilt image program.layout → HasOneGraph p
 one-graph image program p is built =
     let found = is.of_file.is_program in
     let layout = program.layout in
@@ -46,4 +52,5 @@ one-graph image program p is built =
     only-scene layout program.procs.items program.cells.frames.items
     (map (λ found. found.entries) program.heights.at.items) proc frame.0 heights.0.entries one frame.1
     (ap (map (λ found. found.entries)) heights.1) in
-    only-other (IsGraphOf image layout) _ p.graphs scene.0 scene.1 is.translation.graphs
+    let graph = only-other (IsGraphOf image layout) _ p.graphs scene.0 scene.1 is.translation.graphs in
+    record { graph = graph.0; one = graph.1 }

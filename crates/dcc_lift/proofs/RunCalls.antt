@@ -20,6 +20,7 @@ use Rattle.dcc_ir.proofs.ReachedLaws.{contained}
 use Rattle.dcc_coupled.specs.Coupled.{AreCoupled}
 use Rattle.dcc_coupled.specs.Procedures.{Procedure, given_back}
 use Rattle.dcc_coupled.specs.Statements.{results_of, arguments_of, calling, taking_all_back}
+use Rattle.dcc_coupled.proofs.CallNodes.{call-nodes-agree}
 use Rattle.dcc_coupled.proofs.Next.{next-stands}
 use Rattle.dcc_lift.specs.Blocks.{node_in, leaders, place_in, Scene, nodes_in, entry_in, block_place, IsBlockAt}
 use Rattle.dcc_lift.proofs.ChainLaws.{is_leader, entry_is_leader}
@@ -149,7 +150,8 @@ module _ (c : Runs) (entry : ℕ) (is_entry : IsEntry c.image (layout c) entry) 
       agreed : AreCoupled (e c) after after_stack begun × ((begun).running.block ≡ (first).block)
           × ((begun).running.rest ≡ (first).block.stmts) × ((begun).running.begins ≡ true)
       agreed =
-          c.laws.calls (e c) s stack (node c entry is_entry s stack t a).instr t p (node c entry is_entry s stack t a)
+          call-nodes-agree (e c) s stack (node c entry is_entry s stack t a).instr t p
+          (node c entry is_entry s stack t a)
           height c.fill target callee (located_at c target is_target).graph (first).block
           (clean_instruction c entry is_entry s stack t a clean) (is_node_here c entry is_entry s stack t a clean) is
           a.agree.coupled has at_is c.small (located_at c target is_target).procedure_found

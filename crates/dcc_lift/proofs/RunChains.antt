@@ -21,6 +21,8 @@ use Rattle.dcc_coupled.specs.Coupled.{AreCoupled}
 use Rattle.dcc_coupled.specs.Nodes.{procedures_in, StepAgrees, agree, over, leads_to}
 use Rattle.dcc_coupled.specs.Passed.{exit_of}
 use Rattle.dcc_coupled.specs.Statements as placed
+use Rattle.dcc_coupled.proofs.NodesAgree.{nodes-agree}
+use Rattle.dcc_coupled.proofs.ExitsLead.{exits-lead}
 use Rattle.dcc_lift.specs.Blocks.{Nodes, node_in, successors_in, is_call, calls_in, IsChain, Scene, nodes_in, entry_in, block_place, stmts_at, node_exit, exit_at, last_of}
 use Rattle.dcc_lift.specs.Sound.{GoesOnAt}
 use Rattle.dcc_lift.proofs.ListTests.{any_contained}
@@ -81,7 +83,7 @@ module _ (c : Runs) (entry : ℕ) (is_entry : IsEntry c.image (layout c) entry) 
         → StepAgrees (e c) s stack node.instr done
     node-agrees clean apart =
         subst (λ l. StepAgrees (e c) s stack node.instr (execute l t)) (sym stmts_are)
-        (c.laws.nodes (e c) s stack node.instr t (scene).procedure node
+        (nodes-agree (e c) s stack node.instr t (scene).procedure node
         (stands_here c entry is_entry s stack t a).height (clean_instruction c entry is_entry s stack t a clean)
         (is_node_here c entry is_entry s stack t a clean) apart a.agree.coupled)
 
@@ -105,7 +107,7 @@ module _ (c : Runs) (entry : ℕ) (is_entry : IsEntry c.image (layout c) entry) 
         → leads_to (exit_of (scene).procedure node.instr.op node.succ.items) done ≡ Some next.ip
     next-leads clean apart on =
         ap (λ l. leads_to (exit_of (scene).procedure node.instr.op node.succ.items) (execute l t)) stmts_are
-        ∙ c.laws.exits (e c) s stack node.instr t (scene).procedure node
+        ∙ exits-lead (e c) s stack node.instr t (scene).procedure node
         (stands_here c entry is_entry s stack t a).height
         (clean_instruction c entry is_entry s stack t a clean) (is_node_here c entry is_entry s stack t a clean) apart
         a.agree.coupled on

@@ -22,7 +22,7 @@ use Rattle.dcc_ir.proofs.RunLaws.{inner_watchable}
 use Rattle.dcc_lift.specs.Blocks.{nodes_in, entry_in, block_place}
 use Rattle.dcc_lift.specs.Lifted.{steps_between, steps_at_start}
 use Rattle.dcc_lift.specs.Lifted.{ShadowsMachine, MachineKeepsPace}
-use Rattle.dcc_lift.specs.Owed.{IsTranslated, NodesAreLifted}
+use Rattle.dcc_lift.specs.Translated.{IsTranslated}
 use Rattle.dcc_lift.proofs.ListTests.{same_number}
 use Rattle.dcc_lift.proofs.ChainLaws.{is_leader, entry_is_leader}
 use Rattle.dcc_lift.proofs.RunScenes.{Runs, layout, machine, inner, within, located_at, before-is, sound-at, block-there}
@@ -140,15 +140,12 @@ module _ (c : Runs) (input : List ℕ) (bytes : All (λ byte. byte < 256) input)
 
 -- The laws.
 
-pub shadows : NodesAreLifted → (image : Image) (program : Analysed) (p : Program) → IsTranslated image program p
+pub shadows : (image : Image) (program : Analysed) (p : Program) → IsTranslated image program p
     → ShadowsMachine image program p
-shadows laws image program p is fill input small bytes =
-    run-shadows (record { laws = laws; image = image; program = program; p = p; is = is; fill = fill; small = small })
-    input bytes
+shadows image program p is fill input small bytes =
+    run-shadows (record { image = image; program = program; p = p; is = is; fill = fill; small = small }) input bytes
 
-pub paced : NodesAreLifted → (image : Image) (program : Analysed) (p : Program) → IsTranslated image program p
+pub paced : (image : Image) (program : Analysed) (p : Program) → IsTranslated image program p
     → MachineKeepsPace image program p
-paced laws image program p is input bytes =
-    machine-paced (record
-    { laws = laws; image = image; program = program; p = p; is = is; fill = 0; small = lit< tt })
-    input bytes
+paced image program p is input bytes =
+    machine-paced (record { image = image; program = program; p = p; is = is; fill = 0; small = lit< tt }) input bytes

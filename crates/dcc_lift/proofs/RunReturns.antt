@@ -25,6 +25,7 @@ use Rattle.dcc_coupled.specs.Procedures.{Procedure}
 use Rattle.dcc_coupled.specs.Passed.{returned_values, exit_of}
 use Rattle.dcc_coupled.specs.Statements as placed
 use Rattle.dcc_coupled.proofs.Next.{next-stands}
+use Rattle.dcc_coupled.proofs.ReturnNodes.{return-nodes-agree}
 use Rattle.dcc_lift.specs.Blocks.{Nodes, node_in, successors_in, is_call, calls_in, onward, Scene, nodes_in, entry_in, block_place, stmts_at, node_exit, exit_at}
 use Rattle.dcc_lift.specs.Sound.{AreSound}
 use Rattle.dcc_lift.proofs.ListTests.{any_contained}
@@ -69,7 +70,7 @@ module _ (c : Runs) (entry : ℕ) (is_entry : IsEntry c.image (layout c) entry) 
       × AreCoupled (e c) after after_stack (resumed p t) × ((returned p t).end ≡ Running)
       × ((returned p t).running.rest ≡ w.caller.rest) × ((resumed p t).running.block ≡ w.caller.block)
   returns =
-      c.laws.returns (e c) s stack (node c entry is_entry s stack t a).instr t p (node c entry is_entry s stack t a)
+      return-nodes-agree (e c) s stack (node c entry is_entry s stack t a).instr t p (node c entry is_entry s stack t a)
       (stands_here c entry is_entry s stack t a).height count (clean_instruction c entry is_entry s stack t a clean)
       (is_node_here c entry is_entry s stack t a clean) is a.agree.coupled
 

@@ -30,10 +30,11 @@ use Rattle.dcc_coupled.specs.Coupled.{Setting, AreCoupled}
 use Rattle.dcc_coupled.specs.Laws.{IsCleanInstruction}
 use Rattle.dcc_coupled.specs.Nodes.{procedures_in, IsLifting, IsNodeHere}
 use Rattle.dcc_coupled.specs.Procedures.{procedure_at}
+use Rattle.dcc_coupled.proofs.FoundProcedures.{numbered}
 use Rattle.dcc_lift.specs.Blocks.{Nodes, node_in, Scene, nodes_in, entry_in, block_place}
 use Rattle.dcc_lift.specs.Sound.{AreSound}
 use Rattle.dcc_lift.specs.Translation.{prelude_block}
-use Rattle.dcc_lift.specs.Owed.{setting, IsTranslated, NodesAreLifted}
+use Rattle.dcc_lift.specs.Translated.{setting, IsTranslated}
 use Rattle.dcc_lift.proofs.ListTests.{or_there}
 use Rattle.dcc_lift.proofs.NodeLaws.{is_node, prelude_no_node}
 use Rattle.dcc_lift.proofs.ChainLaws.{is_leader}
@@ -51,7 +52,6 @@ newest-in (called stands waits stand) = stands
 
 -- both runs of an analysed file and its translation, on a fill
 pub record Runs : Type 0 where
-  pub laws : NodesAreLifted
   pub image : Image
   pub program : Analysed
   pub p : Program
@@ -214,7 +214,7 @@ module _ (c : Runs) where
         → IsCleanInstruction e s stack node_here.0.instr
     clean_instruction clean = record {
       of_file = c.is.of_file;
-      numbered = c.laws.numbered e lifted;
+      numbered = numbered e lifted;
       stands = a.agree.stands;
       found = node_here.2.instr;
       clean = clean;

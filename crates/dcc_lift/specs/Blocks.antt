@@ -1,6 +1,6 @@
 -- The blocks of a procedure's instructions: which instructions begin one, and which stand in it. An instruction joins
--- the block of the one before it where nothing else leads to it and neither of them is a CALL. This stands between the
--- procedure and the code; the public contract tells what the blocks are by paths.
+-- the block of the one before it where nothing else leads to it and neither of them is a CALL. The public contract
+-- tells besides what the blocks are by paths (specs/Lifted.antt).
 use Rattle.std.specs.Prelude.{◌≡◌, ℕ, suc, ◌==◌, nat_lt, Bool, true, false, not, ◌&&◌, if◌then◌else◌, List, [], ◌∷◌, ◌+◌, map, filter, flat_map, Option, Some, None}
 use Rattle.dcc_prog.specs.declared.cpu.Cpu.{Cpu}
 use Rattle.dcc_prog.specs.declared.instr.Op.{Op}

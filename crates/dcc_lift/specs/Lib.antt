@@ -1,4 +1,3 @@
-pub mod Form
 pub mod FlagStmts
 pub mod KnownProcedures
 pub mod Blocks
@@ -8,11 +7,9 @@ pub mod Lifted
 pub mod Laws
 pub mod Incoming
 pub mod Known
-pub mod Owed
-pub mod Never
+pub mod Translated
 pub use Rattle.dcc_prog.specs.Built
 pub use Rattle.dcc_prog.specs.Found
 pub use Rattle.dcc_prog.specs.Layout
 pub use Rattle.dcc_prog.specs.MzImage
 pub use Rattle.dcc_ir.specs.Views
-pub mod Plain

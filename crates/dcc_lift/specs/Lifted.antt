@@ -1,17 +1,15 @@
 -- What the lifted program is to the executable.
 use Rattle.std.specs.Prelude.{◌≡◌, ◌≤◌, ◌<◌, ℕ, ◌+◌, ◌==◌, true, false, ◌&&◌, ◌||◌, List, [], ◌∷◌, All, Some, None}
 use Rattle.std.specs.List.{AllZip, list_any}
-use Rattle.dcc_run.specs.Watched.{state}
 use Rattle.dcc_run.specs.Shadows.{Shadows, KeepsPace, only}
 use Rattle.dcc_prog.specs.declared.image.Image.{Image}
 use Rattle.dcc_prog.specs.declared.procedure.Node.{Node}
 use Rattle.dcc_prog.specs.declared.procedure.Proc.{Proc}
-use Rattle.dcc_prog.specs.declared.procedure.Layout.{Layout}
 use Rattle.dcc_prog.specs.declared.frame.Program.{Program as Analysed}
 use Rattle.dcc_prog.specs.declared.instr.Op.TheVariants.{Call}
 use Rattle.dcc_prog.specs.Trail.{next_of}
 use Rattle.dcc_prog.specs.Built.{IsBuilt}
-use Rattle.dcc_prog.specs.Watch.{is_foul, watched_machine, first_watch}
+use Rattle.dcc_prog.specs.Watch.{watched_machine, first_watch}
 use Rattle.dcc_ir.specs.Tree.{Graph, Program}
 use Rattle.dcc_ir.specs.Use.{graph_exprs}
 use Rattle.dcc_ir.specs.Measure.{depth_of}
@@ -22,10 +20,8 @@ use Rattle.dcc_ir.specs.Run.{watched_inner, first_state}
 use Rattle.dcc_ir.specs.Flow.{Flow, flow_at, IsContraction, HaveOneEdge}
 use Rattle.dcc_ir.specs.Keeps.{has_block}
 use Rattle.dcc_ir.specs.Ends.{IsNeverStuck}
-use Rattle.dcc_ops.specs.Temporaries.{temporary_bits}
 use Rattle.dcc_coupled.specs.Procedures.{Procedure, procedure_at, given_back, pushed_of}
-use Rattle.dcc_coupled.specs.Nodes.{procedures_in}
-use Rattle.dcc_lift.specs.Form.{HasForm}
+use Rattle.dcc_coupled.specs.Nodes.{procedures_in, IsGraphFor}
 use Rattle.dcc_lift.specs.FlagStmts.{HasFewFlagStmts}
 use Rattle.dcc_lift.specs.Translation.{data_image, IsTranslation}
 
@@ -109,16 +105,15 @@ IsShallow depth graph = All (λ e. depth_of e ≤ depth) (graph_exprs graph)
 
 -- what a graph has of its procedure's frame
 pub record HasFrameOf (p : Procedure) (graph : Graph) : Type 0 where
-  pub entry : graph.entry ≡ p.proc.entry
   pub local : graph.local ≡ p.frame.exposed.local
   pub pushed : graph.pushed ≡ pushed_of p
-  pub bits : graph.bits ≡ temporary_bits
 
--- The program has a graph for each procedure, which passes all halves and flags and the argument words; its memory holds
--- the image's data segment, and its stack is the layout's. It runs as the machine does while that is clean, and no run of
--- it is stuck.
+-- The program has a graph for each procedure, which takes the argument words where the frame has them, and passes all
+-- halves and flags; its memory holds the image's data segment, and its stack is the layout's. It runs as the machine does
+-- while that is clean, and no run of it is stuck.
 pub record IsLifted (image : Image) (program : Analysed) (p : Program) : Type 0 where
   pub well_formed : IsProgram p
+  pub graphs : AllZip (IsGraphFor program.layout.start_ip) (procedures_in program) p.graphs
   pub frames : AllZip HasFrameOf (procedures_in program) p.graphs
   pub passes : PassesAll (back_of (procedures_in program)) p
   pub image_is : p.image ≡ data_image image program.layout
@@ -132,22 +127,13 @@ pub record IsLifted (image : Image) (program : Analysed) (p : Program) : Type 0 
   pub never_stuck : IsNeverStuck p
   pub blocks : AllHaveBlocks image p program.procs.items
 
--- No step of the machine is foul, on any input, whatever analysed program with this layout tells which steps are.
-abbrev pub IsAlwaysClean : Image → Layout → Type 0
-IsAlwaysClean image layout =
-    (analysed : Analysed) (input : List ℕ) (n : ℕ) → analysed.layout ≡ layout → All (λ byte. byte < 256) input
-    → is_foul (state (watched_machine analysed) n (first_watch image input)) ≡ false
-
--- what a program of one procedure has whose instructions use registers and constants alone: its graph neither uses memory
--- nor calls, divides nor switches, and no step of the machine is foul
-pub record IsPlainlyLifted (image : Image) (layout : Layout) (p : Program) : Type 0 where
+-- the program has one graph and no other
+pub record HasOneGraph (p : Program) : Type 0 where
   pub graph : Graph
   pub one : p.graphs ≡ graph ∷ []
-  pub form : HasForm graph
-  pub clean : IsAlwaysClean image layout
 
--- all that is known of the program that `lift` gives
+-- All that is known of the program that `lift` gives. Where no call is reached, it has one graph.
 pub record IsLiftOf (image : Image) (program : Analysed) (p : Program) : Type 0 where
   pub translation : IsTranslation image program.layout program.procs.items program.heights program.cells p
   pub lifted : IsLifted image program p
-  pub plain : IsBuilt image program.layout → IsPlainlyLifted image program.layout p
+  pub one_graph : IsBuilt image program.layout → HasOneGraph p

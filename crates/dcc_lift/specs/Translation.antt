@@ -1,5 +1,5 @@
--- The program that stands for all procedures, statement by statement. This stands between the procedures and the code;
--- the public contract tells what the program does.
+-- The program that stands for all procedures, statement by statement. What it does is told in
+-- specs/Lifted.antt.
 use Rattle.std.specs.Prelude.{◌≡◌, ℕ, ◌-◌, ◌*◌, ◌/◌, ◌%◌, ◌==◌, Bool, if◌then◌else◌, List, [], ◌∷◌, ◌++◌, map, flat_map, slice_index, take, drop}
 use Rattle.std.specs.Int.{from_bool}
 use Rattle.std.specs.List.{AllZip}

@@ -155,7 +155,8 @@ fn data_image(alloc: Global, image: &Image, layout: &Layout) -> Result<Vec<u8>, 
 /// the flags, the cells of its frame and temporaries, and the image's data segment. Its run visits its blocks as the
 /// machine comes to their places, with the same events at the console and the same end, as long as that one is clean.
 ///
-/// The procedures, heights and frames are those that the analyses give for the image and its layout.
+/// The procedures, heights and frames are those that the analyses give for the image and its layout. Want of memory alone
+/// is an error, and leaves nothing.
 pub fn lift(
     alloc: Global,
     image: &Image,

@@ -5,4 +5,3 @@ pub mod WantedLaws
 pub mod WorkLaws
 pub mod LiveLaws
 pub mod DeadLaws
-pub mod TestGraphs

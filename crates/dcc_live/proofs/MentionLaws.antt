@@ -18,6 +18,11 @@ blocks_mention : (blocks : List Block) → flat_map block_access_mentions (map b
 blocks_mention [] = refl
 blocks_mention (b ∷ blocks) = ap₂ (λ l m. (l ++ flat_map reads_of (exit_exprs b.exit)) ++ m) (stmts_mention b.stmts) (blocks_mention blocks)
 
+-- what blocks with these accesses mention
+pub mentions_are : (g : Graph) (mentions : List Loc) (blocks : List BlockAccess) → mentions ≡ flat_map block_access_mentions blocks
+    → blocks ≡ accesses_of g → mentions ≡ graph_mentions g
+mentions_are g mentions blocks all are = all ∙ ap (flat_map block_access_mentions) are ∙ blocks_mention g.blocks
+
 or_nothing : (b : Bool) → (b || false) ≡ b
 or_nothing true = refl
 or_nothing false = refl
@@ -27,4 +32,4 @@ pub marked_mentions : (g : Graph) (among : List Loc) (has : Loc → Bool) (menti
     → mentions ≡ flat_map block_access_mentions blocks → blocks ≡ accesses_of g → filter has among ≡ filter (is_among (graph_mentions g)) among
 marked_mentions g among has mentions blocks marked all are =
     ap (λ f. filter f among)
-    (marked ∙ fun_ext (λ l. or_nothing (is_among mentions l)) ∙ ap is_among (all ∙ ap (flat_map block_access_mentions) are ∙ blocks_mention g.blocks))
+    (marked ∙ fun_ext (λ l. or_nothing (is_among mentions l)) ∙ ap is_among (mentions_are g mentions blocks all are))

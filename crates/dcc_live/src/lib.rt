@@ -16,7 +16,4 @@ mod wanted;
 
 pub use dead::drop_dead;
 pub use living::live;
-pub use mentions::mentioned;
-
-#[cfg(test)]
-mod tests;
+pub use mentions::{all_mentioned, mentioned};

@@ -47,6 +47,14 @@ fn those_in(alloc: Global, marks: &Marks, among: &[Loc]) -> Result<Vec<Loc>, All
     Ok(list)
 }
 
+/// The locations that a graph mentions, those that it reads or writes, as often as it does.
+pub fn all_mentioned(alloc: Global, g: &Graph) -> Result<Vec<Loc>, AllocError>
+    ensures { IfOk result (λ list. list.items ≡ graph_mentions (graph_of g.now)) }
+{
+    let accesses = accesses(alloc, g)?;
+    all_mentions(alloc, &accesses)
+}
+
 /// Those of some locations that a graph mentions, in their order: those that it reads or writes.
 pub fn mentioned(alloc: Global, g: &Graph, among: &[Loc]) -> Result<Vec<Loc>, AllocError>
     ensures { IfOk result (λ list. list.items ≡ filter (is_among (graph_mentions (graph_of g.now))) among.now) }

@@ -22,176 +22,150 @@ struct Row {
     end: Stepped,
 }
 
+// What most rows have: the 8086, no data and no output, and exit code 0.
+const QUIET: Row = Row {
+    cpu: Cpu::I8086,
+    code: b"",
+    rest: b"",
+    output: b"",
+    end: Stepped::Exit(0),
+};
+
 static ROWS: [Row; 19] = [
     // A local, below which SP is lowered by a negative raise.
     Row {
-        cpu: Cpu::I8086,
         code: b"\xE8\x05\x00\xB8\x00\x4C\xCD\x21\x55\x8B\xEC\x83\xC4\xFE\xC6\x46\xFE\x41\x8A\x56\xFE\xB4\x02\xCD\
             \x21\x8B\xE5\x5D\xC3",
-        rest: b"",
         output: b"A",
-        end: Stepped::Exit(0),
+        ..QUIET
     },
     // By DEC SP, twice.
     Row {
-        cpu: Cpu::I8086,
         code: b"\xE8\x05\x00\xB8\x00\x4C\xCD\x21\x55\x8B\xEC\x4C\x4C\x90\xC6\x46\xFE\x41\x8A\x56\xFE\xB4\x02\xCD\
             \x21\x8B\xE5\x5D\xC3",
-        rest: b"",
         output: b"A",
-        end: Stepped::Exit(0),
+        ..QUIET
     },
     // By LEA.
     Row {
-        cpu: Cpu::I8086,
         code: b"\xE8\x05\x00\xB8\x00\x4C\xCD\x21\x55\x8B\xEC\x8D\x66\xFE\xC6\x46\xFE\x41\x8A\x56\xFE\xB4\x02\xCD\
             \x21\x8B\xE5\x5D\xC3",
-        rest: b"",
         output: b"A",
-        end: Stepped::Exit(0),
+        ..QUIET
     },
     // A local that is stored and loaded by its address, from BP.
     Row {
-        cpu: Cpu::I8086,
         code: b"\xE8\x05\x00\xB8\x00\x4C\xCD\x21\x55\x8B\xEC\x83\xEC\x02\x8B\xDD\x4B\xC6\x07\x42\x8A\x17\xB4\x02\
             \xCD\x21\x8B\xE5\x5D\xC3",
-        rest: b"",
         output: b"B",
-        end: Stepped::Exit(0),
+        ..QUIET
     },
     // An argument word of which one byte is exposed.
     Row {
-        cpu: Cpu::I8086,
         code: b"\xB8\x41\x42\x50\xE8\x08\x00\x58\xB8\x00\x4C\xCD\x21\x90\x90\x55\x8B\xEC\x8D\x5E\x05\x8A\x17\xB4\
             \x02\xCD\x21\x8A\x56\x04\xB4\x02\xCD\x21\x5D\xC3",
-        rest: b"",
         output: b"BA",
-        end: Stepped::Exit(0),
+        ..QUIET
     },
     // An argument word that the caller exposes.
     Row {
-        cpu: Cpu::I8086,
         code: b"\xE8\x05\x00\xB8\x00\x4C\xCD\x21\x55\x8B\xEC\x83\xEC\x02\x8D\x5E\xFE\xC7\x07\x42\x41\xE8\x0A\x00\
             \x8A\x17\xB4\x02\xCD\x21\x8B\xE5\x5D\xC3\x55\x8B\xEC\x8B\x46\x04\x5D\xC3",
-        rest: b"",
         output: b"B",
-        end: Stepped::Exit(0),
+        ..QUIET
     },
     // A word that is loaded into the register of its own address.
     Row {
-        cpu: Cpu::I8086,
         code: b"\xBB\x00\x00\x8B\x1F\x8A\xD3\xB4\x02\xCD\x21\x8A\xD7\xB4\x02\xCD\x21\xB8\x00\x4C\xCD\x21",
         rest: b"\x02\x5A\x41\x42",
         output: b"\x02Z",
-        end: Stepped::Exit(0),
+        ..QUIET
     },
     // A jump through a table, by a copy of the register that is compared.
     Row {
-        cpu: Cpu::I8086,
         code: b"\xB8\x02\x00\x3D\x03\x00\x77\x1B\xD1\xE0\x8B\xD8\x2E\xFF\xA7\x2C\x00\xB0\x01\xEB\x0A\xB0\x02\xEB\
             \x06\xB0\x03\xEB\x02\xB0\x04\xB4\x4C\xCD\x21\xB0\x09\xEB\xF8\x16\x00\x1A\x00\x1E\x00\x22\x00",
-        rest: b"",
-        output: b"",
         end: Stepped::Exit(3),
+        ..QUIET
     },
     // By a byte that is compared and widened.
     Row {
-        cpu: Cpu::I8086,
         code: b"\xB0\x02\x3C\x03\x77\x1D\x32\xE4\xD1\xE0\x8B\xD8\x2E\xFF\xA7\x2C\x00\xB0\x01\xEB\x0A\xB0\x02\xEB\
             \x06\xB0\x03\xEB\x02\xB0\x04\xB4\x4C\xCD\x21\xB0\x09\xEB\xF8\x16\x00\x1A\x00\x1E\x00\x22\x00",
-        rest: b"",
-        output: b"",
         end: Stepped::Exit(3),
+        ..QUIET
     },
     // The factorial of 7, which calls itself.
     Row {
-        cpu: Cpu::I8086,
         code: b"\xB8\x07\x00\x50\xE8\x05\x00\x59\xB4\x4C\xCD\x21\x55\x8B\xEC\x8B\x46\x04\x3D\x01\x00\x7E\x09\x48\
             \x50\xE8\xF0\xFF\x59\xF7\x66\x04\x5D\xC3",
-        rest: b"",
-        output: b"",
         end: Stepped::Exit(176),
+        ..QUIET
     },
     // A long in memory that is compared.
     Row {
-        cpu: Cpu::I8086,
         code: b"\xBA\xFF\xFF\xB8\x00\x00\x3B\x16\x02\x00\x7C\x0D\x7F\x06\x3B\x06\x00\x00\x72\x05\xB8\x00\x4C\xCD\
             \x21\xB8\x01\x4C\xCD\x21",
         rest: b"\x01\x00\xFF\xFF",
-        output: b"",
         end: Stepped::Exit(1),
+        ..QUIET
     },
     // The address of a local, at two depths of calls.
     Row {
-        cpu: Cpu::I8086,
         code: b"\xE8\x0A\x00\x50\xE8\x06\x00\x58\xB8\x00\x4C\xCD\x21\x55\x8B\xEC\x83\xEC\x02\x8D\x46\xFE\x8B\xD0\
             \xB4\x02\xCD\x21\x8A\xD6\xB4\x02\xCD\x21\x8B\xE5\x5D\xC3",
-        rest: b"",
         output: b"\xFA\x00\xF8\x00",
-        end: Stepped::Exit(0),
+        ..QUIET
     },
     // A buffer of the caller, which the callee fills.
     Row {
-        cpu: Cpu::I8086,
         code: b"\xE8\x05\x00\xB8\x00\x4C\xCD\x21\x55\x8B\xEC\x83\xEC\x16\xC7\x46\xFE\x00\x00\x8D\x7E\xEA\xE8\x0B\
             \x00\x8D\x56\xEA\xB4\x09\xCD\x21\x8B\xE5\x5D\xC3\xB9\x04\x00\xC6\x05\x78\x47\xE2\xFA\xC6\x05\x24\
             \xC3",
-        rest: b"",
         output: b"xxxx",
-        end: Stepped::Exit(0),
+        ..QUIET
     },
     // An argument that is given back, since the callee writes it: the caller prints it.
     Row {
-        cpu: Cpu::I8086,
         code: b"\xB8\x05\x00\x50\xE8\x0C\x00\x58\x8B\xD0\xB4\x02\xCD\x21\xB8\x00\x4C\xCD\x21\x55\x8B\xEC\xD1\x66\
             \x04\x5D\xC3",
-        rest: b"",
         output: b"\n",
-        end: Stepped::Exit(0),
+        ..QUIET
     },
     // The first case of a jump through a table.
     Row {
-        cpu: Cpu::I8086,
         code: b"\xBB\x00\x00\x83\xFB\x03\x77\x19\xD1\xE3\x2E\xFF\xA7\x2A\x00\xB0\x01\xEB\x0A\xB0\x02\xEB\x06\xB0\
             \x03\xEB\x02\xB0\x04\xB4\x4C\xCD\x21\xB0\x09\xEB\xF8\x14\x00\x18\x00\x1C\x00\x20\x00",
-        rest: b"",
-        output: b"",
         end: Stepped::Exit(1),
+        ..QUIET
     },
     // The last one.
     Row {
-        cpu: Cpu::I8086,
         code: b"\xBB\x03\x00\x83\xFB\x03\x77\x19\xD1\xE3\x2E\xFF\xA7\x2A\x00\xB0\x01\xEB\x0A\xB0\x02\xEB\x06\xB0\
             \x03\xEB\x02\xB0\x04\xB4\x4C\xCD\x21\xB0\x09\xEB\xF8\x14\x00\x18\x00\x1C\x00\x20\x00",
-        rest: b"",
-        output: b"",
         end: Stepped::Exit(4),
+        ..QUIET
     },
     // None of them.
     Row {
-        cpu: Cpu::I8086,
         code: b"\xBB\xFF\xFF\x83\xFB\x03\x77\x19\xD1\xE3\x2E\xFF\xA7\x2A\x00\xB0\x01\xEB\x0A\xB0\x02\xEB\x06\xB0\
             \x03\xEB\x02\xB0\x04\xB4\x4C\xCD\x21\xB0\x09\xEB\xF8\x14\x00\x18\x00\x1C\x00\x20\x00",
-        rest: b"",
-        output: b"",
         end: Stepped::Exit(9),
+        ..QUIET
     },
     // A division by zero, whose quotient nothing wants.
     Row {
-        cpu: Cpu::I8086,
         code: b"\xB8\x01\x00\xBB\x00\x00\x99\xF7\xFB\xB8\x00\x4C\xCD\x21",
-        rest: b"",
-        output: b"",
         end: Stepped::Divide,
+        ..QUIET
     },
     // A frame by ENTER and LEAVE.
     Row {
         cpu: Cpu::I186,
         code: b"\xE8\x05\x00\xB8\x00\x4C\xCD\x21\xC8\x02\x00\x00\xC6\x46\xFE\x2A\x8A\x56\xFE\xB4\x02\xCD\x21\xC9\
             \xC3",
-        rest: b"",
         output: b"*",
-        end: Stepped::Exit(0),
+        ..QUIET
     },
 ];
 

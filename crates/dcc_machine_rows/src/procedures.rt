@@ -49,6 +49,9 @@ pub fn image_of(rt: &impl Abort, alloc: Global, code: &[u8]) -> Result<Image, Fa
 // An offset with the successors of its instruction and the number of its DOS call.
 type NodeRow = (u16, &'static [u16], Option<u8>);
 
+// The entry of a procedure with its nodes.
+type ProcRow = (u16, &'static [NodeRow]);
+
 static FOUND: [(&[u8], &[NodeRow]); 8] = [
     // A byte is written, and the run ends; what stands after the end is not reached.
     (
@@ -192,30 +195,6 @@ fn check_plainly(
     }
     Ok(())
 }
-
-#[test]
-fn the_entry_procedure_has_what_trails_reach(rt: HostRuntime) -> Result<(), Fail> {
-    let alloc = rt.alloc();
-    for (code, rows) in found() {
-        let image = image_of(&rt, alloc, code)?;
-        let layout = layout(alloc, &image, Cpu::I8086)?;
-        let procs = find(alloc, &image, &layout)?;
-        assert_eq!(rt; procs.len(), 1);
-        let proc = &procs[0];
-        assert_eq!(rt; proc.entry, START);
-        assert_eq!(rt; proc.nodes.len(), rows.len());
-        for ((at, node), (offset, succ, number)) in proc.nodes.iter().zip(*rows) {
-            assert_eq!(rt; at, offset);
-            assert_eq!(rt; node.succ.as_slice(), *succ);
-            assert_eq!(rt; node.number, *number);
-        }
-        check_plainly(&rt, alloc, &image, &layout, proc)?;
-    }
-    Ok(())
-}
-
-// The entry of a procedure with its nodes.
-type ProcRow = (u16, &'static [NodeRow]);
 
 // The processor, the code, and its procedures.
 type ProgramRow = (Cpu, &'static [u8], &'static [ProcRow]);
@@ -421,6 +400,42 @@ fn programs() -> &'static [ProgramRow] {
     &PROGRAMS
 }
 
+// A procedure is that of the row, and what the plain program tells.
+fn check_proc(
+    rt: &impl Abort,
+    alloc: Global,
+    image: &Image,
+    layout: &Layout,
+    proc: &Proc,
+    row: ProcRow,
+) -> Result<(), Fail>
+    requires loaded { IsLoaded image.now }
+    requires layout { HasLayout image.now layout.now }
+{
+    let (entry, nodes) = row;
+    assert_eq!(rt; proc.entry, entry);
+    assert_eq!(rt; proc.nodes.len(), nodes.len());
+    for ((at, node), (offset, succ, number)) in proc.nodes.iter().zip(nodes) {
+        assert_eq!(rt; at, offset);
+        assert_eq!(rt; node.succ.as_slice(), *succ);
+        assert_eq!(rt; node.number, *number);
+    }
+    check_plainly(rt, alloc, image, layout, proc)
+}
+
+#[test]
+fn the_entry_procedure_has_what_trails_reach(rt: HostRuntime) -> Result<(), Fail> {
+    let alloc = rt.alloc();
+    for (code, nodes) in found() {
+        let image = image_of(&rt, alloc, code)?;
+        let layout = layout(alloc, &image, Cpu::I8086)?;
+        let procs = find(alloc, &image, &layout)?;
+        assert_eq!(rt; procs.len(), 1);
+        check_proc(&rt, alloc, &image, &layout, &procs[0], (START, nodes))?;
+    }
+    Ok(())
+}
+
 #[test]
 fn all_procedures_are_found_in_order(rt: HostRuntime) -> Result<(), Fail> {
     let alloc = rt.alloc();
@@ -429,15 +444,8 @@ fn all_procedures_are_found_in_order(rt: HostRuntime) -> Result<(), Fail> {
         let layout = layout(alloc, &image, *cpu)?;
         let procs = find(alloc, &image, &layout)?;
         assert_eq!(rt; procs.len(), rows.len());
-        for (proc, (entry, nodes)) in procs.iter().zip(*rows) {
-            assert_eq!(rt; proc.entry, *entry);
-            assert_eq!(rt; proc.nodes.len(), nodes.len());
-            for ((at, node), (offset, succ, number)) in proc.nodes.iter().zip(*nodes) {
-                assert_eq!(rt; at, offset);
-                assert_eq!(rt; node.succ.as_slice(), *succ);
-                assert_eq!(rt; node.number, *number);
-            }
-            check_plainly(&rt, alloc, &image, &layout, proc)?;
+        for (proc, row) in procs.iter().zip(*rows) {
+            check_proc(&rt, alloc, &image, &layout, proc, *row)?;
         }
     }
     Ok(())

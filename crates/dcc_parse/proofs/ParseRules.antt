@@ -1,6 +1,6 @@
 -- What is parsed stands for its tree, and what is refused for none.
 use native.Mathlib.Omega.{arith}
-use Rattle.std.proofs.Common.{◌≡◌, ℕ, zero, suc, ◌+◌, ◌≤◌, ◌<◌, true, List, [], ◌∷◌, ◌++◌, length, get_or, Option, Some, None, Result, Ok, Err, IfOk, refl, sym, ap, ◌∙◌, subst}
+use Rattle.std.proofs.Common.{◌≡◌, ℕ, zero, suc, ◌+◌, ◌≤◌, ◌<◌, List, [], ◌∷◌, ◌++◌, length, get_or, Option, Some, None, Result, Ok, Err, IfOk, refl, sym, ap, ◌∙◌, subst}
 use Rattle.std.specs.Prelude.{if◌then◌else◌, is_some, ◌==◌}
 use Rattle.dcc_c.specs.Kinds.{Offence, first_of}
 use Rattle.dcc_c.specs.Numbered.{rows}
@@ -28,7 +28,7 @@ use Rattle.dcc_lex.proofs.laws.TextParsed.{parsed-stands, stands-parsed, stands-
 use Rattle.dcc_reader.specs.declared.offence.Offence.{Offence as Found}
 use Rattle.dcc_reader.specs.declared.offence.ParseKind.TheVariants.{Length, Version}
 use Rattle.dcc_reader.specs.OffenceViews.{offence_of}
-use Rattle.dcc_parse.specs.Fault.{IsRefusal, IsTreeOf}
+use Rattle.dcc_parse.specs.Fault.{IsRefusal, IsWhole, IsTreeOf}
 use Rattle.dcc_parse.proofs.left.Texts.{left-short}
 
 -- What has not been read.
@@ -57,18 +57,21 @@ all-read : (r : Reader) → r.stop ≡ None → unread r ≡ []
 all-read r going = ap (λ s. if is_some s then r.left else []) going
 
 -- nothing offends in what was read
-pub read-tree : (pieces : List Piece) (text : PartialText) (following : Reader) (tree : Tree) → got text following ≡ reading_of pieces →
-    first_of (stop_offences following.stop ++ text_offences text (unread following)) ≡ None →
-    (is_complete_text text ≡ true → text_offences text [] ≡ [] → tree ≡ plain_text text) → IsTreeOf pieces tree
-read-tree pieces text following tree same first stripped =
+pub read-whole : (pieces : List Piece) (text : PartialText) (following : Reader) → got text following ≡ reading_of pieces →
+    first_of (stop_offences following.stop ++ text_offences text (unread following)) ≡ None → IsWhole pieces text
+read-whole pieces text following same first =
     let none = first-none (stop_offences following.stop ++ text_offences text (unread following)) first in
     let both = none-both (stop_offences following.stop) (text_offences text (unread following)) none in
     let going = no-stop following.stop both.0 in
     let value : text ≡ (reading_of pieces).value = ap (λ (g : Got PartialText). g.value) same in
     let whole = (complete_reading pieces (sym (ap (λ (g : Got PartialText). g.following.stop) same) ∙ going)).0 in
     record {
-      clean = ap (λ (g : Got PartialText). stop_offences g.following.stop ++ text_offences g.value (unread g.following)) (sym same) ∙ none;
-      same = ap plain_text (sym value) ∙ sym (stripped (ap is_complete_text value ∙ whole) (ap (text_offences text) (sym (all-read following going)) ∙ both.1));
+      complete = ap is_complete_text value ∙ whole;
+      none = ap (text_offences text) (sym (all-read following going)) ∙ both.1;
+      tree = record {
+        clean = ap (λ (g : Got PartialText). stop_offences g.following.stop ++ text_offences g.value (unread g.following)) (sym same) ∙ none;
+        same = ap plain_text (sym value);
+      };
     }
 
 pub tree-parsed : (pieces : List Piece) (tree : Tree) → IsTreeOf pieces tree → IsParsed pieces tree

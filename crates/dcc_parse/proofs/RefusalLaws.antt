@@ -1,9 +1,9 @@
 -- A text stands for one tree or is refused for one offence.
 use native.Mathlib.Omega.{arith}
-use Rattle.std.proofs.Common.{◌≡◌, ◌≤◌, ◌⊎◌, inl, inr, ℕ, suc, List, length, Option, Some, None, refl, sym, ap, ◌∙◌, subst}
-use Rattle.dcc_c.specs.Kinds.{Kind, of_length, of_version, Offence, first_of}
+use Rattle.std.proofs.Common.{◌≡◌, ◌≤◌, ◌⊎◌, inl, inr, ℕ, suc, List, length, Option, Some, None, refl, sym, ap, ◌∙◌}
+use Rattle.dcc_c.specs.Kinds.{Kind, of_version, Offence, first_of}
 use Rattle.dcc_c.specs.Numbered.{rows}
-use Rattle.dcc_c.specs.Pieces.{Piece, pieces_of, after_version, line_at}
+use Rattle.dcc_c.specs.Pieces.{pieces_of, after_version, line_at}
 use Rattle.dcc_c.specs.ReadingText.{reading_of}
 use Rattle.dcc_c.specs.Refusals.{IsRefused, too_long, no_version, offends}
 use Rattle.dcc_c.specs.Stripped.{plain_text}

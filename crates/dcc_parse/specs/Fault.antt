@@ -1,11 +1,13 @@
 -- Why a text is not parsed.
-use Rattle.std.specs.Prelude.{◌≡◌, ℕ, ◌≤◌, List, [], length}
+use Rattle.std.specs.Prelude.{◌≡◌, ℕ, true, ◌≤◌, List, [], length}
+use Rattle.dcc_c.specs.Complete.{is_complete_text}
+use Rattle.dcc_c.specs.Partial.{PartialText}
 use Rattle.dcc_c.specs.Pieces.{Piece}
 use Rattle.dcc_c.specs.ReadingText.{reading_of}
 use Rattle.dcc_c.specs.Refusals.{IsRefused}
 use Rattle.dcc_c.specs.Stripped.{plain_text}
 use Rattle.dcc_c.specs.Text.{StandsFor}
-use Rattle.dcc_c.specs.TextOffences.{offences_of}
+use Rattle.dcc_c.specs.TextOffences.{text_offences, offences_of}
 use Rattle.dcc_c.specs.Tree.{Tree}
 use Rattle.dcc_reader.specs.OffenceViews.{kind_of}
 use Rattle.dcc_reader.specs.declared.offence.ParseKind.{ParseKind}
@@ -26,3 +28,9 @@ IsFaultOf text Memory = Unit {0}
 pub record IsTreeOf (pieces : List Piece) (tree : Tree) : Type 0 where
   pub clean : offences_of pieces ≡ []
   pub same : plain_text (reading_of pieces).value ≡ tree
+
+-- Nothing offends in the pieces, and they are read to their end as the text.
+pub record IsWhole (pieces : List Piece) (text : PartialText) : Type 0 where
+  pub complete : is_complete_text text ≡ true
+  pub none : text_offences text [] ≡ []
+  pub tree : IsTreeOf pieces (plain_text text)

@@ -8,8 +8,9 @@ ghost use Rattle.dcc_c.specs.TextOffences as offences;
 ghost use Rattle.dcc_c.specs.Tree.{Tree};
 ghost use Rattle.dcc_c.specs.Views.{tree_of};
 ghost use Rattle.dcc_lex.specs.TokenViews.{pieces_of};
-ghost use Rattle.dcc_parse.specs.Fault.{IsFaultOf, IsTreeOf};
+ghost use Rattle.dcc_parse.specs.Fault.{IsFaultOf, IsWhole};
 ghost use Rattle.dcc_reader.specs.OffenceViews.{offence_of};
+ghost use Rattle.dcc_reader.specs.PartialViews.{text_of};
 ghost use Rattle.dcc_reader.specs.ReaderViews.{reader_of};
 
 use crate::fault::ParseFault;
@@ -18,7 +19,7 @@ use dcc_c::Unit;
 use dcc_check::first_offence;
 use dcc_lex::{Piece, after_version, line_feeds, pieces};
 use dcc_read::read;
-use dcc_reader::{Offence, ParseKind, Reader};
+use dcc_reader::{Offence, ParseKind, PartialText, Reader};
 use std::alloc::{AllocError, Global};
 
 // The pieces that have not been read, where reading stopped.
@@ -32,10 +33,10 @@ fn unread<'a>(reader: &Reader<'a>) -> &'a [Piece]
     &all[reader.at..]
 }
 
-// The unit of the pieces after the version line, or what offends in them first. It fails only for want of memory.
-fn parse_pieces(alloc: Global, pieces: &[Piece]) -> Result<Result<Unit, Offence>, AllocError>
+// What the pieces after the version line are read as, or what offends in them first. It fails only for want of memory.
+fn read_pieces(alloc: Global, pieces: &[Piece]) -> Result<Result<PartialText, Offence>, AllocError>
     requires few { length pieces.now < 67108864 }
-    ensures unit { IfOk result (λ found. IfOk found (λ unit. IsTreeOf (pieces_of pieces.now) (tree_of unit))) }
+    ensures text { IfOk result (λ found. IfOk found (λ text. IsWhole (pieces_of pieces.now) (text_of text))) }
     ensures offence { IfOk result (λ found. IfErr found (λ offence.
         first_of (offences.offences_of (pieces_of pieces.now)) ≡ Some (offence_of offence))) }
 {
@@ -43,7 +44,7 @@ fn parse_pieces(alloc: Global, pieces: &[Piece]) -> Result<Result<Unit, Offence>
     let rest = unread(&reading.following);
     match first_offence(alloc, &reading.text, reading.following.stop, rest)? {
         Some(offence) => Ok(Err(offence)),
-        None => Ok(Ok(strip(alloc, &reading.text)?)),
+        None => Ok(Ok(reading.text)),
     }
 }
 
@@ -76,8 +77,12 @@ fn parse_bytes(alloc: Global, bytes: &[u8]) -> Result<Unit, ParseFault>
         });
     };
     let pieces = pieces(alloc, rest)?;
-    match parse_pieces(alloc, &pieces)? {
-        Ok(unit) => Ok(unit),
+    match read_pieces(alloc, &pieces)? {
+        Ok(text) => {
+            // The unit is made without the pieces, which take more room than the text itself.
+            drop(pieces);
+            Ok(strip(alloc, &text)?)
+        }
         Err(offence) => {
             let last = 1 + line_feeds(bytes);
             Err(ParseFault::At {

@@ -67,7 +67,7 @@ fn strip_arguments(alloc: Global, arguments: &[PartialExpr]) -> Result<Vec<CExpr
     ensures { IfOk result
         (λ r. map tree.expr_of r.items ≡ map stripped.plain_expr (map partial.expr_of arguments.now)) }
 {
-    let mut found = Vec::new(alloc);
+    let mut found = Vec::with_capacity(alloc, arguments.len())?;
     for e in arguments {
         found.push(strip_expr(alloc, e)?)?;
     }
@@ -88,7 +88,7 @@ pub(crate) fn strip_name(alloc: Global, name: &Option<WordAt>) -> Result<String,
 fn strip_numbers(alloc: Global, numbers: &[CaseAt]) -> Result<Vec<u16>, AllocError>
     ensures { IfOk result (λ r. r.items ≡ stripped.plain_numbers (map partial.case_of numbers.now)) }
 {
-    let mut found = Vec::new(alloc);
+    let mut found = Vec::with_capacity(alloc, numbers.len())?;
     for n in numbers {
         found.push(n.value)?;
     }
@@ -147,7 +147,7 @@ pub(crate) fn strip_lines(alloc: Global, rows: &[Row]) -> Result<Vec<Line>, Allo
     ensures { (scene : Scene) (blocks : ℕ) → lines_offences scene blocks (partial.lines_of rows.now) ≡ [] →
         IfOk result (λ r. tree.lines_of r.items ≡ stripped.plain_lines (partial.lines_of rows.now)) }
 {
-    let mut lines = Vec::new(alloc);
+    let mut lines = Vec::with_capacity(alloc, rows.len())?;
     for row in rows {
         let stmt = strip_stmt(alloc, &row.stmt)?;
         lines.push(Line {
@@ -164,7 +164,7 @@ fn strip_arms(alloc: Global, arms: &[PartialArm]) -> Result<Vec<Arm>, AllocError
     ensures { (scene : Scene) (blocks : ℕ) → arms_inner scene blocks (partial.arms_of arms.now) ≡ [] →
         IfOk result (λ r. tree.arms_of r.items ≡ stripped.case_arms (partial.arms_of arms.now)) }
 {
-    let mut found = Vec::new(alloc);
+    let mut found = Vec::with_capacity(alloc, arms.len())?;
     for arm in arms {
         if arm.default.is_none() {
             let cases = strip_numbers(alloc, &arm.numbers)?;

@@ -43,7 +43,7 @@ fn strip_size(size: Option<NumberAt>) -> Option<u32>
 fn strip_init(alloc: Global, init: &[NumberAt]) -> Result<Vec<u32>, AllocError>
     ensures { IfOk result (λ r. r.items ≡ stripped.plain_numbers (map partial.number_of init.now)) }
 {
-    let mut found = Vec::new(alloc);
+    let mut found = Vec::with_capacity(alloc, init.len())?;
     for n in init {
         found.push(n.value)?;
     }
@@ -67,7 +67,7 @@ fn strip_variables(alloc: Global, vs: &[PartialVariable]) -> Result<Vec<Var>, Al
     ensures { IfOk result (λ r.
         map tree.variable_of r.items ≡ map stripped.plain_variable (map partial.variable_of vs.now)) }
 {
-    let mut found = Vec::new(alloc);
+    let mut found = Vec::with_capacity(alloc, vs.len())?;
     for v in vs {
         found.push(strip_variable(alloc, v)?)?;
     }
@@ -100,7 +100,7 @@ fn strip_globals(alloc: Global, vs: &[PartialVariable]) -> Result<Vec<Global_>, 
     ensures { list_all is_in_memory (map partial.variable_of vs.now) ≡ true → IfOk result (λ r.
         map tree.global_of r.items ≡ map stripped.plain_global (map partial.variable_of vs.now)) }
 {
-    let mut found = Vec::new(alloc);
+    let mut found = Vec::with_capacity(alloc, vs.len())?;
     for v in vs {
         found.push(strip_global(alloc, v)?)?;
     }
@@ -128,7 +128,7 @@ fn strip_functions(alloc: Global, functions: &[PartialFunction]) -> Result<Vec<F
         IfOk result (λ r. map tree.function_of r.items
         ≡ map stripped.plain_function (map partial.function_of functions.now)) }
 {
-    let mut found = Vec::new(alloc);
+    let mut found = Vec::with_capacity(alloc, functions.len())?;
     for f in functions {
         found.push(strip_function(alloc, f)?)?;
     }

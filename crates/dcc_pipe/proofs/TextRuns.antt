@@ -1,6 +1,6 @@
 -- The text of a program that shadows an image agrees with the image.
 use Rattle.std.proofs.Common.{◌≡◌, ◌≢◌, ℕ, zero, suc, ◌+◌, ◌*◌, ◌^◌, ◌<◌, ◌≤◌, true, false, List, [], ◌∷◌, length, map, refl, sym, ap, ◌∙◌, subst, true≢false, arith}
-use Rattle.std.specs.Prelude.{◌⊎◌, All, get_or}
+use Rattle.std.specs.Prelude.{All, None, get_or}
 use Rattle.std.proofs.Math.Nat.{mul_comm}
 use Rattle.std.proofs.lemmas.List.{length-append, length-map}
 use Rattle.dcc_run.specs.End.{Stuck, is_over}
@@ -23,40 +23,33 @@ use Rattle.dcc_prog.proofs.WatchLaws.{machine_watchable, machine_after}
 use Rattle.dcc_ir.specs.Tree as inner
 use Rattle.dcc_ir.specs.Run as run
 use Rattle.dcc_ir.specs.Keeps.{has_block}
-use Rattle.dcc_lift.specs.Lifted.{ShadowsMachine, MachineKeepsPace, steps_between, steps_at_start}
-use Rattle.dcc_c.specs.Tree.{Stmt, Lines, Function, Tree}
-use Rattle.dcc_c.specs.Numbered.{numbered, numbered_function}
+use Rattle.dcc_lift.specs.Lifted.{steps_between, steps_at_start}
+use Rattle.dcc_c.specs.Tree.{Function, Tree}
+use Rattle.dcc_c.specs.Numbered.{rows, numbered, numbered_function}
 use Rattle.dcc_c.specs.Run as c
 use Rattle.dcc_c.specs.Run.{text_system}
 use Rattle.dcc_c.specs.Text.{StandsFor}
 use Rattle.dcc_c.proofs.RunLaws.{text_lawful}
-use Rattle.dcc_pipe.specs.GotoText.{bit_cut, text_graph, text_stmts, goto_start, goto_tree}
+use Rattle.dcc_c.specs.Written.{written_globals}
+use Rattle.dcc_text.specs.Holding.{Alike, Holds}
+use Rattle.dcc_plan.specs.Laws.{IsPlanned, IsCounted}
+use Rattle.dcc_plan.specs.PlanText.{IsPlanText}
+use Rattle.dcc_plan.proofs.PlanRuns.{plans-count}
+use Rattle.dcc_plan.proofs.TextLaws.{numbered-text}
+use Rattle.dcc_variables.specs.Variables.{shape_of, graph_spelling}
+use Rattle.dcc_variables.specs.Globals.{globals_of}
+use Rattle.dcc_variables.specs.Laws.{AreFew, mentioned}
+use Rattle.dcc_variables.proofs.Names.{spelling-is}
+use Rattle.dcc_variables.proofs.FirstStates.{first-holds}
+use Rattle.dcc_pipe.specs.Start.{control, start_of, text_tree}
 use Rattle.dcc_pipe.specs.Textable.{levels, IsTextable}
 use Rattle.dcc_pipe.specs.Agreement.{RunsAgree}
-use Rattle.dcc_pipe.proofs.Named.{Naming}
-use Rattle.dcc_pipe.proofs.Lined.{AreLined, no_more, one_more, flat-append, counted-lined, blocks-flat}
-use Rattle.dcc_pipe.proofs.TokenCounts.{count_of, unit-count}
-use Rattle.dcc_pipe.proofs.CutRuns.{cuts-flat, bit_places}
-use Rattle.dcc_pipe.proofs.GotoRuns.{goto_stmts, IsGotoStart, text-counts, goto-shows, goto-goes_on}
-use Rattle.dcc_pipe.proofs.TextGraph.{naming_of, graph-goto}
-
--- as many lines as statements
-lined-count : {stmts : List Stmt} {lines : Lines} → AreLined stmts lines → count_of lines ≡ length stmts
-lined-count no_more = refl
-lined-count (one_more kept others) = ap suc (lined-count others)
-
--- the function of the text, its lines counted from one on
-counted-start : (at : ℕ) (graph : inner.Graph) → AreLined (text_stmts graph) (numbered_function at (goto_start graph)).body
-counted-start at graph =
-    counted-lined (flat-append (cuts-flat _) (blocks-flat graph.bits graph.blocks graph.blocks)) 2 (at + 2 + length (goto_start graph).locals)
+use Rattle.dcc_pipe.specs.Following.{IsFollowing}
+use Rattle.dcc_pipe.proofs.TokenCounts.{unit-count}
+use Rattle.dcc_pipe.proofs.WritableText.{formed, named-matters, control-plan}
 
 head-equal : {A : Type 0} {a b : A} {xs ys : List A} → a ∷ xs ≡ b ∷ ys → a ≡ b
 head-equal e = cc
-
--- What a program is to an image, in which this is found: it shadows the machine, which keeps pace with its blocks.
-pub record IsFollowing (image : Image) (program : Program) (p : inner.Program) : Type 0 where
-  pub runs : ShadowsMachine image program p
-  pub pace : MachineKeepsPace image program p
 
 -- As far as it isn't foul, what keeps up with the machine watched keeps up with the machine, and the other way.
 module _ {T : Type 0} (program : Program) (w : Watch) (other : System T) (t : T) where
@@ -87,8 +80,8 @@ module _ {T : Type 0} (program : Program) (w : Watch) (other : System T) (t : T)
       }
 
 module _ (image : Image) (program : Program) (p : inner.Program) (is_program : IsProgramOf program.layout.cpu image program)
-    (textable : IsTextable levels p) (few : length textable.graph.bits < 2 ^ 32) (follows : IsFollowing image program p)
-    (text : List ℕ) (stands : StandsFor text (numbered (goto_tree p)))
+    (textable : IsTextable levels p) (few : AreFew (shape_of textable.graph)) (follows : IsFollowing image program p)
+    (text : List ℕ) (stands : StandsFor text (numbered (text_tree p)))
     (input : List ℕ) (fill : ℕ) (bytes : All (λ b. b < 256) input) (fits : fill < 2 ^ 16) where
   abbrev layout : Layout
   layout = program.layout
@@ -96,11 +89,8 @@ module _ (image : Image) (program : Program) (p : inner.Program) (is_program : I
   abbrev g : inner.Graph
   g = textable.graph
 
-  abbrev naming : Naming
-  naming = naming_of p textable few
-
   abbrev tree : Tree
-  tree = numbered (goto_tree p)
+  tree = numbered (text_tree p)
 
   abbrev start : Function
   start = stands.allowed.start
@@ -108,53 +98,44 @@ module _ (image : Image) (program : Program) (p : inner.Program) (is_program : I
   abbrev tokens : ℕ
   tokens = length stands.tokens
 
-  -- the function of the text is that of the graph
-  start-is : numbered_function 3 (goto_start g) ≡ start
-  start-is = ap (λ graphs. numbered_function 3 (goto_start (get_or graphs 0 run.no_graph))) (sym textable.one) ∙ head-equal stands.allowed.first
+  -- the line of the function's head
+  abbrev head : ℕ
+  head = 3 + rows (written_globals None (globals_of p))
 
-  starts : IsGotoStart naming g.blocks start
-  starts = subst (IsGotoStart naming g.blocks) start-is (record { no_params = refl; locals = refl; lined = counted-start 3 g })
-
-  -- the program with its one graph
-  abbrev alone : inner.Program
-  alone = record { graphs = g ∷ []; image = p.image; lo = p.lo; hi = p.hi }
-
-  same : p ≡ alone
-  same = ap (λ graphs. record { graphs = graphs; image = p.image; lo = p.lo; hi = p.hi }) textable.one
+  -- the function of the text is that of the graph, its lines counted
+  start-is : numbered_function head (start_of g) ≡ start
+  start-is = ap (λ graphs. numbered_function head (start_of (get_or graphs 0 run.no_graph))) (sym textable.one) ∙ head-equal stands.allowed.first
 
   unstuck : (n at : ℕ) → end_after (run.inner_system p fill) n (run.first_state p fill input) ≢ Stuck at
   unstuck n at = textable.never_stuck fill input n at fits bytes
 
-  unstuck-there : (n at : ℕ) → end_after (run.inner_system alone fill) n (run.first_state alone fill input) ≢ Stuck at
-  unstuck-there = subst (λ q. (n at : ℕ) → end_after (run.inner_system q fill) n (run.first_state q fill input) ≢ Stuck at) same unstuck
+  -- no call waits at first
+  abbrev NoneWaits : Alike
+  NoneWaits waiting others = Unit {0}
 
-  enough : length (goto_stmts naming g.blocks) + 4 ≤ tokens
-  enough = omega (arith, lined-count starts.lined, unit-count 200 stands.tokens tree start stands.allowed.others stands.formed refl stands.allowed.first)
-
-  -- the first lines are among the text's
-  led : length (bit_places naming) ≤ length (goto_stmts naming g.blocks)
-  led =
-      let parts : length (goto_stmts naming g.blocks) ≡ length (map bit_cut (bit_places naming)) + length (text_graph g) = length-append (map bit_cut (bit_places naming)) (text_graph g) in
-      omega (arith, parts, length-map (bit_places naming) bit_cut)
-
-  -- what is known of the program and the text
-  record Together (q : inner.Program) (t : Tree) : Type 0 where
-    counts : Counts (λ place. true) (run.watched_inner q fill) (run.first_state q fill input) (text_system t) (c.first_state t start fill input) tokens
-    shows : (m : ℕ) → (k : ℕ) × (m ≤ k) × (is_shown (run.watched_inner q fill) (after (run.step q fill) k (run.first_state q fill input)) ≡ true)
-    goes_on : (k : ℕ) → (m : ℕ) × ((k ≤ kept_count (λ place. true) (run.watched_inner q fill) m (run.first_state q fill input))
-        ⊎ (is_over (end_after (run.inner_system q fill) m (run.first_state q fill input)) ≡ true))
-
-  together-there : (functions : List Function) → Together alone (record { version = 1; lo = p.lo; hi = p.hi; globals = []; functions = functions })
-  together-there functions =
-      let is = graph-goto p textable few in record {
-        counts = text-counts naming p.image p.lo p.hi g.entry g.local g.pushed g.params g.blocks is functions start starts fill input bytes unstuck-there
-            tokens (omega (arith, enough, led)) (omega (arith, enough));
-        shows = goto-shows naming p.image p.lo p.hi g.entry g.local g.pushed g.params g.blocks is functions start starts fill input bytes unstuck-there;
-        goes_on = goto-goes_on naming p.image p.lo p.hi g.entry g.local g.pushed g.params g.blocks is functions start starts fill input bytes unstuck-there;
+  planned : IsPlanned p g (graph_spelling g) (mentioned g) (control g) start
+  planned =
+      let plan = control-plan p textable in
+      record {
+        alone = textable.one;
+        well = textable.formed;
+        spelling = spelling-is g few;
+        matters = named-matters p textable;
+        is_plan = plan.0;
+        begins = plan.1;
+        text = subst (λ (f : Function). IsPlanText (graph_spelling g) g (control g) f.body) start-is
+            (numbered-text (graph_spelling g) g (control g) 2 (head + 2 + length (start_of g).locals));
       }
 
-  together : Together p tree
-  together = subst (λ q. Together q tree) (sym same) (together-there tree.functions)
+  first : Holds (graph_spelling g) (λ location. (graph_spelling g).named location ≡ true) NoneWaits (run.first_state p fill input) (c.first_state tree start fill input)
+  first =
+      first-holds g few (formed p textable) p textable.one textable.formed tree start NoneWaits tt refl refl refl
+      (ap (λ (f : Function). f.params) (sym start-is)) (ap (λ (f : Function). f.locals) (sym start-is)) fill input
+
+  together : IsCounted p tree start fill input tokens
+  together =
+      plans-count (mentioned g) NoneWaits p g (graph_spelling g) (control g) tree start fill input planned bytes unstuck first tokens
+      (unit-count 200 stands.tokens tree start stands.allowed.others stands.formed stands.allowed.first)
 
   -- The machine watched, in the places of blocks.
   abbrev machine : Watched Watch Place

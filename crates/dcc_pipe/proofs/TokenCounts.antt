@@ -1,11 +1,13 @@
--- A text has more tokens than its function has statements.
-use Rattle.std.proofs.Common.{◌≡◌, ℕ, suc, ◌+◌, ◌<◌, ◌≤◌, Bool, List, [], ◌∷◌, length, Option, None, ap, subst, arith}
+-- A text has at least as many tokens as its first function has statements, those inside others too.
+use Rattle.std.proofs.Common.{◌≡◌, ℕ, suc, ◌+◌, ◌<◌, ◌≤◌, Bool, List, [], ◌∷◌, ◌++◌, length, Option, None, ap, subst, arith}
+use Rattle.std.proofs.lemmas.List.{length-append}
 use Rattle.dcc_c.specs.declared.syntax.Class.{Class}
 use Rattle.dcc_c.specs.declared.syntax.CType.{CType}
 use Rattle.dcc_c.specs.Token.{Token}
 use Rattle.dcc_c.specs.Lexing.{Placed}
-use Rattle.dcc_c.specs.Tree.{Word, Expr, Stmt, Lines, no_lines, line, Arms, Variable, Function, Tree}
-use Rattle.dcc_c.specs.Grammar.{Begins, none, one, IsExpr, number, name, parentheses, unary, cast, binary, conditional, stronger, IsPlace, name_place, deref_place, AreArguments, no_argument, last_argument, more_arguments, IsCall, call, Around, AreCases, last_case, more_cases, IsStmt, assign, call_alone, call_into, if_alone, if_else, while, do_while, for_ever, switch, break, continue, goto, empty, return_nothing, return_value, IsBlock, block, AreLines, no_more, depth_pragma, label, statement, AreArms, no_arm, case_arm, default_arm, HasSize, no_size, size, AreGlobals, no_global, placed_at, HasClass, no_class, auto_class, register_class, IsParam, AreSomeParams, last_param, more_params, AreParams, no_param, some_params, IsLocal, AreLocals, no_local, one_local, HasResult, no_result, result, IsFunction, AreFunctions, last_function, more_functions, IsUnit}
+use Rattle.dcc_c.specs.Tree.{Word, Expr, Stmt, Lines, Arms, Global, Variable, Function, Tree}
+use Rattle.dcc_c.specs.Parts.{stmts_in, inner_stmts, arm_stmts}
+use Rattle.dcc_c.specs.Grammar.{Begins, none, one, IsExpr, number, name, parentheses, unary, cast, binary, conditional, stronger, IsPlace, name_place, deref_place, AreArguments, no_argument, last_argument, more_arguments, IsCall, call, Around, AreCases, last_case, more_cases, IsStmt, assign, call_alone, call_into, if_alone, if_else, while, do_while, for_ever, switch, break, continue, goto, empty, return_nothing, return_value, IsBlock, block, AreLines, no_more, depth_pragma, label, statement, AreArms, no_arm, case_arm, default_arm, HasSize, no_size, size, AreNumbers, last_number, more_numbers, AreInitial, no_value, one_value, values, IsGlobal, AreGlobals, no_global, placed_at, one_global, HasClass, no_class, auto_class, register_class, IsParam, AreSomeParams, last_param, more_params, AreParams, no_param, some_params, IsLocal, AreLocals, no_local, one_local, HasResult, no_result, result, IsFunction, AreFunctions, last_function, more_functions, IsUnit}
 
 -- Expressions.
 
@@ -41,49 +43,64 @@ cases-short (more_cases is others) = omega (arith, cases-short others)
 
 -- Statements.
 
--- how many statements stand in the lines, without those inside others
-abbrev pub count_of : Lines → ℕ
-count_of no_lines = 0
-count_of (line stmt at lines) = suc (count_of lines)
-
 mutual
-  stmt-short : {limit : ℕ} {around : Around} {depth after : ℕ} {tokens rest : List Placed} {stmt : Stmt} → IsStmt limit around depth tokens stmt after rest → length rest < length tokens
-  stmt-short (assign p e) = omega (arith, place-short p, expr-short e)
-  stmt-short (call_alone c) = omega (arith, call-short c)
-  stmt-short (call_into p c) = omega (arith, place-short p, call-short c)
-  stmt-short (if_alone e b) = omega (arith, expr-short e, block-short b)
-  stmt-short (if_else e b c) = omega (arith, expr-short e, block-short b, block-short c)
-  stmt-short (while e b) = omega (arith, expr-short e, block-short b)
-  stmt-short (do_while b e) = omega (arith, block-short b, expr-short e)
-  stmt-short (for_ever h b) = omega (arith, begins-short h, block-short b)
-  stmt-short (switch e arms some) = omega (arith, expr-short e, arms-short arms)
-  stmt-short (break is) = omega arith
-  stmt-short (continue is) = omega arith
-  stmt-short (goto to is) = omega arith
-  stmt-short empty = omega arith
-  stmt-short return_nothing = omega arith
-  stmt-short (return_value e) = omega (arith, expr-short e)
+  stmt-count : {limit : ℕ} {around : Around} {depth after : ℕ} {tokens rest : List Placed} {stmt : Stmt}
+      → IsStmt limit around depth tokens stmt after rest → length (inner_stmts stmt) + length rest < length tokens
+  stmt-count (assign p e) = omega (arith, place-short p, expr-short e)
+  stmt-count (call_alone c) = omega (arith, call-short c)
+  stmt-count (call_into p c) = omega (arith, place-short p, call-short c)
+  stmt-count (if_alone e b) = omega (arith, length-append {A = Stmt}, expr-short e, block-count b)
+  stmt-count (if_else e b c) = omega (arith, length-append {A = Stmt}, expr-short e, block-count b, block-count c)
+  stmt-count (while e b) = omega (arith, expr-short e, block-count b)
+  stmt-count (do_while b e) = omega (arith, block-count b, expr-short e)
+  stmt-count (for_ever h b) = omega (arith, begins-short h, block-count b)
+  stmt-count (switch e arms some) = omega (arith, length-append {A = Stmt}, expr-short e, arms-count arms)
+  stmt-count (break is) = omega arith
+  stmt-count (continue is) = omega arith
+  stmt-count (goto to is) = omega arith
+  stmt-count empty = omega arith
+  stmt-count return_nothing = omega arith
+  stmt-count (return_value e) = omega (arith, expr-short e)
 
-  block-short : {limit : ℕ} {around : Around} {depth after : ℕ} {tokens rest : List Placed} {lines : Lines} → IsBlock limit around depth tokens lines after rest → length rest < length tokens
-  block-short (block lines) = omega (arith, lines-count lines)
+  block-count : {limit : ℕ} {around : Around} {depth after : ℕ} {tokens rest : List Placed} {lines : Lines}
+      → IsBlock limit around depth tokens lines after rest → length (stmts_in lines) + length rest < length tokens
+  block-count (block lines) = omega (arith, lines-count lines)
 
   lines-count : {limit : ℕ} {around : Around} {labelled : Bool} {depth after : ℕ} {tokens rest : List Placed} {lines : Lines}
-      → AreLines limit around labelled depth tokens lines after rest → count_of lines + length rest ≤ length tokens
+      → AreLines limit around labelled depth tokens lines after rest → length (stmts_in lines) + length rest ≤ length tokens
   lines-count no_more = omega arith
   lines-count (depth_pragma few lines) = omega (arith, lines-count lines)
   lines-count (label word is few lines) = omega (arith, lines-count lines)
-  lines-count (statement few first lines) = omega (arith, stmt-short first, lines-count lines)
+  lines-count (statement few first lines) = omega (arith, length-append {A = Stmt}, stmt-count first, lines-count lines)
 
-  arms-short : {limit : ℕ} {around : Around} {depth after : ℕ} {tokens rest : List Placed} {arms last : Arms} → AreArms limit around depth tokens arms last after rest → length rest ≤ length tokens
-  arms-short no_arm = omega arith
-  arms-short (case_arm cases few lines arms) = omega (arith, cases-short cases, lines-count lines, arms-short arms)
-  arms-short (default_arm few lines arms) = omega (arith, lines-count lines, arms-short arms)
+  arms-count : {limit : ℕ} {around : Around} {depth after : ℕ} {tokens rest : List Placed} {arms last : Arms}
+      → AreArms limit around depth tokens arms last after rest → (length (arm_stmts arms) + length (arm_stmts last)) + length rest ≤ length tokens
+  arms-count no_arm = omega arith
+  arms-count (case_arm cases few lines arms) = omega (arith, length-append {A = Stmt}, cases-short cases, lines-count lines, arms-count arms)
+  arms-count (default_arm few lines arms) = omega (arith, length-append {A = Stmt}, lines-count lines, arms-count arms)
 
 -- Declarations.
 
 size-short : {tokens rest : List Placed} {len : Option ℕ} → HasSize tokens len rest → length rest ≤ length tokens
 size-short no_size = omega arith
 size-short size = omega arith
+
+numbers-short : {tokens rest : List Placed} {ns : List ℕ} → AreNumbers tokens ns rest → length rest ≤ length tokens
+numbers-short last_number = omega arith
+numbers-short (more_numbers others) = omega (arith, numbers-short others)
+
+initial-short : {tokens rest : List Placed} {ns : List ℕ} → AreInitial tokens ns rest → length rest ≤ length tokens
+initial-short no_value = omega arith
+initial-short one_value = omega arith
+initial-short (values numbers) = omega (arith, numbers-short numbers)
+
+global-short : {tokens rest : List Placed} {g : Global} → IsGlobal tokens g rest → length rest ≤ length tokens
+global-short g = omega (arith, begins-short g.type_is, size-short g.len_is, initial-short g.init_is)
+
+globals-short : {place : Option ℕ} {tokens rest : List Placed} {globals : List Global} → AreGlobals place tokens globals rest → length rest ≤ length tokens
+globals-short no_global = omega arith
+globals-short (placed_at others) = omega (arith, globals-short others)
+globals-short (one_global g others) = omega (arith, global-short g, globals-short others)
 
 class-short : {tokens rest : List Placed} {class : Class} → HasClass tokens class rest → length rest ≤ length tokens
 class-short no_class = omega arith
@@ -112,25 +129,20 @@ result-short : {tokens rest : List Placed} {type : Option CType} → HasResult t
 result-short no_result = omega arith
 result-short (result type b) = begins-short b
 
-function-count : {limit : ℕ} {tokens rest : List Placed} {f : Function} → IsFunction limit tokens f rest → count_of f.body ≤ length tokens
+function-count : {limit : ℕ} {tokens rest : List Placed} {f : Function} → IsFunction limit tokens f rest → length (stmts_in f.body) ≤ length tokens
 function-count x = omega (arith, result-short x.result_is, params-short x.params_are, locals-short x.locals_are, lines-count x.body_is)
 
-first-count : {limit : ℕ} {tokens : List Placed} {f : Function} {functions : List Function} → AreFunctions limit tokens (f ∷ functions) → count_of f.body ≤ length tokens
+first-count : {limit : ℕ} {tokens : List Placed} {f : Function} {functions : List Function} → AreFunctions limit tokens (f ∷ functions) → length (stmts_in f.body) ≤ length tokens
 first-count (last_function x) = function-count x
 first-count (more_functions x others) = function-count x
 
-globals-short : {place : Option ℕ} {tokens rest : List Placed} → AreGlobals place tokens [] rest → length rest ≤ length tokens
-globals-short no_global = omega arith
-globals-short (placed_at g) = omega (arith, globals-short g)
-
--- the first function of a text without global variables
-pub unit-count : (limit : ℕ) (tokens : List Placed) (tree : Tree) (f : Function) (others : List Function) → IsUnit limit tokens tree → tree.globals ≡ []
-    → tree.functions ≡ f ∷ others → count_of f.body + 4 ≤ length tokens
-unit-count limit tokens tree f others unit no_globals functions =
+-- the first function of a text
+pub unit-count : (limit : ℕ) (tokens : List Placed) (tree : Tree) (f : Function) (others : List Function) → IsUnit limit tokens tree
+    → tree.functions ≡ f ∷ others → length (stmts_in f.body) ≤ length tokens
+unit-count limit tokens tree f others unit functions =
     omega (
       arith,
       ap length unit.head_is,
-      globals-short (subst (λ gs. AreGlobals None unit.globals gs unit.functions) no_globals unit.globals_are),
-      first-count
-          (subst (AreFunctions limit unit.functions) functions unit.functions_are),
+      globals-short unit.globals_are,
+      first-count (subst (AreFunctions limit unit.functions) functions unit.functions_are),
     )

@@ -1,240 +1,152 @@
 -- The text of a program is writable.
-use Rattle.std.proofs.Common.{◌≡◌, ℕ, suc, ◌^◌, ◌<◌, true, false, ◌==◌, List, [], ◌∷◌, ◌++◌, length, map, Some, refl, sym, ap, ap₂, ◌∙◌, subst, append_assoc, arith}
-use Rattle.std.specs.Prelude.{◌&&◌, ◌||◌, not, codes, get_or, option_and_then}
-use Rattle.std.specs.List.{flat_map, list_all, list_any}
-use Rattle.std.proofs.lemmas.Bool.{and_parts, and_from, not-true, not_from_false, or_from, or_parts, or_left, or_right, eqb-false}
-use Rattle.std.proofs.lemmas.List.Concat.{flat_map-append}
-use Rattle.std.proofs.lemmas.List.Folds.{list_any-append}
-use Rattle.dcc_ir.specs.declared.syntax.Loc.{Loc}
-use Rattle.dcc_ir.specs.Location.{same_location, location_width}
-use Rattle.dcc_ir.specs.Live.{is_among}
+use Rattle.std.proofs.Common.{◌≡◌, ◌*◌, ◌+◌, ◌≤◌, true, false, List, [], ◌∷◌, length, None, Some, refl, sym, ap, ◌∙◌, subst, arith, Contains}
+use Rattle.std.specs.Prelude.{◌&&◌, All, drop, get_or}
+use Rattle.std.specs.List.{list_all}
+use Rattle.std.proofs.lemmas.Bool.{and_from}
+use Rattle.std.proofs.lemmas.List.Elements.{All-head, All-weaker, Contains-get_or}
 use Rattle.dcc_ir.specs.Tree as inner
-use Rattle.dcc_ir.specs.Run.{no_graph}
-use Rattle.dcc_ir.specs.Use.{block_exprs, graph_exprs}
-use Rattle.dcc_ir.specs.WellFormed as formed
-use Rattle.dcc_ir.proofs.LocationLaws.{location_itself}
-use Rattle.dcc_c.specs.declared.syntax.Base.TheVariants.{Int}
-use Rattle.dcc_c.specs.declared.syntax.CBin.TheVariants.{And as BitAnd}
-use Rattle.dcc_c.specs.Types.{plain}
-use Rattle.dcc_c.specs.Token.{same_bytes}
-use Rattle.dcc_c.specs.Tree.{Word, Binary, Stmt, Function, Tree}
-use Rattle.dcc_c.specs.Parts.{stmts_in, inner_stmts, label_of, labels_in}
-use Rattle.dcc_c.specs.Grammar as words
-use Rattle.dcc_c.specs.Grammar.{is_name, outermost}
-use Rattle.dcc_c.specs.Typing.{both_types, type_of_name}
-use Rattle.dcc_c.specs.Rules.{goto_of, declared_local, declared_in, all_differ, names_of, has_element, IsAllowedFunction, no_more, one_more}
-use Rattle.dcc_c.specs.Value.{declared_by}
+use Rattle.dcc_ir.specs.Live.{block_in}
+use Rattle.dcc_ir.specs.Run.{no_block, no_graph, is_call, graph_at}
+use Rattle.dcc_ir.specs.WellFormed.{IsGraph, IsCalling, IsProgram}
+use Rattle.dcc_ir.proofs.LocationLaws.{Contains-here, Contains-later}
+use Rattle.dcc_c.specs.Grammar.{outermost}
+use Rattle.dcc_c.specs.Rules.{IsAllowedFunction, no_more as all_allowed, one_more as next_allowed}
+use Rattle.dcc_c.specs.Tree.{Function, Tree}
 use Rattle.dcc_c.proofs.Writable.{is_writable_local, is_writable_function, are_writable_lines, IsWritable}
-use Rattle.dcc_pipe.specs.Variables.{locations, unsigned_type, variable, variable_name}
-use Rattle.dcc_pipe.specs.GotoExpr.{small}
-use Rattle.dcc_pipe.specs.GotoText.{label_name, text_stmt, text_exit, text_block, text_graph, text_stmts, bit_cut, place_of, uncounted, goto_start, goto_tree}
+use Rattle.dcc_text.specs.Spelling.{Spelling}
+use Rattle.dcc_text.specs.Laws.{IsStep}
+use Rattle.dcc_plan.specs.Allowed.{AreAllowedLines}
+use Rattle.dcc_plan.specs.GotoPlan.{goto_plan}
+use Rattle.dcc_plan.specs.Laws.{AreSteps, Matters}
+use Rattle.dcc_plan.specs.Plan.{Item, Do, Mark, Jump, If, Switch, For, Break, Continue, Plan, no_items, item, Arms, no_arms, arm}
+use Rattle.dcc_plan.specs.PlanText.{plan_text, item_text, arms_text, IsPlanText, nothing, one_more, IsItemText, does, marks, jumps, tests, chooses, repeats, breaks, continues, AreArmsText, no_more, next_arm}
+use Rattle.dcc_plan.specs.Valid.{IsPlanOf, BeginsAll}
+use Rattle.dcc_plan.proofs.AllowedPlans.{texts-allowed}
+use Rattle.dcc_plan.proofs.CompleteLaws.{completed-valid}
+use Rattle.dcc_plan.proofs.GotoLaws.{goto-valid}
+use Rattle.dcc_plan.proofs.PlacedItems.{goto-stands}
+use Rattle.dcc_plan.proofs.SpelledGraphs.{spelled-graph}
+use Rattle.dcc_variables.specs.Variables.{shape_of, declarations, graph_spelling}
+use Rattle.dcc_variables.specs.Globals.{globals_of}
+use Rattle.dcc_variables.specs.Laws.{AreFew, mentioned}
+use Rattle.dcc_variables.proofs.Declared.{globals-allowed, globals-off, globals-writable, globals-apart, known-differ, own-differ, locals-writable, locals-have-elements, names-declared}
+use Rattle.dcc_variables.proofs.Steps.{exit-within, stmt-step}
+use Rattle.dcc_pipe.specs.Start.{control, start_of, text_tree}
 use Rattle.dcc_pipe.specs.Textable.{levels, IsTextable}
-use Rattle.dcc_pipe.proofs.Named.{Naming, all_apart}
-use Rattle.dcc_pipe.proofs.NameLaws.{same-name}
-use Rattle.dcc_pipe.proofs.Places.{IsPlace, place-named, bound, bindings_at, variable-declared}
-use Rattle.dcc_pipe.proofs.Lined.{AreBelow}
-use Rattle.dcc_pipe.proofs.LabelLaws.{labels-differ}
-use Rattle.dcc_pipe.proofs.CutRuns.{AreBits, bit_places, places-bits}
-use Rattle.dcc_pipe.proofs.GotoRuns.{IsGotoGraph}
-use Rattle.dcc_pipe.proofs.TextGraph.{naming_of, graph-goto}
-use Rattle.dcc_pipe.proofs.SpelledText.{zeros, name-is}
-use Rattle.dcc_pipe.proofs.FineStmts.{names, IsFineExpr, AreFine, fine_next, fine-writable, fine-allowed, fine-shallow, fine-jumps, assign-fine}
-use Rattle.dcc_pipe.proofs.FineBlocks.{AreShallow, shallow-of, labels_of, blocks-fine}
 
--- The labels of the text.
+-- The lines of a plan's text are its text.
+mutual
+  plain-text : (s : Spelling) (graph : inner.Graph) (p : Plan) → IsPlanText s graph p (plan_text s graph p)
+  plain-text s graph no_items = nothing
+  plain-text s graph (item i p) = one_more (plain-item s graph i) (plain-text s graph p)
 
-abbrev labels_among : List Stmt → List Word
-labels_among stmts = labels_in (uncounted stmts)
+  plain-item : (s : Spelling) (graph : inner.Graph) (i : Item) → IsItemText s graph i (item_text s graph i)
+  plain-item s graph (Do b m) = does
+  plain-item s graph (Mark b) = marks
+  plain-item s graph (Jump b) = jumps
+  plain-item s graph (If b one other) = tests (plain-text s graph one) (plain-text s graph other)
+  plain-item s graph (Switch b arms) = chooses (plain-arms s graph arms)
+  plain-item s graph (For b body) = repeats (plain-text s graph body)
+  plain-item s graph Break = breaks
+  plain-item s graph Continue = continues
 
--- a statement without labels
-labels-none : (stmt : Stmt) (stmts : List Stmt) → flat_map label_of (stmt ∷ inner_stmts stmt) ≡ [] → labels_among (stmt ∷ stmts) ≡ labels_among stmts
-labels-none stmt stmts none = flat_map-append label_of (stmt ∷ inner_stmts stmt) (stmts_in (uncounted stmts)) ∙ ap (λ ls. ls ++ labels_among stmts) none
+  plain-arms : (s : Spelling) (graph : inner.Graph) (arms : Arms) → AreArmsText s graph arms (arms_text s graph arms)
+  plain-arms s graph no_arms = no_more
+  plain-arms s graph (arm cases body arms) = next_arm (plain-text s graph body) (plain-arms s graph arms)
 
-module _ (widths : List ℕ) where
-  stmt-unlabelled : (stmt : inner.Stmt) → flat_map label_of (text_stmt widths stmt ∷ inner_stmts (text_stmt widths stmt)) ≡ []
-  stmt-unlabelled (inner.Set location e) = refl
-  stmt-unlabelled (inner.Fetch location width address) = refl
-  stmt-unlabelled (inner.Store width address e) = refl
-  stmt-unlabelled (inner.Div location e) = refl
-  stmt-unlabelled (inner.Call results entry arguments depth) = refl
-  stmt-unlabelled (inner.Dos number place argument) = refl
+-- a statement of a program with one graph is no call
+no-call : (p : inner.Program) (g : inner.Graph) → p.graphs ≡ g ∷ [] → (stmt : inner.Stmt) → IsCalling p g stmt → is_call stmt ≡ false
+no-call p g one (inner.Call results entry arguments depth) calling =
+    let none : graph_at (drop 1 p.graphs) entry ≡ None = ap (λ graphs. graph_at (drop 1 graphs) entry) one in
+    absurd (apart (sym none ∙ calling.named))
+  where
+    apart : {A : Type 0} {a : A} → None ≡ Some a → ⊥
+    apart e = cc
+no-call p g one (inner.Set location e) calling = refl
+no-call p g one (inner.Fetch location width address) calling = refl
+no-call p g one (inner.Store width address e) calling = refl
+no-call p g one (inner.Div location e) calling = refl
+no-call p g one (inner.Dos number place argument) calling = refl
 
-  exit-unlabelled : (blocks : List inner.Block) (exit : inner.Exit) → flat_map label_of (text_exit widths blocks exit ∷ inner_stmts (text_exit widths blocks exit)) ≡ []
-  exit-unlabelled blocks (inner.Goto place) = refl
-  exit-unlabelled blocks (inner.If test one other) = refl
-  exit-unlabelled blocks (inner.Switch e places) = refl
-  exit-unlabelled blocks (inner.Ret values) = refl
-  exit-unlabelled blocks inner.Stop = refl
+module _ (p : inner.Program) (is : IsTextable levels p) where
+  pub formed : IsGraph is.graph
+  formed = All-head IsGraph is.graph [] (subst (All IsGraph) is.one is.formed.graphs)
 
-  stmts-labels : (blocks : List inner.Block) (exit : inner.Exit) (stmts : List inner.Stmt) (others : List Stmt)
-      → labels_among (map (text_stmt widths) stmts ++ text_exit widths blocks exit ∷ others) ≡ labels_among others
-  stmts-labels blocks exit [] others = labels-none (text_exit widths blocks exit) others (exit-unlabelled blocks exit)
-  stmts-labels blocks exit (stmt ∷ stmts) others = labels-none (text_stmt widths stmt) (map (text_stmt widths) stmts ++ text_exit widths blocks exit ∷ others) (stmt-unlabelled stmt) ∙ stmts-labels blocks exit stmts others
+  pub no-calls : All (λ b. All (λ stmt. is_call stmt ≡ false) b.stmts) is.graph.blocks
+  no-calls =
+      All-weaker (λ (b : inner.Block). All (IsCalling p is.graph) b.stmts) (λ b. All (λ stmt. is_call stmt ≡ false) b.stmts)
+      (λ b all. All-weaker (IsCalling p is.graph) (λ stmt. is_call stmt ≡ false) (no-call p is.graph is.one) b.stmts all) is.graph.blocks
+      (All-head (λ (g : inner.Graph). All (λ (b : inner.Block). All (IsCalling p g) b.stmts) g.blocks) is.graph []
+      (subst (All (λ (g : inner.Graph). All (λ (b : inner.Block). All (IsCalling p g) b.stmts) g.blocks)) is.one is.formed.calls))
 
-  blocks-labels : (all blocks : List inner.Block) → labels_among (flat_map (text_block widths all) blocks) ≡ labels_of blocks
-  blocks-labels all [] = refl
-  blocks-labels all (b ∷ blocks) =
-      ap (λ stmts. label_name b.at ∷ labels_among stmts) (append_assoc (map (text_stmt widths) b.stmts) (text_exit widths all b.exit ∷ []) (flat_map (text_block widths all) blocks))
-      ∙ ap (λ ls. label_name b.at ∷ ls) (stmts-labels all b.exit b.stmts (flat_map (text_block widths all) blocks) ∙ blocks-labels all blocks)
+  -- what has a variable matters everywhere
+  steps-all : (stmts : List inner.Stmt)
+      → ((stmt : inner.Stmt) → Contains stmts stmt → IsStep (graph_spelling is.graph) (λ l. (graph_spelling is.graph).named l ≡ true) (λ l. (graph_spelling is.graph).named l ≡ true) stmt)
+      → AreSteps (graph_spelling is.graph) (λ rest l. (graph_spelling is.graph).named l ≡ true) stmts
+  steps-all [] each = tt
+  steps-all (stmt ∷ stmts) each = (each stmt (Contains-here stmt stmts), steps-all stmts (λ other c. each other (Contains-later stmt stmts other c)))
 
-  cuts-labels : (cuts : List Loc) (stmts : List Stmt) → labels_among (map bit_cut cuts ++ stmts) ≡ labels_among stmts
-  cuts-labels [] stmts = refl
-  cuts-labels (l ∷ cuts) stmts = cuts-labels cuts stmts
-
--- labels differ where addresses do
-label-apart : (at : ℕ) (blocks : List inner.Block) → at < 65536 → AreBelow blocks → list_any (λ m. at == m) (map (λ b. b.at) blocks) ≡ false → words.is_among (labels_of blocks) (label_name at) ≡ false
-label-apart at [] low below none = refl
-label-apart at (b ∷ blocks) low below none =
-    let (here, later) = or_parts (at == b.at) (list_any (λ m. at == m) (map (λ b. b.at) blocks)) none in
-    or_from (same_bytes (label_name at) (label_name b.at)) (words.is_among (labels_of blocks) (label_name at))
-    (labels-differ at b.at low (below 0 b refl) (eqb-false at b.at here))
-    (label-apart at blocks low (λ k. below (suc k)) later)
-
-labels-apart : (blocks : List inner.Block) → AreBelow blocks → formed.all_differ (map (λ b. b.at) blocks) ≡ true → all_differ (labels_of blocks) ≡ true
-labels-apart [] below differ = refl
-labels-apart (b ∷ blocks) below differ =
-    let (front, others) = and_parts (not (list_any (λ m. b.at == m) (map (λ b. b.at) blocks))) (formed.all_differ (map (λ b. b.at) blocks)) differ in
-    and_from (not (words.is_among (labels_of blocks) (label_name b.at))) (all_differ (labels_of blocks))
-    (not_from_false (words.is_among (labels_of blocks) (label_name b.at))
-    (label-apart b.at blocks (below 0 b refl) (λ k. below (suc k)) (not-true (list_any (λ m. b.at == m) (map (λ b. b.at) blocks)) front)))
-    (labels-apart blocks (λ k. below (suc k)) others)
-
--- the names of the text's function and of the DOS calls
-abbrev known : List Word
-known = codes "start" ∷ codes "dos_putc" ∷ codes "dos_getche" ∷ codes "dos_getch" ∷ codes "dos_puts" ∷ codes "dos_exit" ∷ []
-
--- no variable is an array
-no-arrays : (bits : List ℕ) (ls : List Loc) → list_all (λ v. has_element v.len) (map (variable bits) ls) ≡ true
-no-arrays bits [] = refl
-no-arrays bits (l ∷ ls) = no-arrays bits ls
-
--- Names of variables.
-
-module _ (naming : Naming) where
-  -- each of these has a variable
-  abbrev ArePlaces : List Loc → Type 0
-  ArePlaces ls = (l : Loc) → is_among ls l ≡ true → IsPlace naming l
-
-  later-places : (x : Loc) (ls : List Loc) → ArePlaces (x ∷ ls) → ArePlaces ls
-  later-places x ls are l is = are l (or_right (same_location l x) (is_among ls l) is)
-
-  first-place : (x : Loc) (ls : List Loc) → ArePlaces (x ∷ ls) → IsPlace naming x
-  first-place x ls are = are x (or_left (same_location x x) (is_among ls x) (location_itself x))
-
-  declared-are : (ls : List Loc) → map declared_local (map (variable naming.widths) ls) ++ [] ≡ map declared_by (bindings_at naming zeros ls ++ [])
-  declared-are [] = refl
-  declared-are (l ∷ ls) = ap (λ ds. declared_by (bound naming l 0) ∷ ds) (declared-are ls)
-
-  locals-writable : (ls : List Loc) → ArePlaces ls → list_all is_writable_local (map (variable naming.widths) ls) ≡ true
-  locals-writable [] are = refl
-  locals-writable (l ∷ ls) are =
-      and_from (is_name (variable_name l) && true) (list_all is_writable_local (map (variable naming.widths) ls))
-      (and_from (is_name (variable_name l)) true (name-is naming l (first-place l ls are)) refl)
-      (locals-writable ls (later-places l ls are))
-
-  -- a name is among those of these variables where its location is among these
-  name-among : (x : Loc) (ls : List Loc) → IsPlace naming x → ArePlaces ls → words.is_among (names_of (map (variable naming.widths) ls)) (variable_name x) ≡ is_among ls x
-  name-among x [] is are = refl
-  name-among x (l ∷ ls) is are =
-      ap₂ (λ a b. a || b)
-      (same-name naming.widths x l (place-named naming x is) (place-named naming l (first-place l ls are)))
-      (name-among x ls is (later-places l ls are))
-
-  own-names : (ls : List Loc) → ArePlaces ls → all_apart ls ≡ true → all_differ (names_of (map (variable naming.widths) ls) ++ known) ≡ true
-  own-names [] are apart = refl
-  own-names (l ∷ ls) are apart =
-      let (here, later) = and_parts (not (is_among ls l)) (all_apart ls) apart in
-      let mine = first-place l ls are in
-      let rest = later-places l ls are in
-      and_from (not (words.is_among (names_of (map (variable naming.widths) ls) ++ known) (variable_name l))) (all_differ (names_of (map (variable naming.widths) ls) ++ known))
-      (ap not (list_any-append (same_bytes (variable_name l)) (names_of (map (variable naming.widths) ls)) known
-      ∙ ap (λ a. a || false) (name-among l ls mine rest ∙ not-true (is_among ls l) here)))
-      (own-names ls rest later)
-
-  -- The first lines.
-
-  cut-expr : (l : Loc) → IsPlace naming l → location_width naming.widths l ≡ 1 → IsFineExpr naming (Binary BitAnd (place_of l) (small 1))
-  cut-expr l is width = record {
-    writable = and_from (is_name (variable_name l)) true (name-is naming l is) refl;
-    shallow = refl;
-    base = Int;
-    typed = ap (λ d. both_types BitAnd (option_and_then type_of_name d) (Some (plain Int))) (variable-declared naming zeros l is)
-        ∙ ap (λ w. both_types BitAnd (Some (plain (unsigned_type w))) (Some (plain Int))) width;
+  pub named-matters : Matters (graph_spelling is.graph) is.graph (mentioned is.graph)
+  named-matters = record {
+    steps = λ b less. let inside = Contains-get_or is.graph.blocks b no_block less in
+        steps-all (block_in is.graph b).stmts (stmt-step is.graph formed no-calls (block_in is.graph b) inside);
+    tested = λ b less. exit-within is.graph formed no-calls (block_in is.graph b) (Contains-get_or is.graph.blocks b no_block less);
+    goes = λ b next less to there location named. named;
   }
 
-  module _ (tree : Tree) (f : Function) (names-are : declared_in tree f ≡ names naming) (labels : List Word) where
-    cuts-fine : (cuts : List Loc) (others : List Stmt) → AreBits naming cuts → AreFine naming tree f names-are labels false others
-        → AreFine naming tree f names-are labels false (map bit_cut cuts ++ others)
-    cuts-fine [] others are rest = rest
-    cuts-fine (l ∷ cuts) others are rest =
-        fine_next (assign-fine naming tree f names-are labels l (Binary BitAnd (place_of l) (small 1)) are.0 (cut-expr l are.0 are.1)) (cuts-fine cuts others are.2 rest)
+  pub control-plan : IsPlanOf is.graph (control is.graph) × BeginsAll is.graph (control is.graph)
+  control-plan =
+      let plan = goto-valid is.graph formed in
+      let whole = completed-valid is.graph (goto_plan is.graph) plan.0 in
+      (whole.0, whole.1 plan.1)
 
-module _ (p : inner.Program) (is : IsTextable levels p) (few : length is.graph.bits < 2 ^ 32) where
-  abbrev g : inner.Graph
-  g = is.graph
+  module _ (few : AreFew (shape_of is.graph)) where
+    abbrev start : Function
+    start = start_of is.graph
 
-  abbrev naming : Naming
-  naming = naming_of p is few
+    abbrev tree : Tree
+    tree = record { version = 1; lo = p.lo; hi = p.hi; globals = globals_of p; functions = start ∷ [] }
 
-  -- the text of its graph
-  abbrev start : Function
-  start = goto_start g
+    lines-allowed : AreAllowedLines tree start 200 start.body
+    lines-allowed =
+        texts-allowed tree start (graph_spelling is.graph) is.graph (control is.graph) start.body levels 200
+        (names-declared is.graph few formed tree start refl refl) formed
+        (spelled-graph (graph_spelling is.graph) is.graph (mentioned is.graph) levels refl named-matters
+        (λ b location less named. named) is.shallow)
+        (omega arith) control-plan.0 (goto-stands is.graph formed) (plain-text (graph_spelling is.graph) is.graph (control is.graph))
 
-  abbrev tree : Tree
-  tree = record { version = 1; lo = p.lo; hi = p.hi; globals = []; functions = start ∷ [] }
+    start-allowed : IsAllowedFunction tree start
+    start-allowed = record {
+      own_names = own-differ is.graph few formed p is.formed.hi;
+      labels = lines-allowed.labels;
+      types = lines-allowed.types;
+      arrays = locals-have-elements is.graph few formed;
+      depth = lines-allowed.depth;
+    }
 
-  goto : IsGotoGraph naming g.blocks
-  goto = graph-goto p is few
+    alone-writable : IsWritable tree
+    alone-writable = record {
+      version = refl;
+      globals = globals-writable p is.formed.hi is.formed.image;
+      functions = and_from (is_writable_function start) true
+          (and_from (list_all is_writable_local (declarations (shape_of is.graph))) (are_writable_lines outermost false start.body)
+          (locals-writable is.graph few formed) lines-allowed.writable) refl;
+      allowed = record {
+        start = start;
+        others = [];
+        first = refl;
+        name = refl;
+        no_params = refl;
+        no_result = refl;
+        names = known-differ p is.formed.hi;
+        functions = next_allowed start-allowed all_allowed;
+        lo = omega (arith, is.formed.lo);
+        hi = omega (arith, is.formed.hi);
+        globals = globals-allowed p is.formed.hi;
+        apart = globals-apart p is.formed.hi;
+        off_stack = globals-off p is.formed.hi;
+      };
+    }
 
-  shallow : AreShallow (flat_map block_exprs g.blocks)
-  shallow = shallow-of (graph_exprs g) is.shallow
-
-  names-are : declared_in tree start ≡ names naming
-  names-are = declared-are naming (locations g)
-
-  whole-fine : AreFine naming tree start names-are (labels_of g.blocks) false (text_stmts g)
-  whole-fine =
-      cuts-fine naming tree start names-are (labels_of g.blocks) (bit_places naming) (text_graph g) (places-bits naming)
-      (blocks-fine naming p.lo p.hi 1 (start ∷ []) start g.blocks names-are g.blocks goto.formed goto.named shallow)
-
-  labels-are : labels_in start.body ≡ labels_of g.blocks
-  labels-are = cuts-labels g.bits (bit_places naming) (text_graph g) ∙ blocks-labels g.bits g.blocks g.blocks
-
-  start-allowed : IsAllowedFunction tree start
-  start-allowed = record {
-    own_names = own-names naming (locations g) (λ l there. there) naming.apart;
-    labels = ap (λ ls. all_differ ls && list_all (words.is_among ls) (flat_map goto_of (stmts_in start.body))) labels-are
-        ∙ and_from (all_differ (labels_of g.blocks)) (list_all (words.is_among (labels_of g.blocks)) (flat_map goto_of (stmts_in start.body)))
-        (labels-apart g.blocks goto.below goto.differ) (fine-jumps naming tree start names-are (labels_of g.blocks) whole-fine);
-    types = fine-allowed naming tree start names-are (labels_of g.blocks) whole-fine;
-    arrays = no-arrays g.bits (locations g);
-    depth = fine-shallow naming tree start names-are (labels_of g.blocks) whole-fine;
-  }
-
-  graph-writable : IsWritable tree
-  graph-writable = record {
-    version = refl;
-    globals = refl;
-    functions = and_from (is_writable_function start) true
-        (and_from (list_all is_writable_local (map (variable g.bits) (locations g))) (are_writable_lines outermost false start.body)
-        (locals-writable naming (locations g) (λ l there. there))
-        (fine-writable naming tree start names-are (labels_of g.blocks) whole-fine)) refl;
-    allowed = record {
-      start = start;
-      others = [];
-      first = refl;
-      name = refl;
-      no_params = refl;
-      no_result = refl;
-      names = refl;
-      functions = one_more start-allowed no_more;
-      lo = omega (arith, is.formed.lo);
-      hi = omega (arith, is.formed.hi);
-      globals = refl;
-      apart = refl;
-      off_stack = refl;
-    };
-  }
-
-  pub goto-writable : IsWritable (goto_tree p)
-  goto-writable = subst (λ graphs. IsWritable (record { version = 1; lo = p.lo; hi = p.hi; globals = []; functions = goto_start (get_or graphs 0 no_graph) ∷ [] })) (sym is.one) graph-writable
+    pub text-writable : IsWritable (text_tree p)
+    text-writable = subst (λ graphs. IsWritable (record { version = 1; lo = p.lo; hi = p.hi; globals = globals_of p; functions = start_of (get_or graphs 0 no_graph) ∷ [] })) (sym is.one) alone-writable

@@ -40,10 +40,9 @@ pub record RunsAgree
   pub never_stuck : (k line : ℕ) → end_after (text_system tree) k (first_state tree start fill input) ≢ Stuck line
 
 -- The text stands for the tree, and for every input and every fill its run agrees with that of the image on the
--- processor. What has a text so far uses no stack, so each run of the image is clean.
+-- processor.
 pub record IsTextOf (cpu : Cpu) (image : Image) (text : List ℕ) (tree : Tree) : Type 0 where
   pub stands : StandsFor text tree
-  pub clean : (input : List ℕ) (n : ℕ) → All (λ b. b < 256) input → IsClean cpu image input n
   pub runs :
       (input : List ℕ) (fill : ℕ) → All (λ b. b < 256) input → fill < 2 ^ 16
       → RunsAgree cpu image tree stands.allowed.start (length stands.tokens) input fill

@@ -1,11 +1,9 @@
-pub mod Variables
 pub mod Textable
 pub mod Simplified
-pub mod GotoExpr
-pub mod GotoText
+pub mod Following
+pub mod Start
 pub mod Agreement
 pub mod Unbroken
-pub mod Uncounted
 pub mod Unbuilt
 pub use Rattle.dcc_prog.specs.MzImage
 pub use Rattle.dcc_prog.specs.Refused

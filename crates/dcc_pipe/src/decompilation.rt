@@ -11,9 +11,9 @@ ghost use Rattle.dcc_pipe.specs.Agreement.{IsTextOf};
 
 use crate::analysis::analyse;
 use crate::built::reached_unbuilt;
-use crate::goto_text::goto_text;
 use crate::number::number;
 use crate::passes::simplified;
+use crate::start::unit_of;
 use dcc_c::Unit;
 use dcc_lift::lift;
 use dcc_prog::{Cpu, Image, Program, Refusal};
@@ -35,14 +35,15 @@ fn text_of(alloc: Global, image: &Image, program: &Program) -> Result<Unit, Allo
         &program.cells,
     )?;
     let simple = simplified(alloc, lifted)?;
-    let unit = goto_text(alloc, &simple)?;
+    let unit = unit_of(alloc, &simple)?;
     number(alloc, unit)
 }
 
-/// The text of a loaded program for a processor: a variable for each half of a word register, each flag and each
-/// temporary that it needs, a label before each block, and jumps, with the lines where statements stand in the written
-/// form. What nothing wants is not computed. The written form stands for the unit's tree, whose run on every input and
-/// from every fill agrees with that of the program on the processor.
+/// The text of a loaded program for a processor: its image outside the stack as arrays, a variable for each half of a
+/// word register, each flag, each temporary and each half of a frame's cell that it needs, an array for the bytes of the
+/// frame whose address is taken, a label before each block, and jumps, with the lines where statements stand in the
+/// written form. What nothing wants is not computed. The written form stands for the unit's tree, whose run on every
+/// input and from every fill agrees with that of the program on the processor, as long as that is clean.
 ///
 /// A program that is accepted has no construct, passes no limit, and reaches no instruction that is not built. One that
 /// is refused is told why, in this order: what `analyse` refuses; and where it refuses nothing, an instruction that is

@@ -4,11 +4,9 @@
 mod analysis;
 mod built;
 mod decompilation;
-mod goto_expr;
-mod goto_text;
 mod number;
 mod passes;
-mod variables;
+mod start;
 
 pub use analysis::analyse;
 pub use decompilation::decompile;

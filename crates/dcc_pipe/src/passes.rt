@@ -4,7 +4,7 @@ ghost use Rattle.std.specs.Prelude.{IfOk};
 ghost use Rattle.dcc_ir.specs.Views.{graph_of, program_of};
 ghost use Rattle.dcc_ir.specs.WellFormed.{IsGraph};
 ghost use Rattle.dcc_live.specs.Dead.{IsWithoutUnwanted};
-ghost use Rattle.dcc_pipe.specs.Textable.{levels, IsTextable};
+ghost use Rattle.dcc_pipe.specs.Textable.{lifted_levels, IsTextable};
 ghost use Rattle.dcc_pipe.specs.Simplified.{IsSimplifiedGraph, HasOneChanged};
 
 use dcc_flags::fold_flags;
@@ -41,7 +41,7 @@ fn simplified_graph(alloc: Global, graph: Graph) -> Result<Graph, AllocError>
 
 /// The program, which has one graph, with what the passes leave in the place of that.
 pub(crate) fn simplified(alloc: Global, p: IrProgram) -> Result<IrProgram, AllocError>
-    requires { IsTextable levels (program_of p) }
+    requires { IsTextable lifted_levels (program_of p) }
     ensures { IfOk result (λ after. HasOneChanged IsSimplifiedGraph (program_of p) (program_of after)) }
 {
     let mut graphs = p.graphs;

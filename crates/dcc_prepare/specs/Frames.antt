@@ -1,12 +1,11 @@
 -- The variables and the memory of a call that begins.
-use Rattle.std.specs.Prelude.{ℕ, List, [], ◌∷◌, map, Some, None}
+use Rattle.std.specs.Prelude.{ℕ, List, [], ◌∷◌, map, Some, None, is_some}
 use Rattle.dcc_c.specs.declared.syntax.Base.TheVariants.{Int}
 use Rattle.dcc_c.specs.Types.{size_of}
 use Rattle.dcc_c.specs.Memory.{store}
 use Rattle.dcc_c.specs.Value.{number, converted}
 use Rattle.dcc_value.specs.declared.value.Value.{Value as Held}
 use Rattle.dcc_value.specs.declared.variable.Binding.{Binding as Bound}
-use Rattle.dcc_value.specs.declared.variable.Storage.TheVariants.{Unplaced, PlacedAt}
 use Rattle.dcc_prepare.specs.declared.program.Variable.{Variable}
 use Rattle.dcc_prepare.specs.Programs.{place_in}
 
@@ -15,7 +14,8 @@ abbrev pub holding : ℕ → ℕ → Variable → Bound
 holding base bits v = record {
   ty = v.ty;
   is_array = v.is_array;
-  storage = elim (place_in base v) [ Some at ↦ PlacedAt at | None ↦ Unplaced bits ];
+  is_placed = is_some (place_in base v);
+  bits = elim (place_in base v) [ Some at ↦ at | None ↦ bits ];
 }
 
 -- parameters with the bits of their arguments

@@ -1,12 +1,11 @@
 -- Functions that are made ready to run.
-use Rattle.std.specs.Prelude.{ℕ, List, [], ◌∷◌, string_bytes, is_some}
+use Rattle.std.specs.Prelude.{ℕ, List, [], ◌∷◌, string_bytes, is_some, true}
 use Rattle.dcc_c.specs.declared.syntax.Var.{Var}
 use Rattle.dcc_c.specs.declared.syntax.Global_.{Global_}
 use Rattle.dcc_c.specs.Typing.{Declared}
 use Rattle.dcc_c.specs.Tree.{Word, Function, Tree}
 use Rattle.dcc_c.specs.Run.{Continuation, runs, ends_function, after_goto}
 use Rattle.dcc_value.specs.declared.variable.Binding.{Binding as Bound}
-use Rattle.dcc_value.specs.declared.variable.Storage.TheVariants.{PlacedAt}
 use Rattle.dcc_prepare.specs.declared.program.Variable.{Variable}
 use Rattle.dcc_prepare.specs.declared.program.Procedure.{Procedure}
 use Rattle.dcc_prepare.specs.declared.code.Code.{Code}
@@ -41,7 +40,7 @@ names_declared _ _ = []
 
 -- a global variable of the code
 abbrev pub global_bound : Global_ → Bound
-global_bound g = record { ty = g.ty; is_array = is_some g.len; storage = PlacedAt g.at }
+global_bound g = record { ty = g.ty; is_array = is_some g.len; is_placed = true; bits = g.at }
 
 -- the procedures are the functions, one by one
 abbrev pub ArePrepared : Tree → List Function → List Procedure → Type 0

@@ -8,7 +8,7 @@ use crate::program::{Procedure, Variable};
 use dcc_c::Base;
 use dcc_value::value::memory::store;
 use dcc_value::value::{Value, converted, number};
-use dcc_value::variable::{Binding, Storage};
+use dcc_value::variable::Binding;
 use std::alloc::{AllocError, Global};
 
 impl Variable {
@@ -26,12 +26,14 @@ impl Variable {
     fn holding(&self, base: u16, bits: u32) -> Binding
         ensures { result ≡ holding base bits self.now }
     {
+        let place = self.place(base);
         Binding {
             ty: self.ty,
             is_array: self.is_array,
-            storage: match self.place(base) {
-                Some(at) => Storage::PlacedAt(at),
-                None => Storage::Unplaced(bits),
+            is_placed: place.is_some(),
+            bits: match place {
+                Some(at) => at,
+                None => bits,
             },
         }
     }
@@ -51,7 +53,8 @@ impl Procedure {
             ≡ params_holding base self.now.params.items arguments.now
             ++ locals_holding base fill self.now.locals.items) }
     {
-        let mut variables = Vec::new(alloc);
+        let count = self.params.len().saturating_add(self.locals.len());
+        let mut variables = Vec::with_capacity(alloc, count)?;
         for i in 0..self.params.len().min(arguments.len()) {
             variables.push(self.params[i].holding(base, arguments[i].bits))?;
         }

@@ -19,7 +19,7 @@ use crate::program::{Action, Procedure, Program, Variable};
 use dcc_c::{Func, Global_, Unit, Var};
 use dcc_value::declarations::Declarations;
 use dcc_value::places::add_place;
-use dcc_value::variable::{Binding, Declared, Names, Storage};
+use dcc_value::variable::{Binding, Declared, Names};
 use std::alloc::{AllocError, Global};
 use std::collections::BTreeMap;
 
@@ -158,7 +158,8 @@ fn global_bindings(alloc: Global, globals: &[Global_]) -> Result<Vec<Binding>, A
         bindings.push(Binding {
             ty: global.ty,
             is_array: global.len.is_some(),
-            storage: Storage::PlacedAt(global.at),
+            is_placed: true,
+            bits: global.at,
         })?;
     }
     Ok(bindings)

@@ -1,19 +1,19 @@
--- Where every instruction that is reached is built, no CALL is, and the program has one procedure.
+-- Where every instruction that is reached is built, none is a CALL, and the program has one procedure.
 use Rattle.std.proofs.Common.{◌≡◌, ◌≢◌, ℕ, List, [], ◌∷◌, All, refl, ap, ◌∙◌, subst}
 use Rattle.std.proofs.lemmas.List.Elements.{All-head, All-tail}
 use Rattle.dcc_prog.specs.declared.image.Image.{Image}
 use Rattle.dcc_prog.specs.declared.procedure.Layout.{Layout}
 use Rattle.dcc_prog.specs.declared.procedure.Proc.{Proc}
 use Rattle.dcc_prog.specs.Trail.{IsEntry, start, called}
-use Rattle.dcc_prog.specs.Built.{IsBuilt, operation}
+use Rattle.dcc_prog.specs.Built.{IsBuilt}
 use Rattle.dcc_prog.specs.Found.{AreFound}
 
 module _ (image : Image) (layout : Layout) (built : IsBuilt image layout) where
   -- the entry procedure alone is reached
   pub only_start : {entry : ℕ} → IsEntry image layout entry → entry ≡ layout.start_ip
   only_start start = refl
-  only_start (called {entry = entry} {at = at} is_entry node stands) =
-      absurd (built at (record { entry = entry; is_entry = is_entry; node = node; unbuilt = operation stands refl }))
+  only_start (called {entry = entry} {at = at} {target = target} is_entry node stands) =
+      absurd (built at (record { entry = entry; is_entry = is_entry; node = node; target = target; call = stands }))
 
   none_besides :
       (others : List Proc) → All (λ (proc : Proc). IsEntry image layout proc.entry) others

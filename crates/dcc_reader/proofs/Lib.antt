@@ -1,4 +1,5 @@
 pub mod HeadLaws
+pub mod KeywordLaws
 pub mod LeftLaws
 pub mod LoopLaws
 pub mod ReaderLaws

@@ -1,6 +1,6 @@
 //! Tests of a token, and of the word that it may be.
 
-ghost use Rattle.std.specs.Prelude.{◌≡◌, Some};
+ghost use Rattle.std.specs.Prelude.{◌≡◌, ◌==◌, Some, length, map, filter};
 ghost use Rattle.std.specs.Option.{option_map};
 ghost use Rattle.dcc_c.specs.Token as tokens;
 ghost use Rattle.dcc_c.specs.Grammar as grammar;
@@ -32,18 +32,48 @@ fn same_head(left: Head, right: Head) -> bool
     left == right
 }
 
+// The keywords of ISO C90 that have so many bytes.
+fn keywords_of(bytes: usize) -> &'static [&'static str]
+    ensures { map (λ word. word.now) result.now ≡ filter (λ word. length word == bytes) grammar.keywords }
+{
+    if bytes == 2 {
+        return &["do", "if"];
+    }
+    if bytes == 3 {
+        return &["for", "int"];
+    }
+    if bytes == 4 {
+        return &[
+            "auto", "case", "char", "else", "enum", "goto", "long", "void",
+        ];
+    }
+    if bytes == 5 {
+        return &["break", "const", "float", "short", "union", "while"];
+    }
+    if bytes == 6 {
+        return &[
+            "double", "extern", "return", "signed", "sizeof", "static", "struct", "switch",
+        ];
+    }
+    if bytes == 7 {
+        return &["default", "typedef"];
+    }
+    if bytes == 8 {
+        return &["continue", "register", "unsigned", "volatile"];
+    }
+    &[]
+}
+
 // Whether the word is a keyword of ISO C90.
 fn is_keyword(word: &str) -> bool
     ensures { result ≡ grammar.is_among grammar.keywords word.now }
 {
-    match word {
-        "auto" | "break" | "case" | "char" | "const" | "continue" | "default" | "do" => true,
-        "double" | "else" | "enum" | "extern" | "float" | "for" | "goto" | "if" => true,
-        "int" | "long" | "register" | "return" | "short" | "signed" | "sizeof" | "static" => true,
-        "struct" | "switch" | "typedef" | "union" | "unsigned" | "void" | "volatile" | "while" =>
-            true,
-        _ => false,
+    for keyword in keywords_of(word.len()) {
+        if same_text(word, keyword) {
+            return true;
+        }
     }
+    false
 }
 
 // Whether the word is a name: it is no keyword.

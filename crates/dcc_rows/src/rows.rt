@@ -6,6 +6,7 @@ mod both;
 mod files;
 mod lifted;
 mod listings;
+mod memory;
 mod processors;
 mod runs;
 mod texts;

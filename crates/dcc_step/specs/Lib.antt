@@ -1,4 +1,5 @@
 pub mod Cache
 pub mod Core
 pub mod Ending
+pub mod Form
 pub mod Stepped

@@ -2,7 +2,11 @@
 
 ghost use Rattle.std.specs.Prelude.{◌≡◌, ◌<◌, ◌-◌, IfSome, Option, Some, None};
 ghost use Rattle.dcc_num.specs.Numbers.{limit_of};
-ghost use Rattle.dcc_prog.specs.Machine.{operand_value, operand_width};
+ghost use Rattle.dcc_num.specs.declared.Width.TheVariants.{Word as word_width};
+ghost use Rattle.dcc_prog.specs.declared.instr.Operand.TheVariants.{Word as word_operand};
+ghost use Rattle.dcc_prog.specs.Machine.{word_in, operand_value, operand_width};
+ghost use Rattle.dcc_prog.specs.Writes.{writes_operand};
+ghost use Rattle.dcc_step.specs.Form.{combined_of};
 ghost use Rattle.dcc_prog.specs.Operations.{with_result, accumulator_in, upper_in, with_pair, with_product, with_division, alu_step, unary_step, imul3_step, count_in, shift_result, shift_step};
 ghost use Rattle.dcc_prog.specs.WellFormed.{IsOperand, AreOperands, IsWordOperand};
 ghost use Rattle.dcc_step.specs.Core.{state_of, changed_by};
@@ -44,6 +48,32 @@ fn shift_by(kind: Shift, w: Width, a: u16, count: u8, was: Flags) -> (u16, Flags
     }
 }
 
+// Whether the first operand takes the result.
+fn writes_operand(kind: Alu) -> bool
+    ensures { result ≡ writes_operand kind }
+{
+    !matches!(kind, Alu::Cmp | Alu::Test)
+}
+
+// The result of an operation on two operands, and its flags.
+#[inline(always)]
+fn combined(kind: Alu, w: Width, x: u16, y: u16, carry: bool) -> (u16, Flags)
+    requires first { x < limit_of w }
+    requires second { y < limit_of w }
+    ensures combined { result ≡ combined_of kind w x y carry }
+    ensures width { result.0 < limit_of w }
+{
+    match kind {
+        Alu::Add => add(w, x, y, false),
+        Alu::Adc => add(w, x, y, carry),
+        Alu::Sub | Alu::Cmp => sub(w, x, y, false),
+        Alu::Sbb => sub(w, x, y, carry),
+        Alu::And | Alu::Test => and(w, x, y),
+        Alu::Or => or(w, x, y),
+        Alu::Xor => xor(w, x, y),
+    }
+}
+
 impl Machine {
     // Gives an operand an outcome, and sets the flags with it.
     fn put_result(&mut self, operand: Operand, outcome: (u16, Flags))
@@ -61,20 +91,34 @@ impl Machine {
         ensures { self.new ≡ changed_by (λ s.
             alu_step kind (operand_width a) a (operand_value s a) (operand_value s b) s) self.old }
     {
-        let w = a.width();
         let x = self.value(a);
         let y = self.value(b);
-        match kind {
-            Alu::Add => self.put_result(a, add(w, x, y, false)),
-            Alu::Or => self.put_result(a, or(w, x, y)),
-            Alu::Adc => self.put_result(a, add(w, x, y, self.flags.cf)),
-            Alu::Sbb => self.put_result(a, sub(w, x, y, self.flags.cf)),
-            Alu::And => self.put_result(a, and(w, x, y)),
-            Alu::Sub => self.put_result(a, sub(w, x, y, false)),
-            Alu::Xor => self.put_result(a, xor(w, x, y)),
-            Alu::Cmp => self.flags = sub(w, x, y, false).1,
-            Alu::Test => self.flags = and(w, x, y).1,
+        let outcome = combined(kind, a.width(), x, y, self.flags.cf);
+        if writes_operand(kind) {
+            self.put_result(a, outcome);
+        } else {
+            self.flags = outcome.1;
         }
+    }
+
+    /// An operation on a word register and a word.
+    pub(crate) fn alu_word(&mut self, kind: Alu, r: Reg, y: u16)
+        ensures { self.new ≡ changed_by (λ s. alu_step kind word_width (word_operand r) (word_in s r) y s) self.old }
+    {
+        let outcome = combined(kind, Width::Word, self.reg(r), y, self.flags.cf);
+        if writes_operand(kind) {
+            self.put_word(r, outcome);
+        } else {
+            self.flags = outcome.1;
+        }
+    }
+
+    /// Gives a word register an outcome, and sets the flags with it.
+    pub(crate) fn put_word(&mut self, r: Reg, outcome: (u16, Flags))
+        ensures { self.new ≡ changed_by (with_result (word_operand r) outcome) self.old }
+    {
+        self.flags = outcome.1;
+        self.set_reg(r, outcome.0);
     }
 
     // AL or AX.

@@ -1,10 +1,8 @@
 //! The calls of INT 21h.
 
-ghost use Rattle.std.specs.Prelude.{◌≡◌, ◌≤◌, OnOk, OnErr, IfErr, IsErrOf};
-ghost use Rattle.dcc_io.specs.Count.{Rose};
-ghost use Rattle.dcc_io.specs.Told.{append_told, AppendsProperPrefix};
+ghost use Rattle.std.specs.Prelude.{◌≡◌, OnOk, IfErr, IsErrOf};
 ghost use Rattle.dcc_prog.specs.Operations.{with_al, with_end};
-ghost use Rattle.dcc_prog.specs.Dos.{key_step, dos_string, dos_call};
+ghost use Rattle.dcc_prog.specs.Dos.{key_step, dos_call};
 ghost use Rattle.dcc_step.specs.Core.{state_of, changed_by};
 ghost use Rattle.dcc_step.specs.Ending.{end_of};
 ghost use Rattle.dcc_console.specs.Counts.{CountsFaults};
@@ -15,7 +13,7 @@ ghost use Rattle.dcc_step.specs.Stepped.{machine_by, LeadsOnBytes};
 use crate::ending::Ending;
 use crate::machine::Machine;
 use dcc_console::{Fault, take_key};
-use dcc_io::{Failed, Sink, Source, put_all};
+use dcc_io::{Sink, Source, put_all};
 use dcc_num::{Half, Reg, dos};
 
 impl Machine {
@@ -33,26 +31,6 @@ impl Machine {
     {
         self.end = end;
         self.ip = at;
-    }
-
-    // Writes the string at DS:DX.
-    fn write_string<O: Sink>(&self, out: &mut O) -> Result<(), Failed>
-        ensures whole { OnOk result (O.taken out.new ≡ append_told (O.taken out.old) (dos_string (state_of self.now))) }
-        ensures part { OnErr result
-            (AppendsProperPrefix (O.taken out.old) (O.taken out.new) (dos_string (state_of self.now))) }
-        ensures faults { O.faults out.old ≤ O.faults out.new }
-        ensures failed { OnErr result (Rose (O.faults out.old) (O.faults out.new)) }
-    {
-        let segment = self.ds();
-        let start = self.reg(Reg::Dx);
-        for k in 0..dos::STRING_MOST {
-            let byte = self.load_byte(segment, start.wrapping_add(k as u16));
-            if byte == dos::STRING_END {
-                return Ok(());
-            }
-            put_all(out, &[byte])?;
-        }
-        Ok(())
     }
 
     // Takes the next key into AL, and writes it where it is echoed.

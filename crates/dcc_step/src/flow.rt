@@ -11,6 +11,7 @@ use dcc_prog::{Ea, Operand, Plain};
 
 impl Machine {
     /// To the target where so, else to the next instruction.
+    #[inline(always)]
     pub(crate) fn jump_if(&mut self, so: bool, target: u16)
         ensures { self.new ≡ changed_by (after_jump_if so target) self.old }
     {

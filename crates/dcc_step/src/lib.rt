@@ -6,10 +6,13 @@ mod cache;
 mod dos;
 mod ending;
 mod flow;
+mod form;
 mod machine;
+mod marks;
 mod operand;
 mod stack;
 mod step;
+mod string;
 
 pub use ending::{Ending, Stepped};
 pub use machine::Machine;

@@ -2,12 +2,13 @@
 
 ghost use Rattle.std.specs.Prelude.{◌≡◌, ◌+◌, ◌<◌, ◌≤◌, ◌^◌, [], vec_len, slice_index, IfOk};
 ghost use Rattle.dcc_prog.specs.Load.{image_address};
-ghost use Rattle.dcc_prog.specs.Machine.{start_state, word_in};
+ghost use Rattle.dcc_prog.specs.Machine.{start_state, loaded_memory, word_in};
 ghost use Rattle.dcc_step.specs.Core.{core_of, state_of};
 ghost use Rattle.dcc_step.specs.Ending.{end_of};
 
 use crate::cache::{Decoded, first_cache};
 use crate::ending::Ending;
+use crate::marks::Marks;
 use dcc_num::{Flags, NO_FLAGS, Reg};
 use dcc_prog::{Cpu, Image, LOAD_SEGMENT, PREFIX_SEGMENT};
 use std::alloc::{AllocError, Global};
@@ -38,13 +39,18 @@ pub struct Machine {
     pub(crate) end: Ending,
     /// Instructions that were decoded for the processor, 4,096 of them, each at its offset modulo 4,096.
     pub(crate) cache: Vec<Decoded>,
+    /// The bytes of the instructions that are known.
+    pub(crate) marks: Marks,
+    /// Whether since they were marked no marked byte was stored, and no code segment taken.
+    pub(crate) trusted: bool,
 }
 
 impl Model for Machine {
-    ghost use Rattle.std.specs.Prelude.{◌≡◌, ◌^◌, vec_len};
+    ghost use Rattle.std.specs.Prelude.{◌≡◌, ◌^◌, vec_len, slice_index};
     ghost use Rattle.std.specs.List.{All};
     ghost use Rattle.dcc_step.specs.Core.{Core};
-    ghost use Rattle.dcc_step.specs.Cache.{IsDecoded};
+    ghost use Rattle.dcc_prog.specs.declared.segment.TheConstants.{CS};
+    ghost use Rattle.dcc_step.specs.Cache.{IsDecoded, AreFresh};
 
     ghost Value = { Core };
 
@@ -61,21 +67,34 @@ impl Model for Machine {
     } };
 
     ghost invariant = { λ m. (vec_len m.memory ≡ 2 ^ 20) × (vec_len m.cache ≡ 4096)
-        × All (IsDecoded m.cpu) m.cache.items };
+        × All (IsDecoded m.cpu) m.cache.items
+        × AreFresh m.trusted m.memory.items (slice_index m.segs CS) m.marks m.cache.items };
+}
+
+// Memory with the load image.
+fn first_memory(alloc: Global, image: &Image) -> Result<Vec<u8>, AllocError>
+    requires { image_address + vec_len image.now.bytes ≤ 2 ^ 20 }
+    ensures size { IfOk result (λ memory. vec_len memory ≡ 2 ^ 20) }
+    ensures loaded { IfOk result (λ memory. memory.items ≡ loaded_memory image.now.bytes.items) }
+{
+    let mut memory = Vec::with_capacity(alloc, MEMORY_SIZE)?;
+    memory.resize(IMAGE_ADDRESS, 0)?;
+    memory.extend_from_slice(&image.bytes)?;
+    memory.resize(MEMORY_SIZE, 0)?;
+    Ok(memory)
 }
 
 impl Machine {
     /// The machine with a processor at the start of a loaded program: memory holds the load image from
     /// offset 0 of the load segment on and 0 elsewhere.
+    #[tactic(auto, using(crate::proofs::Freshness::fresh_none))]
     pub fn new(alloc: Global, image: &Image, cpu: Cpu) -> Result<Machine, AllocError>
         requires { image_address + vec_len image.now.bytes ≤ 2 ^ 20 }
         ensures { IfOk result (λ machine. machine ≡ core_of cpu (start_state image.now [])) }
     {
-        let mut memory = Vec::with_capacity(alloc, MEMORY_SIZE)?;
-        memory.resize(IMAGE_ADDRESS, 0)?;
-        memory.extend_from_slice(&image.bytes)?;
-        memory.resize(MEMORY_SIZE, 0)?;
+        let memory = first_memory(alloc, image)?;
         let cache = first_cache(alloc, cpu)?;
+        let marks = Marks::none(alloc)?;
         Ok(Machine {
             cpu,
             regs: [0, 0, 0, 0, image.sp, 0, 0, 0],
@@ -85,6 +104,8 @@ impl Machine {
             memory,
             end: Ending::Running,
             cache,
+            marks,
+            trusted: true,
         })
     }
 

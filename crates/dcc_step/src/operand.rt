@@ -2,7 +2,8 @@
 
 ghost use Rattle.std.specs.Prelude.{◌≡◌, ◌<◌, ◌^◌};
 ghost use Rattle.dcc_num.specs.Numbers.{limit_of};
-ghost use Rattle.dcc_prog.specs.declared.instr.Operand.TheVariants.{Seg as seg_operand};
+ghost use Rattle.dcc_prog.specs.declared.instr.Operand.TheVariants.{Seg as seg_operand, Mem as mem_operand};
+ghost use Rattle.dcc_num.specs.declared.Width.TheVariants.{Word as word_width};
 ghost use Rattle.dcc_prog.specs.Machine.{physical, byte_in, word_at_offset, with_byte_in, with_word_at_offset, with_word_in, code_segment, stack_segment, data_segment, part_of, offset_of, is_bp, segment_of, operand_value, with_operand, operand_width};
 ghost use Rattle.dcc_prog.specs.WellFormed.{IsOperand};
 ghost use Rattle.dcc_step.specs.Core.{state_of, changed_by};
@@ -38,6 +39,12 @@ impl Machine {
     pub(crate) fn load_word(&self, segment: u16, offset: u16) -> u16
         ensures { result ≡ word_at_offset (state_of self.now) segment offset }
     {
+        let start = physical_address(segment, offset);
+        if offset < 0xFFFF && start < 0xF_FFFF {
+            let high = self.memory[start + 1];
+            let low = self.memory[start];
+            return u16::from(low) + 256 * u16::from(high);
+        }
         let low = self.load_byte(segment, offset);
         let high = self.load_byte(segment, offset.wrapping_add(1));
         u16::from(low) + 256 * u16::from(high)
@@ -47,7 +54,11 @@ impl Machine {
     fn store_byte(&mut self, segment: u16, offset: u16, byte: u8)
         ensures { self.new ≡ changed_by (λ s. with_byte_in s segment offset byte) self.old }
     {
-        self.memory[physical_address(segment, offset)] = byte;
+        let address = physical_address(segment, offset);
+        if self.marks.is_marked(address) {
+            self.trusted = false;
+        }
+        self.memory[address] = byte;
     }
 
     /// Stores a word, its low byte first; the offset of the second byte wraps.
@@ -63,6 +74,15 @@ impl Machine {
         ensures { self.new ≡ changed_by (λ s. with_word_in s r word) self.old }
     {
         self.regs[r as usize] = word;
+    }
+
+    // Gives the segment register of a number below 4 a value.
+    fn set_segment(&mut self, number: u8, word: u16)
+        requires { number < 4 }
+        ensures { self.new ≡ changed_by (λ s. with_operand s (seg_operand number) word) self.old }
+    {
+        self.trusted = self.trusted && number != CS;
+        self.segs[number as usize] = word;
     }
 
     /// The code segment.
@@ -163,9 +183,16 @@ impl Machine {
             Operand::Mem(Width::Byte, ea) => {
                 u16::from(self.load_byte(self.segment(ea), self.offset(ea)))
             }
-            Operand::Mem(Width::Word, ea) => self.load_word(self.segment(ea), self.offset(ea)),
+            Operand::Mem(Width::Word, ea) => self.word_at(ea),
             Operand::Const(_, constant) => constant,
         }
+    }
+
+    /// The word in memory at an address.
+    pub(crate) fn word_at(&self, ea: Ea) -> u16
+        ensures { result ≡ operand_value (state_of self.now) (mem_operand word_width ea) }
+    {
+        self.load_word(self.segment(ea), self.offset(ea))
     }
 
     /// Gives an operand a value.
@@ -180,7 +207,7 @@ impl Machine {
                 let word = half.put(self.reg(r), value as u8);
                 self.set_reg(r, word);
             }
-            Operand::Seg(number) => self.segs[number as usize] = value,
+            Operand::Seg(number) => self.set_segment(number, value),
             Operand::Mem(Width::Byte, ea) => {
                 self.store_byte(self.segment(ea), self.offset(ea), value as u8);
             }

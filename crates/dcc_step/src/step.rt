@@ -1,12 +1,14 @@
 //! Steps and runs.
 
-ghost use Rattle.std.specs.Prelude.{◌≡◌, ◌≢◌, IfSome, OnOk, IfErr, IsErrOf, Option, Some, None};
+ghost use Rattle.std.specs.Prelude.{◌≡◌, ◌≢◌, ℕ, true, false, IfSome, OnOk, IfErr, IsErrOf, Option, Some, None};
 ghost use Rattle.dcc_run.specs.End.{Running as running};
 ghost use Rattle.dcc_prog.specs.declared.instr.Op.{Op};
 ghost use Rattle.dcc_prog.specs.Table.{instruction_at};
 ghost use Rattle.dcc_prog.specs.Step.{code_byte, code_bytes, op_step};
 ghost use Rattle.dcc_prog.specs.WellFormed.{IsOperation};
 ghost use Rattle.dcc_step.specs.Core.{state_of, changed_by};
+ghost use Rattle.dcc_step.specs.declared.form.Form.TheVariants.{Other};
+ghost use Rattle.dcc_step.specs.Form.{op_of, IsQuietStep};
 ghost use Rattle.dcc_console.specs.Counts.{CountsFaults};
 ghost use Rattle.dcc_console.specs.Scene.{scene};
 ghost use Rattle.dcc_console.specs.Steps.{Makes, Steps, HasEnded, Runs, made, refusal_of};
@@ -15,12 +17,13 @@ ghost use Rattle.dcc_step.specs.Stepped.{machine, machine_by, LeadsOnBytes, outc
 
 use crate::cache::{CACHE_SIZE, Decoded};
 use crate::ending::{Ending, Stepped};
+use crate::form::Form;
 use crate::machine::Machine;
 use crate::operand::physical_address;
 use dcc_console::Fault;
 use dcc_io::{Sink, Source};
-use dcc_num::Reg;
-use dcc_prog::{Instr, Op};
+use dcc_num::{Reg, Width, dec, inc};
+use dcc_prog::{CS, Instr, Op};
 
 impl Machine {
     // The byte at so many bytes past the instruction pointer, whose offset wraps.
@@ -65,15 +68,88 @@ impl Machine {
         ensures found { result ≡ instruction_at self.old.cpu self.old.ip (code_bytes (state_of self.old)) }
         ensures operation { IfSome result (λ instr. IsOperation instr.op) }
     {
-        let window = self.window();
         let place = usize::from(self.ip) % CACHE_SIZE;
-        let last = self.cache[place];
+        let last = &self.cache[place];
+        if self.trusted && last.known && last.at == self.ip {
+            return last.instr;
+        }
+        let window = self.window();
         if last.at == self.ip && last.window == window {
             return last.instr;
         }
+        self.decode(window)
+    }
+
+    // The instruction of the bytes at the instruction pointer, which is known from then on.
+    fn decode(&mut self, window: [u8; 6]) -> Option<Instr>
+        requires { window ≡ code_bytes (state_of self.old) }
+        ensures kept { self.new ≡ self.old }
+        ensures found { result ≡ instruction_at self.old.cpu self.old.ip (code_bytes (state_of self.old)) }
+        ensures operation { IfSome result (λ instr. IsOperation instr.op) }
+    {
         let decoded = Decoded::of(self.ip, &window, self.cpu);
-        self.cache[place] = decoded;
+        self.marks.mark_from(self.segs[CS as usize], self.ip);
+        self.cache[usize::from(self.ip) % CACHE_SIZE] = decoded;
         decoded.instr
+    }
+
+    // The form of the next instruction, and its length, where it is known and has one.
+    #[inline(always)]
+    fn next_form(&self) -> Option<(Form, u8)>
+        ensures form { IfSome result (λ next. next.0 ≢ Other) }
+        ensures found { IfSome result (λ next.
+            instruction_at self.now.cpu self.now.ip (code_bytes (state_of self.now))
+            ≡ Some (record { op = op_of next.0; len = next.1 })) }
+    {
+        let last = &self.cache[usize::from(self.ip) % CACHE_SIZE];
+        if !self.trusted || !last.known || last.at != self.ip {
+            return None;
+        }
+        match last.form {
+            Form::Other => None,
+            form => Some((form, last.len)),
+        }
+    }
+
+    // An operation of a form.
+    #[inline(always)]
+    fn operate_form(&mut self, form: Form)
+        requires { form ≢ Other }
+        ensures { (at : ℕ) → self.new ≡ changed_by (op_step self.old.cpu (op_of form) at) self.old }
+    {
+        match form {
+            Form::Registers(kind, a, b) => self.alu_word(kind, a, self.reg(b)),
+            Form::Constant(kind, a, constant) => self.alu_word(kind, a, constant),
+            Form::Memory(kind, a, ea) => self.alu_word(kind, a, self.word_at(ea)),
+            Form::Inc(r) => self.put_word(r, inc(Width::Word, self.reg(r), self.flags)),
+            Form::Dec(r) => self.put_word(r, dec(Width::Word, self.reg(r), self.flags)),
+            Form::Move(a, b) => self.set_reg(a, self.reg(b)),
+            Form::Set(r, constant) => self.set_reg(r, constant),
+            Form::Load(r, ea) => self.set_reg(r, self.word_at(ea)),
+            Form::Store(ea, r) => {
+                self.store_word(self.segment(ea), self.offset(ea), self.reg(r));
+            }
+            Form::Jump(target) => self.ip = target,
+            Form::Branch(condition, target) => self.jump_if(condition.holds(self.flags), target),
+            Form::Other => {}
+        }
+    }
+
+    // Makes the next step of a machine that runs, where the instruction is known and has a form; answers whether it did.
+    #[inline(always)]
+    fn make_form(&mut self) -> bool
+        ensures made { result ≡ true → IsQuietStep self.old self.new }
+        ensures kept { result ≡ false → self.new ≡ self.old }
+    {
+        let Ending::Running = self.end else {
+            return false;
+        };
+        let Some((form, len)) = self.next_form() else {
+            return false;
+        };
+        self.ip = self.ip.wrapping_add(u16::from(len));
+        self.operate_form(form);
+        true
     }
 
     // An operation of the instruction at an offset, other than INT 21h.
@@ -136,9 +212,8 @@ impl Machine {
         }
     }
 
-    /// Makes the step of the instruction that `next_instruction` answered, of a machine that runs. It answers as `step`
-    /// does.
-    pub fn make<I: Source, O: Sink>(
+    // Makes the step of the instruction that was found by its operation.
+    fn make_operation<I: Source, O: Sink>(
         &mut self,
         found: Option<Instr>,
         input: &mut I,
@@ -170,6 +245,33 @@ impl Machine {
         self.end.answer()
     }
 
+    /// Makes the step of the instruction that `next_instruction` answered, of a machine that runs. It answers as `step`
+    /// does.
+    pub fn make<I: Source, O: Sink>(
+        &mut self,
+        found: Option<Instr>,
+        input: &mut I,
+        out: &mut O,
+    ) -> Stepped
+        requires runs { self.old.end ≡ running }
+        requires found { found ≡ instruction_at self.old.cpu self.old.ip (code_bytes (state_of self.old)) }
+        requires operation { IfSome found (λ instr. IsOperation instr.op) }
+        ensures step { Steps machine (outcome_of result)
+            (scene self.old (I.left input.old) (O.taken out.old))
+            (scene self.new (I.left input.new) (O.taken out.new)) }
+
+        // What is taken is a byte: where the step was made, the machine's step on an input of bytes leads here too.
+        ensures bytes { outcome_of result ≡ made → LeadsOnBytes definition.step self.old self.new }
+        ensures answer { HasEnded machine self.new (end_told result) }
+        ensures faults { CountsFaults (result ≡ Stepped.InFault) (result ≡ Stepped.OutFault)
+            (I.faults input.old) (I.faults input.new) (O.faults out.old) (O.faults out.new) }
+    {
+        if self.make_form() {
+            return Stepped::Running;
+        }
+        self.make_operation(found, input, out)
+    }
+
     /// Makes one instruction of the machine's processor (8086 Family User's Manual, table 2-21; iAPX 86/88,
     /// 186/188 User's Manual, Programmer's Reference). A machine whose run has ended answers its end again and
     /// changes nothing.
@@ -177,6 +279,7 @@ impl Machine {
     /// Exit comes from INT 21h with 4Ch, Divide from a quotient that does not fit, and Outside where
     /// no instruction of the table stands or INT 21h has another number. InFault and OutFault come
     /// where a read or a write failed: the machine is as before, and what was read or written stays so.
+    #[inline(always)]
     pub fn step<I: Source, O: Sink>(&mut self, input: &mut I, out: &mut O) -> Stepped
         ensures step { Steps machine (outcome_of result)
             (scene self.old (I.left input.old) (O.taken out.old))
@@ -188,11 +291,14 @@ impl Machine {
         ensures faults { CountsFaults (result ≡ Stepped.InFault) (result ≡ Stepped.OutFault)
             (I.faults input.old) (I.faults input.new) (O.faults out.old) (O.faults out.new) }
     {
+        if self.make_form() {
+            return Stepped::Running;
+        }
         let Ending::Running = self.end else {
             return self.end.answer();
         };
         let found = self.next_instruction();
-        self.make(found, input, out)
+        self.make_operation(found, input, out)
     }
 
     /// Makes steps until one answers something else than Running, at most so many. After a fault the

@@ -21,9 +21,9 @@ use Rattle.dcc_text.specs.Spelled.{Way, Low, Exact, Signed, unsigned_type, cut, 
 use Rattle.dcc_text.specs.Names.{names_in, place_name, read_names}
 
 -- at most so many levels, and these names
-record Has (depth : ℕ) (names : List Word) (e : Expr) : Type 0 where
-  shallow : expr_depth e ≤ depth
-  reads : names_in e ≡ names
+pub record Has (depth : ℕ) (names : List Word) (e : Expr) : Type 0 where
+  pub shallow : expr_depth e ≤ depth
+  pub reads : names_in e ≡ names
 
 deeper : (d c : ℕ) (names : List Word) (e : Expr) → d ≤ c → Has d names e → Has c names e
 deeper d c names e low x = record { shallow = omega (arith, low, x.shallow); reads = x.reads }
@@ -128,7 +128,7 @@ placed-has (Some p) =
     there = cast-has 2 (p.name ∷ []) _ _ (either-has p.is_array 2 (p.name ∷ []) _ _ (deeper 1 2 _ _ (omega arith) (name-has p.name)) (unary-has 1 _ _ _ (name-has p.name)))
 
 module _ (s : Spelling) where
-  pointer-has : (width d : ℕ) (address : inner.Expr) (e : Expr) → 1 ≤ d → Has d (read_names s address) e → Has (suc d) (read_names s address) (pointer s width address e)
+  pub pointer-has : (width d : ℕ) (address : inner.Expr) (e : Expr) → 1 ≤ d → Has d (read_names s address) e → Has (suc d) (read_names s address) (pointer s width address e)
   pointer-has width d (inner.Get location) e some x =
       either-has (same_type (s.type location) (pointer_to (unsigned_type width))) (suc d) _ _ _ (deeper 1 (suc d) _ _ (omega (arith, some)) (name-has (s.name location))) (cast-has d _ _ e x)
   pointer-has width d address e some x = cast-has d (read_names s address) _ e x
@@ -138,7 +138,7 @@ module _ (s : Spelling) where
   unary-text-has Not width d names e x = either-has (width == 1) (suc (suc d)) names _ _ (numbered-has d names _ e 1 Int x) (unary-has (suc d) names _ e x)
   unary-text-has IsZero width d names e x = numbered-has d names _ e 0 Int x
 
-  depth-some : (e : inner.Expr) → 1 ≤ depth_of e
+  pub depth-some : (e : inner.Expr) → 1 ≤ depth_of e
   depth-some (inner.Const width n) = omega arith
   depth-some (inner.Get location) = omega arith
   depth-some (inner.Load width address) = omega arith
@@ -157,7 +157,7 @@ module _ (s : Spelling) where
   right-deep : (a b : ℕ) (names : List Word) (e : Expr) → Has (6 * b) names e → Has (6 * max a b) names e
   right-deep a b names e x = deeper (6 * b) (6 * max a b) names e (omega arith) x
 
-  text-has : (e : inner.Expr) (way : Way) (votes : Bool) → Has (6 * depth_of e) (read_names s e) (text s way votes e)
+  pub text-has : (e : inner.Expr) (way : Way) (votes : Bool) → Has (6 * depth_of e) (read_names s e) (text s way votes e)
   text-has (inner.Const width n) way votes = constant-has way width n
   text-has (inner.Get location) way votes = variable-has way votes (s.settled location) (location_width s.bits location) (s.type location) _ _ (name-has (s.name location))
   text-has (inner.Load width address) way votes =

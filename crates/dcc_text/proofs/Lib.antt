@@ -12,6 +12,7 @@ pub mod Shifts
 pub mod Divisions
 pub mod Parts
 pub mod Choices
+pub mod Halves
 pub mod Constants
 pub mod Readings
 pub mod Addresses
@@ -25,4 +26,7 @@ pub mod DosSteps
 pub mod ByteDivisions
 pub mod DivisionTexts
 pub mod StmtLaws
+pub mod Typings
+pub mod TypedTexts
+pub mod AllowedStmts
 pub mod Examples

@@ -1,5 +1,5 @@
 -- The law of statements: one step of the text does what a statement does.
-use Rattle.std.proofs.Common.{◌≡◌, ℕ, ◌⊎◌, inl, inr, Bool, true, false, ◌==◌, ◌&&◌, ◌||◌, List, [], ◌∷◌, ◌++◌, refl, sym, ap, ap₂, ◌∙◌, subst, true≢false}
+use Rattle.std.proofs.Common.{◌≡◌, ℕ, ◌⊎◌, inl, inr, Bool, true, false, ◌==◌, ◌&&◌, List, [], ◌∷◌, ◌++◌, refl, sym, ap, ap₂, ◌∙◌, subst, true≢false}
 use Rattle.std.specs.Prelude.{if◌then◌else◌, All, Contains}
 use Rattle.std.proofs.lemmas.Bool.{and_parts, cases_Bool, eqb-true}
 use Rattle.std.proofs.lemmas.List.Elements.{All-head, All-tail}
@@ -10,7 +10,7 @@ use Rattle.dcc_ir.specs.Location.{location_width}
 use Rattle.dcc_ir.specs.Tree as inner
 use Rattle.dcc_ir.specs.Use.{exprs_of, writes_of, parts_of}
 use Rattle.dcc_ir.specs.Value.{width_of, value_of, division_of, division_at, binary_value, Fits}
-use Rattle.dcc_ir.specs.WellFormed.{is_width, is_stored_width, is_division, is_expr, is_expr_of, is_stmt, is_location, is_dividing}
+use Rattle.dcc_ir.specs.WellFormed.{is_stored_width, is_division, is_expr, is_expr_of, is_stmt, is_location, is_dividing}
 use Rattle.dcc_ir.specs.Run as inner_run
 use Rattle.dcc_c.specs.declared.syntax.CType.{CType}
 use Rattle.dcc_c.specs.Tree as tree

@@ -1,7 +1,9 @@
 pub mod Spelling
 pub mod Spelled
 pub mod Names
+pub mod Views
 pub mod Meaning
 pub mod Stmts
 pub mod Holding
 pub mod Laws
+pub mod Allowed

@@ -3,6 +3,7 @@
 ghost use Rattle.dcc_text.specs.Holding.{Locations, Alike};
 ghost use Rattle.dcc_text.specs.Laws.{ExpressionsMean, ExpressionsAreShallow};
 ghost use Rattle.dcc_text.specs.Laws.{ExpressionsReadTheirNames, StatementsStep};
+ghost use Rattle.dcc_text.specs.Allowed.{ExpressionsAreAllowed, StatementsAreAllowed};
 
 /// The text of an expression gives the expression's value, in each way.
 pub fn expressions_mean()
@@ -31,4 +32,14 @@ pub trait SomeHolding {
 /// One step of the text does what a statement does that is no call, and faults where it does.
 pub fn statements_step<H: SomeHolding>()
     ensures { StatementsStep H.before H.after H.alike }
+{}
+
+/// The text of an expression is allowed where the names of the spelling are declared.
+pub fn expressions_are_allowed()
+    ensures { ExpressionsAreAllowed }
+{}
+
+/// The text of a statement that is no call is allowed where the names of the spelling are declared.
+pub fn statements_are_allowed()
+    ensures { StatementsAreAllowed }
 {}

@@ -28,7 +28,7 @@ pub record RunsAgree {T : Type 0} (cpu : Cpu) (image : Image) (text : Subject T)
     pub never_stuck : (k line : ℕ) → ending_after text k input ≢ Stuck line
 
 -- THE THEOREM. A text was appended to the output that does what the executable of this name does on this processor, on
--- every input. What has a text so far uses no stack, so each run of the executable is clean.
+-- every input, as long as the executable's run is clean.
 pub record HasText (cpu : Cpu) (told : Files) (name : List ℕ) (before after : Option (List ℕ)) : Type 0 where
   pub file : List ℕ
   pub text : List ℕ
@@ -40,7 +40,6 @@ pub record HasText (cpu : Cpu) (told : Files) (name : List ℕ) (before after : 
   pub tree : Tree
   pub stands : StandsFor text tree
   pub written_is : text ≡ written_form tree
-  pub clean : (input : List ℕ) (n : ℕ) → All (λ b. b < 256) input → IsClean cpu image input n
   pub runs : (input : List ℕ) (fill : ℕ) → All (λ b. b < 256) input → fill < 2 ^ 16
       → RunsAgree cpu image (text_of tree stands.allowed.start fill) (length stands.tokens) input
 

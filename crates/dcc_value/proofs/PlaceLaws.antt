@@ -85,12 +85,12 @@ not_found (d ∷ names) (b ∷ bs) word rest e =
 -- what is declared as in memory is there
 pub placed_at : (names : List Declared) (bs : List Bound) (i : ℕ) (b : Bound) → map declared_by (bindings_named names bs) ≡ names →
     list_all (λ (d : Declared). d.is_placed) names ≡ true → (d : Declared) → slice_get names i ≡ Some d → slice_get bs i ≡ Some b →
-    is_placed (storage_of b.storage) ≡ true
+    is_placed (storage_of b.is_placed b.bits) ≡ true
 placed_at [] bs i b fits all d is here = absurd cc
 placed_at (e ∷ names) [] i b fits all d is here = absurd cc
 placed_at (e ∷ names) (f ∷ bs) zero b fits all d is here =
     let (first, others) = and_parts e.is_placed (list_all (λ (d : Declared). d.is_placed) names) all in
-    ap (λ (x : Bound). is_placed (storage_of x.storage)) (sym (same_Some f b here)) ∙ ap (λ (x : Declared). x.is_placed) (heads _ _ _ _ fits) ∙ first
+    ap (λ (x : Bound). is_placed (storage_of x.is_placed x.bits)) (sym (same_Some f b here)) ∙ ap (λ (x : Declared). x.is_placed) (heads _ _ _ _ fits) ∙ first
 placed_at (e ∷ names) (f ∷ bs) (suc i) b fits all d is here =
     let (first, others) = and_parts e.is_placed (list_all (λ (d : Declared). d.is_placed) names) all in
     placed_at names bs i b (tails _ _ _ _ fits) others d is here
@@ -149,7 +149,7 @@ declared_after (d ∷ names) [] i b new v alone here is fits = absurd cc
 declared_after (d ∷ names) (f ∷ bs) zero b new v alone here is fits =
     let same : f ≡ b = same_Some f b here in
     let agrees : declared_by (binding_named d.name b) ≡ d = ap (λ x. declared_by (binding_named d.name x)) (sym same) ∙ heads _ _ _ _ fits in
-    let kept : false ≡ is_placed (storage_of b.storage) = sym (ap (λ (x : Declared). x.is_placed) agrees ∙ alone) in
+    let kept : false ≡ is_placed (storage_of b.is_placed b.bits) = sym (ap (λ (x : Declared). x.is_placed) agrees ∙ alone) in
     let entry : Bool → Declared = λ p. record { name = d.name; type = b.ty; is_array = b.is_array; is_placed = p } in
     ap (λ x. declared_by x ∷ map declared_by (bindings_named names bs)) (is d.name)
     ∙ ap (λ p. entry p ∷ map declared_by (bindings_named names bs)) kept

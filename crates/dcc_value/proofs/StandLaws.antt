@@ -8,8 +8,6 @@ use Rattle.dcc_c.specs.Tree.{Word, Name, Unary}
 use Rattle.dcc_c.specs.Typing.{Declared}
 use Rattle.dcc_c.specs.Value.{Gives, and_then, given, Binding, is_placed, declared_by, variable_in, variable_value, address_value, variable_target, ToVariable}
 use Rattle.dcc_value.specs.declared.variable.Binding.{Binding as Bound}
-use Rattle.dcc_value.specs.declared.variable.Storage.{Storage as Kept}
-use Rattle.dcc_value.specs.declared.variable.Storage.TheVariants.{Unplaced as KeptAlone, PlacedAt as KeptAt}
 use Rattle.dcc_value.specs.declared.expression.Slot.{Slot}
 use Rattle.dcc_value.specs.declared.expression.Slot.TheVariants.{Local as InFrame, Global as InGlobals}
 use Rattle.dcc_value.specs.declared.expression.Resolved.{Variable, AddressOf as AddressIn, Meaningless}
@@ -21,47 +19,47 @@ use Rattle.dcc_value.proofs.PlaceLaws.{Found, found, not_found, placed_at, name_
 module _ (names : List Declared) (word : Word) (i : ℕ) (at : index_named names word ≡ Some i) where
   local_target : (b : Bound) →
       and_then (λ t. Gives (target_named names t)) (slot_target (InFrame i) (unnamed b)) ≡ variable_target word (binding_named word b)
-  local_target b = cases b.is_array b.storage
+  local_target b = cases b.is_array b.is_placed b.bits
     where
-      cases : (array : Bool) (storage : Kept) →
-          and_then (λ t. Gives (target_named names t)) (slot_target (InFrame i) (unnamed (record { ty = b.ty; is_array = array; storage = storage })))
-          ≡ variable_target word (binding_named word (record { ty = b.ty; is_array = array; storage = storage }))
-      cases true storage = refl
-      cases false (KeptAt place) = refl
-      cases false (KeptAlone bits) = ap (λ w. Gives (ToVariable w)) (name_found names word i at)
+      cases : (array placed : Bool) (bits : ℕ) →
+          and_then (λ t. Gives (target_named names t)) (slot_target (InFrame i) (unnamed (record { ty = b.ty; is_array = array; is_placed = placed; bits = bits })))
+          ≡ variable_target word (binding_named word (record { ty = b.ty; is_array = array; is_placed = placed; bits = bits }))
+      cases true placed bits = refl
+      cases false true bits = refl
+      cases false false bits = ap (λ w. Gives (ToVariable w)) (name_found names word i at)
 
   local_lands : (b : Bound) → slice_get names i ≡ Some (declared_by (binding_named word b)) →
       LandsIn names (slot_target (InFrame i) (unnamed b))
-  local_lands b declared = cases b.is_array b.storage declared
+  local_lands b declared = cases b.is_array b.is_placed b.bits declared
     where
-      cases : (array : Bool) (storage : Kept) →
-          slice_get names i ≡ Some (declared_by (binding_named word (record { ty = b.ty; is_array = array; storage = storage }))) →
-          LandsIn names (slot_target (InFrame i) (unnamed (record { ty = b.ty; is_array = array; storage = storage })))
-      cases true storage is = tt
-      cases false (KeptAt place) is = tt
-      cases false (KeptAlone bits) is =
+      cases : (array placed : Bool) (bits : ℕ) →
+          slice_get names i ≡ Some (declared_by (binding_named word (record { ty = b.ty; is_array = array; is_placed = placed; bits = bits }))) →
+          LandsIn names (slot_target (InFrame i) (unnamed (record { ty = b.ty; is_array = array; is_placed = placed; bits = bits })))
+      cases true placed bits is = tt
+      cases false true bits is = tt
+      cases false false bits is =
           (ap (index_named names) (name_found names word i at) ∙ at, subst IsAlone (sym is) refl)
 
 -- an assignment to a global variable, which is in memory
-global_target : (names : List Declared) (word : Word) (i : ℕ) (b : Bound) → is_placed (storage_of b.storage) ≡ true →
+global_target : (names : List Declared) (word : Word) (i : ℕ) (b : Bound) → is_placed (storage_of b.is_placed b.bits) ≡ true →
     and_then (λ t. Gives (target_named names t)) (slot_target (InGlobals i) (unnamed b)) ≡ variable_target word (binding_named word b)
-global_target names word i b placed = cases b.is_array b.storage placed
+global_target names word i b placed = cases b.is_array b.is_placed b.bits placed
   where
-    cases : (array : Bool) (storage : Kept) → is_placed (storage_of storage) ≡ true →
-        and_then (λ t. Gives (target_named names t)) (slot_target (InGlobals i) (unnamed (record { ty = b.ty; is_array = array; storage = storage })))
-        ≡ variable_target word (binding_named word (record { ty = b.ty; is_array = array; storage = storage }))
-    cases true storage is = refl
-    cases false (KeptAt place) is = refl
-    cases false (KeptAlone bits) is = absurd cc
+    cases : (array placed : Bool) (bits : ℕ) → is_placed (storage_of placed bits) ≡ true →
+        and_then (λ t. Gives (target_named names t)) (slot_target (InGlobals i) (unnamed (record { ty = b.ty; is_array = array; is_placed = placed; bits = bits })))
+        ≡ variable_target word (binding_named word (record { ty = b.ty; is_array = array; is_placed = placed; bits = bits }))
+    cases true placed bits is = refl
+    cases false true bits is = refl
+    cases false false bits is = absurd cc
 
 global_lands : (names : List Declared) (i : ℕ) (b : Bound) → LandsIn names (slot_target (InGlobals i) (unnamed b))
-global_lands names i b = cases b.is_array b.storage
+global_lands names i b = cases b.is_array b.is_placed b.bits
   where
-    cases : (array : Bool) (storage : Kept) →
-        LandsIn names (slot_target (InGlobals i) (unnamed (record { ty = b.ty; is_array = array; storage = storage })))
-    cases true storage = tt
-    cases false (KeptAt place) = tt
-    cases false (KeptAlone bits) = tt
+    cases : (array placed : Bool) (bits : ℕ) →
+        LandsIn names (slot_target (InGlobals i) (unnamed (record { ty = b.ty; is_array = array; is_placed = placed; bits = bits })))
+    cases true placed bits = tt
+    cases false true bits = tt
+    cases false false bits = tt
 
 -- what the variable with a name is, at its place
 record Seen (names : Names) (scene : Scene) (word : Word) (slot : Slot) : Type 0 where

@@ -1,10 +1,8 @@
 -- The values, variables and outcomes that those of the interpreter stand for.
-use Rattle.std.specs.Prelude.{List, [], ◌∷◌, map, string_bytes, Result, Ok, Err}
+use Rattle.std.specs.Prelude.{ℕ, Bool, true, false, List, [], ◌∷◌, map, string_bytes, Result, Ok, Err}
 use Rattle.dcc_value.specs.declared.value.Value.{Value as Held}
 use Rattle.dcc_value.specs.declared.value.NoValue.{NoValue}
 use Rattle.dcc_value.specs.declared.value.NoValue.TheVariants.{Divides as Faults, Undefined as Meaningless}
-use Rattle.dcc_value.specs.declared.variable.Storage.{Storage as Kept}
-use Rattle.dcc_value.specs.declared.variable.Storage.TheVariants.{Unplaced as KeptAlone, PlacedAt as KeptAt}
 use Rattle.dcc_value.specs.declared.variable.Binding.{Binding as Bound}
 use Rattle.dcc_value.specs.declared.variable.Declared.{Declared as Named}
 use Rattle.dcc_c.specs.Tree.{Word}
@@ -30,13 +28,13 @@ abbrev pub itself : {A : Type 0} → A → A
 itself a = a
 
 -- how a variable is kept
-abbrev pub storage_of : Kept → Storage
-storage_of (KeptAlone bits) = Unplaced bits
-storage_of (KeptAt at) = PlacedAt at
+abbrev pub storage_of : Bool → ℕ → Storage
+storage_of true at = PlacedAt at
+storage_of false bits = Unplaced bits
 
 -- a variable of this name
 abbrev pub binding_named : Word → Bound → Binding
-binding_named word b = record { name = word; type = b.ty; is_array = b.is_array; storage = storage_of b.storage }
+binding_named word b = record { name = word; type = b.ty; is_array = b.is_array; storage = storage_of b.is_placed b.bits }
 
 -- a variable without its name, which says nothing of its value
 abbrev pub unnamed : Bound → Binding

@@ -9,7 +9,7 @@ ghost use Rattle.dcc_value.specs.Resolved.{scene_of, slot_in, evaluated, slot_ta
 
 use crate::value::memory::store;
 use crate::value::{NoValue, Value, both_values, converted, is_zero, truth_value, unary_value};
-use crate::variable::{Binding, Scene, Storage, address_value, pointed_value, variable_value};
+use crate::variable::{Binding, Scene, address_value, pointed_value, variable_value};
 use dcc_c::{CBin, CType, CUn};
 
 /// The place of a variable.
@@ -133,10 +133,10 @@ fn variable_target(slot: Slot, b: Binding) -> Result<Target, NoValue>
     if b.is_array {
         return Err(NoValue::Undefined);
     }
-    match (b.storage, slot) {
-        (Storage::PlacedAt(at), _) => Ok(Target::Memory(b.ty, at)),
-        (Storage::Unplaced(_), Slot::Local(i)) => Ok(Target::Local(i)),
-        (Storage::Unplaced(_), Slot::Global(_)) => Err(NoValue::Undefined),
+    match (b.is_placed, slot) {
+        (true, _) => Ok(Target::Memory(b.ty, b.bits)),
+        (false, Slot::Local(i)) => Ok(Target::Local(i)),
+        (false, Slot::Global(_)) => Err(NoValue::Undefined),
     }
 }
 
@@ -159,7 +159,8 @@ fn with_value(b: Binding, v: Value) -> Binding
     Binding {
         ty: b.ty,
         is_array: b.is_array,
-        storage: Storage::Unplaced(converted(b.ty, v).bits),
+        is_placed: false,
+        bits: converted(b.ty, v).bits,
     }
 }
 

@@ -10,15 +10,6 @@ use crate::value::memory::loaded;
 use crate::value::{NoValue, Value};
 use dcc_c::CType;
 
-/// How a variable is kept.
-#[derive(Clone, Copy, PartialEq, Eq, Debug)]
-pub enum Storage {
-    /// By itself, with these bits.
-    Unplaced(u32),
-    /// In memory, from this address on.
-    PlacedAt(u32),
-}
-
 /// A variable with its storage; the type is that of its elements where it is an array.
 #[derive(Clone, Copy, PartialEq, Eq, Debug)]
 pub struct Binding {
@@ -26,8 +17,10 @@ pub struct Binding {
     pub ty: CType,
     /// Whether it is an array.
     pub is_array: bool,
-    /// How it is kept.
-    pub storage: Storage,
+    /// Whether it is kept in memory.
+    pub is_placed: bool,
+    /// Its address where it is kept in memory, and else its bits.
+    pub bits: u32,
 }
 
 /// What a name is declared as.
@@ -80,20 +73,23 @@ pub struct Scene<'a> {
 pub fn variable_value(memory: &[u8], b: Binding) -> Result<Value, NoValue>
     ensures { outcome_of typed result ≡ variable_value memory.now (unnamed b) }
 {
-    match b.storage {
-        Storage::PlacedAt(at) if b.is_array => {
+    match (b.is_placed, b.is_array) {
+        (true, true) => {
             if b.ty.pointer {
                 Err(NoValue::Undefined)
             } else {
                 Ok(Value {
                     ty: CType::pointer_to(b.ty.base),
-                    bits: at,
+                    bits: b.bits,
                 })
             }
         }
-        Storage::PlacedAt(at) => Ok(loaded(memory, b.ty, at)),
-        Storage::Unplaced(_) if b.is_array => Err(NoValue::Undefined),
-        Storage::Unplaced(bits) => Ok(Value { ty: b.ty, bits }),
+        (true, false) => Ok(loaded(memory, b.ty, b.bits)),
+        (false, true) => Err(NoValue::Undefined),
+        (false, false) => Ok(Value {
+            ty: b.ty,
+            bits: b.bits,
+        }),
     }
 }
 
@@ -101,13 +97,13 @@ pub fn variable_value(memory: &[u8], b: Binding) -> Result<Value, NoValue>
 pub fn address_value(b: Binding) -> Result<Value, NoValue>
     ensures { outcome_of typed result ≡ address_value (unnamed b) }
 {
-    match b.storage {
-        Storage::PlacedAt(at) if !b.is_array && !b.ty.pointer => Ok(Value {
-            ty: CType::pointer_to(b.ty.base),
-            bits: at,
-        }),
-        _ => Err(NoValue::Undefined),
+    if !b.is_placed || b.is_array || b.ty.pointer {
+        return Err(NoValue::Undefined);
     }
+    Ok(Value {
+        ty: CType::pointer_to(b.ty.base),
+        bits: b.bits,
+    })
 }
 
 /// What stands at an address.

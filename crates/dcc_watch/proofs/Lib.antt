@@ -14,4 +14,3 @@ pub mod RunProofs
 pub mod ShapeLaws
 pub mod StepLaws
 pub mod Stored
-pub mod Strings

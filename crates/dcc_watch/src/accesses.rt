@@ -382,14 +382,7 @@ fn other_read(segment: u16, offset: u16, size: u32) -> Access
 fn string_size(machine: &Machine) -> u32
     ensures { result ≡ string_size (state_of machine.now) }
 {
-    let segment = machine.ds();
-    let start = machine.reg(Reg::Dx);
-    for k in 0..dos::STRING_MOST {
-        if machine.load_byte(segment, start.wrapping_add(k as u16)) == dos::STRING_END {
-            return k + 1;
-        }
-    }
-    dos::STRING_MOST
+    (machine.string_length() + 1).min(dos::STRING_MOST)
 }
 
 // Whether an operand lies in memory.

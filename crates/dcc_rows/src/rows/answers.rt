@@ -117,7 +117,7 @@ fn files_without_an_image_are_refused(rt: HostRuntime) -> Result<(), Fail> {
 // The code after the instructions that set DS, the status and the line.
 type RefusalRow = (&'static [u8], u8, &'static str);
 
-static REFUSALS: [RefusalRow; 21] = [
+static REFUSALS: [RefusalRow; 17] = [
     // No instruction of the profile.
     (b"\xCD\x20", 9, "dcc: construct 2 at 0005\n"),
     // CLI after the prelude.
@@ -167,38 +167,25 @@ static REFUSALS: [RefusalRow; 21] = [
         9,
         "dcc: construct 12 at 000A\n",
     ),
-    // What is not built: memory, addresses and the stack.
+    // What is not built: a call, after a load, before a division and before a written string.
     (
-        b"\xA1\x00\x00\xB8\x00\x4C\xCD\x21",
+        b"\xA1\x00\x02\xE8\x05\x00\xB8\x00\x4C\xCD\x21\xC3",
+        12,
+        "dcc: not yet at 0008\n",
+    ),
+    (
+        b"\xE8\x09\x00\x99\xF7\xF9\xB8\x00\x4C\xCD\x21\x90\xC3",
         12,
         "dcc: not yet at 0005\n",
     ),
     (
-        b"\x8D\x07\xB8\x00\x4C\xCD\x21",
+        b"\xE8\x09\x00\xB4\x09\xCD\x21\xB8\x00\x4C\xCD\x21\xC3",
         12,
         "dcc: not yet at 0005\n",
-    ),
-    (b"\xD7\xB8\x00\x4C\xCD\x21", 12, "dcc: not yet at 0005\n"),
-    (b"\x50\xB8\x00\x4C\xCD\x21", 12, "dcc: not yet at 0005\n"),
-    // A call, a division and a written string.
-    (
-        b"\xE8\x05\x00\xB8\x00\x4C\xCD\x21\xC3",
-        12,
-        "dcc: not yet at 0005\n",
-    ),
-    (
-        b"\xB8\x01\x00\x99\xF7\xF9\xB8\x00\x4C\xCD\x21",
-        12,
-        "dcc: not yet at 0009\n",
-    ),
-    (
-        b"\xB4\x09\xCD\x21\xB8\x00\x4C\xCD\x21",
-        12,
-        "dcc: not yet at 0007\n",
     ),
     // A construct comes before what is not built, wherever it stands.
     (
-        b"\xA1\x00\x00\xB8\x00\x4C\xFA\xCD\x21",
+        b"\xE8\x06\x00\xB8\x00\x4C\xFA\xCD\x21\xC3",
         9,
         "dcc: construct 2 at 000B\n",
     ),

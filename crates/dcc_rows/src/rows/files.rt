@@ -61,6 +61,26 @@ pub(super) fn program(rt: &impl Abort, alloc: Global, code: &[u8]) -> Result<Vec
     Ok(file)
 }
 
+/// The file of a program with data after its code, where DS begins.
+pub(super) fn program_with_data(
+    rt: &impl Abort,
+    alloc: Global,
+    code: &[u8],
+    data: &[u8],
+) -> Result<Vec<u8>, AllocError> {
+    let mut file = program(rt, alloc, code)?;
+    file.extend_from_slice(data)?;
+    assert!(rt; file.len() >= 6);
+    assert!(rt; file.len() <= 131_072);
+    let [low, high] = ((file.len() % 512) as u16).to_le_bytes();
+    file[2] = low;
+    file[3] = high;
+    let [low, high] = (file.len().div_ceil(512) as u16).to_le_bytes();
+    file[4] = low;
+    file[5] = high;
+    Ok(file)
+}
+
 /// The numbers, from 1 on, of a fetch, of a read and of writes that fail; 0 where none does.
 #[derive(Clone, Copy)]
 pub(super) struct Faults {

@@ -2,8 +2,8 @@
 
 use super::files::{
     Answer, Faults, NO_FAULTS, PRINTS_A, TWO_ENTRIES, answered, answered_on, program,
+    program_with_data,
 };
-use std::alloc::{AllocError, Global};
 use std::process::Abort;
 use std::test::Fail;
 
@@ -214,26 +214,6 @@ static RUNS: [Run; 25] = [
 
 fn runs() -> &'static [Run] {
     &RUNS
-}
-
-// The file of a program with data after its code, where DS begins.
-fn program_with_data(
-    rt: &impl Abort,
-    alloc: Global,
-    code: &[u8],
-    data: &[u8],
-) -> Result<Vec<u8>, AllocError> {
-    let mut file = program(rt, alloc, code)?;
-    file.extend_from_slice(data)?;
-    assert!(rt; file.len() >= 6);
-    assert!(rt; file.len() <= 131_072);
-    let [low, high] = ((file.len() % 512) as u16).to_le_bytes();
-    file[2] = low;
-    file[3] = high;
-    let [low, high] = (file.len().div_ceil(512) as u16).to_le_bytes();
-    file[4] = low;
-    file[5] = high;
-    Ok(file)
 }
 
 // The call must answer this status, this output and this line.

@@ -6,7 +6,8 @@ use Rattle.dcc_c.specs.TextOffences.{offences_of}
 use Rattle.dcc_c.specs.Views.{tree_of}
 use Rattle.dcc_lex.specs.TokenViews.{pieces_of}
 use Rattle.dcc_reader.specs.OffenceViews.{offence_of}
-use Rattle.dcc_parse.specs.Fault.{IsTreeOf}
+use Rattle.dcc_reader.specs.PartialViews.{text_of}
+use Rattle.dcc_parse.specs.Fault.{IsWhole, IsTreeOf}
 use Rattle.dcc_parse.proofs.ParseRules.{tree-stands, long-refused, version-refused, offence-refused, rows-few}
 use Rattle.dcc_parse.proofs.parser.parse_bytes.Goals as goal
 
@@ -17,19 +18,21 @@ returns-then-bytes-gt67108864-clause-refused c = long-refused c.args.bytes.now c
 pub returns-in_default-clause-refused : goal.returns-in_default-clause-refused
 returns-in_default-clause-refused c = version-refused c.args.bytes.now c.if-bytes-gt67108864.false (sym c.in_default.ensures)
 
-pub returns-in-Ok-clause-stands : goal.returns-in-Ok-clause-stands
-returns-in-Ok-clause-stands c =
-    tree-stands c.args.bytes.now c.in-Some.rest.now c.deref.result.now (tree_of c.in-Ok.unit) (sym c.in-Some.ensures)
+pub returns-in_ok-strip-in-Ok-clause-stands : goal.returns-in_ok-strip-in-Ok-clause-stands
+returns-in_ok-strip-in-Ok-clause-stands c =
+    let whole : IsWhole (pieces_of c.deref.result.now) (text_of c.in-Ok.text) =
+    subst (λ found. IfOk found (λ text. IsWhole (pieces_of c.deref.result.now) (text_of text))) c.in-Ok.is c.in_ok-text.ensures.text in
+    tree-stands c.args.bytes.now c.in-Some.rest.now c.deref.result.now (tree_of c.in_ok-strip-in-Ok.field-0) (sym c.in-Some.ensures)
     (ap pieces_of c.deref.ensures.value ∙ c.in_ok-pieces.ensures.pieces)
-    (subst (λ found. IfOk found (λ unit. IsTreeOf (pieces_of c.deref.result.now) (tree_of unit))) c.in-Ok.is c.in_ok-unit.ensures.unit)
+    (subst (IsTreeOf (pieces_of c.deref.result.now)) (sym (c.in_ok-strip-in-Ok.ensures whole.complete whole.none)) whole.tree)
 
 pub overflow_add-last : goal.overflow_add-last
 overflow_add-last c = omega (arith, rows-few c.args.bytes.now, c.line_feeds-last.ensures, c.if-bytes-gt67108864.false)
 
-pub returns-clause-refused : goal.returns-clause-refused
-returns-clause-refused c =
+pub returns-in-Err-clause-refused : goal.returns-in-Err-clause-refused
+returns-in-Err-clause-refused c =
     offence-refused c.args.bytes.now c.in-Some.rest.now c.deref.result.now c.in-Err.offence c.line_at.result c.if-bytes-gt67108864.false (sym c.in-Some.ensures)
     (ap pieces_of c.deref.ensures.value ∙ c.in_ok-pieces.ensures.pieces)
-    (subst (λ found. IfErr found (λ offence. first_of (offences_of (pieces_of c.deref.result.now)) ≡ Some (offence_of offence))) c.in-Err.is c.in_ok-unit.ensures.offence)
+    (subst (λ found. IfErr found (λ offence. first_of (offences_of (pieces_of c.deref.result.now)) ≡ Some (offence_of offence))) c.in-Err.is c.in_ok-text.ensures.offence)
     (c.line_at.ensures ∙ ap (λ n. line_at (pieces_of c.deref-in-Err.result.now) (1 + n) c.in-Err.offence.at) c.line_feeds-last.ensures
     ∙ ap (λ l. line_at (pieces_of l) (1 + rows c.args.bytes.now) c.in-Err.offence.at) (c.deref-in-Err.ensures.value ∙ sym c.deref.ensures.value))

@@ -2,7 +2,7 @@ use Rattle.std.proofs.Common.{◌<◌, ◌≡◌, Some, All, slice_get, length, 
 use Rattle.std.proofs.lemmas.List.{take_all}
 use Rattle.std.proofs.lemmas.List.Elements.{All-more}
 use Rattle.std.proofs.lemmas.Option.{slice_get_read}
-use Rattle.dcc_pipe.proofs.UnbuiltLaws.{AreBuiltNodes, all-built, not-yet}
+use Rattle.dcc_pipe.proofs.UnbuiltLaws.{HasNoCall, none-calls, not-yet}
 use Rattle.dcc_pipe.proofs.built.reached_unbuilt.Goals as goal
 
 pub returns-in-Some-clause-not_yet : goal.returns-in-Some-clause-not_yet
@@ -15,10 +15,11 @@ returns-in-Some-clause-not_yet c = λ image layout found.
 
 pub loop-proc-preserved : goal.loop-proc-preserved
 loop-proc-preserved c =
-    All-more AreBuiltNodes c.args.procs.now c.loop-proc.proc-index c.proc-item.result c.loop-proc-test.true c.loop-proc.invariant
-    (subst AreBuiltNodes c.proc-item.is c.in_default.ensures)
+    All-more HasNoCall c.args.procs.now c.loop-proc.proc-index c.proc-item.result c.loop-proc-test.true
+    c.loop-proc.invariant (subst HasNoCall c.proc-item.is c.in_default.ensures)
 
 pub returns-clause-built : goal.returns-clause-built
 returns-clause-built c = λ none image layout found.
-    all-built image layout c.args.procs.now found
-    (subst (All AreBuiltNodes) (take_all c.loop-proc.proc-index c.args.procs.now c.loop-proc-test.false) c.loop-proc.invariant)
+    none-calls image layout c.args.procs.now found
+    (subst (All HasNoCall) (take_all c.loop-proc.proc-index c.args.procs.now c.loop-proc-test.false)
+    c.loop-proc.invariant)

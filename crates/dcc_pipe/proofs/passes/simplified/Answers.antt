@@ -1,16 +1,18 @@
 use Rattle.std.proofs.Common.{[], ◌∷◌, ◌++◌, sym, ap, ◌∙◌, subst}
 use Rattle.dcc_ir.specs.Views.{graph_of, program_of}
 use Rattle.dcc_ir.specs.WellFormed.{IsGraph}
-use Rattle.dcc_pipe.specs.Textable.{levels}
+use Rattle.dcc_pipe.specs.Textable.{lifted_levels}
 use Rattle.dcc_pipe.proofs.SimplifiedLaws.{only-one, replaced-one}
-use Rattle.dcc_pipe.proofs.TextGraph.{graph-formed}
+use Rattle.dcc_pipe.proofs.TextableLaws.{graph-formed}
 use Rattle.dcc_pipe.proofs.passes.simplified.Goals as goal
 
 pub simplified_graph-requires : goal.simplified_graph-requires
 simplified_graph-requires c =
     let p = program_of c.args.p in
-    let only = only-one graph_of c.args.p.graphs.items c.remove-graph.result c.requires.graph c.remove-graph.ensures.value c.requires.one in
-    subst IsGraph (sym only.1) (graph-formed levels p c.requires)
+    let only =
+    only-one graph_of c.args.p.graphs.items c.remove-graph.result c.requires.graph c.remove-graph.ensures.value
+    c.requires.one in
+    subst IsGraph (sym only.1) (graph-formed lifted_levels p c.requires)
 
 pub returns : goal.returns
 returns c =

@@ -1,9 +1,8 @@
-use Rattle.std.proofs.Common.{Bool, ◌<◌, ◌≤◌, ◌++◌, [], ◌∷◌, length, take, map, sym, ap, ◌∙◌, arith}
+use Rattle.std.proofs.Common.{Bool, true, ◌<◌, ◌≤◌, ◌++◌, [], ◌∷◌, length, take, map, sym, ap, ◌∙◌, arith}
 use Rattle.std.proofs.lemmas.List.{take_more, take_all, map-append}
 use Rattle.dcc_c.specs.Rules.{declared_global}
 use Rattle.dcc_c.specs.Views.{global_of}
 use Rattle.dcc_value.specs.declared.variable.Binding.{Binding as Bound}
-use Rattle.dcc_value.specs.declared.variable.Storage.TheVariants.{PlacedAt}
 use Rattle.dcc_value.specs.Evaluation.{bindings_named}
 use Rattle.dcc_prepare.specs.Prepared.{global_bound}
 use Rattle.dcc_prepare.proofs.ProgramLaws.{globals_named}
@@ -15,7 +14,7 @@ loop-global-preserved c =
     let i = c.loop-global.global-index in
     let g = c.global-item.result in
     let within : i < length gs = omega arith in
-    let make : Bool → Bound = λ is_array. record { ty = g.ty; is_array = is_array; storage = PlacedAt g.at } in
+    let make : Bool → Bound = λ is_array. record { ty = g.ty; is_array = is_array; is_placed = true; bits = g.at } in
     c.in_ok-push.ensures.items
     ∙ ap (λ b. c.loop-global.bindings.items ++ make b ∷ []) c.is_some.ensures
     ∙ ap (λ bs. bs ++ global_bound g ∷ []) c.loop-global.invariant

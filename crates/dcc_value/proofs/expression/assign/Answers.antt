@@ -2,7 +2,6 @@ use Rattle.std.proofs.Common.{get_or, false, arith}
 use Rattle.std.proofs.lemmas.Option.{slice_get-get_or}
 use Rattle.dcc_c.specs.declared.syntax.Base.TheVariants.{Schar}
 use Rattle.dcc_value.specs.declared.variable.Binding.{Binding}
-use Rattle.dcc_value.specs.declared.variable.Storage.TheVariants.{Unplaced}
 use Rattle.dcc_value.specs.Evaluation.{typed}
 use Rattle.dcc_value.proofs.PlaceLaws.{assigned, assigned_past, declared_after}
 use Rattle.dcc_value.proofs.expression.assign.Goals as goal
@@ -10,7 +9,7 @@ use Rattle.dcc_value.proofs.expression.assign.Goals as goal
 -- what a read past the end would give
 past_end : Binding
 past_end =
-    record { ty = record { base = Schar; pointer = false }; is_array = false; storage = Unplaced 0 }
+    record { ty = record { base = Schar; pointer = false }; is_array = false; is_placed = false; bits = 0 }
 
 pub returns-then-i-frame-clause-variables : goal.returns-then-i-frame-clause-variables
 unfolding past_end

@@ -1,9 +1,0 @@
-use Rattle.std.proofs.Common.{sym, subst}
-use Rattle.dcc_ir.specs.Views.{graph_of}
-use Rattle.dcc_flow.specs.Edges.{AreWithin}
-use Rattle.dcc_flow.proofs.RowLaws.{successors_within}
-use Rattle.dcc_flow.proofs.tests.places_after.Goals as goal
-
-pub solve-requires-clause-next : goal.solve-requires-clause-next
-solve-requires-clause-next g c =
-    subst AreWithin (sym c.in_ok-next.ensures) (successors_within (graph_of c.args.graph.now) c.requires.graph)

@@ -1,4 +1,0 @@
-use Rattle.dcc_flow.proofs.tests.places_flow.Given as goal
-
-abbrev pub ghosts-places_after : goal.ghosts-places_after
-ghosts-places_after g a = record { name = a.blank.name; parts = a.blank.parts }

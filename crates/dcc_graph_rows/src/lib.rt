@@ -1,0 +1,11 @@
+//! Tests of the passes over graphs, by their public calls.
+#![tactic(auto)]
+
+#[cfg(test)]
+mod flows;
+#[cfg(test)]
+mod folding;
+#[cfg(test)]
+mod graphs;
+#[cfg(test)]
+mod living;

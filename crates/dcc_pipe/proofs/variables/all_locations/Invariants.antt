@@ -1,8 +1,0 @@
-use Rattle.std.proofs.Common.{◌≡◌, ◌++◌, map}
-use Rattle.std.specs.List.{range_with_len}
-use Rattle.dcc_ir.specs.declared.syntax.Loc.TheVariants.{Temp}
-use Rattle.dcc_pipe.specs.Variables.{named_locations}
-use Rattle.dcc_pipe.proofs.variables.all_locations.Given as goal
-
-abbrev pub invariant-loop-n : goal.invariant-loop-n
-invariant-loop-n l = l.list.items ≡ named_locations ++ map Temp (range_with_len 0 l.n)

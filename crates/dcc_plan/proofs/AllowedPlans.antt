@@ -1,0 +1,344 @@
+-- The text of a valid plan is allowed.
+use Rattle.std.proofs.Common.{◌≡◌, ℕ, ◌+◌, ◌*◌, ◌<◌, ◌≤◌, inl, inr, Bool, true, false, ◌==◌, List, [], ◌∷◌, ◌++◌, length, map, Some, None, refl, sym, ap, ap₂, ◌∙◌, subst, true≢false, arith}
+use Rattle.std.specs.Prelude.{◌&&◌, ◌||◌, not, nat_le, nat_lt, get_or, slice_get, All}
+use Rattle.std.specs.List.{list_all, flat_map}
+use Rattle.std.proofs.lemmas.Bool.{cases_Bool, and_parts, and_from, or_left, eqb-true, le-leb, lt-ltb}
+use Rattle.std.proofs.lemmas.List.{append-nil, map-append}
+use Rattle.std.proofs.lemmas.List.Concat.{flat_map-append}
+use Rattle.std.proofs.lemmas.List.Elements.{All-get_or, All-contains, All-head}
+use Rattle.std.proofs.lemmas.List.Folds.{list_all-append, list_all_at}
+use Rattle.std.proofs.lemmas.Option.{slice_get_cases, slice_get_within, get_or_from_slice_get}
+use Rattle.dcc_run.proofs.KeptLaws.{right_part}
+use Rattle.dcc_ir.specs.declared.syntax.Loc.{Loc}
+use Rattle.dcc_ir.specs.Live.{block_in}
+use Rattle.dcc_ir.specs.Measure.{depth_of}
+use Rattle.dcc_ir.specs.Run.{is_call, no_block}
+use Rattle.dcc_ir.specs.Tree as inner
+use Rattle.dcc_ir.specs.Use.{reads_of, exprs_of, writes_of, exit_exprs, block_exprs, graph_exprs}
+use Rattle.dcc_ir.specs.Value.{width_of}
+use Rattle.dcc_ir.specs.WellFormed.{is_expr, is_expr_of, is_stmt, is_exit, is_block, IsGraph}
+use Rattle.dcc_ir.proofs.ListLaws.{left_part, all_parts}
+use Rattle.dcc_ir.proofs.ReachedLaws.{contained}
+use Rattle.dcc_c.specs.Grammar.{Around, outermost, in_block, in_loop, in_switch, has_arm, is_among}
+use Rattle.dcc_c.specs.Parts.{stmts_in, inner_stmts, arm_stmts, label_of, labels_in}
+use Rattle.dcc_c.specs.Rules.{all_differ, declared_in, goto_of, is_switch_value, is_word_base, allows_stmt, shallow_stmt, expr_depth, cases_of, differ}
+use Rattle.dcc_c.specs.Tree as tree
+use Rattle.dcc_c.specs.Tree.{Word, Stmt, Function, Tree, Lines, no_lines, line}
+use Rattle.dcc_c.specs.Types.{promoted_type}
+use Rattle.dcc_c.proofs.Writable.{is_label, are_cases, is_writable_expr, is_writable_stmt, are_writable_lines, are_writable_arms}
+use Rattle.dcc_text.specs.Allowed.{AreDeclared, IsAllowedExpr, IsAllowedStmt}
+use Rattle.dcc_text.specs.Spelled.{Way, Low, Exact, text}
+use Rattle.dcc_text.specs.Spelling.{Spelling}
+use Rattle.dcc_text.specs.Stmts.{stmt_text}
+use Rattle.dcc_text.proofs.AllowedStmts.{stmt-allowed}
+use Rattle.dcc_text.proofs.Depths.{shallow}
+use Rattle.dcc_text.proofs.TypedTexts.{text-allowed}
+use Rattle.dcc_plan.specs.Allowed.{is_mark, has_an_arm, may_stand, item_may_stand, arms_may_stand, IsSpelled, PlanTextsAreAllowed}
+use Rattle.dcc_plan.specs.Plan as plan
+use Rattle.dcc_plan.specs.Plan.{Item, Plan, no_items, item, Arms, marks, item_marks, arm_marks, is_in, all_cases}
+use Rattle.dcc_plan.specs.PlanText as planned
+use Rattle.dcc_plan.specs.PlanText.{text_of_stmt, text_of_test, text_of_choice, IsPlanText, nothing, one_more, IsItemText, AreArmsText, no_more, next_arm}
+use Rattle.dcc_plan.specs.Valid.{Context, outside, IsValid, IsValidItem, AreValidArms}
+use Rattle.dcc_plan.proofs.LabelWords.{label, label-word, label-among, labels-apart}
+
+-- a test that holds of all elements holds of each
+all-at : {X : Type 0} (p : X → Bool) (xs : List X) (i : ℕ) (d : X) → i < length xs → list_all p xs ≡ true → p (get_or xs i d) ≡ true
+all-at p xs i d less all = elim (cases_Bool (p (get_or xs i d))) [
+  | inl is ↦ is
+  | inr not ↦ absurd (true≢false (sym all ∙ list_all_at p xs i d less not))
+]
+
+-- an element within a list
+record IsAt {X : Type 0} (xs : List X) (i : ℕ) : Type 0 where
+  element : X
+  there : slice_get xs i ≡ Some element
+
+is-at : {X : Type 0} (xs : List X) (i : ℕ) → i < length xs → IsAt xs i
+is-at xs i less = elim (slice_get_cases xs i).1 [
+  | inl x ↦ record { element = x.0; there = x.2 }
+  | inr past ↦ absurd (omega (arith, past.0, less))
+]
+
+-- Valid plans have labels of blocks of the graph alone.
+
+module _ (graph : inner.Graph) (whole : Plan) where
+  abbrev are_inside : List ℕ → Bool
+  are_inside bs = list_all (λ b. nat_lt b (length graph.blocks)) bs
+
+  both-inside : (xs ys : List ℕ) → are_inside xs ≡ true → are_inside ys ≡ true → are_inside (xs ++ ys) ≡ true
+  both-inside xs ys first second = list_all-append (λ b. nat_lt b (length graph.blocks)) xs ys ∙ and_from (are_inside xs) (are_inside ys) first second
+
+  mutual
+    marks-inside : (plan : Plan) (c : Context) → IsValid graph whole plan c → are_inside (marks plan) ≡ true
+    marks-inside no_items c v = refl
+    marks-inside (item i plan) c v = both-inside (item_marks i) (marks plan) (item-inside i plan c v.0) (marks-inside plan c v.1)
+
+    item-inside : (i : Item) (plan : Plan) (c : Context) → IsValidItem graph whole i plan c → are_inside (item_marks i) ≡ true
+    item-inside (plan.Do b m) rest c v = refl
+    item-inside (plan.Mark b) rest c (less, l) = and_from (nat_lt b (length graph.blocks)) true (lt-ltb b (length graph.blocks) less) refl
+    item-inside (plan.Jump b) rest c v = refl
+    item-inside (plan.If b one two) rest c (test, yes_place, no_place, exit, less, first, first_valid, second, second_valid) =
+        both-inside (marks one) (marks two) (marks-inside one _ first_valid) (marks-inside two _ second_valid)
+    item-inside (plan.Switch b arms) rest c (e, places, exit, less, lead, valid) = arms-inside arms _ valid
+    item-inside (plan.For b body) rest c (less, l, valid) = marks-inside body _ valid
+    item-inside plan.Break rest c v = refl
+    item-inside plan.Continue rest c v = refl
+
+    arms-inside : (arms : Arms) (c : Context) → AreValidArms graph whole arms c → are_inside (arm_marks arms) ≡ true
+    arms-inside plan.no_arms c v = refl
+    arms-inside (plan.arm cases body arms) c v = both-inside (marks body) (arm_marks arms) (marks-inside body c v.0) (arms-inside arms c v.1)
+
+-- a statement of a block is no label
+stmt-no-label : (s : Spelling) (stmt : inner.Stmt) → is_label (stmt_text s 2 stmt) ≡ false
+stmt-no-label s (inner.Set location e) = refl
+stmt-no-label s (inner.Fetch location width address) = refl
+stmt-no-label s (inner.Store width address e) = refl
+stmt-no-label s (inner.Div location e) = refl
+stmt-no-label s (inner.Call results entry arguments depth) = refl
+stmt-no-label s (inner.Dos number place argument) = refl
+
+module _ (whole : Tree) (f : Function) (s : Spelling) (graph : inner.Graph) (levels limit : ℕ) (declared : AreDeclared (declared_in whole f) s) (well : IsGraph graph)
+    (spelled : IsSpelled s levels graph) (enough : 6 * levels + 3 ≤ limit) (all : Plan) where
+  abbrev known : List Word
+  known = map (label graph well) (marks all)
+
+  -- what each statement passes
+  abbrev passes : Stmt → Bool
+  passes stmt = allows_stmt whole f stmt && (shallow_stmt limit stmt && list_all (is_among known) (goto_of stmt))
+
+  passes-from : (stmt : Stmt) → allows_stmt whole f stmt ≡ true → shallow_stmt limit stmt ≡ true → list_all (is_among known) (goto_of stmt) ≡ true → passes stmt ≡ true
+  passes-from stmt allowed low jumps = and_from (allows_stmt whole f stmt) (shallow_stmt limit stmt && list_all (is_among known) (goto_of stmt)) allowed (and_from (shallow_stmt limit stmt) (list_all (is_among known) (goto_of stmt)) low jumps)
+
+  -- Lines that are fine as the text of a plan, a statement as that of an item, and arms.
+
+  record IsFine (around : Around) (labelled : Bool) (plan : Plan) (lines : Lines) : Type 0 where
+    writable : are_writable_lines around labelled lines ≡ true
+    pass : list_all passes (stmts_in lines) ≡ true
+    labels : labels_in lines ≡ map (label graph well) (marks plan)
+
+  record IsFineItem (around : Around) (i : Item) (stmt : Stmt) : Type 0 where
+    writable : is_writable_stmt around stmt ≡ true
+    marked : is_label stmt ≡ is_mark i
+    pass : list_all passes (stmt ∷ inner_stmts stmt) ≡ true
+    labels : flat_map label_of (stmt ∷ inner_stmts stmt) ≡ map (label graph well) (item_marks i)
+
+  record AreFineArms (around : Around) (arms : Arms) (bodies : tree.Arms) : Type 0 where
+    writable : are_writable_arms around bodies ≡ true
+    pass : list_all passes (arm_stmts bodies) ≡ true
+    labels : flat_map label_of (arm_stmts bodies) ≡ map (label graph well) (arm_marks arms)
+    cases : cases_of bodies ≡ all_cases arms
+    some : has_arm bodies ≡ has_an_arm arms
+
+  -- two lists of statements
+  both-pass : (xs ys : List Stmt) → list_all passes xs ≡ true → list_all passes ys ≡ true → list_all passes (xs ++ ys) ≡ true
+  both-pass xs ys first second = list_all-append passes xs ys ∙ and_from (list_all passes xs) (list_all passes ys) first second
+
+  both-labels : (xs ys : List Stmt) (ms ns : List ℕ) → flat_map label_of xs ≡ map (label graph well) ms → flat_map label_of ys ≡ map (label graph well) ns
+      → flat_map label_of (xs ++ ys) ≡ map (label graph well) (ms ++ ns)
+  both-labels xs ys ms ns first second = flat_map-append label_of xs ys ∙ ap₂ (λ ks ls. ks ++ ls) first second ∙ sym (map-append (label graph well) ms ns)
+
+  -- Blocks.
+
+  abbrev IsNamed : Loc → Type 0
+  IsNamed location = s.named location ≡ true
+
+  abbrev AreNamed : inner.Expr → Type 0
+  AreNamed e = All IsNamed (reads_of e)
+
+  abbrev IsLow : inner.Expr → Type 0
+  IsLow e = depth_of e ≤ levels
+
+  module _ (b : ℕ) (inside : b < length graph.blocks) where
+    abbrev block : inner.Block
+    block = block_in graph b
+
+    block-formed : is_block s.bits (length graph.blocks) block ≡ true
+    block-formed = ap (λ bits. is_block bits (length graph.blocks) block) spelled.bits ∙ all-at (is_block graph.bits (length graph.blocks)) graph.blocks b no_block inside well.blocks
+
+    of-block : (P : inner.Expr → Type 0) → All P (graph_exprs graph) → All P (block_exprs block)
+    of-block P has = All-get_or (λ (x : inner.Block). All P (block_exprs x)) graph.blocks b no_block inside (all_parts P block_exprs graph.blocks has)
+
+    -- what is at the end
+    of-end : (P : inner.Expr → Type 0) → All P (graph_exprs graph) → All P (exit_exprs block.exit)
+    of-end P has = right_part P (flat_map exprs_of block.stmts) (exit_exprs block.exit) (of-block P has)
+
+    -- and at a statement
+    of-stmt : (P : inner.Expr → Type 0) → All P (graph_exprs graph) → (m : ℕ) (stmt : inner.Stmt) → slice_get block.stmts m ≡ Some stmt → All P (exprs_of stmt)
+    of-stmt P has m stmt there =
+        All-contains (λ x. All P (exprs_of x)) block.stmts stmt (all_parts P exprs_of block.stmts (left_part P (flat_map exprs_of block.stmts) (exit_exprs block.exit) (of-block P has)))
+        (contained block.stmts m stmt there)
+
+    stmt-is : (m : ℕ) (stmt : inner.Stmt) → slice_get block.stmts m ≡ Some stmt → IsAllowedStmt whole f limit (stmt_text s 2 stmt)
+    stmt-is m stmt there =
+        let (stmts, exit) = and_parts (list_all (is_stmt s.bits) block.stmts) (is_exit s.bits (length graph.blocks) block.exit) block-formed in
+        let inside_stmts = contained block.stmts m stmt there in
+        stmt-allowed whole f s declared levels limit 2 enough (omega arith) stmt
+        (ap (λ (x : inner.Stmt). is_stmt s.bits x) (sym (get_or_from_slice_get block.stmts m stmt stmt there)) ∙ all-at (is_stmt s.bits) block.stmts m stmt (slice_get_within block.stmts m stmt there) stmts)
+        (All-contains (λ x. is_call x ≡ false) block.stmts stmt (All-get_or (λ (x : inner.Block). All (λ y. is_call y ≡ false) x.stmts) graph.blocks b no_block inside spelled.no_calls) inside_stmts)
+        (of-stmt AreNamed spelled.reads m stmt there)
+        (All-contains (λ x. All IsNamed (writes_of x)) block.stmts stmt (All-get_or (λ (x : inner.Block). All (λ y. All IsNamed (writes_of y)) x.stmts) graph.blocks b no_block inside spelled.writes) inside_stmts)
+        (of-stmt IsLow spelled.shallow m stmt there)
+
+    do-fine : (around : Around) (m : ℕ) → m < length block.stmts → IsFineItem around (plan.Do b m) (text_of_stmt s graph b m)
+    do-fine around m less =
+        let at = is-at block.stmts m less in
+        subst (λ o. IsFineItem around (plan.Do b m) (elim o [ Some stmt ↦ stmt_text s 2 stmt | None ↦ tree.Empty ])) (sym at.there) (by at.element (stmt-is m at.element at.there))
+      where
+        by : (stmt : inner.Stmt) → IsAllowedStmt whole f limit (stmt_text s 2 stmt) → IsFineItem around (plan.Do b m) (stmt_text s 2 stmt)
+        by stmt x = record {
+          writable = x.writable around;
+          marked = stmt-no-label s stmt;
+          pass = ap (λ inner. list_all passes (stmt_text s 2 stmt ∷ inner)) x.alone
+              ∙ and_from (passes (stmt_text s 2 stmt)) true (passes-from (stmt_text s 2 stmt) x.allowed x.shallow (ap (list_all (is_among known)) x.no_goto)) refl;
+          labels = ap (λ inner. flat_map label_of (stmt_text s 2 stmt ∷ inner)) x.alone ∙ ap (λ ls. ls ++ []) x.no_label;
+        }
+
+    -- what is tested or chosen by
+    end-expr : (e : inner.Expr) (way : Way) (width : ℕ) → is_expr_of s.bits width e ≡ true → AreNamed e → IsAllowedExpr (declared_in whole f) width (text s way false e)
+    end-expr e way width formed read =
+        let (is, same) = and_parts (is_expr s.bits e) (width_of s.bits e == width) formed in
+        subst (λ w. IsAllowedExpr (declared_in whole f) w (text s way false e)) (eqb-true (width_of s.bits e) width same) (text-allowed (declared_in whole f) s declared e way false is read)
+
+    end-shallow : (e : inner.Expr) (way : Way) → IsLow e → (nat_le (expr_depth (text s way false e)) limit && true) ≡ true
+    end-shallow e way low = and_from (nat_le (expr_depth (text s way false e)) limit) true (le-leb (expr_depth (text s way false e)) limit (omega (arith, enough, low, shallow s e way false))) refl
+
+    exit-formed : (exit : inner.Exit) → block.exit ≡ exit → is_exit s.bits (length graph.blocks) exit ≡ true
+    exit-formed exit is =
+        ap (is_exit s.bits (length graph.blocks)) (sym is) ∙ (and_parts (list_all (is_stmt s.bits) block.stmts) (is_exit s.bits (length graph.blocks) block.exit) block-formed).1
+
+    only-of : (P : inner.Expr → Type 0) → All P (graph_exprs graph) → (exit : inner.Exit) (e : inner.Expr) → block.exit ≡ exit → exit_exprs exit ≡ e ∷ [] → P e
+    only-of P has exit e is only = All-head P e [] (subst (All P) (ap exit_exprs is ∙ only) (of-end P has))
+
+    test-fine : (around : Around) (one two : Plan) (body otherwise : Lines) (test : inner.Expr) (yes_place no_place : ℕ) → block.exit ≡ inner.If test yes_place no_place
+        → IsFine (in_block around) false one body → IsFine (in_block around) false two otherwise → IsFineItem around (plan.If b one two) (tree.If (text_of_test s block.exit) body otherwise)
+    test-fine around one two body otherwise test yes_place no_place is x y =
+        let e = text s Exact false test in
+        let (tested, second) = and_parts (is_expr_of s.bits 1 test && nat_lt yes_place (length graph.blocks)) (nat_lt no_place (length graph.blocks)) (exit-formed (inner.If test yes_place no_place) is) in
+        let z = end-expr test Exact 1 (and_parts (is_expr_of s.bits 1 test) (nat_lt yes_place (length graph.blocks)) tested).0 (only-of AreNamed spelled.reads (inner.If test yes_place no_place) test is refl) in
+        subst (λ exit. IsFineItem around (plan.If b one two) (tree.If (text_of_test s exit) body otherwise)) (sym is) (record {
+          writable = and_from (is_writable_expr e) (are_writable_lines (in_block around) false body && are_writable_lines (in_block around) false otherwise) z.writable
+              (and_from (are_writable_lines (in_block around) false body) (are_writable_lines (in_block around) false otherwise) x.writable y.writable);
+          marked = refl;
+          pass = and_from (passes (tree.If e body otherwise)) (list_all passes (stmts_in body ++ stmts_in otherwise))
+              (passes-from (tree.If e body otherwise) (ap (λ t. elim t [ Some type ↦ not type.pointer | None ↦ false ]) z.typed)
+              (end-shallow test Exact (only-of IsLow spelled.shallow (inner.If test yes_place no_place) test is refl)) refl)
+              (both-pass (stmts_in body) (stmts_in otherwise) x.pass y.pass);
+          labels = both-labels (stmts_in body) (stmts_in otherwise) (marks one) (marks two) x.labels y.labels;
+        })
+
+    choice-fine : (around : Around) (arms : Arms) (bodies : tree.Arms) (e : inner.Expr) (places : List ℕ) → block.exit ≡ inner.Switch e places → has_an_arm arms ≡ true → differ (all_cases arms) ≡ true
+        → AreFineArms (in_switch around) arms bodies → IsFineItem around (plan.Switch b arms) (tree.Switch (text_of_choice s block.exit) bodies tree.no_arms)
+    choice-fine around arms bodies e places is some apart x =
+        let v = text s Low false e in
+        let (two, within) = and_parts (is_expr_of s.bits 16 e && nat_le (length places) 65536) (list_all (λ place. nat_lt place (length graph.blocks)) places) (exit-formed (inner.Switch e places) is) in
+        let z = end-expr e Low 16 (and_parts (is_expr_of s.bits 16 e) (nat_le (length places) 65536) two).0 (only-of AreNamed spelled.reads (inner.Switch e places) e is refl) in
+        subst (λ exit. IsFineItem around (plan.Switch b arms) (tree.Switch (text_of_choice s exit) bodies tree.no_arms)) (sym is) (record {
+          writable = and_from (is_writable_expr v) ((has_arm bodies || false) && (are_writable_arms (in_switch around) bodies && true)) z.writable
+              (and_from (has_arm bodies || false) (are_writable_arms (in_switch around) bodies && true) (or_left (has_arm bodies) false (x.some ∙ some))
+              (and_from (are_writable_arms (in_switch around) bodies) true x.writable refl));
+          marked = refl;
+          pass = and_from (passes (tree.Switch v bodies tree.no_arms)) (list_all passes (arm_stmts bodies ++ []))
+              (passes-from (tree.Switch v bodies tree.no_arms)
+              (and_from (is_switch_value (declared_in whole f) v) (differ (cases_of bodies) && true)
+              (ap (λ t. elim t [ Some type ↦ not type.pointer && is_word_base (promoted_type type.base) | None ↦ false ]) z.typed ∙ z.narrow (omega arith))
+              (and_from (differ (cases_of bodies)) true (ap differ x.cases ∙ apart) refl))
+              (end-shallow e Low (only-of IsLow spelled.shallow (inner.Switch e places) e is refl)) refl)
+              (ap (list_all passes) (append-nil (arm_stmts bodies)) ∙ x.pass);
+          labels = ap (flat_map label_of) (append-nil (arm_stmts bodies)) ∙ x.labels;
+        })
+
+  -- The whole text.
+
+  mutual
+    fine : {plan : Plan} {lines : Lines} (around : Around) (labelled : Bool) (c : Context) → IsPlanText s graph plan lines → IsValid graph all plan c → may_stand around labelled plan ≡ true
+        → IsFine around labelled plan lines
+    fine around labelled c nothing valid stands = record { writable = stands; pass = refl; labels = refl }
+    fine around labelled c (one_more {i = i} {stmt = stmt} {plan = plan} {lines = lines} is rest) valid stands =
+        let (few, inside) = and_parts (nat_le around.blocks 200) (item_may_stand around i && may_stand around (is_mark i) plan) stands in
+        let (here, later) = and_parts (item_may_stand around i) (may_stand around (is_mark i) plan) inside in
+        let x = item-fine around c plan is valid.0 here in
+        let y = fine around (is_mark i) c rest valid.1 later in record {
+          writable = and_from (nat_le around.blocks 200) (is_writable_stmt around stmt && are_writable_lines around (is_label stmt) lines) few
+              (and_from (is_writable_stmt around stmt) (are_writable_lines around (is_label stmt) lines) x.writable (ap (λ l. are_writable_lines around l lines) x.marked ∙ y.writable));
+          pass = both-pass (stmt ∷ inner_stmts stmt) (stmts_in lines) x.pass y.pass;
+          labels = both-labels (stmt ∷ inner_stmts stmt) (stmts_in lines) (item_marks i) (marks plan) x.labels y.labels;
+        }
+
+    item-fine : {i : Item} {stmt : Stmt} (around : Around) (c : Context) (rest : Plan) → IsItemText s graph i stmt → IsValidItem graph all i rest c → item_may_stand around i ≡ true
+        → IsFineItem around i stmt
+    item-fine around c rest (planned.does {b = b} {m = m}) (inside, less, l) stands = do-fine b inside around m less
+    item-fine around c rest (planned.marks {b = b}) (inside, l) stands = record { writable = label-word graph.blocks b; marked = refl; pass = refl; labels = refl }
+    item-fine around c rest (planned.jumps {b = b}) (inside, there) stands = record {
+      writable = label-word graph.blocks b;
+      marked = refl;
+      pass = and_from (is_among known (label graph well b) && true) true (and_from (is_among known (label graph well b)) true (label-among graph well b (marks all) there) refl) refl;
+      labels = refl;
+    }
+    item-fine around c rest (planned.tests {b = b} {one = one} {other = two} {body = body} {otherwise = otherwise} is also) (test, yes_place, no_place, exit, inside, first, first_valid, second, second_valid) stands =
+        let (left, right) = and_parts (may_stand (in_block around) false one) (may_stand (in_block around) false two) stands in
+        test-fine b inside around one two body otherwise test yes_place no_place exit (fine (in_block around) false _ is first_valid left) (fine (in_block around) false _ also second_valid right)
+    item-fine around c rest (planned.chooses {b = b} {arms = arms} {bodies = bodies} are) (e, places, exit, inside, lead, valid) stands =
+        let (some, others) = and_parts (has_an_arm arms) (differ (all_cases arms) && arms_may_stand (in_switch around) arms) stands in
+        let (apart, stand) = and_parts (differ (all_cases arms)) (arms_may_stand (in_switch around) arms) others in
+        choice-fine b inside around arms bodies e places exit some apart (arms-fine (in_switch around) _ are valid stand)
+    item-fine around c rest (planned.repeats {b = b} {body = body} {lines = lines} is) (inside, l, valid) stands =
+        let x = fine (in_loop around) false _ is valid stands in
+        record { writable = x.writable; marked = refl; pass = x.pass; labels = x.labels }
+    item-fine around c rest planned.breaks valid stands = record { writable = stands; marked = refl; pass = refl; labels = refl }
+    item-fine around c rest planned.continues valid stands = record { writable = stands; marked = refl; pass = refl; labels = refl }
+
+    arms-fine : {arms : Arms} {bodies : tree.Arms} (around : Around) (c : Context) → AreArmsText s graph arms bodies → AreValidArms graph all arms c → arms_may_stand around arms ≡ true
+        → AreFineArms around arms bodies
+    arms-fine around c no_more valid stand = record { writable = refl; pass = refl; labels = refl; cases = refl; some = refl }
+    arms-fine around c (next_arm {cases = cases} {body = body} {arms = arms} {lines = lines} {bodies = bodies} is others) valid stand =
+        let (few, inside) = and_parts (nat_le around.blocks 200) (are_cases cases && (may_stand around false body && arms_may_stand around arms)) stand in
+        let (own, below) = and_parts (are_cases cases) (may_stand around false body && arms_may_stand around arms) inside in
+        let (here, later) = and_parts (may_stand around false body) (arms_may_stand around arms) below in
+        let x = fine around false c is valid.0 here in
+        let y = arms-fine around c others valid.1 later in record {
+          writable = and_from (nat_le around.blocks 200) (are_cases cases && (are_writable_lines around false lines && are_writable_arms around bodies)) few
+              (and_from (are_cases cases) (are_writable_lines around false lines && are_writable_arms around bodies) own
+              (and_from (are_writable_lines around false lines) (are_writable_arms around bodies) x.writable y.writable));
+          pass = both-pass (stmts_in lines) (arm_stmts bodies) x.pass y.pass;
+          labels = both-labels (stmts_in lines) (arm_stmts bodies) (marks body) (arm_marks arms) x.labels y.labels;
+          cases = ap (λ ns. cases ++ ns) y.cases;
+          some = refl;
+        }
+
+-- Each part of a test.
+
+first-of-all : {X : Type 0} (p q : X → Bool) (xs : List X) → list_all (λ x. p x && q x) xs ≡ true → list_all p xs ≡ true
+first-of-all p q [] is = refl
+first-of-all p q (x ∷ xs) is =
+    let (here, later) = and_parts (p x && q x) (list_all (λ x. p x && q x) xs) is in
+    and_from (p x) (list_all p xs) (and_parts (p x) (q x) here).0 (first-of-all p q xs later)
+
+second-of-all : {X : Type 0} (p q : X → Bool) (xs : List X) → list_all (λ x. p x && q x) xs ≡ true → list_all q xs ≡ true
+second-of-all p q [] is = refl
+second-of-all p q (x ∷ xs) is =
+    let (here, later) = and_parts (p x && q x) (list_all (λ x. p x && q x) xs) is in
+    and_from (q x) (list_all q xs) (and_parts (p x) (q x) here).1 (second-of-all p q xs later)
+
+-- a test of all that the elements give
+all-given : {X Y : Type 0} (p : Y → Bool) (give : X → List Y) (xs : List X) → list_all (λ x. list_all p (give x)) xs ≡ true → list_all p (flat_map give xs) ≡ true
+all-given p give [] is = refl
+all-given p give (x ∷ xs) is =
+    let (here, later) = and_parts (list_all p (give x)) (list_all (λ x. list_all p (give x)) xs) is in
+    list_all-append p (give x) (flat_map give xs) ∙ and_from (list_all p (give x)) (list_all p (flat_map give xs)) here (all-given p give xs later)
+
+pub texts-allowed : PlanTextsAreAllowed
+texts-allowed whole f s graph plan lines levels limit declared well spelled enough valid stands is =
+    let x = fine whole f s graph levels limit declared well spelled enough plan outermost false outside is valid.valid stands in
+    let names : List Word = map (label graph well) (marks plan) in
+    let types = allows_stmt whole f in
+    let jumps : Stmt → Bool = λ stmt. list_all (is_among names) (goto_of stmt) in
+    let others = second-of-all types (λ stmt. shallow_stmt limit stmt && jumps stmt) (stmts_in lines) x.pass in
+    record {
+      writable = x.writable;
+      labels = ap (λ ls. all_differ ls && list_all (is_among ls) (flat_map goto_of (stmts_in lines))) x.labels
+          ∙ and_from (all_differ names) (list_all (is_among names) (flat_map goto_of (stmts_in lines)))
+          (labels-apart graph well (marks plan) (marks-inside graph plan plan outside valid.valid) valid.labels)
+          (all-given (is_among names) goto_of (stmts_in lines) (second-of-all (shallow_stmt limit) jumps (stmts_in lines) others));
+      types = first-of-all types (λ stmt. shallow_stmt limit stmt && jumps stmt) (stmts_in lines) x.pass;
+      depth = first-of-all (shallow_stmt limit) jumps (stmts_in lines) others;
+    }

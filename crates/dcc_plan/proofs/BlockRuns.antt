@@ -1,0 +1,635 @@
+-- One step of the program, a block, stands for steps of the text.
+use Rattle.std.proofs.Common.{◌≡◌, ◌≢◌, ℕ, zero, suc, ◌+◌, ◌<◌, ◌≤◌, inl, inr, Bool, true, false, ◌==◌, List, [], ◌∷◌, length, map, Option, Some, None, refl, sym, ap, ap₂, ◌∙◌, subst, true≢false, arith}
+use Rattle.std.specs.Prelude.{◌⊎◌, ◌&&◌, nat_lt, nat_le, if◌then◌else◌, All, Contains, drop, slice_get}
+use Rattle.std.specs.List.{list_all}
+use Rattle.std.proofs.lemmas.Bool.{and_parts, ltb-true}
+use Rattle.std.proofs.lemmas.List.Elements.{All-head}
+use Rattle.dcc_run.specs.End.{Stuck, is_over}
+use Rattle.dcc_run.specs.System.{after, end_after}
+use Rattle.dcc_ir.specs.Families.{Family}
+use Rattle.dcc_ir.specs.Flow.{targets}
+use Rattle.dcc_ir.specs.Live.{block_in}
+use Rattle.dcc_ir.specs.Run as run
+use Rattle.dcc_ir.specs.Tree as inner
+use Rattle.dcc_ir.specs.Use.{exit_exprs}
+use Rattle.dcc_ir.specs.WellFormed.{is_stmt, is_exit, is_expr_of, is_block, is_jump, IsGraph}
+use Rattle.dcc_ir.proofs.ExecuteLaws.{block-first}
+use Rattle.dcc_ir.proofs.FitStates.{IsFit, scene-fits, stmt-fit}
+use Rattle.dcc_ir.proofs.ReachedLaws.{contained, all_at, graph_of, IsGood}
+use Rattle.dcc_ir.proofs.StepLaws.{stmt-within}
+use Rattle.dcc_c.specs.Run as c
+use Rattle.dcc_c.specs.Run.{Continuation, runs, ends_switch, goes_on, stmt_step, step_at, if_step, switch_step, arm_for, on}
+use Rattle.dcc_c.specs.Tree as tree
+use Rattle.dcc_c.specs.Tree.{Stmt, Lines, no_lines, Function, Tree}
+use Rattle.dcc_c.specs.Value as text_value
+use Rattle.dcc_c.specs.Value.{number, converted}
+use Rattle.dcc_text.specs.Spelling.{Spelling}
+use Rattle.dcc_text.specs.Stmts.{stmt_text}
+use Rattle.dcc_text.specs.Holding.{Locations, Alike, IsWithin, Holds, HoldsOrEnds}
+use Rattle.dcc_text.proofs.StmtLaws.{statements-step}
+use Rattle.dcc_plan.specs.Plan as plan
+use Rattle.dcc_plan.specs.Plan.{Item, Plan, Arms, is_in, is_begun, arm_with}
+use Rattle.dcc_plan.specs.PlanText as planned
+use Rattle.dcc_plan.specs.PlanText.{text_of_stmt, text_of_test, text_of_choice, IsPlanText, IsItemText, AreArmsText}
+use Rattle.dcc_plan.specs.Valid as valid
+use Rattle.dcc_plan.specs.Valid.{Point, Begin, Before, Nowhere, Leads, Context, item_entry, entry, only_goes, in_sides, in_arms, IsValid, IsValidItem, AreValidArms}
+use Rattle.dcc_plan.specs.Laws.{AreSteps, IsTextOf}
+use Rattle.dcc_plan.proofs.LabelLaws.{block-at}
+use Rattle.dcc_plan.proofs.ListLaws.{drop-first, drop-next, drop-less, drop-all}
+use Rattle.dcc_plan.proofs.Rests.{AreBegun, ArmsBegun, Sound, SoundItem, whole-begun, lines_count, inside_count, arms_count, left, is_jumping, Stands, AtItem, AtTurn, Head, at_item, at_turn, at_end, head, Lands, break-lands, IsStart, is_nowhere, is_begin, continue-starts}
+use Rattle.dcc_plan.proofs.Rests as rests
+use Rattle.dcc_plan.proofs.Settles.{one-step, jump-comes, settle}
+use Rattle.dcc_plan.proofs.StepsKept.{text-keeps}
+use Rattle.dcc_plan.proofs.TestLaws.{test-gives, choice-gives, decides}
+
+-- Points.
+
+abbrev pub block_of : Point → ℕ
+block_of (Begin b) = b
+block_of (Before b m) = b
+block_of Nowhere = 0
+
+abbrev place_of : Point → ℕ
+place_of (Before b m) = m
+place_of _ = 0
+
+abbrev pub is_before : Point → Bool
+is_before (Before b m) = true
+is_before _ = false
+
+start-apart : (point : Point) (b m : ℕ) → IsStart point → Before b m ≡ point → ⊥
+start-apart Nowhere b m is_nowhere e = true≢false (ap is_before e)
+start-apart (Begin a) b m is_begin e = true≢false (ap is_before e)
+start-apart (Before a k) b m start e = elim start [ ]
+
+-- before a statement nothing leads elsewhere
+stays-before : (graph : inner.Graph) (begun : ℕ → Bool) (b m : ℕ) (point : Point) → Leads graph begun (Before b m) point → m < length (block_in graph b).stmts → Before b m ≡ point
+stays-before graph begun b m point valid.is_there less = refl
+stays-before graph begun b m point (valid.goes at exit leads) less = absurd (omega (arith, at, less))
+stays-before graph begun b m point (valid.stops at exit) less = absurd (omega (arith, at, less))
+
+-- how many silent moves lead from the one point to the other
+abbrev pub moves : {graph : inner.Graph} {begun : ℕ → Bool} {first second : Point} → Leads graph begun first second → ℕ
+moves valid.is_there = 0
+moves (valid.begins none leads) = suc (moves leads)
+moves (valid.goes at exit leads) = suc (moves leads)
+moves (valid.stops at none) = 0
+
+-- Arms.
+
+-- what the arm with a case holds
+arm-text : (s : Spelling) (graph : inner.Graph) (n : ℕ) (arms : Arms) (bodies : tree.Arms) → AreArmsText s graph arms bodies → IsPlanText s graph (arm_with n arms) (arm_for n bodies no_lines)
+arm-text s graph n arms bodies planned.no_more = planned.nothing
+arm-text s graph n arms bodies (planned.next_arm {cases = cases} {body = body} {arms = others} {lines = lines} {bodies = more} text texts) = by (is_in n cases) (arm-text s graph n others more texts)
+  where
+    by : (here : Bool) → IsPlanText s graph (arm_with n others) (arm_for n more no_lines) → IsPlanText s graph (if here then body else arm_with n others) (if here then lines else arm_for n more no_lines)
+    by true later = text
+    by false later = later
+
+arm-valid : (graph : inner.Graph) (whole : Plan) (n : ℕ) (arms : Arms) (c : Context) → AreValidArms graph whole arms c → IsValid graph whole (arm_with n arms) c
+arm-valid graph whole n plan.no_arms c good = tt
+arm-valid graph whole n (plan.arm cases body arms) c good = by (is_in n cases) (arm-valid graph whole n arms c good.1)
+  where
+    by : (here : Bool) → IsValid graph whole (arm_with n arms) c → IsValid graph whole (if here then body else arm_with n arms) c
+    by true later = good.0
+    by false later = later
+
+arm-begun : (s : Spelling) (graph : inner.Graph) (whole : Plan) (n : ℕ) (arms : Arms) → ArmsBegun s graph whole arms → AreBegun s graph whole (arm_with n arms)
+arm-begun s graph whole n plan.no_arms good = tt
+arm-begun s graph whole n (plan.arm cases body arms) good = by (is_in n cases) (arm-begun s graph whole n arms good.1)
+  where
+    by : (here : Bool) → AreBegun s graph whole (arm_with n arms) → AreBegun s graph whole (if here then body else arm_with n arms)
+    by true later = good.0
+    by false later = later
+
+arm-few : (n : ℕ) (bodies : tree.Arms) → lines_count (arm_for n bodies no_lines) ≤ arms_count bodies
+arm-few n tree.no_arms = omega arith
+arm-few n (tree.arm cases lines bodies) = by (is_in n cases) (arm-few n bodies)
+  where
+    by : (here : Bool) → lines_count (arm_for n bodies no_lines) ≤ arms_count bodies → lines_count (if here then lines else arm_for n bodies no_lines) ≤ lines_count lines + arms_count bodies
+    by true later = omega arith
+    by false later = omega (arith, later)
+
+module _ (p : inner.Program) (graph : inner.Graph) (s : Spelling) (family : Family) (whole : Plan) (f : Function) (is : IsTextOf p graph s family whole f) (text : Tree) (AreAlike : Alike) (fill : ℕ) where
+  abbrev pub limit : ℕ
+  limit = lines_count f.body
+
+  abbrev pub begun : ℕ → Bool
+  begun b = is_begun whole b
+
+  abbrev c_step : c.State → c.State
+  c_step t = c.step text t
+
+  abbrev Standing : Continuation → Context → Type 0
+  Standing k context = Stands s graph whole limit k context
+
+  pub known-graph : Contains p.graphs graph
+  known-graph = subst (λ graphs. Contains graphs graph) (sym is.alone) (contained (graph ∷ []) 0 graph refl)
+
+  pub well : IsGraph graph
+  well = graph_of p is.well graph known-graph
+
+  pub sound : Sound s graph whole whole valid.outside
+  sound = (is.is_plan.valid, whole-begun s graph whole)
+
+  -- the end of a block is well formed
+  exit-formed : (b : ℕ) → b < length graph.blocks → is_exit graph.bits (length graph.blocks) (block_in graph b).exit ≡ true
+  exit-formed b known =
+      (and_parts (list_all (is_stmt graph.bits) (block_in graph b).stmts) (is_exit graph.bits (length graph.blocks) (block_in graph b).exit)
+      (all_at (is_block graph.bits (length graph.blocks)) graph.blocks (block_in graph b) well.blocks (contained graph.blocks b (block_in graph b) (block-at graph well b known)))).1
+
+  -- the run from a state on is never stuck
+  abbrev pub IsUnstuck : run.State → Type 0
+  IsUnstuck i = (n at : ℕ) → end_after (run.inner_system p fill) n i ≢ Stuck at
+
+  -- The program is about to execute a block, and the text stands for its begin.
+  pub record Meets (i : run.State) (t : c.State) : Type 0 where
+    pub b : ℕ
+    pub known : b < length graph.blocks
+    pub graph_is : i.running.graph ≡ graph
+    pub block_is : i.running.block ≡ block_in graph b
+    pub rest_is : i.running.rest ≡ (block_in graph b).stmts
+    pub begins : i.running.begins ≡ true
+    pub waiting : i.waiting ≡ []
+    pub running : is_over i.end ≡ false
+    pub good : IsGood p i
+    pub unstuck : IsUnstuck i
+    pub context : Context
+    pub stands : Stands s graph whole limit t.rest context
+    pub point : Point
+    pub same : context.next ≡ point
+    pub leads : Leads graph begun (Begin b) point
+    pub settled : (is_jumping t.rest ≡ false) ⊎ (context.next ≡ Nowhere)
+    pub low : left t.rest ≤ limit
+    pub function : t.frame.function ≡ f
+    pub holds : Holds s (family (block_in graph b) (block_in graph b).stmts) AreAlike i t
+
+  -- The program is within a block, before these statements, and the text stands for that point.
+  pub record Midway (b m : ℕ) (stmts : List inner.Stmt) (i : run.State) (t : c.State) : Type 0 where
+    pub known : b < length graph.blocks
+    pub at : drop m (block_in graph b).stmts ≡ stmts
+    pub within : m ≤ length (block_in graph b).stmts
+    pub graph_is : i.running.graph ≡ graph
+    pub block_is : i.running.block ≡ block_in graph b
+    pub waiting : i.waiting ≡ []
+    pub running : is_over i.end ≡ false
+    pub fit : IsFit i
+    pub steps : AreSteps s (family (block_in graph b)) stmts
+    pub context : Context
+    pub stands : Stands s graph whole limit t.rest context
+    pub point : Point
+    pub same : context.next ≡ point
+    pub leads : Leads graph begun (Before b m) point
+    pub low : left t.rest ≤ limit
+    pub function : t.frame.function ≡ f
+    pub holds : Holds s (family (block_in graph b) stmts) AreAlike i t
+
+  -- both runs are over alike
+  pub record Ends (i : run.State) (t : c.State) : Type 0 where
+    pub over : is_over i.end ≡ true
+    pub end : t.end ≡ i.end
+    pub events : t.events ≡ i.events
+
+  -- the text holds the same with other statements left
+  pub elsewhere : {Has : Locations} {i : run.State} {t : c.State} (k : Continuation) → Holds s Has AreAlike i t → Holds s Has AreAlike i (goes_on k t)
+  elsewhere k h = record { frame = h.frame; waiting = h.waiting; memory = h.memory; input = h.input; events = h.events; end = h.end }
+
+  -- The state to which the program's step leads.
+  module _ (last : run.State) (good : IsGood p last) (unstuck : IsUnstuck last) where
+    -- After some steps the text is where the program's step leads. Where this step only goes to another block, fewer
+    -- silent moves than these are left; else the text makes a step.
+    pub record Comes (passes : Bool) (most : ℕ) (t : c.State) : Type 0 where
+      pub steps : ℕ
+      pub some : passes ≡ false → 0 < steps
+      pub few : steps ≤ left t.rest
+      pub leads : ((x : Meets last (after c_step steps t)) × (passes ≡ true → moves x.leads < most)) ⊎ Ends last (after c_step steps t)
+
+    -- with one step more before
+    pub one-before : (passes : Bool) (most : ℕ) (passes' : Bool) (most' : ℕ) (t u : c.State) → (passes ≡ true → (passes' ≡ true) × (most' ≤ most)) → c_step t ≡ u → suc (left u.rest) ≤ left t.rest
+        → Comes passes' most' u → Comes passes most t
+    one-before passes most passes' most' t u same to less x = record {
+      steps = suc x.steps;
+      some = λ e. omega arith;
+      few = omega (arith, x.few, less);
+      leads = subst (λ v. ((y : Meets last (after c_step x.steps v)) × (passes ≡ true → moves y.leads < most)) ⊎ Ends last (after c_step x.steps v)) (sym to) (elim x.leads [
+        | inl there ↦ inl (there.0, λ e. let z = same e in let fewer = there.1 z.0 in let within = z.1 in omega (arith, fewer, within))
+        | inr ends ↦ inr ends
+      ]);
+    }
+
+    not-stuck : (i : run.State) → run.stuck i ≡ last → ⊥
+    not-stuck i e = unstuck 0 i.running.graph.entry (ap (λ u. u.end) (sym e))
+
+    -- Ends of blocks.
+
+    -- the program goes to the next block
+    module _ (b m next : ℕ) (stmts : List inner.Stmt) (i : run.State) (t : c.State) (mid : Midway b m [] i t) (there : next < length graph.blocks) (target : Contains (targets (block_in graph b).exit) next)
+        (goes : run.going_to next i ≡ last) where
+      entered : run.entering (Some (block_in graph next)) i ≡ last
+      entered = ap (λ o. run.entering o i) (sym (block-at graph well next there) ∙ ap (λ g. slice_get g.blocks next) (sym mid.graph_is)) ∙ goes
+
+      arrives : (k : Continuation) (context : Context) (point : Point) (leads : Leads graph begun (Begin next) point) → Standing k context → context.next ≡ point → left k ≤ limit
+          → Comes true (suc (moves leads)) (goes_on k t)
+      arrives k context point leads stands same low =
+          let x = settle s graph whole limit text f well sound is.text (omega arith) (suc (left k)) k point context (omega arith) low stands same in
+          let on : is_over t.end ≡ false = ap is_over mid.holds.end ∙ mid.running in
+          record {
+            steps = x.steps;
+            some = λ e. absurd (true≢false e);
+            few = x.few;
+            leads = inl (subst (λ u. (y : Meets last u) × (true ≡ true → moves y.leads < suc (moves leads))) (sym (x.comes t on mid.function))
+                (subst (λ j. (y : Meets j (goes_on x.to t)) × (true ≡ true → moves y.leads < suc (moves leads))) entered (there-meets x.to x.context x.stands x.is x.settled x.low_there, λ e. omega arith)));
+          }
+        where
+          h : Holds s (family (block_in graph b) []) AreAlike i t
+          h = mid.holds
+
+          there-meets : (k : Continuation) (context : Context) → Standing k context → context.next ≡ point → (is_jumping k ≡ false) ⊎ (context.next ≡ Nowhere) → left k ≤ limit → Meets (run.entering (Some (block_in graph next)) i) (goes_on k t)
+          there-meets k context stands same settled low = record {
+            b = next;
+            known = there;
+            graph_is = mid.graph_is;
+            block_is = refl;
+            rest_is = refl;
+            begins = refl;
+            waiting = mid.waiting;
+            running = mid.running;
+            good = subst (IsGood p) (sym entered) good;
+            unstuck = subst IsUnstuck (sym entered) unstuck;
+            context = context;
+            stands = stands;
+            point = point;
+            same = same;
+            leads = leads;
+            settled = settled;
+            low = low;
+            function = mid.function;
+            holds = record {
+              frame = record {
+                bits = h.frame.bits;
+                base = h.frame.base;
+                variables = h.frame.variables;
+                values = λ location has. h.frame.values location (is.matters.goes b next mid.known target there location has);
+                places = h.frame.places;
+              };
+              waiting = h.waiting;
+              memory = h.memory;
+              input = h.input;
+              events = h.events;
+              end = h.end;
+            };
+          }
+
+    -- No run comes past an end that is no jump.
+    no-end : (exit : inner.Exit) (i : run.State) → is_jump exit ≡ false → i.waiting ≡ [] → run.exit_step exit i ≡ last → ⊥
+    no-end (inner.Goto next) i none alone goes = true≢false none
+    no-end (inner.If test one other) i none alone goes = true≢false none
+    no-end (inner.Switch e places) i none alone goes = true≢false none
+    no-end (inner.Ret values) i none alone goes = not-stuck i (ap (λ w. run.returning (map (run.value_in i) values) w i) (sym alone) ∙ goes)
+    no-end inner.Stop i none alone goes = not-stuck i goes
+
+    -- the same from each state of the text with fewer statements left
+    abbrev Later : ℕ → Type 0
+    Later n = (stmts : List inner.Stmt) (b m : ℕ) (i : run.State) (t : c.State) → left t.rest < n → (mid : Midway b m stmts i t) → run.block_step p.graphs fill stmts i ≡ last
+        → Comes (only_goes stmts (block_in graph b).exit) (moves mid.leads) t
+
+    module _ (n : ℕ) (again : Later n) (stmts : List inner.Stmt) (b m : ℕ) (i : run.State) (t : c.State) (small : left t.rest < suc n) (mid : Midway b m stmts i t)
+        (goes : run.block_step p.graphs fill stmts i ≡ last) (x : AtItem s graph whole limit t.rest mid.context.next) where
+      t-on : is_over t.end ≡ false
+      t-on = ap is_over mid.holds.end ∙ mid.running
+
+      abbrev passed : c.State
+      passed = goes_on (runs x.lines x.rest) t
+
+      -- the text's step is that of this statement
+      abbrev StepsTo : Stmt → Type 0
+      StepsTo stmt = (tree : Tree) (u : c.State) → step_at tree t.rest u ≡ stmt_step tree stmt x.at (goes_on (runs x.lines x.rest) u)
+
+      abbrev Counts : Stmt → Type 0
+      Counts stmt = left t.rest ≡ suc (inside_count stmt + lines_count x.lines + left x.rest)
+
+      stepped : (stmt : Stmt) → StepsTo stmt → c_step t ≡ stmt_step text stmt x.at passed
+      stepped stmt steps = one-step s graph whole limit text f well sound is.text (omega arith) t.rest t t-on ∙ steps text t
+
+      -- a `break` leads where the program is
+      break-runs : StepsTo tree.Break → Counts tree.Break → Before b m ≡ mid.context.next → mid.context.next ≡ x.context.at_break → Comes (only_goes stmts (block_in graph b).exit) (moves mid.leads) t
+      break-runs steps count there same = elim (break-lands s graph whole x.stands) [
+        | inl none ↦ absurd (true≢false (ap is_before (there ∙ same ∙ none)))
+        | inr l ↦
+            one-before (only_goes stmts (block_in graph b).exit) (moves mid.leads) (only_goes stmts (block_in graph b).exit) (moves mid.leads) t (goes_on l.to t) (λ e. (e, omega arith))
+            (jump-comes s graph whole limit text f well sound is.text (omega arith) t.rest l.to tree.Break x.at x.lines x.rest (c.after_break x.rest) steps (λ u function. refl) l.found t t-on mid.function)
+            (omega (arith, count, l.few))
+            (again stmts b m i (goes_on l.to t) (omega (arith, small, count, l.few)) (record {
+              known = mid.known;
+              at = mid.at;
+              within = mid.within;
+              graph_is = mid.graph_is;
+              block_is = mid.block_is;
+              waiting = mid.waiting;
+              running = mid.running;
+              fit = mid.fit;
+              steps = mid.steps;
+              context = l.context;
+              stands = l.stands;
+              point = mid.point;
+              same = l.is ∙ sym same ∙ mid.same;
+              leads = mid.leads;
+              low = omega (arith, mid.low, count, l.few);
+              function = mid.function;
+              holds = elsewhere l.to mid.holds;
+            }) goes)
+      ]
+
+    -- Statements.
+
+    module _ (n : ℕ) (again : Later n) (stmt : inner.Stmt) (rest : List inner.Stmt) (b m : ℕ) (i : run.State) (t : c.State) (small : left t.rest < suc n) (mid : Midway b m (stmt ∷ rest) i t)
+        (goes : run.block_step p.graphs fill (stmt ∷ rest) i ≡ last) where
+      abbrev block : inner.Block
+      block = block_in graph b
+
+      abbrev next : run.State
+      next = run.stmt_step stmt i
+
+      less : m < length block.stmts
+      less = drop-less block.stmts m stmt rest mid.at
+
+      there : Before b m ≡ mid.context.next
+      there = stays-before graph begun b m mid.point mid.leads less ∙ sym mid.same
+
+      module _ (x : AtItem s graph whole limit t.rest mid.context.next) where
+        abbrev before : c.State
+        before = goes_on (runs x.lines x.rest) t
+
+        abbrev moved : c.State
+        moved = stmt_step text (stmt_text s 2 stmt) x.at before
+
+        inner-goes : (if is_over next.end then next else run.block_step p.graphs fill rest next) ≡ last
+        inner-goes = sym (block-first p.graphs fill stmt rest i mid.steps.0.no_call) ∙ goes
+
+        outcome : HoldsOrEnds s (family block rest) AreAlike next moved
+        outcome =
+            statements-step (family block (stmt ∷ rest)) (family block rest) AreAlike s text stmt 2 x.at i before is.spelling mid.steps.0 (scene-fits i mid.fit) mid.fit.console.left
+            (elsewhere (runs x.lines x.rest) mid.holds)
+
+        ends : next ≡ last → is_over next.end ≡ true → c_step t ≡ moved → moved.end ≡ next.end → moved.events ≡ next.events → suc 0 ≤ left t.rest → Comes false (moves mid.leads) t
+        ends same over to end events some = record {
+          steps = 1;
+          some = λ e. omega arith;
+          few = some;
+          leads = inr (record {
+            over = ap (λ u. is_over u.end) (sym same) ∙ over;
+            end = ap (λ u. u.end) to ∙ end ∙ ap (λ u. u.end) same;
+            events = ap (λ u. u.events) to ∙ events ∙ ap (λ u. u.events) same;
+          });
+        }
+
+        later-mid : is_over next.end ≡ false → Holds s (family block rest) AreAlike next moved → Leads graph begun (Before b (suc m)) (entry graph x.later x.context)
+            → suc (lines_count x.lines + left x.rest) ≤ left t.rest → Midway b (suc m) rest next moved
+        later-mid on h leads count =
+            let kept = text-keeps s text stmt x.at before mid.steps.0.no_call in
+            let within = stmt-within stmt i in
+            let formed : is_stmt i.running.graph.bits stmt ≡ true = subst (λ bits. is_stmt bits stmt ≡ true) (sym mid.holds.frame.bits) mid.steps.0.formed in
+            let fewer : left moved.rest ≡ lines_count x.lines + left x.rest = ap left kept.rest in
+            record {
+              known = mid.known;
+              at = drop-next block.stmts m stmt rest mid.at;
+              within = less;
+              graph_is = within.graph ∙ mid.graph_is;
+              block_is = within.block ∙ mid.block_is;
+              waiting = within.waiting ∙ mid.waiting;
+              running = on;
+              fit = stmt-fit stmt i formed mid.fit;
+              steps = mid.steps.1;
+              context = record x.context { next = entry graph x.later x.context };
+              stands = subst (λ k. Standing k (record x.context { next = entry graph x.later x.context })) (sym kept.rest) (rests.goes x.later_text x.later_valid x.stands);
+              point = entry graph x.later x.context;
+              same = refl;
+              leads = leads;
+              low = omega (arith, mid.low, fewer, count);
+              function = kept.function ∙ mid.function;
+              holds = h;
+            }
+
+        do-runs : c_step t ≡ moved → Leads graph begun (Before b (suc m)) (entry graph x.later x.context) → suc (lines_count x.lines + left x.rest) ≤ left t.rest → Comes false (moves mid.leads) t
+        do-runs to leads count = by (is_over next.end) refl inner-goes outcome
+          where
+            by : (over : Bool) → is_over next.end ≡ over → (if over then next else run.block_step p.graphs fill rest next) ≡ last → HoldsOrEnds s (family block rest) AreAlike next moved → Comes false (moves mid.leads) t
+            by true over same (inl h) = ends same over to h.end h.events (omega (arith, count))
+            by true over same (inr e) = ends same over to e.1 e.2 (omega (arith, count))
+            by false on same (inr e) = absurd (true≢false (sym e.0 ∙ on))
+            by false on same (inl h) =
+                let fewer : left moved.rest ≡ lines_count x.lines + left x.rest = ap left (text-keeps s text stmt x.at before mid.steps.0.no_call).rest in
+                let there_mid = later-mid on h leads count in
+                one-before false (moves mid.leads) (only_goes rest block.exit) (moves there_mid.leads) t moved (λ e. absurd (true≢false (sym e))) to (omega (arith, fewer, count))
+                (again rest b (suc m) next moved (omega (arith, fewer, count, small)) there_mid same)
+
+        -- the statement of that item
+        text-is : (a k : ℕ) → Before b m ≡ Before a k → text_of_stmt s graph a k ≡ stmt_text s 2 stmt
+        text-is a k same =
+            ap₂ (text_of_stmt s graph) (sym (ap block_of same)) (sym (ap place_of same))
+            ∙ ap (λ o. elim o [ Some y ↦ stmt_text s 2 y | None ↦ tree.Empty ]) (drop-first block.stmts m stmt rest mid.at)
+
+        by-item : (first : Item) (item_stmt : Stmt) → IsItemText s graph first item_stmt → mid.context.next ≡ item_entry graph first x.context → SoundItem s graph whole first x.later x.context
+            → ((tree : Tree) (u : c.State) → step_at tree t.rest u ≡ stmt_step tree item_stmt x.at (goes_on (runs x.lines x.rest) u))
+            → left t.rest ≡ suc (inside_count item_stmt + lines_count x.lines + left x.rest) → Comes false (moves mid.leads) t
+        by-item (plan.Do a k) item_stmt planned.does same good' steps count =
+            do-runs (stepped n again (stmt ∷ rest) b m i t small mid goes x item_stmt steps ∙ ap (λ y. stmt_step text y x.at before) (text-is a k (there ∙ same)))
+            (subst (λ q. Leads graph begun q (entry graph x.later x.context)) (sym (ap₂ (λ a' k'. Before a' (suc k')) (ap block_of (there ∙ same)) (ap place_of (there ∙ same)))) good'.0.2) (omega (arith, count))
+        by-item plan.Break item_stmt planned.breaks same good' steps count = break-runs n again (stmt ∷ rest) b m i t small mid goes x steps count there same
+        by-item plan.Continue item_stmt planned.continues same good' steps count = absurd (start-apart x.context.at_continue b m (continue-starts s graph whole x.stands) (there ∙ same))
+        by-item (plan.If a one other) item_stmt item_text same good' steps count = absurd (omega (arith, less, ended a (there ∙ same)))
+          where
+            ended : (a : ℕ) → Before b m ≡ valid.end_of graph a → m ≡ length block.stmts
+            ended a e = ap place_of e ∙ ap (λ k. length (block_in graph k).stmts) (sym (ap block_of e))
+        by-item (plan.Switch a arms) item_stmt item_text same good' steps count = absurd (omega (arith, less, ended a (there ∙ same)))
+          where
+            ended : (a : ℕ) → Before b m ≡ valid.end_of graph a → m ≡ length block.stmts
+            ended a e = ap place_of e ∙ ap (λ k. length (block_in graph k).stmts) (sym (ap block_of e))
+        by-item (plan.Mark a) item_stmt item_text same good' steps count = absurd (true≢false (ap is_before (there ∙ same)))
+        by-item (plan.Jump a) item_stmt item_text same good' steps count = absurd (true≢false (ap is_before (there ∙ same)))
+        by-item (plan.For a body) item_stmt item_text same good' steps count = absurd (true≢false (ap is_before (there ∙ same)))
+
+      stmt-runs : Comes false (moves mid.leads) t
+      stmt-runs = elim (head s graph whole mid.stands) [
+        | at_item x ↦ by-item x x.first x.stmt x.text x.is x.valid x.steps x.count
+        | at_turn x ↦ absurd (true≢false (ap is_before (there ∙ x.is)))
+        | at_end none ↦ absurd (true≢false (ap is_before (there ∙ none)))
+      ]
+
+    -- Ends of blocks.
+
+    module _ (n : ℕ) (again : Later n) (b m : ℕ) (i : run.State) (t : c.State) (small : left t.rest < suc n) (mid : Midway b m [] i t) (goes : run.block_step p.graphs fill [] i ≡ last) where
+      abbrev own : inner.Block
+      own = block_in graph b
+
+      -- the block only goes to another
+      abbrev passing : Bool
+      passing = only_goes [] own.exit
+
+      abbrev Arrives : Type 0
+      Arrives = Comes passing (moves mid.leads) t
+
+      -- where the block's statements end
+      at-end : m ≡ length own.stmts
+      at-end = drop-all own.stmts m mid.at mid.within
+
+      -- the end is the program's
+      exits : (exit : inner.Exit) → own.exit ≡ exit → run.exit_step exit i ≡ last
+      exits exit same = ap (λ e. run.exit_step e i) (sym same ∙ ap (λ x. x.exit) (sym mid.block_is)) ∙ goes
+
+      formed : (exit : inner.Exit) → own.exit ≡ exit → is_exit graph.bits (length graph.blocks) exit ≡ true
+      formed exit same = subst (λ e. is_exit graph.bits (length graph.blocks) e ≡ true) same (exit-formed b mid.known)
+
+      -- the expressions of the end have what they read
+      within-end : (exit : inner.Exit) → own.exit ≡ exit → All (IsWithin s (family own [])) (exit_exprs exit)
+      within-end exit same = subst (λ e. All (IsWithin s (family own [])) (exit_exprs e)) same (is.matters.tested b mid.known)
+
+      bits-are : graph.bits ≡ s.bits
+      bits-are = ap (λ g. g.bits) (sym mid.graph_is) ∙ mid.holds.frame.bits
+
+      leads-to : (exit : inner.Exit) (place : ℕ) → own.exit ≡ exit → Contains (targets exit) place → Contains (targets own.exit) place
+      leads-to exit place same = subst (λ e. Contains (targets e) place) (sym same)
+
+      module _ (x : AtItem s graph whole limit t.rest mid.context.next) where
+        abbrev past : c.State
+        past = goes_on (runs x.lines x.rest) t
+
+        held : Holds s (family own []) AreAlike i past
+        held = elsewhere (runs x.lines x.rest) mid.holds
+
+        -- what follows the item
+        later-stands : Standing (runs x.lines x.rest) (record x.context { next = entry graph x.later x.context })
+        later-stands = rests.goes x.later_text x.later_valid x.stands
+
+        module _ (one other : Plan) (body otherwise : Lines) (one_text : IsPlanText s graph one body) (other_text : IsPlanText s graph other otherwise)
+            (item : SoundItem s graph whole (plan.If b one other) x.later x.context) (to : c_step t ≡ stmt_step text (tree.If (text_of_test s own.exit) body otherwise) x.at past)
+            (count : left t.rest ≡ suc (lines_count body + lines_count otherwise + lines_count x.lines + left x.rest)) where
+          abbrev test : inner.Expr
+          test = item.0.0
+
+          abbrev if_true : ℕ
+          if_true = item.0.1
+
+          abbrev if_false : ℕ
+          if_false = item.0.2
+
+          if-formed : (is_expr_of graph.bits 1 test && nat_lt if_true (length graph.blocks) && nat_lt if_false (length graph.blocks)) ≡ true
+          if-formed = formed (inner.If test if_true if_false) item.0.3
+
+          -- on either side
+          side : (place : ℕ) (p : Plan) (lines : Lines) → place < length graph.blocks → Contains (targets (inner.If test if_true if_false)) place → IsPlanText s graph p lines
+              → Sound s graph whole p (in_sides graph x.later x.context) → Leads graph begun (Begin place) (entry graph p (in_sides graph x.later x.context)) → lines_count lines ≤ lines_count body + lines_count otherwise
+              → c_step t ≡ goes_on (runs lines (runs x.lines x.rest)) t → run.going_to place i ≡ last → Arrives
+          side place p lines there target p_text p_valid leads few to' goes' =
+              one-before passing (moves mid.leads) true (suc (moves leads)) t (goes_on (runs lines (runs x.lines x.rest)) t) (λ e. absurd (true≢false (sym e ∙ ap (only_goes []) item.0.3))) to' (omega (arith, count, few))
+              (arrives b m place [] i t mid there (leads-to (inner.If test if_true if_false) place item.0.3 target) goes' (runs lines (runs x.lines x.rest))
+              (record (in_sides graph x.later x.context) { next = entry graph p (in_sides graph x.later x.context) }) (entry graph p (in_sides graph x.later x.context)) leads
+              (rests.goes p_text p_valid later-stands) refl (omega (arith, mid.low, count, few)))
+
+          if-runs : Arrives
+          if-runs =
+              let (two, second) = and_parts (is_expr_of graph.bits 1 test && nat_lt if_true (length graph.blocks)) (nat_lt if_false (length graph.blocks)) if-formed in
+              let (tested, first) = and_parts (is_expr_of graph.bits 1 test) (nat_lt if_true (length graph.blocks)) two in
+              let z = test-gives s text (family own []) AreAlike i past held (scene-fits i mid.fit) test (subst (λ bits. is_expr_of bits 1 test ≡ true) bits-are tested)
+              (All-head (IsWithin s (family own [])) test [] (within-end (inner.If test if_true if_false) item.0.3)) in
+              let chosen : c_step t ≡ goes_on (runs (if run.value_in i test == 0 then otherwise else body) (runs x.lines x.rest)) t = to ∙ ap (λ e. on (text_value.value_of (c.scope_of text past) (text_of_test s e)) x.at past (λ v. if_step v body otherwise past)) item.0.3
+              ∙ ap (λ o. on o x.at past (λ v. if_step v body otherwise past)) z.gives
+              ∙ ap (λ k. goes_on (runs (if k == 0 then otherwise else body) (runs x.lines x.rest)) t) z.is in
+              elim (decides (run.value_in i test) z.small) [
+                | inl one_is ↦
+                    side if_true one body (ltb-true if_true (length graph.blocks) first) (contained (if_true ∷ if_false ∷ []) 0 if_true refl) one_text (item.0.6, item.1.0) item.0.5 (omega arith)
+                    (chosen ∙ ap (λ zero_is. goes_on (runs (if zero_is then otherwise else body) (runs x.lines x.rest)) t) one_is.0)
+                    (ap (λ is_one. run.going_to (if is_one then if_true else if_false) i) (sym one_is.1) ∙ exits (inner.If test if_true if_false) item.0.3)
+                | inr zero_is ↦
+                    side if_false other otherwise (ltb-true if_false (length graph.blocks) second) (contained (if_true ∷ if_false ∷ []) 1 if_false refl) other_text (item.0.8, item.1.1) item.0.7 (omega arith)
+                    (chosen ∙ ap (λ none. goes_on (runs (if none then otherwise else body) (runs x.lines x.rest)) t) zero_is.0)
+                    (ap (λ is_one. run.going_to (if is_one then if_true else if_false) i) (sym zero_is.1) ∙ exits (inner.If test if_true if_false) item.0.3)
+              ]
+
+        module _ (arms : Arms) (bodies : tree.Arms) (texts : AreArmsText s graph arms bodies) (item : SoundItem s graph whole (plan.Switch b arms) x.later x.context)
+            (to : c_step t ≡ stmt_step text (tree.Switch (text_of_choice s own.exit) bodies tree.no_arms) x.at past)
+            (count : left t.rest ≡ suc (arms_count bodies + 0 + lines_count x.lines + left x.rest)) where
+          abbrev e : inner.Expr
+          e = item.0.0
+
+          abbrev places : List ℕ
+          places = item.0.1
+
+          abbrev value : ℕ
+          value = run.value_in i e
+
+          switch-formed : (is_expr_of graph.bits 16 e && nat_le (length places) 65536 && list_all (λ place. nat_lt place (length graph.blocks)) places) ≡ true
+          switch-formed = formed (inner.Switch e places) item.0.2
+
+          switch-runs : Arrives
+          switch-runs =
+              let (two, all) = and_parts (is_expr_of graph.bits 16 e && nat_le (length places) 65536) (list_all (λ place. nat_lt place (length graph.blocks)) places) switch-formed in
+              let (chosen, few) = and_parts (is_expr_of graph.bits 16 e) (nat_le (length places) 65536) two in
+              let z = choice-gives s text (family own []) AreAlike i past held (scene-fits i mid.fit) e (subst (λ bits. is_expr_of bits 16 e ≡ true) bits-are chosen)
+              (All-head (IsWithin s (family own [])) e [] (within-end (inner.Switch e places) item.0.2)) in
+              by (slice_get places value) refl all
+              (to ∙ ap (λ exit. on (text_value.value_of (c.scope_of text past) (text_of_choice s exit)) x.at past (λ v. switch_step v bodies tree.no_arms past)) item.0.2
+              ∙ ap (λ o. on o x.at past (λ v. switch_step v bodies tree.no_arms past)) z.gives
+              ∙ ap (λ k. goes_on (runs (arm_for k bodies no_lines) (ends_switch (runs x.lines x.rest))) t) z.is)
+              (exits (inner.Switch e places) item.0.2)
+            where
+              by : (o : Option ℕ) → slice_get places value ≡ o → list_all (λ place. nat_lt place (length graph.blocks)) places ≡ true
+                  → c_step t ≡ goes_on (runs (arm_for value bodies no_lines) (ends_switch (runs x.lines x.rest))) t → run.switching (slice_get places value) i ≡ last → Arrives
+              by None none all to' goes' = absurd (not-stuck i (ap (λ o. run.switching o i) (sym none) ∙ goes'))
+              by (Some place) at all to' goes' =
+                  let inside = in_arms graph x.later x.context in
+                  let found = contained places value place at in
+                  let lines = arm_for value bodies no_lines in
+                  let few = arm-few value bodies in
+                  let leads = item.0.4 value place at in
+                  one-before passing (moves mid.leads) true (suc (moves leads)) t (goes_on (runs lines (ends_switch (runs x.lines x.rest))) t) (λ e'. absurd (true≢false (sym e' ∙ ap (only_goes []) item.0.2))) to'
+                  (omega (arith, count, few))
+                  (arrives b m place [] i t mid (ltb-true place (length graph.blocks) (all_at (λ place. nat_lt place (length graph.blocks)) places place all found))
+                  (leads-to (inner.Switch e places) place item.0.2 found) (ap (λ o. run.switching o i) (sym at) ∙ goes') (runs lines (ends_switch (runs x.lines x.rest)))
+                  (record inside { next = entry graph (arm_with value arms) inside }) (entry graph (arm_with value arms) inside) leads
+                  (rests.goes (arm-text s graph value arms bodies texts) (arm-valid graph whole value arms inside item.0.5, arm-begun s graph whole value arms item.1) (rests.leaves later-stands)) refl
+                  (omega (arith, mid.low, count, few)))
+
+        module _ (there : Before b m ≡ mid.context.next) where
+          no-place : (k : ℕ) → k < length own.stmts → m ≡ k → ⊥
+          no-place k less same = absurd (omega (arith, less, same, at-end))
+
+          by-end : (first : Item) (item_stmt : Stmt) → IsItemText s graph first item_stmt → mid.context.next ≡ item_entry graph first x.context → SoundItem s graph whole first x.later x.context
+              → ((tree : Tree) (u : c.State) → step_at tree t.rest u ≡ stmt_step tree item_stmt x.at (goes_on (runs x.lines x.rest) u))
+              → left t.rest ≡ suc (inside_count item_stmt + lines_count x.lines + left x.rest) → Arrives
+          by-end (plan.Do a k) item_stmt item_text same good' steps count =
+              absurd (no-place k (subst (λ d. k < length (block_in graph d).stmts) (sym (ap block_of (there ∙ same))) good'.0.1) (ap place_of (there ∙ same)))
+          by-end (plan.If a one other) item_stmt (planned.tests {body = body} {otherwise = otherwise} one_text other_text) same good' steps count =
+              if-runs one other body otherwise one_text other_text (subst (λ d. SoundItem s graph whole (plan.If d one other) x.later x.context) (sym (ap block_of (there ∙ same))) good')
+              (stepped n again [] b m i t small mid goes x (tree.If (text_of_test s (block_in graph a).exit) body otherwise) steps
+              ∙ ap (λ d. stmt_step text (tree.If (text_of_test s (block_in graph d).exit) body otherwise) x.at past) (sym (ap block_of (there ∙ same)))) count
+          by-end (plan.Switch a arms) item_stmt (planned.chooses {bodies = bodies} texts) same good' steps count =
+              switch-runs arms bodies texts (subst (λ d. SoundItem s graph whole (plan.Switch d arms) x.later x.context) (sym (ap block_of (there ∙ same))) good')
+              (stepped n again [] b m i t small mid goes x (tree.Switch (text_of_choice s (block_in graph a).exit) bodies tree.no_arms) steps
+              ∙ ap (λ d. stmt_step text (tree.Switch (text_of_choice s (block_in graph d).exit) bodies tree.no_arms) x.at past) (sym (ap block_of (there ∙ same)))) count
+          by-end plan.Break item_stmt planned.breaks same good' steps count = break-runs n again [] b m i t small mid goes x steps count there same
+          by-end plan.Continue item_stmt planned.continues same good' steps count = absurd (start-apart x.context.at_continue b m (continue-starts s graph whole x.stands) (there ∙ same))
+          by-end (plan.Mark a) item_stmt item_text same good' steps count = absurd (true≢false (ap is_before (there ∙ same)))
+          by-end (plan.Jump a) item_stmt item_text same good' steps count = absurd (true≢false (ap is_before (there ∙ same)))
+          by-end (plan.For a body) item_stmt item_text same good' steps count = absurd (true≢false (ap is_before (there ∙ same)))
+
+      exit-runs : Arrives
+      exit-runs = by mid.point mid.leads mid.same refl
+        where
+          by : (point : Point) (leads : Leads graph begun (Before b m) point) → mid.context.next ≡ point → moves leads ≡ moves mid.leads → Arrives
+          by point valid.is_there same count = elim (head s graph whole mid.stands) [
+            | at_item x ↦ by-end x (sym same) x.first x.stmt x.text x.is x.valid x.steps x.count
+            | at_turn x ↦ absurd (true≢false (ap is_before (sym same ∙ x.is)))
+            | at_end none ↦ absurd (true≢false (ap is_before (sym same ∙ none)))
+          ]
+          by point (valid.goes {next = next} at exit leads) same count =
+              let less = formed (inner.Goto next) exit in
+              subst (λ z. Comes z (moves mid.leads) t) (sym (ap (only_goes []) exit)) (subst (λ most. Comes true most t) count
+              (arrives b m next [] i t mid (ltb-true next (length graph.blocks) less) (leads-to (inner.Goto next) next exit (contained (next ∷ []) 0 next refl)) (exits (inner.Goto next) exit) t.rest mid.context
+              point leads mid.stands same mid.low))
+          by point (valid.stops at exit) same count = absurd (no-end own.exit i exit mid.waiting (exits own.exit refl))
+
+    pub block-runs : (n : ℕ) → Later n
+    block-runs zero stmts b m i t small mid goes = absurd (omega (arith, small))
+    block-runs (suc n) [] b m i t small mid goes = exit-runs n (block-runs n) b m i t small mid goes
+    block-runs (suc n) (stmt ∷ rest) b m i t small mid goes = stmt-runs n (block-runs n) stmt rest b m i t small mid goes

@@ -1,0 +1,129 @@
+-- Jumps of the text, from a block's end to where the next block begins.
+use Rattle.std.proofs.Common.{◌≡◌, ℕ, zero, suc, ◌+◌, ◌<◌, ◌≤◌, inl, inr, false, Option, Some, refl, sym, ap, ◌∙◌, true≢false, arith}
+use Rattle.std.specs.Prelude.{◌⊎◌, if◌then◌else◌}
+use Rattle.dcc_run.specs.End.{is_over}
+use Rattle.dcc_run.specs.System.{after}
+use Rattle.dcc_ir.specs.Tree as inner
+use Rattle.dcc_ir.specs.WellFormed.{IsGraph}
+use Rattle.dcc_c.specs.Tree.{Stmt, Lines, Function, Tree}
+use Rattle.dcc_c.specs.Run.{Continuation, ends_function, runs, State, goes_on, jump_step, after_goto, after_break, after_continue, stmt_step, step_at, step}
+use Rattle.dcc_text.specs.Spelling.{Spelling}
+use Rattle.dcc_plan.specs.Labels.{label_at}
+use Rattle.dcc_plan.specs.Plan as plan
+use Rattle.dcc_plan.specs.Plan.{Item, Plan, is_begun}
+use Rattle.dcc_plan.specs.PlanText as planned
+use Rattle.dcc_plan.specs.PlanText.{IsPlanText, IsItemText}
+use Rattle.dcc_plan.specs.Valid.{Point, Nowhere, Context, outside, item_entry}
+use Rattle.dcc_plan.proofs.Rests.{Sound, SoundItem, lines_count, inside_count, left, is_jump_stmt, is_jumping, Stands, closes, AtItem, at_item, at_turn, at_end, head, break-lands, continue-lands, absent, lands, do-plain, search-plan}
+
+module _ (s : Spelling) (graph : inner.Graph) (whole : Plan) (limit : ℕ) (text : Tree) (f : Function) (well : IsGraph graph)
+    (valid : Sound s graph whole whole outside) (body : IsPlanText s graph whole f.body) (low : lines_count f.body ≤ limit) where
+  -- a step from a continuation on
+  pub one-step : (k : Continuation) (t : State) → is_over t.end ≡ false → step text (goes_on k t) ≡ step_at text k (goes_on k t)
+  one-step k t on = ap (λ over. if over then goes_on k t else step_at text k (goes_on k t)) on
+
+  -- From what is left, jumps alone lead to what stands for the same point, at a statement that is no jump.
+  pub record Settles (k : Continuation) (point : Point) : Type 0 where
+    pub steps : ℕ
+    pub few : steps ≤ left k
+    pub to : Continuation
+    pub context : Context
+    pub stands : Stands s graph whole limit to context
+    pub is : context.next ≡ point
+    pub settled : (is_jumping to ≡ false) ⊎ (context.next ≡ Nowhere)
+    pub low_there : left to ≤ limit
+    pub comes : (t : State) → is_over t.end ≡ false → t.frame.function ≡ f → after (step text) steps (goes_on k t) ≡ goes_on to t
+
+  -- the step of a jump that has somewhere to go
+  pub jump-comes : (k to : Continuation) (stmt : Stmt) (at : ℕ) (lines : Lines) (rest : Continuation) (o : Option Continuation)
+      → ((t : Tree) (u : State) → step_at t k u ≡ stmt_step t stmt at (goes_on (runs lines rest) u))
+      → ((u : State) → u.frame.function ≡ f → stmt_step text stmt at (goes_on (runs lines rest) u) ≡ jump_step o at (goes_on (runs lines rest) u)) → o ≡ Some to
+      → (t : State) → is_over t.end ≡ false → t.frame.function ≡ f → after (step text) 1 (goes_on k t) ≡ goes_on to t
+  jump-comes k to stmt at lines rest o steps jump found t on function =
+      one-step k t on
+      ∙ steps text (goes_on k t)
+      ∙ jump (goes_on k t) function
+      ∙ ap (λ x. jump_step x at (goes_on (runs lines rest) (goes_on k t))) found
+
+  -- nothing is to be done
+  stays : (k : Continuation) (point : Point) (c : Context) → left k ≤ limit → Stands s graph whole limit k c → c.next ≡ point → (is_jumping k ≡ false) ⊎ (c.next ≡ Nowhere)
+      → Settles k point
+  stays k point c within stands same settled = record {
+    steps = 0;
+    few = omega arith;
+    to = k;
+    context = c;
+    stands = stands;
+    is = same;
+    settled = settled;
+    low_there = within;
+    comes = λ t on function. refl;
+  }
+
+  -- the same from each continuation with fewer statements left
+  abbrev Later : ℕ → Point → Type 0
+  Later n point = (k : Continuation) (c : Context) → left k < n → left k ≤ limit → Stands s graph whole limit k c → c.next ≡ point → Settles k point
+
+  pub settle : (n : ℕ) (k : Continuation) (point : Point) (c : Context) → left k < n → left k ≤ limit → Stands s graph whole limit k c → c.next ≡ point → Settles k point
+  settle zero k point c small within stands same = absurd (omega (arith, small))
+  settle (suc n) k point c small within stands same = elim (head s graph whole stands) [
+    | at_item x ↦ by (λ k' c' small' within' stands' same'. settle n k' point c' small' within' stands' same') x x.first x.stmt x.text x.is x.valid x.steps x.count x.jumps
+    | at_turn x ↦ stays k point c within stands same (inl x.jumps)
+    | at_end none ↦ stays k point c within stands same (inr none)
+  ]
+    where
+      by : (again : Later n point) (x : AtItem s graph whole limit k c.next) (first : Item) (stmt : Stmt) → IsItemText s graph first stmt → c.next ≡ item_entry graph first x.context
+          → SoundItem s graph whole first x.later x.context → ((t : Tree) (u : State) → step_at t k u ≡ stmt_step t stmt x.at (goes_on (runs x.lines x.rest) u))
+          → left k ≡ suc (inside_count stmt + lines_count x.lines + left x.rest) → is_jumping k ≡ is_jump_stmt stmt → Settles k point
+      by again x (plan.Do a m) stmt planned.does is good steps count jumps = stays k point c within stands same (inl (jumps ∙ (do-plain s graph whole a m).no_jump))
+      by again x (plan.Mark a) stmt planned.marks is good steps count jumps = stays k point c within stands same (inl jumps)
+      by again x (plan.Jump a) stmt planned.jumps is good steps count jumps = elim (search-plan s graph whole limit well a good.0.0 whole f.body (ends_function f.last) outside body valid closes (omega (arith, low))) [
+        | absent none gone ↦ absurd (true≢false (sym good.0.1 ∙ none))
+        | lands l ↦ record {
+          steps = 1;
+          few = omega (arith, count);
+          to = l.to;
+          context = l.context;
+          stands = l.stands;
+          is = l.is ∙ sym is ∙ same;
+          settled = inl (l.quiet refl);
+          low_there = omega (arith, l.few, low);
+          comes = jump-comes k l.to stmt x.at x.lines x.rest (after_goto f (label_at graph.blocks a)) steps
+              (λ u function. ap (λ g. jump_step (after_goto g (label_at graph.blocks a)) x.at (goes_on (runs x.lines x.rest) u)) function) l.found;
+        }
+      ]
+      by again x (plan.If a one other) stmt (planned.tests text' text'') is good steps count jumps = stays k point c within stands same (inl jumps)
+      by again x (plan.Switch a arms) stmt (planned.chooses text') is good steps count jumps = stays k point c within stands same (inl jumps)
+      by again x (plan.For a p) stmt (planned.repeats text') is good steps count jumps = stays k point c within stands same (inl jumps)
+      by again x plan.Break stmt planned.breaks is good steps count jumps = elim (break-lands s graph whole x.stands) [
+        | inl none ↦ stays k point c within stands same (inr (is ∙ none))
+        | inr l ↦
+            let there = again l.to l.context (omega (arith, small, count, l.few)) (omega (arith, within, count, l.few)) l.stands (l.is ∙ sym is ∙ same) in
+            record {
+              steps = suc there.steps;
+              few = omega (arith, count, l.few, there.few);
+              to = there.to;
+              context = there.context;
+              stands = there.stands;
+              is = there.is;
+              settled = there.settled;
+              low_there = there.low_there;
+              comes = λ t on function.
+                  ap (after (step text) there.steps) (jump-comes k l.to stmt x.at x.lines x.rest (after_break x.rest) steps (λ u function. refl) l.found t on function)
+                  ∙ there.comes t on function;
+            }
+      ]
+      by again x plan.Continue stmt planned.continues is good steps count jumps = elim (continue-lands s graph whole x.stands) [
+        | inl none ↦ stays k point c within stands same (inr (is ∙ none))
+        | inr l ↦ record {
+          steps = 1;
+          few = omega (arith, count);
+          to = l.to;
+          context = l.context;
+          stands = l.stands;
+          is = l.is ∙ sym is ∙ same;
+          settled = inl (l.quiet refl);
+          low_there = omega (arith, l.few, within, count);
+          comes = jump-comes k l.to stmt x.at x.lines x.rest (after_continue x.rest) steps (λ u function. refl) l.found;
+        }
+      ]

@@ -1,0 +1,61 @@
+-- What tests and choices at ends of blocks give in the text.
+use Rattle.std.proofs.Common.{◌≡◌, ℕ, zero, suc, ◌<◌, inl, inr, true, false, ◌==◌, refl, sym, ap, ◌∙◌, subst, arith}
+use Rattle.std.specs.Prelude.{◌⊎◌}
+use Rattle.std.proofs.lemmas.Bool.{and_parts, eqb-true}
+use Rattle.dcc_ir.specs.Run as inner_run
+use Rattle.dcc_ir.specs.Tree as inner
+use Rattle.dcc_ir.specs.Value.{width_of, value_of, Fits}
+use Rattle.dcc_ir.specs.WellFormed.{is_expr, is_expr_of}
+use Rattle.dcc_c.specs.declared.syntax.Base.{Base}
+use Rattle.dcc_c.specs.declared.syntax.Base.TheVariants.{Uint}
+use Rattle.dcc_c.specs.Run as text_run
+use Rattle.dcc_c.specs.Tree.{Tree}
+use Rattle.dcc_c.specs.Types.{plain}
+use Rattle.dcc_c.specs.Value as text_value
+use Rattle.dcc_c.specs.Value.{number, converted, Gives}
+use Rattle.dcc_text.specs.Spelling.{Spelling}
+use Rattle.dcc_text.specs.Spelled.{Way, Low, Exact, text}
+use Rattle.dcc_text.specs.Holding.{Locations, Alike, IsWithin, Holds}
+use Rattle.dcc_text.proofs.Sizes.{Size, bit, word, bits}
+use Rattle.dcc_text.proofs.Ways.{Text, word-cast}
+use Rattle.dcc_text.proofs.Texts.{stands, same-size}
+use Rattle.dcc_text.proofs.Assignments.{shown-within}
+
+module _ (s : Spelling) (tree : Tree) (Has : Locations) (AreAlike : Alike) (i : inner_run.State) (t : text_run.State) (h : Holds s Has AreAlike i t) (fits : Fits (inner_run.scene_of i)) where
+  -- the text of an expression of a size, in each way
+  text-of : (e : inner.Expr) (size : Size) (way : Way) → is_expr_of s.bits (bits size) e ≡ true → IsWithin s Has e → Text (text_run.scope_of tree t) way size (inner_run.value_in i e) (text s way false e)
+  text-of e size way formed within =
+      let (is, width) = and_parts (is_expr s.bits e) (width_of s.bits e == bits size) formed in
+      let x = stands s (text_run.scope_of tree t) i.running.values i.running.base i.memory h.memory fits.bytes e is (shown-within s tree Has AreAlike i t h e within) in
+      subst (λ widths. Text (text_run.scope_of tree t) way size (value_of (record { bits = widths; values = i.running.values; base = i.running.base; memory = i.memory }) e) (text s way false e)) (sym h.frame.bits)
+      (subst (λ z. Text (text_run.scope_of tree t) way z (value_of (record { bits = s.bits; values = i.running.values; base = i.running.base; memory = i.memory }) e) (text s way false e))
+      (same-size x.size size (sym x.width ∙ eqb-true (width_of s.bits e) (bits size) width)) (x.gives way false))
+
+  -- a test is 0 or 1
+  pub record Tests (e : inner.Expr) : Type 0 where
+    pub base : Base
+    pub k : ℕ
+    pub gives : text_value.value_of (text_run.scope_of tree t) (text s Exact false e) ≡ Gives (number base k)
+    pub is : k ≡ inner_run.value_in i e
+    pub small : inner_run.value_in i e < 2
+
+  pub test-gives : (e : inner.Expr) → is_expr_of s.bits 1 e ≡ true → IsWithin s Has e → Tests e
+  test-gives e formed within = let x = text-of e bit Exact formed within in record { base = x.base; k = x.k; gives = x.number_is.valued; is = x.means; small = x.fits }
+
+  -- a choice is by the value
+  pub record Chooses (e : inner.Expr) : Type 0 where
+    pub base : Base
+    pub k : ℕ
+    pub gives : text_value.value_of (text_run.scope_of tree t) (text s Low false e) ≡ Gives (number base k)
+    pub is : (converted (plain Uint) (number base k)).bits ≡ inner_run.value_in i e
+
+  pub choice-gives : (e : inner.Expr) → is_expr_of s.bits 16 e ≡ true → IsWithin s Has e → Chooses e
+  choice-gives e formed within =
+      let x = text-of e word Low formed within in
+      record { base = x.base; k = x.k; gives = x.number_is.valued; is = ap (λ k. (converted (plain Uint) (number x.base k)).bits) x.means ∙ word-cast x.base (inner_run.value_in i e) x.is x.fits }
+
+-- a bit is 1 or 0
+pub decides : (n : ℕ) → n < 2 → ((n == 0) ≡ false) × ((n == 1) ≡ true) ⊎ ((n == 0) ≡ true) × ((n == 1) ≡ false)
+decides zero low = inr (refl, refl)
+decides (suc zero) low = inl (refl, refl)
+decides (suc (suc k)) low = absurd (omega (arith, low))

@@ -1,0 +1,81 @@
+-- The text of an item with others inside, from the texts of these.
+use Rattle.std.proofs.Common.{◌≡◌, ℕ, List, ◌∷◌, ◌++◌, [], drop, get_or, length, ◌+◌, ◌<◌, Vec, Global, None, sym, ap, ap₂, ◌∙◌}
+use Rattle.std.proofs.lemmas.List.{at_drop_more}
+use Rattle.dcc_ir.specs.Live.{block_in}
+use Rattle.dcc_ir.specs.Tree as inner
+use Rattle.dcc_c.specs.declared.syntax.CExpr.{CExpr}
+use Rattle.dcc_c.specs.declared.syntax.CStmt.{If as CIf, Switch as CSwitch, Forever as CForever}
+use Rattle.dcc_c.specs.declared.syntax.Line.{Line}
+use Rattle.dcc_c.specs.declared.syntax.Arm.{Arm as CArm}
+use Rattle.dcc_c.specs.Tree as tree
+use Rattle.dcc_c.specs.Views.{expr_of, stmt_of, lines_of, arms_of as c_arms_of, arm_before}
+use Rattle.dcc_c.proofs.RowLaws.{if-tree, switch-tree, forever-tree}
+use Rattle.dcc_text.specs.Spelling.{Spelling}
+use Rattle.dcc_plan.specs.declared.item.Item.{Item as TheItem, If as IfOf, Switch as SwitchOf, For as ForOf}
+use Rattle.dcc_plan.specs.declared.item.Arm.{Arm as TheArm}
+use Rattle.dcc_plan.specs.PlanText.{text_of_test, text_of_choice, plan_text, item_text, arms_text}
+use Rattle.dcc_plan.specs.Views.{item_of, plan_of, arms_of}
+use Rattle.dcc_plan.proofs.ItemRows.{if-item, switch-item, for-item}
+use Rattle.dcc_plan.proofs.TextRows.{lines_before, lines_before-append, bodies_before, bodies_before-append}
+
+module _ (s : Spelling) (graph : inner.Graph) where
+  pub if-text : (i : TheItem) (b : ℕ) (one other : Vec TheItem Global) (first second : List TheItem) (test : CExpr) (body otherwise : Vec Line Global)
+      → i ≡ IfOf b one other → first ≡ one.items → second ≡ other.items
+      → expr_of test ≡ text_of_test s (block_in graph b).exit → lines_of body.items ≡ plan_text s graph (plan_of first)
+      → lines_of otherwise.items ≡ plan_text s graph (plan_of second) → stmt_of (CIf test body otherwise) ≡ item_text s graph (item_of i)
+  if-text i b one other first second test body otherwise is of_one of_other test_is body_is otherwise_is =
+      if-tree test body otherwise
+      ∙ ap (λ e. tree.If e (lines_of body.items) (lines_of otherwise.items)) test_is
+      ∙ ap₂ (tree.If (text_of_test s (block_in graph b).exit))
+      (body_is ∙ ap (λ items. plan_text s graph (plan_of items)) of_one)
+      (otherwise_is ∙ ap (λ items. plan_text s graph (plan_of items)) of_other)
+      ∙ ap (item_text s graph) (sym (if-item b one other))
+      ∙ ap (λ x. item_text s graph (item_of x)) (sym is)
+
+  pub switch-text : (i : TheItem) (b : ℕ) (arms : Vec TheArm Global) (given : List TheArm) (value : CExpr) (bodies : Vec CArm Global)
+      → i ≡ SwitchOf b arms → given ≡ arms.items
+      → expr_of value ≡ text_of_choice s (block_in graph b).exit → c_arms_of bodies.items ≡ arms_text s graph (arms_of given)
+      → stmt_of (CSwitch value bodies None) ≡ item_text s graph (item_of i)
+  switch-text i b arms given value bodies is of_arms value_is bodies_is =
+      switch-tree value bodies None
+      ∙ ap (λ e. tree.Switch e (c_arms_of bodies.items) tree.no_arms) value_is
+      ∙ ap (λ l. tree.Switch (text_of_choice s (block_in graph b).exit) l tree.no_arms)
+      (bodies_is ∙ ap (λ l. arms_text s graph (arms_of l)) of_arms)
+      ∙ ap (item_text s graph) (sym (switch-item b arms))
+      ∙ ap (λ x. item_text s graph (item_of x)) (sym is)
+
+  pub for-text : (i : TheItem) (b : ℕ) (inside : Vec TheItem Global) (given : List TheItem) (body : Vec Line Global)
+      → i ≡ ForOf b inside → given ≡ inside.items → lines_of body.items ≡ plan_text s graph (plan_of given)
+      → stmt_of (CForever body) ≡ item_text s graph (item_of i)
+  for-text i b inside given body is of_inside body_is =
+      forever-tree body
+      ∙ ap tree.Forever (body_is ∙ ap (λ items. plan_text s graph (plan_of items)) of_inside)
+      ∙ ap (item_text s graph) (sym (for-item b inside))
+      ∙ ap (λ x. item_text s graph (item_of x)) (sym is)
+
+  -- the text of the items that are left, one further on
+  pub item-step : (items : List TheItem) (k : ℕ) (i : TheItem) (lines : List Line) (l : Line) (whole : tree.Lines)
+      → k < length items → i ≡ get_or items k i → stmt_of l.stmt ≡ item_text s graph (item_of i) → l.line ≡ 0
+      → lines_before lines (plan_text s graph (plan_of (drop k items))) ≡ whole
+      → lines_before (lines ++ l ∷ []) (plan_text s graph (plan_of (drop (k + 1) items))) ≡ whole
+  item-step items k i lines l whole within is stmt_is line_is before =
+      let rest : tree.Lines = plan_text s graph (plan_of (drop (k + 1) items)) in
+      lines_before-append lines (l ∷ []) rest
+      ∙ ap (λ stmt. lines_before lines (tree.line stmt l.line rest)) (stmt_is ∙ ap (λ x. item_text s graph (item_of x)) is)
+      ∙ ap (λ n. lines_before lines (tree.line (item_text s graph (item_of (get_or items k i))) n rest)) line_is
+      ∙ ap (lines_before lines) (sym (at_drop_more (λ left. plan_text s graph (plan_of left)) items k i within))
+      ∙ before
+
+  -- the text of the arms that are left, one further on
+  pub arm-step : (arms : List TheArm) (k : ℕ) (a : TheArm) (bodies : List CArm) (made : CArm) (whole : tree.Arms)
+      → k < length arms → a ≡ get_or arms k a
+      → ((rest : tree.Arms) → arm_before made rest ≡ tree.arm a.cases.items (plan_text s graph (plan_of a.body.items)) rest)
+      → bodies_before bodies (arms_text s graph (arms_of (drop k arms))) ≡ whole
+      → bodies_before (bodies ++ made ∷ []) (arms_text s graph (arms_of (drop (k + 1) arms))) ≡ whole
+  arm-step arms k a bodies made whole within is made_is before =
+      let rest : tree.Arms = arms_text s graph (arms_of (drop (k + 1) arms)) in
+      let at : TheArm → tree.Arms = λ x. tree.arm x.cases.items (plan_text s graph (plan_of x.body.items)) rest in
+      bodies_before-append bodies (made ∷ []) rest
+      ∙ ap (bodies_before bodies) (made_is rest ∙ ap at is)
+      ∙ ap (bodies_before bodies) (sym (at_drop_more (λ left. arms_text s graph (arms_of left)) arms k a within))
+      ∙ before

@@ -1,0 +1,10 @@
+pub mod Labels
+pub mod Plan
+pub mod PlanText
+pub mod Valid
+pub mod GotoPlan
+pub mod Complete
+pub mod Allowed
+pub mod Laws
+pub mod Views
+pub mod Cases

@@ -1,0 +1,81 @@
+-- The text of a plan.
+use Rattle.std.specs.Prelude.{ℕ, false, List, slice_get, Some, None}
+use Rattle.dcc_ir.specs.Tree as inner
+use Rattle.dcc_ir.specs.Live.{block_in}
+use Rattle.dcc_c.specs.declared.syntax.Base.TheVariants.{Int}
+use Rattle.dcc_c.specs.Tree.{Expr, Number, Stmt, If, Forever, Switch, Break, Continue, Goto, Label, Empty, Lines, no_lines, line, Arms, no_arms, arm}
+use Rattle.dcc_text.specs.Spelling.{Spelling}
+use Rattle.dcc_text.specs.Spelled.{Low, Exact, text}
+use Rattle.dcc_text.specs.Stmts.{stmt_text}
+use Rattle.dcc_plan.specs.Labels.{label_at}
+use Rattle.dcc_plan.specs.Plan as plan
+use Rattle.dcc_plan.specs.Plan.{Plan, Item, no_items, item}
+
+-- the statement of a block; no call of the program's own functions stands in the text, so the depth of calls stays 2
+abbrev pub text_of_stmt : Spelling → inner.Graph → ℕ → ℕ → Stmt
+text_of_stmt s graph b m = elim (slice_get (block_in graph b).stmts m) [
+  | Some stmt ↦ stmt_text s 2 stmt
+  | None ↦ Empty
+]
+
+-- the test at the end of a block
+abbrev pub text_of_test : Spelling → inner.Exit → Expr
+text_of_test s (inner.If test one other) = text s Exact false test
+text_of_test s _ = Number 0 Int
+
+-- the value that a block's end chooses by: a `switch` takes it modulo 65536
+abbrev pub text_of_choice : Spelling → inner.Exit → Expr
+text_of_choice s (inner.Switch e places) = text s Low false e
+text_of_choice s _ = Number 0 Int
+
+abbrev mutual
+  -- the lines of a plan, not numbered yet
+  pub plan_text : Spelling → inner.Graph → Plan → Lines
+  plan_text s graph no_items = no_lines
+  plan_text s graph (item i plan) = line (item_text s graph i) 0 (plan_text s graph plan)
+
+  pub item_text : Spelling → inner.Graph → Item → Stmt
+  item_text s graph (plan.Do b m) = text_of_stmt s graph b m
+  item_text s graph (plan.Mark b) = Label (label_at graph.blocks b)
+  item_text s graph (plan.Jump b) = Goto (label_at graph.blocks b)
+  item_text s graph (plan.If b one other) =
+      If (text_of_test s (block_in graph b).exit) (plan_text s graph one) (plan_text s graph other)
+  item_text s graph (plan.Switch b arms) =
+      Switch (text_of_choice s (block_in graph b).exit) (arms_text s graph arms) no_arms
+  item_text s graph (plan.For b body) = Forever (plan_text s graph body)
+  item_text s graph plan.Break = Break
+  item_text s graph plan.Continue = Continue
+
+  pub arms_text : Spelling → inner.Graph → plan.Arms → Arms
+  arms_text s graph plan.no_arms = no_arms
+  arms_text s graph (plan.arm cases body arms) = arm cases (plan_text s graph body) (arms_text s graph arms)
+
+-- The same, whatever the numbers of the lines.
+mutual
+  -- the lines are the text of the plan
+  pub data IsPlanText (s : Spelling) (graph : inner.Graph) : Plan → Lines → Type 0 where
+    nothing : IsPlanText s graph no_items no_lines
+    one_more : {i : Item} {stmt : Stmt} {at : ℕ} {plan : Plan} {lines : Lines} → IsItemText s graph i stmt
+        → IsPlanText s graph plan lines → IsPlanText s graph (item i plan) (line stmt at lines)
+
+  -- the statement is the text of the item
+  pub data IsItemText (s : Spelling) (graph : inner.Graph) : Item → Stmt → Type 0 where
+    does : {b m : ℕ} → IsItemText s graph (plan.Do b m) (text_of_stmt s graph b m)
+    marks : {b : ℕ} → IsItemText s graph (plan.Mark b) (Label (label_at graph.blocks b))
+    jumps : {b : ℕ} → IsItemText s graph (plan.Jump b) (Goto (label_at graph.blocks b))
+    tests : {b : ℕ} {one other : Plan} {body otherwise : Lines} → IsPlanText s graph one body
+        → IsPlanText s graph other otherwise
+        → IsItemText s graph (plan.If b one other) (If (text_of_test s (block_in graph b).exit) body otherwise)
+    chooses : {b : ℕ} {arms : plan.Arms} {bodies : Arms} → AreArmsText s graph arms bodies
+        → IsItemText s graph (plan.Switch b arms) (Switch (text_of_choice s (block_in graph b).exit) bodies no_arms)
+    repeats : {b : ℕ} {body : Plan} {lines : Lines} → IsPlanText s graph body lines
+        → IsItemText s graph (plan.For b body) (Forever lines)
+    breaks : IsItemText s graph plan.Break Break
+    continues : IsItemText s graph plan.Continue Continue
+
+  -- the arms are the text of the plan's
+  pub data AreArmsText (s : Spelling) (graph : inner.Graph) : plan.Arms → Arms → Type 0 where
+    no_more : AreArmsText s graph plan.no_arms no_arms
+    next_arm : {cases : List ℕ} {body : Plan} {arms : plan.Arms} {lines : Lines} {bodies : Arms}
+        → IsPlanText s graph body lines → AreArmsText s graph arms bodies
+        → AreArmsText s graph (plan.arm cases body arms) (arm cases lines bodies)

@@ -1,0 +1,127 @@
+-- Valid plans: those whose text is always where the graph is.
+use Rattle.std.specs.Prelude.{◌≡◌, ℕ, suc, ◌<◌, ◌==◌, Bool, true, false, not, ◌||◌, if◌then◌else◌, List, [], length, slice_get, Some}
+use Rattle.dcc_ir.specs.Tree as inner
+use Rattle.dcc_ir.specs.Live.{block_in}
+use Rattle.dcc_ir.specs.WellFormed.{is_jump, all_differ}
+use Rattle.dcc_plan.specs.Plan.{Item, Do, Mark, Jump, If, Switch, For, Break, Continue, Plan, no_items, item, Arms, no_arms, arm, marks, is_in, is_begun, arm_with}
+
+-- a point in a graph: where a block begins, or before its statement at a place; after the last one stands its end
+pub data Point : Type 0 where
+  Begin : ℕ → Point
+  Before : ℕ → ℕ → Point
+  -- where no run comes
+  Nowhere : Point
+
+-- the end of a block
+abbrev pub end_of : inner.Graph → ℕ → Point
+end_of graph b = Before b (length (block_in graph b).stmts)
+
+-- The run of the graph comes from the first point to the second without a statement, a test or a choice, and without
+-- the begin of a block that the text has a step for. No run comes past a block's end that is no jump, so it may lead
+-- anywhere.
+pub data Leads (graph : inner.Graph) (begun : ℕ → Bool) : Point → Point → Type 0 where
+  is_there : {point : Point} → Leads graph begun point point
+  begins : {b : ℕ} {point : Point} → begun b ≡ false → Leads graph begun (Before b 0) point
+      → Leads graph begun (Begin b) point
+  goes : {b m next : ℕ} {point : Point} → m ≡ length (block_in graph b).stmts
+      → (block_in graph b).exit ≡ inner.Goto next → Leads graph begun (Begin next) point
+      → Leads graph begun (Before b m) point
+  stops : {b m : ℕ} {point : Point} → m ≡ length (block_in graph b).stmts → is_jump (block_in graph b).exit ≡ false
+      → Leads graph begun (Before b m) point
+
+-- where the graph is after a list of items, and where `break` and `continue` in it lead
+pub record Context : Type 0 where
+  pub next : Point
+  pub at_break : Point
+  pub at_continue : Point
+
+-- outside of all items
+abbrev pub outside : Context
+outside = record { next = Nowhere; at_break = Nowhere; at_continue = Nowhere }
+
+-- the point that an item and a list of items stand for
+abbrev pub item_entry : inner.Graph → Item → Context → Point
+item_entry graph (Do b m) c = Before b m
+item_entry graph (Mark b) c = Begin b
+item_entry graph (Jump b) c = Begin b
+item_entry graph (If b one other) c = end_of graph b
+item_entry graph (Switch b arms) c = end_of graph b
+item_entry graph (For b body) c = Begin b
+item_entry graph Break c = c.at_break
+item_entry graph Continue c = c.at_continue
+
+abbrev pub entry : inner.Graph → Plan → Context → Point
+entry graph no_items c = c.next
+entry graph (item i plan) c = item_entry graph i c
+
+-- the context of what stands inside an item that these items follow: of the sides of a test, of arms, of a loop
+abbrev pub in_sides : inner.Graph → Plan → Context → Context
+in_sides graph plan c = record c { next = entry graph plan c }
+
+abbrev pub in_arms : inner.Graph → Plan → Context → Context
+in_arms graph plan c =
+    let next = entry graph plan c in record { next = next; at_break = next; at_continue = c.at_continue }
+
+abbrev pub in_loop : inner.Graph → ℕ → Plan → Context → Context
+in_loop graph b plan c = record { next = Begin b; at_break = entry graph plan c; at_continue = Begin b }
+
+-- where the graph is when a turn of the loop begins: past the begin of the block, where its label doesn't come first
+abbrev pub turn : ℕ → Plan → Point
+turn b (item (Mark a) plan) = if a == b then Begin b else Before b 0
+turn b _ = Before b 0
+
+-- In a whole plan, from each item the graph leads to what follows it, and each jump has its label.
+abbrev mutual
+  pub IsValid : inner.Graph → Plan → Plan → Context → Type 0
+  IsValid graph whole no_items c = Unit {0}
+  IsValid graph whole (item i plan) c = IsValidItem graph whole i plan c × IsValid graph whole plan c
+
+  pub IsValidItem : inner.Graph → Plan → Item → Plan → Context → Type 0
+  IsValidItem graph whole (Do b m) plan c =
+      (b < length graph.blocks) × (m < length (block_in graph b).stmts)
+      × Leads graph (is_begun whole) (Before b (suc m)) (entry graph plan c)
+  IsValidItem graph whole (Mark b) plan c =
+      (b < length graph.blocks) × Leads graph (is_begun whole) (Before b 0) (entry graph plan c)
+  IsValidItem graph whole (Jump b) plan c = (b < length graph.blocks) × (is_in b (marks whole) ≡ true)
+  IsValidItem graph whole (If b one other) plan c =
+      let inside = in_sides graph plan c in
+      (test : inner.Expr) × (if_true : ℕ) × (if_false : ℕ) × ((block_in graph b).exit ≡ inner.If test if_true if_false)
+      × (b < length graph.blocks)
+      × Leads graph (is_begun whole) (Begin if_true) (entry graph one inside) × IsValid graph whole one inside
+      × Leads graph (is_begun whole) (Begin if_false) (entry graph other inside) × IsValid graph whole other inside
+  IsValidItem graph whole (Switch b arms) plan c =
+      let inside = in_arms graph plan c in
+      (e : inner.Expr) × (places : List ℕ) × ((block_in graph b).exit ≡ inner.Switch e places)
+      × (b < length graph.blocks)
+      × ((n place : ℕ) → slice_get places n ≡ Some place
+      → Leads graph (is_begun whole) (Begin place) (entry graph (arm_with n arms) inside))
+      × AreValidArms graph whole arms inside
+  IsValidItem graph whole (For b body) plan c =
+      let inside = in_loop graph b plan c in
+      (b < length graph.blocks) × Leads graph (is_begun whole) (turn b body) (entry graph body inside)
+      × IsValid graph whole body inside
+  IsValidItem graph whole Break plan c = Unit {0}
+  IsValidItem graph whole Continue plan c = Unit {0}
+
+  pub AreValidArms : inner.Graph → Plan → Arms → Context → Type 0
+  AreValidArms graph whole no_arms c = Unit {0}
+  AreValidArms graph whole (arm cases body arms) c = IsValid graph whole body c × AreValidArms graph whole arms c
+
+-- The plan is one of the graph: it starts where the graph does, and no label stands in it twice.
+pub record IsPlanOf (graph : inner.Graph) (plan : Plan) : Type 0 where
+  pub starts : Leads graph (is_begun plan) (Begin 0) (entry graph plan outside)
+  pub valid : IsValid graph plan plan outside
+  pub labels : all_differ (marks plan) ≡ true
+
+-- a block of these statements and this end does nothing but go to another
+abbrev pub only_goes : List inner.Stmt → inner.Exit → Bool
+only_goes [] (inner.Goto next) = true
+only_goes _ _ = false
+
+-- the text has a step for the block: where it begins, or else for a statement, a test or a choice
+abbrev pub has_step : inner.Graph → Plan → ℕ → Bool
+has_step graph plan b = let block = block_in graph b in is_begun plan b || not (only_goes block.stmts block.exit)
+
+-- the text has a step where each block begins
+abbrev pub BeginsAll : inner.Graph → Plan → Type 0
+BeginsAll graph plan = (b : ℕ) → b < length graph.blocks → is_begun plan b ≡ true

@@ -1,0 +1,203 @@
+//! The text of a plan, its lines not numbered yet.
+
+ghost use Rattle.std.specs.Prelude.{◌≡◌, ◌<◌, ◌∷◌, [], IfOk, map, string_bytes};
+ghost use Rattle.dcc_ir.specs.Live.{block_in};
+ghost use Rattle.dcc_ir.specs.Views.{block_of, exit_of, graph_of};
+ghost use Rattle.dcc_c.specs.Views.{expr_of, stmt_of, lines_of, arms_of as c_arms_of};
+ghost use Rattle.dcc_plan.specs.Labels as labels;
+ghost use Rattle.dcc_plan.specs.PlanText as spec;
+ghost use Rattle.dcc_plan.specs.Views.{item_of, plan_of, arms_of};
+
+use crate::item::{Arm, Item};
+use dcc_c::{Arm as CArm, Base, CExpr, CStmt, Line};
+use dcc_ir::{Block, End, Graph};
+use dcc_text::expression::expr_text;
+use dcc_text::statement::stmt_text;
+use dcc_text::{Spells, Way};
+use std::alloc::{AllocError, Global};
+
+// The depth of calls, in bytes, that is in force where no pragma stands.
+const DEPTH: u32 = 2;
+
+// A digit in hexadecimal.
+fn hex_digit(n: u16) -> &'static str
+    requires { n < 16 }
+    ensures { result.now ≡ labels.hex_digit n ∷ [] }
+{
+    match n {
+        0 => "0",
+        1 => "1",
+        2 => "2",
+        3 => "3",
+        4 => "4",
+        5 => "5",
+        6 => "6",
+        7 => "7",
+        8 => "8",
+        9 => "9",
+        10 => "a",
+        11 => "b",
+        12 => "c",
+        13 => "d",
+        14 => "e",
+        _ => "f",
+    }
+}
+
+// The label of the block at an address.
+fn label_name(alloc: Global, at: u16) -> Result<String, AllocError>
+    ensures { IfOk result (λ name. string_bytes name ≡ labels.label_name at) }
+{
+    let mut name = String::from_str(alloc, "L_")?;
+    name.push_str(hex_digit(at / 4096 % 16))?;
+    name.push_str(hex_digit(at / 256 % 16))?;
+    name.push_str(hex_digit(at / 16 % 16))?;
+    name.push_str(hex_digit(at % 16))?;
+    Ok(name)
+}
+
+// The label of the block at a place in the graph.
+fn label_at(alloc: Global, blocks: &[Block], place: u32) -> Result<String, AllocError>
+    ensures { IfOk result (λ name. string_bytes name ≡ labels.label_at (map block_of blocks.now) place) }
+{
+    match blocks.get(place as usize) {
+        Some(block) => label_name(alloc, block.at),
+        None => String::from_str(alloc, "L"),
+    }
+}
+
+// The statement of a block at a place.
+fn stmt_at<S: Spells>(
+    alloc: Global,
+    s: &S,
+    graph: &Graph,
+    b: u32,
+    m: u32,
+) -> Result<CStmt, AllocError>
+    ensures { IfOk result (λ r. stmt_of r ≡ spec.text_of_stmt (S.spelling s.now) (graph_of graph.now) b m) }
+{
+    let Some(block) = graph.blocks.get(b as usize) else {
+        return Ok(CStmt::Empty);
+    };
+    match block.stmts.get(m as usize) {
+        Some(stmt) => stmt_text(alloc, s, DEPTH, stmt),
+        None => Ok(CStmt::Empty),
+    }
+}
+
+// The test of a block's end.
+fn test_of<S: Spells>(alloc: Global, s: &S, end: &End) -> Result<CExpr, AllocError>
+    ensures { IfOk result (λ r. expr_of r ≡ spec.text_of_test (S.spelling s.now) (exit_of end.now)) }
+{
+    match end {
+        End::If { test, .. } => expr_text(alloc, s, Way::Exact, false, test),
+        _ => Ok(CExpr::Num(0, Base::Int)),
+    }
+}
+
+// The value that a block's end chooses by.
+fn choice_of<S: Spells>(alloc: Global, s: &S, end: &End) -> Result<CExpr, AllocError>
+    ensures { IfOk result (λ r. expr_of r ≡ spec.text_of_choice (S.spelling s.now) (exit_of end.now)) }
+{
+    match end {
+        End::Switch { value, .. } => expr_text(alloc, s, Way::Low, false, value),
+        _ => Ok(CExpr::Num(0, Base::Int)),
+    }
+}
+
+// The test at the end of the block at a place in the graph.
+fn test_at<S: Spells>(alloc: Global, s: &S, graph: &Graph, b: u32) -> Result<CExpr, AllocError>
+    ensures { IfOk result (λ r. expr_of r
+        ≡ spec.text_of_test (S.spelling s.now) (block_in (graph_of graph.now) b).exit) }
+{
+    match graph.blocks.get(b as usize) {
+        Some(block) => test_of(alloc, s, &block.end),
+        None => Ok(CExpr::Num(0, Base::Int)),
+    }
+}
+
+// The value that the block at a place in the graph chooses by at its end.
+fn choice_at<S: Spells>(alloc: Global, s: &S, graph: &Graph, b: u32) -> Result<CExpr, AllocError>
+    ensures { IfOk result (λ r. expr_of r
+        ≡ spec.text_of_choice (S.spelling s.now) (block_in (graph_of graph.now) b).exit) }
+{
+    match graph.blocks.get(b as usize) {
+        Some(block) => choice_of(alloc, s, &block.end),
+        None => Ok(CExpr::Num(0, Base::Int)),
+    }
+}
+
+// The text of an item.
+#[cycle(text)]
+fn item_text<S: Spells>(
+    alloc: Global,
+    s: &S,
+    graph: &Graph,
+    item: &Item,
+) -> Result<CStmt, AllocError>
+    ensures { IfOk result (λ r. stmt_of r
+        ≡ spec.item_text (S.spelling s.now) (graph_of graph.now) (item_of item.now)) }
+{
+    match item {
+        Item::Do(b, m) => stmt_at(alloc, s, graph, *b, *m),
+        Item::Mark(b) => Ok(CStmt::Label(label_at(alloc, &graph.blocks, *b)?)),
+        Item::Jump(b) => Ok(CStmt::Goto(label_at(alloc, &graph.blocks, *b)?)),
+        Item::If(b, one, other) => {
+            let body = plan_text(alloc, s, graph, one)?;
+            let otherwise = plan_text(alloc, s, graph, other)?;
+            let test = test_at(alloc, s, graph, *b)?;
+            Ok(CStmt::If(test, body, otherwise))
+        }
+        Item::Switch(b, arms) => {
+            let value = choice_at(alloc, s, graph, *b)?;
+            let bodies = arms_text(alloc, s, graph, arms)?;
+            Ok(CStmt::Switch(value, bodies, None))
+        }
+        Item::For(_, inner) => {
+            let body = plan_text(alloc, s, graph, inner)?;
+            Ok(CStmt::Forever(body))
+        }
+        Item::Break => Ok(CStmt::Break),
+        Item::Continue => Ok(CStmt::Continue),
+    }
+}
+
+// The text of the arms of a choice.
+#[cycle(text)]
+fn arms_text<S: Spells>(
+    alloc: Global,
+    s: &S,
+    graph: &Graph,
+    arms: &[Arm],
+) -> Result<Vec<CArm>, AllocError>
+    ensures { IfOk result (λ r. c_arms_of r.items
+        ≡ spec.arms_text (S.spelling s.now) (graph_of graph.now) (arms_of arms.now)) }
+{
+    let mut bodies = Vec::new(alloc);
+    for arm in arms {
+        let cases = arm.cases.as_slice().to_vec(alloc)?;
+        let body = plan_text(alloc, s, graph, &arm.body)?;
+        bodies.push(CArm { cases, body })?;
+    }
+    Ok(bodies)
+}
+
+/// The text of a plan of a graph: its statements, each in a line that is not numbered yet. Want of memory is the only
+/// error, and an expression with more bits than 32 bits can number is told as such.
+#[cycle(text)]
+pub fn plan_text<S: Spells>(
+    alloc: Global,
+    s: &S,
+    graph: &Graph,
+    items: &[Item],
+) -> Result<Vec<Line>, AllocError>
+    ensures { IfOk result (λ r. lines_of r.items
+        ≡ spec.plan_text (S.spelling s.now) (graph_of graph.now) (plan_of items.now)) }
+{
+    let mut lines = Vec::new(alloc);
+    for item in items {
+        let stmt = item_text(alloc, s, graph, item)?;
+        lines.push(Line { stmt, line: 0 })?;
+    }
+    Ok(lines)
+}

@@ -1,0 +1,4 @@
+pub mod Variables
+pub mod Globals
+pub mod Laws
+pub mod Views
