@@ -32,35 +32,22 @@ pub fn copied(alloc: Global, e: &Expr) -> Result<Expr, AllocError>
             width: *width,
             address: Box::new(alloc, copied(alloc, address)?)?,
         },
-        Expr::Un {
-            operator,
-            width,
-            operand,
-        } => Expr::Un {
-            operator: *operator,
-            width: *width,
-            operand: Box::new(alloc, copied(alloc, operand)?)?,
-        },
-        Expr::Bin {
-            operator,
-            width,
-            left,
-            right,
-        } => Expr::Bin {
-            operator: *operator,
-            width: *width,
-            left: Box::new(alloc, copied(alloc, left)?)?,
-            right: Box::new(alloc, copied(alloc, right)?)?,
-        },
-        Expr::Widen {
-            by_sign,
-            width,
-            operand,
-        } => Expr::Widen {
-            by_sign: *by_sign,
-            width: *width,
-            operand: Box::new(alloc, copied(alloc, operand)?)?,
-        },
+        Expr::Un(operator, width, operand) => Expr::Un(
+            *operator,
+            *width,
+            Box::new(alloc, copied(alloc, operand)?)?,
+        ),
+        Expr::Bin(operator, width, left, right) => Expr::Bin(
+            *operator,
+            *width,
+            Box::new(alloc, copied(alloc, left)?)?,
+            Box::new(alloc, copied(alloc, right)?)?,
+        ),
+        Expr::Widen(by_sign, width, operand) => Expr::Widen(
+            *by_sign,
+            *width,
+            Box::new(alloc, copied(alloc, operand)?)?,
+        ),
         Expr::Part {
             width,
             first,
@@ -89,11 +76,7 @@ fn operated(alloc: Global, operator: UnOp, width: u8, a: Expr) -> Result<Expr, A
 {
     match operator {
         UnOp::Not => negated(alloc, width, a),
-        UnOp::Neg | UnOp::IsZero => Ok(Expr::Un {
-            operator,
-            width,
-            operand: Box::new(alloc, a)?,
-        }),
+        UnOp::Neg | UnOp::IsZero => Ok(Expr::Un(operator, width, Box::new(alloc, a)?)),
     }
 }
 
@@ -102,16 +85,8 @@ fn negated(alloc: Global, width: u8, a: Expr) -> Result<Expr, AllocError>
     ensures { IfOk result (λ r. expr_of r ≡ spec.negated width (expr_of a)) }
 {
     match a {
-        Expr::Un {
-            operator: UnOp::Not,
-            width: w,
-            operand,
-        } if w == width => Ok(Box::into_inner(operand)),
-        a => Ok(Expr::Un {
-            operator: UnOp::Not,
-            width,
-            operand: Box::new(alloc, a)?,
-        }),
+        Expr::Un(UnOp::Not, w, operand) if w == width => Ok(Box::into_inner(operand)),
+        a => Ok(Expr::Un(UnOp::Not, width, Box::new(alloc, a)?)),
     }
 }
 
@@ -199,31 +174,23 @@ impl Choices {
                 width: *width,
                 address: Box::new(alloc, self.within(alloc, address)?)?,
             }),
-            Expr::Un {
-                operator,
-                width,
-                operand,
-            } => operated(alloc, *operator, *width, self.within(alloc, operand)?),
-            Expr::Bin {
-                operator,
-                width,
-                left,
-                right,
-            } => Ok(Expr::Bin {
-                operator: *operator,
-                width: *width,
-                left: Box::new(alloc, self.within(alloc, left)?)?,
-                right: Box::new(alloc, self.within(alloc, right)?)?,
-            }),
-            Expr::Widen {
-                by_sign,
-                width,
-                operand,
-            } => Ok(Expr::Widen {
-                by_sign: *by_sign,
-                width: *width,
-                operand: Box::new(alloc, self.within(alloc, operand)?)?,
-            }),
+            Expr::Un(operator, width, operand) => operated(
+                alloc,
+                *operator,
+                *width,
+                self.within(alloc, operand)?,
+            ),
+            Expr::Bin(operator, width, left, right) => Ok(Expr::Bin(
+                *operator,
+                *width,
+                Box::new(alloc, self.within(alloc, left)?)?,
+                Box::new(alloc, self.within(alloc, right)?)?,
+            )),
+            Expr::Widen(by_sign, width, operand) => Ok(Expr::Widen(
+                *by_sign,
+                *width,
+                Box::new(alloc, self.within(alloc, operand)?)?,
+            )),
             Expr::Part {
                 width,
                 first,

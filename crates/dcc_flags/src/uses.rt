@@ -94,15 +94,10 @@ pub fn reads(f: FlagName, e: &Expr) -> bool
         Expr::Const { .. } | Expr::Address(_) => false,
         Expr::Get(location) => is_flag(f, *location),
         Expr::Load { address: a, .. }
-        | Expr::Un { operand: a, .. }
-        | Expr::Widen { operand: a, .. }
+        | Expr::Un(_, _, a)
+        | Expr::Widen(_, _, a)
         | Expr::Part { operand: a, .. } => reads(f, a),
-        Expr::Bin {
-            left: a,
-            right: b,
-            ..
-        }
-        | Expr::Join { high: a, low: b } => reads(f, a) || reads(f, b),
+        Expr::Bin(_, _, a, b) | Expr::Join { high: a, low: b } => reads(f, a) || reads(f, b),
         Expr::Choose { test, one, other } => reads(f, test) || reads(f, one) || reads(f, other),
     }
 }

@@ -38,20 +38,12 @@ fn has_truth(e: &Expr) -> bool
 {
     match e {
         Expr::Const { .. } | Expr::Get(_) | Expr::Address(_) => false,
-        Expr::Load { address: a, .. }
-        | Expr::Widen { operand: a, .. }
-        | Expr::Part { operand: a, .. } => has_truth(a),
-        Expr::Un {
-            operator,
-            operand,
-            ..
-        } => is_test(*operator) || has_truth(operand),
-        Expr::Bin {
-            operator,
-            left,
-            right,
-            ..
-        } => is_comparison(*operator) || has_truth(left) || has_truth(right),
+        Expr::Load { address: a, .. } | Expr::Widen(_, _, a) | Expr::Part { operand: a, .. } =>
+            has_truth(a),
+        Expr::Un(operator, _, operand) => is_test(*operator) || has_truth(operand),
+        Expr::Bin(operator, _, left, right) => is_comparison(*operator)
+            || has_truth(left)
+            || has_truth(right),
         Expr::Join { high, low } => has_truth(high) || has_truth(low),
         Expr::Choose { .. } => true,
     }
@@ -81,19 +73,11 @@ fn bits_in(bits: &[u8], e: &Expr) -> u8
     match e {
         Expr::Const { width, .. }
         | Expr::Load { width, .. }
-        | Expr::Widen { width, .. }
+        | Expr::Widen(_, width, ..)
         | Expr::Part { width, .. } => *width,
         Expr::Get(location) => location_width(bits, *location),
-        Expr::Un {
-            operator,
-            width,
-            ..
-        } => if is_test(*operator) { 1 } else { *width },
-        Expr::Bin {
-            operator,
-            width,
-            ..
-        } => if is_comparison(*operator) { 1 } else { *width },
+        Expr::Un(operator, width, ..) => if is_test(*operator) { 1 } else { *width },
+        Expr::Bin(operator, width, ..) => if is_comparison(*operator) { 1 } else { *width },
         Expr::Join { high, low } => bits_in(bits, high).saturating_add(bits_in(bits, low)),
         Expr::Choose { one, .. } => bits_in(bits, one),
         Expr::Address(_) => 16,
@@ -153,53 +137,32 @@ impl Writer {
                 number: *number,
             }),
             Expr::Get(_) | Expr::Load { .. } | Expr::Address(_) => self.copy(e),
-            Expr::Un {
-                operator,
-                width,
-                operand,
-            } => {
+            Expr::Un(operator, width, operand) => {
                 if has_truth(e) {
                     let operand = self.take(operand)?;
-                    Ok(Expr::Un {
-                        operator: *operator,
-                        width: *width,
-                        operand: Box::new(self.alloc, operand)?,
-                    })
+                    Ok(Expr::Un(*operator, *width, Box::new(self.alloc, operand)?))
                 } else {
                     self.copy(e)
                 }
             }
-            Expr::Bin {
-                operator,
-                width,
-                left,
-                right,
-            } => {
+            Expr::Bin(operator, width, left, right) => {
                 if has_truth(e) {
                     let left = self.take(left)?;
                     let right = self.take(right)?;
-                    Ok(Expr::Bin {
-                        operator: *operator,
-                        width: *width,
-                        left: Box::new(self.alloc, left)?,
-                        right: Box::new(self.alloc, right)?,
-                    })
+                    Ok(Expr::Bin(
+                        *operator,
+                        *width,
+                        Box::new(self.alloc, left)?,
+                        Box::new(self.alloc, right)?,
+                    ))
                 } else {
                     self.copy(e)
                 }
             }
-            Expr::Widen {
-                by_sign,
-                width,
-                operand,
-            } => {
+            Expr::Widen(by_sign, width, operand) => {
                 if has_truth(operand) {
                     let operand = self.take(operand)?;
-                    Ok(Expr::Widen {
-                        by_sign: *by_sign,
-                        width: *width,
-                        operand: Box::new(self.alloc, operand)?,
-                    })
+                    Ok(Expr::Widen(*by_sign, *width, Box::new(self.alloc, operand)?))
                 } else {
                     self.copy(e)
                 }

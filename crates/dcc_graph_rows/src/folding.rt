@@ -147,25 +147,16 @@ fn place_text(alloc: Global, location: Loc) -> Result<String, AllocError> {
 fn text(alloc: Global, e: &Expr) -> Result<String, AllocError> {
     match e {
         Expr::Get(location) => place_text(alloc, *location),
-        Expr::Un {
-            operator,
-            operand,
-            ..
-        } => {
+        Expr::Un(operator, _, operand) => {
             let a = text(alloc, operand)?;
             format!(in alloc; "{operator:?}({a})")
         }
-        Expr::Bin {
-            operator,
-            left,
-            right,
-            ..
-        } => {
+        Expr::Bin(operator, _, left, right) => {
             let a = text(alloc, left)?;
             let b = text(alloc, right)?;
             format!(in alloc; "{operator:?}({a}, {b})")
         }
-        Expr::Widen { operand, .. } => {
+        Expr::Widen(_, _, operand) => {
             let a = text(alloc, operand)?;
             format!(in alloc; "Widen({a})")
         }

@@ -82,21 +82,13 @@ fn flag(f: FlagName) -> Expr
 fn is_zero(alloc: Global, b: Byte) -> Result<Expr, AllocError>
     ensures { IfOk result (λ e. expr_of e ≡ Unary UnOp.IsZero 8 (Get (Loc.Half b Half.Low))) }
 {
-    Ok(Expr::Un {
-        operator: UnOp::IsZero,
-        width: 8,
-        operand: Box::new(alloc, get(b))?,
-    })
+    Ok(Expr::Un(UnOp::IsZero, 8, Box::new(alloc, get(b))?))
 }
 
 fn wide(alloc: Global, b: Byte) -> Result<Expr, AllocError>
     ensures { IfOk result (λ e. is_expr_of [] 16 (expr_of e) ≡ true) }
 {
-    Ok(Expr::Widen {
-        by_sign: false,
-        width: 16,
-        operand: Box::new(alloc, get(b))?,
-    })
+    Ok(Expr::Widen(false, 16, Box::new(alloc, get(b))?))
 }
 
 // The first flag where the byte is 0, else the second.
@@ -126,12 +118,12 @@ fn pick(alloc: Global, test: FlagName, one: Byte, other: Byte) -> Result<Expr, A
 fn both(alloc: Global, operator: BinOp, a: Byte, b: Byte) -> Result<Expr, AllocError>
     ensures { IfOk result (λ e. expr_of e ≡ Binary operator 8 (Get (Loc.Half a Half.Low)) (Get (Loc.Half b Half.Low))) }
 {
-    Ok(Expr::Bin {
+    Ok(Expr::Bin(
         operator,
-        width: 8,
-        left: Box::new(alloc, get(a))?,
-        right: Box::new(alloc, get(b))?,
-    })
+        8,
+        Box::new(alloc, get(a))?,
+        Box::new(alloc, get(b))?,
+    ))
 }
 
 // The byte, and the flag as a byte of 0 or 1.
@@ -139,17 +131,8 @@ fn with_flag(alloc: Global, e: Expr, f: FlagName) -> Result<Expr, AllocError>
     requires { is_expr_of [] 8 (expr_of e) ≡ true }
     ensures { IfOk result (λ e. is_expr_of [] 8 (expr_of e) ≡ true) }
 {
-    let carry = Expr::Widen {
-        by_sign: false,
-        width: 8,
-        operand: Box::new(alloc, flag(f))?,
-    };
-    Ok(Expr::Bin {
-        operator: BinOp::Add,
-        width: 8,
-        left: Box::new(alloc, e)?,
-        right: Box::new(alloc, carry)?,
-    })
+    let carry = Expr::Widen(false, 8, Box::new(alloc, flag(f))?);
+    Ok(Expr::Bin(BinOp::Add, 8, Box::new(alloc, e)?, Box::new(alloc, carry)?))
 }
 
 // The carry of a sum of bytes: it lies below the first one.
@@ -157,12 +140,12 @@ fn carry(alloc: Global, a: Byte, b: Byte) -> Result<Expr, AllocError>
     ensures { IfOk result (λ e. is_expr_of [] 1 (expr_of e) ≡ true) }
 {
     let sum = both(alloc, BinOp::Add, a, b)?;
-    Ok(Expr::Bin {
-        operator: BinOp::LtU,
-        width: 8,
-        left: Box::new(alloc, sum)?,
-        right: Box::new(alloc, get(a))?,
-    })
+    Ok(Expr::Bin(
+        BinOp::LtU,
+        8,
+        Box::new(alloc, sum)?,
+        Box::new(alloc, get(a))?,
+    ))
 }
 
 // The flag where the first byte is 0, else whether the second is.
@@ -181,11 +164,7 @@ fn keep_or_test(alloc: Global, f: FlagName, a: Byte, b: Byte) -> Result<Expr, Al
 fn complement(alloc: Global, f: FlagName) -> Result<Expr, AllocError>
     ensures { IfOk result (λ e. is_expr_of [] 1 (expr_of e) ≡ true) }
 {
-    Ok(Expr::Un {
-        operator: UnOp::Not,
-        width: 1,
-        operand: Box::new(alloc, flag(f))?,
-    })
+    Ok(Expr::Un(UnOp::Not, 1, Box::new(alloc, flag(f))?))
 }
 
 // The flag takes the value.

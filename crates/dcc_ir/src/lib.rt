@@ -10,4 +10,6 @@ pub mod plain;
 pub mod syntax;
 
 pub use facts::{Live, Sum, Sums};
-pub use syntax::{BinOp, Block, End, Expr, Graph, IrProgram, Loc, Param, Put, Stmt, UnOp};
+pub use syntax::{
+    BinOp, Block, End, Expr, Graph, IrProgram, Loc, PASSED_LOCATIONS, Param, Put, Stmt, UnOp,
+};

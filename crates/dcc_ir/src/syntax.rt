@@ -15,6 +15,26 @@ pub enum Loc {
     Temp(u32),
 }
 
+/// The halves of word registers and the flags that pass, in their order.
+pub const PASSED_LOCATIONS: [Loc; 16] = [
+    Loc::Half(Reg::Ax, Half::Low),
+    Loc::Half(Reg::Ax, Half::High),
+    Loc::Half(Reg::Cx, Half::Low),
+    Loc::Half(Reg::Cx, Half::High),
+    Loc::Half(Reg::Dx, Half::Low),
+    Loc::Half(Reg::Dx, Half::High),
+    Loc::Half(Reg::Bx, Half::Low),
+    Loc::Half(Reg::Bx, Half::High),
+    Loc::Half(Reg::Si, Half::Low),
+    Loc::Half(Reg::Si, Half::High),
+    Loc::Half(Reg::Di, Half::Low),
+    Loc::Half(Reg::Di, Half::High),
+    Loc::Flag(FlagName::Cf),
+    Loc::Flag(FlagName::Zf),
+    Loc::Flag(FlagName::Sf),
+    Loc::Flag(FlagName::Of),
+];
+
 /// An operator on one operand.
 #[derive(Clone, Copy, PartialEq, Eq, Debug)]
 pub enum UnOp {
@@ -60,25 +80,12 @@ pub enum Expr {
         width: u8,
         address: Box<Expr>,
     },
-    /// An operator on an operand of that width.
-    Un {
-        operator: UnOp,
-        width: u8,
-        operand: Box<Expr>,
-    },
-    /// An operator on two operands of that width.
-    Bin {
-        operator: BinOp,
-        width: u8,
-        left: Box<Expr>,
-        right: Box<Expr>,
-    },
-    /// The operand at a greater width, extended by its sign or by zeros.
-    Widen {
-        by_sign: bool,
-        width: u8,
-        operand: Box<Expr>,
-    },
+    /// An operator, the width of its operand, and the operand.
+    Un(UnOp, u8, Box<Expr>),
+    /// An operator, the width of its operands, the left one and the right one.
+    Bin(BinOp, u8, Box<Expr>, Box<Expr>),
+    /// Whether by sign, else by zeros; the greater width; and the operand that is extended to it.
+    Widen(bool, u8, Box<Expr>),
     /// So many bits of the operand, from the first of them on.
     Part {
         width: u8,

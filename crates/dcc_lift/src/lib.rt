@@ -17,5 +17,4 @@ mod passed;
 mod procedure;
 mod program;
 
-pub use passed::PASSED_LOCATIONS;
 pub use program::lift;

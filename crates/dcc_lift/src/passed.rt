@@ -12,34 +12,14 @@ ghost use Rattle.dcc_coupled.specs.Passed as spec;
 ghost use Rattle.dcc_lift.specs.KnownProcedures.{procedure_of, KnowsProcedure};
 
 use crate::procedure::Procedure;
-use dcc_ir::{BinOp, End, Expr, Loc, Param, Put};
-use dcc_num::{FlagName, Half, Reg, Width};
+use dcc_ir::{BinOp, End, Expr, Loc, PASSED_LOCATIONS, Param, Put};
+use dcc_num::{Reg, Width};
 use dcc_ops::{Place, Writer, constant, op_test};
 use dcc_prog::Op;
 use std::alloc::{AllocError, Global};
 
 /// The word registers whose halves pass, in their order.
 pub const PASSED_REGISTERS: [Reg; 6] = [Reg::Ax, Reg::Cx, Reg::Dx, Reg::Bx, Reg::Si, Reg::Di];
-
-/// The halves of word registers and the flags that pass, in their order.
-pub const PASSED_LOCATIONS: [Loc; 16] = [
-    Loc::Half(Reg::Ax, Half::Low),
-    Loc::Half(Reg::Ax, Half::High),
-    Loc::Half(Reg::Cx, Half::Low),
-    Loc::Half(Reg::Cx, Half::High),
-    Loc::Half(Reg::Dx, Half::Low),
-    Loc::Half(Reg::Dx, Half::High),
-    Loc::Half(Reg::Bx, Half::Low),
-    Loc::Half(Reg::Bx, Half::High),
-    Loc::Half(Reg::Si, Half::Low),
-    Loc::Half(Reg::Si, Half::High),
-    Loc::Half(Reg::Di, Half::Low),
-    Loc::Half(Reg::Di, Half::High),
-    Loc::Flag(FlagName::Cf),
-    Loc::Flag(FlagName::Zf),
-    Loc::Flag(FlagName::Sf),
-    Loc::Flag(FlagName::Of),
-];
 
 /// The halves and flags that pass, in their order.
 pub fn passed(alloc: Global) -> Result<Vec<Loc>, AllocError>

@@ -40,10 +40,10 @@ fn add_reads(e: &Expr, list: &mut Vec<Loc>) -> Result<(), AllocError>
             Ok(())
         }
         Expr::Load { address, .. } => add_reads(address, list),
-        Expr::Un { operand, .. } | Expr::Widen { operand, .. } | Expr::Part { operand, .. } => {
+        Expr::Un(_, _, operand) | Expr::Widen(_, _, operand) | Expr::Part { operand, .. } => {
             add_reads(operand, list)
         }
-        Expr::Bin { left, right, .. } => {
+        Expr::Bin(_, _, left, right) => {
             add_reads(left, list)?;
             add_reads(right, list)
         }

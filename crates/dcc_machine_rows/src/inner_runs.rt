@@ -109,12 +109,7 @@ fn a_division_of_the_least_number_by_minus_one_ends_the_run(
     let mut stmts = Vec::new(alloc);
     stmts.push(Stmt::Div {
         place: AL,
-        division: Expr::Bin {
-            operator: BinOp::DivS,
-            width: 8,
-            left: least,
-            right: by,
-        },
+        division: Expr::Bin(BinOp::DivS, 8, least, by),
     })?;
     let program = program(alloc, stmts, BlockEnd::Stop)?;
     assert_eq!(rt; run(alloc, &program, b"", 0, 9)?.end, End::Divide);
@@ -153,12 +148,12 @@ fn a_call_passes_words_in_memory_and_locations_and_gives_back(
         width: 8,
         address: Box::new(alloc, Expr::Address(1))?,
     };
-    let sum = Expr::Bin {
-        operator: BinOp::Add,
-        width: 8,
-        left: Box::new(alloc, upper)?,
-        right: Box::new(alloc, Expr::Get(CL))?,
-    };
+    let sum = Expr::Bin(
+        BinOp::Add,
+        8,
+        Box::new(alloc, upper)?,
+        Box::new(alloc, Expr::Get(CL))?,
+    );
     let mut values = Vec::new(alloc);
     values.push(sum)?;
     let callee = graph(alloc, 0x20, params, Vec::new(alloc), BlockEnd::Ret(values))?;

@@ -126,11 +126,7 @@ impl Maker {
     pub fn unary(self, operator: UnOp, width: u8, a: Expr) -> Result<Expr, AllocError>
         ensures { IfOk result (λ e. expr_of e ≡ tree.Unary operator width (expr_of a)) }
     {
-        Ok(Expr::Un {
-            operator,
-            width,
-            operand: Box::new(self.alloc, a)?,
-        })
+        Ok(Expr::Un(operator, width, Box::new(self.alloc, a)?))
     }
 
     /// An operator on two operands of so many bits.
@@ -139,23 +135,14 @@ impl Maker {
     {
         let left = Box::new(self.alloc, a)?;
         let right = Box::new(self.alloc, b)?;
-        Ok(Expr::Bin {
-            operator,
-            width,
-            left,
-            right,
-        })
+        Ok(Expr::Bin(operator, width, left, right))
     }
 
     /// The operand at a greater width, by its sign where the flag is set.
     pub fn widen(self, signed: bool, width: u8, a: Expr) -> Result<Expr, AllocError>
         ensures { IfOk result (λ e. expr_of e ≡ tree.Widen signed width (expr_of a)) }
     {
-        Ok(Expr::Widen {
-            by_sign: signed,
-            width,
-            operand: Box::new(self.alloc, a)?,
-        })
+        Ok(Expr::Widen(signed, width, Box::new(self.alloc, a)?))
     }
 
     /// So many bits of the operand, from that bit on.

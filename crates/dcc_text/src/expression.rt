@@ -31,25 +31,17 @@ fn width_in<S: Spells>(s: &S, e: &Expr) -> Result<u32, AllocError>
     match e {
         Expr::Const { width, .. }
         | Expr::Load { width, .. }
-        | Expr::Widen { width, .. }
+        | Expr::Widen(_, width, ..)
         | Expr::Part { width, .. } => Ok(u32::from(*width)),
         Expr::Get(location) => Ok(u32::from(s.width(*location))),
-        Expr::Un {
-            operator,
-            width,
-            ..
-        } => {
+        Expr::Un(operator, width, ..) => {
             Ok(if is_test(*operator) {
                 1
             } else {
                 u32::from(*width)
             })
         }
-        Expr::Bin {
-            operator,
-            width,
-            ..
-        } => {
+        Expr::Bin(operator, width, ..) => {
             Ok(if is_comparison(*operator) {
                 1
             } else {
@@ -192,17 +184,8 @@ pub fn expr_text<S: Spells>(
             let a = expr_text(alloc, s, Way::Low, false, address)?;
             loaded(alloc, s, way, *width, address, a)
         }
-        Expr::Un {
-            operator,
-            width,
-            operand,
-        } => unary_expr(alloc, s, way, *operator, *width, operand),
-        Expr::Bin {
-            operator,
-            width,
-            left,
-            right,
-        } => {
+        Expr::Un(operator, width, operand) => unary_expr(alloc, s, way, *operator, *width, operand),
+        Expr::Bin(operator, width, left, right) => {
             let width = u32::from(*width);
             let left_way = left_way(*operator, way, width);
             let a = expr_text(alloc, s, left_way, votes_left(*operator), left)?;
@@ -210,11 +193,9 @@ pub fn expr_text<S: Spells>(
             let b = expr_text(alloc, s, right_way, votes_right(*operator), right)?;
             binary_taken(alloc, way, *operator, width, a, b)
         }
-        Expr::Widen {
-            by_sign,
-            width,
-            operand,
-        } => widened_expr(alloc, s, way, *by_sign, *width, operand),
+        Expr::Widen(by_sign, width, operand) => widened_expr(
+            alloc, s, way, *by_sign, *width, operand,
+        ),
         Expr::Part {
             width,
             first,

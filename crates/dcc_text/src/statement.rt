@@ -166,12 +166,9 @@ fn divided<S: Spells>(alloc: Global, s: &S, e: &Expr) -> Result<CExpr, AllocErro
     ensures { IfOk result (λ r. expr_of r ≡ spec.text_division (S.spelling s.now) (inner_of e.now)) }
 {
     match e {
-        Expr::Bin {
-            operator,
-            width,
-            left,
-            right,
-        } => division(alloc, s, *operator, *width, left, right),
+        Expr::Bin(operator, width, left, right) => division(
+            alloc, s, *operator, *width, left, right,
+        ),
         _ => expr_text(alloc, s, Way::Low, false, e),
     }
 }

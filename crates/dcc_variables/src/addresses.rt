@@ -17,10 +17,10 @@ fn has_address(e: &Expr) -> bool
         Expr::Const { .. } | Expr::Get(_) => false,
         Expr::Address(_) => true,
         Expr::Load { address, .. } => has_address(address),
-        Expr::Un { operand, .. } | Expr::Widen { operand, .. } | Expr::Part { operand, .. } => {
+        Expr::Un(_, _, operand) | Expr::Widen(_, _, operand) | Expr::Part { operand, .. } => {
             has_address(operand)
         }
-        Expr::Bin { left, right, .. } => has_address(left) || has_address(right),
+        Expr::Bin(_, _, left, right) => has_address(left) || has_address(right),
         Expr::Join { high, low } => has_address(high) || has_address(low),
         Expr::Choose { test, one, other } => {
             has_address(test) || has_address(one) || has_address(other)

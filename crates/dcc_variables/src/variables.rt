@@ -12,32 +12,12 @@ ghost use Rattle.dcc_variables.specs.Views.{shape_in};
 
 use crate::addresses::frame_bytes;
 use dcc_c::{Base, CType, Class, Var};
-use dcc_ir::{Graph, Loc};
+use dcc_ir::{Graph, Loc, PASSED_LOCATIONS};
 use dcc_live::{all_mentioned, mentioned};
 use dcc_num::{FlagName, Half, Reg};
 use dcc_text::way::unsigned_type;
 use dcc_text::{Place, Spells};
 use std::alloc::{AllocError, Global};
-
-// The halves of word registers, and the flags.
-const NAMED_LOCATIONS: [Loc; 16] = [
-    Loc::Half(Reg::Ax, Half::Low),
-    Loc::Half(Reg::Ax, Half::High),
-    Loc::Half(Reg::Cx, Half::Low),
-    Loc::Half(Reg::Cx, Half::High),
-    Loc::Half(Reg::Dx, Half::Low),
-    Loc::Half(Reg::Dx, Half::High),
-    Loc::Half(Reg::Bx, Half::Low),
-    Loc::Half(Reg::Bx, Half::High),
-    Loc::Half(Reg::Si, Half::Low),
-    Loc::Half(Reg::Si, Half::High),
-    Loc::Half(Reg::Di, Half::Low),
-    Loc::Half(Reg::Di, Half::High),
-    Loc::Flag(FlagName::Cf),
-    Loc::Flag(FlagName::Zf),
-    Loc::Flag(FlagName::Sf),
-    Loc::Flag(FlagName::Of),
-];
 
 // The halves of SP and BP.
 const STACK_LOCATIONS: [Loc; 4] = [
@@ -106,7 +86,7 @@ fn all_locations(alloc: Global, temporaries: u32, cells: u32) -> Result<Vec<Loc>
     requires { cells ≤ 65536 }
     ensures { IfOk result (λ list. list.items ≡ spec.all_locations temporaries cells) }
 {
-    let mut list = NAMED_LOCATIONS.to_vec(alloc)?;
+    let mut list = PASSED_LOCATIONS.to_vec(alloc)?;
     push_temporaries(&mut list, temporaries)?;
     push_cells(&mut list, cells)?;
     list.extend_from_slice(&STACK_LOCATIONS)?;

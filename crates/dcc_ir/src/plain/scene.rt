@@ -116,19 +116,13 @@ pub fn width_of(bits: &[u8], e: &Expr) -> Option<u8>
     match e {
         Expr::Const { width, .. }
         | Expr::Load { width, .. }
-        | Expr::Widen { width, .. }
+        | Expr::Widen(_, width, ..)
         | Expr::Part { width, .. } => Some(*width),
         Expr::Get(location) => Some(location_width(bits, *location)),
-        Expr::Un {
-            operator,
-            width,
-            ..
-        } => Some(if is_test(*operator) { 1 } else { *width }),
-        Expr::Bin {
-            operator,
-            width,
-            ..
-        } => { Some(if is_comparison(*operator) { 1 } else { *width }) }
+        Expr::Un(operator, width, ..) => Some(if is_test(*operator) { 1 } else { *width }),
+        Expr::Bin(operator, width, ..) => {
+            Some(if is_comparison(*operator) { 1 } else { *width })
+        }
         Expr::Join { high, low } => width_of(bits, high)?.checked_add(width_of(bits, low)?),
         Expr::Choose { one, .. } => width_of(bits, one),
         Expr::Address(_) => Some(16),
@@ -184,17 +178,12 @@ pub fn value_of(view: &View<'_>, e: &Expr) -> Option<u32>
         Expr::Const { number, .. } => Some(*number),
         Expr::Get(location) => held_by(view.bits, view.fill, view.held, *location),
         Expr::Load { width, address } => bits_at(view.memory, *width, value_of(view, address)?),
-        Expr::Un {
-            operator,
-            width,
-            operand,
-        } => unary_value(*operator, *width, value_of(view, operand)?),
-        Expr::Bin {
-            operator,
-            width,
-            left,
-            right,
-        } => {
+        Expr::Un(operator, width, operand) => unary_value(
+            *operator,
+            *width,
+            value_of(view, operand)?,
+        ),
+        Expr::Bin(operator, width, left, right) => {
             binary_value(
                 *operator,
                 *width,
@@ -202,11 +191,7 @@ pub fn value_of(view: &View<'_>, e: &Expr) -> Option<u32>
                 value_of(view, right)?,
             )
         }
-        Expr::Widen {
-            by_sign,
-            width,
-            operand,
-        } => {
+        Expr::Widen(by_sign, width, operand) => {
             widened(
                 *by_sign,
                 width_of(view.bits, operand)?,

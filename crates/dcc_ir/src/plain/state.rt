@@ -201,12 +201,7 @@ impl<'p> PlainRun<'p> {
         ensures { IfOk result (λ n. n ≡ division_of (inner.scene_of (state_of self.now)) (expr_of e.now)) }
     {
         match e {
-            Expr::Bin {
-                operator,
-                width,
-                left: a,
-                right: b,
-            } => {
+            Expr::Bin(operator, width, a, b) => {
                 division(*operator, *width, self.value(a)?, self.value(b)?).ok_or(Refused::Wide)
             }
             _ => Ok(None),
