@@ -6,5 +6,5 @@ pub mod outside;
 pub mod system;
 
 pub use memory::{MemShelf, MemSink, MemSource};
-pub use outside::{Failed, Fetched, Shelf, ShelfFault, Sink, Source, put_all};
+pub use outside::{Failed, Fetch, Fetched, Shelf, ShelfFault, Sink, Source, put_all};
 pub use system::{DirShelf, StdSink, StdSource, Stream};

@@ -48,6 +48,9 @@ impl<T: Drop> From<AllocFailed<T>> for ShelfFault {
     }
 }
 
+/// What a fetch answers.
+pub type Fetch = Result<Fetched, ShelfFault>;
+
 /// Files by their names.
 pub trait Shelf {
     /// The bytes of the file of each name, where the shelf tells them.
@@ -64,13 +67,7 @@ pub trait Shelf {
 
     /// Puts the named file, or its first `most` bytes, into an empty list. After an error the
     /// content of `into` is open.
-    fn fetch(
-        &mut self,
-        alloc: Global,
-        name: &str,
-        most: usize,
-        into: &mut Vec<u8>,
-    ) -> Result<Fetched, ShelfFault>
+    fn fetch(&mut self, alloc: Global, name: &str, most: usize, into: &mut Vec<u8>) -> Fetch
         requires { vec_len into.old ≡ 0 }
 
         ensures files { files self.new ≡ files self.old }

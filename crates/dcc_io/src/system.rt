@@ -6,7 +6,7 @@ ghost use Rattle.std.specs.Io.{WritesAtMost};
 ghost use Rattle.dcc_io.specs.Fetch.{KeepsWithin};
 ghost use Rattle.dcc_io.specs.Memory.{requests_of};
 
-use crate::outside::{Failed, Fetched, Shelf, ShelfFault, Sink, Source};
+use crate::outside::{Failed, Fetch, Fetched, Shelf, ShelfFault, Sink, Source};
 use std::alloc::Global;
 use std::fs::Files;
 use std::io::{ErrorKind, Read, Stderr, Stdin, Stdout, Write};
@@ -47,13 +47,7 @@ impl<R: Files> Shelf for DirShelf<R> {
 
     ghost faults = { λ s. s.faults };
 
-    fn fetch(
-        &mut self,
-        alloc: Global,
-        name: &str,
-        most: usize,
-        into: &mut Vec<u8>,
-    ) -> Result<Fetched, ShelfFault> {
+    fn fetch(&mut self, alloc: Global, name: &str, most: usize, into: &mut Vec<u8>) -> Fetch {
         let requested = String::from_str(alloc, name)?;
         self.asked.push((requested, most))?;
         let result = read_file(&self.files, name, most, into);
@@ -70,12 +64,7 @@ impl<R: Files> Shelf for DirShelf<R> {
 const PIECE: usize = 4096;
 
 // Reads a file, at most one byte past the first `most`, and keeps no more than these.
-fn read_file<R: Files>(
-    files: &R,
-    name: &str,
-    most: usize,
-    into: &mut Vec<u8>,
-) -> Result<Fetched, ShelfFault>
+fn read_file<R: Files>(files: &R, name: &str, most: usize, into: &mut Vec<u8>) -> Fetch
     requires { vec_len into.old ≡ 0 }
     ensures { KeepsWithin most result into.new.items }
 {

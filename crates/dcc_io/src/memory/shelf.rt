@@ -7,7 +7,7 @@ ghost use Rattle.dcc_io.specs.Fetch.{Fetches, KeepsWithin, Records};
 ghost use Rattle.dcc_io.specs.Memory.{next_count, fails_next, listed_calls, file_named, files_of};
 
 use super::calls::Calls;
-use crate::outside::{Fetched, Shelf, ShelfFault};
+use crate::outside::{Fetch, Fetched, Shelf, ShelfFault};
 use std::alloc::Global;
 use std::marker::Model;
 
@@ -64,13 +64,7 @@ impl Shelf for MemShelf {
 
     ghost faults = { λ s. listed_calls s.fail s.fetches };
 
-    fn fetch(
-        &mut self,
-        alloc: Global,
-        name: &str,
-        most: usize,
-        into: &mut Vec<u8>,
-    ) -> Result<Fetched, ShelfFault>
+    fn fetch(&mut self, alloc: Global, name: &str, most: usize, into: &mut Vec<u8>) -> Fetch
         requires { vec_len into.old ≡ 0 }
 
         ensures files { Some (file_named self.new.files) ≡ Some (file_named self.old.files) }
@@ -125,7 +119,7 @@ fn find<'a>(files: &'a [(String, Vec<u8>)], name: &str) -> Option<&'a Vec<u8>>
 }
 
 // Puts the bytes, or the first of them, into an empty list.
-fn copy_front(bytes: &[u8], most: usize, into: &mut Vec<u8>) -> Result<Fetched, ShelfFault>
+fn copy_front(bytes: &[u8], most: usize, into: &mut Vec<u8>) -> Fetch
     requires { vec_len into.old ≡ 0 }
     ensures answer { Fetches (Some bytes.now) most result into.new.items }
     ensures err { OnErr result (result ≡ Err ShelfFault.Memory) }
