@@ -23,15 +23,9 @@ pub fn copied(alloc: Global, e: &Expr) -> Result<Expr, AllocError>
     ensures { IfOk result (λ r. expr_of r ≡ expr_of e.now) }
 {
     Ok(match e {
-        Expr::Const { width, number } => Expr::Const {
-            width: *width,
-            number: *number,
-        },
+        Expr::Const(width, number) => Expr::Const(*width, *number),
         Expr::Get(location) => Expr::Get(*location),
-        Expr::Load { width, address } => Expr::Load {
-            width: *width,
-            address: Box::new(alloc, copied(alloc, address)?)?,
-        },
+        Expr::Load(width, address) => Expr::Load(*width, Box::new(alloc, copied(alloc, address)?)?),
         Expr::Un(operator, width, operand) => Expr::Un(
             *operator,
             *width,
@@ -48,24 +42,20 @@ pub fn copied(alloc: Global, e: &Expr) -> Result<Expr, AllocError>
             *width,
             Box::new(alloc, copied(alloc, operand)?)?,
         ),
-        Expr::Part {
-            width,
-            first,
-            operand,
-        } => Expr::Part {
-            width: *width,
-            first: *first,
-            operand: Box::new(alloc, copied(alloc, operand)?)?,
-        },
-        Expr::Join { high, low } => Expr::Join {
-            high: Box::new(alloc, copied(alloc, high)?)?,
-            low: Box::new(alloc, copied(alloc, low)?)?,
-        },
-        Expr::Choose { test, one, other } => Expr::Choose {
-            test: Box::new(alloc, copied(alloc, test)?)?,
-            one: Box::new(alloc, copied(alloc, one)?)?,
-            other: Box::new(alloc, copied(alloc, other)?)?,
-        },
+        Expr::Part(width, first, operand) => Expr::Part(
+            *width,
+            *first,
+            Box::new(alloc, copied(alloc, operand)?)?,
+        ),
+        Expr::Join(high, low) => Expr::Join(
+            Box::new(alloc, copied(alloc, high)?)?,
+            Box::new(alloc, copied(alloc, low)?)?,
+        ),
+        Expr::Choose(test, one, other) => Expr::Choose(
+            Box::new(alloc, copied(alloc, test)?)?,
+            Box::new(alloc, copied(alloc, one)?)?,
+            Box::new(alloc, copied(alloc, other)?)?,
+        ),
         Expr::Address(distance) => Expr::Address(*distance),
     })
 }
@@ -165,15 +155,12 @@ impl Choices {
         ensures { IfOk result (λ r. expr_of r ≡ spec.with_choices (spec.choices_of self.now) (expr_of e.now)) }
     {
         match e {
-            Expr::Const { width, number } => Ok(Expr::Const {
-                width: *width,
-                number: *number,
-            }),
+            Expr::Const(width, number) => Ok(Expr::Const(*width, *number)),
             Expr::Get(location) => self.read(alloc, *location),
-            Expr::Load { width, address } => Ok(Expr::Load {
-                width: *width,
-                address: Box::new(alloc, self.within(alloc, address)?)?,
-            }),
+            Expr::Load(width, address) => Ok(Expr::Load(
+                *width,
+                Box::new(alloc, self.within(alloc, address)?)?,
+            )),
             Expr::Un(operator, width, operand) => operated(
                 alloc,
                 *operator,
@@ -191,24 +178,20 @@ impl Choices {
                 *width,
                 Box::new(alloc, self.within(alloc, operand)?)?,
             )),
-            Expr::Part {
-                width,
-                first,
-                operand,
-            } => Ok(Expr::Part {
-                width: *width,
-                first: *first,
-                operand: Box::new(alloc, self.within(alloc, operand)?)?,
-            }),
-            Expr::Join { high, low } => Ok(Expr::Join {
-                high: Box::new(alloc, self.within(alloc, high)?)?,
-                low: Box::new(alloc, self.within(alloc, low)?)?,
-            }),
-            Expr::Choose { test, one, other } => Ok(Expr::Choose {
-                test: Box::new(alloc, self.within(alloc, test)?)?,
-                one: Box::new(alloc, self.within(alloc, one)?)?,
-                other: Box::new(alloc, self.within(alloc, other)?)?,
-            }),
+            Expr::Part(width, first, operand) => Ok(Expr::Part(
+                *width,
+                *first,
+                Box::new(alloc, self.within(alloc, operand)?)?,
+            )),
+            Expr::Join(high, low) => Ok(Expr::Join(
+                Box::new(alloc, self.within(alloc, high)?)?,
+                Box::new(alloc, self.within(alloc, low)?)?,
+            )),
+            Expr::Choose(test, one, other) => Ok(Expr::Choose(
+                Box::new(alloc, self.within(alloc, test)?)?,
+                Box::new(alloc, self.within(alloc, one)?)?,
+                Box::new(alloc, self.within(alloc, other)?)?,
+            )),
             Expr::Address(distance) => Ok(Expr::Address(*distance)),
         }
     }

@@ -71,7 +71,7 @@ fn has_arm(f: FlagName, e: &Expr) -> bool
     ensures { result ≡ spec.has_arm f (expr_of e.now) }
 {
     match e {
-        Expr::Choose { one, other, .. } => gets(f, one) || gets(f, other),
+        Expr::Choose(_, one, other) => gets(f, one) || gets(f, other),
         _ => false,
     }
 }
@@ -91,14 +91,13 @@ pub fn reads(f: FlagName, e: &Expr) -> bool
     ensures { result ≡ is_among (reads_of (expr_of e.now)) (Flag f) }
 {
     match e {
-        Expr::Const { .. } | Expr::Address(_) => false,
+        Expr::Const(..) | Expr::Address(_) => false,
         Expr::Get(location) => is_flag(f, *location),
-        Expr::Load { address: a, .. }
-        | Expr::Un(_, _, a)
-        | Expr::Widen(_, _, a)
-        | Expr::Part { operand: a, .. } => reads(f, a),
-        Expr::Bin(_, _, a, b) | Expr::Join { high: a, low: b } => reads(f, a) || reads(f, b),
-        Expr::Choose { test, one, other } => reads(f, test) || reads(f, one) || reads(f, other),
+        Expr::Load(_, a) | Expr::Un(_, _, a) | Expr::Widen(_, _, a) | Expr::Part(_, _, a) => reads(
+            f, a,
+        ),
+        Expr::Bin(_, _, a, b) | Expr::Join(a, b) => reads(f, a) || reads(f, b),
+        Expr::Choose(test, one, other) => reads(f, test) || reads(f, one) || reads(f, other),
     }
 }
 

@@ -37,15 +37,14 @@ fn has_truth(e: &Expr) -> bool
     ensures { result ≡ spec.has_truth (expr_of e.now) }
 {
     match e {
-        Expr::Const { .. } | Expr::Get(_) | Expr::Address(_) => false,
-        Expr::Load { address: a, .. } | Expr::Widen(_, _, a) | Expr::Part { operand: a, .. } =>
-            has_truth(a),
+        Expr::Const(..) | Expr::Get(_) | Expr::Address(_) => false,
+        Expr::Load(_, a) | Expr::Widen(_, _, a) | Expr::Part(_, _, a) => has_truth(a),
         Expr::Un(operator, _, operand) => is_test(*operator) || has_truth(operand),
         Expr::Bin(operator, _, left, right) => is_comparison(*operator)
             || has_truth(left)
             || has_truth(right),
-        Expr::Join { high, low } => has_truth(high) || has_truth(low),
-        Expr::Choose { .. } => true,
+        Expr::Join(high, low) => has_truth(high) || has_truth(low),
+        Expr::Choose(..) => true,
     }
 }
 
@@ -71,15 +70,15 @@ fn bits_in(bits: &[u8], e: &Expr) -> u8
     ensures { result ≡ spec.bits_in bits.now (expr_of e.now) }
 {
     match e {
-        Expr::Const { width, .. }
-        | Expr::Load { width, .. }
+        Expr::Const(width, ..)
+        | Expr::Load(width, ..)
         | Expr::Widen(_, width, ..)
-        | Expr::Part { width, .. } => *width,
+        | Expr::Part(width, ..) => *width,
         Expr::Get(location) => location_width(bits, *location),
         Expr::Un(operator, width, ..) => if is_test(*operator) { 1 } else { *width },
         Expr::Bin(operator, width, ..) => if is_comparison(*operator) { 1 } else { *width },
-        Expr::Join { high, low } => bits_in(bits, high).saturating_add(bits_in(bits, low)),
-        Expr::Choose { one, .. } => bits_in(bits, one),
+        Expr::Join(high, low) => bits_in(bits, high).saturating_add(bits_in(bits, low)),
+        Expr::Choose(_, one, ..) => bits_in(bits, one),
         Expr::Address(_) => 16,
     }
 }
@@ -132,11 +131,8 @@ impl Writer {
         ensures kept { self.new.kept ≡ self.old.kept }
     {
         match e {
-            Expr::Const { width, number } => Ok(Expr::Const {
-                width: *width,
-                number: *number,
-            }),
-            Expr::Get(_) | Expr::Load { .. } | Expr::Address(_) => self.copy(e),
+            Expr::Const(width, number) => Ok(Expr::Const(*width, *number)),
+            Expr::Get(_) | Expr::Load(..) | Expr::Address(_) => self.copy(e),
             Expr::Un(operator, width, operand) => {
                 if has_truth(e) {
                     let operand = self.take(operand)?;
@@ -167,43 +163,32 @@ impl Writer {
                     self.copy(e)
                 }
             }
-            Expr::Part {
-                width,
-                first,
-                operand,
-            } => {
+            Expr::Part(width, first, operand) => {
                 if has_truth(operand) {
                     let operand = self.take(operand)?;
-                    Ok(Expr::Part {
-                        width: *width,
-                        first: *first,
-                        operand: Box::new(self.alloc, operand)?,
-                    })
+                    Ok(Expr::Part(*width, *first, Box::new(self.alloc, operand)?))
                 } else {
                     self.copy(e)
                 }
             }
-            Expr::Join { high, low } => {
+            Expr::Join(high, low) => {
                 if has_truth(e) {
                     let high = self.take(high)?;
                     let low = self.take(low)?;
-                    Ok(Expr::Join {
-                        high: Box::new(self.alloc, high)?,
-                        low: Box::new(self.alloc, low)?,
-                    })
+                    Ok(Expr::Join(Box::new(self.alloc, high)?, Box::new(self.alloc, low)?))
                 } else {
                     self.copy(e)
                 }
             }
-            Expr::Choose { test, one, other } => {
+            Expr::Choose(test, one, other) => {
                 let test = self.take(test)?;
                 let one = self.take(one)?;
                 let other = self.take(other)?;
-                Ok(Expr::Choose {
-                    test: Box::new(self.alloc, test)?,
-                    one: Box::new(self.alloc, one)?,
-                    other: Box::new(self.alloc, other)?,
-                })
+                Ok(Expr::Choose(
+                    Box::new(self.alloc, test)?,
+                    Box::new(self.alloc, one)?,
+                    Box::new(self.alloc, other)?,
+                ))
             }
         }
     }

@@ -160,7 +160,7 @@ fn text(alloc: Global, e: &Expr) -> Result<String, AllocError> {
             let a = text(alloc, operand)?;
             format!(in alloc; "Widen({a})")
         }
-        Expr::Choose { test, one, other } => {
+        Expr::Choose(test, one, other) => {
             let a = text(alloc, test)?;
             let b = text(alloc, one)?;
             let c = text(alloc, other)?;

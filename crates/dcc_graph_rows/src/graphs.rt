@@ -96,22 +96,22 @@ fn choose(alloc: Global, b: Byte, one: FlagName, other: FlagName) -> Result<Expr
     ensures { IfOk result (λ e. is_expr_of [] 1 (expr_of e) ≡ true) }
 {
     let test = is_zero(alloc, b)?;
-    Ok(Expr::Choose {
-        test: Box::new(alloc, test)?,
-        one: Box::new(alloc, flag(one))?,
-        other: Box::new(alloc, flag(other))?,
-    })
+    Ok(Expr::Choose(
+        Box::new(alloc, test)?,
+        Box::new(alloc, flag(one))?,
+        Box::new(alloc, flag(other))?,
+    ))
 }
 
 // The first byte where the flag is set, else the second.
 fn pick(alloc: Global, test: FlagName, one: Byte, other: Byte) -> Result<Expr, AllocError>
     ensures { IfOk result (λ e. is_expr_of [] 8 (expr_of e) ≡ true) }
 {
-    Ok(Expr::Choose {
-        test: Box::new(alloc, flag(test))?,
-        one: Box::new(alloc, get(one))?,
-        other: Box::new(alloc, get(other))?,
-    })
+    Ok(Expr::Choose(
+        Box::new(alloc, flag(test))?,
+        Box::new(alloc, get(one))?,
+        Box::new(alloc, get(other))?,
+    ))
 }
 
 // An operator on two bytes.
@@ -154,11 +154,11 @@ fn keep_or_test(alloc: Global, f: FlagName, a: Byte, b: Byte) -> Result<Expr, Al
 {
     let test = is_zero(alloc, a)?;
     let other = is_zero(alloc, b)?;
-    Ok(Expr::Choose {
-        test: Box::new(alloc, test)?,
-        one: Box::new(alloc, flag(f))?,
-        other: Box::new(alloc, other)?,
-    })
+    Ok(Expr::Choose(
+        Box::new(alloc, test)?,
+        Box::new(alloc, flag(f))?,
+        Box::new(alloc, other)?,
+    ))
 }
 
 fn complement(alloc: Global, f: FlagName) -> Result<Expr, AllocError>

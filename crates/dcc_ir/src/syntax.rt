@@ -70,39 +70,24 @@ pub enum BinOp {
 /// An expression: a number of as many bits as its width.
 #[derive(Drop)]
 pub enum Expr {
-    Const {
-        width: u8,
-        number: u32,
-    },
+    /// A width, and a number of that width.
+    Const(u8, u32),
+    /// What a location holds.
     Get(Loc),
-    /// A load of so many bits from an address, low byte first.
-    Load {
-        width: u8,
-        address: Box<Expr>,
-    },
+    /// So many bits from an address, low byte first.
+    Load(u8, Box<Expr>),
     /// An operator, the width of its operand, and the operand.
     Un(UnOp, u8, Box<Expr>),
     /// An operator, the width of its operands, the left one and the right one.
     Bin(BinOp, u8, Box<Expr>, Box<Expr>),
     /// Whether by sign, else by zeros; the greater width; and the operand that is extended to it.
     Widen(bool, u8, Box<Expr>),
-    /// So many bits of the operand, from the first of them on.
-    Part {
-        width: u8,
-        first: u8,
-        operand: Box<Expr>,
-    },
-    /// The number of which these are the halves.
-    Join {
-        high: Box<Expr>,
-        low: Box<Expr>,
-    },
-    /// The one value where the test is 1, else the other.
-    Choose {
-        test: Box<Expr>,
-        one: Box<Expr>,
-        other: Box<Expr>,
-    },
+    /// So many bits of an operand: how many, the number of the first of them, and the operand.
+    Part(u8, u8, Box<Expr>),
+    /// The number of which these are the high half and the low half.
+    Join(Box<Expr>, Box<Expr>),
+    /// A test, the value where it is 1, and the value where it is 0.
+    Choose(Box<Expr>, Box<Expr>, Box<Expr>),
     /// The address at that distance from the base of the frame, 16 bits.
     Address(u16),
 }

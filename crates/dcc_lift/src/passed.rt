@@ -61,7 +61,7 @@ fn push_byte(alloc: Global, values: &mut Vec<Expr>, distance: u16) -> Result<(),
         ++ tree.Load 8 (tree.Address distance) ∷ []) }
 {
     let address = Box::new(alloc, Expr::Address(distance))?;
-    values.push(Expr::Load { width: 8, address })?;
+    values.push(Expr::Load(8, address))?;
     Ok(())
 }
 

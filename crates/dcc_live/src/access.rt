@@ -34,24 +34,24 @@ fn add_reads(e: &Expr, list: &mut Vec<Loc>) -> Result<(), AllocError>
     ensures { OnOk result (list.new.items ≡ list.old.items ++ reads_of (expr_of e.now)) }
 {
     match e {
-        Expr::Const { .. } | Expr::Address(_) => Ok(()),
+        Expr::Const(..) | Expr::Address(_) => Ok(()),
         Expr::Get(location) => {
             list.push(*location)?;
             Ok(())
         }
-        Expr::Load { address, .. } => add_reads(address, list),
-        Expr::Un(_, _, operand) | Expr::Widen(_, _, operand) | Expr::Part { operand, .. } => {
+        Expr::Load(_, address) => add_reads(address, list),
+        Expr::Un(_, _, operand) | Expr::Widen(_, _, operand) | Expr::Part(_, _, operand) => {
             add_reads(operand, list)
         }
         Expr::Bin(_, _, left, right) => {
             add_reads(left, list)?;
             add_reads(right, list)
         }
-        Expr::Join { high, low } => {
+        Expr::Join(high, low) => {
             add_reads(high, list)?;
             add_reads(low, list)
         }
-        Expr::Choose { test, one, other } => {
+        Expr::Choose(test, one, other) => {
             add_reads(test, list)?;
             add_reads(one, list)?;
             add_reads(other, list)

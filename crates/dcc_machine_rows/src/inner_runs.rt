@@ -11,7 +11,7 @@ const AL: Loc = Loc::Half(Reg::Ax, Half::Low);
 const CL: Loc = Loc::Half(Reg::Cx, Half::Low);
 
 fn number(width: u8, number: u32) -> Expr {
-    Expr::Const { width, number }
+    Expr::Const(width, number)
 }
 
 fn call_dos(number: u8, place: Option<Loc>, argument: Option<Expr>) -> Stmt {
@@ -144,10 +144,7 @@ fn a_call_passes_words_in_memory_and_locations_and_gives_back(
         stack: false,
         put: Put::One(CL),
     })?;
-    let upper = Expr::Load {
-        width: 8,
-        address: Box::new(alloc, Expr::Address(1))?,
-    };
+    let upper = Expr::Load(8, Box::new(alloc, Expr::Address(1))?);
     let sum = Expr::Bin(
         BinOp::Add,
         8,

@@ -83,7 +83,7 @@ pub fn returned_place(index: u8) -> Loc
 pub fn constant(width: u8, number: u32) -> Expr
     ensures { expr_of result ≡ tree.Const width number }
 {
-    Expr::Const { width, number }
+    Expr::Const(width, number)
 }
 
 /// One bit.
@@ -149,11 +149,7 @@ impl Maker {
     pub fn part(self, width: u8, first: u8, a: Expr) -> Result<Expr, AllocError>
         ensures { IfOk result (λ e. expr_of e ≡ tree.Part width first (expr_of a)) }
     {
-        Ok(Expr::Part {
-            width,
-            first,
-            operand: Box::new(self.alloc, a)?,
-        })
+        Ok(Expr::Part(width, first, Box::new(self.alloc, a)?))
     }
 
     /// The upper and the lower half of a number.
@@ -162,7 +158,7 @@ impl Maker {
     {
         let high = Box::new(self.alloc, high)?;
         let low = Box::new(self.alloc, low)?;
-        Ok(Expr::Join { high, low })
+        Ok(Expr::Join(high, low))
     }
 
     /// The one expression where the test is 1, else the other.
@@ -172,7 +168,7 @@ impl Maker {
         let test = Box::new(self.alloc, test)?;
         let one = Box::new(self.alloc, a)?;
         let other = Box::new(self.alloc, b)?;
-        Ok(Expr::Choose { test, one, other })
+        Ok(Expr::Choose(test, one, other))
     }
 
     /// The left operand.

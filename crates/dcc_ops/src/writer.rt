@@ -121,10 +121,10 @@ impl Writer {
             Place::Word(low, high) => self
                 .maker(Width::Word)
                 .join(Expr::Get(high), Expr::Get(low)),
-            Place::Memory(width, at) => Ok(Expr::Load {
-                width: width.bits(),
-                address: Box::new(self.alloc, self.computed(at)?)?,
-            }),
+            Place::Memory(width, at) => Ok(Expr::Load(
+                width.bits(),
+                Box::new(self.alloc, self.computed(at)?)?,
+            )),
             Place::Address(distance) => Ok(Expr::Address(distance)),
             Place::Computed(word) => self.computed(word),
         }

@@ -29,10 +29,10 @@ fn width_in<S: Spells>(s: &S, e: &Expr) -> Result<u32, AllocError>
     ensures { IfOk result (λ width. width ≡ width_of (S.spelling s.now).bits (inner_of e.now)) }
 {
     match e {
-        Expr::Const { width, .. }
-        | Expr::Load { width, .. }
+        Expr::Const(width, ..)
+        | Expr::Load(width, ..)
         | Expr::Widen(_, width, ..)
-        | Expr::Part { width, .. } => Ok(u32::from(*width)),
+        | Expr::Part(width, ..) => Ok(u32::from(*width)),
         Expr::Get(location) => Ok(u32::from(s.width(*location))),
         Expr::Un(operator, width, ..) => {
             Ok(if is_test(*operator) {
@@ -48,12 +48,12 @@ fn width_in<S: Spells>(s: &S, e: &Expr) -> Result<u32, AllocError>
                 u32::from(*width)
             })
         }
-        Expr::Join { high, low } => {
+        Expr::Join(high, low) => {
             let high = width_in(s, high)?;
             let low = width_in(s, low)?;
             high.checked_add(low).ok_or(AllocError)
         }
-        Expr::Choose { one, .. } => width_in(s, one),
+        Expr::Choose(_, one, ..) => width_in(s, one),
         Expr::Address(_) => Ok(16),
     }
 }
@@ -178,9 +178,9 @@ pub fn expr_text<S: Spells>(
     ensures { IfOk result (λ r. expr_of r ≡ spec.text (S.spelling s.now) (way_of way) votes (inner_of e.now)) }
 {
     match e {
-        Expr::Const { width, number } => constant(alloc, way, *width, *number),
+        Expr::Const(width, number) => constant(alloc, way, *width, *number),
         Expr::Get(location) => variable(alloc, s, way, votes, *location),
-        Expr::Load { width, address } => {
+        Expr::Load(width, address) => {
             let a = expr_text(alloc, s, Way::Low, false, address)?;
             loaded(alloc, s, way, *width, address, a)
         }
@@ -196,18 +196,14 @@ pub fn expr_text<S: Spells>(
         Expr::Widen(by_sign, width, operand) => widened_expr(
             alloc, s, way, *by_sign, *width, operand,
         ),
-        Expr::Part {
-            width,
-            first,
-            operand,
-        } => part_expr(alloc, s, way, *width, *first, operand),
-        Expr::Join { high, low } => {
+        Expr::Part(width, first, operand) => part_expr(alloc, s, way, *width, *first, operand),
+        Expr::Join(high, low) => {
             let width = width_in(s, low)?;
             let high = expr_text(alloc, s, Way::Exact, true, high)?;
             let low = expr_text(alloc, s, Way::Exact, true, low)?;
             joined(alloc, way, width, high, low)
         }
-        Expr::Choose { test, one, other } => {
+        Expr::Choose(test, one, other) => {
             let test = expr_text(alloc, s, Way::Exact, false, test)?;
             let a = expr_text(alloc, s, way, false, one)?;
             let b = expr_text(alloc, s, way, false, other)?;

@@ -14,15 +14,15 @@ fn has_address(e: &Expr) -> bool
     ensures { result ≡ spec.has_address (expr_of e.now) }
 {
     match e {
-        Expr::Const { .. } | Expr::Get(_) => false,
+        Expr::Const(..) | Expr::Get(_) => false,
         Expr::Address(_) => true,
-        Expr::Load { address, .. } => has_address(address),
-        Expr::Un(_, _, operand) | Expr::Widen(_, _, operand) | Expr::Part { operand, .. } => {
+        Expr::Load(_, address) => has_address(address),
+        Expr::Un(_, _, operand) | Expr::Widen(_, _, operand) | Expr::Part(_, _, operand) => {
             has_address(operand)
         }
         Expr::Bin(_, _, left, right) => has_address(left) || has_address(right),
-        Expr::Join { high, low } => has_address(high) || has_address(low),
-        Expr::Choose { test, one, other } => {
+        Expr::Join(high, low) => has_address(high) || has_address(low),
+        Expr::Choose(test, one, other) => {
             has_address(test) || has_address(one) || has_address(other)
         }
     }

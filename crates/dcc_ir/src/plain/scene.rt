@@ -114,17 +114,17 @@ pub fn width_of(bits: &[u8], e: &Expr) -> Option<u8>
     ensures { IfSome result (λ r. r ≡ width_of bits.now (expr_of e.now)) }
 {
     match e {
-        Expr::Const { width, .. }
-        | Expr::Load { width, .. }
+        Expr::Const(width, ..)
+        | Expr::Load(width, ..)
         | Expr::Widen(_, width, ..)
-        | Expr::Part { width, .. } => Some(*width),
+        | Expr::Part(width, ..) => Some(*width),
         Expr::Get(location) => Some(location_width(bits, *location)),
         Expr::Un(operator, width, ..) => Some(if is_test(*operator) { 1 } else { *width }),
         Expr::Bin(operator, width, ..) => {
             Some(if is_comparison(*operator) { 1 } else { *width })
         }
-        Expr::Join { high, low } => width_of(bits, high)?.checked_add(width_of(bits, low)?),
-        Expr::Choose { one, .. } => width_of(bits, one),
+        Expr::Join(high, low) => width_of(bits, high)?.checked_add(width_of(bits, low)?),
+        Expr::Choose(_, one, ..) => width_of(bits, one),
         Expr::Address(_) => Some(16),
     }
 }
@@ -175,9 +175,9 @@ pub fn value_of(view: &View<'_>, e: &Expr) -> Option<u32>
     ensures { IfSome result (λ r. r ≡ value_of (scene_of view.now) (expr_of e.now)) }
 {
     match e {
-        Expr::Const { number, .. } => Some(*number),
+        Expr::Const(_, number) => Some(*number),
         Expr::Get(location) => held_by(view.bits, view.fill, view.held, *location),
-        Expr::Load { width, address } => bits_at(view.memory, *width, value_of(view, address)?),
+        Expr::Load(width, address) => bits_at(view.memory, *width, value_of(view, address)?),
         Expr::Un(operator, width, operand) => unary_value(
             *operator,
             *width,
@@ -199,20 +199,16 @@ pub fn value_of(view: &View<'_>, e: &Expr) -> Option<u32>
                 value_of(view, operand)?,
             )
         }
-        Expr::Part {
-            width,
-            first,
-            operand,
-        } => {
+        Expr::Part(width, first, operand) => {
             let moved = moved_down(value_of(view, operand)?, u32::from(*first));
             wrapped(*width, u64::from(moved))
         }
-        Expr::Join { high, low } => joined(
+        Expr::Join(high, low) => joined(
             value_of(view, high)?,
             width_of(view.bits, low)?,
             value_of(view, low)?,
         ),
-        Expr::Choose { test, one, other } => {
+        Expr::Choose(test, one, other) => {
             if value_of(view, test)? == 1 {
                 value_of(view, one)
             } else {
