@@ -178,36 +178,26 @@ pub fn value_of(view: &View<'_>, e: &Expr) -> Option<u32>
         Expr::Const(_, number) => Some(*number),
         Expr::Get(location) => held_by(view.bits, view.fill, view.held, *location),
         Expr::Load(width, address) => bits_at(view.memory, *width, value_of(view, address)?),
-        Expr::Un(operator, width, operand) => unary_value(
-            *operator,
-            *width,
-            value_of(view, operand)?,
-        ),
+        Expr::Un(operator, width, operand) => {
+            let n = value_of(view, operand)?;
+            unary_value(*operator, *width, n)
+        }
         Expr::Bin(operator, width, left, right) => {
-            binary_value(
-                *operator,
-                *width,
-                value_of(view, left)?,
-                value_of(view, right)?,
-            )
+            let (a, b) = (value_of(view, left)?, value_of(view, right)?);
+            binary_value(*operator, *width, a, b)
         }
         Expr::Widen(by_sign, width, operand) => {
-            widened(
-                *by_sign,
-                width_of(view.bits, operand)?,
-                *width,
-                value_of(view, operand)?,
-            )
+            let from = width_of(view.bits, operand)?;
+            widened(*by_sign, from, *width, value_of(view, operand)?)
         }
         Expr::Part(width, first, operand) => {
             let moved = moved_down(value_of(view, operand)?, u32::from(*first));
             wrapped(*width, u64::from(moved))
         }
-        Expr::Join(high, low) => joined(
-            value_of(view, high)?,
-            width_of(view.bits, low)?,
-            value_of(view, low)?,
-        ),
+        Expr::Join(high, low) => {
+            let width = width_of(view.bits, low)?;
+            joined(value_of(view, high)?, width, value_of(view, low)?)
+        }
         Expr::Choose(test, one, other) => {
             if value_of(view, test)? == 1 {
                 value_of(view, one)

@@ -1,6 +1,6 @@
 //! States of a run, and what single statements do.
 
-ghost use Rattle.std.specs.Prelude.{◌≡◌, ℕ, ◌/◌, ◌%◌, ◌^◌, ◌-◌, ◌<◌, OnOk, IfOk, map, slice_set};
+ghost use Rattle.std.specs.Prelude.{◌≡◌, ℕ, ◌/◌, ◌%◌, ◌^◌, ◌-◌, ◌<◌, OnOk, IfOk, map, option_map, slice_set};
 ghost use Rattle.dcc_run.specs.Event.{writes};
 ghost use Rattle.dcc_ir.specs.Value.{with_bytes_at, division_of};
 ghost use Rattle.dcc_ir.specs.Dos.{dos_string};
@@ -208,6 +208,19 @@ impl<'p> PlainRun<'p> {
         }
     }
 
+    // The location takes what the division gives, or the run ends where it faults.
+    fn divide(&mut self, at: Loc, e: &Expr) -> Result<(), Refused>
+        ensures after { OnOk result (state_of self.new
+            ≡ inner.dividing at (division_of (inner.scene_of (state_of self.old)) (expr_of e.now)) (state_of self.old)) }
+        ensures fill { self.new.fill ≡ self.old.fill }
+    {
+        match self.division(e)? {
+            Some(n) => self.set(at, n)?,
+            None => self.end = End::Divide,
+        }
+        Ok(())
+    }
+
     // The place takes a byte, where there is one.
     fn take(&mut self, place: Option<Loc>, byte: u32) -> Result<(), Refused>
         ensures after { OnOk result (state_of self.new ≡ inner.taking place byte (state_of self.old)) }
@@ -244,6 +257,16 @@ impl<'p> PlainRun<'p> {
         }
     }
 
+    // The value of an argument; 0 where there is none.
+    fn argument(&self, argument: &Option<Expr>) -> Result<u32, Refused>
+        ensures { IfOk result (λ n. n ≡ inner.argument_in (state_of self.now) (option_map expr_of argument.now)) }
+    {
+        match argument {
+            Some(e) => self.value(e),
+            None => Ok(0),
+        }
+    }
+
     // A DOS call with the value of its argument.
     fn dos(&mut self, alloc: Global, number: u8, place: Option<Loc>, n: u32) -> Result<(), Refused>
         ensures after { OnOk result (state_of self.new ≡ inner.dos_step number place n (state_of self.old)) }
@@ -272,47 +295,35 @@ impl<'p> PlainRun<'p> {
         ensures fill { self.new.fill ≡ self.old.fill }
     {
         match stmt {
-            Stmt::Set {
-                place: at,
-                value: e,
-            } => {
-                let n = self.value(e)?;
-                self.set(*at, n)?;
+            Stmt::Set { place, value } => {
+                let n = self.value(value)?;
+                self.set(*place, n)?;
             }
             Stmt::Load {
-                place: at,
+                place,
                 width,
                 address,
             } => {
                 let address = self.value(address)?;
                 let n = bits_at(&self.memory, *width, address).ok_or(Refused::Wide)?;
-                self.set(*at, n)?;
+                self.set(*place, n)?;
             }
             Stmt::Store {
                 width,
                 address,
-                value: e,
+                value,
             } => {
                 let address = self.value(address)?;
-                let n = self.value(e)?;
+                let n = self.value(value)?;
                 store(&mut self.memory, *width, address, n)?;
             }
-            Stmt::Div {
-                place: at,
-                division: e,
-            } => match self.division(e)? {
-                Some(n) => self.set(*at, n)?,
-                None => self.end = End::Divide,
-            },
+            Stmt::Div { place, division } => self.divide(*place, division)?,
             Stmt::Dos {
                 number,
                 place,
                 argument,
             } => {
-                let n = match argument {
-                    Some(e) => self.value(e)?,
-                    None => 0,
-                };
+                let n = self.argument(argument)?;
                 self.dos(alloc, *number, *place, n)?;
             }
             Stmt::Call { .. } => self.stop(),
