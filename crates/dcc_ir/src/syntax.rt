@@ -1,6 +1,13 @@
 //! The syntax of a program. A number of bits is 1, 8, 16 or 32.
 
+ghost use Rattle.std.specs.Prelude.{◌≡◌, IfOk};
+ghost use Rattle.dcc_ir.specs.Location as location;
+ghost use Rattle.dcc_ir.specs.Tree as tree;
+ghost use Rattle.dcc_ir.specs.Value as value;
+ghost use Rattle.dcc_ir.specs.Views.{expr_of};
+
 use dcc_num::{FlagName, Half, Reg};
+use std::alloc::{AllocError, Global};
 
 /// A location: what a call of a procedure has of its own.
 #[derive(Clone, Copy, PartialEq, Eq, Debug)]
@@ -13,6 +20,19 @@ pub enum Loc {
     Cell(u16, Half),
     /// A temporary; its graph tells its bits.
     Temp(u32),
+}
+
+impl Loc {
+    /// How many bits it has, where the temporaries have these; 0 for a temporary that there is not.
+    pub fn width(self, bits: &[u8]) -> u8
+        ensures { result ≡ location.location_width bits.now self }
+    {
+        match self {
+            Loc::Half(_, _) | Loc::Cell(_, _) => 8,
+            Loc::Flag(_) => 1,
+            Loc::Temp(n) => bits.get(n as usize).copied().unwrap_or(0),
+        }
+    }
 }
 
 /// The halves of word registers and the flags that pass, in their order.
@@ -44,6 +64,18 @@ pub enum UnOp {
     IsZero,
 }
 
+impl UnOp {
+    /// Whether it gives one bit.
+    pub fn is_test(self) -> bool
+        ensures { result ≡ value.is_test self }
+    {
+        match self {
+            UnOp::IsZero => true,
+            UnOp::Neg | UnOp::Not => false,
+        }
+    }
+}
+
 /// An operator on two operands. `S` takes them as signed numbers, `U` as unsigned ones.
 #[derive(Clone, Copy, PartialEq, Eq, Debug)]
 pub enum BinOp {
@@ -65,6 +97,18 @@ pub enum BinOp {
     LtU,
     LeS,
     LeU,
+}
+
+impl BinOp {
+    /// Whether it gives one bit.
+    pub fn is_comparison(self) -> bool
+        ensures { result ≡ value.is_comparison self }
+    {
+        match self {
+            BinOp::Eq | BinOp::LtS | BinOp::LtU | BinOp::LeS | BinOp::LeU => true,
+            _ => false,
+        }
+    }
 }
 
 /// An expression: a number of as many bits as its width.
@@ -90,6 +134,72 @@ pub enum Expr {
     Choose(Box<Expr>, Box<Expr>, Box<Expr>),
     /// The address at that distance from the base of the frame, 16 bits.
     Address(u16),
+}
+
+impl Expr {
+    /// So many bits from an address.
+    pub fn load(alloc: Global, width: u8, address: Expr) -> Result<Expr, AllocError>
+        ensures { IfOk result (λ e. expr_of e ≡ tree.Load width (expr_of address)) }
+    {
+        Ok(Expr::Load(width, Box::new(alloc, address)?))
+    }
+
+    /// An operator on an operand of so many bits.
+    pub fn unary(
+        alloc: Global,
+        operator: UnOp,
+        width: u8,
+        operand: Expr,
+    ) -> Result<Expr, AllocError>
+        ensures { IfOk result (λ e. expr_of e ≡ tree.Unary operator width (expr_of operand)) }
+    {
+        Ok(Expr::Un(operator, width, Box::new(alloc, operand)?))
+    }
+
+    /// An operator on two operands of so many bits.
+    pub fn binary(
+        alloc: Global,
+        operator: BinOp,
+        width: u8,
+        left: Expr,
+        right: Expr,
+    ) -> Result<Expr, AllocError>
+        ensures { IfOk result (λ e. expr_of e ≡ tree.Binary operator width (expr_of left) (expr_of right)) }
+    {
+        let left = Box::new(alloc, left)?;
+        Ok(Expr::Bin(operator, width, left, Box::new(alloc, right)?))
+    }
+
+    /// An operand that is extended to so many bits, by its sign or by zeros.
+    pub fn widen(alloc: Global, by_sign: bool, width: u8, operand: Expr) -> Result<Expr, AllocError>
+        ensures { IfOk result (λ e. expr_of e ≡ tree.Widen by_sign width (expr_of operand)) }
+    {
+        Ok(Expr::Widen(by_sign, width, Box::new(alloc, operand)?))
+    }
+
+    /// So many bits of an operand, from that one on.
+    pub fn part(alloc: Global, width: u8, first: u8, operand: Expr) -> Result<Expr, AllocError>
+        ensures { IfOk result (λ e. expr_of e ≡ tree.Part width first (expr_of operand)) }
+    {
+        Ok(Expr::Part(width, first, Box::new(alloc, operand)?))
+    }
+
+    /// The number of these halves.
+    pub fn join(alloc: Global, high: Expr, low: Expr) -> Result<Expr, AllocError>
+        ensures { IfOk result (λ e. expr_of e ≡ tree.Join (expr_of high) (expr_of low)) }
+    {
+        let high = Box::new(alloc, high)?;
+        Ok(Expr::Join(high, Box::new(alloc, low)?))
+    }
+
+    /// One value where the test is 1, and the other where it is 0.
+    pub fn choose(alloc: Global, test: Expr, one: Expr, other: Expr) -> Result<Expr, AllocError>
+        ensures { IfOk result (λ e. expr_of e ≡ tree.Choose (expr_of test) (expr_of one) (expr_of other)) }
+    {
+        let test = Box::new(alloc, test)?;
+        let one = Box::new(alloc, one)?;
+        Ok(Expr::Choose(test, one, Box::new(alloc, other)?))
+    }
 }
 
 /// A statement.

@@ -1,13 +1,13 @@
 //! What expressions read, and their values.
 
 ghost use Rattle.std.specs.Prelude.{◌≡◌, ℕ, ◌+◌, ◌*◌, ◌/◌, ◌%◌, ◌^◌, ◌<◌, if◌then◌else◌, IfSome};
-ghost use Rattle.dcc_ir.specs.Location.{same_location, location_width, fill_at};
+ghost use Rattle.dcc_ir.specs.Location.{same_location, fill_at};
 ghost use Rattle.dcc_ir.specs.Value.{width_of, byte_at, bytes_at, value_of, pattern_at, signed_at};
 ghost use Rattle.dcc_ir.specs.Views.{expr_of};
 ghost use Rattle.dcc_ir.specs.Plain.{values_of, scene_of};
 
 use super::values::{binary_value, limit, moved_down, pattern, signed, unary_value, wrapped};
-use crate::syntax::{BinOp, Expr, Loc, UnOp};
+use crate::syntax::{Expr, Loc};
 
 /// A location that has taken a value.
 #[derive(Clone, Copy, PartialEq, Eq, Debug)]
@@ -43,17 +43,6 @@ pub fn same_location(a: Loc, b: Loc) -> bool
     }
 }
 
-/// How many bits a location has; 0 for a temporary that there is not.
-pub fn location_width(bits: &[u8], location: Loc) -> u8
-    ensures { result ≡ location_width bits.now location }
-{
-    match location {
-        Loc::Half(_, _) | Loc::Cell(_, _) => 8,
-        Loc::Flag(_) => 1,
-        Loc::Temp(n) => bits.get(n as usize).copied().unwrap_or(0),
-    }
-}
-
 // The fill, cut or sign-extended to a width.
 fn fill_at(width: u8, fill: u16) -> Option<u32>
     ensures { IfSome result (λ r. r ≡ fill_at width fill) }
@@ -66,7 +55,7 @@ fn fill_at(width: u8, fill: u16) -> Option<u32>
 fn held_by(bits: &[u8], fill: u16, held: &[Held], location: Loc) -> Option<u32>
     ensures { IfSome result (λ r. r ≡ values_of bits.now fill held.now location) }
 {
-    let mut value = fill_at(location_width(bits, location), fill)?;
+    let mut value = fill_at(location.width(bits), fill)?;
     for h in held {
         if same_location(location, h.at) {
             value = h.bits;
@@ -118,34 +107,14 @@ pub fn width_of(bits: &[u8], e: &Expr) -> Option<u8>
         | Expr::Load(width, ..)
         | Expr::Widen(_, width, ..)
         | Expr::Part(width, ..) => Some(*width),
-        Expr::Get(location) => Some(location_width(bits, *location)),
-        Expr::Un(operator, width, ..) => Some(if is_test(*operator) { 1 } else { *width }),
+        Expr::Get(location) => Some(location.width(bits)),
+        Expr::Un(operator, width, ..) => Some(if operator.is_test() { 1 } else { *width }),
         Expr::Bin(operator, width, ..) => {
-            Some(if is_comparison(*operator) { 1 } else { *width })
+            Some(if operator.is_comparison() { 1 } else { *width })
         }
         Expr::Join(high, low) => width_of(bits, high)?.checked_add(width_of(bits, low)?),
         Expr::Choose(_, one, ..) => width_of(bits, one),
         Expr::Address(_) => Some(16),
-    }
-}
-
-// Whether an operator gives one bit.
-fn is_test(operator: UnOp) -> bool
-    ensures { result ≡ Rattle.dcc_ir.specs.Value.is_test operator }
-{
-    match operator {
-        UnOp::IsZero => true,
-        UnOp::Neg | UnOp::Not => false,
-    }
-}
-
-// Whether an operator gives one bit.
-fn is_comparison(operator: BinOp) -> bool
-    ensures { result ≡ Rattle.dcc_ir.specs.Value.is_comparison operator }
-{
-    match operator {
-        BinOp::Eq | BinOp::LtS | BinOp::LtU | BinOp::LeS | BinOp::LeU => true,
-        _ => false,
     }
 }
 
