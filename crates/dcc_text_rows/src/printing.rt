@@ -1,10 +1,9 @@
-//! A unit that is written, also where a write fails. What other units are written as, the tests of dcc_parse show:
-//! there they are read from their texts.
+//! A unit that is written where a write fails. What units are written as, the tests of parsing show: there they are read
+//! from their texts.
 
-use dcc_c::{Func, Unit};
 use dcc_io::MemSink;
+use dcc_parse::parse;
 use dcc_print::unit::{PrintFault, print};
-use std::alloc::{AllocError, Global};
 use std::test::Fail;
 
 const TEXT: &str = "#pragma dcc text 1
@@ -14,29 +13,10 @@ void start(void)
 }
 ";
 
-// The unit of that text.
-fn unit(alloc: Global) -> Result<Unit, AllocError> {
-    let start = Func {
-        name: String::from_str(alloc, "start")?,
-        result: None,
-        params: Vec::new(alloc),
-        locals: Vec::new(alloc),
-        body: Vec::new(alloc),
-        last: 0,
-    };
-    Ok(Unit {
-        version: 1,
-        lo: 0,
-        hi: 256,
-        globals: Vec::new(alloc),
-        funcs: vec![in alloc; start]?,
-    })
-}
-
 #[test]
 fn a_failed_write_leaves_a_part_of_the_text(rt: HostRuntime) -> Result<(), Fail> {
     let alloc = rt.alloc();
-    let unit = unit(alloc)?;
+    let unit = parse(alloc, &TEXT.as_bytes().to_vec(alloc)?)?;
     // Eight writes of at most 8 bytes.
     for (fail, want, taken) in [
         (1, Err(PrintFault::Failed), 0),
