@@ -162,10 +162,8 @@ static WATCHED: [Watched; 19] = [
         code: TWO_KEYS,
         input: b"ab",
         faults: Faults {
-            fetch: 0,
             read: 2,
-            out: 0,
-            err: 0,
+            ..NO_FAULTS
         },
         output: b"a",
         status: 5,
@@ -176,10 +174,8 @@ static WATCHED: [Watched; 19] = [
         code: TWO_KEYS,
         input: b"ab",
         faults: Faults {
-            fetch: 0,
-            read: 0,
             out: 2,
-            err: 0,
+            ..NO_FAULTS
         },
         output: b"a",
         status: 6,
