@@ -3,14 +3,14 @@
 ghost use Rattle.std.specs.Prelude.{◌≡◌, ◌<◌, true, []};
 ghost use Rattle.dcc_num.specs.Numbers.{limit_of};
 ghost use Rattle.dcc_prog.specs.Layout.{is_prelude_form};
-ghost use Rattle.dcc_prog.specs.Machine.{start_state, word_in, stack_segment, data_segment, operand_value, operand_width, with_operand};
+ghost use Rattle.dcc_prog.specs.Machine.{start_state, operand_value, operand_width, with_operand};
 ghost use Rattle.dcc_prog.specs.Operations.{with_result, count_in};
 ghost use Rattle.dcc_prog.specs.Step.{op_step};
 ghost use Rattle.dcc_prog.specs.WellFormed.{IsOperand, IsOperation};
 ghost use Rattle.dcc_layout.specs.Registers.{has_no_memory, state_of, registers_of};
 
 use dcc_num::{Flags, Half, NO_FLAGS, Reg, Width, add, shl, sub};
-use dcc_prog::{Alu, Count, Cpu, DS, Image, Op, Operand, PREFIX_SEGMENT, SS};
+use dcc_prog::{Alu, Count, Cpu, Image, Op, Operand, PREFIX_SEGMENT};
 
 /// The registers and flags of a machine.
 #[derive(Clone, Copy)]
@@ -33,27 +33,6 @@ impl Registers {
             segs: [PREFIX_SEGMENT, image.cs, image.ss, PREFIX_SEGMENT],
             flags: NO_FLAGS,
         }
-    }
-
-    /// The stack pointer.
-    pub fn sp(&self) -> u16
-        ensures { result ≡ word_in (state_of self.now) Reg.Sp }
-    {
-        self.regs[Reg::Sp as usize]
-    }
-
-    /// The stack segment.
-    pub fn ss(&self) -> u16
-        ensures { result ≡ stack_segment (state_of self.now) }
-    {
-        self.segs[SS as usize]
-    }
-
-    /// The data segment.
-    pub fn ds(&self) -> u16
-        ensures { result ≡ data_segment (state_of self.now) }
-    {
-        self.segs[DS as usize]
     }
 
     // What a register or a constant holds.

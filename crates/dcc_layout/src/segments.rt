@@ -9,8 +9,9 @@ ghost use Rattle.dcc_layout.specs.Prelude.{IsLeft};
 ghost use Rattle.dcc_layout.specs.Refusal.{IsRefusal};
 
 use crate::prelude::{Prelude, prelude_of};
+use dcc_num::Reg;
 use dcc_prog::construct::NO_LAYOUT;
-use dcc_prog::{Cpu, Image, Layout, Refusal};
+use dcc_prog::{Cpu, DS, Image, Layout, Refusal, SS};
 use std::alloc::Global;
 
 // The highest data segment of a layout.
@@ -60,12 +61,14 @@ fn layout_after(image: &Image, prelude: &Prelude, cpu: Cpu) -> Option<Layout>
     ensures none { result ≡ None → (layout : Layout) → layout.cpu ≡ cpu → ¬ HasLayout image.now layout }
 {
     let registers = &prelude.registers;
-    let ds = registers.ds();
+    let ds = registers.segs[DS as usize];
     if ds <= image.cs || ds > HIGHEST_DATA_SEGMENT {
         return None;
     }
-    let delta = registers.ss().checked_sub(ds)?.checked_mul(PARAGRAPH)?;
-    let hi = registers.sp().checked_add(delta)?;
+    let delta = registers.segs[SS as usize]
+        .checked_sub(ds)?
+        .checked_mul(PARAGRAPH)?;
+    let hi = registers.regs[Reg::Sp as usize].checked_add(delta)?;
     let lo = u16::try_from(lowest_of_stack(image, ds)).ok()?;
     let start_ip = u16::try_from(prelude.end).ok()?;
     let code_end = code_end(image, ds);

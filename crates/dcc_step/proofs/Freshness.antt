@@ -1,5 +1,5 @@
 -- What is known of decoded instructions, as memory, marks and segments change.
-use Rattle.std.proofs.Common.{◌≡◌, ◌≢◌, ℕ, ◌<◌, Bool, true, false, List, refl, sym, ap, ◌∙◌, get_or, arith, slice_index, slice_set}
+use Rattle.std.proofs.Common.{◌≡◌, ◌≢◌, ℕ, ◌<◌, Bool, true, false, List, sym, ap, ◌∙◌, arith, slice_index, slice_set}
 use Rattle.std.specs.List.{All}
 use Rattle.std.proofs.lemmas.List.{get_or-set_other}
 use Rattle.std.proofs.lemmas.List.Elements.{All-weaker}
@@ -7,7 +7,7 @@ use Rattle.dcc_step.specs.declared.cache.Decoded.{Decoded}
 use Rattle.dcc_prog.specs.declared.cpu.Cpu.{Cpu}
 use Rattle.dcc_prog.specs.declared.segment.TheConstants.{CS}
 use Rattle.dcc_prog.specs.Table.{instruction_at}
-use Rattle.dcc_step.specs.Cache.{code_address, bytes_at, is_marked, IsMarkedFrom, IsDecoded, IsFresh, IsFreshIfKnown}
+use Rattle.dcc_step.specs.Cache.{code_address, bytes_at, is_marked, IsMarkedFrom, IsDecoded, IsFreshIfKnown}
 
 -- a marked address is no other one
 apart : (marks : List Bool) (a b : ℕ) → is_marked marks a ≡ true → is_marked marks b ≡ false → a ≢ b

@@ -1,5 +1,5 @@
 -- Steps by the form of an instruction.
-use Rattle.std.proofs.Common.{◌≡◌, ◌≢◌, ℕ, Bool, true, false, List, [], Option, Some, refl, sym, ap, ◌∙◌, subst}
+use Rattle.std.proofs.Common.{◌≡◌, ◌≢◌, ℕ, true, false, List, [], Option, Some, refl, sym, ap, ◌∙◌, subst, arith}
 use Rattle.dcc_run.specs.End.{Running as running}
 use Rattle.dcc_num.specs.declared.Reg.{Reg}
 use Rattle.dcc_num.specs.declared.Width.{Width}
@@ -9,7 +9,6 @@ use Rattle.dcc_prog.specs.declared.instr.Alu.{Alu}
 use Rattle.dcc_prog.specs.declared.instr.Alu.TheVariants.{Add, Or, Adc, Sbb, And, Sub, Xor, Cmp, Test}
 use Rattle.dcc_prog.specs.declared.instr.Operand.{Operand}
 use Rattle.dcc_prog.specs.declared.instr.Operand.TheVariants.{Word}
-use Rattle.dcc_prog.specs.declared.instr.Op.{Op}
 use Rattle.dcc_prog.specs.declared.instr.Op.TheVariants.{Int21}
 use Rattle.dcc_prog.specs.declared.instr.Instr.{Instr}
 use Rattle.dcc_prog.specs.Machine.{State}
@@ -24,9 +23,10 @@ use Rattle.dcc_step.specs.declared.form.Form.{Form}
 use Rattle.dcc_step.specs.declared.form.Form.TheVariants.{Registers, Constant, Memory, Inc, Dec, Move, Set, Load, Store, Jump, Branch, Other}
 use Rattle.dcc_step.specs.Core.{Core, with_console, core_of, state_of, changed_by}
 use Rattle.dcc_step.specs.Form.{op_of, combined_of, IsQuietStep}
-use Rattle.dcc_step.specs.Stepped.{machine, LeadsOnBytes}
+use Rattle.dcc_step.specs.declared.ending.Stepped.TheVariants.{Running as goes_on}
+use Rattle.dcc_step.specs.Stepped.{machine, counted, StepAnswers, LeadsOnBytes}
 use Rattle.dcc_step.proofs.Scenes.{made_quiet, leads_quiet}
-use Rattle.dcc_step.proofs.Steps.{step_is, moved_past}
+use Rattle.dcc_step.proofs.Steps.{step_is, moved_past, ended, no_fault}
 
 -- an operation on two operands puts its combined result into the first one, or sets the flags alone
 pub alu_writes : (kind : Alu) (w : Width) (x : Operand) (a b : ℕ) (s : State) → writes_operand kind ≡ true
@@ -122,3 +122,13 @@ quiet_makes m new left taken quiet = made_quiet step m new left taken quiet.cpu 
 pub quiet_leads : (m new : Core) → IsQuietStep m new → LeadsOnBytes step m new
 quiet_leads m new quiet =
     leads_quiet step m new (ap (core_of m.cpu) (quiet.leads [] []) ∙ ap (λ c. record new { cpu = c }) (sym quiet.cpu))
+
+-- what a step on the short path answers
+pub quiet_answers : (m new : Core) (left taken : Option (List ℕ)) (reads writes : ℕ) → IsQuietStep m new
+    → StepAnswers goes_on (counted m left taken reads writes) (counted new left taken reads writes)
+quiet_answers m new left taken reads writes quiet = record {
+  step = quiet_makes m new left taken quiet;
+  bytes = λ so. quiet_leads m new quiet;
+  answer = ended new running quiet.goes_on;
+  faults = no_fault goes_on reads reads writes writes refl (omega arith) (omega arith);
+}

@@ -1,5 +1,5 @@
 -- How a step is made of an operation.
-use Rattle.std.proofs.Common.{◌≡◌, ◌≢◌, ℕ, ◌+◌, ◌%◌, true, List, [], Option, Some, None, refl, sym, ap, ◌∙◌, subst}
+use Rattle.std.proofs.Common.{◌≡◌, ◌≢◌, ℕ, ◌+◌, ◌%◌, ◌≤◌, true, List, [], Option, Some, None, Err, IsErrOf, refl, sym, ap, ◌∙◌, subst, arith}
 use Rattle.std.specs.Prelude.{if◌then◌else◌}
 use Rattle.dcc_run.specs.End.{End, Running as running, Outside as outside, is_over}
 use Rattle.dcc_run.specs.Event.{Event}
@@ -16,11 +16,12 @@ use Rattle.dcc_step.specs.declared.ending.Stepped.{Stepped}
 use Rattle.dcc_step.specs.declared.ending.Stepped.TheVariants.{Running as goes_on, Exit as exits, Divide as divides, Outside as is_outside, InFault as read_fails, OutFault as write_fails}
 use Rattle.dcc_console.specs.declared.fault.Fault.{Fault}
 use Rattle.dcc_console.specs.declared.fault.Fault.TheVariants.{Input, Output}
+use Rattle.dcc_console.specs.Counts.{CountsFaults}
 use Rattle.dcc_console.specs.Scene.{Scene, scene}
 use Rattle.dcc_console.specs.Steps.{HasEnded, Makes, MakesSteps, made, Steps, Runs, refusal_of}
 use Rattle.dcc_step.specs.Core.{Core, with_console, core_of, state_of, changed_by}
 use Rattle.dcc_step.specs.Ending.{end_of, answer_of, fault_answer_of}
-use Rattle.dcc_step.specs.Stepped.{machine, machine_by, LeadsOnBytes, outcome_of, end_told}
+use Rattle.dcc_step.specs.Stepped.{machine, machine_by, counted, StepAnswers, LeadsOnBytes, outcome_of, end_told}
 use Rattle.dcc_step.proofs.Scenes.{made_quiet, made_as, refused_as, refused_core, leads_quiet, leads_as}
 
 -- an operation other than INT 21h
@@ -68,6 +69,33 @@ ended m end is w s stands = ap (λ (c : Core). c.end) stands ∙ is
 
 pub answers : (e : Ending) (answer : Stepped) (m : Core) → answer ≡ answer_of e → m.end ≡ end_of e → HasEnded machine m (end_told answer)
 answers e answer m is end = ended m (end_told answer) (end ∙ sym (ap end_told is ∙ answer_tells e))
+
+-- an answer that tells how the run has ended tells of no fault
+pub no_fault : (answer : Stepped) (reads reads_now writes writes_now : ℕ) → outcome_of answer ≡ made → reads ≤ reads_now
+    → writes ≤ writes_now → CountsFaults (answer ≡ read_fails) (answer ≡ write_fails) reads reads_now writes writes_now
+no_fault answer reads reads_now writes writes_now is read written = record {
+  input_faults = read;
+  output_faults = written;
+  read_failed = λ fails. let both = sym is ∙ ap outcome_of fails in cc;
+  write_failed = λ fails. let both = sym is ∙ ap outcome_of fails in cc;
+}
+
+-- a fault of an operation is answered as it was counted
+fault_counts : {T : Type 0} (fault : Fault) (answer : Stepped) (reads reads_now writes writes_now : ℕ) → answer ≡ fault_answer_of fault
+    → CountsFaults (IsErrOf {T = T} (Err fault) Input) (IsErrOf {T = T} (Err fault) Output) reads reads_now writes writes_now
+    → CountsFaults (answer ≡ read_fails) (answer ≡ write_fails) reads reads_now writes writes_now
+fault_counts Input answer reads reads_now writes writes_now is counts = record {
+  input_faults = counts.input_faults;
+  output_faults = counts.output_faults;
+  read_failed = λ fails. counts.read_failed refl;
+  write_failed = λ fails. let both = sym is ∙ fails in cc;
+}
+fault_counts Output answer reads reads_now writes writes_now is counts = record {
+  input_faults = counts.input_faults;
+  output_faults = counts.output_faults;
+  read_failed = λ fails. let both = sym is ∙ fails in cc;
+  write_failed = λ fails. counts.write_failed refl;
+}
 
 pub over : (e : Ending) → e ≢ Running → is_over (end_of e) ≡ true
 over Running other = absurd (other refl)
@@ -153,6 +181,18 @@ leads_over m over =
     leads_quiet step m m
     (ap (λ b. core_of m.cpu (if b then s else instruction_step m.cpu (instruction_at m.cpu m.ip (code_bytes s)) s)) over)
 
+-- a machine whose run has ended answers its end and stays
+pub over_answers : (e : Ending) (answer : Stepped) (m : Core) (left taken : Option (List ℕ)) (reads writes : ℕ) → answer ≡ answer_of e
+    → m.end ≡ end_of e → e ≢ Running → StepAnswers answer (counted m left taken reads writes) (counted m left taken reads writes)
+over_answers e answer m left taken reads writes is end other =
+    let is_ended : is_over m.end ≡ true = ap is_over end ∙ over e other in
+    record {
+      step = answered e answer _ _ is (stays_over m left taken is_ended);
+      bytes = λ so. leads_over m is_ended;
+      answer = answers e answer m is end;
+      faults = no_fault answer reads reads writes writes (ap outcome_of is ∙ answer_made e) (omega arith) (omega arith);
+    }
+
 pub leads_outside : (m new : Core) → m.end ≡ running → instruction_at m.cpu m.ip (code_bytes (state_of m)) ≡ None
     → new ≡ changed_by (with_end (outside m.ip) m.ip) m → LeadsOnBytes step m new
 leads_outside m new runs none is = leads_quiet step m new (ap (core_of m.cpu) (step_is m None runs none [] []) ∙ sym is)
@@ -182,3 +222,31 @@ pub refused : (fault : Fault) (answer : Stepped) (before now : Scene Core) → a
     → Steps machine (refusal_of fault) before now → Steps machine (outcome_of answer) before now
 refused fault answer before now is was_refused =
     subst (λ o. Steps machine o before now) (sym (ap outcome_of is ∙ refused_outcome fault)) was_refused
+
+-- What a step answers by the operation of its instruction.
+
+-- where there is none
+pub outside_answers : (e : Ending) (answer : Stepped) (m new : Core) (left taken : Option (List ℕ)) (reads writes : ℕ) → m.end ≡ running
+    → instruction_at m.cpu m.ip (code_bytes (state_of m)) ≡ None → new ≡ changed_by (with_end (outside m.ip) m.ip) m
+    → answer ≡ answer_of e → new.end ≡ end_of e → StepAnswers answer (counted m left taken reads writes) (counted new left taken reads writes)
+outside_answers e answer m new left taken reads writes runs none is told end = record {
+  step = answered e answer _ _ told (step_outside m new left taken runs none is);
+  bytes = λ so. leads_outside m new runs none is;
+  answer = answers e answer new told end;
+  faults = no_fault answer reads reads writes writes (ap outcome_of told ∙ answer_made e) (omega arith) (omega arith);
+}
+
+-- where it was refused
+pub refused_answers : {T : Type 0} (fault : Fault) (answer : Stepped) (m back : Core) (left taken left_now taken_now : Option (List ℕ))
+    (reads reads_now writes writes_now : ℕ) → m.end ≡ running → answer ≡ fault_answer_of fault
+    → Steps machine (refusal_of fault) (scene m left taken) (scene back left_now taken_now)
+    → CountsFaults (IsErrOf {T = T} (Err fault) Input) (IsErrOf {T = T} (Err fault) Output) reads reads_now writes writes_now
+    → StepAnswers answer (counted m left taken reads writes) (counted back left_now taken_now reads_now writes_now)
+refused_answers fault answer m back left taken left_now taken_now reads reads_now writes writes_now runs told was_refused counts =
+    let kept : back ≡ m = refused_core step fault m back left taken left_now taken_now was_refused in
+    record {
+      step = refused fault answer _ _ told was_refused;
+      bytes = λ so. absurd (not_made fault answer told so);
+      answer = ended back (end_told answer) (ap (λ (k : Core). k.end) kept ∙ runs ∙ sym (ap end_told told ∙ refused_end fault));
+      faults = fault_counts fault answer reads reads_now writes writes_now told counts;
+    }

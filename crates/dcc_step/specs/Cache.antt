@@ -2,7 +2,6 @@
 use Rattle.std.specs.Prelude.{◌≡◌, ◌≢◌, ℕ, ◌+◌, ◌%◌, ◌<◌, true, false, Bool, List, [], ◌∷◌, get_or, slice_index, Some, IfSome}
 use Rattle.std.specs.List.{All}
 use Rattle.dcc_prog.specs.declared.cpu.Cpu.{Cpu}
-use Rattle.dcc_prog.specs.declared.instr.Instr.{Instr}
 use Rattle.dcc_prog.specs.Machine.{physical}
 use Rattle.dcc_prog.specs.Table.{instruction_at}
 use Rattle.dcc_prog.specs.WellFormed.{IsOperation}

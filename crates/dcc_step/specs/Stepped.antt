@@ -1,11 +1,13 @@
 -- What steps of the machine leave, and what they answer.
-use Rattle.std.specs.Prelude.{◌≡◌, ◌<◌, ℕ, List, [], slice_index}
+use Rattle.std.specs.Prelude.{◌≡◌, ◌<◌, ℕ, List, [], Option, slice_index}
 use Rattle.dcc_run.specs.End.{End, Running as running, Exit as exited, Divide as divided, Outside as outside}
 use Rattle.dcc_prog.specs.declared.cpu.Cpu.{Cpu}
 use Rattle.dcc_prog.specs.Machine.{State}
-use Rattle.dcc_prog.specs.Step.{step}
+use Rattle.dcc_prog.specs.Step as definition
 use Rattle.dcc_console.specs.Console.{Console, Executor}
-use Rattle.dcc_console.specs.Steps.{Outcome, made, read_failed, write_failed}
+use Rattle.dcc_console.specs.Counts.{CountsFaults}
+use Rattle.dcc_console.specs.Scene.{Scene, scene}
+use Rattle.dcc_console.specs.Steps.{Outcome, made, read_failed, write_failed, Steps, HasEnded}
 use Rattle.dcc_step.specs.Core.{Core, core_of, with_console}
 use Rattle.dcc_step.specs.declared.ending.Stepped.{Stepped}
 use Rattle.dcc_step.specs.declared.ending.Stepped.TheVariants.{Running, Exit, Divide, Outside, InFault, OutFault}
@@ -28,7 +30,7 @@ machine_by operation = record {
 
 -- the code that makes its processor's steps
 abbrev pub machine : Executor Cpu Core State
-machine = machine_by step
+machine = machine_by definition.step
 
 -- beside some input of bytes the operation leads from one machine to another
 pub record LeadsOnBytes (operation : Cpu → State → State) (before now : Core) : Type 0 where
@@ -53,3 +55,20 @@ end_told Divide = divided
 end_told (Outside at) = outside at
 end_told InFault = running
 end_told OutFault = running
+
+-- a scene, and how many reads of its input and writes to its output have failed
+pub record Counted (C : Type 0) : Type 0 where
+  pub scene : Scene C
+  pub reads : ℕ
+  pub writes : ℕ
+
+abbrev pub counted : {C : Type 0} → C → Option (List ℕ) → Option (List ℕ) → ℕ → ℕ → Counted C
+counted code left taken reads writes = record { scene = scene code left taken; reads = reads; writes = writes }
+
+-- What a step leaves that answers so. What is taken is a byte: where the step was made, the machine's step on an input of
+-- bytes leads here too. A fault is answered only where its count rose.
+pub record StepAnswers (answered : Stepped) (before now : Counted Core) : Type 0 where
+  pub step : Steps machine (outcome_of answered) before.scene now.scene
+  pub bytes : outcome_of answered ≡ made → LeadsOnBytes definition.step before.scene.code now.scene.code
+  pub answer : HasEnded machine now.scene.code (end_told answered)
+  pub faults : CountsFaults (answered ≡ InFault) (answered ≡ OutFault) before.reads now.reads before.writes now.writes

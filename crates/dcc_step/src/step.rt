@@ -11,9 +11,8 @@ ghost use Rattle.dcc_step.specs.declared.form.Form.TheVariants.{Other};
 ghost use Rattle.dcc_step.specs.Form.{op_of, IsQuietStep};
 ghost use Rattle.dcc_console.specs.Counts.{CountsFaults};
 ghost use Rattle.dcc_console.specs.Scene.{scene};
-ghost use Rattle.dcc_console.specs.Steps.{Makes, Steps, HasEnded, Runs, made, refusal_of};
-ghost use Rattle.dcc_prog.specs.Step as definition;
-ghost use Rattle.dcc_step.specs.Stepped.{machine, machine_by, LeadsOnBytes, outcome_of, end_told};
+ghost use Rattle.dcc_console.specs.Steps.{Makes, Steps, HasEnded, Runs, refusal_of};
+ghost use Rattle.dcc_step.specs.Stepped.{machine, machine_by, counted, StepAnswers, LeadsOnBytes, outcome_of, end_told};
 
 use crate::cache::{CACHE_SIZE, Decoded};
 use crate::ending::{Ending, Stepped};
@@ -222,15 +221,9 @@ impl Machine {
         requires runs { self.old.end ≡ running }
         requires found { found ≡ instruction_at self.old.cpu self.old.ip (code_bytes (state_of self.old)) }
         requires operation { IfSome found (λ instr. IsOperation instr.op) }
-        ensures step { Steps machine (outcome_of result)
-            (scene self.old (I.left input.old) (O.taken out.old))
-            (scene self.new (I.left input.new) (O.taken out.new)) }
-
-        // What is taken is a byte: where the step was made, the machine's step on an input of bytes leads here too.
-        ensures bytes { outcome_of result ≡ made → LeadsOnBytes definition.step self.old self.new }
-        ensures answer { HasEnded machine self.new (end_told result) }
-        ensures faults { CountsFaults (result ≡ Stepped.InFault) (result ≡ Stepped.OutFault)
-            (I.faults input.old) (I.faults input.new) (O.faults out.old) (O.faults out.new) }
+        ensures { StepAnswers result
+            (counted self.old (I.left input.old) (O.taken out.old) (I.faults input.old) (O.faults out.old))
+            (counted self.new (I.left input.new) (O.taken out.new) (I.faults input.new) (O.faults out.new)) }
     {
         let at = self.ip;
         let Some(instr) = found else {
@@ -245,33 +238,6 @@ impl Machine {
         self.end.answer()
     }
 
-    /// Makes the step of the instruction that `next_instruction` answered, of a machine that runs. It answers as `step`
-    /// does.
-    pub fn make<I: Source, O: Sink>(
-        &mut self,
-        found: Option<Instr>,
-        input: &mut I,
-        out: &mut O,
-    ) -> Stepped
-        requires runs { self.old.end ≡ running }
-        requires found { found ≡ instruction_at self.old.cpu self.old.ip (code_bytes (state_of self.old)) }
-        requires operation { IfSome found (λ instr. IsOperation instr.op) }
-        ensures step { Steps machine (outcome_of result)
-            (scene self.old (I.left input.old) (O.taken out.old))
-            (scene self.new (I.left input.new) (O.taken out.new)) }
-
-        // What is taken is a byte: where the step was made, the machine's step on an input of bytes leads here too.
-        ensures bytes { outcome_of result ≡ made → LeadsOnBytes definition.step self.old self.new }
-        ensures answer { HasEnded machine self.new (end_told result) }
-        ensures faults { CountsFaults (result ≡ Stepped.InFault) (result ≡ Stepped.OutFault)
-            (I.faults input.old) (I.faults input.new) (O.faults out.old) (O.faults out.new) }
-    {
-        if self.make_form() {
-            return Stepped::Running;
-        }
-        self.make_operation(found, input, out)
-    }
-
     /// Makes one instruction of the machine's processor (8086 Family User's Manual, table 2-21; iAPX 86/88,
     /// 186/188 User's Manual, Programmer's Reference). A machine whose run has ended answers its end again and
     /// changes nothing.
@@ -281,15 +247,9 @@ impl Machine {
     /// where a read or a write failed: the machine is as before, and what was read or written stays so.
     #[inline(always)]
     pub fn step<I: Source, O: Sink>(&mut self, input: &mut I, out: &mut O) -> Stepped
-        ensures step { Steps machine (outcome_of result)
-            (scene self.old (I.left input.old) (O.taken out.old))
-            (scene self.new (I.left input.new) (O.taken out.new)) }
-
-        // What is taken is a byte: where the step was made, the machine's step on an input of bytes leads here too.
-        ensures bytes { outcome_of result ≡ made → LeadsOnBytes definition.step self.old self.new }
-        ensures answer { HasEnded machine self.new (end_told result) }
-        ensures faults { CountsFaults (result ≡ Stepped.InFault) (result ≡ Stepped.OutFault)
-            (I.faults input.old) (I.faults input.new) (O.faults out.old) (O.faults out.new) }
+        ensures { StepAnswers result
+            (counted self.old (I.left input.old) (O.taken out.old) (I.faults input.old) (O.faults out.old))
+            (counted self.new (I.left input.new) (O.taken out.new) (I.faults input.new) (O.faults out.new)) }
     {
         if self.make_form() {
             return Stepped::Running;

@@ -45,6 +45,12 @@ viewed layout shapes room m progress live written =
 abbrev pub IsFoundBy : Core → Option Instr → Type 0
 IsFoundBy m found = found ≡ instruction_at m.cpu m.ip (code_bytes (state_of m))
 
+-- frames that are kept have their shapes, where they have those of an equal table
+pub shapes_kept : (table shapes : List Shape) (before now : List Live) → table ≡ shapes
+    → (AllHaveShapes table before → AllHaveShapes table now) → AllHaveShapes shapes before → AllHaveShapes shapes now
+shapes_kept table shapes before now is kept known =
+    subst (λ s. AllHaveShapes s now) is (kept (subst (λ s. AllHaveShapes s before) (sym is) known))
+
 pub in_procedures : (progress : Progress) (live : List Live) (written : List Bool) → is_in_procedures (stage_of progress live written) ≡ true → progress ≡ InProcedures
 in_procedures AtStart live written is = cc
 in_procedures InPrelude live written is = cc

@@ -6,7 +6,8 @@ use Rattle.dcc_prog.specs.declared.frame.Program.{Program}
 use Rattle.dcc_prog.specs.Machine.{start_state}
 use Rattle.dcc_prog.specs.Watch.{Watch, Stage, AtStart, InPrelude, InProcedures, Stopped, watched_machine}
 use Rattle.dcc_console.specs.Console.{Console, Executor}
-use Rattle.dcc_console.specs.Steps.{Outcome, made}
+use Rattle.dcc_console.specs.Counts.{CountsFaults}
+use Rattle.dcc_console.specs.Steps.{Outcome, made, Steps}
 use Rattle.dcc_step.specs.declared.ending.Stepped.{Stepped}
 use Rattle.dcc_step.specs.declared.ending.Stepped.TheVariants.{Running as StillRunning, InFault, OutFault}
 use Rattle.dcc_step.specs.Core.{core_of}
@@ -86,6 +87,12 @@ foul_answer foul = Foul foul.at foul.address foul.kind
 abbrev pub Tells : Watched → Watching → Type 0
 Tells (Clean stepped) code = (code.machine.end ≡ machine.end_told stepped) × (is_stopped code.stage ≡ false)
 Tells (Foul at address kind) code = code.stage ≡ Stopped (record { at = at; kind = kind; address = address })
+
+-- What a step leaves that answers so. A fault is answered only where its count rose.
+pub record StepAnswers (answered : Watched) (before now : machine.Counted Watching) : Type 0 where
+  pub step : Steps watched (outcome_of answered) before.scene now.scene
+  pub tells : Tells answered now.scene.code
+  pub faults : CountsFaults (answered ≡ Clean InFault) (answered ≡ Clean OutFault) before.reads now.reads before.writes now.writes
 
 -- the watch at the start of an image's run on a program's processor: there is room for as many frames as return addresses
 -- fit the stack, and for that of the entry procedure

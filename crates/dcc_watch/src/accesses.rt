@@ -400,13 +400,8 @@ fn may_access(op: Op) -> bool
     match op {
         Op::Alu(_, a, b) | Op::Mov(a, b) | Op::Xchg(a, b) => is_memory(a) || is_memory(b),
         Op::Unary(_, a) | Op::Shift(_, a, _) | Op::Imul3(_, a, _) => is_memory(a),
-        Op::Lea(..)
-        | Op::Jump(_)
-        | Op::Branch(..)
-        | Op::Loop(_)
-        | Op::LoopE(_)
-        | Op::LoopNe(_)
-        | Op::Jcxz(_) => false,
-        _ => true,
+        Op::Push(_) | Op::Pop(_) | Op::Enter(_) | Op::Leave | Op::Call(_) | Op::Ret(_) => true,
+        Op::Plain(_) | Op::Table(..) | Op::Int21 => true,
+        _ => false,
     }
 }

@@ -6,8 +6,9 @@ ghost use Rattle.dcc_prog.specs.MzImage.{IsLoaded};
 ghost use Rattle.dcc_prog.specs.Analysed.{IsProgramOf};
 ghost use Rattle.dcc_console.specs.Counts.{CountsFaults};
 ghost use Rattle.dcc_console.specs.Scene.{scene};
-ghost use Rattle.dcc_console.specs.Steps.{Steps, Runs, made};
-ghost use Rattle.dcc_watch.specs.Executor.{watched, outcome_of, is_refused, foul_answer, Tells, first_watching, is_at_first, is_in_procedures, is_going, goes_on};
+ghost use Rattle.dcc_console.specs.Steps.{Runs, made};
+ghost use Rattle.dcc_step.specs.Stepped.{counted};
+ghost use Rattle.dcc_watch.specs.Executor.{watched, outcome_of, is_refused, foul_answer, Tells, StepAnswers, first_watching, is_at_first, is_in_procedures, is_going, goes_on};
 
 use crate::frames::Frames;
 use crate::judge::{Foul, next_foul};
@@ -123,12 +124,9 @@ impl Watch {
     fn step_in_prelude<I: Source, O: Sink>(&mut self, input: &mut I, out: &mut O) -> Watched
         requires runs { self.old.machine.end ≡ running }
         requires first { is_at_first self.old.stage ≡ true }
-        ensures step { Steps watched (outcome_of result)
-            (scene self.old (I.left input.old) (O.taken out.old))
-            (scene self.new (I.left input.new) (O.taken out.new)) }
-        ensures tells { Tells result self.new }
-        ensures faults { CountsFaults (result ≡ Watched.Clean Stepped.InFault) (result ≡ Watched.Clean Stepped.OutFault)
-            (I.faults input.old) (I.faults input.new) (O.faults out.old) (O.faults out.new) }
+        ensures { StepAnswers result
+            (counted self.old (I.left input.old) (O.taken out.old) (I.faults input.old) (O.faults out.old))
+            (counted self.new (I.left input.new) (O.taken out.new) (I.faults input.new) (O.faults out.new)) }
     {
         let stepped = self.machine.step(input, out);
         if is_refused(stepped) {
@@ -147,12 +145,9 @@ impl Watch {
     fn step_in_procedures<I: Source, O: Sink>(&mut self, input: &mut I, out: &mut O) -> Watched
         requires runs { self.old.machine.end ≡ running }
         requires inside { is_in_procedures self.old.stage ≡ true }
-        ensures step { Steps watched (outcome_of result)
-            (scene self.old (I.left input.old) (O.taken out.old))
-            (scene self.new (I.left input.new) (O.taken out.new)) }
-        ensures tells { Tells result self.new }
-        ensures faults { CountsFaults (result ≡ Watched.Clean Stepped.InFault) (result ≡ Watched.Clean Stepped.OutFault)
-            (I.faults input.old) (I.faults input.new) (O.faults out.old) (O.faults out.new) }
+        ensures { StepAnswers result
+            (counted self.old (I.left input.old) (O.taken out.old) (I.faults input.old) (O.faults out.old))
+            (counted self.new (I.left input.new) (O.taken out.new) (I.faults input.new) (O.faults out.new)) }
     {
         let found = self.machine.next_instruction();
         let mut before = Before::at(&self.machine, &self.layout);
@@ -161,7 +156,7 @@ impl Watch {
             self.progress = Progress::Stopped(foul);
             return foul.answer();
         }
-        let stepped = self.machine.make(found, input, out);
+        let stepped = self.machine.step(input, out);
         if is_refused(stepped) {
             return Watched::Clean(stepped);
         }
@@ -185,12 +180,9 @@ impl Watch {
     /// OutFault where a read or a write failed, after which nothing has changed. No step takes memory: at a clean CALL fewer
     /// frames live than return addresses fit the stack, and one more, for which `new` took room.
     pub fn step<I: Source, O: Sink>(&mut self, input: &mut I, out: &mut O) -> Watched
-        ensures step { Steps watched (outcome_of result)
-            (scene self.old (I.left input.old) (O.taken out.old))
-            (scene self.new (I.left input.new) (O.taken out.new)) }
-        ensures tells { Tells result self.new }
-        ensures faults { CountsFaults (result ≡ Watched.Clean Stepped.InFault) (result ≡ Watched.Clean Stepped.OutFault)
-            (I.faults input.old) (I.faults input.new) (O.faults out.old) (O.faults out.new) }
+        ensures { StepAnswers result
+            (counted self.old (I.left input.old) (O.taken out.old) (I.faults input.old) (O.faults out.old))
+            (counted self.new (I.left input.new) (O.taken out.new) (I.faults input.new) (O.faults out.new)) }
     {
         if !self.is_going() {
             return self.answer();

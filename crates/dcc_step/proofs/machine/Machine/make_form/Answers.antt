@@ -1,8 +1,6 @@
 use Rattle.std.proofs.Common.{◌≡◌, ◌+◌, ◌%◌, ap}
 use Rattle.dcc_run.specs.End.{Running}
-use Rattle.dcc_prog.specs.Table.{instruction_at}
-use Rattle.dcc_prog.specs.Step.{code_bytes}
-use Rattle.dcc_step.specs.Core.{Core, state_of}
+use Rattle.dcc_step.specs.Core.{Core}
 use Rattle.dcc_step.proofs.Steps.{moved_on}
 use Rattle.dcc_step.proofs.Quick.{quiet_step}
 use Rattle.dcc_step.proofs.machine.Machine.make_form.Goals as goal

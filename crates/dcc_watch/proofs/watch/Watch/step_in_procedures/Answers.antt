@@ -1,15 +1,13 @@
 use Rattle.std.proofs.Common.{◌≡◌, length, true, false, refl, sym, ap, ◌∙◌, subst, arith}
 use Rattle.std.specs.Prelude.{option_map}
-use Rattle.dcc_prog.specs.Table.{instruction_at}
-use Rattle.dcc_prog.specs.Step.{code_bytes}
-use Rattle.dcc_step.specs.Core.{Core, state_of}
+use Rattle.dcc_step.specs.Core.{state_of}
 use Rattle.dcc_watch.specs.declared.progress.Progress.TheVariants.{Stopped}
 use Rattle.dcc_watch.specs.Foul.{told_foul}
 use Rattle.dcc_watch.specs.Kept.{Kept}
-use Rattle.dcc_watch.specs.Watching.{Watching, AllHaveShapes, stage_of}
+use Rattle.dcc_watch.specs.Watching.{Watching, stage_of}
 use Rattle.dcc_watch.specs.Reached.{IsKept, is_before}
 use Rattle.dcc_watch.specs.Executor.{is_stopped, is_in_procedures}
-use Rattle.dcc_watch.proofs.KeptLaws.{viewed, foul_tells, follow_after, in_procedures, inside_unstopped, machine_end}
+use Rattle.dcc_watch.proofs.KeptLaws.{shapes_kept, viewed, foul_tells, follow_after, in_procedures, inside_unstopped, machine_end}
 use Rattle.dcc_watch.proofs.InsideLaws.{inside_of, foul_step, foul_comes, refused_step, room_for_call, made_step, made_comes}
 use Rattle.dcc_watch.proofs.StepLaws.{refused_kept, made_unless, clean_faults}
 use Rattle.dcc_watch.proofs.watch.Watch.step_in_procedures.Goals as goal
@@ -38,68 +36,53 @@ invariant_of-self g c = record {
       c.in-Some.foul (ap (option_map told_foul) (sym c.in-Some.is) ∙ c.next_foul.ensures) c.self.invariant.reached;
 }
 
-pub returns-in-Some-clause-step : goal.returns-in-Some-clause-step
-returns-in-Some-clause-step g c =
-    foul_step c.self.inside c.next_instruction-found.new.self c.next_instruction-found.result c.args.self.now
-    (inside_of c.self.inside c.next_instruction-found.new.self c.next_instruction-found.result c.args.self.now
-    c.next_instruction-found.ensures.kept c.self.view_is c.requires.runs c.requires.inside
-    c.next_instruction-found.ensures.found c.self.invariant.known)
-    (g.I.Source.left c.args.input.now) (g.O.Sink.taken c.args.out.now) c.in-Some.foul c.answer.result (ap (option_map told_foul) (sym c.in-Some.is) ∙ c.next_foul.ensures) c.answer.ensures
-
-pub returns-in-Some-clause-tells : goal.returns-in-Some-clause-tells
-returns-in-Some-clause-tells g c =
-    let i = c.self.inside in
-    foul_tells c.in-Some.foul c.answer.result
-    (viewed i.layout i.shapes.items i.stack.frames.room c.next_instruction-found.new.self (Stopped c.in-Some.foul) i.stack.frames.live i.stack.written)
-    c.answer.ensures refl
-
-pub returns-in-Some-clause-faults : goal.returns-in-Some-clause-faults
-returns-in-Some-clause-faults g c = record {
-  input_faults = omega arith;
-  output_faults = omega arith;
-  read_failed = λ e. cc c.answer.ensures;
-  write_failed = λ e. cc c.answer.ensures;
+pub returns-in-Some : goal.returns-in-Some
+returns-in-Some g c = record {
+  step =
+      foul_step c.self.inside c.next_instruction-found.new.self c.next_instruction-found.result c.args.self.now
+      (inside_of c.self.inside c.next_instruction-found.new.self c.next_instruction-found.result c.args.self.now
+      c.next_instruction-found.ensures.kept c.self.view_is c.requires.runs c.requires.inside
+      c.next_instruction-found.ensures.found c.self.invariant.known)
+      (g.I.Source.left c.args.input.now) (g.O.Sink.taken c.args.out.now) c.in-Some.foul c.answer.result (ap (option_map told_foul) (sym c.in-Some.is) ∙ c.next_foul.ensures) c.answer.ensures;
+  tells =
+      let i = c.self.inside in
+      foul_tells c.in-Some.foul c.answer.result
+      (viewed i.layout i.shapes.items i.stack.frames.room c.next_instruction-found.new.self (Stopped c.in-Some.foul) i.stack.frames.live i.stack.written)
+      c.answer.ensures refl;
+  faults = record {
+    input_faults = omega arith;
+    output_faults = omega arith;
+    read_failed = λ e. cc c.answer.ensures;
+    write_failed = λ e. cc c.answer.ensures;
+  };
 }
-
-pub make-stepped-requires-clause-runs : goal.make-stepped-requires-clause-runs
-make-stepped-requires-clause-runs g c =
-    ap (λ (m : Core). m.end) c.next_instruction-found.ensures.kept ∙ ap (λ (k : Watching). k.machine.end) c.self.view_is ∙ c.requires.runs
-
-pub make-stepped-requires-clause-found : goal.make-stepped-requires-clause-found
-make-stepped-requires-clause-found g c =
-    c.next_instruction-found.ensures.found ∙ ap (λ (m : Core). instruction_at m.cpu m.ip (code_bytes (state_of m))) (sym c.next_instruction-found.ensures.kept)
-
-pub make-stepped-requires-clause-operation : goal.make-stepped-requires-clause-operation
-make-stepped-requires-clause-operation g c = c.next_instruction-found.ensures.operation
 
 pub invariant_of-self-then-is_refused : goal.invariant_of-self-then-is_refused
 invariant_of-self-then-is_refused g c =
     let i = c.self.inside in
-    let same : c.make-stepped.new.self ≡ i.machine =
-    refused_kept c.make-stepped.result c.next_instruction-found.new.self c.make-stepped.new.self _ _ _ _
-    (sym c.is_refused.ensures ∙ c.if-is_refused.true) c.make-stepped.ensures.step
+    let same : c.step-stepped.new.self ≡ i.machine =
+    refused_kept c.step-stepped.result c.next_instruction-found.new.self c.step-stepped.new.self _ _ _ _
+    (sym c.is_refused.ensures ∙ c.if-is_refused.true) c.step-stepped.ensures.step
     ∙ c.next_instruction-found.ensures.kept in
     subst (λ k. IsKept i.layout i.shapes.items i.stack.frames.room k i.stack.frames.live i.stack.written i.progress) (sym same)
     c.self.invariant
 
-pub returns-then-is_refused-clause-step : goal.returns-then-is_refused-clause-step
-returns-then-is_refused-clause-step g c =
-    refused_step c.self.inside c.next_instruction-found.new.self c.next_instruction-found.result c.args.self.now
-    (inside_of c.self.inside c.next_instruction-found.new.self c.next_instruction-found.result c.args.self.now
-    c.next_instruction-found.ensures.kept c.self.view_is c.requires.runs c.requires.inside
-    c.next_instruction-found.ensures.found c.self.invariant.known)
-    (g.I.Source.left c.args.input.now) (g.O.Sink.taken c.args.out.now) (g.I.Source.left c.make-stepped.new.input) (g.O.Sink.taken c.make-stepped.new.out) c.make-stepped.result
-    c.make-stepped.new.self (ap (option_map told_foul) (sym c.in_default.is) ∙ c.next_foul.ensures)
-    (sym c.is_refused.ensures ∙ c.if-is_refused.true) c.make-stepped.ensures.step
-
-pub returns-then-is_refused-clause-tells : goal.returns-then-is_refused-clause-tells
-returns-then-is_refused-clause-tells g c =
-    let inside : is_in_procedures (stage_of c.self.inside.progress c.self.inside.stack.frames.live c.self.inside.stack.written) ≡ true =
-    ap (λ (k : Watching). is_in_procedures k.stage) c.self.view_is ∙ c.requires.inside in
-    (machine_end c.make-stepped.new.self c.make-stepped.result c.make-stepped.ensures.answer, inside_unstopped _ inside)
-
-pub returns-then-is_refused-clause-faults : goal.returns-then-is_refused-clause-faults
-returns-then-is_refused-clause-faults g c = clean_faults c.make-stepped.result _ _ _ _ c.make-stepped.ensures.faults
+pub returns-then-is_refused : goal.returns-then-is_refused
+returns-then-is_refused g c = record {
+  step =
+      refused_step c.self.inside c.next_instruction-found.new.self c.next_instruction-found.result c.args.self.now
+      (inside_of c.self.inside c.next_instruction-found.new.self c.next_instruction-found.result c.args.self.now
+      c.next_instruction-found.ensures.kept c.self.view_is c.requires.runs c.requires.inside
+      c.next_instruction-found.ensures.found c.self.invariant.known)
+      (g.I.Source.left c.args.input.now) (g.O.Sink.taken c.args.out.now) (g.I.Source.left c.step-stepped.new.input) (g.O.Sink.taken c.step-stepped.new.out) c.step-stepped.result
+      c.step-stepped.new.self (ap (option_map told_foul) (sym c.in_default.is) ∙ c.next_foul.ensures)
+      (sym c.is_refused.ensures ∙ c.if-is_refused.true) c.step-stepped.ensures.step;
+  tells =
+      let inside : is_in_procedures (stage_of c.self.inside.progress c.self.inside.stack.frames.live c.self.inside.stack.written) ≡ true =
+      ap (λ (k : Watching). is_in_procedures k.stage) c.self.view_is ∙ c.requires.inside in
+      (machine_end c.step-stepped.new.self c.step-stepped.result c.step-stepped.ensures.answer, inside_unstopped _ inside);
+  faults = clean_faults c.step-stepped.result _ _ _ _ c.step-stepped.ensures.faults;
+}
 
 pub follow-requires-clause-table : goal.follow-requires-clause-table
 follow-requires-clause-table g c =
@@ -122,16 +105,14 @@ invariant_of-self-2 g c =
     let room : stack.frames.room ≡ i.stack.frames.room = ap (λ (k : Kept). k.room) c.follow.ensures.frames in
     let after =
     follow_after c.self.inside.layout c.deref.result.now c.next_instruction-found.result c.self.inside.stack.frames.live
-    c.self.inside.stack.written (state_of c.next_instruction-found.new.self) (state_of c.make-stepped.new.self)
+    c.self.inside.stack.written (state_of c.next_instruction-found.new.self) (state_of c.step-stepped.new.self)
     c.add_found.new.self c.at-before.result.top c.follow.new.stack.frames.live c.follow.new.stack.written
     c.add_found.ensures c.at-before.ensures.top (ap (λ (k : Kept). k.live) c.follow.ensures.frames)
     c.follow.ensures.written in
     record {
       table = c.self.invariant.table;
       room_is = room ∙ c.self.invariant.room_is;
-      known =
-          subst (λ s. AllHaveShapes s stack.frames.live) c.deref.ensures.value
-          (c.follow.ensures.known (subst (λ s. AllHaveShapes s i.stack.frames.live) (sym c.deref.ensures.value) c.self.invariant.known));
+      known = shapes_kept c.deref.result.now _ _ _ c.deref.ensures.value c.follow.ensures.known c.self.invariant.known;
       no_frame = λ is. let no : true ≡ false = sym is ∙ ap is_before here in cc;
       no_mark = λ is. let no : true ≡ false = sym is ∙ ap is_before here in cc;
       reached =
@@ -139,37 +120,35 @@ invariant_of-self-2 g c =
           (inside_of c.self.inside c.next_instruction-found.new.self c.next_instruction-found.result c.args.self.now
           c.next_instruction-found.ensures.kept c.self.view_is c.requires.runs c.requires.inside
           c.next_instruction-found.ensures.found c.self.invariant.known)
-          c.make-stepped.new.self stack.frames stack.written room
+          c.step-stepped.new.self stack.frames stack.written room
           (ap (option_map told_foul) (sym c.in_default.is) ∙ c.next_foul.ensures) after
-          (c.make-stepped.ensures.bytes (made_unless c.make-stepped.result (sym c.is_refused.ensures ∙ c.if-is_refused.false)))
+          (c.step-stepped.ensures.bytes (made_unless c.step-stepped.result (sym c.is_refused.ensures ∙ c.if-is_refused.false)))
           c.self.invariant.reached;
     }
 
-pub returns-clause-step : goal.returns-clause-step
-returns-clause-step g c =
-    made_step c.self.inside c.next_instruction-found.new.self c.next_instruction-found.result c.args.self.now
-    (inside_of c.self.inside c.next_instruction-found.new.self c.next_instruction-found.result c.args.self.now
-    c.next_instruction-found.ensures.kept c.self.view_is c.requires.runs c.requires.inside
-    c.next_instruction-found.ensures.found c.self.invariant.known)
-    (g.I.Source.left c.args.input.now) (g.O.Sink.taken c.args.out.now) (g.I.Source.left c.make-stepped.new.input) (g.O.Sink.taken c.make-stepped.new.out) c.make-stepped.result
-    c.make-stepped.new.self c.follow.new.stack.frames c.follow.new.stack.written
-    (ap (λ (k : Kept). k.room) c.follow.ensures.frames) (ap (option_map told_foul) (sym c.in_default.is) ∙ c.next_foul.ensures)
-    (sym c.is_refused.ensures ∙ c.if-is_refused.false)
-    (follow_after c.self.inside.layout c.deref.result.now c.next_instruction-found.result c.self.inside.stack.frames.live
-    c.self.inside.stack.written (state_of c.next_instruction-found.new.self) (state_of c.make-stepped.new.self)
-    c.add_found.new.self c.at-before.result.top c.follow.new.stack.frames.live c.follow.new.stack.written
-    c.add_found.ensures c.at-before.ensures.top (ap (λ (k : Kept). k.live) c.follow.ensures.frames)
-    c.follow.ensures.written)
-    c.make-stepped.ensures.step
-
-pub returns-clause-tells : goal.returns-clause-tells
-returns-clause-tells g c =
-    let inside : is_in_procedures (stage_of c.self.inside.progress c.self.inside.stack.frames.live c.self.inside.stack.written) ≡ true =
-    ap (λ (k : Watching). is_in_procedures k.stage) c.self.view_is ∙ c.requires.inside in
-    let here = in_procedures c.self.inside.progress c.self.inside.stack.frames.live c.self.inside.stack.written inside in (
-      machine_end c.make-stepped.new.self c.make-stepped.result c.make-stepped.ensures.answer,
-      ap (λ p. is_stopped (stage_of p c.follow.new.stack.frames.live c.follow.new.stack.written)) here,
-    )
-
-pub returns-clause-faults : goal.returns-clause-faults
-returns-clause-faults g c = clean_faults c.make-stepped.result _ _ _ _ c.make-stepped.ensures.faults
+pub returns : goal.returns
+returns g c = record {
+  step =
+      made_step c.self.inside c.next_instruction-found.new.self c.next_instruction-found.result c.args.self.now
+      (inside_of c.self.inside c.next_instruction-found.new.self c.next_instruction-found.result c.args.self.now
+      c.next_instruction-found.ensures.kept c.self.view_is c.requires.runs c.requires.inside
+      c.next_instruction-found.ensures.found c.self.invariant.known)
+      (g.I.Source.left c.args.input.now) (g.O.Sink.taken c.args.out.now) (g.I.Source.left c.step-stepped.new.input) (g.O.Sink.taken c.step-stepped.new.out) c.step-stepped.result
+      c.step-stepped.new.self c.follow.new.stack.frames c.follow.new.stack.written
+      (ap (λ (k : Kept). k.room) c.follow.ensures.frames) (ap (option_map told_foul) (sym c.in_default.is) ∙ c.next_foul.ensures)
+      (sym c.is_refused.ensures ∙ c.if-is_refused.false)
+      (follow_after c.self.inside.layout c.deref.result.now c.next_instruction-found.result c.self.inside.stack.frames.live
+      c.self.inside.stack.written (state_of c.next_instruction-found.new.self) (state_of c.step-stepped.new.self)
+      c.add_found.new.self c.at-before.result.top c.follow.new.stack.frames.live c.follow.new.stack.written
+      c.add_found.ensures c.at-before.ensures.top (ap (λ (k : Kept). k.live) c.follow.ensures.frames)
+      c.follow.ensures.written)
+      c.step-stepped.ensures.step;
+  tells =
+      let inside : is_in_procedures (stage_of c.self.inside.progress c.self.inside.stack.frames.live c.self.inside.stack.written) ≡ true =
+      ap (λ (k : Watching). is_in_procedures k.stage) c.self.view_is ∙ c.requires.inside in
+      let here = in_procedures c.self.inside.progress c.self.inside.stack.frames.live c.self.inside.stack.written inside in (
+        machine_end c.step-stepped.new.self c.step-stepped.result c.step-stepped.ensures.answer,
+        ap (λ p. is_stopped (stage_of p c.follow.new.stack.frames.live c.follow.new.stack.written)) here,
+      );
+  faults = clean_faults c.step-stepped.result _ _ _ _ c.step-stepped.ensures.faults;
+}
