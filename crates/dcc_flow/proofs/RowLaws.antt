@@ -108,11 +108,3 @@ pub few_blocks : (graph : Graph) → IsGraph graph → length graph.blocks ≤ 6
 few_blocks graph good =
     let few = length-le_from_distinct_below (map (λ b. b.at) graph.blocks) 65536 (distinct (map (λ b. b.at) graph.blocks) good.addresses) (address_below graph.blocks good.offsets) in
     omega (arith, few, length-map graph.blocks (λ b. b.at))
-
-pub predecessors_fit : (next preds : List (List ℕ)) → length next ≤ 65536 → ArePredecessors next preds → All (λ row. All (λ block. block < 2 ^ 32) row) preds
-predecessors_fit next preds few are = All-from_get_or (λ row. All (λ block. block < 2 ^ 32) row) preds [] (λ b h.
-    All-from_get_or (λ block. block < 2 ^ 32) (get_or preds b []) 0 (λ i inside.
-    let there = in_at (get_or preds b []) i inside in
-    let edge = sym (are.exact (get_or (get_or preds b []) i 0) b (omega (arith, are.len))) ∙ there in
-    let below = predecessor_within next (get_or (get_or preds b []) i 0) b edge in
-    omega (arith, below, few)))

@@ -1,4 +1,4 @@
--- The work that is left while places flow from block to block. No public contract rests on it.
+-- The work that is left while places flow from block to block.
 use Rattle.std.specs.Prelude.{ℕ, Bool, true, false, if◌then◌else◌, List, [], ◌∷◌, ◌++◌, get_or, slice_set, replicate}
 use Rattle.std.specs.List.{range_with_len}
 use Rattle.dcc_flow.specs.declared.uses.Work.{Work as WorkOf}

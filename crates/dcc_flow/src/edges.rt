@@ -79,36 +79,11 @@ pub(crate) fn sources(alloc: Global, next: &Vec<Vec<u32>>) -> Result<Vec<Vec<usi
     Ok(sources)
 }
 
-// The same numbers.
-fn narrowed(alloc: Global, blocks: &[usize]) -> Result<Vec<u32>, AllocError>
-    requires { All (λ block. block < 2 ^ 32) blocks.now }
-    ensures { IfOk result (λ numbers. numbers.items ≡ blocks.now) }
-{
-    let mut numbers = Vec::new(alloc);
-    for block in blocks {
-        numbers.push(*block as u32)?;
-    }
-    Ok(numbers)
-}
-
-// The same numbers in each list.
-fn all_narrowed(alloc: Global, lists: &Vec<Vec<usize>>) -> Result<Vec<Vec<u32>>, AllocError>
-    requires { All (λ row. All (λ block. block < 2 ^ 32) row) (rows lists.now.items) }
-    ensures { IfOk result (λ narrow. rows narrow.items ≡ rows lists.now.items) }
-{
-    let mut narrow = Vec::new(alloc);
-    for place in 0..lists.len() {
-        narrow.push(narrowed(alloc, lists[place].as_slice())?)?;
-    }
-    Ok(narrow)
-}
-
 /// For each block the blocks with an edge to it, each once, in ascending order.
-pub fn preds(alloc: Global, g: &Graph) -> Result<Vec<Vec<u32>>, AllocError>
+pub fn preds(alloc: Global, g: &Graph) -> Result<Vec<Vec<usize>>, AllocError>
     requires { IsGraph (graph_of g.now) }
     ensures { IfOk result (λ preds. ArePredecessors (successors_of (graph_of g.now)) (rows preds.items)) }
 {
     let next = successors(alloc, g)?;
-    let sources = sources(alloc, &next)?;
-    all_narrowed(alloc, &sources)
+    sources(alloc, &next)
 }

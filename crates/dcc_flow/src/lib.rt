@@ -15,4 +15,4 @@ pub use bits::Bits;
 pub use edges::{preds, successors};
 pub use search::order;
 pub use steps::Steps;
-pub use uses::solve;
+pub use uses::{Flow, Work, solve};

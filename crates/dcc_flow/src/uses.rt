@@ -12,6 +12,17 @@ use crate::steps::Steps;
 use std::alloc::{AllocError, Global};
 use std::sync::ledger::Ledger;
 
+/// What flows from a block to the blocks before it.
+#[derive(Drop)]
+pub struct Flow<'a> {
+    /// The places that it uses.
+    pub used: &'a Bits,
+    /// The places that come out of it.
+    pub out: &'a Bits,
+    /// The places that it writes.
+    pub written: &'a Bits,
+}
+
 /// The answers so far, and the blocks whose answer has to flow on.
 #[derive(Drop)]
 pub struct Work {
@@ -24,8 +35,8 @@ pub struct Work {
 }
 
 impl Work {
-    // All answers are empty, and each has to flow on.
-    fn new(alloc: Global, count: usize, len: usize) -> Result<Work, AllocError>
+    /// All answers are empty, and each has to flow on.
+    pub fn new(alloc: Global, count: usize, len: usize) -> Result<Work, AllocError>
         ensures { IfOk result (λ work. work_of work ≡ first_work count len) }
     {
         let mut answer = Vec::new(alloc);
@@ -57,46 +68,43 @@ impl Work {
     fn flow_to<L: Ledger>(
         &mut self,
         source: usize,
-        used: &Bits,
-        out: &Bits,
-        written: &Bits,
+        flow: &Flow<'_>,
         steps: &mut Steps<L>,
     ) -> Result<(), AllocError>
         requires source { source < length self.old.answer.items }
         requires queued { length self.old.queued.items ≡ length self.old.answer.items }
-        requires list { length (get_or self.old.answer.items source []) ≡ length used.now }
-        requires out { length out.now ≡ length used.now }
-        requires written { length written.now ≡ length used.now }
-        ensures work { OnOk result (work_of self.new ≡ with_answer (work_of self.old) source
-            (flowed (get_or self.old.answer.items source []) used.now out.now written.now)) }
-        ensures cost { steps.new ≡ steps.old + words_for (length used.now) }
+        requires list { length (get_or self.old.answer.items source []) ≡ length flow.now.used.now }
+        requires out { length flow.now.out.now ≡ length flow.now.used.now }
+        requires written { length flow.now.written.now ≡ length flow.now.used.now }
+        ensures work { OnOk result (work_of self.new ≡ with_answer (work_of self.old) source (flowed
+            (get_or self.old.answer.items source []) flow.now.used.now flow.now.out.now flow.now.written.now)) }
+        ensures cost { steps.new ≡ steps.old + words_for (length flow.now.used.now) }
     {
         let answer = &mut self.answer[source];
-        if answer.flow(used, out, written, steps) {
+        if answer.flow(flow.used, flow.out, flow.written, steps) {
             self.queue(source)?;
         }
         Ok(())
     }
 
-    // What a block uses, and what comes out of it, flows to each of these blocks before it.
-    fn spread<L: Ledger>(
+    /// What a block uses, and what comes out of it, flows to each of these blocks before it.
+    pub fn spread<L: Ledger>(
         &mut self,
         sources: &[usize],
-        used: &Bits,
-        out: &Bits,
-        written: &Bits,
+        flow: &Flow<'_>,
         steps: &mut Steps<L>,
     ) -> Result<(), AllocError>
         requires sources { All (λ source. source < length self.old.answer.items) sources.now }
         requires queued { length self.old.queued.items ≡ length self.old.answer.items }
-        requires lists { All (λ bits. length bits ≡ length used.now) self.old.answer.items }
-        requires out { length out.now ≡ length used.now }
-        requires written { length written.now ≡ length used.now }
-        ensures work { OnOk result (work_of self.new ≡ spread used.now out.now written.now (work_of self.old) sources.now) }
-        ensures cost { steps.new ≤ steps.old + length sources.now * words_for (length used.now) }
+        requires lists { All (λ bits. length bits ≡ length flow.now.used.now) self.old.answer.items }
+        requires out { length flow.now.out.now ≡ length flow.now.used.now }
+        requires written { length flow.now.written.now ≡ length flow.now.used.now }
+        ensures work { OnOk result (work_of self.new
+            ≡ spread flow.now.used.now flow.now.out.now flow.now.written.now (work_of self.old) sources.now) }
+        ensures cost { steps.new ≤ steps.old + length sources.now * words_for (length flow.now.used.now) }
     {
         for source in sources {
-            self.flow_to(*source, used, out, written, steps)?;
+            self.flow_to(*source, flow, steps)?;
         }
         Ok(())
     }
@@ -118,9 +126,9 @@ impl Work {
         ensures work { OnOk result (work_of self.new ≡ spread_from (work_of self.old) block used.now written.now sources.now) }
         ensures cost { steps.new ≤ steps.old + length sources.now * words_for (length used.now) }
     {
-        let out = self.answer[block].copy()?;
+        let out = &self.answer[block].copy()?;
         self.queued[block] = false;
-        self.spread(sources, used, &out, written, steps)
+        self.spread(sources, &Flow { used, out, written }, steps)
     }
 }
 

@@ -1,6 +1,6 @@
 -- What is left of a graph without the assignments to what is not wanted after them.
-use Rattle.std.proofs.Common.{◌≡◌, ℕ, zero, suc, ◌+◌, ◌<◌, ◌≤◌, Bool, true, false, ◌&&◌, ◌||◌, not, inl, inr, List, [], ◌∷◌, ◌++◌, length, get_or, slice_get, map, take, drop, reverse, Some, refl, sym, ap, ap₂, ◌∙◌, subst, true≢false, arith, Contains}
-use Rattle.std.specs.Prelude.{if◌then◌else◌, ◌↔◌, All}
+use Rattle.std.proofs.Common.{◌≡◌, ℕ, zero, suc, ◌+◌, ◌<◌, ◌≤◌, Bool, true, false, ◌&&◌, not, inl, inr, List, [], ◌∷◌, ◌++◌, length, get_or, slice_get, map, take, drop, reverse, Some, refl, sym, ap, ap₂, ◌∙◌, subst, true≢false, arith, Contains}
+use Rattle.std.specs.Prelude.{if◌then◌else◌, All}
 use Rattle.std.specs.List.{AllZip, list_any}
 use Rattle.std.proofs.lemmas.List.{length-map, length_push, get_or-map, reverse-append, drop_more}
 use Rattle.std.proofs.lemmas.List.Elements.{All-nil, All-cons}
@@ -15,13 +15,10 @@ use Rattle.dcc_ir.specs.Flow.{targets}
 use Rattle.dcc_ir.specs.Families.{wanted, WritesNone, IsWithout, done, stays as remains, goes as leaves, IsBlockWithout, IsGraphWithout, AllWanted}
 use Rattle.dcc_ir.specs.Replaced.{MayReplace}
 use Rattle.dcc_ir.specs.WellFormed.{IsGraph}
-use Rattle.dcc_ir.proofs.PathLaws.{decided}
-use Rattle.dcc_ir.proofs.LocationLaws.{Contains-none}
 use Rattle.dcc_ir.proofs.FamilyLaws.{wanted-closed}
 use Rattle.dcc_ir.proofs.passes.ReplaceLaws.{graph_still, kept_with}
 use Rattle.dcc_live.specs.Access.{access_of, block_access_of}
-use Rattle.dcc_live.specs.Wanted.{stays, before_all, after_stmts, left_of, block_left, blocks_left}
-use Rattle.dcc_live.specs.Work.{AreWantedAtEnds}
+use Rattle.dcc_live.specs.Wanted.{stays, before_all, after_stmts, left_of, block_left, blocks_left, AreWantedAtEnds}
 use Rattle.dcc_live.specs.Dead.{IsWithoutUnwanted}
 use Rattle.dcc_live.proofs.RowLaws.{map_read}
 use Rattle.dcc_live.proofs.WantedLaws.{Exactly, wanted_before, any_passes, some_passes, staying, going, uses_plain}
@@ -226,17 +223,29 @@ stmt_step all m0 m rest rest' stmt done_so done_now b is le front so marks told 
     go true so = reversed_push stmt_of done_so stmt ∙ ap (λ l. stmt_of stmt ∷ l) so
     go false so = so
 
-pub block_here : (all : List Block) (rest rest' : List BlockOf) (block : BlockOf) → rest ≡ rest' ++ block ∷ [] → length rest ≤ length all → map block_of rest ≡ take (length rest) all →
-    (map block_of rest' ≡ take (length rest') all) × (drop (length rest') all ≡ block_of block ∷ drop (length rest) all)
-block_here all rest rest' block is le front =
-    let on = last_of block_of rest' block all (subst (λ r. map block_of r ≡ take (length r) all) is front) (subst (λ r. length r ≤ length all) is le) in
-    (on.0, on.1 ∙ ap (λ r. block_of block ∷ drop (length r) all) (sym is))
+-- the last of the blocks that are left: where it stands in all, and what is left before it
+pub record LastTaken (all : List Block) (rest fewer : List BlockOf) (block : BlockOf) : Type 0 where
+  pub more : length rest ≡ length fewer + 1
+  pub less : length fewer < length all
+  pub front : map block_of fewer ≡ take (length fewer) all
+  pub here : drop (length fewer) all ≡ block_of block ∷ drop (length rest) all
+
+pub last_taken : (all : List Block) (rest fewer : List BlockOf) (block : BlockOf) → rest ≡ fewer ++ block ∷ []
+    → length rest ≤ length all → map block_of rest ≡ take (length rest) all → LastTaken all rest fewer block
+last_taken all rest fewer block is le front =
+    let more : length rest ≡ length fewer + 1 = ap length is ∙ length_push fewer block in
+    let on = last_of block_of fewer block all (subst (λ r. map block_of r ≡ take (length r) all) is front) (subst (λ r. length r ≤ length all) is le) in
+    record {
+      more = more;
+      less = omega (arith, le, more);
+      front = on.0;
+      here = on.1 ∙ ap (λ r. block_of block ∷ drop (length r) all) (sym is);
+    }
 
 pub block_step : (places : List Loc) (at_end : List (List Bool)) (all : List Block) (rest rest' : List BlockOf) (block : BlockOf) (done_so : List BlockOf) (new : BlockOf) → rest ≡ rest' ++ block ∷ [] → length rest ≤ length all →
     length at_end ≡ length all → map block_of rest ≡ take (length rest) all → map block_of (reverse done_so) ≡ blocks_left places (drop (length rest) at_end) (drop (length rest) all) →
     block_of new ≡ block_left places (get_or at_end (length rest') []) (block_of block) → map block_of (reverse (done_so ++ new ∷ [])) ≡ blocks_left places (drop (length rest') at_end) (drop (length rest') all)
 block_step places at_end all rest rest' block done_so new is le size front so made =
-    let on = block_here all rest rest' block is le front in
-    let more : length rest ≡ length rest' + 1 = ap length is ∙ length_push rest' block in
-    let ends = drop_more at_end (length rest') [] (omega (arith, size, le, more)) ∙ ap (λ n. get_or at_end (length rest') [] ∷ drop n at_end) (sym more) in
-    reversed_push block_of done_so new ∙ ap₂ (λ b bs. b ∷ bs) made so ∙ sym (ap₂ (blocks_left places) ends on.1)
+    let taken = last_taken all rest rest' block is le front in
+    let ends = drop_more at_end (length rest') [] (omega (arith, size, taken.less)) ∙ ap (λ n. get_or at_end (length rest') [] ∷ drop n at_end) (sym taken.more) in
+    reversed_push block_of done_so new ∙ ap₂ (λ b bs. b ∷ bs) made so ∙ sym (ap₂ (blocks_left places) ends taken.here)

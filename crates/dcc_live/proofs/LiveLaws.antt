@@ -1,7 +1,6 @@
 -- What is live, by what is used before it is written.
-use Rattle.std.proofs.Common.{◌≡◌, ℕ, zero, suc, ◌+◌, ◌<◌, ◌≤◌, Bool, true, false, ◌&&◌, ◌||◌, not, inl, inr, List, [], ◌∷◌, ◌++◌, length, get_or, slice_get, map, Some, refl, sym, ap, ap₂, ◌∙◌, subst, true≢false, arith, Contains}
-use Rattle.std.specs.Prelude.{◌==◌, ◌↔◌, All}
-use Rattle.std.specs.List.{list_any}
+use Rattle.std.proofs.Common.{◌≡◌, ℕ, ◌+◌, ◌<◌, Bool, true, false, ◌||◌, inl, inr, List, [], ◌∷◌, ◌++◌, length, get_or, slice_get, map, Some, refl, sym, ap, ◌∙◌, subst, arith, Contains}
+use Rattle.std.specs.Prelude.{All}
 use Rattle.std.proofs.lemmas.Bool.{cases_lt}
 use Rattle.std.proofs.lemmas.List.{length_push, length-map, get_or-map, get_or_past, get_or_append_left, get_or_push}
 use Rattle.std.proofs.lemmas.List.Elements.{All-get_or, All-push, All-contains}
@@ -14,15 +13,13 @@ use Rattle.dcc_ir.specs.Flow.{targets, IsPath}
 use Rattle.dcc_ir.specs.Live.{is_among, block_in, follows, reads_first, writes, Passes, IsLiveAfter, IsLive}
 use Rattle.dcc_ir.proofs.LocationLaws.{among_contains}
 use Rattle.dcc_ir.proofs.ReachedLaws.{contained}
-use Rattle.dcc_ir.proofs.passes.LocalLaws.{some_same}
-use Rattle.dcc_flow.specs.Edges.{is_in, leads, successors_of, AreWithin}
-use Rattle.dcc_flow.specs.Bits.{bit}
+use Rattle.dcc_flow.specs.Edges.{is_in, leads, successors_of}
 use Rattle.dcc_flow.specs.Uses.{holds, AreLists, IsUsedAfter, AreUses}
 use Rattle.dcc_flow.proofs.SourceLaws.{predecessor_within}
 use Rattle.dcc_flow.proofs.RowLaws.{successors_within, length_successors}
 use Rattle.dcc_live.specs.Access.{block_access_of, accesses_of}
-use Rattle.dcc_live.specs.Marks.{empty, with_all, selected}
-use Rattle.dcc_live.specs.First.{Row, row_of, Tells, TellsOf, AreTold, AreLiveBits}
+use Rattle.dcc_live.specs.Marks.{selected}
+use Rattle.dcc_live.specs.First.{Row, row_of, TellsOf, AreTold, AreLiveBits}
 use Rattle.dcc_live.proofs.RowLaws.{selected_sound, selected_complete, row_first, row_writes}
 use Rattle.dcc_live.proofs.WorkLaws.{in_contains, contained_map, at_place}
 

@@ -1,5 +1,5 @@
 -- What a graph mentions, by what its blocks read and write.
-use Rattle.std.proofs.Common.{◌≡◌, List, [], ◌∷◌, ◌++◌, filter, flat_map, map, Bool, true, false, refl, sym, ap, ap₂, ◌∙◌}
+use Rattle.std.proofs.Common.{◌≡◌, List, [], ◌∷◌, ◌++◌, filter, flat_map, map, Bool, true, false, refl, ap, ap₂, ◌∙◌}
 use Rattle.std.specs.Prelude.{◌||◌}
 use Rattle.dcc_ir.specs.declared.syntax.Loc.{Loc}
 use Rattle.dcc_ir.specs.Tree.{Stmt, Block, Graph}

@@ -1,25 +1,23 @@
 -- Laws of what blocks read before they write it, of the places of a list, and of loops over lists.
-use Rattle.std.proofs.Common.{◌≡◌, ◌≢◌, ℕ, zero, suc, ◌+◌, ◌-◌, ◌<◌, ◌≤◌, Bool, true, false, cond, ◌&&◌, ◌||◌, not, ◌⊎◌, inl, inr, List, [], ◌∷◌, ◌++◌, length, get_or, slice_get, slice_set, map, take, drop, flat_map, replicate, Some, None, refl, sym, ap, ap₂, ◌∙◌, subst, true≢false, arith, Contains, append_assoc}
-use Rattle.std.specs.Prelude.{if◌then◌else◌, nat_lt, filter, All}
-use Rattle.std.specs.List.{list_any}
-use Rattle.std.proofs.lemmas.Bool.{cases_eq, cases_lt}
+use Rattle.std.proofs.Common.{◌≡◌, ℕ, zero, suc, ◌+◌, ◌-◌, ◌<◌, ◌≤◌, Bool, true, false, ◌&&◌, ◌||◌, not, inl, inr, List, [], ◌∷◌, ◌++◌, length, get_or, slice_get, slice_set, map, take, drop, flat_map, replicate, Some, refl, sym, ap, ap₂, ◌∙◌, subst, true≢false, arith, Contains, append_assoc}
+use Rattle.std.specs.Prelude.{if◌then◌else◌, All}
+use Rattle.std.proofs.lemmas.Bool.{cases_eq}
 use Rattle.std.proofs.lemmas.List.{length-set, length-replicate, get_or-set_same, get_or-set_other, map_push, get_or-map, take_more, drop_more, flat_map_more}
 use Rattle.std.proofs.lemmas.List.Folds.{list_any-append}
-use Rattle.std.proofs.lemmas.List.Concat.{flat_map-append}
-use Rattle.std.proofs.lemmas.List.Elements.{All-nil, All-cons, All-head, All-tail, All-push, All-weaker, Contains-append_left, Contains-push, All-contains_itself}
+use Rattle.std.proofs.lemmas.List.Elements.{All-push, All-weaker, Contains-append_left, Contains-push, All-contains_itself}
 use Rattle.std.proofs.lemmas.Option.{get_or_from_slice_get, slice_get_within}
 use Rattle.dcc_ir.specs.declared.syntax.Loc.{Loc}
 use Rattle.dcc_ir.specs.declared.syntax.Expr.{Expr as Expression}
-use Rattle.dcc_ir.specs.Tree.{Stmt, Exit, Block, Graph}
+use Rattle.dcc_ir.specs.Tree.{Stmt, Exit, Block}
 use Rattle.dcc_ir.specs.Views.{expr_of}
 use Rattle.dcc_ir.specs.Location.{same_location}
 use Rattle.dcc_ir.specs.Use.{reads_of, exprs_of, writes_of, exit_exprs}
 use Rattle.dcc_ir.specs.Live.{is_among, reads_first, writes}
 use Rattle.dcc_ir.proofs.PathLaws.{decided}
-use Rattle.dcc_ir.proofs.LocationLaws.{location_same, location_itself, among_contains, contains_among, Contains-here, Contains-later, Contains-none, Contains-cases}
+use Rattle.dcc_ir.proofs.LocationLaws.{location_same, location_itself, contains_among, Contains-here, Contains-later, Contains-none, Contains-cases}
 use Rattle.dcc_flow.specs.Bits.{bit}
-use Rattle.dcc_live.specs.Access.{Access, BlockAccess, access_of, block_access_of}
-use Rattle.dcc_live.specs.Marks.{empty, with_one, without_one, with_all, without_all, selected, members}
+use Rattle.dcc_live.specs.Access.{Access, access_of, block_access_of}
+use Rattle.dcc_live.specs.Marks.{empty, with_one, with_all, selected}
 use mathlib.Core.Path.{fun_ext}
 use Rattle.dcc_live.specs.First.{others, first_reads, Row, row_of, IsListed, Tells}
 

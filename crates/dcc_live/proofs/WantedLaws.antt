@@ -1,23 +1,20 @@
 -- What is wanted, as it flows backwards: through statements, through blocks, and until nothing changes.
-use Rattle.std.proofs.Common.{◌≡◌, ◌≢◌, ℕ, zero, suc, ◌+◌, ◌*◌, ◌<◌, ◌≤◌, Bool, true, false, cond, ◌&&◌, ◌||◌, not, ◌⊎◌, inl, inr, List, [], ◌∷◌, ◌++◌, length, get_or, slice_get, slice_set, map, flat_map, Some, None, refl, sym, ap, ap₂, ◌∙◌, subst, true≢false, arith, Contains}
-use Rattle.std.specs.Prelude.{if◌then◌else◌, ◌==◌, ◌↔◌, All, option_to_list}
+use Rattle.std.proofs.Common.{◌≡◌, suc, Bool, true, false, ◌&&◌, ◌||◌, not, ◌⊎◌, inl, inr, List, [], ◌∷◌, ◌++◌, map, flat_map, refl, sym, ap, ◌∙◌, subst, true≢false, arith, Contains}
+use Rattle.std.specs.Prelude.{if◌then◌else◌, ◌↔◌}
 use Rattle.std.specs.List.{list_any}
-use Rattle.std.proofs.lemmas.Bool.{cases_eq, cases_lt, or_cases, or_left, or_right, and_parts, and_from}
+use Rattle.std.proofs.lemmas.Bool.{or_cases, or_left, or_right, and_parts, and_from}
 use Rattle.std.proofs.lemmas.List.Elements.{Contains-append_left, Contains-append_right, Contains-append_cases}
 use Rattle.dcc_ir.specs.declared.syntax.Loc.{Loc}
-use Rattle.dcc_ir.specs.Tree.{Expr, Stmt, Set, Fetch, Store, Div, Call, Dos, Exit, Goto, If, Switch, Ret, Stop, Block, Graph}
-use Rattle.dcc_ir.specs.Location.{same_location}
+use Rattle.dcc_ir.specs.Tree.{Stmt, Set, Fetch, Store, Div, Call, Dos, Exit, Goto, If, Switch, Ret, Stop, Block, Graph}
 use Rattle.dcc_ir.specs.Use.{reads_of, exprs_of, writes_of, exit_exprs}
 use Rattle.dcc_ir.specs.Demand.{is_assignment, uses_of, makes_of, tests_of, IsWantedIn, used, made_of, left, tested, goes}
-use Rattle.dcc_ir.specs.Flow.{targets}
 use Rattle.dcc_ir.specs.Live.{is_among, reads_first}
-use Rattle.dcc_ir.specs.Families.{IsClosed}
 use Rattle.dcc_ir.proofs.PathLaws.{decided}
-use Rattle.dcc_ir.proofs.LocationLaws.{location_same, location_itself, among_contains, contains_among, Contains-here, Contains-none, Contains-cases}
-use Rattle.dcc_ir.proofs.FamilyLaws.{uses-read, makes-read, tests-read}
-use Rattle.dcc_live.specs.Access.{Access, access_of, block_access_of}
-use Rattle.dcc_live.specs.Marks.{empty, with_all, without_all, selected}
-use Rattle.dcc_live.specs.Wanted.{stays, before_one, before_all, after_stmts, before_block}
+use Rattle.dcc_ir.proofs.LocationLaws.{among_contains, contains_among, Contains-here, Contains-none, Contains-cases}
+use Rattle.dcc_ir.proofs.FamilyLaws.{uses-read, makes-read}
+use Rattle.dcc_live.specs.Access.{Access, access_of}
+use Rattle.dcc_live.specs.Marks.{with_all, without_all, selected}
+use Rattle.dcc_live.specs.Wanted.{stays, before_one, before_all, after_stmts}
 
 -- What a statement reads, it uses or makes its value of.
 

@@ -1,20 +1,17 @@
 -- What is wanted flows until nothing changes: what each turn keeps, and that less is left after it.
-use Rattle.std.proofs.Common.{◌≡◌, ◌≢◌, ℕ, zero, suc, ◌+◌, ◌*◌, ◌<◌, ◌≤◌, Bool, true, false, ◌&&◌, ◌||◌, not, ◌⊎◌, inl, inr, List, [], ◌∷◌, ◌++◌, length, get_or, slice_get, slice_set, replicate, map, flat_map, Some, None, refl, sym, ap, ap₂, ◌∙◌, subst, true≢false, arith, Contains}
-use Rattle.std.specs.Prelude.{if◌then◌else◌, ◌==◌, ◌↔◌, All}
-use Rattle.std.specs.List.{range_with_len}
+use Rattle.std.proofs.Common.{◌≡◌, ℕ, zero, suc, ◌+◌, ◌*◌, ◌<◌, ◌≤◌, Bool, true, false, ◌&&◌, ◌||◌, not, inl, inr, List, [], ◌∷◌, ◌++◌, length, get_or, slice_get, slice_set, replicate, map, Some, refl, sym, ap, ◌∙◌, subst, true≢false, arith, Contains}
+use Rattle.std.specs.Prelude.{if◌then◌else◌, ◌==◌, All}
 use Rattle.std.proofs.lemmas.Bool.{cases_eq, cases_lt, or_cases, or_left, or_right, and_parts, and_from, eq-eqb, ne_eqb, eqb-true}
 use Rattle.std.proofs.lemmas.List.{length-set, length-replicate, length_push, get_or_past, get_or-replicate, get_or-set_same, get_or-set_other, get_or-map, length-map}
 use Rattle.std.proofs.lemmas.List.FromFn.{length-range_with_len, get_or-range_with_len}
-use Rattle.std.proofs.lemmas.List.Elements.{All-nil, All-cons, All-head, All-tail, All-get_or, All-set, All-push, All-replicate, All-contains, All-from_get_or, All-pop, Contains-append_left, Contains-push, Contains-push_cases}
+use Rattle.std.proofs.lemmas.List.Elements.{All-head, All-tail, All-get_or, All-set, All-push, All-replicate, All-contains, All-from_get_or, Contains-append_left, Contains-push, Contains-push_cases}
 use Rattle.std.proofs.lemmas.Option.{slice_get-get_or, get_or_from_slice_get, slice_get_within}
 use Rattle.dcc_ir.specs.declared.syntax.Loc.{Loc}
 use Rattle.dcc_ir.specs.Tree.{Stmt, Block, Graph}
-use Rattle.dcc_ir.specs.WellFormed.{IsGraph}
 use Rattle.dcc_ir.specs.Flow.{targets}
-use Rattle.dcc_ir.specs.Use.{reads_of, exit_exprs, writes_of}
-use Rattle.dcc_ir.specs.Demand.{uses_of, makes_of, tests_of, IsWantedIn, tested, goes}
+use Rattle.dcc_ir.specs.Demand.{IsWantedIn, tested, goes}
 use Rattle.dcc_ir.specs.Run.{no_block}
-use Rattle.dcc_ir.specs.Live.{is_among, reads_first, block_in}
+use Rattle.dcc_ir.specs.Live.{is_among, block_in}
 use Rattle.dcc_ir.specs.Families.{IsClosed}
 use Rattle.dcc_ir.proofs.PathLaws.{decided}
 use Rattle.dcc_ir.proofs.LocationLaws.{among_contains, contains_among, Contains-here, Contains-later, Contains-none, Contains-cases}
@@ -25,15 +22,14 @@ use Rattle.dcc_ir.proofs.FamilyLaws.{wanted-least, tests-read}
 use Rattle.dcc_flow.specs.Edges.{is_in, leads, successors_of, ArePredecessors}
 use Rattle.dcc_flow.specs.Bits.{bit, flowed, differ}
 use Rattle.dcc_flow.specs.Uses.{AreLists}
-use Rattle.dcc_flow.specs.Work.{Work, with_queued, with_answer, spread, first_work}
+use Rattle.dcc_flow.specs.Work.{Work, with_answer, spread, first_work}
 use Rattle.dcc_flow.proofs.SourceLaws.{in_at, predecessor_within}
 use Rattle.dcc_flow.proofs.WordLaws.{same_lists}
 use Rattle.dcc_flow.proofs.WorkLaws.{flowed_at, length_flowed_bits}
 use Rattle.dcc_live.specs.Access.{access_of, block_access_of, accesses_of}
-use Rattle.dcc_live.specs.Marks.{empty, with_all, selected}
+use Rattle.dcc_live.specs.Marks.{selected}
 use Rattle.dcc_live.specs.First.{Row, row_of, Tells}
-use Rattle.dcc_live.specs.Wanted.{before_all, after_stmts, before_block}
-use Rattle.dcc_live.specs.Work.{AreWantedAtEnds}
+use Rattle.dcc_live.specs.Wanted.{before_all, after_stmts, before_block, AreWantedAtEnds}
 use Rattle.dcc_live.proofs.RowLaws.{selected_sound, selected_complete, row_first}
 use Rattle.dcc_live.proofs.WantedLaws.{read_tested, passes_before, uses_before, makes_before, sound_before, before_known}
 

@@ -1,5 +1,5 @@
 -- What statements and blocks read and write, without what they do with it.
-use Rattle.std.specs.Prelude.{ℕ, Bool, List, map, flat_map}
+use Rattle.std.specs.Prelude.{Bool, List, map, flat_map}
 use Rattle.dcc_ir.specs.declared.syntax.Loc.{Loc}
 use Rattle.dcc_ir.specs.Tree.{Stmt, Block, Graph}
 use Rattle.dcc_ir.specs.Use.{reads_of, exprs_of, writes_of, exit_exprs}

@@ -4,4 +4,3 @@ pub mod Mentions
 pub mod First
 pub mod Wanted
 pub mod Dead
-pub mod Work

@@ -1,8 +1,10 @@
 -- How what is wanted flows backwards through statements and blocks, and what is left of these.
-use Rattle.std.specs.Prelude.{Bool, true, false, ◌&&◌, not, if◌then◌else◌, List, [], ◌∷◌, map}
+use Rattle.std.specs.Prelude.{◌≡◌, ℕ, Bool, true, ◌&&◌, not, ◌↔◌, if◌then◌else◌, List, [], ◌∷◌, length, get_or, slice_get, Some, map}
 use Rattle.std.specs.List.{list_any}
 use Rattle.dcc_ir.specs.declared.syntax.Loc.{Loc}
-use Rattle.dcc_ir.specs.Tree.{Stmt, Block}
+use Rattle.dcc_ir.specs.Tree.{Stmt, Block, Graph}
+use Rattle.dcc_ir.specs.Demand.{IsWantedIn}
+use Rattle.dcc_flow.specs.Uses.{AreLists}
 use Rattle.dcc_live.specs.Access.{Access, BlockAccess, access_of, block_access_of}
 use Rattle.dcc_live.specs.Marks.{empty, with_all, without_all, selected}
 
@@ -26,6 +28,14 @@ after_stmts places bits last = with_all (with_all empty (selected places bits)) 
 -- what is wanted before a block
 abbrev pub before_block : List Loc → List Bool → BlockAccess → Loc → Bool
 before_block places bits b = before_all b.stmts (after_stmts places bits b.last)
+
+-- For each block the bits tell which of these locations are wanted at its end; with what the end itself reads, nothing
+-- else is wanted after its statements.
+pub record AreWantedAtEnds (graph : Graph) (places : List Loc) (at_end : List (List Bool)) : Type 0 where
+  pub are : AreLists (length graph.blocks) (length places) at_end
+  pub exact : (place : ℕ) (block : Block) (x : Loc) → slice_get graph.blocks place ≡ Some block
+      → (after_stmts places (get_or at_end place []) (block_access_of block).last x ≡ true)
+      ↔ IsWantedIn graph block [] x
 
 -- the statements that stay, where this is wanted after them
 abbrev pub left_of : List Stmt → (Loc → Bool) → List Stmt

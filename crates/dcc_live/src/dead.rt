@@ -7,8 +7,7 @@ ghost use Rattle.dcc_ir.specs.Live.{IsLive};
 ghost use Rattle.dcc_ir.specs.Replaced.{MayReplace};
 ghost use Rattle.dcc_live.specs.Access.{access_in, access_of, block_access_in, block_access_of, accesses_of};
 ghost use Rattle.dcc_live.specs.Marks.{empty, members};
-ghost use Rattle.dcc_live.specs.Wanted.{left_of, block_left, blocks_left};
-ghost use Rattle.dcc_live.specs.Work.{AreWantedAtEnds};
+ghost use Rattle.dcc_live.specs.Wanted.{left_of, block_left, blocks_left, AreWantedAtEnds};
 ghost use Rattle.dcc_live.specs.Dead.{IsWithoutUnwanted};
 
 use crate::access::{Access, BlockAccess, accesses};
@@ -138,12 +137,5 @@ pub fn drop_dead(alloc: Global, g: Graph, _l: &Live) -> Result<Graph, AllocError
     let accesses = accesses(alloc, &g)?;
     let wanted = wanted_in::<Brand>(alloc, Blank::new(1), &g, &accesses)?;
     let blocks = blocks_left(alloc, &wanted, &accesses, g.blocks)?;
-    Ok(Graph {
-        entry: g.entry,
-        params: g.params,
-        local: g.local,
-        pushed: g.pushed,
-        blocks,
-        bits: g.bits,
-    })
+    Ok(Graph { blocks, ..g })
 }

@@ -1,21 +1,18 @@
 //! Which locations are wanted at the ends of blocks.
 
-ghost use Rattle.std.specs.Prelude.{◌≡◌, ◌<◌, [], length, get_or, map, All, Contains, IfOk, OnOk};
+ghost use Rattle.std.specs.Prelude.{◌≡◌, length, map, All, Contains, IfOk, OnOk};
 ghost use Rattle.dcc_ir.specs.Views.{graph_of};
 ghost use Rattle.dcc_ir.specs.WellFormed.{IsGraph};
 ghost use Rattle.dcc_live.specs.Access.{access_in, block_access_in, accesses_of};
 ghost use Rattle.dcc_live.specs.Marks.{empty, members};
 ghost use Rattle.dcc_live.specs.First.{row_of, Tells};
-ghost use Rattle.dcc_live.specs.Wanted.{stays, before_one, before_all, after_stmts, before_block};
-ghost use Rattle.dcc_flow.specs.Bits.{flowed};
-ghost use Rattle.dcc_flow.specs.Work.{first_work, with_queued, with_answer, spread};
-ghost use Rattle.dcc_live.specs.Work.{work_of, AreWantedAtEnds};
+ghost use Rattle.dcc_live.specs.Wanted.{stays, before_one, before_all, after_stmts, before_block, AreWantedAtEnds};
 
 use crate::access::{Access, BlockAccess};
 use crate::marks::Marks;
 use crate::places::{bits_of, selected};
 use crate::rows::{places, rows};
-use dcc_flow::{Bits, Steps, preds};
+use dcc_flow::{Bits, Flow, Steps, Work, preds};
 use dcc_ir::{Graph, Loc};
 use std::alloc::{AllocError, Global};
 use std::sync::ledger::Ledger;
@@ -92,86 +89,6 @@ fn wanted_before<L: Ledger>(
     Ok(start)
 }
 
-/// What is known to be wanted, and the blocks through which it has to flow.
-#[derive(Drop)]
-pub struct Work {
-    /// The places that are known to be wanted at the end of each block.
-    pub at_end: Vec<Bits>,
-    /// The blocks through which these have to flow, the newest last.
-    pub pending: Vec<usize>,
-    /// Whether a block is one of these.
-    pub queued: Vec<bool>,
-}
-
-impl Work {
-    // Nothing is known to be wanted, and each block is pending.
-    fn new(alloc: Global, count: usize, len: usize) -> Result<Work, AllocError>
-        ensures { IfOk result (λ work. work_of work ≡ first_work count len) }
-    {
-        let mut at_end = Vec::new(alloc);
-        let mut pending = Vec::new(alloc);
-        for block in 0..count {
-            at_end.push(Bits::new(alloc, len)?)?;
-            pending.push(block)?;
-        }
-        Ok(Work {
-            at_end,
-            pending,
-            queued: vec![in alloc; true; count]?,
-        })
-    }
-
-    // What is known at the end of the block has to flow on.
-    fn queue(&mut self, block: usize) -> Result<(), AllocError>
-        requires { block < length self.old.queued.items }
-        ensures { OnOk result (work_of self.new ≡ with_queued (work_of self.old) block) }
-    {
-        if !self.queued[block] {
-            self.queued[block] = true;
-            self.pending.push(block)?;
-        }
-        Ok(())
-    }
-
-    // These places are wanted at the end of the block.
-    fn want<L: Ledger>(
-        &mut self,
-        block: usize,
-        start: &Bits,
-        steps: &mut Steps<L>,
-    ) -> Result<(), AllocError>
-        requires block { block < length self.old.at_end.items }
-        requires queued { length self.old.queued.items ≡ length self.old.at_end.items }
-        requires len { length (get_or self.old.at_end.items block []) ≡ length start.now }
-        ensures { OnOk result (work_of self.new ≡ with_answer (work_of self.old) block
-            (flowed (get_or self.old.at_end.items block []) start.now start.now start.now)) }
-    {
-        let at_end = &mut self.at_end[block];
-        if at_end.flow(start, start, start, steps) {
-            self.queue(block)?;
-        }
-        Ok(())
-    }
-
-    // These places are wanted at the end of each of these blocks.
-    fn want_all<L: Ledger>(
-        &mut self,
-        blocks: &[u32],
-        start: &Bits,
-        steps: &mut Steps<L>,
-    ) -> Result<(), AllocError>
-        requires blocks { All (λ block. block < length self.old.at_end.items) blocks.now }
-        requires queued { length self.old.queued.items ≡ length self.old.at_end.items }
-        requires lists { All (λ bits. length bits ≡ length start.now) self.old.at_end.items }
-        ensures { OnOk result (work_of self.new ≡ spread start.now start.now start.now (work_of self.old) blocks.now) }
-    {
-        for block in blocks {
-            self.want(*block as usize, start, steps)?;
-        }
-        Ok(())
-    }
-}
-
 /// Which locations are wanted at the ends of the blocks.
 #[derive(Drop)]
 pub struct WantedEnds {
@@ -203,13 +120,18 @@ fn solved<L: Ledger>(
             alloc,
             &mut marks,
             places,
-            &work.at_end[block],
+            &work.answer[block],
             &blocks[block],
             steps,
         )?;
-        work.want_all(sources[block].as_slice(), &start, steps)?;
+        let flow = Flow {
+            used: &start,
+            out: &start,
+            written: &start,
+        };
+        work.spread(sources[block].as_slice(), &flow, steps)?;
     }
-    Ok(work.at_end)
+    Ok(work.answer)
 }
 
 /// What is wanted at the end of each block of a graph.

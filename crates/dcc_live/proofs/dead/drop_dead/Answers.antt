@@ -1,6 +1,5 @@
 use Rattle.std.proofs.Common.{ap}
-use Rattle.dcc_ir.specs.Tree.{Graph}
-use Rattle.dcc_ir.specs.Views.{graph_of, block_of}
+use Rattle.dcc_ir.specs.Views.{graph_of}
 use Rattle.dcc_live.proofs.DeadLaws.{unwanted_gone, formed_left, may_replace}
 use Rattle.dcc_live.proofs.dead.drop_dead.Goals as goal
 

@@ -1,4 +1,4 @@
-use Rattle.std.proofs.Common.{map, sym, subst, length}
+use Rattle.std.proofs.Common.{sym, subst, length}
 use Rattle.dcc_ir.specs.Views.{graph_of}
 use Rattle.dcc_flow.specs.Edges.{AreWithin}
 use Rattle.dcc_flow.specs.Uses.{AreUses}

@@ -5,7 +5,6 @@ use Rattle.dcc_ir.specs.declared.syntax.Loc.{Loc}
 use Rattle.dcc_live.specs.Marks.{members, with_all}
 use Rattle.dcc_live.specs.First.{Row, row_in}
 use Rattle.dcc_live.proofs.RowLaws.{rows_known, rows_listed, map_read}
-use Rattle.dcc_live.proofs.WantedLaws.{wanted_before, before_known}
 use Rattle.dcc_live.proofs.rows.places.Goals as goal
 
 pub loop-row-init : goal.loop-row-init

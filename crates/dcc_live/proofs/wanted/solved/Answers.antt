@@ -1,16 +1,13 @@
-use Rattle.std.proofs.Common.{◌≡◌, ◌<◌, ◌-◌, ◌++◌, [], length, get_or, slice_set, map, take, false, ap, ap₂, sym, ◌∙◌, subst, arith, All}
+use Rattle.std.proofs.Common.{◌≡◌, ◌<◌, ◌-◌, ◌++◌, [], length, get_or, slice_set, take, false, ap, ap₂, sym, ◌∙◌, subst, arith, All}
 use Rattle.std.proofs.lemmas.List.{length-map, get_or-map, get_or_read}
-use Rattle.dcc_ir.specs.Tree.{Block}
 use Rattle.dcc_ir.specs.Views.{graph_of}
 use Rattle.dcc_ir.specs.Run.{no_block}
-use Rattle.dcc_ir.specs.Live.{block_in}
-use Rattle.dcc_flow.specs.Edges.{rows, successors_of}
-use Rattle.dcc_flow.specs.Work.{Work, first_work, spread}
+use Rattle.dcc_flow.specs.Edges.{rows}
+use Rattle.dcc_flow.specs.Work.{Work, work_of, first_work, spread}
 use Rattle.dcc_flow.proofs.RowLaws.{row_read, length_rows, length_successors}
-use Rattle.dcc_live.specs.Access.{block_access_in, block_access_of, accesses_of}
+use Rattle.dcc_live.specs.Access.{block_access_in, block_access_of}
 use Rattle.dcc_live.specs.First.{Tells}
 use Rattle.dcc_live.specs.Wanted.{before_block}
-use Rattle.dcc_live.specs.Work.{work_of}
 use Rattle.dcc_live.proofs.RowLaws.{map_read}
 use Rattle.dcc_live.proofs.WorkLaws.{Going, weight, begin_going, waits_inside, bits_size, sources_below, kept, all_wanted}
 use Rattle.dcc_live.proofs.wanted.solved.Given.{Over}
@@ -62,8 +59,8 @@ wanted_before-requires-clause-len g c =
     let read = get_or_read w.answer c.in-Some.block c.index.result.now (omega (arith, inside, going.are.count_is)) c.index.ensures [] in
     ap length read ∙ bits_size graph c.args.places.now w going c.pop.new.self.items c.in-Some.block c.in-Some.ensures.items
 
-pub want_all-requires-clause-blocks : goal.want_all-requires-clause-blocks
-want_all-requires-clause-blocks g c =
+pub spread-requires-clause-sources : goal.spread-requires-clause-sources
+spread-requires-clause-sources g c =
     let graph = graph_of c.args.g.now in
     let w = work_of c.loop-block.work in
     let going = c.loop-block.invariant.going in
@@ -77,7 +74,7 @@ want_all-requires-clause-blocks g c =
 
 -- what a turn keeps, and that less is left after it
 turned : (g : Over) (c : After-drop-start-inside-in-Some g)
-    → Going (graph_of c.args.g.now) c.args.places.now (work_of c.want_all.new.self) × (weight (work_of c.want_all.new.self) < weight (work_of c.loop-block.work))
+    → Going (graph_of c.args.g.now) c.args.places.now (work_of c.spread.new.self) × (weight (work_of c.spread.new.self) < weight (work_of c.loop-block.work))
 turned g c =
     let graph = graph_of c.args.g.now in
     let places = c.args.places.now in
@@ -98,8 +95,8 @@ turned g c =
     ∙ get_or-map block_access_of graph.blocks block no_block access inside in
     let tells = subst (λ h. Tells places h start) (ap₂ (before_block places) bits known) c.in_ok-start.ensures.tells in
     let taken : Work = record { answer = w.answer; pending = rest; queued = slice_set w.queued block false } in
-    kept graph places w going rest block c.in-Some.ensures.items (rows vs) c.in_ok-sources.ensures start tells (work_of c.want_all.new.self)
-    (c.in_ok-want_all.ensures ∙ ap (spread start start start taken) row)
+    kept graph places w going rest block c.in-Some.ensures.items (rows vs) c.in_ok-sources.ensures start tells (work_of c.spread.new.self)
+    (c.in_ok-spread.ensures.work ∙ ap (spread start start start taken) row)
 
 pub loop-block-smaller : goal.loop-block-smaller
 loop-block-smaller g c = (turned g c).1

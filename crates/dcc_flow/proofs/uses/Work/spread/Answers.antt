@@ -9,9 +9,9 @@ use Rattle.dcc_flow.proofs.uses.Work.spread.Goals as goal
 
 pub loop-source-preserved : goal.loop-source-preserved
 loop-source-preserved g c =
-    let used = c.args.used.now in
-    let out = c.args.out.now in
-    let written = c.args.written.now in
+    let used = c.args.flow.now.used.now in
+    let out = c.args.flow.now.out.now in
+    let written = c.args.flow.now.written.now in
     let tos = c.args.sources.now in
     let i = c.loop-source.source-index in
     let w : Work = work_of c.loop-source.self in
