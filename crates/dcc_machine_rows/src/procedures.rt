@@ -46,107 +46,6 @@ pub fn image_of(rt: &impl Abort, alloc: Global, code: &[u8]) -> Result<Image, Fa
     image_with(rt, alloc, code, &[])
 }
 
-// An offset with the successors of its instruction and the number of its DOS call.
-type NodeRow = (u16, &'static [u16], Option<u8>);
-
-// The entry of a procedure with its nodes.
-type ProcRow = (u16, &'static [NodeRow]);
-
-static FOUND: [(&[u8], &[NodeRow]); 8] = [
-    // A byte is written, and the run ends; what stands after the end is not reached.
-    (
-        b"\xB2\x41\xB4\x02\xCD\x21\xB8\x03\x4C\xCD\x21\x0F",
-        &[
-            (5, &[7], None),
-            (7, &[9], None),
-            (9, &[11], Some(0x02)),
-            (11, &[14], None),
-            (14, &[], Some(0x4C)),
-        ],
-    ),
-    // Three keys.
-    (
-        b"\xB4\x01\xCD\x21\xCD\x21\xB4\x08\xCD\x21\xB8\x07\x4C\xCD\x21",
-        &[
-            (5, &[7], None),
-            (7, &[9], Some(0x01)),
-            (9, &[11], Some(0x01)),
-            (11, &[13], None),
-            (13, &[15], Some(0x08)),
-            (15, &[18], None),
-            (18, &[], Some(0x4C)),
-        ],
-    ),
-    // LOOPE, LOOPNE to the next offset, and JCXZ to itself.
-    (
-        b"\xE1\x02\xE0\x00\xE3\xFE\xB4\x4C\xCD\x21",
-        &[
-            (5, &[9, 7], None),
-            (7, &[9, 9], None),
-            (9, &[9, 11], None),
-            (11, &[13], None),
-            (13, &[], Some(0x4C)),
-        ],
-    ),
-    // A jump to itself.
-    (b"\xEB\xFE", &[(5, &[5], None)]),
-    // A jump into itself.
-    (
-        b"\xEB\xFF\xC0\xB4\x4C\xCD\x21",
-        &[
-            (5, &[6], None),
-            (6, &[8], None),
-            (8, &[10], None),
-            (10, &[], Some(0x4C)),
-        ],
-    ),
-    // Back to a DOS call.
-    (
-        b"\xB4\x02\xCD\x21\x3C\x05\x75\xFA\xB4\x4C\xCD\x21",
-        &[
-            (5, &[7], None),
-            (7, &[9], Some(0x02)),
-            (9, &[11], None),
-            (11, &[7, 13], None),
-            (13, &[15], None),
-            (15, &[], Some(0x4C)),
-        ],
-    ),
-    // Both arms move one number to AH.
-    (
-        b"\x3B\xC3\x7C\x04\xB4\x02\xEB\x02\xB4\x02\xCD\x21\xB4\x4C\xCD\x21",
-        &[
-            (5, &[7], None),
-            (7, &[13, 9], None),
-            (9, &[11], None),
-            (11, &[15], None),
-            (13, &[15], None),
-            (15, &[17], Some(0x02)),
-            (17, &[19], None),
-            (19, &[], Some(0x4C)),
-        ],
-    ),
-    // CWD, CMP and TEST leave AH.
-    (
-        b"\x98\xB4\x02\x99\x3C\x05\xA9\x01\x00\x85\xC0\xCD\x21\xB4\x4C\xCD\x21",
-        &[
-            (5, &[6], None),
-            (6, &[8], None),
-            (8, &[9], None),
-            (9, &[11], None),
-            (11, &[14], None),
-            (14, &[16], None),
-            (16, &[18], Some(0x02)),
-            (18, &[20], None),
-            (20, &[], Some(0x4C)),
-        ],
-    ),
-];
-
-fn found() -> &'static [(&'static [u8], &'static [NodeRow])] {
-    &FOUND
-}
-
 // A trail to each node, the newest offset first, by going from the entry on through the successors that were found.
 fn trails_to_nodes(alloc: Global, proc: &Proc) -> Result<Vec<Vec<u16>>, AllocError> {
     let mut trails = Vec::new(alloc);
@@ -196,179 +95,108 @@ fn check_plainly(
     Ok(())
 }
 
-// The processor, the code, and its procedures.
-type ProgramRow = (Cpu, &'static [u8], &'static [ProcRow]);
+// The processor, the code, and each procedure: its entry, and the offsets of its nodes, each with `>` before its
+// successors and `#` before the number of its DOS call.
+type ProgramRow = (Cpu, &'static [u8], &'static [&'static str]);
 
-static PROGRAMS: [ProgramRow; 8] = [
+static PROGRAMS: [ProgramRow; 16] = [
+    // A byte is written, and the run ends; what stands after the end is not reached.
+    (
+        Cpu::I8086,
+        b"\xB2\x41\xB4\x02\xCD\x21\xB8\x03\x4C\xCD\x21\x0F",
+        &["5: 5>7 7>9 9>11#2 11>14 14#76"],
+    ),
+    // Three keys.
+    (
+        Cpu::I8086,
+        b"\xB4\x01\xCD\x21\xCD\x21\xB4\x08\xCD\x21\xB8\x07\x4C\xCD\x21",
+        &["5: 5>7 7>9#1 9>11#1 11>13 13>15#8 15>18 18#76"],
+    ),
+    // LOOPE, LOOPNE to the next offset, and JCXZ to itself.
+    (
+        Cpu::I8086,
+        b"\xE1\x02\xE0\x00\xE3\xFE\xB4\x4C\xCD\x21",
+        &["5: 5>9>7 7>9>9 9>9>11 11>13 13#76"],
+    ),
+    // A jump to itself.
+    (Cpu::I8086, b"\xEB\xFE", &["5: 5>5"]),
+    // A jump into itself.
+    (
+        Cpu::I8086,
+        b"\xEB\xFF\xC0\xB4\x4C\xCD\x21",
+        &["5: 5>6 6>8 8>10 10#76"],
+    ),
+    // Back to a DOS call.
+    (
+        Cpu::I8086,
+        b"\xB4\x02\xCD\x21\x3C\x05\x75\xFA\xB4\x4C\xCD\x21",
+        &["5: 5>7 7>9#2 9>11 11>7>13 13>15 15#76"],
+    ),
+    // Both arms move one number to AH.
+    (
+        Cpu::I8086,
+        b"\x3B\xC3\x7C\x04\xB4\x02\xEB\x02\xB4\x02\xCD\x21\xB4\x4C\xCD\x21",
+        &["5: 5>7 7>13>9 9>11 11>15 13>15 15>17#2 17>19 19#76"],
+    ),
+    // CWD, CMP and TEST leave AH.
+    (
+        Cpu::I8086,
+        b"\x98\xB4\x02\x99\x3C\x05\xA9\x01\x00\x85\xC0\xCD\x21\xB4\x4C\xCD\x21",
+        &["5: 5>6 6>8 8>9 9>11 11>14 14>16 16>18#2 18>20 20#76"],
+    ),
     // A program that takes its own address: a procedure begins at the next instruction.
     (
         Cpu::I8086,
         b"\xE8\x00\x00\x58\xB8\x00\x4C\xCD\x21",
-        &[
-            (
-                0x0005,
-                &[
-                    (5, &[8], None),
-                    (8, &[9], None),
-                    (9, &[12], None),
-                    (12, &[], Some(0x4C)),
-                ],
-            ),
-            (
-                0x0008,
-                &[(8, &[9], None), (9, &[12], None), (12, &[], Some(0x4C))],
-            ),
-        ],
+        &["5: 5>8 8>9 9>12 12#76", "8: 8>9 9>12 12#76"],
     ),
     // A push on one arm.
     (
         Cpu::I8086,
         b"\x3D\x00\x00\x74\x01\x50\xEB\xFE",
-        &[(
-            0x0005,
-            &[
-                (5, &[8], None),
-                (8, &[11, 10], None),
-                (10, &[11], None),
-                (11, &[11], None),
-            ],
-        )],
+        &["5: 5>8 8>11>10 10>11 11>11"],
     ),
     // A switch by AX, whose index is moved to BX.
     (
         Cpu::I8086,
         b"\xB8\x02\x00\x3D\x03\x00\x77\x1B\xD1\xE0\x8B\xD8\x2E\xFF\xA7\x2C\x00\xB0\x01\xEB\x0A\xB0\x02\xEB\x06\xB0\x03\xEB\x02\xB0\x04\xB4\x4C\xCD\x21\xB0\x09\xEB\xF8\x16\x00\x1A\x00\x1E\x00\x22\x00",
-        &[(
-            0x0005,
-            &[
-                (5, &[8], None),
-                (8, &[11], None),
-                (11, &[40, 13], None),
-                (13, &[15], None),
-                (15, &[17], None),
-                (17, &[22, 26, 30, 34], None),
-                (22, &[24], None),
-                (24, &[36], None),
-                (26, &[28], None),
-                (28, &[36], None),
-                (30, &[32], None),
-                (32, &[36], None),
-                (34, &[36], None),
-                (36, &[38], None),
-                (38, &[], Some(0x4C)),
-                (40, &[42], None),
-                (42, &[36], None),
-            ],
-        )],
+        &[
+            "5: 5>8 8>11 11>40>13 13>15 15>17 17>22>26>30>34 22>24 24>36 26>28 28>36 30>32 32>36 34>36 36>38 38#76 40>42 42>36",
+        ],
     ),
     // The factorial, which calls itself, of 7.
     (
         Cpu::I8086,
         b"\xB8\x07\x00\x50\xE8\x05\x00\x59\xB4\x4C\xCD\x21\x55\x8B\xEC\x8B\x46\x04\x3D\x01\x00\x7E\x09\x48\x50\xE8\xF0\xFF\x59\xF7\x66\x04\x5D\xC3",
         &[
-            (
-                0x0005,
-                &[
-                    (5, &[8], None),
-                    (8, &[9], None),
-                    (9, &[12], None),
-                    (12, &[13], None),
-                    (13, &[15], None),
-                    (15, &[], Some(0x4C)),
-                ],
-            ),
-            (
-                0x0011,
-                &[
-                    (17, &[18], None),
-                    (18, &[20], None),
-                    (20, &[23], None),
-                    (23, &[26], None),
-                    (26, &[37, 28], None),
-                    (28, &[29], None),
-                    (29, &[30], None),
-                    (30, &[33], None),
-                    (33, &[34], None),
-                    (34, &[37], None),
-                    (37, &[38], None),
-                    (38, &[], None),
-                ],
-            ),
+            "5: 5>8 8>9 9>12 12>13 13>15 15#76",
+            "17: 17>18 18>20 20>23 23>26 26>37>28 28>29 29>30 30>33 33>34 34>37 37>38 38",
         ],
     ),
     // A switch of four cases.
     (
         Cpu::I8086,
         b"\xBB\x00\x00\x83\xFB\x03\x77\x19\xD1\xE3\x2E\xFF\xA7\x2A\x00\xB0\x01\xEB\x0A\xB0\x02\xEB\x06\xB0\x03\xEB\x02\xB0\x04\xB4\x4C\xCD\x21\xB0\x09\xEB\xF8\x14\x00\x18\x00\x1C\x00\x20\x00",
-        &[(
-            0x0005,
-            &[
-                (5, &[8], None),
-                (8, &[11], None),
-                (11, &[38, 13], None),
-                (13, &[15], None),
-                (15, &[20, 24, 28, 32], None),
-                (20, &[22], None),
-                (22, &[34], None),
-                (24, &[26], None),
-                (26, &[34], None),
-                (28, &[30], None),
-                (30, &[34], None),
-                (32, &[34], None),
-                (34, &[36], None),
-                (36, &[], Some(0x4C)),
-                (38, &[40], None),
-                (40, &[34], None),
-            ],
-        )],
+        &[
+            "5: 5>8 8>11 11>38>13 13>15 15>20>24>28>32 20>22 22>34 24>26 26>34 28>30 30>34 32>34 34>36 36#76 38>40 40>34",
+        ],
     ),
     // One by AL, whose index is moved to BX.
     (
         Cpu::I8086,
         b"\xB0\x02\x3C\x03\x77\x1D\x32\xE4\xD1\xE0\x8B\xD8\x2E\xFF\xA7\x2C\x00\xB0\x01\xEB\x0A\xB0\x02\xEB\x06\xB0\x03\xEB\x02\xB0\x04\xB4\x4C\xCD\x21\xB0\x09\xEB\xF8\x16\x00\x1A\x00\x1E\x00\x22\x00",
-        &[(
-            0x0005,
-            &[
-                (5, &[7], None),
-                (7, &[9], None),
-                (9, &[40, 11], None),
-                (11, &[13], None),
-                (13, &[15], None),
-                (15, &[17], None),
-                (17, &[22, 26, 30, 34], None),
-                (22, &[24], None),
-                (24, &[36], None),
-                (26, &[28], None),
-                (28, &[36], None),
-                (30, &[32], None),
-                (32, &[36], None),
-                (34, &[36], None),
-                (36, &[38], None),
-                (38, &[], Some(0x4C)),
-                (40, &[42], None),
-                (42, &[36], None),
-            ],
-        )],
+        &[
+            "5: 5>7 7>9 9>40>11 11>13 13>15 15>17 17>22>26>30>34 22>24 24>36 26>28 28>36 30>32 32>36 34>36 36>38 38#76 40>42 42>36",
+        ],
     ),
     // Two procedures share their end, and are called in falling order.
     (
         Cpu::I8086,
         b"\xE8\x08\x00\xE8\x04\x00\xB4\x4C\xCD\x21\x40\x40\xC3",
         &[
-            (
-                0x0005,
-                &[
-                    (5, &[8], None),
-                    (8, &[11], None),
-                    (11, &[13], None),
-                    (13, &[], Some(0x4C)),
-                ],
-            ),
-            (
-                0x000F,
-                &[(15, &[16], None), (16, &[17], None), (17, &[], None)],
-            ),
-            (0x0010, &[(16, &[17], None), (17, &[], None)]),
+            "5: 5>8 8>11 11>13 13#76",
+            "15: 15>16 16>17 17",
+            "16: 16>17 17",
         ],
     ),
     // A frame by ENTER and LEAVE.
@@ -376,22 +204,8 @@ static PROGRAMS: [ProgramRow; 8] = [
         Cpu::I186,
         b"\xE8\x05\x00\xB8\x00\x4C\xCD\x21\xC8\x02\x00\x00\xC6\x46\xFE\x2A\x8A\x56\xFE\xB4\x02\xCD\x21\xC9\xC3",
         &[
-            (
-                0x0005,
-                &[(5, &[8], None), (8, &[11], None), (11, &[], Some(0x4C))],
-            ),
-            (
-                0x000D,
-                &[
-                    (13, &[17], None),
-                    (17, &[21], None),
-                    (21, &[24], None),
-                    (24, &[26], None),
-                    (26, &[28], Some(0x02)),
-                    (28, &[29], None),
-                    (29, &[], None),
-                ],
-            ),
+            "5: 5>8 8>11 11#76",
+            "13: 13>17 17>21 21>24 24>26 26>28#2 28>29 29",
         ],
     ),
 ];
@@ -400,40 +214,20 @@ fn programs() -> &'static [ProgramRow] {
     &PROGRAMS
 }
 
-// A procedure is that of the row, and what the plain program tells.
-fn check_proc(
-    rt: &impl Abort,
-    alloc: Global,
-    image: &Image,
-    layout: &Layout,
-    proc: &Proc,
-    row: ProcRow,
-) -> Result<(), Fail>
-    requires loaded { IsLoaded image.now }
-    requires layout { HasLayout image.now layout.now }
-{
-    let (entry, nodes) = row;
-    assert_eq!(rt; proc.entry, entry);
-    assert_eq!(rt; proc.nodes.len(), nodes.len());
-    for ((at, node), (offset, succ, number)) in proc.nodes.iter().zip(nodes) {
-        assert_eq!(rt; at, offset);
-        assert_eq!(rt; node.succ.as_slice(), *succ);
-        assert_eq!(rt; node.number, *number);
+// A procedure as a row of the table has it.
+fn described(alloc: Global, proc: &Proc) -> Result<String, Fail> {
+    let mut said = String::new(alloc);
+    write!(said, "{}:", proc.entry)?;
+    for (at, node) in proc.nodes.iter() {
+        write!(said, " {at}")?;
+        for to in node.succ.as_slice() {
+            write!(said, ">{to}")?;
+        }
+        if let Some(number) = node.number {
+            write!(said, "#{number}")?;
+        }
     }
-    check_plainly(rt, alloc, image, layout, proc)
-}
-
-#[test]
-fn the_entry_procedure_has_what_trails_reach(rt: HostRuntime) -> Result<(), Fail> {
-    let alloc = rt.alloc();
-    for (code, nodes) in found() {
-        let image = image_of(&rt, alloc, code)?;
-        let layout = layout(alloc, &image, Cpu::I8086)?;
-        let procs = find(alloc, &image, &layout)?;
-        assert_eq!(rt; procs.len(), 1);
-        check_proc(&rt, alloc, &image, &layout, &procs[0], (START, nodes))?;
-    }
-    Ok(())
+    Ok(said)
 }
 
 #[test]
@@ -445,7 +239,8 @@ fn all_procedures_are_found_in_order(rt: HostRuntime) -> Result<(), Fail> {
         let procs = find(alloc, &image, &layout)?;
         assert_eq!(rt; procs.len(), rows.len());
         for (proc, row) in procs.iter().zip(*rows) {
-            check_proc(&rt, alloc, &image, &layout, proc, *row)?;
+            assert_eq!(rt; described(alloc, proc)?.as_str(), *row);
+            check_plainly(&rt, alloc, &image, &layout, proc)?;
         }
     }
     Ok(())
