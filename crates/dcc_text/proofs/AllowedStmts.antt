@@ -34,6 +34,7 @@ use Rattle.dcc_text.specs.Meaning.{is_type_for}
 use Rattle.dcc_text.specs.Spelling.{Spelling}
 use Rattle.dcc_text.specs.Spelled.{Way, Low, Exact, left_way, small, unsigned_type, pointer, text, byte_quotient, byte_remainder, division_text}
 use Rattle.dcc_text.specs.Stmts.{place_of, assigned, wanted_way, setting, dos_with, stmt_text}
+use Rattle.dcc_text.proofs.StmtLaws.{dividing-parts}
 use Rattle.dcc_text.proofs.Depths.{pointer-has, depth-some, text-has, shallow}
 use Rattle.dcc_text.proofs.Typings.{IsTyped, number-typed, either, small-is, cast-typed, cast-is, binary-is, deref-is}
 use Rattle.dcc_text.proofs.TypedTexts.{text-is, text-allowed, pointer-typed}
@@ -212,28 +213,31 @@ module _ (whole : Tree) (f : Function) (s : Spelling) (declared : AreDeclared (d
 
 -- Each statement.
 
+-- the location has a variable
+abbrev pub IsNamed : Spelling → Loc → Type 0
+IsNamed s location = s.named location ≡ true
+
+-- all locations that the expression reads have one
+abbrev pub AreNamed : Spelling → inner.Expr → Type 0
+AreNamed s e = All (IsNamed s) (reads_of e)
+
+-- the expression has at most so many levels
+abbrev pub IsLow : ℕ → inner.Expr → Type 0
+IsLow levels e = depth_of e ≤ levels
+
 module _ (whole : Tree) (f : Function) (s : Spelling) (declared : AreDeclared (declared_in whole f) s) (levels limit depth : ℕ) (enough : 6 * levels + 3 ≤ limit)
     (small_depth : depth ≤ 4294967295) where
-  abbrev IsNamed : Loc → Type 0
-  IsNamed location = s.named location ≡ true
-
-  abbrev AreNamed : inner.Expr → Type 0
-  AreNamed e = All IsNamed (reads_of e)
-
-  abbrev IsLow : inner.Expr → Type 0
-  IsLow e = depth_of e ≤ levels
-
   abbrev Allowed : Stmt → Type 0
   Allowed stmt = IsAllowedStmt whole f limit stmt
 
   -- what is loaded from an address, or the place where it is
-  module _ (width : ℕ) (address : inner.Expr) (formed : is_expr s.bits address ≡ true) (is_word : (width_of s.bits address == 16) ≡ true) (read : AreNamed address) where
+  module _ (width : ℕ) (address : inner.Expr) (formed : is_expr s.bits address ≡ true) (is_word : (width_of s.bits address == 16) ≡ true) (read : AreNamed s address) where
     abbrev there : tree.Expr
     there = tree.Unary Deref (pointer s width address (text s Low false address))
 
     there-typed : IsTyped (declared_in whole f) (plain (unsigned_type width)) there
     there-typed =
-        deref-is (declared_in whole f) (unsigned_type width) _ (pointer-typed (declared_in whole f) s declared width address _ (all_parts IsNamed got_by (parts_of address) read)
+        deref-is (declared_in whole f) (unsigned_type width) _ (pointer-typed (declared_in whole f) s declared width address _ (all_parts (IsNamed s) got_by (parts_of address) read)
         (subst (λ w. IsAllowedExpr (declared_in whole f) w (text s Low false address)) (eqb-true (width_of s.bits address) 16 is_word) (text-allowed (declared_in whole f) s declared address Low false formed read)))
 
     there-shallow : expr_depth there ≤ 6 * depth_of address + 2
@@ -242,19 +246,19 @@ module _ (whole : Tree) (f : Function) (s : Spelling) (declared : AreDeclared (d
         let x = pointer-has s width d address (text s Low false address) (omega (arith, depth-some s address)) (text-has s address Low false) in
         omega (arith, x.shallow)
 
-  expr-is : (e : inner.Expr) (way : Way) → is_expr s.bits e ≡ true → AreNamed e → IsAllowedExpr (declared_in whole f) (width_of s.bits e) (text s way false e)
+  expr-is : (e : inner.Expr) (way : Way) → is_expr s.bits e ≡ true → AreNamed s e → IsAllowedExpr (declared_in whole f) (width_of s.bits e) (text s way false e)
   expr-is e way formed read = text-allowed (declared_in whole f) s declared e way false formed read
 
-  expr-shallow : (e : inner.Expr) (way : Way) → IsLow e → expr_depth (text s way false e) ≤ 6 * levels
+  expr-shallow : (e : inner.Expr) (way : Way) → IsLow levels e → expr_depth (text s way false e) ≤ 6 * levels
   expr-shallow e way low = omega (arith, shallow s e way false, low)
 
-  set-allowed : (location : Loc) (e : inner.Expr) → s.named location ≡ true → is_expr s.bits e ≡ true → AreNamed e → IsLow e → Allowed (setting s location e)
+  set-allowed : (location : Loc) (e : inner.Expr) → s.named location ≡ true → is_expr s.bits e ≡ true → AreNamed s e → IsLow levels e → Allowed (setting s location e)
   set-allowed location e named formed read low =
       let way = wanted_way s location in
       variable-assigned whole f s declared limit location (width_of s.bits e) (text s way false e) named (expr-is e way formed read) (omega (arith, enough, expr-shallow e way low))
 
   fetch-allowed : (location : Loc) (width : ℕ) (address : inner.Expr) → s.named location ≡ true → location_width s.bits location ≡ width → is_stored_width width ≡ true
-      → is_expr s.bits address ≡ true → (width_of s.bits address == 16) ≡ true → AreNamed address → IsLow address → Allowed (setting s location (inner.Load width address))
+      → is_expr s.bits address ≡ true → (width_of s.bits address == 16) ≡ true → AreNamed s address → IsLow levels address → Allowed (setting s location (inner.Load width address))
   fetch-allowed location width address named same stored formed is_word read low =
       variable-assigned whole f s declared limit location width (text s (wanted_way s location) false (inner.Load width address)) named
       (expr-is (inner.Load width address) (wanted_way s location)
@@ -266,8 +270,8 @@ module _ (whole : Tree) (f : Function) (s : Spelling) (declared : AreDeclared (d
       by true = omega (arith, enough, there-shallow width address formed is_word read, low)
       by false = omega (arith, enough, there-shallow width address formed is_word read, low)
 
-  store-allowed : (width : ℕ) (address e : inner.Expr) → is_expr s.bits address ≡ true → (width_of s.bits address == 16) ≡ true → AreNamed address → IsLow address
-      → is_expr s.bits e ≡ true → AreNamed e → IsLow e → Allowed (stmt_text s depth (inner.Store width address e))
+  store-allowed : (width : ℕ) (address e : inner.Expr) → is_expr s.bits address ≡ true → (width_of s.bits address == 16) ≡ true → AreNamed s address → IsLow levels address
+      → is_expr s.bits e ≡ true → AreNamed s e → IsLow levels e → Allowed (stmt_text s depth (inner.Store width address e))
   store-allowed width address e formed is_word read low e_formed e_read e_low =
       let t = there-typed width address formed is_word read in
       let x = expr-is e Low e_formed e_read in
@@ -275,34 +279,28 @@ module _ (whole : Tree) (f : Function) (s : Spelling) (declared : AreDeclared (d
       (omega (arith, enough, there-shallow width address formed is_word read, low)) x.writable (fits-number whole f s declared limit (plain (unsigned_type width)) (text s Low false e) refl x)
       (omega (arith, enough, expr-shallow e Low e_low))
 
-  div-allowed : (location : Loc) (e : inner.Expr) → s.named location ≡ true → is_dividing s.bits (location_width s.bits location) e ≡ true → AreNamed e → IsLow e
+  div-allowed : (location : Loc) (e : inner.Expr) → s.named location ≡ true → is_dividing s.bits (location_width s.bits location) e ≡ true → AreNamed s e → IsLow levels e
       → Allowed (stmt_text s depth (inner.Div location e))
   div-allowed location (inner.Binary operator width a b) named formed read low =
-      let w = location_width s.bits location in
-      let (four, second) = and_parts (is_division operator && (width == w) && is_stored_width w && is_expr_of s.bits w a) (is_expr_of s.bits w b) formed in
-      let (three, first) = and_parts (is_division operator && (width == w) && is_stored_width w) (is_expr_of s.bits w a) four in
-      let (two, stored) = and_parts (is_division operator && (width == w)) (is_stored_width w) three in
-      let (is, same) = and_parts (is_division operator) (width == w) two in
-      let (a_formed, a_width) = and_parts (is_expr s.bits a) (width_of s.bits a == w) first in
-      let (b_formed, b_width) = and_parts (is_expr s.bits b) (width_of s.bits b == w) second in
+      let division = dividing-parts s.bits (location_width s.bits location) operator width a b formed in
       let way = left_way operator Low width in
       let names = declared_in whole f in
-      let both = all_parts IsNamed got_by (inner.Binary operator width a b ∷ (parts_of a ++ parts_of b)) read in
-      let below = All-tail (λ e. All IsNamed (got_by e)) (inner.Binary operator width a b) (parts_of a ++ parts_of b) both in
-      let x = subst (λ k. IsAllowedExpr names k (text s way true a)) (eqb-true (width_of s.bits a) w a_width ∙ sym (eqb-true width w same))
-      (text-is names s declared a a_formed (left_part (λ e. All IsNamed (got_by e)) (parts_of a) (parts_of b) below) way true) in
-      let y = subst (λ k. IsAllowedExpr names k (text s way true b)) (eqb-true (width_of s.bits b) w b_width ∙ sym (eqb-true width w same))
-      (text-is names s declared b b_formed (right_part (λ e. All IsNamed (got_by e)) (parts_of a) (parts_of b) below) way true) in
+      let both = all_parts (IsNamed s) got_by (inner.Binary operator width a b ∷ (parts_of a ++ parts_of b)) read in
+      let below = All-tail (λ e. All (IsNamed s) (got_by e)) (inner.Binary operator width a b) (parts_of a ++ parts_of b) both in
+      let x = subst (λ k. IsAllowedExpr names k (text s way true a)) division.left_width
+      (text-is names s declared a division.left (left_part (λ e. All (IsNamed s) (got_by e)) (parts_of a) (parts_of b) below) way true) in
+      let y = subst (λ k. IsAllowedExpr names k (text s way true b)) division.right_width
+      (text-is names s declared b division.right (right_part (λ e. All (IsNamed s) (got_by e)) (parts_of a) (parts_of b) below) way true) in
       let d = 6 * max (depth_of a) (depth_of b) in
-      let few = division-shallow operator width d (text s way true a) (text s way true b) is (omega (arith, shallow s a way true)) (omega (arith, shallow s b way true)) in
-      variable-assigned whole f s declared limit location width _ named (division-is names operator width _ _ is x y) (omega (arith, enough, few, low))
+      let few = division-shallow operator width d (text s way true a) (text s way true b) division.is (omega (arith, shallow s a way true)) (omega (arith, shallow s b way true)) in
+      variable-assigned whole f s declared limit location width _ named (division-is names operator width _ _ division.is x y) (omega (arith, enough, few, low))
   div-allowed location e named formed read low = absurd (true≢false (sym formed))
 
-  dos-allowed : (number : ℕ) (place : Option Loc) (argument : Option inner.Expr) → is_dos s.bits number place argument ≡ true → All AreNamed (option_to_list argument) → All IsNamed (option_to_list place)
-      → All IsLow (option_to_list argument) → Allowed (stmt_text s depth (inner.Dos number place argument))
+  dos-allowed : (number : ℕ) (place : Option Loc) (argument : Option inner.Expr) → is_dos s.bits number place argument ≡ true → All (AreNamed s) (option_to_list argument) → All (IsNamed s) (option_to_list place)
+      → All (IsLow levels) (option_to_list argument) → Allowed (stmt_text s depth (inner.Dos number place argument))
   dos-allowed number None (Some e) formed read written low =
-      let named = All-head AreNamed e [] read in
-      let few = expr-shallow e Low (All-head IsLow e [] low) in
+      let named = All-head (AreNamed s) e [] read in
+      let few = expr-shallow e Low (All-head (IsLow levels) e [] low) in
       elim (or_cases ((number == 0x02 || number == 0x4C) && is_expr_of s.bits 8 e) ((number == 0x09) && is_expr_of s.bits 16 e) formed) [
         | inl byte ↦
             (let (which, of_byte) = and_parts (number == 0x02 || number == 0x4C) (is_expr_of s.bits 8 e) byte in
@@ -318,33 +316,33 @@ module _ (whole : Tree) (f : Function) (s : Spelling) (declared : AreDeclared (d
   dos-allowed number (Some location) None formed read written low =
       let (which, place) = and_parts (number == 0x01 || number == 0x08) (is_byte_place s.bits (Some location)) formed in
       let (is, eight) = and_parts (is_location s.bits location) (location_width s.bits location == 8) place in
-      let named = All-head IsNamed location [] written in
+      let named = All-head (IsNamed s) location [] written in
       call-gives whole f s declared limit (dos_with number) location depth (giving number which) named
       (byte-number (location_width s.bits location) (s.type location) eight (declared.variables location named).typed) small_depth (omega (arith, enough))
   dos-allowed number (Some location) (Some e) formed read written low = absurd (true≢false (sym formed))
 
-  pub stmt-allowed : (stmt : inner.Stmt) → is_stmt s.bits stmt ≡ true → is_call stmt ≡ false → All AreNamed (exprs_of stmt) → All IsNamed (writes_of stmt) → All IsLow (exprs_of stmt)
+  pub stmt-allowed : (stmt : inner.Stmt) → is_stmt s.bits stmt ≡ true → is_call stmt ≡ false → All (AreNamed s) (exprs_of stmt) → All (IsNamed s) (writes_of stmt) → All (IsLow levels) (exprs_of stmt)
       → Allowed (stmt_text s depth stmt)
   stmt-allowed (inner.Set location e) formed no_call read written low =
       let (place, of_width) = and_parts (is_location s.bits location) (is_expr_of s.bits (location_width s.bits location) e) formed in
-      set-allowed location e (All-head IsNamed location [] written) (and_parts (is_expr s.bits e) (width_of s.bits e == location_width s.bits location) of_width).0
-      (All-head AreNamed e [] read) (All-head IsLow e [] low)
+      set-allowed location e (All-head (IsNamed s) location [] written) (and_parts (is_expr s.bits e) (width_of s.bits e == location_width s.bits location) of_width).0
+      (All-head (AreNamed s) e [] read) (All-head (IsLow levels) e [] low)
   stmt-allowed (inner.Fetch location width address) formed no_call read written low =
       let (three, of_word) = and_parts (is_location s.bits location && is_stored_width width && (location_width s.bits location == width)) (is_expr_of s.bits 16 address) formed in
       let (two, same) = and_parts (is_location s.bits location && is_stored_width width) (location_width s.bits location == width) three in
       let (place, stored) = and_parts (is_location s.bits location) (is_stored_width width) two in
       let (is, address_width) = and_parts (is_expr s.bits address) (width_of s.bits address == 16) of_word in
-      fetch-allowed location width address (All-head IsNamed location [] written) (eqb-true (location_width s.bits location) width same) stored is address_width
-      (All-head AreNamed address [] read) (All-head IsLow address [] low)
+      fetch-allowed location width address (All-head (IsNamed s) location [] written) (eqb-true (location_width s.bits location) width same) stored is address_width
+      (All-head (AreNamed s) address [] read) (All-head (IsLow levels) address [] low)
   stmt-allowed (inner.Store width address e) formed no_call read written low =
       let (two, of_width) = and_parts (is_stored_width width && is_expr_of s.bits 16 address) (is_expr_of s.bits width e) formed in
       let (stored, of_word) = and_parts (is_stored_width width) (is_expr_of s.bits 16 address) two in
       let (is, address_width) = and_parts (is_expr s.bits address) (width_of s.bits address == 16) of_word in
-      store-allowed width address e is address_width (All-head AreNamed address (e ∷ []) read) (All-head IsLow address (e ∷ []) low)
-      (and_parts (is_expr s.bits e) (width_of s.bits e == width) of_width).0 (All-head AreNamed e [] (All-tail AreNamed address (e ∷ []) read)) (All-head IsLow e [] (All-tail IsLow address (e ∷ []) low))
+      store-allowed width address e is address_width (All-head (AreNamed s) address (e ∷ []) read) (All-head (IsLow levels) address (e ∷ []) low)
+      (and_parts (is_expr s.bits e) (width_of s.bits e == width) of_width).0 (All-head (AreNamed s) e [] (All-tail (AreNamed s) address (e ∷ []) read)) (All-head (IsLow levels) e [] (All-tail (IsLow levels) address (e ∷ []) low))
   stmt-allowed (inner.Div location e) formed no_call read written low =
       let (place, dividing) = and_parts (is_location s.bits location) (is_dividing s.bits (location_width s.bits location) e) formed in
-      div-allowed location e (All-head IsNamed location [] written) dividing (All-head AreNamed e [] read) (All-head IsLow e [] low)
+      div-allowed location e (All-head (IsNamed s) location [] written) dividing (All-head (AreNamed s) e [] read) (All-head (IsLow levels) e [] low)
   stmt-allowed (inner.Call results entry arguments own) formed no_call read written low = absurd (true≢false no_call)
   stmt-allowed (inner.Dos number place argument) formed no_call read written low = dos-allowed number place argument formed read written low
 

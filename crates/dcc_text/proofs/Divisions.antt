@@ -78,85 +78,77 @@ size-low byte n fits high = omega (arith, fits, high)
 size-low word n fits high = omega (arith, fits, high)
 size-low long n fits high = omega (arith, fits, high)
 
--- The quotient of signed numbers that does not fault.
-pub signed-quotient : (size : Size) (n m : ℕ) → n < 2 ^ bits size → m < 2 ^ bits size → faults_signed (bits size) n m ≡ false
-    → quotient (signed_reckons size) (signed_bits size n) (signed_bits size m) ≡ signed_bits size (pattern_at (bits size) (int_div (signed_at (bits size) n) (signed_at (bits size) m)))
-signed-quotient size n m fits small safe = elim (sign-of size n fits) [
-  | positive low is same ↦ elim (sign-of size m small) [
-    | positive low' is' same' ↦
-        rw is (rw is' (rw same (rw same' (by-signs t n m false false (above size n low) (above size m low') ∙ signed-up size (n / m) (omega (arith, low, div-le_self n m))))))
-    | negative high' is' same' ↦
-        rw is (rw is' (rw same (rw same' (by-signs t n (bits_below size m) false true (above size n low) (below size m high')
-        ∙ ap (λ d. negated t (n / d)) (size-below size m small) ∙ minus-is size (n / suc u) (omega (arith, low, div-le_self n (suc u)))))))
-  ]
-  | negative high is same ↦ elim (sign-of size m small) [
-    | positive low' is' same' ↦
-        rw is (rw is' (rw same (rw same' (by-signs t (bits_below size n) m true false (below size n high) (above size m low')
-        ∙ ap (λ d. negated t (d / m)) (size-below size n fits) ∙ minus-is size (suc v / m) (omega (arith, size-low size n fits high, div-le_self (suc v) m))))))
-    | negative high' is' same' ↦
-        rw is (rw is' (rw same (rw same' (by-signs t (bits_below size n) (bits_below size m) true true (below size n high) (below size m high')
-        ∙ ap₂ (λ c d. c / d) (size-below size n fits) (size-below size m small) ∙ signed-up size (suc v / suc u) (both_below size fits small high safe)))))
-  ]
-]
-  where
-    t : Base
-    t = signed_reckons size
+module _ (size : Size) (n m : ℕ) (fits : n < 2 ^ bits size) (small : m < 2 ^ bits size) where
+  abbrev t : Base
+  t = signed_reckons size
 
-    u : ℕ
-    u = 2 ^ bits size - 1 - m
+  -- what the sizes are one above, where the numbers are below 0
+  abbrev u : ℕ
+  u = 2 ^ bits size - 1 - m
 
-    v : ℕ
-    v = 2 ^ bits size - 1 - n
+  abbrev v : ℕ
+  v = 2 ^ bits size - 1 - n
 
-    -- the quotient of two numbers below 0 is no greater than the greatest
-    both_below : (size : Size) → n < 2 ^ bits size → m < 2 ^ bits size → 2 ^ (bits size - 1) ≤ n → faults_signed (bits size) n m ≡ false
-        → suc (2 ^ bits size - 1 - n) / suc (2 ^ bits size - 1 - m) < 2 ^ (bits size - 1)
-    both_below size fits small high safe = elim (cases_lt (2 ^ bits size - 1 - m) 1) [
-      | inl none ↦ one_below size fits small high safe none
-      | inr some ↦ (div-lt_iff_lt-mul (omega arith)).1 (enough size fits high some)
+  -- The quotient of signed numbers that does not fault.
+  pub signed-quotient : faults_signed (bits size) n m ≡ false
+      → quotient (signed_reckons size) (signed_bits size n) (signed_bits size m) ≡ signed_bits size (pattern_at (bits size) (int_div (signed_at (bits size) n) (signed_at (bits size) m)))
+  signed-quotient safe = elim (sign-of size n fits) [
+    | positive low is same ↦ elim (sign-of size m small) [
+      | positive low' is' same' ↦
+          rw is (rw is' (rw same (rw same' (by-signs t n m false false (above size n low) (above size m low') ∙ signed-up size (n / m) (omega (arith, low, div-le_self n m))))))
+      | negative high' is' same' ↦
+          rw is (rw is' (rw same (rw same' (by-signs t n (bits_below size m) false true (above size n low) (below size m high')
+          ∙ ap (λ d. negated t (n / d)) (size-below size m small) ∙ minus-is size (n / suc u) (omega (arith, low, div-le_self n (suc u)))))))
     ]
-      where
-        one_below : (size : Size) → n < 2 ^ bits size → m < 2 ^ bits size → 2 ^ (bits size - 1) ≤ n → faults_signed (bits size) n m ≡ false → 2 ^ bits size - 1 - m < 1
-            → suc (2 ^ bits size - 1 - n) / suc (2 ^ bits size - 1 - m) < 2 ^ (bits size - 1)
-        one_below bit fits small high safe none = grind (arith, nat_tests)
-        one_below byte fits small high safe none = grind (arith, nat_tests)
-        one_below word fits small high safe none = grind (arith, nat_tests)
-        one_below long fits small high safe none = grind (arith, nat_tests)
-
-        enough : (size : Size) → n < 2 ^ bits size → 2 ^ (bits size - 1) ≤ n → 1 ≤ 2 ^ bits size - 1 - m → suc (2 ^ bits size - 1 - n) < 2 ^ (bits size - 1) * suc (2 ^ bits size - 1 - m)
-        enough bit fits high some = omega (arith, fits, high, some)
-        enough byte fits high some = omega (arith, fits, high, some)
-        enough word fits high some = omega (arith, fits, high, some)
-        enough long fits high some = omega (arith, fits, high, some)
-
-pub signed-remainder : (size : Size) (n m : ℕ) → n < 2 ^ bits size → m < 2 ^ bits size
-    → remainder (signed_reckons size) (signed_bits size n) (signed_bits size m) ≡ signed_bits size (pattern_at (bits size) (int_rem (signed_at (bits size) n) (signed_at (bits size) m)))
-signed-remainder size n m fits small = elim (sign-of size n fits) [
-  | positive low is same ↦ elim (sign-of size m small) [
-    | positive low' is' same' ↦
-        rw is (rw is' (rw same (rw same' (rest-by-signs t n m false false (above size n low) (above size m low') ∙ signed-up size (n % m) (omega (arith, low, mod-le n m))))))
-    | negative high' is' same' ↦
-        rw is (rw is' (rw same (rw same' (rest-by-signs t n (bits_below size m) false true (above size n low) (below size m high')
-        ∙ ap (λ d. n % d) (size-below size m small) ∙ signed-up size (n % suc u) (omega (arith, low, mod-le n (suc u)))))))
+    | negative high is same ↦ elim (sign-of size m small) [
+      | positive low' is' same' ↦
+          rw is (rw is' (rw same (rw same' (by-signs t (bits_below size n) m true false (below size n high) (above size m low')
+          ∙ ap (λ d. negated t (d / m)) (size-below size n fits) ∙ minus-is size (suc v / m) (omega (arith, size-low size n fits high, div-le_self (suc v) m))))))
+      | negative high' is' same' ↦
+          rw is (rw is' (rw same (rw same' (by-signs t (bits_below size n) (bits_below size m) true true (below size n high) (below size m high')
+          ∙ ap₂ (λ c d. c / d) (size-below size n fits) (size-below size m small) ∙ signed-up size (suc v / suc u) (both_below size fits small high safe)))))
+    ]
   ]
-  | negative high is same ↦ elim (sign-of size m small) [
-    | positive low' is' same' ↦
-        rw is (rw is' (rw same (rw same' (rest-by-signs t (bits_below size n) m true false (below size n high) (above size m low')
-        ∙ ap (λ d. negated t (d % m)) (size-below size n fits) ∙ minus-is size (suc v % m) (omega (arith, size-low size n fits high, mod-le (suc v) m))))))
-    | negative high' is' same' ↦
-        rw is (rw is' (rw same (rw same' (rest-by-signs t (bits_below size n) (bits_below size m) true true (below size n high) (below size m high')
-        ∙ ap₂ (λ c d. negated t (c % d)) (size-below size n fits) (size-below size m small) ∙ minus-is size (suc v % suc u) (omega (arith, size-low size n fits high, mod-le (suc v) (suc u)))))))
+    where
+      -- the quotient of two numbers below 0 is no greater than the greatest
+      both_below : (size : Size) → n < 2 ^ bits size → m < 2 ^ bits size → 2 ^ (bits size - 1) ≤ n → faults_signed (bits size) n m ≡ false
+          → suc (2 ^ bits size - 1 - n) / suc (2 ^ bits size - 1 - m) < 2 ^ (bits size - 1)
+      both_below size fits small high safe = elim (cases_lt (2 ^ bits size - 1 - m) 1) [
+        | inl none ↦ one_below size fits small high safe none
+        | inr some ↦ (div-lt_iff_lt-mul (omega arith)).1 (enough size fits high some)
+      ]
+        where
+          one_below : (size : Size) → n < 2 ^ bits size → m < 2 ^ bits size → 2 ^ (bits size - 1) ≤ n → faults_signed (bits size) n m ≡ false → 2 ^ bits size - 1 - m < 1
+              → suc (2 ^ bits size - 1 - n) / suc (2 ^ bits size - 1 - m) < 2 ^ (bits size - 1)
+          one_below bit fits small high safe none = grind (arith, nat_tests)
+          one_below byte fits small high safe none = grind (arith, nat_tests)
+          one_below word fits small high safe none = grind (arith, nat_tests)
+          one_below long fits small high safe none = grind (arith, nat_tests)
+
+          enough : (size : Size) → n < 2 ^ bits size → 2 ^ (bits size - 1) ≤ n → 1 ≤ 2 ^ bits size - 1 - m → suc (2 ^ bits size - 1 - n) < 2 ^ (bits size - 1) * suc (2 ^ bits size - 1 - m)
+          enough bit fits high some = omega (arith, fits, high, some)
+          enough byte fits high some = omega (arith, fits, high, some)
+          enough word fits high some = omega (arith, fits, high, some)
+          enough long fits high some = omega (arith, fits, high, some)
+
+  pub signed-remainder : remainder (signed_reckons size) (signed_bits size n) (signed_bits size m) ≡ signed_bits size (pattern_at (bits size) (int_rem (signed_at (bits size) n) (signed_at (bits size) m)))
+  signed-remainder = elim (sign-of size n fits) [
+    | positive low is same ↦ elim (sign-of size m small) [
+      | positive low' is' same' ↦
+          rw is (rw is' (rw same (rw same' (rest-by-signs t n m false false (above size n low) (above size m low') ∙ signed-up size (n % m) (omega (arith, low, mod-le n m))))))
+      | negative high' is' same' ↦
+          rw is (rw is' (rw same (rw same' (rest-by-signs t n (bits_below size m) false true (above size n low) (below size m high')
+          ∙ ap (λ d. n % d) (size-below size m small) ∙ signed-up size (n % suc u) (omega (arith, low, mod-le n (suc u)))))))
+    ]
+    | negative high is same ↦ elim (sign-of size m small) [
+      | positive low' is' same' ↦
+          rw is (rw is' (rw same (rw same' (rest-by-signs t (bits_below size n) m true false (below size n high) (above size m low')
+          ∙ ap (λ d. negated t (d % m)) (size-below size n fits) ∙ minus-is size (suc v % m) (omega (arith, size-low size n fits high, mod-le (suc v) m))))))
+      | negative high' is' same' ↦
+          rw is (rw is' (rw same (rw same' (rest-by-signs t (bits_below size n) (bits_below size m) true true (below size n high) (below size m high')
+          ∙ ap₂ (λ c d. negated t (c % d)) (size-below size n fits) (size-below size m small) ∙ minus-is size (suc v % suc u) (omega (arith, size-low size n fits high, mod-le (suc v) (suc u)))))))
+    ]
   ]
-]
-  where
-    t : Base
-    t = signed_reckons size
-
-    u : ℕ
-    u = 2 ^ bits size - 1 - m
-
-    v : ℕ
-    v = 2 ^ bits size - 1 - n
 
 -- a division that does not fault on the numbers does not fault where operators reckon
 signed-safe : (size : Size) (n m : ℕ) → n < 2 ^ bits size → m < 2 ^ bits size → faults_signed (bits size) n m ≡ false → division_faults (signed_reckons size) (signed_bits size n) (signed_bits size m) ≡ false

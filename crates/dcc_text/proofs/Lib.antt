@@ -1,3 +1,4 @@
+pub mod HexLaws
 pub mod Sizes
 pub mod Meanings
 pub mod Reckoning
@@ -29,4 +30,5 @@ pub mod StmtLaws
 pub mod Typings
 pub mod TypedTexts
 pub mod AllowedStmts
+pub mod FirstRuns
 pub mod Examples

@@ -1,14 +1,14 @@
 -- Shifts.
-use Rattle.std.proofs.Common.{◌≡◌, ℕ, ◌+◌, ◌-◌, ◌*◌, ◌/◌, ◌%◌, ◌^◌, ◌<◌, ◌≤◌, inl, inr, lit<, add-zero, ◌⊎◌, true, false, refl, sym, ap, ◌∙◌, subst, arith, ℤ, pos, negsuc}
+use Rattle.std.proofs.Common.{◌≡◌, ℕ, ◌+◌, ◌-◌, ◌*◌, ◌/◌, ◌%◌, ◌^◌, ◌<◌, ◌≤◌, inl, inr, ◌⊎◌, true, false, refl, sym, ap, ◌∙◌, subst, arith, ℤ, pos, negsuc}
 use Rattle.std.specs.Prelude.{◌||◌, if◌then◌else◌, nat_le}
 use Rattle.std.proofs.lemmas.Bool.{cases_lt, le-leb, lt-leb}
 use Rattle.std.proofs.lemmas.Bool.Decides.{nat_tests}
-use Rattle.std.proofs.lemmas.Nat.{pow_pos, pow-add, mod_low, shr_le, mul-mod_first}
-use Rattle.std.proofs.Math.Nat.{div-eq_of_lt, pow-le-pow_right}
+use Rattle.std.proofs.lemmas.Nat.{shr_le, mul-mod_first}
 use Rattle.dcc_num.specs.Numbers.{halved_of}
 use Rattle.dcc_ir.specs.declared.syntax.BinOp.TheVariants.{Shl as ShlOp, Shr as ShrOp, Sar as SarOp}
 use Rattle.dcc_ir.specs.Value as inner
 use Rattle.dcc_ir.specs.Value.{signed_at, pattern_at}
+use Rattle.dcc_ir.proofs.ShiftLaws.{all_out_up, all_out_down}
 use Rattle.dcc_c.specs.declared.syntax.Base.{Base}
 use Rattle.dcc_c.specs.declared.syntax.Base.TheVariants.{Int}
 use Rattle.dcc_c.specs.declared.syntax.CBin.TheVariants.{Shl, Shr}
@@ -31,29 +31,13 @@ shl-shifts = record { eager = record { eager = λ s e g. refl }; typing = λ a b
 pub shr-shifts : Shifts Shr shifted_right
 shr-shifts = record { eager = record { eager = λ s e g. refl }; typing = λ a b. refl; valuing = λ a b n m. refl }
 
--- What is left where all bits are shifted out.
-
-nothing_above : (a width count : ℕ) → width ≤ count → 0 ≡ a * 2 ^ count % 2 ^ width
-nothing_above a width count far =
-    let d : ℕ = count - width in
-    let e : count ≡ d + width = omega arith in
-    let p : 2 ^ count ≡ 2 ^ d * 2 ^ width = ap (λ n. 2 ^ n) e ∙ pow-add 2 d width in
-    let q : a * 2 ^ count ≡ a * 2 ^ d * 2 ^ width = rw p (omega arith) in
-    let whole : a * 2 ^ d * 2 ^ width % 2 ^ width ≡ 0 = rw add-zero at (mod_low (a * 2 ^ d) width 0 (pow_pos width)) in
-    sym (rw q whole)
-
-nothing_below : (a width count : ℕ) → a < 2 ^ width → width ≤ count → 0 ≡ a / 2 ^ count
-nothing_below a width count small far =
-    let whole : 2 ^ width ≤ 2 ^ count = pow-le-pow_right (lit< tt) {i = width} {j = count} far in
-    sym (div-eq_of_lt (omega arith))
-
 -- a shift by a count that is no negative number
 pub left-by : (t b : Base) (n m : ℕ) → is_negative b m ≡ false → shifted_left t n b m ≡ n * 2 ^ m % 2 ^ bits_of t
 left-by t b n m counted = ap (λ past. if past || nat_le (bits_of t) m then 0 else n * 2 ^ m % 2 ^ bits_of t) counted ∙ by (cases_lt m (bits_of t))
   where
     by : (m < bits_of t) ⊎ (bits_of t ≤ m) → (if nat_le (bits_of t) m then 0 else n * 2 ^ m % 2 ^ bits_of t) ≡ n * 2 ^ m % 2 ^ bits_of t
     by (inl near) = ap (λ c. if c then 0 else n * 2 ^ m % 2 ^ bits_of t) (lt-leb (bits_of t) m near)
-    by (inr far) = ap (λ c. if c then 0 else n * 2 ^ m % 2 ^ bits_of t) (le-leb (bits_of t) m far) ∙ nothing_above n (bits_of t) m far
+    by (inr far) = ap (λ c. if c then 0 else n * 2 ^ m % 2 ^ bits_of t) (le-leb (bits_of t) m far) ∙ all_out_up n (bits_of t) m far
 
 -- what a right shift by such a count leaves of a number that is not below 0
 moved : (t b : Base) (n m : ℕ) → n < 2 ^ bits_of t → is_negative b m ≡ false → (if is_past t b m then 0 else n / 2 ^ m) ≡ n / 2 ^ m
@@ -61,7 +45,7 @@ moved t b n m fits counted = ap (λ past. if past || nat_le (bits_of t) m then 0
   where
     by : (m < bits_of t) ⊎ (bits_of t ≤ m) → (if nat_le (bits_of t) m then 0 else n / 2 ^ m) ≡ n / 2 ^ m
     by (inl near) = ap (λ c. if c then 0 else n / 2 ^ m) (lt-leb (bits_of t) m near)
-    by (inr far) = ap (λ c. if c then 0 else n / 2 ^ m) (le-leb (bits_of t) m far) ∙ nothing_below n (bits_of t) m fits far
+    by (inr far) = ap (λ c. if c then 0 else n / 2 ^ m) (le-leb (bits_of t) m far) ∙ all_out_down n (bits_of t) m fits far
 
 pub right-positive : (t b : Base) (n m : ℕ) → n < 2 ^ bits_of t → is_negative t n ≡ false → is_negative b m ≡ false → shifted_right t n b m ≡ n / 2 ^ m
 right-positive t b n m fits up counted =

@@ -38,6 +38,35 @@ no-bit byte stored = refl
 no-bit word stored = refl
 no-bit long stored = refl
 
+-- a division that is well formed, for a location of so many bits
+pub record Dividing (bits_at : List ℕ) (w : ℕ) (operator : BinOp) (width : ℕ) (a b : inner.Expr) : Type 0 where
+  pub is : is_division operator ≡ true
+  pub same : width ≡ w
+  pub stored : is_stored_width width ≡ true
+  pub left : is_expr bits_at a ≡ true
+  pub left_width : width_of bits_at a ≡ width
+  pub right : is_expr bits_at b ≡ true
+  pub right_width : width_of bits_at b ≡ width
+
+pub dividing-parts : (bits_at : List ℕ) (w : ℕ) (operator : BinOp) (width : ℕ) (a b : inner.Expr) → is_dividing bits_at w (inner.Binary operator width a b) ≡ true → Dividing bits_at w operator width a b
+dividing-parts bits_at w operator width a b formed =
+    let (four, second) = and_parts (is_division operator && (width == w) && is_stored_width w && is_expr_of bits_at w a) (is_expr_of bits_at w b) formed in
+    let (three, first) = and_parts (is_division operator && (width == w) && is_stored_width w) (is_expr_of bits_at w a) four in
+    let (two, stored) = and_parts (is_division operator && (width == w)) (is_stored_width w) three in
+    let (is, same) = and_parts (is_division operator) (width == w) two in
+    let width_is = eqb-true width w same in
+    let (a_formed, a_width) = and_parts (is_expr bits_at a) (width_of bits_at a == w) first in
+    let (b_formed, b_width) = and_parts (is_expr bits_at b) (width_of bits_at b == w) second in
+    record {
+      is = is;
+      same = width_is;
+      stored = subst (λ k. is_stored_width k ≡ true) (sym width_is) stored;
+      left = a_formed;
+      left_width = eqb-true (width_of bits_at a) w a_width ∙ sym width_is;
+      right = b_formed;
+      right_width = eqb-true (width_of bits_at b) w b_width ∙ sym width_is;
+    }
+
 module _ (s : Spelling) (whole : Tree) (Before After : Loc → Type 0) (AreAlike : List inner_run.Waiting → List text_run.Waiting → Type 0)
     (depth at : ℕ) (i : inner_run.State) (t : text_run.State) (spelling : IsSpelling s) (fits : Fits (inner_run.scene_of i)) (before : (l : Loc) → Before l → s.named l ≡ true)
     (h : Holds s Before AreAlike i t) where
@@ -118,18 +147,9 @@ module _ (s : Spelling) (whole : Tree) (Before After : Loc → Type 0) (AreAlike
   div-step : (location : Loc) (e : inner.Expr) → is_dividing s.bits (location_width s.bits location) e ≡ true → s.named location ≡ true → IsWithin s Before e
       → ((l : Loc) → After l → Contains (location ∷ []) l ⊎ Before l) → Steps (inner.Div location e)
   div-step location (inner.Binary operator width a b) formed named within left =
-      let w = location_width s.bits location in
-      let (four, second) = and_parts (is_division operator && (width == w) && is_stored_width w && is_expr_of s.bits w a) (is_expr_of s.bits w b) formed in
-      let (three, first) = and_parts (is_division operator && (width == w) && is_stored_width w) (is_expr_of s.bits w a) four in
-      let (two, stored) = and_parts (is_division operator && (width == w)) (is_stored_width w) three in
-      let (is, same) = and_parts (is_division operator) (width == w) two in
-      let width_is = eqb-true width w same in
-      let (a_formed, a_width) = and_parts (is_expr s.bits a) (width_of s.bits a == w) first in
-      let (b_formed, b_width) = and_parts (is_expr s.bits b) (width_of s.bits b == w) second in
-      let stored_here = subst (λ k. is_stored_width k ≡ true) (sym width_is) stored in
-      let z = size-of width (stored-is width stored_here) in
-      div-at location operator width a b named is stored_here (sym width_is) a_formed (eqb-true (width_of s.bits a) w a_width ∙ sym width_is) b_formed (eqb-true (width_of s.bits b) w b_width ∙ sym width_is)
-      within left z.0 z.1
+      let x = dividing-parts s.bits (location_width s.bits location) operator width a b formed in
+      let z = size-of width (stored-is width x.stored) in
+      div-at location operator width a b named x.is x.stored (sym x.same) x.left x.left_width x.right x.right_width within left z.0 z.1
   div-step location e formed named within left = absurd (true≢false (sym formed))
 
   pub stmt-steps : (stmt : inner.Stmt) → is_stmt s.bits stmt ≡ true → inner_run.is_call stmt ≡ false → All (IsWithin s Before) (exprs_of stmt)

@@ -19,29 +19,24 @@ is_wide size = false
 
 -- Words and longs.
 
-pub wide-bits : (way : Way) (size : Size) (base : Base) → is_wide size ≡ true → carries way size base ≡ true → bits_of base ≡ bits size
-wide-bits way size base wide is = at size base wide (carries-low way size base is)
+-- such a type has the number's own bits, and operators reckon in it as it stands
+wide-type : (way : Way) (size : Size) (base : Base) → is_wide size ≡ true → carries way size base ≡ true → (bits_of base ≡ bits size) × (promoted_type base ≡ base)
+wide-type way size base wide is = at size base wide (carries-low way size base is)
   where
-    at : (size : Size) (base : Base) → is_wide size ≡ true → carries Low size base ≡ true → bits_of base ≡ bits size
-    at word Int wide is = refl
-    at word Uint wide is = refl
-    at long Long wide is = refl
-    at long Ulong wide is = refl
+    at : (size : Size) (base : Base) → is_wide size ≡ true → carries Low size base ≡ true → (bits_of base ≡ bits size) × (promoted_type base ≡ base)
+    at word Int wide is = (refl, refl)
+    at word Uint wide is = (refl, refl)
+    at long Long wide is = (refl, refl)
+    at long Ulong wide is = (refl, refl)
     at word base wide is = absurd (true≢false (sym is))
     at long base wide is = absurd (true≢false (sym is))
     at size base wide is = absurd (true≢false (sym wide))
 
+pub wide-bits : (way : Way) (size : Size) (base : Base) → is_wide size ≡ true → carries way size base ≡ true → bits_of base ≡ bits size
+wide-bits way size base wide is = (wide-type way size base wide is).0
+
 pub wide-promoted : (way : Way) (size : Size) (base : Base) → is_wide size ≡ true → carries way size base ≡ true → promoted_type base ≡ base
-wide-promoted way size base wide is = at size base wide (carries-low way size base is)
-  where
-    at : (size : Size) (base : Base) → is_wide size ≡ true → carries Low size base ≡ true → promoted_type base ≡ base
-    at word Int wide is = refl
-    at word Uint wide is = refl
-    at long Long wide is = refl
-    at long Ulong wide is = refl
-    at word base wide is = absurd (true≢false (sym is))
-    at long base wide is = absurd (true≢false (sym is))
-    at size base wide is = absurd (true≢false (sym wide))
+wide-promoted way size base wide is = (wide-type way size base wide is).1
 
 pub wide-common : (way : Way) (size : Size) (a b : Base) → is_wide size ≡ true → carries way size a ≡ true → carries way size b ≡ true → carries way size (common_type a b) ≡ true
 wide-common Low word Int Int wide is also = refl

@@ -1,6 +1,7 @@
 pub mod Spelling
 pub mod Spelled
 pub mod Names
+pub mod Hex
 pub mod Views
 pub mod Meaning
 pub mod Stmts

@@ -90,19 +90,29 @@ fn joined(alloc: Global, way: Way, width: u32, high: CExpr, low: CExpr) -> Resul
     Way::Exact.taken(alloc, way, both, e)
 }
 
-/// The number of so many bits in memory at an address whose low bits the expression gives, in a way.
+// An address in the frame in a way.
+fn address<S: Spells>(alloc: Global, s: &S, way: Way, distance: u16) -> Result<CExpr, AllocError>
+    ensures { IfOk result (λ r. expr_of r ≡ spec.text (S.spelling s.now) (way_of way) false (inner.Address distance)) }
+{
+    let place = s.place(alloc, distance)?;
+    Way::Exact.taken(alloc, way, 16, placed(alloc, place)?)
+}
+
+/// The text of the number of so many bits in memory at an address, in a way. Want of memory is the only error, and an
+/// expression with more bits than 32 bits can number is told as such.
+#[cycle(text)]
 pub fn loaded<S: Spells>(
     alloc: Global,
     s: &S,
     way: Way,
     width: u8,
     address: &Expr,
-    e: CExpr,
 ) -> Result<CExpr, AllocError>
-    ensures { IfOk result (λ r. expr_of r ≡ spec.taken spec.Exact (way_of way) width
-        (tree.Unary Deref (spec.pointer (S.spelling s.now) width (inner_of address.now) (expr_of e)))) }
+    ensures { IfOk result (λ r. expr_of r ≡ spec.text (S.spelling s.now) (way_of way) false
+        (inner.Load width (inner_of address.now))) }
 {
-    let number = pointed(alloc, s, width, address, e)?;
+    let at = expr_text(alloc, s, Way::Low, false, address)?;
+    let number = pointed(alloc, s, width, address, at)?;
     Way::Exact.taken(alloc, way, u32::from(width), number)
 }
 
@@ -180,10 +190,7 @@ pub fn expr_text<S: Spells>(
     match e {
         Expr::Const(width, number) => constant(alloc, way, *width, *number),
         Expr::Get(location) => variable(alloc, s, way, votes, *location),
-        Expr::Load(width, address) => {
-            let a = expr_text(alloc, s, Way::Low, false, address)?;
-            loaded(alloc, s, way, *width, address, a)
-        }
+        Expr::Load(width, address) => loaded(alloc, s, way, *width, address),
         Expr::Un(operator, width, operand) => unary_expr(alloc, s, way, *operator, *width, operand),
         Expr::Bin(operator, width, left, right) => {
             let width = u32::from(*width);
@@ -193,9 +200,7 @@ pub fn expr_text<S: Spells>(
             let b = expr_text(alloc, s, right_way, votes_right(*operator), right)?;
             binary_taken(alloc, way, *operator, width, a, b)
         }
-        Expr::Widen(by_sign, width, operand) => widened_expr(
-            alloc, s, way, *by_sign, *width, operand,
-        ),
+        Expr::Widen(by_sign, width, e) => widened_expr(alloc, s, way, *by_sign, *width, e),
         Expr::Part(width, first, operand) => part_expr(alloc, s, way, *width, *first, operand),
         Expr::Join(high, low) => {
             let width = width_in(s, low)?;
@@ -209,8 +214,6 @@ pub fn expr_text<S: Spells>(
             let b = expr_text(alloc, s, way, false, other)?;
             conditional(alloc, test, a, b)
         }
-        Expr::Address(distance) => {
-            Way::Exact.taken(alloc, way, 16, placed(alloc, s.place(alloc, *distance)?)?)
-        }
+        Expr::Address(distance) => address(alloc, s, way, *distance),
     }
 }

@@ -3,6 +3,7 @@
 
 pub mod constant;
 pub mod expression;
+pub mod hex;
 pub mod laws;
 pub mod nodes;
 pub mod operator;

@@ -72,8 +72,7 @@ fn fetching<S: Spells>(
     ensures { IfOk result (λ r. stmt_of r
         ≡ stmts.setting (S.spelling s.now) location (inner.Load width (inner_of address.now))) }
 {
-    let at = expr_text(alloc, s, Way::Low, false, address)?;
-    let value = loaded(alloc, s, wanted_way(s, location), width, address, at)?;
+    let value = loaded(alloc, s, wanted_way(s, location), width, address)?;
     assignment(alloc, s, location, value)
 }
 
@@ -234,6 +233,40 @@ fn dos_function(number: u8) -> &'static str
     }
 }
 
+// The call of the graph with that entry, where so many bytes are its depth of calls.
+fn graph_call<S: Spells>(
+    alloc: Global,
+    s: &S,
+    depth: u32,
+    results: &[Loc],
+    entry: u16,
+    es: &[Expr],
+) -> Result<CStmt, AllocError>
+    ensures { IfOk result (λ r. stmt_of r ≡ stmts.stmt_text (S.spelling s.now) 0
+        (inner.Call results.now entry (map inner_of es.now) depth)) }
+{
+    let place = first_place(alloc, s, results)?;
+    let function = s.function(alloc, entry)?;
+    Ok(CStmt::Call(place, function, arguments(alloc, s, es)?, depth))
+}
+
+// The DOS call of that number, where so many bytes are the depth of calls in force.
+fn dos_call<S: Spells>(
+    alloc: Global,
+    s: &S,
+    depth: u32,
+    number: u8,
+    place: Option<Loc>,
+    e: &Option<Expr>,
+) -> Result<CStmt, AllocError>
+    ensures { IfOk result (λ r. stmt_of r ≡ stmts.stmt_text (S.spelling s.now) depth
+        (inner.Dos number place (option_map inner_of e.now))) }
+{
+    let place = taking(alloc, s, place)?;
+    let function = String::from_str(alloc, dos_function(number))?;
+    Ok(CStmt::Call(place, function, argument(alloc, s, e)?, depth))
+}
+
 /// The statement of a statement, where so many bytes are the depth of calls in force. A call of another graph has its
 /// own. Want of memory is the only error, and an expression with more bits than 32 bits can number is told as such.
 pub fn stmt_text<S: Spells>(
@@ -262,21 +295,13 @@ pub fn stmt_text<S: Spells>(
         Stmt::Call {
             results,
             entry,
-            arguments: es,
+            arguments,
             depth: own,
-        } => {
-            let place = first_place(alloc, s, results)?;
-            let function = s.function(alloc, *entry)?;
-            Ok(CStmt::Call(place, function, arguments(alloc, s, es)?, u32::from(*own)))
-        }
+        } => graph_call(alloc, s, u32::from(*own), results, *entry, arguments),
         Stmt::Dos {
             number,
             place,
-            argument: e,
-        } => {
-            let place = taking(alloc, s, *place)?;
-            let function = String::from_str(alloc, dos_function(*number))?;
-            Ok(CStmt::Call(place, function, argument(alloc, s, e)?, depth))
-        }
+            argument,
+        } => dos_call(alloc, s, depth, *number, *place, argument),
     }
 }

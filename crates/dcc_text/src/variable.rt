@@ -150,28 +150,8 @@ pub fn placed(alloc: Global, place: Option<Place>) -> Result<CExpr, AllocError>
     }
 }
 
-// A pointer to a number of so many bits, at an address whose low bits the expression gives. A pointer to such numbers
-// is one as it stands.
-fn pointer<S: Spells>(
-    alloc: Global,
-    s: &S,
-    width: u8,
-    address: &Expr,
-    e: CExpr,
-) -> Result<CExpr, AllocError>
-    ensures { IfOk result (λ r. expr_of r
-        ≡ spec.pointer (S.spelling s.now) width (inner_of address.now) (expr_of e)) }
-{
-    let ty = CType::pointer_to(unsigned_type(u32::from(width)));
-    match address {
-        Expr::Get(location) if is_same_type(s.type_of(*location), ty) => {
-            Ok(CExpr::Name(s.name(alloc, *location)?))
-        }
-        _ => cast_to(alloc, ty, e),
-    }
-}
-
-/// The number of so many bits in memory at an address whose low bits the expression gives.
+/// The number of so many bits in memory at an address whose low bits the expression gives. A pointer to such numbers is
+/// one as it stands.
 pub fn pointed<S: Spells>(
     alloc: Global,
     s: &S,
@@ -182,5 +162,11 @@ pub fn pointed<S: Spells>(
     ensures { IfOk result (λ r. expr_of r
         ≡ tree.Unary CUn.Deref (spec.pointer (S.spelling s.now) width (inner_of address.now) (expr_of e))) }
 {
-    unary(alloc, CUn::Deref, pointer(alloc, s, width, address, e)?)
+    let ty = CType::pointer_to(unsigned_type(u32::from(width)));
+    match address {
+        Expr::Get(location) if is_same_type(s.type_of(*location), ty) => {
+            unary(alloc, CUn::Deref, CExpr::Name(s.name(alloc, *location)?))
+        }
+        _ => unary(alloc, CUn::Deref, cast_to(alloc, ty, e)?),
+    }
 }
