@@ -1,5 +1,5 @@
 -- The folded graph mentions no flag but those that are kept.
-use Rattle.std.proofs.Common.{◌≡◌, ℕ, Bool, true, false, ◌&&◌, ◌||◌, not, inl, inr, List, [], ◌∷◌, ◌++◌, length, Some, None, refl, sym, ap, ◌∙◌, true≢false, flat_map, map, Contains, eqb-true}
+use Rattle.std.proofs.Common.{◌≡◌, ℕ, Bool, true, false, ◌&&◌, ◌||◌, not, inl, inr, List, [], ◌∷◌, ◌++◌, length, Some, None, refl, sym, ap, ◌∙◌, true≢false, flat_map, map, Contains, eqb-true, rules}
 use Rattle.std.specs.Prelude.{if◌then◌else◌, ◌==◌}
 use Rattle.std.specs.List.{AllZip, list_all, list_any}
 use Rattle.std.proofs.lemmas.List.Concat.{flat_map-append}
@@ -28,27 +28,10 @@ use Rattle.dcc_flags.proofs.EachLaws.{Each, each_at, ValuesHave, each_past, each
 
 module _ (f : FlagName) where
   gets_kind : OfKind (gets f)
-  gets_kind = record {
-    load = λ w a a'. refl;
-    unary = λ o w a a'. refl;
-    binary = λ o w a b a' b'. refl;
-    widen = λ s w a a'. refl;
-    part = λ w k a a'. refl;
-    join = λ a b a' b'. refl;
-    choose = λ x a b x' a' b'. refl;
-  }
+  gets_kind = search rules
 
   gets_reads : OfReads (gets f)
-  gets_reads = record {
-    const = λ w n. refl;
-    temp = λ n. refl;
-    unary = λ o w a. refl;
-    binary = λ o w a b. refl;
-    widen = λ s w a. refl;
-    part = λ w k a. refl;
-    join = λ a b. refl;
-    choose = λ x a b. refl;
-  }
+  gets_reads = search rules
 
   -- the flag is not read
   abbrev Lacks : Expr → Type 0

@@ -1,6 +1,6 @@
 -- The folded graph has kinds of parts and statements that the graph has, beside reads of flags and temporaries, and
 -- statements that set temporaries.
-use Rattle.std.proofs.Common.{◌≡◌, ℕ, Bool, true, false, not, List, [], ◌∷◌, ◌++◌, length, Some, None, refl, sym, ap, ◌∙◌, true≢false, flat_map, map}
+use Rattle.std.proofs.Common.{◌≡◌, ℕ, Bool, true, false, not, List, [], ◌∷◌, ◌++◌, length, Some, None, refl, sym, ap, ◌∙◌, true≢false, flat_map, map, rules}
 use Rattle.std.specs.Prelude.{if◌then◌else◌}
 use Rattle.std.specs.List.{AllZip, list_all, list_any}
 use Rattle.std.proofs.lemmas.List.Concat.{flat_map-append}
@@ -48,15 +48,7 @@ module _ (test : Expr → Bool) (flags : (f : FlagName) → test (Get (Flag f)) 
   at_kind e = test (kind_of e)
 
   by_kind : OfKind at_kind
-  by_kind = record {
-    load = λ w a a'. refl;
-    unary = λ o w a a'. refl;
-    binary = λ o w a b a' b'. refl;
-    widen = λ s w a a'. refl;
-    part = λ w k a a'. refl;
-    join = λ a b a' b'. refl;
-    choose = λ x a b x' a' b'. refl;
-  }
+  by_kind = search rules
 
   abbrev Lacks : Expr → Type 0
   Lacks e = has_part at_kind e ≡ false

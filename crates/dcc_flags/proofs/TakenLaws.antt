@@ -15,7 +15,7 @@ use Rattle.dcc_ir.proofs.PathLaws.{decided}
 use Rattle.dcc_flags.specs.Folding.{Taken, has_truth, bits_in, copied, one_taken, two_taken, taken}
 use Rattle.dcc_flags.specs.Fresh.{is_between, is_over}
 use Rattle.dcc_ir.proofs.passes.FormLaws.{width_more}
-use Rattle.dcc_flags.proofs.ExprLaws.{and_both, Formed, unary_formed, binary_formed, within_formed, join_formed, choose_formed, make_choose, load_formed, unary_still, binary_still, widen_still, part_still, join_still, choose_still, expr_more}
+use Rattle.dcc_flags.proofs.ExprLaws.{and_both, Formed, unary_formed, binary_formed, within_formed, join_formed, choose_formed, ChooseFormed, make_choose, load_formed, unary_still, binary_still, widen_still, part_still, join_still, choose_still, expr_more}
 
 -- Widths.
 
@@ -312,6 +312,44 @@ with_other-formed bits bits' x a b x' a' b' ok p q =
       width = p.width;
     }
 
+-- what is taken of the three parts of a choice, one after another
+record ChosenTaken (bits : List ℕ) (x a b : Expr) : Type 0 where
+  parts : ChooseFormed bits x a b
+  first : IsTaken bits x (taken bits x)
+  first_widths : list_all is_width (bits ++ (taken bits x).widths) ≡ true
+  one : is_expr (bits ++ (taken bits x).widths) a ≡ true
+  second : IsTaken (bits ++ (taken bits x).widths) a (taken (bits ++ (taken bits x).widths) a)
+  second_widths : list_all is_width (bits ++ (taken bits x).widths ++ (taken (bits ++ (taken bits x).widths) a).widths) ≡ true
+  other : is_expr (bits ++ (taken bits x).widths ++ (taken (bits ++ (taken bits x).widths) a).widths) b ≡ true
+  third : IsTaken (bits ++ (taken bits x).widths ++ (taken (bits ++ (taken bits x).widths) a).widths) b
+      (taken (bits ++ (taken bits x).widths ++ (taken (bits ++ (taken bits x).widths) a).widths) b)
+
+abbrev TakenWell : List ℕ → Expr → Type 0
+TakenWell bits e = list_all is_width bits ≡ true → is_expr bits e ≡ true → IsTaken bits e (taken bits e)
+
+chosen_taken : (bits : List ℕ) (x a b : Expr) → list_all is_width bits ≡ true → is_expr bits (Choose x a b) ≡ true
+    → TakenWell bits x → TakenWell (bits ++ (taken bits x).widths) a
+    → TakenWell (bits ++ (taken bits x).widths ++ (taken (bits ++ (taken bits x).widths) a).widths) b → ChosenTaken bits x a b
+chosen_taken bits x a b all ok x_is a_is b_is =
+    let more = bits ++ (taken bits x).widths in
+    let f = choose_formed bits x a b ok in
+    let h = x_is all f.tested in
+    let first_widths = widths_more bits (taken bits x).widths all h.widths in
+    let one = (expr_more bits (taken bits x).widths a f.one).formed in
+    let k = a_is first_widths one in
+    let second_widths = widths_more more (taken more a).widths first_widths k.widths in
+    let other = (expr_more more (taken more a).widths b (expr_more bits (taken bits x).widths b f.other).formed).formed in
+    record {
+      parts = f;
+      first = h;
+      first_widths = first_widths;
+      one = one;
+      second = k;
+      second_widths = second_widths;
+      other = other;
+      third = b_is second_widths other;
+    }
+
 pub taken_is : (bits : List ℕ) (e : Expr) → list_all is_width bits ≡ true → is_expr bits e ≡ true → IsTaken bits e (taken bits e)
 unfolding with_other
 taken_is bits (Const w n) all ok = record {
@@ -355,18 +393,14 @@ taken_is bits (Join a b) all ok =
     (λ bits' p q. join_still bits bits' a b (taken bits a).value (taken more b).value ok p q))
     (copied_is bits (Join a b) all ok)
 taken_is bits (Choose x a b) all ok =
-    let f = choose_formed bits x a b ok in
     let t = taken bits x in
     let u = taken (bits ++ t.widths) a in
     let v = taken (bits ++ t.widths ++ u.widths) b in
-    let h = taken_is bits x all f.tested in
-    let m = expr_more bits t.widths a f.one in
-    let k = taken_is (bits ++ t.widths) a (widths_more bits t.widths all h.widths) m.formed in
-    let more = widths_more (bits ++ t.widths) u.widths (widths_more bits t.widths all h.widths) k.widths in
-    let n = expr_more (bits ++ t.widths) u.widths b (expr_more bits t.widths b f.other).formed in
-    let l = subst (λ w. IsTaken w b v) (append_assoc bits t.widths u.widths) (taken_is (bits ++ t.widths ++ u.widths) b more n.formed) in
+    let c = chosen_taken bits x a b all ok (taken_is bits x) (taken_is (bits ++ t.widths) a) (taken_is (bits ++ t.widths ++ u.widths) b) in
+    let f = c.parts in
+    let l = subst (λ w. IsTaken w b v) (append_assoc bits t.widths u.widths) c.third in
     let once = make_choose bits x a a (record { tested = f.tested; one = f.one; other = f.one; bit = f.bit; same = eq-eqb (width_of bits a) (width_of bits a) refl }) in
-    let first : IsTaken bits (Choose x a a) (two_taken (λ y z. Choose y z z) t u) = two_is bits (λ y z. Choose y z z) x a t u h k f.one
+    let first : IsTaken bits (Choose x a a) (two_taken (λ y z. Choose y z z) t u) = two_is bits (λ y z. Choose y z z) x a t u c.first c.second f.one
     (λ low high y z p q. and_both (is_over low high y && is_over low high z) (is_over low high z) (and_both (is_over low high y) (is_over low high z) p q) q)
     (λ bits' p q. choose_still bits bits' x a a t.value u.value u.value once p q q) in
     let whole : IsTaken bits (Choose x a b) (two_taken with_other (two_taken (λ y z. Choose y z z) t u) v) = two_is bits with_other (Choose x a a) b (two_taken (λ y z. Choose y z z) t u) v first l f.other
@@ -622,37 +656,30 @@ taken_value bits (Join a b) all ok =
     ap₂ (λ m n. m + n) (ap₂ (λ m n. m * 2 ^ n) x w) y)
     (copied_value bits (Join a b))
 taken_value bits (Choose x a b) all ok = λ s more is.
-    let f = choose_formed bits x a b ok in
     let t = taken bits x in
     let u = taken (bits ++ t.widths) a in
     let v = taken (bits ++ t.widths ++ u.widths) b in
-    let h = taken_is bits x all f.tested in
-    let all' = widths_more bits t.widths all h.widths in
-    let a_ok = (expr_more bits t.widths a f.one).formed in
-    let k = taken_is (bits ++ t.widths) a all' a_ok in
-    let all'' = widths_more (bits ++ t.widths) u.widths all' k.widths in
-    let b_ok = (expr_more (bits ++ t.widths) u.widths b (expr_more bits t.widths b f.other).formed).formed in
-    let l = taken_is (bits ++ t.widths ++ u.widths) b all'' b_ok in
+    let c = chosen_taken bits x a b all ok (taken_is bits x) (taken_is (bits ++ t.widths) a) (taken_is (bits ++ t.widths ++ u.widths) b) in
     let assoc : bits ++ (t.widths ++ u.widths ++ v.widths) ≡ (bits ++ t.widths ++ u.widths) ++ v.widths = sym (append_assoc bits (t.widths ++ u.widths) v.widths) ∙ ap (λ z. z ++ v.widths) (sym (append_assoc bits t.widths u.widths)) in
     let s_all : s.bits ≡ ((bits ++ t.widths ++ u.widths) ++ v.widths) ++ more = is ∙ ap (λ z. z ++ more) assoc in
     let s_two : s.bits ≡ (bits ++ (t.widths ++ u.widths)) ++ (v.widths ++ more) = s_all ∙ append_assoc (bits ++ t.widths ++ u.widths) v.widths more ∙ ap (λ z. z ++ (v.widths ++ more)) (append_assoc bits t.widths u.widths) in
-    let first = two_values bits x a t u f.tested f.one h k (taken_value bits x all f.tested) (taken_value (bits ++ t.widths) a all' a_ok) s (v.widths ++ more) s_two in
+    let first = two_values bits x a t u c.parts.tested c.parts.one c.first c.second (taken_value bits x all c.parts.tested) (taken_value (bits ++ t.widths) a c.first_widths c.one) s (v.widths ++ more) s_two in
     let mid = after_sets (t.copies ++ u.copies) s in
     let end = after_append (t.copies ++ u.copies) v.copies s in
     let mid_bits : mid.bits ≡ ((bits ++ t.widths ++ u.widths) ++ v.widths) ++ more = after_bits (t.copies ++ u.copies) s ∙ s_all in
     let top = length (bits ++ t.widths ++ u.widths) in
     let one = length-append bits t.widths in
     let two = length-append (bits ++ t.widths) u.widths in
-    let still = λ (n : ℕ) (high : n < top). sets_same top ((bits ++ t.widths ++ u.widths) ++ v.widths) v.copies l.copies mid (Temp n) (temp_outside top (length ((bits ++ t.widths ++ u.widths) ++ v.widths)) n high) in
-    let x_over = over_wider (length bits) (length (bits ++ t.widths)) 0 top (omega arith) (omega arith) t.value h.over in
-    let a_over = over_wider (length (bits ++ t.widths)) top 0 top (omega arith) (omega arith) u.value k.over in
+    let still = λ (n : ℕ) (high : n < top). sets_same top ((bits ++ t.widths ++ u.widths) ++ v.widths) v.copies c.third.copies mid (Temp n) (temp_outside top (length ((bits ++ t.widths ++ u.widths) ++ v.widths)) n high) in
+    let x_over = over_wider (length bits) (length (bits ++ t.widths)) 0 top (omega arith) (omega arith) t.value c.first.over in
+    let a_over = over_wider (length (bits ++ t.widths)) top 0 top (omega arith) (omega arith) u.value c.second.over in
     let vx = ap (λ (z : Scene). value_of z t.value) end ∙ over_value 0 mid (after_sets v.copies mid) (after_bits v.copies mid) top (λ n low high. still n high) t.value x_over ∙ first.first in
     let va = ap (λ (z : Scene). value_of z u.value) end ∙ over_value 0 mid (after_sets v.copies mid) (after_bits v.copies mid) top (λ n low high. still n high) u.value a_over ∙ first.second in
-    let copies_all = all_append (is_copy (length bits) (bits ++ t.widths ++ u.widths)) t.copies u.copies (copies_more (length bits) (bits ++ t.widths) u.widths t.copies h.copies)
-    (copies_lower (length (bits ++ t.widths)) (length bits) (bits ++ t.widths ++ u.widths) u.copies (omega arith) k.copies) in
-    let vb = ap (λ (z : Scene). value_of z v.value) end ∙ taken_value (bits ++ t.widths ++ u.widths) b all'' b_ok mid more mid_bits
+    let copies_all = all_append (is_copy (length bits) (bits ++ t.widths ++ u.widths)) t.copies u.copies (copies_more (length bits) (bits ++ t.widths) u.widths t.copies c.first.copies)
+    (copies_lower (length (bits ++ t.widths)) (length bits) (bits ++ t.widths ++ u.widths) u.copies (omega arith) c.second.copies) in
+    let vb = ap (λ (z : Scene). value_of z v.value) end ∙ taken_value (bits ++ t.widths ++ u.widths) b c.second_widths c.other mid more mid_bits
     ∙ old_value bits s mid (after_bits (t.copies ++ u.copies) s) (after_base (t.copies ++ u.copies) s) (after_memory (t.copies ++ u.copies) s)
-    (λ y there. sets_same (length bits) (bits ++ t.widths ++ u.widths) (t.copies ++ u.copies) copies_all s y (old_outside bits (bits ++ t.widths ++ u.widths) y there)) b f.other in
+    (λ y there. sets_same (length bits) (bits ++ t.widths ++ u.widths) (t.copies ++ u.copies) copies_all s y (old_outside bits (bits ++ t.widths ++ u.widths) y there)) b c.parts.other in
     let last = after_sets (t.copies ++ u.copies ++ v.copies) s in
     ap (λ n. if n == 1 then value_of last u.value else value_of last v.value) vx
     ∙ ap₂ (λ y z. if value_of s x == 1 then y else z) va vb

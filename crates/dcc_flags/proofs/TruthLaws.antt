@@ -1,5 +1,5 @@
 -- Truth statements of the folded graph were flag statements at the same locations.
-use Rattle.std.proofs.Common.{◌≡◌, ℕ, Bool, true, false, ◌&&◌, ◌||◌, not, List, [], ◌∷◌, ◌++◌, length, refl, sym, ap, ◌∙◌, true≢false, flat_map, subst, append-nil}
+use Rattle.std.proofs.Common.{◌≡◌, ℕ, Bool, true, false, ◌&&◌, ◌||◌, not, List, [], ◌∷◌, ◌++◌, length, refl, sym, ap, ◌∙◌, true≢false, flat_map, subst, append-nil, rules}
 use Rattle.std.specs.Prelude.{if◌then◌else◌}
 use Rattle.std.specs.List.{AllZip, list_all, list_any}
 use Rattle.std.proofs.lemmas.List.Concat.{flat_map-append}
@@ -24,15 +24,7 @@ use Rattle.dcc_flags.proofs.EachLaws.{Each, each_at, ValuesHave, each_past, each
 -- Expressions.
 
 truth_kind : OfKind is_truth
-truth_kind = record {
-  load = λ w a a'. refl;
-  unary = λ o w a a'. refl;
-  binary = λ o w a b a' b'. refl;
-  widen = λ s w a a'. refl;
-  part = λ w k a a'. refl;
-  join = λ a b a' b'. refl;
-  choose = λ x a b x' a' b'. refl;
-}
+truth_kind = search rules
 
 -- no truth stands in an expression without truths and reads of flags
 unread : (c : Choices) (ps : List Expr) → list_any is_truth ps ≡ false → list_any is_flag_place (flat_map got_by ps) ≡ false → list_any (in_chosen is_truth c) ps ≡ false
@@ -88,16 +80,7 @@ is_load (Load w a) = true
 is_load e = false
 
 loadless : OfReads is_load
-loadless = record {
-  const = λ w n. refl;
-  temp = λ n. refl;
-  unary = λ o w a. refl;
-  binary = λ o w a b. refl;
-  widen = λ s w a. refl;
-  part = λ w k a. refl;
-  join = λ a b. refl;
-  choose = λ x a b. refl;
-}
+loadless = search rules
 
 -- what loads nothing loads from no truth
 no_load : (ps : List Expr) → list_any is_load ps ≡ false → list_any loads_truth ps ≡ false

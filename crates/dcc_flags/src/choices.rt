@@ -1,6 +1,7 @@
 //! For each flag an expression that has its value.
 
 ghost use Rattle.std.specs.Prelude.{◌≡◌, map, option_map, IfOk};
+ghost use Rattle.dcc_ir.specs.Tree as tree;
 ghost use Rattle.dcc_ir.specs.Views.{expr_of, stmt_of, exit_of};
 ghost use Rattle.dcc_flags.specs.Folding as spec;
 
@@ -22,42 +23,34 @@ pub struct Choices {
 pub fn copied(alloc: Global, e: &Expr) -> Result<Expr, AllocError>
     ensures { IfOk result (λ r. expr_of r ≡ expr_of e.now) }
 {
-    Ok(match e {
-        Expr::Const(width, number) => Expr::Const(*width, *number),
-        Expr::Get(location) => Expr::Get(*location),
-        Expr::Load(width, address) => Expr::Load(*width, Box::new(alloc, copied(alloc, address)?)?),
-        Expr::Un(operator, width, operand) => Expr::Un(
-            *operator,
-            *width,
-            Box::new(alloc, copied(alloc, operand)?)?,
-        ),
-        Expr::Bin(operator, width, left, right) => Expr::Bin(
-            *operator,
-            *width,
-            Box::new(alloc, copied(alloc, left)?)?,
-            Box::new(alloc, copied(alloc, right)?)?,
-        ),
-        Expr::Widen(by_sign, width, operand) => Expr::Widen(
-            *by_sign,
-            *width,
-            Box::new(alloc, copied(alloc, operand)?)?,
-        ),
-        Expr::Part(width, first, operand) => Expr::Part(
-            *width,
-            *first,
-            Box::new(alloc, copied(alloc, operand)?)?,
-        ),
-        Expr::Join(high, low) => Expr::Join(
-            Box::new(alloc, copied(alloc, high)?)?,
-            Box::new(alloc, copied(alloc, low)?)?,
-        ),
-        Expr::Choose(test, one, other) => Expr::Choose(
-            Box::new(alloc, copied(alloc, test)?)?,
-            Box::new(alloc, copied(alloc, one)?)?,
-            Box::new(alloc, copied(alloc, other)?)?,
-        ),
-        Expr::Address(distance) => Expr::Address(*distance),
-    })
+    match e {
+        Expr::Const(width, number) => Ok(Expr::Const(*width, *number)),
+        Expr::Get(location) => Ok(Expr::Get(*location)),
+        Expr::Load(width, address) => Expr::load(alloc, *width, copied(alloc, address)?),
+        Expr::Un(operator, width, operand) => {
+            Expr::unary(alloc, *operator, *width, copied(alloc, operand)?)
+        }
+        Expr::Bin(operator, width, left, right) => {
+            let left = copied(alloc, left)?;
+            Expr::binary(alloc, *operator, *width, left, copied(alloc, right)?)
+        }
+        Expr::Widen(by_sign, width, operand) => {
+            Expr::widen(alloc, *by_sign, *width, copied(alloc, operand)?)
+        }
+        Expr::Part(width, first, operand) => {
+            Expr::part(alloc, *width, *first, copied(alloc, operand)?)
+        }
+        Expr::Join(high, low) => {
+            let high = copied(alloc, high)?;
+            Expr::join(alloc, high, copied(alloc, low)?)
+        }
+        Expr::Choose(test, one, other) => {
+            let test = copied(alloc, test)?;
+            let one = copied(alloc, one)?;
+            Expr::choose(alloc, test, one, copied(alloc, other)?)
+        }
+        Expr::Address(distance) => Ok(Expr::Address(*distance)),
+    }
 }
 
 // An operator on one operand; a negation of a negation is the operand of that.
@@ -157,48 +150,37 @@ impl Choices {
         match e {
             Expr::Const(width, number) => Ok(Expr::Const(*width, *number)),
             Expr::Get(location) => self.read(alloc, *location),
-            Expr::Load(width, address) => Ok(Expr::Load(
-                *width,
-                Box::new(alloc, self.within(alloc, address)?)?,
-            )),
-            Expr::Un(operator, width, operand) => operated(
-                alloc,
-                *operator,
-                *width,
-                self.within(alloc, operand)?,
-            ),
-            Expr::Bin(operator, width, left, right) => Ok(Expr::Bin(
-                *operator,
-                *width,
-                Box::new(alloc, self.within(alloc, left)?)?,
-                Box::new(alloc, self.within(alloc, right)?)?,
-            )),
-            Expr::Widen(by_sign, width, operand) => Ok(Expr::Widen(
-                *by_sign,
-                *width,
-                Box::new(alloc, self.within(alloc, operand)?)?,
-            )),
-            Expr::Part(width, first, operand) => Ok(Expr::Part(
-                *width,
-                *first,
-                Box::new(alloc, self.within(alloc, operand)?)?,
-            )),
-            Expr::Join(high, low) => Ok(Expr::Join(
-                Box::new(alloc, self.within(alloc, high)?)?,
-                Box::new(alloc, self.within(alloc, low)?)?,
-            )),
-            Expr::Choose(test, one, other) => Ok(Expr::Choose(
-                Box::new(alloc, self.within(alloc, test)?)?,
-                Box::new(alloc, self.within(alloc, one)?)?,
-                Box::new(alloc, self.within(alloc, other)?)?,
-            )),
+            Expr::Load(width, address) => Expr::load(alloc, *width, self.within(alloc, address)?),
+            Expr::Un(operator, width, operand) => {
+                operated(alloc, *operator, *width, self.within(alloc, operand)?)
+            }
+            Expr::Bin(operator, width, left, right) => {
+                let left = self.within(alloc, left)?;
+                Expr::binary(alloc, *operator, *width, left, self.within(alloc, right)?)
+            }
+            Expr::Widen(by_sign, width, operand) => {
+                Expr::widen(alloc, *by_sign, *width, self.within(alloc, operand)?)
+            }
+            Expr::Part(width, first, operand) => {
+                Expr::part(alloc, *width, *first, self.within(alloc, operand)?)
+            }
+            Expr::Join(high, low) => {
+                let high = self.within(alloc, high)?;
+                Expr::join(alloc, high, self.within(alloc, low)?)
+            }
+            Expr::Choose(test, one, other) => {
+                let test = self.within(alloc, test)?;
+                let one = self.within(alloc, one)?;
+                Expr::choose(alloc, test, one, self.within(alloc, other)?)
+            }
             Expr::Address(distance) => Ok(Expr::Address(*distance)),
         }
     }
 
     // The expressions with the choices in them.
     fn within_all(&self, alloc: Global, es: &[Expr]) -> Result<Vec<Expr>, AllocError>
-        ensures { IfOk result (λ r. map expr_of r.items ≡ map (spec.with_choices (spec.choices_of self.now)) (map expr_of es.now)) }
+        ensures { IfOk result (λ r. map expr_of r.items
+            ≡ map (spec.with_choices (spec.choices_of self.now)) (map expr_of es.now)) }
     {
         let mut all = Vec::new(alloc);
         for e in es {
@@ -213,12 +195,71 @@ impl Choices {
         alloc: Global,
         argument: &Option<Expr>,
     ) -> Result<Option<Expr>, AllocError>
-        ensures { IfOk result (λ r. option_map expr_of r ≡ option_map (spec.with_choices (spec.choices_of self.now)) (option_map expr_of argument.now)) }
+        ensures { IfOk result (λ r. option_map expr_of r
+            ≡ option_map (spec.with_choices (spec.choices_of self.now)) (option_map expr_of argument.now)) }
     {
         match argument {
             Some(e) => Ok(Some(self.within(alloc, e)?)),
             None => Ok(None),
         }
+    }
+
+    // The statement that loads, with the choices in its address.
+    fn within_load(
+        &self,
+        alloc: Global,
+        place: Loc,
+        width: u8,
+        address: &Expr,
+    ) -> Result<Stmt, AllocError>
+        ensures { IfOk result (λ r. stmt_of r
+            ≡ spec.stmt_with_choices (spec.choices_of self.now) (tree.Fetch place width (expr_of address.now))) }
+    {
+        let address = self.within(alloc, address)?;
+        Ok(Stmt::Load {
+            place,
+            width,
+            address,
+        })
+    }
+
+    // The statement that stores, with the choices in its address and its value.
+    fn within_store(
+        &self,
+        alloc: Global,
+        width: u8,
+        address: &Expr,
+        value: &Expr,
+    ) -> Result<Stmt, AllocError>
+        ensures { IfOk result (λ r. stmt_of r ≡ spec.stmt_with_choices (spec.choices_of self.now)
+            (tree.Store width (expr_of address.now) (expr_of value.now))) }
+    {
+        let address = self.within(alloc, address)?;
+        Ok(Stmt::Store {
+            width,
+            address,
+            value: self.within(alloc, value)?,
+        })
+    }
+
+    // The call with the choices in its arguments.
+    fn within_call(
+        &self,
+        alloc: Global,
+        results: &Vec<Loc>,
+        entry: u16,
+        arguments: &Vec<Expr>,
+        depth: u16,
+    ) -> Result<Stmt, AllocError>
+        ensures { IfOk result (λ r. stmt_of r ≡ spec.stmt_with_choices (spec.choices_of self.now)
+            (tree.Call results.now.items entry (map expr_of arguments.now.items) depth)) }
+    {
+        Ok(Stmt::Call {
+            results: results.clone()?,
+            entry,
+            arguments: self.within_all(alloc, arguments.as_slice())?,
+            depth,
+        })
     }
 
     /// The statement with the choices in it.
@@ -234,20 +275,12 @@ impl Choices {
                 place,
                 width,
                 address,
-            } => Stmt::Load {
-                place: *place,
-                width: *width,
-                address: self.within(alloc, address)?,
-            },
+            } => self.within_load(alloc, *place, *width, address)?,
             Stmt::Store {
                 width,
                 address,
                 value,
-            } => Stmt::Store {
-                width: *width,
-                address: self.within(alloc, address)?,
-                value: self.within(alloc, value)?,
-            },
+            } => self.within_store(alloc, *width, address, value)?,
             Stmt::Div { place, division } => Stmt::Div {
                 place: *place,
                 division: self.within(alloc, division)?,
@@ -257,12 +290,7 @@ impl Choices {
                 entry,
                 arguments,
                 depth,
-            } => Stmt::Call {
-                results: results.clone()?,
-                entry: *entry,
-                arguments: self.within_all(alloc, arguments.as_slice())?,
-                depth: *depth,
-            },
+            } => self.within_call(alloc, results, *entry, arguments, *depth)?,
             Stmt::Dos {
                 number,
                 place,

@@ -12,6 +12,7 @@ ghost use Rattle.dcc_flags.specs.Folding.{choices_of, folding_of};
 
 use crate::choices::Choices;
 use crate::kept::{Kept, kept_flags};
+use crate::reaching::Walk;
 use crate::writer::{Writer, next_temporary};
 use dcc_flow::{order, successors};
 use dcc_ir::{Block, Graph, Loc, Stmt};
@@ -37,7 +38,8 @@ fn bare_stmts(
     choices: &Choices,
     stmts: &[Stmt],
 ) -> Result<Vec<Stmt>, AllocError>
-    ensures { IfOk result (λ bare. map stmt_of bare.items ≡ spec.bare_stmts kept (choices_of choices.now) (map stmt_of stmts.now)) }
+    ensures { IfOk result (λ bare. map stmt_of bare.items
+        ≡ spec.bare_stmts kept (choices_of choices.now) (map stmt_of stmts.now)) }
 {
     let mut bare = Vec::new(alloc);
     for stmt in stmts {
@@ -55,7 +57,8 @@ fn bare_blocks(
     choices: &Choices,
     blocks: &Vec<Block>,
 ) -> Result<Vec<Block>, AllocError>
-    ensures { IfOk result (λ bare. map block_of bare.items ≡ map (spec.bare_block kept (choices_of choices.now)) (map block_of blocks.now.items)) }
+    ensures { IfOk result (λ bare. map block_of bare.items
+        ≡ map (spec.bare_block kept (choices_of choices.now)) (map block_of blocks.now.items)) }
 {
     let mut bare = Vec::new(alloc);
     for block in blocks {
@@ -112,7 +115,8 @@ fn give(
 impl Folding {
     // Nothing is folded: each block begins with these choices, and stands as if no run came there.
     fn new(alloc: Global, kept: Kept, choices: &Choices, g: &Graph) -> Result<Folding, AllocError>
-        ensures folding { IfOk result (λ folding. folding_of folding ≡ spec.first_folding kept (choices_of choices.now) (graph_of g.now)) }
+        ensures folding { IfOk result (λ folding. folding_of folding
+            ≡ spec.first_folding kept (choices_of choices.now) (graph_of g.now)) }
         ensures kept { IfOk result (λ folding. folding.kept ≡ kept) }
     {
         let mut bits = g.bits.clone()?;
@@ -206,16 +210,18 @@ pub fn fold_flags(alloc: Global, g: Graph) -> Result<Graph, AllocError>
 {
     let next = successors(alloc, &g)?;
     let order = order(alloc, &g)?;
-    let kept = kept_flags(alloc, &g, &next, order.as_slice())?;
+    let walk = Walk {
+        graph: &g,
+        next: &next,
+        order: order.as_slice(),
+    };
+    let kept = kept_flags(alloc, &walk)?;
     let fill = next_temporary(g.bits.as_slice())?;
     let bare = Folding::new(alloc, kept, &Choices::first(kept, fill), &g)?;
     let folding = bare.fold_blocks(&g, &next, order.as_slice())?;
     Ok(Graph {
-        entry: g.entry,
-        params: g.params,
-        local: g.local,
-        pushed: g.pushed,
         blocks: folding.blocks,
         bits: folding.bits,
+        ..g
     })
 }

@@ -14,7 +14,7 @@ ghost use Rattle.dcc_flags.specs.Reaching.{has_result, IsKept};
 ghost use Rattle.dcc_flags.specs.Sources as spec;
 ghost use Rattle.dcc_flags.specs.Folding as folding;
 
-use crate::reaching::sources;
+use crate::reaching::{Walk, sources};
 use crate::sources::Source;
 use crate::uses::{end_reads, has_result, is_flag, stmt_reads};
 use dcc_ir::{Block, Graph, Param, Put};
@@ -84,48 +84,39 @@ fn mixes(f: FlagName, source: Source, place: usize, block: &Block) -> bool
     source.is_mixed() && end_reads(f, &block.end)
 }
 
-// Whether the flag is kept, where `order` is the reverse post order of the blocks.
-fn is_kept(
-    alloc: Global,
-    f: FlagName,
-    g: &Graph,
-    next: &Vec<Vec<u32>>,
-    order: &[u32],
-) -> Result<bool, AllocError>
-    requires graph { IsGraph (graph_of g.now) }
-    requires next { rows next.now.items ≡ successors_of (graph_of g.now) }
-    requires order { IsReversePostOrder (graph_of g.now) order.now }
-    ensures { IfOk result (λ kept. MatchBool kept (IsKept (graph_of g.now) f) (¬ IsKept (graph_of g.now) f)) }
+// Whether the flag is kept.
+fn is_kept(alloc: Global, f: FlagName, walk: &Walk<'_>) -> Result<bool, AllocError>
+    requires graph { IsGraph (graph_of walk.now.graph.now) }
+    requires next { rows walk.now.next.now.items ≡ successors_of (graph_of walk.now.graph.now) }
+    requires order { IsReversePostOrder (graph_of walk.now.graph.now) walk.now.order.now }
+    ensures { IfOk result (λ kept. MatchBool kept
+        (IsKept (graph_of walk.now.graph.now) f) (¬ IsKept (graph_of walk.now.graph.now) f)) }
 {
-    if is_passed(f, g) {
+    if is_passed(f, walk.graph) {
         return Ok(true);
     }
-    let table = sources(alloc, f, g, next, order)?;
+    let table = sources(alloc, f, walk)?;
     for place in 0..table.len() {
-        if mixes(f, table[place], place, &g.blocks[place]) {
+        if mixes(f, table[place], place, &walk.graph.blocks[place]) {
             return Ok(true);
         }
     }
     Ok(false)
 }
 
-/// Which flags are kept, where `order` is the reverse post order of the blocks.
-pub fn kept_flags(
-    alloc: Global,
-    g: &Graph,
-    next: &Vec<Vec<u32>>,
-    order: &[u32],
-) -> Result<Kept, AllocError>
-    requires graph { IsGraph (graph_of g.now) }
-    requires next { rows next.now.items ≡ successors_of (graph_of g.now) }
-    requires order { IsReversePostOrder (graph_of g.now) order.now }
+/// Which flags are kept.
+pub fn kept_flags(alloc: Global, walk: &Walk<'_>) -> Result<Kept, AllocError>
+    requires graph { IsGraph (graph_of walk.now.graph.now) }
+    requires next { rows walk.now.next.now.items ≡ successors_of (graph_of walk.now.graph.now) }
+    requires order { IsReversePostOrder (graph_of walk.now.graph.now) walk.now.order.now }
     ensures { IfOk result (λ kept. (f : FlagName)
-        → MatchBool (folding.is_kept kept f) (IsKept (graph_of g.now) f) (¬ IsKept (graph_of g.now) f)) }
+        → MatchBool (folding.is_kept kept f)
+        (IsKept (graph_of walk.now.graph.now) f) (¬ IsKept (graph_of walk.now.graph.now) f)) }
 {
     Ok(Kept {
-        cf: is_kept(alloc, FlagName::Cf, g, next, order)?,
-        zf: is_kept(alloc, FlagName::Zf, g, next, order)?,
-        sf: is_kept(alloc, FlagName::Sf, g, next, order)?,
-        of: is_kept(alloc, FlagName::Of, g, next, order)?,
+        cf: is_kept(alloc, FlagName::Cf, walk)?,
+        zf: is_kept(alloc, FlagName::Zf, walk)?,
+        sf: is_kept(alloc, FlagName::Sf, walk)?,
+        of: is_kept(alloc, FlagName::Of, walk)?,
     })
 }

@@ -71,26 +71,28 @@ fn first_sources(alloc: Global, count: usize) -> Result<Vec<Source>, AllocError>
     Ok(table)
 }
 
+/// A graph, the blocks after each of its blocks, and the reverse post order of its blocks.
+#[derive(Drop)]
+pub struct Walk<'a> {
+    pub graph: &'a Graph,
+    pub next: &'a Vec<Vec<u32>>,
+    pub order: &'a [u32],
+}
+
 /// Which definition of the flag reaches the begin of each block. Whatever reaches flows from each of these blocks until
 /// nothing more is known.
-pub fn sources(
-    alloc: Global,
-    f: FlagName,
-    g: &Graph,
-    next: &Vec<Vec<u32>>,
-    order: &[u32],
-) -> Result<Vec<Source>, AllocError>
-    requires graph { IsGraph (graph_of g.now) }
-    requires next { rows next.now.items ≡ successors_of (graph_of g.now) }
-    requires order { IsReversePostOrder (graph_of g.now) order.now }
-    ensures { IfOk result (λ table. AreTold (graph_of g.now) f table.items) }
+pub fn sources(alloc: Global, f: FlagName, walk: &Walk<'_>) -> Result<Vec<Source>, AllocError>
+    requires graph { IsGraph (graph_of walk.now.graph.now) }
+    requires next { rows walk.now.next.now.items ≡ successors_of (graph_of walk.now.graph.now) }
+    requires order { IsReversePostOrder (graph_of walk.now.graph.now) walk.now.order.now }
+    ensures { IfOk result (λ table. AreTold (graph_of walk.now.graph.now) f table.items) }
 {
-    let mut table = first_sources(alloc, g.blocks.len())?;
+    let mut table = first_sources(alloc, walk.graph.blocks.len())?;
     let mut before = 0;
     let mut known = rank(table.as_slice());
     while before < known {
         before = known;
-        sweep(f, g, next, &mut table, order);
+        sweep(f, walk.graph, walk.next, &mut table, walk.order);
         known = rank(table.as_slice());
     }
     Ok(table)

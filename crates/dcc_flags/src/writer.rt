@@ -2,35 +2,13 @@
 
 ghost use Rattle.std.specs.Prelude.{◌≡◌, ◌++◌, length, map, IfOk, OnOk};
 ghost use Rattle.dcc_ir.specs.Views.{expr_of, stmt_of};
-ghost use Rattle.dcc_ir.specs.Location.{location_width};
-ghost use Rattle.dcc_ir.specs.Value as value;
 ghost use Rattle.dcc_flags.specs.Folding as spec;
 ghost use Rattle.dcc_flags.specs.Folding.{choices_of};
 
 use crate::choices::{Choices, copied};
 use crate::kept::Kept;
-use dcc_ir::{BinOp, Expr, Loc, Stmt, UnOp};
+use dcc_ir::{Expr, Loc, Stmt};
 use std::alloc::{AllocError, Global};
-
-// Whether an operator gives one bit.
-fn is_test(operator: UnOp) -> bool
-    ensures { result ≡ value.is_test operator }
-{
-    match operator {
-        UnOp::IsZero => true,
-        UnOp::Neg | UnOp::Not => false,
-    }
-}
-
-// Whether an operator gives one bit.
-fn is_comparison(operator: BinOp) -> bool
-    ensures { result ≡ value.is_comparison operator }
-{
-    match operator {
-        BinOp::Eq | BinOp::LtS | BinOp::LtU | BinOp::LeS | BinOp::LeU => true,
-        _ => false,
-    }
-}
 
 // Whether a truth node stands in an expression.
 fn has_truth(e: &Expr) -> bool
@@ -39,29 +17,12 @@ fn has_truth(e: &Expr) -> bool
     match e {
         Expr::Const(..) | Expr::Get(_) | Expr::Address(_) => false,
         Expr::Load(_, a) | Expr::Widen(_, _, a) | Expr::Part(_, _, a) => has_truth(a),
-        Expr::Un(operator, _, operand) => is_test(*operator) || has_truth(operand),
-        Expr::Bin(operator, _, left, right) => is_comparison(*operator)
+        Expr::Un(operator, _, operand) => operator.is_test() || has_truth(operand),
+        Expr::Bin(operator, _, left, right) => operator.is_comparison()
             || has_truth(left)
             || has_truth(right),
         Expr::Join(high, low) => has_truth(high) || has_truth(low),
         Expr::Choose(..) => true,
-    }
-}
-
-// How many bits a location has.
-fn location_width(bits: &[u8], location: Loc) -> u8
-    ensures { result ≡ location_width bits.now location }
-{
-    match location {
-        Loc::Half(..) | Loc::Cell(..) => 8,
-        Loc::Flag(_) => 1,
-        Loc::Temp(n) => {
-            if (n as usize) < bits.len() {
-                bits[n as usize]
-            } else {
-                0
-            }
-        }
     }
 }
 
@@ -74,9 +35,9 @@ fn bits_in(bits: &[u8], e: &Expr) -> u8
         | Expr::Load(width, ..)
         | Expr::Widen(_, width, ..)
         | Expr::Part(width, ..) => *width,
-        Expr::Get(location) => location_width(bits, *location),
-        Expr::Un(operator, width, ..) => if is_test(*operator) { 1 } else { *width },
-        Expr::Bin(operator, width, ..) => if is_comparison(*operator) { 1 } else { *width },
+        Expr::Get(location) => location.width(bits),
+        Expr::Un(operator, width, ..) => if operator.is_test() { 1 } else { *width },
+        Expr::Bin(operator, width, ..) => if operator.is_comparison() { 1 } else { *width },
         Expr::Join(high, low) => bits_in(bits, high).saturating_add(bits_in(bits, low)),
         Expr::Choose(_, one, ..) => bits_in(bits, one),
         Expr::Address(_) => 16,
@@ -110,8 +71,10 @@ impl Writer {
     // A fresh temporary takes the expression.
     fn copy(&mut self, e: &Expr) -> Result<Expr, AllocError>
         ensures value { IfOk result (λ r. expr_of r ≡ (spec.copied self.old.bits.items (expr_of e.now)).value) }
-        ensures stmts { OnOk result (map stmt_of self.new.stmts.items ≡ map stmt_of self.old.stmts.items ++ (spec.copied self.old.bits.items (expr_of e.now)).copies) }
-        ensures bits { OnOk result (self.new.bits.items ≡ self.old.bits.items ++ (spec.copied self.old.bits.items (expr_of e.now)).widths) }
+        ensures stmts { OnOk result (map stmt_of self.new.stmts.items ≡ map stmt_of self.old.stmts.items
+            ++ (spec.copied self.old.bits.items (expr_of e.now)).copies) }
+        ensures bits { OnOk result (self.new.bits.items ≡ self.old.bits.items
+            ++ (spec.copied self.old.bits.items (expr_of e.now)).widths) }
         ensures kept { self.new.kept ≡ self.old.kept }
     {
         let fresh = Loc::Temp(next_temporary(self.bits.as_slice())?);
@@ -126,69 +89,39 @@ impl Writer {
     // The expression over fresh temporaries, which take its greatest parts without a truth node, and its loads.
     fn take(&mut self, e: &Expr) -> Result<Expr, AllocError>
         ensures value { IfOk result (λ r. expr_of r ≡ (spec.taken self.old.bits.items (expr_of e.now)).value) }
-        ensures stmts { OnOk result (map stmt_of self.new.stmts.items ≡ map stmt_of self.old.stmts.items ++ (spec.taken self.old.bits.items (expr_of e.now)).copies) }
-        ensures bits { OnOk result (self.new.bits.items ≡ self.old.bits.items ++ (spec.taken self.old.bits.items (expr_of e.now)).widths) }
+        ensures stmts { OnOk result (map stmt_of self.new.stmts.items ≡ map stmt_of self.old.stmts.items
+            ++ (spec.taken self.old.bits.items (expr_of e.now)).copies) }
+        ensures bits { OnOk result (self.new.bits.items ≡ self.old.bits.items
+            ++ (spec.taken self.old.bits.items (expr_of e.now)).widths) }
         ensures kept { self.new.kept ≡ self.old.kept }
     {
+        let alloc = self.alloc;
         match e {
             Expr::Const(width, number) => Ok(Expr::Const(*width, *number)),
             Expr::Get(_) | Expr::Load(..) | Expr::Address(_) => self.copy(e),
+            Expr::Un(..) | Expr::Bin(..) | Expr::Widen(..) | Expr::Part(..) | Expr::Join(..)
+                if !has_truth(e) => { self.copy(e) }
             Expr::Un(operator, width, operand) => {
-                if has_truth(e) {
-                    let operand = self.take(operand)?;
-                    Ok(Expr::Un(*operator, *width, Box::new(self.alloc, operand)?))
-                } else {
-                    self.copy(e)
-                }
+                Expr::unary(alloc, *operator, *width, self.take(operand)?)
             }
             Expr::Bin(operator, width, left, right) => {
-                if has_truth(e) {
-                    let left = self.take(left)?;
-                    let right = self.take(right)?;
-                    Ok(Expr::Bin(
-                        *operator,
-                        *width,
-                        Box::new(self.alloc, left)?,
-                        Box::new(self.alloc, right)?,
-                    ))
-                } else {
-                    self.copy(e)
-                }
+                let left = self.take(left)?;
+                Expr::binary(alloc, *operator, *width, left, self.take(right)?)
             }
             Expr::Widen(by_sign, width, operand) => {
-                if has_truth(operand) {
-                    let operand = self.take(operand)?;
-                    Ok(Expr::Widen(*by_sign, *width, Box::new(self.alloc, operand)?))
-                } else {
-                    self.copy(e)
-                }
+                Expr::widen(alloc, *by_sign, *width, self.take(operand)?)
             }
             Expr::Part(width, first, operand) => {
-                if has_truth(operand) {
-                    let operand = self.take(operand)?;
-                    Ok(Expr::Part(*width, *first, Box::new(self.alloc, operand)?))
-                } else {
-                    self.copy(e)
-                }
+                Expr::part(alloc, *width, *first, self.take(operand)?)
             }
             Expr::Join(high, low) => {
-                if has_truth(e) {
-                    let high = self.take(high)?;
-                    let low = self.take(low)?;
-                    Ok(Expr::Join(Box::new(self.alloc, high)?, Box::new(self.alloc, low)?))
-                } else {
-                    self.copy(e)
-                }
+                let high = self.take(high)?;
+                Expr::join(alloc, high, self.take(low)?)
             }
             Expr::Choose(test, one, other) => {
                 let test = self.take(test)?;
                 let one = self.take(one)?;
-                let other = self.take(other)?;
-                Ok(Expr::Choose(
-                    Box::new(self.alloc, test)?,
-                    Box::new(self.alloc, one)?,
-                    Box::new(self.alloc, other)?,
-                ))
+                Expr::choose(alloc, test, one, self.take(other)?)
             }
         }
     }
@@ -216,11 +149,14 @@ impl Writer {
     // The statement with the choices in it, or what stands in its place.
     fn fold_stmt(&mut self, choices: &mut Choices, stmt: &Stmt) -> Result<(), AllocError>
         ensures stmts { OnOk result (map stmt_of self.new.stmts.items ≡ map stmt_of self.old.stmts.items
-            ++ (spec.stmt_folded self.old.kept self.old.bits.items (choices_of choices.old) (stmt_of stmt.now)).stmts) }
+            ++ (spec.stmt_folded self.old.kept self.old.bits.items (choices_of choices.old)
+            (stmt_of stmt.now)).stmts) }
         ensures bits { OnOk result (self.new.bits.items ≡ self.old.bits.items
-            ++ (spec.stmt_folded self.old.kept self.old.bits.items (choices_of choices.old) (stmt_of stmt.now)).widths) }
+            ++ (spec.stmt_folded self.old.kept self.old.bits.items (choices_of choices.old)
+            (stmt_of stmt.now)).widths) }
         ensures choices { OnOk result (choices_of choices.new
-            ≡ (spec.stmt_folded self.old.kept self.old.bits.items (choices_of choices.old) (stmt_of stmt.now)).choices) }
+            ≡ (spec.stmt_folded self.old.kept self.old.bits.items (choices_of choices.old)
+            (stmt_of stmt.now)).choices) }
         ensures kept { self.new.kept ≡ self.old.kept }
     {
         match stmt {
@@ -242,11 +178,14 @@ impl Writer {
     /// What stands in place of these statements, and the choices after them.
     pub fn fold_stmts(&mut self, choices: &mut Choices, stmts: &[Stmt]) -> Result<(), AllocError>
         ensures stmts { OnOk result (map stmt_of self.new.stmts.items ≡ map stmt_of self.old.stmts.items
-            ++ (spec.stmts_folded self.old.kept self.old.bits.items (choices_of choices.old) (map stmt_of stmts.now)).stmts) }
+            ++ (spec.stmts_folded self.old.kept self.old.bits.items (choices_of choices.old)
+            (map stmt_of stmts.now)).stmts) }
         ensures bits { OnOk result (self.new.bits.items ≡ self.old.bits.items
-            ++ (spec.stmts_folded self.old.kept self.old.bits.items (choices_of choices.old) (map stmt_of stmts.now)).widths) }
+            ++ (spec.stmts_folded self.old.kept self.old.bits.items (choices_of choices.old)
+            (map stmt_of stmts.now)).widths) }
         ensures choices { OnOk result (choices_of choices.new
-            ≡ (spec.stmts_folded self.old.kept self.old.bits.items (choices_of choices.old) (map stmt_of stmts.now)).choices) }
+            ≡ (spec.stmts_folded self.old.kept self.old.bits.items (choices_of choices.old)
+            (map stmt_of stmts.now)).choices) }
         ensures kept { self.new.kept ≡ self.old.kept }
     {
         for stmt in stmts {

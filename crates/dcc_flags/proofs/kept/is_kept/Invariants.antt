@@ -4,4 +4,4 @@ use Rattle.dcc_flags.proofs.ToldLaws.{mixed_in}
 use Rattle.dcc_flags.proofs.kept.is_kept.Given as goal
 
 abbrev pub invariant-loop-place : goal.invariant-loop-place
-invariant-loop-place l = (k : ℕ) → k < l.place → mixed_in (graph_of l.g) l.f l.table.items k ≡ false
+invariant-loop-place l = (k : ℕ) → k < l.place → mixed_in (graph_of l.walk.graph.now) l.f l.table.items k ≡ false
