@@ -373,6 +373,13 @@ module _ (image : Image) (layout : Layout) (entry : ℕ) (seen : List (Option Kn
         → IsReady image layout entry (get_or order place 0) (ready_at image layout known ready)
     next-ready known e = ready-next image layout entry seen order all o place ready known inside passed.are_ready e
 
+    -- the same as the code reads it
+    pub ready-read : (i : ℕ) (here : Ready) → i ≡ get_or order place 0 → here ≡ ready_at image layout (seen_at seen i) ready
+        → IsReady image layout entry (get_or order place 0) here
+    ready-read i here is found =
+        subst (IsReady image layout entry (get_or order place 0)) (sym found)
+        (next-ready (seen_at seen i) (ap (λ n. seen_at seen n) (sym is)))
+
     pub passed-more :
         (here : Ready) → get_or order place 0 < 65536 → IsReady image layout entry (get_or order place 0) here
         → FindsReady image layout (get_or order place 0) here

@@ -1,5 +1,5 @@
 -- One instruction is followed, to one successor after another.
-use Rattle.std.proofs.Common.{◌≡◌, ◌≢◌, inl, inr, ℕ, ◌+◌, ◌≤◌, ◌<◌, [], ◌∷◌, ◌++◌, length, get_or, take, Contains, Option, Some, None, sym, ap, ◌∙◌, subst, arith, take_all}
+use Rattle.std.proofs.Common.{◌≡◌, ◌≢◌, inl, inr, ℕ, ◌+◌, ◌≤◌, ◌<◌, List, [], ◌∷◌, ◌++◌, length, get_or, take, Contains, Option, Some, None, sym, ap, ◌∙◌, subst, arith, take_all}
 use Rattle.std.proofs.lemmas.List.{take_more}
 use Rattle.std.proofs.lemmas.List.Elements.{Contains-get_or, Contains-push_cases}
 use Rattle.dcc_prog.specs.declared.image.Image.{Image}
@@ -14,6 +14,7 @@ use Rattle.dcc_procs.specs.Search.{Covers, Tells, IsWitnessed, IsAccepted, Work,
 use Rattle.dcc_procs.proofs.Witnessing.{trail-node, trail-onward, edge-onward, witnessed-onward}
 use Rattle.dcc_procs.proofs.Searching.{later, Arrives, arrives, extends-refl, extends-trans}
 use Rattle.dcc_procs.proofs.Filling.{full-refused}
+use Rattle.dcc_procs.proofs.Fresh.{seen-read}
 
 -- what is told of more than nothing
 tells-seen : (seen : Option Known) (t : Known) → Tells seen t → seen ≢ None
@@ -24,6 +25,20 @@ pub record AreFollowed (image : Image) (layout : Layout) (entry at : ℕ) (known
   pub sound : IsSound image layout entry new
   pub extends : Extends old new
   pub told : AreTold new at instr known (take place (successors_by image at instr known))
+
+-- what the code reads is what is seen
+pub seen-known : (image : Image) (layout : Layout) (entry i at : ℕ) (work : Work) (now : Option Known) (known : Known)
+    → IsSound image layout entry work → now ≡ get_or work.seen i now → i ≡ at → now ≡ Some known → at < 65536
+    → seen_at work.seen at ≡ Some known
+seen-known image layout entry i at work now known sound read same is fits =
+    seen-read work.seen i at now (Some known) read same is (let long = sound.length_is in omega (arith, long, fits))
+
+-- a place of the list that the code keeps is one of an equal list
+pub inside-of : (list kept : List ℕ) (end place : ℕ) → kept ≡ list → end ≡ length kept → place < end → place < length list
+inside-of list kept end place same ends more = let lengths = ap length same in omega (arith, more, ends, lengths)
+
+pub past-of : (list kept : List ℕ) (end place : ℕ) → kept ≡ list → end ≡ length kept → end ≤ place → length list ≤ place
+past-of list kept end place same ends past = let lengths = ap length same in omega (arith, past, ends, lengths)
 
 module _ (image : Image) (layout : Layout) (entry at : ℕ) (known : Known) (instr : Instr) (old : Work)
     (is_entry : IsEntry image layout entry) (s : IsSound image layout entry old)

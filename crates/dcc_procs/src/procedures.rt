@@ -70,7 +70,7 @@ fn procedure(
     ensures length { length ready.new ≡ 65536 }
     ensures refused { IfErr result (IsRefusedByTrails image.now layout.now) }
 {
-    search.run(alloc, image, layout, entry)?;
+    search.run(image, layout, entry)?;
     check_divisions(image, layout, entry, &search.seen, &search.order, ready)?;
     search.order.sort()?;
     let proc = collect(alloc, image, layout, entry, &search.seen, &search.order)?;

@@ -81,14 +81,7 @@ impl Search {
     }
 
     // Goes on from the instruction at an offset to its successors.
-    fn follow(
-        &mut self,
-        alloc: Global,
-        image: &Image,
-        layout: &Layout,
-        entry: u16,
-        at: u16,
-    ) -> Result<(), Refusal>
+    fn follow(&mut self, image: &Image, layout: &Layout, entry: u16, at: u16) -> Result<(), Refusal>
         requires loaded { IsLoaded image.now }
         requires layout { HasLayout image.now layout.now }
         requires entry { IsEntry image.now layout.now entry }
@@ -101,6 +94,7 @@ impl Search {
             unreachable!();
         };
         let instr = accepted(image, layout, entry, at, known)?;
+        let alloc = *self.pending.allocator();
         let succ = successors(alloc, image, at, instr, known)?;
         for place in 0..succ.len() {
             let to = succ[place];
@@ -111,13 +105,7 @@ impl Search {
 
     /// Follows the trails of the procedure with that entry, where nothing was seen before. Where an
     /// instruction that is reached is a construct, or there are too many, the program is refused.
-    pub fn run(
-        &mut self,
-        alloc: Global,
-        image: &Image,
-        layout: &Layout,
-        entry: u16,
-    ) -> Result<(), Refusal>
+    pub fn run(&mut self, image: &Image, layout: &Layout, entry: u16) -> Result<(), Refusal>
         requires loaded { IsLoaded image.now }
         requires layout { HasLayout image.now layout.now }
         requires entry { IsEntry image.now layout.now entry }
@@ -129,7 +117,7 @@ impl Search {
     {
         self.arrive(entry, NOTHING)?;
         while let Some(at) = self.pending.pop() {
-            self.follow(alloc, image, layout, entry, at)?;
+            self.follow(image, layout, entry, at)?;
         }
         Ok(())
     }

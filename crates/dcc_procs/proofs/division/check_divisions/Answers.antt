@@ -1,7 +1,5 @@
-use Rattle.std.proofs.Common.{rules, ◌≡◌, ◌<◌, get_or, sym, ap, arith}
-use Rattle.dcc_procs.specs.Search.{seen_at}
-use Rattle.dcc_procs.specs.Division.{IsReady}
-use Rattle.dcc_procs.proofs.Dividing.{passed-none, next-ready, passed-more, all-prepared, lacks-refused}
+use Rattle.std.proofs.Common.{rules, ◌<◌, get_or, arith}
+use Rattle.dcc_procs.proofs.Dividing.{passed-none, ready-read, passed-more, all-prepared, lacks-refused}
 use Rattle.dcc_procs.proofs.division.check_divisions.Goals as goal
 
 pub loop-place-init : goal.loop-place-init
@@ -11,37 +9,28 @@ loop-place-init c =
 
 pub returns-in_err-check_division-clause-refused : goal.returns-in_err-check_division-clause-refused
 returns-in_err-check_division-clause-refused c =
-    let image = c.args.image.now in
-    let layout = c.args.layout.now in
-    let order = c.args.order.now in
-    let at = get_or order c.loop-place.place 0 in
-    let known = seen_at c.args.seen.now c.from.result in
-    let there : seen_at c.args.seen.now at ≡ known = ap (λ n. seen_at c.args.seen.now n) (sym c.from.ensures) in
-    let is : IsReady image layout c.args.entry at c.ready_at-here.result =
-    rw c.ready_at-here.ensures
-    (next-ready image layout c.args.entry c.args.seen.now order c.requires.seen c.requires.order c.loop-place.place c.loop-place.ready c.loop-place.invariant c.loop-place-test.true known there)
-    in
+    let is =
+    ready-read c.args.image.now c.args.layout.now c.args.entry c.args.seen.now c.args.order.now c.requires.seen c.requires.order
+    c.loop-place.place c.loop-place.ready c.loop-place.invariant c.loop-place-test.true c.from.result c.ready_at-here.result
+    c.from.ensures c.ready_at-here.ensures in
     let named =
-    lacks-refused image layout c.args.entry c.args.seen.now order c.requires.seen c.requires.order
-    c.loop-place.place c.ready_at-here.result c.in_err-check_division.field-0.0 c.requires.entry
+    lacks-refused c.args.image.now c.args.layout.now c.args.entry c.args.seen.now c.args.order.now c.requires.seen
+    c.requires.order c.loop-place.place c.ready_at-here.result c.in_err-check_division.field-0.0 c.requires.entry
     c.loop-place-test.true is c.in_err-check_division.ensures.refused in
     search rules
 
 pub loop-place-preserved : goal.loop-place-preserved
 loop-place-preserved c =
-    let image = c.args.image.now in
-    let layout = c.args.layout.now in
-    let order = c.args.order.now in
-    let at = get_or order c.loop-place.place 0 in
+    let at = get_or c.args.order.now c.loop-place.place 0 in
     let below : at < 65536 = (let fits = c.type_inv.order c.loop-place.place in omega (arith, fits)) in
-    let known = seen_at c.args.seen.now c.from.result in
-    let there : seen_at c.args.seen.now at ≡ known = ap (λ n. seen_at c.args.seen.now n) (sym c.from.ensures) in
-    let is : IsReady image layout c.args.entry at c.ready_at-here.result =
-    rw c.ready_at-here.ensures
-    (next-ready image layout c.args.entry c.args.seen.now order c.requires.seen c.requires.order c.loop-place.place c.loop-place.ready c.loop-place.invariant c.loop-place-test.true known there)
-    in
+    let is =
+    ready-read c.args.image.now c.args.layout.now c.args.entry c.args.seen.now c.args.order.now c.requires.seen c.requires.order
+    c.loop-place.place c.loop-place.ready c.loop-place.invariant c.loop-place-test.true c.from.result c.ready_at-here.result
+    c.from.ensures c.ready_at-here.ensures in
     rw c.from-in-loop-place.ensures
-    (passed-more image layout c.args.entry c.args.seen.now order c.requires.seen c.requires.order c.loop-place.place c.loop-place.ready c.loop-place.invariant c.loop-place-test.true c.ready_at-here.result below is c.in_ok-check_division.ensures.ready)
+    (passed-more c.args.image.now c.args.layout.now c.args.entry c.args.seen.now c.args.order.now c.requires.seen
+    c.requires.order c.loop-place.place c.loop-place.ready c.loop-place.invariant c.loop-place-test.true
+    c.ready_at-here.result below is c.in_ok-check_division.ensures.ready)
 
 pub returns-clause-prepared : goal.returns-clause-prepared
 returns-clause-prepared c =
