@@ -1,3 +1,4 @@
+pub mod Moved
 pub mod ParseRules
 pub mod RefusalLaws
 pub mod StripLaws

@@ -1,7 +1,6 @@
 -- Steps of stripping: what is stripped already, before the rest.
-use Rattle.std.proofs.Common.{◌≡◌, ℕ, Bool, Vec, Global, suc, ◌+◌, ◌<◌, ◌≤◌, true, false, List, [], ◌∷◌, ◌++◌, map, drop, get_or, length, Option, Some, None, refl, sym, ap, ◌∙◌}
+use Rattle.std.proofs.Common.{◌≡◌, ℕ, Bool, Vec, Global, suc, ◌+◌, true, false, List, [], ◌∷◌, ◌++◌, map, length, Option, Some, None, refl, sym, ap, ◌∙◌}
 use Rattle.std.specs.Prelude.{nat_lt, is_some}
-use Rattle.std.proofs.lemmas.List.{at_drop_more, drop_all}
 use Rattle.dcc_c.specs.declared.syntax.CExpr.{CExpr}
 use Rattle.dcc_c.specs.declared.syntax.CStmt.{If as IfOf, While as WhileOf, DoWhile as DoWhileOf, Forever as ForeverOf, Switch as SwitchOf}
 use Rattle.dcc_c.specs.declared.syntax.Line.{Line}
@@ -20,6 +19,7 @@ use Rattle.dcc_reader.specs.declared.partial.Row.{Row}
 use Rattle.dcc_reader.specs.declared.partial.PartialArm.{PartialArm, out-PartialArm}
 use Rattle.dcc_reader.specs.PartialViews as partial
 use Rattle.dcc_reader.proofs.RowLaws.{arm-parts, if-tree as if-rows, while-tree as while-rows, do_while-tree as do-rows, forever-tree as forever-rows, switch-tree as switch-rows}
+use Rattle.dcc_parse.proofs.Moved.{none-left, one-less}
 use Rattle.dcc_c.proofs.RowLaws.{arm-parts as arm-tree, if-tree, while-tree, do_while-tree, forever-tree, switch-tree}
 
 -- lines before others
@@ -48,60 +48,56 @@ pub arms-more : (arms : List Arm) (a : Arm) (rest : Arms) → arms_then (arms ++
 arms-more [] a rest = refl
 arms-more (b ∷ arms) a rest = ap (arm_before b) (arms-more arms a rest)
 
--- the first of the rows that are left
-pub first_row : (rows : List Row) (i : ℕ) (r : Row) → i < length rows → r ≡ get_or rows i r →
-    partial.lines_of (drop i rows) ≡ row (partial.stmt_of r.stmt) r.at r.line (partial.lines_of (drop (i + 1) rows))
-first_row rows i r within is =
-    ap partial.lines_of (at_drop_more (λ xs. xs) rows i r within)
-    ∙ ap (λ x. row (partial.stmt_of x.stmt) x.at x.line (partial.lines_of (drop (i + 1) rows))) (sym is)
+-- at most one arm before others
+abbrev pub default_then : Option Arm → Arms → Arms
+default_then None rest = rest
+default_then (Some a) rest = arm_before a rest
 
--- the first of the arms that are left
-pub first_arm : (arms : List PartialArm) (i : ℕ) (a : PartialArm) → i < length arms → a ≡ get_or arms i a →
-    partial.arms_of (drop i arms)
-    ≡ cases (map partial.case_of (out-PartialArm a).numbers.items) (out-PartialArm a).default (partial.lines_of (out-PartialArm a).body.items) (partial.arms_of (drop (i + 1) arms))
-first_arm arms i a within is =
-    ap partial.arms_of (at_drop_more (λ xs. xs) arms i a within)
-    ∙ ap (λ x. partial.arm_before x (partial.arms_of (drop (i + 1) arms))) (sym is)
-    ∙ arm-parts a (partial.arms_of (drop (i + 1) arms))
+pub default-alone : (last : Option Arm) → default_then last no_arms ≡ arms_if last
+default-alone None = refl
+default-alone (Some a) = refl
 
--- after a `default` no other may stand
-pub no-default : (arms : PartialArms) → default_offences true arms ≡ [] → default_arms arms ≡ no_arms
-no-default no_cases _ = refl
-no-default (cases numbers None body arms) clean = no-default arms clean
-no-default (cases numbers (Some at) body arms) clean = absurd cc
+-- What has been made of statements, before the rest, of which there are so many. Nothing offends in the rest.
+pub record LinesLeft (scene : Scene) (blocks : ℕ) (lines : List Line) (rest : List Row) (count : ℕ) (rows : List Row) : Type 0 where
+  pub none : lines_offences scene blocks (partial.lines_of rest) ≡ []
+  pub same : lines_then lines (plain_lines (partial.lines_of rest)) ≡ plain_lines (partial.lines_of rows)
+  pub left : count ≡ length rest
 
--- nothing is left after the end
-pub lines-end : (lines : List Line) (rows : List Row) (i : ℕ) {whole : Lines} → length rows ≤ i →
-    lines_then lines (plain_lines (partial.lines_of (drop i rows))) ≡ whole → lines_of lines ≡ whole
-lines-end lines rows i over same =
-    sym (lines-alone lines) ∙ ap (λ l. lines_then lines (plain_lines (partial.lines_of l))) (sym (drop_all i rows over)) ∙ same
+-- What has been made of arms, before the rest, of which there are so many. Nothing offends in the rest.
+pub record ArmsLeft (scene : Scene) (blocks : ℕ) (found : List Arm) (last : Option Arm) (rest : List PartialArm) (count : ℕ) (arms : List PartialArm) : Type 0 where
+  pub none : arms_inner scene blocks (partial.arms_of rest) ≡ []
+  pub single : default_offences (is_some last) (partial.arms_of rest) ≡ []
+  pub with_cases : arms_then found (case_arms (partial.arms_of rest)) ≡ case_arms (partial.arms_of arms)
+  pub default : default_then last (default_arms (partial.arms_of rest)) ≡ default_arms (partial.arms_of arms)
+  pub left : count ≡ length rest
 
-pub arms-end : (found : List Arm) (arms : List PartialArm) (i : ℕ) {whole : Arms} → length arms ≤ i →
-    arms_then found (case_arms (partial.arms_of (drop i arms))) ≡ whole → arms_of found ≡ whole
-arms-end found arms i over same =
-    sym (arms-alone found) ∙ ap (λ l. arms_then found (case_arms (partial.arms_of l))) (sym (drop_all i arms over)) ∙ same
+module _ (scene : Scene) (blocks : ℕ) where
+  -- one line more
+  pub lines-step : (lines : List Line) (r : Row) (l : Line) {items : List Line} {rest more rows : List Row} {count fewer : ℕ} →
+      rest ≡ r ∷ more → fewer + 1 ≡ count → items ≡ lines ++ l ∷ [] →
+      (inner_offences scene (suc blocks) (partial.stmt_of r.stmt) ≡ [] → stmt_of l.stmt ≡ plain_stmt (partial.stmt_of r.stmt)) → l.line ≡ r.line →
+      LinesLeft scene blocks lines rest count rows → LinesLeft scene blocks items more fewer rows
+  lines-step lines r l {items} {rest} {more} is less pushed stripped at before =
+      let others = partial.lines_of more in
+      let tree : partial.lines_of rest ≡ row (partial.stmt_of r.stmt) r.at r.line others = ap partial.lines_of is in
+      let one = none-both (only_if (nat_lt 200 blocks) (offence of_depth r.at)) _ (sym (ap (lines_offences scene blocks) tree) ∙ before.none) in
+      let two = none-both (own_offences scene r.at (partial.stmt_of r.stmt)) _ one.1 in
+      let three = none-both (inner_offences scene (suc blocks) (partial.stmt_of r.stmt)) (lines_offences scene blocks others) two.1 in
+      record {
+        none = three.1;
+        same = ap (λ ls. lines_then ls (plain_lines others)) pushed
+            ∙ lines-more lines l (plain_lines others)
+            ∙ ap (λ s. lines_then lines (line s l.line (plain_lines others))) (stripped three.0)
+            ∙ ap (λ n. lines_then lines (line (plain_stmt (partial.stmt_of r.stmt)) n (plain_lines others))) at
+            ∙ ap (λ ls. lines_then lines (plain_lines ls)) (sym tree)
+            ∙ before.same;
+        left = one-less is less before.left;
+      }
 
--- one line more
-pub lines-step : (scene : Scene) (blocks : ℕ) (rows : List Row) (i : ℕ) (r : Row) (lines : List Line) (l : Line) {items : List Line} {whole : Lines} →
-    i < length rows → r ≡ get_or rows i r → items ≡ lines ++ l ∷ [] →
-    (inner_offences scene (suc blocks) (partial.stmt_of r.stmt) ≡ [] → stmt_of l.stmt ≡ plain_stmt (partial.stmt_of r.stmt)) → l.line ≡ r.line →
-    (lines_offences scene blocks (partial.lines_of (drop i rows)) ≡ []) × (lines_then lines (plain_lines (partial.lines_of (drop i rows))) ≡ whole) →
-    (lines_offences scene blocks (partial.lines_of (drop (i + 1) rows)) ≡ [])
-    × (lines_then items (plain_lines (partial.lines_of (drop (i + 1) rows))) ≡ whole)
-lines-step scene blocks rows i r lines l within is pushed stripped at before =
-    let rest = partial.lines_of (drop (i + 1) rows) in
-    let tree = first_row rows i r within is in
-    let one = none-both (only_if (nat_lt 200 blocks) (offence of_depth r.at)) _ (sym (ap (lines_offences scene blocks) tree) ∙ before.0) in
-    let two = none-both (own_offences scene r.at (partial.stmt_of r.stmt)) _ one.1 in
-    let three = none-both (inner_offences scene (suc blocks) (partial.stmt_of r.stmt)) (lines_offences scene blocks rest) two.1 in (
-      three.1,
-      ap (λ ls. lines_then ls (plain_lines rest)) pushed
-          ∙ lines-more lines l (plain_lines rest)
-          ∙ ap (λ s. lines_then lines (line s l.line (plain_lines rest))) (stripped three.0)
-          ∙ ap (λ n. lines_then lines (line (plain_stmt (partial.stmt_of r.stmt)) n (plain_lines rest))) at
-          ∙ ap (λ ls. lines_then lines (plain_lines ls)) (sym tree)
-          ∙ before.1,
-    )
+  pub lines-end : (lines : List Line) {rest rows : List Row} {count : ℕ} → count ≡ 0 → LinesLeft scene blocks lines rest count rows →
+      lines_of lines ≡ plain_lines (partial.lines_of rows)
+  lines-end lines {rest} {rows} {count} none all =
+      sym (lines-alone lines) ∙ ap (λ l. lines_then lines (plain_lines (partial.lines_of l))) (sym (none-left rest count all.left none)) ∙ all.same
 
 -- Arms with and without `default`.
 module _ (numbers : List NumberAt) (body : PartialLines) (arms : PartialArms) where
@@ -113,18 +109,24 @@ module _ (numbers : List NumberAt) (body : PartialLines) (arms : PartialArms) wh
   cases-dropped None e = absurd cc
   cases-dropped (Some at) e = refl
 
-  pub default-kept : (default : Option ℕ) → is_some default ≡ true → default_offences false (cases numbers default body arms) ≡ [] →
-      default_arms (cases numbers default body arms) ≡ arm [] (plain_lines body) no_arms
-  default-kept None e none = absurd cc
-  default-kept (Some at) e none = ap (arm [] (plain_lines body)) (no-default arms none)
+  pub default-kept : (default : Option ℕ) → is_some default ≡ true → default_arms (cases numbers default body arms) ≡ arm [] (plain_lines body) (default_arms arms)
+  default-kept None e = absurd cc
+  default-kept (Some at) e = refl
 
   pub default-dropped : (default : Option ℕ) → is_some default ≡ false → default_arms (cases numbers default body arms) ≡ default_arms arms
   default-dropped None e = refl
   default-dropped (Some at) e = absurd cc
 
-  pub default-later : (default : Option ℕ) → is_some default ≡ false → default_offences false (cases numbers default body arms) ≡ default_offences false arms
-  default-later None e = refl
-  default-later (Some at) e = absurd cc
+  pub default-later : (known : Bool) (default : Option ℕ) → is_some default ≡ false → default_offences known (cases numbers default body arms) ≡ default_offences known arms
+  default-later known None e = refl
+  default-later known (Some at) e = absurd cc
+
+  -- only the first `default` does not offend
+  pub default-once : (last : Option Arm) (default : Option ℕ) → is_some default ≡ true → default_offences (is_some last) (cases numbers default body arms) ≡ [] →
+      (last ≡ None) × (default_offences true arms ≡ [])
+  default-once last None e none = absurd cc
+  default-once None (Some at) e none = (refl, none)
+  default-once (Some a) (Some at) e none = absurd cc
 
 -- an arm that is made
 made-arm : (numbers : Vec ℕ Global) (body : Vec Line Global) (arms : Arms) →
@@ -133,101 +135,81 @@ made-arm numbers body arms =
     arm-tree (roll-Arm (record { cases = numbers; body = body })) arms
     ∙ ap (λ parts. arm parts.cases.items (lines_of parts.body.items) arms) (out-roll-Arm (record { cases = numbers; body = body }))
 
--- one arm more
-module _ (scene : Scene) (blocks : ℕ) (arms : List PartialArm) (i : ℕ) (a : PartialArm) (within : i < length arms) (is : a ≡ get_or arms i a) where
-  own-clean : arms_inner scene blocks (partial.arms_of (drop i arms)) ≡ [] →
-      (lines_offences scene blocks (partial.lines_of (out-PartialArm a).body.items) ≡ []) × (arms_inner scene blocks (partial.arms_of (drop (i + 1) arms)) ≡ [])
-  own-clean none =
-      none-both (lines_offences scene blocks (partial.lines_of (out-PartialArm a).body.items)) (arms_inner scene blocks (partial.arms_of (drop (i + 1) arms)))
-      (sym (ap (arms_inner scene blocks) (first_arm arms i a within is)) ∙ none)
+abbrev own_numbers : PartialArm → List NumberAt
+own_numbers a = map partial.case_of (out-PartialArm a).numbers.items
 
-  pub arms-step : (found : List Arm) (numbers : Vec ℕ Global) (body : Vec Line Global) {items : List Arm} {whole : Arms} →
-      items ≡ found ++ roll-Arm (record { cases = numbers; body = body }) ∷ [] → is_some (out-PartialArm a).default ≡ false →
-      (lines_offences scene blocks (partial.lines_of (out-PartialArm a).body.items) ≡ [] → lines_of body.items ≡ plain_lines (partial.lines_of (out-PartialArm a).body.items)) →
-      numbers.items ≡ plain_numbers (map partial.case_of (out-PartialArm a).numbers.items) →
-      (arms_inner scene blocks (partial.arms_of (drop i arms)) ≡ []) × (arms_then found (case_arms (partial.arms_of (drop i arms))) ≡ whole) →
-      (arms_inner scene blocks (partial.arms_of (drop (i + 1) arms)) ≡ [])
-      × (arms_then items (case_arms (partial.arms_of (drop (i + 1) arms))) ≡ whole)
-  arms-step found numbers body pushed none stripped same before =
-      let rest = partial.arms_of (drop (i + 1) arms) in
-      let own = own-clean before.0 in
-      let own_body = partial.lines_of (out-PartialArm a).body.items in (
-        own.1,
-        ap (λ l. arms_then l (case_arms rest)) pushed
-            ∙ arms-more found (roll-Arm (record { cases = numbers; body = body })) (case_arms rest)
-            ∙ ap (arms_then found) (made-arm numbers body (case_arms rest))
-            ∙ ap (λ ls. arms_then found (arm numbers.items ls (case_arms rest))) (stripped own.0)
-            ∙ ap (λ ns. arms_then found (arm ns (plain_lines own_body) (case_arms rest))) same
-            ∙ ap (arms_then found) (sym (cases-kept (map partial.case_of (out-PartialArm a).numbers.items) own_body rest (out-PartialArm a).default none))
-            ∙ ap (λ l. arms_then found (case_arms l)) (sym (first_arm arms i a within is))
-            ∙ before.1,
+abbrev own_body : PartialArm → PartialLines
+own_body a = partial.lines_of (out-PartialArm a).body.items
+
+module _ (scene : Scene) (blocks : ℕ) where
+  own-clean : (a : PartialArm) (rest more : List PartialArm) → rest ≡ a ∷ more → arms_inner scene blocks (partial.arms_of rest) ≡ [] →
+      (partial.arms_of rest ≡ cases (own_numbers a) (out-PartialArm a).default (own_body a) (partial.arms_of more))
+      × (lines_offences scene blocks (own_body a) ≡ []) × (arms_inner scene blocks (partial.arms_of more) ≡ [])
+  own-clean a rest more is none =
+      let tree = ap partial.arms_of is ∙ arm-parts a (partial.arms_of more) in
+      let both = none-both (lines_offences scene blocks (own_body a)) (arms_inner scene blocks (partial.arms_of more)) (sym (ap (arms_inner scene blocks) tree) ∙ none) in
+      (tree, both.0, both.1)
+
+  -- one arm more
+  module _ (a : PartialArm) (found : List Arm) (last : Option Arm) (numbers : Vec ℕ Global) (body : Vec Line Global) where
+    pub arms-step : {items : List Arm} {rest more arms : List PartialArm} {count fewer : ℕ} → rest ≡ a ∷ more → fewer + 1 ≡ count →
+        ArmsLeft scene blocks found last rest count arms → items ≡ found ++ roll-Arm (record { cases = numbers; body = body }) ∷ [] → is_some (out-PartialArm a).default ≡ false →
+        (lines_offences scene blocks (partial.lines_of (out-PartialArm a).body.items) ≡ [] → lines_of body.items ≡ plain_lines (partial.lines_of (out-PartialArm a).body.items)) →
+        numbers.items ≡ plain_numbers (map partial.case_of (out-PartialArm a).numbers.items) →
+        ArmsLeft scene blocks items last more fewer arms
+    arms-step {items} {rest} {more} is less before pushed none stripped same =
+        let others = partial.arms_of more in
+        let own = own-clean a rest more is before.none in
+        let tree = own.0 in
+        record {
+          none = own.2;
+          single = sym (ap (default_offences (is_some last)) tree ∙ default-later (own_numbers a) (own_body a) others (is_some last) (out-PartialArm a).default none) ∙ before.single;
+          with_cases = ap (λ l. arms_then l (case_arms others)) pushed
+              ∙ arms-more found (roll-Arm (record { cases = numbers; body = body })) (case_arms others)
+              ∙ ap (arms_then found) (made-arm numbers body (case_arms others))
+              ∙ ap (λ ls. arms_then found (arm numbers.items ls (case_arms others))) (stripped own.1)
+              ∙ ap (λ ns. arms_then found (arm ns (plain_lines (own_body a)) (case_arms others))) same
+              ∙ ap (arms_then found) (sym (cases-kept (own_numbers a) (own_body a) others (out-PartialArm a).default none))
+              ∙ ap (λ l. arms_then found (case_arms l)) (sym tree)
+              ∙ before.with_cases;
+          default = ap (default_then last) (sym (ap default_arms tree ∙ default-dropped (own_numbers a) (own_body a) others (out-PartialArm a).default none)) ∙ before.default;
+          left = one-less is less before.left;
+        }
+
+    pub default-step : {rest more arms : List PartialArm} {count fewer : ℕ} → rest ≡ a ∷ more → fewer + 1 ≡ count →
+        ArmsLeft scene blocks found last rest count arms → is_some (out-PartialArm a).default ≡ true →
+        (lines_offences scene blocks (partial.lines_of (out-PartialArm a).body.items) ≡ [] → lines_of body.items ≡ plain_lines (partial.lines_of (out-PartialArm a).body.items)) →
+        numbers.items ≡ [] →
+        ArmsLeft scene blocks found (Some (roll-Arm (record { cases = numbers; body = body }))) more fewer arms
+    default-step {rest} {more} is less before some stripped none =
+        let others = partial.arms_of more in
+        let own = own-clean a rest more is before.none in
+        let tree = own.0 in
+        let once = default-once (own_numbers a) (own_body a) others last (out-PartialArm a).default some (sym (ap (default_offences (is_some last)) tree) ∙ before.single) in
+        record {
+          none = own.2;
+          single = once.1;
+          with_cases = ap (arms_then found) (sym (ap case_arms tree ∙ cases-dropped (own_numbers a) (own_body a) others (out-PartialArm a).default some)) ∙ before.with_cases;
+          default = made-arm numbers body (default_arms others)
+              ∙ ap (λ ls. arm numbers.items ls (default_arms others)) (stripped own.1)
+              ∙ ap (λ ns. arm ns (plain_lines (own_body a)) (default_arms others)) none
+              ∙ sym (default-kept (own_numbers a) (own_body a) others (out-PartialArm a).default some)
+              ∙ sym (ap default_arms tree)
+              ∙ ap (λ l. default_then l (default_arms (partial.arms_of rest))) (sym once.0)
+              ∙ before.default;
+          left = one-less is less before.left;
+        }
+
+  pub arms-end : (found : List Arm) (last : Option Arm) {rest arms : List PartialArm} {count : ℕ} → count ≡ 0 → ArmsLeft scene blocks found last rest count arms →
+      (arms_of found ≡ case_arms (partial.arms_of arms)) × (arms_if last ≡ default_arms (partial.arms_of arms))
+  arms-end found last {rest} {arms} {count} none all =
+      let empty = sym (none-left rest count all.left none) in (
+        sym (arms-alone found) ∙ ap (λ l. arms_then found (case_arms (partial.arms_of l))) empty ∙ all.with_cases,
+        sym (default-alone last) ∙ ap (λ l. default_then last (default_arms (partial.arms_of l))) empty ∙ all.default,
       )
-
-  pub arms-skip : (found : List Arm) {whole : Arms} → is_some (out-PartialArm a).default ≡ true →
-      (arms_inner scene blocks (partial.arms_of (drop i arms)) ≡ []) × (arms_then found (case_arms (partial.arms_of (drop i arms))) ≡ whole) →
-      (arms_inner scene blocks (partial.arms_of (drop (i + 1) arms)) ≡ [])
-      × (arms_then found (case_arms (partial.arms_of (drop (i + 1) arms))) ≡ whole)
-  arms-skip found some before =
-      let rest = partial.arms_of (drop (i + 1) arms) in (
-        (own-clean before.0).1,
-        ap (arms_then found) (sym (cases-dropped (map partial.case_of (out-PartialArm a).numbers.items) (partial.lines_of (out-PartialArm a).body.items) rest (out-PartialArm a).default some))
-            ∙ ap (λ l. arms_then found (case_arms l)) (sym (first_arm arms i a within is))
-            ∙ before.1,
-      )
-
-  pub default-skip : {whole : Arms} → is_some (out-PartialArm a).default ≡ false →
-      (arms_inner scene blocks (partial.arms_of (drop i arms)) ≡ []) × (default_offences false (partial.arms_of (drop i arms)) ≡ []) × (whole ≡ default_arms (partial.arms_of (drop i arms))) →
-      (arms_inner scene blocks (partial.arms_of (drop (i + 1) arms)) ≡ []) × (default_offences false (partial.arms_of (drop (i + 1) arms)) ≡ []) ×
-      (whole ≡ default_arms (partial.arms_of (drop (i + 1) arms)))
-  default-skip none before =
-      let numbers = map partial.case_of (out-PartialArm a).numbers.items in
-      let body = partial.lines_of (out-PartialArm a).body.items in
-      let rest = partial.arms_of (drop (i + 1) arms) in
-      let tree = first_arm arms i a within is in (
-        (own-clean before.0).1,
-        sym (ap (default_offences false) tree ∙ default-later numbers body rest (out-PartialArm a).default none) ∙ before.1,
-        before.2 ∙ ap default_arms tree ∙ default-dropped numbers body rest (out-PartialArm a).default none,
-      )
-
-  pub default-found : (numbers : Vec ℕ Global) (body : Vec Line Global) {whole : Arms} → is_some (out-PartialArm a).default ≡ true →
-      (lines_offences scene blocks (partial.lines_of (out-PartialArm a).body.items) ≡ [] → lines_of body.items ≡ plain_lines (partial.lines_of (out-PartialArm a).body.items)) →
-      numbers.items ≡ [] →
-      (arms_inner scene blocks (partial.arms_of (drop i arms)) ≡ []) × (default_offences false (partial.arms_of (drop i arms)) ≡ []) × (whole ≡ default_arms (partial.arms_of (drop i arms))) →
-      arm_before (roll-Arm (record { cases = numbers; body = body })) no_arms ≡ whole
-  default-found numbers body some stripped none before =
-      let own_numbers = map partial.case_of (out-PartialArm a).numbers.items in
-      let own_body = partial.lines_of (out-PartialArm a).body.items in
-      let rest = partial.arms_of (drop (i + 1) arms) in
-      let tree = first_arm arms i a within is in
-      made-arm numbers body no_arms
-      ∙ ap (λ ls. arm numbers.items ls no_arms) (stripped (own-clean before.0).0)
-      ∙ ap (λ ns. arm ns (plain_lines own_body) no_arms) none
-      ∙ sym (default-kept own_numbers own_body rest (out-PartialArm a).default some (sym (ap (default_offences false) tree) ∙ before.1))
-      ∙ ap default_arms (sym tree)
-      ∙ sym before.2
 
 -- Statements with blocks.
 module _ (scene : Scene) (blocks : ℕ) where
-  -- statements of a reference
-  pub lines-following : {now items : List Row} {lines : Lines} → now ≡ items →
-      (lines_offences scene blocks (partial.lines_of now) ≡ [] → lines ≡ plain_lines (partial.lines_of now)) →
-      lines_offences scene blocks (partial.lines_of items) ≡ [] → lines ≡ plain_lines (partial.lines_of items)
-  lines-following same stripped none =
-      stripped (ap (λ l. lines_offences scene blocks (partial.lines_of l)) same ∙ none) ∙ ap (λ l. plain_lines (partial.lines_of l)) same
-
-  pub arms-following : {now items : List PartialArm} {arms : Arms} → now ≡ items →
-      (arms_inner scene blocks (partial.arms_of now) ≡ [] → arms ≡ case_arms (partial.arms_of now)) →
-      arms_inner scene blocks (partial.arms_of items) ≡ [] → arms ≡ case_arms (partial.arms_of items)
-  arms-following same stripped none =
-      stripped (ap (λ l. arms_inner scene blocks (partial.arms_of l)) same ∙ none) ∙ ap (λ l. case_arms (partial.arms_of l)) same
-
-  pub default-following : {now items : List PartialArm} {arms : Arms} → now ≡ items →
-      (arms_inner scene blocks (partial.arms_of now) ≡ [] → default_offences false (partial.arms_of now) ≡ [] → arms ≡ default_arms (partial.arms_of now)) →
-      arms_inner scene blocks (partial.arms_of items) ≡ [] → default_offences false (partial.arms_of items) ≡ [] → arms ≡ default_arms (partial.arms_of items)
-  default-following same stripped none single =
-      stripped (ap (λ l. arms_inner scene blocks (partial.arms_of l)) same ∙ none) (ap (λ l. default_offences false (partial.arms_of l)) same ∙ single)
-      ∙ ap (λ l. default_arms (partial.arms_of l)) same
-
   pub if-strip : (stmt : PartialStmt) (e : PartialExpr) (done : Bool) (body otherwise : Vec Row Global) (f : CExpr) (first second : Vec Line Global) →
       stmt ≡ If e done body otherwise → inner_offences scene blocks (partial.stmt_of stmt) ≡ [] → expr_of f ≡ plain_expr (partial.expr_of e) →
       (lines_offences scene blocks (partial.lines_of body.items) ≡ [] → lines_of first.items ≡ plain_lines (partial.lines_of body.items)) →
@@ -277,16 +259,17 @@ module _ (scene : Scene) (blocks : ℕ) where
 
   pub switch-strip : (stmt : PartialStmt) (e : PartialExpr) (done : Bool) (arms : Vec PartialArm Global) (f : CExpr) (found : Vec Arm Global) (last : Option Arm) →
       stmt ≡ Switch e done arms → inner_offences scene blocks (partial.stmt_of stmt) ≡ [] → expr_of f ≡ plain_expr (partial.expr_of e) →
-      (arms_inner scene blocks (partial.arms_of arms.items) ≡ [] → arms_of found.items ≡ case_arms (partial.arms_of arms.items)) →
-      (arms_inner scene blocks (partial.arms_of arms.items) ≡ [] → default_offences false (partial.arms_of arms.items) ≡ [] → arms_if last ≡ default_arms (partial.arms_of arms.items)) →
+      (arms_inner scene blocks (partial.arms_of arms.items) ≡ [] → default_offences false (partial.arms_of arms.items) ≡ [] →
+      (arms_of found.items ≡ case_arms (partial.arms_of arms.items)) × (arms_if last ≡ default_arms (partial.arms_of arms.items))) →
       stmt_of (SwitchOf f found last) ≡ plain_stmt (partial.stmt_of stmt)
-  switch-strip stmt e done arms f found last is none same stripped other =
+  switch-strip stmt e done arms f found last is none same stripped =
       let tree = ap partial.stmt_of is ∙ switch-rows e done arms in
       let trees = partial.arms_of arms.items in
       let one = none-both (case_offences [] (case_numbers trees)) _ (sym (ap (inner_offences scene blocks) tree) ∙ none) in
       let two = none-both (default_offences false trees) (arms_inner scene blocks trees) one.1 in
+      let both = stripped two.1 two.0 in
       switch-tree f found last
       ∙ ap (λ x. plain.Switch x (arms_of found.items) (arms_if last)) same
-      ∙ ap (λ l. plain.Switch (plain_expr (partial.expr_of e)) l (arms_if last)) (stripped two.1)
-      ∙ ap (λ l. plain.Switch (plain_expr (partial.expr_of e)) (case_arms trees) l) (other two.1 two.0)
+      ∙ ap (λ l. plain.Switch (plain_expr (partial.expr_of e)) l (arms_if last)) both.0
+      ∙ ap (λ l. plain.Switch (plain_expr (partial.expr_of e)) (case_arms trees) l) both.1
       ∙ ap plain_stmt (sym tree)

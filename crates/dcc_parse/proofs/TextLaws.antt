@@ -1,13 +1,10 @@
 -- Steps of stripping declarations, and what is known of them where nothing offends.
 use native.Mathlib.Omega.{arith}
-use Rattle.std.proofs.Common.{◌≡◌, ℕ, ◌+◌, ◌<◌, true, ◌&&◌, List, [], ◌∷◌, ◌++◌, map, drop, get_or, length, refl, sym, ap, ◌∙◌}
+use Rattle.std.proofs.Common.{◌≡◌, ℕ, ◌+◌, true, ◌&&◌, List, [], ◌∷◌, ◌++◌, map, refl, sym, ap, ◌∙◌}
 use Rattle.std.proofs.lemmas.Bool.{leb-true, le-leb}
-use Rattle.std.proofs.lemmas.List.{at_drop_more}
 use Rattle.std.specs.Prelude.{nat_le, option_map}
 use Rattle.std.specs.List.{list_all}
-use Rattle.dcc_c.specs.declared.syntax.Func.{Func}
 use Rattle.dcc_c.specs.Tree.{Global, Function, Tree}
-use Rattle.dcc_c.specs.Views.{function_of}
 use Rattle.dcc_c.specs.Rules.{has_element, allows_global}
 use Rattle.dcc_c.specs.Placement.{after_global}
 use Rattle.dcc_c.specs.Dos.{dos_names}
@@ -24,19 +21,6 @@ use Rattle.dcc_reader.specs.declared.partial.PartialFunction.{PartialFunction}
 use Rattle.dcc_reader.specs.declared.partial.PartialText.{PartialText}
 use Rattle.dcc_reader.specs.PartialViews as partial
 use Rattle.dcc_parse.specs.Stripping.{is_in_memory}
-
--- one thing more is stripped
-moved : {A B C : Type 0} (f : A → C) (g : B → C) (found : List A) (a : A) (b : B) (rest : List B) → f a ≡ g b →
-    map f (found ++ a ∷ []) ++ map g rest ≡ map f found ++ map g (b ∷ rest)
-moved f g [] a b rest same = ap (λ x. x ∷ map g rest) same
-moved f g (x ∷ found) a b rest same = ap (λ l. f x ∷ l) (moved f g found a b rest same)
-
--- the first of what is left
-first_function : (fs : List PartialFunction) (i : ℕ) (f : PartialFunction) → i < length fs → f ≡ get_or fs i f →
-    map partial.function_of (drop i fs) ≡ partial.function_of f ∷ map partial.function_of (drop (i + 1) fs)
-first_function fs i f within is =
-    ap (λ l. map partial.function_of l) (at_drop_more (λ xs. xs) fs i f within)
-    ∙ ap (λ x. partial.function_of x ∷ map partial.function_of (drop (i + 1) fs)) (sym is)
 
 -- Functions.
 
@@ -55,22 +39,13 @@ functions-split whole f (g ∷ fs) none =
     let both = none-both (function_offences whole [] f) (functions_offences whole (g ∷ fs)) none in
     ((scene_of whole [] f, function-lines whole [] f both.0), both.1)
 
-pub functions-step : (whole : Whole) (fs : List PartialFunction) (i : ℕ) (f : PartialFunction) (found : List Func) (g : Func) {items : List Func} {trees : List Function} →
-    i < length fs → f ≡ get_or fs i f → items ≡ found ++ g ∷ [] →
-    ((scene : Scene) → lines_offences scene 0 (partial.lines_of f.body.items) ≡ [] → function_of g ≡ plain_function (partial.function_of f)) →
-    (functions_offences whole (map partial.function_of (drop i fs)) ≡ []) × (map function_of found ++ map plain_function (map partial.function_of (drop i fs)) ≡ trees) →
-    (functions_offences whole (map partial.function_of (drop (i + 1) fs)) ≡ [])
-    × (map function_of items ++ map plain_function (map partial.function_of (drop (i + 1) fs)) ≡ trees)
-functions-step whole fs i f found g within is pushed stripped before =
-    let rest = map partial.function_of (drop (i + 1) fs) in
-    let first = first_function fs i f within is in
-    let parts = functions-split whole (partial.function_of f) rest (sym (ap (functions_offences whole) first) ∙ before.0) in (
-      parts.1,
-      ap (λ l. map function_of l ++ map plain_function rest) pushed
-          ∙ moved function_of plain_function found g (partial.function_of f) rest (stripped parts.0.0 parts.0.1)
-          ∙ ap (λ l. map function_of found ++ map plain_function l) (sym first)
-          ∙ before.1,
-    )
+-- nothing offends in the first function that is left, nor in the others
+pub functions-clean : (whole : Whole) (f : PartialFunction) {fs more : List PartialFunction} {A : Type 0} → fs ≡ f ∷ more →
+    ((scene : Scene) → lines_offences scene 0 (partial.lines_of f.body.items) ≡ [] → A) →
+    functions_offences whole (map partial.function_of fs) ≡ [] → A × (functions_offences whole (map partial.function_of more) ≡ [])
+functions-clean whole f {fs} {more} is stripped none =
+    let parts = functions-split whole (partial.function_of f) (map partial.function_of more) (sym (ap (λ l. functions_offences whole (map partial.function_of l)) is) ∙ none) in
+    (stripped parts.0.0 parts.0.1, parts.1)
 
 -- Whole texts.
 
@@ -105,19 +80,16 @@ clean-text text complete none =
     record { lo = stack.0; hi = stack.1; globals = in_memory text.globals places.allowed; functions = four.1 }
 
 -- the parts of a text make its tree
-pub text-stripped : (text : PartialText) (lo hi : ℕ) (globals : List Global) (functions : List Function) (vs : List PartialVariable) (fs : List PartialFunction) →
-    vs ≡ text.globals.items → fs ≡ text.functions.items → Clean (partial.text_of text) →
+pub text-stripped : (text : PartialText) (lo hi : ℕ) (globals : List Global) (functions : List Function) → Clean (partial.text_of text) →
     (stack_offences (partial.text_of text).lo ≡ [] → lo ≡ plain_number (partial.text_of text).lo) →
     (stack_offences (partial.text_of text).hi ≡ [] → hi ≡ plain_number (partial.text_of text).hi) →
-    (list_all is_in_memory (map partial.variable_of vs) ≡ true → globals ≡ map plain_global (map partial.variable_of vs)) →
-    ((whole : Whole) → functions_offences whole (map partial.function_of fs) ≡ [] → functions ≡ map plain_function (map partial.function_of fs)) →
+    (list_all is_in_memory (map partial.variable_of text.globals.items) ≡ true → globals ≡ map plain_global (map partial.variable_of text.globals.items)) →
+    ((whole : Whole) → functions_offences whole (map partial.function_of text.functions.items) ≡ [] →
+    functions ≡ map plain_function (map partial.function_of text.functions.items)) →
     made lo hi globals functions ≡ plain_text (partial.text_of text)
-text-stripped text lo hi globals functions vs fs vs_are fs_are clean lo_is hi_is globals_are functions_are =
+text-stripped text lo hi globals functions clean lo_is hi_is globals_are functions_are =
     let tree = partial.text_of text in
-    let own = globals_are (ap (λ l. list_all is_in_memory (map partial.variable_of l)) vs_are ∙ clean.globals) ∙ ap (λ l. map plain_global (map partial.variable_of l)) vs_are in
-    let others = functions_are (known_in tree []) (ap (λ l. functions_offences (known_in tree []) (map partial.function_of l)) fs_are ∙ clean.functions)
-    ∙ ap (λ l. map plain_function (map partial.function_of l)) fs_are in
     ap (λ n. made n hi globals functions) (lo_is clean.lo)
     ∙ ap (λ n. made (plain_number tree.lo) n globals functions) (hi_is clean.hi)
-    ∙ ap (λ l. made (plain_number tree.lo) (plain_number tree.hi) l functions) own
-    ∙ ap (λ l. made (plain_number tree.lo) (plain_number tree.hi) (map plain_global tree.globals) l) others
+    ∙ ap (λ l. made (plain_number tree.lo) (plain_number tree.hi) l functions) (globals_are clean.globals)
+    ∙ ap (λ l. made (plain_number tree.lo) (plain_number tree.hi) (map plain_global tree.globals) l) (functions_are (known_in tree []) clean.functions)

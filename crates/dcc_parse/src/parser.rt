@@ -81,7 +81,7 @@ fn parse_bytes(alloc: Global, bytes: &[u8]) -> Result<Unit, ParseFault>
         Ok(text) => {
             // The unit is made without the pieces, which take more room than the text itself.
             drop(pieces);
-            Ok(strip(alloc, &text)?)
+            Ok(strip(alloc, text)?)
         }
         Err(offence) => {
             let last = 1 + line_feeds(bytes);

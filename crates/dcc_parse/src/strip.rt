@@ -12,39 +12,39 @@ use dcc_reader::{CaseAt, NumberAt, PartialArm, PartialExpr, PartialStmt, Row, Wo
 use std::alloc::{AllocError, Global};
 
 // An expression.
-fn strip_expr(alloc: Global, e: &PartialExpr) -> Result<CExpr, AllocError>
-    ensures { IfOk result (λ r. tree.expr_of r ≡ stripped.plain_expr (partial.expr_of e.now)) }
+fn strip_expr(alloc: Global, e: PartialExpr) -> Result<CExpr, AllocError>
+    ensures { IfOk result (λ r. tree.expr_of r ≡ stripped.plain_expr (partial.expr_of e)) }
 {
     match e {
         PartialExpr::Missing => Ok(CExpr::Num(0, Base::Int)),
-        PartialExpr::Number(_, n, base) => Ok(CExpr::Num(*n, *base)),
-        PartialExpr::Name(_, word, _) => Ok(CExpr::Name(word.clone()?)),
+        PartialExpr::Number(_, n, base) => Ok(CExpr::Num(n, base)),
+        PartialExpr::Name(_, word, _) => Ok(CExpr::Name(word)),
         PartialExpr::Unary(_, operator, a) => {
-            let a = Box::new(alloc, strip_expr(alloc, a)?)?;
-            Ok(CExpr::Un(*operator, a))
+            let a = Box::new(alloc, strip_expr(alloc, Box::into_inner(a))?)?;
+            Ok(CExpr::Un(operator, a))
         }
         PartialExpr::Binary(operator, a, b) => {
-            let a = Box::new(alloc, strip_expr(alloc, a)?)?;
-            let b = Box::new(alloc, strip_expr(alloc, b)?)?;
-            Ok(CExpr::Bin(*operator, a, b))
+            let a = Box::new(alloc, strip_expr(alloc, Box::into_inner(a))?)?;
+            let b = Box::new(alloc, strip_expr(alloc, Box::into_inner(b))?)?;
+            Ok(CExpr::Bin(operator, a, b))
         }
         PartialExpr::Conditional(a, b, c) => {
-            let a = Box::new(alloc, strip_expr(alloc, a)?)?;
-            let b = Box::new(alloc, strip_expr(alloc, b)?)?;
-            let c = Box::new(alloc, strip_expr(alloc, c)?)?;
+            let a = Box::new(alloc, strip_expr(alloc, Box::into_inner(a))?)?;
+            let b = Box::new(alloc, strip_expr(alloc, Box::into_inner(b))?)?;
+            let c = Box::new(alloc, strip_expr(alloc, Box::into_inner(c))?)?;
             Ok(CExpr::Cond(a, b, c))
         }
         PartialExpr::Cast(_, ty, a) => {
-            let a = Box::new(alloc, strip_expr(alloc, a)?)?;
-            Ok(CExpr::Cast(*ty, a))
+            let a = Box::new(alloc, strip_expr(alloc, Box::into_inner(a))?)?;
+            Ok(CExpr::Cast(ty, a))
         }
     }
 }
 
 // An expression, where there is one.
-fn strip_if(alloc: Global, e: &Option<PartialExpr>) -> Result<Option<CExpr>, AllocError>
+fn strip_if(alloc: Global, e: Option<PartialExpr>) -> Result<Option<CExpr>, AllocError>
     ensures { IfOk result
-        (λ r. option_map tree.expr_of r ≡ option_map stripped.plain_expr (option_map partial.expr_of e.now)) }
+        (λ r. option_map tree.expr_of r ≡ option_map stripped.plain_expr (option_map partial.expr_of e)) }
 {
     match e {
         Some(e) => Ok(Some(strip_expr(alloc, e)?)),
@@ -53,8 +53,8 @@ fn strip_if(alloc: Global, e: &Option<PartialExpr>) -> Result<Option<CExpr>, All
 }
 
 // The value of an assignment.
-fn strip_value(alloc: Global, e: &Option<PartialExpr>) -> Result<CExpr, AllocError>
-    ensures { IfOk result (λ r. tree.expr_of r ≡ stripped.plain_value (option_map partial.expr_of e.now)) }
+fn strip_value(alloc: Global, e: Option<PartialExpr>) -> Result<CExpr, AllocError>
+    ensures { IfOk result (λ r. tree.expr_of r ≡ stripped.plain_value (option_map partial.expr_of e)) }
 {
     match e {
         Some(e) => strip_expr(alloc, e),
@@ -63,9 +63,9 @@ fn strip_value(alloc: Global, e: &Option<PartialExpr>) -> Result<CExpr, AllocErr
 }
 
 // The arguments of a call.
-fn strip_arguments(alloc: Global, arguments: &[PartialExpr]) -> Result<Vec<CExpr>, AllocError>
+fn strip_arguments(alloc: Global, arguments: Vec<PartialExpr>) -> Result<Vec<CExpr>, AllocError>
     ensures { IfOk result
-        (λ r. map tree.expr_of r.items ≡ map stripped.plain_expr (map partial.expr_of arguments.now)) }
+        (λ r. map tree.expr_of r.items ≡ map stripped.plain_expr (map partial.expr_of arguments.items)) }
 {
     let mut found = Vec::with_capacity(alloc, arguments.len())?;
     for e in arguments {
@@ -75,12 +75,12 @@ fn strip_arguments(alloc: Global, arguments: &[PartialExpr]) -> Result<Vec<CExpr
 }
 
 /// A name.
-pub(crate) fn strip_name(alloc: Global, name: &Option<WordAt>) -> Result<String, AllocError>
-    ensures { IfOk result (λ r. string_bytes r ≡ stripped.plain_name (option_map partial.word_of name.now)) }
+pub(crate) fn strip_name(alloc: Global, name: Option<WordAt>) -> String
+    ensures { string_bytes result ≡ stripped.plain_name (option_map partial.word_of name) }
 {
     match name {
-        Some(name) => name.word.clone(),
-        None => Ok(String::new(alloc)),
+        Some(name) => name.word,
+        None => String::new(alloc),
     }
 }
 
@@ -95,11 +95,20 @@ fn strip_numbers(alloc: Global, numbers: &[CaseAt]) -> Result<Vec<u16>, AllocErr
     Ok(found)
 }
 
+// The arms of a `switch`: those with cases, and the one with `default`.
+#[derive(Drop)]
+struct Arms {
+    /// Those with cases.
+    with_cases: Vec<Arm>,
+    /// The one with `default`, of which there is at most one.
+    default: Option<Arm>,
+}
+
 // A statement.
 #[cycle(strip)]
-fn strip_stmt(alloc: Global, stmt: &PartialStmt) -> Result<CStmt, AllocError>
-    ensures { (scene : Scene) (blocks : ℕ) → inner_offences scene blocks (partial.stmt_of stmt.now) ≡ [] →
-        IfOk result (λ r. tree.stmt_of r ≡ stripped.plain_stmt (partial.stmt_of stmt.now)) }
+fn strip_stmt(alloc: Global, stmt: PartialStmt) -> Result<CStmt, AllocError>
+    ensures { (scene : Scene) (blocks : ℕ) → inner_offences scene blocks (partial.stmt_of stmt) ≡ [] →
+        IfOk result (λ r. tree.stmt_of r ≡ stripped.plain_stmt (partial.stmt_of stmt)) }
 {
     match stmt {
         PartialStmt::Assign(place, e, _) => {
@@ -108,9 +117,8 @@ fn strip_stmt(alloc: Global, stmt: &PartialStmt) -> Result<CStmt, AllocError>
         }
         PartialStmt::Call(place, call) => {
             let place = strip_if(alloc, place)?;
-            let name = call.function.word.clone()?;
-            let arguments = strip_arguments(alloc, &call.arguments)?;
-            Ok(CStmt::Call(place, name, arguments, call.depth))
+            let arguments = strip_arguments(alloc, call.arguments)?;
+            Ok(CStmt::Call(place, call.function.word, arguments, call.depth))
         }
         PartialStmt::If(e, _, body, otherwise) => {
             let e = strip_expr(alloc, e)?;
@@ -129,13 +137,13 @@ fn strip_stmt(alloc: Global, stmt: &PartialStmt) -> Result<CStmt, AllocError>
         PartialStmt::Forever(body) => Ok(CStmt::Forever(strip_lines(alloc, body)?)),
         PartialStmt::Switch(e, _, arms) => {
             let e = strip_expr(alloc, e)?;
-            let with_cases = strip_arms(alloc, arms)?;
-            Ok(CStmt::Switch(e, with_cases, strip_default(alloc, arms)?))
+            let arms = strip_arms(alloc, arms)?;
+            Ok(CStmt::Switch(e, arms.with_cases, arms.default))
         }
         PartialStmt::Break => Ok(CStmt::Break),
         PartialStmt::Continue => Ok(CStmt::Continue),
-        PartialStmt::Goto(name) => Ok(CStmt::Goto(strip_name(alloc, name)?)),
-        PartialStmt::Label(name) => Ok(CStmt::Label(name.word.clone()?)),
+        PartialStmt::Goto(name) => Ok(CStmt::Goto(strip_name(alloc, name))),
+        PartialStmt::Label(name) => Ok(CStmt::Label(name.word)),
         PartialStmt::Empty => Ok(CStmt::Empty),
         PartialStmt::Return(e, _) => Ok(CStmt::Return(strip_if(alloc, e)?)),
     }
@@ -143,13 +151,13 @@ fn strip_stmt(alloc: Global, stmt: &PartialStmt) -> Result<CStmt, AllocError>
 
 /// Statements.
 #[cycle(strip)]
-pub(crate) fn strip_lines(alloc: Global, rows: &[Row]) -> Result<Vec<Line>, AllocError>
-    ensures { (scene : Scene) (blocks : ℕ) → lines_offences scene blocks (partial.lines_of rows.now) ≡ [] →
-        IfOk result (λ r. tree.lines_of r.items ≡ stripped.plain_lines (partial.lines_of rows.now)) }
+pub(crate) fn strip_lines(alloc: Global, rows: Vec<Row>) -> Result<Vec<Line>, AllocError>
+    ensures { (scene : Scene) (blocks : ℕ) → lines_offences scene blocks (partial.lines_of rows.items) ≡ [] →
+        IfOk result (λ r. tree.lines_of r.items ≡ stripped.plain_lines (partial.lines_of rows.items)) }
 {
     let mut lines = Vec::with_capacity(alloc, rows.len())?;
     for row in rows {
-        let stmt = strip_stmt(alloc, &row.stmt)?;
+        let stmt = strip_stmt(alloc, row.stmt)?;
         lines.push(Line {
             stmt,
             line: row.line,
@@ -158,36 +166,33 @@ pub(crate) fn strip_lines(alloc: Global, rows: &[Row]) -> Result<Vec<Line>, Allo
     Ok(lines)
 }
 
-// The arms with cases.
+// The arms of a `switch`.
 #[cycle(strip)]
-fn strip_arms(alloc: Global, arms: &[PartialArm]) -> Result<Vec<Arm>, AllocError>
-    ensures { (scene : Scene) (blocks : ℕ) → arms_inner scene blocks (partial.arms_of arms.now) ≡ [] →
-        IfOk result (λ r. tree.arms_of r.items ≡ stripped.case_arms (partial.arms_of arms.now)) }
+fn strip_arms(alloc: Global, arms: Vec<PartialArm>) -> Result<Arms, AllocError>
+    ensures { (scene : Scene) (blocks : ℕ) → arms_inner scene blocks (partial.arms_of arms.items) ≡ [] →
+        default_offences false (partial.arms_of arms.items) ≡ [] →
+        IfOk result (λ r. (tree.arms_of r.with_cases.items ≡ stripped.case_arms (partial.arms_of arms.items))
+        × (tree.arms_if r.default ≡ stripped.default_arms (partial.arms_of arms.items))) }
 {
-    let mut found = Vec::with_capacity(alloc, arms.len())?;
+    let mut with_cases = Vec::with_capacity(alloc, arms.len())?;
+    let mut default = None;
     for arm in arms {
-        if arm.default.is_none() {
-            let cases = strip_numbers(alloc, &arm.numbers)?;
-            let body = strip_lines(alloc, &arm.body)?;
-            found.push(Arm { cases, body })?;
-        }
-    }
-    Ok(found)
-}
-
-// The arm with `default`, of which there is at most one.
-#[cycle(strip)]
-fn strip_default(alloc: Global, arms: &[PartialArm]) -> Result<Option<Arm>, AllocError>
-    ensures { (scene : Scene) (blocks : ℕ) → arms_inner scene blocks (partial.arms_of arms.now) ≡ [] →
-        default_offences false (partial.arms_of arms.now) ≡ [] →
-        IfOk result (λ r. tree.arms_if r ≡ stripped.default_arms (partial.arms_of arms.now)) }
-{
-    for arm in arms {
-        if arm.default.is_some() {
+        let PartialArm {
+            numbers,
+            default: place,
+            body,
+        } = arm;
+        let body = strip_lines(alloc, body)?;
+        if place.is_none() {
+            let cases = strip_numbers(alloc, &numbers)?;
+            with_cases.push(Arm { cases, body })?;
+        } else {
             let cases = Vec::new(alloc);
-            let body = strip_lines(alloc, &arm.body)?;
-            return Ok(Some(Arm { cases, body }));
+            default = Some(Arm { cases, body });
         }
     }
-    Ok(None)
+    Ok(Arms {
+        with_cases,
+        default,
+    })
 }

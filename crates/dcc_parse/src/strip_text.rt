@@ -51,25 +51,25 @@ fn strip_init(alloc: Global, init: &[NumberAt]) -> Result<Vec<u32>, AllocError>
 }
 
 // A parameter or a local variable.
-fn strip_variable(alloc: Global, v: &PartialVariable) -> Result<Var, AllocError>
-    ensures { IfOk result (λ r. tree.variable_of r ≡ stripped.plain_variable (partial.variable_of v.now)) }
+fn strip_variable(alloc: Global, v: PartialVariable) -> Var
+    ensures { tree.variable_of result ≡ stripped.plain_variable (partial.variable_of v) }
 {
-    Ok(Var {
-        name: strip_name(alloc, &v.name)?,
+    Var {
+        name: strip_name(alloc, v.name),
         ty: strip_type(v.ty),
         len: strip_size(v.size),
         class: v.class,
-    })
+    }
 }
 
 // Parameters or local variables.
-fn strip_variables(alloc: Global, vs: &[PartialVariable]) -> Result<Vec<Var>, AllocError>
+fn strip_variables(alloc: Global, vs: Vec<PartialVariable>) -> Result<Vec<Var>, AllocError>
     ensures { IfOk result (λ r.
-        map tree.variable_of r.items ≡ map stripped.plain_variable (map partial.variable_of vs.now)) }
+        map tree.variable_of r.items ≡ map stripped.plain_variable (map partial.variable_of vs.items)) }
 {
     let mut found = Vec::with_capacity(alloc, vs.len())?;
     for v in vs {
-        found.push(strip_variable(alloc, v)?)?;
+        found.push(strip_variable(alloc, v))?;
     }
     Ok(found)
 }
@@ -82,23 +82,24 @@ fn strip_address(address: u64) -> u32
 }
 
 // A global variable, which stands in memory.
-fn strip_global(alloc: Global, v: &PartialVariable) -> Result<Global_, AllocError>
-    ensures { v.now.address ≤ 65536 →
-        IfOk result (λ r. tree.global_of r ≡ stripped.plain_global (partial.variable_of v.now)) }
+fn strip_global(alloc: Global, v: PartialVariable) -> Result<Global_, AllocError>
+    ensures { v.address ≤ 65536 →
+        IfOk result (λ r. tree.global_of r ≡ stripped.plain_global (partial.variable_of v)) }
 {
+    let init = strip_init(alloc, &v.init)?;
     Ok(Global_ {
-        name: strip_name(alloc, &v.name)?,
+        name: strip_name(alloc, v.name),
         at: strip_address(v.address),
         ty: strip_type(v.ty),
         len: strip_size(v.size),
-        init: strip_init(alloc, &v.init)?,
+        init,
     })
 }
 
 // Global variables.
-fn strip_globals(alloc: Global, vs: &[PartialVariable]) -> Result<Vec<Global_>, AllocError>
-    ensures { list_all is_in_memory (map partial.variable_of vs.now) ≡ true → IfOk result (λ r.
-        map tree.global_of r.items ≡ map stripped.plain_global (map partial.variable_of vs.now)) }
+fn strip_globals(alloc: Global, vs: Vec<PartialVariable>) -> Result<Vec<Global_>, AllocError>
+    ensures { list_all is_in_memory (map partial.variable_of vs.items) ≡ true → IfOk result (λ r.
+        map tree.global_of r.items ≡ map stripped.plain_global (map partial.variable_of vs.items)) }
 {
     let mut found = Vec::with_capacity(alloc, vs.len())?;
     for v in vs {
@@ -108,25 +109,25 @@ fn strip_globals(alloc: Global, vs: &[PartialVariable]) -> Result<Vec<Global_>, 
 }
 
 // A function.
-fn strip_function(alloc: Global, f: &PartialFunction) -> Result<Func, AllocError>
-    ensures { (scene : Scene) → lines_offences scene 0 (partial.lines_of f.now.body.items) ≡ [] →
-        IfOk result (λ r. tree.function_of r ≡ stripped.plain_function (partial.function_of f.now)) }
+fn strip_function(alloc: Global, f: PartialFunction) -> Result<Func, AllocError>
+    ensures { (scene : Scene) → lines_offences scene 0 (partial.lines_of f.body.items) ≡ [] →
+        IfOk result (λ r. tree.function_of r ≡ stripped.plain_function (partial.function_of f)) }
 {
     Ok(Func {
-        name: strip_name(alloc, &f.name)?,
+        name: strip_name(alloc, f.name),
         result: f.result,
-        params: strip_variables(alloc, &f.params)?,
-        locals: strip_variables(alloc, &f.locals)?,
-        body: strip_lines(alloc, &f.body)?,
+        params: strip_variables(alloc, f.params)?,
+        locals: strip_variables(alloc, f.locals)?,
+        body: strip_lines(alloc, f.body)?,
         last: f.last,
     })
 }
 
 // Functions.
-fn strip_functions(alloc: Global, functions: &[PartialFunction]) -> Result<Vec<Func>, AllocError>
-    ensures { (whole : Whole) → functions_offences whole (map partial.function_of functions.now) ≡ [] →
+fn strip_functions(alloc: Global, functions: Vec<PartialFunction>) -> Result<Vec<Func>, AllocError>
+    ensures { (whole : Whole) → functions_offences whole (map partial.function_of functions.items) ≡ [] →
         IfOk result (λ r. map tree.function_of r.items
-        ≡ map stripped.plain_function (map partial.function_of functions.now)) }
+        ≡ map stripped.plain_function (map partial.function_of functions.items)) }
 {
     let mut found = Vec::with_capacity(alloc, functions.len())?;
     for f in functions {
@@ -146,16 +147,16 @@ fn strip_offset(number: Option<NumberAt>) -> u16
     }
 }
 
-/// A whole text in which nothing offends.
-pub(crate) fn strip(alloc: Global, text: &PartialText) -> Result<Unit, AllocError>
-    ensures { is_complete_text (partial.text_of text.now) ≡ true → text_offences (partial.text_of text.now) [] ≡ [] →
-        IfOk result (λ unit. tree.tree_of unit ≡ stripped.plain_text (partial.text_of text.now)) }
+/// A whole text in which nothing offends. Each part of what has been read is freed as its own form is made.
+pub(crate) fn strip(alloc: Global, text: PartialText) -> Result<Unit, AllocError>
+    ensures { is_complete_text (partial.text_of text) ≡ true → text_offences (partial.text_of text) [] ≡ [] →
+        IfOk result (λ unit. tree.tree_of unit ≡ stripped.plain_text (partial.text_of text)) }
 {
     Ok(Unit {
         version: 1,
         lo: strip_offset(text.lo),
         hi: strip_offset(text.hi),
-        globals: strip_globals(alloc, &text.globals)?,
-        funcs: strip_functions(alloc, &text.functions)?,
+        globals: strip_globals(alloc, text.globals)?,
+        funcs: strip_functions(alloc, text.functions)?,
     })
 }
