@@ -21,10 +21,10 @@ fn read_arguments(r: &mut Reader<'_>, alloc: Global, calls: usize) -> Got<Vec<Pa
         reading.got (map expr_of arguments.items) (reader_of r.new)
         ≡ statements.read_arguments calls (reader_of r.old)) }
 {
-    let mut arguments = Vec::new(alloc);
     if r.sees_mark(Mark::CloseParenthesis) {
-        return Ok(arguments);
+        return Ok(Vec::new(alloc));
     }
+    let mut arguments = Vec::with_capacity(alloc, 1)?;
     arguments.push(read_enclosed(r, alloc, calls)?)?;
     let mut left = calls;
     while left > 0 {

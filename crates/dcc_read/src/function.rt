@@ -8,6 +8,7 @@ ghost use Rattle.dcc_reader.specs.PartialViews.{function_of};
 ghost use Rattle.dcc_reader.specs.ReaderViews.{reader_of};
 
 use crate::Got;
+use crate::spare::without_spare;
 use crate::statement::read_lines;
 use dcc_lex::Mark;
 use dcc_reader::declaration::read_locals;
@@ -32,8 +33,9 @@ fn read_body(
     let last = r.line();
     r.take_mark(Mark::CloseBrace);
     Ok(PartialFunction {
-        locals,
-        body: block.lines,
+        params: without_spare(head.params),
+        locals: without_spare(locals),
+        body: without_spare(block.lines),
         last,
         ..head
     })

@@ -6,6 +6,7 @@ mod call;
 mod expression;
 mod function;
 mod short;
+mod spare;
 mod statement;
 mod text;
 

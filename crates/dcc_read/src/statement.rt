@@ -15,6 +15,7 @@ use crate::arm::{begins_arm, read_arm_head};
 use crate::call::read_simple;
 use crate::expression::read_test;
 use crate::short::{read_goto, read_leave, read_return};
+use crate::spare::without_spare;
 use dcc_lex::{Head, Mark};
 use dcc_reader::list::push_some;
 use dcc_reader::pragma::read_depth;
@@ -349,7 +350,7 @@ fn read_block(r: &mut Reader<'_>, alloc: Global, calls: usize, around: Around) -
     r.take_mark(Mark::OpenBrace);
     let block = read_lines(r, alloc, calls - 1, around)?;
     r.take_mark(Mark::CloseBrace);
-    Ok(block.lines)
+    Ok(without_spare(block.lines))
 }
 
 /// Reads statements as long as they come.

@@ -9,7 +9,7 @@ use Rattle.dcc_read.proofs.call.read_arguments.Goals as goal
 pub loop-left-init : goal.loop-left-init
 loop-left-init c =
     arguments-first _ _ _ _ (sym c.sees_mark.ensures ∙ c.if-sees_mark.false) c.in_ok-read_enclosed.ensures
-    (map-first expr_of _ _ _ c.new-arguments.ensures.items c.in_ok-push.ensures.items)
+    (map-first expr_of _ _ _ c.in_ok-arguments.ensures.items c.in_ok-push.ensures.items)
 
 pub returns-then-not-sees_mark : goal.returns-then-not-sees_mark
 returns-then-not-sees_mark c =

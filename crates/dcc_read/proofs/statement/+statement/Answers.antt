@@ -72,7 +72,8 @@ read_arms-returns t c = lines.arms-done _ (reader_of c.loop-left.r) _ _
 
 pub read_block-returns : goal.read_block-returns
 read_block-returns t c =
-    laws.block-read c.args.calls (around_of c.args.around) (reader_of c.args.r.now) (reader_of c.take_mark.new.self) (reader_of c.read_lines.new.r) (reader_of c.take_mark-2.new.self)
+    ap (λ rows. got (lines_of rows) (reader_of c.take_mark-2.new.self)) c.without_spare.ensures
+    ∙ laws.block-read c.args.calls (around_of c.args.around) (reader_of c.args.r.now) (reader_of c.take_mark.new.self) (reader_of c.read_lines.new.r) (reader_of c.take_mark-2.new.self)
     (block_of c.in_ok-block.block) (omega arith) c.take_mark.ensures c.in_ok-block.ensures c.take_mark-2.ensures
 
 -- `if`
