@@ -9,12 +9,10 @@ use Rattle.std.proofs.lemmas.List.Elements.{All-get_or, All-contains, All-head}
 use Rattle.std.proofs.lemmas.List.Folds.{list_all-append, list_all_at}
 use Rattle.std.proofs.lemmas.Option.{slice_get_cases, slice_get_within, get_or_from_slice_get}
 use Rattle.dcc_run.proofs.KeptLaws.{right_part}
-use Rattle.dcc_ir.specs.declared.syntax.Loc.{Loc}
 use Rattle.dcc_ir.specs.Live.{block_in}
-use Rattle.dcc_ir.specs.Measure.{depth_of}
 use Rattle.dcc_ir.specs.Run.{is_call, no_block}
 use Rattle.dcc_ir.specs.Tree as inner
-use Rattle.dcc_ir.specs.Use.{reads_of, exprs_of, writes_of, exit_exprs, block_exprs, graph_exprs}
+use Rattle.dcc_ir.specs.Use.{exprs_of, writes_of, exit_exprs, block_exprs, graph_exprs}
 use Rattle.dcc_ir.specs.Value.{width_of}
 use Rattle.dcc_ir.specs.WellFormed.{is_expr, is_expr_of, is_stmt, is_exit, is_block, IsGraph}
 use Rattle.dcc_ir.proofs.ListLaws.{left_part, all_parts}
@@ -30,7 +28,7 @@ use Rattle.dcc_text.specs.Allowed.{AreDeclared, IsAllowedExpr, IsAllowedStmt}
 use Rattle.dcc_text.specs.Spelled.{Way, Low, Exact, text}
 use Rattle.dcc_text.specs.Spelling.{Spelling}
 use Rattle.dcc_text.specs.Stmts.{stmt_text}
-use Rattle.dcc_text.proofs.AllowedStmts.{stmt-allowed}
+use Rattle.dcc_text.proofs.AllowedStmts.{IsNamed, AreNamed, IsLow, stmt-allowed}
 use Rattle.dcc_text.proofs.Depths.{shallow}
 use Rattle.dcc_text.proofs.TypedTexts.{text-allowed}
 use Rattle.dcc_plan.specs.Allowed.{is_mark, has_an_arm, may_stand, item_may_stand, arms_may_stand, IsSpelled, PlanTextsAreAllowed}
@@ -139,15 +137,6 @@ module _ (whole : Tree) (f : Function) (s : Spelling) (graph : inner.Graph) (lev
 
   -- Blocks.
 
-  abbrev IsNamed : Loc → Type 0
-  IsNamed location = s.named location ≡ true
-
-  abbrev AreNamed : inner.Expr → Type 0
-  AreNamed e = All IsNamed (reads_of e)
-
-  abbrev IsLow : inner.Expr → Type 0
-  IsLow e = depth_of e ≤ levels
-
   module _ (b : ℕ) (inside : b < length graph.blocks) where
     abbrev block : inner.Block
     block = block_in graph b
@@ -175,9 +164,9 @@ module _ (whole : Tree) (f : Function) (s : Spelling) (graph : inner.Graph) (lev
         stmt-allowed whole f s declared levels limit 2 enough (omega arith) stmt
         (ap (λ (x : inner.Stmt). is_stmt s.bits x) (sym (get_or_from_slice_get block.stmts m stmt stmt there)) ∙ all-at (is_stmt s.bits) block.stmts m stmt (slice_get_within block.stmts m stmt there) stmts)
         (All-contains (λ x. is_call x ≡ false) block.stmts stmt (All-get_or (λ (x : inner.Block). All (λ y. is_call y ≡ false) x.stmts) graph.blocks b no_block inside spelled.no_calls) inside_stmts)
-        (of-stmt AreNamed spelled.reads m stmt there)
-        (All-contains (λ x. All IsNamed (writes_of x)) block.stmts stmt (All-get_or (λ (x : inner.Block). All (λ y. All IsNamed (writes_of y)) x.stmts) graph.blocks b no_block inside spelled.writes) inside_stmts)
-        (of-stmt IsLow spelled.shallow m stmt there)
+        (of-stmt (AreNamed s) spelled.reads m stmt there)
+        (All-contains (λ x. All (IsNamed s) (writes_of x)) block.stmts stmt (All-get_or (λ (x : inner.Block). All (λ y. All (IsNamed s) (writes_of y)) x.stmts) graph.blocks b no_block inside spelled.writes) inside_stmts)
+        (of-stmt (IsLow levels) spelled.shallow m stmt there)
 
     do-fine : (around : Around) (m : ℕ) → m < length block.stmts → IsFineItem around (plan.Do b m) (text_of_stmt s graph b m)
     do-fine around m less =
@@ -194,12 +183,12 @@ module _ (whole : Tree) (f : Function) (s : Spelling) (graph : inner.Graph) (lev
         }
 
     -- what is tested or chosen by
-    end-expr : (e : inner.Expr) (way : Way) (width : ℕ) → is_expr_of s.bits width e ≡ true → AreNamed e → IsAllowedExpr (declared_in whole f) width (text s way false e)
+    end-expr : (e : inner.Expr) (way : Way) (width : ℕ) → is_expr_of s.bits width e ≡ true → AreNamed s e → IsAllowedExpr (declared_in whole f) width (text s way false e)
     end-expr e way width formed read =
         let (is, same) = and_parts (is_expr s.bits e) (width_of s.bits e == width) formed in
         subst (λ w. IsAllowedExpr (declared_in whole f) w (text s way false e)) (eqb-true (width_of s.bits e) width same) (text-allowed (declared_in whole f) s declared e way false is read)
 
-    end-shallow : (e : inner.Expr) (way : Way) → IsLow e → (nat_le (expr_depth (text s way false e)) limit && true) ≡ true
+    end-shallow : (e : inner.Expr) (way : Way) → IsLow levels e → (nat_le (expr_depth (text s way false e)) limit && true) ≡ true
     end-shallow e way low = and_from (nat_le (expr_depth (text s way false e)) limit) true (le-leb (expr_depth (text s way false e)) limit (omega (arith, enough, low, shallow s e way false))) refl
 
     exit-formed : (exit : inner.Exit) → block.exit ≡ exit → is_exit s.bits (length graph.blocks) exit ≡ true
@@ -214,14 +203,14 @@ module _ (whole : Tree) (f : Function) (s : Spelling) (graph : inner.Graph) (lev
     test-fine around one two body otherwise test yes_place no_place is x y =
         let e = text s Exact false test in
         let (tested, second) = and_parts (is_expr_of s.bits 1 test && nat_lt yes_place (length graph.blocks)) (nat_lt no_place (length graph.blocks)) (exit-formed (inner.If test yes_place no_place) is) in
-        let z = end-expr test Exact 1 (and_parts (is_expr_of s.bits 1 test) (nat_lt yes_place (length graph.blocks)) tested).0 (only-of AreNamed spelled.reads (inner.If test yes_place no_place) test is refl) in
+        let z = end-expr test Exact 1 (and_parts (is_expr_of s.bits 1 test) (nat_lt yes_place (length graph.blocks)) tested).0 (only-of (AreNamed s) spelled.reads (inner.If test yes_place no_place) test is refl) in
         subst (λ exit. IsFineItem around (plan.If b one two) (tree.If (text_of_test s exit) body otherwise)) (sym is) (record {
           writable = and_from (is_writable_expr e) (are_writable_lines (in_block around) false body && are_writable_lines (in_block around) false otherwise) z.writable
               (and_from (are_writable_lines (in_block around) false body) (are_writable_lines (in_block around) false otherwise) x.writable y.writable);
           marked = refl;
           pass = and_from (passes (tree.If e body otherwise)) (list_all passes (stmts_in body ++ stmts_in otherwise))
               (passes-from (tree.If e body otherwise) (ap (λ t. elim t [ Some type ↦ not type.pointer | None ↦ false ]) z.typed)
-              (end-shallow test Exact (only-of IsLow spelled.shallow (inner.If test yes_place no_place) test is refl)) refl)
+              (end-shallow test Exact (only-of (IsLow levels) spelled.shallow (inner.If test yes_place no_place) test is refl)) refl)
               (both-pass (stmts_in body) (stmts_in otherwise) x.pass y.pass);
           labels = both-labels (stmts_in body) (stmts_in otherwise) (marks one) (marks two) x.labels y.labels;
         })
@@ -231,7 +220,7 @@ module _ (whole : Tree) (f : Function) (s : Spelling) (graph : inner.Graph) (lev
     choice-fine around arms bodies e places is some apart x =
         let v = text s Low false e in
         let (two, within) = and_parts (is_expr_of s.bits 16 e && nat_le (length places) 65536) (list_all (λ place. nat_lt place (length graph.blocks)) places) (exit-formed (inner.Switch e places) is) in
-        let z = end-expr e Low 16 (and_parts (is_expr_of s.bits 16 e) (nat_le (length places) 65536) two).0 (only-of AreNamed spelled.reads (inner.Switch e places) e is refl) in
+        let z = end-expr e Low 16 (and_parts (is_expr_of s.bits 16 e) (nat_le (length places) 65536) two).0 (only-of (AreNamed s) spelled.reads (inner.Switch e places) e is refl) in
         subst (λ exit. IsFineItem around (plan.Switch b arms) (tree.Switch (text_of_choice s exit) bodies tree.no_arms)) (sym is) (record {
           writable = and_from (is_writable_expr v) ((has_arm bodies || false) && (are_writable_arms (in_switch around) bodies && true)) z.writable
               (and_from (has_arm bodies || false) (are_writable_arms (in_switch around) bodies && true) (or_left (has_arm bodies) false (x.some ∙ some))
@@ -242,7 +231,7 @@ module _ (whole : Tree) (f : Function) (s : Spelling) (graph : inner.Graph) (lev
               (and_from (is_switch_value (declared_in whole f) v) (differ (cases_of bodies) && true)
               (ap (λ t. elim t [ Some type ↦ not type.pointer && is_word_base (promoted_type type.base) | None ↦ false ]) z.typed ∙ z.narrow (omega arith))
               (and_from (differ (cases_of bodies)) true (ap differ x.cases ∙ apart) refl))
-              (end-shallow e Low (only-of IsLow spelled.shallow (inner.Switch e places) e is refl)) refl)
+              (end-shallow e Low (only-of (IsLow levels) spelled.shallow (inner.Switch e places) e is refl)) refl)
               (ap (list_all passes) (append-nil (arm_stmts bodies)) ∙ x.pass);
           labels = ap (flat_map label_of) (append-nil (arm_stmts bodies)) ∙ x.labels;
         })

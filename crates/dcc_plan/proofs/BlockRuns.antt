@@ -25,7 +25,7 @@ use Rattle.dcc_c.specs.Value as text_value
 use Rattle.dcc_c.specs.Value.{number, converted}
 use Rattle.dcc_text.specs.Spelling.{Spelling}
 use Rattle.dcc_text.specs.Stmts.{stmt_text}
-use Rattle.dcc_text.specs.Holding.{Locations, Alike, IsWithin, Holds, HoldsOrEnds}
+use Rattle.dcc_text.specs.Holding.{Locations, Alike, IsWithin, HoldsFrame, Holds, HoldsOrEnds}
 use Rattle.dcc_text.proofs.StmtLaws.{statements-step}
 use Rattle.dcc_plan.specs.Plan as plan
 use Rattle.dcc_plan.specs.Plan.{Item, Plan, Arms, is_in, is_begun, arm_with}
@@ -142,6 +142,19 @@ module _ (p : inner.Program) (graph : inner.Graph) (s : Spelling) (family : Fami
   abbrev pub IsUnstuck : run.State → Type 0
   IsUnstuck i = (n at : ℕ) → end_after (run.inner_system p fill) n i ≢ Stuck at
 
+  -- What is left of the text stands for a point to which the program goes from this one without a statement.
+  pub record StandsFor (k : Continuation) (from : Point) : Type 0 where
+    pub context : Context
+    pub stands : Standing k context
+    pub point : Point
+    pub same : context.next ≡ point
+    pub leads : Leads graph begun from point
+    pub low : left k ≤ limit
+
+  abbrev pub stands-for : {from : Point} (k : Continuation) (context : Context) (point : Point) (leads : Leads graph begun from point) → Standing k context → context.next ≡ point → left k ≤ limit
+      → StandsFor k from
+  stands-for k context point leads stands same low = record { context = context; stands = stands; point = point; same = same; leads = leads; low = low }
+
   -- The program is about to execute a block, and the text stands for its begin.
   pub record Meets (i : run.State) (t : c.State) : Type 0 where
     pub b : ℕ
@@ -154,13 +167,8 @@ module _ (p : inner.Program) (graph : inner.Graph) (s : Spelling) (family : Fami
     pub running : is_over i.end ≡ false
     pub good : IsGood p i
     pub unstuck : IsUnstuck i
-    pub context : Context
-    pub stands : Stands s graph whole limit t.rest context
-    pub point : Point
-    pub same : context.next ≡ point
-    pub leads : Leads graph begun (Begin b) point
-    pub settled : (is_jumping t.rest ≡ false) ⊎ (context.next ≡ Nowhere)
-    pub low : left t.rest ≤ limit
+    pub stand : StandsFor t.rest (Begin b)
+    pub settled : (is_jumping t.rest ≡ false) ⊎ (stand.context.next ≡ Nowhere)
     pub function : t.frame.function ≡ f
     pub holds : Holds s (family (block_in graph b) (block_in graph b).stmts) AreAlike i t
 
@@ -175,12 +183,7 @@ module _ (p : inner.Program) (graph : inner.Graph) (s : Spelling) (family : Fami
     pub running : is_over i.end ≡ false
     pub fit : IsFit i
     pub steps : AreSteps s (family (block_in graph b)) stmts
-    pub context : Context
-    pub stands : Stands s graph whole limit t.rest context
-    pub point : Point
-    pub same : context.next ≡ point
-    pub leads : Leads graph begun (Before b m) point
-    pub low : left t.rest ≤ limit
+    pub stand : StandsFor t.rest (Before b m)
     pub function : t.frame.function ≡ f
     pub holds : Holds s (family (block_in graph b) stmts) AreAlike i t
 
@@ -190,9 +193,13 @@ module _ (p : inner.Program) (graph : inner.Graph) (s : Spelling) (family : Fami
     pub end : t.end ≡ i.end
     pub events : t.events ≡ i.events
 
-  -- the text holds the same with other statements left
+  -- the text holds the same with other statements left, and so where the program runs at another place with the frame
+  at-place : {Has After : Locations} {i : run.State} {t : c.State} (a : run.Activation) (k : Continuation) → HoldsFrame s After a t.frame → Holds s Has AreAlike i t
+      → Holds s After AreAlike (record i { running = a }) (goes_on k t)
+  at-place a k frame h = record { frame = frame; waiting = h.waiting; memory = h.memory; input = h.input; events = h.events; end = h.end }
+
   pub elsewhere : {Has : Locations} {i : run.State} {t : c.State} (k : Continuation) → Holds s Has AreAlike i t → Holds s Has AreAlike i (goes_on k t)
-  elsewhere k h = record { frame = h.frame; waiting = h.waiting; memory = h.memory; input = h.input; events = h.events; end = h.end }
+  elsewhere {i = i} k h = at-place i.running k h.frame h
 
   -- The state to which the program's step leads.
   module _ (last : run.State) (good : IsGood p last) (unstuck : IsUnstuck last) where
@@ -202,7 +209,7 @@ module _ (p : inner.Program) (graph : inner.Graph) (s : Spelling) (family : Fami
       pub steps : ℕ
       pub some : passes ≡ false → 0 < steps
       pub few : steps ≤ left t.rest
-      pub leads : ((x : Meets last (after c_step steps t)) × (passes ≡ true → moves x.leads < most)) ⊎ Ends last (after c_step steps t)
+      pub leads : ((x : Meets last (after c_step steps t)) × (passes ≡ true → moves x.stand.leads < most)) ⊎ Ends last (after c_step steps t)
 
     -- with one step more before
     pub one-before : (passes : Bool) (most : ℕ) (passes' : Bool) (most' : ℕ) (t u : c.State) → (passes ≡ true → (passes' ≡ true) × (most' ≤ most)) → c_step t ≡ u → suc (left u.rest) ≤ left t.rest
@@ -211,7 +218,7 @@ module _ (p : inner.Program) (graph : inner.Graph) (s : Spelling) (family : Fami
       steps = suc x.steps;
       some = λ e. omega arith;
       few = omega (arith, x.few, less);
-      leads = subst (λ v. ((y : Meets last (after c_step x.steps v)) × (passes ≡ true → moves y.leads < most)) ⊎ Ends last (after c_step x.steps v)) (sym to) (elim x.leads [
+      leads = subst (λ v. ((y : Meets last (after c_step x.steps v)) × (passes ≡ true → moves y.stand.leads < most)) ⊎ Ends last (after c_step x.steps v)) (sym to) (elim x.leads [
         | inl there ↦ inl (there.0, λ e. let z = same e in let fewer = there.1 z.0 in let within = z.1 in omega (arith, fewer, within))
         | inr ends ↦ inr ends
       ]);
@@ -237,8 +244,8 @@ module _ (p : inner.Program) (graph : inner.Graph) (s : Spelling) (family : Fami
             steps = x.steps;
             some = λ e. absurd (true≢false e);
             few = x.few;
-            leads = inl (subst (λ u. (y : Meets last u) × (true ≡ true → moves y.leads < suc (moves leads))) (sym (x.comes t on mid.function))
-                (subst (λ j. (y : Meets j (goes_on x.to t)) × (true ≡ true → moves y.leads < suc (moves leads))) entered (there-meets x.to x.context x.stands x.is x.settled x.low_there, λ e. omega arith)));
+            leads = inl (subst (λ u. (y : Meets last u) × (true ≡ true → moves y.stand.leads < suc (moves leads))) (sym (x.comes t on mid.function))
+                (subst (λ j. (y : Meets j (goes_on x.to t)) × (true ≡ true → moves y.stand.leads < suc (moves leads))) entered (there-meets x.to x.context x.stands x.is x.settled x.low_there, λ e. omega arith)));
           }
         where
           h : Holds s (family (block_in graph b) []) AreAlike i t
@@ -256,28 +263,16 @@ module _ (p : inner.Program) (graph : inner.Graph) (s : Spelling) (family : Fami
             running = mid.running;
             good = subst (IsGood p) (sym entered) good;
             unstuck = subst IsUnstuck (sym entered) unstuck;
-            context = context;
-            stands = stands;
-            point = point;
-            same = same;
-            leads = leads;
+            stand = stands-for k context point leads stands same low;
             settled = settled;
-            low = low;
             function = mid.function;
-            holds = record {
-              frame = record {
-                bits = h.frame.bits;
-                base = h.frame.base;
-                variables = h.frame.variables;
-                values = λ location has. h.frame.values location (is.matters.goes b next mid.known target there location has);
-                places = h.frame.places;
-              };
-              waiting = h.waiting;
-              memory = h.memory;
-              input = h.input;
-              events = h.events;
-              end = h.end;
-            };
+            holds = at-place (run.entering (Some (block_in graph next)) i).running k (record {
+              bits = h.frame.bits;
+              base = h.frame.base;
+              variables = h.frame.variables;
+              values = λ location has. h.frame.values location (is.matters.goes b next mid.known target there location has);
+              places = h.frame.places;
+            }) h;
           }
 
     -- No run comes past an end that is no jump.
@@ -291,10 +286,10 @@ module _ (p : inner.Program) (graph : inner.Graph) (s : Spelling) (family : Fami
     -- the same from each state of the text with fewer statements left
     abbrev Later : ℕ → Type 0
     Later n = (stmts : List inner.Stmt) (b m : ℕ) (i : run.State) (t : c.State) → left t.rest < n → (mid : Midway b m stmts i t) → run.block_step p.graphs fill stmts i ≡ last
-        → Comes (only_goes stmts (block_in graph b).exit) (moves mid.leads) t
+        → Comes (only_goes stmts (block_in graph b).exit) (moves mid.stand.leads) t
 
     module _ (n : ℕ) (again : Later n) (stmts : List inner.Stmt) (b m : ℕ) (i : run.State) (t : c.State) (small : left t.rest < suc n) (mid : Midway b m stmts i t)
-        (goes : run.block_step p.graphs fill stmts i ≡ last) (x : AtItem s graph whole limit t.rest mid.context.next) where
+        (goes : run.block_step p.graphs fill stmts i ≡ last) (x : AtItem s graph whole limit t.rest mid.stand.context.next) where
       t-on : is_over t.end ≡ false
       t-on = ap is_over mid.holds.end ∙ mid.running
 
@@ -312,11 +307,11 @@ module _ (p : inner.Program) (graph : inner.Graph) (s : Spelling) (family : Fami
       stepped stmt steps = one-step s graph whole limit text f well sound is.text (omega arith) t.rest t t-on ∙ steps text t
 
       -- a `break` leads where the program is
-      break-runs : StepsTo tree.Break → Counts tree.Break → Before b m ≡ mid.context.next → mid.context.next ≡ x.context.at_break → Comes (only_goes stmts (block_in graph b).exit) (moves mid.leads) t
+      break-runs : StepsTo tree.Break → Counts tree.Break → Before b m ≡ mid.stand.context.next → mid.stand.context.next ≡ x.context.at_break → Comes (only_goes stmts (block_in graph b).exit) (moves mid.stand.leads) t
       break-runs steps count there same = elim (break-lands s graph whole x.stands) [
         | inl none ↦ absurd (true≢false (ap is_before (there ∙ same ∙ none)))
         | inr l ↦
-            one-before (only_goes stmts (block_in graph b).exit) (moves mid.leads) (only_goes stmts (block_in graph b).exit) (moves mid.leads) t (goes_on l.to t) (λ e. (e, omega arith))
+            one-before (only_goes stmts (block_in graph b).exit) (moves mid.stand.leads) (only_goes stmts (block_in graph b).exit) (moves mid.stand.leads) t (goes_on l.to t) (λ e. (e, omega arith))
             (jump-comes s graph whole limit text f well sound is.text (omega arith) t.rest l.to tree.Break x.at x.lines x.rest (c.after_break x.rest) steps (λ u function. refl) l.found t t-on mid.function)
             (omega (arith, count, l.few))
             (again stmts b m i (goes_on l.to t) (omega (arith, small, count, l.few)) (record {
@@ -329,12 +324,7 @@ module _ (p : inner.Program) (graph : inner.Graph) (s : Spelling) (family : Fami
               running = mid.running;
               fit = mid.fit;
               steps = mid.steps;
-              context = l.context;
-              stands = l.stands;
-              point = mid.point;
-              same = l.is ∙ sym same ∙ mid.same;
-              leads = mid.leads;
-              low = omega (arith, mid.low, count, l.few);
+              stand = stands-for l.to l.context mid.stand.point mid.stand.leads l.stands (l.is ∙ sym same ∙ mid.stand.same) (omega (arith, mid.stand.low, count, l.few));
               function = mid.function;
               holds = elsewhere l.to mid.holds;
             }) goes)
@@ -353,10 +343,10 @@ module _ (p : inner.Program) (graph : inner.Graph) (s : Spelling) (family : Fami
       less : m < length block.stmts
       less = drop-less block.stmts m stmt rest mid.at
 
-      there : Before b m ≡ mid.context.next
-      there = stays-before graph begun b m mid.point mid.leads less ∙ sym mid.same
+      there : Before b m ≡ mid.stand.context.next
+      there = stays-before graph begun b m mid.stand.point mid.stand.leads less ∙ sym mid.stand.same
 
-      module _ (x : AtItem s graph whole limit t.rest mid.context.next) where
+      module _ (x : AtItem s graph whole limit t.rest mid.stand.context.next) where
         abbrev before : c.State
         before = goes_on (runs x.lines x.rest) t
 
@@ -371,7 +361,7 @@ module _ (p : inner.Program) (graph : inner.Graph) (s : Spelling) (family : Fami
             statements-step (family block (stmt ∷ rest)) (family block rest) AreAlike s text stmt 2 x.at i before is.spelling mid.steps.0 (scene-fits i mid.fit) mid.fit.console.left
             (elsewhere (runs x.lines x.rest) mid.holds)
 
-        ends : next ≡ last → is_over next.end ≡ true → c_step t ≡ moved → moved.end ≡ next.end → moved.events ≡ next.events → suc 0 ≤ left t.rest → Comes false (moves mid.leads) t
+        ends : next ≡ last → is_over next.end ≡ true → c_step t ≡ moved → moved.end ≡ next.end → moved.events ≡ next.events → suc 0 ≤ left t.rest → Comes false (moves mid.stand.leads) t
         ends same over to end events some = record {
           steps = 1;
           some = λ e. omega arith;
@@ -400,27 +390,24 @@ module _ (p : inner.Program) (graph : inner.Graph) (s : Spelling) (family : Fami
               running = on;
               fit = stmt-fit stmt i formed mid.fit;
               steps = mid.steps.1;
-              context = record x.context { next = entry graph x.later x.context };
-              stands = subst (λ k. Standing k (record x.context { next = entry graph x.later x.context })) (sym kept.rest) (rests.goes x.later_text x.later_valid x.stands);
-              point = entry graph x.later x.context;
-              same = refl;
-              leads = leads;
-              low = omega (arith, mid.low, fewer, count);
+              stand = stands-for moved.rest (record x.context { next = entry graph x.later x.context }) (entry graph x.later x.context) leads
+                  (subst (λ k. Standing k (record x.context { next = entry graph x.later x.context })) (sym kept.rest) (rests.goes x.later_text x.later_valid x.stands)) refl
+                  (omega (arith, mid.stand.low, fewer, count));
               function = kept.function ∙ mid.function;
               holds = h;
             }
 
-        do-runs : c_step t ≡ moved → Leads graph begun (Before b (suc m)) (entry graph x.later x.context) → suc (lines_count x.lines + left x.rest) ≤ left t.rest → Comes false (moves mid.leads) t
+        do-runs : c_step t ≡ moved → Leads graph begun (Before b (suc m)) (entry graph x.later x.context) → suc (lines_count x.lines + left x.rest) ≤ left t.rest → Comes false (moves mid.stand.leads) t
         do-runs to leads count = by (is_over next.end) refl inner-goes outcome
           where
-            by : (over : Bool) → is_over next.end ≡ over → (if over then next else run.block_step p.graphs fill rest next) ≡ last → HoldsOrEnds s (family block rest) AreAlike next moved → Comes false (moves mid.leads) t
+            by : (over : Bool) → is_over next.end ≡ over → (if over then next else run.block_step p.graphs fill rest next) ≡ last → HoldsOrEnds s (family block rest) AreAlike next moved → Comes false (moves mid.stand.leads) t
             by true over same (inl h) = ends same over to h.end h.events (omega (arith, count))
             by true over same (inr e) = ends same over to e.1 e.2 (omega (arith, count))
             by false on same (inr e) = absurd (true≢false (sym e.0 ∙ on))
             by false on same (inl h) =
                 let fewer : left moved.rest ≡ lines_count x.lines + left x.rest = ap left (text-keeps s text stmt x.at before mid.steps.0.no_call).rest in
                 let there_mid = later-mid on h leads count in
-                one-before false (moves mid.leads) (only_goes rest block.exit) (moves there_mid.leads) t moved (λ e. absurd (true≢false (sym e))) to (omega (arith, fewer, count))
+                one-before false (moves mid.stand.leads) (only_goes rest block.exit) (moves there_mid.stand.leads) t moved (λ e. absurd (true≢false (sym e))) to (omega (arith, fewer, count))
                 (again rest b (suc m) next moved (omega (arith, fewer, count, small)) there_mid same)
 
         -- the statement of that item
@@ -429,9 +416,9 @@ module _ (p : inner.Program) (graph : inner.Graph) (s : Spelling) (family : Fami
             ap₂ (text_of_stmt s graph) (sym (ap block_of same)) (sym (ap place_of same))
             ∙ ap (λ o. elim o [ Some y ↦ stmt_text s 2 y | None ↦ tree.Empty ]) (drop-first block.stmts m stmt rest mid.at)
 
-        by-item : (first : Item) (item_stmt : Stmt) → IsItemText s graph first item_stmt → mid.context.next ≡ item_entry graph first x.context → SoundItem s graph whole first x.later x.context
+        by-item : (first : Item) (item_stmt : Stmt) → IsItemText s graph first item_stmt → mid.stand.context.next ≡ item_entry graph first x.context → SoundItem s graph whole first x.later x.context
             → ((tree : Tree) (u : c.State) → step_at tree t.rest u ≡ stmt_step tree item_stmt x.at (goes_on (runs x.lines x.rest) u))
-            → left t.rest ≡ suc (inside_count item_stmt + lines_count x.lines + left x.rest) → Comes false (moves mid.leads) t
+            → left t.rest ≡ suc (inside_count item_stmt + lines_count x.lines + left x.rest) → Comes false (moves mid.stand.leads) t
         by-item (plan.Do a k) item_stmt planned.does same good' steps count =
             do-runs (stepped n again (stmt ∷ rest) b m i t small mid goes x item_stmt steps ∙ ap (λ y. stmt_step text y x.at before) (text-is a k (there ∙ same)))
             (subst (λ q. Leads graph begun q (entry graph x.later x.context)) (sym (ap₂ (λ a' k'. Before a' (suc k')) (ap block_of (there ∙ same)) (ap place_of (there ∙ same)))) good'.0.2) (omega (arith, count))
@@ -449,8 +436,8 @@ module _ (p : inner.Program) (graph : inner.Graph) (s : Spelling) (family : Fami
         by-item (plan.Jump a) item_stmt item_text same good' steps count = absurd (true≢false (ap is_before (there ∙ same)))
         by-item (plan.For a body) item_stmt item_text same good' steps count = absurd (true≢false (ap is_before (there ∙ same)))
 
-      stmt-runs : Comes false (moves mid.leads) t
-      stmt-runs = elim (head s graph whole mid.stands) [
+      stmt-runs : Comes false (moves mid.stand.leads) t
+      stmt-runs = elim (head s graph whole mid.stand.stands) [
         | at_item x ↦ by-item x x.first x.stmt x.text x.is x.valid x.steps x.count
         | at_turn x ↦ absurd (true≢false (ap is_before (there ∙ x.is)))
         | at_end none ↦ absurd (true≢false (ap is_before (there ∙ none)))
@@ -467,7 +454,7 @@ module _ (p : inner.Program) (graph : inner.Graph) (s : Spelling) (family : Fami
       passing = only_goes [] own.exit
 
       abbrev Arrives : Type 0
-      Arrives = Comes passing (moves mid.leads) t
+      Arrives = Comes passing (moves mid.stand.leads) t
 
       -- where the block's statements end
       at-end : m ≡ length own.stmts
@@ -490,7 +477,7 @@ module _ (p : inner.Program) (graph : inner.Graph) (s : Spelling) (family : Fami
       leads-to : (exit : inner.Exit) (place : ℕ) → own.exit ≡ exit → Contains (targets exit) place → Contains (targets own.exit) place
       leads-to exit place same = subst (λ e. Contains (targets e) place) (sym same)
 
-      module _ (x : AtItem s graph whole limit t.rest mid.context.next) where
+      module _ (x : AtItem s graph whole limit t.rest mid.stand.context.next) where
         abbrev past : c.State
         past = goes_on (runs x.lines x.rest) t
 
@@ -521,10 +508,10 @@ module _ (p : inner.Program) (graph : inner.Graph) (s : Spelling) (family : Fami
               → Sound s graph whole p (in_sides graph x.later x.context) → Leads graph begun (Begin place) (entry graph p (in_sides graph x.later x.context)) → lines_count lines ≤ lines_count body + lines_count otherwise
               → c_step t ≡ goes_on (runs lines (runs x.lines x.rest)) t → run.going_to place i ≡ last → Arrives
           side place p lines there target p_text p_valid leads few to' goes' =
-              one-before passing (moves mid.leads) true (suc (moves leads)) t (goes_on (runs lines (runs x.lines x.rest)) t) (λ e. absurd (true≢false (sym e ∙ ap (only_goes []) item.0.3))) to' (omega (arith, count, few))
+              one-before passing (moves mid.stand.leads) true (suc (moves leads)) t (goes_on (runs lines (runs x.lines x.rest)) t) (λ e. absurd (true≢false (sym e ∙ ap (only_goes []) item.0.3))) to' (omega (arith, count, few))
               (arrives b m place [] i t mid there (leads-to (inner.If test if_true if_false) place item.0.3 target) goes' (runs lines (runs x.lines x.rest))
               (record (in_sides graph x.later x.context) { next = entry graph p (in_sides graph x.later x.context) }) (entry graph p (in_sides graph x.later x.context)) leads
-              (rests.goes p_text p_valid later-stands) refl (omega (arith, mid.low, count, few)))
+              (rests.goes p_text p_valid later-stands) refl (omega (arith, mid.stand.low, count, few)))
 
           if-runs : Arrives
           if-runs =
@@ -582,19 +569,19 @@ module _ (p : inner.Program) (graph : inner.Graph) (s : Spelling) (family : Fami
                   let lines = arm_for value bodies no_lines in
                   let few = arm-few value bodies in
                   let leads = item.0.4 value place at in
-                  one-before passing (moves mid.leads) true (suc (moves leads)) t (goes_on (runs lines (ends_switch (runs x.lines x.rest))) t) (λ e'. absurd (true≢false (sym e' ∙ ap (only_goes []) item.0.2))) to'
+                  one-before passing (moves mid.stand.leads) true (suc (moves leads)) t (goes_on (runs lines (ends_switch (runs x.lines x.rest))) t) (λ e'. absurd (true≢false (sym e' ∙ ap (only_goes []) item.0.2))) to'
                   (omega (arith, count, few))
                   (arrives b m place [] i t mid (ltb-true place (length graph.blocks) (all_at (λ place. nat_lt place (length graph.blocks)) places place all found))
                   (leads-to (inner.Switch e places) place item.0.2 found) (ap (λ o. run.switching o i) (sym at) ∙ goes') (runs lines (ends_switch (runs x.lines x.rest)))
                   (record inside { next = entry graph (arm_with value arms) inside }) (entry graph (arm_with value arms) inside) leads
                   (rests.goes (arm-text s graph value arms bodies texts) (arm-valid graph whole value arms inside item.0.5, arm-begun s graph whole value arms item.1) (rests.leaves later-stands)) refl
-                  (omega (arith, mid.low, count, few)))
+                  (omega (arith, mid.stand.low, count, few)))
 
-        module _ (there : Before b m ≡ mid.context.next) where
+        module _ (there : Before b m ≡ mid.stand.context.next) where
           no-place : (k : ℕ) → k < length own.stmts → m ≡ k → ⊥
           no-place k less same = absurd (omega (arith, less, same, at-end))
 
-          by-end : (first : Item) (item_stmt : Stmt) → IsItemText s graph first item_stmt → mid.context.next ≡ item_entry graph first x.context → SoundItem s graph whole first x.later x.context
+          by-end : (first : Item) (item_stmt : Stmt) → IsItemText s graph first item_stmt → mid.stand.context.next ≡ item_entry graph first x.context → SoundItem s graph whole first x.later x.context
               → ((tree : Tree) (u : c.State) → step_at tree t.rest u ≡ stmt_step tree item_stmt x.at (goes_on (runs x.lines x.rest) u))
               → left t.rest ≡ suc (inside_count item_stmt + lines_count x.lines + left x.rest) → Arrives
           by-end (plan.Do a k) item_stmt item_text same good' steps count =
@@ -614,19 +601,19 @@ module _ (p : inner.Program) (graph : inner.Graph) (s : Spelling) (family : Fami
           by-end (plan.For a body) item_stmt item_text same good' steps count = absurd (true≢false (ap is_before (there ∙ same)))
 
       exit-runs : Arrives
-      exit-runs = by mid.point mid.leads mid.same refl
+      exit-runs = by mid.stand.point mid.stand.leads mid.stand.same refl
         where
-          by : (point : Point) (leads : Leads graph begun (Before b m) point) → mid.context.next ≡ point → moves leads ≡ moves mid.leads → Arrives
-          by point valid.is_there same count = elim (head s graph whole mid.stands) [
+          by : (point : Point) (leads : Leads graph begun (Before b m) point) → mid.stand.context.next ≡ point → moves leads ≡ moves mid.stand.leads → Arrives
+          by point valid.is_there same count = elim (head s graph whole mid.stand.stands) [
             | at_item x ↦ by-end x (sym same) x.first x.stmt x.text x.is x.valid x.steps x.count
             | at_turn x ↦ absurd (true≢false (ap is_before (sym same ∙ x.is)))
             | at_end none ↦ absurd (true≢false (ap is_before (sym same ∙ none)))
           ]
           by point (valid.goes {next = next} at exit leads) same count =
               let less = formed (inner.Goto next) exit in
-              subst (λ z. Comes z (moves mid.leads) t) (sym (ap (only_goes []) exit)) (subst (λ most. Comes true most t) count
-              (arrives b m next [] i t mid (ltb-true next (length graph.blocks) less) (leads-to (inner.Goto next) next exit (contained (next ∷ []) 0 next refl)) (exits (inner.Goto next) exit) t.rest mid.context
-              point leads mid.stands same mid.low))
+              subst (λ z. Comes z (moves mid.stand.leads) t) (sym (ap (only_goes []) exit)) (subst (λ most. Comes true most t) count
+              (arrives b m next [] i t mid (ltb-true next (length graph.blocks) less) (leads-to (inner.Goto next) next exit (contained (next ∷ []) 0 next refl)) (exits (inner.Goto next) exit) t.rest mid.stand.context
+              point leads mid.stand.stands same mid.stand.low))
           by point (valid.stops at exit) same count = absurd (no-end own.exit i exit mid.waiting (exits own.exit refl))
 
     pub block-runs : (n : ℕ) → Later n

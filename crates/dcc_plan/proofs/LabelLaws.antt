@@ -1,9 +1,8 @@
 -- Labels of two blocks differ where their addresses do.
-use Rattle.std.proofs.Common.{◌≡◌, ℕ, zero, suc, ◌-◌, ◌/◌, ◌%◌, ◌<◌, inl, inr, true, false, ◌==◌, List, [], ◌∷◌, length, map, Some, None, refl, sym, ap, ap₂, ◌∙◌, true≢false, arith}
-use Rattle.std.specs.Prelude.{if◌then◌else◌, nat_lt, not, codes, slice_get}
+use Rattle.std.proofs.Common.{◌≡◌, ℕ, zero, suc, ◌<◌, inl, inr, true, ◌==◌, List, [], ◌∷◌, length, map, Some, None, refl, sym, ap, ap₂, ◌∙◌, true≢false}
+use Rattle.std.specs.Prelude.{not, codes, slice_get}
 use Rattle.std.specs.List.{list_any}
-use Rattle.std.proofs.lemmas.Bool.{and_parts, and_from, or_left, or_right, not-true, cases_Bool, eqb-true, eq-eqb, false_from_ne_true}
-use Rattle.std.proofs.lemmas.Bool.Decides.{nat_tests}
+use Rattle.std.proofs.lemmas.Bool.{and_parts, or_left, or_right, not-true, cases_Bool, eqb-true, eq-eqb}
 use Rattle.std.proofs.lemmas.List.Elements.{All-contains}
 use Rattle.std.proofs.lemmas.Option.{slice_get-get_or}
 use Rattle.dcc_ir.specs.Tree as inner
@@ -12,50 +11,9 @@ use Rattle.dcc_ir.specs.Run.{no_block}
 use Rattle.dcc_ir.specs.WellFormed.{all_differ, IsGraph}
 use Rattle.dcc_ir.proofs.ReachedLaws.{contained}
 use Rattle.dcc_c.specs.Token.{same_bytes}
-use Rattle.dcc_plan.specs.Labels.{hex_digit, label_name, label_at}
-
--- lists that are tested to be the same are equal, and a list is the same as itself
-pub same-equal : (xs ys : List ℕ) → same_bytes xs ys ≡ true → xs ≡ ys
-same-equal [] [] is = refl
-same-equal [] (y ∷ ys) is = absurd (true≢false (sym is))
-same-equal (x ∷ xs) [] is = absurd (true≢false (sym is))
-same-equal (x ∷ xs) (y ∷ ys) is =
-    let (here, others) = and_parts (x == y) (same_bytes xs ys) is in
-    ap₂ (λ a b. a ∷ b) (eqb-true x y here) (same-equal xs ys others)
-
-pub same-itself : (xs : List ℕ) → same_bytes xs xs ≡ true
-same-itself [] = refl
-same-itself (x ∷ xs) = and_from (x == x) (same_bytes xs xs) (eq-eqb x x refl) (same-itself xs)
-
--- the number of a digit
-digit_of : ℕ → ℕ
-digit_of glyph = if nat_lt glyph 58 then glyph - 48 else glyph - 87
-
-digit-back : (n : ℕ) → digit_of (hex_digit n) ≡ n
-unfolding digit_of
-digit-back n = grind (arith, nat_tests)
-
-digits-equal : (m n : ℕ) → hex_digit m ≡ hex_digit n → m ≡ n
-digits-equal m n e = sym (digit-back m) ∙ ap digit_of e ∙ digit-back n
-
--- the element at a place
-element : ℕ → List ℕ → ℕ
-element n [] = 0
-element zero (x ∷ xs) = x
-element (suc n) (x ∷ xs) = element n xs
-
-labels-equal : (a b : ℕ) → a < 65536 → b < 65536 → label_name a ≡ label_name b → a ≡ b
-unfolding element
-labels-equal a b first second e =
-    let d3 : a / 4096 % 16 ≡ b / 4096 % 16 = digits-equal (a / 4096 % 16) (b / 4096 % 16) (ap (element 2) e) in
-    let d2 : a / 256 % 16 ≡ b / 256 % 16 = digits-equal (a / 256 % 16) (b / 256 % 16) (ap (element 3) e) in
-    let d1 : a / 16 % 16 ≡ b / 16 % 16 = digits-equal (a / 16 % 16) (b / 16 % 16) (ap (element 4) e) in
-    let d0 : a % 16 ≡ b % 16 = digits-equal (a % 16) (b % 16) (ap (element 5) e) in
-    omega (arith, d3, d2, d1, d0, first, second)
-
-pub labels-differ : (a b : ℕ) → a < 65536 → b < 65536 → (a ≡ b → ⊥) → same_bytes (label_name a) (label_name b) ≡ false
-labels-differ a b first second apart =
-    false_from_ne_true (same_bytes (label_name a) (label_name b)) (λ same. apart (labels-equal a b first second (same-equal (label_name a) (label_name b) same)))
+use Rattle.dcc_c.proofs.NameLaws.{same_bytes-refl}
+use Rattle.dcc_text.proofs.HexLaws.{name_at-differ}
+use Rattle.dcc_plan.specs.Labels.{label_name, label_at}
 
 -- Blocks of a graph.
 
@@ -100,11 +58,11 @@ module _ (graph : inner.Graph) (well : IsGraph graph) where
   -- two labels are the same where they are those of one block
   pub label-tested : (a b : ℕ) → a < length graph.blocks → b < length graph.blocks → same_bytes (label_at graph.blocks b) (label_at graph.blocks a) ≡ (a == b)
   label-tested a b first second = elim (cases_Bool (a == b)) [
-    | inl same ↦ ap (λ k. same_bytes (label_at graph.blocks b) (label_at graph.blocks k)) (eqb-true a b same) ∙ same-itself (label_at graph.blocks b) ∙ sym same
+    | inl same ↦ ap (λ k. same_bytes (label_at graph.blocks b) (label_at graph.blocks k)) (eqb-true a b same) ∙ same_bytes-refl (label_at graph.blocks b) ∙ sym same
     | inr apart ↦
         let differ : (block_in graph b).at ≡ (block_in graph a).at → ⊥ =
         λ e. true≢false (sym (eq-eqb a b (sym (one-place graph.blocks b a (block_in graph b) (block_in graph a) well.addresses (block-at b second) (block-at a first) e))) ∙ apart) in
         ap₂ same_bytes (label-is b second) (label-is a first)
-        ∙ labels-differ (block_in graph b).at (block_in graph a).at (address-below b second) (address-below a first) differ
+        ∙ name_at-differ (codes "L_") (block_in graph b).at (block_in graph a).at (address-below b second) (address-below a first) differ
         ∙ sym apart
   ]

@@ -1,37 +1,25 @@
 -- Labels of blocks are names, and those of different blocks differ.
-use Rattle.std.proofs.Common.{◌≡◌, ℕ, ◌/◌, ◌%◌, ◌<◌, inl, inr, true, false, ◌==◌, List, [], ◌∷◌, length, map, Option, Some, None, refl, sym, ◌∙◌, subst, arith}
+use Rattle.std.proofs.Common.{◌≡◌, ℕ, ◌<◌, inl, inr, true, false, ◌==◌, List, [], ◌∷◌, length, map, Option, Some, None, refl, sym, ◌∙◌, subst}
 use Rattle.std.specs.Prelude.{not, nat_lt, slice_get, codes}
 use Rattle.std.specs.List.{list_all, list_any}
 use Rattle.std.proofs.lemmas.Bool.{and_parts, and_from, or_from, or_cases, or_parts, or_left, or_right, ltb-true, eqb-true, eqb-false, ne_eqb, not-true, not_from_false}
-use Rattle.std.proofs.lemmas.Bool.Decides.{nat_tests}
 use Rattle.dcc_ir.specs.Tree as inner
 use Rattle.dcc_ir.specs.WellFormed.{IsGraph}
 use Rattle.dcc_ir.specs.WellFormed as formed
 use Rattle.dcc_c.specs.Grammar.{is_name, is_among}
 use Rattle.dcc_c.specs.Rules.{all_differ}
-use Rattle.dcc_c.specs.Token.{is_word_byte, same_bytes}
+use Rattle.dcc_c.specs.Token.{same_bytes}
 use Rattle.dcc_c.specs.Tree.{Word}
-use Rattle.dcc_plan.specs.Labels.{hex_digit, label_name, label_at}
+use Rattle.dcc_c.proofs.NameLaws.{same_bytes-refl}
+use Rattle.dcc_text.proofs.HexLaws.{name_at-name}
+use Rattle.dcc_plan.specs.Labels.{label_name, label_at}
 use Rattle.dcc_plan.specs.Plan.{is_in}
-use Rattle.dcc_plan.proofs.LabelLaws.{same-itself, label-tested}
+use Rattle.dcc_plan.proofs.LabelLaws.{label-tested}
 
 -- Names.
 
-digit-byte : (n : ℕ) → n < 16 → is_word_byte (hex_digit n) ≡ true
-digit-byte n small = grind (arith, nat_tests)
-
-low_digit : (n : ℕ) → n % 16 < 16
-low_digit n = omega arith
-
-spelled-word : (x y z w : ℕ) → is_word_byte x ≡ true → is_word_byte y ≡ true → is_word_byte z ≡ true → is_word_byte w ≡ true → is_name (76 ∷ 95 ∷ x ∷ y ∷ z ∷ w ∷ []) ≡ true
-spelled-word x y z w one two three four =
-    let digits = and_from (is_word_byte x) _ one (and_from (is_word_byte y) _ two (and_from (is_word_byte z) _ three (and_from (is_word_byte w) true four refl))) in
-    and_from _ true (and_from _ true digits refl) refl
-
 label-name : (at : ℕ) → is_name (label_name at) ≡ true
-label-name at =
-    spelled-word (hex_digit (at / 4096 % 16)) (hex_digit (at / 256 % 16)) (hex_digit (at / 16 % 16)) (hex_digit (at % 16))
-    (digit-byte _ (low_digit (at / 4096))) (digit-byte _ (low_digit (at / 256))) (digit-byte _ (low_digit (at / 16))) (digit-byte _ (low_digit at))
+label-name at = name_at-name 76 at refl (λ bytes. refl)
 
 pub label-word : (blocks : List inner.Block) (b : ℕ) → is_name (label_at blocks b) ≡ true
 label-word blocks b = by (slice_get blocks b)
@@ -50,7 +38,7 @@ module _ (graph : inner.Graph) (well : IsGraph graph) where
   label-among b [] is = is
   label-among b (a ∷ bs) is = elim (or_cases (a == b) (is_in b bs) is) [
     | inl here ↦ or_left (same_bytes (label b) (label a)) (is_among (map label bs) (label b))
-        (subst (λ k. same_bytes (label b) (label k) ≡ true) (sym (eqb-true a b here)) (same-itself (label b)))
+        (subst (λ k. same_bytes (label b) (label k) ≡ true) (sym (eqb-true a b here)) (same_bytes-refl (label b)))
     | inr later ↦ or_right (same_bytes (label b) (label a)) (is_among (map label bs) (label b)) (label-among b bs later)
   ]
 

@@ -1,14 +1,13 @@
 -- The text of a valid plan counts the visits of its program.
-use Rattle.std.proofs.Common.{◌≡◌, ℕ, suc, ◌+◌, ◌%◌, ◌<◌, ◌≤◌, inl, inr, Bool, true, false, ◌==◌, List, [], Some, None, refl, sym, ap, ap₂, ◌∙◌, subst, true≢false, arith}
-use Rattle.std.specs.Prelude.{◌⊎◌, ◌||◌, not, if◌then◌else◌, get_or}
+use Rattle.std.proofs.Common.{◌≡◌, ℕ, suc, ◌+◌, ◌<◌, ◌≤◌, inl, inr, Bool, true, false, ◌==◌, List, Some, None, refl, sym, ap, ap₂, ◌∙◌, subst, true≢false, arith}
+use Rattle.std.specs.Prelude.{◌⊎◌, ◌||◌, not, if◌then◌else◌}
 use Rattle.std.proofs.lemmas.Bool.{or_left, cases_Bool, eqb-true}
-use Rattle.dcc_run.specs.End.{Running, is_over}
+use Rattle.dcc_run.specs.End.{is_over}
 use Rattle.dcc_run.specs.System.{after}
 use Rattle.dcc_run.specs.Place.{Place}
 use Rattle.dcc_ir.specs.Families.{Family}
 use Rattle.dcc_ir.specs.Fitting.{AreBytes}
 use Rattle.dcc_ir.specs.Live.{block_in}
-use Rattle.dcc_ir.specs.Location.{filled}
 use Rattle.dcc_ir.specs.Run as run
 use Rattle.dcc_ir.specs.Tree as inner
 use Rattle.dcc_ir.specs.WellFormed.{IsGraph}
@@ -20,6 +19,7 @@ use Rattle.dcc_c.specs.Tree as tree
 use Rattle.dcc_c.specs.Tree.{Stmt, Lines, line, Function, Tree}
 use Rattle.dcc_text.specs.Spelling.{Spelling}
 use Rattle.dcc_text.specs.Holding.{Alike, Holds}
+use Rattle.dcc_text.proofs.FirstRuns.{opening, first_state-is}
 use Rattle.dcc_plan.specs.Plan as plan
 use Rattle.dcc_plan.specs.Plan.{Item, Plan, no_items, item, is_begun}
 use Rattle.dcc_plan.specs.PlanText as planned
@@ -33,7 +33,7 @@ use Rattle.dcc_plan.proofs.ListLaws.{drop-none}
 use Rattle.dcc_plan.proofs.Rests.{Sound, SoundItem, lines_count, inside_count, count-is, left, is_jumping, is_jump_stmt, loop_context, Stands, closes, loops, AtItem, AtTurn, Head, at_item, at_turn, at_end, head}
 use Rattle.dcc_plan.proofs.Rests as rests
 use Rattle.dcc_plan.proofs.Settles.{one-step, Settles, settle}
-use Rattle.dcc_plan.proofs.BlockRuns.{sound, block_of, moves, limit, well, IsUnstuck, Meets, Ends, elsewhere, Comes, one-before, block-runs}
+use Rattle.dcc_plan.proofs.BlockRuns.{sound, block_of, moves, limit, well, IsUnstuck, stands-for, Meets, Ends, elsewhere, Comes, one-before, block-runs}
 
 abbrev is_begin : Point → Bool
 is_begin (Begin b) = true
@@ -114,12 +114,7 @@ module _ (p : inner.Program) (graph : inner.Graph) (s : Spelling) (family : Fami
           running = m.running;
           fit = m.good.safe.fit;
           steps = is.matters.steps m.b m.known;
-          context = context;
-          stands = stands;
-          point = point;
-          same = same;
-          leads = leads;
-          low = low;
+          stand = stands-for p graph s family whole f is text AreAlike fill k context point leads stands same low;
           function = m.function;
           holds = elsewhere p graph s family whole f is text AreAlike fill k m.holds;
         }) goes
@@ -129,7 +124,7 @@ module _ (p : inner.Program) (graph : inner.Graph) (s : Spelling) (family : Fami
       steps : ℕ
       some : has_step graph whole m.b ≡ true → 0 < steps
       few : steps ≤ most
-      leads : ((x : Related next (after c_step steps t)) × (has_step graph whole m.b ≡ false → moves x.leads < moves m.leads))
+      leads : ((x : Related next (after c_step steps t)) × (has_step graph whole m.b ≡ false → moves x.stand.leads < moves m.stand.leads))
           ⊎ Ends p graph s family whole f is text AreAlike fill next (after c_step steps t)
 
     -- the same after a step that begins the block
@@ -167,36 +162,36 @@ module _ (p : inner.Program) (graph : inner.Graph) (s : Spelling) (family : Fami
       steps = suc x.steps;
       some = λ e. omega arith;
       few = omega (arith, x.few, low);
-      leads = subst (λ u. ((y : Related next (after c_step x.steps u)) × (has_step graph whole m.b ≡ false → moves y.leads < moves m.leads))
+      leads = subst (λ u. ((y : Related next (after c_step x.steps u)) × (has_step graph whole m.b ≡ false → moves y.stand.leads < moves m.stand.leads))
           ⊎ Ends p graph s family whole f is text AreAlike fill next (after c_step x.steps u)) (sym to)
           (elim x.leads [ inl there ↦ inl (there, λ none. absurd (true≢false (sym (has-step begun) ∙ none))) | inr ends ↦ inr ends ]);
     }
 
     -- the next statement is no jump
-    no-jump : Begin m.b ≡ m.context.next → is_jumping t.rest ≡ true → ⊥
+    no-jump : Begin m.b ≡ m.stand.context.next → is_jumping t.rest ≡ true → ⊥
     no-jump there jumps = elim m.settled [ inl quiet ↦ true≢false (sym jumps ∙ quiet) | inr none ↦ true≢false (ap is_begin (there ∙ none)) ]
 
-    module _ (there : Begin m.b ≡ m.context.next) (x : AtItem s graph whole most t.rest m.context.next) where
+    module _ (there : Begin m.b ≡ m.stand.context.next) (x : AtItem s graph whole most t.rest m.stand.context.next) where
       stepped : (stmt : Stmt) → ((tree : Tree) (u : c.State) → step_at tree t.rest u ≡ stmt_step tree stmt x.at (goes_on (runs x.lines x.rest) u)) → c_step t ≡ stmt_step text stmt x.at (goes_on (runs x.lines x.rest) t)
       stepped stmt steps = one-step s graph whole most text f (well p graph s family whole f is text AreAlike fill) (sound p graph s family whole f is text AreAlike fill) is.text (omega arith) t.rest t on ∙ steps text t
 
-      begun-here : (a : ℕ) → m.context.next ≡ Begin a → goes_to a ≡ true → goes_to m.b ≡ true
+      begun-here : (a : ℕ) → m.stand.context.next ≡ Begin a → goes_to a ≡ true → goes_to m.b ≡ true
       begun-here a same begun = ap goes_to (ap block_of (there ∙ same)) ∙ begun
 
-      by-item : (first : Item) (stmt : Stmt) → IsItemText s graph first stmt → m.context.next ≡ item_entry graph first x.context → SoundItem s graph whole first x.later x.context
+      by-item : (first : Item) (stmt : Stmt) → IsItemText s graph first stmt → m.stand.context.next ≡ item_entry graph first x.context → SoundItem s graph whole first x.later x.context
           → ((tree : Tree) (u : c.State) → step_at tree t.rest u ≡ stmt_step tree stmt x.at (goes_on (runs x.lines x.rest) u))
           → left t.rest ≡ suc (inside_count stmt + lines_count x.lines + left x.rest) → is_jumping t.rest ≡ is_jump_stmt stmt → Leaps
       by-item (plan.Mark a) stmt planned.marks same good steps count jumps =
-          one-more (runs x.lines x.rest) (begun-here a same good.1) (stepped stmt steps) (omega (arith, m.low, count))
+          one-more (runs x.lines x.rest) (begun-here a same good.1) (stepped stmt steps) (omega (arith, m.stand.low, count))
           (later (past (runs x.lines x.rest) (record x.context { next = entry graph x.later x.context }) (entry graph x.later x.context)
-          (subst (λ b. Leads graph goes_to (Before b 0) (entry graph x.later x.context)) (sym (ap block_of (there ∙ same))) good.0.1) (rests.goes x.later_text x.later_valid x.stands) refl (omega (arith, m.low, count))))
+          (subst (λ b. Leads graph goes_to (Before b 0) (entry graph x.later x.context)) (sym (ap block_of (there ∙ same))) good.0.1) (rests.goes x.later_text x.later_valid x.stands) refl (omega (arith, m.stand.low, count))))
       by-item (plan.For a body) stmt (planned.repeats {lines = lines} body_text) same good steps count jumps =
           let following = runs x.lines x.rest in
-          one-more (runs lines (turns lines following)) (begun-here a same good.1.0) (stepped stmt steps) (omega (arith, m.low, count))
+          one-more (runs lines (turns lines following)) (begun-here a same good.1.0) (stepped stmt steps) (omega (arith, m.stand.low, count))
           (at-turn body lines (turns lines following) _ body_text (good.0.2, good.1.1)
-          (loops body_text good.0.0 good.1.0 good.0.1 (good.0.2, good.1.1) (rests.goes x.later_text x.later_valid x.stands) (omega (arith, m.low, count)))
+          (loops body_text good.0.0 good.1.0 good.0.1 (good.0.2, good.1.1) (rests.goes x.later_text x.later_valid x.stands) (omega (arith, m.stand.low, count)))
           (subst (λ b. Leads graph goes_to (turn b body) (entry graph body (loop_context a (record x.context { next = entry graph x.later x.context })))) (sym (ap block_of (there ∙ same))) good.0.1)
-          (omega (arith, m.low, count)))
+          (omega (arith, m.stand.low, count)))
       by-item (plan.Jump a) stmt planned.jumps same good steps count jumps = absurd (no-jump there jumps)
       by-item plan.Break stmt planned.breaks same good steps count jumps = absurd (no-jump there jumps)
       by-item plan.Continue stmt planned.continues same good steps count jumps = absurd (no-jump there jumps)
@@ -205,21 +200,21 @@ module _ (p : inner.Program) (graph : inner.Graph) (s : Spelling) (family : Fami
       by-item (plan.Switch a arms) stmt item_text same good steps count jumps = absurd (true≢false (ap is_begin (there ∙ same)))
 
     leaps : Leaps
-    leaps = by m.point m.leads m.same refl
+    leaps = by m.stand.point m.stand.leads m.stand.same refl
       where
-        by : (point : Point) (leads : Leads graph goes_to (Begin m.b) point) → m.context.next ≡ point → moves leads ≡ moves m.leads → Leaps
+        by : (point : Point) (leads : Leads graph goes_to (Begin m.b) point) → m.stand.context.next ≡ point → moves leads ≡ moves m.stand.leads → Leaps
         by point (valid.begins none leads) same count =
-            let x = past t.rest m.context point leads m.stands same m.low in
+            let x = past t.rest m.stand.context point leads m.stand.stands same m.stand.low in
             record {
               steps = x.steps;
               some = λ step. x.some (or-second (goes_to m.b) passes none step);
-              few = omega (arith, x.few, m.low);
+              few = omega (arith, x.few, m.stand.low);
               leads = elim x.leads [
                 | inl there ↦ inl (there.0, λ no_step. let fewer = there.1 (or-neither (goes_to m.b) passes no_step) in omega (arith, fewer, count))
                 | inr ends ↦ inr ends
               ];
             }
-        by point valid.is_there same count = elim (head s graph whole m.stands) [
+        by point valid.is_there same count = elim (head s graph whole m.stand.stands) [
           | at_item x ↦ by-item (sym same) x x.first x.stmt x.text x.is x.valid x.steps x.count x.jumps
           | at_turn x ↦
               one-more (runs x.lines (turns x.lines x.rest)) (ap goes_to (ap block_of (sym same ∙ x.is)) ∙ x.begun_is)
@@ -237,7 +232,7 @@ module _ (p : inner.Program) (graph : inner.Graph) (s : Spelling) (family : Fami
     kept-is : (i : run.State) (t : c.State) (m : Related i t) → kept (place_of i) ≡ has_step graph whole m.b
     kept-is i t m = ap₂ (λ g b. kept (record { entry = g.entry; at = b.at })) m.graph_is m.block_is ∙ are_kept m.b m.known
 
-    each-leaps : (i : run.State) (t : c.State) (m : Related i t) → IsKeptLeap kept (run.watched_inner p fill) (text_system text) (inner_watchable p fill) Related (λ j u x. moves x.leads) most i t m
+    each-leaps : (i : run.State) (t : c.State) (m : Related i t) → IsKeptLeap kept (run.watched_inner p fill) (text_system text) (inner_watchable p fill) Related (λ j u x. moves x.stand.leads) most i t m
     each-leaps i t m =
         let x = leaps i t m in record {
           marked = record { place = place_of i; mark = ap (λ begins. if begins then Some (place_of i) else None) m.begins; running = m.running };
@@ -263,24 +258,8 @@ module _ (p : inner.Program) (graph : inner.Graph) (s : Spelling) (family : Fami
     graph_well = well p graph s family whole f is text AreAlike fill
 
     -- the program's first state
-    first-is : run.entering (Some (block_in graph 0)) (record {
-      running = run.activation graph (filled graph.bits fill) ((p.hi + 2) % 65536);
-      waiting = [];
-      memory = run.first_memory p fill;
-      input = input;
-      events = [];
-      end = Running;
-    }) ≡ i0
-    first-is =
-        ap (λ o. run.entering o (record {
-          running = run.activation graph (filled graph.bits fill) ((p.hi + 2) % 65536);
-          waiting = [];
-          memory = run.first_memory p fill;
-          input = input;
-          events = [];
-          end = Running;
-        })) (sym (block-at graph graph_well 0 graph_well.begins))
-        ∙ ap (λ graphs. run.opened (get_or graphs 0 run.no_graph) p fill input) (sym is.alone)
+    first-is : run.entering (Some (block_in graph 0)) (opening p graph fill input) ≡ i0
+    first-is = sym (first_state-is p graph (block_in graph 0) fill input is.alone (block-at graph graph_well 0 graph_well.begins))
 
     lead : Settles s graph whole most text f graph_well (sound p graph s family whole f is text AreAlike fill) is.text (omega arith) t0.rest (entry graph whole outside)
     lead = settle s graph whole most text f graph_well (sound p graph s family whole f is text AreAlike fill) is.text (omega arith) (suc (left t0.rest)) t0.rest (entry graph whole outside) _ (omega arith) (omega arith) (rests.goes is.text (sound p graph s family whole f is text AreAlike fill) closes) refl
@@ -297,19 +276,14 @@ module _ (p : inner.Program) (graph : inner.Graph) (s : Spelling) (family : Fami
       running = ap (λ u. is_over u.end) (sym first-is);
       good = first-good p is.well fill input bytes;
       unstuck = unstuck;
-      context = lead.context;
-      stands = lead.stands;
-      point = entry graph whole outside;
-      same = lead.is;
-      leads = is.is_plan.starts;
+      stand = stands-for p graph s family whole f is text AreAlike fill lead.to lead.context (entry graph whole outside) is.is_plan.starts lead.stands lead.is lead.low_there;
       settled = lead.settled;
-      low = lead.low_there;
       function = refl;
       holds = elsewhere p graph s family whole f is text AreAlike fill lead.to holds;
     })
 
     abbrev measured : (i : run.State) (t : c.State) → Related i t → ℕ
-    measured i t m = moves m.leads
+    measured i t m = moves m.stand.leads
 
     is-counted : (within : ℕ) → most ≤ within → IsCountedBy kept p text f fill input within
     is-counted within wide = record {

@@ -1,5 +1,5 @@
 -- Jumps of the text, from a block's end to where the next block begins.
-use Rattle.std.proofs.Common.{◌≡◌, ℕ, zero, suc, ◌+◌, ◌<◌, ◌≤◌, inl, inr, false, Option, Some, refl, sym, ap, ◌∙◌, true≢false, arith}
+use Rattle.std.proofs.Common.{◌≡◌, ℕ, zero, suc, ◌+◌, ◌<◌, ◌≤◌, inl, inr, true, false, Option, Some, refl, sym, ap, ◌∙◌, true≢false, arith}
 use Rattle.std.specs.Prelude.{◌⊎◌, if◌then◌else◌}
 use Rattle.dcc_run.specs.End.{is_over}
 use Rattle.dcc_run.specs.System.{after}
@@ -13,8 +13,8 @@ use Rattle.dcc_plan.specs.Plan as plan
 use Rattle.dcc_plan.specs.Plan.{Item, Plan, is_begun}
 use Rattle.dcc_plan.specs.PlanText as planned
 use Rattle.dcc_plan.specs.PlanText.{IsPlanText, IsItemText}
-use Rattle.dcc_plan.specs.Valid.{Point, Nowhere, Context, outside, item_entry}
-use Rattle.dcc_plan.proofs.Rests.{Sound, SoundItem, lines_count, inside_count, left, is_jump_stmt, is_jumping, Stands, closes, AtItem, at_item, at_turn, at_end, head, break-lands, continue-lands, absent, lands, do-plain, search-plan}
+use Rattle.dcc_plan.specs.Valid.{Point, Begin, Nowhere, Context, outside, item_entry}
+use Rattle.dcc_plan.proofs.Rests.{Sound, SoundItem, lines_count, inside_count, left, is_jump_stmt, is_jumping, Stands, closes, Lands, AtItem, at_item, at_turn, at_end, head, break-lands, continue-lands, absent, lands, do-plain, search-plan}
 
 module _ (s : Spelling) (graph : inner.Graph) (whole : Plan) (limit : ℕ) (text : Tree) (f : Function) (well : IsGraph graph)
     (valid : Sound s graph whole whole outside) (body : IsPlanText s graph whole f.body) (low : lines_count f.body ≤ limit) where
@@ -60,6 +60,21 @@ module _ (s : Spelling) (graph : inner.Graph) (whole : Plan) (limit : ℕ) (text
     comes = λ t on function. refl;
   }
 
+  -- a jump lands there at once
+  lands-once : (k : Continuation) (point next : Point) (most : ℕ) (o : Option Continuation) → 1 ≤ left k → most ≤ limit → next ≡ point → (l : Lands s graph whole limit most true next o)
+      → ((t : State) → is_over t.end ≡ false → t.frame.function ≡ f → after (step text) 1 (goes_on k t) ≡ goes_on l.to t) → Settles k point
+  lands-once k point next most o some within same l comes = record {
+    steps = 1;
+    few = some;
+    to = l.to;
+    context = l.context;
+    stands = l.stands;
+    is = l.is ∙ same;
+    settled = inl (l.quiet refl);
+    low_there = omega (arith, l.few, within);
+    comes = comes;
+  }
+
   -- the same from each continuation with fewer statements left
   abbrev Later : ℕ → Point → Type 0
   Later n point = (k : Continuation) (c : Context) → left k < n → left k ≤ limit → Stands s graph whole limit k c → c.next ≡ point → Settles k point
@@ -79,18 +94,9 @@ module _ (s : Spelling) (graph : inner.Graph) (whole : Plan) (limit : ℕ) (text
       by again x (plan.Mark a) stmt planned.marks is good steps count jumps = stays k point c within stands same (inl jumps)
       by again x (plan.Jump a) stmt planned.jumps is good steps count jumps = elim (search-plan s graph whole limit well a good.0.0 whole f.body (ends_function f.last) outside body valid closes (omega (arith, low))) [
         | absent none gone ↦ absurd (true≢false (sym good.0.1 ∙ none))
-        | lands l ↦ record {
-          steps = 1;
-          few = omega (arith, count);
-          to = l.to;
-          context = l.context;
-          stands = l.stands;
-          is = l.is ∙ sym is ∙ same;
-          settled = inl (l.quiet refl);
-          low_there = omega (arith, l.few, low);
-          comes = jump-comes k l.to stmt x.at x.lines x.rest (after_goto f (label_at graph.blocks a)) steps
-              (λ u function. ap (λ g. jump_step (after_goto g (label_at graph.blocks a)) x.at (goes_on (runs x.lines x.rest) u)) function) l.found;
-        }
+        | lands l ↦ lands-once k point (Begin a) _ _ (omega (arith, count)) (omega (arith, low)) (sym is ∙ same) l
+            (jump-comes k l.to stmt x.at x.lines x.rest (after_goto f (label_at graph.blocks a)) steps
+            (λ u function. ap (λ g. jump_step (after_goto g (label_at graph.blocks a)) x.at (goes_on (runs x.lines x.rest) u)) function) l.found)
       ]
       by again x (plan.If a one other) stmt (planned.tests text' text'') is good steps count jumps = stays k point c within stands same (inl jumps)
       by again x (plan.Switch a arms) stmt (planned.chooses text') is good steps count jumps = stays k point c within stands same (inl jumps)
@@ -115,15 +121,6 @@ module _ (s : Spelling) (graph : inner.Graph) (whole : Plan) (limit : ℕ) (text
       ]
       by again x plan.Continue stmt planned.continues is good steps count jumps = elim (continue-lands s graph whole x.stands) [
         | inl none ↦ stays k point c within stands same (inr (is ∙ none))
-        | inr l ↦ record {
-          steps = 1;
-          few = omega (arith, count);
-          to = l.to;
-          context = l.context;
-          stands = l.stands;
-          is = l.is ∙ sym is ∙ same;
-          settled = inl (l.quiet refl);
-          low_there = omega (arith, l.few, within, count);
-          comes = jump-comes k l.to stmt x.at x.lines x.rest (after_continue x.rest) steps (λ u function. refl) l.found;
-        }
+        | inr l ↦ lands-once k point x.context.at_continue (left x.rest) _ (omega (arith, count)) (omega (arith, within, count)) (sym is ∙ same) l
+            (jump-comes k l.to stmt x.at x.lines x.rest (after_continue x.rest) steps (λ u function. refl) l.found)
       ]

@@ -1,6 +1,6 @@
 //! The text of a plan, its lines not numbered yet.
 
-ghost use Rattle.std.specs.Prelude.{◌≡◌, ◌<◌, ◌∷◌, [], IfOk, map, string_bytes};
+ghost use Rattle.std.specs.Prelude.{◌≡◌, IfOk, map, string_bytes};
 ghost use Rattle.dcc_ir.specs.Live.{block_in};
 ghost use Rattle.dcc_ir.specs.Views.{block_of, exit_of, graph_of};
 ghost use Rattle.dcc_c.specs.Views.{expr_of, stmt_of, lines_of, arms_of as c_arms_of};
@@ -12,6 +12,7 @@ use crate::item::{Arm, Item};
 use dcc_c::{Arm as CArm, Base, CExpr, CStmt, Line};
 use dcc_ir::{Block, End, Graph};
 use dcc_text::expression::expr_text;
+use dcc_text::hex::name_at;
 use dcc_text::statement::stmt_text;
 use dcc_text::{Spells, Way};
 use std::alloc::{AllocError, Global};
@@ -19,49 +20,12 @@ use std::alloc::{AllocError, Global};
 // The depth of calls, in bytes, that is in force where no pragma stands.
 const DEPTH: u32 = 2;
 
-// A digit in hexadecimal.
-fn hex_digit(n: u16) -> &'static str
-    requires { n < 16 }
-    ensures { result.now ≡ labels.hex_digit n ∷ [] }
-{
-    match n {
-        0 => "0",
-        1 => "1",
-        2 => "2",
-        3 => "3",
-        4 => "4",
-        5 => "5",
-        6 => "6",
-        7 => "7",
-        8 => "8",
-        9 => "9",
-        10 => "a",
-        11 => "b",
-        12 => "c",
-        13 => "d",
-        14 => "e",
-        _ => "f",
-    }
-}
-
-// The label of the block at an address.
-fn label_name(alloc: Global, at: u16) -> Result<String, AllocError>
-    ensures { IfOk result (λ name. string_bytes name ≡ labels.label_name at) }
-{
-    let mut name = String::from_str(alloc, "L_")?;
-    name.push_str(hex_digit(at / 4096 % 16))?;
-    name.push_str(hex_digit(at / 256 % 16))?;
-    name.push_str(hex_digit(at / 16 % 16))?;
-    name.push_str(hex_digit(at % 16))?;
-    Ok(name)
-}
-
 // The label of the block at a place in the graph.
 fn label_at(alloc: Global, blocks: &[Block], place: u32) -> Result<String, AllocError>
     ensures { IfOk result (λ name. string_bytes name ≡ labels.label_at (map block_of blocks.now) place) }
 {
     match blocks.get(place as usize) {
-        Some(block) => label_name(alloc, block.at),
+        Some(block) => name_at(alloc, "L_", block.at),
         None => String::from_str(alloc, "L"),
     }
 }

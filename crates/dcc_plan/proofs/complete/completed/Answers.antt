@@ -1,4 +1,4 @@
-use Rattle.std.proofs.Common.{◌≡◌, length, sym, ap, ap₂, ◌∙◌, subst, arith}
+use Rattle.std.proofs.Common.{◌≡◌, length, sym, ap, ap₂, ◌∙◌, arith}
 use Rattle.dcc_plan.specs.Complete.{jump_to}
 use Rattle.dcc_plan.specs.Plan.{no_items}
 use Rattle.dcc_plan.specs.Views.{plan_before}

@@ -1,4 +1,4 @@
-use Rattle.std.proofs.Common.{◌≡◌, sym, ap, ◌∙◌}
+use Rattle.std.proofs.Common.{sym, ap, ◌∙◌}
 use Rattle.dcc_plan.specs.Complete as spec
 use Rattle.dcc_plan.specs.Views.{item_of}
 use Rattle.dcc_plan.proofs.ItemRows.{switch-item}

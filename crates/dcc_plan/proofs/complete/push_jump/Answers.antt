@@ -1,4 +1,4 @@
-use Rattle.std.proofs.Common.{◌≡◌, sym, ap, ◌∙◌}
+use Rattle.std.proofs.Common.{sym, ap, ◌∙◌}
 use Rattle.dcc_plan.specs.Complete.{jump_to}
 use Rattle.dcc_plan.specs.Views.{plan_before, plan_of}
 use Rattle.dcc_plan.proofs.CompletedItems.{jump-added}
