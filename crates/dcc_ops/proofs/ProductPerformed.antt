@@ -231,6 +231,11 @@ module _ (R : Relation) (coupling : IsCoupling R) where
       (product_stored w (with_flags (product_flags needed) s) (execute (product_working w signed) u)
       p low high done.product small el eh done.stands)
 
+  -- both factors are below the limit of their width
+  factors_below : (x : Operand) (place : Place) (s : Machine) (t : State) → IsRead R s x place → R s t
+      → (accumulator_in (operand_width x) s < limit_of (operand_width x)) × (operand_value s x < limit_of (operand_width x))
+  factors_below x place s t read rel = (accumulator_below (operand_width x) s t rel, read.small s.flags t rel)
+
   pub mul_performed : (x : Operand) (place : Place) (s : Machine) (t : State) → IsRead R s x place → R s t
       → R (with_product (operand_width x)
       (product_of (operand_width x) (accumulator_in (operand_width x) s) (operand_value s x)) s)
@@ -240,12 +245,11 @@ module _ (R : Relation) (coupling : IsCoupling R) where
       let w : Width = operand_width x in
       let a : ℕ = accumulator_in w s in
       let b : ℕ = operand_value s x in
-      let first : a < limit_of w = accumulator_below w s t rel in
-      let second : b < limit_of w = read.small s.flags t rel in
-      let small = product_small w a b first second in
+      let below = factors_below x place s t read rel in
+      let small = product_small w a b below.0 below.1 in
       multiplying_performed w false x place s t (a * b) (a * b % limit_of w) (a * b / limit_of w)
       (not (nat_eq (a * b / limit_of w) 0)) read refl rel
-      (λ u h. product_is w (scene_of u) a b h.left h.right first second) (λ seen is. needed_is w seen (a * b) is small)
+      (λ u h. product_is w (scene_of u) a b h.left h.right below.0 below.1) (λ seen is. needed_is w seen (a * b) is small)
       small refl refl
 
   -- of signed numbers
@@ -258,12 +262,11 @@ module _ (R : Relation) (coupling : IsCoupling R) where
       let w : Width = operand_width x in
       let a : ℕ = accumulator_in w s in
       let b : ℕ = operand_value s x in
-      let first : a < limit_of w = accumulator_below w s t rel in
-      let second : b < limit_of w = read.small s.flags t rel in
+      let below = factors_below x place s t read rel in
       let z : ℤ = signed_of w a *ℤ signed_of w b in
       multiplying_performed w true x place s t (pattern_at (double w) z) (wrapped_of w z)
       (wrapped_of w (halved_of z (bits_of w))) (overflows w z) read refl rel
-      (λ u h. signed_product_is w (scene_of u) a b (coupling.bits s u h.stands) h.left h.right first second)
+      (λ u h. signed_product_is w (scene_of u) a b (coupling.bits s u h.stands) h.left h.right below.0 below.1)
       (λ seen is. signed_needed w seen z is) (pattern_small w z) (sym (pattern_low w z))
       (sym (pattern_high w z))
 

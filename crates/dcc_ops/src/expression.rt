@@ -126,49 +126,42 @@ impl Maker {
     pub fn unary(self, operator: UnOp, width: u8, a: Expr) -> Result<Expr, AllocError>
         ensures { IfOk result (λ e. expr_of e ≡ tree.Unary operator width (expr_of a)) }
     {
-        Ok(Expr::Un(operator, width, Box::new(self.alloc, a)?))
+        Expr::unary(self.alloc, operator, width, a)
     }
 
     /// An operator on two operands of so many bits.
     pub fn binary(self, operator: BinOp, width: u8, a: Expr, b: Expr) -> Result<Expr, AllocError>
         ensures { IfOk result (λ e. expr_of e ≡ tree.Binary operator width (expr_of a) (expr_of b)) }
     {
-        let left = Box::new(self.alloc, a)?;
-        let right = Box::new(self.alloc, b)?;
-        Ok(Expr::Bin(operator, width, left, right))
+        Expr::binary(self.alloc, operator, width, a, b)
     }
 
     /// The operand at a greater width, by its sign where the flag is set.
     pub fn widen(self, signed: bool, width: u8, a: Expr) -> Result<Expr, AllocError>
         ensures { IfOk result (λ e. expr_of e ≡ tree.Widen signed width (expr_of a)) }
     {
-        Ok(Expr::Widen(signed, width, Box::new(self.alloc, a)?))
+        Expr::widen(self.alloc, signed, width, a)
     }
 
     /// So many bits of the operand, from that bit on.
     pub fn part(self, width: u8, first: u8, a: Expr) -> Result<Expr, AllocError>
         ensures { IfOk result (λ e. expr_of e ≡ tree.Part width first (expr_of a)) }
     {
-        Ok(Expr::Part(width, first, Box::new(self.alloc, a)?))
+        Expr::part(self.alloc, width, first, a)
     }
 
     /// The upper and the lower half of a number.
     pub fn join(self, high: Expr, low: Expr) -> Result<Expr, AllocError>
         ensures { IfOk result (λ e. expr_of e ≡ tree.Join (expr_of high) (expr_of low)) }
     {
-        let high = Box::new(self.alloc, high)?;
-        let low = Box::new(self.alloc, low)?;
-        Ok(Expr::Join(high, low))
+        Expr::join(self.alloc, high, low)
     }
 
     /// The one expression where the test is 1, else the other.
     pub fn choose(self, test: Expr, a: Expr, b: Expr) -> Result<Expr, AllocError>
         ensures { IfOk result (λ e. expr_of e ≡ tree.Choose (expr_of test) (expr_of a) (expr_of b)) }
     {
-        let test = Box::new(self.alloc, test)?;
-        let one = Box::new(self.alloc, a)?;
-        let other = Box::new(self.alloc, b)?;
-        Ok(Expr::Choose(test, one, other))
+        Expr::choose(self.alloc, test, a, b)
     }
 
     /// The left operand.

@@ -188,6 +188,13 @@ impl Maker {
     }
 }
 
+// What a shift or a rotate leaves in OF and in CF.
+#[derive(Drop)]
+struct MovedOut {
+    overflow: Expr,
+    carry: Expr,
+}
+
 impl Writer {
     // A flag takes this, but stays where the count is in CL and 0.
     fn take_shift_flag(
@@ -205,36 +212,24 @@ impl Writer {
     }
 
     // The flags of a shift.
-    fn shift_flags(
-        &mut self,
-        w: Width,
-        count: Count,
-        overflow: Expr,
-        carry: Expr,
-    ) -> Result<(), AllocError>
+    fn shift_flags(&mut self, w: Width, count: Count, out: MovedOut) -> Result<(), AllocError>
         ensures { OnOk result (written self.new
-            ≡ written self.old ++ spec.shift_flags w count (expr_of overflow) (expr_of carry)) }
+            ≡ written self.old ++ spec.shift_flags w count (expr_of out.overflow) (expr_of out.carry)) }
     {
         let maker = self.maker(w);
-        self.take_shift_flag(w, count, FlagName::Of, overflow)?;
+        self.take_shift_flag(w, count, FlagName::Of, out.overflow)?;
         self.take_shift_flag(w, count, FlagName::Sf, maker.sign(maker.result())?)?;
         self.take_shift_flag(w, count, FlagName::Zf, maker.is_zero(maker.result())?)?;
-        self.take_shift_flag(w, count, FlagName::Cf, carry)
+        self.take_shift_flag(w, count, FlagName::Cf, out.carry)
     }
 
     // Those of a rotate.
-    fn rotate_flags(
-        &mut self,
-        w: Width,
-        count: Count,
-        overflow: Expr,
-        carry: Expr,
-    ) -> Result<(), AllocError>
+    fn rotate_flags(&mut self, w: Width, count: Count, out: MovedOut) -> Result<(), AllocError>
         ensures { OnOk result (written self.new
-            ≡ written self.old ++ spec.rotate_flags w count (expr_of overflow) (expr_of carry)) }
+            ≡ written self.old ++ spec.rotate_flags w count (expr_of out.overflow) (expr_of out.carry)) }
     {
-        self.take_shift_flag(w, count, FlagName::Of, overflow)?;
-        self.take_shift_flag(w, count, FlagName::Cf, carry)
+        self.take_shift_flag(w, count, FlagName::Of, out.overflow)?;
+        self.take_shift_flag(w, count, FlagName::Cf, out.carry)
     }
 
     // SHL.
@@ -245,7 +240,8 @@ impl Writer {
         self.take_result(w, maker.combined(BinOp::Shl)?)?;
         let differ = maker.differs_from_sign(maker.out_at_top()?)?;
         let overflow = maker.if_one(count, differ)?;
-        self.shift_flags(w, count, overflow, maker.out_at_top()?)
+        let carry = maker.out_at_top()?;
+        self.shift_flags(w, count, MovedOut { overflow, carry })
     }
 
     // SHR.
@@ -256,7 +252,7 @@ impl Writer {
         self.take_result(w, maker.combined(BinOp::Shr)?)?;
         let overflow = maker.if_one(count, maker.sign(maker.left())?)?;
         let carry = maker.lowest(maker.nearly_shifted(BinOp::Shr)?)?;
-        self.shift_flags(w, count, overflow, carry)
+        self.shift_flags(w, count, MovedOut { overflow, carry })
     }
 
     // SAR.
@@ -266,7 +262,8 @@ impl Writer {
         let maker = self.maker(w);
         self.take_result(w, maker.combined(BinOp::Sar)?)?;
         let carry = maker.lowest(maker.nearly_shifted(BinOp::Sar)?)?;
-        self.shift_flags(w, count, bit(false), carry)
+        let overflow = bit(false);
+        self.shift_flags(w, count, MovedOut { overflow, carry })
     }
 
     // ROL.
@@ -278,7 +275,7 @@ impl Writer {
         let differ = maker.differs_from_sign(maker.lowest(maker.result())?)?;
         let overflow = maker.if_one(count, differ)?;
         let carry = maker.lowest(maker.result())?;
-        self.rotate_flags(w, count, overflow, carry)
+        self.rotate_flags(w, count, MovedOut { overflow, carry })
     }
 
     // ROR.
@@ -289,7 +286,7 @@ impl Writer {
         self.take_result(w, maker.rotated_right()?)?;
         let overflow = maker.if_one(count, maker.top_bits_differ()?)?;
         let carry = maker.sign(maker.result())?;
-        self.rotate_flags(w, count, overflow, carry)
+        self.rotate_flags(w, count, MovedOut { overflow, carry })
     }
 
     // RCL, by one place alone.
@@ -301,7 +298,7 @@ impl Writer {
         self.take_result(w, maker.turned_left()?)?;
         let overflow = maker.differs_from_sign(maker.sign(maker.left())?)?;
         let carry = maker.sign(maker.left())?;
-        self.rotate_flags(w, Count::One, overflow, carry)
+        self.rotate_flags(w, Count::One, MovedOut { overflow, carry })
     }
 
     // RCR, by one place alone.
@@ -313,7 +310,7 @@ impl Writer {
         self.take_result(w, maker.turned_right()?)?;
         let overflow = maker.top_bits_differ()?;
         let carry = maker.lowest(maker.left())?;
-        self.rotate_flags(w, Count::One, overflow, carry)
+        self.rotate_flags(w, Count::One, MovedOut { overflow, carry })
     }
 
     // What a shift or rotate does to the result and the flags.

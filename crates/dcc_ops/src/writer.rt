@@ -121,10 +121,7 @@ impl Writer {
             Place::Word(low, high) => self
                 .maker(Width::Word)
                 .join(Expr::Get(high), Expr::Get(low)),
-            Place::Memory(width, at) => Ok(Expr::Load(
-                width.bits(),
-                Box::new(self.alloc, self.computed(at)?)?,
-            )),
+            Place::Memory(width, at) => Expr::load(self.alloc, width.bits(), self.computed(at)?),
             Place::Address(distance) => Ok(Expr::Address(distance)),
             Place::Computed(word) => self.computed(word),
         }
