@@ -51,9 +51,9 @@ abbrev pub TruthsStay : Block → Block → Type 0
 TruthsStay before after = IsPartOf (truth_places after.stmts) (flag_places before.stmts)
 
 -- The graph without flags but those that are kept. It is well formed, its form stays, and it may stand in the place of
--- the other in each program. Its parts and statements are of kinds that the other's are. Where definitions of flags load from plain addresses, truth statements stay at their
--- locations; where a definition of a flag reads flags only as a negation, or as arms of a choice that are that flag,
--- expressions are at most twice as deep.
+-- the other in each program. Its parts and statements are of kinds that the other's are. Where definitions of flags
+-- load from plain addresses, truth statements stay at their locations; where a definition of a flag reads flags only as
+-- a negation, or as arms of a choice that are that flag, expressions are at most twice as deep.
 pub record IsFolded (before after : Graph) : Type 0 where
   pub formed : IsGraph after
   pub form : GraphStays before after

@@ -142,35 +142,28 @@ impl Folding {
         ensures kept { IfOk result (λ folding. folding.kept ≡ self.kept) }
     {
         let block = &g.blocks[place];
-        let Folding {
-            alloc,
-            kept,
-            bits,
-            mut given,
-            mut blocks,
-        } = self;
-        let mut choices = given[place].copy(alloc)?;
+        let mut choices = self.given[place].copy(self.alloc)?;
         let mut writer = Writer {
-            alloc,
-            kept,
-            bits,
-            stmts: Vec::new(alloc),
+            alloc: self.alloc,
+            kept: self.kept,
+            bits: self.bits,
+            stmts: Vec::new(self.alloc),
         };
         writer.fold_stmts(&mut choices, block.stmts.as_slice())?;
-        let end = choices.within_end(alloc, &block.end)?;
-        let Writer { bits, stmts, .. } = writer;
+        let end = choices.within_end(self.alloc, &block.end)?;
+        let mut blocks = self.blocks;
         blocks[place] = Block {
             at: block.at,
-            stmts,
+            stmts: writer.stmts,
             end,
         };
-        give(alloc, &choices, &mut given, next)?;
+        let mut given = self.given;
+        give(self.alloc, &choices, &mut given, next)?;
         Ok(Folding {
-            alloc,
-            kept,
-            bits,
+            bits: writer.bits,
             given,
             blocks,
+            ..self
         })
     }
 
