@@ -3,6 +3,7 @@ use Rattle.std.proofs.Common.{◌≡◌, ℕ, Bool, true, false, cond, List, [],
 use Rattle.std.specs.Prelude.{is_some, option_map, if◌then◌else◌}
 use Rattle.std.specs.BTreeMap as tree
 use Rattle.std.specs.Map.{lookup}
+use Rattle.std.specs.Str.{bytes_eq}
 use Rattle.std.specs.Cmp.Lexicographic.{slice_cmp}
 use Rattle.std.specs.Ordering.{nat_cmp}
 use Rattle.std.proofs.lemmas.Map.Text.{btree_map_updates_str}
@@ -22,13 +23,6 @@ pub first-none : {X : Type 0} (o : Option X) → first_found o None ≡ o
 first-none (Some x) = refl
 first-none None = refl
 
-first-kept : {X : Type 0} (o : Option X) (b : Bool) (v : X) → (b ≡ true → is_some o ≡ true) → o ≡ first_found o (if b then Some v else None)
-first-kept (Some x) b v has = refl
-first-kept None true v has = absurd (no-true (has refl)) where
-  no-true : false ≡ true → ⊥
-  no-true e = absurd cc
-first-kept None false v has = refl
-
 first-added : {X : Type 0} (o : Option X) (c : Bool) (v : X) → (c ≡ true → is_some o ≡ false) → cond c (Some v) o ≡ first_found o (if c then Some v else None)
 first-added None true v absent = refl
 first-added None false v absent = refl
@@ -37,10 +31,14 @@ first-added (Some x) true v absent = absurd (no-false (absent refl)) where
   no-false : true ≡ false → ⊥
   no-false e = absurd cc
 
--- a word that has a value keeps it
-pub held-kept : {X : Type 0} (m : tree.BTreeMap (Bor (List ℕ)) X) (word : Word) (v : X) → is_some (held m word) ≡ true →
-    (other : Word) → held m other ≡ first_found (held m other) (if same_bytes word other then Some v else None)
-held-kept m word v has other = first-kept (held m other) (same_bytes word other) v (λ same. subst (λ w. is_some (held m w) ≡ true) (same_bytes-equal word other same) has)
+pub none-found : {X : Type 0} (o : Option X) → ((x : X) → o ≡ Some x → ⊥) → is_some o ≡ false
+none-found None not_some = refl
+none-found (Some x) not_some = absurd (not_some x refl)
+
+first-restored : {X : Type 0} (o : Option X) (b : Bool) (v first : X) → (b ≡ true → o ≡ Some first) →
+    cond b (Some first) (cond b (Some v) o) ≡ first_found o (if b then Some v else None)
+first-restored o true v first had = sym (ap (λ p. first_found p (Some v)) (had refl))
+first-restored o false v first had = sym (first-none o)
 
 -- a word that has none gets one
 pub held-added : {X : Type 0} (m n : tree.BTreeMap (Bor (List ℕ)) X) (word : Word) (v : X) →
@@ -50,6 +48,17 @@ held-added m n word v updates absent other =
     btree_map_updates_str word m n (Some v) updates other
     ∙ ap (λ b. cond b (Some v) (held m other)) (sym (same_bytes-bytes_eq word other))
     ∙ first-added (held m other) (same_bytes word other) v (λ same. subst (λ w. is_some (held m w) ≡ false) (same_bytes-equal word other same) absent)
+
+-- a word that had a value gets it back
+pub held-restored : {X : Type 0} (m n o : tree.BTreeMap (Bor (List ℕ)) X) (word : Word) (v first : X) →
+    tree.UpdatesBy (λ x y. slice_cmp nat_cmp x.now y.now) (λ k. slice_cmp nat_cmp word k.now) m n (Some v) →
+    tree.UpdatesBy (λ x y. slice_cmp nat_cmp x.now y.now) (λ k. slice_cmp nat_cmp word k.now) n o (Some first) → held m word ≡ Some first →
+    (other : Word) → held o other ≡ first_found (held m other) (if same_bytes word other then Some v else None)
+held-restored m n o word v first updates restores had other =
+    btree_map_updates_str word n o (Some first) restores other
+    ∙ ap (λ p. cond (bytes_eq word other) (Some first) p) (btree_map_updates_str word m n (Some v) updates other)
+    ∙ ap (λ b. cond b (Some first) (cond b (Some v) (held m other))) (sym (same_bytes-bytes_eq word other))
+    ∙ first-restored (held m other) (same_bytes word other) v first (λ same. subst (λ w. held m w ≡ Some first) (same_bytes-equal word other same) had)
 
 -- a function more, before others
 pub head-step : (o n : Option (Option Signature)) (b : Bool) (v : Option Signature) (s : Option dos.Signature) (name : Word) (others : Option Known) →

@@ -1,6 +1,6 @@
 -- How names are seen one after another.
 use Rattle.std.proofs.Common.{◌≡◌, ℕ, ◌+◌, ◌<◌, Bool, true, false, List, [], ◌∷◌, length, get_or, drop, string_bytes, Option, refl, sym, ap, ◌∙◌}
-use Rattle.std.specs.Prelude.{◌||◌}
+use Rattle.std.specs.Prelude.{◌||◌, not}
 use Rattle.std.specs.BTreeSet as set
 use Rattle.std.specs.BTreeMap.{is_at}
 use Rattle.std.specs.List.{list_any}
@@ -32,6 +32,15 @@ group false x o = refl
 or-false : (b : Bool) → b || false ≡ b
 or-false true = refl
 or-false false = refl
+
+-- a word that was not new is one of those seen before
+pub new-or-taken : (taken seen is_new : Bool) → is_new ≡ not seen → not is_new || taken ≡ taken || seen
+new-or-taken taken seen is_new is = ap (λ b. not b || taken) is ∙ both taken seen where
+  both : (t s : Bool) → not (not s) || t ≡ t || s
+  both true true = refl
+  both true false = refl
+  both false true = refl
+  both false false = refl
 
 -- no word so far
 pub none-held : (taken s : set.BTreeSet (Bor (List ℕ))) (word : Word) (b : Bool) → s.keys ≡ [] → holds taken word ≡ b → holds taken word || holds s word ≡ b

@@ -1,11 +1,12 @@
 //! Names, and those that are taken.
 
-ghost use Rattle.std.specs.Prelude.{◌≡◌, ◌++◌, ◌||◌, List, map, IfOk, OnOk};
+ghost use Rattle.std.specs.Prelude.{◌≡◌, ◌++◌, ◌||◌, not, List, map, IfOk, OnOk};
 ghost use Rattle.dcc_c.specs.Dos.{dos_names};
 ghost use Rattle.dcc_c.specs.Grammar as grammar;
 ghost use Rattle.dcc_c.specs.Known.{known_functions};
 ghost use Rattle.dcc_c.specs.Offences.{repeated};
 ghost use Rattle.dcc_c.specs.TextOffences as offences;
+ghost use Rattle.dcc_c.specs.Token.{same_bytes};
 ghost use Rattle.dcc_c.specs.Tree.{Word};
 ghost use Rattle.dcc_reader.specs.PartialViews.{variable_of, function_of};
 ghost use Rattle.dcc_check.specs.Names.{lent_names};
@@ -93,17 +94,26 @@ pub fn tell_repeated(
     let mut own = BTreeSet::new(alloc);
     for name in names {
         let word = name.word.as_str();
-        first.tell_if(is_among(taken, &own, word), ParseKind::Name, name.at);
-        add_word(&mut own, word)?;
+        let is_new = add_new(&mut own, word)?;
+        first.tell_if(is_repeated(taken, is_new, word), ParseKind::Name, name.at);
     }
     Ok(())
 }
 
-// Whether one of the sets has the word.
-fn is_among(taken: &BTreeSet<&str>, own: &BTreeSet<&str>, word: &str) -> bool
-    ensures { result ≡ holds taken.now word.now || holds own.now word.now }
+// Adds a word to the set, and tells whether it is new.
+fn add_new<'a>(words: &mut BTreeSet<&'a str>, word: &'a str) -> Result<bool, AllocError>
+    ensures added { OnOk result
+        ((other : Word) → holds words.new other ≡ same_bytes other word.now || holds words.old other) }
+    ensures new { IfOk result (λ is_new. is_new ≡ not (holds words.old word.now)) }
 {
-    taken.contains(word) || own.contains(word)
+    Ok(words.insert(word)?)
+}
+
+// Whether a word is not new, or taken.
+fn is_repeated(taken: &BTreeSet<&str>, is_new: bool, word: &str) -> bool
+    ensures { result ≡ not is_new || holds taken.now word.now }
+{
+    !is_new || taken.contains(word)
 }
 
 /// The names of the DOS calls.

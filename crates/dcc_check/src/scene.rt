@@ -106,8 +106,9 @@ fn add_first<'a, V: Drop>(
     ensures { OnOk result ((other : Word) → held declared.new other
         ≡ first_found (held declared.old other) (if same_bytes word.now other then Some value else None)) }
 {
-    if !declared.contains_key(word) {
-        declared.insert(word, value)?;
+    // Few words have a value already, so that the map is searched once for each.
+    if let Some(first) = declared.insert(word, value)? {
+        declared.insert(word, first)?;
     }
     Ok(())
 }

@@ -5,7 +5,8 @@ use Rattle.dcc_c.specs.Kinds.{first_after}
 use Rattle.dcc_c.specs.Offences.{repeated}
 use Rattle.dcc_check.specs.Names.{lent_names}
 use Rattle.dcc_reader.specs.Told.{told}
-use Rattle.dcc_check.proofs.NameLaws.{known-step, told-step, none-held}
+use Rattle.dcc_reader.specs.WordViews.{holds}
+use Rattle.dcc_check.proofs.NameLaws.{known-step, told-step, none-held, new-or-taken}
 use Rattle.dcc_check.proofs.names.tell_repeated.Goals as goal
 
 pub loop-name-init : goal.loop-name-init
@@ -17,9 +18,9 @@ loop-name-preserved c = λ before all.
     let x = c.name-item.result in (
       string_bytes x.now.word ∷ inv.0,
       known-step c.args.names.now c.loop-name.name-index x c.loop-name-test.true c.name-item.is
-          c.loop-name.own c.add_word.new.words c.as_str-word.result.now c.as_str-word.ensures.value c.in_ok-add_word.ensures c.args.taken.now inv.0 inv.1,
-      told-step c.args.names.now c.loop-name.name-index x c.loop-name-test.true c.name-item.is inv.0 (told c.loop-name.first) (told c.tell_if.new.self) c.is_among.result
-          (c.is_among.ensures ∙ inv.1 c.as_str-word.result.now ∙ ap (is_among inv.0) c.as_str-word.ensures.value) c.tell_if.ensures
+          c.loop-name.own c.add_new.new.words c.as_str-word.result.now c.as_str-word.ensures.value c.in_ok-is_new.ensures.added c.args.taken.now inv.0 inv.1,
+      told-step c.args.names.now c.loop-name.name-index x c.loop-name-test.true c.name-item.is inv.0 (told c.loop-name.first) (told c.tell_if.new.self) c.is_repeated.result
+          (c.is_repeated.ensures ∙ new-or-taken (holds c.args.taken.now c.as_str-word.result.now) _ c.in_ok-is_new.is_new c.in_ok-is_new.ensures.new ∙ inv.1 c.as_str-word.result.now ∙ ap (is_among inv.0) c.as_str-word.ensures.value) c.tell_if.ensures
           ∙ inv.2,
     )
 
