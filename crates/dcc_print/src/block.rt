@@ -43,17 +43,17 @@ pub(crate) fn push_stmt(
         }
         CStmt::If(e, body, otherwise) => {
             push_test(text, braces, "if", e)?;
-            let middle = push_inner(text, braces, depth, body)?;
+            let middle = push_lines(text, inside(braces), depth, body)?;
             return push_else(text, braces, middle, otherwise);
         }
         CStmt::While(e, body) => {
             push_test(text, braces, "while", e)?;
-            return push_block(text, braces, depth, body);
+            return push_block(text, braces, depth, body, "}\n");
         }
         CStmt::DoWhile(body, e) => return push_do_while(text, braces, depth, body, e),
         CStmt::Forever(body) => {
             push_line(text, braces, "for (;;) {\n")?;
-            return push_block(text, braces, depth, body);
+            return push_block(text, braces, depth, body, "}\n");
         }
         CStmt::Switch(e, arms, last) => {
             push_test(text, braces, "switch", e)?;
@@ -70,21 +70,22 @@ pub(crate) fn push_stmt(
     Ok(depth)
 }
 
-// Appends the statements inside a statement, and the line that ends it. The answer is the depth in
-// force after it.
+// Appends the statements inside a statement, and then so much of the line that follows them. The
+// answer is the depth in force after them.
 #[cycle(block)]
 fn push_block(
     text: &mut String,
     braces: usize,
     depth: u32,
     body: &[Line],
+    end: &str,
 ) -> Result<u32, AllocError>
     ensures text { OnOk result (string_bytes text.new ≡ string_bytes text.old
-        ++ (written_lines (1 + braces) depth (lines_of body.now) ++ (indentation braces ++ codes "}\n"))) }
+        ++ (written_lines (1 + braces) depth (lines_of body.now) ++ (indentation braces ++ end.now))) }
     ensures depth { IfOk result (λ in_force. in_force ≡ depth_after depth (stmts_in (lines_of body.now))) }
 {
-    let in_force = push_inner(text, braces, depth, body)?;
-    push_line(text, braces, "}\n")?;
+    let in_force = push_lines(text, inside(braces), depth, body)?;
+    push_line(text, braces, end)?;
     Ok(in_force)
 }
 
@@ -107,7 +108,7 @@ fn push_else(
         return Ok(depth);
     }
     push_line(text, braces, "} else {\n")?;
-    push_block(text, braces, depth, otherwise)
+    push_block(text, braces, depth, otherwise, "}\n")
 }
 
 // Appends a `do` loop. The answer is the depth in force after it.
@@ -124,8 +125,7 @@ fn push_do_while(
     ensures depth { IfOk result (λ in_force. in_force ≡ depth_after depth (stmts_in (lines_of body.now))) }
 {
     push_line(text, braces, "do {\n")?;
-    let in_force = push_inner(text, braces, depth, body)?;
-    push_line(text, braces, "} while (")?;
+    let in_force = push_block(text, braces, depth, body, "} while (")?;
     push_expr(text, e)?;
     text.push_str(");\n")?;
     Ok(in_force)
@@ -180,22 +180,6 @@ fn push_default(
             Ok(in_force)
         }
     }
-}
-
-// Appends the statements inside a statement that is itself inside so many pairs of braces. The
-// answer is the depth in force after them.
-#[cycle(block)]
-fn push_inner(
-    text: &mut String,
-    braces: usize,
-    depth: u32,
-    lines: &[Line],
-) -> Result<u32, AllocError>
-    ensures text { OnOk result
-        (string_bytes text.new ≡ string_bytes text.old ++ written_lines (1 + braces) depth (lines_of lines.now)) }
-    ensures depth { IfOk result (λ in_force. in_force ≡ depth_after depth (stmts_in (lines_of lines.now))) }
-{
-    push_lines(text, inside(braces), depth, lines)
 }
 
 /// Appends statements, with this depth in force before them. The answer is the depth in force

@@ -4,7 +4,7 @@ use Rattle.dcc_c.specs.declared.syntax.CExpr.{CExpr}
 use Rattle.dcc_c.specs.declared.syntax.CStmt.{CStmt, If as IfOf}
 use Rattle.dcc_c.specs.declared.syntax.Line.{Line}
 use Rattle.dcc_c.specs.declared.syntax.Arm.{Arm, out-Arm}
-use Rattle.dcc_c.specs.Tree.{If, While, DoWhile, Forever, Switch, line, arm, no_arms, Word}
+use Rattle.dcc_c.specs.Tree.{If, While, DoWhile, Forever, Switch, line, arm, no_arms}
 use Rattle.dcc_c.specs.Parts.{stmts_in, inner_stmts, arm_stmts}
 use Rattle.dcc_c.specs.Written.{indentation, depth_after, next_depth, written_depth, written_test, written_stmt, written_else, written_lines, written_arms, written_default}
 use Rattle.dcc_c.specs.Views.{expr_of, stmt_of, lines_of, arms_of, arm_before, arms_if}
@@ -89,11 +89,15 @@ push_else-returns-clause-text t c =
     (sym (append_assoc head block end) ∙ ap (λ l. l ++ end) (sym (else-some braces lines block (sym c.is_empty.ensures ∙ c.if-is_empty.false))))
     c.push_block.ensures.text
 
-pub push_inner-returns-clause-text : goal.push_inner-returns-clause-text
-push_inner-returns-clause-text t c =
-    subst (λ (l : Word). OnOk c.push_lines.result (string_bytes c.push_lines.new.text ≡ string_bytes c.args.text.now ++ l))
-    (lines-counted c.inside.result (1 + c.args.braces) c.inside.ensures c.args.depth (lines_of c.args.lines.now))
-    c.push_lines.ensures.text
+pub push_block-returns-clause-text : goal.push_block-returns-clause-text
+push_block-returns-clause-text t c =
+    let braces = c.args.braces in
+    let old = string_bytes c.args.text.now in
+    let lines = lines_of c.args.body.now in
+    let end = indentation braces ++ c.args.end.now in
+    c.in_ok-push_line.ensures
+    ∙ ap (λ l. l ++ end) (c.in_ok-in_force.ensures.text ∙ ap (λ l. old ++ l) (lines-counted c.inside.result (1 + braces) c.inside.ensures c.args.depth lines))
+    ∙ append_assoc old (written_lines (1 + braces) c.args.depth lines) end
 
 pub push_lines-loop-i-preserved : goal.push_lines-loop-i-preserved
 push_lines-loop-i-preserved t c =
@@ -137,13 +141,14 @@ push_stmt-returns-in-If-clause-text t c =
     let otherwise = lines_of c.deref-in-If-2.result.now in
     let old = string_bytes c.args.text.now in
     let head = indentation braces ++ written_test (codes "if") (expr_of c.in-If.e) in
-    let inner = written_lines (1 + braces) depth body in
+    let inner = written_lines c.inside.result depth body in
     let last = indentation braces ++ codes "}\n" in
     let tree = if-lent _ c.in-If.e c.in-If.body c.in-If.otherwise _ _ c.deref-in-If.ensures.value c.deref-in-If-2.ensures.value c.in-If.is in
     append-on_ok c.push_else.result old _ _ (head ++ inner) _ _
     (c.in_ok-middle-in-If.ensures.text ∙ ap (λ l. l ++ inner) c.in_ok-push_test-in-If.ensures ∙ append_assoc old head inner)
     (append_assoc head inner _
     ∙ ap (λ n. head ++ (inner ++ (written_else braces otherwise (written_lines (1 + braces) n otherwise) ++ last))) c.in_ok-middle-in-If.ensures.depth
+    ∙ ap (λ l. head ++ (l ++ (written_else braces otherwise (written_lines (1 + braces) (depth_after depth (stmts_in body)) otherwise) ++ last))) (lines-counted c.inside.result (1 + braces) c.inside.ensures depth body)
     ∙ ap (written_stmt braces depth) tree)
     c.push_else.ensures.text
 
@@ -215,7 +220,7 @@ push_stmt-returns-in-Switch-clause-text t c =
     let last = arms_if c.in-Switch.last in
     let old = string_bytes c.args.text.now in
     let head = indentation braces ++ written_test (codes "switch") (expr_of c.in-Switch.e) in
-    let inner = written_arms c.inside.result depth arms in
+    let inner = written_arms c.inside-in-Switch.result depth arms in
     let end = indentation braces ++ codes "}\n" in
     let middle = c.in_ok-middle-in-Switch.ensures.depth ∙ ap (depth_after depth) (sym (append-nil (arm_stmts arms))) in
     let tree =
@@ -226,7 +231,7 @@ push_stmt-returns-in-Switch-clause-text t c =
     (c.in_ok-middle-in-Switch.ensures.text ∙ ap (λ l. l ++ inner) c.in_ok-push_test-in-Switch.ensures ∙ append_assoc old head inner)
     (append_assoc head inner _
     ∙ ap (λ n. head ++ (inner ++ (written_default (1 + braces) n last ++ end))) middle
-    ∙ ap (λ l. head ++ (l ++ (written_default (1 + braces) (depth_after depth (arm_stmts arms ++ [])) last ++ end))) (arms-counted c.inside.result (1 + braces) c.inside.ensures depth arms)
+    ∙ ap (λ l. head ++ (l ++ (written_default (1 + braces) (depth_after depth (arm_stmts arms ++ [])) last ++ end))) (arms-counted c.inside-in-Switch.result (1 + braces) c.inside-in-Switch.ensures depth arms)
     ∙ ap (written_stmt braces depth) tree)
     c.push_default.ensures.text
 
