@@ -85,3 +85,13 @@ EmitsStmt context before now result next stmt at =
     (lines : Lines) (rest : Continuation) →
     EmitsIn context before now result (λ tree points. Goes tree points next (runs lines rest))
     (λ word. from_label_inside word stmt at lines rest) (runs (line stmt at lines) rest)
+
+-- the same of a statement with no names of variables, where the points after it are these
+abbrev pub EmitsAlone : {E : Type 0} → Code → Code → Result ℕ E → (Tree → List Continuation → Continuation → Type 0)
+    → Stmt → ℕ → Type 0
+EmitsAlone before now result Leading stmt at =
+    (tree : Tree) (f : Function) (is_open : ℕ → Bool) (points : List Continuation)
+    (lines : Lines) (rest : Continuation) →
+    AreRows tree f is_open points before.rows.items before.labels.items → Leading tree points (runs lines rest) →
+    IfOk result (λ point. Emits tree f is_open points before now
+    (λ word. from_label_inside word stmt at lines rest) point (runs (line stmt at lines) rest))

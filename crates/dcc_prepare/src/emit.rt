@@ -1,14 +1,14 @@
 //! From the statements of a function to its points, the last statement first, so that the points after a statement
 //! are known.
 
-ghost use Rattle.std.specs.Prelude.{◌≡◌, ℕ, Bool, List, map, Option, None, Some, IfOk, MatchOption, string_bytes, slice_get, option_map};
+ghost use Rattle.std.specs.Prelude.{◌≡◌, ℕ, Bool, if◌then◌else◌, List, map, Option, None, Some, IfOk, MatchOption, string_bytes, slice_get, option_map};
 ghost use Rattle.dcc_c.specs.Tree.{Lines, line as before_lines, Arms, Assign, If, While, DoWhile, Switch, Goto, Label, Return, Function, Tree};
 ghost use Rattle.dcc_c.specs.Run.{Continuation, runs, tests, turns, from_label, from_label_inside, from_label_in_arms, default_body, ends_switch, State, step_at, jump_step, goes_on};
 ghost use Rattle.dcc_c.specs.Dos.{dos_of};
 ghost use Rattle.dcc_c.specs.Views.{expr_of, stmt_of, lines_of, arms_of, arms_if};
 ghost use Rattle.dcc_prepare.specs.Points.{Goes, MayGo, AreRows, IsCallee, StandsIf, StandAll, dos_call};
 ghost use Rattle.dcc_value.specs.Resolved.{names_of};
-ghost use Rattle.dcc_prepare.specs.Emission.{Emits, EmitsArms, EmitsIn, EmitsBefore, EmitsStmt, Leads, IsContext, function_names};
+ghost use Rattle.dcc_prepare.specs.Emission.{Emits, EmitsAlone, EmitsArms, EmitsIn, EmitsBefore, EmitsStmt, Leads, IsContext, function_names};
 ghost use Rattle.dcc_value.specs.Places.{AreFirst};
 
 use crate::code::{Code, Context, resolve_all, resolve_option};
@@ -107,10 +107,24 @@ fn emit_stmt<'a>(
             emit_if(context, &Tested { e, line }, body, no, following, code)
         }
         CStmt::While(e, body) => {
-            emit_while(context, &Tested { e, line }, body, following.next, code)
+            emit_loop(
+                context,
+                &Tested { e, line },
+                true,
+                body,
+                following.next,
+                code,
+            )
         }
         CStmt::DoWhile(body, e) => {
-            emit_do_while(context, &Tested { e, line }, body, following.next, code)
+            emit_loop(
+                context,
+                &Tested { e, line },
+                false,
+                body,
+                following.next,
+                code,
+            )
         }
         CStmt::Forever(body) => emit_forever(context, body, line, following.next, code),
         CStmt::Switch(e, arms, last) => {
@@ -193,37 +207,27 @@ fn emit_if<'a>(
     code.push(test.line, Action::Test(value, yes, no))
 }
 
-// Makes the points of a `while`. The answer is the point where it is tested first.
+// Makes the points of a `while`, or else of a `do`. The answer is the point where the loop begins.
 #[cycle(emit)]
-fn emit_while<'a>(
+fn emit_loop<'a>(
     context: &Context<'_, '_, '_>,
     test: &Tested<'_>,
+    tests_first: bool,
     body: &'a [Line],
     next: usize,
     code: &mut Code<'a>,
 ) -> Result<usize, AllocError>
     ensures { EmitsStmt context.now code.old code.new result next
-        (While (expr_of test.now.e.now) (lines_of body.now)) test.now.line }
+        (if tests_first then While (expr_of test.now.e.now) (lines_of body.now)
+        else DoWhile (lines_of body.now) (expr_of test.now.e.now)) test.now.line }
 {
     let yes = emit_repeated(context, test, body, next, code)?;
-    let value = resolve(context.alloc, context.names, test.e)?;
-    code.push(test.line, Action::Test(value, yes, next))
-}
-
-// Makes the points of a `do`. The answer is the point where it begins.
-#[cycle(emit)]
-fn emit_do_while<'a>(
-    context: &Context<'_, '_, '_>,
-    test: &Tested<'_>,
-    body: &'a [Line],
-    next: usize,
-    code: &mut Code<'a>,
-) -> Result<usize, AllocError>
-    ensures { EmitsStmt context.now code.old code.new result next
-        (DoWhile (lines_of body.now) (expr_of test.now.e.now)) test.now.line }
-{
-    let yes = emit_repeated(context, test, body, next, code)?;
-    code.push(test.line, Action::Pass(yes))
+    if tests_first {
+        let value = resolve(context.alloc, context.names, test.e)?;
+        code.push(test.line, Action::Test(value, yes, next))
+    } else {
+        code.push(test.line, Action::Pass(yes))
+    }
 }
 
 // Makes the points of the arms of a `switch`, where the point of its default arm is given, and then that of its value.
@@ -255,11 +259,7 @@ fn emit_goto<'a>(
     line: u32,
     code: &mut Code<'a>,
 ) -> Result<usize, AllocError>
-    ensures { (tree : Tree) (f : Function) (is_open : ℕ → Bool) (points : List Continuation)
-        (lines : Lines) (rest : Continuation) →
-        AreRows tree f is_open points code.old.rows.items code.old.labels.items →
-        IfOk result (λ at. Emits tree f is_open points code.old code.new
-        (λ word. None) at (runs (before_lines (Goto name.now) line lines) rest)) }
+    ensures { EmitsAlone code.old code.new result (λ tree points after. Unit {0}) (Goto name.now) line }
 {
     let label = code.label(alloc, name)?;
     code.push(line, Action::Goto(label))
@@ -273,13 +273,7 @@ fn emit_label<'a>(
     next: usize,
     code: &mut Code<'a>,
 ) -> Result<usize, AllocError>
-    ensures { (tree : Tree) (f : Function) (is_open : ℕ → Bool) (points : List Continuation)
-        (lines : Lines) (rest : Continuation) →
-        AreRows tree f is_open points code.old.rows.items code.old.labels.items →
-        Goes tree points next (runs lines rest) →
-        IfOk result (λ at. Emits tree f is_open points code.old code.new
-        (λ word. from_label_inside word (Label name.now) line lines rest)
-        at (runs (before_lines (Label name.now) line lines) rest)) }
+    ensures { EmitsAlone code.old code.new result (λ tree points after. Goes tree points next after) (Label name.now) line }
 {
     let point = code.push(line, Action::Pass(next))?;
     code.place_label(alloc, name, point)?;

@@ -150,23 +150,8 @@ emit_stmt-returns-in-While t c lines rest tree f is_open points context are lead
     ap (λ (ls : List Line). While e (lines_of ls)) c.deref-in-While.ensures.value
     ∙ sym (while-tree c.in-While.e c.in-While.body)
     ∙ sym (ap stmt_of c.in-While.is) in
-    stmt_at tree f is_open points c.args.code.now c.emit_while.new.code c.args.line lines rest c.emit_while.result (While e body) (stmt_of c.args.stmt.now) named
-    (c.emit_while.ensures lines rest tree f is_open points context are leads.next)
-
-pub emit_while-returns : goal.emit_while-returns
-emit_while-returns t c lines rest tree f is_open points context are goes =
-    let e = expr_of c.args.test.now.e.now in
-    let body = lines_of c.args.body.now in
-    let own = runs (line (While e body) c.args.test.now.line lines) rest in
-    let following = runs lines rest in
-    let one = c.in_ok-yes.ensures following tree f is_open points context are goes in
-    let grown = one.grows.grown in
-    emits_push tree f is_open points c.args.code.now c.emit_repeated.new.code c.push.new.self _ own c.args.test.now.line _ c.push.result one.grows
-    (while_test tree f (grown ++ own ∷ []) e body lines c.args.test.now.line rest c.in_ok-value.value c.in_ok-yes.yes c.args.next
-    (stands_here _ _ _ _ context.names c.in_ok-value.ensures)
-    (goes_push tree grown grown own c.in_ok-yes.yes (runs body (tests e body c.args.test.now.line following)) (stay_all grown) one.goes)
-    (goes_push tree points grown own c.args.next following one.grows.stay goes))
-    c.push.ensures.point c.push.ensures.rows c.push.ensures.labels
+    stmt_at tree f is_open points c.args.code.now c.emit_loop.new.code c.args.line lines rest c.emit_loop.result (While e body) (stmt_of c.args.stmt.now) named
+    (c.emit_loop.ensures lines rest tree f is_open points context are leads.next)
 
 pub emit_stmt-returns-in-DoWhile : goal.emit_stmt-returns-in-DoWhile
 emit_stmt-returns-in-DoWhile t c lines rest tree f is_open points context are leads =
@@ -176,24 +161,43 @@ emit_stmt-returns-in-DoWhile t c lines rest tree f is_open points context are le
     ap (λ (ls : List Line). DoWhile (lines_of ls) e) c.deref-in-DoWhile.ensures.value
     ∙ sym (do_while-tree c.in-DoWhile.e c.in-DoWhile.body)
     ∙ sym (ap stmt_of c.in-DoWhile.is) in
-    stmt_at tree f is_open points c.args.code.now c.emit_do_while.new.code c.args.line lines rest c.emit_do_while.result (DoWhile body e) (stmt_of c.args.stmt.now) named
-    (c.emit_do_while.ensures lines rest tree f is_open points context are leads.next)
+    stmt_at tree f is_open points c.args.code.now c.emit_loop-in-DoWhile.new.code c.args.line lines rest c.emit_loop-in-DoWhile.result (DoWhile body e) (stmt_of c.args.stmt.now) named
+    (c.emit_loop-in-DoWhile.ensures lines rest tree f is_open points context are leads.next)
 
-pub emit_do_while-returns : goal.emit_do_while-returns
-emit_do_while-returns t c lines rest tree f is_open points context are goes =
+-- a `while`, whose test is its first point
+pub emit_loop-returns-in_ok-value : goal.emit_loop-returns-in_ok-value
+emit_loop-returns-in_ok-value t c lines rest tree f is_open points context are goes =
+    let e = expr_of c.args.test.now.e.now in
+    let body = lines_of c.args.body.now in
+    let own = runs (line (While e body) c.args.test.now.line lines) rest in
+    let following = runs lines rest in
+    let one = c.in_ok-yes.ensures following tree f is_open points context are goes in
+    let grown = one.grows.grown in
+    rw c.if-tests_first.true
+    (emits_push tree f is_open points c.args.code.now c.emit_repeated.new.code c.push.new.self _ own c.args.test.now.line _ c.push.result one.grows
+    (while_test tree f (grown ++ own ∷ []) e body lines c.args.test.now.line rest c.in_ok-value.value c.in_ok-yes.yes c.args.next
+    (stands_here _ _ _ _ context.names c.in_ok-value.ensures)
+    (goes_push tree grown grown own c.in_ok-yes.yes (runs body (tests e body c.args.test.now.line following)) (stay_all grown) one.goes)
+    (goes_push tree points grown own c.args.next following one.grows.stay goes))
+    c.push.ensures.point c.push.ensures.rows c.push.ensures.labels)
+
+-- a `do`, which passes to its body
+pub emit_loop-returns-else-tests_first : goal.emit_loop-returns-else-tests_first
+emit_loop-returns-else-tests_first t c lines rest tree f is_open points context are goes =
     let e = expr_of c.args.test.now.e.now in
     let body = lines_of c.args.body.now in
     let own = runs (line (DoWhile body e) c.args.test.now.line lines) rest in
     let following = runs lines rest in
     let one = c.in_ok-yes.ensures following tree f is_open points context are goes in
     let grown = one.grows.grown in
-    emits_push tree f is_open points c.args.code.now c.emit_repeated.new.code c.push.new.self _ own c.args.test.now.line _ c.push.result one.grows
+    rw c.if-tests_first.false
+    (emits_push tree f is_open points c.args.code.now c.emit_repeated.new.code c.push-else-tests_first.new.self _ own c.args.test.now.line _ c.push-else-tests_first.result one.grows
     (record {
       to = runs body (tests e body c.args.test.now.line following);
       goes = goes_push tree grown grown own c.in_ok-yes.yes (runs body (tests e body c.args.test.now.line following)) (stay_all grown) one.goes;
       does = λ s. refl;
     })
-    c.push.ensures.point c.push.ensures.rows c.push.ensures.labels
+    c.push-else-tests_first.ensures.point c.push-else-tests_first.ensures.rows c.push-else-tests_first.ensures.labels)
 
 pub emit_stmt-returns-in-Forever : goal.emit_stmt-returns-in-Forever
 emit_stmt-returns-in-Forever t c lines rest tree f is_open points context are leads =
@@ -266,7 +270,7 @@ emit_stmt-returns-in-Goto t c lines rest tree f is_open points context are leads
     stmt_at tree f is_open points c.args.code.now c.emit_goto.new.code c.args.line lines rest c.emit_goto.result
     (Goto c.as_str.result.now) (stmt_of c.args.stmt.now)
     (ap Goto c.as_str.ensures.value ∙ sym (ap stmt_of c.in-Goto.is))
-    (c.emit_goto.ensures tree f is_open points lines rest are)
+    (c.emit_goto.ensures tree f is_open points lines rest are tt)
 
 pub emit_stmt-returns-in-Label : goal.emit_stmt-returns-in-Label
 emit_stmt-returns-in-Label t c lines rest tree f is_open points context are leads =

@@ -6,7 +6,7 @@ use Rattle.dcc_prepare.proofs.StatementLaws.{emits_push}
 use Rattle.dcc_prepare.proofs.emit.emit_goto.Goals as goal
 
 pub returns : goal.returns
-returns c tree f is_open points lines rest are =
+returns c tree f is_open points lines rest are none =
     let word = c.args.name.now in
     let own = runs (line (Goto word) c.args.line lines) rest in
     let one = grows_labels tree f is_open points c.args.code.now c.label.new.self are c.in_ok-label.ensures.numbers c.in_ok-label.ensures.points c.in_ok-label.ensures.rows in
