@@ -130,7 +130,7 @@ fn line_to(blocks: &'static [u32]) -> Line {
         [one, other] => Exit::If(FlagName::Cf, *one, *other),
         _ => Exit::Switch(Reg::Ax, blocks),
     };
-    Line { ops: &[], exit }
+    Line(&[], exit)
 }
 
 // A graph of blocks without statements, which lead to these.

@@ -1,16 +1,16 @@
 //! What is left of small graphs without flags, as text.
 
-use crate::graphs::{Exit, Line, Op, graph};
+use crate::graphs::Exit::{Goto, If, Stop};
+use crate::graphs::Op::{Add, AddWith, Carry, Complement, KeepOrTest, Test};
+use crate::graphs::{Line, Op, graph};
 use dcc_flags::fold_flags;
 use dcc_ir::{End, Expr, Graph, Loc, Stmt};
-use dcc_num::{FlagName, Reg};
+use dcc_num::FlagName::{Cf, Sf, Zf};
+use dcc_num::Reg::{Ax, Bx, Cx, Dx};
 use std::alloc::{AllocError, Global};
 use std::test::Fail;
 
-const NO_LINE: Line = Line {
-    ops: &[],
-    exit: Exit::Stop,
-};
+const NO_LINE: Line = Line(&[], Stop);
 
 // A graph of four blocks, and what it is after.
 struct Case {
@@ -23,13 +23,7 @@ const CASES: [Case; 7] = [
     Case {
         name: "the last carry of a byte sum, read by one test",
         lines: &[
-            Line {
-                ops: &[
-                    Op::Carry(FlagName::Cf, Reg::Ax, Reg::Bx),
-                    Op::Add(Reg::Ax, Reg::Ax, Reg::Bx),
-                ],
-                exit: Exit::If(FlagName::Cf, 1, 2),
-            },
+            Line(&[Carry(Cf, Ax, Bx), Add(Ax, Ax, Bx)], If(Cf, 1, 2)),
             NO_LINE,
             NO_LINE,
             NO_LINE,
@@ -39,14 +33,10 @@ const CASES: [Case; 7] = [
     Case {
         name: "a sum of words by two instructions",
         lines: &[
-            Line {
-                ops: &[
-                    Op::Carry(FlagName::Cf, Reg::Ax, Reg::Bx),
-                    Op::Add(Reg::Ax, Reg::Ax, Reg::Bx),
-                    Op::AddWith(Reg::Cx, Reg::Cx, Reg::Dx, FlagName::Cf),
-                ],
-                exit: Exit::Stop,
-            },
+            Line(
+                &[Carry(Cf, Ax, Bx), Add(Ax, Ax, Bx), AddWith(Cx, Cx, Dx, Cf)],
+                Stop,
+            ),
             NO_LINE,
             NO_LINE,
             NO_LINE,
@@ -56,35 +46,17 @@ const CASES: [Case; 7] = [
     Case {
         name: "two definitions that reach one read",
         lines: &[
-            Line {
-                ops: &[],
-                exit: Exit::If(FlagName::Sf, 1, 2),
-            },
-            Line {
-                ops: &[Op::Test(FlagName::Zf, Reg::Ax)],
-                exit: Exit::Goto(3),
-            },
-            Line {
-                ops: &[Op::Test(FlagName::Zf, Reg::Bx)],
-                exit: Exit::Goto(3),
-            },
-            Line {
-                ops: &[],
-                exit: Exit::If(FlagName::Zf, 3, 3),
-            },
+            Line(&[], If(Sf, 1, 2)),
+            Line(&[Test(Zf, Ax)], Goto(3)),
+            Line(&[Test(Zf, Bx)], Goto(3)),
+            Line(&[], If(Zf, 3, 3)),
         ],
         folded: "if t0 1 2. Zf = IsZero(Ax); goto 3. Zf = IsZero(Bx); goto 3. if Zf 3 3. ",
     },
     Case {
         name: "a choice that lets the earlier definition through",
         lines: &[
-            Line {
-                ops: &[
-                    Op::Test(FlagName::Cf, Reg::Ax),
-                    Op::KeepOrTest(FlagName::Cf, Reg::Cx, Reg::Bx),
-                ],
-                exit: Exit::If(FlagName::Cf, 1, 1),
-            },
+            Line(&[Test(Cf, Ax), KeepOrTest(Cf, Cx, Bx)], If(Cf, 1, 1)),
             NO_LINE,
             NO_LINE,
             NO_LINE,
@@ -94,14 +66,8 @@ const CASES: [Case; 7] = [
     Case {
         name: "forty complements",
         lines: &[
-            Line {
-                ops: &[Op::Test(FlagName::Cf, Reg::Ax)],
-                exit: Exit::Goto(1),
-            },
-            Line {
-                ops: &[Op::Complement(FlagName::Cf); 40],
-                exit: Exit::If(FlagName::Cf, 2, 2),
-            },
+            Line(&[Test(Cf, Ax)], Goto(1)),
+            Line(&[Complement(Cf); 40], If(Cf, 2, 2)),
             NO_LINE,
             NO_LINE,
         ],
@@ -110,10 +76,7 @@ const CASES: [Case; 7] = [
     Case {
         name: "an operand that is overwritten",
         lines: &[
-            Line {
-                ops: &[Op::Test(FlagName::Zf, Reg::Ax), Op::Copy(Reg::Ax, Reg::Cx)],
-                exit: Exit::If(FlagName::Zf, 1, 1),
-            },
+            Line(&[Test(Zf, Ax), Op::Copy(Ax, Cx)], If(Zf, 1, 1)),
             NO_LINE,
             NO_LINE,
             NO_LINE,
@@ -123,10 +86,7 @@ const CASES: [Case; 7] = [
     Case {
         name: "a flag that the start alone reaches",
         lines: &[
-            Line {
-                ops: &[Op::Test(FlagName::Cf, Reg::Ax)],
-                exit: Exit::If(FlagName::Zf, 0, 1),
-            },
+            Line(&[Test(Cf, Ax)], If(Zf, 0, 1)),
             NO_LINE,
             NO_LINE,
             NO_LINE,

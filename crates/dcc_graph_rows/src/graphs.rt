@@ -62,10 +62,7 @@ pub(crate) enum Exit {
 
 // A block: its statements and its end.
 #[derive(Clone, Copy)]
-pub(crate) struct Line {
-    pub(crate) ops: &'static [Op],
-    pub(crate) exit: Exit,
-}
+pub(crate) struct Line(pub(crate) &'static [Op], pub(crate) Exit);
 
 fn get(b: Byte) -> Expr
     ensures { expr_of result ≡ Get (Loc.Half b Half.Low) }
@@ -82,13 +79,13 @@ fn flag(f: FlagName) -> Expr
 fn is_zero(alloc: Global, b: Byte) -> Result<Expr, AllocError>
     ensures { IfOk result (λ e. expr_of e ≡ Unary UnOp.IsZero 8 (Get (Loc.Half b Half.Low))) }
 {
-    Ok(Expr::Un(UnOp::IsZero, 8, Box::new(alloc, get(b))?))
+    Expr::unary(alloc, UnOp::IsZero, 8, get(b))
 }
 
 fn wide(alloc: Global, b: Byte) -> Result<Expr, AllocError>
     ensures { IfOk result (λ e. is_expr_of [] 16 (expr_of e) ≡ true) }
 {
-    Ok(Expr::Widen(false, 16, Box::new(alloc, get(b))?))
+    Expr::widen(alloc, false, 16, get(b))
 }
 
 // The first flag where the byte is 0, else the second.
@@ -96,34 +93,21 @@ fn choose(alloc: Global, b: Byte, one: FlagName, other: FlagName) -> Result<Expr
     ensures { IfOk result (λ e. is_expr_of [] 1 (expr_of e) ≡ true) }
 {
     let test = is_zero(alloc, b)?;
-    Ok(Expr::Choose(
-        Box::new(alloc, test)?,
-        Box::new(alloc, flag(one))?,
-        Box::new(alloc, flag(other))?,
-    ))
+    Expr::choose(alloc, test, flag(one), flag(other))
 }
 
 // The first byte where the flag is set, else the second.
 fn pick(alloc: Global, test: FlagName, one: Byte, other: Byte) -> Result<Expr, AllocError>
     ensures { IfOk result (λ e. is_expr_of [] 8 (expr_of e) ≡ true) }
 {
-    Ok(Expr::Choose(
-        Box::new(alloc, flag(test))?,
-        Box::new(alloc, get(one))?,
-        Box::new(alloc, get(other))?,
-    ))
+    Expr::choose(alloc, flag(test), get(one), get(other))
 }
 
 // An operator on two bytes.
 fn both(alloc: Global, operator: BinOp, a: Byte, b: Byte) -> Result<Expr, AllocError>
     ensures { IfOk result (λ e. expr_of e ≡ Binary operator 8 (Get (Loc.Half a Half.Low)) (Get (Loc.Half b Half.Low))) }
 {
-    Ok(Expr::Bin(
-        operator,
-        8,
-        Box::new(alloc, get(a))?,
-        Box::new(alloc, get(b))?,
-    ))
+    Expr::binary(alloc, operator, 8, get(a), get(b))
 }
 
 // The byte, and the flag as a byte of 0 or 1.
@@ -131,8 +115,8 @@ fn with_flag(alloc: Global, e: Expr, f: FlagName) -> Result<Expr, AllocError>
     requires { is_expr_of [] 8 (expr_of e) ≡ true }
     ensures { IfOk result (λ e. is_expr_of [] 8 (expr_of e) ≡ true) }
 {
-    let carry = Expr::Widen(false, 8, Box::new(alloc, flag(f))?);
-    Ok(Expr::Bin(BinOp::Add, 8, Box::new(alloc, e)?, Box::new(alloc, carry)?))
+    let carry = Expr::widen(alloc, false, 8, flag(f))?;
+    Expr::binary(alloc, BinOp::Add, 8, e, carry)
 }
 
 // The carry of a sum of bytes: it lies below the first one.
@@ -140,12 +124,7 @@ fn carry(alloc: Global, a: Byte, b: Byte) -> Result<Expr, AllocError>
     ensures { IfOk result (λ e. is_expr_of [] 1 (expr_of e) ≡ true) }
 {
     let sum = both(alloc, BinOp::Add, a, b)?;
-    Ok(Expr::Bin(
-        BinOp::LtU,
-        8,
-        Box::new(alloc, sum)?,
-        Box::new(alloc, get(a))?,
-    ))
+    Expr::binary(alloc, BinOp::LtU, 8, sum, get(a))
 }
 
 // The flag where the first byte is 0, else whether the second is.
@@ -154,17 +133,13 @@ fn keep_or_test(alloc: Global, f: FlagName, a: Byte, b: Byte) -> Result<Expr, Al
 {
     let test = is_zero(alloc, a)?;
     let other = is_zero(alloc, b)?;
-    Ok(Expr::Choose(
-        Box::new(alloc, test)?,
-        Box::new(alloc, flag(f))?,
-        Box::new(alloc, other)?,
-    ))
+    Expr::choose(alloc, test, flag(f), other)
 }
 
 fn complement(alloc: Global, f: FlagName) -> Result<Expr, AllocError>
     ensures { IfOk result (λ e. is_expr_of [] 1 (expr_of e) ≡ true) }
 {
-    Ok(Expr::Un(UnOp::Not, 1, Box::new(alloc, flag(f))?))
+    Expr::unary(alloc, UnOp::Not, 1, flag(f))
 }
 
 // The flag takes the value.
@@ -297,48 +272,7 @@ fn call_stmt(alloc: Global, to: Byte, argument: Byte) -> Result<Stmt, AllocError
     })
 }
 
-// A block that ends in a call.
-fn calling(
-    rt: &impl Abort,
-    alloc: Global,
-    at: u16,
-    ops: &[Op],
-    call: (Byte, Byte, u32),
-    count: usize,
-) -> Result<Block, AllocError>
-    ensures at { IfOk result (λ b. b.at ≡ at) }
-    ensures jumps { IfOk result (λ b. jumps_after_call (block_of b).stmts (block_of b).exit ≡ true) }
-    ensures fine { IfOk result (λ b. is_block [] count (block_of b) ≡ true) }
-{
-    let next = call.2;
-    assert!(rt; (next as usize) < count);
-    let mut stmts = stmts(alloc, ops)?;
-    let last = call_stmt(alloc, call.0, call.1)?;
-    stmts.push(last)?;
-    Ok(Block {
-        at,
-        stmts,
-        end: End::Goto(next),
-    })
-}
-
-// Another block.
-fn plain(
-    rt: &impl Abort,
-    alloc: Global,
-    at: u16,
-    line: &Line,
-    count: usize,
-) -> Result<Block, AllocError>
-    ensures at { IfOk result (λ b. b.at ≡ at) }
-    ensures jumps { IfOk result (λ b. jumps_after_call (block_of b).stmts (block_of b).exit ≡ true) }
-    ensures fine { IfOk result (λ b. is_block [] count (block_of b) ≡ true) }
-{
-    let stmts = stmts(alloc, line.ops)?;
-    let end = end(rt, alloc, line.exit, count)?;
-    Ok(Block { at, stmts, end })
-}
-
+// The block of a line.
 fn block(
     rt: &impl Abort,
     alloc: Global,
@@ -350,11 +284,23 @@ fn block(
     ensures jumps { IfOk result (λ b. jumps_after_call (block_of b).stmts (block_of b).exit ≡ true) }
     ensures fine { IfOk result (λ b. is_block [] count (block_of b) ≡ true) }
 {
-    match line.exit {
-        Exit::Call(result, argument, next) => {
-            calling(rt, alloc, at, line.ops, (result, argument, next), count)
+    let Line(ops, exit) = line;
+    let mut stmts = stmts(alloc, ops)?;
+    match *exit {
+        Exit::Call(to, argument, next) => {
+            assert!(rt; (next as usize) < count);
+            let last = call_stmt(alloc, to, argument)?;
+            stmts.push(last)?;
+            Ok(Block {
+                at,
+                stmts,
+                end: End::Goto(next),
+            })
         }
-        _ => plain(rt, alloc, at, line, count),
+        exit => {
+            let end = end(rt, alloc, exit, count)?;
+            Ok(Block { at, stmts, end })
+        }
     }
 }
 

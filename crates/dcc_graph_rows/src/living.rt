@@ -1,9 +1,12 @@
 //! Which locations are live in small graphs, and which statements are left of them.
 
-use crate::graphs::{Exit, Line, Op, graph};
+use crate::graphs::Exit::{Call, Goto, If, Ret, Stop, Switch};
+use crate::graphs::Op::{Add, Divide, Keep, Key, Load, Pick, Store, Test, Write};
+use crate::graphs::{Line, Op, graph};
 use dcc_ir::{Graph, Sums};
 use dcc_live::{drop_dead, live};
-use dcc_num::{FlagName, Reg};
+use dcc_num::FlagName::{Cf, Of, Zf};
+use dcc_num::Reg::{Ax, Bx, Cx, Dx};
 use std::alloc::{AllocError, Global};
 use std::test::Fail;
 
@@ -18,47 +21,25 @@ struct Case {
 const CASES: [Case; 9] = [
     Case {
         name: "a flag that only keeps itself",
-        lines: &[
-            Line {
-                ops: &[Op::Keep(FlagName::Cf, Reg::Cx, FlagName::Of)],
-                exit: Exit::If(FlagName::Zf, 0, 1),
-            },
-            Line {
-                ops: &[],
-                exit: Exit::Ret(Reg::Cx),
-            },
-        ],
+        lines: &[Line(&[Keep(Cf, Cx, Of)], If(Zf, 0, 1)), Line(&[], Ret(Cx))],
         live: "[[Half(Cx, Low), Flag(Cf), Flag(Of), Flag(Zf)], []]",
         left: "[0, 0]",
     },
     Case {
         name: "a division whose quotient is dead",
-        lines: &[Line {
-            ops: &[
-                Op::Divide(Reg::Ax, Reg::Bx, Reg::Cx),
-                Op::Copy(Reg::Ax, Reg::Dx),
-                Op::Copy(Reg::Dx, Reg::Ax),
-            ],
-            exit: Exit::Ret(Reg::Ax),
-        }],
+        lines: &[Line(
+            &[Divide(Ax, Bx, Cx), Op::Copy(Ax, Dx), Op::Copy(Dx, Ax)],
+            Ret(Ax),
+        )],
         live: "[[]]",
         left: "[2]",
     },
     Case {
         name: "the back edge of a loop",
         lines: &[
-            Line {
-                ops: &[],
-                exit: Exit::Goto(1),
-            },
-            Line {
-                ops: &[Op::Write(Reg::Ax), Op::Copy(Reg::Ax, Reg::Cx)],
-                exit: Exit::If(FlagName::Zf, 1, 2),
-            },
-            Line {
-                ops: &[],
-                exit: Exit::Stop,
-            },
+            Line(&[], Goto(1)),
+            Line(&[Write(Ax), Op::Copy(Ax, Cx)], If(Zf, 1, 2)),
+            Line(&[], Stop),
         ],
         live: "[[Half(Ax, Low), Half(Cx, Low), Flag(Zf)], [Half(Ax, Low), Half(Cx, Low), Flag(Zf)], []]",
         left: "[0, 2, 0]",
@@ -66,51 +47,28 @@ const CASES: [Case; 9] = [
     Case {
         name: "both arms of a choice",
         lines: &[
-            Line {
-                ops: &[Op::Test(FlagName::Zf, Reg::Bx)],
-                exit: Exit::Goto(1),
-            },
-            Line {
-                ops: &[Op::Keep(FlagName::Cf, Reg::Cx, FlagName::Zf)],
-                exit: Exit::Goto(2),
-            },
-            Line {
-                ops: &[],
-                exit: Exit::If(FlagName::Cf, 3, 3),
-            },
-            Line {
-                ops: &[],
-                exit: Exit::Stop,
-            },
+            Line(&[Test(Zf, Bx)], Goto(1)),
+            Line(&[Keep(Cf, Cx, Zf)], Goto(2)),
+            Line(&[], If(Cf, 3, 3)),
+            Line(&[], Stop),
         ],
         live: "[[Half(Cx, Low), Flag(Cf), Flag(Zf)], [Flag(Cf)], [], []]",
         left: "[1, 1, 0, 0]",
     },
     Case {
         name: "loads about a store",
-        lines: &[Line {
-            ops: &[
-                Op::Load(Reg::Ax, Reg::Bx),
-                Op::Store(Reg::Cx, Reg::Dx),
-                Op::Write(Reg::Ax),
-                Op::Load(Reg::Ax, Reg::Cx),
-            ],
-            exit: Exit::Stop,
-        }],
+        lines: &[Line(
+            &[Load(Ax, Bx), Store(Cx, Dx), Write(Ax), Load(Ax, Cx)],
+            Stop,
+        )],
         live: "[[]]",
         left: "[3]",
     },
     Case {
         name: "a call's argument and result",
         lines: &[
-            Line {
-                ops: &[Op::Copy(Reg::Ax, Reg::Bx), Op::Copy(Reg::Dx, Reg::Bx)],
-                exit: Exit::Call(Reg::Cx, Reg::Ax, 1),
-            },
-            Line {
-                ops: &[],
-                exit: Exit::Ret(Reg::Cx),
-            },
+            Line(&[Op::Copy(Ax, Bx), Op::Copy(Dx, Bx)], Call(Cx, Ax, 1)),
+            Line(&[], Ret(Cx)),
         ],
         live: "[[Half(Cx, Low)], []]",
         left: "[2, 0]",
@@ -118,41 +76,25 @@ const CASES: [Case; 9] = [
     Case {
         name: "the last target of a switch",
         lines: &[
-            Line {
-                ops: &[Op::Copy(Reg::Ax, Reg::Bx), Op::Copy(Reg::Dx, Reg::Bx)],
-                exit: Exit::Switch(Reg::Cx, &[1, 1, 2]),
-            },
-            Line {
-                ops: &[],
-                exit: Exit::Stop,
-            },
-            Line {
-                ops: &[],
-                exit: Exit::Ret(Reg::Ax),
-            },
+            Line(
+                &[Op::Copy(Ax, Bx), Op::Copy(Dx, Bx)],
+                Switch(Cx, &[1, 1, 2]),
+            ),
+            Line(&[], Stop),
+            Line(&[], Ret(Ax)),
         ],
         live: "[[Half(Ax, Low)], [], []]",
         left: "[1, 0, 0]",
     },
     Case {
         name: "keys",
-        lines: &[Line {
-            ops: &[
-                Op::Key(Reg::Ax),
-                Op::Key(Reg::Bx),
-                Op::Pick(Reg::Cx, FlagName::Cf, Reg::Ax, Reg::Bx),
-            ],
-            exit: Exit::Ret(Reg::Bx),
-        }],
+        lines: &[Line(&[Key(Ax), Key(Bx), Pick(Cx, Cf, Ax, Bx)], Ret(Bx))],
         live: "[[]]",
         left: "[2]",
     },
     Case {
         name: "a sum that adds to itself",
-        lines: &[Line {
-            ops: &[Op::Add(Reg::Ax, Reg::Ax, Reg::Bx)],
-            exit: Exit::Goto(0),
-        }],
+        lines: &[Line(&[Add(Ax, Ax, Bx)], Goto(0))],
         live: "[[Half(Ax, Low), Half(Bx, Low)]]",
         left: "[0]",
     },
