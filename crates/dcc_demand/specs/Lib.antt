@@ -1,0 +1,9 @@
+pub mod Procedures
+pub mod Trail
+pub mod Changes
+pub mod Saves
+pub mod Holds
+pub mod Wanted
+pub mod Spread
+pub mod Tables
+pub mod Laws
