@@ -1,9 +1,8 @@
 -- The declarations of a text's variables and arrays: they give what the spelling names, and keep to the rules.
-use Rattle.std.proofs.Common.{◌≡◌, ◌≢◌, ℕ, zero, suc, ◌+◌, ◌-◌, ◌*◌, ◌/◌, ◌%◌, ◌<◌, ◌≤◌, min, Bool, true, false, ◌==◌, inl, inr, List, [], ◌∷◌, ◌++◌, length, map, take, drop, Option, Some, None, refl, sym, ap, ◌∙◌, subst, true≢false, arith, mod-lt}
+use Rattle.std.proofs.Common.{◌≡◌, ◌≢◌, ℕ, suc, ◌+◌, ◌*◌, ◌<◌, ◌≤◌, min, Bool, true, false, ◌==◌, List, [], ◌∷◌, ◌++◌, length, map, take, Some, None, refl, sym, ap, ◌∙◌, subst, arith, mod-lt}
 use Rattle.std.specs.Prelude.{◌&&◌, ◌||◌, not, nat_le, nat_lt, if◌then◌else◌, codes, All}
-use Rattle.std.specs.List.{list_all, list_any}
+use Rattle.std.specs.List.{list_all}
 use Rattle.std.proofs.lemmas.Bool.{and_from, and_parts, or_from, or_left, or_right, le-leb, lt-ltb, ne_eqb, eqb-false, not-true, not_from_false, false_from_ne_true}
-use Rattle.std.proofs.lemmas.Bool.Decides.{nat_tests}
 use Rattle.std.proofs.lemmas.List.{length-take, length-drop}
 use Rattle.std.proofs.lemmas.List.Elements.{All-head, All-tail, All-take, All-drop}
 use Rattle.std.proofs.lemmas.List.Folds.{list_all-append, list_any-append}
@@ -18,24 +17,24 @@ use Rattle.dcc_c.specs.declared.syntax.Class.TheVariants.{Auto}
 use Rattle.dcc_c.specs.Dos.{dos_names}
 use Rattle.dcc_c.specs.Grammar as words
 use Rattle.dcc_c.specs.Grammar.{is_name}
-use Rattle.dcc_c.specs.Placement.{local_places, after_global}
+use Rattle.dcc_c.specs.Placement.{local_places}
 use Rattle.dcc_c.specs.Rules.{declared_param, declared_local, declared_global, declared_in, names_of, all_differ, has_element, allows_global, are_apart, all_apart, is_off_stack}
 use Rattle.dcc_c.specs.Run as c
-use Rattle.dcc_c.specs.Token.{same_bytes, is_word_byte}
+use Rattle.dcc_c.specs.Token.{same_bytes}
 use Rattle.dcc_c.specs.Tree.{Word, Global, Variable, Function, Tree}
 use Rattle.dcc_c.specs.Types.{plain}
-use Rattle.dcc_c.specs.Typing.{Declared, declared_as}
+use Rattle.dcc_c.specs.Typing.{declared_as}
 use Rattle.dcc_c.specs.Value.{Binding, declared_by}
 use Rattle.dcc_c.proofs.Writable.{is_small, is_writable_global, is_writable_local}
 use Rattle.dcc_text.specs.Allowed.{IsDeclared, IsDeclaredPlace, AreDeclared}
-use Rattle.dcc_text.specs.Spelled.{unsigned_type}
 use Rattle.dcc_text.specs.Spelling.{Placed, Spelling}
+use Rattle.dcc_text.proofs.HexLaws.{name_at-name, name_at-differ}
 use Rattle.dcc_text.proofs.Readings.{declared}
 use Rattle.dcc_variables.specs.Variables.{locations, Shape, shape_of, first_stack, variable_number, variable_name, frame_name, variable, frame_array, declarations, frame_place, graph_spelling}
-use Rattle.dcc_variables.specs.Globals.{hex_digit, array_name, initial_values, array_of, bytes_below, bytes_above, globals_of}
+use Rattle.dcc_variables.specs.Globals.{array_name, initial_values, array_of, bytes_below, bytes_above, globals_of}
 use Rattle.dcc_variables.specs.Laws.{AreFew}
-use Rattle.dcc_variables.proofs.Numbers.{Ascend, number-from, locations-ascend}
-use Rattle.dcc_variables.proofs.Names.{same-equal, numbers-same, numbered-name, number-small, frame-apart, name-is}
+use Rattle.dcc_variables.proofs.Numbers.{Ascend, locations-ascend}
+use Rattle.dcc_variables.proofs.Names.{numbers-same, numbered-name, number-small, frame-apart, name-is}
 use Rattle.dcc_variables.proofs.FirstStates.{type-for, wide-of, bound, array_bound, array_at, variable-found, array-after, array-found}
 
 some-equal : {A : Type 0} {a b : A} → Some a ≡ Some b → a ≡ b
@@ -67,21 +66,8 @@ array-off : (lo hi at : ℕ) (bytes : List ℕ) → (nat_le (at + 1 * length byt
 array-off lo hi at [] off = refl
 array-off lo hi at (b ∷ bytes) off = and_from (is_off_stack lo hi (array at (b ∷ bytes))) true (or_right (nat_le hi lo) _ off) refl
 
-digit-byte : (n : ℕ) → n < 16 → is_word_byte (hex_digit n) ≡ true
-digit-byte n small = grind (arith, nat_tests)
-
-low_digit : (n : ℕ) → n % 16 < 16
-low_digit n = omega arith
-
-spelled-word : (x y z w : ℕ) → is_word_byte x ≡ true → is_word_byte y ≡ true → is_word_byte z ≡ true → is_word_byte w ≡ true → is_name (100 ∷ 95 ∷ x ∷ y ∷ z ∷ w ∷ []) ≡ true
-spelled-word x y z w one two three four =
-    let digits = and_from (is_word_byte x) _ one (and_from (is_word_byte y) _ two (and_from (is_word_byte z) _ three (and_from (is_word_byte w) true four refl))) in
-    and_from _ true (and_from _ true digits refl) refl
-
 array-word : (at : ℕ) → is_name (array_name at) ≡ true
-array-word at =
-    spelled-word (hex_digit (at / 4096 % 16)) (hex_digit (at / 256 % 16)) (hex_digit (at / 16 % 16)) (hex_digit (at % 16))
-    (digit-byte _ (low_digit (at / 4096))) (digit-byte _ (low_digit (at / 256))) (digit-byte _ (low_digit (at / 16))) (digit-byte _ (low_digit at))
+array-word at = name_at-name 100 at refl (λ bytes. refl)
 
 bytes-small : (bytes : List ℕ) → All (λ byte. byte < 256) bytes → list_all is_small bytes ≡ true
 bytes-small [] are = refl
@@ -104,35 +90,6 @@ array-writable at (b ∷ bytes) fit are =
     (and_from (is_small at) _ (le-leb at 4294967295 (omega (arith, fit)))
     (and_from (is_small (length (b ∷ bytes))) _ (le-leb (length (b ∷ bytes)) 4294967295 (omega (arith, fit))) (initial-small (b ∷ bytes) are)))) refl
 
-digit_of : ℕ → ℕ
-digit_of glyph = if nat_lt glyph 58 then glyph - 48 else glyph - 87
-
-digit-back : (n : ℕ) → digit_of (hex_digit n) ≡ n
-unfolding digit_of
-digit-back n = grind (arith, nat_tests)
-
-digits-equal : (m n : ℕ) → hex_digit m ≡ hex_digit n → m ≡ n
-digits-equal m n e = sym (digit-back m) ∙ ap digit_of e ∙ digit-back n
-
--- the element at a place
-element : ℕ → List ℕ → ℕ
-element n [] = 0
-element zero (x ∷ xs) = x
-element (suc n) (x ∷ xs) = element n xs
-
-array-names-equal : (a b : ℕ) → a < 65536 → b < 65536 → array_name a ≡ array_name b → a ≡ b
-unfolding element
-array-names-equal a b first second e =
-    let d3 : a / 4096 % 16 ≡ b / 4096 % 16 = digits-equal (a / 4096 % 16) (b / 4096 % 16) (ap (element 2) e) in
-    let d2 : a / 256 % 16 ≡ b / 256 % 16 = digits-equal (a / 256 % 16) (b / 256 % 16) (ap (element 3) e) in
-    let d1 : a / 16 % 16 ≡ b / 16 % 16 = digits-equal (a / 16 % 16) (b / 16 % 16) (ap (element 4) e) in
-    let d0 : a % 16 ≡ b % 16 = digits-equal (a % 16) (b % 16) (ap (element 5) e) in
-    omega (arith, d3, d2, d1, d0, first, second)
-
-array-names-differ : (a b : ℕ) → a < 65536 → b < 65536 → a ≢ b → same_bytes (array_name a) (array_name b) ≡ false
-array-names-differ a b first second apart =
-    false_from_ne_true (same_bytes (array_name a) (array_name b)) (λ same. apart (array-names-equal a b first second (same-equal (array_name a) (array_name b) same)))
-
 -- the names of the text's function and of the DOS calls, and those of the two arrays before them
 abbrev function_names : List Word
 function_names = codes "start" ∷ dos_names
@@ -149,7 +106,7 @@ names-differ hi (a ∷ low) (b ∷ high) small some =
     and_from (not (words.is_among (array_name hi ∷ function_names) (array_name 0))) (all_differ (array_name hi ∷ function_names))
     (not_from_false (words.is_among (array_name hi ∷ function_names) (array_name 0))
     (or_from (same_bytes (array_name 0) (array_name hi)) (words.is_among function_names (array_name 0))
-    (array-names-differ 0 hi (omega arith) small (λ e. omega (arith, e, more))) refl)) refl
+    (name_at-differ (codes "d_") 0 hi (omega arith) small (λ e. omega (arith, e, more))) refl)) refl
 
 -- none of them begins with v
 abbrev begins_otherwise : Word → Bool

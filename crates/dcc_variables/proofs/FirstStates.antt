@@ -1,14 +1,12 @@
 -- The first states of a graph's run and of its text's: each variable holds its location's value, and the array lies
 -- where the frame's bytes do.
-use Rattle.std.proofs.Common.{◌≡◌, ℕ, ◌+◌, ◌-◌, ◌*◌, ◌%◌, ◌^◌, ◌<◌, Bool, true, false, ◌==◌, inl, inr, List, [], ◌∷◌, ◌++◌, length, map, get_or, Option, Some, None, is_some, refl, sym, ap, ◌∙◌, subst, true≢false, arith, mod-lt}
-use Rattle.std.specs.Prelude.{◌&&◌, nat_le, if◌then◌else◌, slice_get, All}
+use Rattle.std.proofs.Common.{◌≡◌, ℕ, ◌+◌, ◌-◌, ◌*◌, ◌%◌, ◌^◌, ◌<◌, true, false, ◌==◌, inl, inr, List, [], ◌∷◌, ◌++◌, length, map, get_or, Some, None, is_some, refl, sym, ap, ◌∙◌, subst, true≢false, arith, mod-lt}
+use Rattle.std.specs.Prelude.{nat_le, if◌then◌else◌, slice_get}
 use Rattle.std.specs.List.{list_all}
 use Rattle.std.proofs.lemmas.Nat.{pow_pos}
-use Rattle.std.proofs.lemmas.Bool.{and_from, eq-eqb, ltb-true, or_left, or_right}
+use Rattle.std.proofs.lemmas.Bool.{ltb-true, or_left, or_right}
 use Rattle.std.proofs.lemmas.List.{append-nil}
-use Rattle.std.proofs.lemmas.List.Elements.{All-head}
 use Rattle.std.proofs.lemmas.List.Folds.{list_all_at}
-use Rattle.dcc_run.specs.End.{Running}
 use Rattle.dcc_ir.specs.declared.syntax.Loc.{Loc}
 use Rattle.dcc_ir.specs.declared.syntax.Loc.TheVariants.{Half, Flag, Cell, Temp}
 use Rattle.dcc_ir.specs.Location.{location_width, same_location, fill_at, filled}
@@ -21,15 +19,17 @@ use Rattle.dcc_ir.proofs.LocationLaws.{location_same, location_itself}
 use Rattle.dcc_c.specs.declared.syntax.Base.TheVariants.{Uchar, Int}
 use Rattle.dcc_c.specs.declared.syntax.Class.TheVariants.{Auto}
 use Rattle.dcc_c.specs.Token.{same_bytes}
-use Rattle.dcc_c.specs.Types.{plain, bits_of, number_of_type, convert}
-use Rattle.dcc_c.specs.Tree.{Variable, Function, Tree}
+use Rattle.dcc_c.proofs.NameLaws.{same_bytes-refl}
+use Rattle.dcc_c.specs.Types.{plain, bits_of, convert}
+use Rattle.dcc_c.specs.Tree.{Function, Tree}
 use Rattle.dcc_c.specs.Value.{Unplaced, PlacedAt, Binding, variable_in}
 use Rattle.dcc_c.specs.Placement.{first_base, below, param_places, local_places}
 use Rattle.dcc_c.specs.Run as c
-use Rattle.dcc_text.specs.Spelling.{Placed, Spelling}
+use Rattle.dcc_text.specs.Spelling.{Spelling}
 use Rattle.dcc_text.specs.Spelled.{unsigned_type}
 use Rattle.dcc_text.specs.Meaning.{is_type_for, IsVariable, IsHeld, IsPlaced}
-use Rattle.dcc_text.specs.Holding.{Alike, HoldsFrame, Holds}
+use Rattle.dcc_text.specs.Holding.{Alike, Holds}
+use Rattle.dcc_text.proofs.FirstRuns.{opening, first_state-is}
 use Rattle.dcc_text.proofs.Sizes.{Size, bit, byte, word, long, bits, size-of}
 use Rattle.dcc_variables.specs.Variables.{locations, Shape, shape_of, variable_name, frame_name, variable, frame_array, declarations, frame_place, placed_at, graph_spelling}
 use Rattle.dcc_variables.specs.Globals.{globals_of}
@@ -40,10 +40,6 @@ use Rattle.dcc_variables.proofs.Arrays.{memory-is}
 
 among-first : (x : Loc) (xs : List Loc) → is_among (x ∷ xs) x ≡ true
 among-first x xs = or_left (same_location x x) (is_among xs x) (location_itself x)
-
-same-itself : (xs : List ℕ) → same_bytes xs xs ≡ true
-same-itself [] = refl
-same-itself (x ∷ xs) = and_from (x == x) (same_bytes xs xs) (eq-eqb x x refl) (same-itself xs)
 
 -- Numbers.
 
@@ -148,7 +144,7 @@ module _ (g : inner.Graph) (few : AreFew (shape_of g)) (formed : IsGraph g) wher
       | inr not_named ↦
           ap (λ b. if b then Some (bound x) else variable_in (map bound xs ++ others) (variable_name shape l)) not_named
           ∙ variable-found xs others l (λ y there. all y (or_right (same_location y x) (is_among xs y) there)) (elim (decided (same_location l x)) [
-            | inl same ↦ absurd (true≢false (sym (subst (λ y. same_bytes (variable_name shape x) (variable_name shape y) ≡ true) (sym (location_same l x same)) (same-itself (variable_name shape x))) ∙ not_named))
+            | inl same ↦ absurd (true≢false (sym (subst (λ y. same_bytes (variable_name shape x) (variable_name shape y) ≡ true) (sym (location_same l x same)) (same_bytes-refl (variable_name shape x))) ∙ not_named))
             | inr other ↦ or_false (same_location l x) (is_among xs l) other is
           ])
     ]
@@ -168,7 +164,7 @@ module _ (g : inner.Graph) (few : AreFew (shape_of g)) (formed : IsGraph g) wher
     array-found base bytes others some =
         ap (λ none. let locals = if none then [] else record { name = frame_name; type = plain Uchar; len = Some bytes; class = Auto } ∷ [] in
         variable_in (c.local_bindings fill locals (local_places base 4 locals) ++ others) frame_name) some
-        ∙ ap (λ b. if b then Some (array_at base (1 * bytes)) else variable_in others frame_name) (same-itself frame_name)
+        ∙ ap (λ b. if b then Some (array_at base (1 * bytes)) else variable_in others frame_name) (same_bytes-refl frame_name)
         ∙ ap (λ n. Some (array_at base n)) (omega arith)
 
     -- What the text's variables hold.
@@ -213,26 +209,7 @@ module _ (g : inner.Graph) (few : AreFew (shape_of g)) (formed : IsGraph g) wher
 
     -- the state in which a block begins first
     abbrev begun : inner.Block → run.State
-    begun block = run.entering (Some block) (record {
-      running = run.activation g (filled g.bits fill) base;
-      waiting = [];
-      memory = run.first_memory p fill;
-      input = input;
-      events = [];
-      end = Running;
-    })
-
-    begun-is : (block : inner.Block) → slice_get g.blocks 0 ≡ Some block → run.first_state p fill input ≡ begun block
-    begun-is block is =
-        ap (λ graphs. run.opened (get_or graphs 0 run.no_graph) p fill input) one
-        ∙ ap (λ o. run.entering o (record {
-          running = run.activation g (filled g.bits fill) base;
-          waiting = [];
-          memory = run.first_memory p fill;
-          input = input;
-          events = [];
-          end = Running;
-        })) is
+    begun block = run.entering (Some block) (opening p g fill input)
 
     frame-are : (c.frame_of f (first_base tree.hi) fill []).variables ≡ map (bound fill) ls ++ array_bound fill base shape.frame
     frame-are = ap (λ h. (c.frame_of f (first_base h) fill []).variables) hi_is ∙ variables-are fill base f no_params locals
@@ -256,4 +233,4 @@ module _ (g : inner.Graph) (few : AreFew (shape_of g)) (formed : IsGraph g) wher
     pub first-holds : Holds s (λ l. s.named l ≡ true) AreAlike (run.first_state p fill input) (c.first_state tree f fill input)
     first-holds =
         let block = first-block g.blocks formed.begins in
-        subst (λ i. Holds s (λ l. s.named l ≡ true) AreAlike i (c.first_state tree f fill input)) (sym (begun-is block.0 block.1)) (begun-holds block.0)
+        subst (λ i. Holds s (λ l. s.named l ≡ true) AreAlike i (c.first_state tree f fill input)) (sym (first_state-is p g block.0 fill input one block.1)) (begun-holds block.0)

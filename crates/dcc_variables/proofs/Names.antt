@@ -1,9 +1,9 @@
 -- Names of variables: each location has its own, the array has another one, and all are names of the grammar.
-use Rattle.std.proofs.Common.{◌≡◌, ◌≢◌, ℕ, ◌+◌, ◌*◌, ◌%◌, ◌^◌, ◌<◌, ◌≤◌, Bool, true, false, ◌==◌, inl, inr, List, [], ◌∷◌, length, refl, sym, ap, ◌∙◌, subst, true≢false, arith, Option, Some, None}
+use Rattle.std.proofs.Common.{◌≡◌, ℕ, ◌+◌, ◌%◌, ◌^◌, ◌<◌, ◌≤◌, Bool, true, false, ◌==◌, List, [], ◌∷◌, length, refl, sym, ap, ◌∙◌, subst, true≢false, arith, Option, Some, None}
 use Rattle.std.specs.Prelude.{◌&&◌, not, nat_le, if◌then◌else◌}
 use Rattle.std.specs.Fmt.{decimal}
 use Rattle.std.specs.List.{list_all}
-use Rattle.std.proofs.lemmas.Bool.{and_from, and_parts, le-leb, false_from_ne_true, ne_eqb, or_right, not_from_false, eqb-true}
+use Rattle.std.proofs.lemmas.Bool.{and_from, and_parts, le-leb, false_from_ne_true, ne_eqb, or_right, not_from_false}
 use Rattle.std.proofs.lemmas.Fmt.{decimal_injective, decimal_by_steps, length-decimal-le, decimal_nonempty}
 use Rattle.std.proofs.lemmas.List.Folds.{list_all-append}
 use Rattle.dcc_ir.specs.declared.syntax.Loc.{Loc}
@@ -14,35 +14,23 @@ use Rattle.dcc_ir.proofs.LocationLaws.{location_itself}
 use Rattle.dcc_c.specs.Token.{same_bytes, is_digit, is_letter, is_word_byte}
 use Rattle.dcc_c.specs.Grammar.{is_name, keywords}
 use Rattle.dcc_c.specs.Grammar as words
+use Rattle.dcc_c.proofs.NameLaws.{same_bytes-equal}
 use Rattle.dcc_text.specs.Spelling.{Placed}
 use Rattle.dcc_text.specs.Holding.{IsSpelling}
-use Rattle.dcc_variables.specs.Variables.{locations, Shape, shape_of, first_cell, first_stack, variable_number, numbered_name, variable_name, frame_name, frame_place, placed_at, graph_spelling}
+use Rattle.dcc_variables.specs.Variables.{locations, Shape, shape_of, first_stack, variable_number, numbered_name, variable_name, frame_name, frame_place, placed_at, graph_spelling}
 use Rattle.dcc_variables.specs.Laws.{AreFew}
 use Rattle.dcc_variables.proofs.Numbers.{number-below, number-same, not-frame, locations-ascend}
 
--- Lists of bytes.
-
--- lists that are tested to be the same are equal
-pub same-equal : (xs ys : List ℕ) → same_bytes xs ys ≡ true → xs ≡ ys
-same-equal [] [] is = refl
-same-equal [] (y ∷ ys) is = absurd (true≢false (sym is))
-same-equal (x ∷ xs) [] is = absurd (true≢false (sym is))
-same-equal (x ∷ xs) (y ∷ ys) is =
-    let (here, others) = and_parts (x == y) (same_bytes xs ys) is in
-    let e = eqb-true x y here in
-    let f = same-equal xs ys others in
-    cc
+-- Names with numbers.
 
 tail_of : List ℕ → List ℕ
 tail_of [] = []
 tail_of (x ∷ xs) = xs
 
--- Names with numbers.
-
 -- different numbers have different names
 pub numbers-same : (m n : ℕ) → m < 2 ^ 64 → n < 2 ^ 64 → same_bytes (numbered_name m) (numbered_name n) ≡ true → m ≡ n
 unfolding tail_of
-numbers-same m n small little same = decimal_injective m n small little (ap tail_of (same-equal (numbered_name m) (numbered_name n) same))
+numbers-same m n small little same = decimal_injective m n small little (ap tail_of (same_bytes-equal (numbered_name m) (numbered_name n) same))
 
 digit-word : (n : ℕ) → n < 10 → is_digit (48 + n) ≡ true
 digit-word n small = and_from (nat_le 48 (48 + n)) (nat_le (48 + n) 57) (le-leb 48 (48 + n) (omega arith)) (le-leb (48 + n) 57 (omega (arith, small)))

@@ -1,5 +1,5 @@
 -- The numbers of variables ascend along their list, so different locations have different ones.
-use Rattle.std.proofs.Common.{◌≡◌, ◌≢◌, ℕ, zero, suc, ◌+◌, ◌*◌, ◌<◌, ◌≤◌, Bool, true, false, ◌==◌, inl, inr, List, [], ◌∷◌, ◌++◌, length, map, refl, sym, ap, ap₂, ◌∙◌, subst, true≢false, arith, eq-eqb, eqb-true}
+use Rattle.std.proofs.Common.{◌≡◌, ◌≢◌, ℕ, zero, suc, ◌+◌, ◌*◌, ◌<◌, ◌≤◌, Bool, true, false, ◌==◌, inl, inr, List, [], ◌∷◌, ◌++◌, length, map, refl, sym, ap, ◌∙◌, subst, true≢false, arith, eq-eqb, eqb-true}
 use Rattle.std.specs.Prelude.{◌||◌, filter, flat_map, if◌then◌else◌}
 use Rattle.std.specs.List.{range_with_len}
 use Rattle.std.proofs.lemmas.Bool.{or_left, or_right, ltb-true, lt-ltb}
@@ -12,14 +12,14 @@ use Rattle.dcc_num.specs.declared.FlagName.{FlagName}
 use Rattle.dcc_num.specs.declared.FlagName.TheVariants.{Cf, Zf, Sf, Of}
 use Rattle.dcc_ir.specs.declared.syntax.Loc.{Loc}
 use Rattle.dcc_ir.specs.declared.syntax.Loc.TheVariants.{Half, Flag, Cell, Temp}
-use Rattle.dcc_ir.specs.Location.{half_number, flag_number, same_location}
+use Rattle.dcc_ir.specs.Location.{same_location}
 use Rattle.dcc_ir.specs.Live.{is_among}
 use Rattle.dcc_ir.specs.Tree.{Graph}
 use Rattle.dcc_ir.specs.WellFormed.{is_location}
 use Rattle.dcc_ir.proofs.PathLaws.{decided, or_false}
 use Rattle.dcc_ir.proofs.LocationLaws.{location_same}
 use Rattle.dcc_live.specs.Mentions.{graph_mentions}
-use Rattle.dcc_variables.specs.Variables.{cells_among, named_locations, stack_locations, cell_halves, all_locations, locations, Shape, shape_of, first_cell, first_stack, register_first, variable_number}
+use Rattle.dcc_variables.specs.Variables.{cells_among, named_locations, stack_locations, cell_halves, all_locations, locations, Shape, shape_of, first_cell, first_stack, variable_number}
 use Rattle.dcc_variables.proofs.Lists.{filter-among, among-filter, among-left, among-right, cell-within}
 
 module _ (shape : Shape) where

@@ -1,11 +1,11 @@
 -- What a graph's statements and ends of blocks need of the spelling: all that they read and write has variables, and all
 -- addresses that they take have places.
-use Rattle.std.proofs.Common.{◌≡◌, ℕ, ◌+◌, ◌%◌, Bool, true, false, ◌==◌, inl, inr, List, [], ◌∷◌, ◌++◌, length, Option, Some, None, is_some, refl, sym, ap, ◌∙◌, subst, true≢false, arith, Contains}
+use Rattle.std.proofs.Common.{◌≡◌, ℕ, Bool, true, false, ◌==◌, inl, inr, List, [], ◌∷◌, length, Some, None, is_some, refl, sym, ap, ◌∙◌, subst, true≢false, Contains}
 use Rattle.std.specs.Prelude.{◌&&◌, ◌||◌, nat_lt, nat_le, if◌then◌else◌, All}
 use Rattle.std.specs.List.{list_all, list_any, flat_map}
 use Rattle.std.proofs.lemmas.Bool.{and_parts, or_left, or_right, or_parts}
 use Rattle.std.proofs.lemmas.List.Concat.{flat_map-append}
-use Rattle.std.proofs.lemmas.List.Elements.{All-nil, All-cons, All-head, All-tail, All-append, All-contains, All-weaker}
+use Rattle.std.proofs.lemmas.List.Elements.{All-nil, All-cons, All-append, All-contains, All-weaker}
 use Rattle.dcc_run.proofs.KeptLaws.{right_part}
 use Rattle.dcc_ir.specs.declared.syntax.Loc.{Loc}
 use Rattle.dcc_ir.specs.Location.{location_width, same_location}
@@ -14,7 +14,7 @@ use Rattle.dcc_ir.specs.Tree.{Expr, Const, Get, Load, Unary, Binary, Widen, Part
 use Rattle.dcc_ir.specs.Run.{is_call}
 use Rattle.dcc_ir.specs.Use.{parts_of, got_by, addressed_by, reads_of, addresses_of, exprs_of, writes_of, exit_exprs}
 use Rattle.dcc_ir.specs.WellFormed.{is_location, is_stored_width, is_division, is_expr, is_expr_of, is_dividing, is_byte_place, is_stmt, is_exit, is_block, IsGraph}
-use Rattle.dcc_ir.proofs.PathLaws.{decided, or_false}
+use Rattle.dcc_ir.proofs.PathLaws.{decided}
 use Rattle.dcc_ir.proofs.ListLaws.{all_had, left_part, all_parts}
 use Rattle.dcc_ir.proofs.LocationLaws.{location_itself, Contains-none, Contains-cases}
 use Rattle.dcc_live.specs.Mentions.{stmt_mentions, block_mentions, graph_mentions}

@@ -1,24 +1,15 @@
 -- The global variables of a text: the bytes of the program's image outside the stack, as arrays.
-use Rattle.std.specs.Prelude.{ℕ, ◌/◌, ◌%◌, ◌==◌, min, false, if◌then◌else◌, List, [], ◌∷◌, ◌++◌, length, take, drop, codes, Some}
+use Rattle.std.specs.Prelude.{ℕ, ◌==◌, min, if◌then◌else◌, List, [], ◌∷◌, ◌++◌, length, take, drop, codes, Some}
 use Rattle.std.specs.List.{list_all}
-use Rattle.std.specs.Fmt.{digit_glyph}
 use Rattle.dcc_ir.specs.Tree.{Program}
 use Rattle.dcc_c.specs.declared.syntax.Base.TheVariants.{Uchar}
 use Rattle.dcc_c.specs.Types.{plain}
 use Rattle.dcc_c.specs.Tree.{Word, Global}
-
-abbrev pub hex_digit : ℕ → ℕ
-hex_digit n = digit_glyph false n
+use Rattle.dcc_text.specs.Hex.{name_at}
 
 -- the name of the array at an address, below 65536: four digits in hexadecimal
 abbrev pub array_name : ℕ → Word
-array_name at =
-    codes "d_"
-    ++ (hex_digit (at / 4096 % 16)
-    ∷ hex_digit (at / 256 % 16)
-    ∷ hex_digit (at / 16 % 16)
-    ∷ hex_digit (at % 16)
-    ∷ [])
+array_name at = name_at (codes "d_") at
 
 -- the initial values of an array with these bytes: none where all of them are 0
 abbrev pub initial_values : List ℕ → List ℕ

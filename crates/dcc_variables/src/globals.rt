@@ -1,6 +1,6 @@
 //! The global variables of a text: the bytes of the image outside the stack, as arrays.
 
-ghost use Rattle.std.specs.Prelude.{◌≡◌, ◌<◌, ◌==◌, ◌∷◌, ◌++◌, [], IfOk, OnOk, drop, map, string_bytes, take};
+ghost use Rattle.std.specs.Prelude.{◌≡◌, ◌==◌, ◌++◌, IfOk, OnOk, drop, map, take};
 ghost use Rattle.std.specs.List.{list_all};
 ghost use Rattle.dcc_ir.specs.Views.{program_of};
 ghost use Rattle.dcc_c.specs.Views.{global_of};
@@ -8,44 +8,8 @@ ghost use Rattle.dcc_variables.specs.Globals as spec;
 
 use dcc_c::{Base, CType, Global_};
 use dcc_ir::IrProgram;
+use dcc_text::hex::name_at;
 use std::alloc::{AllocError, Global};
-
-// A digit in hexadecimal.
-fn hex_digit(n: u16) -> &'static str
-    requires { n < 16 }
-    ensures { result.now ≡ spec.hex_digit n ∷ [] }
-{
-    match n {
-        0 => "0",
-        1 => "1",
-        2 => "2",
-        3 => "3",
-        4 => "4",
-        5 => "5",
-        6 => "6",
-        7 => "7",
-        8 => "8",
-        9 => "9",
-        10 => "a",
-        11 => "b",
-        12 => "c",
-        13 => "d",
-        14 => "e",
-        _ => "f",
-    }
-}
-
-// The name of the array at an address.
-fn array_name(alloc: Global, at: u16) -> Result<String, AllocError>
-    ensures { IfOk result (λ name. string_bytes name ≡ spec.array_name at) }
-{
-    let mut name = String::from_str(alloc, "d_")?;
-    name.push_str(hex_digit(at / 4096 % 16))?;
-    name.push_str(hex_digit(at / 256 % 16))?;
-    name.push_str(hex_digit(at / 16 % 16))?;
-    name.push_str(hex_digit(at % 16))?;
-    Ok(name)
-}
 
 // The bytes as initial values.
 fn values(alloc: Global, bytes: &[u8]) -> Result<Vec<u32>, AllocError>
@@ -91,7 +55,7 @@ fn push_array(
     }
     let len = u32::try_from(bytes.len()).map_err(|_| AllocError)?;
     globals.push(Global_ {
-        name: array_name(alloc, at)?,
+        name: name_at(alloc, "d_", at)?,
         at: u32::from(at),
         ty: CType::plain(Base::Uchar),
         len: Some(len),

@@ -1,5 +1,5 @@
 use Rattle.std.proofs.Common.{subst}
-use Rattle.std.specs.Prelude.{All, [], ◌∷◌}
+use Rattle.std.specs.Prelude.{All, []}
 use Rattle.std.proofs.lemmas.List.Elements.{All-head}
 use Rattle.dcc_ir.specs.WellFormed.{IsGraph}
 use Rattle.dcc_variables.proofs.FirstStates.{first-holds}
