@@ -1,30 +1,19 @@
 -- What operations do to the height: as it is computed, so it is defined.
-use Rattle.std.proofs.Common.{◌≡◌, ◌≢◌, ◌⊎◌, inl, inr, ℕ, ◌<◌, ◌==◌, Bool, true, false, true≢false, not, ◌&&◌, ◌||◌, ℤ, pos, ◌+ℤ◌, ◌-ℤ◌, ◌≤ℤ◌, ◌<ℤ◌, Option, Some, None, unwrap_or, refl, sym, ap, ◌∙◌, subst, arith}
-use Rattle.std.proofs.lemmas.Bool.Decides.{nat_tests}
-use Rattle.std.proofs.lemmas.Int.{ints}
-use Rattle.dcc_num.specs.declared.Width.{Width}
-use Rattle.dcc_num.specs.declared.Width.TheVariants.{Byte as byte_width, Word as word_width}
-use Rattle.dcc_num.specs.declared.Reg.{Reg}
+use Rattle.std.proofs.Common.{◌≡◌, ◌≢◌, ◌⊎◌, inl, inr, ℕ, ◌==◌, Bool, true, false, true≢false, not, ◌&&◌, ◌||◌, ℤ, pos, ◌+ℤ◌, ◌-ℤ◌, Option, Some, None, unwrap_or, refl, sym, ap, ◌∙◌}
 use Rattle.dcc_num.specs.declared.Reg.TheVariants.{Sp, Bp}
 use Rattle.dcc_num.specs.declared.Half.TheVariants.{Low}
-use Rattle.dcc_num.specs.Numbers.{signed_of}
 use Rattle.dcc_prog.specs.declared.image.Image.{Image}
 use Rattle.dcc_prog.specs.declared.procedure.Layout.{Layout}
-use Rattle.dcc_prog.specs.declared.instr.Ea.{Ea}
 use Rattle.dcc_prog.specs.declared.instr.Alu.TheVariants.{Add, Sub}
-use Rattle.dcc_prog.specs.declared.instr.Unary.{Unary}
-use Rattle.dcc_prog.specs.declared.instr.Unary.TheVariants.{Inc, Dec, Mul, Imul, Div, Idiv}
-use Rattle.dcc_prog.specs.declared.instr.Plain.{Plain}
-use Rattle.dcc_prog.specs.declared.instr.Plain.TheVariants.{Cbw, Cwd, Xlat}
-use Rattle.dcc_prog.specs.declared.instr.Operand.{Operand}
-use Rattle.dcc_prog.specs.declared.instr.Operand.TheVariants.{Word, Byte, Const}
+use Rattle.dcc_prog.specs.declared.instr.Unary.TheVariants.{Inc, Dec}
+use Rattle.dcc_prog.specs.declared.instr.Operand.TheVariants.{Word, Const}
 use Rattle.dcc_prog.specs.declared.instr.Op.{Op}
-use Rattle.dcc_prog.specs.declared.instr.Op.TheVariants.{Alu as AluOp, Unary as UnaryOp, Shift as ShiftOp, Mov, Xchg, Lea, Imul3, Push, Pop, Enter, Leave, Plain as PlainOp, Call, Ret}
-use Rattle.dcc_prog.specs.Writes.{is_same_register, is_half_of, writes_operand, is_in_pair, unary_writes_half, plain_writes_half, writes_half}
-use Rattle.dcc_prog.specs.Machine.{operand_width}
-use Rattle.dcc_prog.specs.Trail.{instruction_in, is_general}
-use Rattle.dcc_prog.specs.FrameForm.{is_push_bp, is_mov_bp_sp, is_enter, begins_by_push, second_of, is_framed, is_sp_or_bp, names_sp_or_bp, uses_bp_address, is_sp_move, is_at_most_zero, is_at_or_below_bp, leaves_frame, copies_bp, makes_frame, is_frame_form}
+use Rattle.dcc_prog.specs.declared.instr.Op.TheVariants.{Alu as AluOp, Unary as UnaryOp, Mov, Lea, Push, Pop, Enter, Leave, Call, Ret}
+use Rattle.dcc_prog.specs.Writes.{writes_half}
+use Rattle.dcc_prog.specs.Trail.{instruction_in}
+use Rattle.dcc_prog.specs.FrameForm.{is_push_bp, is_mov_bp_sp, is_enter, begins_by_push, second_of, is_framed, names_sp_or_bp, uses_bp_address, is_sp_move, leaves_frame, copies_bp, makes_frame, is_frame_form}
 use Rattle.dcc_prog.specs.Height.{lowering_of, height_set_by, IsRemoved, MovesHeight, push, pop, call, move, set, keep}
+use Rattle.dcc_stack.proofs.FormOps.{is_stack_op, unnamed-still, copied-still}
 use Rattle.dcc_heights.specs.Moves.{moved_by, height_after}
 
 -- Tests.
@@ -115,65 +104,6 @@ module _ (image : Image) (layout : Layout) (entry at : ℕ) (op : Op) where
 
 -- Operations that leave SP.
 
--- PUSH, POP, CALL or RET
-abbrev pub is_stack_op : Op → Bool
-is_stack_op (Push a) = true
-is_stack_op (Pop a) = true
-is_stack_op (Call target) = true
-is_stack_op (Ret count) = true
-is_stack_op op = false
-
-operand-still : (a : Operand) → is_sp_or_bp a ≡ false → is_half_of Sp Low a ≡ false
-operand-still (Word Sp) e = absurd (true≢false e)
-operand-still (Byte Sp half) e = absurd (true≢false e)
-operand-still a e = refl
-
-pair-still : (w : Width) → is_in_pair w Sp ≡ false
-pair-still byte_width = refl
-pair-still word_width = refl
-
-unary-still : (operation : Unary) (a : Operand) → is_sp_or_bp a ≡ false → unary_writes_half operation a Sp Low ≡ false
-unary-still Mul a e = pair-still (operand_width a)
-unary-still Imul a e = pair-still (operand_width a)
-unary-still Div a e = pair-still (operand_width a)
-unary-still Idiv a e = pair-still (operand_width a)
-unary-still operation a e = operand-still a e
-
-plain-still : (operation : Plain) → plain_writes_half operation Sp Low ≡ false
-plain-still Cbw = refl
-plain-still Cwd = refl
-plain-still Xlat = refl
-plain-still operation = refl
-
-unnamed-still : (op : Op) → names_sp_or_bp op ≡ false → is_stack_op op ≡ false → writes_half op Sp Low ≡ false
-unnamed-still (AluOp operation a b) e s =
-    and-false (writes_operand operation) (is_half_of Sp Low a) (operand-still a (or-false-left _ (is_sp_or_bp b) e))
-unnamed-still (UnaryOp operation a) e s = unary-still operation a e
-unnamed-still (ShiftOp operation a count) e s = operand-still a e
-unnamed-still (Mov to from) e s = operand-still to (or-false-left (is_sp_or_bp to) (is_sp_or_bp from) e)
-unnamed-still (Xchg a b) e s =
-    ap (λ x. x || is_half_of Sp Low b) (operand-still a (or-false-left (is_sp_or_bp a) (is_sp_or_bp b) e))
-    ∙ operand-still b (or-false-right (is_sp_or_bp a) (is_sp_or_bp b) e)
-unnamed-still (Lea to ea) e s = operand-still (Word to) e
-unnamed-still (Imul3 to a constant) e s = operand-still (Word to)
-    (or-false-left (is_sp_or_bp (Word to)) (is_sp_or_bp a) e)
-unnamed-still (Push a) e s = absurd (true≢false s)
-unnamed-still (Pop a) e s = absurd (true≢false s)
-unnamed-still (Call target) e s = absurd (true≢false s)
-unnamed-still (Ret count) e s = absurd (true≢false s)
-unnamed-still (Enter count) e s = absurd (true≢false e)
-unnamed-still Leave e s = absurd (true≢false e)
-unnamed-still (PlainOp operation) e s = plain-still operation
-unnamed-still op e s = refl
-
-general-still : (r : Reg) → is_general r ≡ true → is_same_register Sp r ≡ false
-general-still Sp e = absurd (true≢false (sym e))
-general-still r e = refl
-
-copied-still : (op : Op) → copies_bp op ≡ true → writes_half op Sp Low ≡ false
-copied-still (Mov (Word r) (Word Bp)) e = general-still r e
-copied-still op e = absurd (true≢false (sym e))
-
 taken-still : (op : Op) → is_mov_bp_sp op ≡ true → writes_half op Sp Low ≡ false
 taken-still (Mov (Word Bp) (Word Sp)) e = refl
 taken-still op e = absurd (true≢false (sym e))
@@ -207,9 +137,9 @@ still :
     (op : Op) → FormCase op → is_stack_op op ≡ false → lowering_of op ≡ None → height_set_by op ≡ None
     → writes_half op Sp Low ≡ false
 still op (moves m) s low none = absurd (move-lowers op m low)
-still op (unnamed e) s low none = unnamed-still op e s
+still op (unnamed e) s low none = unnamed-still Sp Low refl op e s
 still op (leaves e) s low none = absurd (leaves-sets op e s none)
-still op (copies e) s low none = copied-still op e
+still op (copies e) s low none = copied-still Sp Low refl op e
 still op (pushes e) s low none = absurd (true≢false (sym (pushes-stack op e) ∙ s))
 still op (takes e) s low none = taken-still op e
 still op (enters e) s low none = absurd (enters-sets op e none)
