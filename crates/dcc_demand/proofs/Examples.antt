@@ -154,11 +154,11 @@ saving_tables = record {
 saving_closed : (callee : Option ℕ) → AreClosed (saving callee) same saving_tables
 saving_closed callee = record {
   begins = λ i l w. refl;
-  called = λ i j a b l g c e. no e;
-  written = λ i. writes;
-  unsaved = λ i. unsaves;
-  lost = λ i. loses;
-  changed = λ i. changes;
+  called = λ i j a b l edge c e. no e;
+  written = λ i a b l edge e. writes a b l edge.goes e;
+  unsaved = λ i a b l w edge e. unsaves a b l w edge.goes e;
+  lost = λ i a b l edge e. loses a b l edge.goes e;
+  changed = λ i a l reached q r e. changes a l q r e;
 }
   where
     writes : (a b : Spot) (l : Register) → Contains (saving_next a) b → written_after ((saving_action callee a).effect l) (saving_written a l) ≡ true → saving_written b l ≡ true
@@ -316,11 +316,11 @@ calling_tables = record {
 calling_closed : AreClosed calling same calling_tables
 calling_closed = record {
   begins = λ i l w. refl;
-  called = λ i j a b l g c e. no e;
-  written = λ i a b l g e. writes a l e;
-  unsaved = λ i a b l w g e. refl;
-  lost = λ i a b l g e. loses a l e;
-  changed = λ i a l q r e. e;
+  called = λ i j a b l edge c e. no e;
+  written = λ i a b l edge e. writes a l e;
+  unsaved = λ i a b l w edge e. refl;
+  lost = λ i a b l edge e. loses a l e;
+  changed = λ i a l reached q r e. e;
 }
   where
     writes : (a : Spot) (l : Register) → written_after ((calling_action a).effect l) false ≡ true → false ≡ true

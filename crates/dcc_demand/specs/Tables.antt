@@ -1,8 +1,9 @@
 -- Tables of truth values that are closed from point to point: they have all that is changed and all that is wanted.
-use Rattle.std.specs.Prelude.{◌≡◌, ℕ, Bool, true, ◌||◌, not, ◌↔◌, if◌then◌else◌, Contains, Some}
+use Rattle.std.specs.Prelude.{◌≡◌, ℕ, Bool, true, ◌||◌, not, ◌↔◌, if◌then◌else◌, Some}
 use Rattle.dcc_demand.specs.Procedures.{Effect, Leaves, Copies, Pops, Makes, WordEffect, LeavesWord, Pushes, Overwrites, Procedures, ChangeFamily}
 use Rattle.dcc_demand.specs.Changes.{Changes}
 use Rattle.dcc_demand.specs.Wanted.{WantedFamily}
+use Rattle.dcc_demand.specs.Spread.{IsReached, IsEdge}
 
 -- What a procedure may change; and what some trail to a point may have written, may not have saved in a word, and may
 -- have lost.
@@ -45,27 +46,28 @@ abbrev pub wanted_in : {Point Location : Type 0} → (ℕ → Point → Location
 wanted_in wanted i a location = wanted i a location ≡ true
 
 module _ {Point Location Word : Type 0} (p : Procedures Point Location Word) where
-  -- What is so after a point is in the table at the end of each edge from there, and so is what the point's call
-  -- changes. At an entry no word is saved; what is lost at a return and passes is changed.
+  -- What is so after a point that is reached is in the table at the end of each edge from there, and so is what the
+  -- point's call changes. At an entry no word is saved; what is lost at a return and passes is changed.
   pub record AreClosed (same : Location → Location → Bool) (t : Tables Point Location Word) : Type 0 where
     pub begins : (i : ℕ) (location : Location) (word : Word)
         → t.unsaved i (p.procedure i).entry location word ≡ true
-    pub called : (i callee : ℕ) (a b : Point) (location : Location) → Contains ((p.procedure i).next a) b
+    pub called : (i callee : ℕ) (a b : Point) (location : Location) → IsEdge (p.procedure i) a b
         → ((p.procedure i).action a).callee ≡ Some callee → t.changed callee location ≡ true
         → (t.written i b location ≡ true) × (t.lost i b location ≡ true)
-    pub written : (i : ℕ) (a b : Point) (location : Location) → Contains ((p.procedure i).next a) b
+    pub written : (i : ℕ) (a b : Point) (location : Location) → IsEdge (p.procedure i) a b
         → written_after (((p.procedure i).action a).effect location) (t.written i a location) ≡ true
         → t.written i b location ≡ true
-    pub unsaved : (i : ℕ) (a b : Point) (location : Location) (word : Word) → Contains ((p.procedure i).next a) b
+    pub unsaved : (i : ℕ) (a b : Point) (location : Location) (word : Word) → IsEdge (p.procedure i) a b
         → unsaved_after same location (((p.procedure i).action a).word_effect word) (t.written i a location)
         (t.unsaved i a location word) ≡ true
         → t.unsaved i b location word ≡ true
-    pub lost : (i : ℕ) (a b : Point) (location : Location) → Contains ((p.procedure i).next a) b
+    pub lost : (i : ℕ) (a b : Point) (location : Location) → IsEdge (p.procedure i) a b
         → lost_after (p.procedure i).is_private (((p.procedure i).action a).effect location) (t.unsaved i a location)
         (t.lost i a location) ≡ true
         → t.lost i b location ≡ true
-    pub changed : (i : ℕ) (a : Point) (location : Location) → p.passes location ≡ true
-        → (p.procedure i).returns a ≡ true → t.lost i a location ≡ true → t.changed i location ≡ true
+    pub changed : (i : ℕ) (a : Point) (location : Location) → IsReached (p.procedure i) a
+        → p.passes location ≡ true → (p.procedure i).returns a ≡ true → t.lost i a location ≡ true
+        → t.changed i location ≡ true
 
   -- the table tells just what is changed
   abbrev pub TellsChanges : (ℕ → Location → Bool) → Type 0
