@@ -192,7 +192,7 @@ fn label_words<'a>(
     alloc: Global,
     labels: &[&'a WordAt],
     is_last: bool,
-    rest: &'a [Piece],
+    rest: &'a [Piece<'a>],
 ) -> Result<BTreeSet<&'a str>, AllocError>
     requires few { length rest.now ≤ 67108864 }
     ensures { IfOk result (λ words. (word : Word) → holds words word
@@ -253,7 +253,7 @@ fn check_function<'a>(
     whole: &Whole<'a>,
     function: &'a PartialFunction,
     is_last: bool,
-    rest: &'a [Piece],
+    rest: &'a [Piece<'a>],
     first: &mut First,
 ) -> Result<(), AllocError>
     requires few { length rest.now ≤ 67108864 }
@@ -276,7 +276,7 @@ fn check_functions<'a>(
     alloc: Global,
     whole: &Whole<'a>,
     functions: &'a [PartialFunction],
-    rest: &'a [Piece],
+    rest: &'a [Piece<'a>],
     first: &mut First,
 ) -> Result<(), AllocError>
     requires few { length rest.now ≤ 67108864 }

@@ -1,5 +1,5 @@
 -- The tokens and pieces that the declared types stand for.
-use Rattle.std.specs.Prelude.{ℕ, List, map, codes, string_bytes}
+use Rattle.std.specs.Prelude.{ℕ, List, map, codes}
 use Rattle.std.specs.Option.{option_map}
 use Rattle.dcc_c.specs.Token as tokens
 use Rattle.dcc_c.specs.Pieces as pieces
@@ -60,7 +60,7 @@ mark_of m.Tilde = codes "~"
 mark_of m.Exclamation = codes "!"
 
 abbrev pub token_of : Token → tokens.Token
-token_of (Word word) = tokens.WordToken (string_bytes word)
+token_of (Word word) = tokens.WordToken word.now
 token_of (Decimal n suffix) = tokens.Decimal n (suffix_of suffix)
 token_of (Hex n suffix) = tokens.Hex n (suffix_of suffix)
 token_of (MarkToken mark) = tokens.Mark (mark_of mark)

@@ -1,6 +1,6 @@
 //! The first bytes of a text: a piece or none, and where the text goes on.
 
-ghost use Rattle.std.specs.Prelude.{◌≡◌, ◌+◌, ◌<◌, ◌≤◌, length, true, false, [], ◌∷◌, IfOk, MatchOption, Some, option_map};
+ghost use Rattle.std.specs.Prelude.{◌≡◌, ◌+◌, ◌<◌, ◌≤◌, length, true, false, [], ◌∷◌, MatchOption, Some, option_map};
 ghost use Rattle.dcc_c.specs.Pieces as spec;
 ghost use Rattle.dcc_lex.specs.TokenViews as views;
 ghost use Rattle.dcc_lex.specs.HeadViews.{found_of};
@@ -11,7 +11,6 @@ use crate::mark::first_mark;
 use crate::pragma::{FoundHead, head_of};
 use crate::token::{Head, Piece, Suffix, Token};
 use crate::word::{plain_number, token_of_word};
-use std::alloc::{AllocError, Global};
 
 /// Where in a line bytes begin.
 #[derive(Clone, Copy, PartialEq, Eq, Debug)]
@@ -27,10 +26,10 @@ pub enum Spot {
 }
 
 /// A piece or none, and where the text goes on.
-#[derive(Drop)]
+#[derive(Clone, Copy)]
 pub struct Cut<'a> {
     /// The piece; None for a line feed and for blanks between tokens.
-    pub piece: Option<Piece>,
+    pub piece: Option<Piece<'a>>,
     /// Where the other bytes begin.
     pub spot: Spot,
     /// The line where they begin, from 1.
@@ -41,9 +40,9 @@ pub struct Cut<'a> {
 
 impl<'a> Cut<'a> {
     // A token or bytes that are none, and where the text goes on in their line.
-    fn with_piece(token: Option<Token>, spot: Spot, line: u32, rest: &'a [u8]) -> Cut<'a>
+    fn with_piece(token: Option<Token<'a>>, spot: Spot, line: u32, rest: &'a [u8]) -> Cut<'a>
         ensures { cuts.cut_of result
-            ≡ spec.cut (spec.piece line (option_map views.token_of token) ∷ []) (cuts.spot_of spot) line rest.now }
+            ≡ spec.cut (spec.piece line (option_map views.token_of token.entry) ∷ []) (cuts.spot_of spot) line rest.now }
     {
         let piece = Some(Piece { token, line });
         Cut {
@@ -68,7 +67,7 @@ impl<'a> Cut<'a> {
 }
 
 // A token that the grammar allows nowhere but in the version line: what stands here may not.
-fn stray() -> Option<Token>
+fn stray() -> Option<Token<'static>>
     ensures { option_map views.token_of result ≡ Some spec.stray }
 {
     Some(Token::Pragma(Head::Version))
@@ -82,9 +81,9 @@ fn is_of_pragma(spot: Spot) -> bool
 }
 
 // The token, which may not stand in the line of a pragma.
-fn allowed_at(spot: Spot, token: Option<Token>) -> Option<Token>
+fn allowed_at<'a>(spot: Spot, token: Option<Token<'a>>) -> Option<Token<'a>>
     ensures { option_map views.token_of result
-        ≡ spec.allowed_at (cuts.spot_of spot) (option_map views.token_of token) }
+        ≡ spec.allowed_at (cuts.spot_of spot) (option_map views.token_of token.entry) }
 {
     if token.is_some() && is_of_pragma(spot) {
         return stray();
@@ -108,9 +107,14 @@ fn head_cut<'a>(spot: Spot, line: u32, found: FoundHead<'a>) -> Cut<'a>
 }
 
 // A token that may stand at this spot, or bytes that are none.
-fn token_piece<'a>(spot: Spot, line: u32, token: Option<Token>, rest: &'a [u8]) -> Cut<'a>
+fn token_piece<'a>(
+    spot: Spot,
+    line: u32,
+    token: Option<Token<'a>>,
+    rest: &'a [u8],
+) -> Cut<'a>
     ensures { cuts.cut_of result
-        ≡ spec.cut (spec.piece line (spec.allowed_at (cuts.spot_of spot) (option_map views.token_of token)) ∷ [])
+        ≡ spec.cut (spec.piece line (spec.allowed_at (cuts.spot_of spot) (option_map views.token_of token.entry)) ∷ [])
         spec.in_line line rest.now }
 {
     Cut::with_piece(allowed_at(spot, token), Spot::InLine, line, rest)
@@ -131,16 +135,15 @@ fn mark_cut(spot: Spot, line: u32, bytes: &[u8]) -> Cut<'_>
 }
 
 // A run of letters, digits and `_`, or another byte.
-fn token_cut(alloc: Global, spot: Spot, line: u32, bytes: &[u8]) -> Result<Cut<'_>, AllocError>
+fn token_cut(spot: Spot, line: u32, bytes: &[u8]) -> Cut<'_>
     requires { 0 < length bytes.now }
-    ensures { IfOk result (λ c. cuts.cut_of c ≡ cuts.token_cut (cuts.spot_of spot) line bytes.now) }
+    ensures { cuts.cut_of result ≡ cuts.token_cut (cuts.spot_of spot) line bytes.now }
 {
     let (run, rest) = ByteKind::WordByte.split(bytes);
     if run.is_empty() {
-        return Ok(mark_cut(spot, line, bytes));
+        return mark_cut(spot, line, bytes);
     }
-    let token = token_of_word(alloc, run)?;
-    Ok(token_piece(spot, line, token, rest))
+    token_piece(spot, line, token_of_word(run), rest)
 }
 
 // A run of spaces and tabs: in the line of a pragma something stands after it, else it offends itself.
@@ -176,26 +179,22 @@ fn number_cut(spot: Spot, line: u32, bytes: &[u8]) -> Option<Cut<'_>>
 }
 
 /// The first cut of bytes that are not none; a run of blanks is one.
-///
-/// # Errors
-///
-/// An `AllocError` where memory runs out.
-pub fn next_cut(alloc: Global, spot: Spot, line: u32, bytes: &[u8]) -> Result<Cut<'_>, AllocError>
+pub fn next_cut(spot: Spot, line: u32, bytes: &[u8]) -> Cut<'_>
     requires some { 0 < length bytes.now }
     requires short { line < 4294967295 }
-    ensures continues { IfOk result (λ c. cuts.Continues (cuts.spot_of spot) line bytes.now (cuts.cut_of c)) }
-    ensures shorter { IfOk result (λ c. length c.rest.now < length bytes.now) }
-    ensures line { IfOk result (λ c. c.line ≤ line + 1) }
+    ensures continues { cuts.Continues (cuts.spot_of spot) line bytes.now (cuts.cut_of result) }
+    ensures shorter { length result.rest.now < length bytes.now }
+    ensures line { result.line ≤ line + 1 }
 {
     let first = bytes[0];
     if first == b'\n' {
-        return Ok(Cut::without_piece(Spot::LineStart, line + 1, &bytes[1..]));
+        return Cut::without_piece(Spot::LineStart, line + 1, &bytes[1..]);
     }
     if let Some(cut) = number_cut(spot, line, bytes) {
-        return Ok(cut);
+        return cut;
     }
     if is_blank(first) {
-        return Ok(blank_cut(spot, line, bytes));
+        return blank_cut(spot, line, bytes);
     }
-    token_cut(alloc, spot, line, bytes)
+    token_cut(spot, line, bytes)
 }

@@ -5,13 +5,16 @@ ghost use Rattle.dcc_c.specs.Pieces as spec;
 ghost use Rattle.dcc_c.specs.Numbered.{rows};
 ghost use Rattle.dcc_lex.specs.TokenViews as views;
 
-use crate::cut::{Cut, Spot, next_cut};
+use crate::cut::{Spot, next_cut};
 use crate::token::Piece;
 use std::alloc::{AllocError, Global};
 
 // Puts a piece, if there is one, after others.
-fn push_piece(pieces: &mut Vec<Piece>, piece: Option<Piece>) -> Result<(), AllocError>
-    ensures { OnOk result (pieces.new.items ≡ pieces.old.items ++ option_to_list piece) }
+fn push_piece<'a>(
+    pieces: &mut Vec<Piece<'a>>,
+    piece: Option<Piece<'a>>,
+) -> Result<(), AllocError>
+    ensures { OnOk result (pieces.new.items ≡ pieces.old.items ++ option_to_list piece.entry) }
 {
     if let Some(piece) = piece {
         pieces.push(piece)?;
@@ -24,7 +27,7 @@ fn push_piece(pieces: &mut Vec<Piece>, piece: Option<Piece>) -> Result<(), Alloc
 /// # Errors
 ///
 /// An `AllocError` where memory runs out.
-pub fn pieces(alloc: Global, rest: &[u8]) -> Result<Vec<Piece>, AllocError>
+pub fn pieces(alloc: Global, rest: &[u8]) -> Result<Vec<Piece<'_>>, AllocError>
     requires short { length rest.now ≤ 67108864 }
     ensures pieces { IfOk result (λ ps. views.pieces_of ps.items ≡ spec.pieces_of rest.now) }
     ensures few { IfOk result (λ ps. length ps.items ≤ length rest.now) }
@@ -34,16 +37,11 @@ pub fn pieces(alloc: Global, rest: &[u8]) -> Result<Vec<Piece>, AllocError>
     let mut spot = Spot::InLine;
     let mut line = 1;
     while !bytes.is_empty() {
-        let Cut {
-            piece,
-            spot: next_spot,
-            line: next_line,
-            rest: others,
-        } = next_cut(alloc, spot, line, bytes)?;
-        push_piece(&mut pieces, piece)?;
-        spot = next_spot;
-        line = next_line;
-        bytes = others;
+        let cut = next_cut(spot, line, bytes);
+        push_piece(&mut pieces, cut.piece)?;
+        spot = cut.spot;
+        line = cut.line;
+        bytes = cut.rest;
     }
     Ok(pieces)
 }

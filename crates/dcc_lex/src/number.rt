@@ -68,7 +68,7 @@ fn decimal_value(digits: &[u8]) -> Option<u32>
 
 // The decimal number that these bytes are.
 #[tactic(auto, using(crate::proofs::Numbers::decimal_none, crate::proofs::Numbers::decimal_some))]
-fn decimal_of(bytes: &[u8]) -> Option<Token>
+fn decimal_of(bytes: &[u8]) -> Option<Token<'static>>
     ensures { option_map views.token_of result ≡ spec.decimal_of bytes.now }
 {
     let (digits, rest) = ByteKind::Digit.split(bytes);
@@ -91,7 +91,7 @@ fn hex_number(digits: &[u8]) -> u32
 }
 
 // The hexadecimal number that these bytes are after `0x`.
-fn hex_of(bytes: &[u8]) -> Option<Token>
+fn hex_of(bytes: &[u8]) -> Option<Token<'static>>
     ensures { option_map views.token_of result ≡ spec.hex_of bytes.now }
 {
     let (digits, rest) = ByteKind::HexDigit.split(bytes);
@@ -103,7 +103,7 @@ fn hex_of(bytes: &[u8]) -> Option<Token>
 }
 
 /// The number that a run of letters, digits and `_` is.
-pub fn number_of(run: &[u8]) -> Option<Token>
+pub fn number_of(run: &[u8]) -> Option<Token<'static>>
     ensures { option_map views.token_of result ≡ spec.number_of run.now }
 {
     match after(b"0x", run) {

@@ -94,10 +94,10 @@ pub enum Mark {
 }
 
 /// A token.
-#[derive(Drop)]
-pub enum Token {
+#[derive(Clone, Copy)]
+pub enum Token<'a> {
     /// A name or a keyword.
-    Word(String),
+    Word(&'a str),
     /// A decimal number, at most 4294967295.
     Decimal(u32, Suffix),
     /// A number in hexadecimal, at most 4294967295.
@@ -109,10 +109,10 @@ pub enum Token {
 }
 
 /// A piece of a text: a token, or bytes that are none.
-#[derive(Drop)]
-pub struct Piece {
+#[derive(Clone, Copy)]
+pub struct Piece<'a> {
     /// The token; None for bytes that are none.
-    pub token: Option<Token>,
+    pub token: Option<Token<'a>>,
     /// The line where it stands, from 1.
     pub line: u32,
 }

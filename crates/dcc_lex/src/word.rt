@@ -1,6 +1,6 @@
 //! Words, and the tokens that runs of letters, digits and `_` are.
 
-ghost use Rattle.std.specs.Prelude.{◌≡◌, true, false, IfOk, MatchOption, Some, option_map, get_or};
+ghost use Rattle.std.specs.Prelude.{◌≡◌, true, false, MatchOption, Some, option_map, get_or};
 ghost use Rattle.std.specs.List.{list_all};
 ghost use Rattle.dcc_c.specs.Token as tokens;
 ghost use Rattle.dcc_c.specs.Pieces as spec;
@@ -10,7 +10,6 @@ ghost use Rattle.dcc_lex.specs.TokenViews as views;
 use crate::bytes::{is_digit, is_letter, is_word_byte, same_bytes};
 use crate::number::number_of;
 use crate::token::{Suffix, Token};
-use std::alloc::{AllocError, Global};
 use std::str;
 
 // Whether the first of the bytes is a digit.
@@ -68,23 +67,17 @@ fn word_in(bytes: &[u8]) -> Option<&str>
 }
 
 /// The token that a run of letters, digits and `_` is.
-///
-/// # Errors
-///
-/// An `AllocError` where memory runs out.
-pub fn token_of_word(alloc: Global, run: &[u8]) -> Result<Option<Token>, AllocError>
-    ensures { IfOk result (λ token. option_map views.token_of token ≡ spec.token_of_word run.now) }
+pub fn token_of_word(run: &[u8]) -> Option<Token<'_>>
+    ensures { option_map views.token_of result ≡ spec.token_of_word run.now }
 {
     if begins_number(run) {
-        return Ok(number_of(run));
+        return number_of(run);
     }
-    let Some(word) = word_in(run) else {
-        return Ok(None);
-    };
+    let word = word_in(run)?;
     if is_unused_keyword(word) {
-        return Ok(None);
+        return None;
     }
-    Ok(Some(Token::Word(String::from_str(alloc, word)?)))
+    Some(Token::Word(word))
 }
 
 /// The decimal number without suffix that a run of letters, digits and `_` is.

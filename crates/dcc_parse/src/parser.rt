@@ -23,7 +23,7 @@ use dcc_reader::{Offence, ParseKind, PartialText, Reader};
 use std::alloc::{AllocError, Global};
 
 // The pieces that have not been read, where reading stopped.
-fn unread<'a>(reader: &Reader<'a>) -> &'a [Piece]
+fn unread<'a>(reader: &Reader<'a>) -> &'a [Piece<'a>]
     ensures { pieces_of result.now ≡ offences.unread (reader_of reader.now) }
 {
     let all = reader.pieces;

@@ -177,7 +177,7 @@ fn read_text(r: &mut Reader<'_>, alloc: Global, calls: usize) -> Got<PartialText
 ///
 /// # Errors
 /// Where memory runs out.
-pub fn read<'a>(alloc: Global, pieces: &'a [Piece]) -> Result<Reading<'a>, AllocError>
+pub fn read<'a>(alloc: Global, pieces: &'a [Piece<'a>]) -> Result<Reading<'a>, AllocError>
     requires few { length pieces.now < 67108864 }
     ensures { IfOk result (λ r. reading.got (text_of r.text) (reader_of r.following)
         ≡ texts.reading_of (pieces_of pieces.now)) }

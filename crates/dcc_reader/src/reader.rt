@@ -24,7 +24,7 @@ use std::alloc::{AllocError, Global};
 #[derive(Clone, Copy)]
 pub struct Reader<'a> {
     /// The pieces of the text.
-    pub pieces: &'a [Piece],
+    pub pieces: &'a [Piece<'a>],
     /// How many of them have been read.
     pub at: usize,
     /// The offence at which reading stopped.
@@ -42,7 +42,7 @@ impl<'a> Reader<'a> {
     }
 
     /// The next token.
-    pub fn next(&self) -> Option<&'a Token>
+    pub fn next(&self) -> Option<&'a Token<'a>>
         ensures { option_map (λ t. token_of t.now) result ≡ reading.next_token (reader_of self.now) }
     {
         if self.stop.is_some() {
@@ -52,7 +52,7 @@ impl<'a> Reader<'a> {
     }
 
     // The token of the piece at a place.
-    fn token_at(&self, at: usize) -> Option<&'a Token>
+    fn token_at(&self, at: usize) -> Option<&'a Token<'a>>
         ensures { option_map (λ t. token_of t.now) result
             ≡ reading.first_token (map piece_of (drop at self.now.pieces.now)) }
     {
@@ -60,7 +60,7 @@ impl<'a> Reader<'a> {
     }
 
     /// The token after the next piece, where there is a next token.
-    pub fn second(&self) -> Option<&'a Token>
+    pub fn second(&self) -> Option<&'a Token<'a>>
         requires seen { is_some (reading.next_token (reader_of self.now)) ≡ true }
         ensures { option_map (λ t. token_of t.now) result ≡ reading.second_token (reader_of self.now) }
     {
@@ -312,7 +312,7 @@ impl<'a> Reader<'a> {
 }
 
 /// A reader at the first of the pieces.
-pub fn reader_at(pieces: &[Piece]) -> Reader<'_>
+pub fn reader_at<'a>(pieces: &'a [Piece<'a>]) -> Reader<'a>
     ensures { reader_of result ≡ texts.reader_of (pieces_of pieces.now) }
 {
     Reader {

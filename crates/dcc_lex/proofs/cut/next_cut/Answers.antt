@@ -2,7 +2,7 @@ use Rattle.std.proofs.Common.{◌≡◌, ◌+◌, true, false, get_or, ap, drop,
 use Rattle.std.proofs.Math.Seq.{take-length}
 use Rattle.dcc_c.specs.Lexing.{is_blank}
 use Rattle.dcc_lex.specs.CutViews.{spot_of, cut_of, has_number, Continues}
-use Rattle.dcc_lex.proofs.Cuts.{feed_goes, number_goes, blanks_go, token_goes, if_ok, if_none}
+use Rattle.dcc_lex.proofs.Cuts.{feed_goes, number_goes, blanks_go, token_goes, if_none}
 use Rattle.dcc_lex.proofs.cut.next_cut.Goals as goal
 
 pub returns-then-first-eq10-clause-continues : goal.returns-then-first-eq10-clause-continues
@@ -33,18 +33,18 @@ pub returns-clause-continues : goal.returns-clause-continues
 returns-clause-continues c =
     let other : is_blank (get_or c.args.bytes.now 0 0) ≡ false = sym c.is_blank.ensures ∙ c.if-is_blank.false in
     let none : has_number (spot_of c.args.spot) c.args.bytes.now ≡ false = if_none c.number_cut.result _ _ c.number_cut.ensures c.in_default.not-Some in
-    if_ok c.token_cut.result _ _ (λ cut same. (token_goes (spot_of c.args.spot) c.args.line c.args.bytes.now c.requires.some c.if-first-eq10.false none other (cut_of cut) same).0) c.token_cut.ensures
+    (token_goes (spot_of c.args.spot) c.args.line c.args.bytes.now c.requires.some c.if-first-eq10.false none other (cut_of c.token_cut.result) c.token_cut.ensures).0
 
 pub returns-clause-shorter : goal.returns-clause-shorter
 returns-clause-shorter c =
     let other : is_blank (get_or c.args.bytes.now 0 0) ≡ false = sym c.is_blank.ensures ∙ c.if-is_blank.false in
     let none : has_number (spot_of c.args.spot) c.args.bytes.now ≡ false = if_none c.number_cut.result _ _ c.number_cut.ensures c.in_default.not-Some in
-    if_ok c.token_cut.result _ _ (λ cut same. (token_goes (spot_of c.args.spot) c.args.line c.args.bytes.now c.requires.some c.if-first-eq10.false none other (cut_of cut) same).1) c.token_cut.ensures
+    (token_goes (spot_of c.args.spot) c.args.line c.args.bytes.now c.requires.some c.if-first-eq10.false none other (cut_of c.token_cut.result) c.token_cut.ensures).1
 
 pub returns-clause-line : goal.returns-clause-line
 returns-clause-line c =
     let other : is_blank (get_or c.args.bytes.now 0 0) ≡ false = sym c.is_blank.ensures ∙ c.if-is_blank.false in
     let none : has_number (spot_of c.args.spot) c.args.bytes.now ≡ false = if_none c.number_cut.result _ _ c.number_cut.ensures c.in_default.not-Some in
-    if_ok c.token_cut.result _ _ (λ cut same. let here : cut.line ≡ c.args.line =
-    (token_goes (spot_of c.args.spot) c.args.line c.args.bytes.now c.requires.some c.if-first-eq10.false none other (cut_of cut) same).2 in omega
-    arith) c.token_cut.ensures
+    let here : c.token_cut.result.line ≡ c.args.line =
+    (token_goes (spot_of c.args.spot) c.args.line c.args.bytes.now c.requires.some c.if-first-eq10.false none other (cut_of c.token_cut.result) c.token_cut.ensures).2 in omega
+    arith

@@ -21,6 +21,6 @@ returns c =
     let some : length run ≡ 0 → ⊥ = eqb-false (length run) 0 (sym c.is_empty.ensures ∙ c.if-is_empty.false) in
     let read : 0 < length (take_while is_word_byte c.args.bytes.now) = omega (arith, ap length c.split.ensures.front) in
     c.token_piece.ensures
-    ∙ ap (λ t. cut (piece line (allowed_at spot t) ∷ []) in_line line c.split.result.1.now) (c.in_ok-token.ensures ∙ ap token_of_word c.split.ensures.front)
+    ∙ ap (λ t. cut (piece line (allowed_at spot t) ∷ []) in_line line c.split.result.1.now) (c.token_of_word.ensures ∙ ap token_of_word c.split.ensures.front)
     ∙ ap (λ r. cut (piece line (allowed_at spot (token_of_word (take_while is_word_byte c.args.bytes.now))) ∷ []) in_line line r) c.split.ensures.back
     ∙ sym (token_run spot line c.args.bytes.now read)

@@ -10,15 +10,15 @@ use Rattle.dcc_lex.proofs.lexer.pieces.Goals as goal
 
 pub loop-bytes-preserved : goal.loop-bytes-preserved
 loop-bytes-preserved c =
-    let it = c.in_ok-piece.field-0 in
+    let it = c.next_cut-cut.result in
     let before = c.loop-bytes.pieces.items in
     let pushed : c.push_piece.new.pieces.items ≡ before ++ option_to_list it.piece = c.in_ok-push_piece.ensures in
-    let shorter : length it.rest.now < length c.loop-bytes.bytes.now = c.in_ok-piece.ensures.shorter in
-    let after : it.line ≤ c.loop-bytes.line + 1 = c.in_ok-piece.ensures.line in
+    let shorter : length it.rest.now < length c.loop-bytes.bytes.now = c.next_cut-cut.ensures.shorter in
+    let after : it.line ≤ c.loop-bytes.line + 1 = c.next_cut-cut.ensures.line in
     let most = option_short it.piece in
     let longer : length c.push_piece.new.pieces.items ≡ length before + length (option_to_list it.piece) = ap length pushed ∙ length-append before (option_to_list it.piece) in
     let so = continues_so_far (pieces_of before) (spot_of c.loop-bytes.spot) c.loop-bytes.line c.loop-bytes.bytes.now (cut_of it)
-    (remaining in_line 1 c.args.rest.now) c.in_ok-piece.ensures.continues c.loop-bytes.invariant.same in
+    (remaining in_line 1 c.args.rest.now) c.next_cut-cut.ensures.continues c.loop-bytes.invariant.same in
     record {
       same = ap (λ items. pieces_of items ++ remaining (spot_of it.spot) it.line it.rest.now) pushed
           ∙ ap (λ pieces. pieces ++ remaining (spot_of it.spot) it.line it.rest.now) (map-append piece_of before (option_to_list it.piece)) ∙ so;
