@@ -29,9 +29,8 @@ use crate::names::{
 };
 use crate::places::{Stack, tell_globals, tell_sizes};
 use crate::scene::{Scene, Scope, Signature, add_dos, add_functions, declare};
-use dcc_lex::Piece;
+use dcc_lex::{Piece, same_text};
 use dcc_reader::labels::push_labels;
-use dcc_reader::token::same_text;
 use dcc_reader::unread::{add_labels, heads_in};
 use dcc_reader::{First, NumberAt, Offence, ParseKind, PartialFunction, PartialText, WordAt};
 use dcc_types::Declared;

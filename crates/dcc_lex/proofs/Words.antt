@@ -1,14 +1,13 @@
 -- Words are ASCII, and a run that begins with no digit is no number.
-use Rattle.std.proofs.Common.{◌≡◌, ℕ, zero, suc, ◌<◌, Bool, true, false, ◌&&◌, ◌||◌, ◌==◌, cond, List, [], ◌∷◌, length, get_or, Option, Some, None, refl, sym, subst, arith, ⊎_elim}
+use Rattle.std.proofs.Common.{◌≡◌, ℕ, zero, suc, ◌<◌, ◌≤◌, Bool, true, false, ◌&&◌, ◌||◌, ◌==◌, cond, List, [], ◌∷◌, length, get_or, Option, Some, None, refl, sym, subst, arith, ⊎_elim, ◌∙◌}
 use Rattle.std.specs.Prelude.{nat_le, not}
 use Rattle.std.specs.List.{list_all}
 use Rattle.std.specs.Str.{IsUtf8, IsAscii}
-use Rattle.std.proofs.lemmas.Bool.{and_parts, or_cases, leb-true, eqb-true, cond-false, cond_both, or_from, false_from_ne_true}
+use Rattle.std.proofs.lemmas.Bool.{and_parts, and_from, or_cases, leb-true, le-leb, eqb-true, cond-false, cond_both, false_from_ne_true}
 use Rattle.std.proofs.lemmas.Str.{IsUtf8-from_ascii}
 use Rattle.dcc_c.specs.Token.{Token, WordToken, is_digit, is_letter, is_between, is_word_byte, is_word, same_bytes}
 use Rattle.dcc_c.specs.Grammar.{is_among}
 use Rattle.dcc_c.specs.Pieces.{is_plain, token_of_word, number_of, unused_keywords}
-use Rattle.dcc_c.proofs.NameLaws.{same_bytes-equal}
 
 between_small : (low high b : ℕ) → is_between low high b ≡ true → high < 128 → b < 128
 between_small low high b is small =
@@ -50,7 +49,28 @@ not_plain (b ∷ bytes) other =
     subst (λ token. is_plain token ≡ false) (sym (cond-false (is_digit b) (number_of (b ∷ bytes)) rest other))
     (cond_both word (Some (WordToken (b ∷ bytes))) None (λ token. is_plain token ≡ false) (λ is. refl) (λ no. refl))
 
--- a word is not among others where it is neither the first of them nor among the rest
-pub no_word : {word other : List ℕ} {rest : Bool} → (word ≡ other → ⊥) → rest ≡ false → (same_bytes word other || rest) ≡ false
-no_word {word} {other} {rest} differs none =
-    or_from (same_bytes word other) rest (false_from_ne_true (same_bytes word other) (λ same. differs (same_bytes-equal word other same))) none
+-- a run that begins with no digit is a word where it has at least one byte and at most 31
+pub run_is_word : (run : List ℕ) → list_all is_word_byte run ≡ true → is_digit (get_or run 0 0) ≡ false →
+    (length run ≡ 0 → ⊥) → length run ≤ 31 → is_word run ≡ true
+run_is_word [] are other some few = absurd (some refl)
+run_is_word (b ∷ bytes) are other some few =
+    let (first, rest) = and_parts (is_word_byte b) (list_all is_word_byte bytes) are in
+    let letter : is_letter b ≡ true =
+    ⊎_elim (λ letter. letter) (λ digit. let both : true ≡ false = sym digit ∙ other in absurd cc) (or_cases (is_letter b) (is_digit b) first) in
+    let short : length bytes ≤ 30 = omega arith in
+    and_from (is_letter b) (list_all is_word_byte bytes && nat_le (length bytes) 30) letter
+    (and_from (list_all is_word_byte bytes) (nat_le (length bytes) 30) rest (le-leb (length bytes) 30 short))
+
+too_long : (run : List ℕ) → is_word run ≡ true → 31 < length run → ⊥
+too_long [] is long = omega arith
+too_long (b ∷ bytes) is long =
+    let (first, others) = and_parts (is_letter b) (list_all is_word_byte bytes && nat_le (length bytes) 30) is in
+    let few = leb-true (length bytes) 30 (and_parts (list_all is_word_byte bytes) (nat_le (length bytes) 30) others).1 in
+    omega arith
+
+pub none_is_no_word : (run : List ℕ) → length run ≡ 0 → is_word run ≡ false
+none_is_no_word [] none = refl
+none_is_no_word (b ∷ bytes) none = absurd (omega arith)
+
+pub long_is_no_word : (run : List ℕ) → 31 < length run → is_word run ≡ false
+long_is_no_word run long = false_from_ne_true (is_word run) (λ is. too_long run is long)

@@ -107,12 +107,7 @@ fn head_cut<'a>(spot: Spot, line: u32, found: FoundHead<'a>) -> Cut<'a>
 }
 
 // A token that may stand at this spot, or bytes that are none.
-fn token_piece<'a>(
-    spot: Spot,
-    line: u32,
-    token: Option<Token<'a>>,
-    rest: &'a [u8],
-) -> Cut<'a>
+fn token_piece<'a>(spot: Spot, line: u32, token: Option<Token<'a>>, rest: &'a [u8]) -> Cut<'a>
     ensures { cuts.cut_of result
         ≡ spec.cut (spec.piece line (spec.allowed_at (cuts.spot_of spot) (option_map views.token_of token.entry)) ∷ [])
         spec.in_line line rest.now }

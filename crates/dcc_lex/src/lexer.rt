@@ -10,10 +10,7 @@ use crate::token::Piece;
 use std::alloc::{AllocError, Global};
 
 // Puts a piece, if there is one, after others.
-fn push_piece<'a>(
-    pieces: &mut Vec<Piece<'a>>,
-    piece: Option<Piece<'a>>,
-) -> Result<(), AllocError>
+fn push_piece<'a>(pieces: &mut Vec<Piece<'a>>, piece: Option<Piece<'a>>) -> Result<(), AllocError>
     ensures { OnOk result (pieces.new.items ≡ pieces.old.items ++ option_to_list piece.entry) }
 {
     if let Some(piece) = piece {

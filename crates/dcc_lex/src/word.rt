@@ -1,14 +1,15 @@
 //! Words, and the tokens that runs of letters, digits and `_` are.
 
-ghost use Rattle.std.specs.Prelude.{◌≡◌, true, false, MatchOption, Some, option_map, get_or};
+ghost use Rattle.std.specs.Prelude.{◌≡◌, ◌==◌, true, false, length, map, filter, MatchOption, Some, option_map, get_or};
 ghost use Rattle.std.specs.List.{list_all};
 ghost use Rattle.dcc_c.specs.Token as tokens;
 ghost use Rattle.dcc_c.specs.Pieces as spec;
 ghost use Rattle.dcc_c.specs.Grammar as grammar;
 ghost use Rattle.dcc_lex.specs.TokenViews as views;
 
-use crate::bytes::{is_digit, is_letter, is_word_byte, same_bytes};
+use crate::bytes::{is_digit, is_letter, is_word_byte};
 use crate::number::number_of;
+use crate::text::is_among;
 use crate::token::{Suffix, Token};
 use std::str;
 
@@ -41,33 +42,52 @@ pub fn is_word(bytes: &[u8]) -> bool
     }
 }
 
+// The keywords of ISO C90 that have so many bytes and that the grammar does not have.
+fn unused_of(bytes: usize) -> &'static [&'static str]
+    ensures { map (λ word. word.now) result.now ≡ filter (λ word. length word == bytes) spec.unused_keywords }
+{
+    if bytes == 4 {
+        return &["enum"];
+    }
+    if bytes == 5 {
+        return &["const", "float", "short", "union"];
+    }
+    if bytes == 6 {
+        return &["double", "extern", "sizeof", "static", "struct"];
+    }
+    if bytes == 7 {
+        return &["typedef"];
+    }
+    if bytes == 8 {
+        return &["volatile"];
+    }
+    &[]
+}
+
 // Whether this is a keyword of ISO C90 that the grammar does not have.
 fn is_unused_keyword(word: &str) -> bool
     ensures { result ≡ grammar.is_among spec.unused_keywords word.now }
 {
-    match word {
-        "const" | "double" | "enum" | "extern" | "float" | "short" => true,
-        "sizeof" | "static" | "struct" | "typedef" | "union" | "volatile" => true,
-        _ => false,
-    }
+    is_among(unused_of(word.len()), word)
 }
 
-// The text of these bytes, where they are a word.
-fn word_in(bytes: &[u8]) -> Option<&str>
-    ensures { MatchOption result (tokens.is_word bytes.now ≡ false)
-        (λ word. (tokens.is_word bytes.now ≡ true) × (word.now ≡ bytes.now)) }
+// The text of a run of letters, digits and `_` that begins with no digit, where it is a word.
+fn word_in(run: &[u8]) -> Option<&str>
+    requires run { list_all tokens.is_word_byte run.now ≡ true }
+    requires other { tokens.is_digit (get_or run.now 0 0) ≡ false }
+    ensures { MatchOption result (tokens.is_word run.now ≡ false)
+        (λ word. (tokens.is_word run.now ≡ true) × (word.now ≡ run.now)) }
 {
-    if !is_word(bytes) {
+    if run.is_empty() || run.len() > 31 {
         return None;
     }
-    match str::from_utf8(bytes) {
-        Ok(word) => Some(word),
-        Err(_) => unreachable!(),
-    }
+    // Letters, digits and `_` are ASCII.
+    Some(unsafe { str::from_utf8_unchecked(run) })
 }
 
 /// The token that a run of letters, digits and `_` is.
 pub fn token_of_word(run: &[u8]) -> Option<Token<'_>>
+    requires { list_all tokens.is_word_byte run.now ≡ true }
     ensures { option_map views.token_of result ≡ spec.token_of_word run.now }
 {
     if begins_number(run) {

@@ -1,40 +1,13 @@
--- A word is a keyword where it is among those with as many bytes.
-use Rattle.std.proofs.Common.{◌≡◌, ℕ, ◌≤◌, true, false, ◌==◌, ◌&&◌, ◌||◌, nat_le, List, [], ◌∷◌, length, filter, refl, sym, ap, ◌∙◌, arith, ⊎_elim}
-use Rattle.std.specs.List.{list_all}
-use Rattle.std.proofs.lemmas.Bool.{and_parts, cases_Bool, cond-true, cond-false, eqb-false, ne_eqb, leb-true, false_from_ne_true}
+-- Keywords have two to eight bytes, and no word that is none is one of them.
+use Rattle.std.proofs.Common.{◌≡◌, ℕ, true, false, ◌==◌, [], length, filter, refl, sym, ap, ◌∙◌, arith}
 use Rattle.dcc_c.specs.Grammar.{keywords, is_among}
-use Rattle.dcc_c.specs.Token.{same_bytes}
 use Rattle.dcc_c.specs.Tree.{Word}
-use Rattle.dcc_c.proofs.NameLaws.{same_bytes-equal}
+use Rattle.dcc_lex.proofs.WordLists.{none-of-length}
 
--- words of other lengths are others
-other-length : (word other : Word) → (length other == length word) ≡ false → same_bytes word other ≡ false
-other-length word other differs =
-    false_from_ne_true (same_bytes word other)
-    (λ same. eqb-false (length other) (length word) differs (ap length (sym (same_bytes-equal word other same))))
-
-pub among-length : (words : List Word) (word : Word) → is_among (filter (λ w. length w == length word) words) word ≡ is_among words word
-among-length [] word = refl
-among-length (w ∷ ws) word =
-    let same = length w == length word in
-    let kept = filter (λ v. length v == length word) ws in
-    ⊎_elim
-    (λ yes. ap (λ l. is_among l word) (cond-true same (w ∷ kept) kept yes) ∙ ap (λ b. same_bytes word w || b) (among-length ws word))
-    (λ no. ap (λ l. is_among l word) (cond-false same (w ∷ kept) kept no) ∙ among-length ws word
-    ∙ ap (λ b. b || is_among ws word) (sym (other-length word w no)))
-    (cases_Bool same)
-
--- no word has a length that none of them has
-none-of-length : (n : ℕ) → ((k : ℕ) → 2 ≤ k → k ≤ 8 → k ≡ n → ⊥) → (words : List Word) →
-    list_all (λ w. nat_le 2 (length w) && nat_le (length w) 8) words ≡ true → filter (λ w. length w == n) words ≡ []
-none-of-length n other [] are = refl
-none-of-length n other (w ∷ ws) are =
-    let both = and_parts (nat_le 2 (length w) && nat_le (length w) 8) (list_all (λ v. nat_le 2 (length v) && nat_le (length v) 8) ws) are in
-    let (low, high) = and_parts (nat_le 2 (length w)) (nat_le (length w) 8) both.0 in
-    let differs : (length w == n) ≡ false = ne_eqb (length w) n (other (length w) (leb-true 2 (length w) low) (leb-true (length w) 8 high)) in
-    cond-false (length w == n) (w ∷ filter (λ v. length v == n) ws) (filter (λ v. length v == n) ws) differs ∙ none-of-length n other ws both.1
-
--- keywords have two to eight bytes
 pub no-keyword : (n : ℕ) → (n ≡ 2 → ⊥) → (n ≡ 3 → ⊥) → (n ≡ 4 → ⊥) → (n ≡ 5 → ⊥) → (n ≡ 6 → ⊥) → (n ≡ 7 → ⊥) → (n ≡ 8 → ⊥) →
     filter (λ w. length w == n) keywords ≡ []
-no-keyword n not2 not3 not4 not5 not6 not7 not8 = none-of-length n (λ k low high is. omega arith) keywords refl
+no-keyword n not2 not3 not4 not5 not6 not7 not8 = none-of-length 2 8 n (λ k low high is. omega arith) keywords refl
+
+-- a word that is no keyword is another than each keyword
+pub other-than : {word : Word} (keyword : Word) → is_among keywords word ≡ false → is_among keywords keyword ≡ true → word ≡ keyword → ⊥
+other-than {word} keyword none some is = let both : true ≡ false = sym some ∙ ap (is_among keywords) (sym is) ∙ none in absurd cc

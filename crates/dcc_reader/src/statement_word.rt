@@ -5,7 +5,7 @@ ghost use Rattle.std.specs.Option.{option_map};
 ghost use Rattle.dcc_lex.specs.TokenViews.{token_of};
 ghost use Rattle.dcc_reader.specs.Words as words;
 
-use crate::token::word_of;
+use crate::token::{is_keyword, word_of};
 use dcc_lex::Token;
 
 /// A word that a statement begins with.
@@ -36,7 +36,11 @@ impl StatementWord {
     pub fn of(token: Option<&Token>) -> Option<StatementWord>
         ensures { result ≡ words.statement_word (option_map (λ t. token_of t.now) token.entry) }
     {
-        match word_of(token)? {
+        let word = word_of(token)?;
+        if !is_keyword(word) {
+            return None;
+        }
+        match word {
             "if" => Some(StatementWord::If),
             "while" => Some(StatementWord::While),
             "do" => Some(StatementWord::Do),

@@ -9,14 +9,7 @@ ghost use Rattle.dcc_c.specs.ReadingStatements as statements;
 ghost use Rattle.dcc_lex.specs.TokenViews.{mark_of, head_of, token_of};
 ghost use Rattle.dcc_reader.specs.Words as words;
 
-use dcc_lex::{Head, Mark, Suffix, Token, is_word};
-
-/// Whether two texts are the same.
-pub fn same_text(left: &str, right: &str) -> bool
-    ensures { result ≡ tokens.same_bytes left.now right.now }
-{
-    left == right
-}
+use dcc_lex::{Head, Mark, Suffix, Token, is_among, is_word, same_text};
 
 // Whether two marks are the same.
 fn same_mark(left: Mark, right: Mark) -> bool
@@ -64,16 +57,11 @@ fn keywords_of(bytes: usize) -> &'static [&'static str]
     &[]
 }
 
-// Whether the word is a keyword of ISO C90.
-fn is_keyword(word: &str) -> bool
+/// Whether the word is a keyword of ISO C90.
+pub fn is_keyword(word: &str) -> bool
     ensures { result ≡ grammar.is_among grammar.keywords word.now }
 {
-    for keyword in keywords_of(word.len()) {
-        if same_text(word, keyword) {
-            return true;
-        }
-    }
-    false
+    is_among(keywords_of(word.len()), word)
 }
 
 // Whether the word is a name: it is no keyword.

@@ -1,19 +1,10 @@
-use Rattle.std.proofs.Common.{refl, sym}
-use Rattle.dcc_lex.proofs.Words.{no_word}
+use Rattle.std.proofs.Common.{ap, ◌∙◌}
+use Rattle.dcc_c.specs.Grammar.{is_among}
+use Rattle.dcc_c.specs.Pieces.{unused_keywords}
+use Rattle.dcc_lex.proofs.WordLists.{among-length}
 use Rattle.dcc_lex.proofs.word.is_unused_keyword.Goals as goal
 
-pub returns-in_default : goal.returns-in_default
-returns-in_default c =
-    sym
-    (no_word c.in_default.not-const
-    (no_word c.in_default.not-double
-    (no_word c.in_default.not-enum
-    (no_word c.in_default.not-extern
-    (no_word c.in_default.not-float
-    (no_word c.in_default.not-short
-    (no_word c.in_default.not-sizeof
-    (no_word c.in_default.not-static
-    (no_word c.in_default.not-struct
-    (no_word c.in_default.not-typedef
-    (no_word c.in_default.not-union
-    (no_word c.in_default.not-volatile refl))))))))))))
+pub returns : goal.returns
+returns c =
+    let word = c.args.word.now in
+    c.is_among.ensures ∙ ap (λ l. is_among l word) c.unused_of.ensures ∙ among-length unused_keywords word
