@@ -191,7 +191,7 @@ fn label_words<'a>(
     alloc: Global,
     labels: &[&'a WordAt],
     is_last: bool,
-    rest: &'a [Piece<'a>],
+    rest: &'a [Piece<'_>],
 ) -> Result<BTreeSet<&'a str>, AllocError>
     requires few { length rest.now ≤ 67108864 }
     ensures { IfOk result (λ words. (word : Word) → holds words word
@@ -252,7 +252,7 @@ fn check_function<'a>(
     whole: &Whole<'a>,
     function: &'a PartialFunction,
     is_last: bool,
-    rest: &'a [Piece<'a>],
+    rest: &'a [Piece<'_>],
     first: &mut First,
 ) -> Result<(), AllocError>
     requires few { length rest.now ≤ 67108864 }
@@ -275,7 +275,7 @@ fn check_functions<'a>(
     alloc: Global,
     whole: &Whole<'a>,
     functions: &'a [PartialFunction],
-    rest: &'a [Piece<'a>],
+    rest: &'a [Piece<'_>],
     first: &mut First,
 ) -> Result<(), AllocError>
     requires few { length rest.now ≤ 67108864 }
@@ -294,11 +294,11 @@ fn check_functions<'a>(
 /// # Errors
 ///
 /// Want of memory.
-pub fn first_offence(
+pub fn first_offence<'a>(
     alloc: Global,
-    text: &PartialText,
+    text: &'a PartialText,
     stop: Option<Offence>,
-    rest: &[Piece],
+    rest: &'a [Piece<'_>],
 ) -> Result<Option<Offence>, AllocError>
     requires few { length rest.now ≤ 67108864 }
     ensures { IfOk result
@@ -318,6 +318,7 @@ pub fn first_offence(
     };
     tell_globals(alloc, stack, &text.globals, &mut first)?;
     tell_start(&text.functions, &mut first);
-    check_functions(alloc, &whole, &text.functions, rest, &mut first)?;
+    let left = &*rest;
+    check_functions(alloc, &whole, &text.functions, left, &mut first)?;
     Ok(first.offence)
 }

@@ -82,7 +82,7 @@ pub fn is_the_mark(token: Option<&Token>, mark: Mark) -> bool
 }
 
 /// The word that the token is: a name or a keyword.
-pub fn word_of<'a>(token: Option<&'a Token<'a>>) -> Option<&'a str>
+pub fn word_of<'a>(token: Option<&'a Token<'_>>) -> Option<&'a str>
     ensures { option_map (λ word. word.now) result ≡ words.word_of (option_map (λ t. token_of t.now) token.entry) }
 {
     match token {
@@ -112,7 +112,7 @@ pub fn is_the_head(token: Option<&Token>, head: Head) -> bool
 }
 
 /// The name that the token is: a word that is no keyword.
-pub fn name_of<'a>(token: Option<&'a Token<'a>>) -> Option<&'a str>
+pub fn name_of<'a>(token: Option<&'a Token<'_>>) -> Option<&'a str>
     ensures { option_map (λ word. word.now) result ≡ reading.name_of (option_map (λ t. token_of t.now) token.entry) }
 {
     name_if(word_of(token)?)

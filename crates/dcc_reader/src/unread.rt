@@ -20,14 +20,14 @@ use std::alloc::{AllocError, Global};
 use std::collections::BTreeSet;
 
 // The first token of the pieces.
-fn first_token<'a>(pieces: &'a [Piece<'a>]) -> Option<&'a Token<'a>>
+fn first_token<'a, 'b>(pieces: &'a [Piece<'b>]) -> Option<&'a Token<'b>>
     ensures { option_map (λ t. token_of t.now) result ≡ reading.first_token (pieces_of pieces.now) }
 {
     pieces.first()?.token.as_ref()
 }
 
 // The second token of the pieces.
-fn second_token<'a>(pieces: &'a [Piece<'a>]) -> Option<&'a Token<'a>>
+fn second_token<'a, 'b>(pieces: &'a [Piece<'b>]) -> Option<&'a Token<'b>>
     ensures { option_map (λ t. token_of t.now) result ≡ reading.first_token (drop 1 (pieces_of pieces.now)) }
 {
     pieces.get(1)?.token.as_ref()
@@ -90,7 +90,7 @@ pub fn heads_in(alloc: Global, rest: &[Piece]) -> Result<Vec<PartialFunction>, A
 }
 
 // Adds the name that the pieces begin with to the set, if a colon follows.
-fn add_label<'a>(pieces: &'a [Piece<'a>], words: &mut BTreeSet<&'a str>) -> Result<(), AllocError>
+fn add_label<'a>(pieces: &'a [Piece<'_>], words: &mut BTreeSet<&'a str>) -> Result<(), AllocError>
     ensures { OnOk result
         ((word : Word) → holds words.new word
         ≡ grammar.is_among (label_at (reading.first_token (pieces_of pieces.now))
@@ -111,7 +111,7 @@ fn add_label<'a>(pieces: &'a [Piece<'a>], words: &mut BTreeSet<&'a str>) -> Resu
 /// Where memory runs out.
 pub fn add_labels<'a>(
     alloc: Global,
-    rest: &'a [Piece<'a>],
+    rest: &'a [Piece<'_>],
     words: &mut BTreeSet<&'a str>,
 ) -> Result<(), AllocError>
     requires few { length rest.now ≤ 67108864 }
