@@ -110,7 +110,14 @@ impl<'a> Reader<'a> {
         ensures { result ≡ is_some (reading.name_of (reading.next_token (reader_of self.now)))
             && reading.is_the_mark (mark_of mark) (reading.second_token (reader_of self.now)) }
     {
-        self.name().is_some() && is_the_mark(self.second(), mark)
+        // The mark is looked for first, which costs less than the name.
+        if self.next().is_none() {
+            return false;
+        }
+        if !is_the_mark(self.second(), mark) {
+            return false;
+        }
+        self.name().is_some()
     }
 
     /// Whether a type begins with the next token.
