@@ -14,7 +14,7 @@ use Rattle.dcc_prog.proofs.StackMarks.{in_rest, at_head}
 use Rattle.dcc_stack.specs.Accepted.{AcceptedProgramsAreInForm}
 use Rattle.dcc_stack.specs.Standing.{Activation}
 use Rattle.dcc_stack.specs.Apart.{IsApart}
-use Rattle.dcc_stack.specs.Slots.{Typed, IsChangeable, AreNested, activations_of, IsExposedIn, Puts, in_memory, in_slot, PutsAll, done, next, MarksAt}
+use Rattle.dcc_stack.specs.Slots.{Carries, Typed, IsChangeable, AreNested, activations_of, IsExposedIn, Puts, in_memory, in_slot, PutsAll, done, next, MarksAt}
 use Rattle.dcc_stack.specs.SlotLaws.{AreCarried, stores_at, marks_at, IsWritable}
 use Rattle.dcc_stack.proofs.SlotFrames.{base-end, parts-low}
 use Rattle.dcc_stack.proofs.SlotHeld.{Sides, value_at, Held, Stays, holds-value, newest-puts}
@@ -140,35 +140,41 @@ module _ (cpu : Cpu) (image : Image) (program : Program) (form : AcceptedProgram
 
     -- Memory.
 
-    pub store-carried : (at value : ℕ) (marks : List Bool) → at < 65536 → value < 256
-        → (layout.lo ≤ at → at < layout.hi → IsExposedIn program top typed at)
-        → MarksAt at written marks
-        → AreIn (slice_set memory (address at) value) (slice_set other at value) marks top typed
-    store-carried at value marks small byte exposed newly = record {
+    -- where a byte of the memory takes a value, all is carried when what the frames hold is told of it
+    with-byte : (at value : ℕ) (after : List ℕ) (marks : List Bool)
+        → Carries program image (slice_set memory (address at) value) after marks top typed
+        → AreIn (slice_set memory (address at) value) after marks top typed
+    with-byte at value after marks carries = record {
       is_program = are.is_program;
       nested = are.nested;
       low = are.low;
       size = length-set memory (address at) value ∙ are.size;
-      carries = record {
-        size = length-set other at value ∙ are.carries.size;
-        bytes = set-bytes other at value byte are.carries.bytes;
-        outside = λ offset less outside. elim (cases_eq offset at) [
-          | inl is ↦
-              subst (λ n. slice_index second n ≡ slice_index (slice_set memory (address at) value) (address n)) (sym is)
-              same
-          | inr apart ↦ outside-but at value marks newly second kept offset apart less outside
-        ];
-        held = elim (cases_lt at layout.lo) [
-          | inl before ↦ beyond (inl before)
-          | inr low ↦ elim (cases_lt at layout.hi) [
-            | inl high ↦
-                exposed-changes cpu image program form are.is_program sides new at stays same (λ n. ⊥) top typed
-                are.nested (exposed low high) are.carries.held
-            | inr past ↦ beyond (inr past)
-          ]
-        ];
-      };
+      carries = carries;
     }
+
+    pub store-carried : (at value : ℕ) (marks : List Bool) → at < 65536 → value < 256
+        → (layout.lo ≤ at → at < layout.hi → IsExposedIn program top typed at)
+        → MarksAt at written marks
+        → AreIn (slice_set memory (address at) value) (slice_set other at value) marks top typed
+    store-carried at value marks small byte exposed newly = with-byte at value second marks (record {
+      size = length-set other at value ∙ are.carries.size;
+      bytes = set-bytes other at value byte are.carries.bytes;
+      outside = λ offset less outside. elim (cases_eq offset at) [
+        | inl is ↦
+            subst (λ n. slice_index second n ≡ slice_index (slice_set memory (address at) value) (address n)) (sym is)
+            same
+        | inr apart ↦ outside-but at value marks newly second kept offset apart less outside
+      ];
+      held = elim (cases_lt at layout.lo) [
+        | inl before ↦ beyond (inl before)
+        | inr low ↦ elim (cases_lt at layout.hi) [
+          | inl high ↦
+              exposed-changes cpu image program form are.is_program sides new at stays same (λ n. ⊥) top typed
+              are.nested (exposed low high) are.carries.held
+          | inr past ↦ beyond (inr past)
+        ]
+      ];
+    })
       where
         second : List ℕ
         second = slice_set other at value
@@ -237,24 +243,18 @@ module _ (cpu : Cpu) (image : Image) (program : Program) (form : AcceptedProgram
     pub control-carried : (at value : ℕ) (marks : List Bool) → top ≤ at → at < layout.hi
         → ¬ IsApart image program.layout at t.activation → MarksAt at written marks
         → AreIn (slice_set memory (address at) value) other marks top (t ∷ callers)
-    control-carried at value marks low high control newly = record {
-      is_program = are.is_program;
-      nested = are.nested;
-      low = are.low;
-      size = length-set memory (address at) value ∙ are.size;
-      carries = record {
-        size = are.carries.size;
-        bytes = are.carries.bytes;
-        outside =
-            outside-all are at value marks newly other (λ offset apart. refl)
-            (let above = are.low in omega (arith, above, low)) high;
-        held =
-            newest-puts program image (sides are) (changed are at value marks newly other (λ offset apart. refl)) at
-            (stays-but are at value marks newly other (λ offset apart. refl)) t t callers (λ n. ⊥) top refl
-            (λ offset apart. refl) are.nested inside (λ from. absurd (control (inr from)))
-            (λ apart. absurd (control apart)) are.carries.held;
-      };
-    }
+    control-carried at value marks low high control newly = with-byte are at value other marks (record {
+      size = are.carries.size;
+      bytes = are.carries.bytes;
+      outside =
+          outside-all are at value marks newly other (λ offset apart. refl)
+          (let above = are.low in omega (arith, above, low)) high;
+      held =
+          newest-puts program image (sides are) (changed are at value marks newly other (λ offset apart. refl)) at
+          (stays-but are at value marks newly other (λ offset apart. refl)) t t callers (λ n. ⊥) top refl
+          (λ offset apart. refl) are.nested inside (λ from. absurd (control (inr from)))
+          (λ apart. absurd (control apart)) are.carries.held;
+    })
       where
         inside : at < end_of program t.activation.frame
         inside = elim (cases_lt at t.activation.frame.base) [
