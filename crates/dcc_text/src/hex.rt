@@ -10,5 +10,7 @@ use std::alloc::{AllocError, Global};
 pub fn name_at(alloc: Global, prefix: &str, at: u16) -> Result<String, AllocError>
     ensures { IfOk result (λ name. string_bytes name ≡ spec.name_at prefix.now at) }
 {
-    format!(in alloc; "{prefix}{at:04x}")
+    let high = at / 256;
+    let low = at % 256;
+    format!(in alloc; "{prefix}{high:02x}{low:02x}")
 }
