@@ -48,11 +48,11 @@ address-told scene a none =
     ]) none
 
 -- the place of an assignment that is no name
-pub place-other : (scene : Scene) (e : Read) → ((at : ℕ) (word : String Global) (called : Bool) → e ≡ Name at word called → ⊥) →
+pub place-other : (scene : Scene) (e : Read) → ((called : Bool) (at : ℕ) (word : String Global) → e ≡ Name called at word → ⊥) →
     (target scene (expr_of e) ≡ operand scene (expr_of e)) × (place_offences scene (expr_of e) ≡ expr_offences scene (expr_of e))
 place-other scene Missing other = (refl, refl)
 place-other scene (Number at n base) other = (refl, refl)
-place-other scene (Name at word called) other = absurd (other at word called refl)
+place-other scene (Name called at word) other = absurd (other called at word refl)
 place-other scene (Unary' at operator _ a) other = (refl, refl)
 place-other scene (Binary' operator _ a _ b) other = (refl, refl)
 place-other scene (Conditional' _ a _ b _ c) other = (refl, refl)

@@ -77,7 +77,7 @@ fn operand_of_address(scene: &Scene<'_, '_>, a: &PartialExpr) -> Option<Declared
         result ≡ option_map unnamed (operand_of_address s.names (expr_of a.now)) }
 {
     match a {
-        PartialExpr::Name(_, word, _) => scene.variable(word.as_str()),
+        PartialExpr::Name(_, _, word) => scene.variable(word.as_str()),
         _ => None,
     }
 }
@@ -87,7 +87,7 @@ fn place_of_name(a: &PartialExpr) -> usize
     ensures { is_name_here (expr_of a.now) ≡ true → result ≡ partial.place_of (expr_of a.now) }
 {
     match a {
-        PartialExpr::Name(at, _, _) => *at,
+        PartialExpr::Name(_, at, _) => *at,
         _ => 0,
     }
 }
@@ -105,7 +105,7 @@ pub(crate) fn check_expr(scene: &Scene<'_, '_>, e: &PartialExpr, first: &mut Fir
             ty: Some(CType::plain(*base)),
             at: *at,
         },
-        PartialExpr::Name(at, word, called) => {
+        PartialExpr::Name(called, at, word) => {
             check_name(scene, *at, word.as_str(), *called, first)
         }
         PartialExpr::Unary(at, operator, a) => check_operator(scene, *at, *operator, a, first),
@@ -201,7 +201,7 @@ pub(crate) fn check_place(scene: &Scene<'_, '_>, e: &PartialExpr, first: &mut Fi
         Tells first.old first.new (place_offences s (expr_of e.now)) }
 {
     match e {
-        PartialExpr::Name(at, word, called) => match scene.variable(word.as_str()) {
+        PartialExpr::Name(called, at, word) => match scene.variable(word.as_str()) {
             Some(declared) => {
                 first.tell_if(declared.is_array, ParseKind::Type_, *at);
                 Operand {

@@ -18,7 +18,7 @@ fn strip_expr(alloc: Global, e: PartialExpr) -> Result<CExpr, AllocError>
     match e {
         PartialExpr::Missing => Ok(CExpr::Num(0, Base::Int)),
         PartialExpr::Number(_, n, base) => Ok(CExpr::Num(n, base)),
-        PartialExpr::Name(_, word, _) => Ok(CExpr::Name(word)),
+        PartialExpr::Name(_, _, word) => Ok(CExpr::Name(word)),
         PartialExpr::Unary(_, operator, a) => {
             let a = Box::new(alloc, strip_expr(alloc, Box::into_inner(a))?)?;
             Ok(CExpr::Un(operator, a))

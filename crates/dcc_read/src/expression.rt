@@ -197,7 +197,7 @@ pub fn name_here(r: &mut Reader<'_>, alloc: Global, word: &str) -> Got<PartialEx
     let at = r.at;
     r.skip();
     let word = String::from_str(alloc, word)?;
-    Ok(PartialExpr::Name(at, word, r.sees_mark(Mark::OpenParenthesis)))
+    Ok(PartialExpr::Name(r.sees_mark(Mark::OpenParenthesis), at, word))
 }
 
 // Reads a number or a name.

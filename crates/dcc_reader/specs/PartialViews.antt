@@ -27,7 +27,7 @@ word_of w = record { word = string_bytes w.word; at = w.at }
 abbrev pub expr_of : PartialExpr → partial.PartialExpr
 expr_of Missing = partial.Missing
 expr_of (Number at n base) = partial.NumberHere at n base
-expr_of (Name at word called) = partial.NameHere at (string_bytes word) called
+expr_of (Name called at word) = partial.NameHere at (string_bytes word) called
 expr_of (Unary' at operator _ a) = partial.UnaryHere at operator (expr_of a)
 expr_of (Binary' operator _ a _ b) = partial.BinaryOf operator (expr_of a) (expr_of b)
 expr_of (Conditional' _ a _ b _ c) = partial.ConditionalOf (expr_of a) (expr_of b) (expr_of c)

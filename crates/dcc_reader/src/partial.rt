@@ -37,8 +37,8 @@ pub enum PartialExpr {
     Missing,
     /// Its place, a number and the number's type.
     Number(usize, u32, Base),
-    /// Its place, a name, and whether an opening parenthesis follows.
-    Name(usize, String, bool),
+    /// Whether an opening parenthesis follows, its place, and a name. The truth value takes no room where it is first.
+    Name(bool, usize, String),
     /// Its place, a unary operator and the operand.
     Unary(usize, CUn, Box<PartialExpr>),
     /// A binary operator and its operands.
