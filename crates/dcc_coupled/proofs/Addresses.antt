@@ -70,19 +70,6 @@ based : (e : Setting) (a : Activation) (callers : List Activation) (written : Li
     → value_in t (frame_address k) ≡ (a.frame.base % 65536 + wrapped_of word_width (k -ℤ pos 4)) % 65536
 based e a callers written s t k c = ap (λ n. (n + wrapped_of word_width (k -ℤ pos 4)) % 65536) c.newest.base
 
-sp-told : (e : Setting) (a : Activation) (callers : List Activation) (written : List Bool) (s : Machine) (t : State)
-    (k : ℤ) (stands : StandsIn e.image e.program.layout s.memory a (top_in e.program.layout s) (word_in s Bp))
-    → Coupled e a callers written s t
-    → (value_in t (frame_address k)
-    + wrapped_of word_width (((pos 2 -ℤ pos stands.height) -ℤ pos e.program.layout.delta) -ℤ k)) % 65536
-    ≡ word_in s Sp
-sp-told e a callers written s t k stands c =
-    let z = ((pos 2 -ℤ pos stands.height) -ℤ pos e.program.layout.delta) -ℤ k in
-    let on_top = stands.top_is in
-    ap (λ n. (n + wrapped_of word_width z) % 65536) (based e a callers written s t k c)
-    ∙ two-sum a.frame.base (word_in s Sp) (k -ℤ pos 4) z (omega (arith, ints, on_top))
-    (c.segments.state.registers.words Sp)
-
 -- What exposes bytes of the frame is no `mov bp,sp`.
 
 record IsOther (image : Image) (layout : Layout) (at : ℕ) : Type 0 where
@@ -174,7 +161,12 @@ module _ (e : Setting) (s : Machine) (stack : Stack) (instr : Instr) (ip : ℕ)
 
 pub addresses-told : AddressesAreTold
 addresses-told = record {
-  sp = sp-told;
+  sp = λ e a callers written s t k stands c.
+      let z = ((pos 2 -ℤ pos stands.height) -ℤ pos e.program.layout.delta) -ℤ k in
+      let on_top = stands.top_is in
+      ap (λ n. (n + wrapped_of word_width z) % 65536) (based e a callers written s t k c)
+      ∙ two-sum a.frame.base (word_in s Sp) (k -ℤ pos 4) z (omega (arith, ints, on_top))
+      (c.segments.state.registers.words Sp);
   bp = λ e s stack instr ip start k flags t is starts c. bp-told e s stack instr ip is flags t c start k starts;
   offset = λ e s stack instr ip ea at is plain starts value flags t c.
       value t ∙ sum-told e s stack instr ip is flags t c ea plain starts;

@@ -18,7 +18,7 @@ use Rattle.dcc_prog.specs.Access.{bytes_in}
 use Rattle.dcc_prog.specs.Trail.{StandsAt, next_of, known_ah, targets_of, op_successors, instr_successors, successors, IsTrail, IsNode, IsEntry}
 use Rattle.dcc_prog.specs.FrameForm.{is_framed}
 use Rattle.dcc_prog.specs.Height.{GivesHeight, entered, gone_on, HasHeight}
-use Rattle.dcc_prog.specs.Frame.{Span, span_of, offset_in_frame, IsDirectAccess, direct, IsMovedWord, pushed, popped, IsPassedWord, passed, IsUsed, IsPiece, used, argument}
+use Rattle.dcc_prog.specs.Frame.{Span, span_of, offset_in_frame, IsDirectAccess, direct, IsMovedWord, below_top, top_of, pushed, popped, IsPassedWord, passed, IsUsed, IsPiece, used, argument}
 use Rattle.dcc_prog.proofs.FrameLaws.{arguments-once}
 use Rattle.dcc_stack.specs.Accepted.{IsAt, IsProgramOfFile, changes_frame, IsInFrame, in_arguments, in_locals, IsFrameFor}
 use Rattle.dcc_stack.proofs.FormLaws.{in-form}
@@ -155,25 +155,25 @@ module _ (cpu : Cpu) (image : Image) (program : Program) (p : IsProgramOfFile cp
       pub high : piece.end ≤ℤ pos (4 + 2 * frame.args)
       pub apart : is_framed image layout entry ≡ true → (piece.end ≤ℤ pos 0) ⊎ (pos 4 ≤ℤ piece.first)
 
+    -- a piece that ends below the saved BP, where the procedure is framed
+    lies-below : (piece : Span) → piece.first <ℤ piece.end → neg_ℤ (pos 32768) ≤ℤ piece.first
+        → piece.end ≤ℤ pos (4 + 2 * frame.args)
+        → (is_framed image layout entry ≡ true → piece.end ≤ℤ pos 0)
+        → LiesInFrame piece
+    lies-below piece some low high inner =
+        record { some = some; low = low; high = high; apart = λ framed. inl (inner framed) }
+
     moved-lies : {at : ℕ} {span : Span} → IsMovedWord image layout entry at span → LiesInFrame span
     moved-lies {at = at} (pushed {a} {height} stands unsaved has) =
-        let h = number-of at height has in record {
-          some = omega (arith, ints);
-          low = omega (arith, ints, h.same, h.bound);
-          high = omega (arith, ints, h.same);
-          apart = λ framed.
-              let deep = deep-push at a height stands (not-saved unsaved framed) framed h in
-              inl (omega (arith, ints, deep));
-        }
+        let h = number-of at height has in
+        lies-below (below_top height) (omega (arith, ints)) (omega (arith, ints, h.same, h.bound))
+        (omega (arith, ints, h.same))
+        (λ framed. let deep = deep-push at a height stands (not-saved unsaved framed) framed h in omega (arith, ints, deep))
     moved-lies {at = at} (popped {a} {height} stands unsaved has) =
-        let h = number-of at height has in record {
-          some = omega (arith, ints);
-          low = omega (arith, ints, h.same, h.bound);
-          high = omega (arith, ints, h.same);
-          apart = λ framed.
-              let deep = deep-pop at a height stands (not-saved unsaved framed) framed h in
-              inl (omega (arith, ints, deep));
-        }
+        let h = number-of at height has in
+        lies-below (top_of height) (omega (arith, ints)) (omega (arith, ints, h.same, h.bound))
+        (omega (arith, ints, h.same))
+        (λ framed. let deep = deep-pop at a height stands (not-saved unsaved framed) framed h in omega (arith, ints, deep))
 
     passed-lies : {at : ℕ} {span : Span} → IsPassedWord image layout entry at span → LiesInFrame span
     passed-lies {at = at} (passed {number = number} {height = height} stands has arguments less room) =
