@@ -1,0 +1,3 @@
+pub mod KeptLaws
+pub mod FormedLaws
+pub mod GivenLaws

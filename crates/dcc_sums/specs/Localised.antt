@@ -1,0 +1,49 @@
+-- The program in which just what is wanted passes: each graph takes the argument words of the stack and its params,
+-- each call passes these and takes the results, and each Ret gives the results. All else stays, block by block and
+-- statement by statement.
+use Rattle.std.specs.Prelude.{ℕ, ◌==◌, Bool, false, ◌||◌, List, [], ◌∷◌, slice_get, Option, Some, None, if◌then◌else◌}
+use Rattle.dcc_ir.specs.declared.syntax.Loc.{Loc}
+use Rattle.dcc_ir.specs.declared.syntax.Put.{Put}
+use Rattle.dcc_ir.specs.declared.syntax.Put.TheVariants.{One}
+use Rattle.dcc_ir.specs.declared.syntax.Param.{Param}
+use Rattle.dcc_ir.specs.Tree.{Graph, Program, Summary}
+use Rattle.dcc_ir.specs.Live.{is_among}
+use Rattle.dcc_ir.specs.Passing.{passed}
+use Rattle.dcc_ir.specs.Run.{graph_at}
+use Rattle.dcc_ir.specs.Flow.{graph_or_none}
+use Rattle.dcc_ir.specs.Trimmed.{Trim, trimmed}
+
+abbrev pub no_sum : Summary
+no_sum = record { params = []; results = []; preserved = [] }
+
+-- the summary of the graph with that entry
+abbrev pub sum_at : List Graph → List Summary → ℕ → Summary
+sum_at (graph ∷ graphs) (sum ∷ sums) entry = if graph.entry == entry then sum else sum_at graphs sums entry
+sum_at graphs sums entry = no_sum
+
+-- the param sets one of these locations
+abbrev pub sets_one_of : List Loc → Put → Bool
+sets_one_of locations (One location) = is_among locations location
+sets_one_of locations put = false
+
+-- the param stays: it is a word on the stack, or sets one of these
+abbrev pub is_taken : List Loc → Option Param → Bool
+is_taken params (Some param) = param.stack || sets_one_of params param.put
+is_taken params None = false
+
+-- the value that is given back stays: it is that of one of these
+abbrev pub is_given : List Loc → Option Loc → Bool
+is_given results (Some location) = is_among results location
+is_given results None = false
+
+-- which arguments and values stay
+abbrev pub trim_by : List Graph → List Summary → Trim
+trim_by graphs sums = record {
+  takes = λ entry k.
+      is_taken (sum_at graphs sums entry).params (slice_get (graph_or_none (graph_at graphs entry)).params k);
+  gives = λ entry k. is_given (sum_at graphs sums entry).results (slice_get passed k);
+}
+
+-- the program that is localised by these summaries
+abbrev pub localised : List Summary → Program → Program
+localised sums p = trimmed (trim_by p.graphs sums) p

@@ -1,0 +1,10 @@
+//! Laws of what passes between the procedures of a program of the inner language. Each function only states a law by
+//! its contract, and does nothing.
+#![tactic(auto)]
+
+ghost use Rattle.dcc_sums.specs.Laws.{TrimmedIsFormed};
+
+/// A well-formed program is so still where arguments and values given back have gone.
+pub fn trimmed_is_formed()
+    ensures { TrimmedIsFormed }
+{}
