@@ -14,3 +14,4 @@ mod pieces;
 mod steps;
 
 pub use frames::cells;
+pub use memory::{is_direct, memory_operand, offset_in_frame};

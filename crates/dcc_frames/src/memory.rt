@@ -31,8 +31,8 @@ fn memory_of_two(a: Operand, b: Operand) -> Option<(Width, Ea)>
     }
 }
 
-// The memory operand of an operation; LEA has none.
-fn memory_operand(op: Op) -> Option<(Width, Ea)>
+/// The memory operand of an operation; LEA has none.
+pub fn memory_operand(op: Op) -> Option<(Width, Ea)>
     ensures { result ≡ memory_operand op }
 {
     match op {
@@ -43,16 +43,16 @@ fn memory_operand(op: Op) -> Option<(Width, Ea)>
     }
 }
 
-// Whether the address is BP plus a displacement, without an index.
-fn is_direct(ea: Ea) -> bool
+/// Whether the address is BP plus a displacement, without an index.
+pub fn is_direct(ea: Ea) -> bool
     ensures { result ≡ is_direct ea }
 {
     matches!(ea.base, Some(Reg::Bp)) && ea.index.is_none()
 }
 
-// The displacement, taken as a signed word.
+/// The displacement, taken as a signed word.
 #[tactic(auto, unfolding(dcc_num::specs::Numbers::signed_of))]
-fn offset_in_frame(ea: Ea) -> i32
+pub fn offset_in_frame(ea: Ea) -> i32
     ensures value { result ≡ offset_in_frame ea }
     ensures low { neg_ℤ (pos 32768) ≤ℤ result }
     ensures high { result <ℤ pos 32768 }

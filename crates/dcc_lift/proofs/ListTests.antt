@@ -67,6 +67,14 @@ pub any_map : {X Y : Type 0} (p : Y → Bool) (h : X → Y) (xs : List X)
 any_map p h [] = refl
 any_map p h (x ∷ xs) = ap (λ b. p (h x) || b) (any_map p h xs)
 
+-- a test of the values of a table's entries, where it is made
+pub any_value : {V : Type 0} (test : V → Bool) (entries : List (ℕ × V)) {made result : Bool}
+    → result ≡ list_any test (map (λ (entry : ℕ × V). entry.1) entries) → made ≡ true
+    → result ≡ (made && list_any (λ (entry : ℕ × V). test entry.1) entries)
+any_value {V = V} test entries is so =
+    is ∙ any_map test (λ (entry : ℕ × V). entry.1) entries
+    ∙ sym (ap (λ b. b && list_any (λ (entry : ℕ × V). test entry.1) entries) so)
+
 pub any_flat_map : {X Y : Type 0} (p : Y → Bool) (f : X → List Y) (xs : List X)
     → list_any p (flat_map f xs) ≡ list_any (λ x. list_any p (f x)) xs
 any_flat_map p f [] = refl

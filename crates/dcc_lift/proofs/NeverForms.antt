@@ -249,17 +249,13 @@ module _ (image : Image) (layout : Layout) where
   table-followed q number [] general e = cc
   table-followed q number (last ∷ before) general e = by (moved_from q (operation_in image layout last)) refl e
     where
-      chosen : Option Reg → Option ℕ
-      chosen moved = elim moved [
-        | None ↦ greatest_doubled image layout q (last ∷ followed before)
-        | Some r ↦ greatest_doubled image layout r (followed before)
+      chosen : List ℕ → Option Reg → Option ℕ
+      chosen past moved = elim moved [
+        | None ↦ greatest_doubled image layout q (last ∷ past)
+        | Some r ↦ greatest_doubled image layout r past
       ]
 
-      by : (moved : Option Reg) → moved_from q (operation_in image layout last) ≡ moved
-          → elim moved [
-            | None ↦ greatest_doubled image layout q (last ∷ before)
-            | Some r ↦ greatest_doubled image layout r before
-          ] ≡ Some number
+      by : (moved : Option Reg) → moved_from q (operation_in image layout last) ≡ moved → chosen before moved ≡ Some number
           → table_number image layout q (followed (last ∷ before)) ≡ Some number
       by None is told =
           let t = double-followed q number (last ∷ before) told in
@@ -267,10 +263,10 @@ module _ (image : Image) (layout : Layout) where
           let more = followed-more last before
           (subst (λ n. is_followed_in (operation_in image layout n) ≡ true) same t.first) in
           ap (table_number image layout q) more
-          ∙ ap chosen is
+          ∙ ap (chosen (followed before)) is
           ∙ ap (greatest_doubled image layout q) (sym more)
           ∙ t.again
       by (Some r) is told =
           let t = double-followed r number before told in
           let more = followed-more last before (moved-told q r (operation_in image layout last) is general t.general) in
-          ap (table_number image layout q) more ∙ ap chosen is ∙ t.again
+          ap (table_number image layout q) more ∙ ap (chosen (followed before)) is ∙ t.again

@@ -14,6 +14,7 @@ use Rattle.dcc_prog.specs.Step.{step as machine_step}
 use Rattle.dcc_prog.specs.Trail.{IsEntry}
 use Rattle.dcc_prog.specs.Clean.{LiveFrame, Stack, Foul, top_in, foul_of, stack_after}
 use Rattle.dcc_prog.specs.CleanLaws.{moves_frames}
+use Rattle.dcc_prog.proofs.CleanLaws.{frames-stay}
 use Rattle.dcc_ir.specs.Tree.{Stmt, Block}
 use Rattle.dcc_ir.specs.Run.{State as Inner, execute, going_to, exit_step, block_step}
 use Rattle.dcc_ir.proofs.ExecuteLaws.{execute-within, block-executed}
@@ -32,7 +33,7 @@ use Rattle.dcc_lift.proofs.ShownRuns.{soon-shown}
 use Rattle.dcc_lift.proofs.Lifting.{stmts-at}
 use Rattle.dcc_lift.proofs.RunScenes.{Runs, layout, e, machine, inner, within, NoneBegins, located_at, scene_at, sound-at, inner-has, AtNode, stands_here, is_at, node_here, clean_instruction, is_node_here, goes, inner_goes, clean_step, mark_is}
 use Rattle.dcc_lift.proofs.RunArrives.{InBlock, arrived, resumes}
-use Rattle.dcc_lift.proofs.RunNodes.{leads-elsewhere, goes-where, leads-among, frames-stay, newest-frame, only-one, Through, one-step, stmts-free, chain-free, foul-through}
+use Rattle.dcc_lift.proofs.RunNodes.{leads-elsewhere, goes-where, leads-among, newest-frame, only-one, Through, one-step, stmts-free, chain-free, foul-through}
 
 -- an operation that moves frames and calls nothing is a RET
 ret-of : (op : Op) → moves_frames op ≡ true → is_call op ≡ false → (count : ℕ) × (op ≡ Ret count)

@@ -5,11 +5,10 @@ use Rattle.dcc_run.specs.Watched.{state, IsQuiet, IsQuietUntil}
 use Rattle.dcc_run.specs.Shadows.{ComesTo, first_foul}
 use Rattle.dcc_run.proofs.PaceLaws.{quiet_once}
 use Rattle.dcc_prog.specs.declared.instr.Op.{Op}
-use Rattle.dcc_prog.specs.declared.instr.Op.TheVariants.{Table, Call, Ret}
+use Rattle.dcc_prog.specs.declared.instr.Op.TheVariants.{Table, Ret}
 use Rattle.dcc_prog.specs.Machine.{State as Machine}
 use Rattle.dcc_prog.specs.Trail.{IsEntry}
-use Rattle.dcc_prog.specs.Clean.{LiveFrame, Stack, Foul, foul_of, frames_after}
-use Rattle.dcc_prog.specs.CleanLaws.{moves_frames}
+use Rattle.dcc_prog.specs.Clean.{Stack, Foul, foul_of}
 use Rattle.dcc_prog.specs.Watch.{Watch}
 use Rattle.dcc_stack.specs.Standing.{Activation}
 use Rattle.dcc_ir.specs.Tree.{Expr, Exit, Goto, If, Switch, Ret as RetTo, Stop}
@@ -84,13 +83,6 @@ pub leads-among : (p : Procedure) (op : Op) (succ : List ℕ) (u : Inner) (to : 
 leads-among p (Table r offset) succ u to e = contained succ _ to e
 leads-among p (Ret count) succ u to e = cc
 leads-among p op succ u to e = test-among (op_test op) succ u to e
-
--- an operation that moves no frames
-pub frames-stay : (op : Op) (top : ℕ) (frames : List LiveFrame) → moves_frames op ≡ false
-    → frames_after op top frames ≡ frames
-frames-stay (Call target) top frames apart = cc
-frames-stay (Ret count) top frames apart = cc
-frames-stay op top frames apart = refl
 
 -- the newest frame, by all of them
 pub newest-frame : (a b : Activation) (callers others : List Activation)

@@ -1,13 +1,14 @@
 //! Memory operands, and direct accesses to the frame.
 
-ghost use Rattle.std.specs.Prelude.{◌≡◌, pos, neg_ℤ, ◌≤ℤ◌, ◌<ℤ◌, Some, option_map};
-ghost use Rattle.dcc_prog.specs.Access.{bytes_in, is_direct};
-ghost use Rattle.dcc_prog.specs.Frame.{memory_of, memory_operand, offset_in_frame};
+ghost use Rattle.std.specs.Prelude.{◌≡◌, Some, option_map};
+ghost use Rattle.dcc_prog.specs.Access.{bytes_in};
+ghost use Rattle.dcc_prog.specs.Frame.{memory_operand};
 ghost use Rattle.dcc_stack.specs.Slots.{is_memory, is_within, writes_memory, writes_directly, direct_bytes, overlaps};
 ghost use Rattle.dcc_lift.specs.KnownProcedures.{span_of_bytes};
 
-use dcc_num::{Reg, Width};
-use dcc_prog::{Alu, Ea, Op, Operand, Unary};
+use dcc_frames::{is_direct, memory_operand, offset_in_frame};
+use dcc_num::Width;
+use dcc_prog::{Alu, Op, Operand, Unary};
 
 /// So many bytes of a frame, from an offset from its base less 4 on.
 #[derive(Clone, Copy)]
@@ -36,53 +37,6 @@ impl Bytes {
         ensures { result ≡ overlaps (span_of_bytes self) (Some (span_of_bytes other)) }
     {
         i64::from(other.first) < self.end() && i64::from(self.first) < other.end()
-    }
-}
-
-// The operand, if it lies in memory.
-fn memory_of(operand: Operand) -> Option<(Width, Ea)>
-    ensures { result ≡ memory_of operand }
-{
-    match operand {
-        Operand::Mem(width, ea) => Some((width, ea)),
-        _ => None,
-    }
-}
-
-// The memory operand of an operation; LEA has none.
-fn memory_operand(op: Op) -> Option<(Width, Ea)>
-    ensures { result ≡ memory_operand op }
-{
-    match op {
-        Op::Alu(_, a, b) | Op::Mov(a, b) | Op::Xchg(a, b) => match a {
-            Operand::Mem(width, ea) => Some((width, ea)),
-            _ => memory_of(b),
-        },
-        Op::Unary(_, a) | Op::Shift(_, a, _) | Op::Imul3(_, a, _) | Op::Push(a) | Op::Pop(a) => {
-            memory_of(a)
-        }
-        _ => None,
-    }
-}
-
-/// Whether the address is BP plus a displacement, without an index.
-pub fn is_direct(ea: Ea) -> bool
-    ensures { result ≡ is_direct ea }
-{
-    matches!(ea.base, Some(Reg::Bp)) && ea.index.is_none()
-}
-
-/// The displacement, taken as a signed word.
-#[tactic(auto, unfolding(dcc_num::specs::Numbers::signed_of))]
-pub fn offset_in_frame(ea: Ea) -> i32
-    ensures value { result ≡ offset_in_frame ea }
-    ensures low { neg_ℤ (pos 32768) ≤ℤ result }
-    ensures high { result <ℤ pos 32768 }
-{
-    if ea.disp >= 32768 {
-        i32::from(ea.disp) - 65536
-    } else {
-        i32::from(ea.disp)
     }
 }
 

@@ -2,9 +2,8 @@
 
 ghost use Rattle.std.specs.Prelude.{◌≡◌, ◌≤◌, pos, neg_ℤ, ◌++◌, map, OnOk};
 ghost use Rattle.dcc_prog.specs.Height.{greatest_height};
-ghost use Rattle.dcc_ops.specs.Statements.{mov_stmts};
-ghost use Rattle.dcc_coupled.specs.Operands.{operand_place};
 ghost use Rattle.dcc_ops.specs.Writing.{written};
+ghost use Rattle.dcc_ops.specs.Placing.{place_of};
 ghost use Rattle.dcc_coupled.specs.Statements as spec;
 ghost use Rattle.dcc_lift.specs.KnownProcedures.{procedure_of, KnowsProcedure, KnowsProcedures};
 
@@ -31,37 +30,20 @@ fn below_top(height: u16) -> i32
 }
 
 impl Procedure<'_> {
-    // Writes PUSH.
-    fn write_push(
-        &self,
-        writer: &mut Writer,
-        height: u16,
-        operand: Operand,
-    ) -> Result<(), AllocError>
+    // The word below the top of the stack.
+    fn place_below_top(&self, height: u16) -> Place
         requires { KnowsProcedure self.now }
-        ensures { OnOk result (written writer.new ≡ written writer.old
-            ++ mov_stmts Width.Word (spec.place_below_top (procedure_of self.now) height)
-            (operand_place (procedure_of self.now) height operand)) }
+        ensures { place_of result ≡ spec.place_below_top (procedure_of self.now) height }
     {
-        let first = below_top(height);
-        let below = self.frame_place(Width::Word, first);
-        writer.mov(Width::Word, below, self.operand_place(height, operand))
+        self.frame_place(Width::Word, below_top(height))
     }
 
-    // Writes POP.
-    fn write_pop(
-        &self,
-        writer: &mut Writer,
-        height: u16,
-        operand: Operand,
-    ) -> Result<(), AllocError>
+    // The word at the top of the stack.
+    fn top_place(&self, height: u16) -> Place
         requires { KnowsProcedure self.now }
-        ensures { OnOk result (written writer.new ≡ written writer.old
-            ++ mov_stmts Width.Word (operand_place (procedure_of self.now) height operand)
-            (spec.top_place (procedure_of self.now) height)) }
+        ensures { place_of result ≡ spec.top_place (procedure_of self.now) height }
     {
-        let top = self.frame_place(Width::Word, 2 - i32::from(height));
-        writer.mov(Width::Word, self.operand_place(height, operand), top)
+        self.frame_place(Width::Word, 2 - i32::from(height))
     }
 
     /// Writes the statements of an instruction of the procedure, on a processor, among all procedures, at its height.
@@ -84,8 +66,14 @@ impl Procedure<'_> {
             return Ok(());
         }
         match op {
-            Op::Push(operand) => self.write_push(writer, height, operand),
-            Op::Pop(operand) => self.write_pop(writer, height, operand),
+            Op::Push(operand) => {
+                let from = self.operand_place(height, operand);
+                writer.mov(Width::Word, self.place_below_top(height), from)
+            }
+            Op::Pop(operand) => {
+                let to = self.operand_place(height, operand);
+                writer.mov(Width::Word, to, self.top_place(height))
+            }
             Op::Lea(r, ea) => {
                 let to = register_place(Operand::Word(r));
                 writer.mov(Width::Word, to, Place::Computed(address_of(ea)))

@@ -5,8 +5,8 @@ ghost use Rattle.dcc_ops.specs.Placing.{place_of};
 ghost use Rattle.dcc_coupled.specs.Operands as spec;
 ghost use Rattle.dcc_lift.specs.KnownProcedures.{procedure_of, KnowsProcedure};
 
-use crate::access::{is_direct, offset_in_frame};
 use crate::procedure::{Procedure, distance_of};
+use dcc_frames::{is_direct, offset_in_frame};
 use dcc_num::{Reg, Width};
 use dcc_ops::{Computed, Place, register_place};
 use dcc_prog::{Ea, Op, Operand};
