@@ -81,8 +81,10 @@ fn word_in(run: &[u8]) -> Option<&str>
     if run.is_empty() || run.len() > 31 {
         return None;
     }
-    // Letters, digits and `_` are ASCII.
-    Some(unsafe { str::from_utf8_unchecked(run) })
+    match str::from_utf8(run) {
+        Ok(word) => Some(word),
+        Err(_) => unreachable!(),
+    }
 }
 
 /// The token that a run of letters, digits and `_` is.
