@@ -1,3 +1,9 @@
 pub mod KeptLaws
 pub mod FormedLaws
 pub mod GivenLaws
+pub mod TraceLaws
+pub mod BeginLaws
+pub mod SiteLaws
+pub mod ArgumentLaws
+pub mod PassLaws
+pub mod KeepLaws

@@ -2,9 +2,15 @@
 //! its contract, and does nothing.
 #![tactic(auto)]
 
-ghost use Rattle.dcc_sums.specs.Laws.{TrimmedIsFormed};
+ghost use Rattle.dcc_sums.specs.Laws.{TrimmedIsFormed, LocalisedKeepsRuns};
 
 /// A well-formed program is so still where arguments and values given back have gone.
 pub fn trimmed_is_formed()
     ensures { TrimmedIsFormed }
+{}
+
+/// Where all halves and flags pass and no argument is wanted after a call that may change it, the program in which just
+/// what is wanted passes is well formed and keeps the runs.
+pub fn localised_keeps_runs()
+    ensures { LocalisedKeepsRuns }
 {}
