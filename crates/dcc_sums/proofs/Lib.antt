@@ -7,3 +7,4 @@ pub mod SiteLaws
 pub mod ArgumentLaws
 pub mod PassLaws
 pub mod KeepLaws
+mod Examples
