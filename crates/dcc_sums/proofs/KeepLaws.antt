@@ -1,4 +1,4 @@
--- A program without what isn't wanted keeps the runs.
+-- A program without what isn't wanted keeps the runs, and all else.
 use Rattle.std.proofs.Common.{◌≡◌, ℕ, zero, suc, Bool, true, inl, inr, List, [], ◌∷◌, ◌++◌, length, Option, Some, None, refl, sym, ap, ◌∙◌, subst, map, take, drop, slice_get, get_or}
 use Rattle.std.specs.Prelude.{option_map, Contains}
 use Rattle.std.proofs.lemmas.Option.{slice_get-map}
@@ -29,13 +29,14 @@ use Rattle.dcc_demand.specs.Wanted.{Wanted, IsParam}
 use Rattle.dcc_sums.specs.Points.{begin_of}
 use Rattle.dcc_sums.specs.Sums.{AreSums, ReusesNone}
 use Rattle.dcc_sums.specs.Localised.{is_taken, sum_at, localised}
-use Rattle.dcc_sums.specs.Laws.{LocalisedKeepsRuns}
+use Rattle.dcc_sums.specs.Laws.{LocalisedKeeps}
 use Rattle.dcc_sums.proofs.FormedLaws.{trimmed-formed}
 use Rattle.dcc_sums.proofs.GivenLaws.{fit_length}
 use Rattle.dcc_sums.proofs.TraceLaws.{traced_first}
 use Rattle.dcc_sums.proofs.BeginLaws.{nothing, first_values, begin_alike, begin_memory}
 use Rattle.dcc_sums.proofs.SiteLaws.{IsAfter, none, contained_map, P, graph_of}
 use Rattle.dcc_sums.proofs.ArgumentLaws.{contains_right}
+use Rattle.dcc_sums.proofs.StayLaws.{kept_whole, frame_stays}
 use Rattle.dcc_sums.proofs.PassLaws.{trim, Meets, pass, kind, sum_is, block-meets}
 
 -- Statements that are left are trimmed.
@@ -186,6 +187,7 @@ module _ (back : ℕ → List ℕ) (p : Program) (sums : List Summary) (formed :
     start = all_had (λ (g : Graph). ◌≡◌ {A = List ℕ} [] (kept ((trim p sums).takes g.entry) [])) (take 1 p.graphs) (λ g c. refl);
   })
 
-pub localised-keeps_runs : LocalisedKeepsRuns
-localised-keeps_runs back p sums formed passes_all are unused =
-    let formed' = trimmed-formed (trim p sums) p formed in (formed', runs_kept back p sums formed passes_all are unused formed')
+pub localised-keeps : LocalisedKeeps
+localised-keeps back p sums formed passes_all are unused =
+    let formed' = trimmed-formed (trim p sums) p formed in
+    record { formed = formed'; keeps = kept_whole (trim p sums) p (runs_kept back p sums formed passes_all are unused formed'); frames = frame_stays p sums }

@@ -6,5 +6,6 @@ pub mod BeginLaws
 pub mod SiteLaws
 pub mod ArgumentLaws
 pub mod PassLaws
+pub mod StayLaws
 pub mod KeepLaws
 mod Examples

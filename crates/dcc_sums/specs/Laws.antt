@@ -1,9 +1,10 @@
 -- Laws of programs in which all halves and flags pass, and of those in which just what is wanted passes.
-use Rattle.std.specs.Prelude.{ℕ, List}
-use Rattle.dcc_ir.specs.Tree.{Program, Summary}
+use Rattle.std.specs.Prelude.{◌≡◌, ℕ, List, Some}
+use Rattle.dcc_ir.specs.Tree.{Graph, Program, Summary}
 use Rattle.dcc_ir.specs.WellFormed.{IsProgram}
 use Rattle.dcc_ir.specs.Passing.{PassesAll}
-use Rattle.dcc_ir.specs.Keeps.{KeepsRuns}
+use Rattle.dcc_ir.specs.Keeps.{KeepsInOne, KeepsFrame}
+use Rattle.dcc_ir.specs.Run.{graph_at}
 use Rattle.dcc_ir.specs.Trimmed.{Trim, trimmed}
 use Rattle.dcc_sums.specs.Sums.{AreSums, ReusesNone}
 use Rattle.dcc_sums.specs.Localised.{localised}
@@ -12,8 +13,16 @@ use Rattle.dcc_sums.specs.Localised.{localised}
 abbrev pub TrimmedIsFormed : Type 0
 TrimmedIsFormed = (trim : Trim) (p : Program) → IsProgram p → IsProgram (trimmed trim p)
 
--- Where all halves and flags pass and no argument is wanted after a call that may change it, the program in which just
--- what is wanted passes is well formed and keeps the runs.
-abbrev pub LocalisedKeepsRuns : Type 0
-LocalisedKeepsRuns = (back : ℕ → List ℕ) (p : Program) (sums : List Summary) → IsProgram p → PassesAll back p
-    → AreSums p sums → ReusesNone p → IsProgram (localised sums p) × KeepsRuns p (localised sums p)
+-- What is left of a program by a pass between its procedures: it is well formed, its blocks, edges, calls and runs are
+-- kept, and each graph keeps its frame.
+pub record IsKeptBy (p q : Program) : Type 0 where
+  pub formed : IsProgram q
+  pub keeps : KeepsInOne p q
+  pub frames : (entry : ℕ) (before after : Graph) → graph_at p.graphs entry ≡ Some before
+      → graph_at q.graphs entry ≡ Some after → KeepsFrame before after
+
+-- Where all halves and flags pass and no argument is wanted after a call that may change it, the program is kept by the
+-- one in which just what is wanted passes.
+abbrev pub LocalisedKeeps : Type 0
+LocalisedKeeps = (back : ℕ → List ℕ) (p : Program) (sums : List Summary) → IsProgram p → PassesAll back p
+    → AreSums p sums → ReusesNone p → IsKeptBy p (localised sums p)

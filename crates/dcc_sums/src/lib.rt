@@ -2,7 +2,7 @@
 //! its contract, and does nothing.
 #![tactic(auto)]
 
-ghost use Rattle.dcc_sums.specs.Laws.{TrimmedIsFormed, LocalisedKeepsRuns};
+ghost use Rattle.dcc_sums.specs.Laws.{TrimmedIsFormed, LocalisedKeeps};
 
 /// A well-formed program is so still where arguments and values given back have gone.
 pub fn trimmed_is_formed()
@@ -10,7 +10,7 @@ pub fn trimmed_is_formed()
 {}
 
 /// Where all halves and flags pass and no argument is wanted after a call that may change it, the program in which just
-/// what is wanted passes is well formed and keeps the runs.
-pub fn localised_keeps_runs()
-    ensures { LocalisedKeepsRuns }
+/// what is wanted passes is well formed, and keeps the runs, the blocks, the calls and the frames.
+pub fn localised_keeps_all()
+    ensures { LocalisedKeeps }
 {}
