@@ -20,61 +20,60 @@ use Rattle.dcc_sums.specs.Instance.{action_of, procedures_of}
 use Rattle.dcc_sums.specs.Sums.{IsHalfOf, AreOneValue, GivesOneValue}
 use Rattle.dcc_sums.specs.Localised.{localised}
 
-abbrev al : Loc
+abbrev pub al : Loc
 al = Half Ax Low
 
-abbrev dl : Loc
+abbrev pub dl : Loc
 dl = Half Dx Low
 
-abbrev si : Loc
+abbrev pub si : Loc
 si = Half Si Low
 
-abbrev word : Loc
+abbrev pub word : Loc
 word = Cell 0 Low
 
 -- `push si; mov si,1; mov al,dl; pop si; ret`, of which the low half of SI stands here
-abbrev push_si : Stmt
+abbrev pub push_si : Stmt
 push_si = Set word (Get si)
 
-abbrev set_si : Stmt
+abbrev pub set_si : Stmt
 set_si = Set si (Const 8 1)
 
-abbrev copy_dl : Stmt
+abbrev pub copy_dl : Stmt
 copy_dl = Set al (Get dl)
 
-abbrev pop_si : Stmt
+abbrev pub pop_si : Stmt
 pop_si = Set si (Get word)
 
-abbrev callee_block : Block
+abbrev pub callee_block : Block
 callee_block = record { at = 32; stmts = push_si ∷ set_si ∷ copy_dl ∷ pop_si ∷ []; exit = Ret (map Get passed) }
 
-abbrev callee : Graph
+abbrev pub callee : Graph
 callee = record { entry = 32; params = map param_of passed; local = 0; pushed = 0; blocks = callee_block ∷ []; bits = [] }
 
-abbrev call : Stmt
+abbrev pub call : Stmt
 call = Call passed 32 (map Get passed) 2
 
 -- the caller ends with AL as the exit code
-abbrev exit_call : Stmt
+abbrev pub exit_call : Stmt
 exit_call = Dos 0x4C None (Some (Get al))
 
-abbrev caller : Graph
-caller = record {
-  entry = 0;
-  params = [];
-  local = 0;
-  pushed = 0;
-  blocks = record { at = 0; stmts = call ∷ []; exit = Goto 1 } ∷ record { at = 3; stmts = exit_call ∷ []; exit = Stop } ∷ [];
-  bits = [];
-}
+abbrev pub calling_block : Block
+calling_block = record { at = 0; stmts = call ∷ []; exit = Goto 1 }
 
-abbrev program : Program
+abbrev pub last_block : Block
+last_block = record { at = 3; stmts = exit_call ∷ []; exit = Stop }
+
+abbrev pub caller : Graph
+caller = record { entry = 0; params = []; local = 0; pushed = 0; blocks = calling_block ∷ last_block ∷ []; bits = [] }
+
+abbrev pub program : Program
 program = record { graphs = caller ∷ callee ∷ []; image = []; lo = 16; hi = 256 }
 
-abbrev P : Procedures Position Loc Loc
+abbrev pub P : Procedures Position Loc Loc
 P = procedures_of program
 
-abbrev at : ℕ → ℕ → Position
+abbrev pub at : ℕ → ℕ → Position
 at block done = record { block = block; done = done }
 
 -- Points.
@@ -123,7 +122,7 @@ a_byte_is_written = (refl, refl)
 -- What the callee changes.
 
 -- the trails of the callee
-data Along : List Position → Position → Type 0 where
+pub data Along : List Position → Position → Type 0 where
   first : Along [] (at 0 0)
   second : Along (at 0 0 ∷ []) (at 0 1)
   third : Along (at 0 1 ∷ at 0 0 ∷ []) (at 0 2)
@@ -140,7 +139,7 @@ along_next b third c = only (at 0 3) b (Along (at 0 2 ∷ at 0 1 ∷ at 0 0 ∷ 
 along_next b fourth c = only (at 0 4) b (Along (at 0 3 ∷ at 0 2 ∷ at 0 1 ∷ at 0 0 ∷ [])) fifth c
 along_next b fifth c = absurd (Contains-none b c)
 
-along : {positions : List Position} {a : Position} → IsTrail (P.procedure 32) positions a → Along positions a
+pub along : {positions : List Position} {a : Position} → IsTrail (P.procedure 32) positions a → Along positions a
 along IsTrail.enters = first
 along (IsTrail.goes_on {b = b} trail c) = along_next b (along trail) c
 
@@ -150,7 +149,7 @@ whole_trail =
     (Contains-here (at 0 4) [])
 
 -- AL is copied, and so changed
-al_is_changed : Changes P 32 al
+pub al_is_changed : Changes P 32 al
 al_is_changed = changes-closed P 32 al (record {
   passes = refl;
   passed = at 0 3 ∷ at 0 2 ∷ at 0 1 ∷ at 0 0 ∷ [];
@@ -180,7 +179,7 @@ unsaved changed (IsUnsaved.by_other e n) = absurd (cc)
 unsaved changed (IsUnsaved.too_late e w) = absurd (cc)
 unsaved changed (IsUnsaved.kept e h) = unkept changed h
 
-unlost : (changed : ChangeFamily Loc) → Loses changed (P.procedure 32) si (at 0 3 ∷ at 0 2 ∷ at 0 1 ∷ at 0 0 ∷ []) → ⊥
+pub unlost : (changed : ChangeFamily Loc) → Loses changed (P.procedure 32) si (at 0 3 ∷ at 0 2 ∷ at 0 1 ∷ at 0 0 ∷ []) → ⊥
 unlost changed (Loses.in_call c) = absurd c
 unlost changed (Loses.made e) = absurd (cc)
 unlost changed (Loses.copied e) = absurd (cc)
@@ -190,14 +189,14 @@ unlost changed (Loses.popped_unsaved {word = w} e u) =
     let same : w ≡ word = cc in unsaved changed (subst (λ x. IsUnsaved changed (P.procedure 32) si x (at 0 2 ∷ at 0 1 ∷ at 0 0 ∷ [])) same u)
 unlost changed (Loses.left e h) = absurd (cc)
 
-returns_there : {positions : List Position} {a : Position} → Along positions a → (P.procedure 32).returns a ≡ true → positions ≡ at 0 3 ∷ at 0 2 ∷ at 0 1 ∷ at 0 0 ∷ []
+pub returns_there : {positions : List Position} {a : Position} → Along positions a → (P.procedure 32).returns a ≡ true → positions ≡ at 0 3 ∷ at 0 2 ∷ at 0 1 ∷ at 0 0 ∷ []
 returns_there first e = absurd (cc)
 returns_there second e = absurd (cc)
 returns_there third e = absurd (cc)
 returns_there fourth e = absurd (cc)
 returns_there fifth e = refl
 
-si_is_preserved : IsPreserved P 32 si
+pub si_is_preserved : IsPreserved P 32 si
 si_is_preserved = (refl, λ c. go c.0 c.1)
   where
     go : (depth : ℕ) → ChangesWithin P depth 32 si → ⊥
@@ -206,10 +205,10 @@ si_is_preserved = (refl, λ c. go c.0 c.1)
 
 -- What is wanted: AL after the call, and so DL at the entry.
 
-al_is_wanted : Wanted P 0 (at 0 1) al
+pub al_is_wanted : Wanted P 0 (at 0 1) al
 al_is_wanted = IsWantedBy.unwritten (Contains-here (at 1 0) []) refl (λ c. c) (IsWantedBy.used refl)
 
-al_is_a_result : IsResult P 32 al
+pub al_is_a_result : IsResult P 32 al
 al_is_a_result = record {
   changes = al_is_changed;
   caller = 0;
@@ -220,7 +219,7 @@ al_is_a_result = record {
   wanted = al_is_wanted;
 }
 
-dl_is_a_param : IsParam P 32 dl
+pub dl_is_a_param : IsParam P 32 dl
 dl_is_a_param = record {
   passes = refl;
   wanted = IsWantedBy.unwritten (Contains-here (at 0 1) []) refl (λ c. c) (IsWantedBy.unwritten (Contains-here (at 0 2) []) refl (λ c. c)
@@ -234,25 +233,23 @@ dl_is_wanted = IsWantedBy.taken {callee = 32} refl refl dl_is_a_param.wanted
 
 -- The localised program: DL and AL alone pass.
 
-abbrev preserved : List Loc
+abbrev pub preserved : List Loc
 preserved = filter (λ l. not (same_location l al)) passed
 
-abbrev caller_sum : Summary
+abbrev pub caller_sum : Summary
 caller_sum = record { params = []; results = []; preserved = passed }
 
-abbrev callee_sum : Summary
+abbrev pub callee_sum : Summary
 callee_sum = record { params = dl ∷ []; results = al ∷ []; preserved = preserved }
 
-abbrev sums : List Summary
+abbrev pub sums : List Summary
 sums = caller_sum ∷ callee_sum ∷ []
 
 abbrev local_callee : Graph
 local_callee = record callee { params = param_of dl ∷ []; blocks = record callee_block { exit = Ret (Get al ∷ []) } ∷ [] }
 
 abbrev local_caller : Graph
-local_caller = record caller {
-  blocks = record { at = 0; stmts = Call (al ∷ []) 32 (Get dl ∷ []) 2 ∷ []; exit = Goto 1 } ∷ record { at = 3; stmts = exit_call ∷ []; exit = Stop } ∷ [];
-}
+local_caller = record caller { blocks = record calling_block { stmts = Call (al ∷ []) 32 (Get dl ∷ []) 2 ∷ [] } ∷ last_block ∷ [] }
 
 localised_is : localised sums program ≡ record program { graphs = local_caller ∷ local_callee ∷ [] }
 localised_is = refl

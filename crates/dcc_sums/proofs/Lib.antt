@@ -8,4 +8,5 @@ pub mod ArgumentLaws
 pub mod PassLaws
 pub mod StayLaws
 pub mod KeepLaws
-mod Examples
+pub mod Examples
+mod SumExamples

@@ -146,44 +146,36 @@ no_push false y e = absurd (cc)
 
 -- A copy, a POP and a PUSH move a value.
 
-module _ (pushed : ℕ) where
-  abbrev moved : Loc → Loc → State → Loc → Type 0
-  moved l y s x = with_value s.running.values l (s.running.values y) x ≡ s.running.values y
+told_copy : (b c : Bool) (y from : Loc) → (if b then (if c then Pops y else Copies y) else Leaves) ≡ Copies from → (b ≡ true) × (y ≡ from)
+told_copy true false y from e = (refl, cc)
+told_copy true true y from e = absurd (cc)
+told_copy false c y from e = absurd (cc)
 
-  set_there : (l y : Loc) (s : State) (x : Loc) → is_among (l ∷ []) x ≡ true → moved l y s x
-  set_there l y s x e = own_value x s.running.values l (s.running.values y) (sym (alone (same_location x l)) ∙ e)
+told_pop : (b c : Bool) (y from : Loc) → (if b then (if c then Pops y else Copies y) else Leaves) ≡ Pops from → (b ≡ true) × (y ≡ from)
+told_pop true true y from e = (refl, cc)
+told_pop true false y from e = absurd (cc)
+told_pop false c y from e = absurd (cc)
+
+told_push : (b c : Bool) (y from : Loc) → (if b then (if c then Pushes y else Overwrites) else LeavesWord) ≡ Pushes from → (b ≡ true) × (y ≡ from)
+told_push true true y from e = (refl, cc)
+told_push true false y from e = absurd (cc)
+told_push false c y from e = absurd (cc)
+
+module _ (pushed : ℕ) where
+  -- the location that is set holds what the other holds
+  moves : (l y : Loc) (s : State) (x from : Loc) → (is_among (l ∷ []) x ≡ true) × (y ≡ from) → with_value s.running.values l (s.running.values y) x ≡ s.running.values from
+  moves l y s x from told = own_value x s.running.values l (s.running.values y) (sym (alone (same_location x l)) ∙ told.0) ∙ ap s.running.values told.1
 
   copies : (stmt : Stmt) (s : State) (x from : Loc) → (if is_among (written_by stmt) x then effect_of pushed stmt else Leaves) ≡ Copies from → (stmt_step stmt s).running.values x ≡ s.running.values from
-  copies (Set l (Get y)) s x from e = go (is_among (l ∷ []) x) refl (is_half l && is_pushed pushed y) e
-    where
-      go : (b : Bool) → is_among (l ∷ []) x ≡ b → (c : Bool) → (if b then (if c then Pops y else Copies y) else Leaves) ≡ Copies from →
-          with_value s.running.values l (s.running.values y) x ≡ s.running.values from
-      go true i true e = absurd (cc)
-      go true i false e = let same : y ≡ from = cc in set_there l y s x i ∙ ap s.running.values same
-      go false i true e = absurd (cc)
-      go false i false e = absurd (cc)
+  copies (Set l (Get y)) s x from e = moves l y s x from (told_copy (is_among (l ∷ []) x) (is_half l && is_pushed pushed y) y from e)
   copies stmt s x from e = made_no_copy (is_among (written_by stmt) x) from e
 
   pops : (stmt : Stmt) (s : State) (x from : Loc) → (if is_among (written_by stmt) x then effect_of pushed stmt else Leaves) ≡ Pops from → (stmt_step stmt s).running.values x ≡ s.running.values from
-  pops (Set l (Get y)) s x from e = go (is_among (l ∷ []) x) refl (is_half l && is_pushed pushed y) e
-    where
-      go : (b : Bool) → is_among (l ∷ []) x ≡ b → (c : Bool) → (if b then (if c then Pops y else Copies y) else Leaves) ≡ Pops from →
-          with_value s.running.values l (s.running.values y) x ≡ s.running.values from
-      go true i true e = let same : y ≡ from = cc in set_there l y s x i ∙ ap s.running.values same
-      go true i false e = absurd (cc)
-      go false i true e = absurd (cc)
-      go false i false e = absurd (cc)
+  pops (Set l (Get y)) s x from e = moves l y s x from (told_pop (is_among (l ∷ []) x) (is_half l && is_pushed pushed y) y from e)
   pops stmt s x from e = made_no_pop (is_among (written_by stmt) x) from e
 
   pushing : (stmt : Stmt) (s : State) (x from : Loc) → (if is_among (written_by stmt) x then word_effect_of stmt else LeavesWord) ≡ Pushes from → (stmt_step stmt s).running.values x ≡ s.running.values from
-  pushing (Set l (Get y)) s x from e = go (is_among (l ∷ []) x) refl (is_half y) e
-    where
-      go : (b : Bool) → is_among (l ∷ []) x ≡ b → (c : Bool) → (if b then (if c then Pushes y else Overwrites) else LeavesWord) ≡ Pushes from →
-          with_value s.running.values l (s.running.values y) x ≡ s.running.values from
-      go true i true e = let same : y ≡ from = cc in set_there l y s x i ∙ ap s.running.values same
-      go true i false e = absurd (cc)
-      go false i true e = absurd (cc)
-      go false i false e = absurd (cc)
+  pushing (Set l (Get y)) s x from e = moves l y s x from (told_push (is_among (l ∷ []) x) (is_half y) y from e)
   pushing stmt s x from e = no_push (is_among (written_by stmt) x) from e
 
   -- a statement without a call does what its action says
