@@ -1,5 +1,5 @@
 -- A small program whose callee saves half of a register on the stack and gives another back; and near misses.
-use Rattle.std.proofs.Common.{arith, ◌≡◌, ℕ, zero, suc, true, false, not, ◌⊎◌, inl, inr, List, [], ◌∷◌, ◌++◌, Some, None, refl, sym, ap, ◌∙◌, subst, true≢false, map}
+use Rattle.std.proofs.Common.{arith, ◌≡◌, ℕ, zero, suc, true, false, not, ◌⊎◌, inl, inr, List, [], ◌∷◌, ◌++◌, Some, refl, sym, ap, ◌∙◌, subst, true≢false, map}
 use Rattle.std.specs.Prelude.{Contains, filter}
 use Rattle.std.proofs.lemmas.List.Elements.{All-nil, All-cons, All-head, All-tail}
 use Rattle.dcc_num.specs.declared.Reg.TheVariants.{Ax, Dx, Si}
@@ -7,8 +7,10 @@ use Rattle.dcc_num.specs.declared.Half.TheVariants.{Low}
 use Rattle.dcc_ir.specs.declared.syntax.Loc.{Loc}
 use Rattle.dcc_ir.specs.declared.syntax.Loc.TheVariants.{Half, Flag, Cell, Temp}
 use Rattle.dcc_ir.specs.Location.{register_number, same_location}
-use Rattle.dcc_ir.specs.Tree.{Const, Get, Stmt, Set, Call, Dos, Goto, Ret, Stop, Block, Graph, Program, Summary}
+use Rattle.dcc_ir.specs.Tree.{Const, Get, Stmt, Set, Call, Ret, Stop, Block, Graph, Program, Summary}
 use Rattle.dcc_ir.specs.Passing.{passed, param_of}
+use Rattle.dcc_ir.specs.declared.syntax.Param.{Param}
+use Rattle.dcc_ir.proofs.CallingPrograms as calling
 use Rattle.dcc_ir.proofs.LocationLaws.{Contains-here, Contains-none, Contains-cases}
 use Rattle.dcc_demand.specs.Procedures.{Leaves, Copies, Pops, Makes, LeavesWord, Pushes, Overwrites, Procedures, ChangeFamily}
 use Rattle.dcc_demand.specs.Trail.{IsTrail}
@@ -48,24 +50,27 @@ pop_si = Set si (Get word)
 abbrev pub callee_block : Block
 callee_block = record { at = 32; stmts = push_si ∷ set_si ∷ copy_dl ∷ pop_si ∷ []; exit = Ret (map Get passed) }
 
-abbrev pub callee : Graph
-callee = record { entry = 32; params = map param_of passed; local = 0; pushed = 0; blocks = callee_block ∷ []; bits = [] }
+abbrev pub halves : List Param
+halves = map param_of passed
 
-abbrev pub call : Stmt
-call = Call passed 32 (map Get passed) 2
+abbrev pub callee : Graph
+callee = record { entry = 32; params = halves; local = 0; pushed = 0; blocks = callee_block ∷ []; bits = [] }
 
 -- the caller ends with AL as the exit code
+abbrev pub call : Stmt
+call = calling.call 0x4C (Get al) [] [] passed (map Get passed) halves (map Get passed)
+
 abbrev pub exit_call : Stmt
-exit_call = Dos 0x4C None (Some (Get al))
+exit_call = calling.last 0x4C (Get al) [] [] passed (map Get passed) halves (map Get passed)
 
 abbrev pub calling_block : Block
-calling_block = record { at = 0; stmts = call ∷ []; exit = Goto 1 }
+calling_block = calling.calling_block 0x4C (Get al) [] [] passed (map Get passed) halves (map Get passed)
 
 abbrev pub last_block : Block
-last_block = record { at = 3; stmts = exit_call ∷ []; exit = Stop }
+last_block = calling.last_block 0x4C (Get al) [] [] passed (map Get passed) halves (map Get passed)
 
 abbrev pub caller : Graph
-caller = record { entry = 0; params = []; local = 0; pushed = 0; blocks = calling_block ∷ last_block ∷ []; bits = [] }
+caller = calling.caller 0x4C (Get al) [] [] passed (map Get passed) halves (map Get passed)
 
 abbrev pub program : Program
 program = record { graphs = caller ∷ callee ∷ []; image = []; lo = 16; hi = 256 }
@@ -249,7 +254,7 @@ abbrev local_callee : Graph
 local_callee = record callee { params = param_of dl ∷ []; blocks = record callee_block { exit = Ret (Get al ∷ []) } ∷ [] }
 
 abbrev local_caller : Graph
-local_caller = record caller { blocks = record calling_block { stmts = Call (al ∷ []) 32 (Get dl ∷ []) 2 ∷ [] } ∷ last_block ∷ [] }
+local_caller = record caller { blocks = record calling_block { stmts = Call (al ∷ []) 32 (Get dl ∷ []) 4 ∷ [] } ∷ last_block ∷ [] }
 
 localised_is : localised sums program ≡ record program { graphs = local_caller ∷ local_callee ∷ [] }
 localised_is = refl

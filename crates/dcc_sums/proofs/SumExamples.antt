@@ -1,11 +1,11 @@
 -- The summaries of a small program are just these, so its localised program keeps all.
 use Rattle.std.proofs.Common.{arith, lit<, ◌≡◌, ℕ, zero, suc, ◌<◌, Bool, true, false, cond, not, ◌⊎◌, inl, inr, List, [], ◌∷◌, Some, None, refl, sym, ap, ◌∙◌, subst, true≢false, map, eqb-true}
 use Rattle.std.specs.Prelude.{All, Contains, filter, if◌then◌else◌, ◌==◌}
-use Rattle.std.proofs.lemmas.List.Elements.{All-nil, All-cons}
+use Rattle.std.proofs.lemmas.List.Elements.{All-nil, All-cons, All-head, All-tail}
 use Rattle.dcc_ir.specs.declared.syntax.Loc.{Loc}
 use Rattle.dcc_ir.specs.Location.{same_location}
 use Rattle.dcc_ir.specs.Live.{is_among}
-use Rattle.dcc_ir.specs.Tree.{Call, Stop, Block, Graph}
+use Rattle.dcc_ir.specs.Tree.{Get, Call, Stop, Block, Graph}
 use Rattle.dcc_ir.specs.Flow.{graph_or_none}
 use Rattle.dcc_ir.specs.Run.{no_graph, graph_at}
 use Rattle.dcc_ir.specs.Passing.{passed, param_of, RetPasses, GraphPasses, StmtPasses, PassesAll}
@@ -25,7 +25,9 @@ use Rattle.dcc_ir.specs.WellFormed.{is_param_list, memory_params_last, jumps_aft
 use Rattle.dcc_sums.specs.Localised.{localised}
 use Rattle.dcc_sums.specs.Laws.{IsKeptBy}
 use Rattle.dcc_sums.proofs.KeepLaws.{localised-keeps}
-use Rattle.dcc_sums.proofs.Examples.{call, exit_call, callee_block, calling_block, last_block, al, dl, si, word, push_si, set_si, copy_dl, pop_si, callee, caller, program, P, at, along, returns_there, unlost, al_is_changed, al_is_a_result, dl_is_a_param, caller_sum, callee_sum, sums}
+use Rattle.dcc_ir.proofs.CallingPrograms as calling
+use Rattle.dcc_ir.proofs.CallingPrograms.{one}
+use Rattle.dcc_sums.proofs.Examples.{halves, call, exit_call, callee_block, calling_block, last_block, al, dl, si, word, push_si, set_si, copy_dl, pop_si, callee, caller, program, P, at, along, returns_there, unlost, al_is_changed, al_is_a_result, dl_is_a_param, caller_sum, callee_sum, sums}
 
 -- Edges.
 
@@ -386,9 +388,6 @@ reuses_none i a l reused =
 
 -- All halves and flags pass.
 
-one : {X : Type 0} (Q : X → Type 0) (x : X) → Q x → All Q (x ∷ [])
-one Q x h = All-cons Q x [] h (All-nil Q)
-
 no_words : ℕ → List ℕ
 no_words entry = []
 
@@ -419,36 +418,39 @@ of_both Q h k = All-cons Q caller (callee ∷ []) h (one Q callee k)
 of_blocks : (Q : Block → Type 0) → Q calling_block → Q last_block → All Q caller.blocks
 of_blocks Q h k = All-cons Q calling_block (last_block ∷ []) h (one Q last_block k)
 
+-- the same program with a callee that does nothing
+idle_formed : IsProgram (calling.program 0x4C (Get al) [] [] passed (map Get passed) halves (map Get passed))
+idle_formed = calling.formed 0x4C (Get al) [] [] passed (map Get passed) halves (map Get passed) refl refl refl refl refl refl refl refl refl
+
+abbrev idle : Graph
+idle = calling.callee 0x4C (Get al) [] [] passed (map Get passed) halves (map Get passed)
+
+callee_formed : IsGraph callee
+callee_formed =
+    let is = All-head IsGraph idle [] (All-tail IsGraph caller (idle ∷ []) idle_formed.graphs) in
+    record {
+      begins = is.begins;
+      entry = is.entry;
+      offsets = one (λ b. b.at < 65536) callee_block (lit< tt);
+      jumps = one (λ b. jumps_after_call b.stmts b.exit ≡ true) callee_block refl;
+      addresses = is.addresses;
+      bits = is.bits;
+      params = is.params;
+      blocks = refl;
+    }
+
 program_formed : IsProgram program
 program_formed = record {
-  image = All-nil (λ byte. byte < 256);
-  lo = lit< tt;
-  hi = lit< tt;
-  begins = lit< tt;
-  entries = refl;
-  graphs = of_both IsGraph (record {
-    begins = lit< tt;
-    entry = lit< tt;
-    offsets = of_blocks (λ b. b.at < 65536) (lit< tt) (lit< tt);
-    jumps = of_blocks (λ b. jumps_after_call b.stmts b.exit ≡ true) refl refl;
-    addresses = refl;
-    bits = refl;
-    params = refl;
-    blocks = refl;
-  }) (record {
-    begins = lit< tt;
-    entry = lit< tt;
-    offsets = one (λ b. b.at < 65536) callee_block (lit< tt);
-    jumps = one (λ b. jumps_after_call b.stmts b.exit ≡ true) callee_block refl;
-    addresses = refl;
-    bits = refl;
-    params = refl;
-    blocks = refl;
-  });
+  image = idle_formed.image;
+  lo = idle_formed.lo;
+  hi = idle_formed.hi;
+  begins = idle_formed.begins;
+  entries = idle_formed.entries;
+  graphs = of_both IsGraph (All-head IsGraph caller (idle ∷ []) idle_formed.graphs) callee_formed;
   params = of_both (λ g. is_param_list g.bits g.params ≡ true) refl refl;
   memory_last = of_both (λ g. memory_params_last g.params ≡ true) refl refl;
-  start = one (λ g. g.params ≡ []) caller refl;
-  start_rets = one (λ g. All (λ widths. widths ≡ []) (all_ret_widths g)) caller (All-nil (λ widths. widths ≡ []));
+  start = idle_formed.start;
+  start_rets = idle_formed.start_rets;
   rets = of_both (λ g. (a b : List ℕ) → Contains (all_ret_widths g) a → Contains (all_ret_widths g) b → a ≡ b)
       (λ a b c d. absurd (Contains-none a c)) (λ a b c d. sym (one_there a c) ∙ one_there b d);
   calls = of_both (λ g. All (λ b. All (IsCalling program g) b.stmts) g.blocks)
