@@ -1,7 +1,8 @@
 -- What is said of all arguments of calls and of values that are given back, and of those that stay.
-use Rattle.std.proofs.Common.{arith, ◌≡◌, ℕ, zero, suc, Bool, true, false, cond, ◌&&◌, ◌⊎◌, inl, inr, List, [], ◌∷◌, ◌++◌, length, Some, refl, sym, ap, ap₂, ◌∙◌, subst, true≢false, map, drop, slice_get, flat_map}
+use Rattle.std.proofs.Common.{arith, ◌≡◌, ℕ, zero, suc, Bool, true, false, cond, ◌&&◌, ◌⊎◌, inl, inr, List, [], ◌∷◌, ◌++◌, length, Some, refl, sym, ap, ap₂, ◌∙◌, subst, true≢false, map, drop, slice_get, flat_map, ◌+◌}
 use Rattle.std.specs.Prelude.{Contains, filter}
 use Rattle.std.specs.List.{list_all}
+use Rattle.std.proofs.lemmas.List.{length-map, length-append}
 use Rattle.dcc_ir.specs.declared.syntax.Loc.{Loc}
 use Rattle.dcc_ir.specs.declared.syntax.Loc.TheVariants.{Half, Flag, Cell, Temp}
 use Rattle.dcc_ir.specs.declared.syntax.Put.{Put}
@@ -135,3 +136,11 @@ wide_is_word bits (Get (Flag f)) e = absurd (omega (arith, e))
 wide_is_word bits (Get (Cell n h)) e = refl
 wide_is_word bits (Get (Temp n)) e = refl
 wide_is_word bits e wide = refl
+
+-- A call passes as many words as its callee takes.
+pub words_as_many : (f : Expr → ℕ) (h : Param → ℕ) (words : List Expr) (taken : List Param) (xs : List Loc) → map f (words ++ map Get xs) ≡ map h (taken ++ map param_of xs) → length words ≡ length taken
+words_as_many f h words taken xs same =
+    let whole : length (words ++ map Get xs) ≡ length (taken ++ map param_of xs) = sym (length-map (words ++ map Get xs) f) ∙ ap length same ∙ length-map (taken ++ map param_of xs) h in
+    let one : length words + length xs ≡ length (words ++ map Get xs) = ap (λ n. length words + n) (sym (length-map xs Get)) ∙ sym (length-append words (map Get xs)) in
+    let other : length (taken ++ map param_of xs) ≡ length taken + length xs = length-append taken (map param_of xs) ∙ ap (λ n. length taken + n) (length-map xs param_of) in
+    omega (arith, one, whole, other)

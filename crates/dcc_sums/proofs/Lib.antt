@@ -8,5 +8,6 @@ pub mod ArgumentLaws
 pub mod PassLaws
 pub mod StayLaws
 pub mod KeepLaws
+pub mod JustLaws
 pub mod Examples
 mod SumExamples

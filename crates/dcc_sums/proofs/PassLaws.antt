@@ -1,8 +1,8 @@
 -- A program without what isn't wanted keeps the runs: the pass meets what it owes.
-use Rattle.std.proofs.Common.{arith, ◌≡◌, ℕ, suc, ◌+◌, Bool, true, false, not, ◌⊎◌, inl, inr, List, [], ◌∷◌, ◌++◌, length, Option, Some, None, refl, sym, ap, ◌∙◌, subst, true≢false, map, take, drop, slice_get}
+use Rattle.std.proofs.Common.{◌≡◌, ℕ, suc, Bool, true, false, not, ◌⊎◌, inl, inr, List, [], ◌∷◌, ◌++◌, length, Option, Some, None, refl, sym, ap, ◌∙◌, subst, true≢false, map, take, drop, slice_get}
 use Rattle.std.specs.Prelude.{if◌then◌else◌, ◌==◌, All, Contains, filter}
 use Rattle.std.specs.List.{list_all}
-use Rattle.std.proofs.lemmas.List.{length-map, length-append}
+use Rattle.std.proofs.lemmas.List.{length-map}
 use Rattle.std.proofs.lemmas.List.Elements.{All-head, All-contains}
 use Rattle.dcc_run.specs.End.{is_over}
 use Rattle.dcc_ir.specs.declared.syntax.Loc.{Loc}
@@ -40,7 +40,7 @@ use Rattle.dcc_sums.proofs.GivenLaws.{fit_length, given-kept, given-dropped, giv
 use Rattle.dcc_sums.proofs.TraceLaws.{Does, Traced, traced_next, stmt_does, end_does, call_does, temps_stay}
 use Rattle.dcc_sums.proofs.BeginLaws.{nothing}
 use Rattle.dcc_sums.proofs.SiteLaws.{IsAfter, none, after_next, after_there, site_is, sum_there, first_or_rest, P, graph_of, changes_pass, goes_next, goes_there, wanted_still, wanted_there, wanted_used, before}
-use Rattle.dcc_sums.proofs.ArgumentLaws.{decided_locations, kept_values, first_there, at_first, contains_left, contains_right, contains_either, contains_filter, contains_flat, no_elements, drop_words, temps_apart, arguments_stay, words_wide, wide_is_word}
+use Rattle.dcc_sums.proofs.ArgumentLaws.{words_as_many, decided_locations, kept_values, first_there, at_first, contains_left, contains_right, contains_either, contains_filter, contains_flat, no_elements, drop_words, temps_apart, arguments_stay, words_wide, wide_is_word}
 
 -- the positions of a block
 abbrev at : ℕ → ℕ → Position
@@ -270,14 +270,7 @@ module _ (back : ℕ → List ℕ) (p : Program) (sums : List Summary) (formed :
       widths_are = ap (map (width_of g.bits)) (sym taken) ∙ call.taken ∙ ap (map (λ (q : Param). put_width call.callee.bits q.put)) callee_passes.params.params
 
       as_many : length words ≡ length callee_passes.words
-      as_many =
-          let one = sym (length-map (words ++ map Get passed) (width_of g.bits)) in
-          let other = length-map (callee_passes.words ++ map param_of passed) (λ (q : Param). put_width call.callee.bits q.put) in
-          let both_are = one ∙ ap length widths_are ∙ other in
-          let first = length-append words (map Get passed) in
-          let second = length-append callee_passes.words (map param_of passed) in
-          let same : length words + 16 ≡ length callee_passes.words + 16 = sym first ∙ both_are ∙ second in
-          omega (arith, same)
+      as_many = words_as_many (width_of g.bits) (λ (q : Param). put_width call.callee.bits q.put) words callee_passes.words passed widths_are
 
       -- the arguments that stay are the same
       enters : map (value_in t) (kept ((trim p sums).takes entry) arguments) ≡ kept ((trim p sums).takes entry) (map (value_in s) arguments)

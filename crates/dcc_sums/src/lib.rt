@@ -2,7 +2,7 @@
 //! its contract, and does nothing.
 #![tactic(auto)]
 
-ghost use Rattle.dcc_sums.specs.Laws.{TrimmedIsFormed, LocalisedKeeps};
+ghost use Rattle.dcc_sums.specs.Laws.{TrimmedIsFormed, LocalisedKeeps, LocalisedPassesJust};
 
 /// A well-formed program is so still where arguments and values given back have gone.
 pub fn trimmed_is_formed()
@@ -13,4 +13,10 @@ pub fn trimmed_is_formed()
 /// what is wanted passes is well formed, and keeps the runs, the blocks, the calls and the frames.
 pub fn localised_keeps_all()
     ensures { LocalisedKeeps }
+{}
+
+/// In that program each graph takes words on the stack and just the params of its summary, and gives just the results;
+/// each call passes and takes just these.
+pub fn localised_passes_just()
+    ensures { LocalisedPassesJust }
 {}
