@@ -95,6 +95,7 @@ fn emit_stmt<'a>(
         (λ word. from_label_inside word (stmt_of stmt.now) line lines rest)
         (runs (before_lines (stmt_of stmt.now) line lines) rest) }
 {
+    let next = following.next;
     match stmt {
         CStmt::Assign(place, e) => emit_assign(context, place, e, line, following.next, code),
         CStmt::Call(place, function, arguments, depth) => {
@@ -106,25 +107,9 @@ fn emit_stmt<'a>(
             let no = emit_lines(context, otherwise, following, code)?;
             emit_if(context, &Tested { e, line }, body, no, following, code)
         }
-        CStmt::While(e, body) => {
-            emit_loop(
-                context,
-                &Tested { e, line },
-                true,
-                body,
-                following.next,
-                code,
-            )
-        }
+        CStmt::While(e, body) => { emit_loop(context, &Tested { e, line }, true, body, next, code) }
         CStmt::DoWhile(body, e) => {
-            emit_loop(
-                context,
-                &Tested { e, line },
-                false,
-                body,
-                following.next,
-                code,
-            )
+            emit_loop(context, &Tested { e, line }, false, body, next, code)
         }
         CStmt::Forever(body) => emit_forever(context, body, line, following.next, code),
         CStmt::Switch(e, arms, last) => {

@@ -14,8 +14,7 @@ ghost use Rattle.dcc_text.specs.Views.{way_of};
 use crate::constant::constant;
 use crate::nodes::{binary, cast, conditional, small};
 use crate::operator::{
-    binary_taken, is_comparison, is_test, left_way, operand_way, right_way, unary_taken,
-    votes_left, votes_right,
+    binary_taken, left_way, operand_way, right_way, unary_taken, votes_left, votes_right,
 };
 use crate::spells::Spells;
 use crate::variable::{placed, pointed, variable};
@@ -35,14 +34,14 @@ fn width_in<S: Spells>(s: &S, e: &Expr) -> Result<u32, AllocError>
         | Expr::Part(width, ..) => Ok(u32::from(*width)),
         Expr::Get(location) => Ok(u32::from(s.width(*location))),
         Expr::Un(operator, width, ..) => {
-            Ok(if is_test(*operator) {
+            Ok(if operator.is_test() {
                 1
             } else {
                 u32::from(*width)
             })
         }
         Expr::Bin(operator, width, ..) => {
-            Ok(if is_comparison(*operator) {
+            Ok(if operator.is_comparison() {
                 1
             } else {
                 u32::from(*width)

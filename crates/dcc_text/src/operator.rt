@@ -13,23 +13,6 @@ use dcc_c::{CBin, CExpr, CUn};
 use dcc_ir::{BinOp, UnOp};
 use std::alloc::{AllocError, Global};
 
-/// Whether an operator gives one bit.
-pub fn is_test(operator: UnOp) -> bool
-    ensures { result ≡ is_test operator }
-{
-    operator == UnOp::IsZero
-}
-
-/// Whether an operator gives one bit.
-pub fn is_comparison(operator: BinOp) -> bool
-    ensures { result ≡ is_comparison operator }
-{
-    matches!(
-        operator,
-        BinOp::Eq | BinOp::LtS | BinOp::LtU | BinOp::LeS | BinOp::LeU
-    )
-}
-
 /// The way of an operator's operand, where the result is wanted in a way.
 pub fn operand_way(operator: UnOp, way: Way, width: u32) -> Way
     ensures { way_of result ≡ spec.operand_way operator (way_of way) width }
@@ -74,7 +57,7 @@ pub fn unary_taken(
     ensures { IfOk result (λ r. expr_of r ≡ spec.taken (spec.unary_result operator (way_of way) width) (way_of way)
         (if is_test operator then 1 else width) (spec.unary_text operator width (expr_of a))) }
 {
-    let result_width = if is_test(operator) { 1 } else { width };
+    let result_width = if operator.is_test() { 1 } else { width };
     let e = unary_text(alloc, operator, width, a)?;
     unary_result(operator, way, width).taken(alloc, way, result_width, e)
 }
@@ -159,7 +142,7 @@ pub fn symbol(operator: BinOp) -> CBin
 fn binary_result(operator: BinOp, way: Way, width: u32) -> Way
     ensures { way_of result ≡ spec.binary_result operator (way_of way) width }
 {
-    if is_comparison(operator) {
+    if operator.is_comparison() {
         Way::Exact
     } else {
         left_way(operator, way, width)
@@ -178,7 +161,7 @@ pub fn binary_taken(
     ensures { IfOk result (λ r. expr_of r ≡ spec.taken (spec.binary_result operator (way_of way) width) (way_of way)
         (if is_comparison operator then 1 else width) (tree.Binary (spec.symbol operator) (expr_of a) (expr_of b))) }
 {
-    let result_width = if is_comparison(operator) { 1 } else { width };
+    let result_width = if operator.is_comparison() { 1 } else { width };
     let e = binary(alloc, symbol(operator), a, b)?;
     binary_result(operator, way, width).taken(alloc, way, result_width, e)
 }

@@ -47,7 +47,8 @@ case 65535: if (1) { break; } dos_putc(66); break; default: dos_putc(67); break;
 const LAST_ARM: &str = "switch (3) { case 1: case 2: dos_putc(65); break;
 case 65535: if (1) { break; } dos_putc(66); break; default: dos_putc(67); break; } dos_exit(0);";
 
-const NO_ARM: &str = "switch (3) { case 1: case 2: dos_putc(65); break; } dos_exit(0);";
+const NO_ARM: &str = "switch (3) { case 1: case 2: dos_putc(65); break;
+case 65535: if (1) { break; } dos_putc(66); break; } dos_exit(0);";
 
 const CALLS: &str = "#pragma dcc depth 6
 i = f(277, 5);
@@ -55,7 +56,7 @@ i = f(277, 5);
 dos_putc(i);
 return;";
 
-const KEYS: &str = "i = dos_getche(); i = dos_getch(); i = dos_getche(); i = 1 / (i - 26);";
+const KEYS: &str = "i = dos_getche(); dos_getch(); i = dos_getche(); i = 1 / (i - 26);";
 
 // Statements of `start`, the input, what is written, and how the run ends.
 static RUNS: [(&str, &[u8], &[u8], CStepped); 8] = [
@@ -107,12 +108,12 @@ fn faults_leave_the_run_as_it_was(rt: HostRuntime) -> Result<(), Fail> {
         CStepped::OutFault,
         CStepped::Running,
         CStepped::OutFault,
-        CStepped::Running,
-        CStepped::Exit(1),
-        CStepped::Exit(1),
     ] {
         assert_eq!(rt; run.step(alloc, &mut source, &mut sink), answer);
     }
+    let end = run.run(alloc, &mut source, &mut sink, 9);
+    assert_eq!(rt; end, CStepped::Exit(1));
+    assert_eq!(rt; run.step(alloc, &mut source, &mut sink), CStepped::Exit(1));
     assert_eq!(rt; sink.taken().as_slice(), b"bb".as_slice());
     Ok(())
 }
