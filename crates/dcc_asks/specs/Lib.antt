@@ -1,0 +1,7 @@
+pub mod Bodies
+pub mod Places
+pub mod Moves
+pub mod Values
+pub mod Instance
+pub mod Asked
+pub mod Laws
