@@ -41,7 +41,7 @@ copied-not-left nowhere e = true≢false (sym e)
 
 -- Moves.
 
-lands : List Spot → Place → Bool
+abbrev pub lands : List Spot → Place → Bool
 lands spots place = list_any (λ spot. is_at spot place) spots
 
 -- what follows a test that fails
@@ -56,7 +56,6 @@ none-of a b e f = ap (λ x. x || b) e ∙ f
 module _ (place : Place) (addresses : Place → Bool) where
   between-left : (tos froms : List Spot) (rest : List Move) → is_left (moved_effect (moves_between addresses tos froms ++ rest) place) ≡ true
       → (lands tos place ≡ false) × (is_left (moved_effect rest place) ≡ true)
-  unfolding lands
   between-left [] froms rest e = (refl, e)
   between-left (to ∷ tos) [] rest e =
       let here = skipped (is_at to place) (copying nowhere) (moved_effect (moves_between addresses tos [] ++ rest) place) (copied-not-left nowhere) e in
@@ -68,7 +67,6 @@ module _ (place : Place) (addresses : Place → Bool) where
       (none-of (is_at to place) (lands tos place) here.0 later.0, later.1)
 
   only-between-left : (tos froms : List Spot) → is_left (moved_effect (moves_between addresses tos froms) place) ≡ true → lands tos place ≡ false
-  unfolding lands
   only-between-left [] froms e = refl
   only-between-left (to ∷ tos) [] e =
       let here = skipped (is_at to place) (copying nowhere) (moved_effect (moves_between addresses tos []) place) (copied-not-left nowhere) e in
@@ -78,7 +76,6 @@ module _ (place : Place) (addresses : Place → Bool) where
       none-of (is_at to place) (lands tos place) here.0 (only-between-left tos froms here.1)
 
 popped-left : (place : Place) (body : Body) (a : Operand) (tos : List Spot) (k : ℤ) → is_left (moved_effect (popping body a tos k) place) ≡ true → lands tos place ≡ false
-unfolding lands
 popped-left place body a [] k e = refl
 popped-left place body a (to ∷ tos) k e =
     let here = skipped (is_at to place) (Pops k) (moved_effect (popping body a tos (k +ℤ pos 1)) place) (λ l. true≢false (sym l)) e in
@@ -91,7 +88,7 @@ neither-half true Low e = absurd (true≢false e)
 neither-half true High e = absurd (true≢false e)
 neither-half false half e = refl
 
-not-sp : (r : Reg) → is_general r ≡ true → is_same_register r Sp ≡ false
+pub not-sp : (r : Reg) → is_general r ≡ true → is_same_register r Sp ≡ false
 not-sp Ax g = refl
 not-sp Cx g = refl
 not-sp Dx g = refl
@@ -101,7 +98,7 @@ not-sp Bp g = absurd (true≢false (sym g))
 not-sp Si g = refl
 not-sp Di g = refl
 
-not-bp : (r : Reg) → is_general r ≡ true → is_same_register r Bp ≡ false
+pub not-bp : (r : Reg) → is_general r ≡ true → is_same_register r Bp ≡ false
 not-bp Ax g = refl
 not-bp Cx g = refl
 not-bp Dx g = refl
@@ -116,7 +113,6 @@ module _ (r : Reg) (half : Half) (general : is_general r ≡ true) where
   place = held (half_of r half)
 
   word-left : (q : Reg) → lands (register_spots q) place ≡ false → is_same_register r q ≡ false
-  unfolding lands
   word-left Ax e = neither-half (is_same_register r Ax) half e
   word-left Cx e = neither-half (is_same_register r Cx) half e
   word-left Dx e = neither-half (is_same_register r Dx) half e
@@ -127,7 +123,6 @@ module _ (r : Reg) (half : Half) (general : is_general r ≡ true) where
   word-left Di e = neither-half (is_same_register r Di) half e
 
   operand-left : (body : Body) (a : Operand) → lands (spots_of body a) place ≡ false → is_half_of r half a ≡ false
-  unfolding lands
   operand-left body (Word q) e = word-left q e
   operand-left body (Byte q other) e = (or-none (is_same_register r q && is_same_half half other) false e).0
   operand-left body (Seg number) e = refl
@@ -142,7 +137,7 @@ IsCall (Call target) = Unit {0}
 IsCall op = ⊥
 
 -- what an operation at a height does, where it calls that procedure
-abbrev effect_by : Body → Op → ℕ → Option ℕ → Option Body → Place → Effect Place ℤ
+abbrev pub effect_by : Body → Op → ℕ → Option ℕ → Option Body → Place → Effect Place ℤ
 effect_by body op height number callee place =
     if moves_or_calls op then if touches_byte callee height place then Makes else moved_effect (moves_of body height op) place
     else if value_written body op number place then Makes

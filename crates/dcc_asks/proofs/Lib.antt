@@ -1,2 +1,3 @@
 pub mod LeftLaws
+pub mod MadeLaws
 pub mod Examples

@@ -1,5 +1,5 @@
--- Laws of what the instructions of a procedure do to halves and flags.
-use Rattle.std.specs.Prelude.{◌≡◌, ℕ, true, List}
+-- Laws of what the instructions of a procedure do to halves and flags, and of what they make them.
+use Rattle.std.specs.Prelude.{◌≡◌, ℕ, true, false, List}
 use Rattle.dcc_num.specs.declared.Reg.{Reg}
 use Rattle.dcc_num.specs.declared.Half.{Half}
 use Rattle.dcc_num.specs.declared.FlagName.{FlagName}
@@ -11,11 +11,13 @@ use Rattle.dcc_prog.specs.Trail.{is_general}
 use Rattle.dcc_prog.specs.WellFormed.{IsOperation}
 use Rattle.dcc_prog.specs.StateForm.{IsState}
 use Rattle.dcc_prog.specs.LocationLaws.{half_in, flag_in}
-use Rattle.dcc_prog.specs.Wanted.{half_of, flag_of}
+use Rattle.dcc_prog.specs.AlikeLaws.{AgreeIn, AgreeBeside, IsCallNumber, divides_by}
+use Rattle.dcc_prog.specs.Wanted.{Location, half_of, flag_of}
+use Rattle.dcc_run.specs.End.{is_over}
 use Rattle.dcc_demand.specs.Procedures.{Leaves}
 use Rattle.dcc_asks.specs.Bodies.{Body, Point, op_of}
-use Rattle.dcc_asks.specs.Places.{held}
-use Rattle.dcc_asks.specs.Instance.{effect_at}
+use Rattle.dcc_asks.specs.Places.{held, passes}
+use Rattle.dcc_asks.specs.Instance.{effect_at, action_of}
 
 -- The step of an instruction leaves each half and each flag as it was that the instruction leaves; of a CALL that is
 -- its own step. Which calls of INT 21h write AL rests on the number, so these are left out.
@@ -29,3 +31,23 @@ pub record WhatIsLeftStays : Type 0 where
       (bodies : List Body) (body : Body) (point : Point) (cpu : Cpu) (at : ℕ) (s : State) (flag : FlagName)
       → IsOperation (op_of point) → effect_at bodies body point (held (flag_of flag)) ≡ Leaves
       → flag_in (op_step cpu (op_of point) at s).flags flag ≡ flag_in s.flags flag
+
+-- Two states agree in all halves and flags of which an instruction makes this one, in this one where it doesn't surely
+-- write it, and where it divides in all that it divides.
+pub record AreAlikeBefore (bodies : List Body) (body : Body) (point : Point) (s t : State) (to : Location)
+    : Type 0 where
+  pub made :
+      (from : Location) → (action_of bodies body point).made_of (held to) (held from) ≡ true → AgreeIn from s t
+  pub still : (action_of bodies body point).surely (held to) ≡ false → AgreeIn to s t
+  pub divided : (from : Location) → divides_by (op_of point) from ≡ true → AgreeIn from s t
+
+-- If they have the same memory too, and differ in nothing but halves and flags that pass, they agree in it after the
+-- step, where the run goes on.
+abbrev pub WhatInstructionsMakeAlikeIsAlike : Type 0
+WhatInstructionsMakeAlikeIsAlike =
+    (bodies : List Body) (body : Body) (point : Point) (cpu : Cpu) (at : ℕ) (s t : State) (to : Location)
+    → IsOperation (op_of point) → IsState s → IsState t → AgreeBeside s t
+    → IsCallNumber (op_of point) point.node.number s → IsCallNumber (op_of point) point.node.number t
+    → passes (held to) ≡ true → AreAlikeBefore bodies body point s t to
+    → is_over (op_step cpu (op_of point) at s).end ≡ false
+    → AgreeIn to (op_step cpu (op_of point) at s) (op_step cpu (op_of point) at t)

@@ -42,8 +42,8 @@ passes (in_frame k) = false
 
 abbrev pub is_same_location : Location → Location → Bool
 is_same_location (half_of r half) (half_of q other) = is_same_register r q && is_same_half half other
-is_same_location (flag_of flag) location = is_flag flag location
-is_same_location (half_of r half) (flag_of flag) = false
+is_same_location (flag_of flag) (flag_of other) = is_flag flag (flag_of other)
+is_same_location location other = false
 
 abbrev pub is_same_place : Place → Place → Bool
 is_same_place (held location) (held other) = is_same_location location other

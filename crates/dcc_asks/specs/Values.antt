@@ -1,5 +1,6 @@
 -- Operations that make values of their operands: each byte and flag that they write is made of all that they read for
--- it, both halves of a word included. For halves and flags dcc_prog tells what is made of what; bytes of cells join here.
+-- it, both halves of a word included. For halves and flags dcc_prog tells what is made of what; bytes of cells join
+-- here.
 use Rattle.std.specs.Prelude.{ℕ, ◌%◌, ◌==◌, Bool, true, false, not, ◌&&◌, ◌||◌, Option, None, if◌then◌else◌}
 use Rattle.dcc_num.specs.declared.FlagName.TheVariants.{Of}
 use Rattle.dcc_prog.specs.declared.instr.Count.TheVariants.{Const as ConstCount}

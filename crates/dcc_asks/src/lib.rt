@@ -1,10 +1,15 @@
-//! Laws of what the instructions of the machine's procedures do to halves of registers and to flags. The function does
-//! nothing: its contract is proved for all.
+//! Laws of what the instructions of the machine's procedures do to halves of registers and to flags. The functions do
+//! nothing: their contracts are proved for all.
 #![tactic(auto)]
 
-ghost use Rattle.dcc_asks.specs.Laws.{WhatIsLeftStays};
+ghost use Rattle.dcc_asks.specs.Laws.{WhatIsLeftStays, WhatInstructionsMakeAlikeIsAlike};
 
 /// What an instruction leaves, as its procedure sees it, is as it was after its step.
 pub fn what_is_left_stays()
     ensures { WhatIsLeftStays }
+{}
+
+/// Two states that agree in all of which an instruction makes a half or a flag agree in it after its step.
+pub fn what_instructions_make_alike_is_alike()
+    ensures { WhatInstructionsMakeAlikeIsAlike }
 {}
