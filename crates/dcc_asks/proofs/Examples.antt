@@ -38,14 +38,14 @@ use Rattle.dcc_asks.specs.Places.{Place, held, in_frame}
 use Rattle.dcc_asks.specs.Instance.{action_of, procedures_of}
 use Rattle.dcc_asks.specs.Asked.{of_register, of_flag, of_pair, GivesSeveral, IsOfSummaries, several_results}
 
-abbrev vec_with : {T : Type 0} (xs : List T) → length xs < 2 ^ 63 → Vec T Global
+abbrev pub vec_with : {T : Type 0} (xs : List T) → length xs < 2 ^ 63 → Vec T Global
 vec_with xs few = record { ptr = null_ptr; len = length xs; cap = length xs; alloc = record { memory = record { seal = tt } }; items = xs; ok = (refl, omega arith); small = few }
 
 -- an instruction whose next ones stand there
-abbrev node_of : Op → List ℕ → Node
+abbrev pub node_of : Op → List ℕ → Node
 node_of op next = record { instr = record { op = op; len = 2 }; succ = record { items = next; capacity = 2 }; number = None }
 
-abbrev half : Reg → Half → Place
+abbrev pub half : Reg → Half → Place
 half r h = held (half_of r h)
 
 abbrev al : Place
@@ -55,17 +55,17 @@ abbrev si : Place
 si = half Si Low
 
 -- the word at SI, and at BP and a displacement
-abbrev at_si : Operand
+abbrev pub at_si : Operand
 at_si = Mem word_width (record { base = None; index = Some Si; disp = 0 })
 
-abbrev at_bp : ℕ → Operand
+abbrev pub at_bp : ℕ → Operand
 at_bp disp = Mem word_width (record { base = Some Bp; index = None; disp = disp })
 
-here : {x : ℕ} → Contains (x ∷ []) x
+pub here : {x : ℕ} → Contains (x ∷ []) x
 here = (0, omega arith, refl)
 
 -- the one element of a list
-at_only : (P : ℕ → Type 0) {x y : ℕ} → Contains (x ∷ []) y → P x → P y
+pub at_only : (P : ℕ → Type 0) {x y : ℕ} → Contains (x ∷ []) y → P x → P y
 at_only P {x} {y} c h = All-contains P (x ∷ []) y (All-cons P x [] h (All-nil P)) c
 
 none_there : {A : Type 0} {x : ℕ} → Contains [] x → A
@@ -101,7 +101,7 @@ module _ (P : Procedure ℕ Place ℤ) (l : Place) (word : ℤ) (first second th
 
 -- whatever else the procedures and frames are
 module _ (proc : Proc) (frame : Frame) where
-  abbrev body_with : ℕ → List (ℕ × Node) → List (ℕ × ℕ) → (cells : List Cell) → length cells < 2 ^ 63 → Body
+  abbrev pub body_with : ℕ → List (ℕ × Node) → List (ℕ × ℕ) → (cells : List Cell) → length cells < 2 ^ 63 → Body
   body_with entry nodes heights cells few = record {
     proc = record proc { entry = entry; nodes = hash_map nodes (hasher_of proc.nodes) 0 };
     frame = record frame {

@@ -1,3 +1,4 @@
 pub mod LeftLaws
 pub mod MadeLaws
 pub mod Examples
+mod StackExamples
