@@ -1,4 +1,5 @@
 pub mod LeftLaws
 pub mod MadeLaws
+pub mod PlaceLaws
 pub mod Examples
 mod StackExamples

@@ -1,4 +1,5 @@
--- Laws of what the instructions of a procedure do to halves and flags, and of what they make them.
+-- Laws of what the instructions of a procedure do to halves and flags, of what they make them, and of what procedures
+-- preserve.
 use Rattle.std.specs.Prelude.{◌≡◌, ℕ, true, false, List}
 use Rattle.dcc_num.specs.declared.Reg.{Reg}
 use Rattle.dcc_num.specs.declared.Half.{Half}
@@ -15,9 +16,12 @@ use Rattle.dcc_prog.specs.AlikeLaws.{AgreeIn, AgreeBeside, IsCallNumber, divides
 use Rattle.dcc_prog.specs.Wanted.{Location, half_of, flag_of}
 use Rattle.dcc_run.specs.End.{is_over}
 use Rattle.dcc_demand.specs.Procedures.{Leaves}
+use Rattle.dcc_demand.specs.Trail.{IsTrail}
+use Rattle.dcc_demand.specs.Changes.{Changes, IsPreserved}
+use Rattle.dcc_demand.specs.Holds.{Holds}
 use Rattle.dcc_asks.specs.Bodies.{Body, Point, op_of}
-use Rattle.dcc_asks.specs.Places.{held, passes}
-use Rattle.dcc_asks.specs.Instance.{effect_at, action_of}
+use Rattle.dcc_asks.specs.Places.{Place, held, passes}
+use Rattle.dcc_asks.specs.Instance.{effect_at, action_of, procedures_of}
 
 -- The step of an instruction leaves each half and each flag as it was that the instruction leaves; of a CALL that is
 -- its own step. Which calls of INT 21h write AL rests on the number, so these are left out.
@@ -51,3 +55,11 @@ WhatInstructionsMakeAlikeIsAlike =
     → passes (held to) ≡ true → AreAlikeBefore bodies body point s t to
     → is_over (op_step cpu (op_of point) at s).end ≡ false
     → AgreeIn to (op_step cpu (op_of point) at s) (op_step cpu (op_of point) at t)
+
+-- At each return of a procedure a place that it preserves holds what it held at the entry.
+abbrev pub WhatIsPreservedIsHeld : Type 0
+WhatIsPreservedIsHeld =
+    (bodies : List Body) (entry : ℕ) (place : Place) (passed : List ℕ) (at : ℕ)
+    → IsTrail ((procedures_of bodies).procedure entry) passed at
+    → ((procedures_of bodies).procedure entry).returns at ≡ true → IsPreserved (procedures_of bodies) entry place
+    → Holds (Changes (procedures_of bodies)) ((procedures_of bodies).procedure entry) place passed place

@@ -1,8 +1,8 @@
-//! Laws of what the instructions of the machine's procedures do to halves of registers and to flags. The functions do
-//! nothing: their contracts are proved for all.
+//! Laws of what the instructions of the machine's procedures do to halves of registers and to flags, and of what these
+//! procedures preserve. The functions do nothing: their contracts are proved for all.
 #![tactic(auto)]
 
-ghost use Rattle.dcc_asks.specs.Laws.{WhatIsLeftStays, WhatInstructionsMakeAlikeIsAlike};
+ghost use Rattle.dcc_asks.specs.Laws.{WhatIsLeftStays, WhatInstructionsMakeAlikeIsAlike, WhatIsPreservedIsHeld};
 
 /// What an instruction leaves, as its procedure sees it, is as it was after its step.
 pub fn what_is_left_stays()
@@ -12,4 +12,9 @@ pub fn what_is_left_stays()
 /// Two states that agree in all of which an instruction makes a half or a flag agree in it after its step.
 pub fn what_instructions_make_alike_is_alike()
     ensures { WhatInstructionsMakeAlikeIsAlike }
+{}
+
+/// At each return of a procedure what it preserves is what it was at the entry.
+pub fn what_is_preserved_is_held()
+    ensures { WhatIsPreservedIsHeld }
 {}
