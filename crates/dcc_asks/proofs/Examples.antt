@@ -1,6 +1,6 @@
 -- A small program: what its procedures keep, take and give back, what single instructions do, and near misses.
 use Rattle.std.proofs.Common.{◌≡◌, ℕ, zero, suc, ◌<◌, ◌^◌, true, false, List, [], ◌∷◌, length, Some, None, refl, sym, ap, ◌∙◌, subst, true≢false, arith, inl, inr}
-use Rattle.std.specs.Prelude.{ℤ, pos, Contains}
+use Rattle.std.specs.Prelude.{ℤ, pos, Bool, ◌⊎◌, not, ◌&&◌, ◌||◌, Contains}
 use Rattle.std.proofs.lemmas.List.Elements.{All-nil, All-cons, All-contains}
 use denote.RawPtr.{null_ptr}
 use Rattle.indexmap.specs.IndexMap.{hasher_of}
@@ -26,17 +26,21 @@ use Rattle.dcc_prog.specs.declared.procedure.Node.{Node}
 use Rattle.dcc_prog.specs.declared.procedure.Proc.{Proc}
 use Rattle.dcc_prog.specs.declared.frame.Cell.{Cell}
 use Rattle.dcc_prog.specs.declared.frame.Frame.{Frame}
-use Rattle.dcc_prog.specs.Wanted.{half_of, flag_of}
+use Rattle.dcc_prog.specs.Trail.{is_general}
+use Rattle.dcc_prog.specs.Writes.{is_same_register}
+use Rattle.dcc_prog.specs.Wanted.{Location, half_of, flag_of, is_read, alu_makes, makes}
+use Rattle.dcc_prog.proofs.AlikeValues.{and-parts, or-parts}
 use Rattle.dcc_prog.specs.Machine.{reg_number}
-use Rattle.dcc_demand.specs.Procedures.{Leaves, Copies, Pops, Makes, LeavesWord, Pushes, Overwrites, Action, Procedure, Procedures, ChangeFamily, CallChanges}
+use Rattle.dcc_demand.specs.Procedures.{Leaves, Copies, Pops, Makes, LeavesWord, Pushes, Overwrites, Action, Procedure, Procedures, ChangeFamily, CallChanges, is_left}
 use Rattle.dcc_demand.specs.Trail.{IsTrail}
 use Rattle.dcc_demand.specs.Changes.{IsUnsaved, Loses, Changes, ChangesWithin, IsPreserved}
 use Rattle.dcc_demand.specs.Wanted.{Wanted, IsWantedBy, IsParam, IsResult}
 use Rattle.dcc_demand.proofs.ChangeLaws.{changes-closed}
 use Rattle.dcc_asks.specs.Bodies.{Body}
-use Rattle.dcc_asks.specs.Places.{Place, held, in_frame}
+use Rattle.dcc_asks.specs.Places.{Place, held, in_frame, passes}
+use Rattle.dcc_asks.proofs.PlaceLaws.{same-register}
 use Rattle.dcc_asks.specs.Instance.{action_of, procedures_of}
-use Rattle.dcc_asks.specs.Asked.{of_register, of_flag, of_pair, GivesSeveral, IsOfSummaries, several_results}
+use Rattle.dcc_asks.specs.Asked.{IsHalfOf, of_register, of_flag, of_pair, GivesSeveral, IsOfSummaries, several_results}
 
 abbrev pub vec_with : {T : Type 0} (xs : List T) → length xs < 2 ^ 63 → Vec T Global
 vec_with xs few = record { ptr = null_ptr; len = length xs; cap = length xs; alloc = record { memory = record { seal = tt } }; items = xs; ok = (refl, omega arith); small = few }
@@ -254,6 +258,97 @@ module _ (proc : Proc) (frame : Frame) where
   takes_bx : (h : Half) → IsParam P 0x20 (half Bx h)
   takes_bx Low = record { passes = refl; wanted = IsWantedBy.made_of {to = half Ax Low} here refl refl (sum_is_wanted Low) }
   takes_bx High = record { passes = refl; wanted = IsWantedBy.made_of {to = half Ax Low} here refl refl (sum_is_wanted Low) }
+
+  -- and nothing else
+
+  -- the adder loses nothing that its ADD leaves
+  added : (changed : ChangeFamily Place) (l : Place) → Loses changed (P.procedure 0x20) l (0x20 ∷ []) → is_left (((P.procedure 0x20).action 0x20).effect l) ≡ false
+  added changed l (Loses.in_call c) = absurd c
+  added changed l (Loses.made e) = ap is_left e
+  added changed l (Loses.copied e) = ap is_left e
+  added changed l (Loses.popped_open e private) = ap is_left e
+  added changed l (Loses.popped_unsaved e u) = ap is_left e
+  added changed l (Loses.left e h) = elim h [ ]
+
+  -- the trails of the adder
+  data Added : List ℕ → ℕ → Type 0 where
+    begun : Added [] 0x20
+    ended : Added (0x20 ∷ []) 0x22
+
+  added_next : {passed : List ℕ} {a b : ℕ} → Added passed a → Contains ((P.procedure 0x20).next a) b → Added (a ∷ passed) b
+  added_next begun c = at_only (Added (0x20 ∷ [])) c ended
+  added_next ended c = none_there c
+
+  along_added : {passed : List ℕ} {a : ℕ} → IsTrail (P.procedure 0x20) passed a → Added passed a
+  along_added IsTrail.enters = begun
+  along_added (IsTrail.goes_on trail c) = added_next (along_added trail) c
+
+  added_there : {passed : List ℕ} {a : ℕ} → Added passed a → (P.procedure 0x20).returns a ≡ true → passed ≡ 0x20 ∷ []
+  added_there begun e = absurd (true≢false (sym e))
+  added_there ended e = refl
+
+  changes_written : (l : Place) → Changes P 0x20 l → is_left (((P.procedure 0x20).action 0x20).effect l) ≡ false
+  changes_written l c = go c.0 c.1
+    where
+      go : (depth : ℕ) → ChangesWithin P depth 0x20 l → is_left (((P.procedure 0x20).action 0x20).effect l) ≡ false
+      go zero h = absurd h
+      go (suc depth) h = added (ChangesWithin P depth) l (subst (Loses (ChangesWithin P depth) (P.procedure 0x20) l) (added_there (along_added h.trail) h.returns) h.loses)
+
+  -- what it changes it surely writes
+  surely_added : (l : Location) → is_left (((P.procedure 0x20).action 0x20).effect (held l)) ≡ false → ((P.procedure 0x20).action 0x20).surely (held l) ≡ true
+  surely_added (half_of r h) e = ap (λ b. not b && true) e
+  surely_added (flag_of flag) e = ap (λ b. not b && true) e
+
+  -- of what is wanted at its RET it changes all
+  returned_is_changed : (l : Place) → Wanted P 0x20 0x22 l → Changes P 0x20 l
+  returned_is_changed l (IsWantedBy.used e) = absurd (true≢false (sym (unused l e)))
+    where
+      unused : (l : Place) → ((P.procedure 0x20).action 0x22).uses l ≡ true → false ≡ true
+      unused (held (half_of r h)) e = absurd (true≢false (sym (and-parts (is_general r) false e).1))
+      unused (held (flag_of flag)) e = e
+      unused (in_frame k) e = e
+  returned_is_changed l (IsWantedBy.exposed e) = absurd (true≢false (sym (unexposed l e)))
+    where
+      unexposed : (l : Place) → (P.procedure 0x20).is_exposed l ≡ true → false ≡ true
+      unexposed (held l) e = e
+      unexposed (in_frame k) e = e
+  returned_is_changed l (IsWantedBy.made_of goes written made w) = none_there goes
+  returned_is_changed l (IsWantedBy.unwritten goes sure uncalled w) = none_there goes
+  returned_is_changed l (IsWantedBy.taken e passing w) = absurd (cc)
+  returned_is_changed l (IsWantedBy.given_back e changed calls goes w) = changed
+
+  read_of : (r : Reg) (l : Location) → is_read l (Word r) ≡ true → IsHalfOf r l
+  read_of r (half_of q h) e = (h, ap (λ x. half_of x h) (same-register q r (half-or (is_same_register q r) e)))
+    where
+      half-or : (b : Bool) → (b || false) ≡ true → b ≡ true
+      half-or true e = refl
+      half-or false e = e
+  read_of r (flag_of flag) e = absurd (true≢false (sym e))
+
+  made_from : (to : Place) (l : Location) → ((P.procedure 0x20).action 0x20).made_of to (held l) ≡ true → IsHalfOf Ax l ⊎ IsHalfOf Bx l
+  made_from (held t) l e =
+      let value = (and-parts (passes (held l)) (makes (AluOp Add (Word Ax) (Word Bx)) t l && true) e).1 in
+      let made = (and-parts (makes (AluOp Add (Word Ax) (Word Bx)) t l) true value).0 in
+      let reads = (and-parts (alu_makes Add (Word Ax) t) (is_read l (Word Ax) || (is_read l (Word Bx) || false)) made).1 in
+      elim (or-parts (is_read l (Word Ax)) (is_read l (Word Bx) || false) reads) [
+        | inl one ↦ inl (read_of Ax l one)
+        | inr rest ↦ elim (or-parts (is_read l (Word Bx)) false rest) [ inl two ↦ inr (read_of Bx l two) | inr none ↦ absurd (true≢false (sym none)) ]
+      ]
+  made_from (in_frame k) l e = absurd (true≢false (sym (and-parts (passes (held l)) false e).1))
+
+  -- the adder takes halves of AX and BX alone
+  takes_no_other : (l : Location) → IsParam P 0x20 (held l) → IsHalfOf Ax l ⊎ IsHalfOf Bx l
+  takes_no_other l param = go param.wanted
+    where
+      go : Wanted P 0x20 0x20 (held l) → IsHalfOf Ax l ⊎ IsHalfOf Bx l
+      go (IsWantedBy.used e) = absurd (true≢false (sym (and-parts (passes (held l)) false e).1))
+      go (IsWantedBy.exposed e) = absurd (true≢false (sym e))
+      go (IsWantedBy.made_of {to = to} goes written made w) = made_from to l made
+      go (IsWantedBy.unwritten goes sure uncalled w) =
+          let there = at_only (λ b. Wanted P 0x20 b (held l) → Wanted P 0x20 0x22 (held l)) goes (λ h. h) w in
+          absurd (true≢false (sym (surely_added l (changes_written (held l) (returned_is_changed (held l) there))) ∙ sure))
+      go (IsWantedBy.taken e passing w) = absurd (cc)
+      go (IsWantedBy.given_back e changed calls goes w) = absurd (true≢false (sym e))
 
   -- Several values: AX and SI together are none.
   several : GivesSeveral bodies 0x30

@@ -30,7 +30,7 @@ told Bp = refl
 told Si = refl
 told Di = refl
 
-same-register : (r q : Reg) → is_same_register r q ≡ true → r ≡ q
+pub same-register : (r q : Reg) → is_same_register r q ≡ true → r ≡ q
 same-register r q e = sym (told r) ∙ ap word_register (eqb-true (reg_number r) (reg_number q) e) ∙ told q
 
 same-half : (h k : Half) → is_same_half h k ≡ true → h ≡ k
