@@ -1,0 +1,5 @@
+pub mod States
+pub mod Losses
+pub mod Tables
+pub mod Flowing
+pub mod Programs

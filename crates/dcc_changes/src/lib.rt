@@ -1,0 +1,11 @@
+//! Which halves and flags each procedure of a program of the inner language changes.
+//!
+//! One location is taken at a time. Within a graph states flow from block to block until nothing is new, and graphs
+//! take their turns until no further one changes the location.
+#![tactic(auto)]
+
+mod graph;
+mod program;
+mod state;
+
+pub use program::{changed, changes};
