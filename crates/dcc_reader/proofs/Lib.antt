@@ -9,3 +9,4 @@ pub mod SetLaws
 pub mod UnreadLaws
 pub mod VariableLaws
 pub mod WordLaws
+pub mod calls
