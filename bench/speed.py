@@ -1,13 +1,14 @@
 #!/usr/bin/env python3
-"""Measures dcc, and emulators beside it on the same program: speed and memory.
+"""Measures dcc, and peers beside it on the same input: speed and memory.
 
 bench/speed.py [PROGRAM]
 
 PROGRAM is the built program; where no word stands, crates/dcc/out/dcc, which is built and proved first. Prints a table
 of figures, each the best of three runs. Seconds are those of the processor that the measured process took, so that
-what runs beside it matters little, and by the clock where bytes go through a pipe. The emulators are Unicorn and
-DOSBox, which apt-get installs where they are missing; where that cannot be, the table says so. What they run ends by
-itself, so that all execute the same instructions: the mix of bench/programs.py in two loops.
+what runs beside it matters little, and by the clock where bytes go through a pipe. The peers are Unicorn and DOSBox
+for the machine and gcc for texts, which apt-get installs where they are missing; where that cannot be, the table says
+so. What the emulators run ends by itself, so that all execute the same instructions: the mix of bench/programs.py in
+two loops. gcc reads the same text of functions and makes no code.
 """
 import importlib.machinery
 import importlib.util
@@ -170,16 +171,34 @@ def runs(folder):
         tell(f"`{command}`, strings of 64 KB to a pipe", f"{count / seconds / 1e6:.0f} MB/s")
 
 
+def reading(text, seconds, memory):
+    """The figures of reading a text."""
+    return f"{len(text) / seconds / 1e6:.1f} MB/s, {memory / len(text):.0f} bytes of memory a byte"
+
+
+def gcc(path, text):
+    """How gcc reads the text at this path."""
+    if not installed("gcc", lambda: shutil.which("gcc")):
+        tell("gcc", "not there, and apt-get cannot install gcc here")
+        return
+    version = subprocess.run(["gcc", "-dumpfullversion"], capture_output=True, check=True, text=True).stdout.strip()
+    runs = [measured(["gcc", "-std=gnu89", "-fsyntax-only", "-w", path]) for _ in range(RUNS)]
+    status, seconds, memory, *_ = min(runs, key=lambda run: run[1])
+    tell(f"gcc {version} with -fsyntax-only, the same functions",
+         reading(text, seconds, memory) if status == 0 else f"ends with status {status}")
+
+
 def texts(folder):
     """How texts are read and prepared, and how much memory calls take."""
-    shapes, path = loaded("measure_texts"), folder / "TEXT.C"
+    shapes, path = loaded("measure_texts"), folder / "text.c"
     head, size = shapes.START + b"int a;\n", TEXT_MIB * MIB
     for what, text in (("functions", shapes.good(size)), ("`a=1;`", head + b"a=1;" * (size // 4) + b"}\n"),
                        ("`;`", head + b";" * size + b"}\n")):
         path.write_bytes(text)
         seconds, memory, _ = best(["runc", path, "--steps", 0], [20])
-        tell(f"`runc --steps 0` on {TEXT_MIB} MiB of {what}",
-             f"{len(text) / seconds / 1e6:.1f} MB/s, {memory / len(text):.0f} bytes of memory a byte")
+        tell(f"`runc --steps 0` on {TEXT_MIB} MiB of {what}", reading(text, seconds, memory))
+        if what == "functions":
+            gcc(path, text)
     for what, text in shapes.named(100_000).items():
         path.write_bytes(text)
         seconds, memory, _ = best(["runc", path, "--steps", 0], [20])
