@@ -108,12 +108,12 @@ functions-first n begun first now is grown =
 
 -- A global variable.
 
-abbrev global : Begun → ℕ → Option NumberAt → List NumberAt → Bool → PartialVariable
+abbrev pub global : Begun → ℕ → Option NumberAt → List NumberAt → Bool → PartialVariable
 global begun address size init done =
     record { name = begun.name; type = begun.result; class = Plain; size = size; init = init; address = address; done = done }
 
 -- from the initial values on, and from the size on
-abbrev global_filled : Begun → ℕ → Option NumberAt → Got (List NumberAt) → Got PartialVariable
+abbrev pub global_filled : Begun → ℕ → Option NumberAt → Got (List NumberAt) → Got PartialVariable
 global_filled begun address size init =
     let end = take_mark (codes ";") init.following in got (global begun address size init.value (not (is_stopped end))) end
 
