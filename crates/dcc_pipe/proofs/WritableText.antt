@@ -1,13 +1,14 @@
 -- The text of a program is writable.
-use Rattle.std.proofs.Common.{◌≡◌, ◌*◌, ◌+◌, ◌≤◌, true, false, List, [], ◌∷◌, length, None, Some, refl, sym, ap, ◌∙◌, subst, arith, Contains}
-use Rattle.std.specs.Prelude.{◌&&◌, All, drop, get_or}
+use Rattle.std.proofs.Common.{◌≡◌, ℕ, ◌*◌, ◌+◌, ◌≤◌, true, false, List, [], ◌∷◌, length, None, Some, refl, sym, ap, ◌∙◌, subst, arith, Contains}
+use Rattle.std.specs.Prelude.{◌&&◌, All, take, drop, get_or}
 use Rattle.std.specs.List.{list_all}
 use Rattle.std.proofs.lemmas.Bool.{and_from}
 use Rattle.std.proofs.lemmas.List.Elements.{All-head, All-weaker, Contains-get_or}
 use Rattle.dcc_ir.specs.Tree as inner
 use Rattle.dcc_ir.specs.Live.{block_in}
 use Rattle.dcc_ir.specs.Run.{no_block, no_graph, is_call, graph_at}
-use Rattle.dcc_ir.specs.WellFormed.{IsGraph, IsCalling, IsProgram}
+use Rattle.dcc_ir.specs.WellFormed.{ret_widths, all_ret_widths, IsGraph, IsCalling, IsProgram}
+use Rattle.dcc_ir.proofs.ListLaws.{all_parts}
 use Rattle.dcc_ir.proofs.LocationLaws.{Contains-here, Contains-later}
 use Rattle.dcc_c.specs.Grammar.{outermost}
 use Rattle.dcc_c.specs.Rules.{IsAllowedFunction, no_more as all_allowed, one_more as next_allowed}
@@ -15,11 +16,11 @@ use Rattle.dcc_c.specs.Tree.{Function, Tree}
 use Rattle.dcc_c.proofs.Writable.{is_writable_local, is_writable_function, are_writable_lines, IsWritable}
 use Rattle.dcc_text.specs.Spelling.{Spelling}
 use Rattle.dcc_text.specs.Laws.{IsStep}
-use Rattle.dcc_plan.specs.Allowed.{AreAllowedLines}
+use Rattle.dcc_plan.specs.Allowed.{may_return, ReturnsFit, AreAllowedLines}
 use Rattle.dcc_plan.specs.GotoPlan.{goto_plan}
 use Rattle.dcc_plan.specs.Laws.{AreSteps, Matters}
-use Rattle.dcc_plan.specs.Plan.{Item, Do, Mark, Jump, If, Switch, For, Break, Continue, Plan, no_items, item, Arms, no_arms, arm}
-use Rattle.dcc_plan.specs.PlanText.{plan_text, item_text, arms_text, IsPlanText, nothing, one_more, IsItemText, does, marks, jumps, tests, chooses, repeats, breaks, continues, AreArmsText, no_more, next_arm}
+use Rattle.dcc_plan.specs.Plan.{Item, Do, Mark, Jump, If, Switch, Return, For, Break, Continue, Plan, no_items, item, Arms, no_arms, arm}
+use Rattle.dcc_plan.specs.PlanText.{plan_text, item_text, arms_text, IsPlanText, nothing, one_more, IsItemText, does, marks, jumps, tests, chooses, returns, repeats, breaks, continues, AreArmsText, no_more, next_arm}
 use Rattle.dcc_plan.specs.Valid.{IsPlanOf, BeginsAll}
 use Rattle.dcc_plan.proofs.AllowedPlans.{texts-allowed}
 use Rattle.dcc_plan.proofs.CompleteLaws.{completed-valid}
@@ -46,6 +47,7 @@ mutual
   plain-item s graph (Jump b) = jumps
   plain-item s graph (If b one other) = tests (plain-text s graph one) (plain-text s graph other)
   plain-item s graph (Switch b arms) = chooses (plain-arms s graph arms)
+  plain-item s graph (Return b) = returns
   plain-item s graph (For b body) = repeats (plain-text s graph body)
   plain-item s graph Break = breaks
   plain-item s graph Continue = continues
@@ -53,6 +55,18 @@ mutual
   plain-arms : (s : Spelling) (graph : inner.Graph) (arms : Arms) → AreArmsText s graph arms (arms_text s graph arms)
   plain-arms s graph no_arms = no_more
   plain-arms s graph (arm cases body arms) = next_arm (plain-text s graph body) (plain-arms s graph arms)
+
+-- an end that gives back no values
+gives-nothing : (bits : List ℕ) (exit : inner.Exit) → All (λ widths. widths ≡ []) (ret_widths bits exit) → may_return None exit ≡ true
+gives-nothing bits (inner.Ret []) none = refl
+gives-nothing bits (inner.Ret (e ∷ es)) none = absurd (some (All-head (λ (widths : List ℕ). widths ≡ []) _ [] none))
+  where
+    some : {n : ℕ} {ns : List ℕ} → n ∷ ns ≡ [] → ⊥
+    some e = cc
+gives-nothing bits (inner.Goto next) none = refl
+gives-nothing bits (inner.If test one other) none = refl
+gives-nothing bits (inner.Switch e places) none = refl
+gives-nothing bits inner.Stop none = refl
 
 -- a statement of a program with one graph is no call
 no-call : (p : inner.Program) (g : inner.Graph) → p.graphs ≡ g ∷ [] → (stmt : inner.Stmt) → IsCalling p g stmt → is_call stmt ≡ false
@@ -94,6 +108,15 @@ module _ (p : inner.Program) (is : IsTextable levels p) where
     goes = λ b next less to there location named. named;
   }
 
+  -- no end of a block gives anything back
+  returned : ReturnsFit (start_of is.graph) is.graph
+  returned =
+      let bits = is.graph.bits in
+      All-weaker (λ (b : inner.Block). All (λ widths. widths ≡ []) (ret_widths bits b.exit)) (λ b. may_return None b.exit ≡ true) (λ b none. gives-nothing bits b.exit none) is.graph.blocks
+      (all_parts (λ widths. widths ≡ []) (λ (b : inner.Block). ret_widths bits b.exit) is.graph.blocks
+      (All-head (λ (g : inner.Graph). All (λ widths. widths ≡ []) (all_ret_widths g)) is.graph []
+      (subst (λ graphs. All (λ (g : inner.Graph). All (λ widths. widths ≡ []) (all_ret_widths g)) (take 1 graphs)) is.one is.formed.start_rets)))
+
   pub control-plan : IsPlanOf is.graph (control is.graph) × BeginsAll is.graph (control is.graph)
   control-plan =
       let plan = goto-valid is.graph formed in
@@ -113,7 +136,7 @@ module _ (p : inner.Program) (is : IsTextable levels p) where
         (names-declared is.graph few formed tree start refl refl) formed
         (spelled-graph (graph_spelling is.graph) is.graph (mentioned is.graph) levels refl named-matters
         (λ b location less named. named) is.shallow)
-        (omega arith) control-plan.0 (goto-stands is.graph formed) (plain-text (graph_spelling is.graph) is.graph (control is.graph))
+        returned (omega arith) control-plan.0 (goto-stands is.graph formed) (plain-text (graph_spelling is.graph) is.graph (control is.graph))
 
     start-allowed : IsAllowedFunction tree start
     start-allowed = record {

@@ -1,8 +1,8 @@
 -- The text of a valid plan is allowed.
-use Rattle.std.proofs.Common.{◌≡◌, ℕ, ◌+◌, ◌*◌, ◌<◌, ◌≤◌, inl, inr, Bool, true, false, ◌==◌, List, [], ◌∷◌, ◌++◌, length, map, Some, None, refl, sym, ap, ap₂, ◌∙◌, subst, true≢false, arith}
-use Rattle.std.specs.Prelude.{◌&&◌, ◌||◌, not, nat_le, nat_lt, get_or, slice_get, All}
+use Rattle.std.proofs.Common.{◌≡◌, ℕ, ◌+◌, ◌*◌, ◌<◌, ◌≤◌, inl, inr, Bool, true, false, ◌==◌, List, [], ◌∷◌, ◌++◌, length, map, Option, Some, None, refl, sym, ap, ap₂, ◌∙◌, subst, true≢false, arith}
+use Rattle.std.specs.Prelude.{◌&&◌, ◌||◌, not, nat_le, nat_lt, if◌then◌else◌, is_some, get_or, slice_get, All}
 use Rattle.std.specs.List.{list_all, flat_map}
-use Rattle.std.proofs.lemmas.Bool.{cases_Bool, and_parts, and_from, or_left, eqb-true, le-leb, lt-ltb}
+use Rattle.std.proofs.lemmas.Bool.{cases_Bool, and_parts, and_from, or_left, not-true, eqb-true, le-leb, lt-ltb}
 use Rattle.std.proofs.lemmas.List.{append-nil, map-append}
 use Rattle.std.proofs.lemmas.List.Concat.{flat_map-append}
 use Rattle.std.proofs.lemmas.List.Elements.{All-get_or, All-contains, All-head}
@@ -17,12 +17,13 @@ use Rattle.dcc_ir.specs.Value.{width_of}
 use Rattle.dcc_ir.specs.WellFormed.{is_expr, is_expr_of, is_stmt, is_exit, is_block, IsGraph}
 use Rattle.dcc_ir.proofs.ListLaws.{left_part, all_parts}
 use Rattle.dcc_ir.proofs.ReachedLaws.{contained}
+use Rattle.dcc_c.specs.declared.syntax.CType.{CType}
 use Rattle.dcc_c.specs.Grammar.{Around, outermost, in_block, in_loop, in_switch, has_arm, is_among}
 use Rattle.dcc_c.specs.Parts.{stmts_in, inner_stmts, arm_stmts, label_of, labels_in}
-use Rattle.dcc_c.specs.Rules.{all_differ, declared_in, goto_of, is_switch_value, is_word_base, allows_stmt, shallow_stmt, expr_depth, cases_of, differ}
+use Rattle.dcc_c.specs.Rules.{all_differ, declared_in, goto_of, is_switch_value, is_word_base, converts, fits, allows_stmt, shallow_stmt, expr_depth, cases_of, differ}
 use Rattle.dcc_c.specs.Tree as tree
 use Rattle.dcc_c.specs.Tree.{Word, Stmt, Function, Tree, Lines, no_lines, line}
-use Rattle.dcc_c.specs.Types.{promoted_type}
+use Rattle.dcc_c.specs.Types.{plain, promoted_type, same_type}
 use Rattle.dcc_c.proofs.Writable.{is_label, are_cases, is_writable_expr, is_writable_stmt, are_writable_lines, are_writable_arms}
 use Rattle.dcc_text.specs.Allowed.{AreDeclared, IsAllowedExpr, IsAllowedStmt}
 use Rattle.dcc_text.specs.Spelled.{Way, Low, Exact, text}
@@ -31,11 +32,11 @@ use Rattle.dcc_text.specs.Stmts.{stmt_text}
 use Rattle.dcc_text.proofs.AllowedStmts.{IsNamed, AreNamed, IsLow, stmt-allowed}
 use Rattle.dcc_text.proofs.Depths.{shallow}
 use Rattle.dcc_text.proofs.TypedTexts.{text-allowed}
-use Rattle.dcc_plan.specs.Allowed.{is_mark, has_an_arm, may_stand, item_may_stand, arms_may_stand, IsSpelled, PlanTextsAreAllowed}
+use Rattle.dcc_plan.specs.Allowed.{is_mark, has_an_arm, may_stand, item_may_stand, arms_may_stand, may_give, may_return, ReturnsFit, IsSpelled, PlanTextsAreAllowed}
 use Rattle.dcc_plan.specs.Plan as plan
 use Rattle.dcc_plan.specs.Plan.{Item, Plan, no_items, item, Arms, marks, item_marks, arm_marks, is_in, all_cases}
 use Rattle.dcc_plan.specs.PlanText as planned
-use Rattle.dcc_plan.specs.PlanText.{text_of_stmt, text_of_test, text_of_choice, IsPlanText, nothing, one_more, IsItemText, AreArmsText, no_more, next_arm}
+use Rattle.dcc_plan.specs.PlanText.{text_of_stmt, text_of_test, text_of_choice, given, text_of_return, IsPlanText, nothing, one_more, IsItemText, AreArmsText, no_more, next_arm}
 use Rattle.dcc_plan.specs.Valid.{Context, outside, IsValid, IsValidItem, AreValidArms}
 use Rattle.dcc_plan.proofs.LabelWords.{label, label-word, label-among, labels-apart}
 
@@ -78,6 +79,7 @@ module _ (graph : inner.Graph) (whole : Plan) where
     item-inside (plan.If b one two) rest c (test, yes_place, no_place, exit, less, first, first_valid, second, second_valid) =
         both-inside (marks one) (marks two) (marks-inside one _ first_valid) (marks-inside two _ second_valid)
     item-inside (plan.Switch b arms) rest c (e, places, exit, less, lead, valid) = arms-inside arms _ valid
+    item-inside (plan.Return b) rest c v = refl
     item-inside (plan.For b body) rest c (less, l, valid) = marks-inside body _ valid
     item-inside plan.Break rest c v = refl
     item-inside plan.Continue rest c v = refl
@@ -96,7 +98,7 @@ stmt-no-label s (inner.Call results entry arguments depth) = refl
 stmt-no-label s (inner.Dos number place argument) = refl
 
 module _ (whole : Tree) (f : Function) (s : Spelling) (graph : inner.Graph) (levels limit : ℕ) (declared : AreDeclared (declared_in whole f) s) (well : IsGraph graph)
-    (spelled : IsSpelled s levels graph) (enough : 6 * levels + 3 ≤ limit) (all : Plan) where
+    (spelled : IsSpelled s levels graph) (returned : ReturnsFit f graph) (enough : 6 * levels + 3 ≤ limit) (all : Plan) where
   abbrev known : List Word
   known = map (label graph well) (marks all)
 
@@ -236,6 +238,36 @@ module _ (whole : Tree) (f : Function) (s : Spelling) (graph : inner.Graph) (lev
           labels = ap (flat_map label_of) (append-nil (arm_stmts bodies)) ∙ x.labels;
         })
 
+    return-fine : (around : Around) (values : List inner.Expr) → block.exit ≡ inner.Ret values → IsFineItem around (plan.Return b) (text_of_return s block.exit)
+    return-fine around values is =
+        let may = All-get_or (λ (x : inner.Block). may_return f.result x.exit ≡ true) graph.blocks b no_block inside returned in
+        subst (λ exit. IsFineItem around (plan.Return b) (text_of_return s exit)) (sym is)
+        (by values f.result refl (exit-formed (inner.Ret values) is) (ap (may_return f.result) (sym is) ∙ may)
+        (subst (λ exit. All (AreNamed s) (exit_exprs exit)) is (of-end (AreNamed s) spelled.reads)) (subst (λ exit. All (IsLow levels) (exit_exprs exit)) is (of-end (IsLow levels) spelled.shallow)))
+      where
+        by : (values : List inner.Expr) (result : Option CType) → f.result ≡ result → list_all (is_expr s.bits) values ≡ true → may_give result values ≡ true → All (AreNamed s) values
+            → All (IsLow levels) values → IsFineItem around (plan.Return b) (tree.Return (given s values))
+        by [] None none formed may reads low = record {
+          writable = refl;
+          marked = refl;
+          pass = and_from (passes (tree.Return None)) true (passes-from (tree.Return None) (ap (λ r. not (is_some r)) none) refl refl) refl;
+          labels = refl;
+        }
+        by [] (Some type) some formed may reads low = absurd (true≢false (sym may))
+        by (e ∷ es) None none formed may reads low = absurd (true≢false (sym may))
+        by (e ∷ es) (Some type) some formed may reads low =
+            let v = text s Low false e in
+            let z = text-allowed (declared_in whole f) s declared e Low false (and_parts (is_expr s.bits e) (list_all (is_expr s.bits) es) formed).0 (All-head (AreNamed s) e es reads) in
+            record {
+              writable = z.writable;
+              marked = refl;
+              pass = and_from (passes (tree.Return (Some v))) true
+                  (passes-from (tree.Return (Some v))
+                  (ap (λ r. elim r [ Some to ↦ fits (declared_in whole f) to v | None ↦ false ]) some ∙ ap (λ t. elim t [ Some from ↦ converts from type | None ↦ false ]) z.typed
+                  ∙ ap (λ p. if p then same_type (plain z.base) type else true) (not-true type.pointer may)) (end-shallow e Low (All-head (IsLow levels) e es low)) refl) refl;
+              labels = refl;
+            }
+
   -- The whole text.
 
   mutual
@@ -270,6 +302,7 @@ module _ (whole : Tree) (f : Function) (s : Spelling) (graph : inner.Graph) (lev
         let (some, others) = and_parts (has_an_arm arms) (differ (all_cases arms) && arms_may_stand (in_switch around) arms) stands in
         let (apart, stand) = and_parts (differ (all_cases arms)) (arms_may_stand (in_switch around) arms) others in
         choice-fine b inside around arms bodies e places exit some apart (arms-fine (in_switch around) _ are valid stand)
+    item-fine around c rest (planned.returns {b = b}) (values, exit, inside) stands = return-fine b inside around values exit
     item-fine around c rest (planned.repeats {b = b} {body = body} {lines = lines} is) (inside, l, valid) stands =
         let x = fine (in_loop around) false _ is valid stands in
         record { writable = x.writable; marked = refl; pass = x.pass; labels = x.labels }
@@ -316,8 +349,8 @@ all-given p give (x ∷ xs) is =
     list_all-append p (give x) (flat_map give xs) ∙ and_from (list_all p (give x)) (list_all p (flat_map give xs)) here (all-given p give xs later)
 
 pub texts-allowed : PlanTextsAreAllowed
-texts-allowed whole f s graph plan lines levels limit declared well spelled enough valid stands is =
-    let x = fine whole f s graph levels limit declared well spelled enough plan outermost false outside is valid.valid stands in
+texts-allowed whole f s graph plan lines levels limit declared well spelled returned enough valid stands is =
+    let x = fine whole f s graph levels limit declared well spelled returned enough plan outermost false outside is valid.valid stands in
     let names : List Word = map (label graph well) (marks plan) in
     let types = allows_stmt whole f in
     let jumps : Stmt → Bool = λ stmt. list_all (is_among names) (goto_of stmt) in

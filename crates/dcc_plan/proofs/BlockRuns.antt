@@ -12,7 +12,7 @@ use Rattle.dcc_ir.specs.Live.{block_in}
 use Rattle.dcc_ir.specs.Run as run
 use Rattle.dcc_ir.specs.Tree as inner
 use Rattle.dcc_ir.specs.Use.{exit_exprs}
-use Rattle.dcc_ir.specs.WellFormed.{is_stmt, is_exit, is_expr_of, is_block, is_jump, IsGraph}
+use Rattle.dcc_ir.specs.WellFormed.{is_stmt, is_exit, is_expr_of, is_block, IsGraph}
 use Rattle.dcc_ir.proofs.ExecuteLaws.{block-first}
 use Rattle.dcc_ir.proofs.FitStates.{IsFit, scene-fits, stmt-fit}
 use Rattle.dcc_ir.proofs.ReachedLaws.{contained, all_at, graph_of, IsGood}
@@ -275,13 +275,13 @@ module _ (p : inner.Program) (graph : inner.Graph) (s : Spelling) (family : Fami
             }) h;
           }
 
-    -- No run comes past an end that is no jump.
-    no-end : (exit : inner.Exit) (i : run.State) → is_jump exit ≡ false → i.waiting ≡ [] → run.exit_step exit i ≡ last → ⊥
-    no-end (inner.Goto next) i none alone goes = true≢false none
-    no-end (inner.If test one other) i none alone goes = true≢false none
-    no-end (inner.Switch e places) i none alone goes = true≢false none
-    no-end (inner.Ret values) i none alone goes = not-stuck i (ap (λ w. run.returning (map (run.value_in i) values) w i) (sym alone) ∙ goes)
-    no-end inner.Stop i none alone goes = not-stuck i goes
+    -- No run comes to a return where no call waits, nor past a Stop.
+    no-return : (exit : inner.Exit) (i : run.State) {values : List inner.Expr} → exit ≡ inner.Ret values → i.waiting ≡ [] → run.exit_step exit i ≡ last → ⊥
+    no-return exit i {values} is alone goes =
+        not-stuck i (ap (λ w. run.returning (map (run.value_in i) values) w i) (sym alone) ∙ ap (λ e. run.exit_step e i) (sym is) ∙ goes)
+
+    no-end : (exit : inner.Exit) (i : run.State) → exit ≡ inner.Stop → run.exit_step exit i ≡ last → ⊥
+    no-end exit i is goes = not-stuck i (ap (λ e. run.exit_step e i) (sym is) ∙ goes)
 
     -- the same from each state of the text with fewer statements left
     abbrev Later : ℕ → Type 0
@@ -429,6 +429,10 @@ module _ (p : inner.Program) (graph : inner.Graph) (s : Spelling) (family : Fami
             ended : (a : ℕ) → Before b m ≡ valid.end_of graph a → m ≡ length block.stmts
             ended a e = ap place_of e ∙ ap (λ k. length (block_in graph k).stmts) (sym (ap block_of e))
         by-item (plan.Switch a arms) item_stmt item_text same good' steps count = absurd (omega (arith, less, ended a (there ∙ same)))
+          where
+            ended : (a : ℕ) → Before b m ≡ valid.end_of graph a → m ≡ length block.stmts
+            ended a e = ap place_of e ∙ ap (λ k. length (block_in graph k).stmts) (sym (ap block_of e))
+        by-item (plan.Return a) item_stmt item_text same good' steps count = absurd (omega (arith, less, ended a (there ∙ same)))
           where
             ended : (a : ℕ) → Before b m ≡ valid.end_of graph a → m ≡ length block.stmts
             ended a e = ap place_of e ∙ ap (λ k. length (block_in graph k).stmts) (sym (ap block_of e))
@@ -594,6 +598,7 @@ module _ (p : inner.Program) (graph : inner.Graph) (s : Spelling) (family : Fami
               switch-runs arms bodies texts (subst (λ d. SoundItem s graph whole (plan.Switch d arms) x.later x.context) (sym (ap block_of (there ∙ same))) good')
               (stepped n again [] b m i t small mid goes x (tree.Switch (text_of_choice s (block_in graph a).exit) bodies tree.no_arms) steps
               ∙ ap (λ d. stmt_step text (tree.Switch (text_of_choice s (block_in graph d).exit) bodies tree.no_arms) x.at past) (sym (ap block_of (there ∙ same)))) count
+          by-end (plan.Return a) item_stmt item_text same good' steps count = absurd (no-return own.exit i (subst (λ d. (block_in graph d).exit ≡ inner.Ret good'.0.0) (sym (ap block_of (there ∙ same))) good'.0.1) mid.waiting (exits own.exit refl))
           by-end plan.Break item_stmt planned.breaks same good' steps count = break-runs n again [] b m i t small mid goes x steps count there same
           by-end plan.Continue item_stmt planned.continues same good' steps count = absurd (start-apart x.context.at_continue b m (continue-starts s graph whole x.stands) (there ∙ same))
           by-end (plan.Mark a) item_stmt item_text same good' steps count = absurd (true≢false (ap is_before (there ∙ same)))
@@ -614,7 +619,7 @@ module _ (p : inner.Program) (graph : inner.Graph) (s : Spelling) (family : Fami
               subst (λ z. Comes z (moves mid.stand.leads) t) (sym (ap (only_goes []) exit)) (subst (λ most. Comes true most t) count
               (arrives b m next [] i t mid (ltb-true next (length graph.blocks) less) (leads-to (inner.Goto next) next exit (contained (next ∷ []) 0 next refl)) (exits (inner.Goto next) exit) t.rest mid.stand.context
               point leads mid.stand.stands same mid.stand.low))
-          by point (valid.stops at exit) same count = absurd (no-end own.exit i exit mid.waiting (exits own.exit refl))
+          by point (valid.stops at exit) same count = absurd (no-end own.exit i exit (exits own.exit refl))
 
     pub block-runs : (n : ℕ) → Later n
     block-runs zero stmts b m i t small mid goes = absurd (omega (arith, small))

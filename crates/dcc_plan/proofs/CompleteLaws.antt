@@ -7,7 +7,7 @@ use Rattle.std.proofs.lemmas.List.Folds.{list_any-append}
 use Rattle.dcc_ir.specs.Tree as inner
 use Rattle.dcc_ir.specs.WellFormed.{all_differ}
 use Rattle.dcc_plan.specs.Complete.{completed_item, after_last, completed, CompletePlansAreValid}
-use Rattle.dcc_plan.specs.Plan.{Item, Do, Mark, Jump, If, Switch, For, Break, Continue, Plan, no_items, item, Arms, no_arms, arm, marks, item_marks, turns, item_turns, is_in, is_begun, arm_with}
+use Rattle.dcc_plan.specs.Plan.{Item, Do, Mark, Jump, If, Switch, Return, For, Break, Continue, Plan, no_items, item, Arms, no_arms, arm, marks, item_marks, turns, item_turns, is_in, is_begun, arm_with}
 use Rattle.dcc_plan.specs.Valid.{Point, Begin, Before, Nowhere, Leads, is_there, begins, goes, stops, Context, outside, item_entry, entry, turn, IsValid, IsValidItem, AreValidArms}
 
 -- The same labels and turns.
@@ -19,6 +19,7 @@ item-marks-same (Jump b) = refl
 item-marks-same (If b one other) = refl
 item-marks-same (Switch b no_arms) = refl
 item-marks-same (Switch b (arm cases body arms)) = refl
+item-marks-same (Return b) = refl
 item-marks-same (For b body) = refl
 item-marks-same Break = refl
 item-marks-same Continue = refl
@@ -30,6 +31,7 @@ item-turns-same (Jump b) = refl
 item-turns-same (If b one other) = refl
 item-turns-same (Switch b no_arms) = refl
 item-turns-same (Switch b (arm cases body arms)) = refl
+item-turns-same (Return b) = refl
 item-turns-same (For b body) = refl
 item-turns-same Break = refl
 item-turns-same Continue = refl
@@ -41,6 +43,7 @@ after-marks (Mark b) = refl
 after-marks (Jump b) = refl
 after-marks (If b one other) = refl
 after-marks (Switch b arms) = refl
+after-marks (Return b) = refl
 after-marks (For b body) = refl
 after-marks Break = refl
 after-marks Continue = refl
@@ -51,6 +54,7 @@ after-turns (Mark b) = refl
 after-turns (Jump b) = refl
 after-turns (If b one other) = refl
 after-turns (Switch b arms) = refl
+after-turns (Return b) = refl
 after-turns (For b body) = refl
 after-turns Break = refl
 after-turns Continue = refl
@@ -75,7 +79,7 @@ is_somewhere Nowhere = false
 is_somewhere _ = true
 
 module _ (graph : inner.Graph) where
-  -- what leads nowhere leads anywhere: it comes past an end that is no jump
+  -- what leads nowhere leads anywhere: it comes past a Stop
   leads-anywhere : {begun : ℕ → Bool} {from to : Point} (other : Point) → Leads graph begun from to → to ≡ Nowhere → is_somewhere from ≡ true → Leads graph begun from other
   leads-anywhere other is_there none some = absurd (true≢false (sym some ∙ ap is_somewhere none))
   leads-anywhere other (begins apart rest) none some = begins apart (leads-anywhere other rest none refl)
@@ -89,6 +93,7 @@ module _ (graph : inner.Graph) where
   item-entry-same (If b one other) c = refl
   item-entry-same (Switch b no_arms) c = refl
   item-entry-same (Switch b (arm cases body arms)) c = refl
+  item-entry-same (Return b) c = refl
   item-entry-same (For b body) c = refl
   item-entry-same Break c = refl
   item-entry-same Continue c = refl
@@ -115,6 +120,7 @@ module _ (graph : inner.Graph) where
       item-kept (If b one two) plan c (test, yes_place, no_place, exit, inside, first, first_valid, second, second_valid) =
           (test, yes_place, no_place, exit, inside, leads first, kept one _ first_valid, leads second, kept two _ second_valid)
       item-kept (Switch b arms) plan c (e, places, exit, inside, lead, valid) = (e, places, exit, inside, λ n place at. leads (lead n place at), arms-kept arms _ valid)
+      item-kept (Return b) plan c v = v
       item-kept (For b body) plan c (inside, l, valid) = (inside, leads l, kept body _ valid)
       item-kept Break plan c v = tt
       item-kept Continue plan c v = tt
@@ -151,6 +157,7 @@ module _ (graph : inner.Graph) where
       λ n place at. subst (λ p. Leads graph begun (Begin place) (entry graph (arm_with n arms) (record { next = p; at_break = p; at_continue = c.at_continue }))) same (lead n place at),
       subst (λ p. AreValidArms graph whole arms (record { next = p; at_break = p; at_continue = c.at_continue })) same valid,
     )
+    moved (Return b) v = v
     moved (For b body) (inside, l, valid) = (
       inside,
       subst (λ p. Leads graph begun (turn b body) (entry graph body (record { next = Begin b; at_break = p; at_continue = Begin b }))) same l,
@@ -173,6 +180,7 @@ module _ (graph : inner.Graph) where
       empty true place l = l
       empty false place l = l
   item-completed whole (Switch b (arm cases body arms)) plan c v = v
+  item-completed whole (Return b) plan c v = v
   item-completed whole (For b body) plan c v = v
   item-completed whole Break plan c v = v
   item-completed whole Continue plan c v = v
@@ -186,6 +194,7 @@ module _ (graph : inner.Graph) where
     last-valid (Jump b) among v = (v, tt)
     last-valid (If b one other) among v = (v, tt)
     last-valid (Switch b arms) among v = (item-completed whole (Switch b arms) no_items outside v, tt)
+    last-valid (Return b) among v = (v, tt)
     last-valid (For b body) among v = (v, tt)
     last-valid Break among v = (v, tt)
     last-valid Continue among v = (v, tt)

@@ -7,7 +7,7 @@ use Rattle.std.proofs.lemmas.Option.{get_or_from_slice_get}
 use Rattle.dcc_ir.specs.Live.{block_in}
 use Rattle.dcc_ir.specs.Run.{no_block}
 use Rattle.dcc_ir.specs.Tree as inner
-use Rattle.dcc_ir.specs.WellFormed.{is_stmt, is_expr_of, is_exit, is_block, is_jump, all_differ, IsGraph}
+use Rattle.dcc_ir.specs.WellFormed.{is_stmt, is_expr_of, is_exit, is_block, all_differ, IsGraph}
 use Rattle.dcc_ir.proofs.ReachedLaws.{contained, all_at}
 use Rattle.dcc_plan.specs.Plan.{Plan, marks, arm_marks, is_in, is_begun, arm_with}
 use Rattle.dcc_plan.specs.Valid.{Point, Begin, Before, Leads, is_there, goes, stops, Context, outside, entry, end_of, in_sides, in_arms, IsValid, AreValidArms, IsPlanOf, BeginsAll}
@@ -220,8 +220,8 @@ module _ (graph : inner.Graph) (well : IsGraph graph) where
         );
         leads = is_there;
       }
-  exit-follows b (inner.Ret values) plan c known is formed valid = record { valid = valid; leads = stops refl (ap is_jump is) }
-  exit-follows b inner.Stop plan c known is formed valid = record { valid = valid; leads = stops refl (ap is_jump is) }
+  exit-follows b (inner.Ret values) plan c known is formed valid = record { valid = ((values, is, known), valid); leads = is_there }
+  exit-follows b inner.Stop plan c known is formed valid = record { valid = valid; leads = stops refl is }
 
   do-follows : (b m : ℕ) (stmts : List inner.Stmt) (plan : Plan) (c : Context) → b < length graph.blocks → drop m (block_in graph b).stmts ≡ stmts → m ≤ length (block_in graph b).stmts
       → Follows (end_of graph b) plan c → Follows (Before b m) (do_all b m stmts plan) c

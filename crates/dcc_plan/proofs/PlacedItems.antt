@@ -12,7 +12,7 @@ use Rattle.dcc_c.proofs.Writable.{are_cases}
 use Rattle.dcc_plan.specs.Allowed.{is_mark, may_stand, item_may_stand, arms_may_stand, GotoPlansMayStand}
 use Rattle.dcc_plan.specs.Complete.{completed_item, after_last, completed}
 use Rattle.dcc_plan.specs.GotoPlan.{jump, do_all, distinct, places_from, target_arms, goto_exit, goto_blocks}
-use Rattle.dcc_plan.specs.Plan.{Item, Do, Mark, Jump, If, Switch, Plan, no_items, item, is_in, all_cases}
+use Rattle.dcc_plan.specs.Plan.{Item, Do, Mark, Jump, If, Switch, Return, Plan, no_items, item, is_in, all_cases}
 
 -- Numbers that differ.
 
@@ -215,7 +215,7 @@ exit-good bits count b (inner.Switch e places) plan formed good =
     let few = leb-true (length places) 65536 (and_parts (is_expr_of bits 16 e) (nat_le (length places) 65536) two).1 in
     item-good (Switch b (target_arms places (distinct places))) plan (choice-stands b places (distinct places) few (distinct-differ places) (λ t. distinct-in t places))
     (choice-no-mark b places (distinct places)) refl good
-exit-good bits count b (inner.Ret values) plan formed good = good
+exit-good bits count b (inner.Ret values) plan formed good = item-good (Return b) plan refl refl refl good
 exit-good bits count b inner.Stop plan formed good = good
 
 blocks-good : (bits : List ℕ) (count b : ℕ) (blocks : List inner.Block) → list_all (is_block bits count) blocks ≡ true → Good (goto_blocks b blocks)

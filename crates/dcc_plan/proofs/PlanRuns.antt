@@ -50,6 +50,7 @@ turn-cases b (item (plan.Do a m) later) = inl refl
 turn-cases b (item (plan.Jump a) later) = inl refl
 turn-cases b (item (plan.If a one other) later) = inl refl
 turn-cases b (item (plan.Switch a arms) later) = inl refl
+turn-cases b (item (plan.Return a) later) = inl refl
 turn-cases b (item (plan.For a body) later) = inl refl
 turn-cases b (item plan.Break later) = inl refl
 turn-cases b (item plan.Continue later) = inl refl
@@ -198,6 +199,7 @@ module _ (p : inner.Program) (graph : inner.Graph) (s : Spelling) (family : Fami
       by-item (plan.Do a k) stmt item_text same good steps count jumps = absurd (true≢false (ap is_begin (there ∙ same)))
       by-item (plan.If a one other) stmt item_text same good steps count jumps = absurd (true≢false (ap is_begin (there ∙ same)))
       by-item (plan.Switch a arms) stmt item_text same good steps count jumps = absurd (true≢false (ap is_begin (there ∙ same)))
+      by-item (plan.Return a) stmt item_text same good steps count jumps = absurd (true≢false (ap is_begin (there ∙ same)))
 
     leaps : Leaps
     leaps = by m.stand.point m.stand.leads m.stand.same refl

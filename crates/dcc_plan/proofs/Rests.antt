@@ -17,7 +17,7 @@ use Rattle.dcc_plan.specs.Labels.{label_at}
 use Rattle.dcc_plan.specs.Plan as plan
 use Rattle.dcc_plan.specs.Plan.{Item, Plan, no_items, item, Arms, marks, item_marks, arm_marks, turns as turns_of, item_turns, arm_turns, is_in, is_begun}
 use Rattle.dcc_plan.specs.PlanText as planned
-use Rattle.dcc_plan.specs.PlanText.{text_of_stmt, IsPlanText, nothing, one_more, IsItemText, AreArmsText}
+use Rattle.dcc_plan.specs.PlanText.{text_of_stmt, text_of_return, IsPlanText, nothing, one_more, IsItemText, AreArmsText}
 use Rattle.dcc_plan.specs.Valid.{Point, Begin, Nowhere, Leads, Context, outside, item_entry, entry, turn, IsValid, IsValidItem, AreValidArms}
 use Rattle.dcc_plan.proofs.LabelLaws.{label-tested}
 
@@ -346,6 +346,13 @@ module _ (s : Spelling) (graph : inner.Graph) (whole : Plan) where
       by (Some stmt) = stmt-plain stmt
       by None = record { no_label = λ word at lines rest. refl; no_jump = refl; no_inside = refl }
 
+  pub return-plain : (exit : inner.Exit) → IsPlain (text_of_return s exit)
+  return-plain (inner.Goto next) = record { no_label = λ word at lines rest. refl; no_jump = refl; no_inside = refl }
+  return-plain (inner.If test one other) = record { no_label = λ word at lines rest. refl; no_jump = refl; no_inside = refl }
+  return-plain (inner.Switch e places) = record { no_label = λ word at lines rest. refl; no_jump = refl; no_inside = refl }
+  return-plain (inner.Ret values) = record { no_label = λ word at lines rest. refl; no_jump = refl; no_inside = refl }
+  return-plain inner.Stop = record { no_label = λ word at lines rest. refl; no_jump = refl; no_inside = refl }
+
   module _ (limit : ℕ) (well : IsGraph graph) (b : ℕ) (known : b < length graph.blocks) where
     abbrev word : Word
     word = label_at graph.blocks b
@@ -395,6 +402,7 @@ module _ (s : Spelling) (graph : inner.Graph) (whole : Plan) where
           let inside = leaves (goes others later_valid stands) in
           in-front limit (suc (arms_count bodies + 0 + lines_count lines + left rest)) b (is_in b (arm_marks arms)) (from_label_in_arms word bodies (ends_switch (runs lines rest)))
           (wider (suc (arms_count bodies + 0 + lines_count lines + left rest)) (omega arith) (search-arms arms bodies (ends_switch (runs lines rest)) _ text (valid.0.5, valid.1) inside (omega (arith, few))))
+      search-item (plan.Return a) stmt at later lines rest c planned.returns valid others later_valid stands few = absent refl ((return-plain (block_in graph a).exit).no_label word at lines rest)
       search-item (plan.For a body) stmt at later lines rest c (planned.repeats {lines = inner_lines} text) valid others later_valid stands few =
           wider (suc (lines_count inner_lines + lines_count lines + left rest)) (omega arith)
           (search-plan body inner_lines (turns inner_lines (runs lines rest)) _ text (valid.0.2, valid.1.1) (loops text valid.0.0 valid.1.0 valid.0.1 (valid.0.2, valid.1.1) (goes others later_valid stands) (omega (arith, few))) (omega (arith, few)))
@@ -443,6 +451,7 @@ module _ (s : Spelling) (graph : inner.Graph) (whole : Plan) where
           (later-among (turns_of one) (turns_of other) ts),
     )
     is-begun (plan.Switch b arms) ms ts = arms-begun arms ms ts
+    is-begun (plan.Return b) ms ts = tt
     is-begun (plan.For b body) ms ts = (one-among b (turns_of body) ts, are-begun body ms (λ a found. ts a (or_right (b == a) (is_in a (turns_of body)) found)))
     is-begun plan.Break ms ts = tt
     is-begun plan.Continue ms ts = tt

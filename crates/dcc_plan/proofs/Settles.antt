@@ -4,6 +4,7 @@ use Rattle.std.specs.Prelude.{◌⊎◌, if◌then◌else◌}
 use Rattle.dcc_run.specs.End.{is_over}
 use Rattle.dcc_run.specs.System.{after}
 use Rattle.dcc_ir.specs.Tree as inner
+use Rattle.dcc_ir.specs.Live.{block_in}
 use Rattle.dcc_ir.specs.WellFormed.{IsGraph}
 use Rattle.dcc_c.specs.Tree.{Stmt, Lines, Function, Tree}
 use Rattle.dcc_c.specs.Run.{Continuation, ends_function, runs, State, goes_on, jump_step, after_goto, after_break, after_continue, stmt_step, step_at, step}
@@ -14,7 +15,7 @@ use Rattle.dcc_plan.specs.Plan.{Item, Plan, is_begun}
 use Rattle.dcc_plan.specs.PlanText as planned
 use Rattle.dcc_plan.specs.PlanText.{IsPlanText, IsItemText}
 use Rattle.dcc_plan.specs.Valid.{Point, Begin, Nowhere, Context, outside, item_entry}
-use Rattle.dcc_plan.proofs.Rests.{Sound, SoundItem, lines_count, inside_count, left, is_jump_stmt, is_jumping, Stands, closes, Lands, AtItem, at_item, at_turn, at_end, head, break-lands, continue-lands, absent, lands, do-plain, search-plan}
+use Rattle.dcc_plan.proofs.Rests.{Sound, SoundItem, lines_count, inside_count, left, is_jump_stmt, is_jumping, Stands, closes, Lands, AtItem, at_item, at_turn, at_end, head, break-lands, continue-lands, absent, lands, do-plain, return-plain, search-plan}
 
 module _ (s : Spelling) (graph : inner.Graph) (whole : Plan) (limit : ℕ) (text : Tree) (f : Function) (well : IsGraph graph)
     (valid : Sound s graph whole whole outside) (body : IsPlanText s graph whole f.body) (low : lines_count f.body ≤ limit) where
@@ -100,6 +101,7 @@ module _ (s : Spelling) (graph : inner.Graph) (whole : Plan) (limit : ℕ) (text
       ]
       by again x (plan.If a one other) stmt (planned.tests text' text'') is good steps count jumps = stays k point c within stands same (inl jumps)
       by again x (plan.Switch a arms) stmt (planned.chooses text') is good steps count jumps = stays k point c within stands same (inl jumps)
+      by again x (plan.Return a) stmt planned.returns is good steps count jumps = stays k point c within stands same (inl (jumps ∙ (return-plain s graph whole (block_in graph a).exit).no_jump))
       by again x (plan.For a p) stmt (planned.repeats text') is good steps count jumps = stays k point c within stands same (inl jumps)
       by again x plan.Break stmt planned.breaks is good steps count jumps = elim (break-lands s graph whole x.stands) [
         | inl none ↦ stays k point c within stands same (inr (is ∙ none))

@@ -7,8 +7,8 @@ use Rattle.dcc_c.specs.Numbered.{numbered_stmt, numbered_lines, numbered_arms}
 use Rattle.dcc_c.specs.Tree.{Empty}
 use Rattle.dcc_text.specs.Spelling.{Spelling}
 use Rattle.dcc_text.specs.Stmts.{stmt_text}
-use Rattle.dcc_plan.specs.Plan.{Item, Do, Mark, Jump, If, Switch, For, Break, Continue, Plan, no_items, item, Arms, no_arms, arm}
-use Rattle.dcc_plan.specs.PlanText.{text_of_stmt, plan_text, item_text, arms_text, IsPlanText, nothing, one_more, IsItemText, does, marks, jumps, tests, chooses, repeats, breaks, continues, AreArmsText, no_more, next_arm}
+use Rattle.dcc_plan.specs.Plan.{Item, Do, Mark, Jump, If, Switch, Return, For, Break, Continue, Plan, no_items, item, Arms, no_arms, arm}
+use Rattle.dcc_plan.specs.PlanText.{text_of_stmt, text_of_return, plan_text, item_text, arms_text, IsPlanText, nothing, one_more, IsItemText, does, marks, jumps, tests, chooses, returns, repeats, breaks, continues, AreArmsText, no_more, next_arm}
 
 module _ (s : Spelling) (graph : inner.Graph) where
   -- a statement has no lines inside
@@ -27,6 +27,13 @@ module _ (s : Spelling) (graph : inner.Graph) where
       by (Some stmt) = stmt-kept stmt depth at
       by None = refl
 
+  return-kept : (exit : inner.Exit) (depth at : ℕ) → numbered_stmt depth at (text_of_return s exit) ≡ text_of_return s exit
+  return-kept (inner.Goto next) depth at = refl
+  return-kept (inner.If test one other) depth at = refl
+  return-kept (inner.Switch e places) depth at = refl
+  return-kept (inner.Ret values) depth at = refl
+  return-kept inner.Stop depth at = refl
+
   mutual
     numbered-plan : (plan : Plan) (depth at : ℕ) → IsPlanText s graph plan (numbered_lines depth at (plan_text s graph plan))
     numbered-plan no_items depth at = nothing
@@ -38,6 +45,7 @@ module _ (s : Spelling) (graph : inner.Graph) where
     numbered-item (Jump b) depth at = jumps
     numbered-item (If b one other) depth at = tests (numbered-plan one _ _) (numbered-plan other _ _)
     numbered-item (Switch b arms) depth at = chooses (numbered-arms arms _ _)
+    numbered-item (Return b) depth at = subst (IsItemText s graph (Return b)) (sym (return-kept (block_in graph b).exit depth at)) returns
     numbered-item (For b body) depth at = repeats (numbered-plan body _ _)
     numbered-item Break depth at = breaks
     numbered-item Continue depth at = continues

@@ -1,11 +1,12 @@
 -- When the text of a plan is allowed as the body of a function.
-use Rattle.std.specs.Prelude.{◌≡◌, ℕ, ◌+◌, ◌*◌, ◌≤◌, nat_le, true, false, Bool, ◌&&◌, not, All}
+use Rattle.std.specs.Prelude.{◌≡◌, ℕ, ◌+◌, ◌*◌, ◌≤◌, nat_le, true, false, Bool, ◌&&◌, not, List, [], ◌∷◌, Option, Some, None, All}
 use Rattle.std.specs.List.{list_all}
 use Rattle.dcc_ir.specs.Measure.{depth_of}
 use Rattle.dcc_ir.specs.Run.{is_call}
 use Rattle.dcc_ir.specs.Tree as inner
 use Rattle.dcc_ir.specs.Use.{reads_of, writes_of, graph_exprs}
 use Rattle.dcc_ir.specs.WellFormed.{IsGraph}
+use Rattle.dcc_c.specs.declared.syntax.CType.{CType}
 use Rattle.dcc_c.specs.Grammar.{Around, outermost, in_block, in_loop, in_switch}
 use Rattle.dcc_c.specs.Parts.{stmts_in}
 use Rattle.dcc_c.specs.Rules.{declared_in, allows_labels, allows_stmt, shallow_stmt, differ}
@@ -64,6 +65,21 @@ pub record IsSpelled (s : Spelling) (levels : ℕ) (graph : inner.Graph) : Type 
   pub writes : All (λ b. All (λ stmt. All (λ location. s.named location ≡ true) (writes_of stmt)) b.stmts) graph.blocks
   pub shallow : All (λ e. depth_of e ≤ levels) (graph_exprs graph)
 
+-- a function with this result, or with none, may give these values back: a number for a number
+abbrev pub may_give : Option CType → List inner.Expr → Bool
+may_give None [] = true
+may_give (Some type) (e ∷ es) = not type.pointer
+may_give _ _ = false
+
+-- the end of a block may stand in such a function
+abbrev pub may_return : Option CType → inner.Exit → Bool
+may_return result (inner.Ret values) = may_give result values
+may_return result _ = true
+
+-- so may each end of the graph's blocks
+abbrev pub ReturnsFit : Function → inner.Graph → Type 0
+ReturnsFit f graph = All (λ b. may_return f.result b.exit ≡ true) graph.blocks
+
 -- The lines may be the body of the function: they can be written, each `goto` has its label, which stands once, types
 -- are allowed, and no expression is deeper.
 pub record AreAllowedLines (tree : Tree) (f : Function) (limit : ℕ) (lines : Lines) : Type 0 where
@@ -73,11 +89,11 @@ pub record AreAllowedLines (tree : Tree) (f : Function) (limit : ℕ) (lines : L
   pub depth : list_all (shallow_stmt limit) (stmts_in lines) ≡ true
 
 -- So is the text of a valid plan whose items may stand where they do, whatever the numbers of its lines, in a function
--- that declares the names.
+-- that declares the names and gives back what the graph does.
 abbrev pub PlanTextsAreAllowed : Type 0
 PlanTextsAreAllowed = (tree : Tree) (f : Function) (s : Spelling) (graph : inner.Graph) (plan : Plan) (lines : Lines)
     (levels limit : ℕ) → AreDeclared (declared_in tree f) s → IsGraph graph → IsSpelled s levels graph
-    → 6 * levels + 3 ≤ limit → IsPlanOf graph plan → may_stand outermost false plan ≡ true
+    → ReturnsFit f graph → 6 * levels + 3 ≤ limit → IsPlanOf graph plan → may_stand outermost false plan ≡ true
     → IsPlanText s graph plan lines → AreAllowedLines tree f limit lines
 
 -- the items of the plan of a text with jumps, completed, may stand where they do

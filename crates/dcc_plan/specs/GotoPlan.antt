@@ -1,7 +1,7 @@
--- The plan of a text with jumps: each block after its label, and its end by jumps.
+-- The plan of a text with jumps: each block after its label, and its end by jumps or a return.
 use Rattle.std.specs.Prelude.{ℕ, suc, ◌==◌, not, if◌then◌else◌, List, [], ◌∷◌, filter}
 use Rattle.dcc_ir.specs.Tree as inner
-use Rattle.dcc_plan.specs.Plan.{Do, Mark, Jump, If, Switch, Plan, no_items, item, Arms, no_arms, arm}
+use Rattle.dcc_plan.specs.Plan.{Do, Mark, Jump, If, Switch, Return, Plan, no_items, item, Arms, no_arms, arm}
 
 -- a jump to a block
 abbrev pub jump : ℕ → Plan
@@ -28,12 +28,13 @@ abbrev pub target_arms : List ℕ → List ℕ → Arms
 target_arms places [] = no_arms
 target_arms places (target ∷ targets) = arm (places_from 0 target places) (jump target) (target_arms places targets)
 
--- the end of a block, with what follows; no run comes past another end
+-- the end of a block, with what follows; no run comes past a Stop
 abbrev pub goto_exit : ℕ → inner.Exit → Plan → Plan
 goto_exit b (inner.Goto next) plan = item (Jump next) plan
 goto_exit b (inner.If test one other) plan = item (If b (jump one) (jump other)) plan
 goto_exit b (inner.Switch e places) plan = item (Switch b (target_arms places (distinct places))) plan
-goto_exit b _ plan = plan
+goto_exit b (inner.Ret values) plan = item (Return b) plan
+goto_exit b inner.Stop plan = plan
 
 -- these blocks, the first of which is that one
 abbrev pub goto_blocks : ℕ → List inner.Block → Plan

@@ -14,6 +14,8 @@ mutual
     If : ℕ → Plan → Plan → Item
     -- the choice at the end of a block
     Switch : ℕ → Arms → Item
+    -- the return at the end of a block
+    Return : ℕ → Item
     -- a loop without a test, each turn of which begins a block
     For : ℕ → Plan → Item
     Break : Item

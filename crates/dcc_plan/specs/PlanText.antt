@@ -1,9 +1,9 @@
 -- The text of a plan.
-use Rattle.std.specs.Prelude.{ℕ, false, List, slice_get, Some, None}
+use Rattle.std.specs.Prelude.{ℕ, false, List, [], ◌∷◌, slice_get, Option, Some, None}
 use Rattle.dcc_ir.specs.Tree as inner
 use Rattle.dcc_ir.specs.Live.{block_in}
 use Rattle.dcc_c.specs.declared.syntax.Base.TheVariants.{Int}
-use Rattle.dcc_c.specs.Tree.{Expr, Number, Stmt, If, Forever, Switch, Break, Continue, Goto, Label, Empty, Lines, no_lines, line, Arms, no_arms, arm}
+use Rattle.dcc_c.specs.Tree.{Expr, Number, Stmt, If, Forever, Switch, Break, Continue, Goto, Label, Empty, Return, Lines, no_lines, line, Arms, no_arms, arm}
 use Rattle.dcc_text.specs.Spelling.{Spelling}
 use Rattle.dcc_text.specs.Spelled.{Low, Exact, text}
 use Rattle.dcc_text.specs.Stmts.{stmt_text}
@@ -28,6 +28,16 @@ abbrev pub text_of_choice : Spelling → inner.Exit → Expr
 text_of_choice s (inner.Switch e places) = text s Low false e
 text_of_choice s _ = Number 0 Int
 
+-- what a return gives back, where it gives a value
+abbrev pub given : Spelling → List inner.Expr → Option Expr
+given s [] = None
+given s (e ∷ es) = Some (text s Low false e)
+
+-- the return at the end of a block
+abbrev pub text_of_return : Spelling → inner.Exit → Stmt
+text_of_return s (inner.Ret values) = Return (given s values)
+text_of_return s _ = Empty
+
 abbrev mutual
   -- the lines of a plan, not numbered yet
   pub plan_text : Spelling → inner.Graph → Plan → Lines
@@ -42,6 +52,7 @@ abbrev mutual
       If (text_of_test s (block_in graph b).exit) (plan_text s graph one) (plan_text s graph other)
   item_text s graph (plan.Switch b arms) =
       Switch (text_of_choice s (block_in graph b).exit) (arms_text s graph arms) no_arms
+  item_text s graph (plan.Return b) = text_of_return s (block_in graph b).exit
   item_text s graph (plan.For b body) = Forever (plan_text s graph body)
   item_text s graph plan.Break = Break
   item_text s graph plan.Continue = Continue
@@ -68,6 +79,7 @@ mutual
         → IsItemText s graph (plan.If b one other) (If (text_of_test s (block_in graph b).exit) body otherwise)
     chooses : {b : ℕ} {arms : plan.Arms} {bodies : Arms} → AreArmsText s graph arms bodies
         → IsItemText s graph (plan.Switch b arms) (Switch (text_of_choice s (block_in graph b).exit) bodies no_arms)
+    returns : {b : ℕ} → IsItemText s graph (plan.Return b) (text_of_return s (block_in graph b).exit)
     repeats : {b : ℕ} {body : Plan} {lines : Lines} → IsPlanText s graph body lines
         → IsItemText s graph (plan.For b body) (Forever lines)
     breaks : IsItemText s graph plan.Break Break

@@ -2,8 +2,8 @@
 use Rattle.std.specs.Prelude.{◌≡◌, ℕ, suc, ◌<◌, ◌==◌, Bool, true, false, not, ◌||◌, if◌then◌else◌, List, [], length, slice_get, Some}
 use Rattle.dcc_ir.specs.Tree as inner
 use Rattle.dcc_ir.specs.Live.{block_in}
-use Rattle.dcc_ir.specs.WellFormed.{is_jump, all_differ}
-use Rattle.dcc_plan.specs.Plan.{Item, Do, Mark, Jump, If, Switch, For, Break, Continue, Plan, no_items, item, Arms, no_arms, arm, marks, is_in, is_begun, arm_with}
+use Rattle.dcc_ir.specs.WellFormed.{all_differ}
+use Rattle.dcc_plan.specs.Plan.{Item, Do, Mark, Jump, If, Switch, Return, For, Break, Continue, Plan, no_items, item, Arms, no_arms, arm, marks, is_in, is_begun, arm_with}
 
 -- a point in a graph: where a block begins, or before its statement at a place; after the last one stands its end
 pub data Point : Type 0 where
@@ -17,8 +17,7 @@ abbrev pub end_of : inner.Graph → ℕ → Point
 end_of graph b = Before b (length (block_in graph b).stmts)
 
 -- The run of the graph comes from the first point to the second without a statement, a test or a choice, and without
--- the begin of a block that the text has a step for. No run comes past a block's end that is no jump, so it may lead
--- anywhere.
+-- the begin of a block that the text has a step for. No run comes past a Stop, so it may lead anywhere.
 pub data Leads (graph : inner.Graph) (begun : ℕ → Bool) : Point → Point → Type 0 where
   is_there : {point : Point} → Leads graph begun point point
   begins : {b : ℕ} {point : Point} → begun b ≡ false → Leads graph begun (Before b 0) point
@@ -26,7 +25,7 @@ pub data Leads (graph : inner.Graph) (begun : ℕ → Bool) : Point → Point �
   goes : {b m next : ℕ} {point : Point} → m ≡ length (block_in graph b).stmts
       → (block_in graph b).exit ≡ inner.Goto next → Leads graph begun (Begin next) point
       → Leads graph begun (Before b m) point
-  stops : {b m : ℕ} {point : Point} → m ≡ length (block_in graph b).stmts → is_jump (block_in graph b).exit ≡ false
+  stops : {b m : ℕ} {point : Point} → m ≡ length (block_in graph b).stmts → (block_in graph b).exit ≡ inner.Stop
       → Leads graph begun (Before b m) point
 
 -- where the graph is after a list of items, and where `break` and `continue` in it lead
@@ -46,6 +45,7 @@ item_entry graph (Mark b) c = Begin b
 item_entry graph (Jump b) c = Begin b
 item_entry graph (If b one other) c = end_of graph b
 item_entry graph (Switch b arms) c = end_of graph b
+item_entry graph (Return b) c = end_of graph b
 item_entry graph (For b body) c = Begin b
 item_entry graph Break c = c.at_break
 item_entry graph Continue c = c.at_continue
@@ -96,6 +96,8 @@ abbrev mutual
       × ((n place : ℕ) → slice_get places n ≡ Some place
       → Leads graph (is_begun whole) (Begin place) (entry graph (arm_with n arms) inside))
       × AreValidArms graph whole arms inside
+  IsValidItem graph whole (Return b) plan c =
+      (values : List inner.Expr) × ((block_in graph b).exit ≡ inner.Ret values) × (b < length graph.blocks)
   IsValidItem graph whole (For b body) plan c =
       let inside = in_loop graph b plan c in
       (b < length graph.blocks) × Leads graph (is_begun whole) (turn b body) (entry graph body inside)

@@ -1,8 +1,8 @@
 -- The plans that the declared types stand for.
 use Rattle.std.specs.Prelude.{List, [], ◌∷◌}
-use Rattle.dcc_plan.specs.declared.item.Item.{Item as TheItem, Do as DoOf, Mark as MarkOf, Jump as JumpOf, If', Switch', For', Break as BreakOf, Continue as ContinueOf, Row_of-Item, end_of-Item, more_of-Item, Row_of-Arm, end_of-Arm, more_of-Arm}
+use Rattle.dcc_plan.specs.declared.item.Item.{Item as TheItem, Do as DoOf, Mark as MarkOf, Jump as JumpOf, If', Switch', Return as ReturnOf, For', Break as BreakOf, Continue as ContinueOf, Row_of-Item, end_of-Item, more_of-Item, Row_of-Arm, end_of-Arm, more_of-Arm}
 use Rattle.dcc_plan.specs.declared.item.Arm.{Arm as TheArm}
-use Rattle.dcc_plan.specs.Plan.{Item, Do, Mark, Jump, If, Switch, For, Break, Continue, Plan, no_items, item, Arms, no_arms, arm}
+use Rattle.dcc_plan.specs.Plan.{Item, Do, Mark, Jump, If, Switch, Return, For, Break, Continue, Plan, no_items, item, Arms, no_arms, arm}
 
 abbrev mutual
   -- the plan's item
@@ -12,6 +12,7 @@ abbrev mutual
   item_of (JumpOf b) = Jump b
   item_of (If' b _ one _ other) = If b (plan_of_row one) (plan_of_row other)
   item_of (Switch' b _ arms) = Switch b (arms_of_row arms)
+  item_of (ReturnOf b) = Return b
   item_of (For' b _ body) = For b (plan_of_row body)
   item_of BreakOf = Break
   item_of ContinueOf = Continue

@@ -166,7 +166,8 @@ fn push_exit(alloc: Global, items: &mut Vec<Item>, b: u32, end: &End) -> Result<
         End::Goto(next) => items.push(Item::Jump(*next))?,
         End::If { one, other, .. } => push_test(alloc, items, b, *one, *other)?,
         End::Switch { blocks, .. } => push_choice(alloc, items, b, blocks)?,
-        End::Ret(_) | End::Stop => {}
+        End::Ret(_) => items.push(Item::Return(b))?,
+        End::Stop => {}
     }
     Ok(())
 }
@@ -194,7 +195,7 @@ fn blocks_plan(alloc: Global, blocks: &[Block]) -> Result<Vec<Item>, AllocError>
     Ok(items)
 }
 
-/// The plan of a text with jumps: each block after its label, its statements, and its end by jumps. A graph with more
+/// The plan of a text with jumps: each block after its label, its statements, and its end by jumps or a return. A graph with more
 /// blocks, a block with more statements than 32 bits can number and a choice with more than 65,536 places are told as
 /// want of memory.
 pub fn goto_plan(alloc: Global, graph: &Graph) -> Result<Vec<Item>, AllocError>

@@ -15,6 +15,8 @@ pub enum Item {
     If(u32, Vec<Item>, Vec<Item>),
     /// The choice at the end of a block, with its arms.
     Switch(u32, Vec<Arm>),
+    /// The return at the end of a block.
+    Return(u32),
     /// A loop without a test, each turn of which begins a block.
     For(u32, Vec<Item>),
     /// `break`.

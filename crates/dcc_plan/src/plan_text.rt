@@ -2,7 +2,8 @@
 
 ghost use Rattle.std.specs.Prelude.{◌≡◌, IfOk, map, string_bytes};
 ghost use Rattle.dcc_ir.specs.Live.{block_in};
-ghost use Rattle.dcc_ir.specs.Views.{block_of, exit_of, graph_of};
+ghost use Rattle.std.specs.Prelude.{option_map};
+ghost use Rattle.dcc_ir.specs.Views.{block_of, exit_of, expr_of as inner_of, graph_of};
 ghost use Rattle.dcc_c.specs.Views.{expr_of, stmt_of, lines_of, arms_of as c_arms_of};
 ghost use Rattle.dcc_plan.specs.Labels as labels;
 ghost use Rattle.dcc_plan.specs.PlanText as spec;
@@ -10,7 +11,7 @@ ghost use Rattle.dcc_plan.specs.Views.{item_of, plan_of, arms_of};
 
 use crate::item::{Arm, Item};
 use dcc_c::{Arm as CArm, Base, CExpr, CStmt, Line};
-use dcc_ir::{Block, End, Graph};
+use dcc_ir::{Block, End, Expr, Graph};
 use dcc_text::expression::expr_text;
 use dcc_text::hex::name_at;
 use dcc_text::statement::stmt_text;
@@ -91,6 +92,37 @@ fn choice_at<S: Spells>(alloc: Global, s: &S, graph: &Graph, b: u32) -> Result<C
     }
 }
 
+// What a return gives back, where it gives a value.
+fn given<S: Spells>(alloc: Global, s: &S, values: &[Expr]) -> Result<Option<CExpr>, AllocError>
+    ensures { IfOk result (λ r. option_map expr_of r ≡ spec.given (S.spelling s.now) (map inner_of values.now)) }
+{
+    match values.first() {
+        Some(e) => Ok(Some(expr_text(alloc, s, Way::Low, false, e)?)),
+        None => Ok(None),
+    }
+}
+
+// The return at a block's end.
+fn return_of<S: Spells>(alloc: Global, s: &S, end: &End) -> Result<CStmt, AllocError>
+    ensures { IfOk result (λ r. stmt_of r ≡ spec.text_of_return (S.spelling s.now) (exit_of end.now)) }
+{
+    match end {
+        End::Ret(values) => Ok(CStmt::Return(given(alloc, s, values)?)),
+        _ => Ok(CStmt::Empty),
+    }
+}
+
+// The return at the end of the block at a place in the graph.
+fn return_at<S: Spells>(alloc: Global, s: &S, graph: &Graph, b: u32) -> Result<CStmt, AllocError>
+    ensures { IfOk result (λ r. stmt_of r
+        ≡ spec.text_of_return (S.spelling s.now) (block_in (graph_of graph.now) b).exit) }
+{
+    match graph.blocks.get(b as usize) {
+        Some(block) => return_of(alloc, s, &block.end),
+        None => Ok(CStmt::Empty),
+    }
+}
+
 // The text of an item.
 #[cycle(text)]
 fn item_text<S: Spells>(
@@ -117,6 +149,7 @@ fn item_text<S: Spells>(
             let bodies = arms_text(alloc, s, graph, arms)?;
             Ok(CStmt::Switch(value, bodies, None))
         }
+        Item::Return(b) => return_at(alloc, s, graph, *b),
         Item::For(_, inner) => {
             let body = plan_text(alloc, s, graph, inner)?;
             Ok(CStmt::Forever(body))

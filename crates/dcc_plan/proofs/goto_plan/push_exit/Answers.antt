@@ -1,6 +1,6 @@
 use Rattle.std.proofs.Common.{[], ◌∷◌, sym, ap, ◌∙◌}
 use Rattle.dcc_ir.specs.Views.{exit_of}
-use Rattle.dcc_plan.specs.declared.item.Item.{Jump as JumpOf}
+use Rattle.dcc_plan.specs.declared.item.Item.{Jump as JumpOf, Return as ReturnOf}
 use Rattle.dcc_plan.specs.GotoPlan.{goto_exit}
 use Rattle.dcc_plan.specs.Views.{plan_before}
 use Rattle.dcc_plan.proofs.ItemRows.{plan_before-append}
@@ -12,3 +12,10 @@ returns-in_ok-push-in-Goto c plan =
     ap (λ l. plan_before l plan) c.in_ok-push-in-Goto.ensures.items
     ∙ plan_before-append items (JumpOf c.in-Goto.next ∷ []) plan
     ∙ ap (λ end. plan_before items (goto_exit c.args.b (exit_of end) plan)) (sym c.in-Goto.is)
+
+pub returns-in_ok-push-in-Ret : goal.returns-in_ok-push-in-Ret
+returns-in_ok-push-in-Ret c plan =
+    let items = c.args.items.now.items in
+    ap (λ l. plan_before l plan) c.in_ok-push-in-Ret.ensures.items
+    ∙ plan_before-append items (ReturnOf c.args.b ∷ []) plan
+    ∙ ap (λ end. plan_before items (goto_exit c.args.b (exit_of end) plan)) (sym c.in-Ret.is)
