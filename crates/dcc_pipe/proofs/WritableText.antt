@@ -1,5 +1,5 @@
 -- The text of a program is writable.
-use Rattle.std.proofs.Common.{◌≡◌, ℕ, ◌*◌, ◌+◌, ◌≤◌, true, false, List, [], ◌∷◌, length, None, Some, refl, sym, ap, ◌∙◌, subst, arith, Contains}
+use Rattle.std.proofs.Common.{◌≡◌, ℕ, inl, ◌*◌, ◌+◌, ◌≤◌, true, false, List, [], ◌∷◌, length, None, Some, refl, sym, ap, ◌∙◌, subst, arith, Contains}
 use Rattle.std.specs.Prelude.{◌&&◌, All, take, drop, get_or}
 use Rattle.std.specs.List.{list_all}
 use Rattle.std.proofs.lemmas.Bool.{and_from}
@@ -98,7 +98,7 @@ module _ (p : inner.Program) (is : IsTextable levels p) where
       → ((stmt : inner.Stmt) → Contains stmts stmt → IsStep (graph_spelling is.graph) (λ l. (graph_spelling is.graph).named l ≡ true) (λ l. (graph_spelling is.graph).named l ≡ true) stmt)
       → AreSteps (graph_spelling is.graph) (λ rest l. (graph_spelling is.graph).named l ≡ true) stmts
   steps-all [] each = tt
-  steps-all (stmt ∷ stmts) each = (each stmt (Contains-here stmt stmts), steps-all stmts (λ other c. each other (Contains-later stmt stmts other c)))
+  steps-all (stmt ∷ stmts) each = (inl (each stmt (Contains-here stmt stmts)), steps-all stmts (λ other c. each other (Contains-later stmt stmts other c)))
 
   pub named-matters : Matters (graph_spelling is.graph) is.graph (mentioned is.graph)
   named-matters = record {
@@ -134,7 +134,7 @@ module _ (p : inner.Program) (is : IsTextable levels p) where
     lines-allowed =
         texts-allowed tree start (graph_spelling is.graph) is.graph (control is.graph) start.body levels 200
         (names-declared is.graph few formed tree start refl refl) formed
-        (spelled-graph (graph_spelling is.graph) is.graph (mentioned is.graph) levels refl named-matters
+        (spelled-graph (graph_spelling is.graph) is.graph (mentioned is.graph) levels refl no-calls named-matters
         (λ b location less named. named) is.shallow)
         returned (omega arith) control-plan.0 (goto-stands is.graph formed) (plain-text (graph_spelling is.graph) is.graph (control is.graph))
 

@@ -1,121 +1,85 @@
--- One step of the program, a block, stands for steps of the text.
-use Rattle.std.proofs.Common.{◌≡◌, ◌≢◌, ℕ, zero, suc, ◌+◌, ◌<◌, ◌≤◌, inl, inr, Bool, true, false, ◌==◌, List, [], ◌∷◌, length, map, Option, Some, None, refl, sym, ap, ap₂, ◌∙◌, subst, true≢false, arith}
-use Rattle.std.specs.Prelude.{◌⊎◌, ◌&&◌, nat_lt, nat_le, if◌then◌else◌, All, Contains, drop, slice_get}
-use Rattle.std.specs.List.{list_all}
-use Rattle.std.proofs.lemmas.Bool.{and_parts, ltb-true}
+-- One step of the program, a block up to its next call, return or end, stands for steps of the text.
+use Rattle.std.proofs.Common.{◌≡◌, ℕ, zero, suc, ◌+◌, ◌<◌, ◌≤◌, inl, inr, Bool, true, false, ◌==◌, List, [], ◌∷◌, length, map, Option, Some, None, refl, sym, ap, ap₂, ◌∙◌, subst, true≢false, arith}
+use Rattle.std.specs.Prelude.{◌⊎◌, ◌&&◌, ◌||◌, not, nat_lt, nat_le, if◌then◌else◌, All, Contains, drop, slice_get}
+use Rattle.std.specs.List.{list_all, list_any, AllZip}
+use Rattle.std.proofs.lemmas.Bool.{and_parts, ltb-true, or_right, not-true}
 use Rattle.std.proofs.lemmas.List.Elements.{All-head}
-use Rattle.dcc_run.specs.End.{Stuck, is_over}
-use Rattle.dcc_run.specs.System.{after, end_after}
+use Rattle.dcc_run.specs.End.{is_over}
+use Rattle.dcc_run.specs.System.{after}
+use Rattle.dcc_run.proofs.RunLaws.{after-add}
+use Rattle.dcc_ir.specs.declared.syntax.Loc.{Loc}
 use Rattle.dcc_ir.specs.Families.{Family}
 use Rattle.dcc_ir.specs.Flow.{targets}
 use Rattle.dcc_ir.specs.Live.{block_in}
 use Rattle.dcc_ir.specs.Run as run
 use Rattle.dcc_ir.specs.Tree as inner
 use Rattle.dcc_ir.specs.Use.{exit_exprs}
-use Rattle.dcc_ir.specs.WellFormed.{is_stmt, is_exit, is_expr_of, is_block, IsGraph}
+use Rattle.dcc_ir.specs.WellFormed.{is_stmt, is_exit, is_expr_of, is_block, is_jump, jumps_after_call, IsGraph, IsCall, IsCalling}
 use Rattle.dcc_ir.proofs.ExecuteLaws.{block-first}
 use Rattle.dcc_ir.proofs.FitStates.{IsFit, scene-fits, stmt-fit}
-use Rattle.dcc_ir.proofs.ReachedLaws.{contained, all_at, graph_of, IsGood}
+use Rattle.dcc_ir.proofs.ReachedLaws.{contained, all_at, found_contained, named_again, graph_of, AreCallers, IsWithinAt, within-next, IsGood}
 use Rattle.dcc_ir.proofs.StepLaws.{stmt-within}
 use Rattle.dcc_c.specs.Run as c
-use Rattle.dcc_c.specs.Run.{Continuation, runs, ends_switch, goes_on, stmt_step, step_at, if_step, switch_step, arm_for, on}
+use Rattle.dcc_c.specs.Run.{Continuation, ends_function, runs, ends_switch, goes_on, stmt_step, step_at, if_step, switch_step, arm_for, on}
 use Rattle.dcc_c.specs.Tree as tree
 use Rattle.dcc_c.specs.Tree.{Stmt, Lines, no_lines, Function, Tree}
 use Rattle.dcc_c.specs.Value as text_value
 use Rattle.dcc_c.specs.Value.{number, converted}
 use Rattle.dcc_text.specs.Spelling.{Spelling}
 use Rattle.dcc_text.specs.Stmts.{stmt_text}
-use Rattle.dcc_text.specs.Holding.{Locations, Alike, IsWithin, HoldsFrame, Holds, HoldsOrEnds}
+use Rattle.dcc_text.specs.Holding.{Locations, IsWithin, HoldsFrame, Holds, HoldsOrEnds, IsWaiting}
+use Rattle.dcc_text.specs.Laws.{IsStep}
 use Rattle.dcc_text.proofs.StmtLaws.{statements-step}
 use Rattle.dcc_plan.specs.Plan as plan
 use Rattle.dcc_plan.specs.Plan.{Item, Plan, Arms, is_in, is_begun, arm_with}
 use Rattle.dcc_plan.specs.PlanText as planned
-use Rattle.dcc_plan.specs.PlanText.{text_of_stmt, text_of_test, text_of_choice, IsPlanText, IsItemText, AreArmsText}
+use Rattle.dcc_plan.specs.PlanText.{text_of_stmt, text_of_test, text_of_choice, text_of_return, IsPlanText, IsItemText, AreArmsText}
+use Rattle.dcc_plan.specs.Programs.{IsGraphText}
 use Rattle.dcc_plan.specs.Valid as valid
 use Rattle.dcc_plan.specs.Valid.{Point, Begin, Before, Nowhere, Leads, Context, item_entry, entry, only_goes, in_sides, in_arms, IsValid, IsValidItem, AreValidArms}
-use Rattle.dcc_plan.specs.Laws.{AreSteps, IsTextOf}
+use Rattle.dcc_plan.specs.Laws.{IsCallStep, AreSteps}
 use Rattle.dcc_plan.proofs.LabelLaws.{block-at}
 use Rattle.dcc_plan.proofs.ListLaws.{drop-first, drop-next, drop-less, drop-all}
 use Rattle.dcc_plan.proofs.Rests.{AreBegun, ArmsBegun, Sound, SoundItem, whole-begun, lines_count, inside_count, arms_count, left, is_jumping, Stands, AtItem, AtTurn, Head, at_item, at_turn, at_end, head, Lands, break-lands, IsStart, is_nowhere, is_begin, continue-starts}
 use Rattle.dcc_plan.proofs.Rests as rests
-use Rattle.dcc_plan.proofs.Settles.{one-step, jump-comes, settle}
+use Rattle.dcc_plan.proofs.Settings.{debts, rests_of, limit_of, StandsFor, Continuing, setting_of, HasBegun, Premises}
+use Rattle.dcc_plan.proofs.CallStates.{called, returned}
+use Rattle.dcc_plan.proofs.Points.{block_of, place_of, is_before, start-apart, stays-before, moves, arm-text, arm-valid, arm-begun, arm-few}
+use Rattle.dcc_plan.proofs.Stages.{debts_of, owed, owed-begun, owed-within, AreCalled, CallsAlike, Matter, IsUnstuck, Meets, at_begin, after_call, Related, Outcome}
+use Rattle.dcc_plan.proofs.Settles.{one-step, jump-comes, settle, settle-start}
 use Rattle.dcc_plan.proofs.StepsKept.{text-keeps}
 use Rattle.dcc_plan.proofs.TestLaws.{test-gives, choice-gives, decides}
 
--- Points.
+module _ (G : Premises) (graph : inner.Graph) (inside : Contains G.p.graphs graph) where
+  abbrev p : inner.Program
+  p = G.p
 
-abbrev pub block_of : Point → ℕ
-block_of (Begin b) = b
-block_of (Before b m) = b
-block_of Nowhere = 0
+  abbrev fill : ℕ
+  fill = G.fill
 
-abbrev place_of : Point → ℕ
-place_of (Before b m) = m
-place_of _ = 0
+  abbrev text : Tree
+  text = G.tree
 
-abbrev pub is_before : Point → Bool
-is_before (Before b m) = true
-is_before _ = false
+  abbrev s : Spelling
+  s = G.texts.spelling graph
 
-start-apart : (point : Point) (b m : ℕ) → IsStart point → Before b m ≡ point → ⊥
-start-apart Nowhere b m is_nowhere e = true≢false (ap is_before e)
-start-apart (Begin a) b m is_begin e = true≢false (ap is_before e)
-start-apart (Before a k) b m start e = elim start [ ]
+  abbrev family : Family
+  family = G.texts.matters graph
 
--- before a statement nothing leads elsewhere
-stays-before : (graph : inner.Graph) (begun : ℕ → Bool) (b m : ℕ) (point : Point) → Leads graph begun (Before b m) point → m < length (block_in graph b).stmts → Before b m ≡ point
-stays-before graph begun b m point valid.is_there less = refl
-stays-before graph begun b m point (valid.goes at exit leads) less = absurd (omega (arith, at, less))
-stays-before graph begun b m point (valid.stops at exit) less = absurd (omega (arith, at, less))
+  abbrev whole : Plan
+  whole = G.texts.plan graph
 
--- how many silent moves lead from the one point to the other
-abbrev pub moves : {graph : inner.Graph} {begun : ℕ → Bool} {first second : Point} → Leads graph begun first second → ℕ
-moves valid.is_there = 0
-moves (valid.begins none leads) = suc (moves leads)
-moves (valid.goes at exit leads) = suc (moves leads)
-moves (valid.stops at none) = 0
+  abbrev f : Function
+  f = G.texts.function graph
 
--- Arms.
-
--- what the arm with a case holds
-arm-text : (s : Spelling) (graph : inner.Graph) (n : ℕ) (arms : Arms) (bodies : tree.Arms) → AreArmsText s graph arms bodies → IsPlanText s graph (arm_with n arms) (arm_for n bodies no_lines)
-arm-text s graph n arms bodies planned.no_more = planned.nothing
-arm-text s graph n arms bodies (planned.next_arm {cases = cases} {body = body} {arms = others} {lines = lines} {bodies = more} text texts) = by (is_in n cases) (arm-text s graph n others more texts)
-  where
-    by : (here : Bool) → IsPlanText s graph (arm_with n others) (arm_for n more no_lines) → IsPlanText s graph (if here then body else arm_with n others) (if here then lines else arm_for n more no_lines)
-    by true later = text
-    by false later = later
-
-arm-valid : (graph : inner.Graph) (whole : Plan) (n : ℕ) (arms : Arms) (c : Context) → AreValidArms graph whole arms c → IsValid graph whole (arm_with n arms) c
-arm-valid graph whole n plan.no_arms c good = tt
-arm-valid graph whole n (plan.arm cases body arms) c good = by (is_in n cases) (arm-valid graph whole n arms c good.1)
-  where
-    by : (here : Bool) → IsValid graph whole (arm_with n arms) c → IsValid graph whole (if here then body else arm_with n arms) c
-    by true later = good.0
-    by false later = later
-
-arm-begun : (s : Spelling) (graph : inner.Graph) (whole : Plan) (n : ℕ) (arms : Arms) → ArmsBegun s graph whole arms → AreBegun s graph whole (arm_with n arms)
-arm-begun s graph whole n plan.no_arms good = tt
-arm-begun s graph whole n (plan.arm cases body arms) good = by (is_in n cases) (arm-begun s graph whole n arms good.1)
-  where
-    by : (here : Bool) → AreBegun s graph whole (arm_with n arms) → AreBegun s graph whole (if here then body else arm_with n arms)
-    by true later = good.0
-    by false later = later
-
-arm-few : (n : ℕ) (bodies : tree.Arms) → lines_count (arm_for n bodies no_lines) ≤ arms_count bodies
-arm-few n tree.no_arms = omega arith
-arm-few n (tree.arm cases lines bodies) = by (is_in n cases) (arm-few n bodies)
-  where
-    by : (here : Bool) → lines_count (arm_for n bodies no_lines) ≤ arms_count bodies → lines_count (if here then lines else arm_for n bodies no_lines) ≤ lines_count lines + arms_count bodies
-    by true later = omega arith
-    by false later = omega (arith, later)
-
-module _ (p : inner.Program) (graph : inner.Graph) (s : Spelling) (family : Family) (whole : Plan) (f : Function) (is : IsTextOf p graph s family whole f) (text : Tree) (AreAlike : Alike) (fill : ℕ) where
   abbrev pub limit : ℕ
-  limit = lines_count f.body
+  limit = limit_of G.texts graph
 
   abbrev pub begun : ℕ → Bool
   begun b = is_begun whole b
+
+  abbrev is : IsGraphText G.texts graph
+  is = G.each graph inside
 
   abbrev c_step : c.State → c.State
   c_step t = c.step text t
@@ -123,11 +87,8 @@ module _ (p : inner.Program) (graph : inner.Graph) (s : Spelling) (family : Fami
   abbrev Standing : Continuation → Context → Type 0
   Standing k context = Stands s graph whole limit k context
 
-  pub known-graph : Contains p.graphs graph
-  known-graph = subst (λ graphs. Contains graphs graph) (sym is.alone) (contained (graph ∷ []) 0 graph refl)
-
   pub well : IsGraph graph
-  well = graph_of p is.well graph known-graph
+  well = graph_of p G.well graph inside
 
   pub sound : Sound s graph whole whole valid.outside
   sound = (is.is_plan.valid, whole-begun s graph whole)
@@ -138,89 +99,63 @@ module _ (p : inner.Program) (graph : inner.Graph) (s : Spelling) (family : Fami
       (and_parts (list_all (is_stmt graph.bits) (block_in graph b).stmts) (is_exit graph.bits (length graph.blocks) (block_in graph b).exit)
       (all_at (is_block graph.bits (length graph.blocks)) graph.blocks (block_in graph b) well.blocks (contained graph.blocks b (block_in graph b) (block-at graph well b known)))).1
 
-  -- the run from a state on is never stuck
-  abbrev pub IsUnstuck : run.State → Type 0
-  IsUnstuck i = (n at : ℕ) → end_after (run.inner_system p fill) n i ≢ Stuck at
-
-  -- What is left of the text stands for a point to which the program goes from this one without a statement.
-  pub record StandsFor (k : Continuation) (from : Point) : Type 0 where
-    pub context : Context
-    pub stands : Standing k context
-    pub point : Point
-    pub same : context.next ≡ point
-    pub leads : Leads graph begun from point
-    pub low : left k ≤ limit
+  -- the text's step from a continuation on
+  pub steps-from : (k : Continuation) (t : c.State) → is_over t.end ≡ false → c_step (goes_on k t) ≡ step_at text k (goes_on k t)
+  steps-from k t on = one-step s graph whole limit text f well sound (G.texts.openings graph) (G.texts.lines graph) is.opens is.text (omega arith) k t on
 
   abbrev pub stands-for : {from : Point} (k : Continuation) (context : Context) (point : Point) (leads : Leads graph begun from point) → Standing k context → context.next ≡ point → left k ≤ limit
-      → StandsFor k from
+      → StandsFor G.texts graph k from
   stands-for k context point leads stands same low = record { context = context; stands = stands; point = point; same = same; leads = leads; low = low }
 
-  -- The program is about to execute a block, and the text stands for its begin.
-  pub record Meets (i : run.State) (t : c.State) : Type 0 where
-    pub b : ℕ
-    pub known : b < length graph.blocks
-    pub graph_is : i.running.graph ≡ graph
-    pub block_is : i.running.block ≡ block_in graph b
-    pub rest_is : i.running.rest ≡ (block_in graph b).stmts
-    pub begins : i.running.begins ≡ true
-    pub waiting : i.waiting ≡ []
-    pub running : is_over i.end ≡ false
-    pub good : IsGood p i
-    pub unstuck : IsUnstuck i
-    pub stand : StandsFor t.rest (Begin b)
-    pub settled : (is_jumping t.rest ≡ false) ⊎ (stand.context.next ≡ Nowhere)
-    pub function : t.frame.function ≡ f
-    pub holds : Holds s (family (block_in graph b) (block_in graph b).stmts) AreAlike i t
-
-  -- The program is within a block, before these statements, and the text stands for that point.
-  pub record Midway (b m : ℕ) (stmts : List inner.Stmt) (i : run.State) (t : c.State) : Type 0 where
+  -- The program is within a block, before these statements, and the text stands for that point. Where a call is among them,
+  -- there is enough left for what a callee opens.
+  pub record Midway (extra b m : ℕ) (stmts : List inner.Stmt) (i : run.State) (t : c.State) : Type 0 where
     pub known : b < length graph.blocks
     pub at : drop m (block_in graph b).stmts ≡ stmts
     pub within : m ≤ length (block_in graph b).stmts
     pub graph_is : i.running.graph ≡ graph
     pub block_is : i.running.block ≡ block_in graph b
-    pub waiting : i.waiting ≡ []
+    pub called : AreCalled p graph i.waiting
     pub running : is_over i.end ≡ false
+    pub placed : IsWithinAt p stmts i
+    pub jumps : jumps_after_call stmts (block_in graph b).exit ≡ true
+    pub spare : list_any run.is_call stmts ≡ true → (callee : inner.Graph) → Contains (drop 1 p.graphs) callee → G.texts.openings callee + 1 ≤ extra
     pub fit : IsFit i
     pub steps : AreSteps s (family (block_in graph b)) stmts
-    pub stand : StandsFor t.rest (Before b m)
+    pub stand : StandsFor G.texts graph t.rest (Before b m)
     pub function : t.frame.function ≡ f
-    pub holds : Holds s (family (block_in graph b) stmts) AreAlike i t
-
-  -- both runs are over alike
-  pub record Ends (i : run.State) (t : c.State) : Type 0 where
-    pub over : is_over i.end ≡ true
-    pub end : t.end ≡ i.end
-    pub events : t.events ≡ i.events
+    pub holds : Holds s (family (block_in graph b) stmts) (CallsAlike G) i t
 
   -- the text holds the same with other statements left, and so where the program runs at another place with the frame
-  at-place : {Has After : Locations} {i : run.State} {t : c.State} (a : run.Activation) (k : Continuation) → HoldsFrame s After a t.frame → Holds s Has AreAlike i t
-      → Holds s After AreAlike (record i { running = a }) (goes_on k t)
+  at-place : {Has After : Locations} {i : run.State} {t : c.State} (a : run.Activation) (k : Continuation) → HoldsFrame s After a t.frame → Holds s Has (CallsAlike G) i t
+      → Holds s After (CallsAlike G) (record i { running = a }) (goes_on k t)
   at-place a k frame h = record { frame = frame; waiting = h.waiting; memory = h.memory; input = h.input; events = h.events; end = h.end }
 
-  pub elsewhere : {Has : Locations} {i : run.State} {t : c.State} (k : Continuation) → Holds s Has AreAlike i t → Holds s Has AreAlike i (goes_on k t)
+  pub elsewhere : {Has : Locations} {i : run.State} {t : c.State} (k : Continuation) → Holds s Has (CallsAlike G) i t → Holds s Has (CallsAlike G) i (goes_on k t)
   elsewhere {i = i} k h = at-place i.running k h.frame h
 
   -- The state to which the program's step leads.
-  module _ (last : run.State) (good : IsGood p last) (unstuck : IsUnstuck last) where
-    -- After some steps the text is where the program's step leads. Where this step only goes to another block, fewer
-    -- silent moves than these are left; else the text makes a step.
+  module _ (extra : ℕ) (last : run.State) (good : IsGood p last) (unstuck : IsUnstuck G last) where
+    -- After some steps the text is where the program's step leads. Where this step doesn't only go to another block, the
+    -- text makes a step.
     pub record Comes (passes : Bool) (most : ℕ) (t : c.State) : Type 0 where
       pub steps : ℕ
       pub some : passes ≡ false → 0 < steps
-      pub few : steps ≤ left t.rest
-      pub leads : ((x : Meets last (after c_step steps t)) × (passes ≡ true → moves x.stand.leads < most)) ⊎ Ends last (after c_step steps t)
+      pub leads : Outcome G passes most (left t.rest + debts_of t + extra) steps last (after c_step steps t)
 
     -- with one step more before
     pub one-before : (passes : Bool) (most : ℕ) (passes' : Bool) (most' : ℕ) (t u : c.State) → (passes ≡ true → (passes' ≡ true) × (most' ≤ most)) → c_step t ≡ u → suc (left u.rest) ≤ left t.rest
-        → Comes passes' most' u → Comes passes most t
-    one-before passes most passes' most' t u same to less x = record {
+        → debts_of u ≡ debts_of t → Comes passes' most' u → Comes passes most t
+    one-before passes most passes' most' t u same to less waiting x = record {
       steps = suc x.steps;
       some = λ e. omega arith;
-      few = omega (arith, x.few, less);
-      leads = subst (λ v. ((y : Meets last (after c_step x.steps v)) × (passes ≡ true → moves y.stand.leads < most)) ⊎ Ends last (after c_step x.steps v)) (sym to) (elim x.leads [
-        | inl there ↦ inl (there.0, λ e. let z = same e in let fewer = there.1 z.0 in let within = z.1 in omega (arith, fewer, within))
-        | inr ends ↦ inr ends
+      leads = subst (λ v. Outcome G passes most (left t.rest + debts_of t + extra) (suc x.steps) last (after c_step x.steps v)) (sym to) (elim x.leads [
+        | inl there ↦ inl (
+          there.0,
+          λ e. let z = same e in let falls = there.1 z.0 in let fewer = falls.1 in let within = z.1 in (falls.0, omega (arith, fewer, within)),
+          (let few = there.2 in omega (arith, few, less, waiting)),
+        )
+        | inr ends ↦ inr (ends.0, (let few = ends.1 in omega (arith, few, less, waiting)))
       ]);
     }
 
@@ -230,7 +165,7 @@ module _ (p : inner.Program) (graph : inner.Graph) (s : Spelling) (family : Fami
     -- Ends of blocks.
 
     -- the program goes to the next block
-    module _ (b m next : ℕ) (stmts : List inner.Stmt) (i : run.State) (t : c.State) (mid : Midway b m [] i t) (there : next < length graph.blocks) (target : Contains (targets (block_in graph b).exit) next)
+    module _ (b m next : ℕ) (i : run.State) (t : c.State) (mid : Midway extra b m [] i t) (there : next < length graph.blocks) (target : Contains (targets (block_in graph b).exit) next)
         (goes : run.going_to next i ≡ last) where
       entered : run.entering (Some (block_in graph next)) i ≡ last
       entered = ap (λ o. run.entering o i) (sym (block-at graph well next there) ∙ ap (λ g. slice_get g.blocks next) (sym mid.graph_is)) ∙ goes
@@ -238,20 +173,26 @@ module _ (p : inner.Program) (graph : inner.Graph) (s : Spelling) (family : Fami
       arrives : (k : Continuation) (context : Context) (point : Point) (leads : Leads graph begun (Begin next) point) → Standing k context → context.next ≡ point → left k ≤ limit
           → Comes true (suc (moves leads)) (goes_on k t)
       arrives k context point leads stands same low =
-          let x = settle s graph whole limit text f well sound is.text (omega arith) (suc (left k)) k point context (omega arith) low stands same in
+          let x = settle s graph whole limit text f well sound (G.texts.openings graph) (G.texts.lines graph) is.opens is.text (omega arith) (suc (left k)) k point context (omega arith) low stands same in
           let on : is_over t.end ≡ false = ap is_over mid.holds.end ∙ mid.running in
+          let budget = left k + debts_of t + extra in
           record {
             steps = x.steps;
             some = λ e. absurd (true≢false e);
-            few = x.few;
-            leads = inl (subst (λ u. (y : Meets last u) × (true ≡ true → moves y.stand.leads < suc (moves leads))) (sym (x.comes t on mid.function))
-                (subst (λ j. (y : Meets j (goes_on x.to t)) × (true ≡ true → moves y.stand.leads < suc (moves leads))) entered (there-meets x.to x.context x.stands x.is x.settled x.low_there, λ e. omega arith)));
+            leads = subst (λ u. Outcome G true (suc (moves leads)) budget x.steps last u) (sym (x.comes t on mid.function))
+                (subst (λ j. Outcome G true (suc (moves leads)) budget x.steps j (goes_on x.to t)) entered
+                (inl (
+                  record { graph = graph; inside = inside; called = mid.called; stage = at_begin (there-meets x.to x.context x.stands x.is x.settled x.low_there) },
+                  λ e. (refl, omega arith),
+                  omega (arith, x.few),
+                )));
           }
         where
-          h : Holds s (family (block_in graph b) []) AreAlike i t
+          h : Holds s (family (block_in graph b) []) (CallsAlike G) i t
           h = mid.holds
 
-          there-meets : (k : Continuation) (context : Context) → Standing k context → context.next ≡ point → (is_jumping k ≡ false) ⊎ (context.next ≡ Nowhere) → left k ≤ limit → Meets (run.entering (Some (block_in graph next)) i) (goes_on k t)
+          there-meets : (k : Continuation) (context : Context) → Standing k context → context.next ≡ point → (is_jumping k ≡ false) ⊎ (context.next ≡ Nowhere) → left k ≤ limit
+              → Meets G graph (run.entering (Some (block_in graph next)) i) (goes_on k t)
           there-meets k context stands same settled low = record {
             b = next;
             known = there;
@@ -259,10 +200,9 @@ module _ (p : inner.Program) (graph : inner.Graph) (s : Spelling) (family : Fami
             block_is = refl;
             rest_is = refl;
             begins = refl;
-            waiting = mid.waiting;
             running = mid.running;
             good = subst (IsGood p) (sym entered) good;
-            unstuck = subst IsUnstuck (sym entered) unstuck;
+            unstuck = subst (IsUnstuck G) (sym entered) unstuck;
             stand = stands-for k context point leads stands same low;
             settled = settled;
             function = mid.function;
@@ -275,20 +215,16 @@ module _ (p : inner.Program) (graph : inner.Graph) (s : Spelling) (family : Fami
             }) h;
           }
 
-    -- No run comes to a return where no call waits, nor past a Stop.
-    no-return : (exit : inner.Exit) (i : run.State) {values : List inner.Expr} → exit ≡ inner.Ret values → i.waiting ≡ [] → run.exit_step exit i ≡ last → ⊥
-    no-return exit i {values} is alone goes =
-        not-stuck i (ap (λ w. run.returning (map (run.value_in i) values) w i) (sym alone) ∙ ap (λ e. run.exit_step e i) (sym is) ∙ goes)
-
+    -- No run comes past a Stop.
     no-end : (exit : inner.Exit) (i : run.State) → exit ≡ inner.Stop → run.exit_step exit i ≡ last → ⊥
     no-end exit i is goes = not-stuck i (ap (λ e. run.exit_step e i) (sym is) ∙ goes)
 
     -- the same from each state of the text with fewer statements left
     abbrev Later : ℕ → Type 0
-    Later n = (stmts : List inner.Stmt) (b m : ℕ) (i : run.State) (t : c.State) → left t.rest < n → (mid : Midway b m stmts i t) → run.block_step p.graphs fill stmts i ≡ last
+    Later n = (stmts : List inner.Stmt) (b m : ℕ) (i : run.State) (t : c.State) → left t.rest < n → (mid : Midway extra b m stmts i t) → run.block_step p.graphs fill stmts i ≡ last
         → Comes (only_goes stmts (block_in graph b).exit) (moves mid.stand.leads) t
 
-    module _ (n : ℕ) (again : Later n) (stmts : List inner.Stmt) (b m : ℕ) (i : run.State) (t : c.State) (small : left t.rest < suc n) (mid : Midway b m stmts i t)
+    module _ (n : ℕ) (again : Later n) (stmts : List inner.Stmt) (b m : ℕ) (i : run.State) (t : c.State) (small : left t.rest < suc n) (mid : Midway extra b m stmts i t)
         (goes : run.block_step p.graphs fill stmts i ≡ last) (x : AtItem s graph whole limit t.rest mid.stand.context.next) where
       t-on : is_over t.end ≡ false
       t-on = ap is_over mid.holds.end ∙ mid.running
@@ -304,7 +240,7 @@ module _ (p : inner.Program) (graph : inner.Graph) (s : Spelling) (family : Fami
       Counts stmt = left t.rest ≡ suc (inside_count stmt + lines_count x.lines + left x.rest)
 
       stepped : (stmt : Stmt) → StepsTo stmt → c_step t ≡ stmt_step text stmt x.at passed
-      stepped stmt steps = one-step s graph whole limit text f well sound is.text (omega arith) t.rest t t-on ∙ steps text t
+      stepped stmt steps = steps-from t.rest t t-on ∙ steps text t
 
       -- a `break` leads where the program is
       break-runs : StepsTo tree.Break → Counts tree.Break → Before b m ≡ mid.stand.context.next → mid.stand.context.next ≡ x.context.at_break → Comes (only_goes stmts (block_in graph b).exit) (moves mid.stand.leads) t
@@ -312,16 +248,20 @@ module _ (p : inner.Program) (graph : inner.Graph) (s : Spelling) (family : Fami
         | inl none ↦ absurd (true≢false (ap is_before (there ∙ same ∙ none)))
         | inr l ↦
             one-before (only_goes stmts (block_in graph b).exit) (moves mid.stand.leads) (only_goes stmts (block_in graph b).exit) (moves mid.stand.leads) t (goes_on l.to t) (λ e. (e, omega arith))
-            (jump-comes s graph whole limit text f well sound is.text (omega arith) t.rest l.to tree.Break x.at x.lines x.rest (c.after_break x.rest) steps (λ u function. refl) l.found t t-on mid.function)
-            (omega (arith, count, l.few))
+            (jump-comes s graph whole limit text f well sound (G.texts.openings graph) (G.texts.lines graph) is.opens is.text (omega arith) t.rest l.to tree.Break x.at x.lines x.rest (c.after_break x.rest) steps
+            (λ u function. refl) l.found t t-on mid.function)
+            (omega (arith, count, l.few)) refl
             (again stmts b m i (goes_on l.to t) (omega (arith, small, count, l.few)) (record {
               known = mid.known;
               at = mid.at;
               within = mid.within;
               graph_is = mid.graph_is;
               block_is = mid.block_is;
-              waiting = mid.waiting;
+              called = mid.called;
               running = mid.running;
+              placed = mid.placed;
+              jumps = mid.jumps;
+              spare = mid.spare;
               fit = mid.fit;
               steps = mid.steps;
               stand = stands-for l.to l.context mid.stand.point mid.stand.leads l.stands (l.is ∙ sym same ∙ mid.stand.same) (omega (arith, mid.stand.low, count, l.few));
@@ -332,13 +272,10 @@ module _ (p : inner.Program) (graph : inner.Graph) (s : Spelling) (family : Fami
 
     -- Statements.
 
-    module _ (n : ℕ) (again : Later n) (stmt : inner.Stmt) (rest : List inner.Stmt) (b m : ℕ) (i : run.State) (t : c.State) (small : left t.rest < suc n) (mid : Midway b m (stmt ∷ rest) i t)
+    module _ (n : ℕ) (again : Later n) (stmt : inner.Stmt) (rest : List inner.Stmt) (b m : ℕ) (i : run.State) (t : c.State) (small : left t.rest < suc n) (mid : Midway extra b m (stmt ∷ rest) i t)
         (goes : run.block_step p.graphs fill (stmt ∷ rest) i ≡ last) where
       abbrev block : inner.Block
       block = block_in graph b
-
-      abbrev next : run.State
-      next = run.stmt_step stmt i
 
       less : m < length block.stmts
       less = drop-less block.stmts m stmt rest mid.at
@@ -353,62 +290,218 @@ module _ (p : inner.Program) (graph : inner.Graph) (s : Spelling) (family : Fami
         abbrev moved : c.State
         moved = stmt_step text (stmt_text s 2 stmt) x.at before
 
-        inner-goes : (if is_over next.end then next else run.block_step p.graphs fill rest next) ≡ last
-        inner-goes = sym (block-first p.graphs fill stmt rest i mid.steps.0.no_call) ∙ goes
+        -- what follows the statement
+        abbrev following : Context
+        following = record x.context { next = entry graph x.later x.context }
 
-        outcome : HoldsOrEnds s (family block rest) AreAlike next moved
-        outcome =
-            statements-step (family block (stmt ∷ rest)) (family block rest) AreAlike s text stmt 2 x.at i before is.spelling mid.steps.0 (scene-fits i mid.fit) mid.fit.console.left
-            (elsewhere (runs x.lines x.rest) mid.holds)
+        following-stands : Standing (runs x.lines x.rest) following
+        following-stands = rests.goes x.later_text x.later_valid x.stands
 
-        ends : next ≡ last → is_over next.end ≡ true → c_step t ≡ moved → moved.end ≡ next.end → moved.events ≡ next.events → suc 0 ≤ left t.rest → Comes false (moves mid.stand.leads) t
-        ends same over to end events some = record {
-          steps = 1;
-          some = λ e. omega arith;
-          few = some;
-          leads = inr (record {
-            over = ap (λ u. is_over u.end) (sym same) ∙ over;
-            end = ap (λ u. u.end) to ∙ end ∙ ap (λ u. u.end) same;
-            events = ap (λ u. u.events) to ∙ events ∙ ap (λ u. u.events) same;
-          });
-        }
+        -- a statement that is no call
+        module _ (step : IsStep s (family block (stmt ∷ rest)) (family block rest) stmt) where
+          abbrev next : run.State
+          next = run.stmt_step stmt i
 
-        later-mid : is_over next.end ≡ false → Holds s (family block rest) AreAlike next moved → Leads graph begun (Before b (suc m)) (entry graph x.later x.context)
-            → suc (lines_count x.lines + left x.rest) ≤ left t.rest → Midway b (suc m) rest next moved
-        later-mid on h leads count =
-            let kept = text-keeps s text stmt x.at before mid.steps.0.no_call in
-            let within = stmt-within stmt i in
-            let formed : is_stmt i.running.graph.bits stmt ≡ true = subst (λ bits. is_stmt bits stmt ≡ true) (sym mid.holds.frame.bits) mid.steps.0.formed in
-            let fewer : left moved.rest ≡ lines_count x.lines + left x.rest = ap left kept.rest in
-            record {
-              known = mid.known;
-              at = drop-next block.stmts m stmt rest mid.at;
-              within = less;
-              graph_is = within.graph ∙ mid.graph_is;
-              block_is = within.block ∙ mid.block_is;
-              waiting = within.waiting ∙ mid.waiting;
-              running = on;
-              fit = stmt-fit stmt i formed mid.fit;
-              steps = mid.steps.1;
-              stand = stands-for moved.rest (record x.context { next = entry graph x.later x.context }) (entry graph x.later x.context) leads
-                  (subst (λ k. Standing k (record x.context { next = entry graph x.later x.context })) (sym kept.rest) (rests.goes x.later_text x.later_valid x.stands)) refl
-                  (omega (arith, mid.stand.low, fewer, count));
-              function = kept.function ∙ mid.function;
-              holds = h;
-            }
+          inner-goes : (if is_over next.end then next else run.block_step p.graphs fill rest next) ≡ last
+          inner-goes = sym (block-first p.graphs fill stmt rest i step.no_call) ∙ goes
 
-        do-runs : c_step t ≡ moved → Leads graph begun (Before b (suc m)) (entry graph x.later x.context) → suc (lines_count x.lines + left x.rest) ≤ left t.rest → Comes false (moves mid.stand.leads) t
-        do-runs to leads count = by (is_over next.end) refl inner-goes outcome
+          outcome : HoldsOrEnds s (family block rest) (CallsAlike G) next moved
+          outcome =
+              statements-step (family block (stmt ∷ rest)) (family block rest) (CallsAlike G) s text stmt 2 x.at i before is.spelling step (scene-fits i mid.fit) mid.fit.console.left
+              (elsewhere (runs x.lines x.rest) mid.holds)
+
+          ends : next ≡ last → is_over next.end ≡ true → c_step t ≡ moved → moved.end ≡ next.end → moved.events ≡ next.events → suc 0 ≤ left t.rest → Comes false (moves mid.stand.leads) t
+          ends same over to end events some = record {
+            steps = 1;
+            some = λ e. omega arith;
+            leads = inr (
+              record {
+                over = ap (λ u. is_over u.end) (sym same) ∙ over;
+                end = ap (λ u. u.end) to ∙ end ∙ ap (λ u. u.end) same;
+                events = ap (λ u. u.events) to ∙ events ∙ ap (λ u. u.events) same;
+              },
+              omega (arith, some),
+            );
+          }
+
+          -- the calls before which a callee needs room are those that follow
+          rest-spare : list_any run.is_call rest ≡ true → list_any run.is_call (stmt ∷ rest) ≡ true
+          rest-spare some = or_right (run.is_call stmt) (list_any run.is_call rest) some
+
+          later-mid : is_over next.end ≡ false → Holds s (family block rest) (CallsAlike G) next moved → Leads graph begun (Before b (suc m)) (entry graph x.later x.context)
+              → suc (lines_count x.lines + left x.rest) ≤ left t.rest → Midway extra b (suc m) rest next moved
+          later-mid on h leads count =
+              let kept = text-keeps s text stmt x.at before step.no_call in
+              let within = stmt-within stmt i in
+              let formed : is_stmt i.running.graph.bits stmt ≡ true = subst (λ bits. is_stmt bits stmt ≡ true) (sym mid.holds.frame.bits) step.formed in
+              let fewer : left moved.rest ≡ lines_count x.lines + left x.rest = ap left kept.rest in
+              record {
+                known = mid.known;
+                at = drop-next block.stmts m stmt rest mid.at;
+                within = less;
+                graph_is = within.graph ∙ mid.graph_is;
+                block_is = within.block ∙ mid.block_is;
+                called = subst (AreCalled p graph) (sym within.waiting) mid.called;
+                running = on;
+                placed = within-next p G.well stmt rest i step.no_call mid.placed;
+                jumps = ap (λ call. if call then not (list_any run.is_call rest) && is_jump block.exit else jumps_after_call rest block.exit) (sym step.no_call) ∙ mid.jumps;
+                spare = λ some. mid.spare (rest-spare some);
+                fit = stmt-fit stmt i formed mid.fit;
+                steps = mid.steps.1;
+                stand = stands-for moved.rest following (entry graph x.later x.context) leads (subst (λ k. Standing k following) (sym kept.rest) following-stands) refl
+                    (omega (arith, mid.stand.low, fewer, count));
+                function = kept.function ∙ mid.function;
+                holds = h;
+              }
+
+          do-runs : c_step t ≡ moved → Leads graph begun (Before b (suc m)) (entry graph x.later x.context) → suc (lines_count x.lines + left x.rest) ≤ left t.rest → Comes false (moves mid.stand.leads) t
+          do-runs to leads count = by (is_over next.end) refl inner-goes outcome
+            where
+              by : (over : Bool) → is_over next.end ≡ over → (if over then next else run.block_step p.graphs fill rest next) ≡ last → HoldsOrEnds s (family block rest) (CallsAlike G) next moved → Comes false (moves mid.stand.leads) t
+              by true over same (inl h) = ends same over to h.end h.events (omega (arith, count))
+              by true over same (inr e) = ends same over to e.1 e.2 (omega (arith, count))
+              by false on same (inr e) = absurd (true≢false (sym e.0 ∙ on))
+              by false on same (inl h) =
+                  let kept = text-keeps s text stmt x.at before step.no_call in
+                  let fewer : left moved.rest ≡ lines_count x.lines + left x.rest = ap left kept.rest in
+                  let there_mid = later-mid on h leads count in
+                  one-before false (moves mid.stand.leads) (only_goes rest block.exit) (moves there_mid.stand.leads) t moved (λ e. absurd (true≢false (sym e))) to (omega (arith, fewer, count))
+                  (ap (λ waiting. debts (rests_of waiting)) kept.waiting)
+                  (again rest b (suc m) next moved (omega (arith, fewer, count, small)) there_mid same)
+
+        -- a call
+        module _ (results : List Loc) (entry_at : ℕ) (arguments : List inner.Expr) (own : ℕ) (call : stmt ≡ inner.Call results entry_at arguments own)
+            (step : IsCallStep s (family block (stmt ∷ rest)) (family block rest) stmt) where
+          abbrev the_call : inner.Stmt
+          the_call = inner.Call results entry_at arguments own
+
+          calling : IsCall p graph results entry_at arguments
+          calling = subst (λ g. IsCall p g results entry_at arguments) mid.graph_is (subst (λ y. IsCalling p i.running.graph y) call (All-head (IsCalling p i.running.graph) stmt rest mid.placed.calls))
+
+          abbrev callee : inner.Graph
+          callee = calling.callee
+
+          abbrev waits : run.State
+          waits = record i { running = record i.running { rest = rest; begins = false } }
+
+          abbrev begun_state : run.State
+          begun_state = run.calling fill results own (map (run.value_in i) arguments) (Some callee) waits
+
+          callee-later : Contains (drop 1 p.graphs) callee
+          callee-later = found_contained (λ g. g.entry == entry_at) (drop 1 p.graphs) callee calling.named
+
+          callee-named : run.graph_at p.graphs entry_at ≡ Some callee
+          callee-named = named_again p.graphs entry_at callee G.well.entries calling.named
+
+          callee-inside : Contains p.graphs callee
+          callee-inside = found_contained (λ g. g.entry == entry_at) p.graphs callee callee-named
+
+          call-goes : begun_state ≡ last
+          call-goes = ap (λ o. run.calling fill results own (map (run.value_in i) arguments) o waits) (sym callee-named) ∙ ap (λ y. run.block_step p.graphs fill (y ∷ rest) i) (sym call) ∙ goes
+
+          -- the rest of the block has no call and ends in a jump
+          after-call : (not (list_any run.is_call rest) && is_jump block.exit) ≡ true
+          after-call = ap (λ y. if run.is_call y then not (list_any run.is_call rest) && is_jump block.exit else jumps_after_call rest block.exit) (sym call) ∙ mid.jumps
+
+          continuing : Leads graph begun (Before b (suc m)) (entry graph x.later x.context) → suc (lines_count x.lines + left x.rest) ≤ left t.rest
+              → Continuing G.texts (runs x.lines x.rest) graph block rest
+          continuing leads count =
+              let (none, jumps) = and_parts (not (list_any run.is_call rest)) (is_jump block.exit) after-call in
+              record {
+                b = b;
+                m = suc m;
+                known = mid.known;
+                block_is = refl;
+                at = drop-next block.stmts m stmt rest mid.at;
+                within = less;
+                no_calls = not-true (list_any run.is_call rest) none;
+                jumps = jumps;
+                stand = stands-for (runs x.lines x.rest) following (entry graph x.later x.context) leads following-stands refl (omega (arith, mid.stand.low, count));
+              }
+
+          begins-callee : Leads graph begun (Before b (suc m)) (entry graph x.later x.context) → suc (lines_count x.lines + left x.rest) ≤ left t.rest
+              → HasBegun G.texts (setting_of G.texts) text callee begun_state (runs x.lines x.rest) t.waiting (stmt_step text (stmt_text s 2 the_call) x.at before)
+          begins-callee leads count =
+              G.calls graph callee block results entry_at arguments own rest x.at i before inside calling calling.named
+              (subst (λ y. IsCallStep s (family block (y ∷ rest)) (family block rest) y) call step)
+              mid.graph_is mid.block_is mid.running mid.fit mid.function (continuing leads count)
+              (subst (λ y. Holds s (family block (y ∷ rest)) (CallsAlike G) i before) call (elsewhere (runs x.lines x.rest) mid.holds))
+
+          call-runs : c_step t ≡ moved → Leads graph begun (Before b (suc m)) (entry graph x.later x.context) → suc (lines_count x.lines + left x.rest) ≤ left t.rest → Comes false (moves mid.stand.leads) t
+          call-runs to leads count =
+              let to_call : c_step t ≡ stmt_step text (stmt_text s 2 the_call) x.at before = to ∙ ap (λ y. stmt_step text (stmt_text s 2 y) x.at before) call in
+              arrives-callee to_call (begins-callee leads count)
+            where
+              arrives-callee : c_step t ≡ stmt_step text (stmt_text s 2 the_call) x.at before
+                  → HasBegun G.texts (setting_of G.texts) text callee begun_state (runs x.lines x.rest) t.waiting (stmt_step text (stmt_text s 2 the_call) x.at before) → Comes false (moves mid.stand.leads) t
+              arrives-callee to_call begun_text =
+                  let own_text = G.each callee callee-inside in
+                  let callee_well = graph_of p G.well callee callee-inside in
+                  let callee_whole = G.texts.plan callee in
+                  let callee_s = G.texts.spelling callee in
+                  let callee_sound : Sound callee_s callee callee_whole callee_whole valid.outside = (own_text.is_plan.valid, whole-begun callee_s callee callee_whole) in
+                  let u0 = stmt_step text (stmt_text s 2 the_call) x.at before in
+                  let u : c.State = after c_step begun_text.steps u0 in
+                  let start = settle-start callee_s callee callee_whole (limit_of G.texts callee) text (G.texts.function callee) callee_well callee_sound (G.texts.openings callee) (G.texts.lines callee) own_text.opens
+                  own_text.text (omega arith) callee_whole (G.texts.lines callee) (G.texts.function callee).last (omega arith) own_text.text callee_sound in
+                  let z = called fill results own (map (run.value_in i) arguments) callee waits callee_well in
+                  let u_on : is_over u.end ≡ false = ap is_over begun_text.holds.end ∙ ap is_over z.end ∙ mid.running in
+                  let v : c.State = goes_on start.0.to u in
+                  let arrived : after c_step (suc (begun_text.steps + start.0.steps)) t ≡ v =
+                  ap (after c_step (begun_text.steps + start.0.steps)) to_call
+                  ∙ after-add c_step begun_text.steps start.0.steps u0
+                  ∙ ap (λ k. after c_step start.0.steps (goes_on k u)) begun_text.rest
+                  ∙ start.0.comes u u_on begun_text.function
+                  in
+                  let related : Related G begun_state v = record {
+                    graph = callee;
+                    inside = callee-inside;
+                    called = subst (AreCalled p callee) (sym z.waiting) (callee-later, refl, subst (λ g. AreCalled p g i.waiting) (sym mid.graph_is) mid.called);
+                    stage = at_begin (record {
+                      b = 0;
+                      known = callee_well.begins;
+                      graph_is = z.graph;
+                      block_is = z.block;
+                      rest_is = z.rest;
+                      begins = z.begins;
+                      running = ap is_over z.end ∙ mid.running;
+                      good = subst (IsGood p) (sym call-goes) good;
+                      unstuck = subst (IsUnstuck G) (sym call-goes) unstuck;
+                      stand = record { context = start.0.context; stands = start.0.stands; point = entry callee callee_whole valid.outside; same = start.0.is; leads = own_text.is_plan.starts; low = start.0.low_there };
+                      settled = start.0.settled;
+                      function = begun_text.function;
+                      holds = record { frame = begun_text.holds.frame; waiting = begun_text.holds.waiting; memory = begun_text.holds.memory; input = begun_text.holds.input; events = begun_text.holds.events; end = begun_text.holds.end };
+                    });
+                  } in
+                  let spent : suc (begun_text.steps + start.0.steps) + owed begun_state v ≤ left t.rest + debts_of t + extra =
+                  let nothing = owed-begun begun_state v z.begins in
+                  let waiting : debts_of u ≡ lines_count x.lines + left x.rest + debts_of t = ap debts begun_text.waiting in
+                  let room = mid.spare (ap (λ y. run.is_call y || list_any run.is_call rest) call) callee callee-later in
+                  let once = start.1 in
+                  omega (arith, nothing, waiting, room, once, begun_text.few, count)
+                  in
+                  record {
+                    steps = suc (begun_text.steps + start.0.steps);
+                    some = λ e. omega arith;
+                    leads = subst (λ w. Outcome G false (moves mid.stand.leads) (left t.rest + debts_of t + extra) (suc (begun_text.steps + start.0.steps)) last w) (sym arrived)
+                        (subst (λ j. Outcome G false (moves mid.stand.leads) (left t.rest + debts_of t + extra) (suc (begun_text.steps + start.0.steps)) j v) call-goes
+                        (inl (related, λ e. absurd (true≢false (sym e)), spent)));
+                  }
+
+        -- either
+        any-runs : c_step t ≡ moved → Leads graph begun (Before b (suc m)) (entry graph x.later x.context) → suc (lines_count x.lines + left x.rest) ≤ left t.rest → Comes false (moves mid.stand.leads) t
+        any-runs to leads count = elim mid.steps.0 [
+          | inl step ↦ do-runs step to leads count
+          | inr step ↦ by stmt refl step.call step
+        ]
           where
-            by : (over : Bool) → is_over next.end ≡ over → (if over then next else run.block_step p.graphs fill rest next) ≡ last → HoldsOrEnds s (family block rest) AreAlike next moved → Comes false (moves mid.stand.leads) t
-            by true over same (inl h) = ends same over to h.end h.events (omega (arith, count))
-            by true over same (inr e) = ends same over to e.1 e.2 (omega (arith, count))
-            by false on same (inr e) = absurd (true≢false (sym e.0 ∙ on))
-            by false on same (inl h) =
-                let fewer : left moved.rest ≡ lines_count x.lines + left x.rest = ap left (text-keeps s text stmt x.at before mid.steps.0.no_call).rest in
-                let there_mid = later-mid on h leads count in
-                one-before false (moves mid.stand.leads) (only_goes rest block.exit) (moves there_mid.stand.leads) t moved (λ e. absurd (true≢false (sym e))) to (omega (arith, fewer, count))
-                (again rest b (suc m) next moved (omega (arith, fewer, count, small)) there_mid same)
+            by : (y : inner.Stmt) → stmt ≡ y → run.is_call y ≡ true → IsCallStep s (family block (stmt ∷ rest)) (family block rest) stmt → Comes false (moves mid.stand.leads) t
+            by (inner.Call results entry_at arguments own) same is_call step = call-runs results entry_at arguments own same step to leads count
+            by (inner.Set location e) same is_call step = absurd (true≢false (sym is_call))
+            by (inner.Fetch location width address) same is_call step = absurd (true≢false (sym is_call))
+            by (inner.Store width address e) same is_call step = absurd (true≢false (sym is_call))
+            by (inner.Div location e) same is_call step = absurd (true≢false (sym is_call))
+            by (inner.Dos number place argument) same is_call step = absurd (true≢false (sym is_call))
 
         -- the statement of that item
         text-is : (a k : ℕ) → Before b m ≡ Before a k → text_of_stmt s graph a k ≡ stmt_text s 2 stmt
@@ -420,7 +513,7 @@ module _ (p : inner.Program) (graph : inner.Graph) (s : Spelling) (family : Fami
             → ((tree : Tree) (u : c.State) → step_at tree t.rest u ≡ stmt_step tree item_stmt x.at (goes_on (runs x.lines x.rest) u))
             → left t.rest ≡ suc (inside_count item_stmt + lines_count x.lines + left x.rest) → Comes false (moves mid.stand.leads) t
         by-item (plan.Do a k) item_stmt planned.does same good' steps count =
-            do-runs (stepped n again (stmt ∷ rest) b m i t small mid goes x item_stmt steps ∙ ap (λ y. stmt_step text y x.at before) (text-is a k (there ∙ same)))
+            any-runs (stepped n again (stmt ∷ rest) b m i t small mid goes x item_stmt steps ∙ ap (λ y. stmt_step text y x.at before) (text-is a k (there ∙ same)))
             (subst (λ q. Leads graph begun q (entry graph x.later x.context)) (sym (ap₂ (λ a' k'. Before a' (suc k')) (ap block_of (there ∙ same)) (ap place_of (there ∙ same)))) good'.0.2) (omega (arith, count))
         by-item plan.Break item_stmt planned.breaks same good' steps count = break-runs n again (stmt ∷ rest) b m i t small mid goes x steps count there same
         by-item plan.Continue item_stmt planned.continues same good' steps count = absurd (start-apart x.context.at_continue b m (continue-starts s graph whole x.stands) (there ∙ same))
@@ -449,7 +542,7 @@ module _ (p : inner.Program) (graph : inner.Graph) (s : Spelling) (family : Fami
 
     -- Ends of blocks.
 
-    module _ (n : ℕ) (again : Later n) (b m : ℕ) (i : run.State) (t : c.State) (small : left t.rest < suc n) (mid : Midway b m [] i t) (goes : run.block_step p.graphs fill [] i ≡ last) where
+    module _ (n : ℕ) (again : Later n) (b m : ℕ) (i : run.State) (t : c.State) (small : left t.rest < suc n) (mid : Midway extra b m [] i t) (goes : run.block_step p.graphs fill [] i ≡ last) where
       abbrev own : inner.Block
       own = block_in graph b
 
@@ -485,7 +578,7 @@ module _ (p : inner.Program) (graph : inner.Graph) (s : Spelling) (family : Fami
         abbrev past : c.State
         past = goes_on (runs x.lines x.rest) t
 
-        held : Holds s (family own []) AreAlike i past
+        held : Holds s (family own []) (CallsAlike G) i past
         held = elsewhere (runs x.lines x.rest) mid.holds
 
         -- what follows the item
@@ -512,8 +605,8 @@ module _ (p : inner.Program) (graph : inner.Graph) (s : Spelling) (family : Fami
               → Sound s graph whole p (in_sides graph x.later x.context) → Leads graph begun (Begin place) (entry graph p (in_sides graph x.later x.context)) → lines_count lines ≤ lines_count body + lines_count otherwise
               → c_step t ≡ goes_on (runs lines (runs x.lines x.rest)) t → run.going_to place i ≡ last → Arrives
           side place p lines there target p_text p_valid leads few to' goes' =
-              one-before passing (moves mid.stand.leads) true (suc (moves leads)) t (goes_on (runs lines (runs x.lines x.rest)) t) (λ e. absurd (true≢false (sym e ∙ ap (only_goes []) item.0.3))) to' (omega (arith, count, few))
-              (arrives b m place [] i t mid there (leads-to (inner.If test if_true if_false) place item.0.3 target) goes' (runs lines (runs x.lines x.rest))
+              one-before passing (moves mid.stand.leads) true (suc (moves leads)) t (goes_on (runs lines (runs x.lines x.rest)) t) (λ e. absurd (true≢false (sym e ∙ ap (only_goes []) item.0.3))) to' (omega (arith, count, few)) refl
+              (arrives b m place i t mid there (leads-to (inner.If test if_true if_false) place item.0.3 target) goes' (runs lines (runs x.lines x.rest))
               (record (in_sides graph x.later x.context) { next = entry graph p (in_sides graph x.later x.context) }) (entry graph p (in_sides graph x.later x.context)) leads
               (rests.goes p_text p_valid later-stands) refl (omega (arith, mid.stand.low, count, few)))
 
@@ -521,7 +614,7 @@ module _ (p : inner.Program) (graph : inner.Graph) (s : Spelling) (family : Fami
           if-runs =
               let (two, second) = and_parts (is_expr_of graph.bits 1 test && nat_lt if_true (length graph.blocks)) (nat_lt if_false (length graph.blocks)) if-formed in
               let (tested, first) = and_parts (is_expr_of graph.bits 1 test) (nat_lt if_true (length graph.blocks)) two in
-              let z = test-gives s text (family own []) AreAlike i past held (scene-fits i mid.fit) test (subst (λ bits. is_expr_of bits 1 test ≡ true) bits-are tested)
+              let z = test-gives s text (family own []) (CallsAlike G) i past held (scene-fits i mid.fit) test (subst (λ bits. is_expr_of bits 1 test ≡ true) bits-are tested)
               (All-head (IsWithin s (family own [])) test [] (within-end (inner.If test if_true if_false) item.0.3)) in
               let chosen : c_step t ≡ goes_on (runs (if run.value_in i test == 0 then otherwise else body) (runs x.lines x.rest)) t = to ∙ ap (λ e. on (text_value.value_of (c.scope_of text past) (text_of_test s e)) x.at past (λ v. if_step v body otherwise past)) item.0.3
               ∙ ap (λ o. on o x.at past (λ v. if_step v body otherwise past)) z.gives
@@ -556,7 +649,7 @@ module _ (p : inner.Program) (graph : inner.Graph) (s : Spelling) (family : Fami
           switch-runs =
               let (two, all) = and_parts (is_expr_of graph.bits 16 e && nat_le (length places) 65536) (list_all (λ place. nat_lt place (length graph.blocks)) places) switch-formed in
               let (chosen, few) = and_parts (is_expr_of graph.bits 16 e) (nat_le (length places) 65536) two in
-              let z = choice-gives s text (family own []) AreAlike i past held (scene-fits i mid.fit) e (subst (λ bits. is_expr_of bits 16 e ≡ true) bits-are chosen)
+              let z = choice-gives s text (family own []) (CallsAlike G) i past held (scene-fits i mid.fit) e (subst (λ bits. is_expr_of bits 16 e ≡ true) bits-are chosen)
               (All-head (IsWithin s (family own [])) e [] (within-end (inner.Switch e places) item.0.2)) in
               by (slice_get places value) refl all
               (to ∙ ap (λ exit. on (text_value.value_of (c.scope_of text past) (text_of_choice s exit)) x.at past (λ v. switch_step v bodies tree.no_arms past)) item.0.2
@@ -574,12 +667,70 @@ module _ (p : inner.Program) (graph : inner.Graph) (s : Spelling) (family : Fami
                   let few = arm-few value bodies in
                   let leads = item.0.4 value place at in
                   one-before passing (moves mid.stand.leads) true (suc (moves leads)) t (goes_on (runs lines (ends_switch (runs x.lines x.rest))) t) (λ e'. absurd (true≢false (sym e' ∙ ap (only_goes []) item.0.2))) to'
-                  (omega (arith, count, few))
-                  (arrives b m place [] i t mid (ltb-true place (length graph.blocks) (all_at (λ place. nat_lt place (length graph.blocks)) places place all found))
+                  (omega (arith, count, few)) refl
+                  (arrives b m place i t mid (ltb-true place (length graph.blocks) (all_at (λ place. nat_lt place (length graph.blocks)) places place all found))
                   (leads-to (inner.Switch e places) place item.0.2 found) (ap (λ o. run.switching o i) (sym at) ∙ goes') (runs lines (ends_switch (runs x.lines x.rest)))
                   (record inside { next = entry graph (arm_with value arms) inside }) (entry graph (arm_with value arms) inside) leads
                   (rests.goes (arm-text s graph value arms bodies texts) (arm-valid graph whole value arms inside item.0.5, arm-begun s graph whole value arms item.1) (rests.leaves later-stands)) refl
                   (omega (arith, mid.stand.low, count, few)))
+
+        module _ (values : List inner.Expr) (is_ret : own.exit ≡ inner.Ret values) (to : c_step t ≡ stmt_step text (text_of_return s (inner.Ret values)) x.at past) (some : 1 ≤ left t.rest) where
+          abbrev u : c.State
+          u = stmt_step text (text_of_return s (inner.Ret values)) x.at past
+
+          -- a call that waits goes on
+          goes-back : (w : run.Waiting) (waiting : List run.Waiting) (v : c.Waiting) (others : List c.Waiting) → i.waiting ≡ w ∷ waiting → t.waiting ≡ v ∷ others
+              → IsWaiting (setting_of G.texts) w v → run.returning (map (run.value_in i) values) (w ∷ waiting) i ≡ last → Arrives
+          goes-back w waiting v others those other_waits waiting_is returns =
+              let called = subst (AreCalled p graph) those mid.called in
+              let callers = subst (AreCallers p graph) those (subst (λ g. AreCallers p g i.waiting) mid.graph_is mid.placed.callers) in
+              let y = G.returns graph b values w waiting v others x.at i past inside called.0 mid.known is_ret (within-end (inner.Ret values) is_ret) mid.graph_is mid.block_is mid.running mid.fit callers those other_waits
+              mid.function held
+              in
+              let z = returned (map (run.value_in i) values) w waiting i in
+              let back : run.State = run.returning (map (run.value_in i) values) (w ∷ waiting) i in
+              let within : back.running.begins ≡ false = z.begins ∙ called.1 in
+              let related : Related G back u = record {
+                graph = w.caller.graph;
+                inside = callers.0.active.known;
+                called = subst (AreCalled p w.caller.graph) (sym z.waiting) called.2;
+                stage = after_call (record {
+                  continues = subst (λ k. Continuing G.texts k w.caller.graph back.running.block back.running.rest) (sym y.rest)
+                      (subst (λ block. Continuing G.texts v.rest w.caller.graph block back.running.rest) (sym z.block)
+                      (subst (λ rest. Continuing G.texts v.rest w.caller.graph w.caller.block rest) (sym z.rest) waiting_is.continues));
+                  graph_is = z.graph;
+                  begins = within;
+                  running = ap is_over z.end ∙ mid.running;
+                  good = subst (IsGood p) (sym returns) good;
+                  unstuck = subst (IsUnstuck G) (sym returns) unstuck;
+                  function = y.function ∙ waiting_is.function;
+                  holds = subst (λ block. Holds (G.texts.spelling w.caller.graph) (Matter G w.caller.graph block back.running.rest) (CallsAlike G) back u) (sym z.block)
+                      (subst (λ rest. Holds (G.texts.spelling w.caller.graph) (Matter G w.caller.graph w.caller.block rest) (CallsAlike G) back u) (sym z.rest) y.holds);
+                });
+              } in
+              let spent : 1 + owed back u ≤ left t.rest + debts_of t + extra =
+              let owes = owed-within back u within in
+              let kept : left u.rest ≡ left v.rest = ap left y.rest in
+              let fewer : debts_of u ≡ debts (rests_of others) = ap (λ l. debts (rests_of l)) y.waiting in
+              let before : debts_of t ≡ left v.rest + debts (rests_of others) = ap (λ l. debts (rests_of l)) other_waits in
+              omega (arith, owes, kept, fewer, before, some)
+              in
+              subst (λ e. Comes (only_goes [] e) (moves mid.stand.leads) t) (sym is_ret) (record {
+                steps = 1;
+                some = λ e. omega arith;
+                leads = subst (λ w. Outcome G false (moves mid.stand.leads) (left t.rest + debts_of t + extra) 1 last w) (sym to)
+                    (subst (λ j. Outcome G false (moves mid.stand.leads) (left t.rest + debts_of t + extra) 1 j u) returns (inl (related, λ e. absurd (true≢false (sym e)), spent)));
+              })
+
+          return-runs : Arrives
+          return-runs = by i.waiting t.waiting refl refl mid.holds.waiting (ap (λ e. run.exit_step e i) (sym is_ret) ∙ exits own.exit refl)
+            where
+              by : (waiting : List run.Waiting) (others : List c.Waiting) → i.waiting ≡ waiting → t.waiting ≡ others → AllZip (IsWaiting (setting_of G.texts)) waiting others
+                  → run.returning (map (run.value_in i) values) i.waiting i ≡ last → Arrives
+              by [] others those other_waits alike returns = absurd (not-stuck i (ap (λ w. run.returning (map (run.value_in i) values) w i) (sym those) ∙ returns))
+              by (w ∷ waiting) [] those other_waits alike returns = absurd alike
+              by (w ∷ waiting) (v ∷ others) those other_waits alike returns =
+                  goes-back w waiting v others those other_waits alike.0 (ap (λ l. run.returning (map (run.value_in i) values) l i) (sym those) ∙ returns)
 
         module _ (there : Before b m ≡ mid.stand.context.next) where
           no-place : (k : ℕ) → k < length own.stmts → m ≡ k → ⊥
@@ -598,7 +749,13 @@ module _ (p : inner.Program) (graph : inner.Graph) (s : Spelling) (family : Fami
               switch-runs arms bodies texts (subst (λ d. SoundItem s graph whole (plan.Switch d arms) x.later x.context) (sym (ap block_of (there ∙ same))) good')
               (stepped n again [] b m i t small mid goes x (tree.Switch (text_of_choice s (block_in graph a).exit) bodies tree.no_arms) steps
               ∙ ap (λ d. stmt_step text (tree.Switch (text_of_choice s (block_in graph d).exit) bodies tree.no_arms) x.at past) (sym (ap block_of (there ∙ same)))) count
-          by-end (plan.Return a) item_stmt item_text same good' steps count = absurd (no-return own.exit i (subst (λ d. (block_in graph d).exit ≡ inner.Ret good'.0.0) (sym (ap block_of (there ∙ same))) good'.0.1) mid.waiting (exits own.exit refl))
+          by-end (plan.Return a) item_stmt planned.returns same good' steps count =
+              let is_ret : own.exit ≡ inner.Ret good'.0.0 = subst (λ d. (block_in graph d).exit ≡ inner.Ret good'.0.0) (sym (ap block_of (there ∙ same))) good'.0.1 in
+              return-runs good'.0.0 is_ret
+              (stepped n again [] b m i t small mid goes x (text_of_return s (block_in graph a).exit) steps
+              ∙ ap (λ d. stmt_step text (text_of_return s (block_in graph d).exit) x.at past) (sym (ap block_of (there ∙ same)))
+              ∙ ap (λ e. stmt_step text (text_of_return s e) x.at past) is_ret)
+              (omega (arith, count))
           by-end plan.Break item_stmt planned.breaks same good' steps count = break-runs n again [] b m i t small mid goes x steps count there same
           by-end plan.Continue item_stmt planned.continues same good' steps count = absurd (start-apart x.context.at_continue b m (continue-starts s graph whole x.stands) (there ∙ same))
           by-end (plan.Mark a) item_stmt item_text same good' steps count = absurd (true≢false (ap is_before (there ∙ same)))
@@ -617,7 +774,7 @@ module _ (p : inner.Program) (graph : inner.Graph) (s : Spelling) (family : Fami
           by point (valid.goes {next = next} at exit leads) same count =
               let less = formed (inner.Goto next) exit in
               subst (λ z. Comes z (moves mid.stand.leads) t) (sym (ap (only_goes []) exit)) (subst (λ most. Comes true most t) count
-              (arrives b m next [] i t mid (ltb-true next (length graph.blocks) less) (leads-to (inner.Goto next) next exit (contained (next ∷ []) 0 next refl)) (exits (inner.Goto next) exit) t.rest mid.stand.context
+              (arrives b m next i t mid (ltb-true next (length graph.blocks) less) (leads-to (inner.Goto next) next exit (contained (next ∷ []) 0 next refl)) (exits (inner.Goto next) exit) t.rest mid.stand.context
               point leads mid.stand.stands same mid.stand.low))
           by point (valid.stops at exit) same count = absurd (no-end own.exit i exit (exits own.exit refl))
 

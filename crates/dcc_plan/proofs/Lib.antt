@@ -3,8 +3,12 @@ pub mod ListLaws
 pub mod LabelLaws
 pub mod Rests
 pub mod Settles
+pub mod Settings
+pub mod CallStates
 pub mod StepsKept
 pub mod TestLaws
+pub mod Points
+pub mod Stages
 pub mod BlockRuns
 pub mod PlanRuns
 pub mod TextLaws

@@ -1,39 +1,49 @@
--- The text of a valid plan counts the visits of its program.
-use Rattle.std.proofs.Common.{◌≡◌, ℕ, suc, ◌+◌, ◌<◌, ◌≤◌, inl, inr, Bool, true, false, ◌==◌, List, Some, None, refl, sym, ap, ap₂, ◌∙◌, subst, true≢false, arith}
-use Rattle.std.specs.Prelude.{◌⊎◌, ◌||◌, not, if◌then◌else◌}
-use Rattle.std.proofs.lemmas.Bool.{or_left, cases_Bool, eqb-true}
+-- The text of valid plans counts the visits of its program.
+use Rattle.std.proofs.Common.{◌≡◌, ℕ, zero, suc, ◌+◌, ◌-◌, ◌<◌, ◌≤◌, inl, inr, Bool, true, false, ◌==◌, List, [], ◌∷◌, length, map, Some, None, refl, sym, ap, ap₂, ◌∙◌, subst, true≢false, arith}
+use Rattle.std.specs.Prelude.{◌⊎◌, ◌||◌, ◌&&◌, not, if◌then◌else◌, is_some, Contains, drop, slice_get, get_or}
+use Rattle.std.specs.List.{list_any, AllZip}
+use Rattle.std.proofs.lemmas.Bool.{or_left, or_parts, not-true, cases_Bool, eqb-true}
+use Rattle.std.proofs.lemmas.List.Elements.{All-contains}
 use Rattle.dcc_run.specs.End.{is_over}
 use Rattle.dcc_run.specs.System.{after}
 use Rattle.dcc_run.specs.Place.{Place}
+use Rattle.dcc_run.specs.Watched.{is_shown}
 use Rattle.dcc_ir.specs.Families.{Family}
 use Rattle.dcc_ir.specs.Fitting.{AreBytes}
 use Rattle.dcc_ir.specs.Live.{block_in}
 use Rattle.dcc_ir.specs.Run as run
 use Rattle.dcc_ir.specs.Tree as inner
-use Rattle.dcc_ir.specs.WellFormed.{IsGraph}
-use Rattle.dcc_ir.proofs.ReachedLaws.{IsGood, step-good, first-good}
+use Rattle.dcc_ir.specs.WellFormed.{is_jump, jumps_after_call, IsGraph}
+use Rattle.dcc_ir.proofs.LocationLaws.{Contains-here, Contains-later}
+use Rattle.dcc_ir.proofs.ReachedLaws.{contained, IsWithinAt, within-of, IsGood, step-good, first-good}
 use Rattle.dcc_ir.proofs.RunLaws.{inner_watchable}
+use Rattle.dcc_c.specs.Parts.{stmts_in}
 use Rattle.dcc_c.specs.Run as c
 use Rattle.dcc_c.specs.Run.{Continuation, ends_function, runs, turns, goes_on, stmt_step, step_at, text_system}
 use Rattle.dcc_c.specs.Tree as tree
 use Rattle.dcc_c.specs.Tree.{Stmt, Lines, line, Function, Tree}
 use Rattle.dcc_text.specs.Spelling.{Spelling}
-use Rattle.dcc_text.specs.Holding.{Alike, Holds}
-use Rattle.dcc_text.proofs.FirstRuns.{opening, first_state-is}
+use Rattle.dcc_text.specs.Holding.{Locations, Alike, Holds, IsWaiting}
+use Rattle.dcc_text.proofs.FirstRuns.{opening}
 use Rattle.dcc_plan.specs.Plan as plan
 use Rattle.dcc_plan.specs.Plan.{Item, Plan, no_items, item, is_begun}
 use Rattle.dcc_plan.specs.PlanText as planned
 use Rattle.dcc_plan.specs.PlanText.{IsPlanText, IsItemText}
+use Rattle.dcc_plan.specs.Programs.{Texts, Opens, at_once, one_more, IsGraphText, IsProgramText, AreAllKept, text_size, ProgramsCount}
 use Rattle.dcc_plan.specs.Valid as valid
 use Rattle.dcc_plan.specs.Valid.{Point, Begin, Before, Nowhere, Leads, Context, outside, item_entry, entry, turn, only_goes, has_step, IsValid, IsValidItem}
-use Rattle.dcc_plan.specs.Laws.{IsTextOf, NeverStuck, AreKept, IsCountedBy, TextsCount, PlansCount}
-use Rattle.dcc_plan.proofs.KeptLeaps.{IsKeptLeap, leaps_count, leaps_show, leaps_go_on}
+use Rattle.dcc_plan.specs.Laws.{AreSteps, IsTextOf, NeverStuck, AreKept, IsCountedBy, TextsCount, PlansCount}
+use Rattle.dcc_plan.proofs.CallStates.{jump-shown}
+use Rattle.dcc_plan.proofs.KeptLeaps.{keeps, paid, IsKeptLeap, leaps_count, leaps_show, leaps_go_on}
 use Rattle.dcc_plan.proofs.LabelLaws.{block-at}
 use Rattle.dcc_plan.proofs.ListLaws.{drop-none}
-use Rattle.dcc_plan.proofs.Rests.{Sound, SoundItem, lines_count, inside_count, count-is, left, is_jumping, is_jump_stmt, loop_context, Stands, closes, loops, AtItem, AtTurn, Head, at_item, at_turn, at_end, head}
+use Rattle.dcc_plan.proofs.Rests.{Sound, SoundItem, lines_count, inside_count, count-is, left, is_jumping, is_jump_stmt, loop_context, Stands, loops, AtItem, AtTurn, Head, at_item, at_turn, at_end, head}
 use Rattle.dcc_plan.proofs.Rests as rests
-use Rattle.dcc_plan.proofs.Settles.{one-step, Settles, settle}
-use Rattle.dcc_plan.proofs.BlockRuns.{sound, block_of, moves, limit, well, IsUnstuck, stands-for, Meets, Ends, elsewhere, Comes, one-before, block-runs}
+use Rattle.dcc_plan.proofs.Settings.{limit_of, setting_of, CallsBegin, ReturnsEnd, Premises}
+use Rattle.dcc_plan.proofs.Settles.{Settles, settle-start}
+use Rattle.dcc_plan.proofs.Points.{block_of, moves}
+use Rattle.dcc_plan.proofs.Stages.{debts_of, owed, owed-begun, owed-within, AreCalled, CallsAlike, Matter, IsUnstuck, Meets, GoesOn, Stage, at_begin, after_call, Related, measure, Outcome}
+use Rattle.dcc_plan.proofs.BlockRuns.{well, sound, steps-from, stands-for, elsewhere, Comes, one-before, block-runs}
 
 abbrev is_begin : Point → Bool
 is_begin (Begin b) = true
@@ -65,242 +75,536 @@ or-neither true passes none = absurd (true≢false none)
 or-neither false true none = refl
 or-neither false false none = absurd (true≢false none)
 
-module _ (p : inner.Program) (graph : inner.Graph) (s : Spelling) (family : Family) (whole : Plan) (f : Function) (is : IsTextOf p graph s family whole f) (text : Tree) (AreAlike : Alike) (fill : ℕ) where
-  abbrev most : ℕ
-  most = limit p graph s family whole f is text AreAlike fill
+-- the statements of a body that opens with assignments
+opens-count : (count : ℕ) (body lines : Lines) → Opens count body lines → lines_count body ≡ count + lines_count lines
+opens-count count body lines at_once = omega arith
+opens-count (suc count) (line stmt at body) lines (one_more opens) = let later = opens-count count body lines opens in omega (arith, later)
 
-  abbrev goes_to : ℕ → Bool
-  goes_to b = is_begun whole b
+opens-none : (count : ℕ) (body lines : Lines) → count ≡ 0 → Opens count body lines → body ≡ lines
+opens-none count body lines none at_once = refl
+opens-none (suc count) (line stmt at body) lines none (one_more opens) = absurd (omega (arith, none))
 
-  abbrev Related : run.State → c.State → Type 0
-  Related i t = Meets p graph s family whole f is text AreAlike fill i t
+-- no call among the last statements
+none-after : (stmts : List inner.Stmt) (exit : inner.Exit) → list_any run.is_call stmts ≡ false → jumps_after_call stmts exit ≡ true
+none-after [] exit none = refl
+none-after (stmt ∷ rest) exit none =
+    let parts = or_parts (run.is_call stmt) (list_any run.is_call rest) none in
+    ap (λ call. if call then not (list_any run.is_call rest) && is_jump exit else jumps_after_call rest exit) parts.0 ∙ none-after rest exit parts.1
 
+-- what the text of later statements needs
+dropped-steps : (s : Spelling) (Has : List inner.Stmt → Locations) (m : ℕ) (stmts : List inner.Stmt) → AreSteps s Has stmts → AreSteps s Has (drop m stmts)
+dropped-steps s Has zero [] are = are
+dropped-steps s Has zero (stmt ∷ stmts) are = are
+dropped-steps s Has (suc m) [] are = are
+dropped-steps s Has (suc m) (stmt ∷ stmts) are = dropped-steps s Has m stmts are.1
+
+some-none : {A : Type 0} {a : A} → Some a ≡ None → ⊥
+some-none e = cc
+
+-- the first state enters the first block of the first graph
+first_of_graphs-is : (p : inner.Program) (graph : inner.Graph) (others : List inner.Graph) (block : inner.Block) (fill : ℕ) (input : List ℕ) → p.graphs ≡ graph ∷ others
+    → slice_get graph.blocks 0 ≡ Some block → run.first_state p fill input ≡ run.entering (Some block) (opening p graph fill input)
+first_of_graphs-is p graph others block fill input first there =
+    ap (λ graphs. run.opened (get_or graphs 0 run.no_graph) p fill input) first ∙ ap (λ o. run.entering o (opening p graph fill input)) there
+
+module _ (G : Premises) where
   abbrev c_step : c.State → c.State
-  c_step t = c.step text t
+  c_step t = c.step G.tree t
 
   -- One step of the program from such states.
-  module _ (i : run.State) (t : c.State) (m : Related i t) where
+  module _ (graph : inner.Graph) (inside : Contains G.p.graphs graph) (i : run.State) (t : c.State) (called : AreCalled G.p graph i.waiting) where
+    abbrev s : Spelling
+    s = G.texts.spelling graph
+
+    abbrev whole : Plan
+    whole = G.texts.plan graph
+
+    abbrev most : ℕ
+    most = limit_of G.texts graph
+
+    abbrev goes_to : ℕ → Bool
+    goes_to b = is_begun whole b
+
     abbrev next : run.State
-    next = run.step p fill i
+    next = run.step G.p G.fill i
 
-    next-good : IsGood p next
-    next-good = step-good p is.well fill i m.good
+    -- what is left for what a callee opens
+    abbrev extra : ℕ
+    extra = G.most - most
 
-    next-unstuck : IsUnstuck p graph s family whole f is text AreAlike fill next
-    next-unstuck = λ n at. m.unstuck (suc n) at
+    within-most : most + extra ≡ G.most
+    within-most = let fits = G.fits graph inside in omega (arith, fits)
 
-    goes : run.block_step p.graphs fill (block_in graph m.b).stmts i ≡ next
-    goes = ap (λ rest. run.block_step p.graphs fill rest i) (sym m.rest_is) ∙ ap (λ over. if over then i else run.block_step p.graphs fill i.running.rest i) (sym m.running)
+    next-good : IsGood G.p i → IsGood G.p next
+    next-good good = step-good G.p G.well G.fill i good
 
-    on : is_over t.end ≡ false
-    on = ap is_over m.holds.end ∙ m.running
+    -- the step is that of the statements left
+    goes-from : (stmts : List inner.Stmt) → i.running.rest ≡ stmts → is_over i.end ≡ false → run.block_step G.p.graphs G.fill stmts i ≡ next
+    goes-from stmts rest_is running = ap (λ rest. run.block_step G.p.graphs G.fill rest i) (sym rest_is) ∙ ap (λ over. if over then i else run.block_step G.p.graphs G.fill i.running.rest i) (sym running)
 
-    abbrev passes : Bool
-    passes = only_goes (block_in graph m.b).stmts (block_in graph m.b).exit
+    -- After a call.
+    module _ (g : GoesOn G graph i t) where
+      after-shown : is_shown (run.watched_inner G.p G.fill) next ≡ true
+      after-shown =
+          subst (λ j. is_shown (run.watched_inner G.p G.fill) j ≡ true) (goes-from i.running.rest refl g.running)
+          (jump-shown G.p G.fill i.running.rest i g.continues.no_calls (ap (λ (b : inner.Block). is_jump b.exit) g.continues.block_is ∙ g.continues.jumps))
 
-    abbrev Arrives : ℕ → c.State → Type 0
-    Arrives fewer u = Comes p graph s family whole f is text AreAlike fill next next-good next-unstuck passes fewer u
+      after-comes : Comes G graph inside 0 next (next-good g.good) (λ n at. g.unstuck (suc n) at) (only_goes i.running.rest (block_in graph g.continues.b).exit) (moves g.continues.stand.leads) t
+      after-comes =
+          let x = g.continues in
+          let within : IsWithinAt G.p i.running.rest i = within-of G.p G.well i (g.good.active g.running) g.good.safe in
+          block-runs G graph inside 0 next (next-good g.good) (λ n at. g.unstuck (suc n) at) (suc (left t.rest)) i.running.rest x.b x.m i t (omega arith) (record {
+            known = x.known;
+            at = x.at;
+            within = x.within;
+            graph_is = g.graph_is;
+            block_is = x.block_is;
+            called = called;
+            running = g.running;
+            placed = within;
+            jumps = none-after i.running.rest (block_in graph x.b).exit x.no_calls;
+            spare = λ some. absurd (true≢false (sym some ∙ x.no_calls));
+            fit = g.good.safe.fit;
+            steps = subst (AreSteps s (G.texts.matters graph (block_in graph x.b))) x.at (dropped-steps s (G.texts.matters graph (block_in graph x.b)) x.m (block_in graph x.b).stmts ((G.each graph inside).matters.steps x.b x.known));
+            stand = x.stand;
+            function = g.function;
+            holds = subst (λ (block : inner.Block). Holds s (Matter G graph block i.running.rest) (CallsAlike G) i t) x.block_is g.holds;
+          }) (goes-from i.running.rest refl g.running)
 
-    -- past the begin of the block
-    past : (k : Continuation) (context : Context) (point : Point) (leads : Leads graph goes_to (Before m.b 0) point) → Stands s graph whole most k context → context.next ≡ point → left k ≤ most
-        → Arrives (moves leads) (goes_on k t)
-    past k context point leads stands same low =
-        block-runs p graph s family whole f is text AreAlike fill next next-good next-unstuck (suc (left k)) (block_in graph m.b).stmts m.b 0 i (goes_on k t) (omega arith) (record {
-          known = m.known;
-          at = drop-none (block_in graph m.b).stmts;
-          within = omega arith;
-          graph_is = m.graph_is;
-          block_is = m.block_is;
-          waiting = m.waiting;
-          running = m.running;
-          fit = m.good.safe.fit;
-          steps = is.matters.steps m.b m.known;
-          stand = stands-for p graph s family whole f is text AreAlike fill k context point leads stands same low;
-          function = m.function;
-          holds = elsewhere p graph s family whole f is text AreAlike fill k m.holds;
-        }) goes
+    -- At a block's begin.
+    module _ (m : Meets G graph i t) where
+      on : is_over t.end ≡ false
+      on = ap is_over m.holds.end ∙ m.running
 
-    -- the text's steps for the block
-    record Leaps : Type 0 where
-      steps : ℕ
-      some : has_step graph whole m.b ≡ true → 0 < steps
-      few : steps ≤ most
-      leads : ((x : Related next (after c_step steps t)) × (has_step graph whole m.b ≡ false → moves x.stand.leads < moves m.stand.leads))
-          ⊎ Ends p graph s family whole f is text AreAlike fill next (after c_step steps t)
+      unstuck-next : IsUnstuck G next
+      unstuck-next = λ n at. m.unstuck (suc n) at
 
-    -- the same after a step that begins the block
-    record Later (u : c.State) : Type 0 where
-      steps : ℕ
-      few : steps ≤ left u.rest
-      leads : Related next (after c_step steps u) ⊎ Ends p graph s family whole f is text AreAlike fill next (after c_step steps u)
+      abbrev passes : Bool
+      passes = only_goes (block_in graph m.b).stmts (block_in graph m.b).exit
 
-    later : {fewer : ℕ} {u : c.State} → Arrives fewer u → Later u
-    later x = record { steps = x.steps; few = x.few; leads = elim x.leads [ inl there ↦ inl there.0 | inr ends ↦ inr ends ] }
+      abbrev Arrives : ℕ → c.State → Type 0
+      Arrives fewer u = Comes G graph inside extra next (next-good m.good) unstuck-next passes fewer u
 
-    -- a turn of a loop
-    at-turn : (body : Plan) (lines : Lines) (k : Continuation) (context : Context) → IsPlanText s graph body lines → Sound s graph whole body context → Stands s graph whole most k context
-        → Leads graph goes_to (turn m.b body) (entry graph body context) → lines_count lines + left k ≤ most → Later (goes_on (runs lines k) t)
-    at-turn body lines k context body_text body_valid stands leads low = elim (turn-cases m.b body) [
-      | inl first ↦
-          later (past (runs lines k) (record context { next = entry graph body context }) (entry graph body context) (subst (λ q. Leads graph goes_to q (entry graph body context)) first leads)
-          (rests.goes body_text body_valid stands) refl low)
-      | inr label ↦ labelled label.0 lines (subst (λ x. IsPlanText s graph x lines) label.1 body_text) (subst (λ x. Sound s graph whole x context) label.1 body_valid) low
-    ]
-      where
-        labelled : (later_items : Plan) (lines : Lines) → IsPlanText s graph (item (plan.Mark m.b) later_items) lines → Sound s graph whole (item (plan.Mark m.b) later_items) context
-            → lines_count lines + left k ≤ most → Later (goes_on (runs lines k) t)
-        labelled later_items tree.no_lines body_text good low = elim body_text [ ]
-        labelled later_items (line stmt at lines) (planned.one_more planned.marks others) good low =
-            let x = past (runs lines k) (record context { next = entry graph later_items context }) (entry graph later_items context) good.0.0.1 (rests.goes others (good.0.1, good.1.1) stands) refl (omega (arith, low)) in
-            later (one-before p graph s family whole f is text AreAlike fill next next-good next-unstuck passes (moves good.0.0.1) passes (moves good.0.0.1) (goes_on (runs (line stmt at lines) k) t) (goes_on (runs lines k) t)
-            (λ e. (e, omega arith)) (one-step s graph whole most text f (well p graph s family whole f is text AreAlike fill) (sound p graph s family whole f is text AreAlike fill) is.text (omega arith) (runs (line stmt at lines) k) t on) (omega arith) x)
+      -- past the begin of the block
+      past : (k : Continuation) (context : Context) (point : Point) (leads : Leads graph goes_to (Before m.b 0) point) → Stands s graph whole most k context → context.next ≡ point → left k ≤ most
+          → Arrives (moves leads) (goes_on k t)
+      past k context point leads stands same low =
+          let graph_well = well G graph inside in
+          let within : IsWithinAt G.p i.running.rest i = within-of G.p G.well i (m.good.active m.running) m.good.safe in
+          block-runs G graph inside extra next (next-good m.good) unstuck-next (suc (left k)) (block_in graph m.b).stmts m.b 0 i (goes_on k t) (omega arith) (record {
+            known = m.known;
+            at = drop-none (block_in graph m.b).stmts;
+            within = omega arith;
+            graph_is = m.graph_is;
+            block_is = m.block_is;
+            called = called;
+            running = m.running;
+            placed = subst (λ rest. IsWithinAt G.p rest i) m.rest_is within;
+            jumps = All-contains (λ (b : inner.Block). jumps_after_call b.stmts b.exit ≡ true) graph.blocks (block_in graph m.b) graph_well.jumps (contained graph.blocks m.b (block_in graph m.b) (block-at graph graph_well m.b m.known));
+            spare = λ some callee later. let room = G.spare graph callee inside later in omega (arith, room, within-most);
+            fit = m.good.safe.fit;
+            steps = (G.each graph inside).matters.steps m.b m.known;
+            stand = stands-for G graph inside k context point leads stands same low;
+            function = m.function;
+            holds = elsewhere G graph inside k m.holds;
+          }) (goes-from (block_in graph m.b).stmts m.rest_is m.running)
 
-    has-step : goes_to m.b ≡ true → has_step graph whole m.b ≡ true
-    has-step begun = or_left (goes_to m.b) (not passes) begun
+      -- the text's steps for the block
+      record Leaps : Type 0 where
+        steps : ℕ
+        some : has_step graph whole m.b ≡ true → 0 < steps
+        leads : Outcome G (not (has_step graph whole m.b)) (moves m.stand.leads) (most + debts_of t + extra) steps next (after c_step steps t)
 
-    one-more : (k : Continuation) → goes_to m.b ≡ true → c_step t ≡ goes_on k t → suc (left k) ≤ most → Later (goes_on k t) → Leaps
-    one-more k begun to low x = record {
-      steps = suc x.steps;
-      some = λ e. omega arith;
-      few = omega (arith, x.few, low);
-      leads = subst (λ u. ((y : Related next (after c_step x.steps u)) × (has_step graph whole m.b ≡ false → moves y.stand.leads < moves m.stand.leads))
-          ⊎ Ends p graph s family whole f is text AreAlike fill next (after c_step x.steps u)) (sym to)
-          (elim x.leads [ inl there ↦ inl (there, λ none. absurd (true≢false (sym (has-step begun) ∙ none))) | inr ends ↦ inr ends ]);
-    }
+      -- the same after a step that begins the block
+      record Later (u : c.State) : Type 0 where
+        steps : ℕ
+        leads : Outcome G false 0 (left u.rest + debts_of u + extra) steps next (after c_step steps u)
 
-    -- the next statement is no jump
-    no-jump : Begin m.b ≡ m.stand.context.next → is_jumping t.rest ≡ true → ⊥
-    no-jump there jumps = elim m.settled [ inl quiet ↦ true≢false (sym jumps ∙ quiet) | inr none ↦ true≢false (ap is_begin (there ∙ none)) ]
+      later : {fewer : ℕ} {u : c.State} → Arrives fewer u → Later u
+      later x = record { steps = x.steps; leads = elim x.leads [ inl there ↦ inl (there.0, λ e. absurd (true≢false (sym e)), there.2) | inr ends ↦ inr ends ] }
 
-    module _ (there : Begin m.b ≡ m.stand.context.next) (x : AtItem s graph whole most t.rest m.stand.context.next) where
-      stepped : (stmt : Stmt) → ((tree : Tree) (u : c.State) → step_at tree t.rest u ≡ stmt_step tree stmt x.at (goes_on (runs x.lines x.rest) u)) → c_step t ≡ stmt_step text stmt x.at (goes_on (runs x.lines x.rest) t)
-      stepped stmt steps = one-step s graph whole most text f (well p graph s family whole f is text AreAlike fill) (sound p graph s family whole f is text AreAlike fill) is.text (omega arith) t.rest t on ∙ steps text t
+      -- the text's step from a continuation on
+      stepping : (k : Continuation) → c_step (goes_on k t) ≡ step_at G.tree k (goes_on k t)
+      stepping k = steps-from G graph inside k t on
 
-      begun-here : (a : ℕ) → m.stand.context.next ≡ Begin a → goes_to a ≡ true → goes_to m.b ≡ true
-      begun-here a same begun = ap goes_to (ap block_of (there ∙ same)) ∙ begun
+      -- a turn of a loop
+      at-turn : (body : Plan) (lines : Lines) (k : Continuation) (context : Context) → IsPlanText s graph body lines → Sound s graph whole body context → Stands s graph whole most k context
+          → Leads graph goes_to (turn m.b body) (entry graph body context) → lines_count lines + left k ≤ most → Later (goes_on (runs lines k) t)
+      at-turn body lines k context body_text body_valid stands leads low = elim (turn-cases m.b body) [
+        | inl first ↦
+            later (past (runs lines k) (record context { next = entry graph body context }) (entry graph body context) (subst (λ q. Leads graph goes_to q (entry graph body context)) first leads)
+            (rests.goes body_text body_valid stands) refl low)
+        | inr label ↦ labelled label.0 lines (subst (λ x. IsPlanText s graph x lines) label.1 body_text) (subst (λ x. Sound s graph whole x context) label.1 body_valid) low
+      ]
+        where
+          labelled : (later_items : Plan) (lines : Lines) → IsPlanText s graph (item (plan.Mark m.b) later_items) lines → Sound s graph whole (item (plan.Mark m.b) later_items) context
+              → lines_count lines + left k ≤ most → Later (goes_on (runs lines k) t)
+          labelled later_items tree.no_lines body_text good low = elim body_text [ ]
+          labelled later_items (line stmt at lines) (planned.one_more planned.marks others) good low =
+              let x = past (runs lines k) (record context { next = entry graph later_items context }) (entry graph later_items context) good.0.0.1 (rests.goes others (good.0.1, good.1.1) stands) refl (omega (arith, low)) in
+              later (one-before G graph inside extra next (next-good m.good) unstuck-next passes (moves good.0.0.1) passes (moves good.0.0.1) (goes_on (runs (line stmt at lines) k) t) (goes_on (runs lines k) t)
+              (λ e. (e, omega arith)) (stepping (runs (line stmt at lines) k)) (omega (arith, low)) refl x)
 
-      by-item : (first : Item) (stmt : Stmt) → IsItemText s graph first stmt → m.stand.context.next ≡ item_entry graph first x.context → SoundItem s graph whole first x.later x.context
-          → ((tree : Tree) (u : c.State) → step_at tree t.rest u ≡ stmt_step tree stmt x.at (goes_on (runs x.lines x.rest) u))
-          → left t.rest ≡ suc (inside_count stmt + lines_count x.lines + left x.rest) → is_jumping t.rest ≡ is_jump_stmt stmt → Leaps
-      by-item (plan.Mark a) stmt planned.marks same good steps count jumps =
-          one-more (runs x.lines x.rest) (begun-here a same good.1) (stepped stmt steps) (omega (arith, m.stand.low, count))
-          (later (past (runs x.lines x.rest) (record x.context { next = entry graph x.later x.context }) (entry graph x.later x.context)
-          (subst (λ b. Leads graph goes_to (Before b 0) (entry graph x.later x.context)) (sym (ap block_of (there ∙ same))) good.0.1) (rests.goes x.later_text x.later_valid x.stands) refl (omega (arith, m.stand.low, count))))
-      by-item (plan.For a body) stmt (planned.repeats {lines = lines} body_text) same good steps count jumps =
-          let following = runs x.lines x.rest in
-          one-more (runs lines (turns lines following)) (begun-here a same good.1.0) (stepped stmt steps) (omega (arith, m.stand.low, count))
-          (at-turn body lines (turns lines following) _ body_text (good.0.2, good.1.1)
-          (loops body_text good.0.0 good.1.0 good.0.1 (good.0.2, good.1.1) (rests.goes x.later_text x.later_valid x.stands) (omega (arith, m.stand.low, count)))
-          (subst (λ b. Leads graph goes_to (turn b body) (entry graph body (loop_context a (record x.context { next = entry graph x.later x.context })))) (sym (ap block_of (there ∙ same))) good.0.1)
-          (omega (arith, m.stand.low, count)))
-      by-item (plan.Jump a) stmt planned.jumps same good steps count jumps = absurd (no-jump there jumps)
-      by-item plan.Break stmt planned.breaks same good steps count jumps = absurd (no-jump there jumps)
-      by-item plan.Continue stmt planned.continues same good steps count jumps = absurd (no-jump there jumps)
-      by-item (plan.Do a k) stmt item_text same good steps count jumps = absurd (true≢false (ap is_begin (there ∙ same)))
-      by-item (plan.If a one other) stmt item_text same good steps count jumps = absurd (true≢false (ap is_begin (there ∙ same)))
-      by-item (plan.Switch a arms) stmt item_text same good steps count jumps = absurd (true≢false (ap is_begin (there ∙ same)))
-      by-item (plan.Return a) stmt item_text same good steps count jumps = absurd (true≢false (ap is_begin (there ∙ same)))
+      has-step : goes_to m.b ≡ true → has_step graph whole m.b ≡ true
+      has-step begun = or_left (goes_to m.b) (not passes) begun
 
-    leaps : Leaps
-    leaps = by m.stand.point m.stand.leads m.stand.same refl
-      where
-        by : (point : Point) (leads : Leads graph goes_to (Begin m.b) point) → m.stand.context.next ≡ point → moves leads ≡ moves m.stand.leads → Leaps
-        by point (valid.begins none leads) same count =
-            let x = past t.rest m.stand.context point leads m.stand.stands same m.stand.low in
-            record {
-              steps = x.steps;
-              some = λ step. x.some (or-second (goes_to m.b) passes none step);
-              few = omega (arith, x.few, m.stand.low);
-              leads = elim x.leads [
-                | inl there ↦ inl (there.0, λ no_step. let fewer = there.1 (or-neither (goes_to m.b) passes no_step) in omega (arith, fewer, count))
-                | inr ends ↦ inr ends
-              ];
-            }
-        by point valid.is_there same count = elim (head s graph whole m.stand.stands) [
-          | at_item x ↦ by-item (sym same) x x.first x.stmt x.text x.is x.valid x.steps x.count x.jumps
-          | at_turn x ↦
-              one-more (runs x.lines (turns x.lines x.rest)) (ap goes_to (ap block_of (sym same ∙ x.is)) ∙ x.begun_is)
-              (one-step s graph whole most text f (well p graph s family whole f is text AreAlike fill) (sound p graph s family whole f is text AreAlike fill) is.text (omega arith) t.rest t on ∙ x.steps text t)
-              (omega (arith, x.few))
-              (at-turn x.body x.lines (turns x.lines x.rest) (loop_context x.b x.context) x.text x.valid (loops x.text x.within x.begun_is x.leads x.valid x.stands x.few)
-              (subst (λ b. Leads graph goes_to (turn b x.body) (entry graph x.body (loop_context x.b x.context))) (sym (ap block_of (sym same ∙ x.is))) x.leads) (omega (arith, x.few)))
-          | at_end none ↦ absurd (true≢false (ap is_begin (sym same ∙ none)))
-        ]
+      one-more : (k : Continuation) → goes_to m.b ≡ true → c_step t ≡ goes_on k t → suc (left k) ≤ most → Later (goes_on k t) → Leaps
+      one-more k begun to low x = record {
+        steps = suc x.steps;
+        some = λ e. omega arith;
+        leads = subst (λ u. Outcome G (not (has_step graph whole m.b)) (moves m.stand.leads) (most + debts_of t + extra) (suc x.steps) next (after c_step x.steps u)) (sym to)
+            (elim x.leads [
+              | inl there ↦ inl (there.0, λ none. absurd (true≢false (sym none ∙ ap not (has-step begun))), (let few = there.2 in omega (arith, few, low)))
+              | inr ends ↦ inr (ends.0, (let few = ends.1 in omega (arith, few, low)))
+            ]);
+      }
 
-  module _ (kept : Place → Bool) (are_kept : AreKept graph whole kept) where
+      -- the next statement is no jump
+      no-jump : Begin m.b ≡ m.stand.context.next → is_jumping t.rest ≡ true → ⊥
+      no-jump there jumps = elim m.settled [ inl quiet ↦ true≢false (sym jumps ∙ quiet) | inr none ↦ true≢false (ap is_begin (there ∙ none)) ]
+
+      module _ (there : Begin m.b ≡ m.stand.context.next) (x : AtItem s graph whole most t.rest m.stand.context.next) where
+        stepped : (stmt : Stmt) → ((tree : Tree) (u : c.State) → step_at tree t.rest u ≡ stmt_step tree stmt x.at (goes_on (runs x.lines x.rest) u)) → c_step t ≡ stmt_step G.tree stmt x.at (goes_on (runs x.lines x.rest) t)
+        stepped stmt steps = stepping t.rest ∙ steps G.tree t
+
+        begun-here : (a : ℕ) → m.stand.context.next ≡ Begin a → goes_to a ≡ true → goes_to m.b ≡ true
+        begun-here a same begun = ap goes_to (ap block_of (there ∙ same)) ∙ begun
+
+        by-item : (first : Item) (stmt : Stmt) → IsItemText s graph first stmt → m.stand.context.next ≡ item_entry graph first x.context → SoundItem s graph whole first x.later x.context
+            → ((tree : Tree) (u : c.State) → step_at tree t.rest u ≡ stmt_step tree stmt x.at (goes_on (runs x.lines x.rest) u))
+            → left t.rest ≡ suc (inside_count stmt + lines_count x.lines + left x.rest) → is_jumping t.rest ≡ is_jump_stmt stmt → Leaps
+        by-item (plan.Mark a) stmt planned.marks same good steps count jumps =
+            one-more (runs x.lines x.rest) (begun-here a same good.1) (stepped stmt steps) (omega (arith, m.stand.low, count))
+            (later (past (runs x.lines x.rest) (record x.context { next = entry graph x.later x.context }) (entry graph x.later x.context)
+            (subst (λ b. Leads graph goes_to (Before b 0) (entry graph x.later x.context)) (sym (ap block_of (there ∙ same))) good.0.1) (rests.goes x.later_text x.later_valid x.stands) refl (omega (arith, m.stand.low, count))))
+        by-item (plan.For a body) stmt (planned.repeats {lines = lines} body_text) same good steps count jumps =
+            let following = runs x.lines x.rest in
+            one-more (runs lines (turns lines following)) (begun-here a same good.1.0) (stepped stmt steps) (omega (arith, m.stand.low, count))
+            (at-turn body lines (turns lines following) _ body_text (good.0.2, good.1.1)
+            (loops body_text good.0.0 good.1.0 good.0.1 (good.0.2, good.1.1) (rests.goes x.later_text x.later_valid x.stands) (omega (arith, m.stand.low, count)))
+            (subst (λ b. Leads graph goes_to (turn b body) (entry graph body (loop_context a (record x.context { next = entry graph x.later x.context })))) (sym (ap block_of (there ∙ same))) good.0.1)
+            (omega (arith, m.stand.low, count)))
+        by-item (plan.Jump a) stmt planned.jumps same good steps count jumps = absurd (no-jump there jumps)
+        by-item plan.Break stmt planned.breaks same good steps count jumps = absurd (no-jump there jumps)
+        by-item plan.Continue stmt planned.continues same good steps count jumps = absurd (no-jump there jumps)
+        by-item (plan.Do a k) stmt item_text same good steps count jumps = absurd (true≢false (ap is_begin (there ∙ same)))
+        by-item (plan.If a one other) stmt item_text same good steps count jumps = absurd (true≢false (ap is_begin (there ∙ same)))
+        by-item (plan.Switch a arms) stmt item_text same good steps count jumps = absurd (true≢false (ap is_begin (there ∙ same)))
+        by-item (plan.Return a) stmt item_text same good steps count jumps = absurd (true≢false (ap is_begin (there ∙ same)))
+
+      leaps : Leaps
+      leaps = by m.stand.point m.stand.leads m.stand.same refl
+        where
+          by : (point : Point) (leads : Leads graph goes_to (Begin m.b) point) → m.stand.context.next ≡ point → moves leads ≡ moves m.stand.leads → Leaps
+          by point (valid.begins none leads) same count =
+              let x = past t.rest m.stand.context point leads m.stand.stands same m.stand.low in
+              record {
+                steps = x.steps;
+                some = λ step. x.some (or-second (goes_to m.b) passes none step);
+                leads = elim x.leads [
+                  | inl there ↦ inl (
+                    there.0,
+                    λ no_step. let falls = there.1 (or-neither (goes_to m.b) passes (not-true (has_step graph whole m.b) no_step)) in let fewer = falls.1 in (falls.0, omega (arith, fewer, count)),
+                    (let few = there.2 in omega (arith, few, m.stand.low)),
+                  )
+                  | inr ends ↦ inr (ends.0, (let few = ends.1 in omega (arith, few, m.stand.low)))
+                ];
+              }
+          by point valid.is_there same count = elim (head s graph whole m.stand.stands) [
+            | at_item x ↦ by-item (sym same) x x.first x.stmt x.text x.is x.valid x.steps x.count x.jumps
+            | at_turn x ↦
+                one-more (runs x.lines (turns x.lines x.rest)) (ap goes_to (ap block_of (sym same ∙ x.is)) ∙ x.begun_is)
+                (stepping t.rest ∙ x.steps G.tree t)
+                (omega (arith, x.few))
+                (at-turn x.body x.lines (turns x.lines x.rest) (loop_context x.b x.context) x.text x.valid (loops x.text x.within x.begun_is x.leads x.valid x.stands x.few)
+                (subst (λ b. Leads graph goes_to (turn b x.body) (entry graph x.body (loop_context x.b x.context))) (sym (ap block_of (sym same ∙ x.is))) x.leads) (omega (arith, x.few)))
+            | at_end none ↦ absurd (true≢false (ap is_begin (sym same ∙ none)))
+          ]
+
+  module _ (kept : Place → Bool) (are_kept : AreAllKept G.p G.texts kept) where
     abbrev place_of : run.State → Place
     place_of i = record { entry = i.running.graph.entry; at = i.running.block.at }
 
-    kept-is : (i : run.State) (t : c.State) (m : Related i t) → kept (place_of i) ≡ has_step graph whole m.b
-    kept-is i t m = ap₂ (λ g b. kept (record { entry = g.entry; at = b.at })) m.graph_is m.block_is ∙ are_kept m.b m.known
+    abbrev Leap : (i : run.State) (t : c.State) → Related G i t → Type 0
+    Leap i t r = IsKeptLeap kept (run.watched_inner G.p G.fill) (text_system G.tree) (inner_watchable G.p G.fill) (Related G) (measure G) owed G.most i t r
 
-    each-leaps : (i : run.State) (t : c.State) (m : Related i t) → IsKeptLeap kept (run.watched_inner p fill) (text_system text) (inner_watchable p fill) Related (λ j u x. moves x.stand.leads) most i t m
-    each-leaps i t m =
-        let x = leaps i t m in record {
-          marked = record { place = place_of i; mark = ap (λ begins. if begins then Some (place_of i) else None) m.begins; running = m.running };
+    -- the mark of a state
+    marked : (i : run.State) → i.running.begins ≡ true → run.block_mark i ≡ Some (place_of i)
+    marked i begins = ap (λ begins. if begins then Some (place_of i) else None) begins
+
+    unmarked : (i : run.State) → i.running.begins ≡ false → run.block_mark i ≡ None
+    unmarked i begins = ap (λ begins. if begins then Some (place_of i) else None) begins
+
+    begin-leaps : (graph : inner.Graph) (inside : Contains G.p.graphs graph) (i : run.State) (t : c.State) (called : AreCalled G.p graph i.waiting) (m : Meets G graph i t)
+        → Leap i t (record { graph = graph; inside = inside; called = called; stage = at_begin m })
+    begin-leaps graph inside i t called m =
+        let x = leaps graph inside i t called m in
+        let kept_is : keeps kept (run.block_mark i) ≡ has_step graph (G.texts.plan graph) m.b =
+        ap (keeps kept) (marked i m.begins)
+        ∙ ap₂ (λ (g : inner.Graph) (b : inner.Block). kept (record { entry = g.entry; at = b.at })) m.graph_is m.block_is ∙ are_kept graph inside m.b m.known
+        in
+        let paid_is : paid G.most (run.block_mark i) ≡ G.most =
+        ap (paid G.most) (marked i m.begins)
+        in
+        let nothing = owed-begun i t m.begins in
+        let room = within-most graph inside i t called in
+        record {
+          running = m.running;
           stands = record { end = m.holds.end; events = m.holds.events };
+          shown = λ none. absurd (some-none (sym (marked i m.begins) ∙ none));
           steps = x.steps;
-          some = λ keeps. x.some (sym (kept-is i t m) ∙ keeps);
-          few = x.few;
+          some = λ keeps. x.some (sym kept_is ∙ keeps);
           leads = elim x.leads [
-            | inl there ↦ inl (there.0, λ loses. there.1 (sym (kept-is i t m) ∙ loses))
-            | inr ends ↦ inr (ends.over, record { end = ends.end; events = ends.events })
+            | inl there ↦ inl (
+              there.0,
+              (let few = there.2 in omega (arith, few, paid_is, nothing, room)),
+              λ is loses. let falls = there.1 (ap not (sym kept_is ∙ loses)) in (ap is_some (marked (run.step G.p G.fill i) falls.0), falls.1),
+            )
+            | inr ends ↦ inr (ends.0.over, record { end = ends.0.end; events = ends.0.events }, (let few = ends.1 in omega (arith, few, paid_is, nothing, room)))
           ];
         }
 
+    call-leaps : (graph : inner.Graph) (inside : Contains G.p.graphs graph) (i : run.State) (t : c.State) (called : AreCalled G.p graph i.waiting) (g : GoesOn G graph i t)
+        → Leap i t (record { graph = graph; inside = inside; called = called; stage = after_call g })
+    call-leaps graph inside i t called g =
+        let x = after-comes graph inside i t called g in
+        let owes = owed-within i t g.begins in
+        let unpaid : paid G.most (run.block_mark i) ≡ 0 =
+        ap (paid G.most) (unmarked i g.begins)
+        in
+        record {
+          running = g.running;
+          stands = record { end = g.holds.end; events = g.holds.events };
+          shown = λ none. after-shown graph inside i t called g;
+          steps = x.steps;
+          some = λ is. absurd (true≢false (sym is ∙ ap (keeps kept) (unmarked i g.begins)));
+          leads = elim x.leads [
+            | inl there ↦ inl (
+              there.0,
+              (let few = there.2 in omega (arith, few, owes, unpaid)),
+              λ is loses. absurd (true≢false (sym is ∙ ap is_some (unmarked i g.begins))),
+            )
+            | inr ends ↦ inr (ends.0.over, record { end = ends.0.end; events = ends.0.events }, (let few = ends.1 in omega (arith, few, owes, unpaid)))
+          ];
+        }
+
+    each-leaps : (i : run.State) (t : c.State) (r : Related G i t) → Leap i t r
+    each-leaps i t r = by r.stage refl
+      where
+        by : (stage : Stage G r.graph i t) → stage ≡ r.stage → Leap i t r
+        by (at_begin m) same = subst (λ stage. Leap i t (record { graph = r.graph; inside = r.inside; called = r.called; stage = stage })) same (begin-leaps r.graph r.inside i t r.called m)
+        by (after_call g) same = subst (λ stage. Leap i t (record { graph = r.graph; inside = r.inside; called = r.called; stage = stage })) same (call-leaps r.graph r.inside i t r.called g)
+
   -- The whole runs.
-  module _ (kept : Place → Bool) (are_kept : AreKept graph whole kept) (input : List ℕ) (bytes : AreBytes input) (unstuck : NeverStuck p fill input) (holds : Holds s (family (block_in graph 0) (block_in graph 0).stmts) AreAlike (run.first_state p fill input) (c.first_state text f fill input)) where
+  module _ (kept : Place → Bool) (are_kept : AreAllKept G.p G.texts kept) (graph : inner.Graph) (others : List inner.Graph) (first : G.p.graphs ≡ graph ∷ others) (none : G.texts.openings graph ≡ 0)
+      (input : List ℕ) (bytes : AreBytes input) (unstuck : NeverStuck G.p G.fill input) (NoneWait : Alike)
+      (holds : Holds (G.texts.spelling graph) (G.texts.matters graph (block_in graph 0) (block_in graph 0).stmts) NoneWait (run.first_state G.p G.fill input) (c.first_state G.tree (G.texts.function graph) G.fill input)) where
+    abbrev f : Function
+    f = G.texts.function graph
+
+    abbrev first_plan : Plan
+    first_plan = G.texts.plan graph
+
     abbrev i0 : run.State
-    i0 = run.first_state p fill input
+    i0 = run.first_state G.p G.fill input
 
     abbrev t0 : c.State
-    t0 = c.first_state text f fill input
+    t0 = c.first_state G.tree f G.fill input
 
-    abbrev graph_well : IsGraph graph
-    graph_well = well p graph s family whole f is text AreAlike fill
+    inside : Contains G.p.graphs graph
+    inside = subst (λ graphs. Contains graphs graph) (sym first) (contained (graph ∷ others) 0 graph refl)
+
+    graph_well : IsGraph graph
+    graph_well = well G graph inside
 
     -- the program's first state
-    first-is : run.entering (Some (block_in graph 0)) (opening p graph fill input) ≡ i0
-    first-is = sym (first_state-is p graph (block_in graph 0) fill input is.alone (block-at graph graph_well 0 graph_well.begins))
+    first-is : run.entering (Some (block_in graph 0)) (opening G.p graph G.fill input) ≡ i0
+    first-is = sym (first_of_graphs-is G.p graph others (block_in graph 0) G.fill input first (block-at graph graph_well 0 graph_well.begins))
 
-    lead : Settles s graph whole most text f graph_well (sound p graph s family whole f is text AreAlike fill) is.text (omega arith) t0.rest (entry graph whole outside)
-    lead = settle s graph whole most text f graph_well (sound p graph s family whole f is text AreAlike fill) is.text (omega arith) (suc (left t0.rest)) t0.rest (entry graph whole outside) _ (omega arith) (omega arith) (rests.goes is.text (sound p graph s family whole f is text AreAlike fill) closes) refl
+    abbrev lines : Lines
+    lines = G.texts.lines graph
 
-    first-related : Related i0 (after c_step lead.steps t0)
-    first-related = subst (λ u. Related i0 u) (sym (lead.comes t0 refl refl)) (record {
-      b = 0;
-      known = graph_well.begins;
-      graph_is = ap (λ u. u.running.graph) (sym first-is);
-      block_is = ap (λ u. u.running.block) (sym first-is);
-      rest_is = ap (λ u. u.running.rest) (sym first-is);
-      begins = ap (λ u. u.running.begins) (sym first-is);
-      waiting = ap (λ u. u.waiting) (sym first-is);
-      running = ap (λ u. is_over u.end) (sym first-is);
-      good = first-good p is.well fill input bytes;
-      unstuck = unstuck;
-      stand = stands-for p graph s family whole f is text AreAlike fill lead.to lead.context (entry graph whole outside) is.is_plan.starts lead.stands lead.is lead.low_there;
-      settled = lead.settled;
-      function = refl;
-      holds = elsewhere p graph s family whole f is text AreAlike fill lead.to holds;
+    whole-body : f.body ≡ lines
+    whole-body = opens-none (G.texts.openings graph) f.body lines none (G.each graph inside).opens
+
+    abbrev begin : Continuation
+    begin = runs lines (ends_function f.last)
+
+    lead : (x : Settles (G.texts.spelling graph) graph first_plan (limit_of G.texts graph) G.tree f graph_well (sound G graph inside) (G.texts.openings graph) lines (G.each graph inside).opens (G.each graph inside).text (omega arith) begin (entry graph first_plan outside)) × (x.steps ≤ 1)
+    lead = settle-start (G.texts.spelling graph) graph first_plan (limit_of G.texts graph) G.tree f graph_well (sound G graph inside) (G.texts.openings graph) lines (G.each graph inside).opens (G.each graph inside).text (omega arith) first_plan lines f.last (omega arith)
+        (G.each graph inside).text (sound G graph inside)
+
+    t0-is : t0 ≡ goes_on begin t0
+    t0-is = ap (λ body. goes_on (runs body (ends_function f.last)) t0) whole-body
+
+    comes : after c_step lead.0.steps t0 ≡ goes_on lead.0.to t0
+    comes = ap (after c_step lead.0.steps) t0-is ∙ lead.0.comes t0 refl refl
+
+    none-waits : i0.waiting ≡ []
+    none-waits = ap (λ u. u.waiting) (sym first-is)
+
+    first-related : Related G i0 (after c_step lead.0.steps t0)
+    first-related = subst (λ u. Related G i0 u) (sym comes) (record {
+      graph = graph;
+      inside = inside;
+      called = subst (AreCalled G.p graph) (sym none-waits) tt;
+      stage = at_begin (record {
+        b = 0;
+        known = graph_well.begins;
+        graph_is = ap (λ u. u.running.graph) (sym first-is);
+        block_is = ap (λ u. u.running.block) (sym first-is);
+        rest_is = ap (λ u. u.running.rest) (sym first-is);
+        begins = ap (λ u. u.running.begins) (sym first-is);
+        running = ap (λ u. is_over u.end) (sym first-is);
+        good = first-good G.p G.well G.fill input bytes;
+        unstuck = unstuck;
+        stand = stands-for G graph inside lead.0.to lead.0.context (entry graph first_plan outside) (G.each graph inside).is_plan.starts lead.0.stands lead.0.is lead.0.low_there;
+        settled = lead.0.settled;
+        function = refl;
+        holds = record {
+          frame = holds.frame;
+          waiting = subst (λ waiting. AllZip (IsWaiting (setting_of G.texts)) waiting []) (sym none-waits) tt;
+          memory = holds.memory;
+          input = holds.input;
+          events = holds.events;
+          end = holds.end;
+        };
+      });
     })
 
-    abbrev measured : (i : run.State) (t : c.State) → Related i t → ℕ
-    measured i t m = moves m.stand.leads
+    free : owed i0 (after c_step lead.0.steps t0) ≡ 0
+    free =
+        let nothing = owed-begun i0 (after c_step lead.0.steps t0) (ap (λ u. u.running.begins) (sym first-is)) in
+        let none_owed : debts_of (after c_step lead.0.steps t0) ≡ 0 = ap debts_of comes in
+        nothing ∙ none_owed
 
-    is-counted : (within : ℕ) → most ≤ within → IsCountedBy kept p text f fill input within
-    is-counted within wide = record {
-      counts =
-          leaps_count kept (run.watched_inner p fill) (text_system text) (inner_watchable p fill) Related measured most (each-leaps kept are_kept) i0 t0 lead.steps first-related within (omega (arith, wide, lead.few)) wide;
-      shows = leaps_show kept (run.watched_inner p fill) (text_system text) (inner_watchable p fill) Related measured most (each-leaps kept are_kept) i0 t0 lead.steps first-related;
-      goes_on = leaps_go_on kept (run.watched_inner p fill) (text_system text) (inner_watchable p fill) Related measured most (each-leaps kept are_kept) i0 t0 lead.steps first-related;
-    }
+    is-counted : (within : ℕ) → G.most ≤ within → IsCountedBy kept G.p G.tree f G.fill input within
+    is-counted within wide =
+        let fits = G.fits graph inside in
+        let few = lead.0.few in
+        let w = run.watched_inner G.p G.fill in
+        let other = text_system G.tree in
+        let law = inner_watchable G.p G.fill in
+        record {
+          counts = leaps_count kept w other law (Related G) (measure G) owed G.most (each-leaps kept are_kept) i0 t0 lead.0.steps first-related free within (omega (arith, wide, fits, few)) wide;
+          shows = leaps_show kept w other law (Related G) (measure G) owed G.most (each-leaps kept are_kept) i0 t0 lead.0.steps first-related free;
+          goes_on = leaps_go_on kept w other law (Related G) (measure G) owed G.most (each-leaps kept are_kept) i0 t0 lead.0.steps first-related free;
+        }
+
+-- A program of one graph.
+
+module _ (p : inner.Program) (graph : inner.Graph) (s : Spelling) (family : Family) (whole : Plan) (f : Function) (is : IsTextOf p graph s family whole f) (tree : Tree) (fill : ℕ) where
+  abbrev alone_texts : Texts
+  alone_texts = record { spelling = λ g. s; function = λ g. f; matters = λ g. family; plan = λ g. whole; openings = λ g. 0; lines = λ g. f.body }
+
+  -- each graph is this one
+  only : (g : inner.Graph) → Contains p.graphs g → graph ≡ g
+  only g c = by (subst (λ graphs. Contains graphs g) is.alone c)
+    where
+      by : Contains (graph ∷ []) g → graph ≡ g
+      by (zero, less, same) = same
+      by (suc k, less, same) = absurd (omega (arith, less))
+
+  none-later : (g : inner.Graph) → Contains (drop 1 p.graphs) g → ⊥
+  none-later g c = by (subst (λ graphs. Contains (drop 1 graphs) g) is.alone c)
+    where
+      by : Contains [] g → ⊥
+      by (k, less, same) = absurd (omega (arith, less))
+
+  no-callee : (entry_at : ℕ) (callee : inner.Graph) → run.graph_at (drop 1 p.graphs) entry_at ≡ Some callee → ⊥
+  no-callee entry_at callee named = some-none (sym named ∙ ap (λ graphs. run.graph_at (drop 1 graphs) entry_at) is.alone)
+
+  alone-premises : Premises
+  alone-premises = record {
+    p = p;
+    well = is.well;
+    texts = alone_texts;
+    each = λ g c. subst (IsGraphText alone_texts) (only g c) (record { spelling = is.spelling; matters = is.matters; is_plan = is.is_plan; text = is.text; opens = at_once });
+    tree = tree;
+    fill = fill;
+    most = lines_count f.body;
+    fits = λ g c. omega arith;
+    spare = λ g callee c later. absurd (none-later callee later);
+    calls = λ g callee block results entry_at arguments own rest at i t c calling named step same block_is running fit function continues holds. absurd (no-callee entry_at callee named);
+    returns = λ g b values w waiting v others at i t c later known exit within same block_is running fit callers waits other_waits function holds. absurd (none-later g later);
+  }
 
 pub texts-count : (family : Family) (AreAlike : Alike) → TextsCount family AreAlike
+unfolding alone-premises
 texts-count family AreAlike p graph s whole text f fill input kept is are_kept bytes unstuck holds within wide =
-    is-counted p graph s family whole f is text AreAlike fill kept are_kept input bytes unstuck holds within (omega (arith, wide, count-is f.body))
+    let alone = alone-premises p graph s family whole f is text fill in
+    is-counted alone kept (λ g c. subst (λ x. AreKept x whole kept) (only p graph s family whole f is text fill g c) are_kept) graph [] is.alone refl input bytes unstuck AreAlike holds
+    within (omega (arith, wide, count-is f.body))
 
 pub plans-count : (family : Family) (AreAlike : Alike) → PlansCount family AreAlike
 plans-count family AreAlike p graph s whole text f fill input is =
     texts-count family AreAlike p graph s whole text f fill input (λ place. true)
     (record { alone = is.alone; well = is.well; spelling = is.spelling; matters = is.matters; is_plan = is.is_plan; text = is.text })
     (λ b less. sym (or_left (is_begun whole b) (not (only_goes (block_in graph b).stmts (block_in graph b).exit)) (is.begins b less)))
+
+-- Whole programs.
+
+module _ (texts : Texts) where
+  abbrev size_of : List inner.Graph → ℕ
+  size_of graphs = text_size (map texts.function graphs)
+
+  -- the body is some assignments and then the text of the plan
+  abbrev Sized : inner.Graph → Type 0
+  Sized g = length (stmts_in (texts.function g).body) ≡ texts.openings g + limit_of texts g
+
+  one-within : (graphs : List inner.Graph) → ((g : inner.Graph) → Contains graphs g → Sized g) → (a : inner.Graph) → Contains graphs a → limit_of texts a + texts.openings a + 1 ≤ size_of graphs
+  one-within [] sized a (k, less, same) = absurd (omega (arith, less))
+  one-within (g ∷ graphs) sized a (zero, less, same) =
+      let whole = sized g (Contains-here g graphs) in
+      subst (λ x. limit_of texts x + texts.openings x + 1 ≤ size_of (g ∷ graphs)) same (omega (arith, whole))
+  one-within (g ∷ graphs) sized a (suc k, less, same) =
+      let later = one-within graphs (λ x c. sized x (Contains-later g graphs x c)) a (k, omega (arith, less), same) in
+      omega (arith, later)
+
+  both-within : (graphs : List inner.Graph) → ((g : inner.Graph) → Contains graphs g → Sized g) → (a b : inner.Graph) → Contains graphs a → Contains graphs b → limit_of texts a + texts.openings b + 1 ≤ size_of graphs
+  both-within [] sized a b (k, less, same) other = absurd (omega (arith, less))
+  both-within (g ∷ graphs) sized a b (zero, less, same) (zero, less', same') =
+      let whole = sized g (Contains-here g graphs) in
+      subst (λ x. limit_of texts x + texts.openings b + 1 ≤ size_of (g ∷ graphs)) same (subst (λ y. limit_of texts g + texts.openings y + 1 ≤ size_of (g ∷ graphs)) same' (omega (arith, whole)))
+  both-within (g ∷ graphs) sized a b (zero, less, same) (suc k, less', same') =
+      let whole = sized g (Contains-here g graphs) in
+      let later = one-within graphs (λ x c. sized x (Contains-later g graphs x c)) b (k, omega (arith, less'), same') in
+      subst (λ x. limit_of texts x + texts.openings b + 1 ≤ size_of (g ∷ graphs)) same (omega (arith, whole, later))
+  both-within (g ∷ graphs) sized a b (suc k, less, same) (zero, less', same') =
+      let whole = sized g (Contains-here g graphs) in
+      let later = one-within graphs (λ x c. sized x (Contains-later g graphs x c)) a (k, omega (arith, less), same) in
+      subst (λ y. limit_of texts a + texts.openings y + 1 ≤ size_of (g ∷ graphs)) same' (omega (arith, whole, later))
+  both-within (g ∷ graphs) sized a b (suc k, less, same) (suc k', less', same') =
+      let later = both-within graphs (λ x c. sized x (Contains-later g graphs x c)) a b (k, omega (arith, less), same) (k', omega (arith, less'), same') in
+      omega (arith, later)
+
+later-contained : (graphs : List inner.Graph) (g : inner.Graph) → Contains (drop 1 graphs) g → Contains graphs g
+later-contained [] g c = c
+later-contained (x ∷ graphs) g c = Contains-later x graphs g c
+
+module _ (p : inner.Program) (texts : Texts) (tree : Tree) (fill : ℕ) (is : IsProgramText p texts tree) (calls : CallsBegin p texts (setting_of texts) tree fill) (returns : ReturnsEnd p texts (setting_of texts) tree) where
+  sized : (g : inner.Graph) → Contains p.graphs g → length (stmts_in (texts.function g).body) ≡ texts.openings g + limit_of texts g
+  sized g c = sym (count-is (texts.function g).body) ∙ opens-count (texts.openings g) (texts.function g).body (texts.lines g) (is.graphs g c).opens
+
+  program-premises : Premises
+  program-premises = record {
+    p = p;
+    well = is.well;
+    texts = texts;
+    each = is.graphs;
+    tree = tree;
+    fill = fill;
+    most = text_size (map texts.function p.graphs);
+    fits = λ g c. let one = one-within texts p.graphs sized g c in omega (arith, one);
+    spare = λ g callee c later. both-within texts p.graphs sized g callee c (later-contained p.graphs callee later);
+    calls = calls;
+    returns = returns;
+  }
+
+-- the text of a program counts its visits, where its calls and returns do what those of the program do
+pub programs-count : (p : inner.Program) (texts : Texts) (tree : Tree) (AreAlike : Alike) → ((fill : ℕ) → CallsBegin p texts (setting_of texts) tree fill)
+    → ReturnsEnd p texts (setting_of texts) tree → ProgramsCount p texts tree AreAlike
+unfolding program-premises
+programs-count p texts tree AreAlike calls returns graph others fill input kept is first are_kept none bytes unstuck holds within wide =
+    is-counted (program-premises p texts tree fill is (calls fill) returns) kept are_kept graph others first none input bytes unstuck AreAlike holds
+    within (subst (λ functions. text_size functions ≤ within) is.functions wide)

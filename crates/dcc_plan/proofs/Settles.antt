@@ -6,19 +6,25 @@ use Rattle.dcc_run.specs.System.{after}
 use Rattle.dcc_ir.specs.Tree as inner
 use Rattle.dcc_ir.specs.Live.{block_in}
 use Rattle.dcc_ir.specs.WellFormed.{IsGraph}
-use Rattle.dcc_c.specs.Tree.{Stmt, Lines, Function, Tree}
-use Rattle.dcc_c.specs.Run.{Continuation, ends_function, runs, State, goes_on, jump_step, after_goto, after_break, after_continue, stmt_step, step_at, step}
+use Rattle.dcc_c.specs.Tree.{Word, Stmt, Goto, Lines, line, Function, Tree}
+use Rattle.dcc_c.specs.Run.{Continuation, ends_function, runs, State, goes_on, jump_step, from_label, after_goto, after_break, after_continue, stmt_step, step_at, step}
 use Rattle.dcc_text.specs.Spelling.{Spelling}
 use Rattle.dcc_plan.specs.Labels.{label_at}
 use Rattle.dcc_plan.specs.Plan as plan
-use Rattle.dcc_plan.specs.Plan.{Item, Plan, is_begun}
+use Rattle.dcc_plan.specs.Plan.{Item, Plan, no_items, item, is_begun}
 use Rattle.dcc_plan.specs.PlanText as planned
 use Rattle.dcc_plan.specs.PlanText.{IsPlanText, IsItemText}
-use Rattle.dcc_plan.specs.Valid.{Point, Begin, Nowhere, Context, outside, item_entry}
-use Rattle.dcc_plan.proofs.Rests.{Sound, SoundItem, lines_count, inside_count, left, is_jump_stmt, is_jumping, Stands, closes, Lands, AtItem, at_item, at_turn, at_end, head, break-lands, continue-lands, absent, lands, do-plain, return-plain, search-plan}
+use Rattle.dcc_plan.specs.Programs.{Opens, at_once, one_more}
+use Rattle.dcc_plan.specs.Valid.{Point, Begin, Nowhere, Context, outside, item_entry, entry}
+use Rattle.dcc_plan.proofs.Rests.{Sound, SoundItem, lines_count, inside_count, left, is_jump_stmt, is_jumping, Stands, closes, goes, Lands, AtItem, at_item, at_turn, at_end, head, break-lands, continue-lands, absent, lands, do-plain, return-plain, search-plan}
+
+-- assignments have no labels
+opened-label : (word : Word) (count : ℕ) (body lines : Lines) (rest : Continuation) → Opens count body lines → from_label word body rest ≡ from_label word lines rest
+opened-label word count body lines rest at_once = refl
+opened-label word (suc count) (line stmt at body) lines rest (one_more opens) = opened-label word count body lines rest opens
 
 module _ (s : Spelling) (graph : inner.Graph) (whole : Plan) (limit : ℕ) (text : Tree) (f : Function) (well : IsGraph graph)
-    (valid : Sound s graph whole whole outside) (body : IsPlanText s graph whole f.body) (low : lines_count f.body ≤ limit) where
+    (valid : Sound s graph whole whole outside) (count : ℕ) (lines : Lines) (opens : Opens count f.body lines) (body : IsPlanText s graph whole lines) (low : lines_count lines ≤ limit) where
   -- a step from a continuation on
   pub one-step : (k : Continuation) (t : State) → is_over t.end ≡ false → step text (goes_on k t) ≡ step_at text k (goes_on k t)
   one-step k t on = ap (λ over. if over then goes_on k t else step_at text k (goes_on k t)) on
@@ -47,7 +53,7 @@ module _ (s : Spelling) (graph : inner.Graph) (whole : Plan) (limit : ℕ) (text
       ∙ ap (λ x. jump_step x at (goes_on (runs lines rest) (goes_on k t))) found
 
   -- nothing is to be done
-  stays : (k : Continuation) (point : Point) (c : Context) → left k ≤ limit → Stands s graph whole limit k c → c.next ≡ point → (is_jumping k ≡ false) ⊎ (c.next ≡ Nowhere)
+  abbrev stays : (k : Continuation) (point : Point) (c : Context) → left k ≤ limit → Stands s graph whole limit k c → c.next ≡ point → (is_jumping k ≡ false) ⊎ (c.next ≡ Nowhere)
       → Settles k point
   stays k point c within stands same settled = record {
     steps = 0;
@@ -62,7 +68,7 @@ module _ (s : Spelling) (graph : inner.Graph) (whole : Plan) (limit : ℕ) (text
   }
 
   -- a jump lands there at once
-  lands-once : (k : Continuation) (point next : Point) (most : ℕ) (o : Option Continuation) → 1 ≤ left k → most ≤ limit → next ≡ point → (l : Lands s graph whole limit most true next o)
+  abbrev lands-once : (k : Continuation) (point next : Point) (most : ℕ) (o : Option Continuation) → 1 ≤ left k → most ≤ limit → next ≡ point → (l : Lands s graph whole limit most true next o)
       → ((t : State) → is_over t.end ≡ false → t.frame.function ≡ f → after (step text) 1 (goes_on k t) ≡ goes_on l.to t) → Settles k point
   lands-once k point next most o some within same l comes = record {
     steps = 1;
@@ -75,6 +81,45 @@ module _ (s : Spelling) (graph : inner.Graph) (whole : Plan) (limit : ℕ) (text
     low_there = omega (arith, l.few, within);
     comes = comes;
   }
+
+  -- a `goto` does
+  jump-lands : (k : Continuation) (point : Point) (a at : ℕ) (later : Lines) (rest : Continuation) → 1 ≤ left k → SoundItem s graph whole (plan.Jump a) no_items outside → Begin a ≡ point
+      → ((t : Tree) (u : State) → step_at t k u ≡ stmt_step t (Goto (label_at graph.blocks a)) at (goes_on (runs later rest) u)) → (x : Settles k point) × (x.steps ≤ 1)
+  jump-lands k point a at later rest some good same steps = elim (search-plan s graph whole limit well a good.0.0 whole lines (ends_function f.last) outside body valid closes (omega (arith, low))) [
+    | absent none gone ↦ absurd (true≢false (sym good.0.1 ∙ none))
+    | lands l ↦
+        let found = opened-label (label_at graph.blocks a) count f.body lines (ends_function f.last) opens ∙ l.found in (
+          lands-once k point (Begin a) _ _ some (omega (arith, low)) same
+              (record { to = l.to; context = l.context; found = found; stands = l.stands; is = l.is; quiet = l.quiet; few = l.few })
+              (jump-comes k l.to (Goto (label_at graph.blocks a)) at later rest (after_goto f (label_at graph.blocks a)) steps
+              (λ u function. ap (λ g. jump_step (after_goto g (label_at graph.blocks a)) at (goes_on (runs later rest) u)) function) found),
+          omega arith,
+        )
+  ]
+
+  -- From the begin of a text one jump at most leads there.
+  pub settle-start : (p : Plan) (begin : Lines) (at : ℕ) → lines_count begin ≤ limit → IsPlanText s graph p begin → Sound s graph whole p outside
+      → (x : Settles (runs begin (ends_function at)) (entry graph p outside)) × (x.steps ≤ 1)
+  settle-start no_items begin at few planned.nothing good = (stays _ _ _ (omega (arith, few)) (goes planned.nothing good closes) refl (inr refl), omega arith)
+  settle-start (item i p) begin at few (planned.one_more {stmt = stmt} {at = line_at} {lines = others} text later) good = by i stmt text (good.0.0, good.1.0)
+      (goes (planned.one_more text later) good closes) few
+    where
+      -- where the first statement is no jump, or leads nowhere
+      quiet : (i : Item) (stmt : Stmt) → (is_jump_stmt stmt ≡ false) ⊎ (item_entry graph i outside ≡ Nowhere) → Stands s graph whole limit (runs (line stmt line_at others) (ends_function at)) (record outside { next = item_entry graph i outside })
+          → lines_count (line stmt line_at others) ≤ limit → (x : Settles (runs (line stmt line_at others) (ends_function at)) (item_entry graph i outside)) × (x.steps ≤ 1)
+      quiet i stmt settled stands few = (stays _ _ _ (omega (arith, few)) stands refl settled, omega arith)
+
+      by : (i : Item) (stmt : Stmt) → IsItemText s graph i stmt → SoundItem s graph whole i p outside → Stands s graph whole limit (runs (line stmt line_at others) (ends_function at)) (record outside { next = item_entry graph i outside })
+          → lines_count (line stmt line_at others) ≤ limit → (x : Settles (runs (line stmt line_at others) (ends_function at)) (item_entry graph i outside)) × (x.steps ≤ 1)
+      by (plan.Do a m) stmt planned.does good stands few = quiet (plan.Do a m) stmt (inl (do-plain s graph whole a m).no_jump) stands few
+      by (plan.Mark a) stmt planned.marks good stands few = quiet (plan.Mark a) stmt (inl refl) stands few
+      by (plan.Jump a) stmt planned.jumps good stands few = jump-lands (runs (line (Goto (label_at graph.blocks a)) line_at others) (ends_function at)) (Begin a) a line_at others (ends_function at) (omega arith) good refl (λ t u. refl)
+      by (plan.If a one other) stmt (planned.tests text' text'') good stands few = quiet (plan.If a one other) stmt (inl refl) stands few
+      by (plan.Switch a arms) stmt (planned.chooses text') good stands few = quiet (plan.Switch a arms) stmt (inl refl) stands few
+      by (plan.Return a) stmt planned.returns good stands few = quiet (plan.Return a) stmt (inl (return-plain s graph whole (block_in graph a).exit).no_jump) stands few
+      by (plan.For a body) stmt (planned.repeats text') good stands few = quiet (plan.For a body) stmt (inl refl) stands few
+      by plan.Break stmt planned.breaks good stands few = quiet plan.Break stmt (inr refl) stands few
+      by plan.Continue stmt planned.continues good stands few = quiet plan.Continue stmt (inr refl) stands few
 
   -- the same from each continuation with fewer statements left
   abbrev Later : ℕ → Point → Type 0
@@ -93,12 +138,7 @@ module _ (s : Spelling) (graph : inner.Graph) (whole : Plan) (limit : ℕ) (text
           → left k ≡ suc (inside_count stmt + lines_count x.lines + left x.rest) → is_jumping k ≡ is_jump_stmt stmt → Settles k point
       by again x (plan.Do a m) stmt planned.does is good steps count jumps = stays k point c within stands same (inl (jumps ∙ (do-plain s graph whole a m).no_jump))
       by again x (plan.Mark a) stmt planned.marks is good steps count jumps = stays k point c within stands same (inl jumps)
-      by again x (plan.Jump a) stmt planned.jumps is good steps count jumps = elim (search-plan s graph whole limit well a good.0.0 whole f.body (ends_function f.last) outside body valid closes (omega (arith, low))) [
-        | absent none gone ↦ absurd (true≢false (sym good.0.1 ∙ none))
-        | lands l ↦ lands-once k point (Begin a) _ _ (omega (arith, count)) (omega (arith, low)) (sym is ∙ same) l
-            (jump-comes k l.to stmt x.at x.lines x.rest (after_goto f (label_at graph.blocks a)) steps
-            (λ u function. ap (λ g. jump_step (after_goto g (label_at graph.blocks a)) x.at (goes_on (runs x.lines x.rest) u)) function) l.found)
-      ]
+      by again x (plan.Jump a) stmt planned.jumps is good steps count jumps = (jump-lands k point a x.at x.lines x.rest (omega (arith, count)) good (sym is ∙ same) steps).0
       by again x (plan.If a one other) stmt (planned.tests text' text'') is good steps count jumps = stays k point c within stands same (inl jumps)
       by again x (plan.Switch a arms) stmt (planned.chooses text') is good steps count jumps = stays k point c within stands same (inl jumps)
       by again x (plan.Return a) stmt planned.returns is good steps count jumps = stays k point c within stands same (inl (jumps ∙ (return-plain s graph whole (block_in graph a).exit).no_jump))

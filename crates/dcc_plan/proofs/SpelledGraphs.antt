@@ -1,5 +1,5 @@
--- A graph that has what its text needs is spelled.
-use Rattle.std.proofs.Common.{◌≡◌, ℕ, ◌<◌, ◌≤◌, false, List, [], ◌∷◌, length}
+-- A graph that has what its text needs, and no calls, is spelled.
+use Rattle.std.proofs.Common.{◌≡◌, ℕ, ◌<◌, ◌≤◌, inl, inr, false, List, [], ◌∷◌, length}
 use Rattle.std.specs.Prelude.{All}
 use Rattle.std.specs.List.{flat_map}
 use Rattle.std.proofs.lemmas.List.Elements.{All-nil, All-cons, All-head, All-tail, All-append, All-weaker, All-from_get_or}
@@ -29,27 +29,25 @@ module _ (s : Spelling) where
 
   -- The statements of a block.
   module _ (Has : List inner.Stmt → Locations) where
-    steps-no-call : (stmts : List inner.Stmt) → AreSteps s Has stmts → All (λ stmt. is_call stmt ≡ false) stmts
-    steps-no-call [] are = All-nil (λ stmt. is_call stmt ≡ false)
-    steps-no-call (stmt ∷ rest) are = All-cons (λ x. is_call x ≡ false) stmt rest are.0.no_call (steps-no-call rest are.1)
-
     steps-written : (stmts : List inner.Stmt) → AreSteps s Has stmts → All (λ stmt. All (IsNamed s) (writes_of stmt)) stmts
     steps-written [] are = All-nil (λ stmt. All (IsNamed s) (writes_of stmt))
-    steps-written (stmt ∷ rest) are = All-cons (λ x. All (IsNamed s) (writes_of x)) stmt rest are.0.written (steps-written rest are.1)
+    steps-written (stmt ∷ rest) are = All-cons (λ x. All (IsNamed s) (writes_of x)) stmt rest (elim are.0 [ inl step ↦ step.written | inr call ↦ call.written ]) (steps-written rest are.1)
 
     steps-read : (stmts : List inner.Stmt) → AreSteps s Has stmts → All (λ stmt. All (AreNamed s) (exprs_of stmt)) stmts
     steps-read [] are = All-nil (λ stmt. All (AreNamed s) (exprs_of stmt))
     steps-read (stmt ∷ rest) are =
-        All-cons (λ x. All (AreNamed s) (exprs_of x)) stmt rest (within-named (Has (stmt ∷ rest)) are.0.named (exprs_of stmt) are.0.within) (steps-read rest are.1)
+        All-cons (λ x. All (AreNamed s) (exprs_of x)) stmt rest (elim are.0 [
+          | inl step ↦ within-named (Has (stmt ∷ rest)) step.named (exprs_of stmt) step.within
+          | inr call ↦ within-named (Has (stmt ∷ rest)) call.named (exprs_of stmt) call.within
+        ]) (steps-read rest are.1)
 
   -- where what matters at the end of each block has variables
-  pub spelled-graph : (graph : inner.Graph) (family : Family) (levels : ℕ) → s.bits ≡ graph.bits → Matters s graph family
+  pub spelled-graph : (graph : inner.Graph) (family : Family) (levels : ℕ) → s.bits ≡ graph.bits → All (λ b. All (λ stmt. is_call stmt ≡ false) b.stmts) graph.blocks → Matters s graph family
       → ((b : ℕ) (location : Loc) → b < length graph.blocks → family (block_in graph b) [] location → IsNamed s location)
       → All (λ e. depth_of e ≤ levels) (graph_exprs graph) → IsSpelled s levels graph
-  spelled-graph graph family levels bits matters named low = record {
+  spelled-graph graph family levels bits no_calls matters named low = record {
     bits = bits;
-    no_calls = All-from_get_or (λ (b : inner.Block). All (λ stmt. is_call stmt ≡ false) b.stmts) graph.blocks no_block
-        (λ b inside. steps-no-call (family (block_in graph b)) (block_in graph b).stmts (matters.steps b inside));
+    no_calls = no_calls;
     reads = all-joined (AreNamed s) block_exprs graph.blocks (All-from_get_or (λ b. All (AreNamed s) (block_exprs b)) graph.blocks no_block
         (λ b inside. All-append (AreNamed s) (flat_map exprs_of (block_in graph b).stmts) (exit_exprs (block_in graph b).exit)
         (all-joined (AreNamed s) exprs_of (block_in graph b).stmts (steps-read (family (block_in graph b)) (block_in graph b).stmts (matters.steps b inside)))

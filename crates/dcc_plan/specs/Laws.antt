@@ -13,8 +13,8 @@ use Rattle.dcc_ir.specs.Flow.{targets}
 use Rattle.dcc_ir.specs.Live.{block_in}
 use Rattle.dcc_ir.specs.Run as inner_run
 use Rattle.dcc_ir.specs.Tree as inner
-use Rattle.dcc_ir.specs.Use.{exit_exprs}
-use Rattle.dcc_ir.specs.WellFormed.{IsGraph, IsProgram}
+use Rattle.dcc_ir.specs.Use.{exprs_of, writes_of, exit_exprs}
+use Rattle.dcc_ir.specs.WellFormed.{is_stmt, IsGraph, IsProgram}
 use Rattle.dcc_c.specs.Numbered.{numbered_lines}
 use Rattle.dcc_c.specs.Parts.{stmts_in}
 use Rattle.dcc_c.specs.Run as text_run
@@ -40,10 +40,22 @@ GotoPlanIsValid = (graph : inner.Graph) → IsGraph graph
 
 -- What matters.
 
+-- What the text of a call needs: the call is well formed, its arguments are among what matters before it, the places of
+-- its results have variables, and what matters after it is a result or mattered before it.
+pub record IsCallStep (s : Spelling) (Before After : Locations) (stmt : inner.Stmt) : Type 0 where
+  pub formed : is_stmt s.bits stmt ≡ true
+  pub call : inner_run.is_call stmt ≡ true
+  pub within : All (IsWithin s Before) (exprs_of stmt)
+  pub written : All (λ location. s.named location ≡ true) (writes_of stmt)
+  pub named : (location : Loc) → Before location → s.named location ≡ true
+  pub left : (location : Loc) → After location → Contains (writes_of stmt) location ⊎ Before location
+
 -- each of these last statements of a block has what its text needs, by what matters before and after it
 abbrev pub AreSteps : Spelling → (List inner.Stmt → Locations) → List inner.Stmt → Type 0
 AreSteps s Has [] = Unit {0}
-AreSteps s Has (stmt ∷ rest) = IsStep s (Has (stmt ∷ rest)) (Has rest) stmt × AreSteps s Has rest
+AreSteps s Has (stmt ∷ rest) =
+    (IsStep s (Has (stmt ∷ rest)) (Has rest) stmt ⊎ IsCallStep s (Has (stmt ∷ rest)) (Has rest) stmt)
+    × AreSteps s Has rest
 
 -- What matters serves the text of the graph: it is what statements and ends of blocks need, and what matters where a
 -- block begins matters at the end of each block that leads there.

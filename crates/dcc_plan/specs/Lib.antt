@@ -6,5 +6,6 @@ pub mod GotoPlan
 pub mod Complete
 pub mod Allowed
 pub mod Laws
+pub mod Programs
 pub mod Views
 pub mod Cases

@@ -195,9 +195,9 @@ fn blocks_plan(alloc: Global, blocks: &[Block]) -> Result<Vec<Item>, AllocError>
     Ok(items)
 }
 
-/// The plan of a text with jumps: each block after its label, its statements, and its end by jumps or a return. A graph with more
-/// blocks, a block with more statements than 32 bits can number and a choice with more than 65,536 places are told as
-/// want of memory.
+/// The plan of a text with jumps: each block after its label, its statements, and its end by jumps or a return. A graph
+/// with more blocks, a block with more statements than 32 bits can number and a choice with more than 65,536 places are
+/// told as want of memory.
 pub fn goto_plan(alloc: Global, graph: &Graph) -> Result<Vec<Item>, AllocError>
     ensures { IfOk result (λ items. plan_of items.items ≡ spec.goto_plan (graph_of graph.now)) }
 {

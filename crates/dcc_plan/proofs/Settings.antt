@@ -1,0 +1,122 @@
+-- What stands for calls that wait, and what calls and returns of the text do.
+use Rattle.std.proofs.Common.{◌≡◌, ℕ, ◌+◌, ◌<◌, ◌≤◌, Bool, true, false, List, [], ◌∷◌, length, map, Some}
+use Rattle.std.specs.Prelude.{All, Contains, drop}
+use Rattle.std.specs.List.{list_any}
+use Rattle.dcc_run.specs.End.{is_over}
+use Rattle.dcc_run.specs.System.{after}
+use Rattle.dcc_ir.specs.declared.syntax.Loc.{Loc}
+use Rattle.dcc_ir.specs.Live.{block_in}
+use Rattle.dcc_ir.specs.Run as run
+use Rattle.dcc_ir.specs.Tree as inner
+use Rattle.dcc_ir.specs.WellFormed.{is_jump, IsCalling, IsProgram}
+use Rattle.dcc_ir.proofs.FitStates.{IsFit}
+use Rattle.dcc_ir.proofs.ReachedLaws.{AreCallers}
+use Rattle.dcc_c.specs.Run as c
+use Rattle.dcc_c.specs.Run.{Continuation, ends_function, runs}
+use Rattle.dcc_c.specs.Tree.{Tree}
+use Rattle.dcc_text.specs.Holding.{IsWithin, Holds, Setting, AreWaiting}
+use Rattle.dcc_text.specs.Stmts.{stmt_text}
+use Rattle.dcc_plan.specs.Laws.{IsCallStep}
+use Rattle.dcc_plan.specs.Plan.{is_begun}
+use Rattle.dcc_plan.specs.PlanText.{text_of_return}
+use Rattle.dcc_plan.specs.Programs.{Texts, IsGraphText}
+use Rattle.dcc_plan.specs.Valid.{Point, Before, Leads, Context}
+use Rattle.dcc_plan.proofs.Rests.{lines_count, left, Stands}
+
+-- How many statements are left of these.
+abbrev pub debts : List Continuation → ℕ
+debts [] = 0
+debts (k ∷ ks) = left k + debts ks
+
+abbrev pub rests_of : List c.Waiting → List Continuation
+rests_of waiting = map (λ w. w.rest) waiting
+
+module _ (texts : Texts) where
+  -- how many statements the text of a graph's plan has
+  abbrev pub limit_of : inner.Graph → ℕ
+  limit_of graph = lines_count (texts.lines graph)
+
+  abbrev pub begun_of : inner.Graph → ℕ → Bool
+  begun_of graph b = is_begun (texts.plan graph) b
+
+  -- What is left of the text stands for a point to which the graph leads from this one without a statement.
+  pub record StandsFor (graph : inner.Graph) (k : Continuation) (from : Point) : Type 0 where
+    pub context : Context
+    pub stands : Stands (texts.spelling graph) graph (texts.plan graph) (limit_of graph) k context
+    pub point : Point
+    pub same : context.next ≡ point
+    pub leads : Leads graph (begun_of graph) from point
+    pub low : left k ≤ limit_of graph
+
+  -- After a call what is left stands for these last statements of the block, which has no further call and ends in a jump.
+  pub record Continuing (k : Continuation) (graph : inner.Graph) (block : inner.Block) (rest : List inner.Stmt) : Type 0 where
+    pub b : ℕ
+    pub m : ℕ
+    pub known : b < length graph.blocks
+    pub block_is : block ≡ block_in graph b
+    pub at : drop m (block_in graph b).stmts ≡ rest
+    pub within : m ≤ length (block_in graph b).stmts
+    pub no_calls : list_any run.is_call rest ≡ false
+    pub jumps : is_jump (block_in graph b).exit ≡ true
+    pub stand : StandsFor graph k (Before b m)
+
+  abbrev pub setting_of : Setting
+  setting_of = record { spelling = texts.spelling; function = texts.function; matters = texts.matters; Continues = Continuing }
+
+-- Calls.
+
+-- After a call's step and the opening assignments the text runs the text of the callee's plan; it holds what matters where
+-- the callee's first block begins, and the caller waits with what is left of it.
+pub record HasBegun (texts : Texts) (setting : Setting) (tree : Tree) (callee : inner.Graph) (i : run.State) (k : Continuation) (waits : List c.Waiting) (t : c.State) : Type 0 where
+  pub steps : ℕ
+  pub few : steps ≤ texts.openings callee
+  pub rest : (after (c.step tree) steps t).rest ≡ runs (texts.lines callee) (ends_function (texts.function callee).last)
+  pub function : (after (c.step tree) steps t).frame.function ≡ texts.function callee
+  pub waiting : rests_of (after (c.step tree) steps t).waiting ≡ k ∷ rests_of waits
+  pub holds : Holds (setting.spelling callee) (setting.matters callee (block_in callee 0) (block_in callee 0).stmts) (AreWaiting setting) i (after (c.step tree) steps t)
+
+abbrev pub CallsBegin : inner.Program → Texts → Setting → Tree → ℕ → Type 0
+CallsBegin p texts setting tree fill = (graph callee : inner.Graph) (block : inner.Block) (results : List Loc) (entry : ℕ) (arguments : List inner.Expr) (own : ℕ) (rest : List inner.Stmt) (at : ℕ)
+    (i : run.State) (t : c.State) → Contains p.graphs graph → IsCalling p graph (inner.Call results entry arguments own)
+    → run.graph_at (drop 1 p.graphs) entry ≡ Some callee
+    → IsCallStep (setting.spelling graph) (setting.matters graph block (inner.Call results entry arguments own ∷ rest)) (setting.matters graph block rest) (inner.Call results entry arguments own)
+    → i.running.graph ≡ graph → i.running.block ≡ block → is_over i.end ≡ false → IsFit i → t.frame.function ≡ setting.function graph → setting.Continues t.rest graph block rest
+    → Holds (setting.spelling graph) (setting.matters graph block (inner.Call results entry arguments own ∷ rest)) (AreWaiting setting) i t
+    → HasBegun texts setting tree callee
+    (run.calling fill results own (map (run.value_in i) arguments) (Some callee) (record i { running = record i.running { rest = rest; begins = false } }))
+    t.rest t.waiting (c.stmt_step tree (stmt_text (setting.spelling graph) 2 (inner.Call results entry arguments own)) at t)
+
+-- Returns.
+
+-- After a return the text goes on with what waited, and holds what matters there.
+pub record HasReturned (setting : Setting) (i : run.State) (w : run.Waiting) (v : c.Waiting) (others : List c.Waiting) (t : c.State) : Type 0 where
+  pub rest : t.rest ≡ v.rest
+  pub function : t.frame.function ≡ v.frame.function
+  pub waiting : t.waiting ≡ others
+  pub holds : Holds (setting.spelling w.caller.graph) (setting.matters w.caller.graph w.caller.block w.caller.rest) (AreWaiting setting) i t
+
+abbrev pub ReturnsEnd : inner.Program → Texts → Setting → Tree → Type 0
+ReturnsEnd p texts setting tree = (graph : inner.Graph) (b : ℕ) (values : List inner.Expr) (w : run.Waiting) (waiting : List run.Waiting) (v : c.Waiting) (others : List c.Waiting) (at : ℕ)
+    (i : run.State) (t : c.State) → Contains p.graphs graph → Contains (drop 1 p.graphs) graph → b < length graph.blocks → (block_in graph b).exit ≡ inner.Ret values
+    → All (IsWithin (setting.spelling graph) (setting.matters graph (block_in graph b) [])) values
+    → i.running.graph ≡ graph → i.running.block ≡ block_in graph b → is_over i.end ≡ false → IsFit i → AreCallers p graph (w ∷ waiting) → i.waiting ≡ w ∷ waiting → t.waiting ≡ v ∷ others
+    → t.frame.function ≡ setting.function graph
+    → Holds (setting.spelling graph) (setting.matters graph (block_in graph b) []) (AreWaiting setting) i t
+    → HasReturned setting (run.returning (map (run.value_in i) values) (w ∷ waiting) i) w v others (c.stmt_step tree (text_of_return (setting.spelling graph) (inner.Ret values)) at t)
+
+-- Programs.
+
+-- A program whose graphs have texts, with what its calls and returns do; a block costs at most so many steps, with its call
+-- and what the callee opens.
+pub record Premises : Type 1 where
+  pub p : inner.Program
+  pub well : IsProgram p
+  pub texts : Texts
+  pub each : (graph : inner.Graph) → Contains p.graphs graph → IsGraphText texts graph
+  pub tree : Tree
+  pub fill : ℕ
+  pub most : ℕ
+  pub fits : (graph : inner.Graph) → Contains p.graphs graph → limit_of texts graph ≤ most
+  pub spare : (graph callee : inner.Graph) → Contains p.graphs graph → Contains (drop 1 p.graphs) callee → limit_of texts graph + texts.openings callee + 1 ≤ most
+  pub calls : CallsBegin p texts (setting_of texts) tree fill
+  pub returns : ReturnsEnd p texts (setting_of texts) tree
