@@ -1,5 +1,5 @@
 -- The text of a program is writable.
-use Rattle.std.proofs.Common.{◌≡◌, ℕ, inl, ◌*◌, ◌+◌, ◌≤◌, true, false, List, [], ◌∷◌, length, None, Some, refl, sym, ap, ◌∙◌, subst, arith, Contains}
+use Rattle.std.proofs.Common.{◌≡◌, ℕ, inl, ◌*◌, ◌+◌, ◌≤◌, true, false, List, [], ◌∷◌, length, None, Some, refl, sym, ap, ◌∙◌, subst, true≢false, arith, Contains}
 use Rattle.std.specs.Prelude.{◌&&◌, All, take, drop, get_or}
 use Rattle.std.specs.List.{list_all}
 use Rattle.std.proofs.lemmas.Bool.{and_from}
@@ -14,9 +14,11 @@ use Rattle.dcc_c.specs.Grammar.{outermost}
 use Rattle.dcc_c.specs.Rules.{IsAllowedFunction, no_more as all_allowed, one_more as next_allowed}
 use Rattle.dcc_c.specs.Tree.{Function, Tree}
 use Rattle.dcc_c.proofs.Writable.{is_writable_local, is_writable_function, are_writable_lines, IsWritable}
+use Rattle.dcc_text.specs.Allowed.{IsAllowedStmt}
 use Rattle.dcc_text.specs.Spelling.{Spelling}
+use Rattle.dcc_text.specs.Stmts.{stmt_text}
 use Rattle.dcc_text.specs.Laws.{IsStep}
-use Rattle.dcc_plan.specs.Allowed.{may_return, ReturnsFit, AreAllowedLines}
+use Rattle.dcc_plan.specs.Allowed.{CallsFit, may_return, ReturnsFit, AreAllowedLines}
 use Rattle.dcc_plan.specs.GotoPlan.{goto_plan}
 use Rattle.dcc_plan.specs.Laws.{AreSteps, Matters}
 use Rattle.dcc_plan.specs.Plan.{Item, Do, Mark, Jump, If, Switch, Return, For, Break, Continue, Plan, no_items, item, Arms, no_arms, arm}
@@ -130,13 +132,20 @@ module _ (p : inner.Program) (is : IsTextable levels p) where
     abbrev tree : Tree
     tree = record { version = 1; lo = p.lo; hi = p.hi; globals = globals_of p; functions = start ∷ [] }
 
+    -- there is no call
+    call-free : CallsFit tree start (graph_spelling is.graph) 200 is.graph
+    call-free =
+        let Fits : inner.Stmt → Type 0 = λ stmt. is_call stmt ≡ true → IsAllowedStmt tree start 200 (stmt_text (graph_spelling is.graph) 2 stmt) in
+        All-weaker (λ (b : inner.Block). All (λ stmt. is_call stmt ≡ false) b.stmts) (λ b. All Fits b.stmts)
+        (λ b none. All-weaker (λ stmt. is_call stmt ≡ false) Fits (λ stmt no call. absurd (true≢false (sym call ∙ no))) b.stmts none) is.graph.blocks no-calls
+
     lines-allowed : AreAllowedLines tree start 200 start.body
     lines-allowed =
         texts-allowed tree start (graph_spelling is.graph) is.graph (control is.graph) start.body levels 200
         (names-declared is.graph few formed tree start refl refl) formed
-        (spelled-graph (graph_spelling is.graph) is.graph (mentioned is.graph) levels refl no-calls named-matters
+        (spelled-graph (graph_spelling is.graph) is.graph (mentioned is.graph) levels refl named-matters
         (λ b location less named. named) is.shallow)
-        returned (omega arith) control-plan.0 (goto-stands is.graph formed) (plain-text (graph_spelling is.graph) is.graph (control is.graph))
+        call-free returned (omega arith) control-plan.0 (goto-stands is.graph formed) (plain-text (graph_spelling is.graph) is.graph (control is.graph))
 
     start-allowed : IsAllowedFunction tree start
     start-allowed = record {

@@ -32,7 +32,7 @@ use Rattle.dcc_text.specs.Stmts.{stmt_text}
 use Rattle.dcc_text.proofs.AllowedStmts.{IsNamed, AreNamed, IsLow, stmt-allowed}
 use Rattle.dcc_text.proofs.Depths.{shallow}
 use Rattle.dcc_text.proofs.TypedTexts.{text-allowed}
-use Rattle.dcc_plan.specs.Allowed.{is_mark, has_an_arm, may_stand, item_may_stand, arms_may_stand, may_give, may_return, ReturnsFit, IsSpelled, PlanTextsAreAllowed}
+use Rattle.dcc_plan.specs.Allowed.{is_mark, has_an_arm, may_stand, item_may_stand, arms_may_stand, may_give, may_return, CallsFit, ReturnsFit, IsSpelled, PlanTextsAreAllowed}
 use Rattle.dcc_plan.specs.Plan as plan
 use Rattle.dcc_plan.specs.Plan.{Item, Plan, no_items, item, Arms, marks, item_marks, arm_marks, is_in, all_cases}
 use Rattle.dcc_plan.specs.PlanText as planned
@@ -98,7 +98,7 @@ stmt-no-label s (inner.Call results entry arguments depth) = refl
 stmt-no-label s (inner.Dos number place argument) = refl
 
 module _ (whole : Tree) (f : Function) (s : Spelling) (graph : inner.Graph) (levels limit : ℕ) (declared : AreDeclared (declared_in whole f) s) (well : IsGraph graph)
-    (spelled : IsSpelled s levels graph) (returned : ReturnsFit f graph) (enough : 6 * levels + 3 ≤ limit) (all : Plan) where
+    (spelled : IsSpelled s levels graph) (calls : CallsFit whole f s limit graph) (returned : ReturnsFit f graph) (enough : 6 * levels + 3 ≤ limit) (all : Plan) where
   abbrev known : List Word
   known = map (label graph well) (marks all)
 
@@ -159,16 +159,22 @@ module _ (whole : Tree) (f : Function) (s : Spelling) (graph : inner.Graph) (lev
         All-contains (λ x. All P (exprs_of x)) block.stmts stmt (all_parts P exprs_of block.stmts (left_part P (flat_map exprs_of block.stmts) (exit_exprs block.exit) (of-block P has)))
         (contained block.stmts m stmt there)
 
+    abbrev Fits : inner.Stmt → Type 0
+    Fits stmt = is_call stmt ≡ true → IsAllowedStmt whole f limit (stmt_text s 2 stmt)
+
     stmt-is : (m : ℕ) (stmt : inner.Stmt) → slice_get block.stmts m ≡ Some stmt → IsAllowedStmt whole f limit (stmt_text s 2 stmt)
     stmt-is m stmt there =
         let (stmts, exit) = and_parts (list_all (is_stmt s.bits) block.stmts) (is_exit s.bits (length graph.blocks) block.exit) block-formed in
         let inside_stmts = contained block.stmts m stmt there in
-        stmt-allowed whole f s declared levels limit 2 enough (omega arith) stmt
-        (ap (λ (x : inner.Stmt). is_stmt s.bits x) (sym (get_or_from_slice_get block.stmts m stmt stmt there)) ∙ all-at (is_stmt s.bits) block.stmts m stmt (slice_get_within block.stmts m stmt there) stmts)
-        (All-contains (λ x. is_call x ≡ false) block.stmts stmt (All-get_or (λ (x : inner.Block). All (λ y. is_call y ≡ false) x.stmts) graph.blocks b no_block inside spelled.no_calls) inside_stmts)
-        (of-stmt (AreNamed s) spelled.reads m stmt there)
-        (All-contains (λ x. All (IsNamed s) (writes_of x)) block.stmts stmt (All-get_or (λ (x : inner.Block). All (λ y. All (IsNamed s) (writes_of y)) x.stmts) graph.blocks b no_block inside spelled.writes) inside_stmts)
-        (of-stmt (IsLow levels) spelled.shallow m stmt there)
+        elim (cases_Bool (is_call stmt)) [
+          | inl call ↦ All-contains Fits block.stmts stmt (All-get_or (λ (x : inner.Block). All Fits x.stmts) graph.blocks b no_block inside calls) inside_stmts call
+          | inr none ↦ stmt-allowed whole f s declared levels limit 2 enough (omega arith) stmt
+              (ap (λ (x : inner.Stmt). is_stmt s.bits x) (sym (get_or_from_slice_get block.stmts m stmt stmt there)) ∙ all-at (is_stmt s.bits) block.stmts m stmt (slice_get_within block.stmts m stmt there) stmts)
+              none
+              (of-stmt (AreNamed s) spelled.reads m stmt there)
+              (All-contains (λ x. All (IsNamed s) (writes_of x)) block.stmts stmt (All-get_or (λ (x : inner.Block). All (λ y. All (IsNamed s) (writes_of y)) x.stmts) graph.blocks b no_block inside spelled.writes) inside_stmts)
+              (of-stmt (IsLow levels) spelled.shallow m stmt there)
+        ]
 
     do-fine : (around : Around) (m : ℕ) → m < length block.stmts → IsFineItem around (plan.Do b m) (text_of_stmt s graph b m)
     do-fine around m less =
@@ -349,8 +355,8 @@ all-given p give (x ∷ xs) is =
     list_all-append p (give x) (flat_map give xs) ∙ and_from (list_all p (give x)) (list_all p (flat_map give xs)) here (all-given p give xs later)
 
 pub texts-allowed : PlanTextsAreAllowed
-texts-allowed whole f s graph plan lines levels limit declared well spelled returned enough valid stands is =
-    let x = fine whole f s graph levels limit declared well spelled returned enough plan outermost false outside is valid.valid stands in
+texts-allowed whole f s graph plan lines levels limit declared well spelled calls returned enough valid stands is =
+    let x = fine whole f s graph levels limit declared well spelled calls returned enough plan outermost false outside is valid.valid stands in
     let names : List Word = map (label graph well) (marks plan) in
     let types = allows_stmt whole f in
     let jumps : Stmt → Bool = λ stmt. list_all (is_among names) (goto_of stmt) in

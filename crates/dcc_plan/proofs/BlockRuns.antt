@@ -13,7 +13,7 @@ use Rattle.dcc_ir.specs.Flow.{targets}
 use Rattle.dcc_ir.specs.Live.{block_in}
 use Rattle.dcc_ir.specs.Run as run
 use Rattle.dcc_ir.specs.Tree as inner
-use Rattle.dcc_ir.specs.Use.{exit_exprs}
+use Rattle.dcc_ir.specs.Use.{writes_of, exit_exprs}
 use Rattle.dcc_ir.specs.WellFormed.{is_stmt, is_exit, is_expr_of, is_block, is_jump, jumps_after_call, IsGraph, IsCall, IsCalling}
 use Rattle.dcc_ir.proofs.ExecuteLaws.{block-first}
 use Rattle.dcc_ir.proofs.FitStates.{IsFit, scene-fits, stmt-fit}
@@ -42,10 +42,10 @@ use Rattle.dcc_plan.proofs.LabelLaws.{block-at}
 use Rattle.dcc_plan.proofs.ListLaws.{drop-first, drop-next, drop-less, drop-all}
 use Rattle.dcc_plan.proofs.Rests.{AreBegun, ArmsBegun, Sound, SoundItem, whole-begun, lines_count, inside_count, arms_count, left, is_jumping, Stands, AtItem, AtTurn, Head, at_item, at_turn, at_end, head, Lands, break-lands, IsStart, is_nowhere, is_begin, continue-starts}
 use Rattle.dcc_plan.proofs.Rests as rests
-use Rattle.dcc_plan.proofs.Settings.{debts, rests_of, limit_of, StandsFor, Continuing, setting_of, HasBegun, Premises}
+use Rattle.dcc_plan.proofs.Settings.{AreNamed, debts, rests_of, limit_of, StandsFor, Continuing, setting_of, HasBegun, Premises}
 use Rattle.dcc_plan.proofs.CallStates.{called, returned}
 use Rattle.dcc_plan.proofs.Points.{block_of, place_of, is_before, start-apart, stays-before, moves, arm-text, arm-valid, arm-begun, arm-few}
-use Rattle.dcc_plan.proofs.Stages.{debts_of, owed, owed-begun, owed-within, AreCalled, CallsAlike, Matter, IsUnstuck, Meets, at_begin, after_call, Related, Outcome}
+use Rattle.dcc_plan.proofs.Stages.{debts_of, owed, owed-begun, owed-within, AreCalled, results-named, CallsAlike, Matter, IsUnstuck, Meets, at_begin, after_call, Related, Outcome}
 use Rattle.dcc_plan.proofs.Settles.{one-step, jump-comes, settle, settle-start}
 use Rattle.dcc_plan.proofs.StepsKept.{text-keeps}
 use Rattle.dcc_plan.proofs.TestLaws.{test-gives, choice-gives, decides}
@@ -115,7 +115,8 @@ module _ (G : Premises) (graph : inner.Graph) (inside : Contains G.p.graphs grap
     pub within : m ≤ length (block_in graph b).stmts
     pub graph_is : i.running.graph ≡ graph
     pub block_is : i.running.block ≡ block_in graph b
-    pub called : AreCalled p graph i.waiting
+    pub called : AreCalled G.texts p graph i.waiting
+    pub filled : t.fill ≡ fill
     pub running : is_over i.end ≡ false
     pub placed : IsWithinAt p stmts i
     pub jumps : jumps_after_call stmts (block_in graph b).exit ≡ true
@@ -201,6 +202,7 @@ module _ (G : Premises) (graph : inner.Graph) (inside : Contains G.p.graphs grap
             rest_is = refl;
             begins = refl;
             running = mid.running;
+            filled = mid.filled;
             good = subst (IsGood p) (sym entered) good;
             unstuck = subst (IsUnstuck G) (sym entered) unstuck;
             stand = stands-for k context point leads stands same low;
@@ -258,6 +260,7 @@ module _ (G : Premises) (graph : inner.Graph) (inside : Contains G.p.graphs grap
               graph_is = mid.graph_is;
               block_is = mid.block_is;
               called = mid.called;
+              filled = mid.filled;
               running = mid.running;
               placed = mid.placed;
               jumps = mid.jumps;
@@ -341,7 +344,8 @@ module _ (G : Premises) (graph : inner.Graph) (inside : Contains G.p.graphs grap
                 within = less;
                 graph_is = within.graph ∙ mid.graph_is;
                 block_is = within.block ∙ mid.block_is;
-                called = subst (AreCalled p graph) (sym within.waiting) mid.called;
+                called = subst (AreCalled G.texts p graph) (sym within.waiting) mid.called;
+                filled = kept.fill ∙ mid.filled;
                 running = on;
                 placed = within-next p G.well stmt rest i step.no_call mid.placed;
                 jumps = ap (λ call. if call then not (list_any run.is_call rest) && is_jump block.exit else jumps_after_call rest block.exit) (sym step.no_call) ∙ mid.jumps;
@@ -420,9 +424,9 @@ module _ (G : Premises) (graph : inner.Graph) (inside : Contains G.p.graphs grap
               }
 
           begins-callee : Leads graph begun (Before b (suc m)) (entry graph x.later x.context) → suc (lines_count x.lines + left x.rest) ≤ left t.rest
-              → HasBegun G.texts (setting_of G.texts) text callee begun_state (runs x.lines x.rest) t.waiting (stmt_step text (stmt_text s 2 the_call) x.at before)
+              → HasBegun G.texts (setting_of G.texts) text fill callee begun_state (runs x.lines x.rest) t.waiting (stmt_step text (stmt_text s 2 the_call) x.at before)
           begins-callee leads count =
-              G.calls graph callee block results entry_at arguments own rest x.at i before inside calling calling.named
+              G.calls graph callee block results entry_at arguments own rest x.at i before mid.filled (results-named G.texts p graph i.waiting mid.called) inside calling calling.named
               (subst (λ y. IsCallStep s (family block (y ∷ rest)) (family block rest) y) call step)
               mid.graph_is mid.block_is mid.running mid.fit mid.function (continuing leads count)
               (subst (λ y. Holds s (family block (y ∷ rest)) (CallsAlike G) i before) call (elsewhere (runs x.lines x.rest) mid.holds))
@@ -433,7 +437,7 @@ module _ (G : Premises) (graph : inner.Graph) (inside : Contains G.p.graphs grap
               arrives-callee to_call (begins-callee leads count)
             where
               arrives-callee : c_step t ≡ stmt_step text (stmt_text s 2 the_call) x.at before
-                  → HasBegun G.texts (setting_of G.texts) text callee begun_state (runs x.lines x.rest) t.waiting (stmt_step text (stmt_text s 2 the_call) x.at before) → Comes false (moves mid.stand.leads) t
+                  → HasBegun G.texts (setting_of G.texts) text fill callee begun_state (runs x.lines x.rest) t.waiting (stmt_step text (stmt_text s 2 the_call) x.at before) → Comes false (moves mid.stand.leads) t
               arrives-callee to_call begun_text =
                   let own_text = G.each callee callee-inside in
                   let callee_well = graph_of p G.well callee callee-inside in
@@ -441,22 +445,23 @@ module _ (G : Premises) (graph : inner.Graph) (inside : Contains G.p.graphs grap
                   let callee_s = G.texts.spelling callee in
                   let callee_sound : Sound callee_s callee callee_whole callee_whole valid.outside = (own_text.is_plan.valid, whole-begun callee_s callee callee_whole) in
                   let u0 = stmt_step text (stmt_text s 2 the_call) x.at before in
-                  let u : c.State = after c_step begun_text.steps u0 in
+                  let u : c.State = after c_step (G.texts.openings callee) u0 in
                   let start = settle-start callee_s callee callee_whole (limit_of G.texts callee) text (G.texts.function callee) callee_well callee_sound (G.texts.openings callee) (G.texts.lines callee) own_text.opens
                   own_text.text (omega arith) callee_whole (G.texts.lines callee) (G.texts.function callee).last (omega arith) own_text.text callee_sound in
                   let z = called fill results own (map (run.value_in i) arguments) callee waits callee_well in
                   let u_on : is_over u.end ≡ false = ap is_over begun_text.holds.end ∙ ap is_over z.end ∙ mid.running in
                   let v : c.State = goes_on start.0.to u in
-                  let arrived : after c_step (suc (begun_text.steps + start.0.steps)) t ≡ v =
-                  ap (after c_step (begun_text.steps + start.0.steps)) to_call
-                  ∙ after-add c_step begun_text.steps start.0.steps u0
+                  let arrived : after c_step (suc (G.texts.openings callee + start.0.steps)) t ≡ v =
+                  ap (after c_step (G.texts.openings callee + start.0.steps)) to_call
+                  ∙ after-add c_step (G.texts.openings callee) start.0.steps u0
                   ∙ ap (λ k. after c_step start.0.steps (goes_on k u)) begun_text.rest
                   ∙ start.0.comes u u_on begun_text.function
                   in
                   let related : Related G begun_state v = record {
                     graph = callee;
                     inside = callee-inside;
-                    called = subst (AreCalled p callee) (sym z.waiting) (callee-later, refl, subst (λ g. AreCalled p g i.waiting) (sym mid.graph_is) mid.called);
+                    called = subst (AreCalled G.texts p callee) (sym z.waiting)
+                        (callee-later, refl, subst (λ g. AreNamed (G.texts.spelling g) results) (sym mid.graph_is) (subst (λ y. AreNamed s (writes_of y)) call step.written), subst (λ g. AreCalled G.texts p g i.waiting) (sym mid.graph_is) mid.called);
                     stage = at_begin (record {
                       b = 0;
                       known = callee_well.begins;
@@ -469,22 +474,23 @@ module _ (G : Premises) (graph : inner.Graph) (inside : Contains G.p.graphs grap
                       unstuck = subst (IsUnstuck G) (sym call-goes) unstuck;
                       stand = record { context = start.0.context; stands = start.0.stands; point = entry callee callee_whole valid.outside; same = start.0.is; leads = own_text.is_plan.starts; low = start.0.low_there };
                       settled = start.0.settled;
+                      filled = begun_text.filled;
                       function = begun_text.function;
                       holds = record { frame = begun_text.holds.frame; waiting = begun_text.holds.waiting; memory = begun_text.holds.memory; input = begun_text.holds.input; events = begun_text.holds.events; end = begun_text.holds.end };
                     });
                   } in
-                  let spent : suc (begun_text.steps + start.0.steps) + owed begun_state v ≤ left t.rest + debts_of t + extra =
+                  let spent : suc (G.texts.openings callee + start.0.steps) + owed begun_state v ≤ left t.rest + debts_of t + extra =
                   let nothing = owed-begun begun_state v z.begins in
                   let waiting : debts_of u ≡ lines_count x.lines + left x.rest + debts_of t = ap debts begun_text.waiting in
                   let room = mid.spare (ap (λ y. run.is_call y || list_any run.is_call rest) call) callee callee-later in
                   let once = start.1 in
-                  omega (arith, nothing, waiting, room, once, begun_text.few, count)
+                  omega (arith, nothing, waiting, room, once, count)
                   in
                   record {
-                    steps = suc (begun_text.steps + start.0.steps);
+                    steps = suc (G.texts.openings callee + start.0.steps);
                     some = λ e. omega arith;
-                    leads = subst (λ w. Outcome G false (moves mid.stand.leads) (left t.rest + debts_of t + extra) (suc (begun_text.steps + start.0.steps)) last w) (sym arrived)
-                        (subst (λ j. Outcome G false (moves mid.stand.leads) (left t.rest + debts_of t + extra) (suc (begun_text.steps + start.0.steps)) j v) call-goes
+                    leads = subst (λ w. Outcome G false (moves mid.stand.leads) (left t.rest + debts_of t + extra) (suc (G.texts.openings callee + start.0.steps)) last w) (sym arrived)
+                        (subst (λ j. Outcome G false (moves mid.stand.leads) (left t.rest + debts_of t + extra) (suc (G.texts.openings callee + start.0.steps)) j v) call-goes
                         (inl (related, λ e. absurd (true≢false (sym e)), spent)));
                   }
 
@@ -682,9 +688,9 @@ module _ (G : Premises) (graph : inner.Graph) (inside : Contains G.p.graphs grap
           goes-back : (w : run.Waiting) (waiting : List run.Waiting) (v : c.Waiting) (others : List c.Waiting) → i.waiting ≡ w ∷ waiting → t.waiting ≡ v ∷ others
               → IsWaiting (setting_of G.texts) w v → run.returning (map (run.value_in i) values) (w ∷ waiting) i ≡ last → Arrives
           goes-back w waiting v others those other_waits waiting_is returns =
-              let called = subst (AreCalled p graph) those mid.called in
+              let called = subst (AreCalled G.texts p graph) those mid.called in
               let callers = subst (AreCallers p graph) those (subst (λ g. AreCallers p g i.waiting) mid.graph_is mid.placed.callers) in
-              let y = G.returns graph b values w waiting v others x.at i past inside called.0 mid.known is_ret (within-end (inner.Ret values) is_ret) mid.graph_is mid.block_is mid.running mid.fit callers those other_waits
+              let y = G.returns graph b values w waiting v others x.at i past mid.filled (results-named G.texts p graph i.waiting mid.called) inside called.0 mid.known is_ret (within-end (inner.Ret values) is_ret) mid.graph_is mid.block_is mid.running mid.fit callers those other_waits
               mid.function held
               in
               let z = returned (map (run.value_in i) values) w waiting i in
@@ -693,17 +699,18 @@ module _ (G : Premises) (graph : inner.Graph) (inside : Contains G.p.graphs grap
               let related : Related G back u = record {
                 graph = w.caller.graph;
                 inside = callers.0.active.known;
-                called = subst (AreCalled p w.caller.graph) (sym z.waiting) called.2;
+                called = subst (AreCalled G.texts p w.caller.graph) (sym z.waiting) called.3;
                 stage = after_call (record {
                   continues = subst (λ k. Continuing G.texts k w.caller.graph back.running.block back.running.rest) (sym y.rest)
                       (subst (λ block. Continuing G.texts v.rest w.caller.graph block back.running.rest) (sym z.block)
                       (subst (λ rest. Continuing G.texts v.rest w.caller.graph w.caller.block rest) (sym z.rest) waiting_is.continues));
                   graph_is = z.graph;
                   begins = within;
+                  filled = y.filled;
                   running = ap is_over z.end ∙ mid.running;
                   good = subst (IsGood p) (sym returns) good;
                   unstuck = subst (IsUnstuck G) (sym returns) unstuck;
-                  function = y.function ∙ waiting_is.function;
+                  function = y.function;
                   holds = subst (λ block. Holds (G.texts.spelling w.caller.graph) (Matter G w.caller.graph block back.running.rest) (CallsAlike G) back u) (sym z.block)
                       (subst (λ rest. Holds (G.texts.spelling w.caller.graph) (Matter G w.caller.graph w.caller.block rest) (CallsAlike G) back u) (sym z.rest) y.holds);
                 });

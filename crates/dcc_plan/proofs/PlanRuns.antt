@@ -39,7 +39,8 @@ use Rattle.dcc_plan.proofs.LabelLaws.{block-at}
 use Rattle.dcc_plan.proofs.ListLaws.{drop-none}
 use Rattle.dcc_plan.proofs.Rests.{Sound, SoundItem, lines_count, inside_count, count-is, left, is_jumping, is_jump_stmt, loop_context, Stands, loops, AtItem, AtTurn, Head, at_item, at_turn, at_end, head}
 use Rattle.dcc_plan.proofs.Rests as rests
-use Rattle.dcc_plan.proofs.Settings.{limit_of, setting_of, CallsBegin, ReturnsEnd, Premises}
+use Rattle.dcc_plan.proofs.CallPremises.{later-contained, CallsStart, ReturnsGoBack, calls-begin, returns-end}
+use Rattle.dcc_plan.proofs.Settings.{limit_of, setting_of, Premises}
 use Rattle.dcc_plan.proofs.Settles.{Settles, settle-start}
 use Rattle.dcc_plan.proofs.Points.{block_of, moves}
 use Rattle.dcc_plan.proofs.Stages.{debts_of, owed, owed-begun, owed-within, AreCalled, CallsAlike, Matter, IsUnstuck, Meets, GoesOn, Stage, at_begin, after_call, Related, measure, Outcome}
@@ -112,7 +113,7 @@ module _ (G : Premises) where
   c_step t = c.step G.tree t
 
   -- One step of the program from such states.
-  module _ (graph : inner.Graph) (inside : Contains G.p.graphs graph) (i : run.State) (t : c.State) (called : AreCalled G.p graph i.waiting) where
+  module _ (graph : inner.Graph) (inside : Contains G.p.graphs graph) (i : run.State) (t : c.State) (called : AreCalled G.texts G.p graph i.waiting) where
     abbrev s : Spelling
     s = G.texts.spelling graph
 
@@ -160,6 +161,7 @@ module _ (G : Premises) where
             graph_is = g.graph_is;
             block_is = x.block_is;
             called = called;
+            filled = g.filled;
             running = g.running;
             placed = within;
             jumps = none-after i.running.rest (block_in graph x.b).exit x.no_calls;
@@ -198,6 +200,7 @@ module _ (G : Premises) where
             graph_is = m.graph_is;
             block_is = m.block_is;
             called = called;
+            filled = m.filled;
             running = m.running;
             placed = subst (λ rest. IsWithinAt G.p rest i) m.rest_is within;
             jumps = All-contains (λ (b : inner.Block). jumps_after_call b.stmts b.exit ≡ true) graph.blocks (block_in graph m.b) graph_well.jumps (contained graph.blocks m.b (block_in graph m.b) (block-at graph graph_well m.b m.known));
@@ -335,7 +338,7 @@ module _ (G : Premises) where
     unmarked : (i : run.State) → i.running.begins ≡ false → run.block_mark i ≡ None
     unmarked i begins = ap (λ begins. if begins then Some (place_of i) else None) begins
 
-    begin-leaps : (graph : inner.Graph) (inside : Contains G.p.graphs graph) (i : run.State) (t : c.State) (called : AreCalled G.p graph i.waiting) (m : Meets G graph i t)
+    begin-leaps : (graph : inner.Graph) (inside : Contains G.p.graphs graph) (i : run.State) (t : c.State) (called : AreCalled G.texts G.p graph i.waiting) (m : Meets G graph i t)
         → Leap i t (record { graph = graph; inside = inside; called = called; stage = at_begin m })
     begin-leaps graph inside i t called m =
         let x = leaps graph inside i t called m in
@@ -364,7 +367,7 @@ module _ (G : Premises) where
           ];
         }
 
-    call-leaps : (graph : inner.Graph) (inside : Contains G.p.graphs graph) (i : run.State) (t : c.State) (called : AreCalled G.p graph i.waiting) (g : GoesOn G graph i t)
+    call-leaps : (graph : inner.Graph) (inside : Contains G.p.graphs graph) (i : run.State) (t : c.State) (called : AreCalled G.texts G.p graph i.waiting) (g : GoesOn G graph i t)
         → Leap i t (record { graph = graph; inside = inside; called = called; stage = after_call g })
     call-leaps graph inside i t called g =
         let x = after-comes graph inside i t called g in
@@ -447,7 +450,7 @@ module _ (G : Premises) where
     first-related = subst (λ u. Related G i0 u) (sym comes) (record {
       graph = graph;
       inside = inside;
-      called = subst (AreCalled G.p graph) (sym none-waits) tt;
+      called = subst (AreCalled G.texts G.p graph) (sym none-waits) tt;
       stage = at_begin (record {
         b = 0;
         known = graph_well.begins;
@@ -460,6 +463,7 @@ module _ (G : Premises) where
         unstuck = unstuck;
         stand = stands-for G graph inside lead.0.to lead.0.context (entry graph first_plan outside) (G.each graph inside).is_plan.starts lead.0.stands lead.0.is lead.0.low_there;
         settled = lead.0.settled;
+        filled = refl;
         function = refl;
         holds = record {
           frame = holds.frame;
@@ -525,8 +529,8 @@ module _ (p : inner.Program) (graph : inner.Graph) (s : Spelling) (family : Fami
     most = lines_count f.body;
     fits = λ g c. omega arith;
     spare = λ g callee c later. absurd (none-later callee later);
-    calls = λ g callee block results entry_at arguments own rest at i t c calling named step same block_is running fit function continues holds. absurd (no-callee entry_at callee named);
-    returns = λ g b values w waiting v others at i t c later known exit within same block_is running fit callers waits other_waits function holds. absurd (none-later g later);
+    calls = λ g callee block results entry_at arguments own rest at i t filled named_results c calling named step same block_is running fit function continues holds. absurd (no-callee entry_at callee named);
+    returns = λ g b values w waiting v others at i t filled named_results c later known exit within same block_is running fit callers waits other_waits function holds. absurd (none-later g later);
   }
 
 pub texts-count : (family : Family) (AreAlike : Alike) → TextsCount family AreAlike
@@ -578,11 +582,7 @@ module _ (texts : Texts) where
       let later = both-within graphs (λ x c. sized x (Contains-later g graphs x c)) a b (k, omega (arith, less), same) (k', omega (arith, less'), same') in
       omega (arith, later)
 
-later-contained : (graphs : List inner.Graph) (g : inner.Graph) → Contains (drop 1 graphs) g → Contains graphs g
-later-contained [] g c = c
-later-contained (x ∷ graphs) g c = Contains-later x graphs g c
-
-module _ (p : inner.Program) (texts : Texts) (tree : Tree) (fill : ℕ) (is : IsProgramText p texts tree) (calls : CallsBegin p texts (setting_of texts) tree fill) (returns : ReturnsEnd p texts (setting_of texts) tree) where
+module _ (p : inner.Program) (texts : Texts) (tree : Tree) (fill : ℕ) (is : IsProgramText p texts tree) (calls : CallsStart p texts (setting_of texts) tree fill) (returns : ReturnsGoBack p texts (setting_of texts) tree fill) where
   sized : (g : inner.Graph) → Contains p.graphs g → length (stmts_in (texts.function g).body) ≡ texts.openings g + limit_of texts g
   sized g c = sym (count-is (texts.function g).body) ∙ opens-count (texts.openings g) (texts.function g).body (texts.lines g) (is.graphs g c).opens
 
@@ -597,14 +597,14 @@ module _ (p : inner.Program) (texts : Texts) (tree : Tree) (fill : ℕ) (is : Is
     most = text_size (map texts.function p.graphs);
     fits = λ g c. let one = one-within texts p.graphs sized g c in omega (arith, one);
     spare = λ g callee c later. both-within texts p.graphs sized g callee c (later-contained p.graphs callee later);
-    calls = calls;
-    returns = returns;
+    calls = calls-begin p texts tree fill is calls;
+    returns = returns-end p texts tree fill is returns;
   }
 
 -- the text of a program counts its visits, where its calls and returns do what those of the program do
-pub programs-count : (p : inner.Program) (texts : Texts) (tree : Tree) (AreAlike : Alike) → ((fill : ℕ) → CallsBegin p texts (setting_of texts) tree fill)
-    → ReturnsEnd p texts (setting_of texts) tree → ProgramsCount p texts tree AreAlike
+pub programs-count : (p : inner.Program) (texts : Texts) (tree : Tree) (AreAlike : Alike) → ((fill : ℕ) → CallsStart p texts (setting_of texts) tree fill)
+    → ((fill : ℕ) → ReturnsGoBack p texts (setting_of texts) tree fill) → ProgramsCount p texts tree AreAlike
 unfolding program-premises
 programs-count p texts tree AreAlike calls returns graph others fill input kept is first are_kept none bytes unstuck holds within wide =
-    is-counted (program-premises p texts tree fill is (calls fill) returns) kept are_kept graph others first none input bytes unstuck AreAlike holds
+    is-counted (program-premises p texts tree fill is (calls fill) (returns fill)) kept are_kept graph others first none input bytes unstuck AreAlike holds
     within (subst (λ functions. text_size functions ≤ within) is.functions wide)

@@ -15,6 +15,7 @@ use Rattle.dcc_c.specs.Run as c
 use Rattle.dcc_c.specs.Run.{Continuation, ends_function, runs}
 use Rattle.dcc_c.specs.Tree.{Tree}
 use Rattle.dcc_text.specs.Holding.{IsWithin, Holds, Setting, AreWaiting}
+use Rattle.dcc_text.specs.Spelling.{Spelling}
 use Rattle.dcc_text.specs.Stmts.{stmt_text}
 use Rattle.dcc_plan.specs.Laws.{IsCallStep}
 use Rattle.dcc_plan.specs.Plan.{is_begun}
@@ -22,6 +23,10 @@ use Rattle.dcc_plan.specs.PlanText.{text_of_return}
 use Rattle.dcc_plan.specs.Programs.{Texts, IsGraphText}
 use Rattle.dcc_plan.specs.Valid.{Point, Before, Leads, Context}
 use Rattle.dcc_plan.proofs.Rests.{lines_count, left, Stands}
+
+-- these locations have variables
+abbrev pub AreNamed : Spelling → List Loc → Type 0
+AreNamed s locations = All (λ location. s.named location ≡ true) locations
 
 -- How many statements are left of these.
 abbrev pub debts : List Continuation → ℕ
@@ -67,42 +72,42 @@ module _ (texts : Texts) where
 
 -- After a call's step and the opening assignments the text runs the text of the callee's plan; it holds what matters where
 -- the callee's first block begins, and the caller waits with what is left of it.
-pub record HasBegun (texts : Texts) (setting : Setting) (tree : Tree) (callee : inner.Graph) (i : run.State) (k : Continuation) (waits : List c.Waiting) (t : c.State) : Type 0 where
-  pub steps : ℕ
-  pub few : steps ≤ texts.openings callee
-  pub rest : (after (c.step tree) steps t).rest ≡ runs (texts.lines callee) (ends_function (texts.function callee).last)
-  pub function : (after (c.step tree) steps t).frame.function ≡ texts.function callee
-  pub waiting : rests_of (after (c.step tree) steps t).waiting ≡ k ∷ rests_of waits
-  pub holds : Holds (setting.spelling callee) (setting.matters callee (block_in callee 0) (block_in callee 0).stmts) (AreWaiting setting) i (after (c.step tree) steps t)
+pub record HasBegun (texts : Texts) (setting : Setting) (tree : Tree) (fill : ℕ) (callee : inner.Graph) (i : run.State) (k : Continuation) (waits : List c.Waiting) (t : c.State) : Type 0 where
+  pub rest : (after (c.step tree) (texts.openings callee) t).rest ≡ runs (texts.lines callee) (ends_function (texts.function callee).last)
+  pub function : (after (c.step tree) (texts.openings callee) t).frame.function ≡ texts.function callee
+  pub filled : (after (c.step tree) (texts.openings callee) t).fill ≡ fill
+  pub waiting : rests_of (after (c.step tree) (texts.openings callee) t).waiting ≡ k ∷ rests_of waits
+  pub holds : Holds (setting.spelling callee) (setting.matters callee (block_in callee 0) (block_in callee 0).stmts) (AreWaiting setting) i (after (c.step tree) (texts.openings callee) t)
 
 abbrev pub CallsBegin : inner.Program → Texts → Setting → Tree → ℕ → Type 0
 CallsBegin p texts setting tree fill = (graph callee : inner.Graph) (block : inner.Block) (results : List Loc) (entry : ℕ) (arguments : List inner.Expr) (own : ℕ) (rest : List inner.Stmt) (at : ℕ)
-    (i : run.State) (t : c.State) → Contains p.graphs graph → IsCalling p graph (inner.Call results entry arguments own)
+    (i : run.State) (t : c.State) → t.fill ≡ fill → All (λ w. AreNamed (setting.spelling w.caller.graph) w.results) i.waiting → Contains p.graphs graph → IsCalling p graph (inner.Call results entry arguments own)
     → run.graph_at (drop 1 p.graphs) entry ≡ Some callee
     → IsCallStep (setting.spelling graph) (setting.matters graph block (inner.Call results entry arguments own ∷ rest)) (setting.matters graph block rest) (inner.Call results entry arguments own)
     → i.running.graph ≡ graph → i.running.block ≡ block → is_over i.end ≡ false → IsFit i → t.frame.function ≡ setting.function graph → setting.Continues t.rest graph block rest
     → Holds (setting.spelling graph) (setting.matters graph block (inner.Call results entry arguments own ∷ rest)) (AreWaiting setting) i t
-    → HasBegun texts setting tree callee
+    → HasBegun texts setting tree fill callee
     (run.calling fill results own (map (run.value_in i) arguments) (Some callee) (record i { running = record i.running { rest = rest; begins = false } }))
     t.rest t.waiting (c.stmt_step tree (stmt_text (setting.spelling graph) 2 (inner.Call results entry arguments own)) at t)
 
 -- Returns.
 
 -- After a return the text goes on with what waited, and holds what matters there.
-pub record HasReturned (setting : Setting) (i : run.State) (w : run.Waiting) (v : c.Waiting) (others : List c.Waiting) (t : c.State) : Type 0 where
+pub record HasReturned (setting : Setting) (fill : ℕ) (i : run.State) (w : run.Waiting) (v : c.Waiting) (others : List c.Waiting) (t : c.State) : Type 0 where
   pub rest : t.rest ≡ v.rest
-  pub function : t.frame.function ≡ v.frame.function
+  pub function : t.frame.function ≡ setting.function w.caller.graph
+  pub filled : t.fill ≡ fill
   pub waiting : t.waiting ≡ others
   pub holds : Holds (setting.spelling w.caller.graph) (setting.matters w.caller.graph w.caller.block w.caller.rest) (AreWaiting setting) i t
 
-abbrev pub ReturnsEnd : inner.Program → Texts → Setting → Tree → Type 0
-ReturnsEnd p texts setting tree = (graph : inner.Graph) (b : ℕ) (values : List inner.Expr) (w : run.Waiting) (waiting : List run.Waiting) (v : c.Waiting) (others : List c.Waiting) (at : ℕ)
-    (i : run.State) (t : c.State) → Contains p.graphs graph → Contains (drop 1 p.graphs) graph → b < length graph.blocks → (block_in graph b).exit ≡ inner.Ret values
+abbrev pub ReturnsEnd : inner.Program → Texts → Setting → Tree → ℕ → Type 0
+ReturnsEnd p texts setting tree fill = (graph : inner.Graph) (b : ℕ) (values : List inner.Expr) (w : run.Waiting) (waiting : List run.Waiting) (v : c.Waiting) (others : List c.Waiting) (at : ℕ)
+    (i : run.State) (t : c.State) → t.fill ≡ fill → All (λ w. AreNamed (setting.spelling w.caller.graph) w.results) i.waiting → Contains p.graphs graph → Contains (drop 1 p.graphs) graph → b < length graph.blocks → (block_in graph b).exit ≡ inner.Ret values
     → All (IsWithin (setting.spelling graph) (setting.matters graph (block_in graph b) [])) values
     → i.running.graph ≡ graph → i.running.block ≡ block_in graph b → is_over i.end ≡ false → IsFit i → AreCallers p graph (w ∷ waiting) → i.waiting ≡ w ∷ waiting → t.waiting ≡ v ∷ others
     → t.frame.function ≡ setting.function graph
     → Holds (setting.spelling graph) (setting.matters graph (block_in graph b) []) (AreWaiting setting) i t
-    → HasReturned setting (run.returning (map (run.value_in i) values) (w ∷ waiting) i) w v others (c.stmt_step tree (text_of_return (setting.spelling graph) (inner.Ret values)) at t)
+    → HasReturned setting fill (run.returning (map (run.value_in i) values) (w ∷ waiting) i) w v others (c.stmt_step tree (text_of_return (setting.spelling graph) (inner.Ret values)) at t)
 
 -- Programs.
 
@@ -119,4 +124,4 @@ pub record Premises : Type 1 where
   pub fits : (graph : inner.Graph) → Contains p.graphs graph → limit_of texts graph ≤ most
   pub spare : (graph callee : inner.Graph) → Contains p.graphs graph → Contains (drop 1 p.graphs) callee → limit_of texts graph + texts.openings callee + 1 ≤ most
   pub calls : CallsBegin p texts (setting_of texts) tree fill
-  pub returns : ReturnsEnd p texts (setting_of texts) tree
+  pub returns : ReturnsEnd p texts (setting_of texts) tree fill

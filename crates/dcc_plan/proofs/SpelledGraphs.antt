@@ -1,5 +1,5 @@
--- A graph that has what its text needs, and no calls, is spelled.
-use Rattle.std.proofs.Common.{◌≡◌, ℕ, ◌<◌, ◌≤◌, inl, inr, false, List, [], ◌∷◌, length}
+-- A graph that has what its text needs is spelled.
+use Rattle.std.proofs.Common.{◌≡◌, ℕ, ◌<◌, ◌≤◌, inl, inr, List, [], ◌∷◌, length}
 use Rattle.std.specs.Prelude.{All}
 use Rattle.std.specs.List.{flat_map}
 use Rattle.std.proofs.lemmas.List.Elements.{All-nil, All-cons, All-head, All-tail, All-append, All-weaker, All-from_get_or}
@@ -7,7 +7,7 @@ use Rattle.dcc_ir.specs.declared.syntax.Loc.{Loc}
 use Rattle.dcc_ir.specs.Families.{Family}
 use Rattle.dcc_ir.specs.Live.{block_in}
 use Rattle.dcc_ir.specs.Measure.{depth_of}
-use Rattle.dcc_ir.specs.Run.{is_call, no_block}
+use Rattle.dcc_ir.specs.Run.{no_block}
 use Rattle.dcc_ir.specs.Tree as inner
 use Rattle.dcc_ir.specs.Use.{reads_of, exprs_of, writes_of, exit_exprs, block_exprs, graph_exprs}
 use Rattle.dcc_text.specs.Holding.{Locations, IsWithin}
@@ -42,12 +42,11 @@ module _ (s : Spelling) where
         ]) (steps-read rest are.1)
 
   -- where what matters at the end of each block has variables
-  pub spelled-graph : (graph : inner.Graph) (family : Family) (levels : ℕ) → s.bits ≡ graph.bits → All (λ b. All (λ stmt. is_call stmt ≡ false) b.stmts) graph.blocks → Matters s graph family
+  pub spelled-graph : (graph : inner.Graph) (family : Family) (levels : ℕ) → s.bits ≡ graph.bits → Matters s graph family
       → ((b : ℕ) (location : Loc) → b < length graph.blocks → family (block_in graph b) [] location → IsNamed s location)
       → All (λ e. depth_of e ≤ levels) (graph_exprs graph) → IsSpelled s levels graph
-  spelled-graph graph family levels bits no_calls matters named low = record {
+  spelled-graph graph family levels bits matters named low = record {
     bits = bits;
-    no_calls = no_calls;
     reads = all-joined (AreNamed s) block_exprs graph.blocks (All-from_get_or (λ b. All (AreNamed s) (block_exprs b)) graph.blocks no_block
         (λ b inside. All-append (AreNamed s) (flat_map exprs_of (block_in graph b).stmts) (exit_exprs (block_in graph b).exit)
         (all-joined (AreNamed s) exprs_of (block_in graph b).stmts (steps-read (family (block_in graph b)) (block_in graph b).stmts (matters.steps b inside)))

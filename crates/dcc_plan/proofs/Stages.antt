@@ -1,6 +1,7 @@
 -- Where the program and its text stand alike: at a block's begin, or after a call within a block.
 use Rattle.std.proofs.Common.{◌≡◌, ◌≢◌, ℕ, ◌+◌, ◌<◌, ◌≤◌, Bool, true, false, List, [], ◌∷◌, length, ap, arith}
-use Rattle.std.specs.Prelude.{◌⊎◌, if◌then◌else◌, Contains, drop}
+use Rattle.std.specs.Prelude.{◌⊎◌, if◌then◌else◌, All, Contains, drop}
+use Rattle.std.proofs.lemmas.List.Elements.{All-nil, All-cons}
 use Rattle.dcc_run.specs.End.{Stuck, is_over}
 use Rattle.dcc_run.specs.System.{end_after}
 use Rattle.dcc_ir.specs.Live.{block_in}
@@ -9,10 +10,11 @@ use Rattle.dcc_ir.specs.Tree as inner
 use Rattle.dcc_ir.proofs.ReachedLaws.{IsGood}
 use Rattle.dcc_c.specs.Run as c
 use Rattle.dcc_text.specs.Holding.{Locations, Alike, Holds, AreWaiting}
+use Rattle.dcc_plan.specs.Programs.{Texts}
 use Rattle.dcc_plan.specs.Valid.{Begin, Nowhere}
 use Rattle.dcc_plan.proofs.Points.{moves}
 use Rattle.dcc_plan.proofs.Rests.{left, is_jumping}
-use Rattle.dcc_plan.proofs.Settings.{debts, rests_of, StandsFor, Continuing, setting_of, Premises}
+use Rattle.dcc_plan.proofs.Settings.{AreNamed, debts, rests_of, StandsFor, Continuing, setting_of, Premises}
 
 -- What the text owes: its statements left where the program is within a block, and those of the calls that wait.
 
@@ -28,10 +30,18 @@ owed-begun i t begins = let same = ap (λ b. (if b then 0 else left t.rest) + de
 pub owed-within : (i : run.State) (t : c.State) → i.running.begins ≡ false → owed i t ≡ left t.rest + debts_of t
 owed-within i t within = ap (λ b. (if b then 0 else left t.rest) + debts_of t) within
 
--- The callers of a running graph wait within blocks; where there is one, the graph isn't the first.
-abbrev pub AreCalled : inner.Program → inner.Graph → List run.Waiting → Type 0
-AreCalled p graph [] = Unit {0}
-AreCalled p graph (w ∷ waiting) = Contains (drop 1 p.graphs) graph × (w.caller.begins ≡ false) × AreCalled p w.caller.graph waiting
+-- The callers of a running graph wait within blocks, for results that have variables; where there is one, the graph isn't
+-- the first.
+abbrev pub AreCalled : Texts → inner.Program → inner.Graph → List run.Waiting → Type 0
+AreCalled texts p graph [] = Unit {0}
+AreCalled texts p graph (w ∷ waiting) =
+    Contains (drop 1 p.graphs) graph × (w.caller.begins ≡ false) × AreNamed (texts.spelling w.caller.graph) w.results × AreCalled texts p w.caller.graph waiting
+
+pub results-named : (texts : Texts) (p : inner.Program) (graph : inner.Graph) (waiting : List run.Waiting) → AreCalled texts p graph waiting
+    → All (λ w. AreNamed (texts.spelling w.caller.graph) w.results) waiting
+results-named texts p graph [] called = All-nil (λ (w : run.Waiting). AreNamed (texts.spelling w.caller.graph) w.results)
+results-named texts p graph (w ∷ waiting) called =
+    All-cons (λ (w : run.Waiting). AreNamed (texts.spelling w.caller.graph) w.results) w waiting called.2 (results-named texts p w.caller.graph waiting called.3)
 
 module _ (G : Premises) where
   abbrev pub CallsAlike : Alike
@@ -58,6 +68,7 @@ module _ (G : Premises) where
     pub unstuck : IsUnstuck i
     pub stand : StandsFor G.texts graph t.rest (Begin b)
     pub settled : (is_jumping t.rest ≡ false) ⊎ (stand.context.next ≡ Nowhere)
+    pub filled : t.fill ≡ G.fill
     pub function : t.frame.function ≡ G.texts.function graph
     pub holds : Holds (G.texts.spelling graph) (Matter graph (block_in graph b) (block_in graph b).stmts) CallsAlike i t
 
@@ -66,6 +77,7 @@ module _ (G : Premises) where
     pub continues : Continuing G.texts t.rest graph i.running.block i.running.rest
     pub graph_is : i.running.graph ≡ graph
     pub begins : i.running.begins ≡ false
+    pub filled : t.fill ≡ G.fill
     pub running : is_over i.end ≡ false
     pub good : IsGood G.p i
     pub unstuck : IsUnstuck i
@@ -80,7 +92,7 @@ module _ (G : Premises) where
   pub record Related (i : run.State) (t : c.State) : Type 0 where
     pub graph : inner.Graph
     pub inside : Contains G.p.graphs graph
-    pub called : AreCalled G.p graph i.waiting
+    pub called : AreCalled G.texts G.p graph i.waiting
     pub stage : Stage graph i t
 
   -- how many silent moves are left at a block's begin

@@ -1,4 +1,4 @@
--- What a statement that stands for one of the graph leaves: what follows, the function that runs, and the calls that wait.
+-- What a statement that stands for one of the graph leaves: what follows, the function that runs, the calls that wait, and the fill.
 use Rattle.std.proofs.Common.{◌≡◌, ℕ, Bool, true, false, List, [], ◌∷◌, Option, Some, None, refl, true≢false}
 use Rattle.std.specs.Prelude.{option_to_list, map, option_map}
 use Rattle.dcc_ir.specs.Run.{is_call}
@@ -17,38 +17,39 @@ pub record Keeps (t u : State) : Type 0 where
   pub rest : u.rest ≡ t.rest
   pub function : u.frame.function ≡ t.frame.function
   pub waiting : u.waiting ≡ t.waiting
+  pub fill : u.fill ≡ t.fill
 
 kept : (t : State) → Keeps t t
-kept t = record { rest = refl; function = refl; waiting = refl }
+kept t = record { rest = refl; function = refl; waiting = refl; fill = refl }
 
 on-keeps : {A : Type 0} (o : Outcome A) (at : ℕ) (t : State) (next : A → State) → ((a : A) → Keeps t (next a)) → Keeps t (on o at t next)
 on-keeps (Gives a) at t next each = each a
-on-keeps Divides at t next each = record { rest = refl; function = refl; waiting = refl }
-on-keeps Undefined at t next each = record { rest = refl; function = refl; waiting = refl }
+on-keeps Divides at t next each = record { rest = refl; function = refl; waiting = refl; fill = refl }
+on-keeps Undefined at t next each = record { rest = refl; function = refl; waiting = refl; fill = refl }
 
 takes-keeps : (target : Target) (v : Value) (t : State) → Keeps t (takes target v t)
-takes-keeps (ToVariable word) v t = record { rest = refl; function = refl; waiting = refl }
-takes-keeps (ToMemory type at) v t = record { rest = refl; function = refl; waiting = refl }
+takes-keeps (ToVariable word) v t = record { rest = refl; function = refl; waiting = refl; fill = refl }
+takes-keeps (ToMemory type at) v t = record { rest = refl; function = refl; waiting = refl; fill = refl }
 
-result-keeps : (target : Option Target) (v : Option Value) (at : ℕ) (t u : State) → Keeps t u → Keeps t (result_step target v at u)
+pub result-keeps : (target : Option Target) (v : Option Value) (at : ℕ) (t u : State) → Keeps t u → Keeps t (result_step target v at u)
 result-keeps None v at t u is = is
-result-keeps (Some target) None at t u is = record { rest = is.rest; function = is.function; waiting = is.waiting }
-result-keeps (Some (ToVariable word)) (Some v) at t u is = record { rest = is.rest; function = is.function; waiting = is.waiting }
-result-keeps (Some (ToMemory type address)) (Some v) at t u is = record { rest = is.rest; function = is.function; waiting = is.waiting }
+result-keeps (Some target) None at t u is = record { rest = is.rest; function = is.function; waiting = is.waiting; fill = is.fill }
+result-keeps (Some (ToVariable word)) (Some v) at t u is = record { rest = is.rest; function = is.function; waiting = is.waiting; fill = is.fill }
+result-keeps (Some (ToMemory type address)) (Some v) at t u is = record { rest = is.rest; function = is.function; waiting = is.waiting; fill = is.fill }
 
 key-keeps : (echo : Bool) (input : List ℕ) (target : Option Target) (at : ℕ) (t : State) → Keeps t (key_step echo input target at t)
-key-keeps echo [] target at t = result-keeps target _ at t _ (record { rest = refl; function = refl; waiting = refl })
-key-keeps echo (byte ∷ rest) target at t = result-keeps target _ at t _ (record { rest = refl; function = refl; waiting = refl })
+key-keeps echo [] target at t = result-keeps target _ at t _ (record { rest = refl; function = refl; waiting = refl; fill = refl })
+key-keeps echo (byte ∷ rest) target at t = result-keeps target _ at t _ (record { rest = refl; function = refl; waiting = refl; fill = refl })
 
-dos-keeps : (dos : Dos) (target : Option Target) (vs : List Value) (at : ℕ) (t : State) → Keeps t (dos_step dos target vs at t)
+pub dos-keeps : (dos : Dos) (target : Option Target) (vs : List Value) (at : ℕ) (t : State) → Keeps t (dos_step dos target vs at t)
 dos-keeps Getche target [] at t = key-keeps true t.input target at t
 dos-keeps Getch target [] at t = key-keeps false t.input target at t
-dos-keeps Putc None (v ∷ []) at t = record { rest = refl; function = refl; waiting = refl }
-dos-keeps Puts None (v ∷ []) at t = record { rest = refl; function = refl; waiting = refl }
-dos-keeps Leave None (v ∷ []) at t = record { rest = refl; function = refl; waiting = refl }
-dos-keeps dos target vs at t = record { rest = refl; function = refl; waiting = refl }
+dos-keeps Putc None (v ∷ []) at t = record { rest = refl; function = refl; waiting = refl; fill = refl }
+dos-keeps Puts None (v ∷ []) at t = record { rest = refl; function = refl; waiting = refl; fill = refl }
+dos-keeps Leave None (v ∷ []) at t = record { rest = refl; function = refl; waiting = refl; fill = refl }
+dos-keeps dos target vs at t = record { rest = refl; function = refl; waiting = refl; fill = refl }
 
-assign-keeps : (tree : Tree) (place e : Expr) (at : ℕ) (t : State) → Keeps t (stmt_step tree (Assign place e) at t)
+pub assign-keeps : (tree : Tree) (place e : Expr) (at : ℕ) (t : State) → Keeps t (stmt_step tree (Assign place e) at t)
 assign-keeps tree place e at t = on-keeps (value_of (scope_of tree t) e) at t _ (λ v. on-keeps (target_of (scope_of tree t) place) at t _ (λ target. takes-keeps target v t))
 
 call-keeps : (tree : Tree) (dos : Dos) (place : Option Expr) (arguments : List Expr) (depth at : ℕ) (t : State) → Keeps t (stmt_step tree (Call place (dos_name dos) arguments depth) at t)

@@ -12,8 +12,9 @@ use Rattle.dcc_c.specs.Parts.{stmts_in}
 use Rattle.dcc_c.specs.Rules.{declared_in, allows_labels, allows_stmt, shallow_stmt, differ}
 use Rattle.dcc_c.specs.Tree.{Function, Tree, Lines}
 use Rattle.dcc_c.proofs.Writable.{are_cases, are_writable_lines}
-use Rattle.dcc_text.specs.Allowed.{AreDeclared}
+use Rattle.dcc_text.specs.Allowed.{AreDeclared, IsAllowedStmt}
 use Rattle.dcc_text.specs.Spelling.{Spelling}
+use Rattle.dcc_text.specs.Stmts.{stmt_text}
 use Rattle.dcc_plan.specs.Complete.{completed}
 use Rattle.dcc_plan.specs.GotoPlan.{goto_plan}
 use Rattle.dcc_plan.specs.Plan.{Item, Mark, If, Switch, For, Break, Continue, Plan, no_items, item, Arms, no_arms, arm, all_cases}
@@ -57,13 +58,17 @@ abbrev mutual
 
 -- Texts.
 
--- The graph has no calls, and all that it reads and writes has variables; its expressions have at most so many levels.
+-- All that the graph reads and writes has variables, and its expressions have at most so many levels.
 pub record IsSpelled (s : Spelling) (levels : ℕ) (graph : inner.Graph) : Type 0 where
   pub bits : s.bits ≡ graph.bits
-  pub no_calls : All (λ b. All (λ stmt. is_call stmt ≡ false) b.stmts) graph.blocks
   pub reads : All (λ e. All (λ location. s.named location ≡ true) (reads_of e)) (graph_exprs graph)
   pub writes : All (λ b. All (λ stmt. All (λ location. s.named location ≡ true) (writes_of stmt)) b.stmts) graph.blocks
   pub shallow : All (λ e. depth_of e ≤ levels) (graph_exprs graph)
+
+-- each call of the graph is allowed in the function
+abbrev pub CallsFit : Tree → Function → Spelling → ℕ → inner.Graph → Type 0
+CallsFit tree f s limit graph = All (λ b. All (λ stmt. is_call stmt ≡ true
+    → IsAllowedStmt tree f limit (stmt_text s 2 stmt)) b.stmts) graph.blocks
 
 -- a function with this result, or with none, may give these values back: a number for a number
 abbrev pub may_give : Option CType → List inner.Expr → Bool
@@ -89,11 +94,12 @@ pub record AreAllowedLines (tree : Tree) (f : Function) (limit : ℕ) (lines : L
   pub depth : list_all (shallow_stmt limit) (stmts_in lines) ≡ true
 
 -- So is the text of a valid plan whose items may stand where they do, whatever the numbers of its lines, in a function
--- that declares the names and gives back what the graph does.
+-- that declares the names, may make the calls and gives back what the graph does.
 abbrev pub PlanTextsAreAllowed : Type 0
 PlanTextsAreAllowed = (tree : Tree) (f : Function) (s : Spelling) (graph : inner.Graph) (plan : Plan) (lines : Lines)
     (levels limit : ℕ) → AreDeclared (declared_in tree f) s → IsGraph graph → IsSpelled s levels graph
-    → ReturnsFit f graph → 6 * levels + 3 ≤ limit → IsPlanOf graph plan → may_stand outermost false plan ≡ true
+    → CallsFit tree f s limit graph → ReturnsFit f graph → 6 * levels + 3 ≤ limit → IsPlanOf graph plan
+    → may_stand outermost false plan ≡ true
     → IsPlanText s graph plan lines → AreAllowedLines tree f limit lines
 
 -- the items of the plan of a text with jumps, completed, may stand where they do

@@ -1,5 +1,5 @@
 -- The text of a whole program: a function for each graph.
-use Rattle.std.specs.Prelude.{◌≡◌, ℕ, suc, ◌+◌, ◌≤◌, Bool, List, [], ◌∷◌, length, map, Contains}
+use Rattle.std.specs.Prelude.{◌≡◌, ℕ, suc, ◌+◌, ◌≤◌, Bool, List, [], ◌∷◌, length, map, drop, Some, None, Contains}
 use Rattle.dcc_run.specs.Place.{Place}
 use Rattle.dcc_ir.specs.Families.{Family}
 use Rattle.dcc_ir.specs.Fitting.{AreBytes}
@@ -7,8 +7,10 @@ use Rattle.dcc_ir.specs.Live.{block_in}
 use Rattle.dcc_ir.specs.Run as inner_run
 use Rattle.dcc_ir.specs.Tree as inner
 use Rattle.dcc_ir.specs.WellFormed.{IsProgram}
+use Rattle.dcc_c.specs.Dos.{dos_of}
 use Rattle.dcc_c.specs.Parts.{stmts_in}
 use Rattle.dcc_c.specs.Run as text_run
+use Rattle.dcc_c.specs.Run.{function_in}
 use Rattle.dcc_c.specs.Tree.{Expr, Assign, Lines, line, Function, Tree}
 use Rattle.dcc_text.specs.Spelling.{Spelling}
 use Rattle.dcc_text.specs.Holding.{Alike, IsSpelling, Holds}
@@ -41,11 +43,16 @@ pub record IsGraphText (texts : Texts) (graph : inner.Graph) : Type 0 where
   pub text : IsPlanText (texts.spelling graph) graph (texts.plan graph) (texts.lines graph)
   pub opens : Opens (texts.openings graph) (texts.function graph).body (texts.lines graph)
 
--- The program is well formed, and the tree has the function of each graph, in their order.
+-- The program is well formed, and the tree has the function of each graph, in their order. In the text of each graph
+-- the name of a graph other than the first is that of its function, and of no DOS call.
 pub record IsProgramText (p : inner.Program) (texts : Texts) (tree : Tree) : Type 0 where
   pub well : IsProgram p
   pub graphs : (graph : inner.Graph) → Contains p.graphs graph → IsGraphText texts graph
   pub functions : tree.functions ≡ map texts.function p.graphs
+  pub named : (graph callee : inner.Graph) → Contains p.graphs graph → Contains (drop 1 p.graphs) callee
+      → function_in tree.functions ((texts.spelling graph).function callee.entry) ≡ Some (texts.function callee)
+  pub no_dos : (graph callee : inner.Graph) → Contains p.graphs graph → Contains (drop 1 p.graphs) callee
+      → dos_of ((texts.spelling graph).function callee.entry) ≡ None
 
 -- The kept places are the blocks that the text has a step for.
 abbrev pub AreAllKept : inner.Program → Texts → (Place → Bool) → Type 0
