@@ -1,0 +1,5 @@
+mod StepLaws
+mod TransferLaws
+mod TrailLaws
+mod WantedLaws
+mod RefinedLaws
