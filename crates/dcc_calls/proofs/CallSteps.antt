@@ -117,7 +117,7 @@ module _ (opens : Opens) (function : inner.Graph → Function) (matters : inner.
     formed = of-callee IsGraph well.graphs
 
     spelling : IsSpelling s
-    spelling = spelling-is g caller-named.few caller-named.few_params
+    spelling = spelling-is g caller-named.few.variables caller-named.few.params
 
     parts : (list_all (is_expr g.bits) arguments ≡ true) × (own < 65536)
     parts =
@@ -206,18 +206,18 @@ module _ (opens : Opens) (function : inner.Graph → Function) (matters : inner.
 
     -- what the frame has to be told
     abbrev variables_there : List Binding
-    variables_there = variables callee named.few named.few_params named.apart formed listed last-ones f (function_name callee.entry) callable.function callable.unplaced fill base x.values ns x.are
+    variables_there = variables callee named.few.variables named.few.params named.apart formed listed last-ones f (function_name callee.entry) callable.function callable.unplaced fill base x.values ns x.are
 
     variables-there : entered.frame.variables ≡ variables_there
     variables-there =
         ap (λ b. (frame_of f b t.fill x.values).variables) same-base ∙ ap (λ n. (frame_of f base n x.values).variables) stands.filled
-        ∙ variables-are callee named.few named.few_params named.apart formed listed last-ones f (function_name callee.entry) callable.function callable.unplaced fill base x.values ns x.are
+        ∙ variables-are callee named.few.variables named.few.params named.apart formed listed last-ones f (function_name callee.entry) callable.function callable.unplaced fill base x.values ns x.are
 
     memory-there : entered.memory ≡ begun.memory
     memory-there =
         ap (λ b. with_arguments (params_of_call f b) x.values t.memory) same-base
         ∙ ap (λ places. with_arguments places x.values t.memory)
-        (places-of-call callee named.few named.few_params named.apart formed listed last-ones f (function_name callee.entry) callable.function callable.unplaced fill base x.values ns x.are)
+        (places-of-call callee named.few.variables named.few.params named.apart formed listed last-ones f (function_name callee.entry) callable.function callable.unplaced fill base x.values ns x.are)
         ∙ memory-is callee.bits base 0 callee.params x.values ns t.memory x.are
         ∙ ap (λ memory. memory_after base 0 callee.params ns memory) h.memory
 
@@ -236,11 +236,11 @@ module _ (opens : Opens) (function : inner.Graph → Function) (matters : inner.
     }
 
     abbrev Held : Locations
-    Held = AtFirst callee named.few named.few_params named.apart formed listed last-ones f (function_name callee.entry) callable.function callable.unplaced fill base x.values ns x.are
+    Held = AtFirst callee named.few.variables named.few.params named.apart formed listed last-ones f (function_name callee.entry) callable.function callable.unplaced fill base x.values ns x.are
 
     entered-holds : Holds (function_spelling callee) Held (AreWaiting setting) begun entered
     entered-holds = record {
-      frame = frame-here callee named.few named.few_params named.apart formed listed last-ones f (function_name callee.entry) callable.function callable.unplaced fill base x.values ns x.are
+      frame = frame-here callee named.few.variables named.few.params named.apart formed listed last-ones f (function_name callee.entry) callable.function callable.unplaced fill base x.values ns x.are
           begun.running refl refl refl entered.frame same-base variables-there;
       waiting = (waiting-there, h.waiting);
       memory = memory-there;
@@ -261,15 +261,15 @@ module _ (opens : Opens) (function : inner.Graph → Function) (matters : inner.
     abbrev last : text_run.State
     last = after (text_run.step tree) steps entered
 
-    opened : Opening callee (spelling-is callee named.few named.few_params) tree (opens callee) callable.named (AreWaiting setting) begun going f fill (ends_function f.last)
+    opened : Opening callee (spelling-is callee named.few.variables named.few.params) tree (opens callee) callable.named (AreWaiting setting) begun going f fill (ends_function f.last)
         (OrOpened (opens callee) (all_byte_places callee.params) Held) lines 0 [] [] last
     opened =
-        open-all callee (spelling-is callee named.few named.few_params) tree (opens callee) callable.named (AreWaiting setting) begun going f fill (ends_function f.last)
+        open-all callee (spelling-is callee named.few.variables named.few.params) tree (opens callee) callable.named (AreWaiting setting) begun going f fill (ends_function f.last)
         Held 0 callee.params ns f.body lines entered (argument-count callee.bits callee.params x.values ns x.are) formed.params names-apart (record {
           comes_to = refl;
           holds = entered-holds;
           words = subst (λ bs. AreWords bs begun.running.values 0 callee.params ns) (sym variables-there)
-              (words-here callee named.few named.few_params named.apart formed listed last-ones f (function_name callee.entry) callable.function callable.unplaced fill base x.values ns x.are);
+              (words-here callee named.few.variables named.few.params named.apart formed listed last-ones f (function_name callee.entry) callable.function callable.unplaced fill base x.values ns x.are);
           named = λ l has. has.0;
           function = refl;
           filled = stands.filled;
@@ -289,7 +289,7 @@ module _ (opens : Opens) (function : inner.Graph → Function) (matters : inner.
           stands = record {
             function = k.function;
             filled = k.filled;
-            holds = weaker callee (spelling-is callee named.few named.few_params) tree (opens callee) callable.named (AreWaiting setting) begun going f fill (ends_function f.last)
+            holds = weaker callee (spelling-is callee named.few.variables named.few.params) tree (opens callee) callable.named (AreWaiting setting) begun going f fill (ends_function f.last)
                 (OrOpened (opens callee) (all_byte_places callee.params) Held) (matters callee first first.stmts) matters-held last k.holds;
             results = All-cons (λ w. All (has_name w.caller.graph) w.results) waits i.waiting call.written stands.results;
           };

@@ -6,3 +6,5 @@ pub mod Frames
 pub mod Openings
 pub mod CallSteps
 pub mod Returns
+pub mod Declared
+pub mod Words

@@ -79,7 +79,7 @@ module _ (opens : Opens) (function : inner.Graph → Function) (matters : inner.
     named = All-contains (IsNamed st) p.graphs caller ret.functions.graphs ret.caller
 
     spelling : IsSpelling (function_spelling caller)
-    spelling = spelling-is caller named.few named.few_params
+    spelling = spelling-is caller named.few.variables named.few.params
 
     -- What the Ret gives.
 
@@ -222,7 +222,7 @@ module _ (opens : Opens) (function : inner.Graph → Function) (matters : inner.
           let formed = and_parts (is_expr g.bits e) true
           (subst (λ exit. is_exit g.bits (length g.blocks) exit ≡ true) ret.exit (exit_of p ret.well g i.running.block (known p tree fill (e ∷ []) w waiting at i t ret stands) ret.block)) in
           let width = width_of g.bits e in
-          let x = (gives (function_spelling g) tree (matters g i.running.block []) (AreWaiting st) at i t (spelling-is g named.few named.few_params) fits (named.named i.running.block []) stands.holds
+          let x = (gives (function_spelling g) tree (matters g i.running.block []) (AreWaiting st) at i t (spelling-is g named.few.variables named.few.params) fits (named.named i.running.block []) stands.holds
           e width formed.0 within refl).taken in
           let type = plain (unsigned_type width) in
           let v = value x.of_type x.k in

@@ -26,6 +26,11 @@ use Rattle.dcc_variables.specs.Variables.{shape_of, variable_name, variable, fra
 abbrev pub function_name : ℕ → Word
 function_name entry = name_at (codes "f_") entry
 
+-- the names of the functions of a program: its run begins in `start`
+abbrev pub function_names : List inner.Graph → List Word
+function_names [] = []
+function_names (first ∷ graphs) = codes "start" ∷ map (λ graph. function_name graph.entry) graphs
+
 -- the name of the parameter at a place: p1, p2, ..
 abbrev pub parameter_name : ℕ → Word
 parameter_name place = codes "p" ++ decimal (place + 1)

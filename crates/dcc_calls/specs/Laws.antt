@@ -1,5 +1,5 @@
 -- Laws of calls and returns.
-use Rattle.std.specs.Prelude.{◌≡◌, ℕ, ◌≤◌, false, List, [], ◌∷◌, length, map, drop, All, Contains}
+use Rattle.std.specs.Prelude.{◌≡◌, ℕ, ◌≤◌, true, false, List, [], ◌∷◌, ◌++◌, length, map, drop, All, Contains}
 use Rattle.dcc_run.specs.End.{is_over}
 use Rattle.dcc_run.specs.System.{after}
 use Rattle.dcc_ir.specs.declared.syntax.Loc.{Loc}
@@ -7,14 +7,44 @@ use Rattle.dcc_ir.specs.Location.{location_width}
 use Rattle.dcc_ir.specs.Run as inner_run
 use Rattle.dcc_ir.specs.Tree as inner
 use Rattle.dcc_ir.specs.Value.{Fits}
-use Rattle.dcc_ir.specs.WellFormed.{all_ret_widths, IsProgram}
+use Rattle.dcc_ir.specs.WellFormed.{all_ret_widths, IsGraph, IsProgram}
+use Rattle.dcc_c.specs.Rules.{all_differ, names_of, known_names, own_variables, declared_in}
 use Rattle.dcc_c.specs.Run as text_run
 use Rattle.dcc_c.specs.Run.{ends_function, runs}
-use Rattle.dcc_c.specs.Tree.{Lines, Tree}
-use Rattle.dcc_text.specs.Holding.{Setting, IsWithin}
+use Rattle.dcc_c.specs.Tree.{Lines, Function, Tree}
+use Rattle.dcc_text.specs.Allowed.{AreDeclared}
+use Rattle.dcc_text.specs.Holding.{IsSpelling, Setting, IsWithin}
 use Rattle.dcc_text.specs.Stmts.{stmt_text}
-use Rattle.dcc_calls.specs.Functions.{openings, BeginsWith, ret_text}
-use Rattle.dcc_calls.specs.Serving.{Opens, AreFunctions, StandsFor, StandsThere, IsCallStep}
+use Rattle.dcc_variables.specs.Globals.{globals_of}
+use Rattle.dcc_calls.specs.Functions.{function_names, parameters, function_spelling, own_declarations, openings, BeginsWith, ret_text}
+use Rattle.dcc_calls.specs.Serving.{HasFewNames, Opens, AreFunctions, StandsFor, StandsThere, IsCallStep}
+
+-- Names.
+
+-- Variables and parameters of different locations have different names, and the array has another one.
+abbrev pub FunctionNamesDiffer : Type 0
+FunctionNamesDiffer = (graph : inner.Graph) → HasFewNames graph → IsSpelling (function_spelling graph)
+
+-- A function with these parameters and variables declares all that the spelling names.
+abbrev pub FunctionNamesAreDeclared : Type 0
+FunctionNamesAreDeclared = (graph : inner.Graph) (tree : Tree) (f : Function) → IsGraph graph → HasFewNames graph
+    → f.params ≡ parameters graph → f.locals ≡ own_declarations graph
+    → AreDeclared (declared_in tree f) (function_spelling graph)
+
+-- The arrays of a program's image and the functions of its graphs have names of their own.
+abbrev pub KnownNamesDiffer : Type 0
+KnownNamesDiffer = (p : inner.Program) (tree : Tree) → IsProgram p → tree.globals ≡ globals_of p
+    → map (λ f. f.name) tree.functions ≡ function_names p.graphs → all_differ (known_names tree) ≡ true
+
+-- So have the parameters and the variables of each function.
+abbrev pub OwnNamesDiffer : Type 0
+OwnNamesDiffer = (p : inner.Program) (graph : inner.Graph) (tree : Tree) (f : Function) → IsProgram p → IsGraph graph
+    → HasFewNames graph → tree.globals ≡ globals_of p
+    → map (λ f. f.name) tree.functions ≡ function_names p.graphs
+    → f.params ≡ parameters graph → f.locals ≡ own_declarations graph
+    → all_differ (names_of (own_variables f) ++ known_names tree) ≡ true
+
+-- Calls.
 
 -- the state at a Call, when the graph with its entry has been called
 abbrev pub called : inner.Program → ℕ → List Loc → ℕ → List inner.Expr → ℕ → List inner.Stmt → inner_run.State

@@ -49,11 +49,14 @@ locations_differ (location ∷ others) = not (is_among others location) && locat
 abbrev pub has_name : inner.Graph → Locations
 has_name graph location = (function_spelling graph).named location ≡ true
 
--- Names are numbered: there are fewer than 2 to the power of 32 temporaries, and so of params. No location takes two
--- arguments. What matters has a name.
+-- Each variable and each parameter has a number of 64 bits, and the array of the frame's bytes ends within memory.
+pub record HasFewNames (graph : inner.Graph) : Type 0 where
+  pub variables : AreFew (shape_of graph)
+  pub params : length graph.params < 2 ^ 32
+
+-- There are few names. No location takes two arguments. What matters has a name.
 pub record IsNamed (setting : Setting) (graph : inner.Graph) : Type 0 where
-  pub few : AreFew (shape_of graph)
-  pub few_params : length graph.params < 2 ^ 32
+  pub few : HasFewNames graph
   pub apart : locations_differ (all_places graph.params) ≡ true
   pub named : (block : inner.Block) (stmts : List inner.Stmt) (location : Loc)
       → setting.matters graph block stmts location → has_name graph location

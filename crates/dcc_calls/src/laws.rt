@@ -2,7 +2,29 @@
 
 ghost use Rattle.dcc_text.specs.Holding.{Setting};
 ghost use Rattle.dcc_calls.specs.Serving.{Opens};
+ghost use Rattle.dcc_calls.specs.Laws.{FunctionNamesDiffer, FunctionNamesAreDeclared};
+ghost use Rattle.dcc_calls.specs.Laws.{KnownNamesDiffer, OwnNamesDiffer};
 ghost use Rattle.dcc_calls.specs.Laws.{CallsBegin, ReturnsEnd, BracesEnd};
+
+/// Variables and parameters of different locations have different names, and the array has another one.
+pub fn function_names_differ()
+    ensures { FunctionNamesDiffer }
+{}
+
+/// A function with the parameters and variables of a graph declares all that the graph's text names.
+pub fn function_names_are_declared()
+    ensures { FunctionNamesAreDeclared }
+{}
+
+/// The arrays of a program's image and the functions of its graphs have names of their own.
+pub fn known_names_differ()
+    ensures { KnownNamesDiffer }
+{}
+
+/// The parameters and variables of each function have names of their own.
+pub fn own_names_differ()
+    ensures { OwnNamesDiffer }
+{}
 
 /// What stands for the graphs of a program, and which bytes of argument words their functions open.
 pub trait SomeSetting {
