@@ -31,7 +31,7 @@ use Rattle.dcc_variables.proofs.Declared.{names-declared}
 use Rattle.dcc_variables.proofs.FirstStates.{type-for, wide-of}
 use Rattle.dcc_variables.proofs.Names.{names-same, frame-apart, numbered-name}
 use Rattle.dcc_calls.specs.Functions.{parameter_name, is_taken_whole, place_from, place_in, parameter, parameters_from, parameters, name_or, location_name, is_own, own_declarations, function_spelling}
-use Rattle.dcc_calls.proofs.ParamNames.{places-apart, whole-is, place-within, place-small, placed-is}
+use Rattle.dcc_calls.proofs.ParamNames.{places-apart, whole-is, place-small, placed-is}
 
 some-equal : {A : Type 0} {a b : A} → Some a ≡ Some b → a ≡ b
 some-equal e = cc
@@ -49,31 +49,41 @@ pub record IsDeclaredParameter (bits : List ℕ) (names : List Declared) (l : Lo
   })
 
 module _ (bits : List ℕ) where
-  parameter-declared : (j : ℕ) (params : List Param) (others : List Declared) (l : Loc) (k : ℕ) → j + length params < 2 ^ 63 → place_from j params l ≡ Some k
-      → IsDeclaredParameter bits (map declared_param (parameters_from bits j params) ++ others) l k
-  parameter-declared j [] others l k few is = absurd cc
-  parameter-declared j (p ∷ params) others l k few is = elim (decided (is_taken_whole p.put l)) [
+  -- each parameter is declared under its name
+  abbrev pub AreDeclaredFrom : List Declared → ℕ → List Param → Type 0
+  AreDeclaredFrom names j [] = Unit {0}
+  AreDeclaredFrom names j (p ∷ params) = (declared_as names (parameter_name j) ≡ Some (declared_param (parameter bits j p))) × AreDeclaredFrom names (j + 1) params
+
+  declared-after : (d : Declared) (m : ℕ) → d.name ≡ parameter_name m → (names : List Declared) (j : ℕ) (params : List Param) → m < j → j + length params < 2 ^ 63
+      → AreDeclaredFrom names j params → AreDeclaredFrom (d ∷ names) j params
+  declared-after d m named names j [] less few are = tt
+  declared-after d m named names j (p ∷ params) less few are =
+      (ap (λ c. if c then Some d else declared_as names (parameter_name j)) (ap (λ name. same_bytes name (parameter_name j)) named ∙ places-apart m j less (omega (arith, few))) ∙ are.0,
+      declared-after d m named names (j + 1) params (omega (arith, less)) (omega (arith, few)) are.1)
+
+  pub all-declared : (j : ℕ) (params : List Param) (others : List Declared) → j + length params < 2 ^ 63 → AreDeclaredFrom (map declared_param (parameters_from bits j params) ++ others) j params
+  all-declared j [] others few = tt
+  all-declared j (p ∷ params) others few =
+      let names = map declared_param (parameters_from bits (j + 1) params) ++ others in
+      (ap (λ c. if c then Some (declared_param (parameter bits j p)) else declared_as names (parameter_name j)) (same_bytes-refl (parameter_name j)),
+      declared-after (declared_param (parameter bits j p)) j refl names (j + 1) params (omega arith) (omega (arith, few)) (all-declared (j + 1) params others (omega (arith, few))))
+
+  -- so is that of a location that takes a whole argument
+  parameter-declared : (names : List Declared) (j : ℕ) (params : List Param) (l : Loc) (k : ℕ) → AreDeclaredFrom names j params → place_from j params l ≡ Some k → IsDeclaredParameter bits names l k
+  parameter-declared names j [] l k are is = absurd cc
+  parameter-declared names j (p ∷ params) l k are is = elim (decided (is_taken_whole p.put l)) [
     | inl here ↦
         (let same : j ≡ k = some-equal (sym (ap (λ b. if b then Some j else place_from (j + 1) params l) here) ∙ is) in
-        subst (IsDeclaredParameter bits (map declared_param (parameters_from bits j (p ∷ params)) ++ others) l) same (record {
+        subst (IsDeclaredParameter bits names l) same (record {
           placed = not (is_register (parameter bits j p).class);
-          found = ap (λ c. if c then Some (declared_param (parameter bits j p)) else declared_as (map declared_param (parameters_from bits (j + 1) params) ++ others) (parameter_name j)) (same_bytes-refl (parameter_name j))
-              ∙ ap (λ put. Some (record {
-                name = parameter_name j;
-                type = plain (unsigned_type (put_width bits put));
-                is_array = false;
-                is_placed = not (is_register (parameter bits j p).class);
-              })) (whole-is p.put l here);
+          found = are.0 ∙ ap (λ put. Some (record {
+              name = parameter_name j;
+              type = plain (unsigned_type (put_width bits put));
+              is_array = false;
+              is_placed = not (is_register (parameter bits j p).class);
+            })) (whole-is p.put l here);
         }))
-    | inr later ↦
-        (let at = sym (ap (λ b. if b then Some j else place_from (j + 1) params l) later) ∙ is in
-        let within = place-within params (j + 1) l k at in
-        let rest = parameter-declared (j + 1) params others l k (omega (arith, few)) at in
-        record {
-          placed = rest.placed;
-          found = ap (λ c. if c then Some (declared_param (parameter bits j p)) else declared_as (map declared_param (parameters_from bits (j + 1) params) ++ others) (parameter_name k))
-              (places-apart j k (omega (arith, within.0)) (omega (arith, within.1, few))) ∙ rest.found;
-        })
+    | inr later ↦ parameter-declared names (j + 1) params l k are.1 (sym (ap (λ b. if b then Some j else place_from (j + 1) params l) later) ∙ is)
   ]
 
   -- another name is no parameter's
@@ -85,7 +95,7 @@ module _ (bits : List ℕ) where
 -- Names of parameters.
 
 -- a name that begins with p and a digit is no keyword
-parameter-word : (k : ℕ) → k < 2 ^ 63 → is_name (parameter_name k) ≡ true
+pub parameter-word : (k : ℕ) → k < 2 ^ 63 → is_name (parameter_name k) ≡ true
 parameter-word k small = by (decimal (k + 1)) (numbered-name (k + 1) (omega (arith, small)))
   where
     by : (ds : List ℕ) → is_name (118 ∷ ds) ≡ true → is_name (112 ∷ ds) ≡ true
@@ -161,7 +171,8 @@ module _ (g : Graph) (few : AreFew (shape_of g)) (few_params : length g.params <
     variable-declared : (l : Loc) → (graph_spelling g).named l ≡ true → (o : Option ℕ) → place_in g l ≡ o → IsDeclared (declared_in tree f) (function_spelling g) l
     variable-declared l named (Some k) place =
         let small = place-small g few few_params l k place in
-        let x = parameter-declared g.bits 0 g.params (map declared_local f.locals ++ map declared_global tree.globals) l k (omega (arith, few_params)) place in
+        let rest = map declared_local f.locals ++ map declared_global tree.globals in
+        let x = parameter-declared g.bits (map declared_param (parameters g) ++ rest) 0 g.params l k (all-declared g.bits 0 g.params rest (omega (arith, few_params))) place in
         let name = sym (ap (λ o. name_or o (variable_name shape l)) place) in record {
           word = subst (λ word. is_name word ≡ true) name (parameter-word k small);
           typed = type-for (location_width g.bits l) (wide-of g few formed l named);

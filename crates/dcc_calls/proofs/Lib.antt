@@ -8,3 +8,4 @@ pub mod CallSteps
 pub mod Returns
 pub mod Declared
 pub mod Words
+pub mod AllowedCalls

@@ -50,9 +50,18 @@ later-contained [] x c = c
 later-contained (y ∷ xs) x c = Contains-later y xs x c
 
 -- what one of them has is what all have
-type-of-any : (all : List (List ℕ)) (widths : List ℕ) → ((a b : List ℕ) → Contains all a → Contains all b → a ≡ b) → Contains all widths → type_for_any all ≡ type_for widths
+pub type-of-any : (all : List (List ℕ)) (widths : List ℕ) → ((a b : List ℕ) → Contains all a → Contains all b → a ≡ b) → Contains all widths → type_for_any all ≡ type_for widths
 type-of-any [] widths same c = absurd (Contains-none widths c)
 type-of-any (first ∷ others) widths same c = ap type_for (same first widths (Contains-here first others) c)
+
+-- the widths of what a Ret gives are among those of its graph
+pub widths-of : (g : inner.Graph) (block : inner.Block) (values : List inner.Expr) → Contains g.blocks block → block.exit ≡ inner.Ret values
+    → Contains (all_ret_widths g) (map (width_of g.bits) values)
+widths-of g block values there exit =
+    let rets = λ (b : inner.Block). ret_widths g.bits b.exit in
+    let has = Contains (all_ret_widths g) in
+    let each = all_parts has rets g.blocks (All-contains_itself (all_ret_widths g)) in
+    All-head has (map (width_of g.bits) values) [] (subst (λ e. All has (ret_widths g.bits e)) exit (All-contains (λ b. All has (rets b)) g.blocks block each there))
 
 module _ (opens : Opens) (function : inner.Graph → Function) (matters : inner.Graph → Family) (Continues : Continuation → inner.Graph → inner.Block → List inner.Stmt → Type 0) where
   abbrev st : Setting
@@ -87,10 +96,7 @@ module _ (opens : Opens) (function : inner.Graph → Function) (matters : inner.
     widths = map (width_of g.bits) values
 
     widths-there : Contains (all_ret_widths g) widths
-    widths-there =
-        let each = all_parts (Contains (all_ret_widths g)) (λ (b : inner.Block). ret_widths g.bits b.exit) g.blocks (All-contains_itself (all_ret_widths g)) in
-        All-head (Contains (all_ret_widths g)) widths [] (subst (λ exit. All (Contains (all_ret_widths g)) (ret_widths g.bits exit)) ret.exit
-        (All-contains (λ (b : inner.Block). All (Contains (all_ret_widths g)) (ret_widths g.bits b.exit)) g.blocks i.running.block each ret.block))
+    widths-there = widths-of g i.running.block values ret.block ret.exit
 
     widths-taken : widths ≡ map (location_width caller.bits) w.results
     widths-taken = All-contains (λ ws. ws ≡ map (location_width caller.bits) w.results) (all_ret_widths g) widths ret.taken widths-there

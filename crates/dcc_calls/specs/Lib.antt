@@ -1,3 +1,4 @@
 pub mod Functions
 pub mod Serving
 pub mod Laws
+pub mod Allowed

@@ -2,6 +2,7 @@
 
 ghost use Rattle.dcc_text.specs.Holding.{Setting};
 ghost use Rattle.dcc_calls.specs.Serving.{Opens};
+ghost use Rattle.dcc_calls.specs.Allowed.{CallsAreAllowed, ReturnsAreAllowed, OpeningsAreAllowed};
 ghost use Rattle.dcc_calls.specs.Laws.{FunctionNamesDiffer, FunctionNamesAreDeclared};
 ghost use Rattle.dcc_calls.specs.Laws.{KnownNamesDiffer, OwnNamesDiffer};
 ghost use Rattle.dcc_calls.specs.Laws.{CallsBegin, ReturnsEnd, BracesEnd};
@@ -46,4 +47,19 @@ pub fn returns_end<S: SomeSetting>()
 /// A step on the closing brace of a function that gives nothing goes back to the caller.
 pub fn braces_end<S: SomeSetting>()
     ensures { BracesEnd S.opens S.setting }
+{}
+
+/// The text of a Call is allowed where the text has the callee's function.
+pub fn calls_are_allowed()
+    ensures { CallsAreAllowed }
+{}
+
+/// The text of a Ret is allowed in the function of its graph.
+pub fn returns_are_allowed()
+    ensures { ReturnsAreAllowed }
+{}
+
+/// The opening assignments of a graph's function are allowed in it.
+pub fn openings_are_allowed()
+    ensures { OpeningsAreAllowed }
 {}
