@@ -1,9 +1,9 @@
 -- The texts of Calls, of Rets and of opening assignments are allowed.
-use Rattle.std.proofs.Common.{◌≡◌, ℕ, ◌+◌, ◌*◌, ◌<◌, ◌≤◌, ◌^◌, inl, inr, max, Bool, true, false, ◌==◌, List, [], ◌∷◌, ◌++◌, length, map, Option, Some, None, is_some, refl, sym, ap, ◌∙◌, subst, true≢false, arith}
-use Rattle.std.specs.Prelude.{◌&&◌, not, nat_le, nat_lt, if◌then◌else◌, option_and_then, option_map, All, Contains}
+use Rattle.std.proofs.Common.{◌≡◌, ℕ, ◌+◌, ◌<◌, ◌≤◌, ◌^◌, Bool, true, false, List, [], ◌∷◌, ◌++◌, length, map, Option, Some, None, is_some, refl, sym, ap, ◌∙◌, subst, arith}
+use Rattle.std.specs.Prelude.{◌&&◌, not, nat_le, nat_lt, option_and_then, option_map, All, Contains}
 use Rattle.std.specs.List.{list_all}
-use Rattle.std.proofs.lemmas.Bool.{and_parts, and_from, le-leb, ltb-true, eqb-true}
-use Rattle.std.proofs.lemmas.List.Elements.{All-nil, All-cons, All-append, All-contains, All-contains_itself, All-head, All-tail}
+use Rattle.std.proofs.lemmas.Bool.{and_parts, and_from, le-leb, ltb-true}
+use Rattle.std.proofs.lemmas.List.Elements.{All-nil, All-cons, All-append, All-head, All-tail}
 use Rattle.dcc_ir.specs.declared.syntax.Loc.{Loc}
 use Rattle.dcc_ir.specs.declared.syntax.Put.{Put}
 use Rattle.dcc_ir.specs.declared.syntax.Put.TheVariants.{Memory, One, Two}
@@ -13,25 +13,21 @@ use Rattle.dcc_ir.specs.Measure.{depth_of}
 use Rattle.dcc_ir.specs.Tree as inner
 use Rattle.dcc_ir.specs.Use.{reads_of}
 use Rattle.dcc_ir.specs.Value.{width_of}
-use Rattle.dcc_ir.specs.WellFormed.{is_expr, is_location, is_block, is_exit, is_stmt, put_width, ret_widths, all_ret_widths, IsGraph, IsCall}
-use Rattle.dcc_ir.proofs.ListLaws.{all_parts}
+use Rattle.dcc_ir.specs.WellFormed.{is_expr, is_location, is_block, is_exit, is_stmt, put_width, all_ret_widths, IsGraph, IsCall}
 use Rattle.dcc_ir.proofs.ReachedLaws.{all_at}
-use Rattle.dcc_c.proofs.NameLaws.{same_bytes-refl}
 use Rattle.dcc_c.proofs.Writable.{is_small, is_writable_expr}
 use Rattle.dcc_c.specs.declared.syntax.Base.{Base}
-use Rattle.dcc_c.specs.declared.syntax.Base.TheVariants.{Uchar, Uint}
+use Rattle.dcc_c.specs.declared.syntax.Base.TheVariants.{Uint}
 use Rattle.dcc_c.specs.declared.syntax.CBin.TheVariants.{Shr}
-use Rattle.dcc_c.specs.declared.syntax.CType.{CType}
 use Rattle.dcc_c.specs.Grammar.{is_name}
 use Rattle.dcc_c.specs.Placement.{is_register}
 use Rattle.dcc_c.specs.Rules.{declared_in, declared_param, declared_local, declared_global, converts, fits, fit_all, result_fits, call_fits, signature_of, expr_depth}
 use Rattle.dcc_c.specs.Run.{function_in, param_types}
-use Rattle.dcc_c.specs.Token.{same_bytes}
 use Rattle.dcc_c.specs.Tree as tree
 use Rattle.dcc_c.specs.Tree.{Stmt, Function, Tree}
 use Rattle.dcc_c.specs.Types.{plain}
 use Rattle.dcc_c.specs.Typing.{Declared, declared_as, place_type, type_of_name, type_of_variable}
-use Rattle.dcc_text.specs.Allowed.{AreDeclared, IsAllowedExpr, IsAllowedStmt}
+use Rattle.dcc_text.specs.Allowed.{IsAllowedExpr, IsAllowedStmt}
 use Rattle.dcc_text.specs.Spelled.{Low, unsigned_type, small as shift_count, text}
 use Rattle.dcc_text.specs.Spelling.{Spelling}
 use Rattle.dcc_text.specs.Stmts.{place_of, stmt_text}
@@ -41,8 +37,8 @@ use Rattle.dcc_text.proofs.HexLaws.{name_at-name}
 use Rattle.dcc_text.proofs.TypedTexts.{text-allowed}
 use Rattle.dcc_text.proofs.Typings.{IsTyped, number-typed, plain-is, small-is, binary-is, cut-is}
 use Rattle.dcc_calls.specs.Allowed.{IsPlaceFor, AreReadable, CallsAreAllowed, ReturnsAreAllowed, OpeningsAreAllowed}
-use Rattle.dcc_calls.specs.Functions.{function_name, parameter_name, parameter, parameters_from, parameters, function_spelling, type_for, type_for_any, result_type, ret_text, low_byte, high_byte, opening, put_openings, openings_from, openings, IsFunctionOf}
-use Rattle.dcc_calls.specs.Serving.{HasFewNames, has_name}
+use Rattle.dcc_calls.specs.Functions.{function_name, parameter_name, parameter, parameters_from, parameters, function_spelling, type_for, type_for_any, result_type, ret_text, low_byte, high_byte, opening, put_openings, openings_from, IsFunctionOf}
+use Rattle.dcc_calls.specs.Serving.{has_name}
 use Rattle.dcc_calls.proofs.Declared.{parameter-word, AreDeclaredFrom, all-declared}
 use Rattle.dcc_calls.proofs.Returns.{type-of-any, widths-of}
 
@@ -226,13 +222,15 @@ module _ (whole : Tree) (f : Function) (g : inner.Graph) (levels limit : ℕ) (p
       all-allowed j [] few found = All-nil (IsAllowedStmt whole f limit)
       all-allowed j (p ∷ params) few found =
           All-append (IsAllowedStmt whole f limit) (put_openings s opens (parameter_name j) p.put) (openings_from s opens (j + 1) params)
-          (put-allowed j p.put (omega (arith, few)) (λ low high is.
-          (not (is_register (parameter g.bits j p).class), found.0 ∙ ap (λ put. Some (record {
-            name = parameter_name j;
-            type = plain (unsigned_type (put_width g.bits put));
-            is_array = false;
-            is_placed = not (is_register (parameter g.bits j p).class);
-          })) is)))
+          (put-allowed j p.put (omega (arith, few)) (λ low high is. (
+            not (is_register (parameter g.bits j p).class),
+            found.0 ∙ ap (λ put. Some (record {
+              name = parameter_name j;
+              type = plain (unsigned_type (put_width g.bits put));
+              is_array = false;
+              is_placed = not (is_register (parameter g.bits j p).class);
+            })) is,
+          )))
           (all-allowed (j + 1) params (omega (arith, few)) found.1)
 
 pub calls-allowed : CallsAreAllowed

@@ -1,6 +1,6 @@
 -- The arguments of a call in the text hold the numbers of the program's run.
-use Rattle.std.proofs.Common.{◌≡◌, ℕ, ◌+◌, ◌%◌, ◌^◌, Bool, true, false, List, [], ◌∷◌, map, refl, sym, ap, ◌∙◌, subst, true≢false}
-use Rattle.std.specs.Prelude.{◌&&◌, All}
+use Rattle.std.proofs.Common.{◌≡◌, ℕ, ◌+◌, ◌^◌, true, false, List, [], ◌∷◌, map, refl, sym, ap, ◌∙◌, subst, true≢false}
+use Rattle.std.specs.Prelude.{All}
 use Rattle.std.specs.List.{list_all}
 use Rattle.std.proofs.lemmas.Bool.{and_parts}
 use Rattle.std.proofs.lemmas.Nat.{mod_below, pow_pos}
@@ -9,23 +9,21 @@ use Rattle.dcc_ir.specs.declared.syntax.Loc.{Loc}
 use Rattle.dcc_ir.specs.declared.syntax.Param.{Param}
 use Rattle.dcc_ir.specs.Tree as inner
 use Rattle.dcc_ir.specs.Run as inner_run
-use Rattle.dcc_ir.specs.Value.{width_of, value_of, Fits}
+use Rattle.dcc_ir.specs.Value.{width_of, Fits}
 use Rattle.dcc_ir.specs.WellFormed.{is_expr, put_width}
 use Rattle.dcc_c.specs.Run as text_run
 use Rattle.dcc_c.specs.Run.{arguments_of}
 use Rattle.dcc_c.specs.Tree.{Tree}
 use Rattle.dcc_c.specs.Types.{bits_of, extended_bits, number_of_type, plain}
 use Rattle.dcc_c.specs.Value.{Value, value, converted, Gives, and_then, Scope}
-use Rattle.dcc_c.specs.Value as text_value
 use Rattle.dcc_text.specs.Holding.{Locations, Alike, IsSpelling, Holds, IsWithin}
 use Rattle.dcc_text.specs.Meaning.{is_type_for}
 use Rattle.dcc_text.specs.Spelled.{Low, unsigned_type, text}
 use Rattle.dcc_text.specs.Spelling.{Spelling}
-use Rattle.dcc_text.proofs.Readings.{IsValue}
 use Rattle.dcc_text.proofs.Sizes.{Size, bit, byte, word, long, bits}
-use Rattle.dcc_text.proofs.StmtSteps.{IsTaken, is-taken, scope_here, scene_here, stands-here, value-here}
+use Rattle.dcc_text.proofs.StmtSteps.{IsTaken, is-taken, scope_here, stands-here, value-here}
 use Rattle.dcc_calls.specs.Functions.{parameters_from}
-use Rattle.dcc_calls.proofs.Bindings.{IsArgument, AreArguments}
+use Rattle.dcc_calls.proofs.Bindings.{AreArguments}
 
 size-typed : (size : Size) → is_type_for (bits size) (plain (unsigned_type (bits size))) ≡ true
 size-typed bit = refl
@@ -74,9 +72,12 @@ module _ (s : Spelling) (whole : Tree) (Has : Locations) (AreAlike : Alike) (at 
         values = converted type (value x.of_type x.k) ∷ rest.values;
         given = ap (and_then (λ v. and_then (λ vs. Gives (converted type v ∷ vs)) (arguments_of here types (map (text s Low false) es)))) x.is.valued
             ∙ ap (and_then (λ vs. Gives (converted type (value x.of_type x.k) ∷ vs))) rest.given;
-        are = (record {
-          typed = refl;
-          low = x.low;
-          room = mod_below (extended_bits (number_of_type x.of_type) x.k) (2 ^ bits_of (unsigned_type (put_width bits_there p.put))) (pow_pos (bits_of (unsigned_type (put_width bits_there p.put))));
-        }, rest.are);
+        are = (
+          record {
+            typed = refl;
+            low = x.low;
+            room = mod_below (extended_bits (number_of_type x.of_type) x.k) (2 ^ bits_of (unsigned_type (put_width bits_there p.put))) (pow_pos (bits_of (unsigned_type (put_width bits_there p.put))));
+          },
+          rest.are,
+        );
       }

@@ -1,5 +1,5 @@
 -- The parameters of a call in the text: where they stand, what they hold, and the memory.
-use Rattle.std.proofs.Common.{◌≡◌, ℕ, ◌+◌, ◌*◌, ◌/◌, ◌%◌, ◌^◌, ◌<◌, ◌≤◌, Bool, true, false, inl, inr, List, [], ◌∷◌, ◌++◌, length, Option, Some, None, refl, sym, ap, ◌∙◌, subst, true≢false, arith, mod-eq_of_lt}
+use Rattle.std.proofs.Common.{◌≡◌, ℕ, ◌+◌, ◌*◌, ◌/◌, ◌%◌, ◌^◌, ◌<◌, Bool, true, false, inl, inr, List, [], ◌∷◌, ◌++◌, length, Option, Some, None, refl, sym, ap, ◌∙◌, subst, true≢false, arith, mod-eq_of_lt}
 use Rattle.std.specs.Prelude.{◌&&◌, ◌||◌, not, if◌then◌else◌, ◌==◌}
 use Rattle.std.specs.List.{list_all}
 use Rattle.std.proofs.lemmas.Bool.{and_parts, not-true}
@@ -7,16 +7,15 @@ use Rattle.dcc_ir.specs.declared.syntax.Loc.{Loc}
 use Rattle.dcc_ir.specs.declared.syntax.Put.{Put}
 use Rattle.dcc_ir.specs.declared.syntax.Put.TheVariants.{Memory, One, Two}
 use Rattle.dcc_ir.specs.declared.syntax.Param.{Param}
-use Rattle.dcc_ir.specs.Live.{is_among}
 use Rattle.dcc_ir.specs.Location.{location_width, Values}
 use Rattle.dcc_ir.specs.WellFormed.{is_memory, put_width, is_param_list, memory_params_last}
 use Rattle.dcc_ir.proofs.PathLaws.{decided}
-use Rattle.dcc_c.proofs.NameLaws.{same_bytes-equal, same_bytes-refl}
+use Rattle.dcc_c.proofs.NameLaws.{same_bytes-refl}
 use Rattle.dcc_c.specs.declared.syntax.Base.TheVariants.{Uint}
 use Rattle.dcc_c.specs.declared.syntax.Class.{Class}
 use Rattle.dcc_c.specs.declared.syntax.Class.TheVariants.{Plain, Auto, Register}
 use Rattle.dcc_c.specs.Memory.{store}
-use Rattle.dcc_c.specs.Placement.{is_auto, is_register, takes_address, wants_place, param_places}
+use Rattle.dcc_c.specs.Placement.{is_auto, is_register, takes_address, param_places}
 use Rattle.dcc_c.specs.Run.{storage_of, variable_binding, param_bindings, with_arguments}
 use Rattle.dcc_c.specs.Token.{same_bytes}
 use Rattle.dcc_c.specs.Tree.{Word, Lines, Variable}
@@ -25,7 +24,7 @@ use Rattle.dcc_c.specs.Value.{Value, Unplaced, Binding, variable_in}
 use Rattle.dcc_text.specs.Spelled.{unsigned_type}
 use Rattle.dcc_calls.specs.Functions.{parameter_name, is_taken_whole, place_from, parameter_class, parameter, parameters_from}
 use Rattle.dcc_calls.specs.Serving.{places, all_places, locations_differ}
-use Rattle.dcc_calls.proofs.ParamNames.{places-apart, whole-is, place-within}
+use Rattle.dcc_calls.proofs.ParamNames.{places-apart, whole-is}
 use Rattle.dcc_calls.proofs.Passings.{put_memory, memory_after, values_after, put_values, others-differ, whole-value, low-value, high-value, word-stored}
 
 some-equal : {A : Type 0} {a b : A} → Some a ≡ Some b → a ≡ b
@@ -192,19 +191,21 @@ module _ (bits : List ℕ) (base : ℕ) where
       → AreBound bits base variables j params vs → AreBound bits base (b ∷ variables) j params vs
   bound-after b m named variables j [] vs less few bound = tt
   bound-after b m named variables j (p ∷ params) [] less few bound = tt
-  bound-after b m named variables j (p ∷ params) (v ∷ vs) less few bound =
-      (ap (λ c. if c then Some b else variable_in variables (parameter_name j))
-      (ap (λ name. same_bytes name (parameter_name j)) named ∙ places-apart m j less (omega (arith, few))) ∙ bound.0,
-      bound-after b m named variables (j + 1) params vs (omega (arith, less)) (omega (arith, few)) bound.1)
+  bound-after b m named variables j (p ∷ params) (v ∷ vs) less few bound = (
+    ap (λ c. if c then Some b else variable_in variables (parameter_name j))
+        (ap (λ name. same_bytes name (parameter_name j)) named ∙ places-apart m j less (omega (arith, few))) ∙ bound.0,
+    bound-after b m named variables (j + 1) params vs (omega (arith, less)) (omega (arith, few)) bound.1,
+  )
 
   pub all-bound : (j : ℕ) (params : List Param) (vs : List Value) (others : List Binding) → j + length params < 2 ^ 63
       → AreBound bits base (param_bindings (parameters_from bits j params) (places_from base j params) vs ++ others) j params vs
   all-bound j [] vs others few = tt
   all-bound j (p ∷ params) [] others few = tt
   all-bound j (p ∷ params) (v ∷ vs) others few =
-      let rest = param_bindings (parameters_from bits (j + 1) params) (places_from base (j + 1) params) vs ++ others in
-      (ap (λ c. if c then Some (bound_parameter bits base j p v) else variable_in rest (parameter_name j)) (same_bytes-refl (parameter_name j)),
-      bound-after (bound_parameter bits base j p v) j refl rest (j + 1) params vs (omega arith) (omega (arith, few)) (all-bound (j + 1) params vs others (omega (arith, few))))
+      let rest = param_bindings (parameters_from bits (j + 1) params) (places_from base (j + 1) params) vs ++ others in (
+        ap (λ c. if c then Some (bound_parameter bits base j p v) else variable_in rest (parameter_name j)) (same_bytes-refl (parameter_name j)),
+        bound-after (bound_parameter bits base j p v) j refl rest (j + 1) params vs (omega arith) (omega (arith, few)) (all-bound (j + 1) params vs others (omega (arith, few))),
+      )
 
   -- another name is no parameter's
   pub no-parameter : (word : Word) (j : ℕ) (params : List Param) (vs : List Value) (others : List Binding)
@@ -238,11 +239,11 @@ module _ (bits : List ℕ) (base : ℕ) where
         subst (IsParameter variables (values_after (p ∷ params) (n ∷ ns) values) l) same (record {
           bits_held = v.bits;
           found = bound.0 ∙ ap (λ q. Some (record {
-              name = parameter_name j;
-              type = plain (unsigned_type (put_width bits q));
-              is_array = false;
-              storage = storage_of (place_at base j q) v.bits;
-            })) put;
+            name = parameter_name j;
+            type = plain (unsigned_type (put_width bits q));
+            is_array = false;
+            storage = storage_of (place_at base j q) v.bits;
+          })) put;
           low = x.low ∙ sym (whole-value p.put params n ns values l put differ);
           room = x.room;
         }))
@@ -281,11 +282,11 @@ words-are bits base variables j (p ∷ params) (v ∷ vs) (n ∷ ns) values are 
   where
     first : (put : Put) → IsArgument bits put v n
         → variable_in variables (parameter_name j) ≡ Some (record {
-            name = parameter_name j;
-            type = plain (unsigned_type (put_width bits put));
-            is_array = false;
-            storage = storage_of (place_at base j put) v.bits;
-          })
+          name = parameter_name j;
+          type = plain (unsigned_type (put_width bits put));
+          is_array = false;
+          storage = storage_of (place_at base j put) v.bits;
+        })
         → locations_differ (places put ++ all_places params) ≡ true → IsWordPut variables (values_after params ns (put_values put n values)) j put n
     first Memory is found apart = tt
     first (One location) is found apart = tt

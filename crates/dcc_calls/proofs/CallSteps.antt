@@ -1,6 +1,6 @@
 -- A step on the text of a Call, and one for each opening assignment, begin the callee.
-use Rattle.std.proofs.Common.{◌≡◌, ℕ, ◌+◌, ◌-◌, ◌%◌, ◌<◌, ◌⊎◌, inl, inr, Bool, true, false, ◌==◌, List, [], ◌∷◌, length, map, drop, Option, Some, None, refl, sym, ap, ◌∙◌, subst, true≢false, arith, cond}
-use Rattle.std.specs.Prelude.{◌&&◌, if◌then◌else◌, find, slice_get, nat_lt, All, Contains}
+use Rattle.std.proofs.Common.{◌≡◌, ℕ, ◌<◌, inl, inr, Bool, true, false, ◌==◌, List, [], ◌∷◌, length, map, drop, Some, None, refl, sym, ap, ◌∙◌, subst, arith, cond}
+use Rattle.std.specs.Prelude.{◌&&◌, find, nat_lt, All, Contains}
 use Rattle.std.specs.List.{list_all}
 use Rattle.std.proofs.lemmas.Bool.{and_parts, eqb-true, ltb-true}
 use Rattle.std.proofs.lemmas.List.Elements.{All-contains, All-drop, All-head, All-cons}
@@ -15,23 +15,22 @@ use Rattle.dcc_ir.specs.Location.{filled}
 use Rattle.dcc_ir.specs.Run as inner_run
 use Rattle.dcc_ir.specs.Tree as inner
 use Rattle.dcc_ir.specs.Value.{Fits}
-use Rattle.dcc_ir.specs.WellFormed.{is_expr, is_location, is_put, is_param_list, memory_params_last, IsGraph, IsProgram}
-use Rattle.dcc_ir.proofs.LocationLaws.{Contains-none}
+use Rattle.dcc_ir.specs.WellFormed.{is_expr, is_location, is_param_list, memory_params_last, IsGraph, IsProgram}
 use Rattle.dcc_ir.proofs.PathLaws.{decided}
 use Rattle.dcc_ir.proofs.ReachedLaws.{found_contained, named_again}
 use Rattle.dcc_c.specs.Placement.{below, params_of_call}
 use Rattle.dcc_c.specs.Run as text_run
 use Rattle.dcc_c.specs.Run.{Continuation, ends_function, runs, frame_of, with_arguments, arguments_of, result_target, enter_step, function_in}
 use Rattle.dcc_c.specs.Token.{same_bytes}
-use Rattle.dcc_c.specs.Tree.{Word, Lines, Function, Tree}
+use Rattle.dcc_c.specs.Tree.{Lines, Function, Tree}
 use Rattle.dcc_c.specs.Value.{Value, Gives, and_then, Binding}
-use Rattle.dcc_text.specs.Holding.{Locations, Holds, HoldsFrame, IsSpelling, Setting, target_for, MattersBesides, IsWaiting, AreWaiting}
+use Rattle.dcc_text.specs.Holding.{Locations, Holds, IsSpelling, Setting, target_for, IsWaiting, AreWaiting}
 use Rattle.dcc_text.specs.Spelled.{Low, text}
 use Rattle.dcc_text.specs.Spelling.{Spelling}
 use Rattle.dcc_text.specs.Stmts.{stmt_text, first_place}
 use Rattle.dcc_text.proofs.Assignments.{target-is}
 use Rattle.dcc_variables.specs.Variables.{shape_of, variable_name}
-use Rattle.dcc_calls.specs.Functions.{function_name, parameter_name, parameters, name_or, place_in, function_spelling, openings, BeginsWith, function_of}
+use Rattle.dcc_calls.specs.Functions.{function_name, parameter_name, parameters, name_or, function_spelling, openings, BeginsWith}
 use Rattle.dcc_calls.specs.Serving.{all_byte_places, has_name, IsNamed, Opens, IsCallable, AreFunctions, StandsFor, IsCallStep}
 use Rattle.dcc_calls.specs.Laws.{called, HasBegun, CallsBegin}
 use Rattle.dcc_calls.proofs.Arguments.{Arguments, arguments-are}

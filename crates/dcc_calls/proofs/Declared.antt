@@ -1,10 +1,8 @@
 -- The declarations of a function's parameters and variables give what the spelling names.
-use Rattle.std.proofs.Common.{◌≡◌, ℕ, ◌+◌, ◌*◌, ◌<◌, ◌^◌, Bool, true, false, inl, inr, List, [], ◌∷◌, ◌++◌, length, map, Option, Some, None, is_some, refl, sym, ap, ◌∙◌, subst, true≢false, arith}
+use Rattle.std.proofs.Common.{◌≡◌, ℕ, ◌+◌, ◌<◌, ◌^◌, Bool, true, false, inl, inr, List, [], ◌∷◌, ◌++◌, length, map, Option, Some, None, is_some, refl, sym, ap, ◌∙◌, subst, true≢false, arith}
 use Rattle.std.specs.Prelude.{not, filter, if◌then◌else◌}
 use Rattle.std.specs.Fmt.{decimal}
-use Rattle.std.specs.List.{list_all}
-use Rattle.std.proofs.lemmas.Bool.{and_from, and_parts, le-leb, not_from_false, or_left, or_right, false_from_ne_true}
-use Rattle.std.proofs.lemmas.Fmt.{decimal_nonempty}
+use Rattle.std.proofs.lemmas.Bool.{and_from, and_parts, or_left, or_right, false_from_ne_true}
 use Rattle.dcc_ir.specs.declared.syntax.Loc.{Loc}
 use Rattle.dcc_ir.specs.declared.syntax.Param.{Param}
 use Rattle.dcc_ir.specs.Live.{is_among}
@@ -26,11 +24,11 @@ use Rattle.dcc_text.specs.Allowed.{IsDeclared, IsDeclaredPlace, AreDeclared}
 use Rattle.dcc_text.specs.Spelled.{unsigned_type}
 use Rattle.dcc_text.specs.Spelling.{Placed}
 use Rattle.dcc_variables.specs.Laws.{AreFew}
-use Rattle.dcc_variables.specs.Variables.{locations, Shape, shape_of, variable_name, frame_name, variable, frame_array, declarations, numbered_name, graph_spelling}
+use Rattle.dcc_variables.specs.Variables.{locations, Shape, shape_of, variable_name, frame_name, variable, frame_array, declarations, graph_spelling}
 use Rattle.dcc_variables.proofs.Declared.{names-declared}
 use Rattle.dcc_variables.proofs.FirstStates.{type-for, wide-of}
 use Rattle.dcc_variables.proofs.Names.{names-same, frame-apart, numbered-name}
-use Rattle.dcc_calls.specs.Functions.{parameter_name, is_taken_whole, place_from, place_in, parameter, parameters_from, parameters, name_or, location_name, is_own, own_declarations, function_spelling}
+use Rattle.dcc_calls.specs.Functions.{parameter_name, is_taken_whole, place_from, place_in, parameter, parameters_from, parameters, name_or, is_own, own_declarations, function_spelling}
 use Rattle.dcc_calls.proofs.ParamNames.{places-apart, whole-is, place-small, placed-is}
 
 some-equal : {A : Type 0} {a b : A} → Some a ≡ Some b → a ≡ b
@@ -57,16 +55,18 @@ module _ (bits : List ℕ) where
   declared-after : (d : Declared) (m : ℕ) → d.name ≡ parameter_name m → (names : List Declared) (j : ℕ) (params : List Param) → m < j → j + length params < 2 ^ 63
       → AreDeclaredFrom names j params → AreDeclaredFrom (d ∷ names) j params
   declared-after d m named names j [] less few are = tt
-  declared-after d m named names j (p ∷ params) less few are =
-      (ap (λ c. if c then Some d else declared_as names (parameter_name j)) (ap (λ name. same_bytes name (parameter_name j)) named ∙ places-apart m j less (omega (arith, few))) ∙ are.0,
-      declared-after d m named names (j + 1) params (omega (arith, less)) (omega (arith, few)) are.1)
+  declared-after d m named names j (p ∷ params) less few are = (
+    ap (λ c. if c then Some d else declared_as names (parameter_name j)) (ap (λ name. same_bytes name (parameter_name j)) named ∙ places-apart m j less (omega (arith, few))) ∙ are.0,
+    declared-after d m named names (j + 1) params (omega (arith, less)) (omega (arith, few)) are.1,
+  )
 
   pub all-declared : (j : ℕ) (params : List Param) (others : List Declared) → j + length params < 2 ^ 63 → AreDeclaredFrom (map declared_param (parameters_from bits j params) ++ others) j params
   all-declared j [] others few = tt
   all-declared j (p ∷ params) others few =
-      let names = map declared_param (parameters_from bits (j + 1) params) ++ others in
-      (ap (λ c. if c then Some (declared_param (parameter bits j p)) else declared_as names (parameter_name j)) (same_bytes-refl (parameter_name j)),
-      declared-after (declared_param (parameter bits j p)) j refl names (j + 1) params (omega arith) (omega (arith, few)) (all-declared (j + 1) params others (omega (arith, few))))
+      let names = map declared_param (parameters_from bits (j + 1) params) ++ others in (
+        ap (λ c. if c then Some (declared_param (parameter bits j p)) else declared_as names (parameter_name j)) (same_bytes-refl (parameter_name j)),
+        declared-after (declared_param (parameter bits j p)) j refl names (j + 1) params (omega arith) (omega (arith, few)) (all-declared (j + 1) params others (omega (arith, few))),
+      )
 
   -- so is that of a location that takes a whole argument
   parameter-declared : (names : List Declared) (j : ℕ) (params : List Param) (l : Loc) (k : ℕ) → AreDeclaredFrom names j params → place_from j params l ≡ Some k → IsDeclaredParameter bits names l k
@@ -77,11 +77,11 @@ module _ (bits : List ℕ) where
         subst (IsDeclaredParameter bits names l) same (record {
           placed = not (is_register (parameter bits j p).class);
           found = are.0 ∙ ap (λ put. Some (record {
-              name = parameter_name j;
-              type = plain (unsigned_type (put_width bits put));
-              is_array = false;
-              is_placed = not (is_register (parameter bits j p).class);
-            })) (whole-is p.put l here);
+            name = parameter_name j;
+            type = plain (unsigned_type (put_width bits put));
+            is_array = false;
+            is_placed = not (is_register (parameter bits j p).class);
+          })) (whole-is p.put l here);
         }))
     | inr later ↦ parameter-declared names (j + 1) params l k are.1 (sym (ap (λ b. if b then Some j else place_from (j + 1) params l) later) ∙ is)
   ]
@@ -178,11 +178,11 @@ module _ (g : Graph) (few : AreFew (shape_of g)) (few_params : length g.params <
           typed = type-for (location_width g.bits l) (wide-of g few formed l named);
           is_placed = x.placed;
           declared = subst (λ word. declared_as (declared_in tree f) word ≡ Some (record {
-              name = word;
-              type = plain (unsigned_type (location_width g.bits l));
-              is_array = false;
-              is_placed = x.placed;
-            })) name (ap (λ ps. declared_as (map declared_param ps ++ (map declared_local f.locals ++ map declared_global tree.globals)) (parameter_name k)) params ∙ x.found);
+            name = word;
+            type = plain (unsigned_type (location_width g.bits l));
+            is_array = false;
+            is_placed = x.placed;
+          })) name (ap (λ ps. declared_as (map declared_param ps ++ (map declared_local f.locals ++ map declared_global tree.globals)) (parameter_name k)) params ∙ x.found);
         }
     variable-declared l named None place =
         let x = are-alone.variables l named in
@@ -191,11 +191,11 @@ module _ (g : Graph) (few : AreFew (shape_of g)) (few_params : length g.params <
           typed = x.typed;
           is_placed = x.is_placed;
           declared = subst (λ word. declared_as (declared_in tree f) word ≡ Some (record {
-              name = word;
-              type = plain (unsigned_type (location_width g.bits l));
-              is_array = false;
-              is_placed = x.is_placed;
-            })) name
+            name = word;
+            type = plain (unsigned_type (location_width g.bits l));
+            is_array = false;
+            is_placed = x.is_placed;
+          })) name
               (looked-up _ ∙ others-declared ls more l (λ y there. there) named (ap (λ o. not (is_some o)) place) ∙ sym (looked-up-alone (variable_name shape l)) ∙ x.declared);
         }
 

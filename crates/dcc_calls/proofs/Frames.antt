@@ -1,5 +1,5 @@
 -- The frame of a call in the text: the parameters, then the variables of the graph.
-use Rattle.std.proofs.Common.{◌≡◌, ℕ, ◌+◌, ◌-◌, ◌*◌, ◌%◌, ◌^◌, ◌<◌, Bool, true, false, ◌==◌, inl, inr, List, [], ◌∷◌, ◌++◌, length, map, Option, Some, None, is_some, refl, sym, ap, ◌∙◌, subst, true≢false, arith, mod-lt}
+use Rattle.std.proofs.Common.{◌≡◌, ℕ, ◌+◌, ◌%◌, ◌^◌, ◌<◌, true, false, ◌==◌, List, [], ◌∷◌, ◌++◌, length, map, Option, Some, None, is_some, refl, sym, ap, ◌∙◌, subst, true≢false, arith, mod-lt}
 use Rattle.std.specs.Prelude.{not, filter, if◌then◌else◌}
 use Rattle.std.specs.List.{list_all}
 use Rattle.std.proofs.lemmas.Nat.{pow_pos}
@@ -10,11 +10,10 @@ use Rattle.dcc_ir.specs.Live.{is_among}
 use Rattle.dcc_ir.specs.Tree as inner
 use Rattle.dcc_ir.specs.Run as inner_run
 use Rattle.dcc_ir.specs.WellFormed.{is_width, is_param_list, memory_params_last, IsGraph}
-use Rattle.dcc_ir.proofs.PathLaws.{decided}
 use Rattle.dcc_c.specs.declared.syntax.Base.TheVariants.{Uchar, Int}
 use Rattle.dcc_c.specs.Placement.{below, local_places, params_of_call}
 use Rattle.dcc_c.specs.Run as c
-use Rattle.dcc_c.specs.Tree.{Word, Lines, Function}
+use Rattle.dcc_c.specs.Tree.{Word, Function}
 use Rattle.dcc_c.specs.Types.{bits_of, plain, extended_bits, convert}
 use Rattle.dcc_c.specs.Value.{Value, Unplaced, Binding, variable_in}
 use Rattle.dcc_text.specs.Holding.{Locations, HoldsFrame}
@@ -27,7 +26,7 @@ use Rattle.dcc_variables.specs.Laws.{AreFew}
 use Rattle.dcc_variables.specs.Variables.{locations, Shape, shape_of, variable_name, frame_name, variable, frame_array, frame_place, placed_at}
 use Rattle.dcc_variables.proofs.FirstStates.{type-for, wide-of, bound, array_bound, variable-found, array-after, array-found}
 use Rattle.dcc_variables.proofs.Lists.{filter-among, among-filter}
-use Rattle.dcc_calls.specs.Functions.{parameter_name, place_in, parameters, name_or, location_name, is_own, own_declarations, function_spelling, function_of}
+use Rattle.dcc_calls.specs.Functions.{place_in, parameters, name_or, is_own, own_declarations, function_spelling, function_of}
 use Rattle.dcc_calls.specs.Serving.{all_byte_places, all_places, locations_differ, has_name}
 use Rattle.dcc_calls.proofs.Bindings.{places_from, is_unplaced, places-are, AreArguments, AreBound, all-bound, no-parameter, IsParameter, parameter-is, AreWords, words-are}
 use Rattle.dcc_calls.proofs.ParamNames.{placed-is}
@@ -114,11 +113,11 @@ module _ (g : inner.Graph) (few : AreFew (shape_of g)) (few_params : length g.pa
         typed = type-for (location_width g.bits l) (wide-of g few formed l named);
         bits = x.bits_held;
         found = subst (λ name. variable_in variables name ≡ Some (record {
-            name = name;
-            type = plain (unsigned_type (location_width g.bits l));
-            is_array = false;
-            storage = Unplaced x.bits_held;
-          })) (sym (ap (λ o. name_or o (variable_name shape l)) place)) x.found;
+          name = name;
+          type = plain (unsigned_type (location_width g.bits l));
+          is_array = false;
+          storage = Unplaced x.bits_held;
+        })) (sym (ap (λ o. name_or o (variable_name shape l)) place)) x.found;
         room = x.room;
       }
 

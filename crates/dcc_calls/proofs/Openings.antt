@@ -20,14 +20,13 @@ use Rattle.dcc_ir.proofs.LocationLaws.{location_same, location_itself}
 use Rattle.dcc_ir.proofs.PathLaws.{decided, or_false}
 use Rattle.dcc_c.proofs.NameLaws.{same_bytes-equal, after_assignment-other, after_assignment-here}
 use Rattle.dcc_c.specs.declared.syntax.Base.TheVariants.{Uchar, Uint}
-use Rattle.dcc_c.specs.declared.syntax.CType.{CType}
 use Rattle.dcc_c.specs.Run as text_run
 use Rattle.dcc_c.specs.Run.{Continuation, runs, goes_on}
 use Rattle.dcc_c.specs.Token.{same_bytes}
 use Rattle.dcc_c.specs.Tree.{Word, Expr, Name, Stmt, Assign, Lines, no_lines, line, Function, Tree}
 use Rattle.dcc_c.specs.Types.{plain}
 use Rattle.dcc_c.specs.Value.{Value, value, converted, Scope, Unplaced, Binding, variable_in, after_assignment, ToVariable}
-use Rattle.dcc_text.specs.Holding.{Locations, Alike, IsSpelling, HoldsFrame, Holds}
+use Rattle.dcc_text.specs.Holding.{Locations, Alike, IsSpelling, Holds}
 use Rattle.dcc_text.specs.Spelled.{Low, Exact, unsigned_type}
 use Rattle.dcc_text.specs.Spelling.{Spelling}
 use Rattle.dcc_text.specs.Stmts.{place_of}
@@ -194,30 +193,36 @@ module _ (g : inner.Graph) (spelling : IsSpelling (function_spelling g)) (whole 
       → opens l ≡ wanted → i.running.values l ≡ n → location_width g.bits l ≡ 8 → ((k : ℕ) → same_bytes ((function_spelling g).name l) (parameter_name k) ≡ false) → Opening Has lines j params ns t
       → IsTaken (text_run.scope_of whole t) 8 false n (plain Uchar) e → BeginsWith (opening wanted s l e ++ stmts) lines others
       → (more : Lines) × BeginsWith stmts more others × Opening (OrOpened opens (l ∷ []) Has) more j params ns (after (text_run.step whole) (length (opening wanted s l e)) t)
-  open-if Has false l e stmts lines others j params ns t n wants holding width apart x taken begins =
-      (lines, begins, record {
-        comes_to = x.comes_to;
-        holds = weaker Has (OrOpened opens (l ∷ []) Has) none t x.holds;
-        words = x.words;
-        named = λ y has. x.named y (none y has);
-        function = x.function;
-        filled = x.filled;
-      })
+  open-if Has false l e stmts lines others j params ns t n wants holding width apart x taken begins = (
+    lines,
+    begins,
+    record {
+      comes_to = x.comes_to;
+      holds = weaker Has (OrOpened opens (l ∷ []) Has) none t x.holds;
+      words = x.words;
+      named = λ y has. x.named y (none y has);
+      function = x.function;
+      filled = x.filled;
+    },
+  )
     where
       none : (y : Loc) → OrOpened opens (l ∷ []) Has y → Has y
       none y (inl was) = was
       none y (inr (there, wanted)) = absurd (true≢false (sym wanted ∙ ap opens (location_same y l (only-one l y there)) ∙ wants))
   open-if Has true l e stmts no_lines others j params ns t n wants holding width apart x taken begins = absurd begins
   open-if Has true l e stmts (line first at lines) others j params ns t n wants holding width apart x taken begins =
-      let y = open-one Has first at lines j params ns t x l (opens_named l wants) e begins.0 n holding width apart taken in
-      (lines, begins.1, record {
-        comes_to = y.comes_to;
-        holds = weaker (OrOne Has l) (OrOpened opens (l ∷ []) Has) one (text_run.step whole t) y.holds;
-        words = y.words;
-        named = λ z has. y.named z (one z has);
-        function = y.function;
-        filled = y.filled;
-      })
+      let y = open-one Has first at lines j params ns t x l (opens_named l wants) e begins.0 n holding width apart taken in (
+        lines,
+        begins.1,
+        record {
+          comes_to = y.comes_to;
+          holds = weaker (OrOne Has l) (OrOpened opens (l ∷ []) Has) one (text_run.step whole t) y.holds;
+          words = y.words;
+          named = λ z has. y.named z (one z has);
+          function = y.function;
+          filled = y.filled;
+        },
+      )
     where
       one : (y : Loc) → OrOpened opens (l ∷ []) Has y → OrOne Has l y
       one y (inl was) = inl was
@@ -231,15 +236,18 @@ module _ (g : inner.Graph) (spelling : IsSpelling (function_spelling g)) (whole 
   -- what opens nothing
   nothing-more : (Has : Locations) (lines others : Lines) (stmts : List Stmt) (j : ℕ) (params : List Param) (ns : List ℕ) (t : text_run.State) → Opening Has lines j params ns t
       → BeginsWith stmts lines others → (more : Lines) × BeginsWith stmts more others × Opening (OrOpened opens [] Has) more j params ns t
-  nothing-more Has lines others stmts j params ns t x begins =
-      (lines, begins, record {
-        comes_to = x.comes_to;
-        holds = weaker Has (OrOpened opens [] Has) none t x.holds;
-        words = x.words;
-        named = λ l has. x.named l (none l has);
-        function = x.function;
-        filled = x.filled;
-      })
+  nothing-more Has lines others stmts j params ns t x begins = (
+    lines,
+    begins,
+    record {
+      comes_to = x.comes_to;
+      holds = weaker Has (OrOpened opens [] Has) none t x.holds;
+      words = x.words;
+      named = λ l has. x.named l (none l has);
+      function = x.function;
+      filled = x.filled;
+    },
+  )
     where
       none : (l : Loc) → OrOpened opens [] Has l → Has l
       none l (inl was) = was
@@ -270,17 +278,20 @@ module _ (g : inner.Graph) (spelling : IsSpelling (function_spelling g)) (whole 
       let (more, begins_last, z) = open-if (OrOpened opens (low ∷ []) Has) (opens high) high (high_byte (Name (parameter_name j))) stmts between others j (p ∷ params) (n ∷ ns) u (n / 256) refl v.second
       (eqb-true (location_width g.bits high) 8 high_width)
       (apart high (or_right (same_location high low) (is_among (high ∷ []) high) (or_left (same_location high high) false (location_itself high)))) y
-      (high-taken (text_run.scope_of whole u) j n (word-there u j n v.found) v.small) begins_then in
-      (more, begins_last, subst (Opening (OrOpened opens (low ∷ high ∷ []) Has) more j (p ∷ params) (n ∷ ns))
-      (sym (after-add (text_run.step whole) (length first_ones) (length second_ones) t) ∙ ap (λ k. after (text_run.step whole) k t) (sym (length-append first_ones second_ones)))
-      (record {
-        comes_to = z.comes_to;
-        holds = weaker (OrOpened opens (high ∷ []) (OrOpened opens (low ∷ []) Has)) (OrOpened opens (low ∷ high ∷ []) Has) both _ z.holds;
-        words = z.words;
-        named = λ l has. z.named l (both l has);
-        function = z.function;
-        filled = z.filled;
-      }))
+      (high-taken (text_run.scope_of whole u) j n (word-there u j n v.found) v.small) begins_then in (
+        more,
+        begins_last,
+        subst (Opening (OrOpened opens (low ∷ high ∷ []) Has) more j (p ∷ params) (n ∷ ns))
+            (sym (after-add (text_run.step whole) (length first_ones) (length second_ones) t) ∙ ap (λ k. after (text_run.step whole) k t) (sym (length-append first_ones second_ones)))
+            (record {
+              comes_to = z.comes_to;
+              holds = weaker (OrOpened opens (high ∷ []) (OrOpened opens (low ∷ []) Has)) (OrOpened opens (low ∷ high ∷ []) Has) both _ z.holds;
+              words = z.words;
+              named = λ l has. z.named l (both l has);
+              function = z.function;
+              filled = z.filled;
+            }),
+      )
     where
       word-of : {Has : Locations} {lines : Lines} (t : text_run.State) → Opening Has lines j (p ∷ params) (n ∷ ns) t → IsWord t.frame.variables i.running.values j low high n
       word-of t x = subst (λ k. IsWordPut t.frame.variables i.running.values j k n) is x.words.0
@@ -324,6 +335,9 @@ module _ (g : inner.Graph) (spelling : IsSpelling (function_spelling g)) (whole 
       both l (inl was) = inl (inl was)
       both l (inr (there, wanted)) = elim (decided (is_among (byte_places p.put) l)) [
         | inl here ↦ inl (inr (here, wanted))
-        | inr away ↦ inr (or_false (is_among (byte_places p.put) l) (is_among (all_byte_places params) l) away
-            (sym (list_any-append (same_location l) (byte_places p.put) (all_byte_places params)) ∙ there), wanted)
+        | inr away ↦ inr (
+          or_false (is_among (byte_places p.put) l) (is_among (all_byte_places params) l) away
+              (sym (list_any-append (same_location l) (byte_places p.put) (all_byte_places params)) ∙ there),
+          wanted,
+        )
       ]

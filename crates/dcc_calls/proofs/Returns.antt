@@ -1,10 +1,9 @@
 -- A step on the text of a Ret, or on the closing brace, goes back to the caller.
-use Rattle.std.proofs.Common.{◌≡◌, ℕ, suc, ◌%◌, ◌^◌, ◌<◌, ◌≤◌, inl, inr, Bool, true, false, List, [], ◌∷◌, length, map, drop, Option, Some, None, is_some, refl, sym, ap, ◌∙◌, subst, true≢false, arith, mod-eq_of_lt}
-use Rattle.std.specs.Prelude.{◌&&◌, ◌||◌, nat_le, if◌then◌else◌, All, Contains}
-use Rattle.std.specs.List.{list_all}
+use Rattle.std.proofs.Common.{◌≡◌, ℕ, ◌%◌, ◌^◌, ◌<◌, Bool, true, false, List, [], ◌∷◌, length, map, drop, Option, Some, None, is_some, refl, sym, ap, ◌∙◌, subst, true≢false, arith, mod-eq_of_lt}
+use Rattle.std.specs.Prelude.{◌||◌, nat_le, if◌then◌else◌, All, Contains}
 use Rattle.std.proofs.lemmas.Bool.{and_parts}
 use Rattle.std.proofs.lemmas.Nat.{mod_below, pow_pos}
-use Rattle.std.proofs.lemmas.List.Elements.{All-contains, All-contains_itself, All-drop, All-head, All-tail}
+use Rattle.std.proofs.lemmas.List.Elements.{All-contains, All-contains_itself, All-head, All-tail}
 use Rattle.dcc_run.specs.End.{Stuck}
 use Rattle.dcc_ir.specs.declared.syntax.Loc.{Loc}
 use Rattle.dcc_ir.specs.Families.{Family}
@@ -12,24 +11,21 @@ use Rattle.dcc_ir.specs.Location.{location_width, same_location}
 use Rattle.dcc_ir.specs.Run as inner_run
 use Rattle.dcc_ir.specs.Tree as inner
 use Rattle.dcc_ir.specs.Value.{width_of, Fits}
-use Rattle.dcc_ir.specs.WellFormed.{is_expr, is_exit, ret_widths, all_ret_widths, IsProgram}
+use Rattle.dcc_ir.specs.WellFormed.{is_expr, is_exit, ret_widths, all_ret_widths}
 use Rattle.dcc_ir.proofs.ListLaws.{all_parts}
 use Rattle.dcc_ir.proofs.LocationLaws.{location_itself, Contains-here, Contains-later, Contains-none, Contains-cases}
 use Rattle.dcc_ir.proofs.ReachedLaws.{exit_of}
-use Rattle.dcc_c.specs.declared.syntax.Base.{Base}
 use Rattle.dcc_c.specs.declared.syntax.Base.TheVariants.{Uchar, Uint, Ulong}
-use Rattle.dcc_c.specs.declared.syntax.CType.{CType}
 use Rattle.dcc_c.specs.Run as text_run
 use Rattle.dcc_c.specs.Run.{Continuation, is_start}
 use Rattle.dcc_c.specs.Tree.{Function, Tree}
 use Rattle.dcc_c.specs.Types.{bits_of, extended_bits, convert, number_of_type, plain}
-use Rattle.dcc_c.specs.Value.{Value, value, converted, Gives, Outcome, Target, ToVariable, value_of}
-use Rattle.dcc_text.specs.Holding.{Locations, Holds, IsSpelling, IsWithin, Setting, MattersBesides, IsWaiting, AreWaiting, target_for}
-use Rattle.dcc_text.specs.Spelled.{Low, unsigned_type, text}
-use Rattle.dcc_text.specs.Spelling.{Spelling}
+use Rattle.dcc_c.specs.Value.{Value, value, converted, Gives}
+use Rattle.dcc_text.specs.Holding.{Holds, IsSpelling, IsWithin, Setting, MattersBesides, AreWaiting, target_for}
+use Rattle.dcc_text.specs.Spelled.{unsigned_type}
 use Rattle.dcc_text.proofs.Assignments.{held-after}
-use Rattle.dcc_calls.specs.Functions.{function_name, function_spelling, type_for, type_for_any, result_type, ret_text}
-use Rattle.dcc_calls.specs.Serving.{has_name, IsNamed, Opens, IsCallable, AreFunctions, StandsFor}
+use Rattle.dcc_calls.specs.Functions.{function_spelling, type_for, type_for_any, ret_text}
+use Rattle.dcc_calls.specs.Serving.{has_name, IsNamed, Opens, IsCallable, StandsFor}
 use Rattle.dcc_calls.specs.Laws.{IsReturning, HasReturned, ReturnsEnd, BracesEnd}
 use Rattle.dcc_calls.proofs.Arguments.{gives}
 use Rattle.dcc_calls.proofs.CallSteps.{setting, respelled, setting-is}
@@ -250,8 +246,8 @@ module _ (opens : Opens) (function : inner.Graph → Function) (matters : inner.
 pub returns-end : (opens : Opens) (setting : Setting) → ReturnsEnd opens setting
 returns-end opens setting p tree fill values w waiting at i t ret =
     subst (λ st. IsReturning opens st p tree values w waiting i → Fits (inner_run.scene_of i) → All (IsWithin (st.spelling i.running.graph) (st.matters i.running.graph i.running.block [])) values
-        → StandsFor st fill (st.matters i.running.graph i.running.block []) i t
-        → HasReturned st fill (inner_run.exit_step (inner.Ret values) i) (text_run.stmt_step tree (ret_text (st.spelling i.running.graph) values) at t))
+    → StandsFor st fill (st.matters i.running.graph i.running.block []) i t
+    → HasReturned st fill (inner_run.exit_step (inner.Ret values) i) (text_run.stmt_step tree (ret_text (st.spelling i.running.graph) values) at t))
     (setting-is setting ret.functions.spelled) (by values) ret
   where
     by : (es : List inner.Expr) → IsReturning opens (respelled setting) p tree es w waiting i → Fits (inner_run.scene_of i)
@@ -266,5 +262,5 @@ returns-end opens setting p tree fill values w waiting at i t ret =
 pub braces-end : (opens : Opens) (setting : Setting) → BracesEnd opens setting
 braces-end opens setting p tree fill w waiting at i t ret =
     subst (λ st. IsReturning opens st p tree [] w waiting i → StandsFor st fill (st.matters i.running.graph i.running.block []) i t
-        → HasReturned st fill (inner_run.exit_step (inner.Ret []) i) (text_run.close_step at t))
+    → HasReturned st fill (inner_run.exit_step (inner.Ret []) i) (text_run.close_step at t))
     (setting-is setting ret.functions.spelled) (brace-returns opens setting.function setting.matters setting.Continues p tree fill w waiting at i t) ret

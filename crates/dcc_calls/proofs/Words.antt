@@ -1,6 +1,6 @@
 -- The names of a text differ: each kind begins in its own way, and within a kind numbers and offsets differ.
-use Rattle.std.proofs.Common.{◌≡◌, ◌≢◌, ℕ, Some, ◌+◌, ◌<◌, ◌≤◌, ◌^◌, Bool, true, false, ◌==◌, inl, inr, List, [], ◌∷◌, ◌++◌, length, map, append_assoc, refl, sym, ap, ◌∙◌, subst, true≢false, arith}
-use Rattle.std.specs.Prelude.{◌&&◌, ◌||◌, not, filter, codes, if◌then◌else◌, All}
+use Rattle.std.proofs.Common.{◌≡◌, ℕ, Some, ◌+◌, ◌<◌, ◌^◌, Bool, true, false, ◌==◌, List, [], ◌∷◌, ◌++◌, length, map, append_assoc, refl, sym, ap, ◌∙◌, true≢false, arith}
+use Rattle.std.specs.Prelude.{◌&&◌, not, filter, codes, if◌then◌else◌, All}
 use Rattle.std.specs.List.{list_all, list_any}
 use Rattle.std.proofs.lemmas.Bool.{and_from, and_parts, eqb-false, not-true, not_from_false, or_from, or_parts, false_from_ne_true}
 use Rattle.std.proofs.lemmas.List.Elements.{All-head, All-tail}
@@ -10,7 +10,6 @@ use Rattle.dcc_ir.specs.declared.syntax.Param.{Param}
 use Rattle.dcc_ir.specs.Tree.{Graph, Program}
 use Rattle.dcc_ir.specs.WellFormed.{IsGraph, IsProgram}
 use Rattle.dcc_ir.specs.WellFormed as formed
-use Rattle.dcc_ir.proofs.PathLaws.{decided}
 use Rattle.dcc_c.proofs.NameLaws.{same_bytes-equal}
 use Rattle.dcc_c.specs.declared.syntax.Base.TheVariants.{Uchar}
 use Rattle.dcc_c.specs.declared.syntax.Class.TheVariants.{Auto}

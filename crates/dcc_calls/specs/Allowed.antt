@@ -4,7 +4,7 @@ use Rattle.dcc_ir.specs.declared.syntax.Loc.{Loc}
 use Rattle.dcc_ir.specs.Measure.{depth_of}
 use Rattle.dcc_ir.specs.Tree as inner
 use Rattle.dcc_ir.specs.Use.{reads_of}
-use Rattle.dcc_ir.specs.WellFormed.{is_stmt, is_exit, all_ret_widths, IsGraph, IsCall}
+use Rattle.dcc_ir.specs.WellFormed.{is_stmt, all_ret_widths, IsGraph, IsCall}
 use Rattle.dcc_c.specs.Rules.{declared_in}
 use Rattle.dcc_c.specs.Run.{function_in}
 use Rattle.dcc_c.specs.Tree.{Function, Tree}
