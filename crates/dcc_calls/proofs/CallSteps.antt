@@ -32,7 +32,7 @@ use Rattle.dcc_text.proofs.Assignments.{target-is}
 use Rattle.dcc_variables.specs.Variables.{shape_of, variable_name}
 use Rattle.dcc_calls.specs.Functions.{function_name, parameter_name, parameters, name_or, function_spelling, openings, BeginsWith}
 use Rattle.dcc_calls.specs.Serving.{all_byte_places, has_name, IsNamed, Opens, IsCallable, AreFunctions, StandsFor, IsCallStep}
-use Rattle.dcc_calls.specs.Laws.{called, HasBegun, CallsBegin}
+use Rattle.dcc_calls.specs.Laws.{called, HasBegun, waiting_with, CallsBegin}
 use Rattle.dcc_calls.proofs.Arguments.{Arguments, arguments-are}
 use Rattle.dcc_calls.proofs.Bindings.{AreWords, AreArguments, memory-is}
 use Rattle.dcc_calls.proofs.Frames.{variables, variables-are, places-of-call, words-here, AtFirst, frame-here}
@@ -260,10 +260,10 @@ module _ (opens : Opens) (function : inner.Graph → Function) (matters : inner.
     abbrev last : text_run.State
     last = after (text_run.step tree) steps entered
 
-    opened : Opening callee (spelling-is callee named.few.variables named.few.params) tree (opens callee) callable.named (AreWaiting setting) begun going f fill (ends_function f.last)
+    opened : Opening callee (spelling-is callee named.few.variables named.few.params) tree (opens callee) callable.named (AreWaiting setting) begun going f fill (ends_function f.last) (waiting_with s results t)
         (OrOpened (opens callee) (all_byte_places callee.params) Held) lines 0 [] [] last
     opened =
-        open-all callee (spelling-is callee named.few.variables named.few.params) tree (opens callee) callable.named (AreWaiting setting) begun going f fill (ends_function f.last)
+        open-all callee (spelling-is callee named.few.variables named.few.params) tree (opens callee) callable.named (AreWaiting setting) begun going f fill (ends_function f.last) (waiting_with s results t)
         Held 0 callee.params ns f.body lines entered (argument-count callee.bits callee.params x.values ns x.are) formed.params names-apart (record {
           comes_to = refl;
           holds = entered-holds;
@@ -272,6 +272,7 @@ module _ (opens : Opens) (function : inner.Graph → Function) (matters : inner.
           named = λ l has. has.0;
           function = refl;
           filled = stands.filled;
+          waits = refl;
         }) begins
 
     -- what matters is held
@@ -281,24 +282,25 @@ module _ (opens : Opens) (function : inner.Graph → Function) (matters : inner.
       | inr other ↦ inl (named.named first first.stmts l mine, other)
     ]
 
-    begun-there : HasBegun setting fill lines begun last
+    begun-there : HasBegun setting fill lines (waiting_with s results t) begun last
     begun-there =
         let k = opened in record {
+          waits = k.waits;
           comes_to = k.comes_to ∙ ap (λ n. runs lines (ends_function n)) (ap (λ q. q.last) (sym k.function));
           stands = record {
             function = k.function;
             filled = k.filled;
-            holds = weaker callee (spelling-is callee named.few.variables named.few.params) tree (opens callee) callable.named (AreWaiting setting) begun going f fill (ends_function f.last)
+            holds = weaker callee (spelling-is callee named.few.variables named.few.params) tree (opens callee) callable.named (AreWaiting setting) begun going f fill (ends_function f.last) (waiting_with s results t)
                 (OrOpened (opens callee) (all_byte_places callee.params) Held) (matters callee first first.stmts) matters-held last k.holds;
             results = All-cons (λ w. All (has_name w.caller.graph) w.results) waits i.waiting call.written stands.results;
           };
         }
 
-    pub call-begins : HasBegun setting fill lines (called p fill results entry arguments own rest i)
+    pub call-begins : HasBegun setting fill lines (waiting_with s results t) (called p fill results entry arguments own rest i)
         (after (text_run.step tree) steps (text_run.stmt_step tree (stmt_text s depth (inner.Call results entry arguments own)) at t))
     call-begins =
-        subst (λ k. HasBegun setting fill lines k (after (text_run.step tree) steps (text_run.stmt_step tree (stmt_text s depth (inner.Call results entry arguments own)) at t))) (sym begun-is)
-        (subst (λ u. HasBegun setting fill lines begun (after (text_run.step tree) steps u)) (sym entered-is) begun-there)
+        subst (λ k. HasBegun setting fill lines (waiting_with s results t) k (after (text_run.step tree) steps (text_run.stmt_step tree (stmt_text s depth (inner.Call results entry arguments own)) at t))) (sym begun-is)
+        (subst (λ u. HasBegun setting fill lines (waiting_with s results t) begun (after (text_run.step tree) steps u)) (sym entered-is) begun-there)
 
 -- the setting in which graphs are spelled as functions; it is the setting where that does so
 abbrev pub respelled : Setting → Setting
@@ -317,5 +319,5 @@ calls-begin opens setting p tree fill results entry arguments own depth at rest 
     CallOf st = (known : Contains p.graphs i.running.graph) → (call : IsCallStep st p i.running.graph i.running.block rest results entry arguments own)
         → BeginsWith (openings (opens call.agrees.callee) call.agrees.callee) (st.function call.agrees.callee).body lines → Fits (inner_run.scene_of i) → is_over i.end ≡ false
         → StandsFor st fill (st.matters i.running.graph i.running.block (inner.Call results entry arguments own ∷ rest)) i t → st.Continues t.rest i.running.graph i.running.block rest
-        → HasBegun st fill lines (called p fill results entry arguments own rest i) (after (text_run.step tree) (length (openings (opens call.agrees.callee) call.agrees.callee))
+        → HasBegun st fill lines (waiting_with (st.spelling i.running.graph) results t) (called p fill results entry arguments own rest i) (after (text_run.step tree) (length (openings (opens call.agrees.callee) call.agrees.callee))
         (text_run.stmt_step tree (stmt_text (st.spelling i.running.graph) depth (inner.Call results entry arguments own)) at t))

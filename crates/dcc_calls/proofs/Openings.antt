@@ -112,7 +112,8 @@ abbrev pub OrOpened : (Loc → Bool) → List Loc → Locations → Locations
 OrOpened opens ls Has x = Has x ⊎ (is_among ls x ≡ true) × (opens x ≡ true)
 
 module _ (g : inner.Graph) (spelling : IsSpelling (function_spelling g)) (whole : Tree) (opens : Loc → Bool) (opens_named : (l : Loc) → opens l ≡ true → has_name g l)
-    (AreAlike : Alike) (i : inner_run.State) (going : is_over i.end ≡ false) (f : Function) (fill : ℕ) (last : Continuation) where
+    (AreAlike : Alike) (i : inner_run.State) (going : is_over i.end ≡ false) (f : Function) (fill : ℕ) (last : Continuation)
+    (waiting : List text_run.Waiting) where
   abbrev s : Spelling
   s = function_spelling g
 
@@ -124,6 +125,7 @@ module _ (g : inner.Graph) (spelling : IsSpelling (function_spelling g)) (whole 
     pub named : (l : Loc) → Has l → has_name g l
     pub function : t.frame.function ≡ f
     pub filled : t.fill ≡ fill
+    pub waits : t.waiting ≡ waiting
 
   -- more is held than is wanted
   pub weaker : (Has Wants : Locations) → ((l : Loc) → Wants l → Has l) → (t : text_run.State) → Holds s Has AreAlike i t → Holds s Wants AreAlike i t
@@ -186,6 +188,7 @@ module _ (g : inner.Graph) (spelling : IsSpelling (function_spelling g)) (whole 
       named = opened-names;
       function = ap (λ k. k.frame.function) stepped ∙ x.function;
       filled = ap (λ k. k.fill) stepped ∙ x.filled;
+      waits = ap (λ k. k.waiting) stepped ∙ x.waits;
     }
 
   -- Where the location wants it.
@@ -203,6 +206,7 @@ module _ (g : inner.Graph) (spelling : IsSpelling (function_spelling g)) (whole 
       named = λ y has. x.named y (none y has);
       function = x.function;
       filled = x.filled;
+      waits = x.waits;
     },
   )
     where
@@ -221,6 +225,7 @@ module _ (g : inner.Graph) (spelling : IsSpelling (function_spelling g)) (whole 
           named = λ z has. y.named z (one z has);
           function = y.function;
           filled = y.filled;
+          waits = y.waits;
         },
       )
     where
@@ -246,6 +251,7 @@ module _ (g : inner.Graph) (spelling : IsSpelling (function_spelling g)) (whole 
       named = λ l has. x.named l (none l has);
       function = x.function;
       filled = x.filled;
+      waits = x.waits;
     },
   )
     where
@@ -290,6 +296,7 @@ module _ (g : inner.Graph) (spelling : IsSpelling (function_spelling g)) (whole 
               named = λ l has. z.named l (both l has);
               function = z.function;
               filled = z.filled;
+              waits = z.waits;
             }),
       )
     where
@@ -309,7 +316,7 @@ module _ (g : inner.Graph) (spelling : IsSpelling (function_spelling g)) (whole 
       → Opening (OrOpened opens (all_byte_places params) Has) others 0 [] [] (after (text_run.step whole) (length (openings_from s opens j params)) t)
   open-all Has j [] ns lines others t long formed apart x begins =
       let y = (nothing-more Has lines others [] j [] ns t x begins).2 in
-      record { comes_to = x.comes_to ∙ ap (λ ls. runs ls last) begins; holds = y.holds; words = tt; named = y.named; function = y.function; filled = y.filled }
+      record { comes_to = x.comes_to ∙ ap (λ ls. runs ls last) begins; holds = y.holds; words = tt; named = y.named; function = y.function; filled = y.filled; waits = y.waits }
   open-all Has j (p ∷ params) [] lines others t long formed apart x begins = absurd (omega (arith, long))
   open-all Has j (p ∷ params) (n ∷ ns) lines others t long formed apart x begins =
       let (first, rest) = and_parts (is_put g.bits p.put) (list_all (λ q. is_put g.bits q.put) params) formed in
@@ -319,7 +326,7 @@ module _ (g : inner.Graph) (spelling : IsSpelling (function_spelling g)) (whole 
       let u = after (text_run.step whole) (length firsts) t in
       let z = open-all (OrOpened opens (byte_places p.put) Has) (j + 1) params ns more others u (omega (arith, long)) rest
       (λ l there. apart l (among-right (byte_places p.put) (all_byte_places params) l there))
-      (record { comes_to = y.comes_to; holds = y.holds; words = y.words.1; named = y.named; function = y.function; filled = y.filled }) begins_then in
+      (record { comes_to = y.comes_to; holds = y.holds; words = y.words.1; named = y.named; function = y.function; filled = y.filled; waits = y.waits }) begins_then in
       subst (Opening (OrOpened opens (all_byte_places (p ∷ params)) Has) others 0 [] [])
       (sym (after-add (text_run.step whole) (length firsts) (length laters) t) ∙ ap (λ k. after (text_run.step whole) k t) (sym (length-append firsts laters)))
       (record {
@@ -329,6 +336,7 @@ module _ (g : inner.Graph) (spelling : IsSpelling (function_spelling g)) (whole 
         named = λ l has. z.named l (both l has);
         function = z.function;
         filled = z.filled;
+        waits = z.waits;
       })
     where
       both : (l : Loc) → OrOpened opens (all_byte_places (p ∷ params)) Has l → OrOpened opens (all_byte_places params) (OrOpened opens (byte_places p.put) Has) l

@@ -130,9 +130,12 @@ module _ (opens : Opens) (function : inner.Graph → Function) (matters : inner.
 
       -- Nothing is given.
       nothing-back : (results : List Loc) → w.results ≡ results → [] ≡ map (location_width caller.bits) results
-          → HasReturned st fill (inner_run.giving results [] back) (text_run.result_step (target_for (function_spelling caller) results) None at u)
+          → HasReturned st fill t.waiting (inner_run.giving results [] back) (text_run.result_step (target_for (function_spelling caller) results) None at u)
       nothing-back (l ∷ results) is none = absurd cc
       nothing-back [] is none = record {
+        newest = v;
+        waited = newest;
+        goes_on = refl;
         continues = alike.0.continues;
         stands = record {
           function = alike.0.function;
@@ -158,7 +161,7 @@ module _ (opens : Opens) (function : inner.Graph → Function) (matters : inner.
       -- A value is given.
       value-back : (n : ℕ) (results : List Loc) → w.results ≡ results → (width : ℕ) → width ∷ [] ≡ map (location_width caller.bits) results
           → (k : Value) → k.type ≡ plain (unsigned_type width) → k.bits < 2 ^ bits_of (unsigned_type width) → k.bits % 2 ^ width ≡ n
-          → HasReturned st fill (inner_run.giving results (n ∷ []) back) (text_run.result_step (target_for (function_spelling caller) results) (Some k) at u)
+          → HasReturned st fill t.waiting (inner_run.giving results (n ∷ []) back) (text_run.result_step (target_for (function_spelling caller) results) (Some k) at u)
       value-back n [] is width same k typed room low = absurd cc
       value-back n (l ∷ m ∷ results) is width same k typed room low = absurd cc
       value-back n (l ∷ []) is width same k typed room low =
@@ -167,6 +170,9 @@ module _ (opens : Opens) (function : inner.Graph → Function) (matters : inner.
           let kept : (converted (plain (unsigned_type width)) k).bits % 2 ^ width ≡ n =
           ap (λ type. convert (number_of_type type) (unsigned_type width) k.bits % 2 ^ width) typed ∙ ap (λ m. m % 2 ^ width) (unsigned-same width k.bits room) ∙ low in
           record {
+            newest = v;
+            waited = newest;
+            goes_on = refl;
             continues = alike.0.continues;
             stands = record {
               function = alike.0.function;
@@ -194,30 +200,30 @@ module _ (opens : Opens) (function : inner.Graph → Function) (matters : inner.
 
   module _ (p : inner.Program) (tree : Tree) (fill : ℕ) (w : inner_run.Waiting) (waiting : List inner_run.Waiting) (at : ℕ) (i : inner_run.State) (t : text_run.State) where
     module _ (ret : IsReturning opens st p tree [] w waiting i) (stands : StandsFor st fill (matters i.running.graph i.running.block []) i t) where
-      nothing-returned : HasReturned st fill (inner_run.exit_step (inner.Ret []) i) (text_run.back_step t.waiting None at t)
+      nothing-returned : HasReturned st fill t.waiting (inner_run.exit_step (inner.Ret []) i) (text_run.back_step t.waiting None at t)
       nothing-returned =
-          newest-first p tree fill [] w waiting at i t ret stands (HasReturned st fill (inner_run.exit_step (inner.Ret []) i) (text_run.back_step t.waiting None at t))
+          newest-first p tree fill [] w waiting at i t ret stands (HasReturned st fill t.waiting (inner_run.exit_step (inner.Ret []) i) (text_run.back_step t.waiting None at t))
           (λ v vs newest alike.
-          subst (λ k. HasReturned st fill k (text_run.back_step t.waiting None at t)) (sym (returned-is p tree fill [] w waiting at i t ret stands))
-          (subst (HasReturned st fill (inner_run.giving w.results [] (record i { running = w.caller; waiting = waiting }))) (sym (back-is p tree fill [] w waiting at i t ret stands v vs newest alike None))
+          subst (λ k. HasReturned st fill t.waiting k (text_run.back_step t.waiting None at t)) (sym (returned-is p tree fill [] w waiting at i t ret stands))
+          (subst (HasReturned st fill t.waiting (inner_run.giving w.results [] (record i { running = w.caller; waiting = waiting }))) (sym (back-is p tree fill [] w waiting at i t ret stands v vs newest alike None))
           (nothing-back p tree fill [] w waiting at i t ret stands v vs newest alike w.results refl (widths-taken p tree fill [] w waiting at i t ret stands))))
 
-      pub empty-returns : HasReturned st fill (inner_run.exit_step (inner.Ret []) i) (text_run.return_step at t)
+      pub empty-returns : HasReturned st fill t.waiting (inner_run.exit_step (inner.Ret []) i) (text_run.return_step at t)
       empty-returns =
-          subst (HasReturned st fill (inner_run.exit_step (inner.Ret []) i))
+          subst (HasReturned st fill t.waiting (inner_run.exit_step (inner.Ret []) i))
           (sym (ap (λ b. if b then text_run.with_end (Stuck at) t else text_run.back_step t.waiting None at t) (no-start p tree fill [] w waiting at i t ret stands))) nothing-returned
 
-      pub brace-returns : HasReturned st fill (inner_run.exit_step (inner.Ret []) i) (text_run.close_step at t)
+      pub brace-returns : HasReturned st fill t.waiting (inner_run.exit_step (inner.Ret []) i) (text_run.close_step at t)
       brace-returns =
           let start = no-start p tree fill [] w waiting at i t ret stands in
           let result = result-is p tree fill [] w waiting at i t ret stands in
-          subst (HasReturned st fill (inner_run.exit_step (inner.Ret []) i))
+          subst (HasReturned st fill t.waiting (inner_run.exit_step (inner.Ret []) i))
           (sym (ap (λ b. if b || is_some t.frame.function.result then text_run.with_end (Stuck at) t else text_run.back_step t.waiting None at t) start
           ∙ ap (λ o. if is_some o then text_run.with_end (Stuck at) t else text_run.back_step t.waiting None at t) result)) nothing-returned
 
     module _ (e : inner.Expr) (ret : IsReturning opens st p tree (e ∷ []) w waiting i) (fits : Fits (inner_run.scene_of i))
         (within : IsWithin (function_spelling i.running.graph) (matters i.running.graph i.running.block []) e) (stands : StandsFor st fill (matters i.running.graph i.running.block []) i t) where
-      pub value-returns : HasReturned st fill (inner_run.exit_step (inner.Ret (e ∷ [])) i) (text_run.stmt_step tree (ret_text (function_spelling i.running.graph) (e ∷ [])) at t)
+      pub value-returns : HasReturned st fill t.waiting (inner_run.exit_step (inner.Ret (e ∷ [])) i) (text_run.stmt_step tree (ret_text (function_spelling i.running.graph) (e ∷ [])) at t)
       value-returns =
           let g = i.running.graph in
           let named = All-contains (IsNamed st) p.graphs g ret.functions.graphs (known p tree fill (e ∷ []) w waiting at i t ret stands) in
@@ -232,10 +238,10 @@ module _ (opens : Opens) (function : inner.Graph → Function) (matters : inner.
           ∙ ap (λ result. text_run.give_step result (Gives v) at t) (result-is p tree fill (e ∷ []) w waiting at i t ret stands)
           ∙ ap (λ b. if b then text_run.with_end (Stuck at) t else text_run.back_step t.waiting (Some (converted type v)) at t) (no-start p tree fill (e ∷ []) w waiting at i t ret stands) in
           newest-first p tree fill (e ∷ []) w waiting at i t ret stands
-          (HasReturned st fill (inner_run.exit_step (inner.Ret (e ∷ [])) i) (text_run.stmt_step tree (ret_text (function_spelling g) (e ∷ [])) at t))
+          (HasReturned st fill t.waiting (inner_run.exit_step (inner.Ret (e ∷ [])) i) (text_run.stmt_step tree (ret_text (function_spelling g) (e ∷ [])) at t))
           (λ q vs newest alike.
-          subst (λ k. HasReturned st fill k (text_run.stmt_step tree (ret_text (function_spelling g) (e ∷ [])) at t)) (sym (returned-is p tree fill (e ∷ []) w waiting at i t ret stands))
-          (subst (HasReturned st fill (inner_run.giving w.results (inner_run.value_in i e ∷ []) (record i { running = w.caller; waiting = waiting })))
+          subst (λ k. HasReturned st fill t.waiting k (text_run.stmt_step tree (ret_text (function_spelling g) (e ∷ [])) at t)) (sym (returned-is p tree fill (e ∷ []) w waiting at i t ret stands))
+          (subst (HasReturned st fill t.waiting (inner_run.giving w.results (inner_run.value_in i e ∷ []) (record i { running = w.caller; waiting = waiting })))
           (sym (given ∙ back-is p tree fill (e ∷ []) w waiting at i t ret stands q vs newest alike (Some (converted type v))))
           (value-back p tree fill (e ∷ []) w waiting at i t ret stands q vs newest alike (inner_run.value_in i e) w.results refl width
           (widths-taken p tree fill (e ∷ []) w waiting at i t ret stands) (converted type v) refl
@@ -247,12 +253,12 @@ pub returns-end : (opens : Opens) (setting : Setting) → ReturnsEnd opens setti
 returns-end opens setting p tree fill values w waiting at i t ret =
     subst (λ st. IsReturning opens st p tree values w waiting i → Fits (inner_run.scene_of i) → All (IsWithin (st.spelling i.running.graph) (st.matters i.running.graph i.running.block [])) values
     → StandsFor st fill (st.matters i.running.graph i.running.block []) i t
-    → HasReturned st fill (inner_run.exit_step (inner.Ret values) i) (text_run.stmt_step tree (ret_text (st.spelling i.running.graph) values) at t))
+    → HasReturned st fill t.waiting (inner_run.exit_step (inner.Ret values) i) (text_run.stmt_step tree (ret_text (st.spelling i.running.graph) values) at t))
     (setting-is setting ret.functions.spelled) (by values) ret
   where
     by : (es : List inner.Expr) → IsReturning opens (respelled setting) p tree es w waiting i → Fits (inner_run.scene_of i)
         → All (IsWithin (function_spelling i.running.graph) (setting.matters i.running.graph i.running.block [])) es → StandsFor (respelled setting) fill (setting.matters i.running.graph i.running.block []) i t
-        → HasReturned (respelled setting) fill (inner_run.exit_step (inner.Ret es) i) (text_run.stmt_step tree (ret_text (function_spelling i.running.graph) es) at t)
+        → HasReturned (respelled setting) fill t.waiting (inner_run.exit_step (inner.Ret es) i) (text_run.stmt_step tree (ret_text (function_spelling i.running.graph) es) at t)
     by [] given fits within stands = empty-returns opens setting.function setting.matters setting.Continues p tree fill w waiting at i t given stands
     by (e ∷ []) given fits within stands =
         value-returns opens setting.function setting.matters setting.Continues p tree fill w waiting at i t e given fits
@@ -262,5 +268,5 @@ returns-end opens setting p tree fill values w waiting at i t ret =
 pub braces-end : (opens : Opens) (setting : Setting) → BracesEnd opens setting
 braces-end opens setting p tree fill w waiting at i t ret =
     subst (λ st. IsReturning opens st p tree [] w waiting i → StandsFor st fill (st.matters i.running.graph i.running.block []) i t
-    → HasReturned st fill (inner_run.exit_step (inner.Ret []) i) (text_run.close_step at t))
+    → HasReturned st fill t.waiting (inner_run.exit_step (inner.Ret []) i) (text_run.close_step at t))
     (setting-is setting ret.functions.spelled) (brace-returns opens setting.function setting.matters setting.Continues p tree fill w waiting at i t) ret

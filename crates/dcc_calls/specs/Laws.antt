@@ -13,7 +13,8 @@ use Rattle.dcc_c.specs.Run as text_run
 use Rattle.dcc_c.specs.Run.{ends_function, runs}
 use Rattle.dcc_c.specs.Tree.{Lines, Function, Tree}
 use Rattle.dcc_text.specs.Allowed.{AreDeclared}
-use Rattle.dcc_text.specs.Holding.{IsSpelling, Setting, IsWithin}
+use Rattle.dcc_text.specs.Holding.{IsSpelling, Setting, IsWithin, target_for}
+use Rattle.dcc_text.specs.Spelling.{Spelling}
 use Rattle.dcc_text.specs.Stmts.{stmt_text}
 use Rattle.dcc_variables.specs.Globals.{globals_of}
 use Rattle.dcc_calls.specs.Functions.{function_names, parameters, function_spelling, own_declarations, openings, BeginsWith, ret_text}
@@ -53,11 +54,16 @@ called p fill results entry arguments depth rest i =
     inner_run.calling fill results depth (map (inner_run.value_in i) arguments) (inner_run.graph_at p.graphs entry)
     (record i { running = record (i.running) { rest = rest; begins = false } })
 
--- The callee has begun: its function's text has these lines before it, and stands for the program.
-pub record HasBegun (setting : Setting) (fill : ℕ) (lines : Lines) (i : inner_run.State) (t : text_run.State)
-    : Type 0 where
+-- The callee has begun: its function's text has these lines before it, these calls wait, and it stands for the program.
+pub record HasBegun (setting : Setting) (fill : ℕ) (lines : Lines) (waiting : List text_run.Waiting)
+    (i : inner_run.State) (t : text_run.State) : Type 0 where
   pub comes_to : t.rest ≡ runs lines (ends_function t.frame.function.last)
+  pub waits : t.waiting ≡ waiting
   pub stands : StandsThere setting fill i t
+
+-- the call that waits in a text for a result, with those that waited before
+abbrev pub waiting_with : Spelling → List Loc → text_run.State → List text_run.Waiting
+waiting_with s results t = record { frame = t.frame; rest = t.rest; target = target_for s results } ∷ t.waiting
 
 -- Where a text stands for a program before a Call, and what follows the Call in the text stands for what follows it in
 -- the caller's block, a step on the Call's text and one for each opening assignment begin the callee: the text has come
@@ -74,7 +80,8 @@ CallsBegin opens setting = (p : inner.Program) (tree : Tree) (fill : ℕ) (resul
     → StandsFor setting fill
     (setting.matters i.running.graph i.running.block (inner.Call results entry arguments own ∷ rest)) i t
     → setting.Continues t.rest i.running.graph i.running.block rest
-    → HasBegun setting fill lines (called p fill results entry arguments own rest i)
+    → HasBegun setting fill lines (waiting_with (setting.spelling i.running.graph) results t)
+    (called p fill results entry arguments own rest i)
     (after (text_run.step tree) (length (openings (opens call.agrees.callee) call.agrees.callee))
     (text_run.stmt_step tree
     (stmt_text (setting.spelling i.running.graph) depth (inner.Call results entry arguments own)) at t))
@@ -98,8 +105,13 @@ pub record IsReturning (opens : Opens) (setting : Setting) (p : inner.Program) (
       (all_ret_widths i.running.graph)
   pub goes_on : is_over i.end ≡ false
 
--- The caller has gone on: the text goes on with what stands for what follows the Call, and stands for the program.
-pub record HasReturned (setting : Setting) (fill : ℕ) (i : inner_run.State) (t : text_run.State) : Type 0 where
+-- The caller has gone on: the newest of the calls that waited runs, and the text goes on with what stands for what
+-- follows the Call, and stands for the program.
+pub record HasReturned (setting : Setting) (fill : ℕ) (waiting : List text_run.Waiting) (i : inner_run.State)
+    (t : text_run.State) : Type 0 where
+  pub newest : text_run.Waiting
+  pub waited : waiting ≡ newest ∷ t.waiting
+  pub goes_on : t.rest ≡ newest.rest
   pub continues : setting.Continues t.rest i.running.graph i.running.block i.running.rest
   pub stands : StandsThere setting fill i t
 
@@ -110,7 +122,7 @@ ReturnsEnd opens setting = (p : inner.Program) (tree : Tree) (fill : ℕ) (value
     → IsReturning opens setting p tree values w waiting i → Fits (inner_run.scene_of i)
     → All (IsWithin (setting.spelling i.running.graph) (setting.matters i.running.graph i.running.block [])) values
     → StandsFor setting fill (setting.matters i.running.graph i.running.block []) i t
-    → HasReturned setting fill (inner_run.exit_step (inner.Ret values) i)
+    → HasReturned setting fill t.waiting (inner_run.exit_step (inner.Ret values) i)
     (text_run.stmt_step tree (ret_text (setting.spelling i.running.graph) values) at t)
 
 -- So does a step on the closing brace, where the Ret gives nothing.
@@ -119,4 +131,4 @@ BracesEnd opens setting = (p : inner.Program) (tree : Tree) (fill : ℕ) (w : in
     (waiting : List inner_run.Waiting) (at : ℕ) (i : inner_run.State) (t : text_run.State)
     → IsReturning opens setting p tree [] w waiting i
     → StandsFor setting fill (setting.matters i.running.graph i.running.block []) i t
-    → HasReturned setting fill (inner_run.exit_step (inner.Ret []) i) (text_run.close_step at t)
+    → HasReturned setting fill t.waiting (inner_run.exit_step (inner.Ret []) i) (text_run.close_step at t)

@@ -1,5 +1,5 @@
 -- What makes functions of a text the functions of a program's graphs, and when the text stands for the program.
-use Rattle.std.specs.Prelude.{◌≡◌, ℕ, ◌^◌, ◌<◌, ◌≤◌, ◌⊎◌, Bool, true, ◌||◌, ◌&&◌, not, List, [], ◌∷◌, drop, flat_map, length, All, Contains, Some}
+use Rattle.std.specs.Prelude.{◌≡◌, ℕ, ◌^◌, ◌<◌, ◌⊎◌, Bool, true, ◌||◌, ◌&&◌, not, List, [], ◌∷◌, drop, flat_map, length, All, Contains, Some}
 use Rattle.std.specs.List.{list_all}
 use Rattle.dcc_ir.specs.declared.syntax.Loc.{Loc}
 use Rattle.dcc_ir.specs.declared.syntax.Put.{Put}
@@ -100,13 +100,12 @@ abbrev pub StandsThere : Setting → ℕ → inner_run.State → text_run.State 
 StandsThere setting fill i t =
     StandsFor setting fill (setting.matters i.running.graph i.running.block i.running.rest) i t
 
--- What a Call needs so that its text begins the callee: it is well formed and agrees with the callee, it has at most one
--- result, which has a variable, what it reads is held before it, and so is what matters after it but for the result.
+-- What a Call needs so that its text begins the callee: it is well formed and agrees with the callee, what it reads is
+-- held before it, its results have variables, and what matters after it but for these is held before it.
 pub record IsCallStep (setting : Setting) (p : inner.Program) (graph : inner.Graph) (block : inner.Block)
     (rest : List inner.Stmt) (results : List Loc) (entry : ℕ) (arguments : List inner.Expr) (depth : ℕ) : Type 0 where
   pub formed : is_stmt graph.bits (inner.Call results entry arguments depth) ≡ true
   pub agrees : IsCall p graph results entry arguments
-  pub one : length results ≤ 1
   pub within : All (IsWithin (setting.spelling graph)
       (setting.matters graph block (inner.Call results entry arguments depth ∷ rest))) arguments
   pub written : All (has_name graph) results
