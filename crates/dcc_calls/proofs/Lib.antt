@@ -9,3 +9,4 @@ pub mod Returns
 pub mod Declared
 pub mod Words
 pub mod AllowedCalls
+pub mod FirstStates

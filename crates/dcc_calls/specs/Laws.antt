@@ -1,5 +1,5 @@
 -- Laws of calls and returns.
-use Rattle.std.specs.Prelude.{◌≡◌, ℕ, ◌≤◌, true, false, List, [], ◌∷◌, ◌++◌, length, map, drop, All, Contains}
+use Rattle.std.specs.Prelude.{◌≡◌, ℕ, ◌≤◌, true, false, List, [], ◌∷◌, ◌++◌, length, map, drop, codes, All, Contains}
 use Rattle.dcc_run.specs.End.{is_over}
 use Rattle.dcc_run.specs.System.{after}
 use Rattle.dcc_ir.specs.declared.syntax.Loc.{Loc}
@@ -17,7 +17,7 @@ use Rattle.dcc_text.specs.Holding.{IsSpelling, Setting, IsWithin, target_for}
 use Rattle.dcc_text.specs.Spelling.{Spelling}
 use Rattle.dcc_text.specs.Stmts.{stmt_text}
 use Rattle.dcc_variables.specs.Globals.{globals_of}
-use Rattle.dcc_calls.specs.Functions.{function_names, parameters, function_spelling, own_declarations, openings, BeginsWith, ret_text}
+use Rattle.dcc_calls.specs.Functions.{function_names, parameters, function_spelling, own_declarations, openings, BeginsWith, ret_text, IsFunctionOf}
 use Rattle.dcc_calls.specs.Serving.{HasFewNames, Opens, AreFunctions, StandsFor, StandsThere, IsCallStep}
 
 -- Names.
@@ -45,6 +45,27 @@ OwnNamesDiffer = (p : inner.Program) (graph : inner.Graph) (tree : Tree) (f : Fu
     → f.params ≡ parameters graph → f.locals ≡ own_declarations graph
     → all_differ (names_of (own_variables f) ++ known_names tree) ≡ true
 
+-- The start.
+
+-- What the text of a program needs for its first state: the program is well formed, this is its first graph, whose
+-- function is `start`, and the text has the program's stack and the arrays of its image.
+pub record IsBeginning (opens : Opens) (setting : Setting) (p : inner.Program) (tree : Tree) (first : inner.Graph)
+    (others : List inner.Graph) : Type 0 where
+  pub graphs : p.graphs ≡ first ∷ others
+  pub well : IsProgram p
+  pub functions : AreFunctions opens setting p tree
+  pub start : IsFunctionOf first (codes "start") (setting.function first)
+  pub lo : tree.lo ≡ p.lo
+  pub hi : tree.hi ≡ p.hi
+  pub globals : tree.globals ≡ globals_of p
+
+-- Then the first state of the text stands for the program's.
+abbrev pub FirstStatesStand : Opens → Setting → Type 0
+FirstStatesStand opens setting = (p : inner.Program) (tree : Tree) (first : inner.Graph) (others : List inner.Graph)
+    (fill : ℕ) (input : List ℕ) → IsBeginning opens setting p tree first others
+    → StandsThere setting fill (inner_run.first_state p fill input)
+    (text_run.first_state tree (setting.function first) fill input)
+
 -- Calls.
 
 -- the state at a Call, when the graph with its entry has been called
@@ -54,7 +75,8 @@ called p fill results entry arguments depth rest i =
     inner_run.calling fill results depth (map (inner_run.value_in i) arguments) (inner_run.graph_at p.graphs entry)
     (record i { running = record (i.running) { rest = rest; begins = false } })
 
--- The callee has begun: its function's text has these lines before it, these calls wait, and it stands for the program.
+-- The callee has begun: its function's text has these lines before it, these calls wait, and the text stands for the
+-- program.
 pub record HasBegun (setting : Setting) (fill : ℕ) (lines : Lines) (waiting : List text_run.Waiting)
     (i : inner_run.State) (t : text_run.State) : Type 0 where
   pub comes_to : t.rest ≡ runs lines (ends_function t.frame.function.last)
@@ -66,8 +88,8 @@ abbrev pub waiting_with : Spelling → List Loc → text_run.State → List text
 waiting_with s results t = record { frame = t.frame; rest = t.rest; target = target_for s results } ∷ t.waiting
 
 -- Where a text stands for a program before a Call, and what follows the Call in the text stands for what follows it in
--- the caller's block, a step on the Call's text and one for each opening assignment begin the callee: the text has come
--- to the lines after the openings, and stands for the program again. So no such step is stuck or faults.
+-- the caller's block, a step on the Call's text and one for each opening assignment begin the callee: the text has
+-- come to the lines after the openings, and stands for the program again. So no such step is stuck or faults.
 abbrev pub CallsBegin : Opens → Setting → Type 0
 CallsBegin opens setting = (p : inner.Program) (tree : Tree) (fill : ℕ) (results : List Loc) (entry : ℕ)
     (arguments : List inner.Expr) (own depth at : ℕ) (rest : List inner.Stmt) (lines : Lines)
@@ -88,8 +110,8 @@ CallsBegin opens setting = (p : inner.Program) (tree : Tree) (fill : ℕ) (resul
 
 -- Returns.
 
--- What a Ret with these values needs so that its text goes back to the caller: it ends a block of a graph other than the
--- first, it has at most one value, and the newest of the calls that wait takes values of the widths of the graph's.
+-- What a Ret with these values needs so that its text goes back to the caller: it ends a block of a graph other than
+-- the first, it has at most one value, and the newest of the calls that wait takes values of the widths of the graph's.
 pub record IsReturning (opens : Opens) (setting : Setting) (p : inner.Program) (tree : Tree)
     (values : List inner.Expr) (w : inner_run.Waiting) (waiting : List inner_run.Waiting) (i : inner_run.State)
     : Type 0 where

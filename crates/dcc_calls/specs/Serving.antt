@@ -86,8 +86,8 @@ pub record AreFunctions (opens : Opens) (setting : Setting) (p : inner.Program) 
 
 -- States.
 
--- The text stands for the program: it runs the function of the running graph, variables without a value hold this fill,
--- it holds these locations, and its calls that wait stand for those that wait, whose results have variables.
+-- The text stands for the program: it runs the function of the running graph, variables without a value hold this
+-- fill, it holds these locations, and its calls that wait stand for those that wait, whose results have variables.
 pub record StandsFor (setting : Setting) (fill : ℕ) (Has : Locations) (i : inner_run.State) (t : text_run.State)
     : Type 0 where
   pub function : t.frame.function ≡ setting.function i.running.graph

@@ -5,7 +5,7 @@ ghost use Rattle.dcc_calls.specs.Serving.{Opens};
 ghost use Rattle.dcc_calls.specs.Allowed.{CallsAreAllowed, ReturnsAreAllowed, OpeningsAreAllowed};
 ghost use Rattle.dcc_calls.specs.Laws.{FunctionNamesDiffer, FunctionNamesAreDeclared};
 ghost use Rattle.dcc_calls.specs.Laws.{KnownNamesDiffer, OwnNamesDiffer};
-ghost use Rattle.dcc_calls.specs.Laws.{CallsBegin, ReturnsEnd, BracesEnd};
+ghost use Rattle.dcc_calls.specs.Laws.{FirstStatesStand, CallsBegin, ReturnsEnd, BracesEnd};
 
 /// Variables and parameters of different locations have different names, and the array has another one.
 pub fn function_names_differ()
@@ -33,6 +33,11 @@ pub trait SomeSetting {
 
     ghost opens: { Opens };
 }
+
+/// The first state of a program's text stands for the program's.
+pub fn first_states_stand<S: SomeSetting>()
+    ensures { FirstStatesStand S.opens S.setting }
+{}
 
 /// A step on the text of a Call, and one for each opening assignment, begin the callee.
 pub fn calls_begin<S: SomeSetting>()
