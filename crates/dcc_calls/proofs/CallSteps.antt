@@ -24,7 +24,7 @@ use Rattle.dcc_c.specs.Run.{Continuation, ends_function, runs, frame_of, with_ar
 use Rattle.dcc_c.specs.Token.{same_bytes}
 use Rattle.dcc_c.specs.Tree.{Lines, Function, Tree}
 use Rattle.dcc_c.specs.Value.{Value, Gives, and_then, Binding}
-use Rattle.dcc_text.specs.Holding.{Locations, Holds, IsSpelling, Setting, target_for, IsWaiting, AreWaiting}
+use Rattle.dcc_text.specs.Holding.{Locations, Holds, IsSpelling, Setting, target_for, IsWaiting, AreWaiting, MattersBesides}
 use Rattle.dcc_text.specs.Spelled.{Low, text}
 use Rattle.dcc_text.specs.Spelling.{Spelling}
 use Rattle.dcc_text.specs.Stmts.{stmt_text, first_place}
@@ -36,7 +36,8 @@ use Rattle.dcc_calls.specs.Laws.{called, HasBegun, waiting_with, CallsBegin}
 use Rattle.dcc_calls.proofs.Arguments.{Arguments, arguments-are}
 use Rattle.dcc_calls.proofs.Bindings.{AreWords, AreArguments, memory-is}
 use Rattle.dcc_calls.proofs.Frames.{variables, variables-are, places-of-call, words-here, AtFirst, frame-here}
-use Rattle.dcc_calls.proofs.Openings.{Opening, OrOpened, open-all, weaker}
+use Rattle.dcc_calls.proofs.HoldLaws.{frame-weaker, holds-weaker}
+use Rattle.dcc_calls.proofs.Openings.{Opening, OrOpened, open-all}
 use Rattle.dcc_calls.proofs.ParamNames.{spelling-is}
 use Rattle.dcc_calls.proofs.Passings.{values_after, memory_after, passing-is, bytes-are-own}
 use mathlib.Core.Path.{fun_ext}
@@ -223,13 +224,7 @@ module _ (opens : Opens) (function : inner.Graph → Function) (matters : inner.
     waiting-there : IsWaiting setting waits (record { frame = t.frame; rest = t.rest; target = target_for s results })
     waiting-there = record {
       function = stands.function;
-      frame = record {
-        bits = h.frame.bits;
-        base = h.frame.base;
-        variables = h.frame.variables;
-        values = λ l has. h.frame.values l (elim (call.left l has.0) [ inl taken ↦ absurd (has.1 taken) | inr was ↦ was ]);
-        places = h.frame.places;
-      };
+      frame = frame-weaker s Before (MattersBesides setting waits) (λ l has. elim (call.left l has.0) [ inl taken ↦ absurd (has.1 taken) | inr was ↦ was ]) i.running i.running.block rest false t.frame h.frame;
       target = refl;
       continues = continues;
     }
@@ -290,8 +285,7 @@ module _ (opens : Opens) (function : inner.Graph → Function) (matters : inner.
           stands = record {
             function = k.function;
             filled = k.filled;
-            holds = weaker callee (spelling-is callee named.few.variables named.few.params) tree (opens callee) callable.named (AreWaiting setting) begun going f fill (ends_function f.last) (waiting_with s results t)
-                (OrOpened (opens callee) (all_byte_places callee.params) Held) (matters callee first first.stmts) matters-held last k.holds;
+            holds = holds-weaker (function_spelling callee) (OrOpened (opens callee) (all_byte_places callee.params) Held) (matters callee first first.stmts) matters-held (AreWaiting setting) begun last k.holds;
             results = All-cons (λ w. All (has_name w.caller.graph) w.results) waits i.waiting call.written stands.results;
           };
         }

@@ -1,6 +1,6 @@
 -- The first state of a text of functions stands for the program's.
-use Rattle.std.proofs.Common.{◌≡◌, ℕ, ◌+◌, ◌%◌, ◌<◌, Bool, true, false, List, [], ◌∷◌, length, Some, refl, sym, ap, ◌∙◌, subst}
-use Rattle.std.specs.Prelude.{get_or, codes, slice_get, take, All}
+use Rattle.std.proofs.Common.{◌≡◌, ℕ, ◌+◌, ◌%◌, true, List, [], Some, refl, sym, ap, ◌∙◌, subst}
+use Rattle.std.specs.Prelude.{get_or, codes, take, All}
 use Rattle.std.specs.List.{list_all}
 use Rattle.std.proofs.lemmas.List.Elements.{All-nil, All-head}
 use Rattle.std.proofs.lemmas.Option.{slice_get-get_or}
@@ -10,7 +10,7 @@ use Rattle.dcc_ir.specs.Live.{is_among, block_in}
 use Rattle.dcc_ir.specs.Location.{filled}
 use Rattle.dcc_ir.specs.Run as inner_run
 use Rattle.dcc_ir.specs.Tree as inner
-use Rattle.dcc_ir.specs.WellFormed.{is_param_list, memory_params_last, IsGraph, IsProgram}
+use Rattle.dcc_ir.specs.WellFormed.{is_param_list, memory_params_last, IsGraph}
 use Rattle.dcc_c.specs.Placement.{first_base}
 use Rattle.dcc_c.specs.Run as text_run
 use Rattle.dcc_c.specs.Run.{Continuation, frame_of}
@@ -19,11 +19,12 @@ use Rattle.dcc_c.specs.Value.{Binding}
 use Rattle.dcc_text.specs.Holding.{Locations, Holds, Setting, AreWaiting}
 use Rattle.dcc_text.proofs.FirstRuns.{opening}
 use Rattle.dcc_variables.proofs.Arrays.{memory-is}
-use Rattle.dcc_calls.specs.Functions.{parameters, parameters_from, function_spelling}
+use Rattle.dcc_calls.specs.Functions.{parameters_from, function_spelling}
 use Rattle.dcc_calls.specs.Laws.{IsBeginning, FirstStatesStand}
-use Rattle.dcc_calls.specs.Serving.{all_byte_places, has_name, IsNamed, Opens, AreFunctions, StandsFor, StandsThere}
+use Rattle.dcc_calls.specs.Serving.{all_byte_places, has_name, IsNamed, Opens, StandsThere}
 use Rattle.dcc_calls.proofs.Bindings.{is_unplaced, AreArguments}
-use Rattle.dcc_calls.proofs.CallSteps.{setting, respelled, setting-is}
+use Rattle.dcc_calls.proofs.CallSteps.{setting, setting-is}
+use Rattle.dcc_calls.proofs.HoldLaws.{frame-weaker}
 use Rattle.dcc_calls.proofs.Frames.{variables, variables-are, AtFirst, frame-here}
 use Rattle.dcc_calls.proofs.Passings.{values_after}
 
@@ -96,7 +97,7 @@ module _ (opens : Opens) (function : inner.Graph → Function) (matters : inner.
   starts =
       let x = frame-here g named.few.variables named.few.params named.apart formed listed last-ones f (codes "start") is.start unplaced fill base [] [] no-arguments
       begun.running refl (sym (ap (λ ps. values_after ps [] (filled g.bits fill)) no-params)) refl start.frame (ap first_base is.hi) variables-there in record {
-        frame = record { bits = x.bits; base = x.base; variables = x.variables; values = λ l mine. x.values l (held l mine); places = x.places };
+        frame = frame-weaker (function_spelling g) Held (matters g first first.stmts) held begun.running first first.stmts true start.frame x;
         waiting = tt;
         memory = memory-is p fill is.well.hi is.well.image tree is.lo is.hi is.globals;
         input = refl;

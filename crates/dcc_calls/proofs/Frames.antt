@@ -52,14 +52,11 @@ module _ (g : inner.Graph) (few : AreFew (shape_of g)) (few_params : length g.pa
   abbrev shape : Shape
   shape = shape_of g
 
-  abbrev ls : List Loc
-  ls = locations g
-
   abbrev s : Spelling
   s = function_spelling g
 
   abbrev own : List Loc
-  own = filter (is_own g) ls
+  own = filter (is_own g) (locations g)
 
   -- the values of the locations when the arguments have been passed
   abbrev pub values : Values
@@ -129,7 +126,7 @@ module _ (g : inner.Graph) (few : AreFew (shape_of g)) (few_params : length g.pa
     bits = convert Int (unsigned_type (location_width g.bits l)) fill;
     found = subst (λ name. variable_in variables name ≡ Some (record (bound g few formed fill l) { name = name })) (sym (ap (λ o. name_or o (variable_name shape l)) place))
         (no-parameter g.bits base _ 0 g.params vs own_bound
-        ∙ variable-found g few formed fill own _ l (λ x among. filter-among (is_own g) ls x among) (among-filter (is_own g) ls l (ap (λ o. not (is_some o)) place) named));
+        ∙ variable-found g few formed fill own _ l (λ x among. filter-among (is_own g) (locations g) x among) (among-filter (is_own g) (locations g) l (ap (λ o. not (is_some o)) place) named));
     room = mod-lt _ (pow_pos (bits_of (unsigned_type (location_width g.bits l))));
   }
 
@@ -164,7 +161,7 @@ module _ (g : inner.Graph) (few : AreFew (shape_of g)) (few_params : length g.pa
             type = Uchar;
             at = below base (4 + shape.frame);
             found = no-parameter g.bits base _ 0 g.params vs own_bound
-                ∙ array-after g few formed fill own (array_bound g few formed fill base shape.frame) (λ x among. filter-among (is_own g) ls x among)
+                ∙ array-after g few formed fill own (array_bound g few formed fill base shape.frame) (λ x among. filter-among (is_own g) (locations g) x among)
                 ∙ ap (λ bs. variable_in bs frame_name) (sym (append-nil (array_bound g few formed fill base shape.frame)))
                 ∙ array-found g few formed fill base shape.frame [] there;
             small = mod-lt (distance + (4 + shape.frame)) (omega arith);

@@ -3,6 +3,7 @@ pub mod Passings
 pub mod Bindings
 pub mod Arguments
 pub mod Frames
+pub mod HoldLaws
 pub mod Openings
 pub mod CallSteps
 pub mod Returns
@@ -10,3 +11,4 @@ pub mod Declared
 pub mod Words
 pub mod AllowedCalls
 pub mod FirstStates
+pub mod Examples

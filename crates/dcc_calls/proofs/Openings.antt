@@ -40,6 +40,7 @@ use Rattle.dcc_text.proofs.Ways.{Text, lowered}
 use Rattle.dcc_variables.proofs.Lists.{among-left, among-right}
 use Rattle.dcc_calls.specs.Functions.{parameter_name, function_spelling, low_byte, high_byte, opening, put_openings, openings_from, BeginsWith}
 use Rattle.dcc_calls.specs.Serving.{byte_places, all_byte_places, has_name}
+use Rattle.dcc_calls.proofs.HoldLaws.{holds-weaker}
 use Rattle.dcc_calls.proofs.Bindings.{word_binding, IsWord, IsWordPut, AreWords}
 use mathlib.Core.Path.{fun_ext}
 
@@ -127,21 +128,17 @@ module _ (g : inner.Graph) (spelling : IsSpelling (function_spelling g)) (whole 
     pub filled : t.fill ≡ fill
     pub waits : t.waiting ≡ waiting
 
-  -- more is held than is wanted
-  pub weaker : (Has Wants : Locations) → ((l : Loc) → Wants l → Has l) → (t : text_run.State) → Holds s Has AreAlike i t → Holds s Wants AreAlike i t
-  weaker Has Wants all t h = record {
-    frame = record {
-      bits = h.frame.bits;
-      base = h.frame.base;
-      variables = h.frame.variables;
-      values = λ l wants. h.frame.values l (all l wants);
-      places = h.frame.places;
-    };
-    waiting = h.waiting;
-    memory = h.memory;
-    input = h.input;
-    events = h.events;
-    end = h.end;
+  -- it holds more than is wanted
+  weaken : (Has Wants : Locations) → ((l : Loc) → Wants l → Has l) → (lines : Lines) (j : ℕ) (params : List Param) (ns : List ℕ) (t : text_run.State) → Opening Has lines j params ns t
+      → Opening Wants lines j params ns t
+  weaken Has Wants all lines j params ns t x = record {
+    comes_to = x.comes_to;
+    holds = holds-weaker s Has Wants all AreAlike i t x.holds;
+    words = x.words;
+    named = λ l wants. x.named l (all l wants);
+    function = x.function;
+    filled = x.filled;
+    waits = x.waits;
   }
 
   abbrev holds-at : (Has : Locations) (t : text_run.State) (rest : Continuation) → Holds s Has AreAlike i t → Holds s Has AreAlike i (goes_on rest t)
@@ -196,38 +193,16 @@ module _ (g : inner.Graph) (spelling : IsSpelling (function_spelling g)) (whole 
       → opens l ≡ wanted → i.running.values l ≡ n → location_width g.bits l ≡ 8 → ((k : ℕ) → same_bytes ((function_spelling g).name l) (parameter_name k) ≡ false) → Opening Has lines j params ns t
       → IsTaken (text_run.scope_of whole t) 8 false n (plain Uchar) e → BeginsWith (opening wanted s l e ++ stmts) lines others
       → (more : Lines) × BeginsWith stmts more others × Opening (OrOpened opens (l ∷ []) Has) more j params ns (after (text_run.step whole) (length (opening wanted s l e)) t)
-  open-if Has false l e stmts lines others j params ns t n wants holding width apart x taken begins = (
-    lines,
-    begins,
-    record {
-      comes_to = x.comes_to;
-      holds = weaker Has (OrOpened opens (l ∷ []) Has) none t x.holds;
-      words = x.words;
-      named = λ y has. x.named y (none y has);
-      function = x.function;
-      filled = x.filled;
-      waits = x.waits;
-    },
-  )
+  open-if Has false l e stmts lines others j params ns t n wants holding width apart x taken begins =
+      (lines, begins, weaken Has (OrOpened opens (l ∷ []) Has) none lines j params ns t x)
     where
       none : (y : Loc) → OrOpened opens (l ∷ []) Has y → Has y
       none y (inl was) = was
       none y (inr (there, wanted)) = absurd (true≢false (sym wanted ∙ ap opens (location_same y l (only-one l y there)) ∙ wants))
   open-if Has true l e stmts no_lines others j params ns t n wants holding width apart x taken begins = absurd begins
   open-if Has true l e stmts (line first at lines) others j params ns t n wants holding width apart x taken begins =
-      let y = open-one Has first at lines j params ns t x l (opens_named l wants) e begins.0 n holding width apart taken in (
-        lines,
-        begins.1,
-        record {
-          comes_to = y.comes_to;
-          holds = weaker (OrOne Has l) (OrOpened opens (l ∷ []) Has) one (text_run.step whole t) y.holds;
-          words = y.words;
-          named = λ z has. y.named z (one z has);
-          function = y.function;
-          filled = y.filled;
-          waits = y.waits;
-        },
-      )
+      let y = open-one Has first at lines j params ns t x l (opens_named l wants) e begins.0 n holding width apart taken in
+      (lines, begins.1, weaken (OrOne Has l) (OrOpened opens (l ∷ []) Has) one lines j params ns (text_run.step whole t) y)
     where
       one : (y : Loc) → OrOpened opens (l ∷ []) Has y → OrOne Has l y
       one y (inl was) = inl was
@@ -241,19 +216,7 @@ module _ (g : inner.Graph) (spelling : IsSpelling (function_spelling g)) (whole 
   -- what opens nothing
   nothing-more : (Has : Locations) (lines others : Lines) (stmts : List Stmt) (j : ℕ) (params : List Param) (ns : List ℕ) (t : text_run.State) → Opening Has lines j params ns t
       → BeginsWith stmts lines others → (more : Lines) × BeginsWith stmts more others × Opening (OrOpened opens [] Has) more j params ns t
-  nothing-more Has lines others stmts j params ns t x begins = (
-    lines,
-    begins,
-    record {
-      comes_to = x.comes_to;
-      holds = weaker Has (OrOpened opens [] Has) none t x.holds;
-      words = x.words;
-      named = λ l has. x.named l (none l has);
-      function = x.function;
-      filled = x.filled;
-      waits = x.waits;
-    },
-  )
+  nothing-more Has lines others stmts j params ns t x begins = (lines, begins, weaken Has (OrOpened opens [] Has) none lines j params ns t x)
     where
       none : (l : Loc) → OrOpened opens [] Has l → Has l
       none l (inl was) = was
@@ -289,15 +252,7 @@ module _ (g : inner.Graph) (spelling : IsSpelling (function_spelling g)) (whole 
         begins_last,
         subst (Opening (OrOpened opens (low ∷ high ∷ []) Has) more j (p ∷ params) (n ∷ ns))
             (sym (after-add (text_run.step whole) (length first_ones) (length second_ones) t) ∙ ap (λ k. after (text_run.step whole) k t) (sym (length-append first_ones second_ones)))
-            (record {
-              comes_to = z.comes_to;
-              holds = weaker (OrOpened opens (high ∷ []) (OrOpened opens (low ∷ []) Has)) (OrOpened opens (low ∷ high ∷ []) Has) both _ z.holds;
-              words = z.words;
-              named = λ l has. z.named l (both l has);
-              function = z.function;
-              filled = z.filled;
-              waits = z.waits;
-            }),
+            (weaken (OrOpened opens (high ∷ []) (OrOpened opens (low ∷ []) Has)) (OrOpened opens (low ∷ high ∷ []) Has) both more j (p ∷ params) (n ∷ ns) _ z),
       )
     where
       word-of : {Has : Locations} {lines : Lines} (t : text_run.State) → Opening Has lines j (p ∷ params) (n ∷ ns) t → IsWord t.frame.variables i.running.values j low high n
@@ -329,15 +284,7 @@ module _ (g : inner.Graph) (spelling : IsSpelling (function_spelling g)) (whole 
       (record { comes_to = y.comes_to; holds = y.holds; words = y.words.1; named = y.named; function = y.function; filled = y.filled; waits = y.waits }) begins_then in
       subst (Opening (OrOpened opens (all_byte_places (p ∷ params)) Has) others 0 [] [])
       (sym (after-add (text_run.step whole) (length firsts) (length laters) t) ∙ ap (λ k. after (text_run.step whole) k t) (sym (length-append firsts laters)))
-      (record {
-        comes_to = z.comes_to;
-        holds = weaker (OrOpened opens (all_byte_places params) (OrOpened opens (byte_places p.put) Has)) (OrOpened opens (all_byte_places (p ∷ params)) Has) both _ z.holds;
-        words = tt;
-        named = λ l has. z.named l (both l has);
-        function = z.function;
-        filled = z.filled;
-        waits = z.waits;
-      })
+      (weaken (OrOpened opens (all_byte_places params) (OrOpened opens (byte_places p.put) Has)) (OrOpened opens (all_byte_places (p ∷ params)) Has) both others 0 [] [] _ z)
     where
       both : (l : Loc) → OrOpened opens (all_byte_places (p ∷ params)) Has l → OrOpened opens (all_byte_places params) (OrOpened opens (byte_places p.put) Has) l
       both l (inl was) = inl (inl was)

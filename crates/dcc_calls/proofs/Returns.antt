@@ -7,7 +7,7 @@ use Rattle.std.proofs.lemmas.List.Elements.{All-contains, All-contains_itself, A
 use Rattle.dcc_run.specs.End.{Stuck}
 use Rattle.dcc_ir.specs.declared.syntax.Loc.{Loc}
 use Rattle.dcc_ir.specs.Families.{Family}
-use Rattle.dcc_ir.specs.Location.{location_width, same_location}
+use Rattle.dcc_ir.specs.Location.{location_width, same_location, Values, with_value}
 use Rattle.dcc_ir.specs.Run as inner_run
 use Rattle.dcc_ir.specs.Tree as inner
 use Rattle.dcc_ir.specs.Value.{width_of, Fits}
@@ -20,7 +20,7 @@ use Rattle.dcc_c.specs.Run as text_run
 use Rattle.dcc_c.specs.Run.{Continuation, is_start}
 use Rattle.dcc_c.specs.Tree.{Function, Tree}
 use Rattle.dcc_c.specs.Types.{bits_of, extended_bits, convert, number_of_type, plain}
-use Rattle.dcc_c.specs.Value.{Value, value, converted, Gives}
+use Rattle.dcc_c.specs.Value.{Value, value, converted, Gives, Binding, after_assignment}
 use Rattle.dcc_text.specs.Holding.{Holds, IsSpelling, IsWithin, Setting, MattersBesides, AreWaiting, target_for}
 use Rattle.dcc_text.specs.Spelled.{unsigned_type}
 use Rattle.dcc_text.proofs.Assignments.{held-after}
@@ -29,6 +29,7 @@ use Rattle.dcc_calls.specs.Serving.{has_name, IsNamed, Opens, IsCallable, Stands
 use Rattle.dcc_calls.specs.Laws.{IsReturning, HasReturned, ReturnsEnd, BracesEnd}
 use Rattle.dcc_calls.proofs.Arguments.{gives}
 use Rattle.dcc_calls.proofs.CallSteps.{setting, respelled, setting-is}
+use Rattle.dcc_calls.proofs.HoldLaws.{holds-weaker}
 use Rattle.dcc_calls.proofs.ParamNames.{spelling-is}
 
 -- a number of an unsigned type stays the same in it
@@ -128,11 +129,12 @@ module _ (opens : Opens) (function : inner.Graph → Function) (matters : inner.
       back-is : (result : Option Value) → text_run.back_step t.waiting result at t ≡ text_run.result_step (target_for (function_spelling caller) w.results) result at u
       back-is result = ap (λ ws. text_run.back_step ws result at t) newest ∙ ap (λ target. text_run.result_step target result at u) alike.0.target
 
-      -- Nothing is given.
-      nothing-back : (results : List Loc) → w.results ≡ results → [] ≡ map (location_width caller.bits) results
-          → HasReturned st fill t.waiting (inner_run.giving results [] back) (text_run.result_step (target_for (function_spelling caller) results) None at u)
-      nothing-back (l ∷ results) is none = absurd cc
-      nothing-back [] is none = record {
+      -- The caller's frame holds what matters, its variables and values changed or not.
+      gone-on : (values : Values) (variables : List Binding)
+          → Holds (function_spelling caller) (matters caller w.caller.block w.caller.rest) (AreWaiting st) (record back { running = record (w.caller) { values = values } })
+          (record u { frame = record (v.frame) { variables = variables } })
+          → HasReturned st fill t.waiting (record back { running = record (w.caller) { values = values } }) (record u { frame = record (v.frame) { variables = variables } })
+      gone-on values variables held = record {
         newest = v;
         waited = newest;
         goes_on = refl;
@@ -140,23 +142,19 @@ module _ (opens : Opens) (function : inner.Graph → Function) (matters : inner.
         stands = record {
           function = alike.0.function;
           filled = stands.filled;
-          holds = record {
-            frame = record {
-              bits = alike.0.frame.bits;
-              base = alike.0.frame.base;
-              variables = alike.0.frame.variables;
-              values = λ l mine. alike.0.frame.values l (mine, λ there. Contains-none l (subst (λ rs. Contains rs l) is there));
-              places = alike.0.frame.places;
-            };
-            waiting = alike.1;
-            memory = h.memory;
-            input = h.input;
-            events = h.events;
-            end = h.end;
-          };
+          holds = held;
           results = All-tail (λ (x : inner_run.Waiting). All (has_name x.caller.graph) x.results) w waiting results-named;
         };
       }
+
+      -- Nothing is given.
+      nothing-back : (results : List Loc) → w.results ≡ results → [] ≡ map (location_width caller.bits) results
+          → HasReturned st fill t.waiting (inner_run.giving results [] back) (text_run.result_step (target_for (function_spelling caller) results) None at u)
+      nothing-back (l ∷ results) is none = absurd cc
+      nothing-back [] is none =
+          gone-on w.caller.values v.frame.variables
+          (holds-weaker (function_spelling caller) (MattersBesides st w) (matters caller w.caller.block w.caller.rest)
+          (λ l mine. (mine, λ there. Contains-none l (subst (λ rs. Contains rs l) is there))) (AreWaiting st) back u back-holds)
 
       -- A value is given.
       value-back : (n : ℕ) (results : List Loc) → w.results ≡ results → (width : ℕ) → width ∷ [] ≡ map (location_width caller.bits) results
@@ -169,20 +167,10 @@ module _ (opens : Opens) (function : inner.Graph → Function) (matters : inner.
           let mine : has_name caller l = All-head (has_name caller) l [] (subst (All (has_name caller)) is (All-head (λ (x : inner_run.Waiting). All (has_name x.caller.graph) x.results) w waiting results-named)) in
           let kept : (converted (plain (unsigned_type width)) k).bits % 2 ^ width ≡ n =
           ap (λ type. convert (number_of_type type) (unsigned_type width) k.bits % 2 ^ width) typed ∙ ap (λ m. m % 2 ^ width) (unsigned-same width k.bits room) ∙ low in
-          record {
-            newest = v;
-            waited = newest;
-            goes_on = refl;
-            continues = alike.0.continues;
-            stands = record {
-              function = alike.0.function;
-              filled = stands.filled;
-              holds = held-after (function_spelling caller) tree (MattersBesides st w) (AreWaiting st) back u back-holds spelling (matters caller w.caller.block w.caller.rest) l mine
-                  (λ x has other. (has, λ there. alone l x other (subst (λ rs. Contains rs x) is there))) (λ x has. named.named w.caller.block w.caller.rest x has.0) k n
-                  (subst (λ size. (converted (plain (unsigned_type size)) k).bits % 2 ^ size ≡ n) of_width kept) (λ settled. absurd (true≢false (sym settled)));
-              results = All-tail (λ (x : inner_run.Waiting). All (has_name x.caller.graph) x.results) w waiting results-named;
-            };
-          }
+          gone-on (with_value w.caller.values l n) (after_assignment v.frame.variables ((function_spelling caller).name l) k)
+          (held-after (function_spelling caller) tree (MattersBesides st w) (AreWaiting st) back u back-holds spelling (matters caller w.caller.block w.caller.rest) l mine
+          (λ x has other. (has, λ there. alone l x other (subst (λ rs. Contains rs x) is there))) (λ x has. named.named w.caller.block w.caller.rest x has.0) k n
+          (subst (λ size. (converted (plain (unsigned_type size)) k).bits % 2 ^ size ≡ n) of_width kept) (λ settled. absurd (true≢false (sym settled))))
         where
           alone : (l x : Loc) → same_location x l ≡ false → Contains (l ∷ []) x → ⊥
           alone l x other there =

@@ -111,7 +111,8 @@ CallsBegin opens setting = (p : inner.Program) (tree : Tree) (fill : ℕ) (resul
 -- Returns.
 
 -- What a Ret with these values needs so that its text goes back to the caller: it ends a block of a graph other than
--- the first, it has at most one value, and the newest of the calls that wait takes values of the widths of the graph's.
+-- the first, it has at most one value, and the newest of the calls that wait takes values of the widths of this
+-- graph's.
 pub record IsReturning (opens : Opens) (setting : Setting) (p : inner.Program) (tree : Tree)
     (values : List inner.Expr) (w : inner_run.Waiting) (waiting : List inner_run.Waiting) (i : inner_run.State)
     : Type 0 where
