@@ -3,3 +3,4 @@ mod TransferLaws
 mod TrailLaws
 mod WantedLaws
 mod RefinedLaws
+mod Examples
