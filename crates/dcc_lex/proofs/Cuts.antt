@@ -163,7 +163,7 @@ continues_then : (spot next : Spot) (line : ℕ) (bytes rest : List ℕ) (c : Cu
 unfolding Continues
 continues_then spot next line bytes rest c first later = first ∙ later
 
-continues_same : (spot : Spot) (line : ℕ) (bytes : List ℕ) → Continues spot line bytes (cut [] spot line bytes)
+pub continues_same : (spot : Spot) (line : ℕ) (bytes : List ℕ) → Continues spot line bytes (cut [] spot line bytes)
 unfolding Continues
 continues_same spot line bytes = refl
 
@@ -333,13 +333,6 @@ feed_goes spot line next bytes rest some is counts left =
     let same : suc line ≡ next = omega arith in
     continues_as spot line bytes (ap (λ n. cut [] line_start n (drop 1 bytes)) same ∙ ap (λ r. cut [] line_start next r) (sym left)) (feed_advances spot line bytes some is).0
 
--- the pieces so far, those of a cut and those after it
-pub continues_so_far : (before : List Piece) (spot : Spot) (line : ℕ) (bytes : List ℕ) (c : Cut) (all : List Piece) → Continues spot line bytes c →
-    before ++ remaining spot line bytes ≡ all → (before ++ c.pieces) ++ remaining c.spot c.line c.rest ≡ all
-unfolding Continues
-continues_so_far before spot line bytes c all goes so =
-    append_assoc before c.pieces (remaining c.spot c.line c.rest) ∙ ap (λ (later : List Piece). before ++ later) (sym goes) ∙ so
-
 -- all the pieces after the version line
 pub remaining-all : (bytes : List ℕ) → remaining in_line 1 bytes ≡ pieces_of bytes
 unfolding remaining
@@ -362,16 +355,7 @@ number_goes spot line bytes differs is c same =
 
 -- Answers.
 
--- what holds of each value holds of that of an answer
-pub if_ok : {T E : Type 0} (answer : Result T E) (P Q : T → Type 0) → ((x : T) → P x → Q x) → IfOk answer P → IfOk answer Q
-if_ok (Ok x) P Q follows holds = follows x holds
-if_ok (Err e) P Q follows holds = tt
-
 -- an answer that is no value
 pub if_none : {T : Type 0} (answer : Option T) (P : Type 0) (Q : T → Type 0) → MatchOption answer P Q → ((x : T) → answer ≡ Some x → ⊥) → P
 if_none None P Q holds never = holds
 if_none (Some x) P Q holds never = absurd (never x refl)
-
-pub option_short : {T : Type 0} (o : Option T) → length (option_to_list o) ≤ 1
-option_short None = omega arith
-option_short (Some x) = omega arith

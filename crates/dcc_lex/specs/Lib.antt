@@ -6,4 +6,5 @@ pub mod CutViews
 pub mod HeadViews
 pub mod MarkViews
 pub mod NumberViews
+pub mod PiecesViews
 pub mod TokenViews

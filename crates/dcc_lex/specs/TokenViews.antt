@@ -1,5 +1,5 @@
 -- The tokens and pieces that the declared types stand for.
-use Rattle.std.specs.Prelude.{ℕ, List, map, codes}
+use Rattle.std.specs.Prelude.{ℕ, List, codes}
 use Rattle.std.specs.Option.{option_map}
 use Rattle.dcc_c.specs.Token as tokens
 use Rattle.dcc_c.specs.Pieces as pieces
@@ -68,6 +68,3 @@ token_of (Pragma head) = tokens.Pragma (head_of head)
 
 abbrev pub piece_of : Piece → pieces.Piece
 piece_of p = pieces.piece p.line (option_map token_of p.token)
-
-abbrev pub pieces_of : List Piece → List pieces.Piece
-pieces_of ps = map piece_of ps

@@ -1,6 +1,7 @@
 //! The first bytes of a text: a piece or none, and where the text goes on.
 
-ghost use Rattle.std.specs.Prelude.{◌≡◌, ◌+◌, ◌<◌, ◌≤◌, length, true, false, [], ◌∷◌, MatchOption, Some, option_map};
+ghost use Rattle.std.specs.Prelude.{◌≡◌, ◌+◌, ◌<◌, ◌≤◌, length, true, false, [], ◌∷◌, MatchOption, Some, option_map, option_to_list};
+ghost use Rattle.std.specs.Option.{ForNone};
 ghost use Rattle.dcc_c.specs.Pieces as spec;
 ghost use Rattle.dcc_lex.specs.TokenViews as views;
 ghost use Rattle.dcc_lex.specs.HeadViews.{found_of};
@@ -192,4 +193,24 @@ pub fn next_cut(spot: Spot, line: u32, bytes: &[u8]) -> Cut<'_>
         return blank_cut(spot, line, bytes);
     }
     token_cut(spot, line, bytes)
+}
+
+/// The next piece of bytes that begin at this spot of this line, or none, and where the text goes on.
+pub fn next_piece(spot: Spot, line: u32, bytes: &[u8]) -> Cut<'_>
+    requires short { line + length bytes.now ≤ 67108865 }
+    ensures continues { cuts.Continues (cuts.spot_of spot) line bytes.now (cuts.cut_of result) }
+    ensures all { ForNone result.piece (length result.rest.now ≡ 0) }
+    ensures lines { result.line + length result.rest.now ≤ line + length bytes.now }
+    ensures shorter { length (option_to_list result.piece) + length result.rest.now ≤ length bytes.now }
+{
+    let mut left = Cut {
+        piece: None,
+        spot,
+        line,
+        rest: bytes,
+    };
+    while left.piece.is_none() && !left.rest.is_empty() {
+        left = next_cut(left.spot, left.line, left.rest);
+    }
+    left
 }

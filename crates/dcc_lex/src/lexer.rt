@@ -1,46 +1,19 @@
 //! From the bytes after the version line to pieces.
 
-ghost use Rattle.std.specs.Prelude.{◌≡◌, ◌≤◌, ◌++◌, length, option_to_list, IfOk, OnOk};
+ghost use Rattle.std.specs.Prelude.{◌≡◌, ◌≤◌, length};
 ghost use Rattle.dcc_c.specs.Pieces as spec;
 ghost use Rattle.dcc_c.specs.Numbered.{rows};
-ghost use Rattle.dcc_lex.specs.TokenViews as views;
+ghost use Rattle.dcc_lex.specs.PiecesViews.{pieces_of};
 
-use crate::cut::{Spot, next_cut};
-use crate::token::Piece;
-use std::alloc::{AllocError, Global};
+use crate::left::Pieces;
 
-// Puts a piece, if there is one, after others.
-fn push_piece<'a>(pieces: &mut Vec<Piece<'a>>, piece: Option<Piece<'a>>) -> Result<(), AllocError>
-    ensures { OnOk result (pieces.new.items ≡ pieces.old.items ++ option_to_list piece.entry) }
-{
-    if let Some(piece) = piece {
-        pieces.push(piece)?;
-    }
-    Ok(())
-}
-
-/// The pieces of the bytes after the version line, which are at most 67108864.
-///
-/// # Errors
-///
-/// An `AllocError` where memory runs out.
-pub fn pieces(alloc: Global, rest: &[u8]) -> Result<Vec<Piece<'_>>, AllocError>
+/// The pieces of the bytes after the version line, which are at most 67108864. They are cut as they are asked for.
+pub fn pieces(rest: &[u8]) -> Pieces<'_>
     requires short { length rest.now ≤ 67108864 }
-    ensures pieces { IfOk result (λ ps. views.pieces_of ps.items ≡ spec.pieces_of rest.now) }
-    ensures few { IfOk result (λ ps. length ps.items ≤ length rest.now) }
+    ensures pieces { pieces_of result ≡ spec.pieces_of rest.now }
+    ensures place { result.at ≡ 0 }
 {
-    let mut pieces = Vec::new(alloc);
-    let mut bytes = rest;
-    let mut spot = Spot::InLine;
-    let mut line = 1;
-    while !bytes.is_empty() {
-        let cut = next_cut(spot, line, bytes);
-        push_piece(&mut pieces, cut.piece)?;
-        spot = cut.spot;
-        line = cut.line;
-        bytes = cut.rest;
-    }
-    Ok(pieces)
+    Pieces::of(rest)
 }
 
 /// How many line feeds the bytes have.

@@ -3,15 +3,18 @@
 
 mod bytes;
 mod cut;
+pub mod left;
 mod lexer;
 mod mark;
 mod number;
+
 mod pragma;
 mod text;
 pub mod token;
 mod word;
 
 pub use lexer::{line_feeds, pieces};
+pub use left::Pieces;
 pub use pragma::after_version;
 pub use text::{is_among, same_text};
 pub use token::{Head, Mark, Piece, Suffix, Token};

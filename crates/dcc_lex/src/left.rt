@@ -1,0 +1,97 @@
+//! What is left of a text: its pieces, cut as they are asked for.
+
+ghost use Rattle.std.specs.Prelude.{◌≡◌, ◌+◌, ◌≤◌, length, option_to_list};
+ghost use Rattle.std.specs.Option.{ForNone};
+
+use crate::cut::{Spot, next_piece};
+use crate::token::Piece;
+
+/// What is left of a text: its pieces, each of which is cut when the one before it is passed.
+#[derive(Clone, Copy)]
+pub struct Pieces<'a> {
+    // The first of them.
+    first: Option<Piece<'a>>,
+    /// How many pieces stand before it.
+    pub at: usize,
+    // Where in a line what has not been cut begins.
+    spot: Spot,
+    // The line where it begins, from 1.
+    line: u32,
+    // What has not been cut.
+    bytes: &'a [u8],
+    ghost all: { ForNone first (length bytes.now ≡ 0) },
+    ghost lines: { line + length bytes.now ≤ 67108865 },
+    ghost few: { at + length (option_to_list first) + length bytes.now ≤ 67108864 },
+}
+
+impl<'a> Pieces<'a> {
+    ghost use Rattle.std.specs.Prelude.{take, drop, map, option_map, ◌++◌};
+    ghost use Rattle.dcc_c.specs.Pieces as spec;
+    ghost use Rattle.dcc_lex.specs.TokenViews.{piece_of};
+    ghost use Rattle.dcc_lex.specs.CutViews.{spot_of, remaining};
+    ghost use Rattle.dcc_lex.specs.PiecesViews.{pieces_of, BeginWith};
+
+    // The pieces of bytes that begin at this spot of this line, where so many stand before them.
+    fn cut_at(at: usize, spot: Spot, line: u32, bytes: &'a [u8]) -> Pieces<'a>
+        requires lines { line + length bytes.now ≤ 67108865 }
+        requires few { at + length bytes.now ≤ 67108864 }
+        ensures pieces { pieces_of result ≡ remaining (spot_of spot) line bytes.now }
+        ensures place { result.at ≡ at }
+    {
+        let cut = next_piece(spot, line, bytes);
+        Pieces {
+            first: cut.piece,
+            at,
+            spot: cut.spot,
+            line: cut.line,
+            bytes: cut.rest,
+        }
+    }
+
+    /// The pieces of the bytes after the version line, which are at most 67108864.
+    pub fn of(rest: &'a [u8]) -> Pieces<'a>
+        requires short { length rest.now ≤ 67108864 }
+        ensures pieces { pieces_of result ≡ spec.pieces_of rest.now }
+        ensures place { result.at ≡ 0 }
+    {
+        Pieces::cut_at(0, Spot::InLine, 1, rest)
+    }
+
+    /// The first of the pieces.
+    pub fn first(&self) -> Option<&Piece<'a>>
+        ensures { BeginWith (option_map (λ p. piece_of p.now) result) (pieces_of self.now) }
+    {
+        self.first.as_ref()
+    }
+
+    /// The piece after the first. It is cut anew at each call.
+    pub fn second(&self) -> Option<Piece<'a>>
+        ensures { BeginWith (option_map piece_of result) (drop 1 (pieces_of self.now)) }
+    {
+        next_piece(self.spot, self.line, self.bytes).piece
+    }
+
+    /// Goes past the first piece, where there is one.
+    pub fn skip(&mut self)
+        ensures pieces { pieces_of self.new ≡ drop 1 (pieces_of self.old) }
+        ensures place { self.new.at ≡ self.old.at + length (take 1 (pieces_of self.old)) }
+    {
+        if self.first.is_some() {
+            *self = Pieces::cut_at(self.at + 1, self.spot, self.line, self.bytes);
+        }
+    }
+
+    /// The same pieces, none of which is counted yet.
+    pub fn from_here(&self) -> Pieces<'a>
+        ensures pieces { pieces_of result ≡ pieces_of self.now }
+        ensures place { result.at ≡ 0 }
+    {
+        Pieces {
+            first: self.first,
+            at: 0,
+            spot: self.spot,
+            line: self.line,
+            bytes: self.bytes,
+        }
+    }
+}
