@@ -9,8 +9,10 @@ use Rattle.dcc_lex.specs.declared.token.Head.{Head}
 use Rattle.dcc_lex.specs.declared.token.Head.TheVariants.{Version, Stack, Place, Depth}
 use Rattle.dcc_lex.specs.declared.token.Mark.{Mark}
 use Rattle.dcc_lex.specs.declared.token.Mark.TheVariants as m
+use Rattle.dcc_lex.specs.declared.token.Keyword.{Keyword}
+use Rattle.dcc_lex.specs.declared.token.Keyword.TheVariants as k
 use Rattle.dcc_lex.specs.declared.token.Token.{Token}
-use Rattle.dcc_lex.specs.declared.token.Token.TheVariants.{Word, Decimal, Hex, Mark as MarkToken, Pragma}
+use Rattle.dcc_lex.specs.declared.token.Token.TheVariants.{Keyword as KeywordToken, Name, Decimal, Hex, Mark as MarkToken, Pragma}
 use Rattle.dcc_lex.specs.declared.token.Piece.{Piece}
 
 abbrev pub suffix_of : Suffix → tokens.Suffix
@@ -59,8 +61,32 @@ mark_of m.Percent = codes "%"
 mark_of m.Tilde = codes "~"
 mark_of m.Exclamation = codes "!"
 
+-- the bytes of a keyword
+abbrev pub keyword_of : Keyword → List ℕ
+keyword_of k.Auto = codes "auto"
+keyword_of k.Break = codes "break"
+keyword_of k.Case = codes "case"
+keyword_of k.Char = codes "char"
+keyword_of k.Continue = codes "continue"
+keyword_of k.Default = codes "default"
+keyword_of k.Do = codes "do"
+keyword_of k.Else = codes "else"
+keyword_of k.For = codes "for"
+keyword_of k.Goto = codes "goto"
+keyword_of k.If = codes "if"
+keyword_of k.Int = codes "int"
+keyword_of k.Long = codes "long"
+keyword_of k.Register = codes "register"
+keyword_of k.Return = codes "return"
+keyword_of k.Signed = codes "signed"
+keyword_of k.Switch = codes "switch"
+keyword_of k.Unsigned = codes "unsigned"
+keyword_of k.Void = codes "void"
+keyword_of k.While = codes "while"
+
 abbrev pub token_of : Token → tokens.Token
-token_of (Word word) = tokens.WordToken word.now
+token_of (KeywordToken keyword) = tokens.WordToken (keyword_of keyword)
+token_of (Name name) = tokens.WordToken name.word.now
 token_of (Decimal n suffix) = tokens.Decimal n (suffix_of suffix)
 token_of (Hex n suffix) = tokens.Hex n (suffix_of suffix)
 token_of (MarkToken mark) = tokens.Mark (mark_of mark)

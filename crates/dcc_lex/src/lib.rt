@@ -7,7 +7,6 @@ pub mod left;
 mod lexer;
 mod mark;
 mod number;
-
 mod pragma;
 mod text;
 pub mod token;
@@ -16,6 +15,5 @@ mod word;
 pub use lexer::{line_feeds, pieces};
 pub use left::Pieces;
 pub use pragma::after_version;
-pub use text::{is_among, same_text};
-pub use token::{Head, Mark, Piece, Suffix, Token};
-pub use word::is_word;
+pub use text::same_text;
+pub use token::{Head, Keyword, Mark, Name, Piece, Suffix, Token};

@@ -1,8 +1,7 @@
 //! Words compared with others.
 
-ghost use Rattle.std.specs.Prelude.{◌≡◌, map, get_or};
+ghost use Rattle.std.specs.Prelude.{◌≡◌, get_or};
 ghost use Rattle.dcc_c.specs.Token as tokens;
-ghost use Rattle.dcc_c.specs.Grammar as grammar;
 
 // The first byte of a text, or 0.
 fn first_byte(text: &str) -> u8
@@ -25,16 +24,4 @@ pub fn same_text(left: &str, right: &str) -> bool
         return false;
     }
     left == right
-}
-
-/// Whether the word is among these.
-pub fn is_among(words: &[&str], word: &str) -> bool
-    ensures { result ≡ grammar.is_among (map (λ other. other.now) words.now) word.now }
-{
-    for other in words {
-        if same_text(word, other) {
-            return true;
-        }
-    }
-    false
 }

@@ -1,5 +1,8 @@
 //! Tokens, and the pieces that a text is cut into.
 
+ghost use Rattle.std.specs.Prelude.{◌≡◌, true};
+ghost use Rattle.dcc_c.specs.Grammar.{is_name};
+
 /// The suffix of a number.
 #[derive(Clone, Copy, PartialEq, Eq, Debug)]
 pub enum Suffix {
@@ -93,11 +96,66 @@ pub enum Mark {
     Exclamation,
 }
 
+/// A keyword of the grammar.
+#[derive(Clone, Copy, PartialEq, Eq, Debug)]
+pub enum Keyword {
+    /// `auto`.
+    Auto,
+    /// `break`.
+    Break,
+    /// `case`.
+    Case,
+    /// `char`.
+    Char,
+    /// `continue`.
+    Continue,
+    /// `default`.
+    Default,
+    /// `do`.
+    Do,
+    /// `else`.
+    Else,
+    /// `for`.
+    For,
+    /// `goto`.
+    Goto,
+    /// `if`.
+    If,
+    /// `int`.
+    Int,
+    /// `long`.
+    Long,
+    /// `register`.
+    Register,
+    /// `return`.
+    Return,
+    /// `signed`.
+    Signed,
+    /// `switch`.
+    Switch,
+    /// `unsigned`.
+    Unsigned,
+    /// `void`.
+    Void,
+    /// `while`.
+    While,
+}
+
+/// A name: a word that is no keyword of ISO C90.
+#[derive(Clone, Copy)]
+pub struct Name<'a> {
+    /// The word.
+    pub word: &'a str,
+    ghost name: { is_name word.now ≡ true },
+}
+
 /// A token.
 #[derive(Clone, Copy)]
 pub enum Token<'a> {
-    /// A name or a keyword.
-    Word(&'a str),
+    /// A keyword of the grammar.
+    Keyword(Keyword),
+    /// A name.
+    Name(Name<'a>),
     /// A decimal number, at most 4294967295.
     Decimal(u32, Suffix),
     /// A number in hexadecimal, at most 4294967295.

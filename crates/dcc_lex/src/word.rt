@@ -1,16 +1,15 @@
 //! Words, and the tokens that runs of letters, digits and `_` are.
 
-ghost use Rattle.std.specs.Prelude.{◌≡◌, ◌==◌, true, false, length, map, filter, MatchOption, Some, option_map, get_or};
+ghost use Rattle.std.specs.Prelude.{◌≡◌, true, false, if◌then◌else◌, MatchOption, Some, None, option_map, get_or};
 ghost use Rattle.std.specs.List.{list_all};
 ghost use Rattle.dcc_c.specs.Token as tokens;
 ghost use Rattle.dcc_c.specs.Pieces as spec;
 ghost use Rattle.dcc_c.specs.Grammar as grammar;
 ghost use Rattle.dcc_lex.specs.TokenViews as views;
 
-use crate::bytes::{is_digit, is_letter, is_word_byte};
+use crate::bytes::is_digit;
 use crate::number::number_of;
-use crate::text::is_among;
-use crate::token::{Suffix, Token};
+use crate::token::{Keyword, Name, Suffix, Token};
 use std::str;
 
 // Whether the first of the bytes is a digit.
@@ -18,57 +17,6 @@ fn begins_number(run: &[u8]) -> bool
     ensures { result ≡ tokens.is_digit (get_or run.now 0 0) }
 {
     run.first().is_some_and(|first| is_digit(*first))
-}
-
-// Whether each of the bytes is a letter, a digit or `_`.
-fn are_word_bytes(bytes: &[u8]) -> bool
-    ensures { result ≡ list_all tokens.is_word_byte bytes.now }
-{
-    for byte in bytes {
-        if !is_word_byte(*byte) {
-            return false;
-        }
-    }
-    true
-}
-
-/// Whether these bytes are a word: at most 31 letters, digits and `_`, not beginning with a digit.
-pub fn is_word(bytes: &[u8]) -> bool
-    ensures { result ≡ tokens.is_word bytes.now }
-{
-    match bytes.split_first() {
-        None => false,
-        Some((first, rest)) => is_letter(*first) && rest.len() <= 30 && are_word_bytes(rest),
-    }
-}
-
-// The keywords of ISO C90 that have so many bytes and that the grammar does not have.
-fn unused_of(bytes: usize) -> &'static [&'static str]
-    ensures { map (λ word. word.now) result.now ≡ filter (λ word. length word == bytes) spec.unused_keywords }
-{
-    if bytes == 4 {
-        return &["enum"];
-    }
-    if bytes == 5 {
-        return &["const", "float", "short", "union"];
-    }
-    if bytes == 6 {
-        return &["double", "extern", "sizeof", "static", "struct"];
-    }
-    if bytes == 7 {
-        return &["typedef"];
-    }
-    if bytes == 8 {
-        return &["volatile"];
-    }
-    &[]
-}
-
-// Whether this is a keyword of ISO C90 that the grammar does not have.
-fn is_unused_keyword(word: &str) -> bool
-    ensures { result ≡ grammar.is_among spec.unused_keywords word.now }
-{
-    is_among(unused_of(word.len()), word)
 }
 
 // The text of a run of letters, digits and `_` that begins with no digit, where it is a word.
@@ -87,6 +35,39 @@ fn word_in(run: &[u8]) -> Option<&str>
     }
 }
 
+// The token that a word is: a keyword or a name; None for a keyword of ISO C90 that the grammar does not have.
+fn token_of_text(word: &str) -> Option<Token<'_>>
+    requires { tokens.is_word word.now ≡ true }
+    ensures { option_map views.token_of result
+        ≡ (if grammar.is_among spec.unused_keywords word.now then None else Some (tokens.WordToken word.now)) }
+{
+    match word {
+        "auto" => Some(Token::Keyword(Keyword::Auto)),
+        "break" => Some(Token::Keyword(Keyword::Break)),
+        "case" => Some(Token::Keyword(Keyword::Case)),
+        "char" => Some(Token::Keyword(Keyword::Char)),
+        "continue" => Some(Token::Keyword(Keyword::Continue)),
+        "default" => Some(Token::Keyword(Keyword::Default)),
+        "do" => Some(Token::Keyword(Keyword::Do)),
+        "else" => Some(Token::Keyword(Keyword::Else)),
+        "for" => Some(Token::Keyword(Keyword::For)),
+        "goto" => Some(Token::Keyword(Keyword::Goto)),
+        "if" => Some(Token::Keyword(Keyword::If)),
+        "int" => Some(Token::Keyword(Keyword::Int)),
+        "long" => Some(Token::Keyword(Keyword::Long)),
+        "register" => Some(Token::Keyword(Keyword::Register)),
+        "return" => Some(Token::Keyword(Keyword::Return)),
+        "signed" => Some(Token::Keyword(Keyword::Signed)),
+        "switch" => Some(Token::Keyword(Keyword::Switch)),
+        "unsigned" => Some(Token::Keyword(Keyword::Unsigned)),
+        "void" => Some(Token::Keyword(Keyword::Void)),
+        "while" => Some(Token::Keyword(Keyword::While)),
+        "const" | "double" | "enum" | "extern" | "float" | "short" | "sizeof" | "static" | "struct"
+        | "typedef" | "union" | "volatile" => None,
+        _ => Some(Token::Name(Name { word })),
+    }
+}
+
 /// The token that a run of letters, digits and `_` is.
 pub fn token_of_word(run: &[u8]) -> Option<Token<'_>>
     requires { list_all tokens.is_word_byte run.now ≡ true }
@@ -95,11 +76,7 @@ pub fn token_of_word(run: &[u8]) -> Option<Token<'_>>
     if begins_number(run) {
         return number_of(run);
     }
-    let word = word_in(run)?;
-    if is_unused_keyword(word) {
-        return None;
-    }
-    Some(Token::Word(word))
+    token_of_text(word_in(run)?)
 }
 
 /// The decimal number without suffix that a run of letters, digits and `_` is.

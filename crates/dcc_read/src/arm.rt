@@ -10,7 +10,7 @@ ghost use Rattle.dcc_reader.specs.PartialViews.{case_of};
 ghost use Rattle.dcc_reader.specs.ReaderViews.{reader_of};
 
 use crate::Got;
-use dcc_lex::{Mark, Suffix, Token};
+use dcc_lex::{Keyword, Mark, Suffix, Token};
 use dcc_reader::list::push_some;
 use dcc_reader::{CaseAt, Reader};
 use std::alloc::Global;
@@ -62,7 +62,7 @@ fn read_case(r: &mut Reader<'_>) -> Option<CaseAt>
         ≡ statements.read_case (reader_of r.old) }
 {
     r.skip();
-    let at = r.at;
+    let at = r.left.at;
     match case_here(r) {
         Some(value) => {
             r.skip();
@@ -84,7 +84,7 @@ fn read_cases(r: &mut Reader<'_>, alloc: Global, calls: usize) -> Got<Vec<CaseAt
     let mut numbers = Vec::new(alloc);
     let mut left = calls;
     while left > 0 {
-        if !r.sees_word("case") {
+        if !r.sees_word(Keyword::Case) {
             return Ok(numbers);
         }
         left -= 1;
@@ -99,8 +99,8 @@ pub(crate) fn read_arm_head(r: &mut Reader<'_>, alloc: Global, calls: usize) -> 
     ensures { IfOk result (λ head.
         reading.got (arm_head_of head) (reader_of r.new) ≡ statements.read_arm_head calls (reader_of r.old)) }
 {
-    if r.sees_word("default") {
-        let default = Some(r.at);
+    if r.sees_word(Keyword::Default) {
+        let default = Some(r.left.at);
         r.skip();
         r.take_mark(Mark::Colon);
         let numbers = Vec::new(alloc);
@@ -115,5 +115,5 @@ pub(crate) fn read_arm_head(r: &mut Reader<'_>, alloc: Global, calls: usize) -> 
 pub(crate) fn begins_arm(r: &Reader<'_>) -> bool
     ensures { result ≡ statements.begins_arm (reader_of r.now) }
 {
-    r.sees_word("case") || r.sees_word("default")
+    r.sees_word(Keyword::Case) || r.sees_word(Keyword::Default)
 }

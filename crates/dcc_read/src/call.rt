@@ -97,7 +97,7 @@ fn read_place(r: &mut Reader<'_>, alloc: Global, calls: usize) -> Got<PartialExp
 fn read_after_star(r: &mut Reader<'_>, alloc: Global, calls: usize) -> Got<PartialExpr>
     ensures { IfOk result (λ e. reading.got (expr_of e) (reader_of r.new) ≡ after_star calls (reader_of r.old)) }
 {
-    let at = r.at;
+    let at = r.left.at;
     let inside = Inside {
         start: at,
         operators: 1,

@@ -170,7 +170,7 @@ fn stop_enclosed(r: &mut Reader<'_>)
     ensures { reader_of r.new ≡ stopped_deep (reader_of r.old) }
 {
     if begins_expr(r) || r.sees_type() {
-        r.stop_at(ParseKind::Depth, r.at);
+        r.stop_at(ParseKind::Depth, r.left.at);
     } else {
         r.fail();
     }
@@ -194,7 +194,7 @@ pub fn name_here(r: &mut Reader<'_>, alloc: Global, word: &str) -> Got<PartialEx
     ensures { IfOk result (λ e. reading.got (expr_of e) (reader_of r.new)
         ≡ reading.name_here word.now (reader_of r.old)) }
 {
-    let at = r.at;
+    let at = r.left.at;
     r.skip();
     let word = String::from_str(alloc, word)?;
     Ok(PartialExpr::Name(r.sees_mark(Mark::OpenParenthesis), at, word))
@@ -204,7 +204,7 @@ pub fn name_here(r: &mut Reader<'_>, alloc: Global, word: &str) -> Got<PartialEx
 fn read_leaf(r: &mut Reader<'_>, alloc: Global) -> Got<Measured>
     ensures { IfOk result (λ e. reading.got (expr_of e.expr) (reader_of r.new) ≡ reading.read_leaf (reader_of r.old)) }
 {
-    let at = r.at;
+    let at = r.left.at;
     if let Some(number) = number_of(r.next()) {
         r.skip();
         return Ok(Measured {
@@ -235,7 +235,7 @@ fn measured_unary(r: &mut Reader<'_>, alloc: Global, calls: usize, inside: Insid
         r.stop_at(ParseKind::Depth, inside.start);
         return Ok(missing());
     }
-    let at = r.at;
+    let at = r.left.at;
     if let Some(operator) = unary_of(r.next()) {
         r.skip();
         let operand = measured_unary(r, alloc, calls, inside.in_operator())?;
@@ -425,7 +425,7 @@ pub fn read_value(r: &mut Reader<'_>, alloc: Global, calls: usize) -> Got<Partia
         ≡ statements.read_value calls (reader_of r.old)) }
 {
     let inside = Inside {
-        start: r.at,
+        start: r.left.at,
         operators: 0,
         opened: 0,
     };
@@ -438,7 +438,7 @@ pub fn read_enclosed(r: &mut Reader<'_>, alloc: Global, calls: usize) -> Got<Par
         ≡ statements.read_enclosed calls (reader_of r.old)) }
 {
     let inside = Inside {
-        start: r.at,
+        start: r.left.at,
         operators: 0,
         opened: 1,
     };

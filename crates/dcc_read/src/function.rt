@@ -59,7 +59,7 @@ fn read_function(
 fn is_end(r: &Reader<'_>) -> bool
     ensures { result ≡ reading.is_stopped (reader_of r.now) || (length (reader_of r.now).left == 0) }
 {
-    r.is_stopped() || r.at >= r.pieces.len()
+    r.is_stopped() || r.left.first().is_none()
 }
 
 /// Reads functions up to the end of the text, the first of them after its name.

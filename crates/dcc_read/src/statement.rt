@@ -16,7 +16,7 @@ use crate::call::read_simple;
 use crate::expression::read_test;
 use crate::short::{read_goto, read_leave, read_return};
 use crate::spare::without_spare;
-use dcc_lex::{Head, Mark};
+use dcc_lex::{Head, Keyword, Mark};
 use dcc_reader::list::push_some;
 use dcc_reader::pragma::read_depth;
 use dcc_reader::{Around, ParseKind, PartialArm, PartialStmt, Reader, Row, StatementWord};
@@ -170,7 +170,7 @@ fn read_depth_line(r: &mut Reader<'_>, around: Around, labelled: bool) -> LineRe
         return last_line();
     }
     if around.is_nested() {
-        r.stop_at(ParseKind::Depth, r.at);
+        r.stop_at(ParseKind::Depth, r.left.at);
         return last_line();
     }
     read_depth(r);
@@ -188,7 +188,7 @@ fn read_label(r: &mut Reader<'_>, alloc: Global, around: Around) -> Got<LineRead
     ensures { IfOk result (λ line. (calls : ℕ) → after_line line calls (around_of around) (reader_of r.new)
         ≡ label_line calls (around_of around) (reader_of r.old)) }
 {
-    let at = r.at;
+    let at = r.left.at;
     let line = r.line();
     match r.take_name(alloc)? {
         Some(word) => {
@@ -266,7 +266,7 @@ fn read_if(r: &mut Reader<'_>, alloc: Global, calls: usize, around: Around) -> G
     let fewer = calls - 1;
     let done = !r.is_stopped();
     let body = read_block(r, alloc, fewer, around.in_block())?;
-    if r.sees_word("else") {
+    if r.sees_word(Keyword::Else) {
         r.skip();
         let otherwise = read_block(r, alloc, fewer, around.in_block())?;
         return Ok(PartialStmt::If(test, done, body, otherwise));
@@ -299,7 +299,7 @@ fn read_do(r: &mut Reader<'_>, alloc: Global, calls: usize, around: Around) -> G
 {
     r.skip();
     let body = read_block(r, alloc, calls, around.in_loop())?;
-    r.take_word("while");
+    r.take_word(Keyword::While);
     let test = read_test(r, alloc, calls)?;
     let done = !r.is_stopped();
     r.take_mark(Mark::Semicolon);
@@ -407,10 +407,10 @@ fn read_line(
         return read_label(r, alloc, around);
     }
     if begins_nested_block(r, around) {
-        r.stop_at(ParseKind::Depth, r.at);
+        r.stop_at(ParseKind::Depth, r.left.at);
         return Ok(last_line());
     }
-    let at = r.at;
+    let at = r.left.at;
     let line = r.line();
     let stmt = read_stmt(r, alloc, calls, around)?;
     around.stop_if_nested(r, at);

@@ -5,7 +5,7 @@ ghost use Rattle.std.specs.Option.{option_map};
 ghost use Rattle.dcc_c.specs.Placement as placement;
 ghost use Rattle.dcc_c.specs.Reading as reading;
 ghost use Rattle.dcc_c.specs.ReadingText as texts;
-ghost use Rattle.dcc_lex.specs.TokenViews.{pieces_of};
+ghost use Rattle.dcc_lex.specs.PiecesViews.{pieces_of};
 ghost use Rattle.dcc_reader.specs.BegunViews.{begun_of};
 ghost use Rattle.dcc_reader.specs.PartialViews.{number_of, variable_of, function_of, text_of};
 ghost use Rattle.dcc_reader.specs.ReaderViews.{reader_of};
@@ -14,11 +14,11 @@ ghost use Rattle.dcc_read.specs.TextViews.{declared_of, is_global, global_addres
 use crate::Got;
 use crate::function::read_functions;
 use dcc_c::Class;
-use dcc_lex::{Head, Mark, Piece};
+use dcc_lex::{Head, Mark, Pieces};
 use dcc_reader::declaration::{read_init, read_size};
 use dcc_reader::head::{Begun, read_begun};
 use dcc_reader::pragma::take_number_of_line;
-use dcc_reader::reader::{enough_calls, reader_at};
+use dcc_reader::reader::{ENOUGH_CALLS, reader_at};
 use dcc_reader::{NumberAt, PartialFunction, PartialText, PartialVariable, Reader};
 use std::alloc::{AllocError, Global};
 
@@ -177,12 +177,11 @@ fn read_text(r: &mut Reader<'_>, alloc: Global, calls: usize) -> Got<PartialText
 ///
 /// # Errors
 /// Where memory runs out.
-pub fn read<'a>(alloc: Global, pieces: &'a [Piece<'a>]) -> Result<Reading<'a>, AllocError>
-    requires few { length pieces.now < 67108864 }
+pub fn read<'a>(alloc: Global, rest: &Pieces<'a>) -> Result<Reading<'a>, AllocError>
     ensures { IfOk result (λ r. reading.got (text_of r.text) (reader_of r.following)
-        ≡ texts.reading_of (pieces_of pieces.now)) }
+        ≡ texts.reading_of (pieces_of rest.now)) }
 {
-    let mut following = reader_at(pieces);
-    let text = read_text(&mut following, alloc, enough_calls(pieces))?;
+    let mut following = reader_at(rest);
+    let text = read_text(&mut following, alloc, ENOUGH_CALLS)?;
     Ok(Reading { text, following })
 }

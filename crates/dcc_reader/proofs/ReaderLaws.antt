@@ -1,40 +1,46 @@
 -- Laws of readers.
-use Rattle.std.proofs.Common.{◌≡◌, ℕ, suc, zero, ◌+◌, List, [], ◌∷◌, map, drop, refl, ap, ◌∙◌, add-one, Option, Some, None, true}
-use Rattle.std.specs.Prelude.{is_some}
+use Rattle.std.proofs.Common.{◌≡◌, ℕ, suc, ◌+◌, List, [], ◌∷◌, length, take, drop, refl, sym, ap, ◌∙◌, add-one, Option, Some, None, true}
+use Rattle.std.specs.Prelude.{is_some, option_map}
 use Rattle.dcc_c.specs.declared.syntax.Base.{Base}
 use Rattle.dcc_c.specs.declared.syntax.CType.{CType}
 use Rattle.dcc_c.specs.Kinds as kinds
 use Rattle.dcc_c.specs.Pieces as pieces
 use Rattle.dcc_c.specs.Reading as reading
-use Rattle.dcc_lex.specs.declared.token.Piece.{Piece}
-use Rattle.dcc_lex.specs.TokenViews.{piece_of}
+use Rattle.dcc_c.specs.Token.{Token}
+use Rattle.dcc_lex.specs.PiecesViews.{pieces_of, BeginWith}
+use Rattle.dcc_reader.specs.OffenceViews.{offence_of}
 use Rattle.dcc_reader.specs.ReaderViews.{reader_of}
 use Rattle.dcc_reader.specs.declared.reader.Reader.{Reader}
 
-drop_more : (n : ℕ) (ps : List Piece) → drop (suc n) ps ≡ drop 1 (drop n ps)
-drop_more zero ps = refl
-drop_more (suc n) [] = refl
-drop_more (suc n) (p ∷ ps) = drop_more n ps
+-- the token of a piece, where there is one
+abbrev pub token_in : Option pieces.Piece → Option Token
+token_in (Some p) = p.token
+token_in None = None
 
-map_after : (ps : List Piece) → map piece_of (drop 1 ps) ≡ drop 1 (map piece_of ps)
-map_after [] = refl
-map_after (p ∷ ps) = refl
+one_taken : (left : List pieces.Piece) → is_some (reading.first_token left) ≡ true → length (take 1 left) ≡ 1
+one_taken [] seen = absurd cc
+one_taken (p ∷ left) seen = refl
 
--- the pieces after the next one
-pub after_one : (n : ℕ) (ps : List Piece) → map piece_of (drop (n + 1) ps) ≡ drop 1 (map piece_of (drop n ps))
-after_one n ps = rw add-one (ap (map piece_of) (drop_more n ps) ∙ map_after (drop n ps))
-
-at_next : (left : List pieces.Piece) (n : ℕ) (stop : Option kinds.Offence) (depth : ℕ) →
-    let before : reading.Reader = record { left = left; at = n + 1; stop = stop; depth = depth } in
-    let following : reading.Reader = record { left = left; at = suc n; stop = stop; depth = depth } in
-    before ≡ following
-at_next left n stop depth = rw add-one refl
+abbrev follower : List pieces.Piece → ℕ → Option kinds.Offence → ℕ → reading.Reader
+follower left at stop depth = record { left = left; at = at; stop = stop; depth = depth }
 
 -- the reader after the next piece
-pub after_next : (r s : Reader) → s.pieces ≡ r.pieces → s.at ≡ r.at + 1 → s.stop ≡ r.stop → s.depth ≡ r.depth →
-    reader_of s ≡ reading.skip (reader_of r)
-after_next r s pieces at stop depth =
-    simp (pieces, at, stop, depth) (simp after_one (at_next (drop 1 (map piece_of (drop r.at r.pieces.now))) r.at _ r.depth))
+pub after_next : (r s : Reader) → is_some (reading.next_token (reader_of r)) ≡ true → pieces_of s.left ≡ drop 1 (pieces_of r.left) →
+    s.left.at ≡ r.left.at + length (take 1 (pieces_of r.left)) → s.stop ≡ r.stop → s.depth ≡ r.depth → reader_of s ≡ reading.skip (reader_of r)
+after_next r s seen left at stop depth =
+    let next : s.left.at ≡ suc r.left.at = at ∙ ap (λ n. r.left.at + n) (one_taken (pieces_of r.left) (first_seen (reader_of r) seen)) ∙ add-one r.left.at in
+    ap (λ l. follower l s.left.at (option_map offence_of s.stop) s.depth) left
+    ∙ ap (λ n. follower (drop 1 (pieces_of r.left)) n (option_map offence_of s.stop) s.depth) next
+    ∙ ap (λ o. follower (drop 1 (pieces_of r.left)) (suc r.left.at) (option_map offence_of o) s.depth) stop
+    ∙ ap (follower (drop 1 (pieces_of r.left)) (suc r.left.at) (option_map offence_of r.stop)) depth
+  where
+    seen_at : (left : _) (at : ℕ) (stop : _) (depth : ℕ) → is_some (reading.next_token (record { left = left; at = at; stop = stop; depth = depth })) ≡ true →
+        is_some (reading.first_token left) ≡ true
+    seen_at left at (Some o) depth seen = absurd cc
+    seen_at left at None depth seen = seen
+
+    first_seen : (r : reading.Reader) → is_some (reading.next_token r) ≡ true → is_some (reading.first_token r.left) ≡ true
+    first_seen r seen = seen_at r.left r.at r.stop r.depth seen
 
 -- the token after the next one
 pub second_of : (r : reading.Reader) → is_some (reading.next_token r) ≡ true →
@@ -45,6 +51,11 @@ second_of r seen = second_at r.left r.at r.stop r.depth seen
         reading.second_token (record { left = left; at = at; stop = stop; depth = depth }) ≡ reading.first_token (drop 1 left)
     second_at left at (Some o) depth seen = absurd cc
     second_at left at None depth seen = refl
+
+-- the token of a piece that pieces begin with
+pub token_first : (o : Option pieces.Piece) (left : List pieces.Piece) → BeginWith o left → token_in o ≡ reading.first_token left
+token_first (Some p) left begins = sym (ap reading.first_token begins)
+token_first None left begins = sym (ap reading.first_token begins)
 
 -- what a type is read from
 abbrev pub type_after : reading.Got (Option Base) → reading.Got (Option CType)

@@ -3,15 +3,14 @@ use Rattle.std.proofs.Common.{◌≡◌, ℕ, ◌+◌, ◌<◌, Bool, true, fals
 use Rattle.std.specs.Prelude.{◌||◌, Option, Some, None, is_some, option_map, if◌then◌else◌}
 use Rattle.dcc_c.specs.Dos.{Signature}
 use Rattle.dcc_reader.specs.Heads.{IsHead}
-use Rattle.std.proofs.lemmas.List.{at_drop_more, append-nil, map-append}
+use Rattle.std.proofs.lemmas.List.{append-nil, map-append}
 use Rattle.dcc_c.specs.Grammar.{is_among}
 use Rattle.dcc_c.specs.Known.{Known, known, known_named, signature_of, known_of, known_functions, head_at, heads_in, label_at, labels_before_head}
 use Rattle.dcc_c.specs.Partial as partial
 use Rattle.dcc_c.specs.Pieces as pieces
 use Rattle.dcc_c.specs.Reading.{first_token}
 use Rattle.dcc_c.specs.Tree.{Word}
-use Rattle.dcc_lex.specs.declared.token.Piece.{Piece}
-use Rattle.dcc_lex.specs.TokenViews.{piece_of, pieces_of}
+use Rattle.dcc_lex.specs.PiecesViews.{BeginWith}
 use Rattle.dcc_reader.specs.declared.partial.PartialFunction.{PartialFunction}
 use Rattle.dcc_reader.specs.PartialViews.{function_of, word_of}
 use Rattle.dcc_reader.proofs.SetLaws.{among-append}
@@ -29,14 +28,22 @@ head-pushed new old f heads new_is heads_are =
     ∙ known_functions-append (map function_of old) (function_of f ∷ [])
     ∙ ap (λ ks. known_functions (map function_of old) ++ ks) (append-nil (known_of (function_of f)) ∙ heads_are)
 
-next-of : {A : Type 0} (xs : List A) (i : ℕ) → i < length xs → (x : A) × (drop i xs ≡ x ∷ drop (i + 1) xs)
-next-of [] i within = absurd (omega arith)
-next-of (y ∷ ys) i within = (get_or (y ∷ ys) i y, at_drop_more (λ l. l) (y ∷ ys) i y within)
+-- a first piece that was seen
+pub first-seen : {A : Type 0} (f : A → pieces.Piece) (o : Option A) (left : List pieces.Piece) → BeginWith (option_map f o) left → is_some o ≡ true →
+    (p : pieces.Piece) × (left ≡ p ∷ drop 1 left)
+first-seen f (Some x) left begins some = (f x, begins)
+first-seen f None left begins some = absurd cc
 
-pub heads-next : (rest : List Piece) (i : ℕ) → i < length rest → heads_in (pieces_of (drop i rest)) ≡ head_at (pieces_of (drop i rest)) ++ heads_in (pieces_of (drop (i + 1) rest))
-heads-next rest i within =
-    let n = next-of rest i within in
-    ap (λ l. heads_in (pieces_of l)) n.1 ∙ ap (λ l. head_at (pieces_of l) ++ heads_in (pieces_of (drop (i + 1) rest))) (sym n.1)
+pub none-seen : {A : Type 0} (f : A → pieces.Piece) (o : Option A) (left : List pieces.Piece) → BeginWith (option_map f o) left → is_some o ≡ false → left ≡ []
+none-seen f (Some x) left begins none = absurd cc
+none-seen f None left begins none = begins
+
+-- what is left after a piece is less
+pub left-falls : (left : List pieces.Piece) (p : pieces.Piece) → left ≡ p ∷ drop 1 left → length (drop 1 left) < length left
+left-falls left p is = let e : length left ≡ length (drop 1 left) + 1 = ap length is ∙ omega arith in omega (arith, e)
+
+pub heads-next : (left : List pieces.Piece) (p : pieces.Piece) → left ≡ p ∷ drop 1 left → heads_in left ≡ head_at left ++ heads_in (drop 1 left)
+heads-next left p is = ap heads_in is ∙ ap (λ l. head_at l ++ heads_in (drop 1 left)) (sym is)
 
 labels-plain : (p : pieces.Piece) (ps : List pieces.Piece) → head_at (p ∷ ps) ≡ [] → labels_before_head (p ∷ ps) ≡ label_at p.token (first_token ps) ++ labels_before_head ps
 labels-plain p ps none = ap (λ (hs : List Known). elim hs [ k ∷ ks ↦ [] | [] ↦ label_at p.token (first_token ps) ++ labels_before_head ps ]) none
@@ -45,21 +52,15 @@ labels-end : (p : pieces.Piece) (ps : List pieces.Piece) (k : Known) → head_at
 labels-end p ps k one = ap (λ (hs : List Known). elim hs [ k ∷ ks ↦ [] | [] ↦ label_at p.token (first_token ps) ++ labels_before_head ps ]) one
 
 -- a piece with which no head begins
-labels-next : (rest : List Piece) (i : ℕ) → i < length rest → head_at (pieces_of (drop i rest)) ≡ [] →
-    labels_before_head (pieces_of (drop i rest))
-    ≡ label_at (first_token (pieces_of (drop i rest))) (first_token (drop 1 (pieces_of (drop i rest)))) ++ labels_before_head (pieces_of (drop (i + 1) rest))
-labels-next rest i within none =
-    let n = next-of rest i within in
-    let same = ap pieces_of n.1 in
-    ap labels_before_head same ∙ labels-plain (piece_of n.0) (pieces_of (drop (i + 1) rest)) (sym (ap head_at same) ∙ none)
-    ∙ ap (λ l. label_at (first_token l) (first_token (drop 1 l)) ++ labels_before_head (pieces_of (drop (i + 1) rest))) (sym same)
+labels-next : (left : List pieces.Piece) (p : pieces.Piece) → left ≡ p ∷ drop 1 left → head_at left ≡ [] →
+    labels_before_head left ≡ label_at (first_token left) (first_token (drop 1 left)) ++ labels_before_head (drop 1 left)
+labels-next left p is none =
+    ap labels_before_head is ∙ labels-plain p (drop 1 left) (sym (ap head_at is) ∙ none)
+    ∙ ap (λ l. label_at (first_token l) (first_token (drop 1 left)) ++ labels_before_head (drop 1 left)) (sym is)
 
 -- a piece with which a head begins
-pub labels-over : (rest : List Piece) (i : ℕ) (k : Known) → i < length rest → head_at (pieces_of (drop i rest)) ≡ k ∷ [] → labels_before_head (pieces_of (drop i rest)) ≡ []
-labels-over rest i k within one =
-    let n = next-of rest i within in
-    let same = ap pieces_of n.1 in
-    ap labels_before_head same ∙ labels-end (piece_of n.0) (pieces_of (drop (i + 1) rest)) k (sym (ap head_at same) ∙ one)
+pub labels-over : (left : List pieces.Piece) (p : pieces.Piece) (k : Known) → left ≡ p ∷ drop 1 left → head_at left ≡ k ∷ [] → labels_before_head left ≡ []
+labels-over left p k is one = ap labels_before_head is ∙ labels-end p (drop 1 left) k (sym (ap head_at is) ∙ one)
 
 turn : (a x o : Bool) → x || (a || o) ≡ (a || x) || o
 turn true true o = refl
@@ -68,15 +69,15 @@ turn false true o = refl
 turn false false o = refl
 
 -- the labels so far, with one more
-pub label-step : (rest : List Piece) (i : ℕ) (word : Word) (old new : Bool) → i < length rest → head_at (pieces_of (drop i rest)) ≡ [] →
-    new ≡ is_among (label_at (first_token (pieces_of (drop i rest))) (first_token (drop 1 (pieces_of (drop i rest))))) word || old →
-    is_among (labels_before_head (pieces_of (drop (i + 1) rest))) word || new ≡ is_among (labels_before_head (pieces_of (drop i rest))) word || old
-label-step rest i word old new within none new_is =
-    let here = label_at (first_token (pieces_of (drop i rest))) (first_token (drop 1 (pieces_of (drop i rest)))) in
-    let others = labels_before_head (pieces_of (drop (i + 1) rest)) in
+pub label-step : (left : List pieces.Piece) (p : pieces.Piece) (word : Word) (old new : Bool) → left ≡ p ∷ drop 1 left → head_at left ≡ [] →
+    new ≡ is_among (label_at (first_token left) (first_token (drop 1 left))) word || old →
+    is_among (labels_before_head (drop 1 left)) word || new ≡ is_among (labels_before_head left) word || old
+label-step left p word old new is none new_is =
+    let here = label_at (first_token left) (first_token (drop 1 left)) in
+    let others = labels_before_head (drop 1 left) in
     ap (λ b. is_among others word || b) new_is
     ∙ turn (is_among here word) (is_among others word) old
-    ∙ ap (λ b. b || old) (sym (among-append here others word) ∙ ap (λ l. is_among l word) (sym (labels-next rest i within none)))
+    ∙ ap (λ b. b || old) (sym (among-append here others word) ∙ ap (λ l. is_among l word) (sym (labels-next left p is none)))
 
 pub head-some : (o : Option PartialFunction) (heads : List Known) → IsHead o heads → is_some o ≡ true → (k : Known) × (heads ≡ k ∷ [])
 head-some (Some f) heads is has = (is.0, is.1)

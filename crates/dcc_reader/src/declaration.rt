@@ -12,7 +12,7 @@ use crate::list::push_some;
 use crate::partial::{NumberAt, PartialVariable};
 use crate::reader::Reader;
 use dcc_c::Class;
-use dcc_lex::Mark;
+use dcc_lex::{Keyword, Mark};
 use std::alloc::{AllocError, Global};
 
 /// Reads the size of an array, where one stands here.
@@ -102,7 +102,7 @@ pub fn read_init(
 fn read_auto(r: &mut Reader<'_>) -> Class
     ensures { reading.got result (reader_of r.new) ≡ read_auto (reader_of r.old) }
 {
-    if r.sees_word("auto") {
+    if r.sees_word(Keyword::Auto) {
         r.skip();
         return Class::Auto;
     }
@@ -170,18 +170,18 @@ pub fn read_locals(
 fn begins_local(r: &Reader<'_>) -> bool
     ensures { result ≡ begins_local (reader_of r.now) }
 {
-    r.sees_word("auto") || r.sees_type()
+    r.sees_word(Keyword::Auto) || r.sees_type()
 }
 
 // Reads the word for the class of a parameter, where there is one.
 fn read_class(r: &mut Reader<'_>) -> Class
     ensures { reading.got result (reader_of r.new) ≡ statements.read_class (reader_of r.old) }
 {
-    if r.sees_word("register") {
+    if r.sees_word(Keyword::Register) {
         r.skip();
         return Class::Register;
     }
-    if r.sees_word("auto") {
+    if r.sees_word(Keyword::Auto) {
         r.skip();
         return Class::Auto;
     }
@@ -221,7 +221,7 @@ pub fn read_params(
         reading.got (map variable_of params.items) (reader_of r.new) ≡ statements.read_params calls (reader_of r.old)) }
 {
     let mut params = Vec::new(alloc);
-    if r.sees_word("void") {
+    if r.sees_word(Keyword::Void) {
         r.skip();
         return Ok(params);
     }

@@ -1,18 +1,18 @@
 //! Reading what functions begin with.
 
-ghost use Rattle.std.specs.Prelude.{◌≡◌, ◌≤◌, IfOk, length};
+ghost use Rattle.std.specs.Prelude.{◌≡◌, IfOk};
 ghost use Rattle.dcc_c.specs.Reading as reading;
 ghost use Rattle.dcc_c.specs.ReadingText as texts;
-ghost use Rattle.dcc_lex.specs.TokenViews.{pieces_of};
+ghost use Rattle.dcc_lex.specs.PiecesViews.{pieces_of};
 ghost use Rattle.dcc_reader.specs.BegunViews.{begun_of, opened_at};
 ghost use Rattle.dcc_reader.specs.PartialViews.{function_of};
 ghost use Rattle.dcc_reader.specs.ReaderViews.{reader_of};
 
 use crate::declaration::read_params;
 use crate::partial::{PartialFunction, WordAt};
-use crate::reader::{Reader, enough_calls, reader_at};
+use crate::reader::{ENOUGH_CALLS, Reader, reader_at};
 use dcc_c::CType;
-use dcc_lex::{Mark, Piece};
+use dcc_lex::{Keyword, Mark, Pieces};
 use std::alloc::{AllocError, Global};
 
 /// What a declaration begins with.
@@ -36,8 +36,8 @@ pub fn read_begun(r: &mut Reader<'_>, alloc: Global) -> Result<Begun, AllocError
     ensures { IfOk result (λ begun. reading.got (begun_of begun) (reader_of r.new)
         ≡ texts.read_begun (reader_of r.old)) }
 {
-    let at = r.at;
-    if r.sees_word("void") {
+    let at = r.left.at;
+    if r.sees_word(Keyword::Void) {
         r.skip();
         let name = r.take_name(alloc)?;
         return Ok(Begun {
@@ -65,7 +65,7 @@ fn opened(r: &Reader<'_>) -> Option<usize>
     if r.is_stopped() {
         return None;
     }
-    Some(r.at)
+    Some(r.left.at)
 }
 
 /// Reads the head of a function after its name.
@@ -83,7 +83,7 @@ pub fn read_head(
 {
     r.take_mark(Mark::OpenParenthesis);
     let opened = opened(r);
-    let without_params = r.sees_word("void");
+    let without_params = r.sees_word(Keyword::Void);
     let params = read_params(r, alloc, calls)?;
     r.take_mark(Mark::CloseParenthesis);
     let headed = !r.is_stopped();
@@ -106,12 +106,11 @@ pub fn read_head(
 ///
 /// # Errors
 /// Where memory runs out.
-pub fn head_at(alloc: Global, pieces: &[Piece]) -> Result<PartialFunction, AllocError>
-    requires few { length pieces.now ≤ 67108864 }
-    ensures { IfOk result (λ f. function_of f ≡ (texts.read_head (texts.enough_calls (pieces_of pieces.now))
-        (texts.read_begun (texts.reader_of (pieces_of pieces.now)))).value) }
+pub fn head_at(alloc: Global, rest: &Pieces<'_>) -> Result<PartialFunction, AllocError>
+    ensures { IfOk result (λ f. function_of f ≡ (texts.read_head (texts.enough_calls (pieces_of rest.now))
+        (texts.read_begun (texts.reader_of (pieces_of rest.now)))).value) }
 {
-    let mut r = reader_at(pieces);
+    let mut r = reader_at(rest);
     let begun = read_begun(&mut r, alloc)?;
-    read_head(&mut r, alloc, enough_calls(pieces), begun)
+    read_head(&mut r, alloc, ENOUGH_CALLS, begun)
 }

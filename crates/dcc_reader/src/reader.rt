@@ -1,12 +1,13 @@
 //! A reader of pieces: it takes pieces as long as they are allowed, and sees none after the first that is not.
 
-ghost use Rattle.std.specs.Prelude.{◌≡◌, ◌≤◌, ◌&&◌, IfOk, true, is_some, Some, None, map, drop, length};
+ghost use Rattle.std.specs.Prelude.{◌≡◌, ◌&&◌, IfOk, true, is_some, Some, None};
 ghost use Rattle.std.specs.Option.{option_map};
 ghost use Rattle.dcc_c.specs.Kinds as kinds;
 ghost use Rattle.dcc_c.specs.Reading as reading;
 ghost use Rattle.dcc_c.specs.ReadingStatements as statements;
 ghost use Rattle.dcc_c.specs.ReadingText as texts;
-ghost use Rattle.dcc_lex.specs.TokenViews.{mark_of, head_of, token_of, piece_of, pieces_of};
+ghost use Rattle.dcc_lex.specs.PiecesViews.{pieces_of};
+ghost use Rattle.dcc_lex.specs.TokenViews.{mark_of, head_of, keyword_of, token_of};
 ghost use Rattle.dcc_reader.specs.OffenceViews.{kind_of};
 ghost use Rattle.dcc_reader.specs.PartialViews.{number_of, word_of};
 ghost use Rattle.dcc_reader.specs.ReaderViews.{reader_of};
@@ -17,16 +18,14 @@ use crate::partial::{NumberAt, WordAt};
 use crate::statement_word::StatementWord;
 use crate::token::{begins_type, is_the_head, is_the_mark, is_the_word, name_of, plain_of};
 use dcc_c::{Base, CType};
-use dcc_lex::{Head, Mark, Piece, Token};
+use dcc_lex::{Head, Keyword, Mark, Pieces, Token};
 use std::alloc::{AllocError, Global};
 
 /// A reader of pieces.
 #[derive(Clone, Copy)]
 pub struct Reader<'a> {
-    /// The pieces of the text.
-    pub pieces: &'a [Piece<'a>],
-    /// How many of them have been read.
-    pub at: usize,
+    /// The pieces that have not been read, after as many as have been.
+    pub left: Pieces<'a>,
     /// The offence at which reading stopped.
     pub stop: Option<Offence>,
     /// The depth of calls in force, in bytes.
@@ -42,36 +41,28 @@ impl<'a> Reader<'a> {
     }
 
     /// The next token.
-    pub fn next(&self) -> Option<&'a Token<'a>>
+    pub fn next(&self) -> Option<&Token<'a>>
         ensures { option_map (λ t. token_of t.now) result ≡ reading.next_token (reader_of self.now) }
     {
         if self.stop.is_some() {
             return None;
         }
-        self.token_at(self.at)
-    }
-
-    // The token of the piece at a place.
-    fn token_at(&self, at: usize) -> Option<&'a Token<'a>>
-        ensures { option_map (λ t. token_of t.now) result
-            ≡ reading.first_token (map piece_of (drop at self.now.pieces.now)) }
-    {
-        self.pieces.get(at)?.token.as_ref()
+        self.left.first()?.token.as_ref()
     }
 
     /// The token after the next piece, where there is a next token.
-    pub fn second(&self) -> Option<&'a Token<'a>>
+    pub fn second(&self) -> Option<Token<'a>>
         requires seen { is_some (reading.next_token (reader_of self.now)) ≡ true }
-        ensures { option_map (λ t. token_of t.now) result ≡ reading.second_token (reader_of self.now) }
+        ensures { option_map token_of result ≡ reading.second_token (reader_of self.now) }
     {
-        self.token_at(self.at + 1)
+        self.left.second()?.token
     }
 
     /// The line of the next piece; 0 at the end.
     pub fn line(&self) -> u32
         ensures { result ≡ reading.line_of (reader_of self.now).left }
     {
-        match self.pieces.get(self.at) {
+        match self.left.first() {
             Some(piece) => piece.line,
             None => 0,
         }
@@ -84,11 +75,11 @@ impl<'a> Reader<'a> {
         is_the_mark(self.next(), mark)
     }
 
-    /// Whether the next token is the word.
-    pub fn sees_word(&self, word: &str) -> bool
-        ensures { result ≡ reading.sees_word word.now (reader_of self.now) }
+    /// Whether the next token is the keyword.
+    pub fn sees_word(&self, keyword: Keyword) -> bool
+        ensures { result ≡ reading.sees_word (keyword_of keyword) (reader_of self.now) }
     {
-        is_the_word(self.next(), word)
+        is_the_word(self.next(), keyword)
     }
 
     /// Whether the next token is the words of the pragma.
@@ -110,14 +101,12 @@ impl<'a> Reader<'a> {
         ensures { result ≡ is_some (reading.name_of (reading.next_token (reader_of self.now)))
             && reading.is_the_mark (mark_of mark) (reading.second_token (reader_of self.now)) }
     {
-        // The mark is looked for first, which costs less than the name.
-        if self.next().is_none() {
+        // The name is looked for first: the token after it has to be cut for the question.
+        if self.name().is_none() {
             return false;
         }
-        if !is_the_mark(self.second(), mark) {
-            return false;
-        }
-        self.name().is_some()
+        let second = self.second();
+        is_the_mark(second.as_ref(), mark)
     }
 
     /// Whether a type begins with the next token.
@@ -139,7 +128,7 @@ impl<'a> Reader<'a> {
         requires seen { is_some (reading.next_token (reader_of self.now)) ≡ true }
         ensures { reader_of self.new ≡ reading.skip (reader_of self.old) }
     {
-        self.at += 1;
+        self.left.skip();
     }
 
     /// Stops, where it has not stopped yet, at an offence.
@@ -155,7 +144,7 @@ impl<'a> Reader<'a> {
     fn stop_kind(&self) -> ParseKind
         ensures { kind_of result ≡ reading.stop_kind (reader_of self.now).left }
     {
-        match self.pieces.get(self.at) {
+        match self.left.first() {
             Some(piece) if piece.token.is_none() => ParseKind::Token,
             _ => ParseKind::Grammar,
         }
@@ -165,7 +154,7 @@ impl<'a> Reader<'a> {
     pub fn fail(&mut self)
         ensures { reader_of self.new ≡ reading.fail (reader_of self.old) }
     {
-        self.stop_at(self.stop_kind(), self.at);
+        self.stop_at(self.stop_kind(), self.left.at);
     }
 
     /// Takes the mark, which must stand here.
@@ -179,11 +168,11 @@ impl<'a> Reader<'a> {
         }
     }
 
-    /// Takes the word, which must stand here.
-    pub fn take_word(&mut self, word: &str)
-        ensures { reader_of self.new ≡ reading.take_word word.now (reader_of self.old) }
+    /// Takes the keyword, which must stand here.
+    pub fn take_word(&mut self, keyword: Keyword)
+        ensures { reader_of self.new ≡ reading.take_word (keyword_of keyword) (reader_of self.old) }
     {
-        if self.sees_word(word) {
+        if self.sees_word(keyword) {
             self.skip();
         } else {
             self.fail();
@@ -211,7 +200,7 @@ impl<'a> Reader<'a> {
     {
         match self.name() {
             Some(word) => {
-                let at = self.at;
+                let at = self.left.at;
                 self.skip();
                 let word = String::from_str(alloc, word)?;
                 Ok(Some(WordAt { word, at }))
@@ -230,7 +219,7 @@ impl<'a> Reader<'a> {
     {
         match plain_of(self.next()) {
             Some(value) => {
-                let at = self.at;
+                let at = self.left.at;
                 self.skip();
                 Some(NumberAt { value, at })
             }
@@ -264,14 +253,14 @@ impl<'a> Reader<'a> {
     fn take_base(&mut self) -> Option<Base>
         ensures { reading.got result (reader_of self.new) ≡ reading.take_base (reader_of self.old) }
     {
-        if self.sees_word("int") {
+        if self.sees_word(Keyword::Int) {
             self.base_after(Base::Int)
-        } else if self.sees_word("long") {
+        } else if self.sees_word(Keyword::Long) {
             self.base_after(Base::Long)
-        } else if self.sees_word("signed") {
+        } else if self.sees_word(Keyword::Signed) {
             self.skip();
             self.signed_base()
-        } else if self.sees_word("unsigned") {
+        } else if self.sees_word(Keyword::Unsigned) {
             self.skip();
             self.unsigned_base()
         } else {
@@ -284,7 +273,7 @@ impl<'a> Reader<'a> {
     fn signed_base(&mut self) -> Option<Base>
         ensures { reading.got result (reader_of self.new) ≡ reading.signed_base (reader_of self.old) }
     {
-        if self.sees_word("char") {
+        if self.sees_word(Keyword::Char) {
             self.base_after(Base::Schar)
         } else {
             self.fail();
@@ -296,11 +285,11 @@ impl<'a> Reader<'a> {
     fn unsigned_base(&mut self) -> Option<Base>
         ensures { reading.got result (reader_of self.new) ≡ reading.unsigned_base (reader_of self.old) }
     {
-        if self.sees_word("char") {
+        if self.sees_word(Keyword::Char) {
             self.base_after(Base::Uchar)
-        } else if self.sees_word("int") {
+        } else if self.sees_word(Keyword::Int) {
             self.base_after(Base::Uint)
-        } else if self.sees_word("long") {
+        } else if self.sees_word(Keyword::Long) {
             self.base_after(Base::Ulong)
         } else {
             self.fail();
@@ -319,21 +308,15 @@ impl<'a> Reader<'a> {
 }
 
 /// A reader at the first of the pieces.
-pub fn reader_at<'a>(pieces: &'a [Piece<'a>]) -> Reader<'a>
-    ensures { reader_of result ≡ texts.reader_of (pieces_of pieces.now) }
+pub fn reader_at<'a>(rest: &Pieces<'a>) -> Reader<'a>
+    ensures { reader_of result ≡ texts.reader_of (pieces_of rest.now) }
 {
     Reader {
-        pieces,
-        at: 0,
+        left: rest.from_here(),
         stop: None,
         depth: 2,
     }
 }
 
-/// How deep reading of the pieces may nest.
-pub fn enough_calls(pieces: &[Piece]) -> usize
-    requires few { length pieces.now ≤ 67108864 }
-    ensures { result ≡ texts.enough_calls (pieces_of pieces.now) }
-{
-    16 * pieces.len() + 16
-}
+/// How deep reading may nest, which is enough for the pieces of every text.
+pub const ENOUGH_CALLS: usize = 16 * 67108864 + 16;

@@ -5,8 +5,7 @@ ghost use Rattle.std.specs.Option.{option_map};
 ghost use Rattle.dcc_lex.specs.TokenViews.{token_of};
 ghost use Rattle.dcc_reader.specs.Words as words;
 
-use crate::token::{is_keyword, word_of};
-use dcc_lex::Token;
+use dcc_lex::{Keyword, Token};
 
 /// A word that a statement begins with.
 #[derive(Clone, Copy, PartialEq, Eq, Debug)]
@@ -36,20 +35,19 @@ impl StatementWord {
     pub fn of(token: Option<&Token>) -> Option<StatementWord>
         ensures { result ≡ words.statement_word (option_map (λ t. token_of t.now) token.entry) }
     {
-        let word = word_of(token)?;
-        if !is_keyword(word) {
+        let Some(Token::Keyword(keyword)) = token else {
             return None;
-        }
-        match word {
-            "if" => Some(StatementWord::If),
-            "while" => Some(StatementWord::While),
-            "do" => Some(StatementWord::Do),
-            "for" => Some(StatementWord::For),
-            "switch" => Some(StatementWord::Switch),
-            "break" => Some(StatementWord::Break),
-            "continue" => Some(StatementWord::Continue),
-            "goto" => Some(StatementWord::Goto),
-            "return" => Some(StatementWord::Return),
+        };
+        match keyword {
+            Keyword::If => Some(StatementWord::If),
+            Keyword::While => Some(StatementWord::While),
+            Keyword::Do => Some(StatementWord::Do),
+            Keyword::For => Some(StatementWord::For),
+            Keyword::Switch => Some(StatementWord::Switch),
+            Keyword::Break => Some(StatementWord::Break),
+            Keyword::Continue => Some(StatementWord::Continue),
+            Keyword::Goto => Some(StatementWord::Goto),
+            Keyword::Return => Some(StatementWord::Return),
             _ => None,
         }
     }

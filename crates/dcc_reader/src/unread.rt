@@ -1,12 +1,13 @@
 //! What stands in the pieces after what has been read: functions, by their heads, and labels.
 
-ghost use Rattle.std.specs.Prelude.{◌≡◌, ◌≤◌, ◌++◌, ◌||◌, length, drop, map, option_map, IfOk, OnOk};
+ghost use Rattle.std.specs.Prelude.{◌≡◌, ◌++◌, ◌||◌, drop, map, option_map, IfOk, OnOk};
 ghost use Rattle.dcc_c.specs.Grammar as grammar;
 ghost use Rattle.dcc_c.specs.Known.{known_functions, label_at, labels_before_head};
 ghost use Rattle.dcc_c.specs.Known as known;
 ghost use Rattle.dcc_c.specs.Reading as reading;
 ghost use Rattle.dcc_c.specs.Tree.{Word};
-ghost use Rattle.dcc_lex.specs.TokenViews.{token_of, pieces_of};
+ghost use Rattle.dcc_lex.specs.PiecesViews.{pieces_of};
+ghost use Rattle.dcc_lex.specs.TokenViews.{token_of};
 ghost use Rattle.dcc_reader.specs.PartialViews.{function_of};
 ghost use Rattle.dcc_reader.specs.Heads.{IsHead};
 ghost use Rattle.dcc_reader.specs.WordViews.{holds};
@@ -15,34 +16,33 @@ use crate::head::head_at;
 use crate::partial::PartialFunction;
 use crate::token::{begins_type, is_the_mark, is_the_word, name_of};
 use crate::words::add_word;
-use dcc_lex::{Mark, Piece, Token};
+use dcc_lex::{Keyword, Mark, Pieces, Token};
 use std::alloc::{AllocError, Global};
 use std::collections::BTreeSet;
 
 // The first token of the pieces.
-fn first_token<'a, 'b>(pieces: &'a [Piece<'b>]) -> Option<&'a Token<'b>>
+fn first_token<'a, 'b>(pieces: &'a Pieces<'b>) -> Option<&'a Token<'b>>
     ensures { option_map (λ t. token_of t.now) result ≡ reading.first_token (pieces_of pieces.now) }
 {
     pieces.first()?.token.as_ref()
 }
 
 // The second token of the pieces.
-fn second_token<'a, 'b>(pieces: &'a [Piece<'b>]) -> Option<&'a Token<'b>>
-    ensures { option_map (λ t. token_of t.now) result ≡ reading.first_token (drop 1 (pieces_of pieces.now)) }
+fn second_token<'a>(pieces: &Pieces<'a>) -> Option<Token<'a>>
+    ensures { option_map token_of result ≡ reading.first_token (drop 1 (pieces_of pieces.now)) }
 {
-    pieces.get(1)?.token.as_ref()
+    pieces.second()?.token
 }
 
 // Whether the head of a function may begin with the token.
 fn begins_head(token: Option<&Token>) -> bool
     ensures { result ≡ known.begins_head (option_map (λ t. token_of t.now) token.entry) }
 {
-    is_the_word(token, "void") || begins_type(token)
+    is_the_word(token, Keyword::Void) || begins_type(token)
 }
 
 // The function whose head the pieces begin with, where it has a name and its opening parenthesis can be read.
-fn head_here(alloc: Global, pieces: &[Piece]) -> Result<Option<PartialFunction>, AllocError>
-    requires few { length pieces.now ≤ 67108864 }
+fn head_here(alloc: Global, pieces: &Pieces<'_>) -> Result<Option<PartialFunction>, AllocError>
     ensures { IfOk result (λ head. IsHead head (known.head_at (pieces_of pieces.now))) }
 {
     if !begins_head(first_token(pieces)) {
@@ -59,10 +59,9 @@ fn head_here(alloc: Global, pieces: &[Piece]) -> Result<Option<PartialFunction>,
 // Adds the function whose head the pieces begin with to the list.
 fn push_head(
     alloc: Global,
-    pieces: &[Piece],
+    pieces: &Pieces<'_>,
     heads: &mut Vec<PartialFunction>,
 ) -> Result<(), AllocError>
-    requires few { length pieces.now ≤ 67108864 }
     ensures { OnOk result (known_functions (map function_of heads.new.items)
         ≡ known_functions (map function_of heads.old.items) ++ known.head_at (pieces_of pieces.now)) }
 {
@@ -77,26 +76,28 @@ fn push_head(
 /// # Errors
 ///
 /// Where memory runs out.
-pub fn heads_in(alloc: Global, rest: &[Piece]) -> Result<Vec<PartialFunction>, AllocError>
-    requires few { length rest.now ≤ 67108864 }
+pub fn heads_in(alloc: Global, rest: &Pieces<'_>) -> Result<Vec<PartialFunction>, AllocError>
     ensures { IfOk result
         (λ heads. known_functions (map function_of heads.items) ≡ known.heads_in (pieces_of rest.now)) }
 {
     let mut heads = Vec::new(alloc);
-    for i in 0..rest.len() {
-        push_head(alloc, &rest[i..], &mut heads)?;
+    let mut left = *rest;
+    while left.first().is_some() {
+        push_head(alloc, &left, &mut heads)?;
+        left.skip();
     }
     Ok(heads)
 }
 
 // Adds the name that the pieces begin with to the set, if a colon follows.
-fn add_label<'a>(pieces: &'a [Piece<'_>], words: &mut BTreeSet<&'a str>) -> Result<(), AllocError>
+fn add_label<'a>(pieces: &Pieces<'a>, words: &mut BTreeSet<&'a str>) -> Result<(), AllocError>
     ensures { OnOk result
         ((word : Word) → holds words.new word
         ≡ grammar.is_among (label_at (reading.first_token (pieces_of pieces.now))
         (reading.first_token (drop 1 (pieces_of pieces.now)))) word || holds words.old word) }
 {
-    if is_the_mark(second_token(pieces), Mark::Colon) {
+    let second = second_token(pieces);
+    if is_the_mark(second.as_ref(), Mark::Colon) {
         if let Some(name) = name_of(first_token(pieces)) {
             add_word(words, name)?;
         }
@@ -111,18 +112,19 @@ fn add_label<'a>(pieces: &'a [Piece<'_>], words: &mut BTreeSet<&'a str>) -> Resu
 /// Where memory runs out.
 pub fn add_labels<'a>(
     alloc: Global,
-    rest: &'a [Piece<'_>],
+    rest: &Pieces<'a>,
     words: &mut BTreeSet<&'a str>,
 ) -> Result<(), AllocError>
-    requires few { length rest.now ≤ 67108864 }
     ensures { OnOk result ((word : Word) → holds words.new word
         ≡ grammar.is_among (labels_before_head (pieces_of rest.now)) word || holds words.old word) }
 {
-    for i in 0..rest.len() {
-        if head_here(alloc, &rest[i..])?.is_some() {
+    let mut left = *rest;
+    while left.first().is_some() {
+        if head_here(alloc, &left)?.is_some() {
             return Ok(());
         }
-        add_label(&rest[i..], words)?;
+        add_label(&left, words)?;
+        left.skip();
     }
     Ok(())
 }

@@ -8,7 +8,7 @@ use std::test::Fail;
 const TEXTS: [(&[u8], &str); 8] = [
     (
         b"\n#pragma dcc stack 512 0\nint x[3] = 2U;\n",
-        "2:#Stack 2:512Plain 2:0Plain 3:int 3:x 3:OpenBracket 3:3Plain 3:CloseBracket 3:Equals 3:2Unsigned 3:Semicolon ",
+        "2:#Stack 2:512Plain 2:0Plain 3:Int 3:x 3:OpenBracket 3:3Plain 3:CloseBracket 3:Equals 3:2Unsigned 3:Semicolon ",
     ),
     (
         b"\tx<<=0x1FUL||y_2 != 7L\n#pragma dcc depth",
@@ -24,7 +24,7 @@ const TEXTS: [(&[u8], &str); 8] = [
     ),
     (
         b"abcdefghijklmnopqrstuvwxyz_ABCD abcdefghijklmnopqrstuvwxyz_ABCDE static struct\nvolatile unsigned",
-        "1:abcdefghijklmnopqrstuvwxyz_ABCD 1:none 1:none 1:none 2:none 2:unsigned ",
+        "1:abcdefghijklmnopqrstuvwxyz_ABCD 1:none 1:none 1:none 2:none 2:Unsigned ",
     ),
     (
         b"\x00\xff$ \"\r\n#pragma dcc\n#pragma dcc attic",
@@ -46,16 +46,19 @@ fn described(alloc: Global, text: &[u8]) -> Result<String, Fail> {
     if text.len() > 10000 {
         return Ok(said);
     }
-    for piece in &pieces(alloc, text)? {
+    let mut left = pieces(text);
+    while let Some(piece) = left.first() {
         let line = piece.line;
         match &piece.token {
             None => write!(said, "{line}:none ")?,
-            Some(Token::Word(word)) => write!(said, "{line}:{word} ")?,
+            Some(Token::Keyword(keyword)) => write!(said, "{line}:{keyword:?} ")?,
+            Some(Token::Name(name)) => write!(said, "{line}:{} ", name.word)?,
             Some(Token::Decimal(n, suffix)) => write!(said, "{line}:{n}{suffix:?} ")?,
             Some(Token::Hex(n, suffix)) => write!(said, "{line}:hex{n}{suffix:?} ")?,
             Some(Token::Mark(mark)) => write!(said, "{line}:{mark:?} ")?,
             Some(Token::Pragma(head)) => write!(said, "{line}:#{head:?} ")?,
         }
+        left.skip();
     }
     Ok(said)
 }

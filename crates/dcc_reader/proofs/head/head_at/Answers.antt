@@ -1,7 +1,7 @@
 use Rattle.std.proofs.Common.{◌≡◌}
 use Rattle.dcc_c.specs.Reading.{got}
 use Rattle.dcc_c.specs.ReadingText as texts
-use Rattle.dcc_lex.specs.TokenViews.{pieces_of}
+use Rattle.dcc_lex.specs.PiecesViews.{pieces_of}
 use Rattle.dcc_reader.specs.BegunViews.{begun_of}
 use Rattle.dcc_reader.specs.PartialViews.{function_of}
 use Rattle.dcc_reader.specs.ReaderViews.{reader_of}

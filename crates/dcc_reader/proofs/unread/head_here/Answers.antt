@@ -1,7 +1,7 @@
 use Rattle.std.proofs.Common.{sym, ap, ◌∙◌}
 use Rattle.dcc_c.specs.Known.{begins_head}
 use Rattle.dcc_c.specs.Reading.{first_token}
-use Rattle.dcc_lex.specs.TokenViews.{pieces_of}
+use Rattle.dcc_lex.specs.PiecesViews.{pieces_of}
 use Rattle.dcc_reader.proofs.UnreadLaws.{head-read}
 use Rattle.dcc_reader.proofs.unread.head_here.Goals as goal
 

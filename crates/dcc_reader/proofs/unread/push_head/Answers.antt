@@ -1,6 +1,6 @@
 use Rattle.std.proofs.Common.{Some, subst}
 use Rattle.dcc_c.specs.Known.{head_at}
-use Rattle.dcc_lex.specs.TokenViews.{pieces_of}
+use Rattle.dcc_lex.specs.PiecesViews.{pieces_of}
 use Rattle.dcc_reader.specs.Heads.{IsHead}
 use Rattle.dcc_reader.proofs.UnreadLaws.{head-pushed}
 use Rattle.dcc_reader.proofs.unread.push_head.Goals as goal
