@@ -1,12 +1,11 @@
 -- The pieces of what is left of a text.
-use Rattle.std.proofs.Common.{◌≡◌, ℕ, zero, suc, ◌+◌, ◌≤◌, List, [], ◌∷◌, ◌++◌, length, map, take, drop, Option, Some, None, option_to_list, length-append, refl, sym, ap, subst, ◌∙◌, arith}
-use Rattle.std.specs.Prelude.{is_some, true, false, option_map, if◌then◌else◌, not, ◌==◌}
+use Rattle.std.proofs.Common.{◌≡◌, ℕ, zero, suc, ◌≤◌, List, [], ◌∷◌, ◌++◌, length, map, take, drop, Option, Some, None, option_to_list, length-append, refl, sym, ap, subst, ◌∙◌, arith}
+use Rattle.std.specs.Prelude.{is_some, true, false, option_map, not, ◌==◌}
 use Rattle.std.specs.Option.{ForNone, option_copied}
 use Rattle.std.proofs.lemmas.List.{length-map}
 use denote.Ref.{Bor}
 use Rattle.std.proofs.lemmas.Bool.{cond_both}
-use Rattle.std.specs.List.{take_while}
-use Rattle.dcc_c.specs.Token.{Mark, is_mark, is_word_byte}
+use Rattle.dcc_c.specs.Token.{is_mark, is_word_byte}
 use Rattle.dcc_c.specs.Lexing.{is_blank}
 use Rattle.dcc_c.specs.Pieces as spec
 use Rattle.dcc_lex.specs.declared.cut.Cut.{Cut}
@@ -15,7 +14,7 @@ use Rattle.dcc_lex.specs.declared.left.Pieces.{Pieces}
 use Rattle.dcc_lex.specs.TokenViews.{piece_of}
 use Rattle.dcc_lex.specs.CutViews.{spot_of, cut_of, remaining, Continues}
 use Rattle.dcc_lex.specs.PiecesViews.{pieces_of, BeginWith}
-use Rattle.dcc_lex.proofs.Cuts.{first_shorter, remaining-none}
+use Rattle.dcc_lex.proofs.Cuts.{remaining-none}
 
 -- Cuts, one after another.
 

@@ -1,9 +1,9 @@
 -- A word that is none of some words, and what a word is that may be a keyword.
-use Rattle.std.proofs.Common.{◌≡◌, ℕ, Bool, true, false, List, [], ◌∷◌, length, get_or, Option, Some, None, refl, sym, ap, subst, ◌∙◌}
+use Rattle.std.proofs.Common.{◌≡◌, ℕ, Bool, true, false, List, [], ◌∷◌, length, get_or, Some, None, refl, sym, ap, ◌∙◌}
 use Rattle.std.specs.Prelude.{◌&&◌, not, if◌then◌else◌}
 use Rattle.std.proofs.lemmas.Bool.{and_from, or_from, cond-false, false_from_ne_true, not_from_false}
 use Rattle.dcc_c.specs.Grammar.{is_among, keywords, is_name}
-use Rattle.dcc_c.specs.Token.{Token, WordToken, same_bytes, is_digit, is_word}
+use Rattle.dcc_c.specs.Token.{WordToken, same_bytes, is_digit, is_word}
 use Rattle.dcc_c.specs.Tree.{Word}
 use Rattle.dcc_c.specs.Pieces.{token_of_word, unused_keywords}
 use Rattle.dcc_c.proofs.NameLaws.{same_bytes-equal}

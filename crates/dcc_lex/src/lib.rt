@@ -12,8 +12,8 @@ mod text;
 pub mod token;
 mod word;
 
-pub use lexer::{line_feeds, pieces};
 pub use left::Pieces;
+pub use lexer::{line_feeds, pieces};
 pub use pragma::after_version;
 pub use text::same_text;
 pub use token::{Head, Keyword, Mark, Name, Piece, Suffix, Token};

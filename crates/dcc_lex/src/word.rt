@@ -62,8 +62,18 @@ fn token_of_text(word: &str) -> Option<Token<'_>>
         "unsigned" => Some(Token::Keyword(Keyword::Unsigned)),
         "void" => Some(Token::Keyword(Keyword::Void)),
         "while" => Some(Token::Keyword(Keyword::While)),
-        "const" | "double" | "enum" | "extern" | "float" | "short" | "sizeof" | "static" | "struct"
-        | "typedef" | "union" | "volatile" => None,
+        "const"
+        | "double"
+        | "enum"
+        | "extern"
+        | "float"
+        | "short"
+        | "sizeof"
+        | "static"
+        | "struct"
+        | "typedef"
+        | "union"
+        | "volatile" => None,
         _ => Some(Token::Name(Name { word })),
     }
 }

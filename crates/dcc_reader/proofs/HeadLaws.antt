@@ -1,11 +1,12 @@
 -- Reading the head of a function.
-use Rattle.std.proofs.Common.{◌≡◌, ℕ, Bool, not, codes, Result, Ok, Err, IfOk, List, [], Option, ap, ◌∙◌}
+use Rattle.std.proofs.Common.{◌≡◌, ◌≤◌, ℕ, Bool, not, codes, Result, Ok, Err, IfOk, List, [], Option, ap, ◌∙◌}
 use Rattle.dcc_c.specs.Pieces.{Piece}
 use Rattle.dcc_c.specs.Partial.{PartialVariable, PartialFunction, PartialLines, no_rows}
 use Rattle.dcc_c.specs.Reading.{Reader, Got, got, is_stopped, sees_word, take_mark}
 use Rattle.dcc_c.specs.ReadingStatements.{read_params}
 use Rattle.dcc_c.specs.ReadingText.{Begun, read_begun, read_head, reader_of, enough_calls}
 use Rattle.dcc_reader.specs.BegunViews.{opened_at}
+use Rattle.dcc_reader.proofs.calls.Parameters.{read-head-enough}
 
 -- What holds of a result that was read.
 pub ok-map : {A E : Type 0} (r : Result A E) (P Q : A → Type 0) → ((x : A) → P x → Q x) → IfOk r P → IfOk r Q
@@ -53,11 +54,11 @@ head-read calls begun inside filled end opened without params locals body stoppe
     ∙ ap (head_filled begun.value inside) fills
     ∙ ap (λ i. head_filled begun.value i (read_params calls i)) marks
 
--- the head of a function that begins with the first of the pieces
+-- the head of a function that begins with the first of the pieces, read with calls that are enough
 pub head-at : (calls : ℕ) (pieces : List Piece) (begun : Got Begun) (r following : Reader) (f : PartialFunction) → got f following ≡ read_head calls begun →
-    begun ≡ read_begun r → r ≡ reader_of pieces → calls ≡ enough_calls pieces →
+    begun ≡ read_begun r → r ≡ reader_of pieces → enough_calls pieces ≤ calls →
     f ≡ (read_head (enough_calls pieces) (read_begun (reader_of pieces))).value
 head-at calls pieces begun r following f reads begins starts enough =
     ap (λ (g : Got PartialFunction). g.value) (reads
     ∙ ap (read_head calls) (begins ∙ ap read_begun starts)
-    ∙ ap (λ n. read_head n (read_begun (reader_of pieces))) enough)
+    ∙ read-head-enough calls pieces enough)

@@ -1,5 +1,4 @@
 pub mod HeadLaws
-pub mod KeywordLaws
 pub mod LeftLaws
 pub mod LoopLaws
 pub mod ReaderLaws

@@ -1,21 +1,15 @@
 -- Laws of readers.
-use Rattle.std.proofs.Common.{◌≡◌, ℕ, suc, ◌+◌, List, [], ◌∷◌, length, take, drop, refl, sym, ap, ◌∙◌, add-one, Option, Some, None, true}
+use Rattle.std.proofs.Common.{◌≡◌, ℕ, suc, ◌+◌, List, [], ◌∷◌, length, take, drop, refl, ap, ◌∙◌, add-one, Option, Some, None, true}
 use Rattle.std.specs.Prelude.{is_some, option_map}
 use Rattle.dcc_c.specs.declared.syntax.Base.{Base}
 use Rattle.dcc_c.specs.declared.syntax.CType.{CType}
 use Rattle.dcc_c.specs.Kinds as kinds
 use Rattle.dcc_c.specs.Pieces as pieces
 use Rattle.dcc_c.specs.Reading as reading
-use Rattle.dcc_c.specs.Token.{Token}
-use Rattle.dcc_lex.specs.PiecesViews.{pieces_of, BeginWith}
+use Rattle.dcc_lex.specs.PiecesViews.{pieces_of}
 use Rattle.dcc_reader.specs.OffenceViews.{offence_of}
 use Rattle.dcc_reader.specs.ReaderViews.{reader_of}
 use Rattle.dcc_reader.specs.declared.reader.Reader.{Reader}
-
--- the token of a piece, where there is one
-abbrev pub token_in : Option pieces.Piece → Option Token
-token_in (Some p) = p.token
-token_in None = None
 
 one_taken : (left : List pieces.Piece) → is_some (reading.first_token left) ≡ true → length (take 1 left) ≡ 1
 one_taken [] seen = absurd cc
@@ -41,21 +35,6 @@ after_next r s seen left at stop depth =
 
     first_seen : (r : reading.Reader) → is_some (reading.next_token r) ≡ true → is_some (reading.first_token r.left) ≡ true
     first_seen r seen = seen_at r.left r.at r.stop r.depth seen
-
--- the token after the next one
-pub second_of : (r : reading.Reader) → is_some (reading.next_token r) ≡ true →
-    reading.second_token r ≡ reading.first_token (drop 1 r.left)
-second_of r seen = second_at r.left r.at r.stop r.depth seen
-  where
-    second_at : (left : _) (at : ℕ) (stop : _) (depth : ℕ) → is_some (reading.next_token (record { left = left; at = at; stop = stop; depth = depth })) ≡ true →
-        reading.second_token (record { left = left; at = at; stop = stop; depth = depth }) ≡ reading.first_token (drop 1 left)
-    second_at left at (Some o) depth seen = absurd cc
-    second_at left at None depth seen = refl
-
--- the token of a piece that pieces begin with
-pub token_first : (o : Option pieces.Piece) (left : List pieces.Piece) → BeginWith o left → token_in o ≡ reading.first_token left
-token_first (Some p) left begins = sym (ap reading.first_token begins)
-token_first None left begins = sym (ap reading.first_token begins)
 
 -- what a type is read from
 abbrev pub type_after : reading.Got (Option Base) → reading.Got (Option CType)

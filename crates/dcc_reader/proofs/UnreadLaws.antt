@@ -1,5 +1,5 @@
 -- What stands in pieces that have not been read, one piece after another.
-use Rattle.std.proofs.Common.{◌≡◌, ℕ, ◌+◌, ◌<◌, Bool, true, false, List, [], ◌∷◌, ◌++◌, length, get_or, drop, map, refl, sym, ap, ◌∙◌, append_assoc, arith}
+use Rattle.std.proofs.Common.{◌≡◌, Bool, true, false, List, [], ◌∷◌, ◌++◌, drop, map, refl, sym, ap, ◌∙◌, append_assoc}
 use Rattle.std.specs.Prelude.{◌||◌, Option, Some, None, is_some, option_map, if◌then◌else◌}
 use Rattle.dcc_c.specs.Dos.{Signature}
 use Rattle.dcc_reader.specs.Heads.{IsHead}
@@ -33,14 +33,6 @@ pub first-seen : {A : Type 0} (f : A → pieces.Piece) (o : Option A) (left : Li
     (p : pieces.Piece) × (left ≡ p ∷ drop 1 left)
 first-seen f (Some x) left begins some = (f x, begins)
 first-seen f None left begins some = absurd cc
-
-pub none-seen : {A : Type 0} (f : A → pieces.Piece) (o : Option A) (left : List pieces.Piece) → BeginWith (option_map f o) left → is_some o ≡ false → left ≡ []
-none-seen f (Some x) left begins none = absurd cc
-none-seen f None left begins none = begins
-
--- what is left after a piece is less
-pub left-falls : (left : List pieces.Piece) (p : pieces.Piece) → left ≡ p ∷ drop 1 left → length (drop 1 left) < length left
-left-falls left p is = let e : length left ≡ length (drop 1 left) + 1 = ap length is ∙ omega arith in omega (arith, e)
 
 pub heads-next : (left : List pieces.Piece) (p : pieces.Piece) → left ≡ p ∷ drop 1 left → heads_in left ≡ head_at left ++ heads_in (drop 1 left)
 heads-next left p is = ap heads_in is ∙ ap (λ l. head_at l ++ heads_in (drop 1 left)) (sym is)

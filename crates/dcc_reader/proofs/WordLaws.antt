@@ -1,45 +1,11 @@
--- Words among tokens, and which of some words they are.
-use Rattle.std.proofs.Common.{◌≡◌, Bool, true, false, ◌||◌, if◌then◌else◌, codes, is_some, Option, Some, None, refl, sym, ap, ◌∙◌}
-use Rattle.std.proofs.lemmas.Bool.{false_from_ne_true}
-use Rattle.dcc_c.specs.Token.{Token, WordToken, Decimal, Hex, Mark, Pragma, same_bytes}
-use Rattle.dcc_c.specs.Tree.{Word}
-use Rattle.dcc_c.specs.Reading.{is_the_word, name_of, name_if}
-use Rattle.dcc_c.proofs.NameLaws.{same_bytes-equal}
+-- Words of statements among tokens.
+use Rattle.std.proofs.Common.{◌≡◌, Bool, true, false, ◌||◌, if◌then◌else◌, codes, is_some, Option, Some, None, refl}
+use Rattle.dcc_c.specs.Token.{Token}
+use Rattle.dcc_c.specs.Reading.{is_the_word}
 use Rattle.dcc_c.specs.ReadingStatements.{is_statement_word, is_block_word}
 use Rattle.dcc_reader.specs.declared.statement_word.StatementWord.{StatementWord}
 use Rattle.dcc_reader.specs.declared.statement_word.StatementWord.TheVariants.{If, While, Do, For, Switch, Break, Continue, Goto, Return}
-use Rattle.dcc_reader.specs.Words.{word_of, statement_word, is_block}
-
--- a token that is a word
-pub word-token : (token : Option Token) {word : Word} → Some word ≡ word_of token → token ≡ Some (WordToken word)
-word-token None is = absurd cc
-word-token (Some (WordToken seen)) {word} is = let same : seen ≡ word = cc in ap (λ w. Some (WordToken w)) same
-word-token (Some (Decimal n suffix)) is = absurd cc
-word-token (Some (Hex n suffix)) is = absurd cc
-word-token (Some (Mark mark)) is = absurd cc
-word-token (Some (Pragma head)) is = absurd cc
-
-pub name-of_word : (token : Option Token) {word : Word} → Some word ≡ word_of token → name_if word ≡ name_of token
-name-of_word token is = sym (ap name_of (word-token token is))
-
--- a token that is no word, or another one
-pub none-seen : (bytes : Word) (token : Option Token) → None ≡ word_of token → is_the_word bytes token ≡ false
-none-seen bytes None is = refl
-none-seen bytes (Some (WordToken seen)) is = absurd cc
-none-seen bytes (Some (Decimal n suffix)) is = refl
-none-seen bytes (Some (Hex n suffix)) is = refl
-none-seen bytes (Some (Mark mark)) is = refl
-none-seen bytes (Some (Pragma head)) is = refl
-
-pub other-seen : (token : Option Token) {word other : Word} → Some word ≡ word_of token → (word ≡ other → ⊥) → is_the_word other token ≡ false
-other-seen token {word} {other} is differs =
-    ap (is_the_word other) (word-token token is) ∙ false_from_ne_true (same_bytes word other) (λ same. differs (same_bytes-equal word other same))
-
--- a choice that does not fall on its first part
-pub later : {A : Type 0} {b : Bool} (x : A) {y z : A} → b ≡ false → y ≡ z → (if b then x else y) ≡ z
-later {A} {b} x {y} {z} e is = ap (λ t. if t then x else y) e ∙ is
-
--- Words of statements.
+use Rattle.dcc_reader.specs.Words.{statement_word, is_block}
 
 -- the first of the words of statements that stands here
 abbrev pub first_word : Bool → Bool → Bool → Bool → Bool → Bool → Bool → Bool → Bool → Option StatementWord

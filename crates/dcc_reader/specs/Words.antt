@@ -1,15 +1,9 @@
 -- Words among tokens.
 use Rattle.std.specs.Prelude.{Bool, true, false, codes, Option, Some, None, if◌then◌else◌}
-use Rattle.dcc_c.specs.Token.{Token, WordToken}
-use Rattle.dcc_c.specs.Tree.{Word}
+use Rattle.dcc_c.specs.Token.{Token}
 use Rattle.dcc_c.specs.Reading.{is_the_word}
 use Rattle.dcc_reader.specs.declared.statement_word.StatementWord.{StatementWord}
 use Rattle.dcc_reader.specs.declared.statement_word.StatementWord.TheVariants.{If, While, Do, For, Switch, Break, Continue, Goto, Return}
-
--- the word that the token is, a name or a keyword
-abbrev pub word_of : Option Token → Option Word
-word_of (Some (WordToken word)) = Some word
-word_of token = None
 
 -- the word of a statement that the token is
 abbrev pub statement_word : Option Token → Option StatementWord

@@ -1,5 +1,5 @@
-use Rattle.std.proofs.Common.{◌+◌, ◌≤◌, ◌<◌, ◌≡◌, length, false, sym, ◌∙◌, arith}
-use Rattle.std.specs.Prelude.{is_some, option_to_list}
+use Rattle.std.proofs.Common.{◌≡◌, false, arith}
+use Rattle.std.specs.Prelude.{is_some}
 use Rattle.dcc_lex.specs.CutViews.{spot_of}
 use Rattle.dcc_lex.proofs.Cuts.{continues_same}
 use Rattle.dcc_lex.proofs.PieceLaws.{continues_on, option_short}

@@ -1,5 +1,4 @@
-use Rattle.std.proofs.Common.{◌≡◌, true, false, length, take, drop, ap, sym, ◌∙◌, ◌+◌, arith}
-use Rattle.std.specs.Prelude.{is_some}
+use Rattle.std.proofs.Common.{◌≡◌, length, take, drop, ap, sym, ◌∙◌, ◌+◌, arith}
 use Rattle.dcc_lex.specs.PiecesViews.{pieces_of}
 use Rattle.dcc_lex.proofs.PieceLaws.{second_left, one_taken, none_left}
 use Rattle.dcc_lex.proofs.left.Pieces.skip.Goals as goal
