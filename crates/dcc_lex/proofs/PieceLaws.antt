@@ -19,18 +19,20 @@ use Rattle.dcc_lex.proofs.Cuts.{remaining-none}
 -- Cuts, one after another.
 
 -- a cut without a piece, and one after it
-pub continues_on : (spot : spec.Spot) (line : ℕ) (bytes : List ℕ) (c d : Cut) → is_some c.piece ≡ false →
-    Continues spot line bytes (cut_of c) → Continues (spot_of c.spot) c.line c.rest.now (cut_of d) → Continues spot line bytes (cut_of d)
+pub continues_on : (spot next : spec.Spot) (line there : ℕ) (bytes rest : List ℕ) (c : spec.Cut) → Continues spot line bytes (spec.cut [] next there rest) →
+    Continues next there rest c → Continues spot line bytes c
 unfolding Continues
-continues_on spot line bytes c d none first later = first ∙ ap (λ (ps : List spec.Piece). ps ++ remaining (spot_of c.spot) c.line c.rest.now) (without c.piece none) ∙ later
+continues_on spot next line there bytes rest c first later = first ∙ later
+
+-- a cut that has no piece
+pub continues_past : (spot : spec.Spot) (line : ℕ) (bytes : List ℕ) (c : Cut) → is_some c.piece ≡ false → Continues spot line bytes (cut_of c) →
+    Continues spot line bytes (spec.cut [] (spot_of c.spot) c.line c.rest.now)
+continues_past spot line bytes c none goes =
+    subst (λ ps. Continues spot line bytes (spec.cut ps (spot_of c.spot) c.line c.rest.now)) (without c.piece none) goes
   where
     without : (o : Option Piece) → is_some o ≡ false → map piece_of (option_to_list o) ≡ []
     without (Some p) none = absurd cc
     without None none = refl
-
-pub option_short : {T : Type 0} (o : Option T) → length (option_to_list o) ≤ 1
-option_short None = omega arith
-option_short (Some x) = omega arith
 
 -- What is left.
 
@@ -141,7 +143,7 @@ few_from (suc n) spot line (b ∷ bytes) =
     let later = few_from n first.spot first.line first.rest in
     omega (arith, length-append first.pieces (spec.pieces_from n first.spot first.line first.rest))
 
-few_remain : (spot : spec.Spot) (line : ℕ) (bytes : List ℕ) → length (remaining spot line bytes) ≤ length bytes
+pub few_remain : (spot : spec.Spot) (line : ℕ) (bytes : List ℕ) → length (remaining spot line bytes) ≤ length bytes
 unfolding remaining
 few_remain spot line bytes = few_from (length bytes) spot line bytes
 

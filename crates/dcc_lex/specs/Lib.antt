@@ -8,3 +8,4 @@ pub mod MarkViews
 pub mod NumberViews
 pub mod PiecesViews
 pub mod TokenViews
+pub mod WordViews

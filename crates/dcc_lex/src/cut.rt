@@ -203,14 +203,22 @@ pub fn next_piece(spot: Spot, line: u32, bytes: &[u8]) -> Cut<'_>
     ensures lines { result.line + length result.rest.now ≤ line + length bytes.now }
     ensures shorter { length (option_to_list result.piece) + length result.rest.now ≤ length bytes.now }
 {
-    let mut left = Cut {
+    let mut spot = spot;
+    let mut line = line;
+    let mut rest = bytes;
+    while !rest.is_empty() {
+        let cut = next_cut(spot, line, rest);
+        if cut.piece.is_some() {
+            return cut;
+        }
+        spot = cut.spot;
+        line = cut.line;
+        rest = cut.rest;
+    }
+    Cut {
         piece: None,
         spot,
         line,
-        rest: bytes,
-    };
-    while left.piece.is_none() && !left.rest.is_empty() {
-        left = next_cut(left.spot, left.line, left.rest);
+        rest,
     }
-    left
 }

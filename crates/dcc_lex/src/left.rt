@@ -52,6 +52,7 @@ impl<'a> Pieces<'a> {
     pub fn of(rest: &'a [u8]) -> Pieces<'a>
         requires short { length rest.now ≤ 67108864 }
         ensures pieces { pieces_of result ≡ spec.pieces_of rest.now }
+        ensures few { length (pieces_of result) ≤ length rest.now }
         ensures place { result.at ≡ 0 }
     {
         Pieces::cut_at(0, Spot::InLine, 1, rest)

@@ -11,6 +11,7 @@ use crate::left::Pieces;
 pub fn pieces(rest: &[u8]) -> Pieces<'_>
     requires short { length rest.now ≤ 67108864 }
     ensures pieces { pieces_of result ≡ spec.pieces_of rest.now }
+    ensures few { length (pieces_of result) ≤ length rest.now }
     ensures place { result.at ≡ 0 }
 {
     Pieces::of(rest)

@@ -3,8 +3,8 @@
 ghost use Rattle.std.specs.Prelude.{◌≡◌, get_or};
 ghost use Rattle.dcc_c.specs.Token as tokens;
 
-// The first byte of a text, or 0.
-fn first_byte(text: &str) -> u8
+/// The first byte of a text, or 0.
+pub fn first_byte(text: &str) -> u8
     ensures { result ≡ get_or text.now 0 0 }
 {
     match text.as_bytes().first() {

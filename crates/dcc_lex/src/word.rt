@@ -1,14 +1,15 @@
 //! Words, and the tokens that runs of letters, digits and `_` are.
 
-ghost use Rattle.std.specs.Prelude.{◌≡◌, true, false, if◌then◌else◌, MatchOption, Some, None, option_map, get_or};
+ghost use Rattle.std.specs.Prelude.{◌≡◌, true, false, MatchOption, Some, option_map, get_or};
 ghost use Rattle.std.specs.List.{list_all};
 ghost use Rattle.dcc_c.specs.Token as tokens;
 ghost use Rattle.dcc_c.specs.Pieces as spec;
-ghost use Rattle.dcc_c.specs.Grammar as grammar;
 ghost use Rattle.dcc_lex.specs.TokenViews as views;
+ghost use Rattle.dcc_lex.specs.WordViews.{word_token};
 
 use crate::bytes::is_digit;
 use crate::number::number_of;
+use crate::text::first_byte;
 use crate::token::{Keyword, Name, Suffix, Token};
 use std::str;
 
@@ -35,11 +36,11 @@ fn word_in(run: &[u8]) -> Option<&str>
     }
 }
 
-// The token that a word is: a keyword or a name; None for a keyword of ISO C90 that the grammar does not have.
-fn token_of_text(word: &str) -> Option<Token<'_>>
-    requires { tokens.is_word word.now ≡ true }
-    ensures { option_map views.token_of result
-        ≡ (if grammar.is_among spec.unused_keywords word.now then None else Some (tokens.WordToken word.now)) }
+// The same of a word that begins with a letter from `a` to `c`.
+fn token_from_a(word: &str) -> Option<Token<'_>>
+    requires word { tokens.is_word word.now ≡ true }
+    requires first { tokens.is_between 97 99 (get_or word.now 0 0) ≡ true }
+    ensures { option_map views.token_of result ≡ word_token word.now }
 {
     match word {
         "auto" => Some(Token::Keyword(Keyword::Auto)),
@@ -47,33 +48,71 @@ fn token_of_text(word: &str) -> Option<Token<'_>>
         "case" => Some(Token::Keyword(Keyword::Case)),
         "char" => Some(Token::Keyword(Keyword::Char)),
         "continue" => Some(Token::Keyword(Keyword::Continue)),
+        "const" => None,
+        _ => Some(Token::Name(Name { word })),
+    }
+}
+
+// The same of a word that begins with a letter from `d` to `f`.
+fn token_from_d(word: &str) -> Option<Token<'_>>
+    requires word { tokens.is_word word.now ≡ true }
+    requires first { tokens.is_between 100 102 (get_or word.now 0 0) ≡ true }
+    ensures { option_map views.token_of result ≡ word_token word.now }
+{
+    match word {
         "default" => Some(Token::Keyword(Keyword::Default)),
         "do" => Some(Token::Keyword(Keyword::Do)),
         "else" => Some(Token::Keyword(Keyword::Else)),
         "for" => Some(Token::Keyword(Keyword::For)),
+        "double" | "enum" | "extern" | "float" => None,
+        _ => Some(Token::Name(Name { word })),
+    }
+}
+
+// The same of a word that begins with a letter from `g` to `r`.
+fn token_from_g(word: &str) -> Option<Token<'_>>
+    requires word { tokens.is_word word.now ≡ true }
+    requires first { tokens.is_between 103 114 (get_or word.now 0 0) ≡ true }
+    ensures { option_map views.token_of result ≡ word_token word.now }
+{
+    match word {
         "goto" => Some(Token::Keyword(Keyword::Goto)),
         "if" => Some(Token::Keyword(Keyword::If)),
         "int" => Some(Token::Keyword(Keyword::Int)),
         "long" => Some(Token::Keyword(Keyword::Long)),
         "register" => Some(Token::Keyword(Keyword::Register)),
         "return" => Some(Token::Keyword(Keyword::Return)),
+        _ => Some(Token::Name(Name { word })),
+    }
+}
+
+// The same of a word that begins with a letter from `s` to `w`.
+fn token_from_s(word: &str) -> Option<Token<'_>>
+    requires word { tokens.is_word word.now ≡ true }
+    requires first { tokens.is_between 115 119 (get_or word.now 0 0) ≡ true }
+    ensures { option_map views.token_of result ≡ word_token word.now }
+{
+    match word {
         "signed" => Some(Token::Keyword(Keyword::Signed)),
         "switch" => Some(Token::Keyword(Keyword::Switch)),
         "unsigned" => Some(Token::Keyword(Keyword::Unsigned)),
         "void" => Some(Token::Keyword(Keyword::Void)),
         "while" => Some(Token::Keyword(Keyword::While)),
-        "const"
-        | "double"
-        | "enum"
-        | "extern"
-        | "float"
-        | "short"
-        | "sizeof"
-        | "static"
-        | "struct"
-        | "typedef"
-        | "union"
-        | "volatile" => None,
+        "short" | "sizeof" | "static" | "struct" | "typedef" | "union" | "volatile" => None,
+        _ => Some(Token::Name(Name { word })),
+    }
+}
+
+// The token that a word is: a keyword or a name; None for a keyword of ISO C90 that the grammar does not have.
+fn token_of_text(word: &str) -> Option<Token<'_>>
+    requires { tokens.is_word word.now ≡ true }
+    ensures { option_map views.token_of result ≡ word_token word.now }
+{
+    match first_byte(word) {
+        b'a'..=b'c' => token_from_a(word),
+        b'd'..=b'f' => token_from_d(word),
+        b'g'..=b'r' => token_from_g(word),
+        b's'..=b'w' => token_from_s(word),
         _ => Some(Token::Name(Name { word })),
     }
 }

@@ -18,7 +18,7 @@ use dcc_lex::{Head, Mark, Pieces};
 use dcc_reader::declaration::{read_init, read_size};
 use dcc_reader::head::{Begun, read_begun};
 use dcc_reader::pragma::take_number_of_line;
-use dcc_reader::reader::{ENOUGH_CALLS, reader_at};
+use dcc_reader::reader::reader_at;
 use dcc_reader::{NumberAt, PartialFunction, PartialText, PartialVariable, Reader};
 use std::alloc::{AllocError, Global};
 
@@ -173,15 +173,19 @@ fn read_text(r: &mut Reader<'_>, alloc: Global, calls: usize) -> Got<PartialText
     })
 }
 
+// How deep reading may nest, which is enough for fewer pieces than 67108864.
+const MOST_CALLS: usize = 16 * 67108864;
+
 /// Reads the pieces of a text after its version line, as far as they are allowed.
 ///
 /// # Errors
 /// Where memory runs out.
 pub fn read<'a>(alloc: Global, rest: &Pieces<'a>) -> Result<Reading<'a>, AllocError>
+    requires few { length (pieces_of rest.now) < 67108864 }
     ensures { IfOk result (λ r. reading.got (text_of r.text) (reader_of r.following)
         ≡ texts.reading_of (pieces_of rest.now)) }
 {
     let mut following = reader_at(rest);
-    let text = read_text(&mut following, alloc, ENOUGH_CALLS)?;
+    let text = read_text(&mut following, alloc, MOST_CALLS)?;
     Ok(Reading { text, following })
 }

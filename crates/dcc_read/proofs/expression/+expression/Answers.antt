@@ -20,7 +20,7 @@ measured_unary-returns-in-Some-unary_of t c =
     let inner : a ≡ reading.read_unary c.in-Some.calls (reading.in_operator (inside_of c.args.inside)) (reading.skip (reader_of c.args.r.now)) =
     c.in_ok-operand.ensures ∙ both (reading.read_unary c.in-Some.calls) c.in_operator.ensures c.skip.ensures in
     made c.unary_at.result (reader_of c.measured_unary.new.r)
-    (partial.UnaryHere c.args.r.now.at c.in-Some-unary_of.operator (expr_of c.in_ok-operand.operand.expr))
+    (partial.UnaryHere c.args.r.now.left.at c.in-Some-unary_of.operator (expr_of c.in_ok-operand.operand.expr))
     (reading.read_unary c.args.calls (inside_of c.args.inside) (reader_of c.args.r.now))
     c.unary_at.ensures
     (steps.unary-operator c.args.calls c.in-Some.calls (inside_of c.args.inside) (reader_of c.args.r.now) c.in-Some-unary_of.operator a is shallow sees inner)
@@ -32,10 +32,10 @@ measured_unary-returns-then-sees_mark t c =
     let sees : reading.unary_of (reading.next_token (reader_of c.args.r.now)) ≡ None =
     sym (ap reading.unary_of c.next.ensures) ∙ sym c.unary_of.ensures ∙ not-some c.unary_of.result c.in_default-unary_of.not-Some in
     along c.read_parentheses.result (reader_of c.read_parentheses.new.r)
-    (reading.read_parentheses c.in-Some.calls (inside_of c.args.inside) c.args.r.now.at (reader_of c.skip-then-sees_mark.new.self))
+    (reading.read_parentheses c.in-Some.calls (inside_of c.args.inside) c.args.r.now.left.at (reader_of c.skip-then-sees_mark.new.self))
     (reading.read_unary c.args.calls (inside_of c.args.inside) (reader_of c.args.r.now))
     c.read_parentheses.ensures
-    (ap (reading.read_parentheses c.in-Some.calls (inside_of c.args.inside) c.args.r.now.at) c.skip-then-sees_mark.ensures
+    (ap (reading.read_parentheses c.in-Some.calls (inside_of c.args.inside) c.args.r.now.left.at) c.skip-then-sees_mark.ensures
     ∙ steps.unary-parentheses c.args.calls c.in-Some.calls (inside_of c.args.inside) (reader_of c.args.r.now) is shallow sees (sym c.if-sees_mark.ensures))
 
 pub measured_unary-returns : goal.measured_unary-returns

@@ -1,7 +1,6 @@
-use Rattle.std.proofs.Common.{◌≡◌, ℕ, ◌-◌, false, not, codes, map, Some, None, IfOk, sym, ap, ◌∙◌, arith}
-use Rattle.dcc_c.specs.Partial as partial
+use Rattle.std.proofs.Common.{◌≡◌, ℕ, ◌-◌, false, not, codes, map, Some, None, sym, ap, ◌∙◌, arith}
 use Rattle.dcc_c.specs.Partial.{IfOf, BreakOf, ContinueOf, no_rows, no_cases, cases}
-use Rattle.dcc_c.specs.Reading.{Got, got, next_token}
+use Rattle.dcc_c.specs.Reading.{got, next_token}
 use Rattle.dcc_c.specs.Token.{depth_line}
 use Rattle.dcc_c.specs.ReadingStatements as s
 use Rattle.dcc_reader.specs.declared.partial.PartialArm.{out-roll-PartialArm}
