@@ -1,6 +1,6 @@
 //! The first bytes of a text: a piece or none, and where the text goes on.
 
-ghost use Rattle.std.specs.Prelude.{◌≡◌, ◌+◌, ◌<◌, ◌≤◌, length, true, false, [], ◌∷◌, MatchOption, Some, option_map, option_to_list};
+ghost use Rattle.std.specs.Prelude.{◌≡◌, ◌+◌, ◌<◌, ◌≤◌, length, true, false, [], ◌∷◌, MatchOption, Some, None, option_map, option_to_list};
 ghost use Rattle.std.specs.Option.{ForNone};
 ghost use Rattle.dcc_c.specs.Pieces as spec;
 ghost use Rattle.dcc_lex.specs.TokenViews as views;
@@ -56,7 +56,8 @@ impl<'a> Cut<'a> {
 
     // A line feed or blanks, and where the text goes on.
     fn without_piece(spot: Spot, line: u32, rest: &'a [u8]) -> Cut<'a>
-        ensures { cuts.cut_of result ≡ spec.cut [] (cuts.spot_of spot) line rest.now }
+        ensures cut { cuts.cut_of result ≡ spec.cut [] (cuts.spot_of spot) line rest.now }
+        ensures none { result.piece ≡ None }
     {
         Cut {
             piece: None,
@@ -215,10 +216,5 @@ pub fn next_piece(spot: Spot, line: u32, bytes: &[u8]) -> Cut<'_>
         line = cut.line;
         rest = cut.rest;
     }
-    Cut {
-        piece: None,
-        spot,
-        line,
-        rest,
-    }
+    Cut::without_piece(spot, line, rest)
 }

@@ -10,7 +10,7 @@ returns-then-first-eq10-clause-continues c =
     let rest = drop 1 c.args.bytes.now in
     let all = ap (λ n. take n rest) (sym (length-drop 1 c.args.bytes.now)) ∙ take-length rest in
     let goes = feed_goes (spot_of c.args.spot) c.args.line (c.args.line + 1) c.args.bytes.now _ c.requires.some c.if-first-eq10.true refl all in
-    subst (Continues (spot_of c.args.spot) c.args.line c.args.bytes.now) (sym c.without_piece.ensures) goes
+    subst (Continues (spot_of c.args.spot) c.args.line c.args.bytes.now) (sym c.without_piece.ensures.cut) goes
 
 pub returns-in-Some-clause-continues : goal.returns-in-Some-clause-continues
 returns-in-Some-clause-continues c =
