@@ -1,6 +1,6 @@
 //! The first offence of a whole text.
 
-ghost use Rattle.std.specs.Prelude.{◌≡◌, ◌≤◌, ◌++◌, Bool, true, List, [], length, map, option_map, Option, IfOk, OnOk, if◌then◌else◌};
+ghost use Rattle.std.specs.Prelude.{◌≡◌, ◌++◌, Bool, true, List, [], map, option_map, Option, IfOk, OnOk, if◌then◌else◌};
 ghost use Rattle.dcc_c.specs.Grammar as grammar;
 ghost use Rattle.dcc_c.specs.Dos.{dos_names};
 ghost use Rattle.dcc_c.specs.Kinds.{first_of};
@@ -10,7 +10,7 @@ ghost use Rattle.dcc_c.specs.Partial as partial;
 ghost use Rattle.dcc_c.specs.Pieces as pieces;
 ghost use Rattle.dcc_c.specs.TextOffences as offences;
 ghost use Rattle.dcc_c.specs.Tree.{Word};
-ghost use Rattle.dcc_lex.specs.TokenViews.{pieces_of};
+ghost use Rattle.dcc_lex.specs.PiecesViews.{pieces_of};
 ghost use Rattle.dcc_reader.specs.OffenceViews.{offence_of};
 ghost use Rattle.dcc_reader.specs.PartialViews.{number_of, word_of, function_of, lines_of, text_of};
 ghost use Rattle.dcc_c.specs.Offences.{lines_offences};
@@ -29,7 +29,7 @@ use crate::names::{
 };
 use crate::places::{Stack, tell_globals, tell_sizes};
 use crate::scene::{Scene, Scope, Signature, add_dos, add_functions, declare};
-use dcc_lex::{Piece, same_text};
+use dcc_lex::{Pieces, same_text};
 use dcc_reader::labels::push_labels;
 use dcc_reader::unread::{add_labels, heads_in};
 use dcc_reader::{First, NumberAt, Offence, ParseKind, PartialFunction, PartialText, WordAt};
@@ -191,9 +191,8 @@ fn label_words<'a>(
     alloc: Global,
     labels: &[&'a WordAt],
     is_last: bool,
-    rest: &'a [Piece<'_>],
+    rest: &Pieces<'a>,
 ) -> Result<BTreeSet<&'a str>, AllocError>
-    requires few { length rest.now ≤ 67108864 }
     ensures { IfOk result (λ words. (word : Word) → holds words word
         ≡ grammar.is_among (offences.words_of (lent_names labels.now) ++ labels_if is_last (pieces_of rest.now)) word) }
 {
@@ -252,10 +251,9 @@ fn check_function<'a>(
     whole: &Whole<'a>,
     function: &'a PartialFunction,
     is_last: bool,
-    rest: &'a [Piece<'_>],
+    rest: &Pieces<'a>,
     first: &mut First,
 ) -> Result<(), AllocError>
-    requires few { length rest.now ≤ 67108864 }
     ensures { (w : offences.Whole) → IsWhole whole.now w →
         OnOk result (Tells first.old first.new
         (offences.function_offences w (labels_if is_last (pieces_of rest.now)) (function_of function.now))) }
@@ -275,10 +273,9 @@ fn check_functions<'a>(
     alloc: Global,
     whole: &Whole<'a>,
     functions: &'a [PartialFunction],
-    rest: &'a [Piece<'_>],
+    rest: &Pieces<'a>,
     first: &mut First,
 ) -> Result<(), AllocError>
-    requires few { length rest.now ≤ 67108864 }
     ensures { (w : offences.Whole) → IsWhole whole.now w → w.labels ≡ known.labels_before_head (pieces_of rest.now) →
         OnOk result (Tells first.old first.new (offences.functions_offences w (map function_of functions.now))) }
 {
@@ -298,9 +295,8 @@ pub fn first_offence<'a>(
     alloc: Global,
     text: &'a PartialText,
     stop: Option<Offence>,
-    rest: &'a [Piece<'_>],
+    rest: &Pieces<'a>,
 ) -> Result<Option<Offence>, AllocError>
-    requires few { length rest.now ≤ 67108864 }
     ensures { IfOk result
         (λ o. option_map offence_of o
         ≡ first_of (offences.stop_offences (option_map offence_of stop)

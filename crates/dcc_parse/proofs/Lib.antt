@@ -3,4 +3,3 @@ pub mod ParseRules
 pub mod RefusalLaws
 pub mod StripLaws
 pub mod TextLaws
-pub mod left

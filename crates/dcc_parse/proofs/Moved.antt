@@ -1,6 +1,6 @@
 -- Lists that are made from others item by item.
 use native.Mathlib.Omega.{arith}
-use Rattle.std.proofs.Common.{◌≡◌, ℕ, suc, ◌+◌, List, [], ◌∷◌, ◌++◌, map, length, refl, sym, ap, ◌∙◌, append-nil}
+use Rattle.std.proofs.Common.{◌≡◌, ℕ, ◌+◌, List, [], ◌∷◌, ◌++◌, map, length, refl, sym, ap, ◌∙◌, append-nil}
 
 pub none-left : {X : Type 0} (rest : List X) (count : ℕ) → count ≡ length rest → count ≡ 0 → rest ≡ []
 none-left [] count same none = refl

@@ -1,6 +1,6 @@
 -- What is parsed stands for its tree, and what is refused for none.
 use native.Mathlib.Omega.{arith}
-use Rattle.std.proofs.Common.{◌≡◌, ℕ, zero, suc, ◌+◌, ◌≤◌, ◌<◌, List, [], ◌∷◌, ◌++◌, length, get_or, Option, Some, None, Result, Ok, Err, IfOk, refl, sym, ap, ◌∙◌, subst}
+use Rattle.std.proofs.Common.{◌≡◌, ℕ, suc, ◌+◌, ◌≤◌, ◌<◌, List, [], ◌∷◌, ◌++◌, length, drop, Option, Some, None, Result, Ok, Err, IfOk, refl, sym, ap, ◌∙◌, subst}
 use Rattle.std.specs.Prelude.{if◌then◌else◌, is_some, ◌==◌}
 use Rattle.dcc_c.specs.Kinds.{Offence, first_of}
 use Rattle.dcc_c.specs.Numbered.{rows}
@@ -22,30 +22,11 @@ use Rattle.dcc_c.proofs.reading.ParseLaws.{IsParsed}
 use Rattle.dcc_c.proofs.reading.TextWhole.{complete_reading}
 use Rattle.dcc_c.proofs.refusals.ExprRules.{none-both}
 use Rattle.dcc_c.proofs.refusals.FirstRules.{first-none, first-some}
-use Rattle.dcc_lex.specs.declared.token.Piece.{Piece as Read}
-use Rattle.dcc_lex.specs.TokenViews.{pieces_of}
 use Rattle.dcc_lex.proofs.laws.TextParsed.{parsed-stands, stands-parsed, stands-one}
 use Rattle.dcc_reader.specs.declared.offence.Offence.{Offence as Found}
 use Rattle.dcc_reader.specs.declared.offence.ParseKind.TheVariants.{Length, Version}
 use Rattle.dcc_reader.specs.OffenceViews.{offence_of}
 use Rattle.dcc_parse.specs.Fault.{IsRefusal, IsWhole, IsTreeOf}
-use Rattle.dcc_parse.proofs.left.Texts.{left-short}
-
--- What has not been read.
-
-length-pieces : (ps : List Read) → length (pieces_of ps) ≡ length ps
-length-pieces [] = refl
-length-pieces (p ∷ ps) = ap suc (length-pieces ps)
-
-unread-short : (r : Reader) → length (unread r) ≤ length r.left
-unread-short r = if-cases (λ (l : List Piece). length l ≤ length r.left) (is_some r.stop) (λ _. omega arith) (λ _. omega arith)
-
--- no more pieces are left than there were
-pub few-unread : (ps rest : List Read) (text : PartialText) (following : Reader) → got text following ≡ reading_of (pieces_of ps) →
-    pieces_of rest ≡ unread following → length rest ≤ length ps
-few-unread ps rest text following same is =
-    let left : length following.left ≡ length (reading_of (pieces_of ps)).following.left = ap (λ (g : Got PartialText). length g.following.left) same in
-    omega (arith, length-pieces ps, length-pieces rest, unread-short following, ap (λ (l : List Piece). length l) is, left, left-short (pieces_of ps))
 
 -- Trees.
 
@@ -82,10 +63,10 @@ tree-parsed pieces tree is =
     record { going = going; same = is.same; clean = ap (text_offences reading.value) (sym (all-read reading.following going)) ∙ both.1 }
 
 -- the text stands for the tree of its pieces
-pub tree-stands : (text rest : List ℕ) (ps : List Read) (tree : Tree) → after_version text ≡ Some rest → pieces_of ps ≡ spec.pieces_of rest →
-    IsTreeOf (pieces_of ps) tree → StandsFor text tree
-tree-stands text rest ps tree begins same is =
-    parsed-stands text rest tree begins (subst (λ l. IsParsed l tree) same (tree-parsed (pieces_of ps) tree is))
+pub tree-stands : (text rest : List ℕ) (pieces : List Piece) (tree : Tree) → after_version text ≡ Some rest → pieces ≡ spec.pieces_of rest →
+    IsTreeOf pieces tree → StandsFor text tree
+tree-stands text rest pieces tree begins same is =
+    parsed-stands text rest tree begins (subst (λ l. IsParsed l tree) same (tree-parsed pieces tree is))
 
 -- Refusals.
 
@@ -116,10 +97,10 @@ pub version-refused : (text : List ℕ) → length text ≤ 67108864 → after_v
 version-refused text short begins =
     record { refused = no_version short begins; no_tree = λ _ tree stands. let (other, begins_other, parsed) = stands-parsed text tree stands in no-rest (sym begins ∙ begins_other) }
 
-pub offence-refused : (text rest : List ℕ) (ps : List Read) (o : Found) (line : ℕ) → length text ≤ 67108864 → after_version text ≡ Some rest →
-    pieces_of ps ≡ spec.pieces_of rest → first_of (offences_of (pieces_of ps)) ≡ Some (offence_of o) →
-    line ≡ line_at (pieces_of ps) (1 + rows text) o.at → IsRefusal text line o.kind
-offence-refused text rest ps o line short begins same first at =
+pub offence-refused : (text rest : List ℕ) (pieces : List Piece) (o : Found) (line : ℕ) → length text ≤ 67108864 → after_version text ≡ Some rest →
+    pieces ≡ spec.pieces_of rest → first_of (offences_of pieces) ≡ Some (offence_of o) →
+    line ≡ line_at pieces (1 + rows text) o.at → IsRefusal text line o.kind
+offence-refused text rest pieces o line short begins same first at =
     let is : first_of (offences_of (spec.pieces_of rest)) ≡ Some (offence_of o) = ap (λ l. first_of (offences_of l)) (sym same) ∙ first in
     let one : 1 + rows text ≡ suc (rows text) = omega arith in
     let place : line_at (spec.pieces_of rest) (suc (rows text)) o.at ≡ line =
@@ -135,17 +116,10 @@ rows-few [] = omega arith
 rows-few (b ∷ bytes) =
     if-cases (λ n. n ≤ suc (length bytes)) (b == 10) (λ _. omega (arith, rows-few bytes)) (λ _. omega (arith, rows-few bytes))
 
--- the line of a piece that is there
-pub line-there : (ps : List Read) (at last : ℕ) (p : Read) → at < length ps → p ≡ get_or ps at p → p.line ≡ line_at (pieces_of ps) last at
-line-there [] at last p within is = absurd (omega (arith, within))
-line-there (q ∷ ps) zero last p within is = ap (λ (r : Read). r.line) is
-line-there (q ∷ ps) (suc at) last p within is = line-there ps at last p (omega (arith, within)) is
-
--- past the last piece
-pub line-last : (ps : List Read) (at last : ℕ) → length ps ≤ at → last ≡ line_at (pieces_of ps) last at
-line-last [] at last over = refl
-line-last (q ∷ ps) zero last over = absurd (omega (arith, over))
-line-last (q ∷ ps) (suc at) last over = line-last ps at last (omega (arith, over))
+-- past one piece
+pub line-next : (pieces : List Piece) (last at : ℕ) → line_at (drop 1 pieces) last at ≡ line_at pieces last (suc at)
+line-next [] last at = refl
+line-next (p ∷ pieces) last at = refl
 
 -- the unit is the only one that the text stands for
 pub stands-alone : {E : Type 0} (text : List ℕ) (parsed : Result TextUnit E) → IfOk parsed (λ unit. StandsFor text (tree_of unit)) →

@@ -9,7 +9,7 @@ use Rattle.dcc_c.specs.Tree as plain
 use Rattle.dcc_c.specs.Tree.{Lines, no_lines, line, Arms, no_arms, arm}
 use Rattle.dcc_c.specs.Views.{expr_of, stmt_of, lines_of, arms_of, arm_before, arms_if}
 use Rattle.dcc_c.specs.Kinds.{of_depth, offence, only_if}
-use Rattle.dcc_c.specs.Partial.{NumberAt, PartialLines, PartialArms, no_cases, cases, row}
+use Rattle.dcc_c.specs.Partial.{NumberAt, PartialLines, PartialArms, cases, row}
 use Rattle.dcc_c.specs.Offences.{Scene, default_offences, lines_offences, own_offences, inner_offences, arms_inner, case_offences, case_numbers}
 use Rattle.dcc_c.specs.Stripped.{plain_numbers, plain_expr, plain_stmt, plain_lines, case_arms, default_arms}
 use Rattle.dcc_c.proofs.refusals.ExprRules.{none-both}

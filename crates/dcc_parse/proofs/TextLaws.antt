@@ -1,6 +1,6 @@
 -- Steps of stripping declarations, and what is known of them where nothing offends.
 use native.Mathlib.Omega.{arith}
-use Rattle.std.proofs.Common.{◌≡◌, ℕ, ◌+◌, true, ◌&&◌, List, [], ◌∷◌, ◌++◌, map, refl, sym, ap, ◌∙◌}
+use Rattle.std.proofs.Common.{◌≡◌, ℕ, true, ◌&&◌, List, [], ◌∷◌, ◌++◌, map, refl, sym, ap, ◌∙◌}
 use Rattle.std.proofs.lemmas.Bool.{leb-true, le-leb}
 use Rattle.std.specs.Prelude.{nat_le, option_map}
 use Rattle.std.specs.List.{list_all}
@@ -16,7 +16,6 @@ use Rattle.dcc_c.specs.Complete.{is_complete_text}
 use Rattle.dcc_c.proofs.refusals.ExprRules.{none-both, and-both}
 use Rattle.dcc_c.proofs.refusals.GlobalRules.{places-allowed}
 use Rattle.dcc_c.proofs.refusals.TextRules.{complete-text}
-use Rattle.dcc_reader.specs.declared.partial.PartialVariable.{PartialVariable}
 use Rattle.dcc_reader.specs.declared.partial.PartialFunction.{PartialFunction}
 use Rattle.dcc_reader.specs.declared.partial.PartialText.{PartialText}
 use Rattle.dcc_reader.specs.PartialViews as partial

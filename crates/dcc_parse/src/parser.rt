@@ -7,7 +7,7 @@ ghost use Rattle.dcc_c.specs.Text.{StandsFor};
 ghost use Rattle.dcc_c.specs.TextOffences as offences;
 ghost use Rattle.dcc_c.specs.Tree.{Tree};
 ghost use Rattle.dcc_c.specs.Views.{tree_of};
-ghost use Rattle.dcc_lex.specs.TokenViews.{pieces_of};
+ghost use Rattle.dcc_lex.specs.PiecesViews.{pieces_of};
 ghost use Rattle.dcc_parse.specs.Fault.{IsFaultOf, IsWhole};
 ghost use Rattle.dcc_reader.specs.OffenceViews.{offence_of};
 ghost use Rattle.dcc_reader.specs.PartialViews.{text_of};
@@ -17,42 +17,48 @@ use crate::fault::ParseFault;
 use crate::strip_text::strip;
 use dcc_c::Unit;
 use dcc_check::first_offence;
-use dcc_lex::{Piece, after_version, line_feeds, pieces};
+use dcc_lex::{Pieces, after_version, line_feeds, pieces};
 use dcc_read::read;
 use dcc_reader::{Offence, ParseKind, PartialText, Reader};
 use std::alloc::{AllocError, Global};
 
 // The pieces that have not been read, where reading stopped.
-fn unread<'a>(reader: &Reader<'a>) -> &'a [Piece<'a>]
-    ensures { pieces_of result.now ≡ offences.unread (reader_of reader.now) }
+fn unread<'a>(reader: &Reader<'a>) -> Pieces<'a>
+    ensures { pieces_of result ≡ offences.unread (reader_of reader.now) }
 {
-    let all = reader.pieces;
-    if reader.stop.is_none() || reader.at >= all.len() {
-        return &all[all.len()..];
+    if reader.stop.is_none() {
+        return pieces(b"");
     }
-    &all[reader.at..]
+    reader.left
 }
 
 // What the pieces after the version line are read as, or what offends in them first. It fails only for want of memory.
-fn read_pieces(alloc: Global, pieces: &[Piece]) -> Result<Result<PartialText, Offence>, AllocError>
-    requires few { length pieces.now < 67108864 }
+fn read_pieces(
+    alloc: Global,
+    pieces: &Pieces<'_>,
+) -> Result<Result<PartialText, Offence>, AllocError>
+    requires few { length (pieces_of pieces.now) < 67108864 }
     ensures text { IfOk result (λ found. IfOk found (λ text. IsWhole (pieces_of pieces.now) (text_of text))) }
     ensures offence { IfOk result (λ found. IfErr found (λ offence.
         first_of (offences.offences_of (pieces_of pieces.now)) ≡ Some (offence_of offence))) }
 {
     let reading = read(alloc, pieces)?;
     let rest = unread(&reading.following);
-    match first_offence(alloc, &reading.text, reading.following.stop, rest)? {
+    match first_offence(alloc, &reading.text, reading.following.stop, &rest)? {
         Some(offence) => Ok(Err(offence)),
         None => Ok(Ok(reading.text)),
     }
 }
 
 // The line of the piece at a place, or the last line.
-fn line_at(pieces: &[Piece], last: u32, at: usize) -> u32
+fn line_at(pieces: &Pieces<'_>, last: u32, at: usize) -> u32
     ensures { result ≡ spec.line_at (pieces_of pieces.now) last at }
 {
-    match pieces.get(at) {
+    let mut left = *pieces;
+    for _passed in 0..at {
+        left.skip();
+    }
+    match left.first() {
         Some(piece) => piece.line,
         None => last,
     }
@@ -76,13 +82,9 @@ fn parse_bytes(alloc: Global, bytes: &[u8]) -> Result<Unit, ParseFault>
             kind: ParseKind::Version,
         });
     };
-    let pieces = pieces(alloc, rest)?;
+    let pieces = pieces(rest);
     match read_pieces(alloc, &pieces)? {
-        Ok(text) => {
-            // The unit is made without the pieces, which take more room than the text itself.
-            drop(pieces);
-            Ok(strip(alloc, text)?)
-        }
+        Ok(text) => Ok(strip(alloc, text)?),
         Err(offence) => {
             let last = 1 + line_feeds(bytes);
             Err(ParseFault::At {

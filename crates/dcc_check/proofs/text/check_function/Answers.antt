@@ -3,7 +3,7 @@ use Rattle.dcc_c.specs.Grammar.{is_among}
 use Rattle.dcc_c.specs.Kinds.{first_after}
 use Rattle.dcc_c.specs.Offences.{label_list, lines_offences, repeated}
 use Rattle.dcc_c.specs.TextOffences.{name_list, sizes_of, scene_of, words_of}
-use Rattle.dcc_lex.specs.TokenViews.{pieces_of}
+use Rattle.dcc_lex.specs.PiecesViews.{pieces_of}
 use Rattle.dcc_reader.specs.PartialViews.{function_of, lines_of, variable_of}
 use Rattle.dcc_check.specs.Names.{lent_names}
 use Rattle.dcc_check.specs.Wholes.{labels_if}

@@ -2,7 +2,7 @@ use Rattle.std.proofs.Common.{◌≡◌, map, drop}
 use Rattle.dcc_c.specs.Kinds.{first_after}
 use Rattle.dcc_c.specs.Known.{labels_before_head}
 use Rattle.dcc_c.specs.TextOffences.{Whole, functions_offences}
-use Rattle.dcc_lex.specs.TokenViews.{pieces_of}
+use Rattle.dcc_lex.specs.PiecesViews.{pieces_of}
 use Rattle.dcc_reader.specs.PartialViews.{function_of}
 use Rattle.dcc_check.specs.Wholes.{IsWhole}
 use Rattle.dcc_reader.specs.Told.{told}

@@ -6,7 +6,7 @@ use Rattle.dcc_c.specs.Known.{known_functions}
 use Rattle.dcc_c.specs.Offences.{repeated}
 use Rattle.dcc_c.specs.TextOffences.{known_in, stop_offences, stack_offences, name_list, function_names, globals_places, number_or_zero, start_offences, functions_offences, text_offences}
 use Rattle.dcc_c.proofs.refusals.FirstRules.{first-append}
-use Rattle.dcc_lex.specs.TokenViews.{pieces_of}
+use Rattle.dcc_lex.specs.PiecesViews.{pieces_of}
 use Rattle.dcc_reader.specs.OffenceViews.{offence_of}
 use Rattle.dcc_reader.specs.PartialViews.{function_of, variable_of, text_of}
 use Rattle.dcc_reader.specs.Told.{told}

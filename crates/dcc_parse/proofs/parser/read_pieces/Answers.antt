@@ -1,19 +1,13 @@
-use Rattle.std.proofs.Common.{◌++◌, sym, ap, ◌∙◌, arith}
+use Rattle.std.proofs.Common.{◌++◌, sym, ap, ◌∙◌}
 use Rattle.std.specs.Option.{option_map}
 use Rattle.dcc_c.specs.Kinds.{first_of}
 use Rattle.dcc_c.specs.TextOffences.{stop_offences, text_offences}
-use Rattle.dcc_lex.specs.TokenViews.{pieces_of}
+use Rattle.dcc_lex.specs.PiecesViews.{pieces_of}
 use Rattle.dcc_reader.specs.OffenceViews.{offence_of}
 use Rattle.dcc_reader.specs.PartialViews.{text_of}
 use Rattle.dcc_reader.specs.ReaderViews.{reader_of}
-use Rattle.dcc_parse.proofs.ParseRules.{few-unread, read-whole}
+use Rattle.dcc_parse.proofs.ParseRules.{read-whole}
 use Rattle.dcc_parse.proofs.parser.read_pieces.Goals as goal
-
-pub first_offence-requires : goal.first_offence-requires
-first_offence-requires c =
-    let reading = c.in_ok-reading.reading in
-    let few = few-unread c.args.pieces.now c.unread-rest.result.now (text_of reading.text) (reader_of reading.following) c.in_ok-reading.ensures c.unread-rest.ensures in
-    record { few = omega (arith, few, c.requires.few) }
 
 pub returns-in-None-clause-text : goal.returns-in-None-clause-text
 returns-in-None-clause-text c =

@@ -1,4 +1,0 @@
-pub mod Exprs
-pub mod Stmts
-pub mod Texts
-pub mod Tokens
