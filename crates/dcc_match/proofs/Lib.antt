@@ -1,6 +1,6 @@
 mod StepLaws
 mod TransferLaws
-mod TrailLaws
-mod WantedLaws
-mod RefinedLaws
+pub mod TrailLaws
+pub mod WantedLaws
+pub mod RefinedLaws
 mod Examples

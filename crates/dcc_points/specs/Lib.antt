@@ -1,0 +1,2 @@
+pub mod InstructionPoints
+pub mod Laws
