@@ -1,6 +1,8 @@
 -- Steps of stripping: what is stripped already, before the rest.
-use Rattle.std.proofs.Common.{◌≡◌, ℕ, Bool, Vec, Global, suc, ◌+◌, true, false, List, [], ◌∷◌, ◌++◌, map, length, Option, Some, None, refl, sym, ap, ◌∙◌}
+use denote.Param.Weighed.{most, most-append}
+use Rattle.std.proofs.Common.{◌≡◌, ◌≤◌, ℕ, max, arith, Bool, Vec, Global, suc, ◌+◌, true, false, List, [], ◌∷◌, ◌++◌, map, length, reverse, Option, Some, None, refl, sym, ap, ◌∙◌}
 use Rattle.std.specs.Prelude.{nat_lt, is_some}
+use Rattle.std.proofs.lemmas.List.{reverse-append}
 use Rattle.dcc_c.specs.declared.syntax.CExpr.{CExpr}
 use Rattle.dcc_c.specs.declared.syntax.CStmt.{If as IfOf, While as WhileOf, DoWhile as DoWhileOf, Forever as ForeverOf, Switch as SwitchOf}
 use Rattle.dcc_c.specs.declared.syntax.Line.{Line}
@@ -9,7 +11,7 @@ use Rattle.dcc_c.specs.Tree as plain
 use Rattle.dcc_c.specs.Tree.{Lines, no_lines, line, Arms, no_arms, arm}
 use Rattle.dcc_c.specs.Views.{expr_of, stmt_of, lines_of, arms_of, arm_before, arms_if}
 use Rattle.dcc_c.specs.Kinds.{of_depth, offence, only_if}
-use Rattle.dcc_c.specs.Partial.{NumberAt, PartialLines, PartialArms, cases, row}
+use Rattle.dcc_c.specs.Partial.{NumberAt, PartialLines, PartialArms, no_rows, cases, row}
 use Rattle.dcc_c.specs.Offences.{Scene, default_offences, lines_offences, own_offences, inner_offences, arms_inner, case_offences, case_numbers}
 use Rattle.dcc_c.specs.Stripped.{plain_numbers, plain_expr, plain_stmt, plain_lines, case_arms, default_arms}
 use Rattle.dcc_c.proofs.refusals.ExprRules.{none-both}
@@ -22,18 +24,27 @@ use Rattle.dcc_reader.proofs.RowLaws.{arm-parts, if-tree as if-rows, while-tree 
 use Rattle.dcc_parse.proofs.Moved.{none-left, one-less}
 use Rattle.dcc_c.proofs.RowLaws.{arm-parts as arm-tree, if-tree, while-tree, do_while-tree, forever-tree, switch-tree}
 
--- lines before others
-abbrev pub lines_then : List Line → Lines → Lines
-lines_then [] rest = rest
-lines_then (l ∷ ls) rest = line (stmt_of l.stmt) l.line (lines_then ls rest)
+-- the lines of statements, before others
+abbrev pub rows_then : List Row → Lines → Lines
+rows_then [] rest = rest
+rows_then (r ∷ rows) rest = line (plain_stmt (partial.stmt_of r.stmt)) r.line (rows_then rows rest)
 
-pub lines-alone : (ls : List Line) → lines_then ls no_lines ≡ lines_of ls
-lines-alone [] = refl
-lines-alone (l ∷ ls) = ap (line (stmt_of l.stmt) l.line) (lines-alone ls)
+rows-alone : (rows : List Row) → rows_then rows no_lines ≡ plain_lines (partial.lines_of rows)
+rows-alone [] = refl
+rows-alone (r ∷ rows) = ap (line (plain_stmt (partial.stmt_of r.stmt)) r.line) (rows-alone rows)
 
-pub lines-more : (ls : List Line) (l : Line) (rest : Lines) → lines_then (ls ++ l ∷ []) rest ≡ lines_then ls (line (stmt_of l.stmt) l.line rest)
-lines-more [] l rest = refl
-lines-more (k ∷ ls) l rest = ap (line (stmt_of k.stmt) k.line) (lines-more ls l rest)
+rows-more : (rows : List Row) (r : Row) (rest : Lines) →
+    rows_then (rows ++ r ∷ []) rest ≡ rows_then rows (line (plain_stmt (partial.stmt_of r.stmt)) r.line rest)
+rows-more [] r rest = refl
+rows-more (q ∷ rows) r rest = ap (line (plain_stmt (partial.stmt_of q.stmt)) q.line) (rows-more rows r rest)
+
+-- without its last item a list is no deeper
+pub no_deeper : {X : Type 0} (depth : X → ℕ) (items more whole : List X) (x : X) (limit : ℕ) → whole ≡ more ++ x ∷ [] → items ≡ more →
+    most depth whole ≤ limit → most depth items ≤ limit
+no_deeper depth items more whole x limit is same under =
+    let all : most depth whole ≡ max (most depth more) (most depth (x ∷ [])) = ap (most depth) is ∙ most-append depth more (x ∷ []) in
+    let kept : most depth items ≡ most depth more = ap (most depth) same in
+    omega (arith, all, kept, under)
 
 -- arms before others
 abbrev pub arms_then : List Arm → Arms → Arms
@@ -57,11 +68,10 @@ pub default-alone : (last : Option Arm) → default_then last no_arms ≡ arms_i
 default-alone None = refl
 default-alone (Some a) = refl
 
--- What has been made of statements, before the rest, of which there are so many. Nothing offends in the rest.
-pub record LinesLeft (scene : Scene) (blocks : ℕ) (lines : List Line) (rest : List Row) (count : ℕ) (rows : List Row) : Type 0 where
+-- What has been made of the last statements, the last of them first; these stand before them. Nothing offends in these.
+pub record LinesMade (scene : Scene) (blocks : ℕ) (lines : List Line) (rest rows : List Row) : Type 0 where
   pub none : lines_offences scene blocks (partial.lines_of rest) ≡ []
-  pub same : lines_then lines (plain_lines (partial.lines_of rest)) ≡ plain_lines (partial.lines_of rows)
-  pub left : count ≡ length rest
+  pub same : rows_then rest (lines_of (reverse lines)) ≡ plain_lines (partial.lines_of rows)
 
 -- What has been made of arms, before the rest, of which there are so many. Nothing offends in the rest.
 pub record ArmsLeft (scene : Scene) (blocks : ℕ) (found : List Arm) (last : Option Arm) (rest : List PartialArm) (count : ℕ) (arms : List PartialArm) : Type 0 where
@@ -72,32 +82,60 @@ pub record ArmsLeft (scene : Scene) (blocks : ℕ) (found : List Arm) (last : Op
   pub left : count ≡ length rest
 
 module _ (scene : Scene) (blocks : ℕ) where
-  -- one line more
-  pub lines-step : (lines : List Line) (r : Row) (l : Line) {items : List Line} {rest more rows : List Row} {count fewer : ℕ} →
-      rest ≡ r ∷ more → fewer + 1 ≡ count → items ≡ lines ++ l ∷ [] →
-      (inner_offences scene (suc blocks) (partial.stmt_of r.stmt) ≡ [] → stmt_of l.stmt ≡ plain_stmt (partial.stmt_of r.stmt)) → l.line ≡ r.line →
-      LinesLeft scene blocks lines rest count rows → LinesLeft scene blocks items more fewer rows
-  lines-step lines r l {items} {rest} {more} is less pushed stripped at before =
-      let others = partial.lines_of more in
-      let tree : partial.lines_of rest ≡ row (partial.stmt_of r.stmt) r.at r.line others = ap partial.lines_of is in
-      let one = none-both (only_if (nat_lt 200 blocks) (offence of_depth r.at)) _ (sym (ap (lines_offences scene blocks) tree) ∙ before.none) in
+  -- nothing offends in a statement, in those inside it and in those after it
+  record IsClean (r : Row) (others : PartialLines) : Type 0 where
+    deep : only_if (nat_lt 200 blocks) (offence of_depth r.at) ≡ []
+    own : own_offences scene r.at (partial.stmt_of r.stmt) ≡ []
+    inner : inner_offences scene (suc blocks) (partial.stmt_of r.stmt) ≡ []
+    after : lines_offences scene blocks others ≡ []
+
+  row-clean : (r : Row) (others : PartialLines) → lines_offences scene blocks (row (partial.stmt_of r.stmt) r.at r.line others) ≡ [] → IsClean r others
+  row-clean r others none =
+      let one = none-both (only_if (nat_lt 200 blocks) (offence of_depth r.at)) _ none in
       let two = none-both (own_offences scene r.at (partial.stmt_of r.stmt)) _ one.1 in
       let three = none-both (inner_offences scene (suc blocks) (partial.stmt_of r.stmt)) (lines_offences scene blocks others) two.1 in
+      record { deep = one.0; own = two.0; inner = three.0; after = three.1 }
+
+  clean-row : (r : Row) (others : PartialLines) → IsClean r others → lines_offences scene blocks (row (partial.stmt_of r.stmt) r.at r.line others) ≡ []
+  clean-row r others is =
+      let inner = inner_offences scene (suc blocks) (partial.stmt_of r.stmt) in
+      let after = lines_offences scene blocks others in
+      ap (λ os. os ++ (own_offences scene r.at (partial.stmt_of r.stmt) ++ (inner ++ after))) is.deep
+      ∙ ap (λ os. os ++ (inner ++ after)) is.own ∙ ap (λ os. os ++ after) is.inner ∙ is.after
+
+  last-clean : (rows : List Row) (r : Row) → lines_offences scene blocks (partial.lines_of (rows ++ r ∷ [])) ≡ [] →
+      (lines_offences scene blocks (partial.lines_of rows) ≡ []) × (inner_offences scene (suc blocks) (partial.stmt_of r.stmt) ≡ [])
+  last-clean [] r none = (refl, (row-clean r no_rows none).inner)
+  last-clean (q ∷ rows) r none =
+      let first = row-clean q (partial.lines_of (rows ++ r ∷ [])) none in
+      let both = last-clean rows r first.after in
+      (clean-row q (partial.lines_of rows) (record { deep = first.deep; own = first.own; inner = first.inner; after = both.0 }), both.1)
+
+  pub lines-begin : (rows : List Row) {lines : List Line} → lines ≡ [] → lines_offences scene blocks (partial.lines_of rows) ≡ [] →
+      LinesMade scene blocks lines rows rows
+  lines-begin rows is none =
+      record { none = none; same = ap (λ ls. rows_then rows (lines_of (reverse ls))) is ∙ rows-alone rows }
+
+  -- one line more
+  pub lines-step : (lines : List Line) (r : Row) (l : Line) {items : List Line} {rest more rows : List Row} →
+      rest ≡ more ++ r ∷ [] → items ≡ lines ++ l ∷ [] →
+      (inner_offences scene (suc blocks) (partial.stmt_of r.stmt) ≡ [] → stmt_of l.stmt ≡ plain_stmt (partial.stmt_of r.stmt)) → l.line ≡ r.line →
+      LinesMade scene blocks lines rest rows → LinesMade scene blocks items more rows
+  lines-step lines r l {items} {rest} {more} is pushed stripped at before =
+      let made = lines_of (reverse lines) in
+      let clean = last-clean more r (ap (λ rs. lines_offences scene blocks (partial.lines_of rs)) (sym is) ∙ before.none) in
       record {
-        none = three.1;
-        same = ap (λ ls. lines_then ls (plain_lines others)) pushed
-            ∙ lines-more lines l (plain_lines others)
-            ∙ ap (λ s. lines_then lines (line s l.line (plain_lines others))) (stripped three.0)
-            ∙ ap (λ n. lines_then lines (line (plain_stmt (partial.stmt_of r.stmt)) n (plain_lines others))) at
-            ∙ ap (λ ls. lines_then lines (plain_lines ls)) (sym tree)
-            ∙ before.same;
-        left = one-less is less before.left;
+        none = clean.0;
+        same = ap (λ ls. rows_then more (lines_of (reverse ls))) pushed
+            ∙ ap (λ ls. rows_then more (lines_of ls)) (reverse-append lines (l ∷ []))
+            ∙ ap (λ s. rows_then more (line s l.line made)) (stripped clean.1)
+            ∙ ap (λ n. rows_then more (line (plain_stmt (partial.stmt_of r.stmt)) n made)) at
+            ∙ sym (rows-more more r made) ∙ ap (λ rs. rows_then rs made) (sym is) ∙ before.same;
       }
 
-  pub lines-end : (lines : List Line) {rest rows : List Row} {count : ℕ} → count ≡ 0 → LinesLeft scene blocks lines rest count rows →
-      lines_of lines ≡ plain_lines (partial.lines_of rows)
-  lines-end lines {rest} {rows} {count} none all =
-      sym (lines-alone lines) ∙ ap (λ l. lines_then lines (plain_lines (partial.lines_of l))) (sym (none-left rest count all.left none)) ∙ all.same
+  pub lines-end : (lines : List Line) {rest rows : List Row} → rest ≡ [] → LinesMade scene blocks lines rest rows →
+      lines_of (reverse lines) ≡ plain_lines (partial.lines_of rows)
+  lines-end lines none all = ap (λ rs. rows_then rs (lines_of (reverse lines))) (sym none) ∙ all.same
 
 -- Arms with and without `default`.
 module _ (numbers : List NumberAt) (body : PartialLines) (arms : PartialArms) where

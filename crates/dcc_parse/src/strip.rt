@@ -11,6 +11,9 @@ use dcc_c::{Arm, Base, CExpr, CStmt, CType, Line};
 use dcc_reader::{CaseAt, NumberAt, PartialArm, PartialExpr, PartialStmt, Row, WordAt};
 use std::alloc::{AllocError, Global};
 
+// The room of rows is given back in steps of so many.
+const SHRINK_STEP: usize = 1024;
+
 // An expression.
 fn strip_expr(alloc: Global, e: PartialExpr) -> Result<CExpr, AllocError>
     ensures { IfOk result (λ r. tree.expr_of r ≡ stripped.plain_expr (partial.expr_of e)) }
@@ -149,20 +152,32 @@ fn strip_stmt(alloc: Global, stmt: PartialStmt) -> Result<CStmt, AllocError>
     }
 }
 
-/// Statements.
+// Gives back the room of the rows that have been taken from the end, in steps.
+fn shrink_in_steps(rows: &mut Vec<Row>)
+    ensures { rows.new.items ≡ rows.old.items }
+{
+    if rows.len() % SHRINK_STEP == 0 {
+        rows.shrink_to_fit();
+    }
+}
+
+/// Statements. A long list of rows and the list of their lines never stand whole side by side.
 #[cycle(strip)]
 pub(crate) fn strip_lines(alloc: Global, rows: Vec<Row>) -> Result<Vec<Line>, AllocError>
     ensures { (scene : Scene) (blocks : ℕ) → lines_offences scene blocks (partial.lines_of rows.items) ≡ [] →
         IfOk result (λ r. tree.lines_of r.items ≡ stripped.plain_lines (partial.lines_of rows.items)) }
 {
+    let mut rows = rows;
     let mut lines = Vec::with_capacity(alloc, rows.len())?;
-    for row in rows {
+    while let Some(row) = rows.pop() {
         let stmt = strip_stmt(alloc, row.stmt)?;
         lines.push(Line {
             stmt,
             line: row.line,
         })?;
+        shrink_in_steps(&mut rows);
     }
+    lines.reverse();
     Ok(lines)
 }
 
