@@ -47,7 +47,10 @@ fn described(alloc: Global, text: &[u8]) -> Result<String, Fail> {
         return Ok(said);
     }
     let mut left = pieces(text);
-    while let Some(piece) = left.first() {
+    for _ in 0..text.len() {
+        let Some(piece) = left.first() else {
+            return Ok(said);
+        };
         let line = piece.line;
         match &piece.token {
             None => write!(said, "{line}:none ")?,
