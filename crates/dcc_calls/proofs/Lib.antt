@@ -12,3 +12,4 @@ pub mod Words
 pub mod AllowedCalls
 pub mod FirstStates
 pub mod Examples
+pub mod NoAddresses

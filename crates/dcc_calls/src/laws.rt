@@ -2,6 +2,7 @@
 
 ghost use Rattle.dcc_text.specs.Holding.{Setting};
 ghost use Rattle.dcc_calls.specs.Serving.{Opens};
+ghost use Rattle.dcc_calls.specs.Addresses.{BodiesTakeWhatStatementsTake, TextsTakeNoAddress};
 ghost use Rattle.dcc_calls.specs.Allowed.{CallsAreAllowed, ReturnsAreAllowed, OpeningsAreAllowed};
 ghost use Rattle.dcc_calls.specs.Laws.{FunctionNamesDiffer, FunctionNamesAreDeclared};
 ghost use Rattle.dcc_calls.specs.Laws.{KnownNamesDiffer, OwnNamesDiffer};
@@ -67,4 +68,14 @@ pub fn returns_are_allowed()
 /// The opening assignments of a graph's function are allowed in it.
 pub fn openings_are_allowed()
     ensures { OpeningsAreAllowed }
+{}
+
+/// A body takes the address of a name where one of its statements does.
+pub fn bodies_take_what_statements_take()
+    ensures { BodiesTakeWhatStatementsTake }
+{}
+
+/// The texts of a graph as a function take the address of no name.
+pub fn texts_take_no_address()
+    ensures { TextsTakeNoAddress }
 {}
