@@ -18,7 +18,7 @@ use Rattle.dcc_text.specs.Hex.{name_at}
 use Rattle.dcc_text.specs.Spelling.{Spelling}
 use Rattle.dcc_text.specs.Spelled.{Low, unsigned_type, cut, moved_down, text}
 use Rattle.dcc_text.specs.Stmts.{place_of}
-use Rattle.dcc_variables.specs.Variables.{shape_of, variable_name, variable, frame_array, graph_spelling}
+use Rattle.dcc_variables.specs.Variables.{Shape, shape_of, variable_name, variable, frame_array, spelling_of}
 
 -- Names.
 
@@ -79,22 +79,34 @@ abbrev pub name_or : Option ℕ → Word → Word
 name_or (Some place) word = parameter_name place
 name_or None word = word
 
+-- by these variables and params
+abbrev pub name_by : Shape → List Param → Loc → Word
+name_by shape params location = name_or (place_from 0 params location) (variable_name shape location)
+
+abbrev pub spelling_by : Shape → List Param → Spelling
+spelling_by shape params = record (spelling_of shape) { name = name_by shape params; function = function_name }
+
 abbrev pub location_name : inner.Graph → Loc → Word
-location_name graph location = name_or (place_in graph location) (variable_name (shape_of graph) location)
+location_name graph = name_by (shape_of graph) graph.params
 
 -- the spelling of a graph in the text of a program
 abbrev pub function_spelling : inner.Graph → Spelling
-function_spelling graph = record (graph_spelling graph) { name = location_name graph; function = function_name }
+function_spelling graph = spelling_by (shape_of graph) graph.params
 
 -- the location is no parameter
+abbrev pub is_no_parameter : List Param → Loc → Bool
+is_no_parameter params location = not (is_some (place_from 0 params location))
+
 abbrev pub is_own : inner.Graph → Loc → Bool
-is_own graph location = not (is_some (place_in graph location))
+is_own graph = is_no_parameter graph.params
 
 -- the local variables: those of the locations that are no parameters, and the array of the frame's bytes
+abbrev pub own_by : Shape → List Param → List Variable
+own_by shape params =
+    map (variable shape) (filter (is_no_parameter params) shape.locations) ++ frame_array shape.frame
+
 abbrev pub own_declarations : inner.Graph → List Variable
-own_declarations graph =
-    let shape = shape_of graph in
-    map (variable shape) (filter (is_own graph) shape.locations) ++ frame_array shape.frame
+own_declarations graph = own_by (shape_of graph) graph.params
 
 -- Results.
 

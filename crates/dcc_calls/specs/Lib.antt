@@ -1,4 +1,5 @@
 pub mod Functions
+pub mod Views
 pub mod Serving
 pub mod Laws
 pub mod Allowed
