@@ -37,7 +37,7 @@ use Rattle.dcc_calls.proofs.Arguments.{Arguments, arguments-are}
 use Rattle.dcc_calls.proofs.Bindings.{AreWords, AreArguments, memory-is}
 use Rattle.dcc_calls.proofs.Frames.{variables, variables-are, places-of-call, words-here, AtFirst, frame-here}
 use Rattle.dcc_calls.proofs.HoldLaws.{frame-weaker, holds-weaker}
-use Rattle.dcc_calls.proofs.Openings.{Opening, OrOpened, open-all}
+use Rattle.dcc_calls.proofs.OpenedBytes.{Opening, OrOpened, open-all}
 use Rattle.dcc_calls.proofs.ParamNames.{spelling-is}
 use Rattle.dcc_calls.proofs.Passings.{values_after, memory_after, passing-is, bytes-are-own}
 use mathlib.Core.Path.{fun_ext}

@@ -4,7 +4,7 @@ pub mod Bindings
 pub mod Arguments
 pub mod Frames
 pub mod HoldLaws
-pub mod Openings
+pub mod OpenedBytes
 pub mod CallSteps
 pub mod Returns
 pub mod Declared
@@ -13,3 +13,4 @@ pub mod AllowedCalls
 pub mod FirstStates
 pub mod Examples
 pub mod NoAddresses
+pub mod ResultTypes

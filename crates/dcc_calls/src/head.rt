@@ -1,7 +1,8 @@
-//! The head of a graph's function: its name, parameters, variables and result, and the assignments that open its body.
+//! The head of a graph's function: its name, parameters, variables and result.
 
 ghost use Rattle.std.specs.Prelude.{◌≡◌, ℕ, ◌+◌, ◌^◌, ◌<◌, ◌++◌, IfOk, OnOk, IfSome, filter, length, map, string_bytes};
-ghost use Rattle.dcc_ir.specs.Views.{graph_of};
+ghost use Rattle.dcc_ir.specs.Value.{width_of};
+ghost use Rattle.dcc_ir.specs.Views.{expr_of, graph_of};
 ghost use Rattle.dcc_ir.specs.WellFormed as formed;
 ghost use Rattle.dcc_c.specs.Views.{variable_of};
 ghost use Rattle.dcc_variables.specs.Variables.{shape_of, variable};
@@ -10,8 +11,8 @@ ghost use Rattle.dcc_calls.specs.Functions as spec;
 ghost use Rattle.dcc_calls.specs.Serving.{HasFewNames};
 
 use dcc_c::{Base, CType, Class, Var};
-use dcc_ir::plain::scene::same_location;
-use dcc_ir::{Graph, Loc, Param, Put};
+use dcc_ir::plain::scene::{same_location, width_of};
+use dcc_ir::{End, Expr, Graph, Loc, Param, Put};
 use dcc_text::hex::name_at;
 use dcc_text::way::unsigned_type;
 use dcc_text::{Place, Spells};
@@ -25,8 +26,8 @@ pub fn function_name(alloc: Global, entry: u16) -> Result<String, AllocError>
     name_at(alloc, "f_", entry)
 }
 
-// The name of the parameter at a place.
-fn parameter_name(alloc: Global, place: usize) -> Result<String, AllocError>
+/// The name of the parameter at a place.
+pub fn parameter_name(alloc: Global, place: usize) -> Result<String, AllocError>
     requires { place + 1 < 2 ^ 64 }
     ensures { IfOk result (λ name. string_bytes name ≡ spec.parameter_name place) }
 {
@@ -55,6 +56,32 @@ fn parameter_class(p: Param) -> Class
         Put::Memory => Class::Auto,
         Put::One(_) | Put::Two(..) => Class::Plain,
     }
+}
+
+// The type of what a Ret gives with these values.
+fn type_for(bits: &[u8], values: &[Expr]) -> Result<Option<CType>, AllocError>
+    ensures { IfOk result (λ ty. ty ≡ spec.type_for (map (width_of bits.now) (map expr_of values.now))) }
+{
+    let Some(value) = values.first() else {
+        return Ok(None);
+    };
+    let Some(width) = width_of(bits, value) else {
+        return Err(AllocError);
+    };
+    Ok(Some(CType::plain(unsigned_type(u32::from(width)))))
+}
+
+/// The type of what the Rets of a graph give; None where they give nothing, or there is none. That an expression has
+/// more bits than 8 bits can number is told as want of memory.
+pub fn result_type(graph: &Graph) -> Result<Option<CType>, AllocError>
+    ensures { IfOk result (λ ty. ty ≡ spec.result_type (graph_of graph.now)) }
+{
+    for block in &graph.blocks {
+        if let End::Ret(values) = &block.end {
+            return type_for(graph.bits.as_slice(), values.as_slice());
+        }
+    }
+    Ok(None)
 }
 
 /// The head of a graph's function. It spells the graph.
