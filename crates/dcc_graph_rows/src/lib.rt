@@ -6,6 +6,8 @@ mod flows;
 #[cfg(test)]
 mod folding;
 #[cfg(test)]
+mod functions;
+#[cfg(test)]
 mod graphs;
 #[cfg(test)]
 mod living;
