@@ -16,11 +16,5 @@ module _ (s : Spelling) (Has Wants : Locations) (all : (l : Loc) → Wants l →
 
   pub holds-weaker : (AreAlike : Alike) (i : inner_run.State) (t : text_run.State) → Holds s Has AreAlike i t → Holds s Wants AreAlike i t
   holds-weaker AreAlike i t h =
-      let a = i.running in record {
-        frame = frame-weaker a a.block a.rest a.begins t.frame h.frame;
-        waiting = h.waiting;
-        memory = h.memory;
-        input = h.input;
-        events = h.events;
-        end = h.end;
-      }
+      let a = i.running in
+      record { frame = frame-weaker a a.block a.rest a.begins t.frame h.frame; waiting = h.waiting; memory = h.memory; input = h.input; events = h.events; end = h.end }

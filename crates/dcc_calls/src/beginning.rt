@@ -73,8 +73,8 @@ fn push_openings(
     Ok(())
 }
 
-/// The assignments that open the body of a graph's function: the bytes of argument words go to those of their locations
-/// that are wanted. Want of memory is the only error.
+/// The assignments that open the body of a graph's function: the bytes of argument words go to those of their
+/// locations that are wanted. Want of memory is the only error.
 pub fn openings(alloc: Global, head: &Head, wanted: &[Loc]) -> Result<Vec<CStmt>, AllocError>
     ensures { IfOk result (λ list. map stmt_of list.items
         ≡ spec.openings_from (spelling_in head.now) (is_among wanted.now) 0 head.now.params.items) }

@@ -94,8 +94,8 @@ pub struct Head {
 }
 
 impl Head {
-    /// The head of a graph's function. That there are more temporaries or params than 32 bits can number is told as want
-    /// of memory.
+    /// The head of a graph's function. That there are more temporaries or params than 32 bits can number is told as
+    /// want of memory.
     pub fn of(alloc: Global, graph: &Graph) -> Result<Self, AllocError>
         ensures shape { IfOk result (λ h. shape_in h.variables ≡ shape_of (graph_of graph.now)) }
         ensures params { IfOk result (λ h. h.params.items ≡ (graph_of graph.now).params) }
