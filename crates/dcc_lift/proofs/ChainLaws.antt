@@ -6,7 +6,7 @@ use Rattle.std.proofs.lemmas.List.Elements.{All-nil, All-cons, All-weaker}
 use Rattle.std.proofs.lemmas.List.Kept.{AllPairs-cons}
 use Rattle.dcc_prog.specs.declared.procedure.Node.{Node}
 use Rattle.dcc_ir.proofs.PathLaws.{decided, clash}
-use Rattle.dcc_lift.specs.Blocks.{Nodes, node_in, successors_in, edges_into, is_one, calls_in, comes_from_below, joins, if_joins, onward, IsChain, leaders, last_of}
+use Rattle.dcc_lift.specs.Blocks.{Nodes, node_in, successors_in, edges_into, is_one, calls_in, jumps_by_table_in, comes_from_below, joins, if_joins, onward, IsChain, leaders, last_of}
 use Rattle.dcc_lift.specs.Sound.{AreSound}
 use Rattle.dcc_lift.proofs.ListTests.{and_left, and_right, and_both, or_here, or_none, not_true, same_number, any_map, any_filter}
 use Rattle.dcc_lift.proofs.NodeLaws.{is_node, node_in_some, node_in_has, node_in_holds, entry_is_node, prelude_no_node, successor_is_node, edges_are}
@@ -39,13 +39,14 @@ joined_by nodes entry at (from ∷ []) e t other calls =
     let lower = nat_lt from at in
     let one = is_one (successors_in (node_in nodes from)) in
     let apart = not (calls_in (node_in nodes from)) in
-    let both = and_left (lower && one) apart t in
+    let plain = and_left (lower && one && apart) (not (jumps_by_table_in (node_in nodes from))) t in
+    let both = and_left (lower && one) apart plain in
     record {
       from = from;
       edges = e;
       below = ltb-true from at (and_left lower one both);
       one = and_right lower one both;
-      from_calls = not_true (calls_in (node_in nodes from)) (and_right (lower && one) apart t);
+      from_calls = not_true (calls_in (node_in nodes from)) (and_right (lower && one) apart plain);
       inner = other;
       calls = calls;
     }

@@ -34,6 +34,7 @@ use Rattle.dcc_ops.specs.Place.{Place, constant, byte, word, place_value, taking
 use Rattle.dcc_ops.specs.Statements.{operands_taking, word_taking, result_taking, sum_flags, difference_flags, subtracting, alu_working, alu_storing, alu_stmts, product_storing, accumulator, product_working, triple_product, division_storing, division_working, complementing, unary_stmts, shift_working, count_taking, shifting, staying, shift_stmts, mov_stmts, exchanging, xchg_stmts, plain_stmts, counting, dos_stmts, op_stmts}
 use Rattle.dcc_lift.specs.FlagStmts.{is_flag_read, is_on_flags, has_carry_in}
 use Rattle.dcc_ops.proofs.DosStatements.{dos_all}
+use Rattle.dcc_ops.proofs.ShiftCounts.{HoldsByEach, holds_by_count}
 use Rattle.dcc_lift.proofs.ListTests.{not_true}
 use Rattle.dcc_lift.proofs.FlagCounts.{AreWithin, AreFew, are_within, are_few, within-by, are_off_flags, off-cons, off-append, off-within, off-before, off-after, is_apart, left-apart, right-apart, result-apart, taking-off, storing-off, operands-off}
 
@@ -168,13 +169,15 @@ shift_flags_written operation never flag = shift_writes_flag operation flag && n
 
 shift-working : (count : Count) (w : Width) (operation : Shift)
     → are_within (shift_flags_written operation false) (is_turn operation) (shift_working operation w count) ≡ true
-shift-working One byte_width Rol = refl
-shift-working One word_width Rol = refl
-shift-working Cl byte_width Rol = refl
-shift-working Cl word_width Rol = refl
-shift-working (ConstCount n) byte_width Rol = refl
-shift-working (ConstCount n) word_width Rol = refl
-shift-working _ _ _ = refl
+shift-working count w operation = holds_by_count (within operation) operation w count (each w operation)
+  where
+    within : Shift → List Stmt → Bool
+    within operation = are_within (shift_flags_written operation false) (is_turn operation)
+
+    each : (w : Width) (operation : Shift) → HoldsByEach (within operation) operation w
+    each byte_width Rol = record { one = refl; cl = refl; other = refl }
+    each word_width Rol = record { one = refl; cl = refl; other = refl }
+    each _ _ = record { one = refl; cl = refl; other = refl }
 
 count-apart : (cpu : Cpu) (w : Width) (count : Count) → is_on_flags (count_expr cpu w count) ≡ false
 count-apart I8086 byte_width Cl = refl

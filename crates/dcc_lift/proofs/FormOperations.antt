@@ -34,6 +34,7 @@ use Rattle.dcc_ops.specs.Place.{Place, constant, byte, word, taking, storing}
 use Rattle.dcc_ops.specs.Registers.{register_place}
 use Rattle.dcc_ops.specs.Expressions.{word_of, left, right, result, product, count_expr, sum, difference, condition}
 use Rattle.dcc_ops.specs.Statements.{operands_taking, word_taking, result_taking, sum_flags, difference_flags, subtracting, alu_working, alu_storing, product_storing, product_working, triple_product, division_storing, division_working, accumulator, complementing, unary_stmts, shift_working, shifting, staying, shift_stmts, mov_stmts, exchanging, xchg_stmts, plain_stmts, dos_stmts, op_stmts, op_test}
+use Rattle.dcc_ops.proofs.ShiftCounts.{HoldsByEach, holds_by_count}
 use Rattle.dcc_lift.proofs.FormPlaces.{is_sound_expr, are_sound, sound-cons, sound-append, IsLocationOf, half-location, left-location, right-location, result-location, set-sound, get-sound, constant-sound, IsGoodPlace, taken, halves-set, stored, halves-located}
 
 -- Operands.
@@ -151,13 +152,12 @@ unary-sound Idiv w p good =
 -- Shifts.
 
 shift-worked : (w : Width) (count : Count) (operation : Shift) → are_sound (shift_working operation w count) ≡ true
-shift-worked byte_width One Rol = refl
-shift-worked byte_width Cl Rol = refl
-shift-worked byte_width (ConstCount n) Rol = refl
-shift-worked word_width One Rol = refl
-shift-worked word_width Cl Rol = refl
-shift-worked word_width (ConstCount n) Rol = refl
-shift-worked _ _ _ = refl
+shift-worked w count operation = holds_by_count are_sound operation w count (each w operation)
+  where
+    each : (w : Width) (operation : Shift) → HoldsByEach are_sound operation w
+    each byte_width Rol = record { one = refl; cl = refl; other = refl }
+    each word_width Rol = record { one = refl; cl = refl; other = refl }
+    each _ _ = record { one = refl; cl = refl; other = refl }
 
 count-sound : (cpu : Cpu) (w : Width) (count : Count) → is_sound_expr (bits_of w) (count_expr cpu w count) ≡ true
 count-sound I8086 byte_width Cl = refl

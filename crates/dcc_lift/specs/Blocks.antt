@@ -1,10 +1,11 @@
 -- The blocks of a procedure's instructions: which instructions begin one, and which stand in it. An instruction joins
--- the block of the one before it where nothing else leads to it and neither of them is a CALL. The public contract
--- tells besides what the blocks are by paths (specs/Lifted.antt).
+-- the block of the one before it where nothing else leads to it, neither of them is a CALL and the one before is no jump
+-- through a table, which always ends its block. The public contract tells besides what the blocks are by paths
+-- (specs/Lifted.antt).
 use Rattle.std.specs.Prelude.{◌≡◌, ℕ, suc, ◌==◌, nat_lt, Bool, true, false, not, ◌&&◌, if◌then◌else◌, List, [], ◌∷◌, ◌+◌, map, filter, flat_map, Option, Some, None}
 use Rattle.dcc_prog.specs.declared.cpu.Cpu.{Cpu}
 use Rattle.dcc_prog.specs.declared.instr.Op.{Op}
-use Rattle.dcc_prog.specs.declared.instr.Op.TheVariants.{Call}
+use Rattle.dcc_prog.specs.declared.instr.Op.TheVariants.{Table, Call}
 use Rattle.dcc_prog.specs.declared.procedure.Node.{Node}
 use Rattle.dcc_ir.specs.Tree.{Stmt, Exit, Stop, Block}
 use Rattle.dcc_coupled.specs.Procedures.{Procedure}
@@ -43,10 +44,21 @@ abbrev pub calls_in : Option Node → Bool
 calls_in None = false
 calls_in (Some node) = is_call node.instr.op
 
--- the only edge comes from a lower offset, whose instruction is no CALL and goes on nowhere else
+-- the instruction is a jump through a table
+abbrev pub is_table : Op → Bool
+is_table (Table r offset) = true
+is_table op = false
+
+abbrev pub jumps_by_table_in : Option Node → Bool
+jumps_by_table_in None = false
+jumps_by_table_in (Some node) = is_table node.instr.op
+
+-- the only edge comes from a lower offset, whose instruction is no CALL and no jump through a table and goes on nowhere
+-- else
 abbrev pub comes_from_below : Nodes → List ℕ → ℕ → Bool
 comes_from_below nodes (from ∷ []) at =
     nat_lt from at && is_one (successors_in (node_in nodes from)) && not (calls_in (node_in nodes from))
+    && not (jumps_by_table_in (node_in nodes from))
 comes_from_below nodes edges at = false
 
 -- the instruction joins the block of the one before it; that at the entry begins a block, for the start leads there too

@@ -56,6 +56,16 @@ impl<'a> Instructions<'a> {
         }
     }
 
+    // The instruction at an offset is a jump through a table.
+    fn jumps_by_table(&self, at: u16) -> bool
+        ensures { result ≡ spec.jumps_by_table_in (spec.node_in (nodes_of self.now) at) }
+    {
+        match self.at(at) {
+            Some(node) => matches!(node.instr.op, Op::Table(..)),
+            None => false,
+        }
+    }
+
     // The instruction at an offset goes on at one place alone.
     fn goes_one_way(&self, at: u16) -> bool
         ensures { result ≡ spec.is_one (spec.successors_in (spec.node_in (nodes_of self.now) at)) }
@@ -77,6 +87,7 @@ impl<'a> Instructions<'a> {
                     && from < at
                     && self.goes_one_way(from)
                     && !self.calls(from)
+                    && !self.jumps_by_table(from)
                     && !self.calls(at)
             }
             _ => false,

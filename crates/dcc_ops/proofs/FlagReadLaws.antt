@@ -1,13 +1,11 @@
 -- How the statements of operations read flags where they set one.
-use Rattle.std.proofs.Common.{◌≡◌, ◌∙◌, ℕ, Bool, true, false, ◌&&◌, ◌||◌, ◌==◌, if◌then◌else◌, List, [], ◌∷◌, ◌++◌, Option, Some, None, refl, sym, true≢false}
+use Rattle.std.proofs.Common.{◌≡◌, ◌∙◌, ℕ, Bool, true, false, ◌&&◌, if◌then◌else◌, List, [], ◌∷◌, ◌++◌, Option, refl, sym, true≢false}
 use Rattle.std.specs.Prelude.{◌/◌, ◌%◌}
 use Rattle.std.specs.List.{list_all}
 use Rattle.std.proofs.lemmas.Bool.{and_parts}
 use Rattle.std.proofs.lemmas.List.Folds.{list_all-append}
 use Rattle.dcc_num.specs.declared.Width.{Width}
 use Rattle.dcc_num.specs.declared.Width.TheVariants.{Byte as byte_width, Word as word_width}
-use Rattle.dcc_num.specs.declared.Half.TheVariants.{Low}
-use Rattle.dcc_num.specs.declared.Reg.TheVariants.{Ax, Dx}
 use Rattle.dcc_num.specs.Numbers.{bits_of}
 use Rattle.dcc_prog.specs.declared.cpu.Cpu.{Cpu}
 use Rattle.dcc_prog.specs.declared.instr.Alu.{Alu}
@@ -15,7 +13,6 @@ use Rattle.dcc_prog.specs.declared.instr.Alu.TheVariants.{Add, Or, Adc, Sbb, And
 use Rattle.dcc_prog.specs.declared.instr.Shift.{Shift}
 use Rattle.dcc_prog.specs.declared.instr.Shift.TheVariants.{Rol}
 use Rattle.dcc_prog.specs.declared.instr.Count.{Count}
-use Rattle.dcc_prog.specs.declared.instr.Count.TheVariants.{One, Cl, Const as ConstCount}
 use Rattle.dcc_prog.specs.declared.instr.Unary.{Unary}
 use Rattle.dcc_prog.specs.declared.instr.Unary.TheVariants.{Inc, Dec, Neg, Not, Mul, Imul, Div as DivOf, Idiv}
 use Rattle.dcc_prog.specs.declared.instr.Plain.{Plain}
@@ -27,13 +24,14 @@ use Rattle.dcc_ir.specs.declared.syntax.Loc.{Loc}
 use Rattle.dcc_ir.specs.declared.syntax.Loc.TheVariants.{Half, Flag, Temp, Cell}
 use Rattle.dcc_ir.specs.declared.syntax.BinOp.{BinOp}
 use Rattle.dcc_ir.specs.declared.syntax.BinOp.TheVariants.{DivU, DivS, RemU, RemS}
-use Rattle.dcc_ir.specs.Tree.{Expr, Const, Get, Part, Stmt, Set, Dos}
+use Rattle.dcc_ir.specs.Tree.{Expr, Const, Get, Part, Stmt, Set}
 use Rattle.dcc_ir.specs.FlagReads.{is_flag_place}
 use Rattle.dcc_ops.proofs.DosStatements.{dos_all}
+use Rattle.dcc_ops.proofs.ShiftCounts.{HoldsByEach, holds_by_count}
 use Rattle.dcc_ops.specs.Temporaries.{left_place, right_place, result_place}
 use Rattle.dcc_ops.specs.Place.{Place, constant, byte, word, memory, address, computed, place_value, taking, storing, is_half, is_low, is_high, is_sound_place}
 use Rattle.dcc_ops.specs.Registers.{register_place}
-use Rattle.dcc_ops.specs.Expressions.{word_of, left, right, result, product, count_expr, sum, difference}
+use Rattle.dcc_ops.specs.Expressions.{left, right, result, product, count_expr, sum, difference}
 use Rattle.dcc_ops.specs.Statements.{operands_taking, word_taking, result_taking, sum_flags, difference_flags, subtracting, alu_working, alu_storing, product_storing, product_working, division_storing, division_working, accumulator, complementing, unary_stmts, shift_working, shifting, staying, shift_stmts, mov_stmts, exchanging, xchg_stmts, plain_stmts, dos_stmts}
 use Rattle.dcc_ops.specs.FlagReading.{sets_flags_plainly, OperationsSetFlagsPlainly}
 
@@ -216,13 +214,12 @@ unary_plain Idiv w p sound =
 -- Shifts.
 
 shift_worked : (w : Width) (count : Count) (operation : Shift) → are_plain (shift_working operation w count) ≡ true
-shift_worked byte_width One Rol = refl
-shift_worked byte_width Cl Rol = refl
-shift_worked byte_width (ConstCount n) Rol = refl
-shift_worked word_width One Rol = refl
-shift_worked word_width Cl Rol = refl
-shift_worked word_width (ConstCount n) Rol = refl
-shift_worked _ _ _ = refl
+shift_worked w count operation = holds_by_count are_plain operation w count (each w operation)
+  where
+    each : (w : Width) (operation : Shift) → HoldsByEach are_plain operation w
+    each byte_width Rol = record { one = refl; cl = refl; other = refl }
+    each word_width Rol = record { one = refl; cl = refl; other = refl }
+    each _ _ = record { one = refl; cl = refl; other = refl }
 
 shifting_plain : (cpu : Cpu) (operation : Shift) (w : Width) (p : Place) (count : Count) → is_sound_place p ≡ true
     → are_plain (shifting cpu operation w p count) ≡ true

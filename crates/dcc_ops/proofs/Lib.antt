@@ -5,6 +5,7 @@ pub mod ProductValues
 pub mod CouplingLaws
 pub mod AluPerformed
 pub mod UnaryPerformed
+pub mod ShiftCounts
 pub mod ShiftPerformed
 pub mod ProductPerformed
 pub mod MovePerformed

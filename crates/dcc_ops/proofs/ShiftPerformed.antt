@@ -46,6 +46,7 @@ use Rattle.dcc_ops.specs.Statements.{result_taking, shift_flags, rotate_flags, s
 use Rattle.dcc_ops.specs.Executed.{executed}
 use Rattle.dcc_ops.specs.Coupling.{Relation, HoldFlags, IsCoupling, IsRead, IsWritten}
 use Rattle.dcc_ops.proofs.ShiftValues.{sign_value, bit_value, differ_value, both_value, one_less, last_out, lowest_out, signed_is, lowest_of_signed, unmoved, turn_is, turn_below, rest_is, or_turned, or_turned_back, carry_below, carry_above, carry_above_small, unturned, unturned_back}
+use Rattle.dcc_ops.proofs.ShiftCounts.{HoldsByEach, holds_by_count}
 use Rattle.dcc_ops.proofs.CouplingLaws.{sets_scratch, left_is, right_is, result_is, left_stays, right_taken, Working, Took, Holding, temporary_set, register_value, register_small, took, finished}
 
 -- Temporaries.
@@ -118,9 +119,11 @@ differing : (scene : Scene) (e f : Expr) (p q : Bool) → value_of scene e ≡ f
 differing scene e f p q first second = ap (λ (n : ℕ). bit_xor n (value_of scene f)) first
     ∙ ap (λ (n : ℕ). bit_xor (from_bool p) n) second ∙ differ_value p q
 
--- a number that the count may be: a count of 1 is 1, and a constant by which something is shifted is not 0
+-- a number that the count may be: a count of 1 is 1, a constant is taken modulo 32, and one by which something is
+-- shifted is not 0
 pub record Counts (count : Count) (n : ℕ) : Type 0 where
   pub one : count ≡ One → n ≡ 1
+  pub constant : (m : ℕ) → count ≡ ConstCount m → n ≡ m % 32
   pub some : is_in_cl count ≡ false → 0 < n
 
 -- a bit for a count of 1
@@ -135,7 +138,14 @@ one_bit : (w : Width) (count : Count) (scene : Scene) (e : Expr) (n : ℕ) (x : 
     → value_of scene e ≡ from_bool x → value_of scene (if_one w count e) ≡ from_bool ((n == 1) && x)
 one_bit w One scene e n x counted c is = is ∙ ap (λ (k : ℕ). from_bool (nat_eq k 1 && x)) (sym (c.one refl))
 one_bit w Cl scene e n x counted c is = one_counted w scene e n x counted is
-one_bit w (ConstCount m) scene e n x counted c is = one_counted w scene e n x counted is
+one_bit w (ConstCount m) scene e n x counted c is = by (m % 32 == 1) refl
+  where
+    told : {b : Bool} → (m % 32 == 1) ≡ b → from_bool (b && x) ≡ from_bool ((n == 1) && x)
+    told t = ap (λ b. from_bool (b && x)) (sym (ap (λ k. k == 1) (c.constant m refl) ∙ t))
+
+    by : (b : Bool) → (m % 32 == 1) ≡ b → value_of scene (if b then e else bit 0) ≡ from_bool ((n == 1) && x)
+    by true t = is ∙ told t
+    by false t = told t
 
 -- a flag that stays where the count is 0
 shifted_bit : (scene : Scene) (e : Expr) (n : ℕ) (was x : Bool) → 0 < n → (0 < n → value_of scene e ≡ from_bool x)
@@ -555,48 +565,12 @@ some_counted cpu (ConstCount n) s shifts constant = omega (arith, eqb-false (n %
 -- they are statements on temporaries and flags
 shift_scratch : (operation : Shift) (w : Width) (count : Count)
     → list_all sets_scratch (shift_working operation w count) ≡ true
-shift_scratch Rol byte_width One = refl
-shift_scratch Rol byte_width Cl = refl
-shift_scratch Rol byte_width (ConstCount n) = refl
-shift_scratch Rol word_width One = refl
-shift_scratch Rol word_width Cl = refl
-shift_scratch Rol word_width (ConstCount n) = refl
-shift_scratch Ror byte_width One = refl
-shift_scratch Ror byte_width Cl = refl
-shift_scratch Ror byte_width (ConstCount n) = refl
-shift_scratch Ror word_width One = refl
-shift_scratch Ror word_width Cl = refl
-shift_scratch Ror word_width (ConstCount n) = refl
-shift_scratch Rcl byte_width One = refl
-shift_scratch Rcl byte_width Cl = refl
-shift_scratch Rcl byte_width (ConstCount n) = refl
-shift_scratch Rcl word_width One = refl
-shift_scratch Rcl word_width Cl = refl
-shift_scratch Rcl word_width (ConstCount n) = refl
-shift_scratch Rcr byte_width One = refl
-shift_scratch Rcr byte_width Cl = refl
-shift_scratch Rcr byte_width (ConstCount n) = refl
-shift_scratch Rcr word_width One = refl
-shift_scratch Rcr word_width Cl = refl
-shift_scratch Rcr word_width (ConstCount n) = refl
-shift_scratch Shl byte_width One = refl
-shift_scratch Shl byte_width Cl = refl
-shift_scratch Shl byte_width (ConstCount n) = refl
-shift_scratch Shl word_width One = refl
-shift_scratch Shl word_width Cl = refl
-shift_scratch Shl word_width (ConstCount n) = refl
-shift_scratch Shr byte_width One = refl
-shift_scratch Shr byte_width Cl = refl
-shift_scratch Shr byte_width (ConstCount n) = refl
-shift_scratch Shr word_width One = refl
-shift_scratch Shr word_width Cl = refl
-shift_scratch Shr word_width (ConstCount n) = refl
-shift_scratch Sar byte_width One = refl
-shift_scratch Sar byte_width Cl = refl
-shift_scratch Sar byte_width (ConstCount n) = refl
-shift_scratch Sar word_width One = refl
-shift_scratch Sar word_width Cl = refl
-shift_scratch Sar word_width (ConstCount n) = refl
+shift_scratch operation w count = holds_by_count (list_all sets_scratch) operation w count (each w operation)
+  where
+    each : (w : Width) (operation : Shift) → HoldsByEach (list_all sets_scratch) operation w
+    each byte_width Rol = record { one = refl; cl = refl; other = refl }
+    each word_width Rol = record { one = refl; cl = refl; other = refl }
+    each _ _ = record { one = refl; cl = refl; other = refl }
 
 module _ (R After : Relation) (coupling : IsCoupling R) where
   -- the count, while the machine's state stays
@@ -660,7 +634,11 @@ module _ (R After : Relation) (coupling : IsCoupling R) where
         holds = record { left = hold.left; right = hold.right };
         operand = read.small s.flags t rel;
         below = count_below cpu count s t rel;
-        counts = record { one = λ e. ap (λ c. count_in cpu c s) e; some = some_counted cpu count s shifts };
+        counts = record {
+          one = λ e. ap (λ c. count_in cpu c s) e;
+          constant = λ m e. ap (λ c. count_in cpu c s) e;
+          some = some_counted cpu count s shifts;
+        };
       } in
       let work : Working w (shift_result operation w a n s.flags)
       (executed (shift_working operation w count) (scene_of u)) =

@@ -1,5 +1,5 @@
 -- The expressions that stand for the values of instructions.
-use Rattle.std.specs.Prelude.{ℕ, ◌+◌, ◌-◌, ◌%◌, Bool, true, false, if◌then◌else◌}
+use Rattle.std.specs.Prelude.{ℕ, ◌+◌, ◌-◌, ◌%◌, ◌==◌, Bool, true, false, if◌then◌else◌}
 use Rattle.dcc_num.specs.declared.Width.{Width}
 use Rattle.dcc_num.specs.declared.Width.TheVariants.{Byte as byte_width, Word as word_width}
 use Rattle.dcc_num.specs.declared.Reg.{Reg}
@@ -147,10 +147,11 @@ abbrev pub unless_zero : Width → Count → FlagName → Expr → Expr
 unless_zero w Cl f e = Choose (is_zero w (right w)) (flag f) e
 unless_zero w count f e = e
 
--- a bit for a count of 1; for others it is 0
+-- a bit for a count of 1; for others it is 0. By a constant nothing is read to tell which.
 abbrev pub if_one : Width → Count → Expr → Expr
 if_one w One e = e
-if_one w count e = Binary And 1 (at_width Eq w (right w) (number w 1)) e
+if_one w Cl e = Binary And 1 (at_width Eq w (right w) (number w 1)) e
+if_one w (ConstCount n) e = if n % 32 == 1 then e else bit 0
 
 abbrev pub shifted : BinOp → Width → Expr
 shifted operator w = at_width operator w (left w) (right w)

@@ -73,13 +73,15 @@ impl Maker {
         }
     }
 
-    // A bit for a count of 1; for others it is 0.
+    // A bit for a count of 1; for others it is 0. By a constant nothing is read to tell which.
     fn if_one(self, count: Count, e: Expr) -> Result<Expr, AllocError>
         ensures { IfOk result (λ bit. expr_of bit ≡ expressions.if_one self.w count (expr_of e)) }
     {
         match count {
             Count::One => Ok(e),
-            Count::Cl | Count::Const(_) => {
+            Count::Const(number) if number % 32 == 1 => Ok(e),
+            Count::Const(_) => Ok(bit(false)),
+            Count::Cl => {
                 let one = self.at_width(BinOp::Eq, self.right(), self.number(1))?;
                 self.binary(BinOp::And, 1, one, e)
             }
