@@ -5,6 +5,7 @@ pub mod Rests
 pub mod Settles
 pub mod Settings
 pub mod CallStates
+pub mod TextCalls
 pub mod CallPremises
 pub mod StepsKept
 pub mod TestLaws
@@ -20,7 +21,6 @@ pub mod LabelWords
 pub mod AllowedPlans
 pub mod SpelledGraphs
 pub mod Examples
-pub mod WholeExamples
 pub mod ItemRows
 pub mod GotoSteps
 pub mod TargetLaws

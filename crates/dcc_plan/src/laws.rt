@@ -6,8 +6,6 @@ ghost use Rattle.dcc_text.specs.Holding.{Alike};
 ghost use Rattle.dcc_plan.specs.Laws.{NumberedTextIsText, GotoPlanIsValid, PlansCount};
 ghost use Rattle.dcc_plan.specs.Allowed.{PlanTextsAreAllowed, GotoPlansMayStand};
 ghost use Rattle.dcc_plan.specs.Complete.{CompletePlansAreValid};
-ghost use Rattle.dcc_plan.specs.Programs.{Texts, ProgramsCount};
-ghost use Rattle.dcc_calls.specs.Serving.{Opens};
 
 /// The text of a plan is its text after its lines are numbered.
 pub fn numbered_text_is_text()
@@ -34,18 +32,6 @@ pub fn texts_count<H: SomeMeeting>()
 /// The text of a valid plan counts the visits of its program.
 pub fn plans_count<H: SomeMeeting>()
     ensures { PlansCount H.matters H.alike }
-{}
-
-/// What stands for the graphs of a program, and the bytes of arguments that its functions open.
-pub trait SomeTexts {
-    ghost texts: { Texts };
-
-    ghost opens: { Opens };
-}
-
-/// The text of a whole program, with a function for each graph, counts the visits of the blocks that it has a step for.
-pub fn programs_count<T: SomeTexts>()
-    ensures { ProgramsCount T.opens T.texts }
 {}
 
 /// A completed plan is a plan of the same graph.
