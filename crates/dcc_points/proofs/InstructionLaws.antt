@@ -63,12 +63,12 @@ exit_goes_on None [] = refl
 exit_goes_on None (x ∷ []) = refl
 exit_goes_on None (x ∷ y ∷ places) = refl
 
-exit_returns : (p : Procedure) (op : Op) (places : List ℕ) → is_return (Ends (exit_of p op places)) ≡ is_ret op
+pub exit_returns : (p : Procedure) (op : Op) (places : List ℕ) → is_return (Ends (exit_of p op places)) ≡ is_ret op
 exit_returns p (Table r offset) places = refl
 exit_returns p (Ret count) places = refl
 exit_returns p op places = exit_goes_on (op_test op) places
 
-a_ret : (op : Op) → is_ret op ≡ true → (count : ℕ) × (op ≡ Ret count)
+pub a_ret : (op : Op) → is_ret op ≡ true → (count : ℕ) × (op ≡ Ret count)
 a_ret (Ret count) e = (count, refl)
 a_ret op e = absurd (true≢false (sym e))
 

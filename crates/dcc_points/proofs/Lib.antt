@@ -1,3 +1,3 @@
-mod PointLaws
-mod BeginLaws
-mod InstructionLaws
+pub mod PointLaws
+pub mod BeginLaws
+pub mod InstructionLaws

@@ -1,0 +1,4 @@
+mod LinkLaws
+mod EdgeLaws
+mod SameLaws
+mod RefinedLaws

@@ -1,0 +1,2 @@
+pub mod LiftedRefinement
+pub mod Laws
