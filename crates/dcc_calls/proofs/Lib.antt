@@ -14,3 +14,4 @@ pub mod FirstStates
 pub mod Examples
 pub mod NoAddresses
 pub mod ResultTypes
+pub mod Served

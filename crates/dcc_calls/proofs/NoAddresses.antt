@@ -1,6 +1,6 @@
 -- The texts of a graph take the address of no name.
-use Rattle.std.proofs.Common.{◌≡◌, ℕ, ◌+◌, ◌-◌, ◌^◌, Bool, true, false, ◌==◌, List, [], ◌∷◌, ◌++◌, map, Option, Some, None, refl, sym, ap, ap₂, ◌∙◌, true≢false}
-use Rattle.std.specs.Prelude.{◌&&◌, ◌||◌, not, nat_lt, if◌then◌else◌, flat_map, option_map, option_to_list}
+use Rattle.std.proofs.Common.{◌≡◌, ℕ, ◌+◌, ◌-◌, ◌^◌, Bool, true, false, ◌==◌, List, [], ◌∷◌, ◌++◌, map, Option, Some, None, refl, sym, ap, ap₂, ◌∙◌}
+use Rattle.std.specs.Prelude.{◌&&◌, ◌||◌, not, nat_lt, if◌then◌else◌, flat_map, option_to_list}
 use Rattle.std.specs.List.{list_any}
 use Rattle.std.proofs.lemmas.Bool.{or_from}
 use Rattle.std.proofs.lemmas.List.Folds.{list_any-append}
@@ -28,7 +28,7 @@ use Rattle.dcc_c.specs.Types.{is_signed, plain, pointer_to, same_type}
 use Rattle.dcc_text.specs.Spelled.{Way, Low, Exact, Signed, unsigned_type, signed_type, reckoning_type, small, cut, signed_reading, cut_to, taken, constant, as_char, bit_read, variable, placed, pointer, operand_way, unary_text, left_way, right_way, symbol, unary_result, binary_result, votes_left, votes_right, moved_down, joined, text, byte_quotient, byte_remainder, division_text, text_division}
 use Rattle.dcc_text.specs.Spelling.{Placed, Spelling}
 use Rattle.dcc_text.specs.Stmts.{place_of, assigned, wanted_way, setting, stmt_text}
-use Rattle.dcc_variables.specs.Variables.{shape_of, frame_bytes, frame_place, placed_at}
+use Rattle.dcc_variables.specs.Variables.{frame_bytes, frame_place, placed_at}
 use Rattle.dcc_calls.specs.Addresses.{has_address_of, stmt_has_address_of, TakesNoAddress}
 use Rattle.dcc_calls.specs.Functions.{parameter_name, function_spelling, ret_text, low_byte, high_byte, opening, put_openings, openings_from}
 

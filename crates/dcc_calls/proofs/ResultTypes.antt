@@ -1,9 +1,8 @@
 -- The type of what the Rets of blocks give, block by block.
-use Rattle.std.proofs.Common.{◌≡◌, ℕ, ◌+◌, ◌<◌, List, ◌∷◌, ◌++◌, map, flat_map, drop, get_or, length, Option, refl, sym, ap, ◌∙◌, Vec, Global}
+use Rattle.std.proofs.Common.{◌≡◌, ℕ, ◌+◌, ◌<◌, List, ◌∷◌, ◌++◌, map, flat_map, drop, get_or, length, Option, sym, ap, ◌∙◌, Vec, Global}
 use Rattle.std.proofs.lemmas.List.{at_drop_more}
 use Rattle.dcc_ir.specs.declared.syntax.Block.{Block}
-use Rattle.dcc_ir.specs.declared.syntax.End.{End}
-use Rattle.dcc_ir.specs.declared.syntax.End.TheVariants.{Goto, If, Switch, Ret, Stop}
+use Rattle.dcc_ir.specs.declared.syntax.End.TheVariants.{Ret}
 use Rattle.dcc_ir.specs.declared.syntax.Expr.{Expr}
 use Rattle.dcc_ir.specs.Tree as inner
 use Rattle.dcc_ir.specs.Value.{width_of}

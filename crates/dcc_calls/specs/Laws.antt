@@ -18,7 +18,7 @@ use Rattle.dcc_text.specs.Spelling.{Spelling}
 use Rattle.dcc_text.specs.Stmts.{stmt_text}
 use Rattle.dcc_variables.specs.Globals.{globals_of}
 use Rattle.dcc_calls.specs.Functions.{function_names, parameters, function_spelling, own_declarations, openings, BeginsWith, ret_text, IsFunctionOf}
-use Rattle.dcc_calls.specs.Serving.{HasFewNames, Opens, AreFunctions, StandsFor, StandsThere, IsCallStep}
+use Rattle.dcc_calls.specs.Serving.{HasFewNames, IsServed, Opens, AreFunctions, StandsFor, StandsThere, IsCallStep}
 
 -- Names.
 
@@ -44,6 +44,10 @@ OwnNamesDiffer = (p : inner.Program) (graph : inner.Graph) (tree : Tree) (f : Fu
     → map (λ f. f.name) tree.functions ≡ function_names p.graphs
     → f.params ≡ parameters graph → f.locals ≡ own_declarations graph
     → all_differ (names_of (own_variables f) ++ known_names tree) ≡ true
+
+-- What a graph reads and writes, with its calls, has names, and the addresses that it takes have places.
+abbrev pub FunctionsAreServed : Type 0
+FunctionsAreServed = (graph : inner.Graph) → IsGraph graph → All (IsServed graph) graph.blocks
 
 -- The start.
 

@@ -8,6 +8,7 @@ use Rattle.dcc_ir.specs.declared.syntax.Param.{Param}
 use Rattle.dcc_ir.specs.Live.{is_among, block_in}
 use Rattle.dcc_ir.specs.Run as inner_run
 use Rattle.dcc_ir.specs.Tree as inner
+use Rattle.dcc_ir.specs.Use.{exprs_of, writes_of, exit_exprs}
 use Rattle.dcc_ir.specs.WellFormed.{is_stmt, IsCall}
 use Rattle.dcc_c.specs.Placement.{is_auto, takes_address}
 use Rattle.dcc_c.specs.Run as text_run
@@ -60,6 +61,18 @@ pub record IsNamed (setting : Setting) (graph : inner.Graph) : Type 0 where
   pub apart : locations_differ (all_places graph.params) ≡ true
   pub named : (block : inner.Block) (stmts : List inner.Stmt) (location : Loc)
       → setting.matters graph block stmts location → has_name graph location
+
+-- A statement of the graph is well formed; what it reads and writes has a name, and the addresses that it takes have
+-- places.
+pub record IsServedStmt (graph : inner.Graph) (stmt : inner.Stmt) : Type 0 where
+  pub formed : is_stmt graph.bits stmt ≡ true
+  pub within : All (IsWithin (function_spelling graph) (has_name graph)) (exprs_of stmt)
+  pub written : All (has_name graph) (writes_of stmt)
+
+-- so of each statement of a block, and of its end
+pub record IsServed (graph : inner.Graph) (block : inner.Block) : Type 0 where
+  pub stmts : All (IsServedStmt graph) block.stmts
+  pub exits : All (IsWithin (function_spelling graph) (has_name graph)) (exit_exprs block.exit)
 
 -- for each graph, the bytes of argument words that its function opens
 abbrev pub Opens : Type 0

@@ -1,10 +1,5 @@
 -- What the declared types stand for.
-use Rattle.std.specs.Prelude.{List}
-use Rattle.dcc_ir.specs.declared.syntax.Loc.{Loc}
-use Rattle.dcc_ir.specs.declared.syntax.Param.{Param}
-use Rattle.dcc_c.specs.Tree.{Variable}
 use Rattle.dcc_text.specs.Spelling.{Spelling}
-use Rattle.dcc_variables.specs.Variables.{Shape}
 use Rattle.dcc_variables.specs.Views.{shape_in}
 use Rattle.dcc_calls.specs.declared.head.Head.{Head}
 use Rattle.dcc_calls.specs.Functions.{spelling_by}

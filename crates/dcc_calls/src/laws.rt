@@ -5,7 +5,7 @@ ghost use Rattle.dcc_calls.specs.Serving.{Opens};
 ghost use Rattle.dcc_calls.specs.Addresses.{BodiesTakeWhatStatementsTake, TextsTakeNoAddress};
 ghost use Rattle.dcc_calls.specs.Allowed.{CallsAreAllowed, ReturnsAreAllowed, OpeningsAreAllowed};
 ghost use Rattle.dcc_calls.specs.Laws.{FunctionNamesDiffer, FunctionNamesAreDeclared};
-ghost use Rattle.dcc_calls.specs.Laws.{KnownNamesDiffer, OwnNamesDiffer};
+ghost use Rattle.dcc_calls.specs.Laws.{KnownNamesDiffer, OwnNamesDiffer, FunctionsAreServed};
 ghost use Rattle.dcc_calls.specs.Laws.{FirstStatesStand, CallsBegin, ReturnsEnd, BracesEnd};
 
 /// Variables and parameters of different locations have different names, and the array has another one.
@@ -26,6 +26,11 @@ pub fn known_names_differ()
 /// The parameters and variables of each function have names of their own.
 pub fn own_names_differ()
     ensures { OwnNamesDiffer }
+{}
+
+/// What a graph reads and writes, with its calls, has names.
+pub fn functions_are_served()
+    ensures { FunctionsAreServed }
 {}
 
 /// What stands for the graphs of a program, and which bytes of argument words their functions open.
