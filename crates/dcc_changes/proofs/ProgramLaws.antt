@@ -53,7 +53,7 @@ module _ (less more : ChangeFamily Loc) (procedure : Procedure Position Loc Loc)
 
 -- Graphs by their entries.
 
-named_first : (graphs : List Graph) (k : ℕ) → k < length graphs → all_differ (map (λ g. g.entry) graphs) ≡ true
+pub named_first : (graphs : List Graph) (k : ℕ) → k < length graphs → all_differ (map (λ g. g.entry) graphs) ≡ true
     → graph_at graphs (get_or graphs k no_graph).entry ≡ Some (get_or graphs k no_graph)
 named_first [] k inside differ = absurd (omega (arith, inside))
 named_first (g ∷ graphs) zero inside differ = ap (λ b. cond b (Some g) (graph_at graphs g.entry)) (eq-eqb g.entry g.entry refl)
@@ -61,7 +61,7 @@ named_first (g ∷ graphs) (suc k) inside differ =
     named_again (g ∷ graphs) (get_or graphs k no_graph).entry (get_or graphs k no_graph) differ
     (named_first graphs k (omega (arith, inside)) (and_parts (not (list_any (λ m. g.entry == m) (map (λ x. x.entry) graphs))) (all_differ (map (λ x. x.entry) graphs)) differ).1)
 
-found_place : (graphs : List Graph) (entry : ℕ) (g : Graph) → graph_at graphs entry ≡ Some g → (k : ℕ) × (k < length graphs) × (get_or graphs k no_graph ≡ g)
+pub found_place : (graphs : List Graph) (entry : ℕ) (g : Graph) → graph_at graphs entry ≡ Some g → (k : ℕ) × (k < length graphs) × (get_or graphs k no_graph ≡ g)
 found_place [] entry g e = absurd (cc)
 found_place (x ∷ graphs) entry g e = by (x.entry == entry) (found_place graphs entry g) e
   where

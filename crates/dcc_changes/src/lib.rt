@@ -9,3 +9,4 @@ mod program;
 mod state;
 
 pub use program::{changed, changes};
+pub use state::{is_among, passes, writes};

@@ -13,8 +13,8 @@ use dcc_ir::plain::scene::same_location;
 use dcc_ir::{Expr, Graph, Loc, PASSED_LOCATIONS, Stmt};
 use std::alloc::{AllocError, Global};
 
-// Whether the location is one of the list.
-fn is_among(locations: &[Loc], location: Loc) -> bool
+/// Whether the location is one of the list.
+pub fn is_among(locations: &[Loc], location: Loc) -> bool
     ensures { result ≡ is_among locations.now location }
 {
     for other in locations {
@@ -25,8 +25,8 @@ fn is_among(locations: &[Loc], location: Loc) -> bool
     false
 }
 
-// Whether the location passes between procedures.
-fn passes(location: Loc) -> bool
+/// Whether the location passes between procedures.
+pub fn passes(location: Loc) -> bool
     ensures { result ≡ passes location }
 {
     is_among(&PASSED_LOCATIONS, location)
@@ -51,9 +51,10 @@ fn is_pushed(pushed: u16, location: Loc) -> bool
     }
 }
 
-// Whether a statement writes the location.
+/// Whether a statement writes the location. Of the places of a call's results only those of bytes of arguments are
+/// written.
 #[tactic(auto, using(crate::proofs::StateLaws::among_filter))]
-fn writes(stmt: &Stmt, location: Loc) -> bool
+pub fn writes(stmt: &Stmt, location: Loc) -> bool
     ensures { result ≡ is_among (written_by (stmt_of stmt.now)) location }
 {
     match stmt {

@@ -1,0 +1,9 @@
+pub mod ListLaws
+pub mod PointLaws
+pub mod TableLaws
+pub mod DemandLaws
+pub mod FollowLaws
+pub mod KnownLaws
+pub mod SoundLaws
+pub mod CompleteLaws
+pub mod FindLaws

@@ -1,0 +1,58 @@
+//! What is wanted before the points of a program.
+
+ghost use Rattle.std.specs.Prelude.{◌≡◌, map, IfOk};
+ghost use Rattle.dcc_ir.specs.Views.{program_of};
+ghost use Rattle.dcc_ir.specs.WellFormed.{IsProgram};
+ghost use Rattle.dcc_changes.specs.Programs.{AreChanges};
+ghost use Rattle.dcc_wanted.specs.Points.{all_points};
+ghost use Rattle.dcc_wanted.specs.Ways.{lists_in, ArePreds, all_calls, all_returns};
+ghost use Rattle.dcc_wanted.specs.Wanted.{AreWanted};
+
+use crate::demand::Demand;
+use crate::follow::Setting;
+use crate::points::{Point, points};
+use crate::table::Wants;
+use crate::ways::Ways;
+use dcc_changes::changes;
+use dcc_ir::IrProgram;
+use std::alloc::{AllocError, Global};
+
+// All that is wanted, from what is used at the points of a program on.
+fn find(alloc: Global, setting: &Setting<'_>, points: &[Point]) -> Result<Wants, AllocError>
+    requires program { IsProgram (program_of setting.now.program.now) }
+    requires changed { AreChanges (program_of setting.now.program.now) (map (λ v. v.items) setting.now.changed.now) }
+    requires points { points.now ≡ all_points (program_of setting.now.program.now) }
+    requires preds { ArePreds (program_of setting.now.program.now) (lists_in setting.now.ways.now.preds.items) }
+    requires calls { setting.now.ways.now.calls.items ≡ all_calls (program_of setting.now.program.now) points.now }
+    requires returns { setting.now.ways.now.returns.items
+        ≡ all_returns (program_of setting.now.program.now) points.now }
+    ensures { IfOk result (λ wants. AreWanted (program_of setting.now.program.now) wants) }
+{
+    let mut demand = Demand::new(alloc);
+    demand.seed(alloc, setting.program, points)?;
+    while let Some(want) = demand.pending.pop() {
+        demand.follow(alloc, setting, want)?;
+    }
+    Ok(demand.wants)
+}
+
+/// The locations that are wanted before each point of a program: whose value a use may come to take, within a graph, in
+/// those that it calls and in those that call it.
+///
+/// # Errors
+///
+/// Where memory runs out.
+pub fn wanted(alloc: Global, p: &IrProgram) -> Result<Wants, AllocError>
+    requires { IsProgram (program_of p.now) }
+    ensures { IfOk result (λ wants. AreWanted (program_of p.now) wants) }
+{
+    let changed = changes(alloc, p)?;
+    let points = points(alloc, p)?;
+    let ways = Ways::new(alloc, p, points.as_slice())?;
+    let setting = Setting {
+        program: p,
+        changed: changed.as_slice(),
+        ways: &ways,
+    };
+    find(alloc, &setting, points.as_slice())
+}
