@@ -195,7 +195,7 @@ graph_here graphs at graph inside read = ap graph_of read ∙ sym (get_or-map gr
 
 -- Lists of all locations.
 
-one_more : {A : Type 0} (lists : List A) (v changed : A) (place : ℕ) → slice_get (lists ++ v ∷ []) place ≡ Some changed → (slice_get lists place ≡ Some changed) ⊎ ((place ≡ length lists) × (v ≡ changed))
+pub one_more : {A : Type 0} (lists : List A) (v changed : A) (place : ℕ) → slice_get (lists ++ v ∷ []) place ≡ Some changed → (slice_get lists place ≡ Some changed) ⊎ ((place ≡ length lists) × (v ≡ changed))
 one_more [] v changed zero e = inr (refl, cc)
 one_more [] v changed (suc place) e = absurd (cc)
 one_more (x ∷ lists) v changed zero e = inl e

@@ -41,7 +41,7 @@ use Rattle.dcc_wanted.proofs.SoundLaws.{listed_in, in_listed, targets_there, cal
 -- Sites of points that are there.
 
 -- a site at which something is done
-abbrev is_real : Site → Bool
+abbrev pub is_real : Site → Bool
 is_real (Executes stmt) = true
 is_real (Ends Stop) = false
 is_real (Ends exit) = true
@@ -61,12 +61,12 @@ used_there pushed (Executes stmt) l e = among_contains (used_by stmt) l e
 used_there pushed (Ends exit) l e = among_contains (used_at_end exit) l e
 used_there pushed Nowhere l e = absurd (true≢false (sym e))
 
-real_call : (site : Site) (entry : ℕ) → callee_at site ≡ Some entry → (stmt : Stmt) × (site ≡ Executes stmt) × (callee_of stmt ≡ Some entry)
+pub real_call : (site : Site) (entry : ℕ) → callee_at site ≡ Some entry → (stmt : Stmt) × (site ≡ Executes stmt) × (callee_of stmt ≡ Some entry)
 real_call (Executes stmt) entry e = (stmt, refl, e)
 real_call (Ends exit) entry e = absurd (cc)
 real_call Nowhere entry e = absurd (cc)
 
-real_return : (site : Site) → is_return site ≡ true → is_real site ≡ true
+pub real_return : (site : Site) → is_return site ≡ true → is_real site ≡ true
 real_return (Executes stmt) e = absurd (true≢false (sym e))
 real_return (Ends (Ret values)) e = refl
 real_return (Ends (Goto place)) e = absurd (true≢false (sym e))
@@ -82,21 +82,9 @@ real_within (suc done) [] exit e = absurd (true≢false (sym e))
 real_within (suc done) (stmt ∷ stmts) exit e = let rest = real_within done stmts exit e in omega (arith, rest)
 
 end_within : (done : ℕ) (stmts : List Stmt) (exit end : Exit) → site_at done stmts exit ≡ Ends end → (done ≡ length stmts) × (exit ≡ end)
-end_within zero [] exit end e = (refl, ap the e)
-  where
-    the : Site → Exit
-    the (Ends x) = x
-    the site = exit
-end_within zero (stmt ∷ stmts) exit end e = absurd (true≢false (ap is_stmt e))
-  where
-    is_stmt : Site → Bool
-    is_stmt (Executes x) = true
-    is_stmt site = false
-end_within (suc done) [] exit end e = absurd (true≢false (sym (ap is_end e)))
-  where
-    is_end : Site → Bool
-    is_end (Ends x) = true
-    is_end site = false
+end_within zero [] exit end e = (refl, cc)
+end_within zero (stmt ∷ stmts) exit end e = absurd (cc)
+end_within (suc done) [] exit end e = absurd (cc)
 end_within (suc done) (stmt ∷ stmts) exit end e = let rest = end_within done stmts exit end e in (ap suc rest.0, rest.1)
 
 -- nothing is done in a block or a graph that isn't there
@@ -144,6 +132,30 @@ one_place (g ∷ graphs) (suc m) zero inside there differ e = absurd (apart g gr
 one_place (g ∷ graphs) (suc m) (suc k) inside there differ e =
     ap suc (one_place graphs m k (omega (arith, inside)) (omega (arith, there)) (and_parts (not (list_any (λ n. g.entry == n) (map (λ (x : Graph). x.entry) graphs))) (all_differ (map (λ (x : Graph). x.entry) graphs)) differ).1 e)
 
+-- Points by the entries of graphs.
+module _ (p : Program) (good : IsProgram p) where
+  pub site_there : (k i : ℕ) (a : Position) → k < length p.graphs → entry_of p good k ≡ i → site_of (graph_or_none (graph_at p.graphs i)) a ≡ site_of (graph_in p k) a
+  site_there k i a inside is = ap (λ n. site_of (graph_or_none (graph_at p.graphs n)) a) (sym is) ∙ ap (λ g. site_of g a) (graph_named p good k inside)
+
+  -- a point at which something is done
+  pub record IsDone (i : ℕ) (a : Position) : Type 0 where
+    pub place : ℕ
+    pub entry : entry_of p good place ≡ i
+    pub is : IsPoint p (point_at place a.block a.done)
+    pub site : site_of (graph_or_none (graph_at p.graphs i)) a ≡ site_in p (point_at place a.block a.done)
+
+  pub done_there : (i : ℕ) (a : Position) → is_real (site_of (graph_or_none (graph_at p.graphs i)) a) ≡ true → IsDone i a
+  done_there i a real = by (graph_at p.graphs i) refl
+    where
+      by : (x : Option Graph) → graph_at p.graphs i ≡ x → IsDone i a
+      by None e = absurd (no_block_real a.done (subst (λ x. is_real (site_of (graph_or_none x) a) ≡ true) e real))
+      by (Some g) e =
+          let found = found_place p.graphs i g e in
+          let k = found.0 in
+          let same = ap (λ (x : Graph). x.entry) found.2 ∙ found_entry p.graphs i g e in
+          let site = site_there k i a found.1 same in
+          record { place = k; entry = same; is = real_point p k a found.1 (subst (λ s. is_real s ≡ true) site real); site = site }
+
 module _ (p : Program) (good : IsProgram p) (changed : ℕ → Loc → Bool) (tells : (i : ℕ) (l : Loc) → (changed i l ≡ true) ↔ Changes (procedures_of p) i l) (preds : List (List (List ℕ))) (are : ArePreds p preds)
     (told : Want → Bool) (points : (x : Want) → told x ≡ true → IsPoint p x.at) (seeded : (x : Want) → Contains (seeds p (all_points p)) x → told x ≡ true)
     (followed : (x : Want) → told x ≡ true → (y : Want) → Contains (followers (setting p good changed tells preds are) x) y → told y ≡ true) where
@@ -163,32 +175,10 @@ module _ (p : Program) (good : IsProgram p) (changed : ℕ → Loc → Bool) (te
     pub entry : entry_of p good place ≡ i
     pub known : told (want_at (point_at place a.block a.done) l) ≡ true
 
-  site_there : (k i : ℕ) (a : Position) → k < length p.graphs → entry_of p good k ≡ i → site_of (graph_or_none (graph_at p.graphs i)) a ≡ site_of (graph_in p k) a
-  site_there k i a inside is = ap (λ n. site_of (graph_or_none (graph_at p.graphs n)) a) (sym is) ∙ ap (λ g. site_of g a) (graph_named p good k inside)
-
-  -- a point at which something is done
-  pub record IsDone (i : ℕ) (a : Position) : Type 0 where
-    pub place : ℕ
-    pub entry : entry_of p good place ≡ i
-    pub is : IsPoint p (point_at place a.block a.done)
-    pub site : site_of (graph_or_none (graph_at p.graphs i)) a ≡ site_in p (point_at place a.block a.done)
-
-  done_there : (i : ℕ) (a : Position) → is_real (site_of (graph_or_none (graph_at p.graphs i)) a) ≡ true → IsDone i a
-  done_there i a real = by (graph_at p.graphs i) refl
-    where
-      by : (x : Option Graph) → graph_at p.graphs i ≡ x → IsDone i a
-      by None e = absurd (no_block_real a.done (subst (λ x. is_real (site_of (graph_or_none x) a) ≡ true) e real))
-      by (Some g) e =
-          let found = found_place p.graphs i g e in
-          let k = found.0 in
-          let same = ap (λ (x : Graph). x.entry) found.2 ∙ found_entry p.graphs i g e in
-          let site = site_there k i a found.1 same in
-          record { place = k; entry = same; is = real_point p k a found.1 (subst (λ s. is_real s ≡ true) site real); site = site }
-
   used_told : (i : ℕ) (a : Position) (l : Loc) → ((P.procedure i).action a).uses l ≡ true → IsTold i a l
   used_told i a l e =
       let graph = graph_or_none (graph_at p.graphs i) in
-      let at = done_there i a (real_used graph.pushed (site_of graph a) l e) in
+      let at = done_there p good i a (real_used graph.pushed (site_of graph a) l e) in
       let x = want_at (point_at at.place a.block a.done) l in
       let used = subst (λ s. Contains (used_at s) l) at.site (used_there graph.pushed (site_of graph a) l e) in
       record {
@@ -207,7 +197,7 @@ module _ (p : Program) (good : IsProgram p) (changed : ℕ → Loc → Bool) (te
     at = point_at k a.block a.done
 
     abbrev is_site : site_of (graph_or_none (graph_at p.graphs i)) a ≡ site_in p at
-    is_site = site_there k i a later.inside later.entry
+    is_site = site_there p good k i a later.inside later.entry
 
     abbrev goes : Contains (nexts_of (site_in p at) a) b
     goes = subst (λ s. Contains (nexts_of s a) b) is_site next
@@ -276,7 +266,7 @@ module _ (p : Program) (good : IsProgram p) (changed : ℕ → Loc → Bool) (te
   taken_told i callee a l c passing entered =
       let graph = graph_or_none (graph_at p.graphs i) in
       let found = real_call (site_of graph a) callee (sym (callee_there graph.pushed (site_of graph a)) ∙ c) in
-      let at = done_there i a (ap is_real found.1) in
+      let at = done_there p good i a (ap is_real found.1) in
       let point = point_at at.place a.block a.done in
       let port = port_at point callee in
       let called : callee_at (site_in p point) ≡ Some callee = ap callee_at (sym at.site ∙ found.1) ∙ found.2 in
@@ -299,7 +289,7 @@ module _ (p : Program) (good : IsProgram p) (changed : ℕ → Loc → Bool) (te
   returned_told i caller a call after l r changes c goes later =
       let graph = graph_or_none (graph_at p.graphs i) in
       let of = graph_or_none (graph_at p.graphs caller) in
-      let at = done_there i a (real_return (site_of graph a) r) in
+      let at = done_there p good i a (real_return (site_of graph a) r) in
       let point = point_at at.place a.block a.done in
       let port = port_at point (entry_of p good at.place) in
       let gives : is_return (site_in p point) ≡ true = ap is_return (sym at.site) ∙ r in
@@ -309,7 +299,7 @@ module _ (p : Program) (good : IsProgram p) (changed : ℕ → Loc → Bool) (te
       let stmt = found.0 in
       let k = later.place in
       let from = point_at k call.block call.done in
-      let site = sym (site_there k caller call later.inside later.entry) ∙ found.1 in
+      let site = sym (site_there p good k caller call later.inside later.entry) ∙ found.1 in
       let y = want_at point l in
       let at_returns : Contains (wants_of i returns l) y =
       contained_map (λ (q : Port). want_at q.at l) (ports_of i returns) port (in_filter (λ (q : Port). q.entry == i) returns port listed (eq-eqb (entry_of p good at.place) i at.entry)) in

@@ -1,7 +1,7 @@
 -- What becomes known to be wanted.
 use Rattle.std.proofs.Common.{◌≡◌, ℕ, zero, suc, ◌+◌, ◌<◌, ◌≤◌, Bool, true, false, not, List, [], ◌∷◌, ◌++◌, append_assoc, length, map, flat_map, drop, get_or, refl, sym, ap, ◌∙◌, subst, arith}
 use Rattle.std.specs.Prelude.{filter, if◌then◌else◌, ◌==◌}
-use Rattle.std.proofs.lemmas.List.{map-append, drop_more}
+use Rattle.std.proofs.lemmas.List.{append-nil, map-append, drop_more}
 use Rattle.std.proofs.lemmas.List.Concat.{flat_map-cons}
 use Rattle.std.proofs.Common.{drop_of_length-le as drop_past}
 use Rattle.std.proofs.lemmas.Grind.{flat_map-append}
@@ -58,11 +58,7 @@ gathered_more f xs i x before after all inside read more e =
     ∙ ap (λ l. before ++ l) (sym (flat_map-cons f x rest) ∙ ap (flat_map f) (sym there)) ∙ e
 
 pub gathered_end : {A B : Type 0} (f : A → List B) (xs : List A) (i : ℕ) (now all : List B) → length xs ≤ i → now ++ flat_map f (drop i xs) ≡ all → now ≡ all
-gathered_end f xs i now all past e = sym (nothing now) ∙ ap (λ l. now ++ flat_map f l) (sym (drop_past xs past)) ∙ e
-  where
-    nothing : {B : Type 0} (l : List B) → l ++ [] ≡ l
-    nothing [] = refl
-    nothing (x ∷ l) = ap (λ t. x ∷ t) (nothing l)
+gathered_end f xs i now all past e = sym (append-nil now) ∙ ap (λ l. now ++ flat_map f l) (sym (drop_past xs past)) ∙ e
 
 -- Arguments.
 

@@ -7,3 +7,6 @@ pub mod KnownLaws
 pub mod SoundLaws
 pub mod CompleteLaws
 pub mod FindLaws
+pub mod SumLaws
+pub mod ValueLaws
+pub mod FaultLaws

@@ -1,9 +1,11 @@
 -- Elements of lists that are made of lists.
 use Rattle.std.proofs.Common.{◌≡◌, ℕ, suc, ◌+◌, ◌<◌, Bool, true, false, cond, List, [], ◌∷◌, ◌++◌, length, get_or, map, refl, sym, ap, ◌∙◌, subst, true≢false, arith, Contains, flat_map}
 use Rattle.std.specs.Prelude.{filter, All, if◌then◌else◌}
-use Rattle.std.specs.List.{range_with_len}
+use Rattle.std.specs.List.{range_with_len, list_any}
+use Rattle.std.proofs.lemmas.Bool.{or_cases, or_left, or_right}
 use Rattle.std.proofs.Common.{inl, inr}
 use Rattle.std.proofs.lemmas.List.Elements.{Contains-append_left, Contains-append_right, Contains-append_cases, All-contains, Contains-get_or}
+use Rattle.std.proofs.lemmas.List.{append-nil}
 use Rattle.std.proofs.lemmas.List.Concat.{flat_map-cons}
 use Rattle.std.proofs.lemmas.List.FromFn.{length-range_with_len, get_or-range_with_len}
 use Rattle.std.proofs.lemmas.Grind.{flat_map-append}
@@ -67,13 +69,22 @@ from_range n k c = All-contains (λ j. j < n) (range_with_len 0 n) k all c
         omega (arith, read, below)
 
 pub flat_range_more : {A : Type 0} (f : ℕ → List A) (n : ℕ) → flat_map f (range_with_len 0 n) ++ f n ≡ flat_map f (range_with_len 0 (n + 1))
-flat_range_more {A} f n =
+flat_range_more f n =
     let zero_plus : n ≡ 0 + n = omega arith in
     let one_more : suc n ≡ n + 1 = omega arith in
-    let last : flat_map f (n ∷ []) ≡ f n = flat_map-cons f n [] ∙ nothing (f n) in
+    let last : flat_map f (n ∷ []) ≡ f n = flat_map-cons f n [] ∙ append-nil (f n) in
     ap (λ l. flat_map f (range_with_len 0 n) ++ l) (sym last) ∙ sym (flat_map-append f (range_with_len 0 n) (n ∷ []))
     ∙ ap (λ k. flat_map f (range_with_len 0 n ++ k ∷ [])) zero_plus ∙ ap (flat_map f) (range_more 0 n) ∙ ap (λ k. flat_map f (range_with_len 0 k)) one_more
-  where
-    nothing : (l : List A) → l ++ [] ≡ l
-    nothing [] = refl
-    nothing (x ∷ l) = ap (λ t. x ∷ t) (nothing l)
+
+-- Some element passes a test.
+
+pub in_any : {A : Type 0} (test : A → Bool) (xs : List A) (x : A) → Contains xs x → test x ≡ true → list_any test xs ≡ true
+in_any test [] x c t = absurd (Contains-none x c)
+in_any test (y ∷ xs) x c t = Contains-cases y xs x (list_any test (y ∷ xs) ≡ true) (λ e. or_left (test y) (list_any test xs) (ap test e ∙ t)) (λ d. or_right (test y) (list_any test xs) (in_any test xs x d t)) c
+
+pub from_any : {A : Type 0} (test : A → Bool) (xs : List A) → list_any test xs ≡ true → (x : A) × Contains xs x × (test x ≡ true)
+from_any test [] e = absurd (true≢false (sym e))
+from_any test (x ∷ xs) e = elim (or_cases (test x) (list_any test xs) e) [
+  | inl t ↦ (x, Contains-here x xs, t)
+  | inr s ↦ let on = from_any test xs s in (on.0, Contains-later x xs on.0 on.1, on.2)
+]

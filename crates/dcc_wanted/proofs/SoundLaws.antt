@@ -1,7 +1,7 @@
 -- What follows from a location that is wanted is wanted.
 use Rattle.std.proofs.Common.{◌≡◌, ℕ, zero, suc, ◌+◌, ◌<◌, ◌≤◌, Bool, true, false, ◌&&◌, ◌||◌, not, inl, inr, List, [], ◌∷◌, ◌++◌, length, map, flat_map, get_or, refl, sym, ap, ◌∙◌, subst, true≢false, arith, Contains, Option, Some, None}
 use Rattle.std.specs.Prelude.{◌⊎◌, ◌↔◌, ◌==◌, if◌then◌else◌}
-use Rattle.std.proofs.lemmas.Bool.{and_parts, eqb-true}
+use Rattle.std.proofs.lemmas.Bool.{not-true, and_parts, eqb-true}
 use Rattle.std.proofs.lemmas.List.Elements.{Contains-append_right, Contains-append_cases}
 use Rattle.std.proofs.Math.ListN.{get_or-map}
 use Rattle.dcc_flow.specs.Edges.{is_in, leads, successors_of}
@@ -186,7 +186,7 @@ module _ (p : Program) (good : IsProgram p) where
           subst IsGood found.2 (
             is,
             IsWantedBy.made_of (goes_next p (entry_of at.graph) (position_of at) stmt there)
-                (subst (λ s. is_left ((action_at pushed s).effect l) ≡ false) (sym there) (unleft (is_left ((action_of pushed stmt).effect l)) (left_unwritten pushed stmt l ∙ written)))
+                (subst (λ s. is_left ((action_at pushed s).effect l) ≡ false) (sym there) (not-true (is_left ((action_of pushed stmt).effect l)) (left_unwritten pushed stmt l ∙ written)))
                 (subst (λ s. (action_at pushed s).made_of l found.0 ≡ true) (sym there) (contains_among (makes_of stmt) found.0 found.1)) w,
             made_mentioned found.0 found.1,
           )
@@ -194,10 +194,6 @@ module _ (p : Program) (good : IsProgram p) where
           made_mentioned : (n : Loc) → Contains (makes_of stmt) n → Contains (mentioned p) n
           made_mentioned n k = in_flat (λ q. mentioned_at (site_in p q)) (all_points p) at n (is_one p at is)
               (subst (λ x. Contains (mentioned_at x) n) (sym site) (Contains-append_right (used_at (Executes stmt)) (makes_of stmt) n k))
-
-          unleft : (b : Bool) → not b ≡ true → b ≡ false
-          unleft true e = absurd (true≢false (sym e))
-          unleft false e = refl
 
       returned : (entry : ℕ) → callee_of stmt ≡ Some entry → changed entry l ≡ true → (y : Want) → Contains (wants_of entry (all_returns p (all_points p)) l) y → IsGood y
       returned entry calls told y c =

@@ -5,3 +5,5 @@ pub mod Demands
 pub mod Follow
 pub mod Setting
 pub mod Wanted
+pub mod Found
+pub mod Summaries

@@ -15,6 +15,10 @@ use Rattle.dcc_wanted.specs.declared.points.Site.TheVariants.{Executes as Execut
 abbrev pub point_at : ℕ → ℕ → ℕ → Point
 point_at graph block done = record { graph = graph; block = block; done = done }
 
+-- the point after the statement at a point
+abbrev pub next_point : Point → Point
+next_point at = record at { done = suc at.done }
+
 -- where a point stands in its graph
 abbrev pub position_of : Point → Position
 position_of at = record { block = at.block; done = at.done }

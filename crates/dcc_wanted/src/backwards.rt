@@ -7,12 +7,13 @@ ghost use Rattle.dcc_changes.specs.Programs.{AreChanges};
 ghost use Rattle.dcc_wanted.specs.Points.{all_points};
 ghost use Rattle.dcc_wanted.specs.Ways.{lists_in, ArePreds, all_calls, all_returns};
 ghost use Rattle.dcc_wanted.specs.Wanted.{AreWanted};
+ghost use Rattle.dcc_wanted.specs.Found.{AreFound};
 
 use crate::demand::Demand;
 use crate::follow::Setting;
 use crate::points::{Point, points};
 use crate::table::Wants;
-use crate::ways::Ways;
+use crate::ways::{Port, Ways};
 use dcc_changes::changes;
 use dcc_ir::IrProgram;
 use std::alloc::{AllocError, Global};
@@ -36,6 +37,37 @@ fn find(alloc: Global, setting: &Setting<'_>, points: &[Point]) -> Result<Wants,
     Ok(demand.wants)
 }
 
+/// What is known of a program.
+#[derive(Drop)]
+pub struct Found {
+    /// For each half and flag that passes, in their order, whether the procedure of each entry changes it.
+    pub changed: Vec<Vec<bool>>,
+    /// All calls.
+    pub calls: Vec<Port>,
+    pub wants: Wants,
+}
+
+/// What is changed and what is wanted.
+pub fn find_all(alloc: Global, p: &IrProgram) -> Result<Found, AllocError>
+    requires { IsProgram (program_of p.now) }
+    ensures { IfOk result (λ found. AreFound (program_of p.now) found) }
+{
+    let changed = changes(alloc, p)?;
+    let points = points(alloc, p)?;
+    let ways = Ways::new(alloc, p, points.as_slice())?;
+    let setting = Setting {
+        program: p,
+        changed: changed.as_slice(),
+        ways: &ways,
+    };
+    let wants = find(alloc, &setting, points.as_slice())?;
+    Ok(Found {
+        changed,
+        calls: ways.calls,
+        wants,
+    })
+}
+
 /// The locations that are wanted before each point of a program: whose value a use may come to take, within a graph, in
 /// those that it calls and in those that call it.
 ///
@@ -46,13 +78,6 @@ pub fn wanted(alloc: Global, p: &IrProgram) -> Result<Wants, AllocError>
     requires { IsProgram (program_of p.now) }
     ensures { IfOk result (λ wants. AreWanted (program_of p.now) wants) }
 {
-    let changed = changes(alloc, p)?;
-    let points = points(alloc, p)?;
-    let ways = Ways::new(alloc, p, points.as_slice())?;
-    let setting = Setting {
-        program: p,
-        changed: changed.as_slice(),
-        ways: &ways,
-    };
-    find(alloc, &setting, points.as_slice())
+    let found = find_all(alloc, p)?;
+    Ok(found.wants)
 }

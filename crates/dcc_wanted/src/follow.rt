@@ -35,19 +35,17 @@ fn tells(changed: &[bool], entry: u16) -> bool
     changed.get(entry as usize).copied().unwrap_or(false)
 }
 
-impl Setting<'_> {
-    // Whether the procedure of that entry changes the location.
-    fn changes(&self, entry: u16, location: Loc) -> bool
-        requires { length self.now.changed.now ≡ 16 }
-        ensures { result ≡ changed_in (map (λ v. v.items) self.now.changed.now) entry location }
-    {
-        for place in 0..PASSED_LOCATIONS.len() {
-            if same_location(location, PASSED_LOCATIONS[place]) {
-                return tells(self.changed[place].as_slice(), entry);
-            }
+/// Whether the procedure of that entry changes the location, by a list for each half and flag that passes.
+pub fn is_changed(changed: &[Vec<bool>], entry: u16, location: Loc) -> bool
+    requires { length changed.now ≡ 16 }
+    ensures { result ≡ changed_in (map (λ v. v.items) changed.now) entry location }
+{
+    for place in 0..PASSED_LOCATIONS.len() {
+        if same_location(location, PASSED_LOCATIONS[place]) {
+            return tells(changed[place].as_slice(), entry);
         }
-        false
     }
+    false
 }
 
 impl Demand {
@@ -101,7 +99,7 @@ impl Demand {
     {
         match callee {
             Some(entry) => {
-                if setting.changes(entry, want.location) {
+                if is_changed(setting.changed, entry, want.location) {
                     let returns = setting.ways.returns.as_slice();
                     self.want_at_ports(alloc, returns, entry, want.location)
                 } else {

@@ -8,9 +8,11 @@ mod backwards;
 mod demand;
 mod follow;
 mod points;
+mod summaries;
 mod table;
 mod ways;
 
 pub use backwards::wanted;
 pub use points::Point;
+pub use summaries::{SumsFault, sums};
 pub use table::Wants;

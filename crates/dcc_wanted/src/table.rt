@@ -1,10 +1,11 @@
 //! Which locations are wanted before which points, as far as is known.
 
-ghost use Rattle.std.specs.Prelude.{◌≡◌, ℕ, ◌||◌, ◌&&◌, ◌==◌, ◌<◌, [], get_or, length, OnOk};
+ghost use Rattle.std.specs.Prelude.{◌≡◌, ℕ, suc, ◌||◌, ◌&&◌, ◌==◌, ◌<◌, [], get_or, length, OnOk};
 ghost use Rattle.dcc_ir.specs.declared.syntax.Loc.{Loc as LocOf};
 ghost use Rattle.dcc_ir.specs.Live.{is_among};
 ghost use Rattle.dcc_ir.specs.Location.{same_location};
-ghost use Rattle.dcc_wanted.specs.Table.{lists_of, told_here, told_in_block, told_in_graph, row_at, told_in, same_want};
+ghost use Rattle.dcc_wanted.specs.Table.{lists_of, row_of, block_rows, graph_rows, told_here, told_in_block, told_in_graph, row_at, told_in, same_want};
+ghost use Rattle.dcc_wanted.specs.Points.{next_point};
 
 use crate::points::Point;
 use dcc_changes::is_among;
@@ -70,21 +71,48 @@ fn add_in_graph(
     add_in_block(alloc, &mut blocks[block], want.at.done, want.location)
 }
 
+// The list of one more statement done.
+fn row_after(rows: &[Vec<Loc>], done: usize) -> &[Loc]
+    ensures { result.now ≡ row_of rows.now (suc done) }
+{
+    let Some(rest) = rows.get(done..) else {
+        return &[];
+    };
+    match rest.get(1) {
+        Some(row) => row.as_slice(),
+        None => &[],
+    }
+}
+
 impl Wants {
-    /// The locations that are wanted before a point, in no order.
-    pub fn before(&self, at: Point) -> &[Loc]
-        ensures { result.now ≡ row_at self.now.rows.items at }
+    // The lists of the block in which a point stands.
+    fn rows_at(&self, at: Point) -> &[Vec<Loc>]
+        ensures { result.now ≡ block_rows (graph_rows self.now.rows.items at.graph) at.block }
     {
         let Some(blocks) = self.rows.get(at.graph) else {
             return &[];
         };
-        let Some(rows) = blocks.get(at.block) else {
-            return &[];
-        };
-        match rows.get(at.done) {
+        match blocks.get(at.block) {
+            Some(rows) => rows.as_slice(),
+            None => &[],
+        }
+    }
+
+    /// The locations that are wanted before a point, in no order.
+    pub fn before(&self, at: Point) -> &[Loc]
+        ensures { result.now ≡ row_at self.now.rows.items at }
+    {
+        match self.rows_at(at).get(at.done) {
             Some(row) => row.as_slice(),
             None => &[],
         }
+    }
+
+    /// The locations that are wanted after the statement at a point, in no order.
+    pub fn after(&self, at: Point) -> &[Loc]
+        ensures { result.now ≡ row_at self.now.rows.items (next_point at) }
+    {
+        row_after(self.rows_at(at), at.done)
     }
 
     /// Whether it is known.
