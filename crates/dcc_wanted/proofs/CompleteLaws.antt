@@ -1,13 +1,13 @@
 -- Where all that follows is known, all that is wanted is known.
-use Rattle.std.proofs.Common.{◌≡◌, ℕ, zero, suc, ◌+◌, ◌<◌, ◌≤◌, Bool, true, false, ◌&&◌, ◌||◌, not, inl, inr, List, [], ◌∷◌, ◌++◌, length, map, get_or, refl, sym, ap, ◌∙◌, subst, true≢false, arith, Contains, Option, Some, None}
-use Rattle.std.specs.Prelude.{◌⊎◌, ◌↔◌, ◌==◌, if◌then◌else◌}
-use Rattle.std.proofs.lemmas.Bool.{and_parts, and_from, and_left, eqb-true, eq-eqb, false_from_ne_true, cases_lt}
+use Rattle.std.proofs.Common.{◌≡◌, ℕ, zero, suc, ◌<◌, ◌≤◌, Bool, true, false, ◌&&◌, not, inl, inr, List, [], ◌∷◌, length, map, get_or, refl, sym, ap, ◌∙◌, subst, true≢false, arith, Contains, Option, Some, None}
+use Rattle.std.specs.Prelude.{◌↔◌, ◌==◌, if◌then◌else◌}
+use Rattle.std.proofs.lemmas.Bool.{and_parts, eq-eqb, false_from_ne_true, cases_lt}
 use Rattle.std.proofs.lemmas.List.{get_or_past, length-map}
 use Rattle.std.proofs.lemmas.List.Folds.{list_any_at}
 use Rattle.std.proofs.Math.ListN.{get_or-map}
 use Rattle.std.specs.List.{list_any}
 use Rattle.std.proofs.lemmas.List.Elements.{Contains-append_left, Contains-append_right}
-use Rattle.dcc_flow.specs.Edges.{is_in, leads, successors_of}
+use Rattle.dcc_flow.specs.Edges.{is_in}
 use Rattle.dcc_flow.proofs.RowLaws.{length_successors}
 use Rattle.dcc_ir.specs.declared.syntax.Loc.{Loc}
 use Rattle.dcc_ir.specs.Tree.{Stmt, Call, Exit, Goto, If, Switch, Ret, Stop, Block, Graph, Program}
@@ -17,23 +17,23 @@ use Rattle.dcc_ir.specs.Live.{is_among, block_in}
 use Rattle.dcc_ir.specs.Run.{graph_at, no_graph, no_block}
 use Rattle.dcc_ir.specs.WellFormed.{IsProgram, all_differ}
 use Rattle.dcc_ir.proofs.GraphLaws.{found_entry}
-use Rattle.dcc_ir.proofs.LocationLaws.{Contains-here, Contains-none, Contains-cases, among_contains, contains_among}
-use Rattle.dcc_demand.specs.Procedures.{Procedures, Leaves, is_left, CallChanges}
+use Rattle.dcc_ir.proofs.LocationLaws.{Contains-here, Contains-none, Contains-cases, among_contains}
+use Rattle.dcc_demand.specs.Procedures.{Procedures, is_left, CallChanges}
 use Rattle.dcc_demand.specs.Changes.{Changes}
-use Rattle.dcc_demand.specs.Wanted.{Wanted, WantedFamily, IsClosedUnderDemand}
+use Rattle.dcc_demand.specs.Wanted.{Wanted, IsClosedUnderDemand}
 use Rattle.dcc_demand.proofs.WantedLaws.{wanted-least}
 use Rattle.dcc_sums.specs.Points.{Position, begin_of, next_of, Site, Executes, Ends, Nowhere, site_at, site_of, nexts_of, is_return}
-use Rattle.dcc_sums.specs.Instance.{passes, written_by, used_by, used_at_end, callee_of, effect_of, action_of, action_at, procedure_of, procedures_of}
+use Rattle.dcc_sums.specs.Instance.{passes, written_by, used_by, used_at_end, callee_of, action_at, procedures_of}
 use Rattle.dcc_sums.proofs.SiteLaws.{contained_map, changes_pass}
 use Rattle.dcc_changes.proofs.ProgramLaws.{found_place}
 use Rattle.dcc_changes.proofs.StateLaws.{among_filter, left_unwritten}
 use Rattle.dcc_wanted.specs.declared.points.Point.{Point}
 use Rattle.dcc_wanted.specs.declared.table.Want.{Want}
 use Rattle.dcc_wanted.specs.declared.ways.Port.{Port}
-use Rattle.dcc_wanted.specs.Points.{point_at, position_of, graph_in, site_in, callee_at, used_at, IsPoint, all_points}
+use Rattle.dcc_wanted.specs.Points.{point_at, graph_in, site_in, callee_at, used_at, IsPoint, all_points}
 use Rattle.dcc_wanted.specs.Ways.{ArePreds, port_at, ports_at, calls_at, returns_at, all_calls, all_returns, ports_of}
 use Rattle.dcc_wanted.specs.Demands.{want_at, wants_at, seeds}
-use Rattle.dcc_wanted.specs.Follow.{wants_of, before_call, before_stmt, before_site, before_block, before_entry, followers, Setting}
+use Rattle.dcc_wanted.specs.Follow.{wants_of, before_call, before_stmt, before_site, before_block, before_entry, followers}
 use Rattle.dcc_wanted.proofs.ListLaws.{from_map, in_flat, in_filter}
 use Rattle.dcc_wanted.proofs.PointLaws.{is_one}
 use Rattle.dcc_wanted.proofs.SoundLaws.{listed_in, in_listed, targets_there, callee_there, entry_of, graph_named, setting}

@@ -1,23 +1,22 @@
 -- While what is wanted is followed: what is told of is wanted, and what of it has been followed has told all that follows.
-use Rattle.std.proofs.Common.{◌≡◌, ℕ, ◌+◌, ◌<◌, ◌≤◌, Bool, true, false, inl, inr, List, [], ◌∷◌, ◌++◌, length, get_or, slice_get, map, flat_map, refl, sym, ap, ◌∙◌, subst, true≢false, arith, Contains, Some}
-use Rattle.std.specs.Prelude.{◌⊎◌, ◌↔◌, if◌then◌else◌}
+use Rattle.std.proofs.Common.{◌≡◌, ℕ, ◌+◌, ◌<◌, Bool, true, inl, inr, List, [], ◌∷◌, ◌++◌, length, map, flat_map, sym, ap, ◌∙◌, subst, true≢false, arith, Contains}
+use Rattle.std.specs.Prelude.{◌⊎◌, ◌↔◌}
 use Rattle.std.proofs.lemmas.List.{length-append}
 use Rattle.std.proofs.lemmas.List.Elements.{Contains-append_left, Contains-push, Contains-push_cases}
 use Rattle.dcc_ir.specs.declared.syntax.Loc.{Loc}
 use Rattle.dcc_ir.specs.Tree.{Program}
-use Rattle.dcc_ir.specs.Live.{is_among}
 use Rattle.dcc_ir.specs.Run.{graph_at}
 use Rattle.dcc_ir.specs.Flow.{graph_or_none}
 use Rattle.dcc_ir.specs.WellFormed.{IsProgram}
 use Rattle.dcc_ir.proofs.LocationLaws.{Contains-none, contains_among}
 use Rattle.dcc_demand.specs.Changes.{Changes}
-use Rattle.dcc_demand.specs.Wanted.{IsWantedBy, Wanted}
+use Rattle.dcc_demand.specs.Wanted.{Wanted}
 use Rattle.dcc_sums.specs.Points.{Site, Executes, Ends, Nowhere}
 use Rattle.dcc_sums.specs.Instance.{used_by, used_at_end, action_at, procedures_of}
-use Rattle.dcc_sums.proofs.SiteLaws.{contained_map, wanted_used, here}
+use Rattle.dcc_sums.proofs.SiteLaws.{contained_map, wanted_used}
 use Rattle.dcc_wanted.specs.declared.points.Point.{Point}
 use Rattle.dcc_wanted.specs.declared.table.Want.{Want}
-use Rattle.dcc_wanted.specs.Points.{position_of, graph_in, site_in, used_at, IsPoint, all_points}
+use Rattle.dcc_wanted.specs.Points.{position_of, site_in, used_at, all_points}
 use Rattle.dcc_wanted.specs.Ways.{lists_in, ArePreds, all_calls, all_returns}
 use Rattle.dcc_wanted.specs.Setting.{setting_of}
 use Rattle.dcc_wanted.specs.declared.follow.Setting.{Setting as SettingOf}

@@ -1,5 +1,5 @@
 -- What a location that is wanted makes wanted, by the elements of lists.
-use Rattle.std.proofs.Common.{◌≡◌, ℕ, zero, suc, ◌+◌, ◌<◌, Bool, true, false, ◌||◌, true≢false, slice_get, Some, List, [], ◌∷◌, ◌++◌, length, map, flat_map, drop, get_or, refl, sym, ap, ◌∙◌, subst, arith}
+use Rattle.std.proofs.Common.{◌≡◌, ℕ, suc, ◌+◌, ◌<◌, Bool, true, false, ◌||◌, true≢false, slice_get, Some, List, [], ◌∷◌, ◌++◌, length, map, flat_map, drop, get_or, refl, sym, ap, ◌∙◌, subst, arith}
 use Rattle.std.specs.Prelude.{filter, if◌then◌else◌, ◌==◌, ◌↔◌}
 use Rattle.std.proofs.lemmas.List.Concat.{flat_map-cons, flat_map_single}
 use Rattle.dcc_ir.specs.declared.syntax.Loc.{Loc}

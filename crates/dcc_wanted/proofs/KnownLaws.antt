@@ -1,11 +1,11 @@
 -- What is known after some locations have become known to be wanted, and that less is left then.
-use Rattle.std.proofs.Common.{◌≡◌, ℕ, ◌+◌, ◌<◌, ◌≤◌, Bool, true, false, ◌&&◌, ◌||◌, not, inl, inr, List, [], ◌∷◌, ◌++◌, length, refl, sym, ap, ◌∙◌, subst, true≢false, arith, Contains}
+use Rattle.std.proofs.Common.{◌≡◌, ℕ, ◌+◌, ◌≤◌, Bool, true, false, ◌&&◌, ◌||◌, not, inl, inr, List, [], ◌∷◌, ◌++◌, length, refl, sym, ap, ◌∙◌, subst, true≢false, arith, Contains}
 use Rattle.std.specs.Prelude.{◌⊎◌, ◌==◌, filter, if◌then◌else◌}
-use Rattle.std.proofs.lemmas.Bool.{and_parts, and_from, or_cases, or_left, or_right, eqb-true, eq-eqb, cases_Bool}
+use Rattle.std.proofs.lemmas.Bool.{and_parts, and_from, or_cases, or_left, or_right, eqb-true, eq-eqb}
 use Rattle.std.proofs.lemmas.List.{length-append}
 use Rattle.std.proofs.lemmas.List.Elements.{Contains-append_left, Contains-append_right, Contains-append_cases, Contains-push, Contains-push_cases}
 use Rattle.dcc_ir.specs.Location.{same_location}
-use Rattle.dcc_ir.proofs.LocationLaws.{location_same, location_itself, Contains-here, Contains-later, Contains-none, Contains-cases}
+use Rattle.dcc_ir.proofs.LocationLaws.{location_same, location_itself, Contains-here, Contains-none, Contains-cases}
 use Rattle.dcc_wanted.specs.declared.table.Want.{Want}
 use Rattle.dcc_wanted.specs.Table.{same_want}
 use Rattle.dcc_wanted.specs.Demands.{Demand, with_want, with_wants}

@@ -1,24 +1,23 @@
 -- Points of a program and what comes next at them.
-use Rattle.std.proofs.Common.{◌≡◌, ℕ, zero, suc, ◌+◌, ◌<◌, ◌≤◌, List, [], ◌∷◌, ◌++◌, append_assoc, flat_map, length, get_or, map, slice_get, refl, sym, ap, ◌∙◌, subst, true≢false, arith, Contains, Option, Some, None}
+use Rattle.std.proofs.Common.{◌≡◌, ℕ, zero, suc, ◌+◌, ◌<◌, ◌≤◌, List, [], ◌∷◌, ◌++◌, append_assoc, flat_map, length, get_or, map, refl, sym, ap, ◌∙◌, subst, arith, Contains}
 use Rattle.std.specs.List.{range_with_len}
 use Rattle.std.specs.Prelude.{All}
 use Rattle.std.proofs.lemmas.List.Elements.{Contains-get_or}
 use Rattle.std.proofs.lemmas.List.{length-map}
-use Rattle.std.proofs.Math.ListN.{get_or-map}
 use Rattle.dcc_ir.specs.declared.syntax.Graph.{Graph as GraphOf}
 use Rattle.dcc_ir.specs.declared.syntax.Block.{Block as BlockOf}
 use Rattle.dcc_ir.specs.declared.syntax.Stmt.{Stmt as StmtOf}
 use Rattle.dcc_ir.specs.declared.syntax.IrProgram.{IrProgram}
-use Rattle.dcc_ir.specs.Tree.{Stmt, Exit, Block, Graph, Program}
+use Rattle.dcc_ir.specs.Tree.{Exit, Block, Graph, Program}
 use Rattle.dcc_ir.specs.Views.{stmt_of, exit_of, block_of, graph_of, program_of}
 use Rattle.dcc_ir.specs.Live.{block_in}
 use Rattle.dcc_ir.specs.Run.{no_graph, no_block}
-use Rattle.dcc_sums.specs.Points.{Site, Executes, Ends, Nowhere, site_at, site_of}
+use Rattle.dcc_sums.specs.Points.{Executes, Ends, site_at}
 use Rattle.dcc_sums.proofs.SiteLaws.{contained_map}
 use Rattle.dcc_wanted.specs.declared.points.Point.{Point}
-use Rattle.dcc_wanted.specs.Points.{point_at, position_of, graph_in, site_in, IsPoint, block_points, graph_points, all_points}
+use Rattle.dcc_wanted.specs.Points.{point_at, graph_in, site_in, IsPoint, block_points, graph_points, all_points}
 use Rattle.dcc_wanted.proofs.ListLaws.{from_map, in_flat, from_flat, in_range, from_range, flat_range_more}
-use Rattle.std.proofs.lemmas.List.{get_or_read, get_or-map as get_or-map_inside}
+use Rattle.std.proofs.lemmas.List.{get_or-map as get_or-map_inside}
 
 -- All points of a program, and no others.
 

@@ -1,6 +1,6 @@
 -- What follows from a location that is wanted is wanted.
-use Rattle.std.proofs.Common.{◌≡◌, ℕ, zero, suc, ◌+◌, ◌<◌, ◌≤◌, Bool, true, false, ◌&&◌, ◌||◌, not, inl, inr, List, [], ◌∷◌, ◌++◌, length, map, flat_map, get_or, refl, sym, ap, ◌∙◌, subst, true≢false, arith, Contains, Option, Some, None}
-use Rattle.std.specs.Prelude.{◌⊎◌, ◌↔◌, ◌==◌, if◌then◌else◌}
+use Rattle.std.proofs.Common.{◌≡◌, ℕ, zero, suc, ◌<◌, Bool, true, false, ◌&&◌, ◌||◌, inl, inr, List, [], ◌∷◌, ◌++◌, length, flat_map, get_or, refl, sym, ap, ◌∙◌, subst, true≢false, arith, Contains, Option, Some, None}
+use Rattle.std.specs.Prelude.{◌↔◌, ◌==◌, if◌then◌else◌}
 use Rattle.std.proofs.lemmas.Bool.{not-true, and_parts, eqb-true}
 use Rattle.std.proofs.lemmas.List.Elements.{Contains-append_right, Contains-append_cases}
 use Rattle.std.proofs.Math.ListN.{get_or-map}
@@ -14,12 +14,12 @@ use Rattle.dcc_ir.specs.Flow.{targets, graph_or_none}
 use Rattle.dcc_ir.specs.Live.{is_among, block_in}
 use Rattle.dcc_ir.specs.Run.{graph_at, no_block}
 use Rattle.dcc_ir.specs.WellFormed.{IsProgram}
-use Rattle.dcc_ir.proofs.LocationLaws.{Contains-here, Contains-later, Contains-none, Contains-cases, among_contains, contains_among}
+use Rattle.dcc_ir.proofs.LocationLaws.{Contains-here, Contains-later, Contains-none, Contains-cases, contains_among}
 use Rattle.dcc_demand.specs.Procedures.{Procedures, is_left, CallChanges}
 use Rattle.dcc_demand.specs.Changes.{Changes}
 use Rattle.dcc_demand.specs.Wanted.{IsWantedBy, Wanted}
-use Rattle.dcc_sums.specs.Points.{Position, begin_of, next_of, Site, Executes, Ends, Nowhere, site_at, site_of, is_return}
-use Rattle.dcc_sums.specs.Instance.{passes, written_by, callee_of, action_of, action_at, procedure_of, procedures_of}
+use Rattle.dcc_sums.specs.Points.{Position, next_of, Site, Executes, Ends, Nowhere, site_at, site_of, is_return}
+use Rattle.dcc_sums.specs.Instance.{passes, written_by, callee_of, action_of, action_at, procedures_of}
 use Rattle.dcc_sums.proofs.SiteLaws.{here, goes_next, wanted_still, wanted_there}
 use Rattle.dcc_changes.proofs.ProgramLaws.{named_first}
 use Rattle.dcc_changes.proofs.StateLaws.{left_unwritten}

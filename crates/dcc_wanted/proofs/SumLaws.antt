@@ -1,14 +1,14 @@
 -- What is told of what passes between procedures is so.
-use Rattle.std.proofs.Common.{◌≡◌, ℕ, zero, suc, ◌+◌, ◌<◌, Bool, true, false, ◌&&◌, ◌||◌, not, inl, inr, List, [], ◌∷◌, ◌++◌, length, map, get_or, slice_get, refl, sym, ap, ◌∙◌, subst, true≢false, arith, Contains, Option, Some, None}
-use Rattle.std.specs.Prelude.{◌⊎◌, ◌↔◌, ◌==◌, filter, All, if◌then◌else◌}
-use Rattle.std.specs.List.{AllZip, list_any}
-use Rattle.std.proofs.lemmas.Bool.{not-true, and_parts, and_from, or_cases, or_left, or_right, eqb-true, eq-eqb, false_from_ne_true}
+use Rattle.std.proofs.Common.{◌≡◌, ℕ, suc, ◌<◌, Bool, true, false, ◌&&◌, not, inl, inr, List, [], ◌∷◌, ◌++◌, length, map, get_or, slice_get, refl, sym, ap, ◌∙◌, subst, true≢false, arith, Contains, Some}
+use Rattle.std.specs.Prelude.{◌↔◌, ◌==◌, filter, if◌then◌else◌}
+use Rattle.std.specs.List.{AllZip}
+use Rattle.std.proofs.lemmas.Bool.{not-true, and_parts, and_from, eqb-true, eq-eqb, false_from_ne_true}
 use Rattle.std.proofs.lemmas.List.Elements.{Contains-get_or}
 use Rattle.dcc_ir.specs.declared.syntax.Loc.{Loc}
 use Rattle.dcc_ir.specs.declared.syntax.Put.{Put}
 use Rattle.dcc_ir.specs.declared.syntax.Put.TheVariants.{Memory, One, Two}
 use Rattle.dcc_ir.specs.declared.syntax.Param.{Param}
-use Rattle.dcc_ir.specs.Tree.{Expr, Stmt, Set, Fetch, Store, Div, Call, Dos, Block, Graph, Program, Summary}
+use Rattle.dcc_ir.specs.Tree.{Set, Fetch, Store, Div, Call, Dos, Program}
 use Rattle.dcc_ir.specs.Flow.{graph_or_none}
 use Rattle.dcc_ir.specs.Live.{is_among, block_in}
 use Rattle.dcc_ir.specs.Passing.{passed, param_of}
@@ -20,7 +20,7 @@ use Rattle.dcc_demand.specs.Changes.{Changes, IsPreserved}
 use Rattle.dcc_demand.specs.Wanted.{Wanted, IsParam, IsResult}
 use Rattle.dcc_sums.specs.Points.{Position, next_of, Site, Executes, Ends, Nowhere, site_of, nexts_of}
 use Rattle.dcc_sums.specs.Instance.{passes, procedures_of}
-use Rattle.dcc_sums.specs.Sums.{AreJust, IsSum, AreSums, IsReused, ReusesNone}
+use Rattle.dcc_sums.specs.Sums.{AreJust, IsSum, IsReused, ReusesNone}
 use Rattle.dcc_sums.proofs.SiteLaws.{here, goes_next, changes_pass}
 use Rattle.dcc_changes.proofs.StateLaws.{among_filter}
 use Rattle.dcc_changes.proofs.ProgramLaws.{one_more}
@@ -28,14 +28,14 @@ use Rattle.dcc_wanted.specs.declared.points.Point.{Point}
 use Rattle.dcc_wanted.specs.declared.ways.Port.{Port}
 use Rattle.dcc_wanted.specs.declared.backwards.Found.{Found}
 use Rattle.dcc_wanted.specs.Points.{point_at, next_point, position_of, graph_in, site_in, callee_at, IsPoint, all_points}
-use Rattle.dcc_wanted.specs.Ways.{port_at, ports_at, calls_at, all_calls}
+use Rattle.dcc_wanted.specs.Ways.{port_at, ports_at, calls_at}
 use Rattle.dcc_wanted.specs.Found.{AreFound}
-use Rattle.dcc_wanted.specs.Summaries.{IsReusedAt, sets_one, takes, wanted_before, changed_by, wanted_after, is_param, is_result, sum_of, reuses_one, reuses}
+use Rattle.dcc_wanted.specs.Summaries.{IsReusedAt, sets_one, takes, wanted_before, changed_by, wanted_after, is_param, is_result, sum_of, reuses}
 use Rattle.dcc_wanted.proofs.ListLaws.{in_flat, in_filter, from_filter, in_any, from_any}
 use Rattle.dcc_wanted.proofs.PointLaws.{is_one}
 use Rattle.dcc_wanted.proofs.FollowLaws.{changes_told}
-use Rattle.dcc_wanted.proofs.SoundLaws.{callee_there, entry_of, graph_named, site_here, is_call}
-use Rattle.dcc_wanted.proofs.CompleteLaws.{real_call, is_real, IsDone, done_there}
+use Rattle.dcc_wanted.proofs.SoundLaws.{callee_there, entry_of, site_here, is_call}
+use Rattle.dcc_wanted.proofs.CompleteLaws.{real_call, is_real, done_there}
 
 -- Those of the locations that pass which pass a test.
 

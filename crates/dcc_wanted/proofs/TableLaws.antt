@@ -1,17 +1,15 @@
 -- Lists of lists in which one takes a further location.
-use Rattle.std.proofs.Common.{◌≡◌, ℕ, zero, suc, ◌+◌, ◌<◌, Bool, true, false, ◌&&◌, ◌||◌, inl, inr, List, [], ◌∷◌, ◌++◌, length, get_or, slice_set, map, refl, sym, ap, ◌∙◌, subst, true≢false, arith}
+use Rattle.std.proofs.Common.{◌≡◌, ℕ, zero, suc, ◌<◌, Bool, true, false, ◌&&◌, ◌||◌, inl, inr, List, [], ◌∷◌, ◌++◌, length, get_or, slice_set, refl, sym, ap, ◌∙◌, subst, arith}
 use Rattle.std.specs.Prelude.{◌==◌}
-use Rattle.std.specs.List.{list_any}
 use Rattle.std.specs.Global.{Vec}
 use Rattle.std.proofs.lemmas.Bool.{cases_eq, eq-eqb, ne_eqb}
 use Rattle.std.proofs.lemmas.List.{length-map, map-set, get_or-set_same, get_or-set_other}
 use Rattle.std.proofs.lemmas.List.Folds.{list_any-append}
-use Rattle.std.proofs.Math.ListN.{get_or-map}
 use Rattle.dcc_ir.specs.declared.syntax.Loc.{Loc}
 use Rattle.dcc_ir.specs.Live.{is_among}
 use Rattle.dcc_ir.specs.Location.{same_location}
 use Rattle.dcc_wanted.specs.declared.table.Want.{Want}
-use Rattle.dcc_wanted.specs.Table.{lists_of, row_of, block_rows, graph_rows, told_here, told_in_block, told_in_graph, told_in, same_want}
+use Rattle.dcc_wanted.specs.Table.{lists_of, told_here, told_in_block, told_in, same_want}
 
 -- a further empty list is as one that isn't there
 pub room_more : {A : Type 0} (lists : List (Vec A)) (v : Vec A) → v.items ≡ [] → (n : ℕ) → get_or (lists_of (lists ++ v ∷ [])) n [] ≡ get_or (lists_of lists) n []

@@ -1,5 +1,5 @@
 -- The points of the graphs of a program, by the places of the graphs.
-use Rattle.std.specs.Prelude.{◌≡◌, ℕ, suc, ◌<◌, ◌≤◌, List, length, [], map, flat_map, get_or, Option, None}
+use Rattle.std.specs.Prelude.{ℕ, suc, ◌<◌, ◌≤◌, List, length, [], map, flat_map, get_or, Option, None}
 use Rattle.std.specs.List.{range_with_len}
 use Rattle.dcc_ir.specs.Tree.{Block, Graph, Program}
 use Rattle.dcc_ir.specs.Views.{stmt_of, exit_of}

@@ -9,16 +9,15 @@ use Rattle.dcc_ir.specs.declared.syntax.Loc.TheVariants.{Half, Flag}
 use Rattle.dcc_ir.specs.declared.syntax.Put.{Put}
 use Rattle.dcc_ir.specs.declared.syntax.Put.TheVariants.{One}
 use Rattle.dcc_ir.specs.declared.syntax.Param.{Param}
-use Rattle.dcc_ir.specs.Tree.{Stmt, Call, Graph, Program, Summary}
+use Rattle.dcc_ir.specs.Tree.{Call, Graph, Program, Summary}
 use Rattle.dcc_ir.specs.Live.{is_among, block_in}
 use Rattle.dcc_ir.specs.Location.{same_location}
 use Rattle.dcc_ir.specs.Passing.{passed}
-use Rattle.dcc_sums.specs.Points.{Position, Site, Executes, begin_of}
+use Rattle.dcc_sums.specs.Points.{Position, Site, Executes}
 use Rattle.dcc_sums.specs.Instance.{passes, procedures_of}
 use Rattle.dcc_sums.specs.Sums.{AreJust, IsSum, IsReused, AreOneValue}
 use Rattle.dcc_demand.specs.Wanted.{IsResult}
 use Rattle.dcc_wanted.specs.declared.points.Point.{Point}
-use Rattle.dcc_wanted.specs.declared.ways.Port.{Port}
 use Rattle.dcc_wanted.specs.declared.backwards.Found.{Found}
 use Rattle.dcc_wanted.specs.declared.summaries.SumsFault.{SumsFault}
 use Rattle.dcc_wanted.specs.declared.summaries.SumsFault.TheVariants.{ArgumentReused, SeveralResults, Memory}

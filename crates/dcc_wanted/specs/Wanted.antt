@@ -1,5 +1,5 @@
 -- What is wanted before the points of the graphs of a program, as a table tells it.
-use Rattle.std.specs.Prelude.{◌≡◌, ℕ, ◌<◌, ◌↔◌, true, length}
+use Rattle.std.specs.Prelude.{◌≡◌, ◌<◌, ◌↔◌, true, length}
 use Rattle.dcc_ir.specs.declared.syntax.Loc.{Loc}
 use Rattle.dcc_ir.specs.Tree.{Program}
 use Rattle.dcc_ir.specs.Live.{is_among}

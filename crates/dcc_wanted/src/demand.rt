@@ -6,7 +6,8 @@ ghost use Rattle.dcc_ir.specs.Use.{reads_of};
 ghost use Rattle.dcc_ir.specs.Demand.{makes_of};
 ghost use Rattle.dcc_sums.specs.Instance.{is_passing, used_by, used_at_end};
 ghost use Rattle.dcc_wanted.specs.Points.{IsPoint, used_at, site_seen};
-ghost use Rattle.dcc_wanted.specs.Demands.{demand_of, no_demand, with_want, with_wants, wants_at, argument_reads, seeds};
+ghost use Rattle.dcc_wanted.specs.Demands.{demand_of, no_demand, with_want, with_wants, wants_at, argument_reads};
+ghost use Rattle.dcc_wanted.specs.Demands.{seeds};
 
 use crate::points::{Point, Site, site_at};
 use crate::table::{Want, Wants};

@@ -11,7 +11,8 @@ ghost use Rattle.dcc_sums.specs.Sums.{AreSums, ReusesNone, GivesOneValue};
 ghost use Rattle.dcc_wanted.specs.Points.{IsPoint, site_in, graph_in};
 ghost use Rattle.dcc_wanted.specs.Found.{AreFound};
 ghost use Rattle.dcc_wanted.specs.Summaries as spec;
-ghost use Rattle.dcc_wanted.specs.Summaries.{IsFault, IsReusedAt, IsSumOf, changed_by, is_param, sum_of, reuses, reuses_one};
+ghost use Rattle.dcc_wanted.specs.Summaries.{IsFault, IsReusedAt, IsSumOf, changed_by, is_param, sum_of};
+ghost use Rattle.dcc_wanted.specs.Summaries.{reuses, reuses_one};
 
 use crate::backwards::{Found, find_all};
 use crate::follow::is_changed;

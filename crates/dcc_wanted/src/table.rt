@@ -4,7 +4,8 @@ ghost use Rattle.std.specs.Prelude.{◌≡◌, ℕ, suc, ◌||◌, ◌&&◌, ◌
 ghost use Rattle.dcc_ir.specs.declared.syntax.Loc.{Loc as LocOf};
 ghost use Rattle.dcc_ir.specs.Live.{is_among};
 ghost use Rattle.dcc_ir.specs.Location.{same_location};
-ghost use Rattle.dcc_wanted.specs.Table.{lists_of, row_of, block_rows, graph_rows, told_here, told_in_block, told_in_graph, row_at, told_in, same_want};
+ghost use Rattle.dcc_wanted.specs.Table.{lists_of, row_of, block_rows, graph_rows, row_at, told_here, told_in_block};
+ghost use Rattle.dcc_wanted.specs.Table.{told_in, same_want};
 ghost use Rattle.dcc_wanted.specs.Points.{next_point};
 
 use crate::points::Point;

@@ -1,11 +1,9 @@
-use Rattle.std.proofs.Common.{◌≡◌, ◌-◌, ◌++◌, [], take, get_or, Contains, ap, sym, ◌∙◌, subst}
-use Rattle.dcc_ir.specs.Views.{program_of}
+use Rattle.std.proofs.Common.{◌≡◌, ◌-◌, ◌++◌, [], take, ap, sym, ◌∙◌, subst}
 use Rattle.dcc_wanted.specs.Demands.{demand_of, no_demand, with_wants, seeds}
-use Rattle.dcc_wanted.specs.Points.{all_points, IsPoint}
 use Rattle.dcc_wanted.specs.Follow.{changed_in}
 use Rattle.dcc_wanted.proofs.PointLaws.{listed_are}
 use Rattle.dcc_wanted.proofs.FollowLaws.{changes_told}
-use Rattle.dcc_wanted.proofs.FindLaws.{IsFinding, begun, next_good, found_all, program, change_lists, pred_lists, Going, going_on, less}
+use Rattle.dcc_wanted.proofs.FindLaws.{IsFinding, begun, next_good, found_all, program, change_lists, pred_lists, going_on, less}
 use Rattle.dcc_wanted.proofs.backwards.find.Goals as goal
 
 pub seed-requires : goal.seed-requires

@@ -1,4 +1,4 @@
-use Rattle.std.proofs.Common.{◌≡◌, ◌+◌, ◌<◌, ◌++◌, length, ap, sym, ◌∙◌, arith}
+use Rattle.std.proofs.Common.{◌+◌, ◌<◌, ◌++◌, length, ap, ◌∙◌, arith}
 use Rattle.dcc_ir.specs.Views.{graph_of}
 use Rattle.dcc_ir.specs.Live.{block_in}
 use Rattle.dcc_wanted.specs.Points.{block_points}

@@ -1,5 +1,5 @@
-use Rattle.std.proofs.Common.{◌≡◌, ◌+◌, ◌<◌, ◌++◌, [], length, ap, sym, ◌∙◌, arith}
-use Rattle.dcc_ir.specs.Views.{graph_of, program_of}
+use Rattle.std.proofs.Common.{◌<◌, ◌++◌, [], length, ap, ◌∙◌, arith}
+use Rattle.dcc_ir.specs.Views.{program_of}
 use Rattle.dcc_wanted.specs.Points.{graph_in, graph_points}
 use Rattle.dcc_wanted.proofs.PointLaws.{graph_read, listed_more}
 use Rattle.dcc_wanted.proofs.points.points.Goals as goal

@@ -1,4 +1,4 @@
-use Rattle.std.proofs.Common.{◌≡◌, ◌+◌, length, ap, sym, ◌∙◌, arith}
+use Rattle.std.proofs.Common.{◌+◌, length, ap, ◌∙◌, arith}
 use Rattle.std.proofs.lemmas.List.{length-map, length_push}
 use Rattle.dcc_ir.specs.Views.{graph_of, program_of}
 use Rattle.dcc_wanted.proofs.FaultLaws.{none_first, first_more, all_sums, all_one}

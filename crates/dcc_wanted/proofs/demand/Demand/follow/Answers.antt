@@ -2,7 +2,7 @@ use Rattle.std.proofs.Common.{◌≡◌, ◌-◌, suc, ap, sym, ◌∙◌, arith
 use Rattle.std.proofs.lemmas.Result.{on_ok_weaker}
 use Rattle.dcc_wanted.specs.Demands.{demand_of, with_wants}
 use Rattle.dcc_wanted.specs.Points.{site_seen, point_at}
-use Rattle.dcc_wanted.specs.Follow.{before_block, before_entry, before_site, followers}
+use Rattle.dcc_wanted.specs.Follow.{before_block, before_entry, before_site}
 use Rattle.dcc_wanted.specs.Setting.{setting_of}
 use Rattle.dcc_wanted.proofs.DemandLaws.{with_wants-append}
 use Rattle.dcc_wanted.proofs.FollowLaws.{followed_begin, followed_inside}

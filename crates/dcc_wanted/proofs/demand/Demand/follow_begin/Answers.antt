@@ -1,11 +1,10 @@
-use Rattle.std.proofs.Common.{◌≡◌, ◌<◌, [], length, map, flat_map, get_or, ap, sym, ◌∙◌, subst, arith}
+use Rattle.std.proofs.Common.{◌≡◌, ◌<◌, length, map, get_or, ap, ◌∙◌, arith}
 use Rattle.std.proofs.lemmas.List.{length-map}
 use Rattle.dcc_ir.specs.Live.{block_in}
-use Rattle.dcc_ir.specs.Tree.{Block, Graph}
-use Rattle.dcc_ir.specs.Views.{stmt_of, block_of, graph_of, program_of}
+use Rattle.dcc_ir.specs.Tree.{Block}
+use Rattle.dcc_ir.specs.Views.{stmt_of, graph_of, program_of}
 use Rattle.dcc_wanted.specs.Demands.{demand_of, with_want, with_wants, want_at}
 use Rattle.dcc_wanted.specs.Points.{graph_in, point_at}
-use Rattle.dcc_wanted.specs.Ways.{lists_in}
 use Rattle.dcc_wanted.proofs.DemandLaws.{each_more, each_end, read_any}
 use Rattle.dcc_wanted.proofs.PointLaws.{graph_read, block_read}
 use Rattle.dcc_wanted.proofs.FollowLaws.{row_there, ends_there, end_wants, end_each}

@@ -1,4 +1,4 @@
-use Rattle.std.proofs.Common.{◌≡◌, drop, flat_map, get_or, []}
+use Rattle.std.proofs.Common.{◌≡◌, drop, flat_map}
 use Rattle.dcc_ir.specs.Views.{program_of}
 use Rattle.dcc_wanted.specs.Demands.{demand_of, with_wants}
 use Rattle.dcc_wanted.proofs.FollowLaws.{end_wants}

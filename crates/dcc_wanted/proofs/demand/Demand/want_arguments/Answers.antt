@@ -1,4 +1,4 @@
-use Rattle.std.proofs.Common.{ap, ◌∙◌, flat_map, arith}
+use Rattle.std.proofs.Common.{ap, ◌∙◌, arith}
 use Rattle.dcc_wanted.specs.Demands.{demand_of, with_wants}
 use Rattle.dcc_wanted.proofs.DemandLaws.{each_more, each_end, argument_wants, argument_each}
 use Rattle.dcc_wanted.proofs.demand.Demand.want_arguments.Goals as goal

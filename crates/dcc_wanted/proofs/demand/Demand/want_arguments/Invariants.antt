@@ -1,6 +1,5 @@
-use Rattle.std.proofs.Common.{◌≡◌, drop, flat_map, map}
-use Rattle.dcc_ir.specs.Views.{expr_of}
-use Rattle.dcc_wanted.specs.Demands.{demand_of, with_wants, wants_at, argument_reads}
+use Rattle.std.proofs.Common.{◌≡◌, drop, flat_map}
+use Rattle.dcc_wanted.specs.Demands.{demand_of, with_wants}
 use Rattle.dcc_wanted.proofs.DemandLaws.{argument_wants}
 use Rattle.dcc_wanted.proofs.demand.Demand.want_arguments.Given as goal
 

@@ -1,4 +1,4 @@
-use Rattle.std.proofs.Common.{ap, ◌∙◌, flat_map, arith}
+use Rattle.std.proofs.Common.{ap, ◌∙◌, arith}
 use Rattle.dcc_wanted.specs.Demands.{demand_of, with_wants}
 use Rattle.dcc_wanted.proofs.DemandLaws.{each_end}
 use Rattle.dcc_wanted.proofs.FollowLaws.{port_wants, port_each}
