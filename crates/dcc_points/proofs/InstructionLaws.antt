@@ -1,7 +1,9 @@
 -- The points of an instruction: what stands there, and where they lead.
-use Rattle.std.proofs.Common.{◌≡◌, ◌≤◌, ℕ, zero, suc, ◌+◌, true, false, inl, inr, ◌==◌, if◌then◌else◌, List, [], ◌∷◌, ◌++◌, length, map, flat_map, Option, Some, None, refl, sym, ap, ap₂, ◌∙◌, subst, true≢false, arith}
-use Rattle.std.specs.Prelude.{Contains}
+use Rattle.std.proofs.Common.{◌≡◌, ◌≤◌, ℕ, zero, suc, ◌+◌, Bool, true, false, inl, inr, ◌==◌, if◌then◌else◌, List, [], ◌∷◌, ◌++◌, length, map, flat_map, Option, Some, None, refl, sym, ap, ap₂, ◌∙◌, subst, true≢false, arith}
+use Rattle.std.specs.Prelude.{Contains, slice_get}
 use Rattle.std.proofs.lemmas.List.{append-nil, map-append}
+use Rattle.dcc_prog.specs.declared.image.Image.{Image}
+use Rattle.dcc_prog.specs.declared.procedure.Layout.{Layout}
 use Rattle.dcc_prog.specs.declared.procedure.Node.{Node}
 use Rattle.dcc_prog.specs.declared.instr.Op.{Op}
 use Rattle.dcc_prog.specs.declared.instr.Op.TheVariants.{Ret, Table}
@@ -31,6 +33,8 @@ use Rattle.dcc_points.specs.InstructionPoints.{advanced, points_from, is_ret, re
 use Rattle.dcc_points.specs.Laws.{ComesToPoints, HasInstructions, InstructionsHavePoints}
 use Rattle.dcc_points.proofs.PointLaws as points
 use Rattle.dcc_points.proofs.PointLaws.{IsBefore}
+use Rattle.dcc_lift.proofs.CallFree.{IsCallFree}
+use Rattle.dcc_points.proofs.CallLaws.{executes_call, call_first_of}
 use Rattle.dcc_points.proofs.BeginLaws as begins
 use Rattle.dcc_points.proofs.BeginLaws.{nodes, entry, Located, located}
 
@@ -122,7 +126,8 @@ module _ (scene : Scene) where
       ∙ ap begin_of (ap₂ (λ x y. x + y) e (place_first (nodes scene) (entry scene) (entry scene) refl))
 
   module _ (graph : Graph) (prelude : ℕ) (sound : AreSound (nodes scene) (entry scene) prelude) (front blocks : List Block)
-      (front_is : length front ≡ scene.before) (are : AreBlocksAt scene (leaders (nodes scene) (entry scene)) blocks) (blocks_are : graph.blocks ≡ front ++ blocks) where
+      (front_is : length front ≡ scene.before) (are : AreBlocksAt scene (leaders (nodes scene) (entry scene)) blocks) (blocks_are : graph.blocks ≡ front ++ blocks)
+      (front_free : (j : ℕ) (block : Block) → slice_get front j ≡ Some block → IsCallFree block.stmts) where
     there : (at : ℕ) (node : Node) → node_in (nodes scene) at ≡ Some node → Located scene graph prelude sound front blocks front_is are blocks_are at
     there at node e = located scene graph prelude sound front blocks front_is are blocks_are at (node_in_has (nodes scene) at node e)
 
@@ -292,6 +297,12 @@ module _ (scene : Scene) where
     settled_there : (at : ℕ) (node : Node) → node_in (nodes scene) at ≡ Some node → ComesToPoints scene at
     settled_there at node e = let l = there at node e in settle l.rest at node e l.chain
 
+    calls_there : (point : Position) (callee : ℕ) → ((procedure_of graph).action point).callee ≡ Some callee → (at : ℕ) × (others : List Position) × (points_at scene at ≡ point ∷ others)
+    calls_there point callee e =
+        let s = executes_call graph.pushed (site_of graph point) callee e in
+        let found = call_first_of scene graph prelude sound front blocks front_is are blocks_are front_free point s.0 s.1 s.2 in
+        (found.at, found.others, found.points_are)
+
     pub has_instructions : HasInstructions scene graph
     has_instructions = record {
       sites = sites_there;
@@ -302,6 +313,7 @@ module _ (scene : Scene) where
       returns = returns_there;
       alone = alone_there;
       settled = settled_there;
+      calls = calls_there;
       entry = entry_there;
     }
 
@@ -310,7 +322,17 @@ front_length x zero few = refl
 front_length x (suc zero) few = refl
 front_length x (suc (suc n)) few = absurd (omega (arith, few))
 
+-- the prelude's block calls nothing
+front_free : (image : Image) (layout : Layout) (scene : Scene) (b : Bool) (j : ℕ) (block : Block)
+    → slice_get (if b then [] else prelude_block image layout scene ∷ []) j ≡ Some block → IsCallFree block.stmts
+front_free image layout scene true j block e = absurd (cc e)
+front_free image layout scene false zero block e =
+    let same : prelude_block image layout scene ≡ block = cc e in
+    subst (λ (b : Block). IsCallFree b.stmts) same refl
+front_free image layout scene false (suc j) block e = absurd (cc e)
+
 pub instructions-have_points : InstructionsHavePoints
 instructions-have_points image layout scene graph is sound few =
     has_instructions scene graph image.ip sound (front_of image layout scene) is.blocks (front_length (prelude_block image layout scene) scene.before few) is.blocks_are
     (ap (λ (g : Graph). g.blocks) is.graph_is ∙ graph-blocks image layout scene is.blocks)
+    (front_free image layout scene (scene.before == 0))

@@ -1,3 +1,4 @@
 pub mod PointLaws
 pub mod BeginLaws
+pub mod CallLaws
 pub mod InstructionLaws

@@ -46,6 +46,10 @@ module _ (scene : Scene) where
         → (point : Position) × (points_at scene at ≡ point ∷ [])
     -- each instruction comes to points
     pub settled : (at : ℕ) (node : Node) → node_in (nodes_in scene) at ≡ Some node → ComesToPoints at
+    -- what calls is the first point of an instruction
+    pub calls : (point : Position) (callee : ℕ)
+        → ((procedure_of graph).action point).callee ≡ Some callee
+        → (at : ℕ) × (others : List Position) × (points_at scene at ≡ point ∷ others)
     -- the entry's instruction begins where the graph does, if no other block comes before
     pub entry : scene.before ≡ 0 → begin_at scene (entry_in scene) ≡ begin_of 0
 

@@ -26,7 +26,7 @@ use Rattle.dcc_prog.specs.declared.procedure.Layout.{Layout}
 use Rattle.dcc_prog.specs.declared.procedure.Node.{Node}
 use Rattle.dcc_prog.specs.declared.frame.Program.{Program as Analysed}
 use Rattle.dcc_ir.specs.declared.syntax.Loc.{Loc}
-use Rattle.dcc_ir.specs.Tree.{Program}
+use Rattle.dcc_ir.specs.Tree.{Program, Stop}
 use Rattle.dcc_ir.specs.Flow.{graph_or_none}
 use Rattle.dcc_ir.proofs.LocationLaws.{Contains-none}
 use Rattle.dcc_num.specs.declared.Width.TheVariants.{Byte as byte_width}
@@ -276,10 +276,25 @@ module _ (image : Image) (program : Analysed) (p : Program) (is : IsTranslated i
       none_called : {target : ℕ} → None ≡ Some target → ⊥
       none_called e = cc e
 
+  -- A Call is the first point of an instruction.
+
+  none_calls : (n : ℕ) (callee : ℕ) → (sums.action_at 0 (site_at n [] Stop)).callee ≡ Some callee → ⊥
+  none_calls zero callee e = cc e
+  none_calls (suc n) callee e = cc e
+
+  called : (entry callee : ℕ) (call : Position) → ((fine.procedure entry).action call).callee ≡ Some callee
+      → (at : ℕ) × (others : List Position) × (r.steps entry at ≡ call ∷ others)
+  called entry callee call e = elim (stands entry) [
+    | Standing.linked x ↦
+        let found = (has entry x).calls call callee (sym (ap (λ g. (g.action call).callee) (fine_is entry x)) ∙ e) in
+        (found.0, found.1, ap (λ o. steps_in o found.0) x.scene_found ∙ found.2)
+    | Standing.missing x ↦ absurd (none_calls call.done callee (sym (ap (λ g. (g.action call).callee) (fine_none entry x)) ∙ e))
+  ]
+
   module _ (agree : InstructionsAgree image program p) where
     start_uncalled_inner : (caller : ℕ) (call : Position) → ¬ (((fine.procedure caller).action call).callee ≡ Some layout.start_ip)
     start_uncalled_inner caller call e =
-        let there = agree.called caller layout.start_ip call e in
+        let there = called caller layout.start_ip call e in
         elim (agree.callees caller there.0) [
           | inl none ↦ cc (e, (subst (λ s. CallNothing (fine.procedure caller) s) there.2 none.1).0)
           | inr calls ↦
@@ -352,7 +367,7 @@ module _ (image : Image) (program : Analysed) (p : Program) (is : IsTranslated i
       callees = agree.callees;
       wants = agree.wants;
       edges = edges_agree;
-      called = agree.called;
+      called = called;
       entries = entries;
       settled_entry = settled_entry;
       settled = settled;

@@ -1,5 +1,5 @@
 -- The lifted program has the machine's relations where each instruction does what its statements do.
-use Rattle.std.specs.Prelude.{◌≡◌, ℕ, ℤ, List, ◌∷◌, Some}
+use Rattle.std.specs.Prelude.{ℕ, ℤ}
 use Rattle.dcc_prog.specs.declared.image.Image.{Image}
 use Rattle.dcc_prog.specs.declared.frame.Program.{Program as Analysed}
 use Rattle.dcc_ir.specs.declared.syntax.Loc.{Loc}
@@ -21,15 +21,11 @@ module _ (image : Image) (program : Analysed) (p : Program) where
   abbrev pub inner : Procedures Position Loc Loc
   inner = sums.procedures_of p
 
-  -- what is left to be shown of the instructions: what each does, and that each Call of the inner language is one's
+  -- what is left to be shown of the instructions: that each does what its statements do together
   pub record InstructionsAgree : Type 0 where
     pub changes : (entry at : ℕ) → ChangesAgree machine inner (lifted_refinement program) entry at
     pub callees : (entry at : ℕ) → CalleesAgree machine inner (lifted_refinement program) entry at
     pub wants : (entry at : ℕ) → WantsAgree machine inner (lifted_refinement program) entry at
-    pub called : (entry callee : ℕ) (call : Position)
-        → ((inner.procedure entry).action call).callee ≡ Some callee
-        → (at : ℕ) × (others : List Position)
-        × ((lifted_refinement program).steps entry at ≡ call ∷ others)
 
 -- where this is so the lifted program has the machine's relations
 abbrev pub LiftedIsRefined : Type 0
