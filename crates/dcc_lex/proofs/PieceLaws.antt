@@ -1,7 +1,7 @@
 -- The pieces of what is left of a text.
 use Rattle.std.proofs.Common.{◌≡◌, ℕ, zero, suc, ◌≤◌, List, [], ◌∷◌, ◌++◌, length, map, take, drop, Option, Some, None, option_to_list, length-append, refl, sym, ap, subst, ◌∙◌, arith}
 use Rattle.std.specs.Prelude.{is_some, true, false, option_map, not, ◌==◌}
-use Rattle.std.specs.Option.{ForNone, option_copied}
+use Rattle.std.specs.Option.{option_copied}
 use Rattle.std.proofs.lemmas.List.{length-map}
 use denote.Ref.{Bor}
 use Rattle.std.proofs.lemmas.Bool.{cond_both}
@@ -43,20 +43,38 @@ no_bytes (b ∷ bytes) none = absurd (omega arith)
 none_remain : (spot : spec.Spot) (line : ℕ) (bytes : List ℕ) → length bytes ≡ 0 → remaining spot line bytes ≡ []
 none_remain spot line bytes none = ap (remaining spot line) (no_bytes bytes none) ∙ remaining-none spot line
 
--- the pieces after a cut are those before it
+-- the pieces of bytes are those of a cut and those after it
+pub cut_pieces : (spot : spec.Spot) (line : ℕ) (bytes : List ℕ) (c : Cut) → Continues spot line bytes (cut_of c) →
+    map piece_of (option_to_list c.piece) ++ remaining (spot_of c.spot) c.line c.rest.now ≡ remaining spot line bytes
+unfolding Continues
+cut_pieces spot line bytes c goes = sym goes
+
+-- a piece, and those of the bytes after it, the first of which has been cut
 pub pieces_cut : (p : Pieces) (spot : spec.Spot) (line : ℕ) (bytes : List ℕ) →
-    Continues spot line bytes (spec.cut (map piece_of (option_to_list p.first)) (spot_of p.spot) p.line p.bytes.now) → pieces_of p ≡ remaining spot line bytes
+    Continues spot line bytes (spec.cut (map piece_of (option_to_list p.second)) (spot_of p.spot) p.line p.bytes.now) →
+    pieces_of p ≡ map piece_of (option_to_list p.first) ++ remaining spot line bytes
 unfolding pieces_of Continues
-pieces_cut p spot line bytes goes = sym goes
+pieces_cut p spot line bytes goes = ap (λ (ps : List spec.Piece). map piece_of (option_to_list p.first) ++ ps) (sym goes)
+
+-- the pieces after the first
+abbrev later : Pieces → List spec.Piece
+later p = map piece_of (option_to_list p.second) ++ remaining (spot_of p.spot) p.line p.bytes.now
 
 -- where pieces stand does not tell which they are
-pub pieces_as : (p q : Pieces) → p.first ≡ q.first → p.spot ≡ q.spot → p.line ≡ q.line → p.bytes ≡ q.bytes → pieces_of p ≡ pieces_of q
+pub pieces_as : (p q : Pieces) → p.first ≡ q.first → later p ≡ later q → pieces_of p ≡ pieces_of q
 unfolding pieces_of
-pieces_as p q first spot line bytes =
-    ap (λ o. map piece_of (option_to_list o) ++ remaining (spot_of p.spot) p.line p.bytes.now) first
-    ∙ ap (λ s. map piece_of (option_to_list q.first) ++ remaining (spot_of s) p.line p.bytes.now) spot
-    ∙ ap (λ n. map piece_of (option_to_list q.first) ++ remaining (spot_of q.spot) n p.bytes.now) line
-    ∙ ap (λ (b : Bor (List ℕ)). map piece_of (option_to_list q.first) ++ remaining (spot_of q.spot) q.line b.now) bytes
+pieces_as p q first others =
+    ap (λ o. map piece_of (option_to_list o) ++ later p) first ∙ ap (λ ps. map piece_of (option_to_list q.first) ++ ps) others
+
+empty_option : {T : Type 0} (o : Option T) → length (option_to_list o) ≡ 0 → o ≡ None
+empty_option None none = refl
+empty_option (Some x) none = absurd (omega arith)
+
+none_later : (p : Pieces) → p.first ≡ None → later p ≡ []
+none_later p none =
+    let one = empty_option p.second (p.pair none) in
+    ap (λ o. map piece_of (option_to_list o) ++ remaining (spot_of p.spot) p.line p.bytes.now) one
+    ∙ none_remain (spot_of p.spot) p.line p.bytes.now (p.all one)
 
 begins : (o : Option Piece) (rest : List spec.Piece) → (o ≡ None → rest ≡ []) → BeginWith (option_map piece_of o) (map piece_of (option_to_list o) ++ rest)
 begins (Some p) rest none = refl
@@ -64,7 +82,7 @@ begins None rest none = none refl
 
 first_begins : (p : Pieces) → BeginWith (option_map piece_of p.first) (pieces_of p)
 unfolding pieces_of
-first_begins p = begins p.first _ (λ none. none_remain (spot_of p.spot) p.line p.bytes.now (p.all none))
+first_begins p = begins p.first (later p) (none_later p)
 
 -- the first piece, lent
 pub lent_begins : (p : Pieces) (o : Option (Bor Piece)) → option_copied o ≡ p.first → BeginWith (option_map (λ q. piece_of q.now) o) (pieces_of p)
@@ -78,17 +96,14 @@ after_first : (o : Option Piece) (rest : List spec.Piece) → (o ≡ None → re
 after_first (Some p) rest none = refl
 after_first None rest none = ap (drop 1) (none refl) ∙ sym (none refl)
 
--- the pieces after the first are those of the bytes that have not been cut
-pub second_left : (p : Pieces) → drop 1 (pieces_of p) ≡ remaining (spot_of p.spot) p.line p.bytes.now
+pub second_left : (p : Pieces) → drop 1 (pieces_of p) ≡ later p
 unfolding pieces_of
-second_left p = after_first p.first _ (λ none. none_remain (spot_of p.spot) p.line p.bytes.now (p.all none))
+second_left p = after_first p.first (later p) (none_later p)
 
-pub second_begins : (p : Pieces) (c : Cut) → Continues (spot_of p.spot) p.line p.bytes.now (cut_of c) → ForNone c.piece (length c.rest.now ≡ 0) →
-    BeginWith (option_map piece_of c.piece) (drop 1 (pieces_of p))
-unfolding Continues
-second_begins p c goes none =
-    subst (BeginWith (option_map piece_of c.piece)) (sym (second_left p ∙ goes))
-    (begins c.piece _ (λ is. none_remain (spot_of c.spot) c.line c.rest.now (none is)))
+pub second_begins : (p : Pieces) → BeginWith (option_map piece_of p.second) (drop 1 (pieces_of p))
+second_begins p =
+    subst (BeginWith (option_map piece_of p.second)) (sym (second_left p))
+    (begins p.second (remaining (spot_of p.spot) p.line p.bytes.now) (λ none. none_remain (spot_of p.spot) p.line p.bytes.now (p.all none)))
 
 pub one_taken : (p : Pieces) → is_some p.first ≡ true → length (take 1 (pieces_of p)) ≡ 1
 unfolding pieces_of
@@ -100,7 +115,7 @@ one_taken p some = taken p.first _ some
 
 pub none_left : (p : Pieces) → is_some p.first ≡ false → pieces_of p ≡ []
 unfolding pieces_of
-none_left p none = without p.first _ none (λ is. none_remain (spot_of p.spot) p.line p.bytes.now (p.all is))
+none_left p none = without p.first (later p) none (none_later p)
   where
     without : (o : Option Piece) (rest : List spec.Piece) → is_some o ≡ false → (o ≡ None → rest ≡ []) → map piece_of (option_to_list o) ++ rest ≡ []
     without (Some p) rest none after = absurd cc
@@ -151,6 +166,13 @@ few_remain spot line bytes = few_from (length bytes) spot line bytes
 pub few_pieces : (p : Pieces) → length (pieces_of p) ≤ 67108864
 unfolding pieces_of
 few_pieces p =
-    let later = few_remain (spot_of p.spot) p.line p.bytes.now in
+    let others = remaining (spot_of p.spot) p.line p.bytes.now in
     let few = p.few in
-    omega (arith, length-append (map piece_of (option_to_list p.first)) (remaining (spot_of p.spot) p.line p.bytes.now), length-map (option_to_list p.first) piece_of)
+    omega (
+      arith,
+      few_remain (spot_of p.spot) p.line p.bytes.now,
+      length-append (map piece_of (option_to_list p.first)) (map piece_of (option_to_list p.second) ++ others),
+      length-append (map piece_of (option_to_list p.second)) others,
+      length-map (option_to_list p.first) piece_of,
+      length-map (option_to_list p.second) piece_of,
+    )

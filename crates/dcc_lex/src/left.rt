@@ -6,12 +6,14 @@ ghost use Rattle.std.specs.Option.{ForNone};
 use crate::cut::{Spot, next_piece};
 use crate::token::Piece;
 
-/// What is left of a text: its pieces, each of which is cut when the one before it is passed.
+/// What is left of a text: its pieces. The first two have been cut, and those after them are when they are the second.
 #[derive(Clone, Copy)]
 pub struct Pieces<'a> {
     // The first of them.
     first: Option<Piece<'a>>,
-    /// How many pieces stand before it.
+    // The one after it.
+    second: Option<Piece<'a>>,
+    /// How many pieces stand before them.
     pub at: usize,
     // Where in a line what has not been cut begins.
     spot: Spot,
@@ -19,9 +21,10 @@ pub struct Pieces<'a> {
     line: u32,
     // What has not been cut.
     bytes: &'a [u8],
-    ghost all: { ForNone first (length bytes.now ≡ 0) },
+    ghost pair: { ForNone first (length (option_to_list second) ≡ 0) },
+    ghost all: { ForNone second (length bytes.now ≡ 0) },
     ghost lines: { line + length bytes.now ≤ 67108865 },
-    ghost few: { at + length (option_to_list first) + length bytes.now ≤ 67108864 },
+    ghost few: { at + length (option_to_list first) + length (option_to_list second) + length bytes.now ≤ 67108864 },
 }
 
 impl<'a> Pieces<'a> {
@@ -31,16 +34,25 @@ impl<'a> Pieces<'a> {
     ghost use Rattle.dcc_lex.specs.CutViews.{spot_of, remaining};
     ghost use Rattle.dcc_lex.specs.PiecesViews.{pieces_of, BeginWith};
 
-    // The pieces of bytes that begin at this spot of this line, where so many stand before them.
-    fn cut_at(at: usize, spot: Spot, line: u32, bytes: &'a [u8]) -> Pieces<'a>
+    // A piece that has been cut and those after it, where so many stand before it.
+    fn from_first(
+        at: usize,
+        first: Option<Piece<'a>>,
+        spot: Spot,
+        line: u32,
+        bytes: &'a [u8],
+    ) -> Pieces<'a>
+        requires all { ForNone first (length bytes.now ≡ 0) }
         requires lines { line + length bytes.now ≤ 67108865 }
-        requires few { at + length bytes.now ≤ 67108864 }
-        ensures pieces { pieces_of result ≡ remaining (spot_of spot) line bytes.now }
+        requires few { at + length (option_to_list first) + length bytes.now ≤ 67108864 }
+        ensures pieces { pieces_of result
+            ≡ map piece_of (option_to_list first.entry) ++ remaining (spot_of spot) line bytes.now }
         ensures place { result.at ≡ at }
     {
         let cut = next_piece(spot, line, bytes);
         Pieces {
-            first: cut.piece,
+            first,
+            second: cut.piece,
             at,
             spot: cut.spot,
             line: cut.line,
@@ -55,7 +67,8 @@ impl<'a> Pieces<'a> {
         ensures few { length (pieces_of result) ≤ length rest.now }
         ensures place { result.at ≡ 0 }
     {
-        Pieces::cut_at(0, Spot::InLine, 1, rest)
+        let cut = next_piece(Spot::InLine, 1, rest);
+        Pieces::from_first(0, cut.piece, cut.spot, cut.line, cut.rest)
     }
 
     /// The first of the pieces.
@@ -65,11 +78,11 @@ impl<'a> Pieces<'a> {
         self.first.as_ref()
     }
 
-    /// The piece after the first. It is cut anew at each call.
+    /// The piece after the first.
     pub fn second(&self) -> Option<Piece<'a>>
         ensures { BeginWith (option_map piece_of result) (drop 1 (pieces_of self.now)) }
     {
-        next_piece(self.spot, self.line, self.bytes).piece
+        self.second
     }
 
     /// Goes past the first piece, where there is one.
@@ -78,7 +91,7 @@ impl<'a> Pieces<'a> {
         ensures place { self.new.at ≡ self.old.at + length (take 1 (pieces_of self.old)) }
     {
         if self.first.is_some() {
-            *self = Pieces::cut_at(self.at + 1, self.spot, self.line, self.bytes);
+            *self = Pieces::from_first(self.at + 1, self.second, self.spot, self.line, self.bytes);
         }
     }
 
@@ -89,6 +102,7 @@ impl<'a> Pieces<'a> {
     {
         Pieces {
             first: self.first,
+            second: self.second,
             at: 0,
             spot: self.spot,
             line: self.line,

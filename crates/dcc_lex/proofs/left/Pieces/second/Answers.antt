@@ -2,4 +2,4 @@ use Rattle.dcc_lex.proofs.PieceLaws.{second_begins}
 use Rattle.dcc_lex.proofs.left.Pieces.second.Goals as goal
 
 pub returns : goal.returns
-returns c = second_begins c.args.self.now c.next_piece.result c.next_piece.ensures.continues c.next_piece.ensures.all
+returns c = second_begins c.args.self.now

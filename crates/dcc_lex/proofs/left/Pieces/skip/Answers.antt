@@ -4,12 +4,12 @@ use Rattle.dcc_lex.proofs.PieceLaws.{second_left, one_taken, none_left}
 use Rattle.dcc_lex.proofs.left.Pieces.skip.Goals as goal
 
 pub returns-then-is_some-clause-pieces : goal.returns-then-is_some-clause-pieces
-returns-then-is_some-clause-pieces c = c.cut_at.ensures.pieces ∙ sym (second_left c.args.self.now)
+returns-then-is_some-clause-pieces c = c.from_first.ensures.pieces ∙ sym (second_left c.args.self.now)
 
 pub returns-then-is_some-clause-place : goal.returns-then-is_some-clause-place
 returns-then-is_some-clause-place c =
     let one = one_taken c.args.self.now (sym c.is_some.ensures ∙ c.if-is_some.true) in
-    c.cut_at.ensures.place ∙ ap (λ n. c.args.self.now.at + n) (sym one)
+    c.from_first.ensures.place ∙ ap (λ n. c.args.self.now.at + n) (sym one)
 
 pub returns-else-is_some-clause-pieces : goal.returns-else-is_some-clause-pieces
 returns-else-is_some-clause-pieces c =
