@@ -21,12 +21,12 @@ use Rattle.dcc_refined.specs.LiftedRefinement.{steps_in, begin_in}
 
 -- Instructions at offsets.
 
-found_node : (nodes : Nodes) (at : ℕ) → find_at nodes at ≡ node_in nodes at
+pub found_node : (nodes : Nodes) (at : ℕ) → find_at nodes at ≡ node_in nodes at
 found_node [] at = refl
 found_node (found ∷ nodes) at = ap (λ o. if found.0 == at then Some found.1 else o) (found_node nodes at)
 
 -- where an instruction is found a height is found
-has_height : (heights : List (ℕ × ℕ)) (nodes : Nodes) (at : ℕ) (node : Node) → map (λ found. found.0) heights ≡ map (λ (found : ℕ × Node). found.0) nodes → node_in nodes at ≡ Some node
+pub has_height : (heights : List (ℕ × ℕ)) (nodes : Nodes) (at : ℕ) (node : Node) → map (λ found. found.0) heights ≡ map (λ (found : ℕ × Node). found.0) nodes → node_in nodes at ≡ Some node
     → (height : ℕ) × (find_at heights at ≡ Some height)
 has_height [] [] at node e found = absurd (cc found)
 has_height [] (n ∷ nodes) at node e found = absurd (cc e)

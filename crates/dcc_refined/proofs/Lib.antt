@@ -1,4 +1,4 @@
-mod LinkLaws
-mod EdgeLaws
-mod SameLaws
-mod RefinedLaws
+pub mod LinkLaws
+pub mod EdgeLaws
+pub mod SameLaws
+pub mod RefinedLaws

@@ -57,25 +57,25 @@ use Rattle.dcc_refined.proofs.EdgeLaws as edges
 use Rattle.dcc_refined.proofs.SameLaws as same
 
 module _ (image : Image) (program : Analysed) (p : Program) (is : IsTranslated image program p) where
-  abbrev layout : Layout
+  abbrev pub layout : Layout
   layout = program.layout
 
-  abbrev coarse : Procedures ℕ Place ℤ
+  abbrev pub coarse : Procedures ℕ Place ℤ
   coarse = machine image program p
 
-  abbrev fine : Procedures Position Loc Loc
+  abbrev pub fine : Procedures Position Loc Loc
   fine = inner image program p
 
-  abbrev r : Refinement ℕ Place ℤ Position Loc Loc
+  abbrev pub r : Refinement ℕ Place ℤ Position Loc Loc
   r = lifted_refinement program
 
-  abbrev Link : ℕ → Type 0
+  abbrev pub Link : ℕ → Type 0
   Link entry = Linked (λ found. found.entries) image layout (procedures_in program) layout.start_ip 1 program.procs.items program.cells.frames.items program.heights.at.items p.graphs entry
 
-  abbrev Lack : ℕ → Type 0
+  abbrev pub Lack : ℕ → Type 0
   Lack entry = Missing (λ found. found.entries) image layout (procedures_in program) layout.start_ip 1 program.procs.items program.cells.frames.items program.heights.at.items p.graphs entry
 
-  stands : (entry : ℕ) → Standing (λ found. found.entries) image layout (procedures_in program) layout.start_ip 1 program.procs.items program.cells.frames.items program.heights.at.items p.graphs entry
+  pub stands : (entry : ℕ) → Standing (λ found. found.entries) image layout (procedures_in program) layout.start_ip 1 program.procs.items program.cells.frames.items program.heights.at.items p.graphs entry
   stands entry =
       let found = is.of_file.is_program.procs in
       standing (λ found. found.entries) image layout (procedures_in program) layout.start_ip entry 1 program.procs.items program.cells.frames.items program.heights.at.items p.graphs (omega arith)
@@ -90,25 +90,25 @@ module _ (image : Image) (program : Analysed) (p : Program) (is : IsTranslated i
   holds_at P (x ∷ xs) (suc k) d all e = holds_at P xs k d (All-tail P x xs all) e
 
   module _ (entry : ℕ) (x : Link entry) where
-    abbrev body : Body
+    abbrev pub body : Body
     body = record { proc = x.proc; frame = x.frame; heights = x.own }
 
-    abbrev procedure : Procedure
+    abbrev pub procedure : Procedure
     procedure = record { proc = x.proc; frame = x.frame; delta = layout.delta }
 
-    abbrev scene : Scene
+    abbrev pub scene : Scene
     scene = record { cpu = layout.cpu; procedures = procedures_in program; procedure = procedure; heights = x.own; before = x.first }
 
-    sound : AreSound (nodes_in scene) (entry_in scene) image.ip
+    pub sound : AreSound (nodes_in scene) (entry_in scene) image.ip
     sound = found-sound image layout program.procs.items is.of_file.is_program.procs is.of_file.loaded is.of_file.is_program.layout x.proc x.reached x.found
 
-    has : HasInstructions scene x.graph
+    pub has : HasInstructions scene x.graph
     has = instructions-have_points image layout scene x.graph x.is_graph sound x.few
 
-    coarse_is : coarse.procedure entry ≡ asks.procedure_of (bodies_of program) body
+    pub coarse_is : coarse.procedure entry ≡ asks.procedure_of (bodies_of program) body
     coarse_is = ap (asks.procedure_or_none (bodies_of program)) x.body_found
 
-    fine_is : fine.procedure entry ≡ sums.procedure_of x.graph
+    pub fine_is : fine.procedure entry ≡ sums.procedure_of x.graph
     fine_is = ap (λ o. sums.procedure_of (graph_or_none o)) x.graph_found
 
     edges_linked : (at : ℕ) → EdgesAgree coarse fine r entry at
@@ -152,13 +152,13 @@ module _ (image : Image) (program : Analysed) (p : Program) (is : IsTranslated i
   -- One that isn't there.
 
   module _ (entry : ℕ) (x : Lack entry) where
-    coarse_none : coarse.procedure entry ≡ asks.no_procedure
+    pub coarse_none : coarse.procedure entry ≡ asks.no_procedure
     coarse_none = ap (asks.procedure_or_none (bodies_of program)) x.body_none
 
-    fine_none : fine.procedure entry ≡ sums.procedure_of (graph_or_none None)
+    pub fine_none : fine.procedure entry ≡ sums.procedure_of (graph_or_none None)
     fine_none = ap (λ o. sums.procedure_of (graph_or_none o)) x.graph_none
 
-    steps_none : (at : ℕ) → r.steps entry at ≡ begin_of 0 ∷ []
+    pub steps_none : (at : ℕ) → r.steps entry at ≡ begin_of 0 ∷ []
     steps_none at = ap (λ o. steps_in o at) x.scene_none
 
     begin_none : (at : ℕ) → r.begin entry at ≡ begin_of 0
@@ -196,7 +196,7 @@ module _ (image : Image) (program : Analysed) (p : Program) (is : IsTranslated i
 
   module _ (entry : ℕ) (x : Link entry) where
     -- what stands at an offset
-    found_there : (at : ℕ) (node : Node) → node_in (nodes_in (scene entry x)) at ≡ Some node → IsNodeFound image layout x.proc.entry (at, node)
+    pub found_there : (at : ℕ) (node : Node) → node_in (nodes_in (scene entry x)) at ≡ Some node → IsNodeFound image layout x.proc.entry (at, node)
     found_there at node e = node_in_holds (IsNodeFound image layout x.proc.entry) (nodes_in (scene entry x)) at node x.found.nodes e
 
     stays : entry ≡ layout.start_ip → (at : ℕ) → returns_in (node_in (nodes_in (scene entry x)) at) ≡ false

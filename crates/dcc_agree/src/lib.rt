@@ -1,0 +1,11 @@
+//! Instructions of the machine beside the statements that stand for them. Each function only states a law by its
+//! contract, and does nothing.
+#![tactic(auto)]
+
+ghost use Rattle.dcc_agree.specs.Laws.{AgreeingInstructionsAreEnough};
+
+/// Where each instruction does what its statements do together, as it is computed of these, the lifted program does
+/// what the machine's procedures do.
+pub fn agreeing_instructions_are_enough()
+    ensures { AgreeingInstructionsAreEnough }
+{}
