@@ -24,6 +24,19 @@ use Rattle.dcc_reader.proofs.RowLaws.{arm-parts, if-tree as if-rows, while-tree 
 use Rattle.dcc_parse.proofs.Moved.{none-left, one-less}
 use Rattle.dcc_c.proofs.RowLaws.{arm-parts as arm-tree, if-tree, while-tree, do_while-tree, forever-tree, switch-tree}
 
+-- lines before others
+abbrev pub lines_then : List Line → Lines → Lines
+lines_then [] rest = rest
+lines_then (l ∷ ls) rest = line (stmt_of l.stmt) l.line (lines_then ls rest)
+
+lines-alone : (ls : List Line) → lines_then ls no_lines ≡ lines_of ls
+lines-alone [] = refl
+lines-alone (l ∷ ls) = ap (line (stmt_of l.stmt) l.line) (lines-alone ls)
+
+lines-more : (ls : List Line) (l : Line) (rest : Lines) → lines_then (ls ++ l ∷ []) rest ≡ lines_then ls (line (stmt_of l.stmt) l.line rest)
+lines-more [] l rest = refl
+lines-more (k ∷ ls) l rest = ap (line (stmt_of k.stmt) k.line) (lines-more ls l rest)
+
 -- the lines of statements, before others
 abbrev pub rows_then : List Row → Lines → Lines
 rows_then [] rest = rest
@@ -68,6 +81,12 @@ pub default-alone : (last : Option Arm) → default_then last no_arms ≡ arms_i
 default-alone None = refl
 default-alone (Some a) = refl
 
+-- What has been made of the first statements, before the rest, of which there are so many. Nothing offends in the rest.
+pub record LinesLeft (scene : Scene) (blocks : ℕ) (lines : List Line) (rest : List Row) (count : ℕ) (rows : List Row) : Type 0 where
+  pub none : lines_offences scene blocks (partial.lines_of rest) ≡ []
+  pub same : lines_then lines (plain_lines (partial.lines_of rest)) ≡ plain_lines (partial.lines_of rows)
+  pub left : count ≡ length rest
+
 -- What has been made of the last statements, the last of them first; these stand before them. Nothing offends in these.
 pub record LinesMade (scene : Scene) (blocks : ℕ) (lines : List Line) (rest rows : List Row) : Type 0 where
   pub none : lines_offences scene blocks (partial.lines_of rest) ≡ []
@@ -111,17 +130,41 @@ module _ (scene : Scene) (blocks : ℕ) where
       let both = last-clean rows r first.after in
       (clean-row q (partial.lines_of rows) (record { deep = first.deep; own = first.own; inner = first.inner; after = both.0 }), both.1)
 
-  pub lines-begin : (rows : List Row) {lines : List Line} → lines ≡ [] → lines_offences scene blocks (partial.lines_of rows) ≡ [] →
+  -- one line more, after the others
+  pub left-step : (lines : List Line) (r : Row) (l : Line) {items : List Line} {rest more rows : List Row} {count fewer : ℕ} →
+      rest ≡ r ∷ more → fewer + 1 ≡ count → items ≡ lines ++ l ∷ [] →
+      (inner_offences scene (suc blocks) (partial.stmt_of r.stmt) ≡ [] → stmt_of l.stmt ≡ plain_stmt (partial.stmt_of r.stmt)) → l.line ≡ r.line →
+      LinesLeft scene blocks lines rest count rows → LinesLeft scene blocks items more fewer rows
+  left-step lines r l {items} {rest} {more} is less pushed stripped at before =
+      let others = partial.lines_of more in
+      let clean = row-clean r others (ap (λ rs. lines_offences scene blocks (partial.lines_of rs)) (sym is) ∙ before.none) in
+      record {
+        none = clean.after;
+        same = ap (λ ls. lines_then ls (plain_lines others)) pushed
+            ∙ lines-more lines l (plain_lines others)
+            ∙ ap (λ s. lines_then lines (line s l.line (plain_lines others))) (stripped clean.inner)
+            ∙ ap (λ n. lines_then lines (line (plain_stmt (partial.stmt_of r.stmt)) n (plain_lines others))) at
+            ∙ ap (λ rs. lines_then lines (plain_lines (partial.lines_of rs))) (sym is)
+            ∙ before.same;
+        left = one-less is less before.left;
+      }
+
+  pub left-end : (lines : List Line) {rest rows : List Row} {count : ℕ} → count ≡ 0 → LinesLeft scene blocks lines rest count rows →
+      lines_of lines ≡ plain_lines (partial.lines_of rows)
+  left-end lines {rest} {rows} {count} none all =
+      sym (lines-alone lines) ∙ ap (λ l. lines_then lines (plain_lines (partial.lines_of l))) (sym (none-left rest count all.left none)) ∙ all.same
+
+  pub made-begin : (rows : List Row) {lines : List Line} → lines ≡ [] → lines_offences scene blocks (partial.lines_of rows) ≡ [] →
       LinesMade scene blocks lines rows rows
-  lines-begin rows is none =
+  made-begin rows is none =
       record { none = none; same = ap (λ ls. rows_then rows (lines_of (reverse ls))) is ∙ rows-alone rows }
 
-  -- one line more
-  pub lines-step : (lines : List Line) (r : Row) (l : Line) {items : List Line} {rest more rows : List Row} →
+  -- one line more, before the others
+  pub made-step : (lines : List Line) (r : Row) (l : Line) {items : List Line} {rest more rows : List Row} →
       rest ≡ more ++ r ∷ [] → items ≡ lines ++ l ∷ [] →
       (inner_offences scene (suc blocks) (partial.stmt_of r.stmt) ≡ [] → stmt_of l.stmt ≡ plain_stmt (partial.stmt_of r.stmt)) → l.line ≡ r.line →
       LinesMade scene blocks lines rest rows → LinesMade scene blocks items more rows
-  lines-step lines r l {items} {rest} {more} is pushed stripped at before =
+  made-step lines r l {items} {rest} {more} is pushed stripped at before =
       let made = lines_of (reverse lines) in
       let clean = last-clean more r (ap (λ rs. lines_offences scene blocks (partial.lines_of rs)) (sym is) ∙ before.none) in
       record {
@@ -133,9 +176,9 @@ module _ (scene : Scene) (blocks : ℕ) where
             ∙ sym (rows-more more r made) ∙ ap (λ rs. rows_then rs made) (sym is) ∙ before.same;
       }
 
-  pub lines-end : (lines : List Line) {rest rows : List Row} → rest ≡ [] → LinesMade scene blocks lines rest rows →
+  pub made-end : (lines : List Line) {rest rows : List Row} → rest ≡ [] → LinesMade scene blocks lines rest rows →
       lines_of (reverse lines) ≡ plain_lines (partial.lines_of rows)
-  lines-end lines none all = ap (λ rs. rows_then rs (lines_of (reverse lines))) (sym none) ∙ all.same
+  made-end lines none all = ap (λ rs. rows_then rs (lines_of (reverse lines))) (sym none) ∙ all.same
 
 -- Arms with and without `default`.
 module _ (numbers : List NumberAt) (body : PartialLines) (arms : PartialArms) where

@@ -161,20 +161,37 @@ fn shrink_in_steps(rows: &mut Vec<Row>)
     }
 }
 
-/// Statements. A long list of rows and the list of their lines never stand whole side by side.
+// A statement with its line.
+#[cycle(strip)]
+fn strip_row(alloc: Global, row: Row) -> Result<Line, AllocError>
+    ensures stmt { (scene : Scene) (blocks : ℕ) → inner_offences scene blocks (partial.stmt_of row.stmt) ≡ [] →
+        IfOk result (λ r. tree.stmt_of r.stmt ≡ stripped.plain_stmt (partial.stmt_of row.stmt)) }
+    ensures line { IfOk result (λ r. r.line ≡ row.line) }
+{
+    let stmt = strip_stmt(alloc, row.stmt)?;
+    Ok(Line {
+        stmt,
+        line: row.line,
+    })
+}
+
+/// Statements. A short list is stripped from its first row on, as it lies in memory; a long one from its last row on, so
+/// that it and the list of its lines never stand whole side by side.
 #[cycle(strip)]
 pub(crate) fn strip_lines(alloc: Global, rows: Vec<Row>) -> Result<Vec<Line>, AllocError>
     ensures { (scene : Scene) (blocks : ℕ) → lines_offences scene blocks (partial.lines_of rows.items) ≡ [] →
         IfOk result (λ r. tree.lines_of r.items ≡ stripped.plain_lines (partial.lines_of rows.items)) }
 {
-    let mut rows = rows;
     let mut lines = Vec::with_capacity(alloc, rows.len())?;
-    while let Some(row) = rows.pop() {
-        let stmt = strip_stmt(alloc, row.stmt)?;
-        lines.push(Line {
-            stmt,
-            line: row.line,
-        })?;
+    if rows.len() <= SHRINK_STEP {
+        for row in rows {
+            lines.push(strip_row(alloc, row)?)?;
+        }
+        return Ok(lines);
+    }
+    let mut rows = rows;
+    while let Some(last) = rows.pop() {
+        lines.push(strip_row(alloc, last)?)?;
         shrink_in_steps(&mut rows);
     }
     lines.reverse();

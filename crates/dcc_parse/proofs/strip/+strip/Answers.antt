@@ -6,7 +6,7 @@ use Rattle.dcc_c.specs.Views.{lines_of}
 use Rattle.dcc_reader.specs.PartialViews as partial
 use Rattle.dcc_reader.specs.declared.partial.Row.{size-Row}
 use Rattle.dcc_parse.proofs.Moved.{none-left}
-use Rattle.dcc_parse.proofs.StripLaws.{LinesMade, ArmsLeft, no_deeper, lines-begin, lines-step, lines-end, arms-step, default-step, arms-end, if-strip, while-strip, do-strip, forever-strip, switch-strip}
+use Rattle.dcc_parse.proofs.StripLaws.{LinesMade, ArmsLeft, no_deeper, left-step, left-end, made-begin, made-step, made-end, arms-step, default-step, arms-end, if-strip, while-strip, do-strip, forever-strip, switch-strip}
 use Rattle.dcc_parse.proofs.strip.+strip.Goals.{strip_arms-then-is_none+in_ok-cases+in_ok-push, strip_arms-else-is_none}
 use Rattle.dcc_parse.proofs.strip.+strip.Goals as goal
 
@@ -38,24 +38,34 @@ pub strip_arms-returns : goal.strip_arms-returns
 strip_arms-returns t c scene blocks none single =
     arms-end scene blocks c.loop-arm.with_cases.items c.loop-arm.default c.in-None.ensures.steps.0 (c.loop-arm.invariant scene blocks none single)
 
-pub strip_lines-loop-row-init : goal.strip_lines-loop-row-init
-strip_lines-loop-row-init t c = record {
+pub strip_lines-loop-row-preserved : goal.strip_lines-loop-row-preserved
+strip_lines-loop-row-preserved t c scene blocks none =
+    let steps = c.in-Some.ensures.steps in
+    left-step scene blocks c.loop-row.lines.items c.in-Some.row _ steps.0 steps.1 c.in_ok-push.ensures.items
+    (c.in_ok-strip_row.ensures.stmt scene (suc blocks)) c.in_ok-strip_row.ensures.line (c.loop-row.invariant scene blocks none)
+
+pub strip_lines-loop-last-init : goal.strip_lines-loop-last-init
+strip_lines-loop-last-init t c = record {
   deep = omega arith;
-  made = λ scene blocks none. lines-begin scene blocks c.args.rows.items c.in_ok-lines.ensures.items none;
+  made = λ scene blocks none. made-begin scene blocks c.args.rows.items c.in_ok-lines.ensures.items none;
 }
 
-pub strip_lines-loop-row-preserved : goal.strip_lines-loop-row-preserved
-strip_lines-loop-row-preserved t c = record {
-  deep = no_deeper size-Row _ c.pop.new.self.items c.loop-row.rows.items c.in-Some.row _ c.in-Some.ensures.items c.shrink_in_steps.ensures c.loop-row.invariant.deep;
+pub strip_lines-loop-last-preserved : goal.strip_lines-loop-last-preserved
+strip_lines-loop-last-preserved t c = record {
+  deep = no_deeper size-Row _ c.pop.new.self.items c.loop-last.rows.items c.in-Some-pop.last _ c.in-Some-pop.ensures.items c.shrink_in_steps.ensures c.loop-last.invariant.deep;
   made = λ scene blocks none.
-      subst (λ rows. LinesMade scene blocks c.push.new.self.items rows c.args.rows.items) (sym c.shrink_in_steps.ensures)
-      (lines-step scene blocks c.loop-row.lines.items c.in-Some.row _ c.in-Some.ensures.items c.in_ok-push.ensures.items (c.in_ok-stmt.ensures scene (suc blocks)) refl
-      (c.loop-row.invariant.made scene blocks none));
+      subst (λ rows. LinesMade scene blocks c.push-in-Some-pop.new.self.items rows c.args.rows.items) (sym c.shrink_in_steps.ensures)
+      (made-step scene blocks c.loop-last.lines.items c.in-Some-pop.last _ c.in-Some-pop.ensures.items c.in_ok-push-2.ensures.items (c.in_ok-strip_row-2.ensures.stmt scene (suc blocks))
+      c.in_ok-strip_row-2.ensures.line (c.loop-last.invariant.made scene blocks none));
 }
+
+pub strip_lines-returns-then-len-le-SHRINK_STEP : goal.strip_lines-returns-then-len-le-SHRINK_STEP
+strip_lines-returns-then-len-le-SHRINK_STEP t c scene blocks none =
+    left-end scene blocks c.loop-row.lines.items c.in-None.ensures.steps.0 (c.loop-row.invariant scene blocks none)
 
 pub strip_lines-returns : goal.strip_lines-returns
 strip_lines-returns t c scene blocks none =
-    ap lines_of c.reverse.ensures.items ∙ lines-end scene blocks c.loop-row.lines.items (none-left c.loop-row.rows.items (length c.loop-row.rows.items) refl (omega (arith, c.in_default.ensures.cases.0))) (c.loop-row.invariant.made scene blocks none)
+    ap lines_of c.reverse.ensures.items ∙ made-end scene blocks c.loop-last.lines.items (none-left c.loop-last.rows.items (length c.loop-last.rows.items) refl (omega (arith, c.in_default.ensures.cases.0))) (c.loop-last.invariant.made scene blocks none)
 
 pub strip_stmt-returns-in_ok-otherwise-in-If : goal.strip_stmt-returns-in_ok-otherwise-in-If
 strip_stmt-returns-in_ok-otherwise-in-If t c scene blocks none =
