@@ -8,7 +8,8 @@ of figures, each the best of three runs. Seconds are those of the processor that
 what runs beside it matters little, and by the clock where bytes go through a pipe. The peers are Unicorn and DOSBox
 for the machine and gcc for texts, which apt-get installs where they are missing; where that cannot be, the table says
 so. What the emulators run ends by itself, so that all execute the same instructions: the mix of bench/programs.py in
-two loops. gcc reads the same text of functions and makes no code.
+two loops. gcc reads the same texts and makes no code; beside it stand the reader of texts alone, called by a small
+program over the proved crates, and `runc`, which makes the text ready to run as well.
 """
 import importlib.machinery
 import importlib.util
@@ -184,21 +185,35 @@ def gcc(path, text):
     version = subprocess.run(["gcc", "-dumpfullversion"], capture_output=True, check=True, text=True).stdout.strip()
     runs = [measured(["gcc", "-std=gnu89", "-fsyntax-only", "-w", path]) for _ in range(RUNS)]
     status, seconds, memory, *_ = min(runs, key=lambda run: run[1])
-    tell(f"gcc {version} with -fsyntax-only, the same functions",
+    tell(f"gcc {version} with -fsyntax-only on the same",
          reading(text, seconds, memory) if status == 0 else f"ends with status {status}")
+
+
+def read_alone(program, path, text):
+    """How `parse` reads the text at this path: by the processor's time in which it does, and its peak memory."""
+    runs = []
+    for _ in range(RUNS):
+        with path.open("rb") as keys, \
+                subprocess.Popen([program], stdin=keys, stdout=subprocess.PIPE, text=True) as process:
+            told = process.stdout.read()
+            usage = os.wait4(process.pid, 0)[2]
+            process.returncode = 0
+        runs.append((int(told.split()[0]) / 1e6, usage.ru_maxrss * 1024))
+    return reading(text, *min(runs))
 
 
 def texts(folder):
     """How texts are read and prepared, and how much memory calls take."""
     shapes, path = loaded("measure_texts"), folder / "text.c"
+    reader = built.over(folder, "read_text", BENCH / "texts" / "read.rt.txt", "dcc_parse", "anyhow")
     head, size = shapes.START + b"int a;\n", TEXT_MIB * MIB
     for what, text in (("functions", shapes.good(size)), ("`a=1;`", head + b"a=1;" * (size // 4) + b"}\n"),
                        ("`;`", head + b";" * size + b"}\n")):
         path.write_bytes(text)
+        tell(f"`parse` on {TEXT_MIB} MiB of {what}", read_alone(reader, path, text))
         seconds, memory, _ = best(["runc", path, "--steps", 0], [20])
-        tell(f"`runc --steps 0` on {TEXT_MIB} MiB of {what}", reading(text, seconds, memory))
-        if what == "functions":
-            gcc(path, text)
+        tell("`runc --steps 0` on the same, which prepares and frees it too", reading(text, seconds, memory))
+        gcc(path, text)
     for what, text in shapes.named(100_000).items():
         path.write_bytes(text)
         seconds, memory, _ = best(["runc", path, "--steps", 0], [20])
