@@ -175,8 +175,8 @@ fn strip_row(alloc: Global, row: Row) -> Result<Line, AllocError>
     })
 }
 
-/// Statements. A short list is stripped from its first row on, as it lies in memory; a long one from its last row on, so
-/// that it and the list of its lines never stand whole side by side.
+/// Statements. A short list is stripped from its first row on, as it lies in memory; a long one from its last row on,
+/// so that it and the list of its lines never stand whole side by side.
 #[cycle(strip)]
 pub(crate) fn strip_lines(alloc: Global, rows: Vec<Row>) -> Result<Vec<Line>, AllocError>
     ensures { (scene : Scene) (blocks : ℕ) → lines_offences scene blocks (partial.lines_of rows.items) ≡ [] →
