@@ -1,8 +1,14 @@
 pub mod TokenCounts
 pub mod WritableText
 pub mod TextRuns
+pub mod ReplacedLaws
 pub mod SimplifiedLaws
 pub mod TextableLaws
+pub mod TrimmedLaws
+pub mod PackedLaws
+pub mod PassingLaws
+pub mod PreparedLaws
+mod CallExample
 pub mod PipeLaws
 pub mod CountedRows
 pub mod CountedTrees

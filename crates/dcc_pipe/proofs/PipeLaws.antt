@@ -1,12 +1,13 @@
 -- The text of a loaded program, from its parts.
-use Rattle.std.proofs.Common.{◌≡◌, ℕ, ◌^◌, ◌<◌, ◌≤◌, List, [], length, take, Result, Ok, Err, IfOk, sym, subst, arith}
+use Rattle.std.proofs.Common.{◌≡◌, [], take, Result, Ok, Err, IfOk, sym, subst}
 use Rattle.std.specs.Prelude.{All}
 use Rattle.std.specs.declared.alloc.AllocError.{AllocError}
-use Rattle.std.proofs.lemmas.List.Elements.{All-head, All-weaker}
+use Rattle.std.proofs.lemmas.List.Elements.{All-head}
 use Rattle.dcc_prog.specs.declared.image.Image.{Image}
 use Rattle.dcc_prog.specs.declared.frame.Program.{Program}
 use Rattle.dcc_prog.specs.Analysed.{IsProgramOf}
 use Rattle.dcc_ir.specs.Tree as inner
+use Rattle.dcc_lift.specs.Lifted.{HasOneGraph}
 use Rattle.dcc_c.specs.declared.syntax.Unit.{Unit as TextUnit}
 use Rattle.dcc_c.specs.Views.{tree_of}
 use Rattle.dcc_c.specs.Written.{written_form}
@@ -25,15 +26,16 @@ use Rattle.dcc_pipe.proofs.TextRuns.{text-agrees}
 
 -- The text of a program that follows the image.
 module _ (image : Image) (program : Program) (p : inner.Program) (is : IsProgramOf program.layout.cpu image program)
-    (textable : IsTextable levels p) (few : AreFew (shape_of textable.graph)) (follows : IsFollowing image program p) where
+    (textable : IsTextable levels p) (alone : HasOneGraph p) (few : AreFew (shape_of alone.graph))
+    (follows : IsFollowing image program p) where
   text-stands : StandsFor (written_form (text_tree p)) (numbered (text_tree p))
-  text-stands = writable_stands (text_tree p) (text-writable p textable few)
+  text-stands = writable_stands (text_tree p) (text-writable p textable alone few)
 
   -- it agrees with the image
   agreeing-text : IsTextOf program.layout.cpu image (written_form (text_tree p)) (numbered (text_tree p))
   agreeing-text = record {
     stands = text-stands;
-    runs = λ input fill bytes fits. text-agrees image program p is textable few follows (written_form (text_tree p)) text-stands input fill bytes fits;
+    runs = λ input fill bytes fits. text-agrees image program p is textable alone few follows (written_form (text_tree p)) text-stands input fill bytes fits;
   }
 
   -- what is told of a unit whose tree is that text's, with its lines counted
@@ -46,5 +48,5 @@ module _ (image : Image) (program : Program) (p : inner.Program) (is : IsProgram
   text-is (Err fault) same = tt
 
 -- the names of the program's graph are few
-pub few-of : (p : inner.Program) (is : IsTextable levels p) → All (λ g. AreFew (shape_of g)) (take 1 p.graphs) → AreFew (shape_of is.graph)
+pub few-of : (p : inner.Program) (is : HasOneGraph p) → All (λ g. AreFew (shape_of g)) (take 1 p.graphs) → AreFew (shape_of is.graph)
 few-of p is all = All-head (λ g. AreFew (shape_of g)) is.graph [] (subst (λ graphs. All (λ g. AreFew (shape_of g)) (take 1 graphs)) is.one all)

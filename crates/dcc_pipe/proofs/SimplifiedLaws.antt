@@ -1,11 +1,10 @@
 -- Programs that passes simplify: what follows an image follows it still.
-use Rattle.std.proofs.Common.{◌≡◌, ℕ, ◌*◌, ◌≤◌, Bool, true, false, ◌==◌, List, [], ◌∷◌, map, Option, Some, None, refl, sym, ap, ◌∙◌, subst, ◌++◌, arith}
-use Rattle.std.specs.Prelude.{◌&&◌, ◌||◌, All, if◌then◌else◌, Contains, slice_index_or}
-use Rattle.std.specs.List.{list_all, list_any, flat_map, remove, AllZip}
-use Rattle.std.proofs.lemmas.Bool.{and_parts, and_from, eq-eqb}
-use Rattle.std.proofs.lemmas.List.Elements.{All-append, All-head, All-tail, All-nil, All-cons}
+use Rattle.std.proofs.Common.{◌≡◌, ℕ, ◌*◌, ◌≤◌, Bool, true, false, List, [], ◌∷◌, map, Option, Some, None, refl, sym, ap, ◌∙◌, subst, arith}
+use Rattle.std.specs.Prelude.{All, if◌then◌else◌}
+use Rattle.std.specs.List.{list_all, flat_map, AllZip}
+use Rattle.std.proofs.lemmas.Bool.{and_parts, and_from}
+use Rattle.std.proofs.lemmas.List.Elements.{All-append, All-contains, All-head, All-tail, All-nil, All-cons}
 use Rattle.dcc_run.specs.End.{is_over}
-use Rattle.dcc_run.specs.Place.{Place}
 use Rattle.dcc_run.specs.Watched.{Watched}
 use Rattle.dcc_run.specs.Shadows.{Shadows, KeepsPace, kept_mark, only}
 use Rattle.dcc_run.proofs.KeptLaws.{shadows_kept, right_part}
@@ -13,7 +12,6 @@ use Rattle.dcc_prog.specs.declared.image.Image.{Image}
 use Rattle.dcc_prog.specs.declared.frame.Program.{Program}
 use Rattle.dcc_prog.specs.Watch.{watched_machine, first_watch}
 use Rattle.dcc_ir.specs.declared.syntax.Loc.{Loc}
-use Rattle.dcc_ir.specs.declared.syntax.Graph.{Graph as GraphOf}
 use Rattle.dcc_ir.specs.Tree as inner
 use Rattle.dcc_ir.specs.Run as run
 use Rattle.dcc_ir.specs.Use.{exprs_of, exit_exprs, block_exprs, graph_exprs}
@@ -21,24 +19,22 @@ use Rattle.dcc_ir.specs.Measure.{depth_of, deepest}
 use Rattle.dcc_ir.specs.FlagReads.{nests_flatly, loads_plainly, FlagsReadPlainly}
 use Rattle.dcc_ir.specs.Form.{BlockStays}
 use Rattle.dcc_ir.specs.WellFormed.{IsProgram}
-use Rattle.dcc_ir.specs.Flow.{graph_or_none}
 use Rattle.dcc_ir.specs.Keeps.{has_block, KeepsRuns, Keeps}
 use Rattle.dcc_ir.specs.Ends.{IsNeverStuck}
-use Rattle.dcc_ir.specs.Families.{Family, wanted, IsWithout, done, stays, goes, IsBlockWithout, IsGraphWithout}
-use Rattle.dcc_ir.specs.Replaced.{with_graph, MayReplace}
+use Rattle.dcc_ir.specs.Families.{Family, wanted, IsWithout, done, stays, goes, IsBlockWithout}
 use Rattle.dcc_ir.proofs.RunLaws.{inner_watchable}
 use Rattle.dcc_ir.proofs.KeepsLaws.{keeps_trans}
 use Rattle.dcc_ir.proofs.FamilyLaws.{wanted-closed}
 use Rattle.dcc_ir.proofs.passes.ReplaceLaws.{kept_with}
-use Rattle.dcc_ir.proofs.ListLaws.{left_part}
-use Rattle.dcc_ir.proofs.ZipLaws.{map_zipped, passes_zipped}
-use Rattle.dcc_ir.proofs.LocationLaws.{Contains-here}
+use Rattle.dcc_ir.proofs.ListLaws.{all_had, left_part}
+use Rattle.dcc_ir.proofs.ZipLaws.{all_zipped, map_zipped, passes_zipped, weaker_zipped}
 use Rattle.dcc_lift.specs.Lifted.{ShadowsMachine, MachineKeepsPace, IsShallow, steps_between, steps_at_start}
 use Rattle.dcc_live.specs.Dead.{IsWithoutUnwanted}
 use Rattle.dcc_flags.specs.Folded.{IsFolded}
 use Rattle.dcc_pipe.specs.Textable.{IsTextable}
-use Rattle.dcc_pipe.specs.Simplified.{IsSimplifiedGraph, with_one, HasOneChanged, IsSimplified}
+use Rattle.dcc_pipe.specs.Simplified.{IsSimplifiedGraph, HasEachChanged, IsSimplified}
 use Rattle.dcc_pipe.specs.Following.{IsFollowing}
+use Rattle.dcc_pipe.proofs.ReplacedLaws.{HasSameBlocks, StandsFor, stands-for, stands-trans, with_graphs, left-from, blocks-stay}
 use mathlib.Core.Path.{fun_ext}
 
 -- What passes one after another leave.
@@ -101,35 +97,6 @@ simplified-follows image program depth p q simple follows = record { runs = runs
         (λ kept. KeepsPace (only kept (watched_machine program)) (first_watch image input) steps_at_start steps_between)
         (sym same) (follows.pace input bytes)
 
--- The blocks.
-
-abbrev among : List ℕ → ℕ → Bool
-among addresses at = list_any (λ a. a == at) addresses
-
--- the program with this graph alone, and with memory of these
-abbrev alone : inner.Graph → List ℕ → ℕ → ℕ → inner.Program
-alone g image lo hi = record { graphs = g ∷ []; image = image; lo = lo; hi = hi }
-
--- the blocks of a program that has one graph, by that graph's entry and addresses
-has-block : (g h : inner.Graph) (image : List ℕ) (lo hi : ℕ) → h.entry ≡ g.entry
-    → map (λ b. b.at) h.blocks ≡ map (λ b. b.at) g.blocks → (place : Place)
-    → has_block (alone h image lo hi) place ≡ has_block (alone g image lo hi) place
-has-block g h image lo hi entry addresses place =
-    here h (h.entry == place.entry)
-    ∙ ap (λ b. b && among (map (λ b. b.at) h.blocks) place.at) (ap (λ e. e == place.entry) entry)
-    ∙ ap (λ all. (g.entry == place.entry) && among all place.at) addresses ∙ sym (here g (g.entry == place.entry))
-  where
-    at-blocks : (blocks : List inner.Block)
-        → list_any (λ block. block.at == place.at) blocks ≡ among (map (λ b. b.at) blocks) place.at
-    at-blocks [] = refl
-    at-blocks (b ∷ blocks) = ap (λ c. (b.at == place.at) || c) (at-blocks blocks)
-
-    here : (k : inner.Graph) (b : Bool)
-        → list_any (λ block. block.at == place.at) (graph_or_none (if b then Some k else None)).blocks
-        ≡ (b && among (map (λ b. b.at) k.blocks) place.at)
-    here k true = at-blocks k.blocks
-    here k false = refl
-
 -- Statements that are left.
 
 module _ {Has : List inner.Stmt → Loc → Type 0} where
@@ -186,78 +153,31 @@ module _ (family : Family) where
 
 -- Depth.
 
-deepest-of : (n : ℕ) (es : List inner.Expr) → All (λ e. depth_of e ≤ n) es → deepest es ≤ n
+pub deepest-of : (n : ℕ) (es : List inner.Expr) → All (λ e. depth_of e ≤ n) es → deepest es ≤ n
 deepest-of n [] all = omega arith
 deepest-of n (e ∷ es) all =
     let here = All-head (λ x. depth_of x ≤ n) e es all in
     let later = deepest-of n es (All-tail (λ x. depth_of x ≤ n) e es all) in
     omega arith
 
-none-deeper : (n : ℕ) (es : List inner.Expr) → deepest es ≤ n → All (λ e. depth_of e ≤ n) es
+pub none-deeper : (n : ℕ) (es : List inner.Expr) → deepest es ≤ n → All (λ e. depth_of e ≤ n) es
 none-deeper n [] less = All-nil (λ e. depth_of e ≤ n)
 none-deeper n (e ∷ es) less =
     All-cons (λ x. depth_of x ≤ n) e es (omega arith) (none-deeper n es (omega arith))
 
--- One graph in the place of another.
-
--- a program that has one graph, with another in its place
-replaced-is : (p : inner.Program) (g h : inner.Graph) → p.graphs ≡ g ∷ [] → h.entry ≡ g.entry
-    → with_graph h p ≡ with_one h p
-replaced-is p g h one entry =
-    ap (λ graphs.
-    record {
-      graphs = map (λ (x : inner.Graph). if x.entry == h.entry then h else x) graphs;
-      image = p.image;
-      lo = p.lo;
-      hi = p.hi;
-    }) one
-    ∙ ap (λ b. with_one (if b then h else g) p) (eq-eqb g.entry h.entry (sym entry))
-
-head-equal : {A : Type 0} {a b : A} {xs ys : List A} → a ∷ xs ≡ b ∷ ys → a ≡ b
-head-equal e = cc
-
--- what a pass over the graph leaves, where it leaves the blocks and the depth
-replaced-simplified : (depth wider : ℕ) (p : inner.Program) (g h : inner.Graph) → p.graphs ≡ g ∷ []
-    → IsTextable depth p → MayReplace g h → h.entry ≡ g.entry → map (λ b. b.at) h.blocks ≡ map (λ b. b.at) g.blocks
-    → IsShallow wider h → IsSimplified wider p (with_one h p)
-replaced-simplified depth wider p g h one textable may entry addresses shallow =
-    let kept = may p textable.formed (subst (λ graphs. Contains graphs g) (sym one) (Contains-here g [])) in
-    let is = replaced-is p g h one entry in
-    let keeps : Keeps p (with_one h p) = subst (Keeps p) is kept.keeps.keeps in
-    record {
-      textable = record {
-        graph = h;
-        one = refl;
-        formed = subst IsProgram is kept.formed;
-        shallow = shallow;
-        never_stuck = never-stuck p (with_one h p) keeps.runs textable.never_stuck;
-      };
-      keeps = keeps;
-      places = λ place.
-          has-block g h p.image p.lo p.hi entry addresses place
-          ∙ ap (λ graphs. has_block (record { graphs = graphs; image = p.image; lo = p.lo; hi = p.hi }) place) (sym one);
-    }
-
--- a program that has one graph, which is this one
-graph-shallow : (depth : ℕ) (p : inner.Program) (g : inner.Graph) → p.graphs ≡ g ∷ [] → IsTextable depth p
-    → IsShallow depth g
-graph-shallow depth p g one textable =
-    subst (IsShallow depth) (head-equal (sym textable.one ∙ one)) textable.shallow
-
 -- Assignments that go.
 
 -- a graph without assignments that nothing wants may stand in its place
-dead-may-go : (g h : inner.Graph) → IsGraphWithout (wanted g) g h → MayReplace g h
-dead-may-go g h without p formed there = kept_with p (wanted g) g h formed there (wanted-closed g) without
-
-dead-simplified : (depth : ℕ) (p : inner.Program) (g h : inner.Graph) → p.graphs ≡ g ∷ [] → IsTextable depth p
-    → IsWithoutUnwanted g h → IsSimplified depth p (with_one h p)
-dead-simplified depth p g h one textable is =
+dead-stands : (g h : inner.Graph) → IsWithoutUnwanted g h → StandsFor g h
+dead-stands g h is =
     let left = is.without in
-    replaced-simplified depth depth p g h one textable (dead-may-go g h left) left.entry
-    (addresses-stay (wanted g) g.blocks h.blocks left.blocks)
-    (exprs-stay (wanted g) (λ e. depth_of e ≤ depth) g.blocks h.blocks left.blocks
-    (graph-shallow depth p g one textable))
+    stands-for g h
+    (record { entry = left.entry; addresses = addresses-stay (wanted g) g.blocks h.blocks left.blocks })
+    (λ p formed there. kept_with p (wanted g) g h formed there (wanted-closed g) left)
+
+-- its expressions are left
+dead-shallow : (depth : ℕ) (g h : inner.Graph) → IsWithoutUnwanted g h → IsShallow depth g → IsShallow depth h
+dead-shallow depth g h is = exprs-stay (wanted g) (λ e. depth_of e ≤ depth) g.blocks h.blocks is.without.blocks
 
 -- the definitions of flags that are left read flags as they did
 reads-stay : (g h : inner.Graph) → IsWithoutUnwanted g h → FlagsReadPlainly g → FlagsReadPlainly h
@@ -268,54 +188,57 @@ reads-stay g h is reads = record {
 
 -- Flags that go.
 
-addresses-same : (bits bits' : List ℕ) (bs cs : List inner.Block) → AllZip (BlockStays bits bits') bs cs
-    → map (λ b. b.at) cs ≡ map (λ b. b.at) bs
-addresses-same bits bits' bs cs stay =
-    map_zipped (BlockStays bits bits') (λ (b : inner.Block). b.at) (λ (b : inner.Block). b.at) (λ b c is. is.at) bs cs
-    stay
+flags-stands : (g h : inner.Graph) → IsFolded g h → StandsFor g h
+flags-stands g h is =
+    let addresses =
+    map_zipped (BlockStays g.bits h.bits) (λ (b : inner.Block). b.at) (λ (b : inner.Block). b.at)
+    (λ b c stays. stays.at) g.blocks h.blocks is.form.blocks in
+    stands-for g h (record { entry = is.form.entry; addresses = addresses }) is.keeps
 
-flags-simplified : (depth : ℕ) (p : inner.Program) (g h : inner.Graph) → p.graphs ≡ g ∷ [] → IsTextable depth p
-    → FlagsReadPlainly g → IsFolded g h → IsSimplified (2 * depth) p (with_one h p)
-flags-simplified depth p g h one textable reads is =
-    let few = deepest-of depth (graph_exprs g) (graph-shallow depth p g one textable) in
-    replaced-simplified depth (2 * depth) p g h one textable is.keeps is.form.entry
-    (addresses-same g.bits h.bits g.blocks h.blocks is.form.blocks)
-    (none-deeper (2 * depth) (graph_exprs h) (omega (arith, is.depth reads.flat, few)))
+flags-shallow : (depth : ℕ) (g h : inner.Graph) → IsFolded g h → FlagsReadPlainly g → IsShallow depth g
+    → IsShallow (2 * depth) h
+flags-shallow depth g h is reads shallow =
+    let few = deepest-of depth (graph_exprs g) shallow in
+    none-deeper (2 * depth) (graph_exprs h) (omega (arith, is.depth reads.flat, few))
 
 -- The passes, one after another.
 
-graph-simplified : (depth : ℕ) (p : inner.Program) (g h : inner.Graph) → p.graphs ≡ g ∷ [] → IsTextable depth p
-    → FlagsReadPlainly g → IsSimplifiedGraph g h → IsSimplified (2 * depth) p (with_one h p)
-graph-simplified depth p g h one textable reads is =
-    let first = dead-simplified depth p g is.wanted one textable is.first in
-    let second =
-    flags-simplified depth (with_one is.wanted p) is.wanted is.folded refl first.textable
-    (reads-stay g is.wanted is.first reads) is.flags in
-    let last = dead-simplified (2 * depth) (with_one is.folded p) is.folded h refl second.textable is.last in
-    simplified-trans (2 * depth) (2 * depth) p (with_one is.folded p) (with_one h p)
-    (simplified-trans depth (2 * depth) p (with_one is.wanted p) (with_one is.folded p) first second) last
+graph-stands : (g h : inner.Graph) → IsSimplifiedGraph g h → StandsFor g h
+graph-stands g h is =
+    stands-trans g is.wanted h (dead-stands g is.wanted is.first)
+    (stands-trans is.wanted is.folded h (flags-stands is.wanted is.folded is.flags) (dead-stands is.folded h is.last))
+
+graph-shallow : (depth : ℕ) (g h : inner.Graph) → IsSimplifiedGraph g h → IsShallow depth g × FlagsReadPlainly g
+    → IsShallow (2 * depth) h
+graph-shallow depth g h is has =
+    dead-shallow (2 * depth) is.folded h is.last
+    (flags-shallow depth is.wanted is.folded is.flags (reads-stay g is.wanted is.first has.1)
+    (dead-shallow depth g is.wanted is.first has.0))
+
+-- what holds of two lists' elements each by itself holds of both at once
+pub all-both : {A : Type 0} (P Q : A → Type 0) (xs : List A) → All P xs → All Q xs → All (λ x. P x × Q x) xs
+all-both P Q xs ps qs = all_had (λ x. P x × Q x) xs (λ x c. (All-contains P xs x ps c, All-contains Q xs x qs c))
 
 pub program-simplified : (depth : ℕ) (p q : inner.Program) → IsTextable depth p → All FlagsReadPlainly p.graphs
-    → HasOneChanged IsSimplifiedGraph p q → IsSimplified (2 * depth) p q
+    → HasEachChanged IsSimplifiedGraph p q → IsSimplified (2 * depth) p q
 program-simplified depth p q textable reads is =
-    let plain = All-head FlagsReadPlainly is.before [] (subst (All FlagsReadPlainly) is.one reads) in
-    subst (IsSimplified (2 * depth) p) (sym is.other)
-    (graph-simplified depth p is.before is.after is.one textable plain is.changed)
-
--- The only graph of a program.
-
-pub only-one : {A B : Type 0} (f : A → B) (items : List A) (x : A) (y : B) → x ≡ slice_index_or items 0 x
-    → map f items ≡ y ∷ [] → (remove items 0 ≡ []) × (f x ≡ y)
-only-one f [] x y is one = absurd cc
-only-one f (z ∷ []) x y is one = (refl, ap f is ∙ head-equal one)
-only-one f (z ∷ w ∷ items) x y is one = absurd cc
-
--- the program with another graph in the place of the only one
-pub replaced-one : (graph_of : GraphOf → inner.Graph) (items : List GraphOf) (x after : GraphOf) (p : inner.Program)
-    (g : inner.Graph) (new : List GraphOf)
-    → x ≡ slice_index_or items 0 x → map graph_of items ≡ g ∷ [] → new ≡ remove items 0 ++ after ∷ []
-    → record { graphs = map graph_of new; image = p.image; lo = p.lo; hi = p.hi } ≡ with_one (graph_of after) p
-replaced-one graph_of items x after p g new is one made =
-    let none = (only-one graph_of items x g is one).0 in
-    ap (λ items. record { graphs = map graph_of items; image = p.image; lo = p.lo; hi = p.hi })
-    (made ∙ ap (λ rest. rest ++ after ∷ []) none)
+    let stand = weaker_zipped IsSimplifiedGraph StandsFor graph-stands p.graphs q.graphs is.graphs in
+    let same : with_graphs p.image p.lo p.hi q.graphs ≡ q =
+    λ i. record { graphs = q.graphs; image = sym is.image i; lo = sym is.lo i; hi = sym is.hi i } in
+    let left = left-from p.image p.lo p.hi [] p.graphs q.graphs stand textable.formed in
+    let keeps = subst (Keeps p) same left.keeps in
+    let Has : inner.Graph → Type 0 = λ g. IsShallow depth g × FlagsReadPlainly g in
+    record {
+      textable = record {
+        formed = subst IsProgram same left.formed;
+        shallow =
+            all_zipped IsSimplifiedGraph Has (IsShallow (2 * depth)) (graph-shallow depth) p.graphs q.graphs is.graphs
+            (all-both (IsShallow depth) FlagsReadPlainly p.graphs textable.shallow reads);
+        never_stuck = never-stuck p q keeps.runs textable.never_stuck;
+      };
+      keeps = keeps;
+      places = λ place.
+          ap (λ r. has_block r place) (sym same)
+          ∙ blocks-stay p.image p.lo p.hi p.graphs q.graphs place
+          (weaker_zipped StandsFor HasSameBlocks (λ g h stands. stands.blocks) p.graphs q.graphs stand);
+    }

@@ -1,17 +1,16 @@
 -- The text of a program that shadows an image agrees with the image.
-use Rattle.std.proofs.Common.{◌≡◌, ◌≢◌, ℕ, zero, suc, ◌+◌, ◌*◌, ◌^◌, ◌<◌, ◌≤◌, true, false, List, [], ◌∷◌, length, map, refl, sym, ap, ◌∙◌, subst, true≢false, arith}
+use Rattle.std.proofs.Common.{◌≡◌, ◌≢◌, ℕ, zero, suc, ◌+◌, ◌*◌, ◌^◌, ◌<◌, true, false, List, ◌∷◌, length, refl, sym, ap, ◌∙◌, subst, true≢false, arith}
 use Rattle.std.specs.Prelude.{All, None, get_or}
 use Rattle.std.proofs.Math.Nat.{mul_comm}
-use Rattle.std.proofs.lemmas.List.{length-append, length-map}
 use Rattle.dcc_run.specs.End.{Stuck, is_over}
 use Rattle.dcc_run.specs.Place.{Place}
 use Rattle.dcc_run.specs.Prefix.{IsPrefix}
-use Rattle.dcc_run.specs.System.{System, after, events_after, end_after}
+use Rattle.dcc_run.specs.System.{System, events_after, end_after}
 use Rattle.dcc_run.specs.Agreement.{KeepsUp}
-use Rattle.dcc_run.specs.Watched.{Watched, IsWatchable, state, is_shown}
-use Rattle.dcc_run.specs.Shadows.{only, Counts}
+use Rattle.dcc_run.specs.Watched.{Watched, IsWatchable, state}
+use Rattle.dcc_run.specs.Shadows.{only}
 use Rattle.dcc_run.proofs.KeptLaws.{only_watchable, pace_of_all}
-use Rattle.dcc_run.proofs.CountLaws.{kept_count, third_keeps_up, first_keeps_up_with_third, never_stuck}
+use Rattle.dcc_run.proofs.CountLaws.{third_keeps_up, first_keeps_up_with_third, never_stuck}
 use Rattle.dcc_prog.specs.declared.image.Image.{Image}
 use Rattle.dcc_prog.specs.declared.procedure.Layout.{Layout}
 use Rattle.dcc_prog.specs.declared.frame.Program.{Program}
@@ -23,7 +22,7 @@ use Rattle.dcc_prog.proofs.WatchLaws.{machine_watchable, machine_after}
 use Rattle.dcc_ir.specs.Tree as inner
 use Rattle.dcc_ir.specs.Run as run
 use Rattle.dcc_ir.specs.Keeps.{has_block}
-use Rattle.dcc_lift.specs.Lifted.{steps_between, steps_at_start}
+use Rattle.dcc_lift.specs.Lifted.{HasOneGraph, steps_between, steps_at_start}
 use Rattle.dcc_c.specs.Tree.{Function, Tree}
 use Rattle.dcc_c.specs.Numbered.{rows, numbered, numbered_function}
 use Rattle.dcc_c.specs.Run as c
@@ -80,14 +79,15 @@ module _ {T : Type 0} (program : Program) (w : Watch) (other : System T) (t : T)
       }
 
 module _ (image : Image) (program : Program) (p : inner.Program) (is_program : IsProgramOf program.layout.cpu image program)
-    (textable : IsTextable levels p) (few : AreFew (shape_of textable.graph)) (follows : IsFollowing image program p)
+    (textable : IsTextable levels p) (alone : HasOneGraph p) (few : AreFew (shape_of alone.graph))
+    (follows : IsFollowing image program p)
     (text : List ℕ) (stands : StandsFor text (numbered (text_tree p)))
     (input : List ℕ) (fill : ℕ) (bytes : All (λ b. b < 256) input) (fits : fill < 2 ^ 16) where
   abbrev layout : Layout
   layout = program.layout
 
   abbrev g : inner.Graph
-  g = textable.graph
+  g = alone.graph
 
   abbrev tree : Tree
   tree = numbered (text_tree p)
@@ -104,7 +104,7 @@ module _ (image : Image) (program : Program) (p : inner.Program) (is_program : I
 
   -- the function of the text is that of the graph, its lines counted
   start-is : numbered_function head (start_of g) ≡ start
-  start-is = ap (λ graphs. numbered_function head (start_of (get_or graphs 0 run.no_graph))) (sym textable.one) ∙ head-equal stands.allowed.first
+  start-is = ap (λ graphs. numbered_function head (start_of (get_or graphs 0 run.no_graph))) (sym alone.one) ∙ head-equal stands.allowed.first
 
   unstuck : (n at : ℕ) → end_after (run.inner_system p fill) n (run.first_state p fill input) ≢ Stuck at
   unstuck n at = textable.never_stuck fill input n at fits bytes
@@ -115,12 +115,12 @@ module _ (image : Image) (program : Program) (p : inner.Program) (is_program : I
 
   planned : IsPlanned p g (graph_spelling g) (mentioned g) (control g) start
   planned =
-      let plan = control-plan p textable in
+      let plan = control-plan p textable alone in
       record {
-        alone = textable.one;
+        alone = alone.one;
         well = textable.formed;
         spelling = spelling-is g few;
-        matters = named-matters p textable;
+        matters = named-matters p textable alone;
         is_plan = plan.0;
         begins = plan.1;
         text = subst (λ (f : Function). IsPlanText (graph_spelling g) g (control g) f.body) start-is
@@ -129,7 +129,7 @@ module _ (image : Image) (program : Program) (p : inner.Program) (is_program : I
 
   first : Holds (graph_spelling g) (λ location. (graph_spelling g).named location ≡ true) NoneWaits (run.first_state p fill input) (c.first_state tree start fill input)
   first =
-      first-holds g few (formed p textable) p textable.one textable.formed tree start NoneWaits tt refl refl refl
+      first-holds g few (formed p textable alone) p alone.one textable.formed tree start NoneWaits tt refl refl refl
       (ap (λ (f : Function). f.params) (sym start-is)) (ap (λ (f : Function). f.locals) (sym start-is)) fill input
 
   together : IsCounted p tree start fill input tokens

@@ -1,47 +1,35 @@
--- What the passes leave of a lifted program in which no call is reached has what a text needs, and follows the image.
-use Rattle.std.proofs.Common.{ℕ, ◌<◌, [], length, sym, subst, arith}
-use Rattle.std.specs.Prelude.{All}
-use Rattle.std.proofs.lemmas.List.Elements.{All-head}
+-- What the passes leave of a lifted program has what a text needs, and follows the image.
+use Rattle.std.proofs.Common.{◌≡◌, List, [], ◌∷◌, refl}
+use Rattle.std.specs.List.{AllZip}
 use Rattle.dcc_prog.specs.declared.image.Image.{Image}
 use Rattle.dcc_prog.specs.declared.frame.Program.{Program}
 use Rattle.dcc_prog.specs.Built.{IsBuilt}
 use Rattle.dcc_ir.specs.Tree as inner
-use Rattle.dcc_ir.specs.WellFormed.{IsGraph}
-use Rattle.dcc_lift.specs.Lifted.{IsShallow, HasOneGraph, IsLifted, IsLiftOf}
+use Rattle.dcc_lift.specs.Lifted.{HasOneGraph, IsLifted, IsLiftOf}
 use Rattle.dcc_pipe.specs.Textable.{lifted_levels, levels, IsTextable}
-use Rattle.dcc_pipe.specs.Simplified.{IsSimplifiedGraph, HasOneChanged, IsSimplified}
+use Rattle.dcc_pipe.specs.Simplified.{IsSimplifiedGraph, HasEachChanged, IsSimplified}
 use Rattle.dcc_pipe.specs.Following.{IsFollowing}
 use Rattle.dcc_pipe.proofs.SimplifiedLaws.{simplified-follows, program-simplified}
 
--- its graph is well formed
-pub graph-formed : (depth : ℕ) (p : inner.Program) (is : IsTextable depth p) → IsGraph is.graph
-graph-formed depth p is = All-head IsGraph is.graph [] (subst (All IsGraph) is.one is.formed.graphs)
+-- the only graph of a program is changed, and alone
+one-left : (Leaves : inner.Graph → inner.Graph → Type 0) (before after : List inner.Graph) (g : inner.Graph)
+    → before ≡ g ∷ [] → AllZip Leaves before after → (h : inner.Graph) × (after ≡ h ∷ [])
+one-left Leaves [] after g one all = absurd (cc)
+one-left Leaves (x ∷ before) [] g one all = absurd all
+one-left Leaves (x ∷ []) (h ∷ []) g one all = (h, refl)
+one-left Leaves (x ∷ []) (h ∷ k ∷ after) g one all = absurd all.1
+one-left Leaves (x ∷ y ∷ before) (h ∷ after) g one all = absurd (cc)
 
--- it has a graph
-pub has-graph : (depth : ℕ) (p : inner.Program) → IsTextable depth p → 0 < length p.graphs
-has-graph depth p is = subst (λ graphs. 0 < length graphs) (sym is.one) (omega arith)
-
-module _ (image : Image) (program : Program) (p : inner.Program) (of : IsLiftOf image program p)
-    (built : IsBuilt image program.layout) where
+module _ (image : Image) (program : Program) (p : inner.Program) (of : IsLiftOf image program p) where
   abbrev lifted : IsLifted image program p
   lifted = of.lifted
 
-  abbrev one_graph : HasOneGraph p
-  one_graph = of.one_graph built
-
   -- what is lifted has what a text needs
   pub lifted-textable : IsTextable lifted_levels p
-  lifted-textable = record {
-    graph = one_graph.graph;
-    one = one_graph.one;
-    formed = lifted.well_formed;
-    shallow =
-        All-head (IsShallow lifted_levels) one_graph.graph []
-        (subst (All (IsShallow lifted_levels)) one_graph.one lifted.shallow);
-    never_stuck = lifted.never_stuck;
-  }
+  lifted-textable =
+      record { formed = lifted.well_formed; shallow = lifted.shallow; never_stuck = lifted.never_stuck }
 
-  module _ (q : inner.Program) (left : HasOneChanged IsSimplifiedGraph p q) where
+  module _ (q : inner.Program) (left : HasEachChanged IsSimplifiedGraph p q) where
     -- and so has what the passes leave
     pub left-simplified : IsSimplified levels p q
     left-simplified = program-simplified lifted_levels p q lifted-textable lifted.flag_reads left
@@ -50,3 +38,10 @@ module _ (image : Image) (program : Program) (p : inner.Program) (of : IsLiftOf 
     pub left-follows : IsFollowing image program q
     left-follows =
         simplified-follows image program levels p q left-simplified (record { runs = lifted.runs; pace = lifted.pace })
+
+    -- and has one graph, where no call is reached
+    pub left-alone : IsBuilt image program.layout → HasOneGraph q
+    left-alone built =
+        let one = of.one_graph built in
+        let other = one-left IsSimplifiedGraph p.graphs q.graphs one.graph one.one left.graphs in
+        record { graph = other.0; one = other.1 }

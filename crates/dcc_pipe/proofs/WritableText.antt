@@ -1,15 +1,16 @@
 -- The text of a program is writable.
-use Rattle.std.proofs.Common.{◌≡◌, ℕ, inl, ◌*◌, ◌+◌, ◌≤◌, true, false, List, [], ◌∷◌, length, None, Some, refl, sym, ap, ◌∙◌, subst, true≢false, arith, Contains}
-use Rattle.std.specs.Prelude.{◌&&◌, All, take, drop, get_or}
+use Rattle.std.proofs.Common.{◌≡◌, ℕ, inl, true, false, List, [], ◌∷◌, None, Some, refl, sym, ap, ◌∙◌, subst, true≢false, arith, Contains}
+use Rattle.std.specs.Prelude.{All, take, drop, get_or}
 use Rattle.std.specs.List.{list_all}
 use Rattle.std.proofs.lemmas.Bool.{and_from}
 use Rattle.std.proofs.lemmas.List.Elements.{All-head, All-weaker, Contains-get_or}
 use Rattle.dcc_ir.specs.Tree as inner
 use Rattle.dcc_ir.specs.Live.{block_in}
 use Rattle.dcc_ir.specs.Run.{no_block, no_graph, is_call, graph_at}
-use Rattle.dcc_ir.specs.WellFormed.{ret_widths, all_ret_widths, IsGraph, IsCalling, IsProgram}
+use Rattle.dcc_ir.specs.WellFormed.{ret_widths, all_ret_widths, IsGraph, IsCalling}
 use Rattle.dcc_ir.proofs.ListLaws.{all_parts}
 use Rattle.dcc_ir.proofs.LocationLaws.{Contains-here, Contains-later}
+use Rattle.dcc_lift.specs.Lifted.{IsShallow, HasOneGraph}
 use Rattle.dcc_c.specs.Grammar.{outermost}
 use Rattle.dcc_c.specs.Rules.{IsAllowedFunction, no_more as all_allowed, one_more as next_allowed}
 use Rattle.dcc_c.specs.Tree.{Function, Tree}
@@ -84,85 +85,89 @@ no-call p g one (inner.Store width address e) calling = refl
 no-call p g one (inner.Div location e) calling = refl
 no-call p g one (inner.Dos number place argument) calling = refl
 
-module _ (p : inner.Program) (is : IsTextable levels p) where
-  pub formed : IsGraph is.graph
-  formed = All-head IsGraph is.graph [] (subst (All IsGraph) is.one is.formed.graphs)
+module _ (p : inner.Program) (is : IsTextable levels p) (alone : HasOneGraph p) where
+  pub formed : IsGraph alone.graph
+  formed = All-head IsGraph alone.graph [] (subst (All IsGraph) alone.one is.formed.graphs)
 
-  pub no-calls : All (λ b. All (λ stmt. is_call stmt ≡ false) b.stmts) is.graph.blocks
+  -- its expressions are shallow
+  shallow : IsShallow levels alone.graph
+  shallow = All-head (IsShallow levels) alone.graph [] (subst (All (IsShallow levels)) alone.one is.shallow)
+
+  pub no-calls : All (λ b. All (λ stmt. is_call stmt ≡ false) b.stmts) alone.graph.blocks
   no-calls =
-      All-weaker (λ (b : inner.Block). All (IsCalling p is.graph) b.stmts) (λ b. All (λ stmt. is_call stmt ≡ false) b.stmts)
-      (λ b all. All-weaker (IsCalling p is.graph) (λ stmt. is_call stmt ≡ false) (no-call p is.graph is.one) b.stmts all) is.graph.blocks
-      (All-head (λ (g : inner.Graph). All (λ (b : inner.Block). All (IsCalling p g) b.stmts) g.blocks) is.graph []
-      (subst (All (λ (g : inner.Graph). All (λ (b : inner.Block). All (IsCalling p g) b.stmts) g.blocks)) is.one is.formed.calls))
+      All-weaker (λ (b : inner.Block). All (IsCalling p alone.graph) b.stmts) (λ b. All (λ stmt. is_call stmt ≡ false) b.stmts)
+      (λ b all. All-weaker (IsCalling p alone.graph) (λ stmt. is_call stmt ≡ false) (no-call p alone.graph alone.one) b.stmts all) alone.graph.blocks
+      (All-head (λ (g : inner.Graph). All (λ (b : inner.Block). All (IsCalling p g) b.stmts) g.blocks) alone.graph []
+      (subst (All (λ (g : inner.Graph). All (λ (b : inner.Block). All (IsCalling p g) b.stmts) g.blocks)) alone.one is.formed.calls))
 
   -- what has a variable matters everywhere
   steps-all : (stmts : List inner.Stmt)
-      → ((stmt : inner.Stmt) → Contains stmts stmt → IsStep (graph_spelling is.graph) (λ l. (graph_spelling is.graph).named l ≡ true) (λ l. (graph_spelling is.graph).named l ≡ true) stmt)
-      → AreSteps (graph_spelling is.graph) (λ rest l. (graph_spelling is.graph).named l ≡ true) stmts
+      → ((stmt : inner.Stmt) → Contains stmts stmt → IsStep (graph_spelling alone.graph) (λ l. (graph_spelling alone.graph).named l ≡ true) (λ l. (graph_spelling alone.graph).named l ≡ true) stmt)
+      → AreSteps (graph_spelling alone.graph) (λ rest l. (graph_spelling alone.graph).named l ≡ true) stmts
   steps-all [] each = tt
   steps-all (stmt ∷ stmts) each = (inl (each stmt (Contains-here stmt stmts)), steps-all stmts (λ other c. each other (Contains-later stmt stmts other c)))
 
-  pub named-matters : Matters (graph_spelling is.graph) is.graph (mentioned is.graph)
+  pub named-matters : Matters (graph_spelling alone.graph) alone.graph (mentioned alone.graph)
   named-matters = record {
-    steps = λ b less. let inside = Contains-get_or is.graph.blocks b no_block less in
-        steps-all (block_in is.graph b).stmts (stmt-step is.graph formed no-calls (block_in is.graph b) inside);
-    tested = λ b less. exit-within is.graph formed no-calls (block_in is.graph b) (Contains-get_or is.graph.blocks b no_block less);
+    steps = λ b less. let inside = Contains-get_or alone.graph.blocks b no_block less in
+        steps-all (block_in alone.graph b).stmts (stmt-step alone.graph formed no-calls (block_in alone.graph b) inside);
+    tested = λ b less. exit-within alone.graph formed no-calls (block_in alone.graph b) (Contains-get_or alone.graph.blocks b no_block less);
     goes = λ b next less to there location named. named;
   }
 
   -- no end of a block gives anything back
-  returned : ReturnsFit (start_of is.graph) is.graph
+  returned : ReturnsFit (start_of alone.graph) alone.graph
   returned =
-      let bits = is.graph.bits in
-      All-weaker (λ (b : inner.Block). All (λ widths. widths ≡ []) (ret_widths bits b.exit)) (λ b. may_return None b.exit ≡ true) (λ b none. gives-nothing bits b.exit none) is.graph.blocks
-      (all_parts (λ widths. widths ≡ []) (λ (b : inner.Block). ret_widths bits b.exit) is.graph.blocks
-      (All-head (λ (g : inner.Graph). All (λ widths. widths ≡ []) (all_ret_widths g)) is.graph []
-      (subst (λ graphs. All (λ (g : inner.Graph). All (λ widths. widths ≡ []) (all_ret_widths g)) (take 1 graphs)) is.one is.formed.start_rets)))
+      let bits = alone.graph.bits in
+      All-weaker (λ (b : inner.Block). All (λ widths. widths ≡ []) (ret_widths bits b.exit)) (λ b. may_return None b.exit ≡ true) (λ b none. gives-nothing bits b.exit none) alone.graph.blocks
+      (all_parts (λ widths. widths ≡ []) (λ (b : inner.Block). ret_widths bits b.exit) alone.graph.blocks
+      (All-head (λ (g : inner.Graph). All (λ widths. widths ≡ []) (all_ret_widths g)) alone.graph []
+      (subst (λ graphs. All (λ (g : inner.Graph). All (λ widths. widths ≡ []) (all_ret_widths g)) (take 1 graphs)) alone.one is.formed.start_rets)))
 
-  pub control-plan : IsPlanOf is.graph (control is.graph) × BeginsAll is.graph (control is.graph)
+  pub control-plan : IsPlanOf alone.graph (control alone.graph) × BeginsAll alone.graph (control alone.graph)
   control-plan =
-      let plan = goto-valid is.graph formed in
-      let whole = completed-valid is.graph (goto_plan is.graph) plan.0 in
+      let plan = goto-valid alone.graph formed in
+      let whole = completed-valid alone.graph (goto_plan alone.graph) plan.0 in
       (whole.0, whole.1 plan.1)
 
-  module _ (few : AreFew (shape_of is.graph)) where
+  module _ (few : AreFew (shape_of alone.graph)) where
     abbrev start : Function
-    start = start_of is.graph
+    start = start_of alone.graph
 
     abbrev tree : Tree
     tree = record { version = 1; lo = p.lo; hi = p.hi; globals = globals_of p; functions = start ∷ [] }
 
     -- there is no call
-    call-free : CallsFit tree start (graph_spelling is.graph) 200 is.graph
+    call-free : CallsFit tree start (graph_spelling alone.graph) 200 alone.graph
     call-free =
-        let Fits : inner.Stmt → Type 0 = λ stmt. is_call stmt ≡ true → IsAllowedStmt tree start 200 (stmt_text (graph_spelling is.graph) 2 stmt) in
+        let Fits : inner.Stmt → Type 0 = λ stmt. is_call stmt ≡ true → IsAllowedStmt tree start 200 (stmt_text (graph_spelling alone.graph) 2 stmt) in
         All-weaker (λ (b : inner.Block). All (λ stmt. is_call stmt ≡ false) b.stmts) (λ b. All Fits b.stmts)
-        (λ b none. All-weaker (λ stmt. is_call stmt ≡ false) Fits (λ stmt no call. absurd (true≢false (sym call ∙ no))) b.stmts none) is.graph.blocks no-calls
+        (λ b none. All-weaker (λ stmt. is_call stmt ≡ false) Fits (λ stmt no call. absurd (true≢false (sym call ∙ no))) b.stmts none) alone.graph.blocks no-calls
 
     lines-allowed : AreAllowedLines tree start 200 start.body
     lines-allowed =
-        texts-allowed tree start (graph_spelling is.graph) is.graph (control is.graph) start.body levels 200
-        (names-declared is.graph few formed tree start refl refl) formed
-        (spelled-graph (graph_spelling is.graph) is.graph (mentioned is.graph) levels refl named-matters
-        (λ b location less named. named) is.shallow)
-        call-free returned (omega arith) control-plan.0 (goto-stands is.graph formed) (plain-text (graph_spelling is.graph) is.graph (control is.graph))
+        texts-allowed tree start (graph_spelling alone.graph) alone.graph (control alone.graph) start.body levels 200
+        (names-declared alone.graph few formed tree start refl refl) formed
+        (spelled-graph (graph_spelling alone.graph) alone.graph (mentioned alone.graph) levels refl named-matters
+        (λ b location less named. named) shallow)
+        call-free returned (omega arith) control-plan.0 (goto-stands alone.graph formed) (plain-text (graph_spelling alone.graph) alone.graph (control alone.graph))
 
     start-allowed : IsAllowedFunction tree start
     start-allowed = record {
-      own_names = own-differ is.graph few formed p is.formed.hi;
+      own_names = own-differ alone.graph few formed p is.formed.hi;
       labels = lines-allowed.labels;
       types = lines-allowed.types;
-      arrays = locals-have-elements is.graph few formed;
+      arrays = locals-have-elements alone.graph few formed;
       depth = lines-allowed.depth;
     }
 
-    alone-writable : IsWritable tree
-    alone-writable = record {
+    one-writable : IsWritable tree
+    one-writable = record {
       version = refl;
       globals = globals-writable p is.formed.hi is.formed.image;
       functions = and_from (is_writable_function start) true
-          (and_from (list_all is_writable_local (declarations (shape_of is.graph))) (are_writable_lines outermost false start.body)
-          (locals-writable is.graph few formed) lines-allowed.writable) refl;
+          (and_from (list_all is_writable_local (declarations (shape_of alone.graph))) (are_writable_lines outermost false start.body)
+          (locals-writable alone.graph few formed) lines-allowed.writable) refl;
       allowed = record {
         start = start;
         others = [];
@@ -181,4 +186,4 @@ module _ (p : inner.Program) (is : IsTextable levels p) where
     }
 
     pub text-writable : IsWritable (text_tree p)
-    text-writable = subst (λ graphs. IsWritable (record { version = 1; lo = p.lo; hi = p.hi; globals = globals_of p; functions = start_of (get_or graphs 0 no_graph) ∷ [] })) (sym is.one) alone-writable
+    text-writable = subst (λ graphs. IsWritable (record { version = 1; lo = p.lo; hi = p.hi; globals = globals_of p; functions = start_of (get_or graphs 0 no_graph) ∷ [] })) (sym alone.one) one-writable

@@ -1,5 +1,6 @@
 pub mod Textable
 pub mod Simplified
+pub mod Prepared
 pub mod Following
 pub mod Start
 pub mod Agreement

@@ -1,5 +1,6 @@
 -- What passes leave of a program that is to have a text.
-use Rattle.std.specs.Prelude.{◌≡◌, ℕ, [], ◌∷◌}
+use Rattle.std.specs.Prelude.{◌≡◌, ℕ}
+use Rattle.std.specs.List.{AllZip}
 use Rattle.dcc_run.specs.Place.{Place}
 use Rattle.dcc_ir.specs.Tree.{Graph, Program}
 use Rattle.dcc_ir.specs.Keeps.{has_block, Keeps}
@@ -16,17 +17,12 @@ pub record IsSimplifiedGraph (before after : Graph) : Type 0 where
   pub flags : IsFolded wanted folded
   pub last : IsWithoutUnwanted folded after
 
--- the program with this as its only graph
-abbrev pub with_one : Graph → Program → Program
-with_one graph p = record { graphs = graph ∷ []; image = p.image; lo = p.lo; hi = p.hi }
-
--- the first program has one graph, and the second has in its place one that passes leave of it
-pub record HasOneChanged (Leaves : Graph → Graph → Type 0) (p q : Program) : Type 0 where
-  pub before : Graph
-  pub after : Graph
-  pub one : p.graphs ≡ before ∷ []
-  pub other : q ≡ with_one after p
-  pub changed : Leaves before after
+-- the second program has in the place of each graph one that a pass leaves of it, and the first one's memory
+pub record HasEachChanged (Leaves : Graph → Graph → Type 0) (p q : Program) : Type 0 where
+  pub graphs : AllZip Leaves p.graphs q.graphs
+  pub image : q.image ≡ p.image
+  pub lo : q.lo ≡ p.lo
+  pub hi : q.hi ≡ p.hi
 
 -- The second program keeps the first one's runs, and it has the same blocks. It has what a text needs, its expressions
 -- at most so deep.

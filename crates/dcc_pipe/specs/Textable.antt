@@ -1,6 +1,6 @@
 -- What a program has for its text.
-use Rattle.std.specs.Prelude.{◌≡◌, ◌*◌, ℕ, [], ◌∷◌}
-use Rattle.dcc_ir.specs.Tree.{Graph, Program}
+use Rattle.std.specs.Prelude.{◌*◌, ℕ, All}
+use Rattle.dcc_ir.specs.Tree.{Program}
 use Rattle.dcc_ir.specs.WellFormed.{IsProgram}
 use Rattle.dcc_ir.specs.Ends.{IsNeverStuck}
 use Rattle.dcc_lift.specs.Lifted.{IsShallow}
@@ -14,10 +14,8 @@ lifted_levels = 7
 abbrev pub levels : ℕ
 levels = 2 * lifted_levels
 
--- The program is well formed and has one graph, whose expressions have at most so many levels; and no run is stuck.
+-- The program is well formed, the expressions of its graphs have at most so many levels, and no run is stuck.
 pub record IsTextable (depth : ℕ) (p : Program) : Type 0 where
-  pub graph : Graph
-  pub one : p.graphs ≡ graph ∷ []
   pub formed : IsProgram p
-  pub shallow : IsShallow depth graph
+  pub shallow : All (IsShallow depth) p.graphs
   pub never_stuck : IsNeverStuck p

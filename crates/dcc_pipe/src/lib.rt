@@ -4,9 +4,12 @@
 mod analysis;
 mod built;
 mod decompilation;
+pub mod laws;
 mod number;
 mod passes;
+mod preparation;
 mod start;
 
 pub use analysis::analyse;
 pub use decompilation::decompile;
+pub use preparation::prepared;

@@ -1,11 +1,10 @@
 //! The passes over a program before its text is written.
 
-ghost use Rattle.std.specs.Prelude.{IfOk};
+ghost use Rattle.std.specs.Prelude.{IfOk, All};
 ghost use Rattle.dcc_ir.specs.Views.{graph_of, program_of};
 ghost use Rattle.dcc_ir.specs.WellFormed.{IsGraph};
 ghost use Rattle.dcc_live.specs.Dead.{IsWithoutUnwanted};
-ghost use Rattle.dcc_pipe.specs.Textable.{lifted_levels, IsTextable};
-ghost use Rattle.dcc_pipe.specs.Simplified.{IsSimplifiedGraph, HasOneChanged};
+ghost use Rattle.dcc_pipe.specs.Simplified.{IsSimplifiedGraph, HasEachChanged};
 
 use dcc_flags::fold_flags;
 use dcc_ir::{Graph, IrProgram, Sums};
@@ -39,14 +38,15 @@ fn simplified_graph(alloc: Global, graph: Graph) -> Result<Graph, AllocError>
     without_dead(alloc, folded)
 }
 
-/// The program, which has one graph, with what the passes leave in the place of that.
+/// The program with what the passes leave of each graph in its place.
 pub(crate) fn simplified(alloc: Global, p: IrProgram) -> Result<IrProgram, AllocError>
-    requires { IsTextable lifted_levels (program_of p) }
-    ensures { IfOk result (λ after. HasOneChanged IsSimplifiedGraph (program_of p) (program_of after)) }
+    requires { All IsGraph (program_of p).graphs }
+    ensures { IfOk result (λ after. HasEachChanged IsSimplifiedGraph (program_of p) (program_of after)) }
 {
-    let mut graphs = p.graphs;
-    let graph = graphs.remove(0);
-    graphs.push(simplified_graph(alloc, graph)?)?;
+    let mut graphs = Vec::new(alloc);
+    for graph in p.graphs {
+        graphs.push(simplified_graph(alloc, graph)?)?;
+    }
     Ok(IrProgram {
         graphs,
         image: p.image,

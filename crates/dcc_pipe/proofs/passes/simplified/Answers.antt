@@ -1,32 +1,34 @@
-use Rattle.std.proofs.Common.{[], ◌∷◌, ◌++◌, sym, ap, ◌∙◌, subst}
-use Rattle.dcc_ir.specs.Views.{graph_of, program_of}
+use Rattle.std.proofs.Common.{◌≡◌, List, [], ◌∷◌, ◌++◌, map, sym, ap, subst}
+use Rattle.std.specs.Prelude.{All}
+use Rattle.std.specs.List.{AllZip}
+use Rattle.std.proofs.lemmas.List.{map-append}
+use Rattle.std.proofs.lemmas.List.Elements.{All-head, All-tail, AllZip-push}
+use Rattle.dcc_ir.specs.Views.{graph_of}
 use Rattle.dcc_ir.specs.WellFormed.{IsGraph}
-use Rattle.dcc_pipe.specs.Textable.{lifted_levels}
-use Rattle.dcc_pipe.proofs.SimplifiedLaws.{only-one, replaced-one}
-use Rattle.dcc_pipe.proofs.TextableLaws.{graph-formed}
+use Rattle.dcc_pipe.specs.Simplified.{IsSimplifiedGraph}
 use Rattle.dcc_pipe.proofs.passes.simplified.Goals as goal
+
+-- one more of each list
+pushed : {A B : Type 0} (f : A → B) (R : B → B → Type 0) (xs ys : List A) (x y : A) (more : List A)
+    → more ≡ ys ++ y ∷ [] → AllZip R (map f xs) (map f ys) → R (f x) (f y)
+    → AllZip R (map f (xs ++ x ∷ [])) (map f more)
+pushed f R xs ys x y more made zipped is =
+    subst (λ zs. AllZip R (map f (xs ++ x ∷ [])) (map f zs)) (sym made)
+    (rw (map-append f xs (x ∷ []), map-append f ys (y ∷ []))
+    (AllZip-push R (map f xs) (map f ys) (f x) (f y) zipped is))
 
 pub simplified_graph-requires : goal.simplified_graph-requires
 simplified_graph-requires c =
-    let p = program_of c.args.p in
-    let only =
-    only-one graph_of c.args.p.graphs.items c.remove-graph.result c.requires.graph c.remove-graph.ensures.value
-    c.requires.one in
-    subst IsGraph (sym only.1) (graph-formed lifted_levels p c.requires)
+    All-head IsGraph (graph_of c.in-Some.graph) (map graph_of c.next.new.self.rest.items)
+    (subst (All IsGraph) (ap (map graph_of) c.in-Some.ensures.steps.0) c.loop-graph.invariant.1)
 
-pub returns : goal.returns
-returns c =
-    let p = program_of c.args.p in
-    let items = c.args.p.graphs.items in
-    let g = c.requires.graph in
-    let x = c.remove-graph.result in
-    let after = c.in_ok-simplified_graph.field-0 in
-    let value = c.remove-graph.ensures.value in
-    let only = only-one graph_of items x g value c.requires.one in record {
-      before = graph_of x;
-      after = graph_of after;
-      one = c.requires.one ∙ ap (λ graph. graph ∷ []) (sym only.1);
-      other = replaced-one graph_of items x after p g c.push.new.self.items value c.requires.one
-          (c.in_ok-push.ensures.items ∙ ap (λ rest. rest ++ after ∷ []) c.remove-graph.ensures.items);
-      changed = c.in_ok-simplified_graph.ensures;
-    }
+pub loop-graph-preserved : goal.loop-graph-preserved
+loop-graph-preserved c =
+    let done = c.loop-graph.yielded in
+    let left = c.loop-graph.graphs.items in
+    let graph = c.in-Some.graph in (
+      pushed graph_of IsSimplifiedGraph done left graph c.in_ok-simplified_graph.field-0 c.push.new.self.items
+          c.in_ok-push.ensures.items c.loop-graph.invariant.0 c.in_ok-simplified_graph.ensures,
+      All-tail IsGraph (graph_of graph) (map graph_of c.next.new.self.rest.items)
+          (subst (All IsGraph) (ap (map graph_of) c.in-Some.ensures.steps.0) c.loop-graph.invariant.1),
+    )

@@ -1,0 +1,9 @@
+//! Laws of what passes leave of programs. Each function only states a law by its contract, and does nothing.
+
+ghost use Rattle.dcc_pipe.specs.Prepared.{WhatIsLeftIsPrepared};
+
+/// What the passes leave of each graph of a program of the form that is lifted, in which just what its summaries say
+/// passes together, has what a text needs, and keeps the runs, the blocks and what passes.
+pub fn what_is_left_is_prepared()
+    ensures { WhatIsLeftIsPrepared }
+{}
