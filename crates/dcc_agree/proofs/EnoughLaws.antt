@@ -30,6 +30,7 @@ use Rattle.dcc_refined.proofs.RefinedLaws as refined
 use Rattle.dcc_agree.specs.Agreement.{ending, Agrees}
 use Rattle.dcc_agree.specs.Laws.{IsInstruction, AgreesWithItsStatements, AgreeingInstructionsAreEnough}
 use Rattle.dcc_agree.proofs.PointLaws as points
+use Rattle.dcc_agree.proofs.ValueLaws.{value_agrees}
 use Rattle.dcc_agree.proofs.IdleLaws.{same_once, idle_agrees}
 
 -- Instructions at offsets.

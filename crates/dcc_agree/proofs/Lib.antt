@@ -1,3 +1,7 @@
 mod PointLaws
 mod IdleLaws
+mod ShownLaws
+mod ValueLaws
+mod OperationLaws
+mod ClosedLaws
 mod EnoughLaws

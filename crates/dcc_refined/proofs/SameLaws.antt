@@ -38,7 +38,7 @@ use Rattle.dcc_refined.specs.LiftedRefinement.{inner_of, IsSame}
 
 -- Halves and flags.
 
-same_passes : (location : Location) → asks.passes (held location) ≡ sums.passes (inner_of location)
+pub same_passes : (location : Location) → asks.passes (held location) ≡ sums.passes (inner_of location)
 same_passes (half_of Ax Low) = refl
 same_passes (half_of Ax High) = refl
 same_passes (half_of Cx Low) = refl
@@ -60,7 +60,7 @@ same_passes (flag_of Zf) = refl
 same_passes (flag_of Sf) = refl
 same_passes (flag_of Of) = refl
 
-one_location : (a b : Location) → inner_of a ≡ inner_of b → a ≡ b
+pub one_location : (a b : Location) → inner_of a ≡ inner_of b → a ≡ b
 one_location (half_of r half) (half_of q other) e = cc e
 one_location (flag_of flag) (flag_of other) e = cc e
 one_location (half_of r half) (flag_of other) e = absurd (cc e)
@@ -73,11 +73,11 @@ not_a_cell (flag_of flag) n h e = cc e
 -- Bytes of cells.
 
 -- the half of a cell in which a byte is
-record IsKept (n : ℕ) (cells : List Cell) (k : ℤ) (location : Loc) : Type 0 where
-  number : ℕ
-  half : HalfName
-  is : location ≡ CellHalf number half
-  found : half_in n cells k ≡ Some (CellHalf number half)
+pub record IsKept (n : ℕ) (cells : List Cell) (k : ℤ) (location : Loc) : Type 0 where
+  pub number : ℕ
+  pub half : HalfName
+  pub is : location ≡ CellHalf number half
+  pub found : half_in n cells k ≡ Some (CellHalf number half)
 
 kept_by : (n : ℕ) (cells : List Cell) (k : ℤ) (location : Loc) → cell_place n cells byte_width k ≡ byte location → IsKept n cells k location
 kept_by n [] k location e = absurd (cc e)
@@ -105,7 +105,7 @@ kept_by n (cell ∷ cells) k location e = by (is_within k (bytes_of cell)) refl 
               ∙ subst (λ m. half_in m cells k ≡ Some (CellHalf rest.number rest.half)) one_more rest.found;
         }
 
-kept_in : (p : Procedure) (k : ℤ) (location : Loc) → frame_place p byte_width k ≡ byte location → IsKept 0 (cells_of p) k location
+pub kept_in : (p : Procedure) (k : ℤ) (location : Loc) → frame_place p byte_width k ≡ byte location → IsKept 0 (cells_of p) k location
 kept_in p k location e = by (is_placed p.frame k) e
   where
     by : (b : Bool) → (if b then memory byte_width (Address (distance_of k)) else cell_place 0 (cells_of p) byte_width k) ≡ byte location → IsKept 0 (cells_of p) k location
@@ -130,11 +130,11 @@ one_byte cells k j number half small e f = by (int_eq j k) refl (sym set ∙ slo
 
 module _ (p : Option Procedure) where
   -- what is the same, by equations
-  data SameCases (L : Place) (l : Loc) : Type 0 where
+  pub data SameCases (L : Place) (l : Loc) : Type 0 where
     by_held : (location : Location) → asks.passes (held location) ≡ true → L ≡ held location → l ≡ inner_of location → SameCases L l
     by_kept : (found : Procedure) (k : ℤ) → p ≡ Some found → L ≡ in_frame k → IsKept 0 (cells_of found) k l → frame_place found byte_width k ≡ byte l → SameCases L l
 
-  same_cases : {L : Place} {l : Loc} → IsSame p L l → SameCases L l
+  pub same_cases : {L : Place} {l : Loc} → IsSame p L l → SameCases L l
   same_cases (IsSame.is_held {location = location} e) = SameCases.by_held location e refl refl
   same_cases (IsSame.is_kept {found = found} {k = k} {location = location} e f) = SameCases.by_kept found k e refl (kept_in found k location f) f
 
