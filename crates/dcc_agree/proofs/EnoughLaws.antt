@@ -30,14 +30,10 @@ use Rattle.dcc_refined.proofs.RefinedLaws as refined
 use Rattle.dcc_agree.specs.Agreement.{ending, Agrees}
 use Rattle.dcc_agree.specs.Laws.{IsInstruction, AgreesWithItsStatements, AgreeingInstructionsAreEnough}
 use Rattle.dcc_agree.proofs.PointLaws as points
-use Rattle.dcc_agree.proofs.ValueLaws.{value_agrees}
+use Rattle.dcc_agree.proofs.SettingLaws.{found_height, action_there}
 use Rattle.dcc_agree.proofs.IdleLaws.{same_once, idle_agrees}
 
 -- Instructions at offsets.
-
-found_height : (heights : List (ℕ × ℕ)) (at : ℕ) → find_at heights at ≡ height_in heights at
-found_height [] at = refl
-found_height (found ∷ heights) at = ap (λ o. if found.0 == at then Some found.1 else o) (found_height heights at)
 
 -- what goes on in its block is no jump through a table
 no_table : (nodes : Nodes) (entry at next : ℕ) → joins nodes entry next ≡ true → edges_into nodes next ≡ at ∷ [] → jumps_by_table_in (node_in nodes at) ≡ false
@@ -102,11 +98,6 @@ module _ (image : Image) (program : Analysed) (p : Program) (is : IsTranslated i
     abbrev body : Body
     body = refined.body image program p is entry x
 
-    action_there : (at : ℕ) → (coarse.procedure entry).action at ≡ asks.action_at (bodies_of program) body (point_with (node_in (nodes_in scene) at) (find_at x.own at))
-    action_there at =
-        ap (λ g. g.action at) (refined.coarse_is image program p is entry x)
-        ∙ ap (λ o. asks.action_at (bodies_of program) body (point_with o (find_at x.own at))) (found_node (nodes_in scene) at)
-
     steps_there : (at : ℕ) → (lifted_refinement program).steps entry at ≡ points_at scene at
     steps_there at = ap (λ o. steps_in o at) x.scene_found
 
@@ -126,7 +117,7 @@ module _ (image : Image) (program : Analysed) (p : Program) (is : IsTranslated i
       stmts = [];
       after = [];
       are = are_there at x.graph.pushed [] [] refl (subst (λ ps. AreAt (sums.procedure_of x.graph) x.graph.pushed ps [] []) (sym (ap (λ o. points_by scene o at) none)) refl);
-      agrees = idle_there entry at x.graph.pushed (action_there at ∙ ap (λ o. asks.action_at (bodies_of program) body (point_with o (find_at x.own at))) none);
+      agrees = idle_there entry at x.graph.pushed (action_there image program p is entry x at ∙ ap (λ o. asks.action_at (bodies_of program) body (point_with o (find_at x.own at))) none);
     }
 
     an_instruction : (at : ℕ) (node : Node) → node_in (nodes_in scene) at ≡ Some node → Shown entry at

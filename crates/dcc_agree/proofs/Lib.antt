@@ -4,4 +4,7 @@ mod ShownLaws
 mod ValueLaws
 mod OperationLaws
 mod ClosedLaws
+mod TableLaws
+mod SettingLaws
 mod EnoughLaws
+mod InstructionLaws

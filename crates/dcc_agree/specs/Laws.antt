@@ -1,8 +1,11 @@
 -- Instructions that do what their statements do together are all that is to be shown of them.
-use Rattle.std.specs.Prelude.{◌≡◌, ℕ, Some}
+use Rattle.std.specs.Prelude.{◌≡◌, ℕ, Bool, true, false, Some}
 use Rattle.dcc_prog.specs.declared.image.Image.{Image}
 use Rattle.dcc_prog.specs.declared.frame.Program.{Program as Analysed}
 use Rattle.dcc_prog.specs.declared.procedure.Node.{Node}
+use Rattle.dcc_prog.specs.declared.instr.Plain.TheVariants.{Xlat}
+use Rattle.dcc_prog.specs.declared.instr.Op.{Op}
+use Rattle.dcc_prog.specs.declared.instr.Op.TheVariants.{Enter, Leave, Plain, Jump, Branch, Loop, LoopE, LoopNe, Jcxz, Ret}
 use Rattle.dcc_ir.specs.Tree.{Program}
 use Rattle.dcc_coupled.specs.Procedures.{pushed_of}
 use Rattle.dcc_coupled.specs.Statements.{node_stmts}
@@ -11,6 +14,21 @@ use Rattle.dcc_lift.specs.Translated.{IsTranslated}
 use Rattle.dcc_refined.specs.LiftedRefinement.{scenes_in, scene_at, lifted_refinement}
 use Rattle.dcc_refined.specs.Laws.{machine, inner, InstructionsAgree}
 use Rattle.dcc_agree.specs.Agreement.{ending, Agrees}
+
+-- what it makes and uses of halves and flags is told by the operation alone: it has no operand, jumps or returns
+abbrev pub is_table_told : Op → Bool
+is_table_told (Plain Xlat) = false
+is_table_told (Plain operation) = true
+is_table_told (Enter count) = true
+is_table_told Leave = true
+is_table_told (Jump target) = true
+is_table_told (Branch condition target) = true
+is_table_told (Loop target) = true
+is_table_told (LoopE target) = true
+is_table_told (LoopNe target) = true
+is_table_told (Jcxz target) = true
+is_table_told (Ret count) = true
+is_table_told op = false
 
 module _ (image : Image) (program : Analysed) (p : Program) where
   -- an instruction of a procedure that is found, with the height of the stack before it
@@ -34,3 +52,11 @@ AgreeingInstructionsAreEnough =
     → IsInstruction image program p entry at scene node height
     → AgreesWithItsStatements image program p entry at scene node height)
     → InstructionsAgree image program p
+
+-- the instructions of which this is shown
+abbrev pub ShownInstructionsAgree : Type 0
+ShownInstructionsAgree =
+    (image : Image) (program : Analysed) (p : Program) → IsTranslated image program p
+    → (entry at : ℕ) (scene : Scene) (node : Node) (height : ℕ)
+    → IsInstruction image program p entry at scene node height → is_table_told node.instr.op ≡ true
+    → AgreesWithItsStatements image program p entry at scene node height

@@ -2,10 +2,15 @@
 //! contract, and does nothing.
 #![tactic(auto)]
 
-ghost use Rattle.dcc_agree.specs.Laws.{AgreeingInstructionsAreEnough};
+ghost use Rattle.dcc_agree.specs.Laws.{AgreeingInstructionsAreEnough, ShownInstructionsAgree};
 
 /// Where each instruction does what its statements do together, as it is computed of these, the lifted program does
 /// what the machine's procedures do.
 pub fn agreeing_instructions_are_enough()
     ensures { AgreeingInstructionsAreEnough }
+{}
+
+/// Instructions do what their statements do together that have no operand, jump or return.
+pub fn shown_instructions_agree()
+    ensures { ShownInstructionsAgree }
 {}

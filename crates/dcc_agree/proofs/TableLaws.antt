@@ -1,0 +1,68 @@
+-- Operations whose halves and flags are told by the operation alone: jumps, returns, and what has no operand.
+use Rattle.std.proofs.Common.{◌≡◌, ℕ, Bool, true, false, if◌then◌else◌, List, [], ◌∷◌, Option, refl, sym, true≢false}
+use Rattle.dcc_prog.specs.declared.cpu.Cpu.{Cpu}
+use Rattle.dcc_prog.specs.declared.instr.Cond.{Cond}
+use Rattle.dcc_prog.specs.declared.instr.Cond.TheVariants.{O, No, B, Ae, Z, Nz, Be, A, S, Ns, L, Ge, Le, G}
+use Rattle.dcc_prog.specs.declared.instr.Plain.{Plain}
+use Rattle.dcc_prog.specs.declared.instr.Plain.TheVariants.{Nop, Cbw, Cwd, Clc, Stc, Cmc, Cli, Sti, Cld, Xlat}
+use Rattle.dcc_prog.specs.declared.instr.Op.{Op}
+use Rattle.dcc_prog.specs.declared.instr.Op.TheVariants.{Enter, Leave, Plain as PlainOp, Jump, Branch, Loop, LoopE, LoopNe, Jcxz, Ret}
+use Rattle.dcc_coupled.specs.Procedures.{Procedure}
+use Rattle.dcc_coupled.specs.Statements.{moves_frame, working_stmts}
+use Rattle.dcc_ir.specs.Tree.{Stmt}
+use Rattle.dcc_asks.specs.Bodies.{Body}
+use Rattle.dcc_agree.specs.Agreement.{ending}
+use Rattle.dcc_agree.specs.Laws.{is_table_told}
+use Rattle.dcc_agree.proofs.ClosedLaws.{is_told, IsClosed}
+
+module _ (cpu : Cpu) (procedures : List Procedure) (procedure : Procedure) (height : ℕ) (body : Body) (number : Option ℕ) where
+  -- the statements of the operation
+  abbrev stmts_of : Op → List Stmt
+  stmts_of op = if moves_frame op then [] else working_stmts cpu procedures procedure height op number
+
+  abbrev Closed : Op → Type 0
+  Closed op = IsClosed body op number (stmts_of op) (ending op)
+
+  told_branch : (c : Cond) (target : ℕ) → is_told body (Branch c target) number (stmts_of (Branch c target)) (ending (Branch c target)) ≡ true
+  told_branch O target = refl
+  told_branch No target = refl
+  told_branch B target = refl
+  told_branch Ae target = refl
+  told_branch Z target = refl
+  told_branch Nz target = refl
+  told_branch Be target = refl
+  told_branch A target = refl
+  told_branch S target = refl
+  told_branch Ns target = refl
+  told_branch L target = refl
+  told_branch Ge target = refl
+  told_branch Le target = refl
+  told_branch G target = refl
+
+  closed_branch : (c : Cond) (target : ℕ) → Closed (Branch c target)
+  closed_branch c target = record { told = told_branch c target; cells = λ n h. refl; unwritten = λ n h. refl; no_write = λ k. refl; no_use = λ k. refl; not_made = λ l k. refl }
+
+  closed_plain : (operation : Plain) → is_table_told (PlainOp operation) ≡ true → Closed (PlainOp operation)
+  closed_plain Nop e = record { told = refl; cells = λ n h. refl; unwritten = λ n h. refl; no_write = λ k. refl; no_use = λ k. refl; not_made = λ l k. refl }
+  closed_plain Cbw e = record { told = refl; cells = λ n h. refl; unwritten = λ n h. refl; no_write = λ k. refl; no_use = λ k. refl; not_made = λ l k. refl }
+  closed_plain Cwd e = record { told = refl; cells = λ n h. refl; unwritten = λ n h. refl; no_write = λ k. refl; no_use = λ k. refl; not_made = λ l k. refl }
+  closed_plain Clc e = record { told = refl; cells = λ n h. refl; unwritten = λ n h. refl; no_write = λ k. refl; no_use = λ k. refl; not_made = λ l k. refl }
+  closed_plain Stc e = record { told = refl; cells = λ n h. refl; unwritten = λ n h. refl; no_write = λ k. refl; no_use = λ k. refl; not_made = λ l k. refl }
+  closed_plain Cmc e = record { told = refl; cells = λ n h. refl; unwritten = λ n h. refl; no_write = λ k. refl; no_use = λ k. refl; not_made = λ l k. refl }
+  closed_plain Cli e = record { told = refl; cells = λ n h. refl; unwritten = λ n h. refl; no_write = λ k. refl; no_use = λ k. refl; not_made = λ l k. refl }
+  closed_plain Sti e = record { told = refl; cells = λ n h. refl; unwritten = λ n h. refl; no_write = λ k. refl; no_use = λ k. refl; not_made = λ l k. refl }
+  closed_plain Cld e = record { told = refl; cells = λ n h. refl; unwritten = λ n h. refl; no_write = λ k. refl; no_use = λ k. refl; not_made = λ l k. refl }
+  closed_plain Xlat e = absurd (true≢false (sym e))
+
+  pub closed_op : (op : Op) → is_table_told op ≡ true → Closed op
+  closed_op (Jump target) e = record { told = refl; cells = λ n h. refl; unwritten = λ n h. refl; no_write = λ k. refl; no_use = λ k. refl; not_made = λ l k. refl }
+  closed_op (Loop target) e = record { told = refl; cells = λ n h. refl; unwritten = λ n h. refl; no_write = λ k. refl; no_use = λ k. refl; not_made = λ l k. refl }
+  closed_op (LoopE target) e = record { told = refl; cells = λ n h. refl; unwritten = λ n h. refl; no_write = λ k. refl; no_use = λ k. refl; not_made = λ l k. refl }
+  closed_op (LoopNe target) e = record { told = refl; cells = λ n h. refl; unwritten = λ n h. refl; no_write = λ k. refl; no_use = λ k. refl; not_made = λ l k. refl }
+  closed_op (Jcxz target) e = record { told = refl; cells = λ n h. refl; unwritten = λ n h. refl; no_write = λ k. refl; no_use = λ k. refl; not_made = λ l k. refl }
+  closed_op (Ret count) e = record { told = refl; cells = λ n h. refl; unwritten = λ n h. refl; no_write = λ k. refl; no_use = λ k. refl; not_made = λ l k. refl }
+  closed_op (Enter count) e = record { told = refl; cells = λ n h. refl; unwritten = λ n h. refl; no_write = λ k. refl; no_use = λ k. refl; not_made = λ l k. refl }
+  closed_op Leave e = record { told = refl; cells = λ n h. refl; unwritten = λ n h. refl; no_write = λ k. refl; no_use = λ k. refl; not_made = λ l k. refl }
+  closed_op (Branch c target) e = closed_branch c target
+  closed_op (PlainOp operation) e = closed_plain operation e
+  closed_op op e = absurd (true≢false (sym e))
