@@ -4,6 +4,7 @@ mod ShownLaws
 mod ValueLaws
 mod OperationLaws
 mod ClosedLaws
+mod StageLaws
 mod TableLaws
 mod SettingLaws
 mod EnoughLaws
