@@ -5,6 +5,7 @@ mod ValueLaws
 mod OperationLaws
 mod ClosedLaws
 mod StageLaws
+mod FormLaws
 mod TableLaws
 mod SettingLaws
 mod EnoughLaws

@@ -171,7 +171,7 @@ abbrev pub is_lasting : Loc → Bool
 is_lasting (Temp n) = false
 is_lasting location = true
 
-lasts_left : (w : Width) (l : Loc) → is_lasting l ≡ true → same_location l (left_place w) ≡ false
+pub lasts_left : (w : Width) (l : Loc) → is_lasting l ≡ true → same_location l (left_place w) ≡ false
 lasts_left byte_width (Half r h) t = refl
 lasts_left word_width (Half r h) t = refl
 lasts_left byte_width (Flag f) t = refl
@@ -180,7 +180,7 @@ lasts_left byte_width (Cell n h) t = refl
 lasts_left word_width (Cell n h) t = refl
 lasts_left w (Temp n) t = absurd (true≢false (sym t))
 
-lasts_right : (w : Width) (l : Loc) → is_lasting l ≡ true → same_location l (right_place w) ≡ false
+pub lasts_right : (w : Width) (l : Loc) → is_lasting l ≡ true → same_location l (right_place w) ≡ false
 lasts_right byte_width (Half r h) t = refl
 lasts_right word_width (Half r h) t = refl
 lasts_right byte_width (Flag f) t = refl
