@@ -6,6 +6,7 @@ mod OperationLaws
 mod ClosedLaws
 mod StageLaws
 mod FormLaws
+mod OperandLaws
 mod TableLaws
 mod SettingLaws
 mod EnoughLaws

@@ -33,7 +33,7 @@ told Di = refl
 pub same-register : (r q : Reg) → is_same_register r q ≡ true → r ≡ q
 same-register r q e = sym (told r) ∙ ap word_register (eqb-true (reg_number r) (reg_number q) e) ∙ told q
 
-same-half : (h k : Half) → is_same_half h k ≡ true → h ≡ k
+pub same-half : (h k : Half) → is_same_half h k ≡ true → h ≡ k
 same-half Low Low e = refl
 same-half Low High e = absurd (true≢false (sym e))
 same-half High Low e = absurd (true≢false (sym e))
