@@ -7,6 +7,7 @@ mod ClosedLaws
 mod StageLaws
 mod FormLaws
 mod OperandLaws
+mod StoredLaws
 mod TableLaws
 mod SettingLaws
 mod EnoughLaws
