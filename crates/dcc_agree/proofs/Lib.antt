@@ -8,6 +8,8 @@ mod StageLaws
 mod FormLaws
 mod OperandLaws
 mod StoredLaws
+mod WorkLaws
+mod AluLaws
 mod TableLaws
 mod SettingLaws
 mod EnoughLaws
