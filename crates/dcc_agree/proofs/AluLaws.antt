@@ -1,5 +1,5 @@
 -- Sums, differences, comparisons and logic do what their statements do.
-use Rattle.std.proofs.Common.{◌≡◌, ℕ, ℤ, Bool, true, false, not, ◌&&◌, ◌||◌, if◌then◌else◌, ◌⊎◌, inl, inr, List, [], ◌∷◌, ◌++◌, map, Option, refl, sym, ap, ◌∙◌, subst, true≢false}
+use Rattle.std.proofs.Common.{◌≡◌, ℕ, ℤ, Bool, true, false, not, ◌&&◌, ◌||◌, if◌then◌else◌, inl, inr, List, [], ◌∷◌, ◌++◌, map, Option, refl, sym, ap, ◌∙◌, subst, true≢false}
 use Rattle.std.specs.Prelude.{Contains}
 use Rattle.std.specs.List.{list_any}
 use Rattle.dcc_num.specs.declared.Width.{Width}
@@ -7,12 +7,12 @@ use Rattle.dcc_num.specs.declared.Width.TheVariants.{Byte as byte_width, Word as
 use Rattle.dcc_num.specs.declared.Reg.{Reg}
 use Rattle.dcc_num.specs.declared.Half.{Half as HalfName}
 use Rattle.dcc_num.specs.declared.FlagName.{FlagName}
-use Rattle.dcc_num.specs.declared.FlagName.TheVariants.{Cf, Zf, Sf, Of}
+use Rattle.dcc_num.specs.declared.FlagName.TheVariants.{Cf}
 use Rattle.dcc_prog.specs.declared.procedure.Node.{Node}
 use Rattle.dcc_prog.specs.declared.instr.Alu.{Alu}
 use Rattle.dcc_prog.specs.declared.instr.Alu.TheVariants.{Add, Or, Adc, Sbb, And, Sub, Xor, Cmp, Test}
 use Rattle.dcc_prog.specs.declared.instr.Operand.{Operand}
-use Rattle.dcc_prog.specs.declared.instr.Operand.TheVariants.{Word, Byte, Seg, Mem, Const}
+use Rattle.dcc_prog.specs.declared.instr.Operand.TheVariants.{Mem}
 use Rattle.dcc_prog.specs.declared.instr.Op.{Op}
 use Rattle.dcc_prog.specs.declared.instr.Op.TheVariants.{Alu as AluOp}
 use Rattle.dcc_prog.specs.Machine.{operand_width}
@@ -22,7 +22,6 @@ use Rattle.dcc_prog.specs.Wanted.{Location, half_of, flag_of, is_flag, is_read, 
 use Rattle.dcc_stack.specs.Slots.{is_memory}
 use Rattle.dcc_ir.specs.declared.syntax.Loc.{Loc}
 use Rattle.dcc_ir.specs.declared.syntax.Loc.TheVariants.{Flag}
-use Rattle.dcc_ir.specs.Tree.{Stmt}
 use Rattle.dcc_ir.proofs.LocationLaws.{Contains-here}
 use Rattle.dcc_ops.specs.Place.{Place as InnerPlace, taking, storing}
 use Rattle.dcc_ops.specs.Expressions.{result}
@@ -33,16 +32,16 @@ use Rattle.dcc_coupled.specs.Procedures.{Procedure}
 use Rattle.dcc_demand.specs.Procedures.{Procedures}
 use Rattle.dcc_asks.specs.Bodies.{Body, Point}
 use Rattle.dcc_asks.specs.Places.{Place, held, in_frame, is_placed, spots_of_memory}
-use Rattle.dcc_asks.specs.Values.{value_written, value_made_of, value_uses}
+use Rattle.dcc_asks.specs.Values.{value_made_of, value_uses}
 use Rattle.dcc_sums.specs.Points.{Position}
 use Rattle.dcc_match.specs.Refinement.{Refinement}
 use Rattle.dcc_sources.proofs.ListLaws.{in_flat}
 use Rattle.dcc_agree.specs.Agreement.{Agrees}
 use Rattle.dcc_agree.proofs.ValueLaws.{is_written}
 use Rattle.dcc_agree.proofs.OperationLaws.{IsValueOperation}
-use Rattle.dcc_agree.proofs.StageLaws.{reads_at, before_both, both_left}
+use Rattle.dcc_agree.proofs.StageLaws.{before_both, both_left}
 use Rattle.dcc_agree.proofs.ClosedLaws.{same_test}
-use Rattle.dcc_agree.proofs.FormLaws.{Input, first, second, carry, input_location, has_itself, made_by, IsWork}
+use Rattle.dcc_agree.proofs.FormLaws.{Input, first, second, input_location, has_itself, made_by, IsWork}
 use Rattle.dcc_agree.proofs.OperandLaws.{frame_read, in_cells, reads_by, IsOperandAt}
 use Rattle.dcc_agree.proofs.WorkLaws.{all_flags, worked, flags_written, and_true, and_again, and_moved, carry_if, carry_held, carry_framed, unread_frame, read_in_memory, two_read, two_are_read, first_of_two}
 use Rattle.dcc_agree.proofs.StoredLaws.{storing_agrees}

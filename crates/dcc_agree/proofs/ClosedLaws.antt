@@ -1,8 +1,8 @@
 -- Operations on halves and flags that are told by the operation alone: what they make and use is a table.
-use Rattle.std.proofs.Common.{◌≡◌, ◌<◌, ℕ, ℤ, zero, suc, Bool, true, false, not, ◌&&◌, ◌||◌, if◌then◌else◌, ◌⊎◌, inl, inr, List, [], ◌∷◌, ◌++◌, length, get_or, Option, Some, None, refl, sym, ap, ◌∙◌, subst, true≢false, arith}
+use Rattle.std.proofs.Common.{◌≡◌, ◌<◌, ℕ, ℤ, zero, suc, Bool, true, false, not, ◌&&◌, ◌||◌, ◌⊎◌, inl, inr, List, [], ◌∷◌, ◌++◌, length, get_or, Option, refl, sym, ap, ◌∙◌, subst, true≢false, arith}
 use Rattle.std.specs.Prelude.{Contains}
 use Rattle.std.specs.List.{list_all}
-use Rattle.std.proofs.lemmas.List.Elements.{Contains-append_left, Contains-append_right, Contains-append_cases}
+use Rattle.std.proofs.lemmas.List.Elements.{Contains-append_right, Contains-append_cases}
 use Rattle.dcc_num.specs.declared.Reg.TheVariants.{Ax, Cx, Dx, Bx, Sp, Bp, Si, Di}
 use Rattle.dcc_num.specs.declared.Half.{Half as HalfName}
 use Rattle.dcc_num.specs.declared.Half.TheVariants.{Low, High}
@@ -16,26 +16,23 @@ use Rattle.dcc_ir.specs.Location.{same_location}
 use Rattle.dcc_ir.specs.Tree.{Stmt}
 use Rattle.dcc_ir.specs.Live.{is_among}
 use Rattle.dcc_ir.proofs.LocationLaws.{location_same, location_itself, among_contains, contains_among}
-use Rattle.dcc_ir.proofs.PathLaws.{decided}
 use Rattle.dcc_lift.proofs.ListTests.{and_left, and_right, and_both, or_here, or_there, or_cases, not_true}
 use Rattle.dcc_coupled.specs.Procedures.{Procedure, pushed_of}
-use Rattle.dcc_demand.specs.Procedures.{Effect, Leaves, Makes, LeavesWord, Overwrites, Action, Procedures, is_left}
+use Rattle.dcc_demand.specs.Procedures.{Procedures}
 use Rattle.dcc_asks.specs.Bodies.{Body, Point, op_of}
-use Rattle.dcc_asks.specs.Places.{Place, held, in_frame, passes, passed, is_place, is_exposed_place}
+use Rattle.dcc_asks.specs.Places.{Place, held, in_frame, passes, passed}
 use Rattle.dcc_asks.specs.Values.{value_written, is_sure, value_made_of, value_uses}
-use Rattle.dcc_asks.specs.Instance as asks
 use Rattle.dcc_sums.specs.Points.{Position}
 use Rattle.dcc_sums.specs.Instance as sums
 use Rattle.dcc_match.specs.Refinement.{Refinement, Carries, Takes}
 use Rattle.dcc_sources.specs.Sources.{sources, used}
-use Rattle.dcc_sources.proofs.ListLaws.{only}
-use Rattle.dcc_refined.specs.LiftedRefinement.{inner_of, IsSame, IsSameWord}
+use Rattle.dcc_refined.specs.LiftedRefinement.{inner_of, IsSame}
 use Rattle.dcc_refined.proofs.SameLaws.{same_passes, one_location, SameCases, same_cases}
 use Rattle.dcc_agree.specs.Agreement.{Agrees}
 use Rattle.dcc_agree.proofs.IdleLaws.{same_once}
 use Rattle.dcc_agree.proofs.ShownLaws.{Shows, shows_one, shows_both, shows_alike}
 use Rattle.dcc_agree.proofs.OperationLaws.{IsValueOperation, CarriesOn, effect_there, word_there, callee_there, writes_if, carries_on, on_carries, uses_if, if_uses}
-use Rattle.dcc_agree.proofs.ValueLaws.{is_value, is_written, MakesValues, value_agrees}
+use Rattle.dcc_agree.proofs.ValueLaws.{is_value, is_written, value_agrees}
 
 -- Tests of all members.
 
@@ -226,7 +223,7 @@ module _ (coarse : Procedures ℕ Place ℤ) (fine : Procedures Position Loc Loc
           held found.0,
           found.3,
           if_uses coarse fine r entry at o bodies body point v (held found.0) found.1
-          (uses_are found.0 found.1 ∙ ap (is_among users) found.2 ∙ contains_among users l c),
+              (uses_are found.0 found.1 ∙ ap (is_among users) found.2 ∙ contains_among users l c),
         );
   }
 
@@ -235,15 +232,23 @@ module _ (coarse : Procedures ℕ Place ℤ) (fine : Procedures Position Loc Loc
   -- what it carries to a half or a flag
   carries_half : (to : Location) (L : Place) → CarriesOn coarse fine r entry at o bodies body point v L (held to) → passes (held to) ≡ true
       → (from : Location) × (L ≡ held from) × (passes (held from) ≡ true) × (carries_one to from ≡ true)
-  carries_half to (held from) (CarriesOn.made w q m) p =
-      (from, refl, q, or_here (value_written body op number (held to) && value_made_of body op (held to) (held from))
-      (same_location (inner_of from) (inner_of to) && not (value_written body op number (held to) && is_sure op (held to)))
-      (and_both (value_written body op number (held to)) (value_made_of body op (held to) (held from)) w m))
+  carries_half to (held from) (CarriesOn.made w q m) p = (
+    from,
+    refl,
+    q,
+    or_here (value_written body op number (held to) && value_made_of body op (held to) (held from))
+        (same_location (inner_of from) (inner_of to) && not (value_written body op number (held to) && is_sure op (held to)))
+        (and_both (value_written body op number (held to)) (value_made_of body op (held to) (held from)) w m),
+  )
   carries_half to (in_frame k) (CarriesOn.made w q m) p = absurd (true≢false (sym m ∙ closed.not_made to k))
-  carries_half to L (CarriesOn.stays e s) p =
-      (to, e, p, or_there (value_written body op number (held to) && value_made_of body op (held to) (held to))
-      (same_location (inner_of to) (inner_of to) && not (value_written body op number (held to) && is_sure op (held to)))
-      (and_both (same_location (inner_of to) (inner_of to)) (not (value_written body op number (held to) && is_sure op (held to))) (location_itself (inner_of to)) (ap not s)))
+  carries_half to L (CarriesOn.stays e s) p = (
+    to,
+    e,
+    p,
+    or_there (value_written body op number (held to) && value_made_of body op (held to) (held to))
+        (same_location (inner_of to) (inner_of to) && not (value_written body op number (held to) && is_sure op (held to)))
+        (and_both (same_location (inner_of to) (inner_of to)) (not (value_written body op number (held to) && is_sure op (held to))) (location_itself (inner_of to)) (ap not s)),
+  )
 
   one_carries : (to from : Location) → passes (held from) ≡ true → carries_one to from ≡ true → CarriesOn coarse fine r entry at o bodies body point v (held from) (held to)
   one_carries to from q t = elim (or_cases (value_written body op number (held to) && value_made_of body op (held to) (held from)) (same_location (inner_of from) (inner_of to) && not (value_written body op number (held to) && is_sure op (held to))) t) [

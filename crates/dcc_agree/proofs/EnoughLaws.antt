@@ -1,5 +1,5 @@
 -- Where all instructions of a program do what their statements do together, so do the points of its lifted form.
-use Rattle.std.proofs.Common.{◌≡◌, ℕ, ℤ, true, false, not, ◌&&◌, ◌==◌, if◌then◌else◌, List, [], ◌∷◌, map, Option, Some, None, refl, sym, ap, ◌∙◌, subst}
+use Rattle.std.proofs.Common.{◌≡◌, ℕ, ℤ, true, false, not, ◌&&◌, ◌==◌, List, [], ◌∷◌, map, Option, Some, None, refl, sym, ap, ◌∙◌, subst}
 use Rattle.std.specs.Prelude.{nat_lt}
 use Rattle.dcc_prog.specs.declared.image.Image.{Image}
 use Rattle.dcc_prog.specs.declared.frame.Program.{Program as Analysed}
@@ -25,7 +25,7 @@ use Rattle.dcc_points.specs.InstructionPoints.{points_by, points_at, end_sites}
 use Rattle.dcc_refined.specs.LiftedRefinement.{steps_in, lifted_refinement}
 use Rattle.dcc_refined.specs.Laws.{machine, inner, InstructionsAgree}
 use Rattle.dcc_refined.proofs.LinkLaws.{Standing}
-use Rattle.dcc_refined.proofs.EdgeLaws.{found_node, has_height}
+use Rattle.dcc_refined.proofs.EdgeLaws.{has_height}
 use Rattle.dcc_refined.proofs.RefinedLaws as refined
 use Rattle.dcc_agree.specs.Agreement.{ending, Agrees}
 use Rattle.dcc_agree.specs.Laws.{IsInstruction, AgreesWithItsStatements, AgreeingInstructionsAreEnough}

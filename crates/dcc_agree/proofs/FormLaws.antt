@@ -1,5 +1,5 @@
 -- Operations that take two operands, work on them and store the result.
-use Rattle.std.proofs.Common.{◌≡◌, ℕ, ℤ, Bool, true, false, not, ◌&&◌, ◌||◌, if◌then◌else◌, ◌⊎◌, inl, inr, List, [], ◌∷◌, ◌++◌, map, Option, Some, None, refl, sym, ap, ◌∙◌, subst, true≢false}
+use Rattle.std.proofs.Common.{◌≡◌, ℕ, ℤ, Bool, true, false, not, ◌&&◌, ◌||◌, if◌then◌else◌, ◌⊎◌, inl, inr, List, [], ◌∷◌, ◌++◌, map, Option, refl, sym, ap, ◌∙◌, subst, true≢false}
 use Rattle.std.specs.Prelude.{Contains, flat_map}
 use Rattle.std.specs.List.{list_any, list_all}
 use Rattle.std.proofs.lemmas.List.{append-nil}
@@ -17,15 +17,14 @@ use Rattle.dcc_ir.specs.declared.syntax.Loc.TheVariants.{Half, Flag, Cell, Temp}
 use Rattle.dcc_ir.specs.Location.{same_location}
 use Rattle.dcc_ir.specs.Tree.{Stmt}
 use Rattle.dcc_ir.specs.Live.{is_among}
-use Rattle.dcc_ir.proofs.PathLaws.{decided}
 use Rattle.dcc_ops.specs.Place.{Place as InnerPlace, constant, byte, word, memory, address, computed, taking, storing}
 use Rattle.dcc_ops.specs.Expressions.{result}
 use Rattle.dcc_ops.specs.Temporaries.{left_place, right_place, result_place}
-use Rattle.dcc_lift.proofs.ListTests.{and_left, and_right, and_both, or_here, or_there, or_cases, or_none, not_true}
+use Rattle.dcc_lift.proofs.ListTests.{and_left, and_right, and_both, or_here, or_there, or_cases, or_none}
 use Rattle.dcc_coupled.specs.Procedures.{Procedure, pushed_of}
 use Rattle.dcc_demand.specs.Procedures.{Procedures, is_left}
 use Rattle.dcc_asks.specs.Bodies.{Body, Point, op_of}
-use Rattle.dcc_asks.specs.Places.{Place, held, in_frame, passes, is_place}
+use Rattle.dcc_asks.specs.Places.{Place, held, in_frame, is_place}
 use Rattle.dcc_asks.specs.Values.{value_written, is_sure, value_made_of}
 use Rattle.dcc_sums.specs.Points.{Position}
 use Rattle.dcc_sums.specs.Instance.{written_by}
@@ -37,9 +36,9 @@ use Rattle.dcc_agree.specs.Agreement.{Agrees}
 use Rattle.dcc_agree.proofs.IdleLaws.{same_once}
 use Rattle.dcc_agree.proofs.ShownLaws.{Shows, shows_none, shows_one, shows_both, shows_alike}
 use Rattle.dcc_agree.proofs.ValueLaws.{is_value, is_written, value_agrees}
-use Rattle.dcc_agree.proofs.OperationLaws.{IsValueOperation, CarriesOn, effect_there, word_there, callee_there, writes_if, carries_on, on_carries}
+use Rattle.dcc_agree.proofs.OperationLaws.{IsValueOperation, CarriesOn, effect_there, word_there, callee_there, carries_on, on_carries}
 use Rattle.dcc_agree.proofs.ClosedLaws.{pushed_cell}
-use Rattle.dcc_agree.proofs.StageLaws.{HaveSame, have_itself, have_equal, have_then, have_mapped, have_same, have_tested, flat_twice, flat_still, sources_append, used_append, is_useless, used_useless, is_kept_place, reads_at, is_lasting, before_both, both_lasting, both_left, both_right, sources_taken, used_taken, outs, is_stored, has_kept, taking_writes, lasts_left, lasts_right, sources_storing, used_storing, written_storing, values_storing}
+use Rattle.dcc_agree.proofs.StageLaws.{HaveSame, have_itself, have_equal, have_then, have_mapped, have_same, have_tested, flat_still, sources_append, used_append, is_useless, used_useless, is_kept_place, reads_at, is_lasting, before_both, both_lasting, both_left, both_right, sources_taken, used_taken, outs, is_stored, has_kept, taking_writes, lasts_left, lasts_right, sources_storing, used_storing, written_storing, values_storing}
 
 -- What a result or a flag is made of: the two operands, CF as it comes in, or what stood there.
 pub data Input : Type 0 where

@@ -1,5 +1,5 @@
 -- Operands beside their places: what of them is read and written.
-use Rattle.std.proofs.Common.{◌≡◌, ℕ, ℤ, Bool, true, false, not, ◌&&◌, ◌||◌, if◌then◌else◌, ◌⊎◌, inl, inr, List, [], ◌∷◌, ◌++◌, Option, None, refl, sym, ap, ◌∙◌, subst, true≢false}
+use Rattle.std.proofs.Common.{◌≡◌, ℕ, ℤ, Bool, true, false, not, ◌&&◌, ◌||◌, ◌⊎◌, inl, inr, [], ◌∷◌, Option, None, refl, sym, ap, ◌∙◌, subst, true≢false}
 use Rattle.std.specs.Prelude.{Contains}
 use Rattle.std.specs.List.{list_any, list_all}
 use Rattle.dcc_num.specs.declared.Width.{Width}
@@ -14,12 +14,12 @@ use Rattle.dcc_prog.specs.Writes.{is_same_register, is_same_half, is_half_of}
 use Rattle.dcc_prog.specs.Wanted.{Location, half_of, flag_of, is_read, is_in_memory}
 use Rattle.dcc_prog.proofs.AlikeValues.{register-self, half-self}
 use Rattle.dcc_ir.specs.declared.syntax.Loc.{Loc}
-use Rattle.dcc_ir.specs.declared.syntax.Loc.TheVariants.{Half, Flag, Cell, Temp}
+use Rattle.dcc_ir.specs.declared.syntax.Loc.TheVariants.{Half}
 use Rattle.dcc_ir.specs.Location.{same_location}
 use Rattle.dcc_ir.specs.Live.{is_among}
 use Rattle.dcc_ir.proofs.LocationLaws.{Contains-here, Contains-later, Contains-none, Contains-cases, location_itself, location_same}
-use Rattle.dcc_ops.specs.Place.{Place as InnerPlace, constant, byte, word, memory, address, computed}
-use Rattle.dcc_ops.specs.Registers.{is_register, is_source, register_place}
+use Rattle.dcc_ops.specs.Place.{Place as InnerPlace, constant}
+use Rattle.dcc_ops.specs.Registers.{is_source, register_place}
 use Rattle.dcc_lift.proofs.ListTests.{and_left, and_right, and_both, or_here, or_there, or_cases, or_none, and_false, same_test}
 use Rattle.dcc_coupled.specs.Procedures.{Procedure}
 use Rattle.dcc_asks.specs.Bodies.{Body}
@@ -28,7 +28,6 @@ use Rattle.dcc_asks.proofs.PlaceLaws.{same-register, same-half}
 use Rattle.dcc_sources.proofs.ListLaws.{only}
 use Rattle.dcc_refined.specs.LiftedRefinement.{inner_of, IsSame}
 use Rattle.dcc_refined.proofs.SameLaws.{SameCases, same_cases}
-use Rattle.dcc_agree.proofs.IdleLaws.{same_once}
 use Rattle.dcc_agree.proofs.ShownLaws.{Shows}
 use Rattle.dcc_agree.proofs.StageLaws.{is_kept_place, reads_at, outs, is_stored, has_kept}
 

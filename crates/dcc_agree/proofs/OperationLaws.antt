@@ -1,10 +1,10 @@
 -- Operations that make values, in their procedure: what they do, by what is told of places.
-use Rattle.std.proofs.Common.{◌≡◌, ℕ, ℤ, Bool, true, false, not, ◌&&◌, if◌then◌else◌, ◌⊎◌, inl, inr, List, Option, None, refl, sym, ap, ◌∙◌, subst, true≢false}
+use Rattle.std.proofs.Common.{◌≡◌, ℕ, ℤ, Bool, true, false, not, ◌&&◌, if◌then◌else◌, inl, inr, List, Option, None, refl, sym, ap, ◌∙◌, subst, true≢false}
 use Rattle.dcc_prog.specs.declared.instr.Op.{Op}
 use Rattle.dcc_ir.specs.declared.syntax.Loc.{Loc}
 use Rattle.dcc_lift.proofs.ListTests.{and_left, and_right, and_both}
 use Rattle.dcc_coupled.specs.Procedures.{Procedure}
-use Rattle.dcc_demand.specs.Procedures.{Effect, Leaves, Makes, WordEffect, LeavesWord, Overwrites, Action, Procedures, is_left}
+use Rattle.dcc_demand.specs.Procedures.{Effect, Leaves, Makes, LeavesWord, Overwrites, Action, Procedures, is_left}
 use Rattle.dcc_asks.specs.Bodies.{Body, Point, op_of}
 use Rattle.dcc_asks.specs.Places.{Place, in_frame, is_place, is_exposed_place}
 use Rattle.dcc_asks.specs.Values.{value_written, is_sure, value_made_of, value_uses}

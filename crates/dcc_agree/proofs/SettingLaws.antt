@@ -1,5 +1,5 @@
 -- An instruction of a procedure that is found, in its setting.
-use Rattle.std.proofs.Common.{◌≡◌, ℕ, ℤ, Bool, true, false, ◌||◌, ◌&&◌, if◌then◌else◌, ◌==◌, List, [], ◌∷◌, Option, Some, None, refl, sym, ap, ◌∙◌, subst, true≢false}
+use Rattle.std.proofs.Common.{◌≡◌, ℕ, ℤ, Bool, false, ◌||◌, ◌&&◌, if◌then◌else◌, ◌==◌, List, [], ◌∷◌, Option, Some, None, refl, ap, ◌∙◌, true≢false}
 use Rattle.dcc_prog.specs.declared.image.Image.{Image}
 use Rattle.dcc_prog.specs.declared.frame.Program.{Program as Analysed}
 use Rattle.dcc_prog.specs.declared.procedure.Node.{Node}
@@ -10,12 +10,12 @@ use Rattle.dcc_ir.specs.declared.syntax.Loc.{Loc}
 use Rattle.dcc_ir.specs.Tree.{Program}
 use Rattle.dcc_coupled.specs.Procedures.{Procedure, procedure_at}
 use Rattle.dcc_coupled.specs.Nodes.{procedures_in}
-use Rattle.dcc_lift.specs.Blocks.{node_in, nodes_in, height_in}
+use Rattle.dcc_lift.specs.Blocks.{node_in, height_in}
 use Rattle.dcc_lift.specs.Translated.{IsTranslated}
 use Rattle.dcc_demand.specs.Procedures.{Leaves, Makes, LeavesWord, Overwrites, WordEffect, Procedures}
-use Rattle.dcc_asks.specs.Bodies.{Body, bodies_of, find_at, point_with, Point, op_of}
+use Rattle.dcc_asks.specs.Bodies.{Body, bodies_of, find_at, point_with, Point}
 use Rattle.dcc_asks.specs.Places.{Place, Spot, in_frame, is_accessed_by}
-use Rattle.dcc_asks.specs.Moves.{moved_effect, moved_made_of, moved_uses, moves_of, pushed_from, pushed_offset, pushed_spots}
+use Rattle.dcc_asks.specs.Moves.{moved_effect, moved_made_of, moved_uses, pushed_from, pushed_offset, pushed_spots}
 use Rattle.dcc_asks.specs.Values.{moves_or_calls, value_written, value_made_of, value_uses}
 use Rattle.dcc_asks.specs.Instance as asks
 use Rattle.dcc_sums.specs.Points.{Position}

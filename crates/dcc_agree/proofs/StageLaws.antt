@@ -1,29 +1,26 @@
 -- Statements in stages: operands are taken into temporaries, the result and flags are made of these, and the result is
 -- stored.
-use Rattle.std.proofs.Common.{◌≡◌, ℕ, Bool, true, false, not, ◌&&◌, ◌||◌, if◌then◌else◌, ◌⊎◌, inl, inr, List, [], ◌∷◌, ◌++◌, refl, sym, ap, ◌∙◌, subst, true≢false}
+use Rattle.std.proofs.Common.{◌≡◌, ℕ, Bool, true, false, ◌&&◌, ◌||◌, if◌then◌else◌, List, [], ◌∷◌, ◌++◌, refl, sym, ap, ◌∙◌, subst, true≢false}
 use Rattle.std.specs.Prelude.{Contains, flat_map}
 use Rattle.std.specs.List.{list_all}
 use Rattle.std.proofs.lemmas.List.{append-nil}
 use Rattle.std.proofs.lemmas.Grind.{flat_map-append}
-use Rattle.std.proofs.lemmas.List.Elements.{Contains-append_left, Contains-append_right, Contains-append_cases}
 use Rattle.dcc_num.specs.declared.Width.{Width}
 use Rattle.dcc_num.specs.declared.Width.TheVariants.{Byte as byte_width, Word as word_width}
-use Rattle.dcc_num.specs.declared.Half.{Half as HalfName}
-use Rattle.dcc_num.specs.declared.Reg.{Reg}
 use Rattle.dcc_ir.specs.declared.syntax.Loc.{Loc}
 use Rattle.dcc_ir.specs.declared.syntax.Loc.TheVariants.{Half, Flag, Cell, Temp}
 use Rattle.dcc_ir.specs.Location.{same_location}
-use Rattle.dcc_ir.specs.Tree.{Get, Part, Stmt, Set}
+use Rattle.dcc_ir.specs.Tree.{Part, Stmt, Set}
 use Rattle.dcc_ir.specs.Demand.{makes_of}
 use Rattle.dcc_ir.specs.Live.{is_among}
-use Rattle.dcc_ir.proofs.LocationLaws.{Contains-none, Contains-here, Contains-later, Contains-cases, among_contains, contains_among}
+use Rattle.dcc_ir.proofs.LocationLaws.{among_contains}
 use Rattle.dcc_ops.specs.Place.{Place, constant, byte, word, memory, address, computed, taking, storing}
 use Rattle.dcc_ops.specs.Expressions.{result}
 use Rattle.dcc_ops.specs.Temporaries.{left_place, right_place, result_place}
 use Rattle.dcc_lift.proofs.ListTests.{and_left, and_right, and_both, or_none}
 use Rattle.dcc_sums.specs.Instance.{used_by, written_by}
 use Rattle.dcc_sources.specs.Sources.{before, sources, used}
-use Rattle.dcc_sources.proofs.ListLaws.{in_flat, of_flat, only}
+use Rattle.dcc_sources.proofs.ListLaws.{in_flat, of_flat}
 use Rattle.dcc_agree.proofs.ClosedLaws.{all_contained}
 use Rattle.dcc_agree.proofs.ValueLaws.{is_value, is_written}
 

@@ -1,5 +1,5 @@
 -- Operations that store their result to an operand: what they do to places is what their statements do.
-use Rattle.std.proofs.Common.{◌≡◌, ℕ, ℤ, Bool, true, false, not, ◌&&◌, ◌||◌, if◌then◌else◌, ◌⊎◌, inl, inr, List, [], ◌∷◌, ◌++◌, map, Option, refl, sym, ap, ◌∙◌, subst, true≢false}
+use Rattle.std.proofs.Common.{◌≡◌, ℕ, ℤ, Bool, true, false, not, ◌&&◌, if◌then◌else◌, ◌⊎◌, inl, inr, List, [], ◌∷◌, map, Option, refl, sym, ap, ◌∙◌, true≢false}
 use Rattle.std.specs.Prelude.{Contains, flat_map}
 use Rattle.std.specs.List.{list_any, list_all}
 use Rattle.dcc_num.specs.declared.Width.{Width}
@@ -18,24 +18,23 @@ use Rattle.dcc_ir.specs.Live.{is_among}
 use Rattle.dcc_ir.proofs.PathLaws.{decided}
 use Rattle.dcc_ops.specs.Place.{Place as InnerPlace}
 use Rattle.dcc_ops.specs.Temporaries.{result_place}
-use Rattle.dcc_lift.proofs.ListTests.{and_left, and_right, and_both, and_false, or_here, or_there, or_cases, not_true}
+use Rattle.dcc_lift.proofs.ListTests.{and_left, and_right, and_both, and_false, or_here, or_there, or_cases}
 use Rattle.dcc_coupled.specs.Procedures.{Procedure}
-use Rattle.dcc_demand.specs.Procedures.{Procedures, is_left}
+use Rattle.dcc_demand.specs.Procedures.{Procedures}
 use Rattle.dcc_asks.specs.Bodies.{Body, Point, op_of}
 use Rattle.dcc_asks.specs.Places.{Place, Spot, placed, in_memory, nowhere, held, in_frame, is_at, is_placed, is_place, spots_of_memory}
 use Rattle.dcc_asks.specs.Values.{value_written, is_sure, value_made_of, value_uses}
 use Rattle.dcc_sums.specs.Points.{Position}
 use Rattle.dcc_match.specs.Refinement.{Refinement, Takes}
-use Rattle.dcc_sources.specs.Sources.{sources, used}
 use Rattle.dcc_refined.specs.LiftedRefinement.{inner_of, IsSame}
 use Rattle.dcc_refined.proofs.SameLaws.{SameCases, same_cases}
 use Rattle.dcc_agree.specs.Agreement.{Agrees}
 use Rattle.dcc_agree.proofs.ShownLaws.{Shows}
 use Rattle.dcc_agree.proofs.ValueLaws.{is_written}
 use Rattle.dcc_agree.proofs.OperationLaws.{IsValueOperation, made_there, writes_if, if_writes, uses_if, if_uses}
-use Rattle.dcc_agree.proofs.StageLaws.{is_kept_place, reads_at, is_lasting, before_both, outs, is_stored, has_kept}
-use Rattle.dcc_agree.proofs.FormLaws.{Input, first, second, carry, itself, input_location, has_itself, input_reads, made_by, IsWork, form_stmts, IsForm, form_agrees}
-use Rattle.dcc_agree.proofs.OperandLaws.{frame_read, in_cells, reads_by, writes_by, IsOperandAt}
+use Rattle.dcc_agree.proofs.StageLaws.{is_kept_place, reads_at, is_lasting, before_both, outs, is_stored}
+use Rattle.dcc_agree.proofs.FormLaws.{Input, first, second, carry, itself, input_location, has_itself, input_reads, made_by, IsWork, form_stmts, form_agrees}
+use Rattle.dcc_agree.proofs.OperandLaws.{frame_read, in_cells, writes_by, IsOperandAt}
 
 -- a byte of an operand that is read stands in a cell
 pub read_in_cells : (body : Body) (a : Operand) (k : ℤ) → frame_read body a k ≡ true → in_cells body a ≡ true
@@ -127,14 +126,9 @@ module _ (coarse : Procedures ℕ Place ℤ) (fine : Procedures Position Loc Loc
 
     -- What is written and made.
 
-    writes_kept : (A : Place) → writes_by body a A ≡ writes_by body a A → (l : Loc) → IsSame o A l → is_kept_place l ≡ true → writes_at A ≡ (stored && writes_by body a A)
-    writes_kept (held (half_of q h)) e l s t = f.writes_half q h ∙ swap (is_general q) stored (is_half_of q h a)
-      where
-        swap : (x y z : Bool) → (x && (y && z)) ≡ (y && (x && z))
-        swap true y z = refl
-        swap false true z = refl
-        swap false false z = refl
-    writes_kept (held (flag_of g)) e l s t = absurd (by (same_cases o s))
+    -- a flag is no half
+    no_flag : (g : FlagName) (l : Loc) → IsSame o (held (flag_of g)) l → is_kept_place l ≡ true → ⊥
+    no_flag g l s t = by (same_cases o s)
       where
         at_flag : (location : Location) → held (flag_of g) ≡ held location → l ≡ inner_of location → ⊥
         at_flag (half_of q h) e f = cc e
@@ -143,6 +137,15 @@ module _ (coarse : Procedures ℕ Place ℤ) (fine : Procedures Position Loc Loc
         by : SameCases o (held (flag_of g)) l → ⊥
         by (SameCases.by_held location p e f) = at_flag location e f
         by (SameCases.by_kept found k p e kept h) = cc e
+
+    writes_kept : (A : Place) → writes_by body a A ≡ writes_by body a A → (l : Loc) → IsSame o A l → is_kept_place l ≡ true → writes_at A ≡ (stored && writes_by body a A)
+    writes_kept (held (half_of q h)) e l s t = f.writes_half q h ∙ swap (is_general q) stored (is_half_of q h a)
+      where
+        swap : (x y z : Bool) → (x && (y && z)) ≡ (y && (x && z))
+        swap true y z = refl
+        swap false true z = refl
+        swap false false z = refl
+    writes_kept (held (flag_of g)) e l s t = absurd (no_flag g l s t)
     writes_kept (in_frame k) e l s t = f.writes_frame k
 
     stored_outs : (l : Loc) → (stored && is_among (outs P) l) ≡ is_among (if stored then outs P else []) l
@@ -164,15 +167,7 @@ module _ (coarse : Procedures ℕ Place ℤ) (fine : Procedures Position Loc Loc
 
     sure_place : (A : Place) (l : Loc) → r.same entry A l → is_kept_place l ≡ true → is_sure (op_of point) A ≡ true
     sure_place (held (half_of q h)) l s t = f.sure_half q h
-    sure_place (held (flag_of g)) l s t = absurd (by (same_cases o (v.same (held (flag_of g)) l s)))
-      where
-        at_flag : (location : Location) → held (flag_of g) ≡ held location → l ≡ inner_of location → ⊥
-        at_flag (half_of q h) e f = cc e
-        at_flag (flag_of other) e f = true≢false (sym t ∙ ap is_kept_place f)
-
-        by : SameCases o (held (flag_of g)) l → ⊥
-        by (SameCases.by_held location p e f) = at_flag location e f
-        by (SameCases.by_kept found k p e kept h) = cc e
+    sure_place (held (flag_of g)) l s t = absurd (no_flag g l (v.same (held (flag_of g)) l s) t)
     sure_place (in_frame k) l s t = f.sure_frame k
 
     -- What is used.
@@ -191,7 +186,7 @@ module _ (coarse : Procedures ℕ Place ℤ) (fine : Procedures Position Loc Loc
         let both = sym (f.uses_held location) ∙ u in
         let left = and_left (stored && (is_in_memory a && not (in_cells body a))) (made_so result_inputs (held location)) both in (
           store_to (and_left stored (is_in_memory a && not (in_cells body a)) left)
-          (λ e. true≢false (sym (and_right stored (is_in_memory a && not (in_cells body a)) left) ∙ (f.operand.unstored e).0)),
+              (λ e. true≢false (sym (and_right stored (is_in_memory a && not (in_cells body a)) left) ∙ (f.operand.unstored e).0)),
           p,
           and_right (stored && (is_in_memory a && not (in_cells body a))) (made_so result_inputs (held location)) both,
         )
@@ -233,7 +228,7 @@ module _ (coarse : Procedures ℕ Place ℤ) (fine : Procedures Position Loc Loc
             f.next.1,
             if_writes coarse fine r entry at o bodies body point v (in_frame x.0) (f.writes_frame x.0 ∙ both),
             made_there coarse fine r entry at o bodies body point v (in_frame x.0) L
-            ∙ and_both (is_place body L) (value_made_of body (op_of point) (in_frame x.0) L) p (f.makes_frame x.0 both L ∙ m),
+                ∙ and_both (is_place body L) (value_made_of body (op_of point) (in_frame x.0) L) p (f.makes_frame x.0 both L ∙ m),
           )
     ]
 

@@ -1,15 +1,14 @@
 -- Operations that make values: they write locations by values of their own, and save and call nothing.
-use Rattle.std.proofs.Common.{◌≡◌, ℕ, ℤ, Bool, true, false, ◌&&◌, ◌||◌, if◌then◌else◌, ◌⊎◌, inl, inr, List, [], ◌∷◌, ◌++◌, Option, None, refl, sym, ap, ◌∙◌, subst, true≢false}
-use Rattle.std.specs.Prelude.{Contains}
-use Rattle.std.specs.List.{list_any, list_all}
-use Rattle.std.proofs.lemmas.List.Elements.{Contains-append_left, Contains-append_right, Contains-append_cases}
+use Rattle.std.proofs.Common.{◌≡◌, ℕ, ℤ, Bool, true, false, ◌||◌, if◌then◌else◌, ◌⊎◌, inl, List, [], ◌∷◌, ◌++◌, None, refl, sym, ap, ◌∙◌, subst, true≢false}
+use Rattle.std.specs.List.{list_all}
+use Rattle.std.proofs.lemmas.List.Elements.{Contains-append_left, Contains-append_cases}
 use Rattle.dcc_num.specs.declared.Half.{Half as HalfName}
 use Rattle.dcc_ir.specs.declared.syntax.Loc.{Loc}
 use Rattle.dcc_ir.specs.declared.syntax.Loc.TheVariants.{Half, Flag, Cell, Temp}
-use Rattle.dcc_ir.specs.Tree.{Expr, Get, Stmt, Set, Call}
+use Rattle.dcc_ir.specs.Tree.{Get, Stmt, Set, Call}
 use Rattle.dcc_ir.specs.Live.{is_among}
 use Rattle.dcc_lift.proofs.ListTests.{and_left, and_right}
-use Rattle.dcc_demand.specs.Procedures.{Effect, Leaves, Makes, WordEffect, LeavesWord, Overwrites, Pops, Pushes, Action, Procedure, Procedures, is_left}
+use Rattle.dcc_demand.specs.Procedures.{Effect, Leaves, Makes, LeavesWord, Overwrites, Pops, Pushes, Action, Procedure, Procedures, is_left}
 use Rattle.dcc_asks.specs.Places.{Place}
 use Rattle.dcc_sums.specs.Points.{Position}
 use Rattle.dcc_sums.specs.Instance.{written_by, effect_of, word_effect_of, action_of}
@@ -51,7 +50,6 @@ module _ (g : Procedure Position Loc Loc) (pushed : ℕ) where
   loses_later y (LosesAtOnce.popped_open o) = LosesAtOnce.popped_open o
 
   effect_left : (ss : List Stmt) (l : Loc) → is_written ss l ≡ false → effect_after pushed ss l ≡ Leaves
-
   effect_left [] l w = refl
   effect_left (s ∷ ss) l w = by (is_written ss l) refl w (λ f. effect_left ss l f)
     where

@@ -1,5 +1,5 @@
 -- What is done between taking and storing, told by tables; and tests that several operations share.
-use Rattle.std.proofs.Common.{◌≡◌, ℕ, ℤ, Bool, true, false, not, ◌&&◌, ◌||◌, if◌then◌else◌, ◌⊎◌, inl, inr, List, [], ◌∷◌, ◌++◌, map, Option, Some, None, refl, sym, ap, ◌∙◌, subst, true≢false}
+use Rattle.std.proofs.Common.{◌≡◌, ℕ, ℤ, Bool, true, false, not, ◌&&◌, ◌||◌, if◌then◌else◌, List, [], ◌∷◌, map, refl, sym, ap, ◌∙◌, true≢false}
 use Rattle.std.specs.List.{list_any, list_all}
 use Rattle.dcc_num.specs.declared.Width.{Width}
 use Rattle.dcc_num.specs.declared.Reg.{Reg}
@@ -8,22 +8,21 @@ use Rattle.dcc_num.specs.declared.FlagName.{FlagName}
 use Rattle.dcc_num.specs.declared.FlagName.TheVariants.{Cf, Zf, Sf, Of}
 use Rattle.dcc_prog.specs.declared.instr.Operand.{Operand}
 use Rattle.dcc_prog.specs.declared.instr.Operand.TheVariants.{Word, Byte, Seg, Mem, Const}
-use Rattle.dcc_prog.specs.Frame.{memory_of, memory_of_two}
-use Rattle.dcc_prog.specs.Wanted.{Location, flag_of, is_flag, is_in_memory}
+use Rattle.dcc_prog.specs.Frame.{memory_of_two}
+use Rattle.dcc_prog.specs.Wanted.{Location, is_flag, is_in_memory}
 use Rattle.dcc_stack.specs.Slots.{is_memory}
-use Rattle.dcc_ir.specs.declared.syntax.Loc.{Loc}
 use Rattle.dcc_ir.specs.declared.syntax.Loc.TheVariants.{Half, Flag, Cell}
 use Rattle.dcc_ir.specs.Tree.{Stmt}
 use Rattle.dcc_ops.specs.Temporaries.{result_place}
-use Rattle.dcc_lift.proofs.ListTests.{and_left, and_right, or_here, or_none, not_true}
+use Rattle.dcc_lift.proofs.ListTests.{and_left, and_right, or_none, not_true}
 use Rattle.dcc_asks.specs.Bodies.{Body}
-use Rattle.dcc_asks.specs.Places.{Place, held, in_frame, is_at, is_placed, spots_of_memory}
+use Rattle.dcc_asks.specs.Places.{Place, held, in_frame, is_at, spots_of_memory}
 use Rattle.dcc_sources.specs.Sources.{sources}
 use Rattle.dcc_agree.proofs.ValueLaws.{is_value, is_written}
 use Rattle.dcc_agree.proofs.StageLaws.{have_same, is_useless}
 use Rattle.dcc_agree.proofs.ClosedLaws.{same_test, tests_same}
-use Rattle.dcc_agree.proofs.FormLaws.{Input, first, second, carry, itself, input_location, has_itself, input_reads, made_by, IsWork}
-use Rattle.dcc_agree.proofs.OperandLaws.{frame_read, in_cells}
+use Rattle.dcc_agree.proofs.FormLaws.{Input, carry, input_location, has_itself, made_by, IsWork}
+use Rattle.dcc_agree.proofs.OperandLaws.{frame_read}
 
 -- Tests of flags.
 

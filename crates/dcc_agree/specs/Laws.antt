@@ -1,12 +1,13 @@
 -- Instructions that do what their statements do together are all that is to be shown of them.
-use Rattle.std.specs.Prelude.{◌≡◌, ℕ, Bool, true, false, Some}
+use Rattle.std.specs.Prelude.{◌≡◌, ℕ, Bool, true, false, ◌&&◌, Some}
 use Rattle.dcc_prog.specs.declared.image.Image.{Image}
 use Rattle.dcc_prog.specs.declared.frame.Program.{Program as Analysed}
 use Rattle.dcc_prog.specs.declared.procedure.Node.{Node}
 use Rattle.dcc_prog.specs.declared.instr.Plain.TheVariants.{Xlat}
 use Rattle.dcc_prog.specs.declared.instr.Op.{Op}
-use Rattle.dcc_prog.specs.declared.instr.Op.TheVariants.{Enter, Leave, Plain, Jump, Branch, Loop, LoopE, LoopNe, Jcxz, Ret}
+use Rattle.dcc_prog.specs.declared.instr.Op.TheVariants.{Alu, Enter, Leave, Plain, Jump, Branch, Loop, LoopE, LoopNe, Jcxz, Ret}
 use Rattle.dcc_ir.specs.Tree.{Program}
+use Rattle.dcc_ops.specs.Registers.{is_register, is_source}
 use Rattle.dcc_coupled.specs.Procedures.{pushed_of}
 use Rattle.dcc_coupled.specs.Statements.{node_stmts}
 use Rattle.dcc_lift.specs.Blocks.{node_in, Scene, nodes_in, height_in}
@@ -29,6 +30,11 @@ is_table_told (LoopNe target) = true
 is_table_told (Jcxz target) = true
 is_table_told (Ret count) = true
 is_table_told op = false
+
+-- of these it is shown
+abbrev pub is_shown : Op → Bool
+is_shown (Alu operation a b) = is_register a && is_source b
+is_shown op = is_table_told op
 
 module _ (image : Image) (program : Analysed) (p : Program) where
   -- an instruction of a procedure that is found, with the height of the stack before it
@@ -58,5 +64,5 @@ abbrev pub ShownInstructionsAgree : Type 0
 ShownInstructionsAgree =
     (image : Image) (program : Analysed) (p : Program) → IsTranslated image program p
     → (entry at : ℕ) (scene : Scene) (node : Node) (height : ℕ)
-    → IsInstruction image program p entry at scene node height → is_table_told node.instr.op ≡ true
+    → IsInstruction image program p entry at scene node height → is_shown node.instr.op ≡ true
     → AgreesWithItsStatements image program p entry at scene node height

@@ -10,7 +10,8 @@ pub fn agreeing_instructions_are_enough()
     ensures { AgreeingInstructionsAreEnough }
 {}
 
-/// Instructions do what their statements do together that have no operand, jump or return.
+/// Instructions that are shown to do what their statements do together: those without operand, jumps, returns, and sums,
+/// differences, comparisons and logic of registers.
 pub fn shown_instructions_agree()
     ensures { ShownInstructionsAgree }
 {}

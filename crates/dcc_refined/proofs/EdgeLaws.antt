@@ -52,7 +52,7 @@ callee_by None = None
 callee_by (Some node) = asks.callee_of node.instr.op
 
 module _ (body : Body) (heights : map (λ found. found.0) body.heights ≡ map (λ (found : ℕ × Node). found.0) (nodes_of body)) where
-  next_is : (at : ℕ) → asks.next_of (point_at body at) ≡ successors_in (node_in (nodes_of body) at)
+  pub next_is : (at : ℕ) → asks.next_of (point_at body at) ≡ successors_in (node_in (nodes_of body) at)
   next_is at = by (node_in (nodes_of body) at) refl
     where
       by : (o : Option Node) → node_in (nodes_of body) at ≡ o → asks.next_of (point_at body at) ≡ successors_in o
