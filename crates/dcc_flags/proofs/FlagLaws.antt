@@ -21,7 +21,7 @@ use Rattle.dcc_flags.specs.declared.kept.Kept.{Kept}
 use Rattle.dcc_flags.specs.Reaching.{has_result, IsKept, param, result}
 use Rattle.dcc_flags.specs.Folding.{is_kept, Choices, choice, with_choices, stmt_with_choices, exit_with_choices, Taken, taken, has_truth, goes_with, stmt_folded, stmts_folded, bare_stmts, first_choice, first_choices, folded_graph}
 use Rattle.dcc_flags.specs.Folded.{mentions}
-use Rattle.dcc_flags.proofs.ExprLaws.{and_both}
+use Rattle.dcc_flow.proofs.FormedExprs.{and_both}
 use Rattle.dcc_flags.proofs.MeetLaws.{by_kept}
 use Rattle.dcc_flags.proofs.PartLaws.{neither, none_in, has_part, OfKind, in_chosen, chosen_lacks, none_has, copies_lack, OfReads, value_lacks, got_is}
 use Rattle.dcc_flags.proofs.EachLaws.{Each, each_at, ValuesHave, each_past, each_end, each_block}

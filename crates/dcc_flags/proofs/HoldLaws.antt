@@ -24,10 +24,11 @@ use Rattle.dcc_flags.specs.declared.kept.Kept.{Kept}
 use Rattle.dcc_flags.specs.Reaching.{Definition, Start, At, defines, chooses, rest_at, Reaches, begins, defined, passes, goes, reads_at, has_result, IsKept, result, both as both_reach}
 use Rattle.dcc_flags.specs.Folding.{is_kept, choice, with_choice, with_choices, chosen, taken, Taken, Folded, stmt_folded}
 use Rattle.dcc_flags.specs.Fresh.{is_between, is_over}
-use Rattle.dcc_flags.proofs.ExprLaws.{and_both, expr_more, AreBits, choices-value}
+use Rattle.dcc_flow.proofs.FormedExprs.{and_both, reads_placed}
+use Rattle.dcc_flags.proofs.ExprLaws.{expr_more, AreBits, choices-value}
 use Rattle.dcc_flags.proofs.TakenLaws.{IsTaken, taken_value, after_sets, after_bits, sets_same, over_value, temp_outside, le_true}
 use Rattle.dcc_flags.proofs.SpotLaws.{Spot, past, walked_more, walked_later, walked_front, past_grows, choice_itself, choice_other, Fine, fine_walked, def_taken, expr_still}
-use Rattle.dcc_flags.proofs.PlanLaws.{reads_placed, same_definition, same_is, other_is, sets_of, stmts_at, spot_at, left_by, end_bits, IsLeft, Plan}
+use Rattle.dcc_flags.proofs.PlanLaws.{same_definition, same_is, other_is, sets_of, stmts_at, spot_at, left_by, end_bits, IsLeft, Plan}
 
 some_stmt : (a b : Stmt) (xs ys : List Stmt) → a ∷ xs ≡ b ∷ ys → a ≡ b
 some_stmt a b xs ys e = cc

@@ -1,50 +1,22 @@
 -- A graph in which flags are folded goes on as the graph before: what is chosen for a flag has its value, wherever one
 -- definition alone reaches a read.
-use Rattle.std.proofs.Common.{◌≡◌, ◌≢◌, ℕ, suc, ◌+◌, ◌<◌, ◌≤◌, Bool, true, false, ◌&&◌, ◌||◌, ◌⊎◌, List, [], ◌++◌, length, Some, None, refl, sym, ap, ap₂, ◌∙◌, subst, true≢false, flat_map, slice_get, get_or, eqb-true, eq-eqb}
-use Rattle.std.specs.Prelude.{◌==◌, nat_lt, nat_le, All}
+use Rattle.std.proofs.Common.{◌≡◌, ◌≢◌, ℕ, suc, ◌+◌, ◌<◌, ◌≤◌, Bool, true, false, ◌&&◌, ◌||◌, ◌⊎◌, List, ◌++◌, length, Some, None, refl, sym, ap, ap₂, ◌∙◌, subst, true≢false, slice_get, get_or, eqb-true, eq-eqb}
+use Rattle.std.specs.Prelude.{◌==◌}
 use Rattle.std.specs.List.{list_all}
-use Rattle.std.proofs.lemmas.List.Elements.{All-nil, All-cons, All-append}
 use Rattle.dcc_num.specs.declared.FlagName.{FlagName}
-use Rattle.dcc_ir.specs.declared.syntax.Loc.{Loc}
 use Rattle.dcc_ir.specs.declared.syntax.BinOp.{BinOp}
 use Rattle.dcc_ir.specs.declared.syntax.Loc.TheVariants.{Half, Flag, Cell, Temp}
 use Rattle.dcc_ir.specs.Tree.{Expr, Const, Get, Load, Unary, Binary, Widen, Part, Join, Choose, Address, Stmt, Set, Fetch, Store, Div, Call, Dos, Graph}
 use Rattle.dcc_ir.specs.Location.{flag_number, location_width}
-use Rattle.dcc_ir.specs.WellFormed.{is_width, is_stored_width, is_location, is_division, is_expr, is_expr_of, is_byte_place, is_stmt}
-use Rattle.dcc_ir.specs.Use.{parts_of, got_by, reads_of}
+use Rattle.dcc_ir.specs.WellFormed.{is_width, is_stored_width, is_location, is_division, is_expr_of, is_byte_place, is_stmt}
 use Rattle.dcc_ir.specs.Live.{block_in, follows}
 use Rattle.dcc_ir.proofs.FitLaws.{both}
 use Rattle.dcc_ir.proofs.LocationLaws.{flag_same}
-use Rattle.std.proofs.lemmas.List.Concat.{flat_map-append}
 use Rattle.dcc_flags.specs.declared.kept.Kept.{Kept}
 use Rattle.dcc_flags.specs.Reaching.{Definition, Start, At, defines, Reaches, has_result}
 use Rattle.dcc_flags.specs.Folding.{is_kept, choice, stmts_folded, block_folded}
-use Rattle.dcc_flags.proofs.ExprLaws.{and_both, binary_formed, unary_formed, load_formed, within_formed, join_formed, choose_formed}
+use Rattle.dcc_flow.proofs.FormedExprs.{and_both}
 use Rattle.dcc_flags.proofs.SpotLaws.{Spot, walked, Fine}
-
--- The locations that a well-formed expression reads are locations of the graph.
-
-both_read : (P : Loc → Type 0) (xs ys : List Expr) → All P (flat_map got_by xs) → All P (flat_map got_by ys) → All P (flat_map got_by (xs ++ ys))
-both_read P xs ys p q = subst (All P) (sym (flat_map-append got_by xs ys)) (All-append P (flat_map got_by xs) (flat_map got_by ys) p q)
-
-pub reads_placed : (bits : List ℕ) (e : Expr) → is_expr bits e ≡ true → All (λ l. is_location bits l ≡ true) (reads_of e)
-reads_placed bits (Const w n) ok = All-nil (λ l. is_location bits l ≡ true)
-reads_placed bits (Get l) ok = All-cons (λ l. is_location bits l ≡ true) l [] ok (All-nil (λ l. is_location bits l ≡ true))
-reads_placed bits (Load w a) ok = reads_placed bits a (load_formed bits w a ok).inner
-reads_placed bits (Unary o w a) ok = reads_placed bits a (unary_formed bits o w a ok).inner
-reads_placed bits (Binary o w a b) ok =
-    let f = binary_formed bits o w a b ok in
-    both_read (λ l. is_location bits l ≡ true) (parts_of a) (parts_of b) (reads_placed bits a f.left) (reads_placed bits b f.right)
-reads_placed bits (Widen s w a) ok = reads_placed bits a (within_formed bits w a (λ n. nat_lt n w) ok).inner
-reads_placed bits (Part w k a) ok = reads_placed bits a (within_formed bits w a (λ n. nat_le (k + w) n) ok).inner
-reads_placed bits (Join a b) ok =
-    let f = join_formed bits a b ok in
-    both_read (λ l. is_location bits l ≡ true) (parts_of a) (parts_of b) (reads_placed bits a f.upper) (reads_placed bits b f.lower)
-reads_placed bits (Choose x a b) ok =
-    let f = choose_formed bits x a b ok in
-    both_read (λ l. is_location bits l ≡ true) (parts_of x ++ parts_of a) (parts_of b)
-    (both_read (λ l. is_location bits l ≡ true) (parts_of x) (parts_of a) (reads_placed bits x f.tested) (reads_placed bits a f.one)) (reads_placed bits b f.other)
-reads_placed bits (Address d) ok = All-nil (λ l. is_location bits l ≡ true)
 
 -- Definitions.
 

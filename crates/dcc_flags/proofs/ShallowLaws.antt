@@ -24,7 +24,7 @@ use Rattle.dcc_flags.specs.declared.kept.Kept.{Kept}
 use Rattle.dcc_flags.specs.Reaching.{Definition, Start, At, has_arm, has_result, defines, chooses, lets_through, rest_at, reads_at, Reaches, begins, defined, passes, goes, IsKept}
 use Rattle.dcc_flags.specs.Reaching.IsKept.{both as two_reach}
 use Rattle.dcc_flags.specs.Folding.{is_kept, Choices, choice, with_choices, stmt_with_choices, exit_with_choices, taken, goes_with, first_choice, first_choices, stmt_folded, stmts_folded, bare_stmts, bare_block, block_folded, Folding, fold_block, fold_blocks, folded_graph}
-use Rattle.dcc_flags.proofs.ExprLaws.{and_both}
+use Rattle.dcc_flow.proofs.FormedExprs.{and_both}
 use Rattle.dcc_flags.proofs.MeetLaws.{by_kept}
 use Rattle.dcc_flags.proofs.HoldLaws.{drop_next}
 use Rattle.dcc_flags.proofs.SpotLaws.{Spot, past, choice_itself, Fine, fine_past}

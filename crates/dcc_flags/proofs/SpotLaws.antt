@@ -18,7 +18,8 @@ use Rattle.dcc_flags.specs.declared.kept.Kept.{Kept}
 use Rattle.dcc_flags.specs.Folding.{is_kept, Choices, choice, with_choice, with_choices, stmt_with_choices, exit_with_choices, Taken, taken, Folded, stmt_folded, stmts_folded}
 use Rattle.dcc_flags.specs.Fresh.{is_over}
 use Rattle.dcc_ir.proofs.passes.FormLaws.{width_more}
-use Rattle.dcc_flags.proofs.ExprLaws.{and_both, Formed, expr_more, location_more, AreBits, choices_still}
+use Rattle.dcc_flow.proofs.FormedExprs.{and_both}
+use Rattle.dcc_flags.proofs.ExprLaws.{Formed, expr_more, location_more, AreBits, choices_still}
 use Rattle.dcc_flags.proofs.TakenLaws.{widths_more, over_wide, IsTaken, taken_is}
 
 -- Choices.

@@ -15,7 +15,8 @@ use Rattle.dcc_ir.proofs.PathLaws.{decided}
 use Rattle.dcc_flags.specs.Folding.{Taken, has_truth, bits_in, copied, one_taken, two_taken, taken}
 use Rattle.dcc_flags.specs.Fresh.{is_between, is_over}
 use Rattle.dcc_ir.proofs.passes.FormLaws.{width_more}
-use Rattle.dcc_flags.proofs.ExprLaws.{and_both, Formed, unary_formed, binary_formed, within_formed, join_formed, choose_formed, ChooseFormed, make_choose, load_formed, unary_still, binary_still, widen_still, part_still, join_still, choose_still, expr_more}
+use Rattle.dcc_flow.proofs.FormedExprs.{and_both, unary_formed, binary_formed, within_formed, join_formed, choose_formed, ChooseFormed, make_choose, load_formed}
+use Rattle.dcc_flags.proofs.ExprLaws.{Formed, unary_still, binary_still, widen_still, part_still, join_still, choose_still, expr_more}
 
 -- Widths.
 

@@ -29,7 +29,8 @@ use Rattle.dcc_ir.specs.declared.syntax.Put.TheVariants.{Memory, One, Two}
 use Rattle.dcc_ir.specs.declared.syntax.Param.{Param}
 use Rattle.dcc_ir.proofs.ReachedLaws.{contained}
 use Rattle.std.proofs.lemmas.List.Elements.{All-contains, All-head, All-tail, All-from_get_or}
-use Rattle.dcc_flags.proofs.ExprLaws.{and_both, location_more}
+use Rattle.dcc_flow.proofs.FormedExprs.{and_both}
+use Rattle.dcc_flags.proofs.ExprLaws.{location_more}
 use Rattle.dcc_flags.proofs.TakenLaws.{is_copy, copies_more, all_append, widths_more, le_true, get_at_end, length_at_end}
 use Rattle.dcc_flags.proofs.SpotLaws.{Spot, past, Told, Fine, fine_past, fine_wider, def_taken, exprs_still, stmt_still, exit_still, rets_still, targets_still, jump_still}
 use Rattle.dcc_flags.proofs.MeetLaws.{by_kept}

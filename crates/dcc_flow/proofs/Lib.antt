@@ -6,3 +6,6 @@ pub mod SourceLaws
 pub mod Sums
 pub mod WordLaws
 pub mod WorkLaws
+pub mod FormedExprs
+pub mod MarkLaws
+pub mod MentionLaws

@@ -6,4 +6,7 @@ pub mod Uses
 pub mod Sources
 pub mod Search
 pub mod Work
+pub mod Marks
+pub mod Access
+pub mod Mentions
 pub use Rattle.dcc_ir.specs.WellFormed

@@ -17,7 +17,7 @@ use Rattle.dcc_ir.specs.Replaced.{MayReplace}
 use Rattle.dcc_ir.specs.WellFormed.{IsGraph}
 use Rattle.dcc_ir.proofs.FamilyLaws.{wanted-closed}
 use Rattle.dcc_ir.proofs.passes.ReplaceLaws.{graph_still, kept_with}
-use Rattle.dcc_live.specs.Access.{access_of, block_access_of}
+use Rattle.dcc_flow.specs.Access.{access_of, block_access_of}
 use Rattle.dcc_live.specs.Wanted.{stays, before_all, after_stmts, left_of, block_left, blocks_left, AreWantedAtEnds}
 use Rattle.dcc_live.specs.Dead.{IsWithoutUnwanted}
 use Rattle.dcc_live.proofs.RowLaws.{map_read}

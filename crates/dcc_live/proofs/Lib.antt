@@ -1,5 +1,3 @@
-pub mod MarkLaws
-pub mod MentionLaws
 pub mod RowLaws
 pub mod WantedLaws
 pub mod WorkLaws

@@ -17,8 +17,8 @@ use Rattle.dcc_flow.specs.Edges.{is_in, leads, successors_of}
 use Rattle.dcc_flow.specs.Uses.{holds, AreLists, IsUsedAfter, AreUses}
 use Rattle.dcc_flow.proofs.SourceLaws.{predecessor_within}
 use Rattle.dcc_flow.proofs.RowLaws.{successors_within, length_successors}
-use Rattle.dcc_live.specs.Access.{block_access_of, accesses_of}
-use Rattle.dcc_live.specs.Marks.{selected}
+use Rattle.dcc_flow.specs.Access.{block_access_of, accesses_of}
+use Rattle.dcc_flow.specs.Marks.{selected}
 use Rattle.dcc_live.specs.First.{Row, row_of, TellsOf, AreTold, AreLiveBits}
 use Rattle.dcc_live.proofs.RowLaws.{selected_sound, selected_complete, row_first, row_writes}
 use Rattle.dcc_live.proofs.WorkLaws.{in_contains, contained_map, at_place}

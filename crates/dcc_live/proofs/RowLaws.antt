@@ -16,8 +16,8 @@ use Rattle.dcc_ir.specs.Live.{is_among, reads_first, writes}
 use Rattle.dcc_ir.proofs.PathLaws.{decided}
 use Rattle.dcc_ir.proofs.LocationLaws.{location_same, location_itself, contains_among, Contains-here, Contains-later, Contains-none, Contains-cases}
 use Rattle.dcc_flow.specs.Bits.{bit}
-use Rattle.dcc_live.specs.Access.{Access, access_of, block_access_of}
-use Rattle.dcc_live.specs.Marks.{empty, with_one, with_all, selected}
+use Rattle.dcc_flow.specs.Access.{Access, access_of, block_access_of}
+use Rattle.dcc_flow.specs.Marks.{empty, with_one, with_all, selected}
 use mathlib.Core.Path.{fun_ext}
 use Rattle.dcc_live.specs.First.{others, first_reads, Row, row_of, IsListed, Tells}
 

@@ -12,8 +12,8 @@ use Rattle.dcc_ir.specs.Live.{is_among, reads_first}
 use Rattle.dcc_ir.proofs.PathLaws.{decided}
 use Rattle.dcc_ir.proofs.LocationLaws.{among_contains, contains_among, Contains-here, Contains-none, Contains-cases}
 use Rattle.dcc_ir.proofs.FamilyLaws.{uses-read, makes-read}
-use Rattle.dcc_live.specs.Access.{Access, access_of}
-use Rattle.dcc_live.specs.Marks.{with_all, without_all, selected}
+use Rattle.dcc_flow.specs.Access.{Access, access_of}
+use Rattle.dcc_flow.specs.Marks.{with_all, without_all, selected}
 use Rattle.dcc_live.specs.Wanted.{stays, before_one, before_all, after_stmts}
 
 -- What a statement reads, it uses or makes its value of.

@@ -26,8 +26,8 @@ use Rattle.dcc_flow.specs.Work.{Work, with_answer, spread, first_work}
 use Rattle.dcc_flow.proofs.SourceLaws.{in_at, predecessor_within}
 use Rattle.dcc_flow.proofs.WordLaws.{same_lists}
 use Rattle.dcc_flow.proofs.WorkLaws.{flowed_at, length_flowed_bits}
-use Rattle.dcc_live.specs.Access.{access_of, block_access_of, accesses_of}
-use Rattle.dcc_live.specs.Marks.{selected}
+use Rattle.dcc_flow.specs.Access.{access_of, block_access_of, accesses_of}
+use Rattle.dcc_flow.specs.Marks.{selected}
 use Rattle.dcc_live.specs.First.{Row, row_of, Tells}
 use Rattle.dcc_live.specs.Wanted.{before_all, after_stmts, before_block, AreWantedAtEnds}
 use Rattle.dcc_live.proofs.RowLaws.{selected_sound, selected_complete, row_first}

@@ -6,8 +6,8 @@ use Rattle.dcc_ir.specs.Live.{IsLiveAfter}
 use Rattle.dcc_flow.specs.Bits.{bit}
 use Rattle.dcc_flow.specs.Uses.{AreLists}
 use Rattle.dcc_live.specs.declared.rows.Row.{Row as RowOf}
-use Rattle.dcc_live.specs.Access.{Access, BlockAccess}
-use Rattle.dcc_live.specs.Marks.{empty, with_all}
+use Rattle.dcc_flow.specs.Access.{Access, BlockAccess}
+use Rattle.dcc_flow.specs.Marks.{empty, with_all}
 
 -- those that are not in the set
 abbrev pub others : (Loc → Bool) → List Loc → List Loc

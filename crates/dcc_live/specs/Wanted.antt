@@ -5,8 +5,8 @@ use Rattle.dcc_ir.specs.declared.syntax.Loc.{Loc}
 use Rattle.dcc_ir.specs.Tree.{Stmt, Block, Graph}
 use Rattle.dcc_ir.specs.Demand.{IsWantedIn}
 use Rattle.dcc_flow.specs.Uses.{AreLists}
-use Rattle.dcc_live.specs.Access.{Access, BlockAccess, access_of, block_access_of}
-use Rattle.dcc_live.specs.Marks.{empty, with_all, without_all, selected}
+use Rattle.dcc_flow.specs.Access.{Access, BlockAccess, access_of, block_access_of}
+use Rattle.dcc_flow.specs.Marks.{empty, with_all, without_all, selected}
 
 -- the statement stays where this is wanted after it
 abbrev pub stays : Access → (Loc → Bool) → Bool

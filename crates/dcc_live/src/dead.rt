@@ -5,15 +5,13 @@ ghost use Rattle.dcc_ir.specs.Views.{stmt_of, block_of, graph_of, live_of};
 ghost use Rattle.dcc_ir.specs.WellFormed.{IsGraph};
 ghost use Rattle.dcc_ir.specs.Live.{IsLive};
 ghost use Rattle.dcc_ir.specs.Replaced.{MayReplace};
-ghost use Rattle.dcc_live.specs.Access.{access_in, access_of, block_access_in, block_access_of, accesses_of};
-ghost use Rattle.dcc_live.specs.Marks.{empty, members};
+ghost use Rattle.dcc_flow.specs.Access.{access_in, access_of, block_access_in, block_access_of, accesses_of};
+ghost use Rattle.dcc_flow.specs.Marks.{empty, members};
 ghost use Rattle.dcc_live.specs.Wanted.{left_of, block_left, blocks_left, AreWantedAtEnds};
 ghost use Rattle.dcc_live.specs.Dead.{IsWithoutUnwanted};
 
-use crate::access::{Access, BlockAccess, accesses};
-use crate::marks::Marks;
 use crate::wanted::{WantedEnds, begin, pass, wanted_at_ends};
-use dcc_flow::Steps;
+use dcc_flow::{Access, BlockAccess, Marks, Steps, accesses};
 use dcc_ir::{Block, Graph, Live, Stmt};
 use std::alloc::{AllocError, Global};
 use std::marker::Brand;

@@ -5,15 +5,11 @@
 //! (C. Cifuentes, Reverse Compilation Techniques, 1994, 5.4).
 #![tactic(auto)]
 
-mod access;
 mod dead;
 mod living;
-mod marks;
-mod mentions;
 mod places;
 mod rows;
 mod wanted;
 
 pub use dead::drop_dead;
 pub use living::live;
-pub use mentions::{all_mentioned, mentioned};

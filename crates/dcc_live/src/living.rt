@@ -4,15 +4,13 @@ ghost use Rattle.std.specs.Prelude.{◌≡◌, ◌<◌, length, map, All, IfOk, 
 ghost use Rattle.dcc_ir.specs.Views.{graph_of, live_of};
 ghost use Rattle.dcc_ir.specs.WellFormed.{IsGraph};
 ghost use Rattle.dcc_ir.specs.Live.{IsLive};
-ghost use Rattle.dcc_live.specs.Access.{accesses_of};
-ghost use Rattle.dcc_live.specs.Marks.{empty, members, selected};
+ghost use Rattle.dcc_flow.specs.Access.{accesses_of};
+ghost use Rattle.dcc_flow.specs.Marks.{empty, members, selected};
 ghost use Rattle.dcc_live.specs.First.{row_of, row_in, TellsOf, AreTold, AreLiveBits};
 
-use crate::access::accesses;
-use crate::marks::Marks;
 use crate::places::{bits_of, selected};
 use crate::rows::{Row, places, rows};
-use dcc_flow::{Bits, Steps, solve, successors};
+use dcc_flow::{Bits, Marks, Steps, accesses, solve, successors};
 use dcc_ir::{Graph, Live, Loc, Sums};
 use std::alloc::{AllocError, Global};
 use std::marker::Brand;

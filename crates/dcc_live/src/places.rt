@@ -1,11 +1,10 @@
 //! Sets of locations as truth values at the places of a list.
 
 ghost use Rattle.std.specs.Prelude.{◌≡◌, length, IfOk};
-ghost use Rattle.dcc_live.specs.Marks.{members, selected};
+ghost use Rattle.dcc_flow.specs.Marks.{members, selected};
 ghost use Rattle.dcc_live.specs.First.{Tells};
 
-use crate::marks::Marks;
-use dcc_flow::{Bits, Steps};
+use dcc_flow::{Bits, Marks, Steps};
 use dcc_ir::Loc;
 use std::alloc::{AllocError, Global};
 use std::sync::ledger::Ledger;

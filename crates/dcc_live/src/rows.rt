@@ -1,12 +1,11 @@
 //! What each block reads before it writes it, and what it writes.
 
 ghost use Rattle.std.specs.Prelude.{◌≡◌, ◌++◌, [], map, flat_map, All, Contains, IfOk, OnOk};
-ghost use Rattle.dcc_live.specs.Access.{access_in, block_access_in};
-ghost use Rattle.dcc_live.specs.Marks.{empty, members, with_all};
+ghost use Rattle.dcc_flow.specs.Access.{access_in, block_access_in};
+ghost use Rattle.dcc_flow.specs.Marks.{empty, members, with_all};
 ghost use Rattle.dcc_live.specs.First.{others, row_of, row_in, IsListed};
 
-use crate::access::{Access, BlockAccess};
-use crate::marks::Marks;
+use dcc_flow::{Access, BlockAccess, Marks};
 use dcc_ir::Loc;
 use std::alloc::{AllocError, Global};
 

@@ -3,16 +3,14 @@
 ghost use Rattle.std.specs.Prelude.{◌≡◌, length, map, All, Contains, IfOk, OnOk};
 ghost use Rattle.dcc_ir.specs.Views.{graph_of};
 ghost use Rattle.dcc_ir.specs.WellFormed.{IsGraph};
-ghost use Rattle.dcc_live.specs.Access.{access_in, block_access_in, accesses_of};
-ghost use Rattle.dcc_live.specs.Marks.{empty, members};
+ghost use Rattle.dcc_flow.specs.Access.{access_in, block_access_in, accesses_of};
+ghost use Rattle.dcc_flow.specs.Marks.{empty, members};
 ghost use Rattle.dcc_live.specs.First.{row_of, Tells};
 ghost use Rattle.dcc_live.specs.Wanted.{stays, before_one, before_all, after_stmts, before_block, AreWantedAtEnds};
 
-use crate::access::{Access, BlockAccess};
-use crate::marks::Marks;
 use crate::places::{bits_of, selected};
 use crate::rows::{places, rows};
-use dcc_flow::{Bits, Flow, Steps, Work, preds};
+use dcc_flow::{Access, Bits, BlockAccess, Flow, Marks, Steps, Work, preds};
 use dcc_ir::{Graph, Loc};
 use std::alloc::{AllocError, Global};
 use std::sync::ledger::Ledger;

@@ -16,7 +16,7 @@ use Rattle.dcc_ir.specs.Value.{width_of}
 use Rattle.dcc_ir.specs.Live.{is_among}
 use Rattle.dcc_ir.specs.WellFormed.{is_location, is_expr, is_stmt}
 use Rattle.dcc_ir.proofs.FitLaws.{both}
-use Rattle.dcc_flags.proofs.ExprLaws.{and_both, make_join}
+use Rattle.dcc_flow.proofs.FormedExprs.{and_both, make_join}
 use Rattle.dcc_pack.specs.declared.packing.Fresh.{Fresh}
 use Rattle.dcc_pack.specs.declared.packing.Packing.{Packing}
 use Rattle.dcc_pack.specs.declared.packing.Packing.TheVariants.{Apart, Word, Double}

@@ -12,7 +12,8 @@ use Rattle.dcc_ir.specs.Run.{State, scene_of, value_in, is_call, setting, storin
 use Rattle.dcc_run.specs.End.{Exit as ExitWith}
 use Rattle.dcc_ir.proofs.FitLaws.{both}
 use Rattle.dcc_ir.proofs.passes.FormLaws.{width_more}
-use Rattle.dcc_flags.proofs.ExprLaws.{and_both, binary_formed, unary_formed, load_formed, within_formed, join_formed, choose_formed, location_more, expr_more}
+use Rattle.dcc_flow.proofs.FormedExprs.{and_both, binary_formed, unary_formed, load_formed, within_formed, join_formed, choose_formed}
+use Rattle.dcc_flags.proofs.ExprLaws.{location_more, expr_more}
 
 -- a conjunction whose parts stay
 and_still : (a b a' b' : Bool) → (a ≡ true → a' ≡ true) → (b ≡ true → b' ≡ true) → (a && b) ≡ true → (a' && b') ≡ true

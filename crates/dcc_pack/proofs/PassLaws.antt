@@ -27,7 +27,7 @@ use Rattle.dcc_ir.proofs.ListLaws.{all_had}
 use Rattle.dcc_ir.proofs.ReachedLaws.{found_contained, all_at, named_again}
 use Rattle.dcc_ir.proofs.passes.LocalLaws.{Frame, stmt-frame}
 use Rattle.dcc_ir.proofs.passes.AgreeLaws.{AgreeOn, ReadsIn, StillOn, value-on, stuck-on, weaker-on, stmt-agrees, revalued}
-use Rattle.dcc_flags.proofs.PlanLaws.{reads_placed}
+use Rattle.dcc_flow.proofs.FormedExprs.{reads_placed}
 use Rattle.dcc_sums.specs.Localised.{GivesJust, TakesJust, CallsJust}
 use Rattle.dcc_sums.proofs.SiteLaws.{contained_map, graph_of}
 use Rattle.dcc_sums.proofs.ArgumentLaws.{contains_left, contains_right, words_wide, words_as_many}

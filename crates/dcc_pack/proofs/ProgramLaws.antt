@@ -18,7 +18,8 @@ use Rattle.dcc_ir.specs.Run.{is_call}
 use Rattle.dcc_ir.specs.Passing.{param_of, is_word_put}
 use Rattle.dcc_ir.proofs.FitLaws.{both}
 use Rattle.dcc_ir.proofs.passes.FormLaws.{width_more}
-use Rattle.dcc_flags.proofs.ExprLaws.{and_both, location_more}
+use Rattle.dcc_flow.proofs.FormedExprs.{and_both}
+use Rattle.dcc_flags.proofs.ExprLaws.{location_more}
 use Rattle.dcc_sums.specs.Localised.{GivesJust, CallsJust}
 use Rattle.dcc_pack.specs.declared.packing.Fresh.{Fresh}
 use Rattle.dcc_pack.specs.declared.packing.Packing.{Packing}

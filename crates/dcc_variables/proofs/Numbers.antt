@@ -18,7 +18,7 @@ use Rattle.dcc_ir.specs.Tree.{Graph}
 use Rattle.dcc_ir.specs.WellFormed.{is_location}
 use Rattle.dcc_ir.proofs.PathLaws.{decided, or_false}
 use Rattle.dcc_ir.proofs.LocationLaws.{location_same}
-use Rattle.dcc_live.specs.Mentions.{graph_mentions}
+use Rattle.dcc_flow.specs.Mentions.{graph_mentions}
 use Rattle.dcc_variables.specs.Variables.{cells_among, named_locations, stack_locations, cell_halves, all_locations, locations, Shape, shape_of, first_cell, first_stack, variable_number}
 use Rattle.dcc_variables.proofs.Lists.{filter-among, among-filter, among-left, among-right, cell-within}
 

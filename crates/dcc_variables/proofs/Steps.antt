@@ -17,8 +17,8 @@ use Rattle.dcc_ir.specs.WellFormed.{is_location, is_stored_width, is_division, i
 use Rattle.dcc_ir.proofs.PathLaws.{decided}
 use Rattle.dcc_ir.proofs.ListLaws.{all_had, left_part, all_parts}
 use Rattle.dcc_ir.proofs.LocationLaws.{location_itself, Contains-none, Contains-cases}
-use Rattle.dcc_live.specs.Mentions.{stmt_mentions, block_mentions, graph_mentions}
-use Rattle.dcc_flags.proofs.PlanLaws.{reads_placed}
+use Rattle.dcc_flow.specs.Mentions.{stmt_mentions, block_mentions, graph_mentions}
+use Rattle.dcc_flow.proofs.FormedExprs.{reads_placed}
 use Rattle.dcc_text.specs.Spelling.{Placed, Spelling}
 use Rattle.dcc_text.specs.Holding.{IsWithin}
 use Rattle.dcc_text.specs.Laws.{IsStep}

@@ -13,7 +13,7 @@ use Rattle.dcc_ir.specs.Location.{half_number, flag_number, location_width}
 use Rattle.dcc_ir.specs.Tree.{Expr, Address, Stmt, Block, Graph}
 use Rattle.dcc_ir.specs.Live.{is_among}
 use Rattle.dcc_ir.specs.Use.{parts_of, exprs_of, exit_exprs}
-use Rattle.dcc_live.specs.Mentions.{graph_mentions}
+use Rattle.dcc_flow.specs.Mentions.{graph_mentions}
 use Rattle.dcc_c.specs.declared.syntax.Base.TheVariants.{Uchar}
 use Rattle.dcc_c.specs.declared.syntax.Class.TheVariants.{Plain, Auto}
 use Rattle.dcc_c.specs.Types.{plain}

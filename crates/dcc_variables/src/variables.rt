@@ -12,8 +12,8 @@ ghost use Rattle.dcc_variables.specs.Views.{shape_in};
 
 use crate::addresses::frame_bytes;
 use dcc_c::{Base, CType, Class, Var};
+use dcc_flow::{all_mentioned, mentioned};
 use dcc_ir::{Graph, Loc, PASSED_LOCATIONS};
-use dcc_live::{all_mentioned, mentioned};
 use dcc_num::{FlagName, Half, Reg};
 use dcc_text::way::unsigned_type;
 use dcc_text::{Place, Spells};

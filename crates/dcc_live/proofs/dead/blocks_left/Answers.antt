@@ -1,7 +1,7 @@
 use Rattle.std.proofs.Common.{◌≡◌, [], length, get_or, map, drop, reverse, ap, ◌∙◌, arith}
 use Rattle.std.proofs.lemmas.List.{length-map}
 use Rattle.dcc_ir.specs.Views.{block_of}
-use Rattle.dcc_live.specs.Access.{block_access_in, block_access_of}
+use Rattle.dcc_flow.specs.Access.{block_access_in, block_access_of}
 use Rattle.dcc_live.specs.Wanted.{block_left}
 use Rattle.dcc_live.proofs.DeadLaws.{last_taken, block_step, mapped_at}
 use Rattle.dcc_live.proofs.dead.blocks_left.Goals as goal

@@ -1,6 +1,6 @@
 use Rattle.std.proofs.Common.{◌≡◌, ◌≤◌, length, map, take, drop, reverse}
 use Rattle.dcc_ir.specs.Views.{block_of}
-use Rattle.dcc_live.specs.Marks.{empty, members}
+use Rattle.dcc_flow.specs.Marks.{empty, members}
 use Rattle.dcc_live.specs.Wanted.{blocks_left}
 use Rattle.dcc_live.proofs.dead.blocks_left.Given as goal
 

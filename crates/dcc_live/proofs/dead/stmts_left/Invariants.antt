@@ -1,7 +1,7 @@
 use Rattle.std.proofs.Common.{◌≡◌, ◌≤◌, length, map, take, drop, reverse}
 use Rattle.dcc_ir.specs.Views.{stmt_of}
-use Rattle.dcc_live.specs.Access.{access_of}
-use Rattle.dcc_live.specs.Marks.{members}
+use Rattle.dcc_flow.specs.Access.{access_of}
+use Rattle.dcc_flow.specs.Marks.{members}
 use Rattle.dcc_live.specs.Wanted.{before_all, left_of}
 use Rattle.dcc_live.proofs.dead.stmts_left.Given as goal
 

@@ -1,5 +1,5 @@
 use Rattle.std.proofs.Common.{◌≡◌, map, take}
-use Rattle.dcc_live.specs.Marks.{selected}
+use Rattle.dcc_flow.specs.Marks.{selected}
 use Rattle.dcc_live.proofs.living.all_selected.Given as goal
 
 abbrev pub invariant-loop-b : goal.invariant-loop-b

@@ -1,5 +1,5 @@
 use Rattle.std.proofs.Common.{◌≡◌, map, take}
-use Rattle.dcc_live.specs.Marks.{empty, members}
+use Rattle.dcc_flow.specs.Marks.{empty, members}
 use Rattle.dcc_live.specs.First.{row_in, AreTold}
 use Rattle.dcc_live.proofs.living.table_of.Given as goal
 

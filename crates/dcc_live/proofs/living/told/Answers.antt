@@ -1,5 +1,5 @@
 use Rattle.std.proofs.Common.{ap, ◌∙◌, subst}
-use Rattle.dcc_live.specs.Marks.{with_all}
+use Rattle.dcc_flow.specs.Marks.{with_all}
 use Rattle.dcc_live.specs.First.{Tells}
 use Rattle.dcc_live.proofs.living.told.Goals as goal
 

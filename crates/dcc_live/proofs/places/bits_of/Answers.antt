@@ -1,5 +1,5 @@
 use Rattle.std.proofs.Common.{◌+◌, sym, ◌∙◌, subst, arith}
-use Rattle.dcc_live.specs.Marks.{members}
+use Rattle.dcc_flow.specs.Marks.{members}
 use Rattle.dcc_live.proofs.RowLaws.{TellsTo, tells_none, tells_then, tells_else, tells_all}
 use Rattle.dcc_live.proofs.places.bits_of.Goals.{then-contains, else-contains}
 use Rattle.dcc_live.proofs.places.bits_of.Goals as goal

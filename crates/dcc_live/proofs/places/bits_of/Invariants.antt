@@ -1,4 +1,4 @@
-use Rattle.dcc_live.specs.Marks.{members}
+use Rattle.dcc_flow.specs.Marks.{members}
 use Rattle.dcc_live.proofs.RowLaws.{TellsTo}
 use Rattle.dcc_live.proofs.places.bits_of.Given as goal
 

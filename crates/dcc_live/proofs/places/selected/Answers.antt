@@ -2,7 +2,7 @@ use Rattle.std.proofs.Common.{◌+◌, ◌++◌, drop, sym, ap, ◌∙◌}
 use Rattle.dcc_num.specs.declared.Reg.TheVariants.{Ax}
 use Rattle.dcc_num.specs.declared.Half.TheVariants.{Low}
 use Rattle.dcc_ir.specs.declared.syntax.Loc.TheVariants.{Half}
-use Rattle.dcc_live.specs.Marks.{selected}
+use Rattle.dcc_flow.specs.Marks.{selected}
 use Rattle.dcc_live.proofs.RowLaws.{selected_then, selected_else}
 use Rattle.dcc_live.proofs.places.selected.Goals.{then-get+in_ok-push, else-get}
 use Rattle.dcc_live.proofs.places.selected.Goals as goal

@@ -1,5 +1,5 @@
 use Rattle.std.proofs.Common.{◌≡◌, ◌++◌, drop}
-use Rattle.dcc_live.specs.Marks.{selected}
+use Rattle.dcc_flow.specs.Marks.{selected}
 use Rattle.dcc_live.proofs.places.selected.Given as goal
 
 abbrev pub invariant-loop-k : goal.invariant-loop-k

@@ -1,7 +1,7 @@
 use Rattle.std.proofs.Common.{◌+◌, drop, sym, ap, ◌∙◌, subst, arith}
-use Rattle.dcc_live.specs.Marks.{members, with_all}
+use Rattle.dcc_flow.specs.Marks.{members, with_all}
 use Rattle.dcc_live.specs.First.{IsListed}
-use Rattle.dcc_live.proofs.MarkLaws.{add_at, add_at_still, add_end}
+use Rattle.dcc_flow.proofs.MarkLaws.{add_at, add_at_still, add_end}
 use Rattle.dcc_live.proofs.RowLaws.{listed_more}
 use Rattle.dcc_live.proofs.rows.add_new.Goals.{then-not-contains+in_ok-push+in_ok-add, else-not-contains}
 use Rattle.dcc_live.proofs.rows.add_new.Goals as goal

@@ -1,5 +1,5 @@
 use Rattle.std.proofs.Common.{◌≡◌, drop}
-use Rattle.dcc_live.specs.Marks.{members, with_all}
+use Rattle.dcc_flow.specs.Marks.{members, with_all}
 use Rattle.dcc_live.specs.First.{IsListed}
 use Rattle.dcc_live.proofs.rows.add_new.Given as goal
 

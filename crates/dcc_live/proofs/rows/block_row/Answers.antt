@@ -1,7 +1,7 @@
 use Rattle.std.proofs.Common.{◌<◌, length, get_or, map, ap, ◌∙◌, arith}
 use Rattle.std.proofs.lemmas.List.{length-map}
-use Rattle.dcc_live.specs.Access.{access_in}
-use Rattle.dcc_live.specs.Marks.{members}
+use Rattle.dcc_flow.specs.Access.{access_in}
+use Rattle.dcc_flow.specs.Marks.{members}
 use Rattle.dcc_live.proofs.RowLaws.{first_step, writes_step, map_read}
 use Rattle.dcc_live.proofs.rows.block_row.Goals as goal
 

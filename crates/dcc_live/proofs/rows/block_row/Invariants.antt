@@ -1,6 +1,6 @@
 use Rattle.std.proofs.Common.{◌≡◌, ◌++◌, map, take, drop, flat_map}
-use Rattle.dcc_live.specs.Access.{Access, access_in}
-use Rattle.dcc_live.specs.Marks.{empty, members}
+use Rattle.dcc_flow.specs.Access.{Access, access_in}
+use Rattle.dcc_flow.specs.Marks.{empty, members}
 use Rattle.dcc_live.specs.First.{first_reads}
 use Rattle.dcc_live.proofs.rows.block_row.Given as goal
 

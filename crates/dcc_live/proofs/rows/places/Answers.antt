@@ -2,7 +2,7 @@ use Rattle.std.proofs.Common.{◌≡◌, ◌<◌, ◌≤◌, true, length, get_o
 use Rattle.std.specs.Prelude.{All}
 use Rattle.std.proofs.lemmas.List.{length-map, take_all}
 use Rattle.dcc_ir.specs.declared.syntax.Loc.{Loc}
-use Rattle.dcc_live.specs.Marks.{members, with_all}
+use Rattle.dcc_flow.specs.Marks.{members, with_all}
 use Rattle.dcc_live.specs.First.{Row, row_in}
 use Rattle.dcc_live.proofs.RowLaws.{rows_known, rows_listed, map_read}
 use Rattle.dcc_live.proofs.rows.places.Goals as goal

@@ -1,7 +1,7 @@
 use Rattle.std.proofs.Common.{◌≡◌, map, take, true}
 use Rattle.std.specs.Prelude.{All}
 use Rattle.dcc_ir.specs.declared.syntax.Loc.{Loc}
-use Rattle.dcc_live.specs.Marks.{members}
+use Rattle.dcc_flow.specs.Marks.{members}
 use Rattle.dcc_live.specs.First.{row_in, IsListed}
 use Rattle.dcc_live.proofs.rows.places.Given as goal
 

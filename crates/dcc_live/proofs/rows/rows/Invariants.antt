@@ -1,6 +1,6 @@
 use Rattle.std.proofs.Common.{◌≡◌, map, take}
-use Rattle.dcc_live.specs.Access.{block_access_in}
-use Rattle.dcc_live.specs.Marks.{empty, members}
+use Rattle.dcc_flow.specs.Access.{block_access_in}
+use Rattle.dcc_flow.specs.Marks.{empty, members}
 use Rattle.dcc_live.specs.First.{row_of, row_in}
 use Rattle.dcc_live.proofs.rows.rows.Given as goal
 

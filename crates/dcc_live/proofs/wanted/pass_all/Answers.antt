@@ -1,7 +1,7 @@
 use Rattle.std.proofs.Common.{◌-◌, ◌<◌, length, map, ap, sym, ◌∙◌, arith}
 use Rattle.std.proofs.lemmas.List.{length-map}
-use Rattle.dcc_live.specs.Access.{access_in}
-use Rattle.dcc_live.specs.Marks.{members}
+use Rattle.dcc_flow.specs.Access.{access_in}
+use Rattle.dcc_flow.specs.Marks.{members}
 use Rattle.dcc_live.specs.Wanted.{before_one, before_all}
 use Rattle.dcc_live.proofs.RowLaws.{drop_last, map_read}
 use Rattle.dcc_live.proofs.wanted.pass_all.Goals as goal

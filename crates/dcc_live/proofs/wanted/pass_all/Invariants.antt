@@ -1,6 +1,6 @@
 use Rattle.std.proofs.Common.{◌≡◌, ◌≤◌, length, map, drop}
-use Rattle.dcc_live.specs.Access.{access_in}
-use Rattle.dcc_live.specs.Marks.{members}
+use Rattle.dcc_flow.specs.Access.{access_in}
+use Rattle.dcc_flow.specs.Marks.{members}
 use Rattle.dcc_live.specs.Wanted.{before_all}
 use Rattle.dcc_live.proofs.wanted.pass_all.Given as goal
 

@@ -5,7 +5,7 @@ use Rattle.dcc_ir.specs.Run.{no_block}
 use Rattle.dcc_flow.specs.Edges.{rows}
 use Rattle.dcc_flow.specs.Work.{Work, work_of, first_work, spread}
 use Rattle.dcc_flow.proofs.RowLaws.{row_read, length_rows, length_successors}
-use Rattle.dcc_live.specs.Access.{block_access_in, block_access_of}
+use Rattle.dcc_flow.specs.Access.{block_access_in, block_access_of}
 use Rattle.dcc_live.specs.First.{Tells}
 use Rattle.dcc_live.specs.Wanted.{before_block}
 use Rattle.dcc_live.proofs.RowLaws.{map_read}

@@ -1,6 +1,6 @@
 use Rattle.std.proofs.Common.{◌≡◌}
 use Rattle.dcc_ir.specs.Views.{graph_of}
-use Rattle.dcc_live.specs.Marks.{empty, members}
+use Rattle.dcc_flow.specs.Marks.{empty, members}
 use Rattle.dcc_flow.specs.Work.{work_of}
 use Rattle.dcc_live.proofs.WorkLaws.{Going, weight}
 use Rattle.dcc_live.proofs.wanted.solved.Given as goal

@@ -1,7 +1,7 @@
 use Rattle.std.proofs.Common.{map, ap, sym, ◌∙◌, subst, Contains}
 use Rattle.std.specs.Prelude.{All}
 use Rattle.dcc_ir.specs.Views.{graph_of}
-use Rattle.dcc_live.specs.Access.{accesses_of}
+use Rattle.dcc_flow.specs.Access.{accesses_of}
 use Rattle.dcc_live.specs.First.{Row, row_of}
 use Rattle.dcc_live.proofs.wanted.wanted_at_ends.Goals as goal
 

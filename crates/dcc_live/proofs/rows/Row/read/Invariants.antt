@@ -1,5 +1,5 @@
 use Rattle.std.proofs.Common.{◌≡◌, ◌++◌, drop}
-use Rattle.dcc_live.specs.Marks.{members}
+use Rattle.dcc_flow.specs.Marks.{members}
 use Rattle.dcc_live.specs.First.{others}
 use Rattle.dcc_live.proofs.rows.Row.read.Given as goal
 

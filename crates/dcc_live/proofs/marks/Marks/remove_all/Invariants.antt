@@ -1,6 +1,0 @@
-use Rattle.std.proofs.Common.{◌≡◌, drop}
-use Rattle.dcc_live.specs.Marks.{members, without_all}
-use Rattle.dcc_live.proofs.marks.Marks.remove_all.Given as goal
-
-abbrev pub invariant-loop-location : goal.invariant-loop-location
-invariant-loop-location l = without_all (members l.self) (drop l.location-index l.locations) ≡ without_all (members l.initial.self) l.locations
