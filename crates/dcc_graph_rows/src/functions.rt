@@ -2,9 +2,9 @@
 
 use crate::graphs::{Exit, Line, Op, graph};
 use dcc_c::Var;
-use dcc_calls::{Head, function_name, openings, result_type};
 use dcc_ir::{Loc, Param, Put};
 use dcc_num::{Half, Reg};
+use dcc_variables::{Head, function_name, openings, result_type};
 use std::alloc::{AllocError, Global};
 use std::test::Fail;
 

@@ -1,4 +1,14 @@
 pub mod KeptLeaps
+pub mod Passings
+pub mod Bindings
+pub mod Arguments
+pub mod Frames
+pub mod HoldLaws
+pub mod OpenedBytes
+pub mod CallSteps
+pub mod Returns
+pub mod FirstStates
+pub mod AllowedCalls
 pub mod ListLaws
 pub mod LabelLaws
 pub mod Rests

@@ -6,6 +6,9 @@ pub mod GotoPlan
 pub mod Complete
 pub mod Allowed
 pub mod Laws
+pub mod Calls
+pub mod CallLaws
+pub mod AllowedCalls
 pub mod Programs
 pub mod Views
 pub mod Cases

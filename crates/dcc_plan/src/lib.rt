@@ -1,4 +1,5 @@
-//! The control of a text: plans of items over the blocks of a graph, their texts, and that these run as the graph does.
+//! The control of a text: plans of items over the blocks of a graph, their texts, and that these run as the graph does,
+//! with calls of functions and returns from them.
 #![tactic(auto)]
 
 pub mod complete;

@@ -6,3 +6,10 @@ pub mod FirstStates
 pub mod Declared
 pub mod Steps
 pub mod AddressLaws
+pub mod ParamNames
+pub mod DeclaredFunctions
+pub mod Words
+pub mod Served
+pub mod NoAddresses
+pub mod ResultTypes
+pub mod Examples

@@ -1,4 +1,7 @@
 pub mod Variables
 pub mod Globals
 pub mod Laws
+pub mod Functions
+pub mod FunctionLaws
+pub mod Addresses
 pub mod Views

@@ -1,6 +1,9 @@
-//! Laws of the variables of a text. Each function only states a law by its contract, and does nothing.
+//! Laws of the variables and functions of a text. Each function only states a law by its contract, and does nothing.
 
 ghost use Rattle.dcc_text.specs.Holding.{Alike};
+ghost use Rattle.dcc_variables.specs.Addresses.{BodiesTakeWhatStatementsTake, TextsTakeNoAddress};
+ghost use Rattle.dcc_variables.specs.FunctionLaws.{FunctionNamesDiffer, FunctionNamesAreDeclared};
+ghost use Rattle.dcc_variables.specs.FunctionLaws.{KnownNamesDiffer, OwnNamesDiffer, FunctionsAreServed};
 ghost use Rattle.dcc_variables.specs.Laws.{NamesDiffer, NamesAreDeclared, ArraysAreAllowed};
 ghost use Rattle.dcc_variables.specs.Laws.{FirstMemoriesAreEqual, FirstStatesHold, GraphsAreServed};
 
@@ -37,4 +40,39 @@ pub fn first_states_hold<A: SomeAlike>()
 /// What a graph reads and writes has variables, and the addresses that it takes have places.
 pub fn graphs_are_served()
     ensures { GraphsAreServed }
+{}
+
+/// Variables and parameters of different locations have different names, and the array has another one.
+pub fn function_names_differ()
+    ensures { FunctionNamesDiffer }
+{}
+
+/// A function with the parameters and variables of a graph declares all that the graph's text names.
+pub fn function_names_are_declared()
+    ensures { FunctionNamesAreDeclared }
+{}
+
+/// The arrays of a program's image and the functions of its graphs have names of their own.
+pub fn known_names_differ()
+    ensures { KnownNamesDiffer }
+{}
+
+/// The parameters and variables of each function have names of their own.
+pub fn own_names_differ()
+    ensures { OwnNamesDiffer }
+{}
+
+/// What a graph reads and writes, with its calls, has names.
+pub fn functions_are_served()
+    ensures { FunctionsAreServed }
+{}
+
+/// A body takes the address of a name where one of its statements does.
+pub fn bodies_take_what_statements_take()
+    ensures { BodiesTakeWhatStatementsTake }
+{}
+
+/// The texts of a graph as a function take the address of no name.
+pub fn texts_take_no_address()
+    ensures { TextsTakeNoAddress }
 {}

@@ -1,5 +1,0 @@
-use Rattle.dcc_calls.proofs.NoAddresses.{body-takes}
-use Rattle.dcc_calls.proofs.laws.bodies_take_what_statements_take.Goals as goal
-
-pub returns : goal.returns
-returns c = body-takes

@@ -1,5 +1,0 @@
-use Rattle.dcc_calls.proofs.FirstStates.{first-states-stand}
-use Rattle.dcc_calls.proofs.laws.first_states_stand.Goals as goal
-
-pub returns : goal.returns
-returns g c = first-states-stand g.S.SomeSetting.opens g.S.SomeSetting.setting

@@ -1,5 +1,0 @@
-use Rattle.dcc_calls.proofs.NoAddresses.{texts-take-none}
-use Rattle.dcc_calls.proofs.laws.texts_take_no_address.Goals as goal
-
-pub returns : goal.returns
-returns c = texts-take-none

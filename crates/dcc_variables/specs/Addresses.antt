@@ -1,0 +1,37 @@
+-- Where a text takes addresses of names.
+use Rattle.std.specs.Prelude.{◌≡◌, ℕ, Bool, false, List}
+use Rattle.std.specs.List.{list_any}
+use Rattle.dcc_ir.specs.declared.syntax.Loc.{Loc}
+use Rattle.dcc_ir.specs.Tree as inner
+use Rattle.dcc_c.specs.Parts.{parts_of, exprs_of, stmts_in}
+use Rattle.dcc_c.specs.Placement.{is_address_of, takes_address}
+use Rattle.dcc_c.specs.Tree.{Word, Expr, Stmt, Lines}
+use Rattle.dcc_text.specs.Spelled.{Way, text}
+use Rattle.dcc_text.specs.Stmts.{stmt_text}
+use Rattle.dcc_variables.specs.Functions.{function_spelling, ret_text, openings}
+
+-- the expression, or one inside it, is the address of the name
+abbrev pub has_address_of : Word → Expr → Bool
+has_address_of word e = list_any (is_address_of word) (parts_of e)
+
+-- so does an expression of the statement, but for the statements inside it
+abbrev pub stmt_has_address_of : Word → Stmt → Bool
+stmt_has_address_of word stmt = list_any (has_address_of word) (exprs_of stmt)
+
+-- a body takes the address of a name where one of its statements does
+abbrev pub BodiesTakeWhatStatementsTake : Type 0
+BodiesTakeWhatStatementsTake = (body : Lines) (word : Word)
+    → takes_address body word ≡ list_any (stmt_has_address_of word) (stmts_in body)
+
+-- Texts of a graph as a function take the address of no name: a frame's bytes go by an array.
+pub record TakesNoAddress (graph : inner.Graph) (word : Word) : Type 0 where
+  pub expressions : (e : inner.Expr) (way : Way) (votes : Bool)
+      → has_address_of word (text (function_spelling graph) way votes e) ≡ false
+  pub statements : (stmt : inner.Stmt) (depth : ℕ)
+      → stmt_has_address_of word (stmt_text (function_spelling graph) depth stmt) ≡ false
+  pub returns : (values : List inner.Expr)
+      → stmt_has_address_of word (ret_text (function_spelling graph) values) ≡ false
+  pub openings : (opens : Loc → Bool) → list_any (stmt_has_address_of word) (openings opens graph) ≡ false
+
+abbrev pub TextsTakeNoAddress : Type 0
+TextsTakeNoAddress = (graph : inner.Graph) (word : Word) → TakesNoAddress graph word
