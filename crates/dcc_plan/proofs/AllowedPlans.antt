@@ -32,11 +32,12 @@ use Rattle.dcc_text.specs.Stmts.{stmt_text}
 use Rattle.dcc_text.proofs.AllowedStmts.{IsNamed, AreNamed, IsLow, stmt-allowed}
 use Rattle.dcc_text.proofs.Depths.{shallow}
 use Rattle.dcc_text.proofs.TypedTexts.{text-allowed}
+use Rattle.dcc_variables.specs.Functions.{ret_text}
 use Rattle.dcc_plan.specs.Allowed.{is_mark, has_an_arm, may_stand, item_may_stand, arms_may_stand, may_give, may_return, CallsFit, ReturnsFit, IsSpelled, PlanTextsAreAllowed}
 use Rattle.dcc_plan.specs.Plan as plan
 use Rattle.dcc_plan.specs.Plan.{Item, Plan, no_items, item, Arms, marks, item_marks, arm_marks, is_in, all_cases}
 use Rattle.dcc_plan.specs.PlanText as planned
-use Rattle.dcc_plan.specs.PlanText.{text_of_stmt, text_of_test, text_of_choice, given, text_of_return, IsPlanText, nothing, one_more, IsItemText, AreArmsText, no_more, next_arm}
+use Rattle.dcc_plan.specs.PlanText.{text_of_stmt, text_of_test, text_of_choice, text_of_return, IsPlanText, nothing, one_more, IsItemText, AreArmsText, no_more, next_arm}
 use Rattle.dcc_plan.specs.Valid.{Context, outside, IsValid, IsValidItem, AreValidArms}
 use Rattle.dcc_plan.proofs.LabelWords.{label, label-word, label-among, labels-apart}
 
@@ -252,7 +253,7 @@ module _ (whole : Tree) (f : Function) (s : Spelling) (graph : inner.Graph) (lev
         (subst (λ exit. All (AreNamed s) (exit_exprs exit)) is (of-end (AreNamed s) spelled.reads)) (subst (λ exit. All (IsLow levels) (exit_exprs exit)) is (of-end (IsLow levels) spelled.shallow)))
       where
         by : (values : List inner.Expr) (result : Option CType) → f.result ≡ result → list_all (is_expr s.bits) values ≡ true → may_give result values ≡ true → All (AreNamed s) values
-            → All (IsLow levels) values → IsFineItem around (plan.Return b) (tree.Return (given s values))
+            → All (IsLow levels) values → IsFineItem around (plan.Return b) (ret_text s values)
         by [] None none formed may reads low = record {
           writable = refl;
           marked = refl;

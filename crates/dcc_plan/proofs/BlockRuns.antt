@@ -426,9 +426,8 @@ module _ (G : Premises) (graph : inner.Graph) (inside : Contains G.p.graphs grap
           begins-callee : Leads graph begun (Before b (suc m)) (entry graph x.later x.context) → suc (lines_count x.lines + left x.rest) ≤ left t.rest
               → HasBegun G.texts (setting_of G.texts) text fill callee begun_state (runs x.lines x.rest) t.waiting (stmt_step text (stmt_text s 2 the_call) x.at before)
           begins-callee leads count =
-              G.calls graph callee block results entry_at arguments own rest x.at i before mid.filled (results-named G.texts p graph i.waiting mid.called) inside calling calling.named
-              (subst (λ y. IsCallStep s (family block (y ∷ rest)) (family block rest) y) call step)
-              mid.graph_is mid.block_is mid.running mid.fit mid.function (continuing leads count)
+              G.calls results entry_at arguments own rest x.at i before mid.filled (results-named G.texts p graph i.waiting mid.called) mid.running mid.fit graph block mid.graph_is mid.block_is inside calling
+              (subst (λ y. IsCallStep s (family block (y ∷ rest)) (family block rest) y) call step) mid.function (continuing leads count)
               (subst (λ y. Holds s (family block (y ∷ rest)) (CallsAlike G) i before) call (elsewhere (runs x.lines x.rest) mid.holds))
 
           call-runs : c_step t ≡ moved → Leads graph begun (Before b (suc m)) (entry graph x.later x.context) → suc (lines_count x.lines + left x.rest) ≤ left t.rest → Comes false (moves mid.stand.leads) t
@@ -690,8 +689,8 @@ module _ (G : Premises) (graph : inner.Graph) (inside : Contains G.p.graphs grap
           goes-back w waiting v others those other_waits waiting_is returns =
               let called = subst (AreCalled G.texts p graph) those mid.called in
               let callers = subst (AreCallers p graph) those (subst (λ g. AreCallers p g i.waiting) mid.graph_is mid.placed.callers) in
-              let y = G.returns graph b values w waiting v others x.at i past mid.filled (results-named G.texts p graph i.waiting mid.called) inside called.0 mid.known is_ret (within-end (inner.Ret values) is_ret) mid.graph_is mid.block_is mid.running mid.fit callers those other_waits
-              mid.function held
+              let y = G.returns values w waiting v others x.at i past mid.filled (results-named G.texts p graph i.waiting mid.called) mid.running mid.fit those other_waits graph own mid.graph_is mid.block_is
+              inside called.0 (contained graph.blocks b own (block-at graph well b mid.known)) is_ret (within-end (inner.Ret values) is_ret) callers mid.function held
               in
               let z = returned (map (run.value_in i) values) w waiting i in
               let back : run.State = run.returning (map (run.value_in i) values) (w ∷ waiting) i in

@@ -1,141 +1,158 @@
--- What calls and returns of the text do, from what holds after them.
-use Rattle.std.proofs.Common.{◌≡◌, ℕ, ◌<◌, true, false, ◌==◌, List, [], ◌∷◌, length, map, Option, Some, None, sym, ap, ◌∙◌, subst, true≢false}
-use Rattle.std.specs.Prelude.{All, Contains, drop}
+-- What calls and returns of the text of a program do.
+use Rattle.std.proofs.Common.{◌≡◌, ℕ, true, false, List, [], ◌∷◌, length, map, Some, sym, ap, ◌∙◌, subst}
+use Rattle.std.specs.Prelude.{◌==◌, All, Contains, take, drop}
+use Rattle.std.proofs.lemmas.List.Elements.{All-head, All-contains, All-weaker}
 use Rattle.dcc_run.specs.End.{is_over}
 use Rattle.dcc_run.specs.System.{after}
-use Rattle.dcc_run.proofs.RunLaws.{after-over}
 use Rattle.dcc_ir.specs.declared.syntax.Loc.{Loc}
 use Rattle.dcc_ir.specs.Live.{block_in}
 use Rattle.dcc_ir.specs.Run as run
 use Rattle.dcc_ir.specs.Tree as inner
-use Rattle.dcc_ir.specs.WellFormed.{IsCalling}
-use Rattle.dcc_ir.proofs.FitStates.{IsFit}
-use Rattle.dcc_ir.proofs.GraphLaws.{found_entry}
-use Rattle.dcc_ir.proofs.LocationLaws.{Contains-later}
-use Rattle.dcc_ir.proofs.ReachedLaws.{AreCallers, found_contained, graph_of}
+use Rattle.dcc_ir.specs.WellFormed.{is_stmt}
+use Rattle.dcc_ir.proofs.FitStates.{IsFit, scene-fits}
+use Rattle.dcc_ir.proofs.ReachedLaws.{found_contained, named_again, graph_of}
 use Rattle.dcc_c.specs.Run as c
-use Rattle.dcc_c.specs.Dos.{dos_of}
-use Rattle.dcc_c.specs.Run.{ends_function, runs, function_in, text_system}
-use Rattle.dcc_c.specs.Tree.{Word, Expr, Call, Tree}
-use Rattle.dcc_c.proofs.RunLaws.{text_lawful}
-use Rattle.dcc_text.specs.Holding.{IsWithin, Holds, Setting, AreWaiting}
-use Rattle.dcc_text.specs.Spelled.{Low, text}
-use Rattle.dcc_text.specs.Stmts.{first_place, stmt_text}
-use Rattle.dcc_plan.specs.Laws.{IsCallStep}
-use Rattle.dcc_plan.specs.PlanText.{given, text_of_return}
-use Rattle.dcc_plan.specs.Programs.{Texts, IsProgramText}
+use Rattle.dcc_c.specs.Run.{ends_function, runs}
+use Rattle.dcc_c.specs.Tree.{Tree}
+use Rattle.dcc_text.specs.Holding.{Alike, Locations, Holds, Setting, AreWaiting}
+use Rattle.dcc_text.specs.Stmts.{stmt_text}
+use Rattle.dcc_variables.specs.Functions.{function_spelling, openings_from, openings, ret_text}
+use Rattle.dcc_plan.specs.CallLaws as calls
+use Rattle.dcc_plan.specs.Calls.{Opens, IsNamed, IsCallable, AreFunctions, StandsFor, has_name}
+use Rattle.dcc_plan.specs.Calls as serving
+use Rattle.dcc_plan.proofs.CallSteps as call_laws
+use Rattle.dcc_plan.proofs.Returns as return_laws
+use Rattle.dcc_plan.proofs.Returns.{later-contained}
+use Rattle.dcc_plan.specs.Programs.{Texts, open_setting, GivesFew, IsProgramText}
 use Rattle.dcc_plan.proofs.CallStates.{called, returned}
-use Rattle.dcc_plan.proofs.Settings.{AreNamed, rests_of, setting_of, CallsBegin, HasReturned, ReturnsEnd}
-use Rattle.dcc_plan.proofs.TextCalls.{Enters, over, enters, call-enters, opened-waits, GoesBack, ended, back, return-back}
+use Rattle.dcc_plan.proofs.Settings.{AreNamed, rests_of, setting_of, BeginsCall, CallsBegin, EndsWithReturn, ReturnsEnd}
 
--- After a call's step and the opening assignments the text runs the text of the callee's plan, and holds what matters
--- where the callee's first block begins.
-pub record HasStarted (texts : Texts) (setting : Setting) (fill : ℕ) (callee : inner.Graph) (i : run.State) (t : c.State) : Type 0 where
-  pub rest : t.rest ≡ runs (texts.lines callee) (ends_function (texts.function callee).last)
-  pub function : t.frame.function ≡ texts.function callee
-  pub filled : t.fill ≡ fill
-  pub holds : Holds (setting.spelling callee) (setting.matters callee (block_in callee 0) (block_in callee 0).stmts) (AreWaiting setting) i t
+both-equal : {A : Type 0} {a b : A} {xs ys : List A} → a ∷ xs ≡ b ∷ ys → (a ≡ b) × (xs ≡ ys)
+both-equal e = (cc, cc)
 
-abbrev pub CallsStart : inner.Program → Texts → Setting → Tree → ℕ → Type 0
-CallsStart p texts setting tree fill = (graph callee : inner.Graph) (block : inner.Block) (results : List Loc) (entry : ℕ) (arguments : List inner.Expr) (own : ℕ) (rest : List inner.Stmt) (at : ℕ)
-    (i : run.State) (t : c.State) → t.fill ≡ fill → All (λ w. AreNamed (setting.spelling w.caller.graph) w.results) i.waiting → Contains p.graphs graph
-    → IsCalling p graph (inner.Call results entry arguments own) → run.graph_at (drop 1 p.graphs) entry ≡ Some callee
-    → IsCallStep (setting.spelling graph) (setting.matters graph block (inner.Call results entry arguments own ∷ rest)) (setting.matters graph block rest) (inner.Call results entry arguments own)
-    → i.running.graph ≡ graph → i.running.block ≡ block → is_over i.end ≡ false → IsFit i → t.frame.function ≡ setting.function graph → setting.Continues t.rest graph block rest
-    → Holds (setting.spelling graph) (setting.matters graph block (inner.Call results entry arguments own ∷ rest)) (AreWaiting setting) i t
-    → HasStarted texts setting fill callee
-    (run.calling fill results own (map (run.value_in i) arguments) (Some callee) (record i { running = record i.running { rest = rest; begins = false } }))
-    (after (c.step tree) (texts.openings callee) (c.stmt_step tree (stmt_text (setting.spelling graph) 2 (inner.Call results entry arguments own)) at t))
+-- what is held of a graph's statements, where the running one is that
+module _ (texts : Texts) (AreAlike : Alike) where
+  abbrev HoldsThere : inner.Graph → inner.Block → List inner.Stmt → run.State → c.State → Type 0
+  HoldsThere graph block rest i t = Holds (texts.spelling graph) (texts.matters graph block rest) AreAlike i t
 
--- After a return the caller goes on, and the text holds what matters there.
-pub record HasGoneBack (setting : Setting) (fill : ℕ) (i : run.State) (t : c.State) : Type 0 where
-  pub function : t.frame.function ≡ setting.function i.running.graph
-  pub filled : t.fill ≡ fill
-  pub holds : Holds (setting.spelling i.running.graph) (setting.matters i.running.graph i.running.block i.running.rest) (AreWaiting setting) i t
+  pub held-there : (graph : inner.Graph) (block : inner.Block) (rest : List inner.Stmt) (i : run.State) (t : c.State) → i.running.graph ≡ graph → i.running.block ≡ block → i.running.rest ≡ rest
+      → HoldsThere i.running.graph i.running.block i.running.rest i t → HoldsThere graph block rest i t
+  held-there graph block rest i t graph_is block_is rest_is holds =
+      subst (λ r. HoldsThere graph block r i t) rest_is (subst (λ b. HoldsThere graph b i.running.rest i t) block_is (subst (λ g. HoldsThere g i.running.block i.running.rest i t) graph_is holds))
 
-abbrev pub ReturnsGoBack : inner.Program → Texts → Setting → Tree → ℕ → Type 0
-ReturnsGoBack p texts setting tree fill = (graph : inner.Graph) (b : ℕ) (values : List inner.Expr) (w : run.Waiting) (waiting : List run.Waiting) (at : ℕ)
-    (i : run.State) (t : c.State) → t.fill ≡ fill → All (λ w. AreNamed (setting.spelling w.caller.graph) w.results) i.waiting → Contains p.graphs graph → Contains (drop 1 p.graphs) graph
-    → b < length graph.blocks → (block_in graph b).exit ≡ inner.Ret values → All (IsWithin (setting.spelling graph) (setting.matters graph (block_in graph b) [])) values
-    → i.running.graph ≡ graph → i.running.block ≡ block_in graph b → is_over i.end ≡ false → IsFit i → AreCallers p graph (w ∷ waiting) → i.waiting ≡ w ∷ waiting → t.frame.function ≡ setting.function graph
-    → Holds (setting.spelling graph) (setting.matters graph (block_in graph b) []) (AreWaiting setting) i t
-    → HasGoneBack setting fill (run.returning (map (run.value_in i) values) (w ∷ waiting) i) (c.stmt_step tree (text_of_return (setting.spelling graph) (inner.Ret values)) at t)
-
-pub later-contained : (graphs : List inner.Graph) (g : inner.Graph) → Contains (drop 1 graphs) g → Contains graphs g
-later-contained [] g c = c
-later-contained (x ∷ graphs) g c = Contains-later x graphs g c
-
-module _ (p : inner.Program) (texts : Texts) (tree : Tree) (fill : ℕ) (is : IsProgramText p texts tree) where
+module _ (p : inner.Program) (opens : Opens) (texts : Texts) (tree : Tree) (fill : ℕ) (is : IsProgramText p opens texts tree) where
   abbrev setting : Setting
   setting = setting_of texts
 
-  -- the state that is over stays
-  over-after : (n : ℕ) (t : c.State) → is_over t.end ≡ true → is_over (after (c.step tree) n t).end ≡ true
-  over-after n t over_there = ap (λ (u : c.State). is_over u.end) (after-over (text_system tree) (text_lawful tree) n t over_there) ∙ over_there
+  -- what calls need, where the text of plans stands for places in blocks
+  functions : AreFunctions opens setting p tree
+  functions = record {
+    spelled = is.callable.spelled;
+    graphs = All-weaker (IsNamed (open_setting texts)) (IsNamed setting) (λ g x. record { few = x.few; apart = x.apart; named = x.named }) p.graphs is.callable.graphs;
+    others = All-weaker (IsCallable opens (open_setting texts) tree) (IsCallable opens setting tree)
+        (λ g x. record { function = x.function; found = x.found; unplaced = x.unplaced; opened = x.opened; named = x.named }) (drop 1 p.graphs) is.callable.others;
+  }
 
-  module _ (graph callee : inner.Graph) (entry : ℕ) (inside : Contains p.graphs graph) (named : run.graph_at (drop 1 p.graphs) entry ≡ Some callee) where
-    later : Contains (drop 1 p.graphs) callee
-    later = found_contained (λ g. g.entry == entry) (drop 1 p.graphs) callee named
+  -- the locations have names in the function of the graph
+  have-names : (graph : inner.Graph) (locations : List Loc) → AreNamed (texts.spelling graph) locations → All (has_name graph) locations
+  have-names graph locations named = subst (λ s. AreNamed s locations) (is.callable.spelled graph) named
 
-    there : Contains p.graphs callee
-    there = later-contained p.graphs callee later
+  -- the text stands for the program
+  stands : (Has : Locations) (i : run.State) (t : c.State) → t.fill ≡ fill → All (λ w. AreNamed (texts.spelling w.caller.graph) w.results) i.waiting → t.frame.function ≡ texts.function i.running.graph
+      → Holds (texts.spelling i.running.graph) Has (AreWaiting setting) i t → StandsFor setting fill Has i t
+  stands Has i t filled named function holds = record {
+    function = function;
+    filled = filled;
+    holds = holds;
+    results = All-weaker (λ (w : run.Waiting). AreNamed (texts.spelling w.caller.graph) w.results) (λ w. All (has_name w.caller.graph) w.results) (λ w are. have-names w.caller.graph w.results are) i.waiting named;
+  }
 
-    same : callee.entry ≡ entry
-    same = found_entry (drop 1 p.graphs) entry callee named
+  module _ (results : List Loc) (entry : ℕ) (arguments : List inner.Expr) (own : ℕ) (rest : List inner.Stmt) (at : ℕ) (i : run.State) (t : c.State)
+      (filled : t.fill ≡ fill) (named : All (λ w. AreNamed (texts.spelling w.caller.graph) w.results) i.waiting) (on : is_over i.end ≡ false) (fit : IsFit i) where
+    abbrev waits : run.State
+    waits = record i { running = record i.running { rest = rest; begins = false } }
 
-    abbrev word : Word
-    word = (texts.spelling graph).function entry
+    call-here : BeginsCall p texts setting tree fill results entry arguments own rest at i t i.running.graph i.running.block
+    call-here inside calling step function continues holds =
+        let graph = i.running.graph in
+        let callee = calling.callee in
+        let later = found_contained (λ g. g.entry == entry) (drop 1 p.graphs) callee calling.named in
+        let there = later-contained p.graphs callee later in
+        let opened = is.opened callee there in
+        let named_there = named_again p.graphs entry callee is.well.entries calling.named in
+        let begun : run.State = run.calling fill results own (map (run.value_in i) arguments) (Some callee) waits in
+        let start : c.State = c.stmt_step tree (stmt_text (texts.spelling graph) 2 (inner.Call results entry arguments own)) at t in
+        let needs : serving.IsCallStep setting p graph i.running.block rest results entry arguments own = record {
+          formed = subst (λ bits. is_stmt bits (inner.Call results entry arguments own) ≡ true) (sym holds.frame.bits) step.formed;
+          agrees = calling;
+          within = step.within;
+          written = have-names graph results step.written;
+          left = step.left;
+        } in
+        let x = call_laws.calls-begin opens setting p tree fill results entry arguments own 2 at rest (texts.lines callee) i t is.well functions inside needs opened.begins (scene-fits i fit) on
+        (stands (texts.matters graph i.running.block (inner.Call results entry arguments own ∷ rest)) i t filled named function holds) continues
+        in
+        let y : calls.HasBegun setting fill (texts.lines callee) (calls.waiting_with (texts.spelling graph) results t) begun (after (c.step tree) (texts.openings callee) start) =
+        subst (λ n. calls.HasBegun setting fill (texts.lines callee) (calls.waiting_with (texts.spelling graph) results t) begun (after (c.step tree) n start)) (sym opened.count)
+        (subst (λ o. calls.HasBegun setting fill (texts.lines callee) (calls.waiting_with (texts.spelling graph) results t) (run.calling fill results own (map (run.value_in i) arguments) o waits)
+        (after (c.step tree) (length (openings (opens callee) callee)) start)) named_there x)
+        in
+        let z = called fill results own (map (run.value_in i) arguments) callee waits (graph_of p is.well callee there) in
+        let runs_callee = y.stands.function ∙ ap texts.function z.graph in
+        record {
+          rest = y.comes_to ∙ ap (λ f. runs (texts.lines callee) (ends_function f.last)) runs_callee;
+          function = runs_callee;
+          filled = y.stands.filled;
+          waiting = ap rests_of y.waits;
+          holds = held-there texts (AreWaiting setting) callee (block_in callee 0) (block_in callee 0).stmts begun (after (c.step tree) (texts.openings callee) start) z.graph z.block z.rest y.stands.holds;
+        }
 
-    no-dos : dos_of word ≡ None
-    no-dos = subst (λ n. dos_of ((texts.spelling graph).function n) ≡ None) same (is.no_dos graph callee inside later)
+  pub calls-begin : CallsBegin p texts setting tree fill
+  calls-begin results entry arguments own rest at i t filled named on fit graph block graph_is block_is =
+      subst (λ g. BeginsCall p texts setting tree fill results entry arguments own rest at i t g block) graph_is
+      (subst (λ b. BeginsCall p texts setting tree fill results entry arguments own rest at i t i.running.graph b) block_is (call-here results entry arguments own rest at i t filled named on fit))
 
-    found : function_in tree.functions word ≡ Some (texts.function callee)
-    found = subst (λ n. function_in tree.functions ((texts.spelling graph).function n) ≡ Some (texts.function callee)) same (is.named graph callee inside later)
+  -- Returns.
 
-    -- the caller waits with what is left of it
-    call-waits : (place : Option Expr) (arguments : List Expr) (own at : ℕ) (t : c.State) → is_over (after (c.step tree) (texts.openings callee) (c.stmt_step tree (Call place word arguments own) at t)).end ≡ false
-        → rests_of (after (c.step tree) (texts.openings callee) (c.stmt_step tree (Call place word arguments own) at t)).waiting ≡ t.rest ∷ rests_of t.waiting
-    call-waits place arguments own at t on = by (call-enters tree (texts.function callee) word no-dos found place arguments own at t)
-      where
-        by : Enters (texts.function callee) t (c.stmt_step tree (Call place word arguments own) at t)
-            → rests_of (after (c.step tree) (texts.openings callee) (c.stmt_step tree (Call place word arguments own) at t)).waiting ≡ t.rest ∷ rests_of t.waiting
-        by (over stops) = absurd (true≢false (sym (over-after (texts.openings callee) _ stops) ∙ on))
-        by (enters rest waits) =
-            ap rests_of (opened-waits tree (texts.openings callee) (texts.function callee).body (texts.lines callee) (is.graphs callee there).opens (ends_function (texts.function callee).last) _ rest) ∙ waits
-
-  pub calls-begin : CallsStart p texts setting tree fill → CallsBegin p texts setting tree fill
-  calls-begin start graph callee block results entry arguments own rest at i t filled results_named inside calling named step graph_is block_is on fit function continues holds =
-      let s = texts.spelling graph in
-      let x = start graph callee block results entry arguments own rest at i t filled results_named inside calling named step graph_is block_is on fit function continues holds in
-      let waits : run.State = record i { running = record i.running { rest = rest; begins = false } } in
-      let z = called fill results own (map (run.value_in i) arguments) callee waits (graph_of p is.well callee (there graph callee entry inside named)) in
+  return-here : (values : List inner.Expr) (w : run.Waiting) (waiting : List run.Waiting) (v : c.Waiting) (others : List c.Waiting) (at : ℕ) (i : run.State) (t : c.State) → t.fill ≡ fill
+      → All (λ w. AreNamed (texts.spelling w.caller.graph) w.results) i.waiting → is_over i.end ≡ false → IsFit i → i.waiting ≡ w ∷ waiting → t.waiting ≡ v ∷ others
+      → EndsWithReturn p setting tree fill values w waiting v others at i t i.running.graph i.running.block
+  return-here values w waiting v others at i t filled named on fit those other_waits inside later stands_in exit within callers function holds =
+      let graph = i.running.graph in
+      let u : c.State = c.stmt_step tree (ret_text (texts.spelling graph) values) at t in
+      let back : run.State = run.returning (map (run.value_in i) values) (w ∷ waiting) i in
+      let needs : calls.IsReturning opens setting p tree values w waiting i = record {
+        well = is.well;
+        functions = functions;
+        graph = later;
+        block = stands_in;
+        exit = exit;
+        one = All-contains GivesFew graph.blocks i.running.block (All-contains (λ (g : inner.Graph). All GivesFew g.blocks) p.graphs graph is.few inside) stands_in values exit;
+        newest = those;
+        caller = callers.0.active.known;
+        taken = callers.0.results;
+        goes_on = on;
+      } in
+      let x = return_laws.returns-end opens setting p tree fill values w waiting at i t needs (scene-fits i fit) within (stands (texts.matters graph i.running.block []) i t filled named function holds) in
+      let y : calls.HasReturned setting fill t.waiting back u = subst (λ l. calls.HasReturned setting fill t.waiting (run.returning (map (run.value_in i) values) l i) u) those x in
+      let z = returned (map (run.value_in i) values) w waiting i in
+      let same = both-equal (sym other_waits ∙ y.waited) in
       record {
-        rest = x.rest;
-        function = x.function;
-        filled = x.filled;
-        waiting = call-waits graph callee entry inside named (first_place s results) (map (text s Low false) arguments) own at t (ap is_over x.holds.end ∙ ap is_over z.end ∙ on);
-        holds = x.holds;
+        rest = y.goes_on ∙ ap (λ (o : c.Waiting). o.rest) (sym same.0);
+        function = y.stands.function ∙ ap texts.function z.graph;
+        filled = y.stands.filled;
+        waiting = sym same.1;
+        holds = held-there texts (AreWaiting setting) w.caller.graph w.caller.block w.caller.rest back u z.graph z.block z.rest y.stands.holds;
       }
 
-  -- the text goes on with what waited
-  goes-on : (i : run.State) (w : run.Waiting) (waiting : List run.Waiting) (values : List ℕ) (v : c.Waiting) (others : List c.Waiting) (u : c.State) → is_over i.end ≡ false → GoesBack v others u
-      → HasGoneBack setting fill (run.returning values (w ∷ waiting) i) u → HasReturned setting fill (run.returning values (w ∷ waiting) i) w v others u
-  goes-on i w waiting values v others u on (ended over_there) x = absurd (true≢false (sym over_there ∙ ap is_over x.holds.end ∙ ap is_over (returned values w waiting i).end ∙ on))
-  goes-on i w waiting values v others u on (back rest waits) x =
-      let j : run.State = run.returning values (w ∷ waiting) i in
-      let z = returned values w waiting i in
-      let caller = w.caller in
-      record {
-        rest = rest;
-        function = x.function ∙ ap texts.function z.graph;
-        filled = x.filled;
-        waiting = waits;
-        holds = subst (λ rest. Holds (texts.spelling caller.graph) (texts.matters caller.graph caller.block rest) (AreWaiting setting) j u) z.rest
-            (subst (λ block. Holds (texts.spelling caller.graph) (texts.matters caller.graph block j.running.rest) (AreWaiting setting) j u) z.block
-            (subst (λ graph. Holds (texts.spelling graph) (texts.matters graph j.running.block j.running.rest) (AreWaiting setting) j u) z.graph x.holds));
-      }
+  pub returns-end : ReturnsEnd p setting tree fill
+  returns-end values w waiting v others at i t filled named on fit those other_waits graph block graph_is block_is =
+      subst (λ g. EndsWithReturn p setting tree fill values w waiting v others at i t g block) graph_is
+      (subst (λ b. EndsWithReturn p setting tree fill values w waiting v others at i t i.running.graph b) block_is (return-here values w waiting v others at i t filled named on fit those other_waits))
 
-  pub returns-end : ReturnsGoBack p texts setting tree fill → ReturnsEnd p texts setting tree fill
-  returns-end go graph b values w waiting v others at i t filled results_named inside later known exit within graph_is block_is on fit callers waits other_waits function holds =
-      goes-on i w waiting (map (run.value_in i) values) v others _ on (return-back tree (given (texts.spelling graph) values) v others at t other_waits)
-      (go graph b values w waiting at i t filled results_named inside later known exit within graph_is block_is on fit callers waits function holds)
+-- The first graph takes no arguments, so its function opens nothing.
+pub opens-nothing : (p : inner.Program) (opens : Opens) (texts : Texts) (tree : Tree) (graph : inner.Graph) (others : List inner.Graph) → IsProgramText p opens texts tree → p.graphs ≡ graph ∷ others → Contains p.graphs graph
+    → texts.openings graph ≡ 0
+opens-nothing p opens texts tree graph others is first inside =
+    let none : graph.params ≡ [] = All-head (λ (g : inner.Graph). g.params ≡ []) graph [] (subst (λ graphs. All (λ (g : inner.Graph). g.params ≡ []) (take 1 graphs)) first is.well.start) in
+    (is.opened graph inside).count ∙ ap (λ params. length (openings_from (function_spelling graph) (opens graph) 0 params)) none

@@ -15,7 +15,6 @@ pub mod Rests
 pub mod Settles
 pub mod Settings
 pub mod CallStates
-pub mod TextCalls
 pub mod CallPremises
 pub mod StepsKept
 pub mod TestLaws

@@ -15,7 +15,7 @@ use Rattle.dcc_ir.specs.Run as run
 use Rattle.dcc_ir.specs.Tree as inner
 use Rattle.dcc_ir.specs.WellFormed.{is_jump, jumps_after_call, IsGraph}
 use Rattle.dcc_ir.proofs.LocationLaws.{Contains-here, Contains-later}
-use Rattle.dcc_ir.proofs.ReachedLaws.{contained, IsWithinAt, within-of, IsGood, step-good, first-good}
+use Rattle.dcc_ir.proofs.ReachedLaws.{contained, graph_of, IsWithinAt, within-of, IsGood, step-good, first-good}
 use Rattle.dcc_ir.proofs.RunLaws.{inner_watchable}
 use Rattle.dcc_c.specs.Parts.{stmts_in}
 use Rattle.dcc_c.specs.Run as c
@@ -23,13 +23,16 @@ use Rattle.dcc_c.specs.Run.{Continuation, ends_function, runs, turns, goes_on, s
 use Rattle.dcc_c.specs.Tree as tree
 use Rattle.dcc_c.specs.Tree.{Stmt, Lines, line, Function, Tree}
 use Rattle.dcc_text.specs.Spelling.{Spelling}
-use Rattle.dcc_text.specs.Holding.{Locations, Alike, Holds, IsWaiting}
+use Rattle.dcc_text.specs.Holding.{Locations, Alike, Holds, IsWaiting, AreWaiting}
 use Rattle.dcc_text.proofs.FirstRuns.{opening}
+use Rattle.dcc_plan.specs.Calls.{Opens}
+use Rattle.dcc_plan.proofs.FirstStates.{first-states-stand}
+use Rattle.dcc_plan.proofs.Returns.{later-contained}
 use Rattle.dcc_plan.specs.Plan as plan
 use Rattle.dcc_plan.specs.Plan.{Item, Plan, no_items, item, is_begun}
 use Rattle.dcc_plan.specs.PlanText as planned
 use Rattle.dcc_plan.specs.PlanText.{IsPlanText, IsItemText}
-use Rattle.dcc_plan.specs.Programs.{Texts, Opens, at_once, one_more, IsGraphText, IsProgramText, AreAllKept, text_size, ProgramsCount}
+use Rattle.dcc_plan.specs.Programs.{Texts, OpensWith, at_once, one_more, IsGraphText, open_setting, IsProgramText, AreAllKept, text_size, ProgramsCount}
 use Rattle.dcc_plan.specs.Valid as valid
 use Rattle.dcc_plan.specs.Valid.{Point, Begin, Before, Nowhere, Leads, Context, outside, item_entry, entry, turn, only_goes, has_step, IsValid, IsValidItem}
 use Rattle.dcc_plan.specs.Laws.{AreSteps, IsTextOf, NeverStuck, AreKept, IsCountedBy, TextsCount, PlansCount}
@@ -39,7 +42,7 @@ use Rattle.dcc_plan.proofs.LabelLaws.{block-at}
 use Rattle.dcc_plan.proofs.ListLaws.{drop-none}
 use Rattle.dcc_plan.proofs.Rests.{Sound, SoundItem, lines_count, inside_count, count-is, left, is_jumping, is_jump_stmt, loop_context, Stands, loops, AtItem, AtTurn, Head, at_item, at_turn, at_end, head}
 use Rattle.dcc_plan.proofs.Rests as rests
-use Rattle.dcc_plan.proofs.CallPremises.{later-contained, CallsStart, ReturnsGoBack, calls-begin, returns-end}
+use Rattle.dcc_plan.proofs.CallPremises.{held-there, calls-begin, returns-end, opens-nothing}
 use Rattle.dcc_plan.proofs.Settings.{limit_of, setting_of, Premises}
 use Rattle.dcc_plan.proofs.Settles.{Settles, settle-start}
 use Rattle.dcc_plan.proofs.Points.{block_of, moves}
@@ -77,11 +80,11 @@ or-neither false true none = refl
 or-neither false false none = absurd (true≢false none)
 
 -- the statements of a body that opens with assignments
-opens-count : (count : ℕ) (body lines : Lines) → Opens count body lines → lines_count body ≡ count + lines_count lines
+opens-count : (count : ℕ) (body lines : Lines) → OpensWith count body lines → lines_count body ≡ count + lines_count lines
 opens-count count body lines at_once = omega arith
 opens-count (suc count) (line stmt at body) lines (one_more opens) = let later = opens-count count body lines opens in omega (arith, later)
 
-opens-none : (count : ℕ) (body lines : Lines) → count ≡ 0 → Opens count body lines → body ≡ lines
+opens-none : (count : ℕ) (body lines : Lines) → count ≡ 0 → OpensWith count body lines → body ≡ lines
 opens-none count body lines none at_once = refl
 opens-none (suc count) (line stmt at body) lines none (one_more opens) = absurd (omega (arith, none))
 
@@ -529,8 +532,8 @@ module _ (p : inner.Program) (graph : inner.Graph) (s : Spelling) (family : Fami
     most = lines_count f.body;
     fits = λ g c. omega arith;
     spare = λ g callee c later. absurd (none-later callee later);
-    calls = λ g callee block results entry_at arguments own rest at i t filled named_results c calling named step same block_is running fit function continues holds. absurd (no-callee entry_at callee named);
-    returns = λ g b values w waiting v others at i t filled named_results c later known exit within same block_is running fit callers waits other_waits function holds. absurd (none-later g later);
+    calls = λ results entry_at arguments own rest at i t filled named_results running fit g block same block_is c calling step function continues holds. absurd (no-callee entry_at calling.callee calling.named);
+    returns = λ values w waiting v others at i t filled named_results running fit waits other_waits g block same block_is c later known exit within callers function holds. absurd (none-later g later);
   }
 
 pub texts-count : (family : Family) (AreAlike : Alike) → TextsCount family AreAlike
@@ -582,7 +585,7 @@ module _ (texts : Texts) where
       let later = both-within graphs (λ x c. sized x (Contains-later g graphs x c)) a b (k, omega (arith, less), same) (k', omega (arith, less'), same') in
       omega (arith, later)
 
-module _ (p : inner.Program) (texts : Texts) (tree : Tree) (fill : ℕ) (is : IsProgramText p texts tree) (calls : CallsStart p texts (setting_of texts) tree fill) (returns : ReturnsGoBack p texts (setting_of texts) tree fill) where
+module _ (p : inner.Program) (opens : Opens) (texts : Texts) (tree : Tree) (fill : ℕ) (is : IsProgramText p opens texts tree) where
   sized : (g : inner.Graph) → Contains p.graphs g → length (stmts_in (texts.function g).body) ≡ texts.openings g + limit_of texts g
   sized g c = sym (count-is (texts.function g).body) ∙ opens-count (texts.openings g) (texts.function g).body (texts.lines g) (is.graphs g c).opens
 
@@ -597,14 +600,22 @@ module _ (p : inner.Program) (texts : Texts) (tree : Tree) (fill : ℕ) (is : Is
     most = text_size (map texts.function p.graphs);
     fits = λ g c. let one = one-within texts p.graphs sized g c in omega (arith, one);
     spare = λ g callee c later. both-within texts p.graphs sized g callee c (later-contained p.graphs callee later);
-    calls = calls-begin p texts tree fill is calls;
-    returns = returns-end p texts tree fill is returns;
+    calls = calls-begin p opens texts tree fill is;
+    returns = returns-end p opens texts tree fill is;
   }
 
--- the text of a program counts its visits, where its calls and returns do what those of the program do
-pub programs-count : (p : inner.Program) (texts : Texts) (tree : Tree) (AreAlike : Alike) → ((fill : ℕ) → CallsStart p texts (setting_of texts) tree fill)
-    → ((fill : ℕ) → ReturnsGoBack p texts (setting_of texts) tree fill) → ProgramsCount p texts tree AreAlike
+pub programs-count : (opens : Opens) (texts : Texts) → ProgramsCount opens texts
 unfolding program-premises
-programs-count p texts tree AreAlike calls returns graph others fill input kept is first are_kept none bytes unstuck holds within wide =
-    is-counted (program-premises p texts tree fill is (calls fill) (returns fill)) kept are_kept graph others first none input bytes unstuck AreAlike holds
+programs-count opens texts p tree graph others fill input kept is beginning are_kept bytes unstuck within wide =
+    let first = beginning.graphs in
+    let inside = subst (λ graphs. Contains graphs graph) (sym first) (contained (graph ∷ others) 0 graph refl) in
+    let graph_well = graph_of p is.well graph inside in
+    let entered = sym (first_of_graphs-is p graph others (block_in graph 0) fill input first (block-at graph graph_well 0 graph_well.begins)) in
+    let i0 : run.State = run.first_state p fill input in
+    let t0 : c.State = c.first_state tree (texts.function graph) fill input in
+    let there = first-states-stand opens (open_setting texts) p tree graph others fill input beginning in
+    let held = held-there texts (AreWaiting (open_setting texts)) graph (block_in graph 0) (block_in graph 0).stmts i0 t0 (ap (λ u. u.running.graph) (sym entered)) (ap (λ u. u.running.block) (sym entered))
+    (ap (λ u. u.running.rest) (sym entered)) there.holds
+    in
+    is-counted (program-premises p opens texts tree fill is) kept are_kept graph others first (opens-nothing p opens texts tree graph others is first inside) input bytes unstuck (AreWaiting (open_setting texts)) held
     within (subst (λ functions. text_size functions ≤ within) is.functions wide)

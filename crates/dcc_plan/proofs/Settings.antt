@@ -8,7 +8,7 @@ use Rattle.dcc_ir.specs.declared.syntax.Loc.{Loc}
 use Rattle.dcc_ir.specs.Live.{block_in}
 use Rattle.dcc_ir.specs.Run as run
 use Rattle.dcc_ir.specs.Tree as inner
-use Rattle.dcc_ir.specs.WellFormed.{is_jump, IsCalling, IsProgram}
+use Rattle.dcc_ir.specs.WellFormed.{is_jump, IsCall, IsProgram}
 use Rattle.dcc_ir.proofs.FitStates.{IsFit}
 use Rattle.dcc_ir.proofs.ReachedLaws.{AreCallers}
 use Rattle.dcc_c.specs.Run as c
@@ -79,16 +79,21 @@ pub record HasBegun (texts : Texts) (setting : Setting) (tree : Tree) (fill : �
   pub waiting : rests_of (after (c.step tree) (texts.openings callee) t).waiting ≡ k ∷ rests_of waits
   pub holds : Holds (setting.spelling callee) (setting.matters callee (block_in callee 0) (block_in callee 0).stmts) (AreWaiting setting) i (after (c.step tree) (texts.openings callee) t)
 
-abbrev pub CallsBegin : inner.Program → Texts → Setting → Tree → ℕ → Type 0
-CallsBegin p texts setting tree fill = (graph callee : inner.Graph) (block : inner.Block) (results : List Loc) (entry : ℕ) (arguments : List inner.Expr) (own : ℕ) (rest : List inner.Stmt) (at : ℕ)
-    (i : run.State) (t : c.State) → t.fill ≡ fill → All (λ w. AreNamed (setting.spelling w.caller.graph) w.results) i.waiting → Contains p.graphs graph → IsCalling p graph (inner.Call results entry arguments own)
-    → run.graph_at (drop 1 p.graphs) entry ≡ Some callee
+abbrev pub BeginsCall : inner.Program → Texts → Setting → Tree → ℕ → (results : List Loc) (entry : ℕ) (arguments : List inner.Expr) (own : ℕ) (rest : List inner.Stmt) (at : ℕ) (i : run.State) (t : c.State)
+    (graph : inner.Graph) (block : inner.Block) → Type 0
+BeginsCall p texts setting tree fill results entry arguments own rest at i t graph block =
+    Contains p.graphs graph → (calling : IsCall p graph results entry arguments)
     → IsCallStep (setting.spelling graph) (setting.matters graph block (inner.Call results entry arguments own ∷ rest)) (setting.matters graph block rest) (inner.Call results entry arguments own)
-    → i.running.graph ≡ graph → i.running.block ≡ block → is_over i.end ≡ false → IsFit i → t.frame.function ≡ setting.function graph → setting.Continues t.rest graph block rest
+    → t.frame.function ≡ setting.function graph → setting.Continues t.rest graph block rest
     → Holds (setting.spelling graph) (setting.matters graph block (inner.Call results entry arguments own ∷ rest)) (AreWaiting setting) i t
-    → HasBegun texts setting tree fill callee
-    (run.calling fill results own (map (run.value_in i) arguments) (Some callee) (record i { running = record i.running { rest = rest; begins = false } }))
+    → HasBegun texts setting tree fill calling.callee
+    (run.calling fill results own (map (run.value_in i) arguments) (Some calling.callee) (record i { running = record i.running { rest = rest; begins = false } }))
     t.rest t.waiting (c.stmt_step tree (stmt_text (setting.spelling graph) 2 (inner.Call results entry arguments own)) at t)
+
+abbrev pub CallsBegin : inner.Program → Texts → Setting → Tree → ℕ → Type 0
+CallsBegin p texts setting tree fill = (results : List Loc) (entry : ℕ) (arguments : List inner.Expr) (own : ℕ) (rest : List inner.Stmt) (at : ℕ) (i : run.State) (t : c.State) → t.fill ≡ fill
+    → All (λ w. AreNamed (setting.spelling w.caller.graph) w.results) i.waiting → is_over i.end ≡ false → IsFit i → (graph : inner.Graph) (block : inner.Block) → i.running.graph ≡ graph → i.running.block ≡ block
+    → BeginsCall p texts setting tree fill results entry arguments own rest at i t graph block
 
 -- Returns.
 
@@ -100,14 +105,19 @@ pub record HasReturned (setting : Setting) (fill : ℕ) (i : run.State) (w : run
   pub waiting : t.waiting ≡ others
   pub holds : Holds (setting.spelling w.caller.graph) (setting.matters w.caller.graph w.caller.block w.caller.rest) (AreWaiting setting) i t
 
-abbrev pub ReturnsEnd : inner.Program → Texts → Setting → Tree → ℕ → Type 0
-ReturnsEnd p texts setting tree fill = (graph : inner.Graph) (b : ℕ) (values : List inner.Expr) (w : run.Waiting) (waiting : List run.Waiting) (v : c.Waiting) (others : List c.Waiting) (at : ℕ)
-    (i : run.State) (t : c.State) → t.fill ≡ fill → All (λ w. AreNamed (setting.spelling w.caller.graph) w.results) i.waiting → Contains p.graphs graph → Contains (drop 1 p.graphs) graph → b < length graph.blocks → (block_in graph b).exit ≡ inner.Ret values
-    → All (IsWithin (setting.spelling graph) (setting.matters graph (block_in graph b) [])) values
-    → i.running.graph ≡ graph → i.running.block ≡ block_in graph b → is_over i.end ≡ false → IsFit i → AreCallers p graph (w ∷ waiting) → i.waiting ≡ w ∷ waiting → t.waiting ≡ v ∷ others
-    → t.frame.function ≡ setting.function graph
-    → Holds (setting.spelling graph) (setting.matters graph (block_in graph b) []) (AreWaiting setting) i t
+abbrev pub EndsWithReturn : inner.Program → Setting → Tree → ℕ → (values : List inner.Expr) (w : run.Waiting) (waiting : List run.Waiting) (v : c.Waiting) (others : List c.Waiting) (at : ℕ) (i : run.State) (t : c.State)
+    (graph : inner.Graph) (block : inner.Block) → Type 0
+EndsWithReturn p setting tree fill values w waiting v others at i t graph block =
+    Contains p.graphs graph → Contains (drop 1 p.graphs) graph → Contains graph.blocks block → block.exit ≡ inner.Ret values
+    → All (IsWithin (setting.spelling graph) (setting.matters graph block [])) values → AreCallers p graph (w ∷ waiting) → t.frame.function ≡ setting.function graph
+    → Holds (setting.spelling graph) (setting.matters graph block []) (AreWaiting setting) i t
     → HasReturned setting fill (run.returning (map (run.value_in i) values) (w ∷ waiting) i) w v others (c.stmt_step tree (text_of_return (setting.spelling graph) (inner.Ret values)) at t)
+
+abbrev pub ReturnsEnd : inner.Program → Setting → Tree → ℕ → Type 0
+ReturnsEnd p setting tree fill = (values : List inner.Expr) (w : run.Waiting) (waiting : List run.Waiting) (v : c.Waiting) (others : List c.Waiting) (at : ℕ) (i : run.State) (t : c.State) → t.fill ≡ fill
+    → All (λ w. AreNamed (setting.spelling w.caller.graph) w.results) i.waiting → is_over i.end ≡ false → IsFit i → i.waiting ≡ w ∷ waiting → t.waiting ≡ v ∷ others
+    → (graph : inner.Graph) (block : inner.Block) → i.running.graph ≡ graph → i.running.block ≡ block
+    → EndsWithReturn p setting tree fill values w waiting v others at i t graph block
 
 -- Programs.
 
@@ -124,4 +134,4 @@ pub record Premises : Type 1 where
   pub fits : (graph : inner.Graph) → Contains p.graphs graph → limit_of texts graph ≤ most
   pub spare : (graph callee : inner.Graph) → Contains p.graphs graph → Contains (drop 1 p.graphs) callee → limit_of texts graph + texts.openings callee + 1 ≤ most
   pub calls : CallsBegin p texts (setting_of texts) tree fill
-  pub returns : ReturnsEnd p texts (setting_of texts) tree fill
+  pub returns : ReturnsEnd p (setting_of texts) tree fill

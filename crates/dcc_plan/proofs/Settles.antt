@@ -14,17 +14,17 @@ use Rattle.dcc_plan.specs.Plan as plan
 use Rattle.dcc_plan.specs.Plan.{Item, Plan, no_items, item, is_begun}
 use Rattle.dcc_plan.specs.PlanText as planned
 use Rattle.dcc_plan.specs.PlanText.{IsPlanText, IsItemText}
-use Rattle.dcc_plan.specs.Programs.{Opens, at_once, one_more}
+use Rattle.dcc_plan.specs.Programs.{OpensWith, at_once, one_more}
 use Rattle.dcc_plan.specs.Valid.{Point, Begin, Nowhere, Context, outside, item_entry, entry}
 use Rattle.dcc_plan.proofs.Rests.{Sound, SoundItem, lines_count, inside_count, left, is_jump_stmt, is_jumping, Stands, closes, goes, Lands, AtItem, at_item, at_turn, at_end, head, break-lands, continue-lands, absent, lands, do-plain, return-plain, search-plan}
 
 -- assignments have no labels
-opened-label : (word : Word) (count : ℕ) (body lines : Lines) (rest : Continuation) → Opens count body lines → from_label word body rest ≡ from_label word lines rest
+opened-label : (word : Word) (count : ℕ) (body lines : Lines) (rest : Continuation) → OpensWith count body lines → from_label word body rest ≡ from_label word lines rest
 opened-label word count body lines rest at_once = refl
 opened-label word (suc count) (line stmt at body) lines rest (one_more opens) = opened-label word count body lines rest opens
 
 module _ (s : Spelling) (graph : inner.Graph) (whole : Plan) (limit : ℕ) (text : Tree) (f : Function) (well : IsGraph graph)
-    (valid : Sound s graph whole whole outside) (count : ℕ) (lines : Lines) (opens : Opens count f.body lines) (body : IsPlanText s graph whole lines) (low : lines_count lines ≤ limit) where
+    (valid : Sound s graph whole whole outside) (count : ℕ) (lines : Lines) (opens : OpensWith count f.body lines) (body : IsPlanText s graph whole lines) (low : lines_count lines ≤ limit) where
   -- a step from a continuation on
   pub one-step : (k : Continuation) (t : State) → is_over t.end ≡ false → step text (goes_on k t) ≡ step_at text k (goes_on k t)
   one-step k t on = ap (λ over. if over then goes_on k t else step_at text k (goes_on k t)) on

@@ -1,12 +1,13 @@
 -- The text of a plan.
-use Rattle.std.specs.Prelude.{ℕ, false, List, [], ◌∷◌, slice_get, Option, Some, None}
+use Rattle.std.specs.Prelude.{ℕ, false, List, slice_get, Some, None}
 use Rattle.dcc_ir.specs.Tree as inner
 use Rattle.dcc_ir.specs.Live.{block_in}
 use Rattle.dcc_c.specs.declared.syntax.Base.TheVariants.{Int}
-use Rattle.dcc_c.specs.Tree.{Expr, Number, Stmt, If, Forever, Switch, Break, Continue, Goto, Label, Empty, Return, Lines, no_lines, line, Arms, no_arms, arm}
+use Rattle.dcc_c.specs.Tree.{Expr, Number, Stmt, If, Forever, Switch, Break, Continue, Goto, Label, Empty, Lines, no_lines, line, Arms, no_arms, arm}
 use Rattle.dcc_text.specs.Spelling.{Spelling}
 use Rattle.dcc_text.specs.Spelled.{Low, Exact, text}
 use Rattle.dcc_text.specs.Stmts.{stmt_text}
+use Rattle.dcc_variables.specs.Functions.{ret_text}
 use Rattle.dcc_plan.specs.Labels.{label_at}
 use Rattle.dcc_plan.specs.Plan as plan
 use Rattle.dcc_plan.specs.Plan.{Plan, Item, no_items, item}
@@ -28,14 +29,9 @@ abbrev pub text_of_choice : Spelling → inner.Exit → Expr
 text_of_choice s (inner.Switch e places) = text s Low false e
 text_of_choice s _ = Number 0 Int
 
--- what a return gives back, where it gives a value
-abbrev pub given : Spelling → List inner.Expr → Option Expr
-given s [] = None
-given s (e ∷ es) = Some (text s Low false e)
-
 -- the return at the end of a block
 abbrev pub text_of_return : Spelling → inner.Exit → Stmt
-text_of_return s (inner.Ret values) = Return (given s values)
+text_of_return s (inner.Ret values) = ret_text s values
 text_of_return s _ = Empty
 
 abbrev mutual

@@ -10,6 +10,7 @@ ghost use Rattle.dcc_plan.specs.AllowedCalls.{CallsAreAllowed, ReturnsAreAllowed
 ghost use Rattle.dcc_plan.specs.CallLaws.{FirstStatesStand, CallsBegin, ReturnsEnd, BracesEnd};
 ghost use Rattle.dcc_plan.specs.Calls.{Opens};
 ghost use Rattle.dcc_plan.specs.Complete.{CompletePlansAreValid};
+ghost use Rattle.dcc_plan.specs.Programs.{Texts, ProgramsCount};
 
 /// The text of a plan is its text after its lines are numbered.
 pub fn numbered_text_is_text()
@@ -36,6 +37,18 @@ pub fn texts_count<H: SomeMeeting>()
 /// The text of a valid plan counts the visits of its program.
 pub fn plans_count<H: SomeMeeting>()
     ensures { PlansCount H.matters H.alike }
+{}
+
+/// What stands for the graphs of a program, and the bytes of arguments that its functions open.
+pub trait SomeTexts {
+    ghost texts: { Texts };
+
+    ghost opens: { Opens };
+}
+
+/// The text of a whole program, with a function for each graph, counts the visits of the blocks that it has a step for.
+pub fn programs_count<T: SomeTexts>()
+    ensures { ProgramsCount T.opens T.texts }
 {}
 
 /// A completed plan is a plan of the same graph.

@@ -5,6 +5,7 @@ ghost use Rattle.dcc_ir.specs.Live.{block_in};
 ghost use Rattle.std.specs.Prelude.{option_map};
 ghost use Rattle.dcc_ir.specs.Views.{block_of, exit_of, expr_of as inner_of, graph_of};
 ghost use Rattle.dcc_c.specs.Views.{expr_of, stmt_of, lines_of, arms_of as c_arms_of};
+ghost use Rattle.dcc_variables.specs.Functions.{ret_value};
 ghost use Rattle.dcc_plan.specs.Labels as labels;
 ghost use Rattle.dcc_plan.specs.PlanText as spec;
 ghost use Rattle.dcc_plan.specs.Views.{item_of, plan_of, arms_of};
@@ -94,7 +95,7 @@ fn choice_at<S: Spells>(alloc: Global, s: &S, graph: &Graph, b: u32) -> Result<C
 
 // What a return gives back, where it gives a value.
 fn given<S: Spells>(alloc: Global, s: &S, values: &[Expr]) -> Result<Option<CExpr>, AllocError>
-    ensures { IfOk result (λ r. option_map expr_of r ≡ spec.given (S.spelling s.now) (map inner_of values.now)) }
+    ensures { IfOk result (λ r. option_map expr_of r ≡ ret_value (S.spelling s.now) (map inner_of values.now)) }
 {
     match values.first() {
         Some(e) => Ok(Some(expr_text(alloc, s, Way::Low, false, e)?)),
