@@ -30,6 +30,7 @@ pub mod LabelWords
 pub mod AllowedPlans
 pub mod SpelledGraphs
 pub mod Examples
+pub mod WholeExamples
 pub mod ItemRows
 pub mod GotoSteps
 pub mod TargetLaws
