@@ -35,9 +35,9 @@ some-equal e = cc
 abbrev pub place_at : ℕ → ℕ → Put → Option ℕ
 place_at base j put = if is_memory put then Some ((base + 2 * j) % 65536) else None
 
-abbrev pub places_from : ℕ → ℕ → List Param → List (Option ℕ)
-places_from base j [] = []
-places_from base j (p ∷ params) = place_at base j p.put ∷ places_from base (j + 1) params
+abbrev pub param_places_from : ℕ → ℕ → List Param → List (Option ℕ)
+param_places_from base j [] = []
+param_places_from base j (p ∷ params) = place_at base j p.put ∷ param_places_from base (j + 1) params
 
 -- the body takes no address of a parameter that is not in memory
 abbrev pub is_unplaced : Lines → Variable → Bool
@@ -90,7 +90,7 @@ module _ (body : Lines) (base : ℕ) where
 
     -- params that are not on the stack have no place
     places-off : (params : List Param) (j number : ℕ) (placed : Bool) → list_all (λ q. not q.stack) params ≡ true → is_param_list bits params ≡ true
-        → param_places body base number placed (parameters_from bits j params) ≡ places_from base j params
+        → param_places body base number placed (parameters_from bits j params) ≡ param_places_from base j params
     places-off [] j number placed off formed = refl
     places-off (p ∷ params) j number placed off formed =
         let (here, rest) = and_parts (not p.stack) (list_all (λ q. not q.stack) params) off in
@@ -99,20 +99,20 @@ module _ (body : Lines) (base : ℕ) where
         let away = (off-memory p _ out first).0 in
         no-argument (parameter bits j p) (parameters_from bits (j + 1) params) number placed (class-is p false false out away)
         ∙ ap (λ ps. None ∷ ps) (places-off params (j + 1) number placed rest others)
-        ∙ place-first p j false (places_from base (j + 1) params) away
+        ∙ place-first p j false (param_places_from base (j + 1) params) away
 
     -- from a param in memory on, each param on the stack is there
     abbrev pub AllPlaced : Bool → List Param → Type 0
     AllPlaced placed params = placed ≡ true → list_all (λ q. not q.stack || is_memory q.put) params ≡ true
 
     pub places-are : (params : List Param) (j : ℕ) (placed : Bool) → is_param_list bits params ≡ true → memory_params_last params ≡ true → AllPlaced placed params
-        → list_all (is_unplaced body) (parameters_from bits j params) ≡ true → param_places body base j placed (parameters_from bits j params) ≡ places_from base j params
+        → list_all (is_unplaced body) (parameters_from bits j params) ≡ true → param_places body base j placed (parameters_from bits j params) ≡ param_places_from base j params
     places-are [] j placed formed last all unplaced = refl
     places-are (p ∷ params) j placed formed last all unplaced =
         let (first, others) = and_parts _ (is_param_list bits params) formed in
         let (mine, later) = and_parts (not (is_memory p.put) || list_all (λ q. not q.stack || is_memory q.put) params) (memory_params_last params) last in
         let (here, rest) = and_parts (is_unplaced body (parameter bits j p)) (list_all (is_unplaced body) (parameters_from bits (j + 1) params)) unplaced in
-        let more = places_from base (j + 1) params in
+        let more = param_places_from base (j + 1) params in
         elim (decided p.stack) [
           | inr off ↦
               (let (away, none) = off-memory p _ off first in
@@ -156,7 +156,7 @@ AreArguments bits _ _ _ = ⊥
 -- Memory.
 
 pub memory-is : (bits : List ℕ) (base j : ℕ) (params : List Param) (vs : List Value) (ns memory : List ℕ) → AreArguments bits params vs ns
-    → with_arguments (places_from base j params) vs memory ≡ memory_after base j params ns memory
+    → with_arguments (param_places_from base j params) vs memory ≡ memory_after base j params ns memory
 memory-is bits base j [] [] [] memory are = refl
 memory-is bits base j [] [] (n ∷ ns) memory are = absurd are
 memory-is bits base j [] (v ∷ vs) ns memory are = absurd are
@@ -166,10 +166,10 @@ memory-is bits base j (p ∷ params) (v ∷ vs) (n ∷ ns) memory are =
     first p.put are.0 ∙ memory-is bits base (j + 1) params vs ns (put_memory base j p.put n memory) are.1
   where
     first : (put : Put) → IsArgument bits put v n
-        → with_arguments (place_at base j put ∷ places_from base (j + 1) params) (v ∷ vs) memory ≡ with_arguments (places_from base (j + 1) params) vs (put_memory base j put n memory)
+        → with_arguments (place_at base j put ∷ param_places_from base (j + 1) params) (v ∷ vs) memory ≡ with_arguments (param_places_from base (j + 1) params) vs (put_memory base j put n memory)
     first Memory is =
         let exactly : v.bits ≡ n = sym (mod-eq_of_lt is.room) ∙ is.low in
-        ap (λ m. with_arguments (places_from base (j + 1) params) vs m)
+        ap (λ m. with_arguments (param_places_from base (j + 1) params) vs m)
         (ap (λ type. store (size_of type) memory ((base + 2 * j) % 65536) v.bits) is.typed
         ∙ ap (λ k. store 2 memory ((base + 2 * j) % 65536) k) exactly ∙ word-stored memory (base + 2 * j) n)
     first (One location) is = refl
@@ -198,18 +198,18 @@ module _ (bits : List ℕ) (base : ℕ) where
   )
 
   pub all-bound : (j : ℕ) (params : List Param) (vs : List Value) (others : List Binding) → j + length params < 2 ^ 63
-      → AreBound bits base (param_bindings (parameters_from bits j params) (places_from base j params) vs ++ others) j params vs
+      → AreBound bits base (param_bindings (parameters_from bits j params) (param_places_from base j params) vs ++ others) j params vs
   all-bound j [] vs others few = tt
   all-bound j (p ∷ params) [] others few = tt
   all-bound j (p ∷ params) (v ∷ vs) others few =
-      let rest = param_bindings (parameters_from bits (j + 1) params) (places_from base (j + 1) params) vs ++ others in (
+      let rest = param_bindings (parameters_from bits (j + 1) params) (param_places_from base (j + 1) params) vs ++ others in (
         ap (λ c. if c then Some (bound_parameter bits base j p v) else variable_in rest (parameter_name j)) (same_bytes-refl (parameter_name j)),
         bound-after (bound_parameter bits base j p v) j refl rest (j + 1) params vs (omega arith) (omega (arith, few)) (all-bound (j + 1) params vs others (omega (arith, few))),
       )
 
   -- another name is no parameter's
   pub no-parameter : (word : Word) (j : ℕ) (params : List Param) (vs : List Value) (others : List Binding)
-      → variable_in (param_bindings (parameters_from bits j params) (places_from base j params) vs ++ others) (118 ∷ word) ≡ variable_in others (118 ∷ word)
+      → variable_in (param_bindings (parameters_from bits j params) (param_places_from base j params) vs ++ others) (118 ∷ word) ≡ variable_in others (118 ∷ word)
   no-parameter word j [] vs others = refl
   no-parameter word j (p ∷ params) [] others = refl
   no-parameter word j (p ∷ params) (v ∷ vs) others = no-parameter word (j + 1) params vs others

@@ -42,8 +42,9 @@ use Rattle.dcc_plan.proofs.LabelLaws.{block-at}
 use Rattle.dcc_plan.proofs.ListLaws.{drop-first, drop-next, drop-less, drop-all}
 use Rattle.dcc_plan.proofs.Rests.{AreBegun, ArmsBegun, Sound, SoundItem, whole-begun, lines_count, inside_count, arms_count, left, is_jumping, Stands, AtItem, AtTurn, Head, at_item, at_turn, at_end, head, Lands, break-lands, IsStart, is_nowhere, is_begin, continue-starts}
 use Rattle.dcc_plan.proofs.Rests as rests
-use Rattle.dcc_plan.proofs.Settings.{AreNamed, debts, rests_of, limit_of, StandsFor, Continuing, setting_of, HasBegun, Premises}
-use Rattle.dcc_plan.proofs.CallStates.{called, returned}
+use Rattle.dcc_plan.proofs.Settings.{AreNamed, debts, rests_of, limit_of, StandsAt, Continuing, setting_of, Premises}
+use Rattle.dcc_plan.proofs.CallPremises.{HasCome, callee-begins, caller-goes-on}
+use Rattle.dcc_plan.proofs.CallStates.{is-called, is-returned}
 use Rattle.dcc_plan.proofs.Points.{block_of, place_of, is_before, start-apart, stays-before, moves, arm-text, arm-valid, arm-begun, arm-few}
 use Rattle.dcc_plan.proofs.Stages.{debts_of, owed, owed-begun, owed-within, AreCalled, results-named, CallsAlike, Matter, IsUnstuck, Meets, at_begin, after_call, Related, Outcome}
 use Rattle.dcc_plan.proofs.Settles.{one-step, jump-comes, settle, settle-start}
@@ -104,7 +105,7 @@ module _ (G : Premises) (graph : inner.Graph) (inside : Contains G.p.graphs grap
   steps-from k t on = one-step s graph whole limit text f well sound (G.texts.openings graph) (G.texts.lines graph) is.opens is.text (omega arith) k t on
 
   abbrev pub stands-for : {from : Point} (k : Continuation) (context : Context) (point : Point) (leads : Leads graph begun from point) → Standing k context → context.next ≡ point → left k ≤ limit
-      → StandsFor G.texts graph k from
+      → StandsAt G.texts graph k from
   stands-for k context point leads stands same low = record { context = context; stands = stands; point = point; same = same; leads = leads; low = low }
 
   -- The program is within a block, before these statements, and the text stands for that point. Where a call is among them,
@@ -123,7 +124,7 @@ module _ (G : Premises) (graph : inner.Graph) (inside : Contains G.p.graphs grap
     pub spare : list_any run.is_call stmts ≡ true → (callee : inner.Graph) → Contains (drop 1 p.graphs) callee → G.texts.openings callee + 1 ≤ extra
     pub fit : IsFit i
     pub steps : AreSteps s (family (block_in graph b)) stmts
-    pub stand : StandsFor G.texts graph t.rest (Before b m)
+    pub stand : StandsAt G.texts graph t.rest (Before b m)
     pub function : t.frame.function ≡ f
     pub holds : Holds s (family (block_in graph b) stmts) (CallsAlike G) i t
 
@@ -423,10 +424,16 @@ module _ (G : Premises) (graph : inner.Graph) (inside : Contains G.p.graphs grap
                 stand = stands-for (runs x.lines x.rest) following (entry graph x.later x.context) leads following-stands refl (omega (arith, mid.stand.low, count));
               }
 
+          -- the text has come to the callee's
+          abbrev CalleeBegun : Type 0
+          CalleeBegun =
+              HasCome G callee (block_in callee 0) (block_in callee 0).stmts (runs (G.texts.lines callee) (ends_function (G.texts.function callee).last)) (runs x.lines x.rest ∷ rests_of t.waiting) begun_state
+              (after c_step (G.texts.openings callee) (stmt_step text (stmt_text s 2 the_call) x.at before))
+
           begins-callee : Leads graph begun (Before b (suc m)) (entry graph x.later x.context) → suc (lines_count x.lines + left x.rest) ≤ left t.rest
-              → HasBegun G.texts (setting_of G.texts) text fill callee begun_state (runs x.lines x.rest) t.waiting (stmt_step text (stmt_text s 2 the_call) x.at before)
+              → CalleeBegun
           begins-callee leads count =
-              G.calls results entry_at arguments own rest x.at i before mid.filled (results-named G.texts p graph i.waiting mid.called) mid.running mid.fit graph block mid.graph_is mid.block_is inside calling
+              callee-begins G results entry_at arguments own rest x.at i before mid.filled (results-named G.texts p graph i.waiting mid.called) mid.running mid.fit graph block mid.graph_is mid.block_is inside calling
               (subst (λ y. IsCallStep s (family block (y ∷ rest)) (family block rest) y) call step) mid.function (continuing leads count)
               (subst (λ y. Holds s (family block (y ∷ rest)) (CallsAlike G) i before) call (elsewhere (runs x.lines x.rest) mid.holds))
 
@@ -436,7 +443,7 @@ module _ (G : Premises) (graph : inner.Graph) (inside : Contains G.p.graphs grap
               arrives-callee to_call (begins-callee leads count)
             where
               arrives-callee : c_step t ≡ stmt_step text (stmt_text s 2 the_call) x.at before
-                  → HasBegun G.texts (setting_of G.texts) text fill callee begun_state (runs x.lines x.rest) t.waiting (stmt_step text (stmt_text s 2 the_call) x.at before) → Comes false (moves mid.stand.leads) t
+                  → CalleeBegun → Comes false (moves mid.stand.leads) t
               arrives-callee to_call begun_text =
                   let own_text = G.each callee callee-inside in
                   let callee_well = graph_of p G.well callee callee-inside in
@@ -447,7 +454,7 @@ module _ (G : Premises) (graph : inner.Graph) (inside : Contains G.p.graphs grap
                   let u : c.State = after c_step (G.texts.openings callee) u0 in
                   let start = settle-start callee_s callee callee_whole (limit_of G.texts callee) text (G.texts.function callee) callee_well callee_sound (G.texts.openings callee) (G.texts.lines callee) own_text.opens
                   own_text.text (omega arith) callee_whole (G.texts.lines callee) (G.texts.function callee).last (omega arith) own_text.text callee_sound in
-                  let z = called fill results own (map (run.value_in i) arguments) callee waits callee_well in
+                  let z = is-called fill results own (map (run.value_in i) arguments) callee waits callee_well in
                   let u_on : is_over u.end ≡ false = ap is_over begun_text.holds.end ∙ ap is_over z.end ∙ mid.running in
                   let v : c.State = goes_on start.0.to u in
                   let arrived : after c_step (suc (G.texts.openings callee + start.0.steps)) t ≡ v =
@@ -689,10 +696,10 @@ module _ (G : Premises) (graph : inner.Graph) (inside : Contains G.p.graphs grap
           goes-back w waiting v others those other_waits waiting_is returns =
               let called = subst (AreCalled G.texts p graph) those mid.called in
               let callers = subst (AreCallers p graph) those (subst (λ g. AreCallers p g i.waiting) mid.graph_is mid.placed.callers) in
-              let y = G.returns values w waiting v others x.at i past mid.filled (results-named G.texts p graph i.waiting mid.called) mid.running mid.fit those other_waits graph own mid.graph_is mid.block_is
+              let y = caller-goes-on G values w waiting v others x.at i past mid.filled (results-named G.texts p graph i.waiting mid.called) mid.running those other_waits mid.fit graph own mid.graph_is mid.block_is
               inside called.0 (contained graph.blocks b own (block-at graph well b mid.known)) is_ret (within-end (inner.Ret values) is_ret) callers mid.function held
               in
-              let z = returned (map (run.value_in i) values) w waiting i in
+              let z = is-returned (map (run.value_in i) values) w waiting i in
               let back : run.State = run.returning (map (run.value_in i) values) (w ∷ waiting) i in
               let within : back.running.begins ≡ false = z.begins ∙ called.1 in
               let related : Related G back u = record {
@@ -717,7 +724,7 @@ module _ (G : Premises) (graph : inner.Graph) (inside : Contains G.p.graphs grap
               let spent : 1 + owed back u ≤ left t.rest + debts_of t + extra =
               let owes = owed-within back u within in
               let kept : left u.rest ≡ left v.rest = ap left y.rest in
-              let fewer : debts_of u ≡ debts (rests_of others) = ap (λ l. debts (rests_of l)) y.waiting in
+              let fewer : debts_of u ≡ debts (rests_of others) = ap debts y.waiting in
               let before : debts_of t ≡ left v.rest + debts (rests_of others) = ap (λ l. debts (rests_of l)) other_waits in
               omega (arith, owes, kept, fewer, before, some)
               in

@@ -40,8 +40,8 @@ pub record IsCalled (callee : Graph) (results : List Loc) (s t : State) : Type 0
   pub waiting : t.waiting ≡ record { caller = s.running; results = results } ∷ s.waiting
   pub end : t.end ≡ s.end
 
-pub called : (fill : ℕ) (results : List Loc) (depth : ℕ) (arguments : List ℕ) (callee : Graph) (s : State) → IsGraph callee → IsCalled callee results s (calling fill results depth arguments (Some callee) s)
-called fill results depth arguments callee s well =
+pub is-called : (fill : ℕ) (results : List Loc) (depth : ℕ) (arguments : List ℕ) (callee : Graph) (s : State) → IsGraph callee → IsCalled callee results s (calling fill results depth arguments (Some callee) s)
+is-called fill results depth arguments callee s well =
     let begun : State = record s {
       running = activation callee (filled callee.bits fill) (callee_base s.running.base depth);
       waiting = record { caller = s.running; results = results } ∷ s.waiting;
@@ -55,14 +55,14 @@ called fill results depth arguments callee s well =
 
 -- Returns.
 
-record Keeps (s t : State) : Type 0 where
+record IsGiving (s t : State) : Type 0 where
   rest : t.running.rest ≡ s.running.rest
   end : t.end ≡ s.end
 
-giving-keeps : (results : List Loc) (values : List ℕ) (s : State) → Keeps s (giving results values s)
-giving-keeps [] values s = record { rest = refl; end = refl }
-giving-keeps (location ∷ results) [] s = record { rest = refl; end = refl }
-giving-keeps (location ∷ results) (n ∷ values) s = let x = giving-keeps results values (setting location n s) in record { rest = x.rest; end = x.end }
+is-giving : (results : List Loc) (values : List ℕ) (s : State) → IsGiving s (giving results values s)
+is-giving [] values s = record { rest = refl; end = refl }
+is-giving (location ∷ results) [] s = record { rest = refl; end = refl }
+is-giving (location ∷ results) (n ∷ values) s = let x = is-giving results values (setting location n s) in record { rest = x.rest; end = x.end }
 
 -- the caller goes on
 pub record IsReturned (w : Waiting) (others : List Waiting) (s t : State) : Type 0 where
@@ -73,11 +73,11 @@ pub record IsReturned (w : Waiting) (others : List Waiting) (s t : State) : Type
   pub waiting : t.waiting ≡ others
   pub end : t.end ≡ s.end
 
-pub returned : (values : List ℕ) (w : Waiting) (waiting : List Waiting) (s : State) → IsReturned w waiting s (returning values (w ∷ waiting) s)
-returned values w waiting s =
+pub is-returned : (values : List ℕ) (w : Waiting) (waiting : List Waiting) (s : State) → IsReturned w waiting s (returning values (w ∷ waiting) s)
+is-returned values w waiting s =
     let back : State = record s { running = w.caller; waiting = waiting } in
     let same = giving-alike w.results values back in
-    let kept = giving-keeps w.results values back in
+    let kept = is-giving w.results values back in
     record { graph = same.graph; block = same.block; rest = kept.rest; begins = same.begins; waiting = same.waiting; end = kept.end }
 
 -- Statements without a call before a jump lead to a block, or to the end of the run.

@@ -32,7 +32,7 @@ use Rattle.dcc_text.proofs.Assignments.{target-is}
 use Rattle.dcc_variables.specs.Variables.{shape_of, variable_name}
 use Rattle.dcc_variables.specs.Functions.{function_name, parameter_name, parameters, name_or, function_spelling, openings, BeginsWith}
 use Rattle.dcc_variables.specs.FunctionLaws.{has_name}
-use Rattle.dcc_plan.specs.Calls.{all_byte_places, IsNamed, Opens, IsCallable, AreFunctions, StandsFor, IsCallStep}
+use Rattle.dcc_plan.specs.Calls.{all_byte_places, IsNamed, Opens, IsCallable, AreFunctions, StandsFor, IsReadyCall}
 use Rattle.dcc_plan.specs.CallLaws.{called, HasBegun, waiting_with, CallsBegin}
 use Rattle.dcc_plan.proofs.Arguments.{Arguments, arguments-are}
 use Rattle.dcc_plan.proofs.Bindings.{AreWords, AreArguments, memory-is}
@@ -71,7 +71,7 @@ module _ (opens : Opens) (function : inner.Graph → Function) (matters : inner.
 
   module _ (p : inner.Program) (tree : Tree) (fill : ℕ) (results : List Loc) (entry : ℕ) (arguments : List inner.Expr) (own depth at : ℕ) (rest : List inner.Stmt) (lines : Lines)
       (i : inner_run.State) (t : text_run.State) (well : IsProgram p) (functions : AreFunctions opens setting p tree) (known : Contains p.graphs i.running.graph)
-      (call : IsCallStep setting p i.running.graph i.running.block rest results entry arguments own)
+      (call : IsReadyCall setting p i.running.graph i.running.block rest results entry arguments own)
       (begins : BeginsWith (openings (opens call.agrees.callee) call.agrees.callee) (function call.agrees.callee).body lines)
       (fits : Fits (inner_run.scene_of i)) (going : is_over i.end ≡ false)
       (stands : StandsFor setting fill (matters i.running.graph i.running.block (inner.Call results entry arguments own ∷ rest)) i t)
@@ -311,7 +311,7 @@ calls-begin opens setting p tree fill results entry arguments own depth at rest 
     well others known call begins fits going stands continues) functions
   where
     CallOf : Setting → Type 0
-    CallOf st = (known : Contains p.graphs i.running.graph) → (call : IsCallStep st p i.running.graph i.running.block rest results entry arguments own)
+    CallOf st = (known : Contains p.graphs i.running.graph) → (call : IsReadyCall st p i.running.graph i.running.block rest results entry arguments own)
         → BeginsWith (openings (opens call.agrees.callee) call.agrees.callee) (st.function call.agrees.callee).body lines → Fits (inner_run.scene_of i) → is_over i.end ≡ false
         → StandsFor st fill (st.matters i.running.graph i.running.block (inner.Call results entry arguments own ∷ rest)) i t → st.Continues t.rest i.running.graph i.running.block rest
         → HasBegun st fill lines (waiting_with (st.spelling i.running.graph) results t) (called p fill results entry arguments own rest i) (after (text_run.step tree) (length (openings (opens call.agrees.callee) call.agrees.callee))

@@ -29,7 +29,7 @@ use Rattle.dcc_variables.proofs.Lists.{filter-among, among-filter}
 use Rattle.dcc_variables.specs.Functions.{place_in, parameters, name_or, is_own, own_declarations, function_spelling, function_of}
 use Rattle.dcc_variables.specs.FunctionLaws.{has_name}
 use Rattle.dcc_plan.specs.Calls.{all_byte_places, all_places, locations_differ}
-use Rattle.dcc_plan.proofs.Bindings.{places_from, is_unplaced, places-are, AreArguments, AreBound, all-bound, no-parameter, IsParameter, parameter-is, AreWords, words-are}
+use Rattle.dcc_plan.proofs.Bindings.{param_places_from, is_unplaced, places-are, AreArguments, AreBound, all-bound, no-parameter, IsParameter, parameter-is, AreWords, words-are}
 use Rattle.dcc_variables.proofs.ParamNames.{placed-is}
 use Rattle.dcc_plan.proofs.Passings.{values_after, values-other, takes-none}
 
@@ -71,25 +71,25 @@ module _ (g : inner.Graph) (few : AreFew (shape_of g)) (few_params : length g.pa
   own_bound = map (bound g few formed fill) own ++ array_bound g few formed fill base shape.frame
 
   abbrev pub variables : List Binding
-  variables = taken (places_from base 0 g.params) ++ own_bound
+  variables = taken (param_places_from base 0 g.params) ++ own_bound
 
   locals-are : (xs : List Loc) → c.local_bindings fill (map (variable shape) xs ++ frame_array shape.frame) (local_places base 4 (map (variable shape) xs ++ frame_array shape.frame))
       ≡ map (bound g few formed fill) xs ++ array_bound g few formed fill base shape.frame
   locals-are [] = refl
   locals-are (x ∷ xs) = ap (λ bs. bound g few formed fill x ∷ bs) (locals-are xs)
 
-  places-here : params_of_call (function_of g word f.body f.last) base ≡ places_from base 0 g.params
+  places-here : params_of_call (function_of g word f.body f.last) base ≡ param_places_from base 0 g.params
   places-here =
       places-are f.body base g.bits g.params 0 false listed last (λ e. absurd (true≢false (sym e))) (ap (λ h. list_all (is_unplaced f.body) h.params) (sym is) ∙ unplaced)
 
-  pub places-of-call : params_of_call f base ≡ places_from base 0 g.params
+  pub places-of-call : params_of_call f base ≡ param_places_from base 0 g.params
   places-of-call = ap (λ h. params_of_call h base) is ∙ places-here
 
   pub variables-are : (c.frame_of f base fill vs).variables ≡ variables
   variables-are =
       ap (λ h. (c.frame_of h base fill vs).variables) is
       ∙ ap (λ ps. taken ps ++ c.local_bindings fill (own_declarations g) (local_places base 4 (own_declarations g))) places-here
-      ∙ ap (λ bs. taken (places_from base 0 g.params) ++ bs) (locals-are own)
+      ∙ ap (λ bs. taken (param_places_from base 0 g.params) ++ bs) (locals-are own)
 
   few-names : 0 + length g.params < 2 ^ 63
   few-names = omega (arith, few_params)

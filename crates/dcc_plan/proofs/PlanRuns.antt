@@ -42,7 +42,7 @@ use Rattle.dcc_plan.proofs.LabelLaws.{block-at}
 use Rattle.dcc_plan.proofs.ListLaws.{drop-none}
 use Rattle.dcc_plan.proofs.Rests.{Sound, SoundItem, lines_count, inside_count, count-is, left, is_jumping, is_jump_stmt, loop_context, Stands, loops, AtItem, AtTurn, Head, at_item, at_turn, at_end, head}
 use Rattle.dcc_plan.proofs.Rests as rests
-use Rattle.dcc_plan.proofs.CallPremises.{held-there, calls-begin, returns-end, opens-nothing}
+use Rattle.dcc_plan.proofs.CallPremises.{held-there, functions-of, opens-nothing}
 use Rattle.dcc_plan.proofs.Settings.{limit_of, setting_of, Premises}
 use Rattle.dcc_plan.proofs.Settles.{Settles, settle-start}
 use Rattle.dcc_plan.proofs.Points.{block_of, moves}
@@ -518,9 +518,6 @@ module _ (p : inner.Program) (graph : inner.Graph) (s : Spelling) (family : Fami
       by : Contains [] g → ⊥
       by (k, less, same) = absurd (omega (arith, less))
 
-  no-callee : (entry_at : ℕ) (callee : inner.Graph) → run.graph_at (drop 1 p.graphs) entry_at ≡ Some callee → ⊥
-  no-callee entry_at callee named = some-none (sym named ∙ ap (λ graphs. run.graph_at (drop 1 graphs) entry_at) is.alone)
-
   alone-premises : Premises
   alone-premises = record {
     p = p;
@@ -532,8 +529,8 @@ module _ (p : inner.Program) (graph : inner.Graph) (s : Spelling) (family : Fami
     most = lines_count f.body;
     fits = λ g c. omega arith;
     spare = λ g callee c later. absurd (none-later callee later);
-    calls = λ results entry_at arguments own rest at i t filled named_results running fit g block same block_is c calling step function continues holds. absurd (no-callee entry_at calling.callee calling.named);
-    returns = λ values w waiting v others at i t filled named_results running fit waits other_waits g block same block_is c later known exit within callers function holds. absurd (none-later g later);
+    opens = λ g location. false;
+    calls = λ callee later. absurd (none-later callee later);
   }
 
 pub texts-count : (family : Family) (AreAlike : Alike) → TextsCount family AreAlike
@@ -600,8 +597,8 @@ module _ (p : inner.Program) (opens : Opens) (texts : Texts) (tree : Tree) (fill
     most = text_size (map texts.function p.graphs);
     fits = λ g c. let one = one-within texts p.graphs sized g c in omega (arith, one);
     spare = λ g callee c later. both-within texts p.graphs sized g callee c (later-contained p.graphs callee later);
-    calls = calls-begin p opens texts tree fill is;
-    returns = returns-end p opens texts tree fill is;
+    opens = opens;
+    calls = λ callee later. record { functions = functions-of p opens texts tree is; opened = is.opened; few = is.few };
   }
 
 pub programs-count : (opens : Opens) (texts : Texts) → ProgramsCount opens texts

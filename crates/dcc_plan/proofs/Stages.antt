@@ -14,7 +14,7 @@ use Rattle.dcc_plan.specs.Programs.{Texts}
 use Rattle.dcc_plan.specs.Valid.{Begin, Nowhere}
 use Rattle.dcc_plan.proofs.Points.{moves}
 use Rattle.dcc_plan.proofs.Rests.{left, is_jumping}
-use Rattle.dcc_plan.proofs.Settings.{AreNamed, debts, rests_of, StandsFor, Continuing, setting_of, Premises}
+use Rattle.dcc_plan.proofs.Settings.{AreNamed, debts, rests_of, StandsAt, Continuing, setting_of, Premises}
 
 -- What the text owes: its statements left where the program is within a block, and those of the calls that wait.
 
@@ -66,7 +66,7 @@ module _ (G : Premises) where
     pub running : is_over i.end ≡ false
     pub good : IsGood G.p i
     pub unstuck : IsUnstuck i
-    pub stand : StandsFor G.texts graph t.rest (Begin b)
+    pub stand : StandsAt G.texts graph t.rest (Begin b)
     pub settled : (is_jumping t.rest ≡ false) ⊎ (stand.context.next ≡ Nowhere)
     pub filled : t.fill ≡ G.fill
     pub function : t.frame.function ≡ G.texts.function graph

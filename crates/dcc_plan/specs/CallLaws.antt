@@ -16,7 +16,7 @@ use Rattle.dcc_text.specs.Spelling.{Spelling}
 use Rattle.dcc_text.specs.Stmts.{stmt_text}
 use Rattle.dcc_variables.specs.Globals.{globals_of}
 use Rattle.dcc_variables.specs.Functions.{openings, BeginsWith, ret_text, IsFunctionOf}
-use Rattle.dcc_plan.specs.Calls.{Opens, AreFunctions, StandsFor, StandsThere, IsCallStep}
+use Rattle.dcc_plan.specs.Calls.{Opens, AreFunctions, StandsFor, StandsThere, IsReadyCall}
 
 -- The start.
 
@@ -68,7 +68,7 @@ CallsBegin opens setting = (p : inner.Program) (tree : Tree) (fill : ℕ) (resul
     (arguments : List inner.Expr) (own depth at : ℕ) (rest : List inner.Stmt) (lines : Lines)
     (i : inner_run.State) (t : text_run.State)
     → IsProgram p → AreFunctions opens setting p tree → Contains p.graphs i.running.graph
-    → (call : IsCallStep setting p i.running.graph i.running.block rest results entry arguments own)
+    → (call : IsReadyCall setting p i.running.graph i.running.block rest results entry arguments own)
     → BeginsWith (openings (opens call.agrees.callee) call.agrees.callee)
     (setting.function call.agrees.callee).body lines
     → Fits (inner_run.scene_of i) → is_over i.end ≡ false

@@ -92,7 +92,7 @@ StandsThere setting fill i t =
 
 -- What a Call needs so that its text begins the callee: it is well formed and agrees with the callee, what it reads is
 -- held before it, its results have variables, and what matters after it but for these is held before it.
-pub record IsCallStep (setting : Setting) (p : inner.Program) (graph : inner.Graph) (block : inner.Block)
+pub record IsReadyCall (setting : Setting) (p : inner.Program) (graph : inner.Graph) (block : inner.Block)
     (rest : List inner.Stmt) (results : List Loc) (entry : ℕ) (arguments : List inner.Expr) (depth : ℕ) : Type 0 where
   pub formed : is_stmt graph.bits (inner.Call results entry arguments depth) ≡ true
   pub agrees : IsCall p graph results entry arguments
