@@ -76,7 +76,7 @@ fn count_offends(call: &PartialCall, params: &[CType]) -> bool
 // Tells whether the result does not go to the place, where there is one.
 fn check_result(
     place: Option<Operand>,
-    at: usize,
+    at: u32,
     function: &WordAt,
     result_type: Option<CType>,
     first: &mut First,
@@ -94,7 +94,7 @@ fn check_result(
 // Tells what offends in the call of a function with the signature, which begins at a place.
 fn check_signature(
     scene: &Scene<'_, '_>,
-    at: usize,
+    at: u32,
     place: Option<Operand>,
     call: &PartialCall,
     signature: &Signature,
@@ -119,7 +119,7 @@ fn check_signature(
 // Tells what offends in the function that is called: it is no variable, and known.
 fn check_callee(
     scene: &Scene<'_, '_>,
-    at: usize,
+    at: u32,
     place: Option<Operand>,
     call: &PartialCall,
     first: &mut First,
@@ -127,7 +127,7 @@ fn check_callee(
     ensures { (s : offences.Scene) (e : Option partial.PartialExpr) → IsScene scene.now s →
         place ≡ option_map (target s) e → Tells first.old first.new (callee_offences s at e (call_of call.now)) }
 {
-    let word = call.function.word.as_str();
+    let word = call.function.word;
     if scene.variable(word).is_some() {
         first.tell(ParseKind::Type_, call.function.at);
         return;
@@ -159,7 +159,7 @@ fn check_place_if(
 /// Tells what offends in a call, which begins at a place.
 pub(crate) fn check_call(
     scene: &Scene<'_, '_>,
-    at: usize,
+    at: u32,
     place: &Option<PartialExpr>,
     call: &PartialCall,
     first: &mut First,

@@ -35,7 +35,7 @@ pub(crate) fn is_name(e: &PartialExpr) -> bool
 }
 
 // A name that is no variable: a function's offends as an operand, but not before a parenthesis.
-fn tell_no_variable(scene: &Scene<'_, '_>, at: usize, word: &str, called: bool, first: &mut First)
+fn tell_no_variable(scene: &Scene<'_, '_>, at: u32, word: &str, called: bool, first: &mut First)
     ensures { (s : offences.Scene) → IsScene scene.now s →
         Tells first.old first.new (no_variable s at word.now called) }
 {
@@ -48,7 +48,7 @@ fn tell_no_variable(scene: &Scene<'_, '_>, at: usize, word: &str, called: bool, 
 // A name as a value: that of an array of pointers has no type.
 fn check_name(
     scene: &Scene<'_, '_>,
-    at: usize,
+    at: u32,
     word: &str,
     called: bool,
     first: &mut First,
@@ -77,13 +77,13 @@ fn operand_of_address(scene: &Scene<'_, '_>, a: &PartialExpr) -> Option<Declared
         result ≡ option_map unnamed (operand_of_address s.names (expr_of a.now)) }
 {
     match a {
-        PartialExpr::Name(_, _, word) => scene.variable(word.as_str()),
+        PartialExpr::Name(_, _, word) => scene.variable(word),
         _ => None,
     }
 }
 
 // The place where a name stands, and 0 for another expression.
-fn place_of_name(a: &PartialExpr) -> usize
+fn place_of_name(a: &PartialExpr) -> u32
     ensures { is_name_here (expr_of a.now) ≡ true → result ≡ partial.place_of (expr_of a.now) }
 {
     match a {
@@ -106,7 +106,7 @@ pub(crate) fn check_expr(scene: &Scene<'_, '_>, e: &PartialExpr, first: &mut Fir
             at: *at,
         },
         PartialExpr::Name(called, at, word) => {
-            check_name(scene, *at, word.as_str(), *called, first)
+            check_name(scene, *at, word, *called, first)
         }
         PartialExpr::Unary(at, operator, a) => check_operator(scene, *at, *operator, a, first),
         PartialExpr::Binary(operator, a, b) => {
@@ -118,10 +118,10 @@ pub(crate) fn check_expr(scene: &Scene<'_, '_>, e: &PartialExpr, first: &mut Fir
                 at: a.at,
             }
         }
-        PartialExpr::Conditional(a, b, c) => {
-            let a = check_expr(scene, a, first);
-            let b = check_expr(scene, b, first);
-            let c = check_expr(scene, c, first);
+        PartialExpr::Conditional(choice) => {
+            let a = check_expr(scene, &choice.test, first);
+            let b = check_expr(scene, &choice.first, first);
+            let c = check_expr(scene, &choice.second, first);
             want_number(a, first);
             check_choice(b, c, first);
             Operand {
@@ -143,7 +143,7 @@ pub(crate) fn check_expr(scene: &Scene<'_, '_>, e: &PartialExpr, first: &mut Fir
 #[cycle(expression)]
 fn check_operator(
     scene: &Scene<'_, '_>,
-    at: usize,
+    at: u32,
     operator: CUn,
     a: &PartialExpr,
     first: &mut First,
@@ -166,7 +166,7 @@ fn check_operator(
 
 // Tells what offends in `&` and its operand: a variable that has an address, and is no array and no pointer.
 #[cycle(expression)]
-fn check_address(scene: &Scene<'_, '_>, at: usize, a: &PartialExpr, first: &mut First) -> Operand
+fn check_address(scene: &Scene<'_, '_>, at: u32, a: &PartialExpr, first: &mut First) -> Operand
     ensures operand { (s : offences.Scene) → IsScene scene.now s →
         result ≡ operand s (partial.UnaryHere at AddressOf (expr_of a.now)) }
     ensures told { (s : offences.Scene) → IsScene scene.now s →
@@ -201,7 +201,7 @@ pub(crate) fn check_place(scene: &Scene<'_, '_>, e: &PartialExpr, first: &mut Fi
         Tells first.old first.new (place_offences s (expr_of e.now)) }
 {
     match e {
-        PartialExpr::Name(called, at, word) => match scene.variable(word.as_str()) {
+        PartialExpr::Name(called, at, word) => match scene.variable(word) {
             Some(declared) => {
                 first.tell_if(declared.is_array, ParseKind::Type_, *at);
                 Operand {
@@ -210,7 +210,7 @@ pub(crate) fn check_place(scene: &Scene<'_, '_>, e: &PartialExpr, first: &mut Fi
                 }
             }
             None => {
-                tell_no_variable(scene, *at, word.as_str(), *called, first);
+                tell_no_variable(scene, *at, word, *called, first);
                 Operand { ty: None, at: *at }
             }
         },

@@ -63,7 +63,7 @@ fn check_switch(scene: &Scene<'_, '_>, e: &PartialExpr, done: bool, first: &mut 
 // Tells what offends in a `return`: a value stands where the function has a result, and there alone.
 fn check_return(
     scene: &Scene<'_, '_>,
-    at: usize,
+    at: u32,
     e: &Option<PartialExpr>,
     done: bool,
     first: &mut First,
@@ -91,7 +91,7 @@ fn check_goto(scene: &Scene<'_, '_>, name: &Option<WordAt>, first: &mut First)
 {
     if let Some(name) = name {
         first.tell_if(
-            !scene.has_label(name.word.as_str()),
+            !scene.has_label(name.word),
             ParseKind::Name,
             name.at,
         );
@@ -99,7 +99,7 @@ fn check_goto(scene: &Scene<'_, '_>, name: &Option<WordAt>, first: &mut First)
 }
 
 /// Tells what offends in a statement that begins at a place, without the statements inside it.
-pub(crate) fn check_own(scene: &Scene<'_, '_>, at: usize, stmt: &PartialStmt, first: &mut First)
+pub(crate) fn check_own(scene: &Scene<'_, '_>, at: u32, stmt: &PartialStmt, first: &mut First)
     ensures { (s : offences.Scene) → IsScene scene.now s →
         Tells first.old first.new (own_offences s at (stmt_of stmt.now)) }
 {

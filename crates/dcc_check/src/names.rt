@@ -20,8 +20,8 @@ use std::collections::BTreeSet;
 
 /// Adds the names of variables to the list.
 pub fn variable_names<'a>(
-    variables: &'a [PartialVariable],
-    names: &mut Vec<&'a WordAt>,
+    variables: &'a [PartialVariable<'a>],
+    names: &mut Vec<&'a WordAt<'a>>,
 ) -> Result<(), AllocError>
     ensures { OnOk result (lent_names names.new.items
         ≡ lent_names names.old.items ++ offences.name_list (map variable_of variables.now)) }
@@ -36,8 +36,8 @@ pub fn variable_names<'a>(
 
 /// Adds the names of functions to the list.
 pub fn function_names<'a>(
-    functions: &'a [PartialFunction],
-    names: &mut Vec<&'a WordAt>,
+    functions: &'a [PartialFunction<'a>],
+    names: &mut Vec<&'a WordAt<'a>>,
 ) -> Result<(), AllocError>
     ensures { OnOk result (lent_names names.new.items
         ≡ lent_names names.old.items ++ offences.function_names (map function_of functions.now)) }
@@ -52,8 +52,8 @@ pub fn function_names<'a>(
 
 /// Adds the names of those functions to the list whose opening parenthesis was read.
 pub fn known_names<'a>(
-    functions: &'a [PartialFunction],
-    names: &mut Vec<&'a WordAt>,
+    functions: &'a [PartialFunction<'a>],
+    names: &mut Vec<&'a WordAt<'a>>,
 ) -> Result<(), AllocError>
     ensures { OnOk result
         (offences.words_of (lent_names names.new.items)
@@ -71,12 +71,12 @@ pub fn known_names<'a>(
 }
 
 /// Adds the words of names to the set.
-pub fn add_words<'a>(words: &mut BTreeSet<&'a str>, names: &[&'a WordAt]) -> Result<(), AllocError>
+pub fn add_words<'a>(words: &mut BTreeSet<&'a str>, names: &[&'a WordAt<'a>]) -> Result<(), AllocError>
     ensures { OnOk result ((word : Word) → holds words.new word
         ≡ grammar.is_among (offences.words_of (lent_names names.now)) word || holds words.old word) }
 {
     for name in names {
-        add_word(words, name.word.as_str())?;
+        add_word(words, name.word)?;
     }
     Ok(())
 }
@@ -93,7 +93,7 @@ pub fn tell_repeated(
 {
     let mut own = BTreeSet::new(alloc);
     for name in names {
-        let word = name.word.as_str();
+        let word = name.word;
         let is_new = add_new(&mut own, word)?;
         first.tell_if(is_repeated(taken, is_new, word), ParseKind::Name, name.at);
     }

@@ -20,7 +20,7 @@ pub(crate) struct Operand {
     /// Its type, as far as it can be told.
     pub(crate) ty: Option<CType>,
     /// Where it begins.
-    pub(crate) at: usize,
+    pub(crate) at: u32,
 }
 
 /// A number is wanted.
@@ -104,7 +104,7 @@ pub(crate) fn check_selector(a: Operand, done: bool, first: &mut First)
 }
 
 /// A value of the first type goes where one of the second is wanted, and offends at a place.
-pub(crate) fn check_conversion(from: Option<CType>, to: Option<CType>, at: usize, first: &mut First)
+pub(crate) fn check_conversion(from: Option<CType>, to: Option<CType>, at: u32, first: &mut First)
     ensures { Tells first.old first.new (conversion from to at) }
 {
     if let (Some(from), Some(to)) = (from, to) {

@@ -158,7 +158,7 @@ fn clashes(earlier: &[PartialVariable], variable: &PartialVariable) -> bool
 }
 
 // Whether an offence at this place may be the first.
-fn may_be_first(first: &First, at: usize) -> bool
+fn may_be_first(first: &First, at: u32) -> bool
     ensures { result ≡ false → earlier (told first.now) (offence of_place at) ≡ told first.now }
 {
     match first.offence {

@@ -117,7 +117,7 @@ fn add_first<'a, V: Drop>(
 pub fn declare<'a>(
     declared: &mut BTreeMap<&'a str, Declared>,
     scope: Scope,
-    variables: &'a [PartialVariable],
+    variables: &'a [PartialVariable<'a>],
 ) -> Result<(), AllocError>
     ensures { OnOk result ((word : Word) → held declared.new word ≡ first_found (held declared.old word)
         (option_map unnamed (declared_as (declared_of (placed_in scope) (map variable_of variables.now)) word))) }
@@ -130,7 +130,7 @@ pub fn declare<'a>(
                     is_array: variable.size.is_some(),
                     is_placed: is_placed(scope, variable.class),
                 };
-                add_first(declared, name.word.as_str(), variable)?;
+                add_first(declared, name.word, variable)?;
             }
         }
     }
@@ -171,7 +171,7 @@ fn head_signature(
 pub fn add_functions<'a>(
     alloc: Global,
     declared: &mut BTreeMap<&'a str, Option<Signature>>,
-    functions: &'a [PartialFunction],
+    functions: &'a [PartialFunction<'a>],
 ) -> Result<(), AllocError>
     ensures { OnOk result ((word : Word) → held_head declared.new word ≡ first_found (held_head declared.old word)
         (option_map head_of (known_as (known_functions (map function_of functions.now)) word))) }
@@ -180,7 +180,7 @@ pub fn add_functions<'a>(
         if function.opened.is_some() {
             if let Some(name) = &function.name {
                 let head = head_signature(alloc, function)?;
-                add_first(declared, name.word.as_str(), head)?;
+                add_first(declared, name.word, head)?;
             }
         }
     }

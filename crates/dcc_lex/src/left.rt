@@ -14,7 +14,7 @@ pub struct Pieces<'a> {
     // The one after it.
     second: Option<Piece<'a>>,
     /// How many pieces stand before them.
-    pub at: usize,
+    pub at: u32,
     // Where in a line what has not been cut begins.
     spot: Spot,
     // The line where it begins, from 1.
@@ -36,7 +36,7 @@ impl<'a> Pieces<'a> {
 
     // A piece that has been cut and those after it, where so many stand before it.
     fn from_first(
-        at: usize,
+        at: u32,
         first: Option<Piece<'a>>,
         spot: Spot,
         line: u32,

@@ -33,10 +33,10 @@ fn unread<'a>(reader: &Reader<'a>) -> Pieces<'a>
 }
 
 // What the pieces after the version line are read as, or what offends in them first. It fails only for want of memory.
-fn read_pieces(
+fn read_pieces<'a>(
     alloc: Global,
-    pieces: &Pieces<'_>,
-) -> Result<Result<PartialText, Offence>, AllocError>
+    pieces: &Pieces<'a>,
+) -> Result<Result<PartialText<'a>, Offence>, AllocError>
     requires few { length (pieces_of pieces.now) < 67108864 }
     ensures text { IfOk result (λ found. IfOk found (λ text. IsWhole (pieces_of pieces.now) (text_of text))) }
     ensures offence { IfOk result (λ found. IfErr found (λ offence.
@@ -51,7 +51,7 @@ fn read_pieces(
 }
 
 // The line of the piece at a place, or the last line.
-fn line_at(pieces: &Pieces<'_>, last: u32, at: usize) -> u32
+fn line_at(pieces: &Pieces<'_>, last: u32, at: u32) -> u32
     ensures { result ≡ spec.line_at (pieces_of pieces.now) last at }
 {
     let mut left = *pieces;

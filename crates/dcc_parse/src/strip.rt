@@ -21,7 +21,7 @@ fn strip_expr(alloc: Global, e: PartialExpr) -> Result<CExpr, AllocError>
     match e {
         PartialExpr::Missing => Ok(CExpr::Num(0, Base::Int)),
         PartialExpr::Number(_, n, base) => Ok(CExpr::Num(n, base)),
-        PartialExpr::Name(_, _, word) => Ok(CExpr::Name(word)),
+        PartialExpr::Name(_, _, word) => Ok(CExpr::Name(String::from_str(alloc, word)?)),
         PartialExpr::Unary(_, operator, a) => {
             let a = Box::new(alloc, strip_expr(alloc, Box::into_inner(a))?)?;
             Ok(CExpr::Un(operator, a))
@@ -31,10 +31,11 @@ fn strip_expr(alloc: Global, e: PartialExpr) -> Result<CExpr, AllocError>
             let b = Box::new(alloc, strip_expr(alloc, Box::into_inner(b))?)?;
             Ok(CExpr::Bin(operator, a, b))
         }
-        PartialExpr::Conditional(a, b, c) => {
-            let a = Box::new(alloc, strip_expr(alloc, Box::into_inner(a))?)?;
-            let b = Box::new(alloc, strip_expr(alloc, Box::into_inner(b))?)?;
-            let c = Box::new(alloc, strip_expr(alloc, Box::into_inner(c))?)?;
+        PartialExpr::Conditional(choice) => {
+            let choice = Box::into_inner(choice);
+            let a = Box::new(alloc, strip_expr(alloc, choice.test)?)?;
+            let b = Box::new(alloc, strip_expr(alloc, choice.first)?)?;
+            let c = Box::new(alloc, strip_expr(alloc, choice.second)?)?;
             Ok(CExpr::Cond(a, b, c))
         }
         PartialExpr::Cast(_, ty, a) => {
@@ -78,12 +79,12 @@ fn strip_arguments(alloc: Global, arguments: Vec<PartialExpr>) -> Result<Vec<CEx
 }
 
 /// A name.
-pub(crate) fn strip_name(alloc: Global, name: Option<WordAt>) -> String
-    ensures { string_bytes result ≡ stripped.plain_name (option_map partial.word_of name) }
+pub(crate) fn strip_name(alloc: Global, name: Option<WordAt>) -> Result<String, AllocError>
+    ensures { IfOk result (λ r. string_bytes r ≡ stripped.plain_name (option_map partial.word_of name)) }
 {
     match name {
-        Some(name) => name.word,
-        None => String::new(alloc),
+        Some(name) => String::from_str(alloc, name.word),
+        None => Ok(String::new(alloc)),
     }
 }
 
@@ -121,7 +122,8 @@ fn strip_stmt(alloc: Global, stmt: PartialStmt) -> Result<CStmt, AllocError>
         PartialStmt::Call(place, call) => {
             let place = strip_if(alloc, place)?;
             let arguments = strip_arguments(alloc, call.arguments)?;
-            Ok(CStmt::Call(place, call.function.word, arguments, call.depth))
+            let name = String::from_str(alloc, call.function.word)?;
+            Ok(CStmt::Call(place, name, arguments, call.depth))
         }
         PartialStmt::If(e, _, body, otherwise) => {
             let e = strip_expr(alloc, e)?;
@@ -145,8 +147,8 @@ fn strip_stmt(alloc: Global, stmt: PartialStmt) -> Result<CStmt, AllocError>
         }
         PartialStmt::Break => Ok(CStmt::Break),
         PartialStmt::Continue => Ok(CStmt::Continue),
-        PartialStmt::Goto(name) => Ok(CStmt::Goto(strip_name(alloc, name))),
-        PartialStmt::Label(name) => Ok(CStmt::Label(name.word)),
+        PartialStmt::Goto(name) => Ok(CStmt::Goto(strip_name(alloc, name)?)),
+        PartialStmt::Label(name) => Ok(CStmt::Label(String::from_str(alloc, name.word)?)),
         PartialStmt::Empty => Ok(CStmt::Empty),
         PartialStmt::Return(e, _) => Ok(CStmt::Return(strip_if(alloc, e)?)),
     }

@@ -51,15 +51,15 @@ fn strip_init(alloc: Global, init: &[NumberAt]) -> Result<Vec<u32>, AllocError>
 }
 
 // A parameter or a local variable.
-fn strip_variable(alloc: Global, v: PartialVariable) -> Var
-    ensures { tree.variable_of result ≡ stripped.plain_variable (partial.variable_of v) }
+fn strip_variable(alloc: Global, v: &PartialVariable) -> Result<Var, AllocError>
+    ensures { IfOk result (λ r. tree.variable_of r ≡ stripped.plain_variable (partial.variable_of v.now)) }
 {
-    Var {
-        name: strip_name(alloc, v.name),
+    Ok(Var {
+        name: strip_name(alloc, v.name)?,
         ty: strip_type(v.ty),
         len: strip_size(v.size),
         class: v.class,
-    }
+    })
 }
 
 // Parameters or local variables.
@@ -69,7 +69,7 @@ fn strip_variables(alloc: Global, vs: Vec<PartialVariable>) -> Result<Vec<Var>, 
 {
     let mut found = Vec::with_capacity(alloc, vs.len())?;
     for v in vs {
-        found.push(strip_variable(alloc, v))?;
+        found.push(strip_variable(alloc, &v)?)?;
     }
     Ok(found)
 }
@@ -88,7 +88,7 @@ fn strip_global(alloc: Global, v: PartialVariable) -> Result<Global_, AllocError
 {
     let init = strip_init(alloc, &v.init)?;
     Ok(Global_ {
-        name: strip_name(alloc, v.name),
+        name: strip_name(alloc, v.name)?,
         at: strip_address(v.address),
         ty: strip_type(v.ty),
         len: strip_size(v.size),
@@ -114,7 +114,7 @@ fn strip_function(alloc: Global, f: PartialFunction) -> Result<Func, AllocError>
         IfOk result (λ r. tree.function_of r ≡ stripped.plain_function (partial.function_of f)) }
 {
     Ok(Func {
-        name: strip_name(alloc, f.name),
+        name: strip_name(alloc, f.name)?,
         result: f.result,
         params: strip_variables(alloc, f.params)?,
         locals: strip_variables(alloc, f.locals)?,

@@ -21,7 +21,7 @@ pub(crate) struct ArmHead {
     /// The numbers of its cases.
     pub(crate) numbers: Vec<CaseAt>,
     /// The place of `default`, where the arm has that.
-    pub(crate) default: Option<usize>,
+    pub(crate) default: Option<u32>,
 }
 
 // The number with the suffix, where a case may have it.

@@ -16,7 +16,11 @@ use dcc_reader::{PartialCall, PartialExpr, PartialStmt, Reader, WordAt};
 use std::alloc::Global;
 
 // Reads the arguments of a call after its opening parenthesis. The closing one is left.
-fn read_arguments(r: &mut Reader<'_>, alloc: Global, calls: usize) -> Got<Vec<PartialExpr>>
+fn read_arguments<'a>(
+    r: &mut Reader<'a>,
+    alloc: Global,
+    calls: usize,
+) -> Got<Vec<PartialExpr<'a>>>
     ensures { IfOk result (λ arguments.
         reading.got (map expr_of arguments.items) (reader_of r.new)
         ≡ statements.read_arguments calls (reader_of r.old)) }
@@ -39,13 +43,13 @@ fn read_arguments(r: &mut Reader<'_>, alloc: Global, calls: usize) -> Got<Vec<Pa
 }
 
 // Reads a call after its name, with a place for its result or none.
-fn read_call_after(
-    r: &mut Reader<'_>,
+fn read_call_after<'a>(
+    r: &mut Reader<'a>,
     alloc: Global,
     calls: usize,
-    place: Option<PartialExpr>,
-    function: WordAt,
-) -> Got<PartialStmt>
+    place: Option<PartialExpr<'a>>,
+    function: WordAt<'a>,
+) -> Got<PartialStmt<'a>>
     requires seen { is_some (reading.next_token (reader_of r.old)) ≡ true }
     ensures { IfOk result (λ stmt. reading.got (stmt_of stmt) (reader_of r.new)
         ≡ statements.call_of calls (option_map expr_of place) (word_of function) (reader_of r.old)) }
@@ -66,35 +70,35 @@ fn read_call_after(
 }
 
 // Reads a call with a place for its result or none.
-fn read_call(
-    r: &mut Reader<'_>,
+fn read_call<'a>(
+    r: &mut Reader<'a>,
     alloc: Global,
     calls: usize,
-    place: Option<PartialExpr>,
-) -> Got<PartialStmt>
+    place: Option<PartialExpr<'a>>,
+) -> Got<PartialStmt<'a>>
     requires begins { statements.begins_call (reader_of r.old) ≡ true }
     ensures { IfOk result (λ stmt. reading.got (stmt_of stmt) (reader_of r.new)
         ≡ statements.read_call calls (option_map expr_of place) (reader_of r.old)) }
 {
-    match r.take_name(alloc)? {
+    match r.take_name() {
         Some(function) => read_call_after(r, alloc, calls, place, function),
         None => Ok(PartialStmt::Empty),
     }
 }
 
 // Reads a place that a value is assigned to: a name, or a star with an operand.
-fn read_place(r: &mut Reader<'_>, alloc: Global, calls: usize) -> Got<PartialExpr>
+fn read_place<'a>(r: &mut Reader<'a>, alloc: Global, calls: usize) -> Got<PartialExpr<'a>>
     ensures { IfOk result (λ e. reading.got (expr_of e) (reader_of r.new)
         ≡ statements.read_place calls (reader_of r.old)) }
 {
     match r.name() {
-        Some(word) => name_here(r, alloc, word),
+        Some(word) => Ok(name_here(r, word)),
         None => read_after_star(r, alloc, calls),
     }
 }
 
 // Reads a star, which must stand here, and its operand.
-fn read_after_star(r: &mut Reader<'_>, alloc: Global, calls: usize) -> Got<PartialExpr>
+fn read_after_star<'a>(r: &mut Reader<'a>, alloc: Global, calls: usize) -> Got<PartialExpr<'a>>
     ensures { IfOk result (λ e. reading.got (expr_of e) (reader_of r.new) ≡ after_star calls (reader_of r.old)) }
 {
     let at = r.left.at;
@@ -109,12 +113,12 @@ fn read_after_star(r: &mut Reader<'_>, alloc: Global, calls: usize) -> Got<Parti
 }
 
 // Reads what takes a value at a place: an assignment, or a call with a result.
-fn read_assigned(
-    r: &mut Reader<'_>,
+fn read_assigned<'a>(
+    r: &mut Reader<'a>,
     alloc: Global,
     calls: usize,
-    place: PartialExpr,
-) -> Got<PartialStmt>
+    place: PartialExpr<'a>,
+) -> Got<PartialStmt<'a>>
     ensures { IfOk result (λ stmt. reading.got (stmt_of stmt) (reader_of r.new)
         ≡ statements.read_assigned calls (reading.got (expr_of place) (reader_of r.old))) }
 {
@@ -133,7 +137,11 @@ fn read_assigned(
 }
 
 /// Reads an assignment or a call.
-pub(crate) fn read_simple(r: &mut Reader<'_>, alloc: Global, calls: usize) -> Got<PartialStmt>
+pub(crate) fn read_simple<'a>(
+    r: &mut Reader<'a>,
+    alloc: Global,
+    calls: usize,
+) -> Got<PartialStmt<'a>>
     ensures { IfOk result (λ stmt. reading.got (stmt_of stmt) (reader_of r.new)
         ≡ statements.read_simple calls (reader_of r.old)) }
 {

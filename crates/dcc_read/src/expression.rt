@@ -13,7 +13,7 @@ use crate::Got;
 use dcc_c::{CBin, CType, CUn};
 use dcc_lex::Mark;
 use dcc_reader::operator::{binary_of, number_of, strength, unary_of};
-use dcc_reader::{ParseKind, PartialExpr, Reader};
+use dcc_reader::{ParseKind, PartialChoice, PartialExpr, Reader};
 use std::alloc::Global;
 
 /// How deep an expression may be, and how many parentheses may stand around a part of it.
@@ -21,9 +21,9 @@ const MOST: usize = 200;
 
 /// A part of an expression, and how deep it is.
 #[derive(Drop)]
-struct Measured {
+struct Measured<'a> {
     /// The part.
-    expr: PartialExpr,
+    expr: PartialExpr<'a>,
     /// Its depth, or 201 where it is deeper.
     depth: usize,
     ghost measured: { depth ≡ measure (expr_of expr) },
@@ -33,7 +33,7 @@ struct Measured {
 #[derive(Clone, Copy)]
 pub struct Inside {
     /// The place where the whole expression begins.
-    pub start: usize,
+    pub start: u32,
     /// How many operators of it are around the part.
     pub operators: usize,
     /// How many parentheses are open.
@@ -75,7 +75,7 @@ fn deeper(depth: usize) -> usize
 }
 
 // What was not read.
-fn missing() -> Measured
+fn missing<'a>() -> Measured<'a>
     ensures { expr_of result.expr ≡ partial.Missing }
 {
     Measured {
@@ -85,7 +85,12 @@ fn missing() -> Measured
 }
 
 // The unary operator on an operand.
-fn unary_at(alloc: Global, at: usize, operator: CUn, operand: Measured) -> Got<Measured>
+fn unary_at<'a>(
+    alloc: Global,
+    at: u32,
+    operator: CUn,
+    operand: Measured<'a>,
+) -> Got<Measured<'a>>
     ensures { IfOk result (λ e. expr_of e.expr ≡ partial.UnaryHere at operator (expr_of operand.expr)) }
 {
     let depth = deeper(operand.depth);
@@ -97,7 +102,12 @@ fn unary_at(alloc: Global, at: usize, operator: CUn, operand: Measured) -> Got<M
 }
 
 // The cast of an operand.
-fn cast_at(alloc: Global, at: usize, ty: CType, operand: Measured) -> Got<Measured>
+fn cast_at<'a>(
+    alloc: Global,
+    at: u32,
+    ty: CType,
+    operand: Measured<'a>,
+) -> Got<Measured<'a>>
     ensures { IfOk result (λ e. expr_of e.expr ≡ partial.CastHere at ty (expr_of operand.expr)) }
 {
     let depth = deeper(operand.depth);
@@ -109,7 +119,12 @@ fn cast_at(alloc: Global, at: usize, ty: CType, operand: Measured) -> Got<Measur
 }
 
 // Two operands and their operator.
-fn binary_of_two(alloc: Global, operator: CBin, left: Measured, right: Measured) -> Got<Measured>
+fn binary_of_two<'a>(
+    alloc: Global,
+    operator: CBin,
+    left: Measured<'a>,
+    right: Measured<'a>,
+) -> Got<Measured<'a>>
     ensures { IfOk result (λ e. expr_of e.expr ≡ partial.BinaryOf operator (expr_of left.expr) (expr_of right.expr)) }
 {
     let depth = deeper(left.depth.max(right.depth));
@@ -122,16 +137,23 @@ fn binary_of_two(alloc: Global, operator: CBin, left: Measured, right: Measured)
 }
 
 // A conditional.
-fn conditional_of(alloc: Global, test: Measured, first: Measured, second: Measured) -> Got<Measured>
+fn conditional_of<'a>(
+    alloc: Global,
+    test: Measured<'a>,
+    first: Measured<'a>,
+    second: Measured<'a>,
+) -> Got<Measured<'a>>
     ensures { IfOk result (λ e. expr_of e.expr
         ≡ partial.ConditionalOf (expr_of test.expr) (expr_of first.expr) (expr_of second.expr)) }
 {
     let depth = deeper(test.depth.max(first.depth.max(second.depth)));
-    let test = Box::new(alloc, test.expr)?;
-    let first = Box::new(alloc, first.expr)?;
-    let second = Box::new(alloc, second.expr)?;
+    let choice = PartialChoice {
+        test: test.expr,
+        first: first.expr,
+        second: second.expr,
+    };
     Ok(Measured {
-        expr: PartialExpr::Conditional(test, first, second),
+        expr: PartialExpr::Conditional(Box::new(alloc, choice)?),
         depth,
     })
 }
@@ -189,40 +211,43 @@ fn operator_of(r: &Reader<'_>, weakest: u8) -> Option<CBin>
 }
 
 /// A name, and whether a parenthesis follows.
-pub fn name_here(r: &mut Reader<'_>, alloc: Global, word: &str) -> Got<PartialExpr>
+pub fn name_here<'a>(r: &mut Reader<'a>, word: &'a str) -> PartialExpr<'a>
     requires seen { is_some (reading.next_token (reader_of r.now)) ≡ true }
-    ensures { IfOk result (λ e. reading.got (expr_of e) (reader_of r.new)
-        ≡ reading.name_here word.now (reader_of r.old)) }
+    ensures { reading.got (expr_of result) (reader_of r.new) ≡ reading.name_here word.now (reader_of r.old) }
 {
     let at = r.left.at;
     r.skip();
-    let word = String::from_str(alloc, word)?;
-    Ok(PartialExpr::Name(r.sees_mark(Mark::OpenParenthesis), at, word))
+    PartialExpr::Name(r.sees_mark(Mark::OpenParenthesis), at, word)
 }
 
 // Reads a number or a name.
-fn read_leaf(r: &mut Reader<'_>, alloc: Global) -> Got<Measured>
-    ensures { IfOk result (λ e. reading.got (expr_of e.expr) (reader_of r.new) ≡ reading.read_leaf (reader_of r.old)) }
+fn read_leaf<'a>(r: &mut Reader<'a>) -> Measured<'a>
+    ensures { reading.got (expr_of result.expr) (reader_of r.new) ≡ reading.read_leaf (reader_of r.old) }
 {
     let at = r.left.at;
     if let Some(number) = number_of(r.next()) {
         r.skip();
-        return Ok(Measured {
+        return Measured {
             expr: PartialExpr::Number(at, number.value, number.base),
             depth: 1,
-        });
+        };
     }
     let Some(word) = r.name() else {
         r.fail();
-        return Ok(missing());
+        return missing();
     };
-    let expr = name_here(r, alloc, word)?;
-    Ok(Measured { expr, depth: 1 })
+    let expr = name_here(r, word);
+    Measured { expr, depth: 1 }
 }
 
 // Reads a unary part.
 #[cycle(expression)]
-fn measured_unary(r: &mut Reader<'_>, alloc: Global, calls: usize, inside: Inside) -> Got<Measured>
+fn measured_unary<'a>(
+    r: &mut Reader<'a>,
+    alloc: Global,
+    calls: usize,
+    inside: Inside,
+) -> Got<Measured<'a>>
     requires operators { inside.operators + calls ≤ 2 ^ 64 }
     requires opened { inside.opened + calls ≤ 2 ^ 64 }
     ensures { IfOk result (λ e. reading.got (expr_of e.expr) (reader_of r.new)
@@ -245,19 +270,19 @@ fn measured_unary(r: &mut Reader<'_>, alloc: Global, calls: usize, inside: Insid
         r.skip();
         return read_parentheses(r, alloc, calls, inside, at);
     }
-    read_leaf(r, alloc)
+    Ok(read_leaf(r))
 }
 
 // Reads what stands after an opening parenthesis at a place: the rest of a cast, or an expression and the closing
 // parenthesis.
 #[cycle(expression)]
-fn read_parentheses(
-    r: &mut Reader<'_>,
+fn read_parentheses<'a>(
+    r: &mut Reader<'a>,
     alloc: Global,
     calls: usize,
     inside: Inside,
-    at: usize,
-) -> Got<Measured>
+    at: u32,
+) -> Got<Measured<'a>>
     requires operators { inside.operators + calls < 2 ^ 64 }
     requires opened { inside.opened + calls < 2 ^ 64 }
     ensures { IfOk result (λ e. reading.got (expr_of e.expr) (reader_of r.new)
@@ -279,14 +304,14 @@ fn read_parentheses(
 
 // Reads the rest of a cast after its type.
 #[cycle(expression)]
-fn read_cast(
-    r: &mut Reader<'_>,
+fn read_cast<'a>(
+    r: &mut Reader<'a>,
     alloc: Global,
     calls: usize,
     inside: Inside,
-    at: usize,
+    at: u32,
     ty: Option<CType>,
-) -> Got<Measured>
+) -> Got<Measured<'a>>
     requires operators { inside.operators + calls < 2 ^ 64 }
     requires opened { inside.opened + calls < 2 ^ 64 }
     ensures { IfOk result (λ e. reading.got (expr_of e.expr) (reader_of r.new)
@@ -305,13 +330,13 @@ fn read_cast(
 
 // Reads operands that are joined by binary operators of this strength at least.
 #[cycle(expression)]
-fn read_binary(
-    r: &mut Reader<'_>,
+fn read_binary<'a>(
+    r: &mut Reader<'a>,
     alloc: Global,
     calls: usize,
     inside: Inside,
     weakest: u8,
-) -> Got<Measured>
+) -> Got<Measured<'a>>
     requires operators { inside.operators + calls ≤ 2 ^ 64 }
     requires opened { inside.opened + calls ≤ 2 ^ 64 }
     ensures { IfOk result (λ e. reading.got (expr_of e.expr) (reader_of r.new)
@@ -326,14 +351,14 @@ fn read_binary(
 
 // Reads the same after the first operand.
 #[cycle(expression)]
-fn read_more(
-    r: &mut Reader<'_>,
+fn read_more<'a>(
+    r: &mut Reader<'a>,
     alloc: Global,
     calls: usize,
     inside: Inside,
     weakest: u8,
-    first: Measured,
-) -> Got<Measured>
+    first: Measured<'a>,
+) -> Got<Measured<'a>>
     requires operators { inside.operators + calls < 2 ^ 64 }
     requires opened { inside.opened + calls < 2 ^ 64 }
     ensures { IfOk result (λ e. reading.got (expr_of e.expr) (reader_of r.new)
@@ -362,7 +387,12 @@ fn read_more(
 
 // Reads an expression.
 #[cycle(expression)]
-fn measured_expr(r: &mut Reader<'_>, alloc: Global, calls: usize, inside: Inside) -> Got<Measured>
+fn measured_expr<'a>(
+    r: &mut Reader<'a>,
+    alloc: Global,
+    calls: usize,
+    inside: Inside,
+) -> Got<Measured<'a>>
     requires operators { inside.operators + calls ≤ 2 ^ 64 }
     requires opened { inside.opened + calls ≤ 2 ^ 64 }
     ensures { IfOk result (λ e. reading.got (expr_of e.expr) (reader_of r.new)
@@ -377,13 +407,13 @@ fn measured_expr(r: &mut Reader<'_>, alloc: Global, calls: usize, inside: Inside
 
 // Reads the rest of a conditional after its test, where there is one.
 #[cycle(expression)]
-fn read_rest(
-    r: &mut Reader<'_>,
+fn read_rest<'a>(
+    r: &mut Reader<'a>,
     alloc: Global,
     calls: usize,
     inside: Inside,
-    test: Measured,
-) -> Got<Measured>
+    test: Measured<'a>,
+) -> Got<Measured<'a>>
     requires operators { inside.operators + calls < 2 ^ 64 }
     requires opened { inside.opened + calls < 2 ^ 64 }
     ensures { IfOk result (λ e. reading.got (expr_of e.expr) (reader_of r.new)
@@ -405,12 +435,12 @@ fn read_rest(
 }
 
 /// Reads a unary part, which must stand here.
-pub fn read_unary(
-    r: &mut Reader<'_>,
+pub fn read_unary<'a>(
+    r: &mut Reader<'a>,
     alloc: Global,
     calls: usize,
     inside: Inside,
-) -> Got<PartialExpr>
+) -> Got<PartialExpr<'a>>
     requires operators { inside.operators + calls ≤ 2 ^ 64 }
     requires opened { inside.opened + calls ≤ 2 ^ 64 }
     ensures { IfOk result (λ e. reading.got (expr_of e) (reader_of r.new)
@@ -420,7 +450,7 @@ pub fn read_unary(
 }
 
 /// Reads a whole expression.
-pub fn read_value(r: &mut Reader<'_>, alloc: Global, calls: usize) -> Got<PartialExpr>
+pub fn read_value<'a>(r: &mut Reader<'a>, alloc: Global, calls: usize) -> Got<PartialExpr<'a>>
     ensures { IfOk result (λ e. reading.got (expr_of e) (reader_of r.new)
         ≡ statements.read_value calls (reader_of r.old)) }
 {
@@ -433,7 +463,7 @@ pub fn read_value(r: &mut Reader<'_>, alloc: Global, calls: usize) -> Got<Partia
 }
 
 /// Reads a whole expression inside the parentheses of a statement.
-pub fn read_enclosed(r: &mut Reader<'_>, alloc: Global, calls: usize) -> Got<PartialExpr>
+pub fn read_enclosed<'a>(r: &mut Reader<'a>, alloc: Global, calls: usize) -> Got<PartialExpr<'a>>
     ensures { IfOk result (λ e. reading.got (expr_of e) (reader_of r.new)
         ≡ statements.read_enclosed calls (reader_of r.old)) }
 {
@@ -446,7 +476,7 @@ pub fn read_enclosed(r: &mut Reader<'_>, alloc: Global, calls: usize) -> Got<Par
 }
 
 /// Reads an expression in parentheses.
-pub fn read_test(r: &mut Reader<'_>, alloc: Global, calls: usize) -> Got<PartialExpr>
+pub fn read_test<'a>(r: &mut Reader<'a>, alloc: Global, calls: usize) -> Got<PartialExpr<'a>>
     ensures { IfOk result (λ e. reading.got (expr_of e) (reader_of r.new)
         ≡ statements.read_test calls (reader_of r.old)) }
 {

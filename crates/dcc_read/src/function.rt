@@ -17,12 +17,12 @@ use dcc_reader::{Around, PartialFunction, Reader};
 use std::alloc::Global;
 
 // Reads a function after its head.
-fn read_body(
-    r: &mut Reader<'_>,
+fn read_body<'a>(
+    r: &mut Reader<'a>,
     alloc: Global,
     calls: usize,
-    head: PartialFunction,
-) -> Got<PartialFunction>
+    head: PartialFunction<'a>,
+) -> Got<PartialFunction<'a>>
     ensures { IfOk result (λ f. reading.got (function_of f) (reader_of r.new)
         ≡ texts.read_body calls (reading.got (function_of head) (reader_of r.old))) }
 {
@@ -42,12 +42,12 @@ fn read_body(
 }
 
 // Reads a function after its name.
-fn read_function(
-    r: &mut Reader<'_>,
+fn read_function<'a>(
+    r: &mut Reader<'a>,
     alloc: Global,
     calls: usize,
-    begun: Begun,
-) -> Got<PartialFunction>
+    begun: Begun<'a>,
+) -> Got<PartialFunction<'a>>
     ensures { IfOk result (λ f. reading.got (function_of f) (reader_of r.new)
         ≡ texts.read_function calls (reading.got (begun_of begun) (reader_of r.old))) }
 {
@@ -63,12 +63,12 @@ fn is_end(r: &Reader<'_>) -> bool
 }
 
 /// Reads functions up to the end of the text, the first of them after its name.
-pub(crate) fn read_functions(
-    r: &mut Reader<'_>,
+pub(crate) fn read_functions<'a>(
+    r: &mut Reader<'a>,
     alloc: Global,
     calls: usize,
-    begun: Begun,
-) -> Got<Vec<PartialFunction>>
+    begun: Begun<'a>,
+) -> Got<Vec<PartialFunction<'a>>>
     ensures { IfOk result (λ functions. reading.got (map function_of functions.items) (reader_of r.new)
         ≡ texts.with_functions calls (reading.got (begun_of begun) (reader_of r.old))) }
 {
@@ -81,7 +81,7 @@ pub(crate) fn read_functions(
             return Ok(functions);
         }
         left -= 1;
-        let begun = read_begun(r, alloc)?;
+        let begun = read_begun(r);
         let function = read_function(r, alloc, left, begun)?;
         functions.push(function)?;
     }

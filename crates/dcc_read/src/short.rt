@@ -38,19 +38,22 @@ pub(crate) fn read_leave(r: &mut Reader<'_>, is_inside: bool)
 }
 
 /// Reads a `goto`, the word of which stands here.
-pub(crate) fn read_goto(r: &mut Reader<'_>, alloc: Global) -> Got<PartialStmt>
+pub(crate) fn read_goto<'a>(r: &mut Reader<'a>) -> PartialStmt<'a>
     requires seen { is_some (reading.next_token (reader_of r.old)) ≡ true }
-    ensures { IfOk result (λ stmt. reading.got (stmt_of stmt) (reader_of r.new)
-        ≡ statements.read_goto (reader_of r.old)) }
+    ensures { reading.got (stmt_of result) (reader_of r.new) ≡ statements.read_goto (reader_of r.old) }
 {
     r.skip();
-    let name = r.take_name(alloc)?;
+    let name = r.take_name();
     r.take_mark(Mark::Semicolon);
-    Ok(PartialStmt::Goto(name))
+    PartialStmt::Goto(name)
 }
 
 /// Reads a `return`, the word of which stands here.
-pub(crate) fn read_return(r: &mut Reader<'_>, alloc: Global, calls: usize) -> Got<PartialStmt>
+pub(crate) fn read_return<'a>(
+    r: &mut Reader<'a>,
+    alloc: Global,
+    calls: usize,
+) -> Got<PartialStmt<'a>>
     requires seen { is_some (reading.next_token (reader_of r.old)) ≡ true }
     ensures { IfOk result (λ stmt.
         reading.got (stmt_of stmt) (reader_of r.new) ≡ statements.read_return calls (reader_of r.old)) }

@@ -24,18 +24,18 @@ use std::alloc::Global;
 
 /// Statements one after the other.
 #[derive(Drop)]
-pub(crate) struct Block {
+pub(crate) struct Block<'a> {
     /// The statements.
-    pub(crate) lines: Vec<Row>,
+    pub(crate) lines: Vec<Row<'a>>,
     /// Whether the last of them is a `break` that no label stands before.
     pub(crate) leaves: bool,
 }
 
 /// What was read where a statement may begin.
 #[derive(Drop)]
-struct LineRead {
+struct LineRead<'a> {
     /// The label or the statement, where there is one.
-    row: Option<Row>,
+    row: Option<Row<'a>>,
     /// Whether no statement may follow.
     is_last: bool,
     /// Whether it is a label.
@@ -45,7 +45,7 @@ struct LineRead {
 }
 
 // What was read where nothing that begins here is allowed.
-fn last_line() -> LineRead
+fn last_line<'a>() -> LineRead<'a>
     ensures { (calls : ℕ) (around : grammar.Around) (r : reading.Reader) →
         after_line result calls around r ≡ reading.got (statements.block_of partial.no_rows false) r }
 {
@@ -143,7 +143,7 @@ fn end_lines(r: &mut Reader<'_>, calls: usize, labelled: bool, leaves: bool) -> 
 }
 
 // The statements of an arm, the last of which must be a `break`, without that.
-fn end_arm(r: &mut Reader<'_>, block: Block) -> Vec<Row>
+fn end_arm<'a>(r: &mut Reader<'_>, block: Block<'a>) -> Vec<Row<'a>>
     ensures { reading.got (lines_of result.items) (reader_of r.new)
         ≡ statements.end_arm (reading.got (block_of block) (reader_of r.old)) }
 {
@@ -160,7 +160,7 @@ fn end_arm(r: &mut Reader<'_>, block: Block) -> Vec<Row>
 }
 
 // Reads a depth line, the words of which stand here and which may not stand after a label.
-fn read_depth_line(r: &mut Reader<'_>, around: Around, labelled: bool) -> LineRead
+fn read_depth_line<'a>(r: &mut Reader<'a>, around: Around, labelled: bool) -> LineRead<'a>
     requires seen { is_some (reading.next_token (reader_of r.old)) ≡ true }
     ensures { (calls : ℕ) → after_line result calls (around_of around) (reader_of r.new)
         ≡ depth_line calls (around_of around) labelled (reader_of r.old) }
@@ -183,32 +183,32 @@ fn read_depth_line(r: &mut Reader<'_>, around: Around, labelled: bool) -> LineRe
 }
 
 // Reads a label, which stands here.
-fn read_label(r: &mut Reader<'_>, alloc: Global, around: Around) -> Got<LineRead>
+fn read_label<'a>(r: &mut Reader<'a>, around: Around) -> LineRead<'a>
     requires begins { statements.begins_label (reader_of r.old) ≡ true }
-    ensures { IfOk result (λ line. (calls : ℕ) → after_line line calls (around_of around) (reader_of r.new)
-        ≡ label_line calls (around_of around) (reader_of r.old)) }
+    ensures { (calls : ℕ) → after_line result calls (around_of around) (reader_of r.new)
+        ≡ label_line calls (around_of around) (reader_of r.old) }
 {
     let at = r.left.at;
     let line = r.line();
-    match r.take_name(alloc)? {
+    match r.take_name() {
         Some(word) => {
             r.skip();
             around.stop_if_nested(r, at);
             let stmt = PartialStmt::Label(word);
             let row = Some(Row { stmt, at, line });
-            Ok(LineRead {
+            LineRead {
                 row,
                 is_last: false,
                 labelled: true,
                 leaves: false,
-            })
+            }
         }
-        None => Ok(last_line()),
+        None => last_line(),
     }
 }
 
 // Reads a statement without a word: `;`, an assignment or a call.
-fn read_wordless(r: &mut Reader<'_>, alloc: Global, calls: usize) -> Got<PartialStmt>
+fn read_wordless<'a>(r: &mut Reader<'a>, alloc: Global, calls: usize) -> Got<PartialStmt<'a>>
     ensures { IfOk result (λ stmt. reading.got (stmt_of stmt) (reader_of r.new)
         ≡ wordless_stmt calls (reader_of r.old)) }
 {
@@ -221,7 +221,12 @@ fn read_wordless(r: &mut Reader<'_>, alloc: Global, calls: usize) -> Got<Partial
 
 // Reads a statement that is no label.
 #[cycle(statement)]
-fn read_stmt(r: &mut Reader<'_>, alloc: Global, calls: usize, around: Around) -> Got<PartialStmt>
+fn read_stmt<'a>(
+    r: &mut Reader<'a>,
+    alloc: Global,
+    calls: usize,
+    around: Around,
+) -> Got<PartialStmt<'a>>
     requires room { around.blocks + calls ≤ usize.MAX }
     ensures { IfOk result (λ stmt. reading.got (stmt_of stmt) (reader_of r.new)
         ≡ statements.read_stmt calls (around_of around) (reader_of r.old)) }
@@ -244,7 +249,7 @@ fn read_stmt(r: &mut Reader<'_>, alloc: Global, calls: usize, around: Around) ->
             read_leave(r, around.continues);
             Ok(PartialStmt::Continue)
         }
-        Some(StatementWord::Goto) => read_goto(r, alloc),
+        Some(StatementWord::Goto) => Ok(read_goto(r)),
         Some(StatementWord::Return) => read_return(r, alloc, fewer),
         None => read_wordless(r, alloc, fewer),
     }
@@ -252,7 +257,12 @@ fn read_stmt(r: &mut Reader<'_>, alloc: Global, calls: usize, around: Around) ->
 
 // Reads an `if`, the word of which stands here.
 #[cycle(statement)]
-fn read_if(r: &mut Reader<'_>, alloc: Global, calls: usize, around: Around) -> Got<PartialStmt>
+fn read_if<'a>(
+    r: &mut Reader<'a>,
+    alloc: Global,
+    calls: usize,
+    around: Around,
+) -> Got<PartialStmt<'a>>
     requires seen { is_some (reading.next_token (reader_of r.old)) ≡ true }
     requires room { around.blocks + calls < usize.MAX }
     ensures { IfOk result (λ stmt. reading.got (stmt_of stmt) (reader_of r.new)
@@ -276,7 +286,12 @@ fn read_if(r: &mut Reader<'_>, alloc: Global, calls: usize, around: Around) -> G
 
 // Reads a `while` loop, the word of which stands here.
 #[cycle(statement)]
-fn read_while(r: &mut Reader<'_>, alloc: Global, calls: usize, around: Around) -> Got<PartialStmt>
+fn read_while<'a>(
+    r: &mut Reader<'a>,
+    alloc: Global,
+    calls: usize,
+    around: Around,
+) -> Got<PartialStmt<'a>>
     requires seen { is_some (reading.next_token (reader_of r.old)) ≡ true }
     requires room { around.blocks + calls < usize.MAX }
     ensures { IfOk result (λ stmt. reading.got (stmt_of stmt) (reader_of r.new)
@@ -291,7 +306,12 @@ fn read_while(r: &mut Reader<'_>, alloc: Global, calls: usize, around: Around) -
 
 // Reads a `do` loop, the word of which stands here.
 #[cycle(statement)]
-fn read_do(r: &mut Reader<'_>, alloc: Global, calls: usize, around: Around) -> Got<PartialStmt>
+fn read_do<'a>(
+    r: &mut Reader<'a>,
+    alloc: Global,
+    calls: usize,
+    around: Around,
+) -> Got<PartialStmt<'a>>
     requires seen { is_some (reading.next_token (reader_of r.old)) ≡ true }
     requires room { around.blocks + calls < usize.MAX }
     ensures { IfOk result (λ stmt. reading.got (stmt_of stmt) (reader_of r.new)
@@ -308,7 +328,12 @@ fn read_do(r: &mut Reader<'_>, alloc: Global, calls: usize, around: Around) -> G
 
 // Reads a loop without a test, the word of which stands here.
 #[cycle(statement)]
-fn read_for(r: &mut Reader<'_>, alloc: Global, calls: usize, around: Around) -> Got<PartialStmt>
+fn read_for<'a>(
+    r: &mut Reader<'a>,
+    alloc: Global,
+    calls: usize,
+    around: Around,
+) -> Got<PartialStmt<'a>>
     requires seen { is_some (reading.next_token (reader_of r.old)) ≡ true }
     requires room { around.blocks + calls < usize.MAX }
     ensures { IfOk result (λ stmt. reading.got (stmt_of stmt) (reader_of r.new)
@@ -322,7 +347,12 @@ fn read_for(r: &mut Reader<'_>, alloc: Global, calls: usize, around: Around) -> 
 
 // Reads a `switch`, the word of which stands here.
 #[cycle(statement)]
-fn read_switch(r: &mut Reader<'_>, alloc: Global, calls: usize, around: Around) -> Got<PartialStmt>
+fn read_switch<'a>(
+    r: &mut Reader<'a>,
+    alloc: Global,
+    calls: usize,
+    around: Around,
+) -> Got<PartialStmt<'a>>
     requires seen { is_some (reading.next_token (reader_of r.old)) ≡ true }
     requires room { around.blocks + calls < usize.MAX }
     ensures { IfOk result (λ stmt. reading.got (stmt_of stmt) (reader_of r.new)
@@ -339,7 +369,12 @@ fn read_switch(r: &mut Reader<'_>, alloc: Global, calls: usize, around: Around) 
 
 // Reads a block, which must stand here.
 #[cycle(statement)]
-fn read_block(r: &mut Reader<'_>, alloc: Global, calls: usize, around: Around) -> Got<Vec<Row>>
+fn read_block<'a>(
+    r: &mut Reader<'a>,
+    alloc: Global,
+    calls: usize,
+    around: Around,
+) -> Got<Vec<Row<'a>>>
     requires room { around.blocks + calls ≤ usize.MAX }
     ensures { IfOk result (λ lines. reading.got (lines_of lines.items) (reader_of r.new)
         ≡ statements.read_block calls (around_of around) (reader_of r.old)) }
@@ -355,12 +390,12 @@ fn read_block(r: &mut Reader<'_>, alloc: Global, calls: usize, around: Around) -
 
 /// Reads statements as long as they come.
 #[cycle(statement)]
-pub(crate) fn read_lines(
-    r: &mut Reader<'_>,
+pub(crate) fn read_lines<'a>(
+    r: &mut Reader<'a>,
     alloc: Global,
     calls: usize,
     around: Around,
-) -> Got<Block>
+) -> Got<Block<'a>>
     requires room { around.blocks + calls ≤ usize.MAX }
     ensures { IfOk result (λ block. reading.got (block_of block) (reader_of r.new)
         ≡ statements.read_lines calls (around_of around) false false (reader_of r.old)) }
@@ -389,13 +424,13 @@ pub(crate) fn read_lines(
 
 // Reads a label, a depth line or a statement, one of which begins here.
 #[cycle(statement)]
-fn read_line(
-    r: &mut Reader<'_>,
+fn read_line<'a>(
+    r: &mut Reader<'a>,
     alloc: Global,
     calls: usize,
     around: Around,
     labelled: bool,
-) -> Got<LineRead>
+) -> Got<LineRead<'a>>
     requires room { around.blocks + calls ≤ usize.MAX }
     ensures { IfOk result (λ line. after_line line calls (around_of around) (reader_of r.new)
         ≡ statements.read_line (suc calls) (around_of around) labelled (reader_of r.old)) }
@@ -404,7 +439,7 @@ fn read_line(
         return Ok(read_depth_line(r, around, labelled));
     }
     if r.sees_name_and(Mark::Colon) {
-        return read_label(r, alloc, around);
+        return Ok(read_label(r, around));
     }
     if begins_nested_block(r, around) {
         r.stop_at(ParseKind::Depth, r.left.at);
@@ -426,12 +461,12 @@ fn read_line(
 
 // Reads the arms of a `switch`, of which there must be one.
 #[cycle(statement)]
-fn read_arms(
-    r: &mut Reader<'_>,
+fn read_arms<'a>(
+    r: &mut Reader<'a>,
     alloc: Global,
     calls: usize,
     around: Around,
-) -> Got<Vec<PartialArm>>
+) -> Got<Vec<PartialArm<'a>>>
     requires room { around.blocks + calls ≤ usize.MAX }
     ensures { IfOk result (λ arms. reading.got (arms_of arms.items) (reader_of r.new)
         ≡ statements.read_arms calls (around_of around) (reader_of r.old)) }
@@ -458,7 +493,12 @@ fn read_arms(
 
 // Reads an arm of a `switch`.
 #[cycle(statement)]
-fn read_arm(r: &mut Reader<'_>, alloc: Global, calls: usize, around: Around) -> Got<PartialArm>
+fn read_arm<'a>(
+    r: &mut Reader<'a>,
+    alloc: Global,
+    calls: usize,
+    around: Around,
+) -> Got<PartialArm<'a>>
     requires room { around.blocks + calls ≤ usize.MAX }
     ensures { IfOk result (λ arm. (others : partial.PartialArms) → reading.got (arm_before arm others) (reader_of r.new)
         ≡ arm_read calls (around_of around) others (reader_of r.old)) }

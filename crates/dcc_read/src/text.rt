@@ -26,28 +26,28 @@ use std::alloc::{AllocError, Global};
 #[derive(Drop)]
 pub struct Reading<'a> {
     /// What was read.
-    pub text: PartialText,
+    pub text: PartialText<'a>,
     /// The reader after it.
     pub following: Reader<'a>,
 }
 
 /// Global variables, and the functions after them.
 #[derive(Drop)]
-struct Declared {
+struct Declared<'a> {
     /// The variables.
-    globals: Vec<PartialVariable>,
+    globals: Vec<PartialVariable<'a>>,
     /// The functions.
-    functions: Vec<PartialFunction>,
+    functions: Vec<PartialFunction<'a>>,
 }
 
 // Reads a global variable after its name, at an address.
-fn read_global(
-    r: &mut Reader<'_>,
+fn read_global<'a>(
+    r: &mut Reader<'a>,
     alloc: Global,
     calls: usize,
     address: u64,
-    begun: Begun,
-) -> Got<PartialVariable>
+    begun: Begun<'a>,
+) -> Got<PartialVariable<'a>>
     ensures { IfOk result (λ v. reading.got (variable_of v) (reader_of r.new)
         ≡ texts.read_global calls address (reading.got (begun_of begun) (reader_of r.old))) }
 {
@@ -128,7 +128,7 @@ fn global_address(r: &Reader<'_>, address: Option<u64>, begun: &Begun) -> Option
 }
 
 // Reads place lines and global variables up to the first function, and the functions after them.
-fn read_declared(r: &mut Reader<'_>, alloc: Global, calls: usize) -> Got<Declared>
+fn read_declared<'a>(r: &mut Reader<'a>, alloc: Global, calls: usize) -> Got<Declared<'a>>
     requires few { calls ≤ 1073741824 }
     ensures { IfOk result (λ d. reading.got (declared_of d) (reader_of r.new)
         ≡ texts.read_declared calls None (reader_of r.old)) }
@@ -142,7 +142,7 @@ fn read_declared(r: &mut Reader<'_>, alloc: Global, calls: usize) -> Got<Declare
             address = Some(read_place_line(r));
             continue;
         }
-        let begun = read_begun(r, alloc)?;
+        let begun = read_begun(r);
         let Some(here) = global_address(r, address, &begun) else {
             let functions = read_functions(r, alloc, left, begun)?;
             return Ok(Declared { globals, functions });
@@ -156,7 +156,7 @@ fn read_declared(r: &mut Reader<'_>, alloc: Global, calls: usize) -> Got<Declare
 }
 
 // Reads a text after its version line, where reading may nest so deep.
-fn read_text(r: &mut Reader<'_>, alloc: Global, calls: usize) -> Got<PartialText>
+fn read_text<'a>(r: &mut Reader<'a>, alloc: Global, calls: usize) -> Got<PartialText<'a>>
     requires few { calls ≤ 1073741824 }
     ensures { IfOk result (λ t. reading.got (text_of t) (reader_of r.new) ≡ texts.read_text calls (reader_of r.old)) }
 {

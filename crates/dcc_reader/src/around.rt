@@ -76,7 +76,7 @@ impl Around {
     }
 
     /// Stops at a statement that more than 200 blocks stand around, and that begins at a place.
-    pub fn stop_if_nested(self, r: &mut Reader<'_>, at: usize)
+    pub fn stop_if_nested(self, r: &mut Reader<'_>, at: u32)
         ensures { reader_of r.new ≡ statements.stop_if_nested (around_of self) at (reader_of r.old) }
     {
         if self.is_nested() {

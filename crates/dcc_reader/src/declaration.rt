@@ -120,17 +120,16 @@ fn class_with(size: &Option<NumberAt>, class: Class) -> Class
 }
 
 // Reads a local variable.
-fn read_local(r: &mut Reader<'_>, alloc: Global) -> Result<PartialVariable, AllocError>
-    ensures { IfOk result (λ v. reading.got (variable_of v) (reader_of r.new)
-        ≡ statements.read_local (reader_of r.old)) }
+fn read_local<'a>(r: &mut Reader<'a>, alloc: Global) -> PartialVariable<'a>
+    ensures { reading.got (variable_of result) (reader_of r.new) ≡ statements.read_local (reader_of r.old) }
 {
     let class = read_auto(r);
     let ty = r.take_type();
-    let name = r.take_name(alloc)?;
+    let name = r.take_name();
     let size = read_size(r);
     r.take_mark(Mark::Semicolon);
     let done = !r.is_stopped();
-    Ok(PartialVariable {
+    PartialVariable {
         name,
         ty,
         class: class_with(&size, class),
@@ -138,18 +137,18 @@ fn read_local(r: &mut Reader<'_>, alloc: Global) -> Result<PartialVariable, Allo
         init: Vec::new(alloc),
         address: 0,
         done,
-    })
+    }
 }
 
 /// Reads local variables as long as they come.
 ///
 /// # Errors
 /// Where memory runs out.
-pub fn read_locals(
-    r: &mut Reader<'_>,
+pub fn read_locals<'a>(
+    r: &mut Reader<'a>,
     alloc: Global,
     calls: usize,
-) -> Result<Vec<PartialVariable>, AllocError>
+) -> Result<Vec<PartialVariable<'a>>, AllocError>
     ensures { IfOk result (λ locals.
         reading.got (map variable_of locals.items) (reader_of r.new) ≡ statements.read_locals calls (reader_of r.old)) }
 {
@@ -160,8 +159,7 @@ pub fn read_locals(
             return Ok(locals);
         }
         left -= 1;
-        let local = read_local(r, alloc)?;
-        locals.push(local)?;
+        locals.push(read_local(r, alloc))?;
     }
     Ok(locals)
 }
@@ -189,15 +187,14 @@ fn read_class(r: &mut Reader<'_>) -> Class
 }
 
 // Reads a parameter.
-fn read_param(r: &mut Reader<'_>, alloc: Global) -> Result<PartialVariable, AllocError>
-    ensures { IfOk result (λ v. reading.got (variable_of v) (reader_of r.new)
-        ≡ statements.read_param (reader_of r.old)) }
+fn read_param<'a>(r: &mut Reader<'a>, alloc: Global) -> PartialVariable<'a>
+    ensures { reading.got (variable_of result) (reader_of r.new) ≡ statements.read_param (reader_of r.old) }
 {
     let class = read_class(r);
     let ty = r.take_type();
-    let name = r.take_name(alloc)?;
+    let name = r.take_name();
     let done = !r.is_stopped();
-    Ok(PartialVariable {
+    PartialVariable {
         name,
         ty,
         class,
@@ -205,18 +202,18 @@ fn read_param(r: &mut Reader<'_>, alloc: Global) -> Result<PartialVariable, Allo
         init: Vec::new(alloc),
         address: 0,
         done,
-    })
+    }
 }
 
 /// Reads the parameters of a function; `void` stands for none.
 ///
 /// # Errors
 /// Where memory runs out.
-pub fn read_params(
-    r: &mut Reader<'_>,
+pub fn read_params<'a>(
+    r: &mut Reader<'a>,
     alloc: Global,
     calls: usize,
-) -> Result<Vec<PartialVariable>, AllocError>
+) -> Result<Vec<PartialVariable<'a>>, AllocError>
     ensures { IfOk result (λ params.
         reading.got (map variable_of params.items) (reader_of r.new) ≡ statements.read_params calls (reader_of r.old)) }
 {
@@ -225,8 +222,7 @@ pub fn read_params(
         r.skip();
         return Ok(params);
     }
-    let first = read_param(r, alloc)?;
-    params.push(first)?;
+    params.push(read_param(r, alloc))?;
     let mut left = calls;
     while left > 0 {
         if !r.sees_mark(Mark::Comma) {
@@ -234,8 +230,7 @@ pub fn read_params(
         }
         left -= 1;
         r.skip();
-        let param = read_param(r, alloc)?;
-        params.push(param)?;
+        params.push(read_param(r, alloc))?;
     }
     Ok(params)
 }

@@ -56,14 +56,14 @@ impl First {
     }
 
     /// Tells an offence.
-    pub fn tell(&mut self, kind: ParseKind, at: usize)
+    pub fn tell(&mut self, kind: ParseKind, at: u32)
         ensures { told self.new ≡ earlier (told self.old) (offence (kind_of kind) at) }
     {
         self.offence = Some(earlier(self.offence, Offence { at, kind }));
     }
 
     /// Tells an offence where the test holds.
-    pub fn tell_if(&mut self, test: bool, kind: ParseKind, at: usize)
+    pub fn tell_if(&mut self, test: bool, kind: ParseKind, at: u32)
         ensures { Tells self.old self.new (only_if test (offence (kind_of kind) at)) }
     {
         if test {

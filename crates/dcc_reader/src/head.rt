@@ -17,49 +17,45 @@ use std::alloc::{AllocError, Global};
 
 /// What a declaration begins with.
 #[derive(Drop)]
-pub struct Begun {
+pub struct Begun<'a> {
     /// Its place.
-    pub at: usize,
+    pub at: u32,
     /// Whether a type stands there, and not `void`.
     pub has_result: bool,
     /// Which type.
     pub result: Option<CType>,
     /// The name.
-    pub name: Option<WordAt>,
+    pub name: Option<WordAt<'a>>,
 }
 
 /// Reads what a declaration begins with: a type or `void`, and a name.
-///
-/// # Errors
-/// Where memory runs out.
-pub fn read_begun(r: &mut Reader<'_>, alloc: Global) -> Result<Begun, AllocError>
-    ensures { IfOk result (λ begun. reading.got (begun_of begun) (reader_of r.new)
-        ≡ texts.read_begun (reader_of r.old)) }
+pub fn read_begun<'a>(r: &mut Reader<'a>) -> Begun<'a>
+    ensures { reading.got (begun_of result) (reader_of r.new) ≡ texts.read_begun (reader_of r.old) }
 {
     let at = r.left.at;
     if r.sees_word(Keyword::Void) {
         r.skip();
-        let name = r.take_name(alloc)?;
-        return Ok(Begun {
+        let name = r.take_name();
+        return Begun {
             at,
             has_result: false,
             result: None,
             name,
-        });
+        };
     }
     let has_result = r.sees_type();
     let result = r.take_type();
-    let name = r.take_name(alloc)?;
-    Ok(Begun {
+    let name = r.take_name();
+    Begun {
         at,
         has_result,
         result,
         name,
-    })
+    }
 }
 
 // The place after an opening parenthesis, where that was read.
-fn opened(r: &Reader<'_>) -> Option<usize>
+fn opened(r: &Reader<'_>) -> Option<u32>
     ensures { result ≡ opened_at (reader_of r.now) }
 {
     if r.is_stopped() {
@@ -72,12 +68,12 @@ fn opened(r: &Reader<'_>) -> Option<usize>
 ///
 /// # Errors
 /// Where memory runs out.
-pub fn read_head(
-    r: &mut Reader<'_>,
+pub fn read_head<'a>(
+    r: &mut Reader<'a>,
     alloc: Global,
     calls: usize,
-    begun: Begun,
-) -> Result<PartialFunction, AllocError>
+    begun: Begun<'a>,
+) -> Result<PartialFunction<'a>, AllocError>
     ensures { IfOk result (λ f. reading.got (function_of f) (reader_of r.new)
         ≡ texts.read_head calls (reading.got (begun_of begun) (reader_of r.old))) }
 {
@@ -106,11 +102,11 @@ pub fn read_head(
 ///
 /// # Errors
 /// Where memory runs out.
-pub fn head_at(alloc: Global, rest: &Pieces<'_>) -> Result<PartialFunction, AllocError>
+pub fn head_at<'a>(alloc: Global, rest: &Pieces<'a>) -> Result<PartialFunction<'a>, AllocError>
     ensures { IfOk result (λ f. function_of f ≡ (texts.read_head (texts.enough_calls (pieces_of rest.now))
         (texts.read_begun (texts.reader_of (pieces_of rest.now)))).value) }
 {
     let mut r = reader_at(rest);
-    let begun = read_begun(&mut r, alloc)?;
+    let begun = read_begun(&mut r);
     read_head(&mut r, alloc, ENOUGH_CALLS, begun)
 }

@@ -13,7 +13,7 @@ use std::alloc::AllocError;
 /// # Errors
 /// Where memory runs out.
 #[cycle(labels)]
-pub fn push_labels<'a>(rows: &'a [Row], found: &mut Vec<&'a WordAt>) -> Result<(), AllocError>
+pub fn push_labels<'a>(rows: &'a [Row<'a>], found: &mut Vec<&'a WordAt<'a>>) -> Result<(), AllocError>
     ensures { OnOk result
         (map lent_word found.new.items ≡ map lent_word found.old.items ++ label_list (lines_of rows.now)) }
 {
@@ -25,7 +25,7 @@ pub fn push_labels<'a>(rows: &'a [Row], found: &mut Vec<&'a WordAt>) -> Result<(
 
 // Appends the labels of a statement and of those inside it.
 #[cycle(labels)]
-fn push_labels_of<'a>(stmt: &'a PartialStmt, found: &mut Vec<&'a WordAt>) -> Result<(), AllocError>
+fn push_labels_of<'a>(stmt: &'a PartialStmt<'a>, found: &mut Vec<&'a WordAt<'a>>) -> Result<(), AllocError>
     ensures { OnOk result
         (map lent_word found.new.items ≡ map lent_word found.old.items ++ labels_of (stmt_of stmt.now)) }
 {
@@ -55,8 +55,8 @@ fn push_labels_of<'a>(stmt: &'a PartialStmt, found: &mut Vec<&'a WordAt>) -> Res
 // Appends the labels in the bodies of arms.
 #[cycle(labels)]
 fn push_arm_labels<'a>(
-    arms: &'a [PartialArm],
-    found: &mut Vec<&'a WordAt>,
+    arms: &'a [PartialArm<'a>],
+    found: &mut Vec<&'a WordAt<'a>>,
 ) -> Result<(), AllocError>
     ensures { OnOk result
         (map lent_word found.new.items ≡ map lent_word found.old.items ++ labels_in_arms (arms_of arms.now)) }

@@ -23,7 +23,7 @@ pub use first::First;
 pub use head::head_at;
 pub use offence::{Offence, ParseKind};
 pub use partial::{
-    CaseAt, NumberAt, PartialArm, PartialCall, PartialExpr, PartialFunction, PartialStmt,
+    CaseAt, NumberAt, PartialArm, PartialCall, PartialChoice, PartialExpr, PartialFunction, PartialStmt,
     PartialText, PartialVariable, Row, WordAt,
 };
 pub use reader::Reader;

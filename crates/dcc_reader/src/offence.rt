@@ -56,7 +56,7 @@ impl fmt::Display for ParseKind {
 #[derive(Clone, Copy, PartialEq, Eq, Debug)]
 pub struct Offence {
     /// The place.
-    pub at: usize,
+    pub at: u32,
     /// What offends.
     pub kind: ParseKind,
 }

@@ -9,7 +9,7 @@ pub struct NumberAt {
     /// The number.
     pub value: u32,
     /// Its place.
-    pub at: usize,
+    pub at: u32,
 }
 
 /// The number of a case and its place.
@@ -18,44 +18,57 @@ pub struct CaseAt {
     /// The number.
     pub value: u16,
     /// Its place.
-    pub at: usize,
+    pub at: u32,
 }
 
 /// A name and its place.
-#[derive(Drop)]
-pub struct WordAt {
+#[derive(Clone, Copy)]
+pub struct WordAt<'a> {
     /// The name.
-    pub word: String,
+    pub word: &'a str,
     /// Its place.
-    pub at: usize,
+    pub at: u32,
 }
 
 /// An expression.
 #[derive(Drop)]
-pub enum PartialExpr {
+#[cycle(expression)]
+pub enum PartialExpr<'a> {
     /// It has not been read.
     Missing,
     /// Its place, a number and the number's type.
-    Number(usize, u32, Base),
+    Number(u32, u32, Base),
     /// Whether an opening parenthesis follows, its place, and a name. The truth value takes no room where it is first.
-    Name(bool, usize, String),
+    Name(bool, u32, &'a str),
     /// Its place, a unary operator and the operand.
-    Unary(usize, CUn, Box<PartialExpr>),
+    Unary(u32, CUn, Box<PartialExpr<'a>>),
     /// A binary operator and its operands.
-    Binary(CBin, Box<PartialExpr>, Box<PartialExpr>),
+    Binary(CBin, Box<PartialExpr<'a>>, Box<PartialExpr<'a>>),
     /// `a ? b : c`.
-    Conditional(Box<PartialExpr>, Box<PartialExpr>, Box<PartialExpr>),
+    Conditional(Box<PartialChoice<'a>>),
     /// Its place, a type, and what is converted to it.
-    Cast(usize, CType, Box<PartialExpr>),
+    Cast(u32, CType, Box<PartialExpr<'a>>),
+}
+
+/// The three operands of `a ? b : c`.
+#[derive(Drop)]
+#[cycle(expression)]
+pub struct PartialChoice<'a> {
+    /// The test.
+    pub test: PartialExpr<'a>,
+    /// The value where it holds.
+    pub first: PartialExpr<'a>,
+    /// The value where it does not.
+    pub second: PartialExpr<'a>,
 }
 
 /// A call.
 #[derive(Drop)]
-pub struct PartialCall {
+pub struct PartialCall<'a> {
     /// The function that is called.
-    pub function: WordAt,
+    pub function: WordAt<'a>,
     /// Its arguments.
-    pub arguments: Vec<PartialExpr>,
+    pub arguments: Vec<PartialExpr<'a>>,
     /// Whether the closing parenthesis was read.
     pub closed: bool,
     /// The depth of the call in bytes.
@@ -66,43 +79,43 @@ pub struct PartialCall {
 /// test was.
 #[derive(Drop)]
 #[cycle(statement)]
-pub enum PartialStmt {
+pub enum PartialStmt<'a> {
     /// A place, and the value where the `=` was read.
-    Assign(PartialExpr, Option<PartialExpr>, bool),
+    Assign(PartialExpr<'a>, Option<PartialExpr<'a>>, bool),
     /// The place of the result, where there is one, and the call.
-    Call(Option<PartialExpr>, PartialCall),
+    Call(Option<PartialExpr<'a>>, PartialCall<'a>),
     /// `if`: the test, the statements where it holds, and those of `else`.
-    If(PartialExpr, bool, Vec<Row>, Vec<Row>),
+    If(PartialExpr<'a>, bool, Vec<Row<'a>>, Vec<Row<'a>>),
     /// `while`: the test and the body.
-    While(PartialExpr, bool, Vec<Row>),
+    While(PartialExpr<'a>, bool, Vec<Row<'a>>),
     /// `do` and `while`: the body and the test.
-    DoWhile(Vec<Row>, PartialExpr, bool),
+    DoWhile(Vec<Row<'a>>, PartialExpr<'a>, bool),
     /// `for (;;)`.
-    Forever(Vec<Row>),
+    Forever(Vec<Row<'a>>),
     /// `switch`: the value and the arms.
-    Switch(PartialExpr, bool, Vec<PartialArm>),
+    Switch(PartialExpr<'a>, bool, Vec<PartialArm<'a>>),
     /// `break;`.
     Break,
     /// `continue;`.
     Continue,
     /// `goto` and its label.
-    Goto(Option<WordAt>),
+    Goto(Option<WordAt<'a>>),
     /// A label.
-    Label(WordAt),
+    Label(WordAt<'a>),
     /// `;`.
     Empty,
     /// `return`, with a value where one was read.
-    Return(Option<PartialExpr>, bool),
+    Return(Option<PartialExpr<'a>>, bool),
 }
 
 /// A statement with its place and its line.
 #[derive(Drop)]
 #[cycle(statement)]
-pub struct Row {
+pub struct Row<'a> {
     /// The statement.
-    pub stmt: PartialStmt,
+    pub stmt: PartialStmt<'a>,
     /// Its place.
-    pub at: usize,
+    pub at: u32,
     /// Its line, from 1.
     pub line: u32,
 }
@@ -110,20 +123,20 @@ pub struct Row {
 /// An arm of a `switch`.
 #[derive(Drop)]
 #[cycle(statement)]
-pub struct PartialArm {
+pub struct PartialArm<'a> {
     /// The numbers of its cases.
     pub numbers: Vec<CaseAt>,
     /// The place of `default`, where the arm has that.
-    pub default: Option<usize>,
+    pub default: Option<u32>,
     /// Its statements, without the `break` that ends it.
-    pub body: Vec<Row>,
+    pub body: Vec<Row<'a>>,
 }
 
 /// A variable.
 #[derive(Drop)]
-pub struct PartialVariable {
+pub struct PartialVariable<'a> {
     /// Its name.
-    pub name: Option<WordAt>,
+    pub name: Option<WordAt<'a>>,
     /// Its type, or that of an element.
     pub ty: Option<CType>,
     /// How it is stored.
@@ -140,40 +153,40 @@ pub struct PartialVariable {
 
 /// A function.
 #[derive(Drop)]
-pub struct PartialFunction {
+pub struct PartialFunction<'a> {
     /// Its place.
-    pub at: usize,
+    pub at: u32,
     /// Whether its result is a type.
     pub has_result: bool,
     /// Which type.
     pub result: Option<CType>,
     /// Its name.
-    pub name: Option<WordAt>,
+    pub name: Option<WordAt<'a>>,
     /// The place after the opening parenthesis of its head, where that was read.
-    pub opened: Option<usize>,
+    pub opened: Option<u32>,
     /// Whether `void` stands at that place.
     pub without_params: bool,
     /// Its parameters.
-    pub params: Vec<PartialVariable>,
+    pub params: Vec<PartialVariable<'a>>,
     /// Whether its head was read to its closing parenthesis.
     pub headed: bool,
     /// Its local variables.
-    pub locals: Vec<PartialVariable>,
+    pub locals: Vec<PartialVariable<'a>>,
     /// Its statements.
-    pub body: Vec<Row>,
+    pub body: Vec<Row<'a>>,
     /// The line of its closing brace.
     pub last: u32,
 }
 
 /// A text after its version line.
 #[derive(Drop)]
-pub struct PartialText {
+pub struct PartialText<'a> {
     /// The first number of the stack line.
     pub lo: Option<NumberAt>,
     /// Its second number.
     pub hi: Option<NumberAt>,
     /// The global variables.
-    pub globals: Vec<PartialVariable>,
+    pub globals: Vec<PartialVariable<'a>>,
     /// The functions.
-    pub functions: Vec<PartialFunction>,
+    pub functions: Vec<PartialFunction<'a>>,
 }

@@ -1,6 +1,6 @@
 //! A reader of pieces: it takes pieces as long as they are allowed, and sees none after the first that is not.
 
-ghost use Rattle.std.specs.Prelude.{◌≡◌, ◌&&◌, IfOk, true, is_some, Some, None};
+ghost use Rattle.std.specs.Prelude.{◌≡◌, ◌&&◌, true, is_some, Some, None};
 ghost use Rattle.std.specs.Option.{option_map};
 ghost use Rattle.dcc_c.specs.Kinds as kinds;
 ghost use Rattle.dcc_c.specs.Reading as reading;
@@ -19,7 +19,6 @@ use crate::statement_word::StatementWord;
 use crate::token::{begins_type, is_the_head, is_the_mark, is_the_word, name_of, plain_of};
 use dcc_c::{Base, CType};
 use dcc_lex::{Head, Keyword, Mark, Pieces, Token};
-use std::alloc::{AllocError, Global};
 
 /// A reader of pieces.
 #[derive(Clone, Copy)]
@@ -132,7 +131,7 @@ impl<'a> Reader<'a> {
     }
 
     /// Stops, where it has not stopped yet, at an offence.
-    pub fn stop_at(&mut self, kind: ParseKind, at: usize)
+    pub fn stop_at(&mut self, kind: ParseKind, at: u32)
         ensures { reader_of self.new ≡ reading.stop_at (kind_of kind) at (reader_of self.old) }
     {
         if self.stop.is_none() {
@@ -191,23 +190,19 @@ impl<'a> Reader<'a> {
     }
 
     /// Takes a name, which must stand here.
-    ///
-    /// # Errors
-    /// Where memory runs out.
-    pub fn take_name(&mut self, alloc: Global) -> Result<Option<WordAt>, AllocError>
-        ensures { IfOk result (λ name.
-            reading.got (option_map word_of name) (reader_of self.new) ≡ reading.take_name (reader_of self.old)) }
+    pub fn take_name(&mut self) -> Option<WordAt<'a>>
+        ensures { reading.got (option_map word_of result) (reader_of self.new)
+            ≡ reading.take_name (reader_of self.old) }
     {
         match self.name() {
             Some(word) => {
                 let at = self.left.at;
                 self.skip();
-                let word = String::from_str(alloc, word)?;
-                Ok(Some(WordAt { word, at }))
+                Some(WordAt { word, at })
             }
             None => {
                 self.fail();
-                Ok(None)
+                None
             }
         }
     }

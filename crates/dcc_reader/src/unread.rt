@@ -42,7 +42,10 @@ fn begins_head(token: Option<&Token>) -> bool
 }
 
 // The function whose head the pieces begin with, where it has a name and its opening parenthesis can be read.
-fn head_here(alloc: Global, pieces: &Pieces<'_>) -> Result<Option<PartialFunction>, AllocError>
+fn head_here<'a>(
+    alloc: Global,
+    pieces: &Pieces<'a>,
+) -> Result<Option<PartialFunction<'a>>, AllocError>
     ensures { IfOk result (λ head. IsHead head (known.head_at (pieces_of pieces.now))) }
 {
     if !begins_head(first_token(pieces)) {
@@ -57,10 +60,10 @@ fn head_here(alloc: Global, pieces: &Pieces<'_>) -> Result<Option<PartialFunctio
 }
 
 // Adds the function whose head the pieces begin with to the list.
-fn push_head(
+fn push_head<'a>(
     alloc: Global,
-    pieces: &Pieces<'_>,
-    heads: &mut Vec<PartialFunction>,
+    pieces: &Pieces<'a>,
+    heads: &mut Vec<PartialFunction<'a>>,
 ) -> Result<(), AllocError>
     ensures { OnOk result (known_functions (map function_of heads.new.items)
         ≡ known_functions (map function_of heads.old.items) ++ known.head_at (pieces_of pieces.now)) }
@@ -76,7 +79,10 @@ fn push_head(
 /// # Errors
 ///
 /// Where memory runs out.
-pub fn heads_in(alloc: Global, rest: &Pieces<'_>) -> Result<Vec<PartialFunction>, AllocError>
+pub fn heads_in<'a>(
+    alloc: Global,
+    rest: &Pieces<'a>,
+) -> Result<Vec<PartialFunction<'a>>, AllocError>
     ensures { IfOk result
         (λ heads. known_functions (map function_of heads.items) ≡ known.heads_in (pieces_of rest.now)) }
 {
