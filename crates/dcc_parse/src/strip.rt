@@ -16,7 +16,7 @@ const SHRINK_STEP: usize = 1024;
 
 // An expression.
 fn strip_expr(alloc: Global, e: PartialExpr) -> Result<CExpr, AllocError>
-    ensures { IfOk result (λ r. tree.expr_of r ≡ stripped.plain_expr (partial.expr_of e)) }
+    ensures { IfOk result (λ r. tree.expr_of r ≡ stripped.plain_expr (partial.expr_of e.entry)) }
 {
     match e {
         PartialExpr::Missing => Ok(CExpr::Num(0, Base::Int)),
@@ -48,7 +48,7 @@ fn strip_expr(alloc: Global, e: PartialExpr) -> Result<CExpr, AllocError>
 // An expression, where there is one.
 fn strip_if(alloc: Global, e: Option<PartialExpr>) -> Result<Option<CExpr>, AllocError>
     ensures { IfOk result
-        (λ r. option_map tree.expr_of r ≡ option_map stripped.plain_expr (option_map partial.expr_of e)) }
+        (λ r. option_map tree.expr_of r ≡ option_map stripped.plain_expr (option_map partial.expr_of e.entry)) }
 {
     match e {
         Some(e) => Ok(Some(strip_expr(alloc, e)?)),
@@ -58,7 +58,7 @@ fn strip_if(alloc: Global, e: Option<PartialExpr>) -> Result<Option<CExpr>, Allo
 
 // The value of an assignment.
 fn strip_value(alloc: Global, e: Option<PartialExpr>) -> Result<CExpr, AllocError>
-    ensures { IfOk result (λ r. tree.expr_of r ≡ stripped.plain_value (option_map partial.expr_of e)) }
+    ensures { IfOk result (λ r. tree.expr_of r ≡ stripped.plain_value (option_map partial.expr_of e.entry)) }
 {
     match e {
         Some(e) => strip_expr(alloc, e),
@@ -69,7 +69,7 @@ fn strip_value(alloc: Global, e: Option<PartialExpr>) -> Result<CExpr, AllocErro
 // The arguments of a call.
 fn strip_arguments(alloc: Global, arguments: Vec<PartialExpr>) -> Result<Vec<CExpr>, AllocError>
     ensures { IfOk result
-        (λ r. map tree.expr_of r.items ≡ map stripped.plain_expr (map partial.expr_of arguments.items)) }
+        (λ r. map tree.expr_of r.items ≡ map stripped.plain_expr (map partial.expr_of arguments.entry.items)) }
 {
     let mut found = Vec::with_capacity(alloc, arguments.len())?;
     for e in arguments {
@@ -80,7 +80,7 @@ fn strip_arguments(alloc: Global, arguments: Vec<PartialExpr>) -> Result<Vec<CEx
 
 /// A name.
 pub(crate) fn strip_name(alloc: Global, name: Option<WordAt>) -> Result<String, AllocError>
-    ensures { IfOk result (λ r. string_bytes r ≡ stripped.plain_name (option_map partial.word_of name)) }
+    ensures { IfOk result (λ r. string_bytes r ≡ stripped.plain_name (option_map partial.word_of name.entry)) }
 {
     match name {
         Some(name) => String::from_str(alloc, name.word),
@@ -111,8 +111,8 @@ struct Arms {
 // A statement.
 #[cycle(strip)]
 fn strip_stmt(alloc: Global, stmt: PartialStmt) -> Result<CStmt, AllocError>
-    ensures { (scene : Scene) (blocks : ℕ) → inner_offences scene blocks (partial.stmt_of stmt) ≡ [] →
-        IfOk result (λ r. tree.stmt_of r ≡ stripped.plain_stmt (partial.stmt_of stmt)) }
+    ensures { (scene : Scene) (blocks : ℕ) → inner_offences scene blocks (partial.stmt_of stmt.entry) ≡ [] →
+        IfOk result (λ r. tree.stmt_of r ≡ stripped.plain_stmt (partial.stmt_of stmt.entry)) }
 {
     match stmt {
         PartialStmt::Assign(place, e, _) => {
@@ -181,8 +181,8 @@ fn strip_row(alloc: Global, row: Row) -> Result<Line, AllocError>
 /// so that it and the list of its lines never stand whole side by side.
 #[cycle(strip)]
 pub(crate) fn strip_lines(alloc: Global, rows: Vec<Row>) -> Result<Vec<Line>, AllocError>
-    ensures { (scene : Scene) (blocks : ℕ) → lines_offences scene blocks (partial.lines_of rows.items) ≡ [] →
-        IfOk result (λ r. tree.lines_of r.items ≡ stripped.plain_lines (partial.lines_of rows.items)) }
+    ensures { (scene : Scene) (blocks : ℕ) → lines_offences scene blocks (partial.lines_of rows.entry.items) ≡ [] →
+        IfOk result (λ r. tree.lines_of r.items ≡ stripped.plain_lines (partial.lines_of rows.entry.items)) }
 {
     let mut lines = Vec::with_capacity(alloc, rows.len())?;
     if rows.len() <= SHRINK_STEP {
@@ -203,10 +203,10 @@ pub(crate) fn strip_lines(alloc: Global, rows: Vec<Row>) -> Result<Vec<Line>, Al
 // The arms of a `switch`.
 #[cycle(strip)]
 fn strip_arms(alloc: Global, arms: Vec<PartialArm>) -> Result<Arms, AllocError>
-    ensures { (scene : Scene) (blocks : ℕ) → arms_inner scene blocks (partial.arms_of arms.items) ≡ [] →
-        default_offences false (partial.arms_of arms.items) ≡ [] →
-        IfOk result (λ r. (tree.arms_of r.with_cases.items ≡ stripped.case_arms (partial.arms_of arms.items))
-        × (tree.arms_if r.default ≡ stripped.default_arms (partial.arms_of arms.items))) }
+    ensures { (scene : Scene) (blocks : ℕ) → arms_inner scene blocks (partial.arms_of arms.entry.items) ≡ [] →
+        default_offences false (partial.arms_of arms.entry.items) ≡ [] →
+        IfOk result (λ r. (tree.arms_of r.with_cases.items ≡ stripped.case_arms (partial.arms_of arms.entry.items))
+        × (tree.arms_if r.default ≡ stripped.default_arms (partial.arms_of arms.entry.items))) }
 {
     let mut with_cases = Vec::with_capacity(alloc, arms.len())?;
     let mut default = None;

@@ -65,7 +65,7 @@ fn strip_variable(alloc: Global, v: &PartialVariable) -> Result<Var, AllocError>
 // Parameters or local variables.
 fn strip_variables(alloc: Global, vs: Vec<PartialVariable>) -> Result<Vec<Var>, AllocError>
     ensures { IfOk result (λ r.
-        map tree.variable_of r.items ≡ map stripped.plain_variable (map partial.variable_of vs.items)) }
+        map tree.variable_of r.items ≡ map stripped.plain_variable (map partial.variable_of vs.entry.items)) }
 {
     let mut found = Vec::with_capacity(alloc, vs.len())?;
     for v in vs {
@@ -83,8 +83,8 @@ fn strip_address(address: u64) -> u32
 
 // A global variable, which stands in memory.
 fn strip_global(alloc: Global, v: PartialVariable) -> Result<Global_, AllocError>
-    ensures { v.address ≤ 65536 →
-        IfOk result (λ r. tree.global_of r ≡ stripped.plain_global (partial.variable_of v)) }
+    ensures { v.entry.address ≤ 65536 →
+        IfOk result (λ r. tree.global_of r ≡ stripped.plain_global (partial.variable_of v.entry)) }
 {
     let init = strip_init(alloc, &v.init)?;
     Ok(Global_ {
@@ -98,8 +98,8 @@ fn strip_global(alloc: Global, v: PartialVariable) -> Result<Global_, AllocError
 
 // Global variables.
 fn strip_globals(alloc: Global, vs: Vec<PartialVariable>) -> Result<Vec<Global_>, AllocError>
-    ensures { list_all is_in_memory (map partial.variable_of vs.items) ≡ true → IfOk result (λ r.
-        map tree.global_of r.items ≡ map stripped.plain_global (map partial.variable_of vs.items)) }
+    ensures { list_all is_in_memory (map partial.variable_of vs.entry.items) ≡ true → IfOk result (λ r.
+        map tree.global_of r.items ≡ map stripped.plain_global (map partial.variable_of vs.entry.items)) }
 {
     let mut found = Vec::with_capacity(alloc, vs.len())?;
     for v in vs {
@@ -110,8 +110,8 @@ fn strip_globals(alloc: Global, vs: Vec<PartialVariable>) -> Result<Vec<Global_>
 
 // A function.
 fn strip_function(alloc: Global, f: PartialFunction) -> Result<Func, AllocError>
-    ensures { (scene : Scene) → lines_offences scene 0 (partial.lines_of f.body.items) ≡ [] →
-        IfOk result (λ r. tree.function_of r ≡ stripped.plain_function (partial.function_of f)) }
+    ensures { (scene : Scene) → lines_offences scene 0 (partial.lines_of f.entry.body.items) ≡ [] →
+        IfOk result (λ r. tree.function_of r ≡ stripped.plain_function (partial.function_of f.entry)) }
 {
     Ok(Func {
         name: strip_name(alloc, f.name)?,
@@ -125,9 +125,9 @@ fn strip_function(alloc: Global, f: PartialFunction) -> Result<Func, AllocError>
 
 // Functions.
 fn strip_functions(alloc: Global, functions: Vec<PartialFunction>) -> Result<Vec<Func>, AllocError>
-    ensures { (whole : Whole) → functions_offences whole (map partial.function_of functions.items) ≡ [] →
+    ensures { (whole : Whole) → functions_offences whole (map partial.function_of functions.entry.items) ≡ [] →
         IfOk result (λ r. map tree.function_of r.items
-        ≡ map stripped.plain_function (map partial.function_of functions.items)) }
+        ≡ map stripped.plain_function (map partial.function_of functions.entry.items)) }
 {
     let mut found = Vec::with_capacity(alloc, functions.len())?;
     for f in functions {
@@ -149,8 +149,8 @@ fn strip_offset(number: Option<NumberAt>) -> u16
 
 /// A whole text in which nothing offends. Each part of what has been read is freed as its own form is made.
 pub(crate) fn strip(alloc: Global, text: PartialText) -> Result<Unit, AllocError>
-    ensures { is_complete_text (partial.text_of text) ≡ true → text_offences (partial.text_of text) [] ≡ [] →
-        IfOk result (λ unit. tree.tree_of unit ≡ stripped.plain_text (partial.text_of text)) }
+    ensures { is_complete_text (partial.text_of text.entry) ≡ true → text_offences (partial.text_of text.entry) [] ≡ [] →
+        IfOk result (λ unit. tree.tree_of unit ≡ stripped.plain_text (partial.text_of text.entry)) }
 {
     Ok(Unit {
         version: 1,

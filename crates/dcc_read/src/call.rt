@@ -52,7 +52,7 @@ fn read_call_after<'a>(
 ) -> Got<PartialStmt<'a>>
     requires seen { is_some (reading.next_token (reader_of r.old)) ≡ true }
     ensures { IfOk result (λ stmt. reading.got (stmt_of stmt) (reader_of r.new)
-        ≡ statements.call_of calls (option_map expr_of place) (word_of function) (reader_of r.old)) }
+        ≡ statements.call_of calls (option_map expr_of place.entry) (word_of function.entry) (reader_of r.old)) }
 {
     let depth = r.depth;
     r.skip();
@@ -78,7 +78,7 @@ fn read_call<'a>(
 ) -> Got<PartialStmt<'a>>
     requires begins { statements.begins_call (reader_of r.old) ≡ true }
     ensures { IfOk result (λ stmt. reading.got (stmt_of stmt) (reader_of r.new)
-        ≡ statements.read_call calls (option_map expr_of place) (reader_of r.old)) }
+        ≡ statements.read_call calls (option_map expr_of place.entry) (reader_of r.old)) }
 {
     match r.take_name() {
         Some(function) => read_call_after(r, alloc, calls, place, function),
@@ -120,7 +120,7 @@ fn read_assigned<'a>(
     place: PartialExpr<'a>,
 ) -> Got<PartialStmt<'a>>
     ensures { IfOk result (λ stmt. reading.got (stmt_of stmt) (reader_of r.new)
-        ≡ statements.read_assigned calls (reading.got (expr_of place) (reader_of r.old))) }
+        ≡ statements.read_assigned calls (reading.got (expr_of place.entry) (reader_of r.old))) }
 {
     if !r.sees_mark(Mark::Equals) {
         r.fail();

@@ -91,7 +91,7 @@ fn unary_at<'a>(
     operator: CUn,
     operand: Measured<'a>,
 ) -> Got<Measured<'a>>
-    ensures { IfOk result (λ e. expr_of e.expr ≡ partial.UnaryHere at operator (expr_of operand.expr)) }
+    ensures { IfOk result (λ e. expr_of e.expr ≡ partial.UnaryHere at operator (expr_of operand.entry.expr)) }
 {
     let depth = deeper(operand.depth);
     let operand = Box::new(alloc, operand.expr)?;
@@ -108,7 +108,7 @@ fn cast_at<'a>(
     ty: CType,
     operand: Measured<'a>,
 ) -> Got<Measured<'a>>
-    ensures { IfOk result (λ e. expr_of e.expr ≡ partial.CastHere at ty (expr_of operand.expr)) }
+    ensures { IfOk result (λ e. expr_of e.expr ≡ partial.CastHere at ty (expr_of operand.entry.expr)) }
 {
     let depth = deeper(operand.depth);
     let operand = Box::new(alloc, operand.expr)?;
@@ -125,7 +125,8 @@ fn binary_of_two<'a>(
     left: Measured<'a>,
     right: Measured<'a>,
 ) -> Got<Measured<'a>>
-    ensures { IfOk result (λ e. expr_of e.expr ≡ partial.BinaryOf operator (expr_of left.expr) (expr_of right.expr)) }
+    ensures { IfOk result (λ e. expr_of e.expr
+        ≡ partial.BinaryOf operator (expr_of left.entry.expr) (expr_of right.entry.expr)) }
 {
     let depth = deeper(left.depth.max(right.depth));
     let left = Box::new(alloc, left.expr)?;
@@ -144,7 +145,7 @@ fn conditional_of<'a>(
     second: Measured<'a>,
 ) -> Got<Measured<'a>>
     ensures { IfOk result (λ e. expr_of e.expr
-        ≡ partial.ConditionalOf (expr_of test.expr) (expr_of first.expr) (expr_of second.expr)) }
+        ≡ partial.ConditionalOf (expr_of test.entry.expr) (expr_of first.entry.expr) (expr_of second.entry.expr)) }
 {
     let depth = deeper(test.depth.max(first.depth.max(second.depth)));
     let choice = PartialChoice {
@@ -362,7 +363,8 @@ fn read_more<'a>(
     requires operators { inside.operators + calls < 2 ^ 64 }
     requires opened { inside.opened + calls < 2 ^ 64 }
     ensures { IfOk result (λ e. reading.got (expr_of e.expr) (reader_of r.new)
-        ≡ reading.read_more calls (inside_of inside) weakest (reading.got (expr_of first.expr) (reader_of r.old))) }
+        ≡ reading.read_more calls (inside_of inside) weakest
+        (reading.got (expr_of first.entry.expr) (reader_of r.old))) }
 {
     let mut left = first;
     let mut calls = calls;
@@ -417,7 +419,7 @@ fn read_rest<'a>(
     requires operators { inside.operators + calls < 2 ^ 64 }
     requires opened { inside.opened + calls < 2 ^ 64 }
     ensures { IfOk result (λ e. reading.got (expr_of e.expr) (reader_of r.new)
-        ≡ reading.read_rest calls (inside_of inside) (reading.got (expr_of test.expr) (reader_of r.old))) }
+        ≡ reading.read_rest calls (inside_of inside) (reading.got (expr_of test.entry.expr) (reader_of r.old))) }
 {
     let Some(calls) = calls.checked_sub(1) else {
         return Ok(test);

@@ -24,7 +24,7 @@ fn read_body<'a>(
     head: PartialFunction<'a>,
 ) -> Got<PartialFunction<'a>>
     ensures { IfOk result (λ f. reading.got (function_of f) (reader_of r.new)
-        ≡ texts.read_body calls (reading.got (function_of head) (reader_of r.old))) }
+        ≡ texts.read_body calls (reading.got (function_of head.entry) (reader_of r.old))) }
 {
     r.depth = 2;
     r.take_mark(Mark::OpenBrace);
@@ -49,7 +49,7 @@ fn read_function<'a>(
     begun: Begun<'a>,
 ) -> Got<PartialFunction<'a>>
     ensures { IfOk result (λ f. reading.got (function_of f) (reader_of r.new)
-        ≡ texts.read_function calls (reading.got (begun_of begun) (reader_of r.old))) }
+        ≡ texts.read_function calls (reading.got (begun_of begun.entry) (reader_of r.old))) }
 {
     let head = read_head(r, alloc, calls, begun)?;
     read_body(r, alloc, calls, head)
@@ -70,7 +70,7 @@ pub(crate) fn read_functions<'a>(
     begun: Begun<'a>,
 ) -> Got<Vec<PartialFunction<'a>>>
     ensures { IfOk result (λ functions. reading.got (map function_of functions.items) (reader_of r.new)
-        ≡ texts.with_functions calls (reading.got (begun_of begun) (reader_of r.old))) }
+        ≡ texts.with_functions calls (reading.got (begun_of begun.entry) (reader_of r.old))) }
 {
     let mut functions = Vec::new(alloc);
     let first = read_function(r, alloc, calls, begun)?;

@@ -145,7 +145,7 @@ fn end_lines(r: &mut Reader<'_>, calls: usize, labelled: bool, leaves: bool) -> 
 // The statements of an arm, the last of which must be a `break`, without that.
 fn end_arm<'a>(r: &mut Reader<'_>, block: Block<'a>) -> Vec<Row<'a>>
     ensures { reading.got (lines_of result.items) (reader_of r.new)
-        ≡ statements.end_arm (reading.got (block_of block) (reader_of r.old)) }
+        ≡ statements.end_arm (reading.got (block_of block.entry) (reader_of r.old)) }
 {
     let mut lines = block.lines;
     if r.is_stopped() {

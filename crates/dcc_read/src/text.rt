@@ -49,7 +49,7 @@ fn read_global<'a>(
     begun: Begun<'a>,
 ) -> Got<PartialVariable<'a>>
     ensures { IfOk result (λ v. reading.got (variable_of v) (reader_of r.new)
-        ≡ texts.read_global calls address (reading.got (begun_of begun) (reader_of r.old))) }
+        ≡ texts.read_global calls address (reading.got (begun_of begun.entry) (reader_of r.old))) }
 {
     let size = read_size(r);
     let init = read_init(r, alloc, calls)?;

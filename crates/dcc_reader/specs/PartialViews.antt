@@ -1,5 +1,5 @@
 -- The partial trees that the declared types stand for.
-use Rattle.std.specs.Prelude.{List, [], ◌∷◌, map, string_bytes}
+use Rattle.std.specs.Prelude.{List, [], ◌∷◌, map}
 use Rattle.std.specs.Option.{option_map}
 use Rattle.dcc_c.specs.Partial as partial
 use Rattle.dcc_reader.specs.declared.partial.NumberAt.{NumberAt}
@@ -21,16 +21,16 @@ abbrev pub case_of : CaseAt → partial.NumberAt
 case_of n = record { value = n.value; at = n.at }
 
 abbrev pub word_of : WordAt → partial.WordAt
-word_of w = record { word = string_bytes w.word; at = w.at }
+word_of w = record { word = w.word.now; at = w.at }
 
 -- the partial tree of an expression
 abbrev pub expr_of : PartialExpr → partial.PartialExpr
 expr_of Missing = partial.Missing
 expr_of (Number at n base) = partial.NumberHere at n base
-expr_of (Name called at word) = partial.NameHere at (string_bytes word) called
+expr_of (Name called at word) = partial.NameHere at word.now called
 expr_of (Unary' at operator _ a) = partial.UnaryHere at operator (expr_of a)
 expr_of (Binary' operator _ a _ b) = partial.BinaryOf operator (expr_of a) (expr_of b)
-expr_of (Conditional' _ a _ b _ c) = partial.ConditionalOf (expr_of a) (expr_of b) (expr_of c)
+expr_of (Conditional' _ a b c) = partial.ConditionalOf (expr_of a) (expr_of b) (expr_of c)
 expr_of (Cast' at type _ a) = partial.CastHere at type (expr_of a)
 
 abbrev pub call_of : PartialCall → partial.PartialCall

@@ -75,7 +75,7 @@ pub fn read_head<'a>(
     begun: Begun<'a>,
 ) -> Result<PartialFunction<'a>, AllocError>
     ensures { IfOk result (λ f. reading.got (function_of f) (reader_of r.new)
-        ≡ texts.read_head calls (reading.got (begun_of begun) (reader_of r.old))) }
+        ≡ texts.read_head calls (reading.got (begun_of begun.entry) (reader_of r.old))) }
 {
     r.take_mark(Mark::OpenParenthesis);
     let opened = opened(r);

@@ -15,8 +15,8 @@ returns-then-not-begins_local c =
 pub loop-left-preserved : goal.loop-left-preserved
 loop-left-preserved c =
     before-step _ _ _ _ _ _ (map-pushed variable_of _ _ _ c.in_ok-push.ensures.items)
-    (locals-some c.loop-left.left (reader_of c.loop-left.r) (got (variable_of c.in_ok-local.local) (reader_of c.read_local.new.r))
-    c.loop-left-test.true (sym c.begins_local.ensures ∙ c.if-not-begins_local.false) c.in_ok-local.ensures)
+    (locals-some c.loop-left.left (reader_of c.loop-left.r) (got (variable_of c.read_local.result) (reader_of c.read_local.new.r))
+    c.loop-left-test.true (sym c.begins_local.ensures ∙ c.if-not-begins_local.false) c.read_local.ensures)
     c.loop-left.invariant
 
 pub returns : goal.returns

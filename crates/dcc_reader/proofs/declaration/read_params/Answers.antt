@@ -12,7 +12,7 @@ skip-requires c = record { seen = word-seen (codes "void") (reader_of c.args.r.n
 
 pub loop-left-init : goal.loop-left-init
 loop-left-init c =
-    params-first _ (reader_of c.args.r.now) (got (variable_of c.in_ok-first.first) (reader_of c.read_param.new.r)) _ (sym c.sees_word.ensures ∙ c.if-sees_word.false) c.in_ok-first.ensures
+    params-first _ (reader_of c.args.r.now) (got (variable_of c.read_param.result) (reader_of c.read_param.new.r)) _ (sym c.sees_word.ensures ∙ c.if-sees_word.false) c.read_param.ensures
     (map-first variable_of _ _ _ c.new-params.ensures.items c.in_ok-push.ensures.items)
 
 pub returns-then-not-sees_mark : goal.returns-then-not-sees_mark
@@ -25,9 +25,9 @@ skip-requires-in-loop-left c = record { seen = mark-seen (codes ",") (reader_of 
 pub loop-left-preserved : goal.loop-left-preserved
 loop-left-preserved c =
     before-step _ _ _ _ _ _ (map-pushed variable_of _ _ _ c.in_ok-push-2.ensures.items)
-    (params-some c.loop-left.left (reader_of c.loop-left.r) (got (variable_of c.in_ok-param.param) (reader_of c.read_param-in-loop-left.new.r))
+    (params-some c.loop-left.left (reader_of c.loop-left.r) (got (variable_of c.read_param-in-loop-left.result) (reader_of c.read_param-in-loop-left.new.r))
     c.loop-left-test.true (sym c.sees_mark.ensures ∙ c.if-not-sees_mark.false)
-    (c.in_ok-param.ensures ∙ ap read_param c.skip-in-loop-left.ensures))
+    (c.read_param-in-loop-left.ensures ∙ ap read_param c.skip-in-loop-left.ensures))
     c.loop-left.invariant
 
 pub returns : goal.returns
