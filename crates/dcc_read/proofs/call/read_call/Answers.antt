@@ -7,6 +7,6 @@ use Rattle.dcc_read.proofs.call.read_call.Goals as goal
 
 pub read_call_after-requires : goal.read_call_after-requires
 read_call_after-requires c = record {
-  seen = mark-after (codes "(") (reader_of c.args.r.now) (reader_of c.take_name.new.self) (option_map word_of c.in_ok-function.field-0)
-      c.requires.begins c.in_ok-function.ensures;
+  seen = mark-after (codes "(") (reader_of c.args.r.now) (reader_of c.take_name.new.self) (option_map word_of c.take_name.result)
+      c.requires.begins c.take_name.ensures;
 }

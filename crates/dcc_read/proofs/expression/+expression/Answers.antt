@@ -44,10 +44,8 @@ measured_unary-returns t c =
     let shallow : c.args.inside.operators < 200 = omega (arith, c.if-inside-ge-MOST.false) in
     let sees : reading.unary_of (reading.next_token (reader_of c.args.r.now)) ≡ None =
     sym (ap reading.unary_of c.next.ensures) ∙ sym c.unary_of.ensures ∙ not-some c.unary_of.result c.in_default-unary_of.not-Some in
-    along c.read_leaf.result (reader_of c.read_leaf.new.r) (reading.read_leaf (reader_of c.args.r.now))
-    (reading.read_unary c.args.calls (inside_of c.args.inside) (reader_of c.args.r.now))
     c.read_leaf.ensures
-    (steps.unary-leaf c.args.calls c.in-Some.calls (inside_of c.args.inside) (reader_of c.args.r.now) is shallow sees (sym c.if-sees_mark.ensures))
+    ∙ steps.unary-leaf c.args.calls c.in-Some.calls (inside_of c.args.inside) (reader_of c.args.r.now) is shallow sees (sym c.if-sees_mark.ensures)
 
 pub read_parentheses-returns-then-sees_type : goal.read_parentheses-returns-then-sees_type
 read_parentheses-returns-then-sees_type t c =

@@ -20,9 +20,9 @@ returns-then-is_end c =
 pub loop-left-preserved : goal.loop-left-preserved
 loop-left-preserved c =
     before-step _ _ _ _ _ _ (map-pushed function_of _ _ _ c.in_ok-push-2.ensures.items)
-    (functions-some c.loop-left.left (reader_of c.loop-left.r) (got (begun_of c.in_ok-begun.begun) (reader_of c.read_begun.new.r))
+    (functions-some c.loop-left.left (reader_of c.loop-left.r) (got (begun_of c.read_begun-begun.result) (reader_of c.read_begun-begun.new.r))
     (got (function_of c.in_ok-function.function) (reader_of c.read_function-in-loop-left.new.r)) c.loop-left-test.true
-    (sym c.is_end.ensures ∙ c.if-is_end.false) c.in_ok-begun.ensures c.in_ok-function.ensures)
+    (sym c.is_end.ensures ∙ c.if-is_end.false) c.read_begun-begun.ensures c.in_ok-function.ensures)
     c.loop-left.invariant
 
 pub returns : goal.returns

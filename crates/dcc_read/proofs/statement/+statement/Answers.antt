@@ -1,19 +1,17 @@
-use Rattle.std.proofs.Common.{◌≡◌, ℕ, ◌-◌, false, not, codes, map, Some, None, sym, ap, ◌∙◌, arith}
+use Rattle.std.proofs.Common.{◌-◌, false, not, codes, map, Some, None, sym, ap, ◌∙◌, arith}
 use Rattle.dcc_c.specs.Partial.{IfOf, BreakOf, ContinueOf, no_rows, no_cases, cases}
 use Rattle.dcc_c.specs.Reading.{got, next_token}
 use Rattle.dcc_c.specs.Token.{depth_line}
 use Rattle.dcc_c.specs.ReadingStatements as s
 use Rattle.dcc_reader.specs.declared.partial.PartialArm.{out-roll-PartialArm}
 use Rattle.dcc_reader.specs.declared.statement_word.StatementWord.TheVariants.{If, While, Do, For, Switch, Break, Continue, Goto, Return}
-use Rattle.dcc_read.specs.declared.statement.LineRead.{LineRead}
 use Rattle.dcc_read.specs.ArmViews.{arm_head_of}
 use Rattle.dcc_reader.specs.AroundViews.{around_of}
-use Rattle.dcc_read.specs.Lines.{block_of, before_lines, after_line, label_line}
+use Rattle.dcc_read.specs.Lines.{block_of, before_lines}
 use Rattle.dcc_reader.specs.PartialViews.{case_of, expr_of, stmt_of, lines_of, arms_of}
 use Rattle.dcc_reader.specs.ReaderViews.{reader_of}
 use Rattle.dcc_reader.proofs.RowLaws.{arm-parts, if-tree, while-tree, do_while-tree, forever-tree, switch-tree}
 use Rattle.dcc_reader.proofs.SeenLaws.{word-seen, head-seen}
-use Rattle.dcc_reader.proofs.HeadLaws.{ok-map}
 use Rattle.dcc_reader.proofs.WordLaws.{statement-seen}
 use Rattle.dcc_read.proofs.StatementLaws as laws
 use Rattle.dcc_read.proofs.LineLaws as lines
@@ -121,12 +119,9 @@ read_line-read_label-requires t c = record { begins = sym c.sees_name_and.ensure
 
 pub read_line-returns-then-sees_name_and : goal.read_line-returns-then-sees_name_and
 read_line-returns-then-sees_name_and t c =
-    ok-map c.read_label.result
-    (λ (l : LineRead). (calls : ℕ) → after_line l calls (around_of c.args.around) (reader_of c.read_label.new.r) ≡ label_line calls (around_of c.args.around) (reader_of c.args.r.now)) _
-    (λ l h. h c.args.calls
+    c.read_label.ensures c.args.calls
     ∙ sym (lines.line-label c.args.calls (around_of c.args.around) c.args.labelled (reader_of c.args.r.now)
-    (sym c.sees_head.ensures ∙ c.if-sees_head.false) (sym c.sees_name_and.ensures ∙ c.if-sees_name_and.true)))
-    c.read_label.ensures
+    (sym c.sees_head.ensures ∙ c.if-sees_head.false) (sym c.sees_name_and.ensures ∙ c.if-sees_name_and.true))
 
 pub read_line-returns-then-begins_nested_block : goal.read_line-returns-then-begins_nested_block
 read_line-returns-then-begins_nested_block t c =
@@ -276,8 +271,9 @@ read_stmt-read_goto-requires t c = record { seen = statement-seen (next_token (r
 
 pub read_stmt-returns-in-Some-Goto : goal.read_stmt-returns-in-Some-Goto
 read_stmt-returns-in-Some-Goto t c =
-    laws.read-with c.read_goto.result (reader_of c.read_goto.new.r) c.args.calls (around_of c.args.around) (reader_of c.args.r.now) (Some Goto)
-    (omega arith) (ap Some (sym c.in-Some-Goto.field-0-is) ∙ c.in-Some-Goto.ensures) c.read_goto.ensures
+    c.read_goto.ensures
+    ∙ laws.stmt-with c.args.calls (around_of c.args.around) (reader_of c.args.r.now) (Some Goto) (omega arith)
+    (ap Some (sym c.in-Some-Goto.field-0-is) ∙ c.in-Some-Goto.ensures)
 
 pub read_stmt-read_return-requires : goal.read_stmt-read_return-requires
 read_stmt-read_return-requires t c = record { seen = statement-seen (next_token (reader_of c.args.r.now)) c.in-Some-Return.ensures }

@@ -6,4 +6,4 @@ use Rattle.dcc_reader.proofs.SeenLaws.{mark-after}
 use Rattle.dcc_read.proofs.statement.read_label.Goals as goal
 
 pub skip-requires : goal.skip-requires
-skip-requires c = record { seen = mark-after (codes ":") (reader_of c.args.r.now) (reader_of c.take_name.new.self) (option_map word_of c.in_ok-word.field-0) c.requires.begins c.in_ok-word.ensures }
+skip-requires c = record { seen = mark-after (codes ":") (reader_of c.args.r.now) (reader_of c.take_name.new.self) (option_map word_of c.take_name.result) c.requires.begins c.take_name.ensures }

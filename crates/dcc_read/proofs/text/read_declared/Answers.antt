@@ -36,8 +36,8 @@ loop-left-preserved-then-sees_head c = record {
 pub returns-in_default : goal.returns-in_default
 returns-in_default c =
     globals-done _ _ _ _
-    (declared-functions c.loop-left.left c.loop-left.address (reader_of c.loop-left.r) (got (begun_of c.in_ok-begun.begun) (reader_of c.read_begun.new.r))
-    (got (map function_of c.in_ok-functions.functions.items) (reader_of c.read_functions.new.r)) c.loop-left-test.true (sym c.sees_head.ensures ∙ c.if-sees_head.false) c.in_ok-begun.ensures
+    (declared-functions c.loop-left.left c.loop-left.address (reader_of c.loop-left.r) (got (begun_of c.read_begun-begun.result) (reader_of c.read_begun-begun.new.r))
+    (got (map function_of c.in_ok-functions.functions.items) (reader_of c.read_functions.new.r)) c.loop-left-test.true (sym c.sees_head.ensures ∙ c.if-sees_head.false) c.read_begun-begun.ensures
     (c.in_default.ensures) c.in_ok-functions.ensures)
     c.loop-left.invariant.read
 
@@ -45,7 +45,7 @@ pub overflow_add-address : goal.overflow_add-address
 overflow_add-address c =
     let low : c.in-Some.here + 17179869180 * (c.loop-left.left + 1) ≤ 4294967295 + 17179869180 * c.args.calls =
     address-kept (λ a. a + 17179869180 * (c.loop-left.left + 1) ≤ 4294967295 + 17179869180 * c.args.calls) c.loop-left.address
-    (got (begun_of c.in_ok-begun.begun) (reader_of c.read_begun.new.r)) c.in-Some.here c.in-Some.ensures c.loop-left.invariant.low in
+    (got (begun_of c.read_begun-begun.result) (reader_of c.read_begun-begun.new.r)) c.in-Some.here c.in-Some.ensures c.loop-left.invariant.low in
     let few = c.size_in_bytes.ensures.few in
     let most = c.requires.few in
     omega arith
@@ -54,7 +54,7 @@ pub loop-left-preserved : goal.loop-left-preserved
 loop-left-preserved c =
     let low : c.in-Some.here + 17179869180 * (c.loop-left.left + 1) ≤ 4294967295 + 17179869180 * c.args.calls =
     address-kept (λ a. a + 17179869180 * (c.loop-left.left + 1) ≤ 4294967295 + 17179869180 * c.args.calls) c.loop-left.address
-    (got (begun_of c.in_ok-begun.begun) (reader_of c.read_begun.new.r)) c.in-Some.here c.in-Some.ensures c.loop-left.invariant.low in
+    (got (begun_of c.read_begun-begun.result) (reader_of c.read_begun-begun.new.r)) c.in-Some.here c.in-Some.ensures c.loop-left.invariant.low in
     let few = c.size_in_bytes.ensures.few in
     record {
       within = omega arith;
@@ -63,8 +63,8 @@ loop-left-preserved c =
           ap (λ n. before_globals (map variable_of c.push.new.self.items)
           (read_declared (c.loop-left.left - 1) (Some (c.in-Some.here + n)) (reader_of c.read_global.new.r))) c.size_in_bytes.ensures.exact
           ∙ globals-step _ _ _ _ _ _ (map-pushed variable_of _ _ _ c.in_ok-push.ensures.items)
-          (declared-global c.loop-left.left c.loop-left.address (reader_of c.loop-left.r) (got (begun_of c.in_ok-begun.begun) (reader_of c.read_begun.new.r))
-          c.in-Some.here (got (variable_of c.in_ok-global.global) (reader_of c.read_global.new.r)) c.loop-left-test.true (sym c.sees_head.ensures ∙ c.if-sees_head.false) c.in_ok-begun.ensures
+          (declared-global c.loop-left.left c.loop-left.address (reader_of c.loop-left.r) (got (begun_of c.read_begun-begun.result) (reader_of c.read_begun-begun.new.r))
+          c.in-Some.here (got (variable_of c.in_ok-global.global) (reader_of c.read_global.new.r)) c.loop-left-test.true (sym c.sees_head.ensures ∙ c.if-sees_head.false) c.read_begun-begun.ensures
           c.in-Some.ensures c.in_ok-global.ensures)
           c.loop-left.invariant.read;
     }
