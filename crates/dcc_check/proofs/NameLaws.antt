@@ -1,5 +1,5 @@
 -- How names are seen one after another.
-use Rattle.std.proofs.Common.{◌≡◌, ℕ, ◌+◌, ◌<◌, Bool, true, false, List, [], ◌∷◌, length, get_or, drop, string_bytes, Option, refl, sym, ap, ◌∙◌}
+use Rattle.std.proofs.Common.{◌≡◌, ℕ, ◌+◌, ◌<◌, Bool, true, false, List, [], ◌∷◌, length, get_or, drop, Option, refl, sym, ap, ◌∙◌}
 use Rattle.std.specs.Prelude.{◌||◌, not}
 use Rattle.std.specs.BTreeSet as set
 use Rattle.std.specs.BTreeMap.{is_at}
@@ -47,37 +47,33 @@ pub none-held : (taken s : set.BTreeSet (Bor (List ℕ))) (word : Word) (b : Boo
 none-held taken s word b empty is =
     ap (λ (ks : List (Bor (List ℕ))). holds taken word || list_any (is_at (λ k. slice_cmp nat_cmp word k.now)) ks) empty ∙ or-false (holds taken word) ∙ is
 
-module _ (names : List (Bor WordAt)) (i : ℕ) (x : Bor WordAt) (within : i < length names) (here : x ≡ get_or names i x) where
+module _ (names : List (Bor WordAt)) (i : ℕ) (x other : Bor WordAt) (within : i < length names) (here : x ≡ get_or names i other) where
   next-names : {Y : Type 0} (f : List (Bor WordAt) → Y) → f (drop i names) ≡ f (x ∷ drop (i + 1) names)
-  next-names f = at_drop_more f names i x within ∙ ap (λ y. f (y ∷ drop (i + 1) names)) (sym here)
+  next-names f = at_drop_more f names i other within ∙ ap (λ y. f (y ∷ drop (i + 1) names)) (sym here)
 
-  module _ (s n : set.BTreeSet (Bor (List ℕ))) (bytes : Word) (word_is : bytes ≡ string_bytes x.now.word)
-      (inserts : (word : Word) → holds n word ≡ same_bytes word bytes || holds s word) where
-    inserted : (word : Word) → holds n word ≡ same_bytes word (string_bytes x.now.word) || holds s word
-    inserted word = inserts word ∙ ap (λ b. same_bytes word b || holds s word) word_is
-
+  module _ (s n : set.BTreeSet (Bor (List ℕ))) (inserted : (word : Word) → holds n word ≡ same_bytes word x.now.word.now || holds s word) where
     -- a word more
     pub add-step : (word : Word) →
         is_among (words_of (lent_names (drop (i + 1) names))) word || holds n word ≡ is_among (words_of (lent_names (drop i names))) word || holds s word
     add-step word =
         ap (λ b. is_among (words_of (lent_names (drop (i + 1) names))) word || b) (inserted word)
-        ∙ sym (turn (same_bytes word (string_bytes x.now.word)) (is_among (words_of (lent_names (drop (i + 1) names))) word) (holds s word))
+        ∙ sym (turn (same_bytes word x.now.word.now) (is_among (words_of (lent_names (drop (i + 1) names))) word) (holds s word))
         ∙ ap (λ b. b || holds s word) (sym (next-names (λ l. is_among (words_of (lent_names l)) word)))
 
     -- a name more
     pub known-step : (taken : set.BTreeSet (Bor (List ℕ))) (known : List Word) → ((word : Word) → holds taken word || holds s word ≡ is_among known word) →
-        (word : Word) → holds taken word || holds n word ≡ is_among (string_bytes x.now.word ∷ known) word
+        (word : Word) → holds taken word || holds n word ≡ is_among (x.now.word.now ∷ known) word
     known-step taken known all word =
         ap (λ b. holds taken word || b) (inserted word)
-        ∙ sym (turn (same_bytes word (string_bytes x.now.word)) (holds taken word) (holds s word))
-        ∙ group (same_bytes word (string_bytes x.now.word)) (holds taken word) (holds s word)
-        ∙ ap (λ b. same_bytes word (string_bytes x.now.word) || b) (all word)
+        ∙ sym (turn (same_bytes word x.now.word.now) (holds taken word) (holds s word))
+        ∙ group (same_bytes word x.now.word.now) (holds taken word) (holds s word)
+        ∙ ap (λ b. same_bytes word x.now.word.now || b) (all word)
 
-  pub told-step : (known : List Word) (old new : Option Offence) (b : Bool) → b ≡ is_among known (string_bytes x.now.word) →
+  pub told-step : (known : List Word) (old new : Option Offence) (b : Bool) → b ≡ is_among known x.now.word.now →
       new ≡ first_after old (only_if b (offence of_name x.now.at)) →
-      first_after new (repeated (string_bytes x.now.word ∷ known) (lent_names (drop (i + 1) names))) ≡ first_after old (repeated known (lent_names (drop i names)))
+      first_after new (repeated (x.now.word.now ∷ known) (lent_names (drop (i + 1) names))) ≡ first_after old (repeated known (lent_names (drop i names)))
   told-step known old new b b_is new_is =
-      let rest = repeated (string_bytes x.now.word ∷ known) (lent_names (drop (i + 1) names)) in
+      let rest = repeated (x.now.word.now ∷ known) (lent_names (drop (i + 1) names)) in
       ap (λ f. first_after f rest) (new_is ∙ ap (λ t. first_after old (only_if t (offence of_name x.now.at))) b_is)
-      ∙ sym (first-append old (only_if (is_among known (string_bytes x.now.word)) (offence of_name x.now.at)) rest)
+      ∙ sym (first-append old (only_if (is_among known x.now.word.now) (offence of_name x.now.at)) rest)
       ∙ sym (next-names (λ l. first_after old (repeated known (lent_names l))))

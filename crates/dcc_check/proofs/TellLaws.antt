@@ -1,5 +1,5 @@
 -- Offences that are told one after the other.
-use Rattle.std.proofs.Common.{◌≡◌, ℕ, Bool, true, false, String, Global, List, ◌++◌, Option, Some, None, refl, sym, ap, ◌∙◌}
+use Rattle.std.proofs.Common.{◌≡◌, ℕ, Bool, true, false, Bor, List, ◌++◌, Option, Some, None, refl, sym, ap, ◌∙◌}
 use Rattle.std.specs.Prelude.{◌&&◌, not, if◌then◌else◌, option_map, option_and_then, is_some, is_none}
 use Rattle.dcc_c.specs.declared.syntax.CUn.{CUn}
 use Rattle.dcc_c.specs.declared.syntax.CUn.TheVariants.{Minus, Complement, Not, Deref, AddressOf}
@@ -48,14 +48,14 @@ address-told scene a none =
     ]) none
 
 -- the place of an assignment that is no name
-pub place-other : (scene : Scene) (e : Read) → ((called : Bool) (at : ℕ) (word : String Global) → e ≡ Name called at word → ⊥) →
+pub place-other : (scene : Scene) (e : Read) → ((called : Bool) (at : ℕ) (word : Bor (List ℕ)) → e ≡ Name called at word → ⊥) →
     (target scene (expr_of e) ≡ operand scene (expr_of e)) × (place_offences scene (expr_of e) ≡ expr_offences scene (expr_of e))
 place-other scene Missing other = (refl, refl)
 place-other scene (Number at n base) other = (refl, refl)
 place-other scene (Name called at word) other = absurd (other called at word refl)
 place-other scene (Unary' at operator _ a) other = (refl, refl)
 place-other scene (Binary' operator _ a _ b) other = (refl, refl)
-place-other scene (Conditional' _ a _ b _ c) other = (refl, refl)
+place-other scene (Conditional' _ a b c) other = (refl, refl)
 place-other scene (Cast' at type _ a) other = (refl, refl)
 
 -- some offences are told, and others where a test holds

@@ -105,9 +105,7 @@ pub(crate) fn check_expr(scene: &Scene<'_, '_>, e: &PartialExpr, first: &mut Fir
             ty: Some(CType::plain(*base)),
             at: *at,
         },
-        PartialExpr::Name(called, at, word) => {
-            check_name(scene, *at, word, *called, first)
-        }
+        PartialExpr::Name(called, at, word) => { check_name(scene, *at, word, *called, first) }
         PartialExpr::Unary(at, operator, a) => check_operator(scene, *at, *operator, a, first),
         PartialExpr::Binary(operator, a, b) => {
             let a = check_expr(scene, a, first);

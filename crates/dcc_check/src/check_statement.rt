@@ -90,11 +90,7 @@ fn check_goto(scene: &Scene<'_, '_>, name: &Option<WordAt>, first: &mut First)
         Tells first.old first.new (goto_offences s (option_map word_of name.now)) }
 {
     if let Some(name) = name {
-        first.tell_if(
-            !scene.has_label(name.word),
-            ParseKind::Name,
-            name.at,
-        );
+        first.tell_if(!scene.has_label(name.word), ParseKind::Name, name.at);
     }
 }
 

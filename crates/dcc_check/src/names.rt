@@ -19,9 +19,9 @@ use std::alloc::{AllocError, Global};
 use std::collections::BTreeSet;
 
 /// Adds the names of variables to the list.
-pub fn variable_names<'a>(
-    variables: &'a [PartialVariable<'a>],
-    names: &mut Vec<&'a WordAt<'a>>,
+pub fn variable_names<'r, 'a>(
+    variables: &'r [PartialVariable<'a>],
+    names: &mut Vec<&'r WordAt<'a>>,
 ) -> Result<(), AllocError>
     ensures { OnOk result (lent_names names.new.items
         ≡ lent_names names.old.items ++ offences.name_list (map variable_of variables.now)) }
@@ -35,9 +35,9 @@ pub fn variable_names<'a>(
 }
 
 /// Adds the names of functions to the list.
-pub fn function_names<'a>(
-    functions: &'a [PartialFunction<'a>],
-    names: &mut Vec<&'a WordAt<'a>>,
+pub fn function_names<'r, 'a>(
+    functions: &'r [PartialFunction<'a>],
+    names: &mut Vec<&'r WordAt<'a>>,
 ) -> Result<(), AllocError>
     ensures { OnOk result (lent_names names.new.items
         ≡ lent_names names.old.items ++ offences.function_names (map function_of functions.now)) }
@@ -51,9 +51,9 @@ pub fn function_names<'a>(
 }
 
 /// Adds the names of those functions to the list whose opening parenthesis was read.
-pub fn known_names<'a>(
-    functions: &'a [PartialFunction<'a>],
-    names: &mut Vec<&'a WordAt<'a>>,
+pub fn known_names<'r, 'a>(
+    functions: &'r [PartialFunction<'a>],
+    names: &mut Vec<&'r WordAt<'a>>,
 ) -> Result<(), AllocError>
     ensures { OnOk result
         (offences.words_of (lent_names names.new.items)
@@ -71,7 +71,7 @@ pub fn known_names<'a>(
 }
 
 /// Adds the words of names to the set.
-pub fn add_words<'a>(words: &mut BTreeSet<&'a str>, names: &[&'a WordAt<'a>]) -> Result<(), AllocError>
+pub fn add_words<'a>(words: &mut BTreeSet<&'a str>, names: &[&WordAt<'a>]) -> Result<(), AllocError>
     ensures { OnOk result ((word : Word) → holds words.new word
         ≡ grammar.is_among (offences.words_of (lent_names names.now)) word || holds words.old word) }
 {

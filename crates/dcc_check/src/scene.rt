@@ -117,7 +117,7 @@ fn add_first<'a, V: Drop>(
 pub fn declare<'a>(
     declared: &mut BTreeMap<&'a str, Declared>,
     scope: Scope,
-    variables: &'a [PartialVariable<'a>],
+    variables: &[PartialVariable<'a>],
 ) -> Result<(), AllocError>
     ensures { OnOk result ((word : Word) → held declared.new word ≡ first_found (held declared.old word)
         (option_map unnamed (declared_as (declared_of (placed_in scope) (map variable_of variables.now)) word))) }
@@ -171,7 +171,7 @@ fn head_signature(
 pub fn add_functions<'a>(
     alloc: Global,
     declared: &mut BTreeMap<&'a str, Option<Signature>>,
-    functions: &'a [PartialFunction<'a>],
+    functions: &[PartialFunction<'a>],
 ) -> Result<(), AllocError>
     ensures { OnOk result ((word : Word) → held_head declared.new word ≡ first_found (held_head declared.old word)
         (option_map head_of (known_as (known_functions (map function_of functions.now)) word))) }

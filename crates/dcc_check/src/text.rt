@@ -49,10 +49,10 @@ struct Whole<'a> {
 }
 
 // The names of global variables and of functions. `heads` are the functions after what has been read.
-fn words_of<'a>(
+fn words_of<'r, 'a>(
     alloc: Global,
-    text: &'a PartialText<'a>,
-    heads: &'a [PartialFunction<'a>],
+    text: &'r PartialText<'a>,
+    heads: &'r [PartialFunction<'a>],
 ) -> Result<BTreeSet<&'a str>, AllocError>
     ensures { (rest : List pieces.Piece) → known.known_functions (map function_of heads.now) ≡ known.heads_in rest →
         IfOk result (λ words. (word : Word) →
@@ -70,8 +70,8 @@ fn words_of<'a>(
 // The functions, first the DOS calls.
 fn functions_of<'a>(
     alloc: Global,
-    text: &'a PartialText<'a>,
-    heads: &'a [PartialFunction<'a>],
+    text: &PartialText<'a>,
+    heads: &[PartialFunction<'a>],
 ) -> Result<BTreeMap<&'a str, Option<Signature>>, AllocError>
     ensures { (rest : List pieces.Piece) → known.known_functions (map function_of heads.now) ≡ known.heads_in rest →
         IfOk result (λ functions. (word : Word) → held_head functions word
@@ -85,10 +85,10 @@ fn functions_of<'a>(
 }
 
 // What the whole text knows. `heads` are the functions after what has been read.
-fn known_of<'a>(
+fn known_of<'r, 'a>(
     alloc: Global,
-    text: &'a PartialText<'a>,
-    heads: &'a [PartialFunction<'a>],
+    text: &'r PartialText<'a>,
+    heads: &'r [PartialFunction<'a>],
 ) -> Result<Whole<'a>, AllocError>
     ensures { (rest : List pieces.Piece) → known.known_functions (map function_of heads.now) ≡ known.heads_in rest →
         IfOk result (λ w. IsWhole w (offences.known_in (text_of text.now) rest)) }
@@ -189,7 +189,7 @@ fn tell_labels(alloc: Global, labels: &[&WordAt], first: &mut First) -> Result<(
 // The words of labels; with `is_last`, also of those after what has been read.
 fn label_words<'a>(
     alloc: Global,
-    labels: &[&'a WordAt<'a>],
+    labels: &[&WordAt<'a>],
     is_last: bool,
     rest: &Pieces<'a>,
 ) -> Result<BTreeSet<&'a str>, AllocError>
@@ -207,7 +207,7 @@ fn label_words<'a>(
 // The parameters and the local variables of a function.
 fn locals_of<'a>(
     alloc: Global,
-    function: &'a PartialFunction<'a>,
+    function: &PartialFunction<'a>,
 ) -> Result<BTreeMap<&'a str, Declared>, AllocError>
     ensures { IfOk result (λ locals. (word : Word) → held locals word
         ≡ option_map unnamed (declared_as (own_names (function_of function.now)) word)) }
@@ -222,7 +222,7 @@ fn locals_of<'a>(
 fn check_statements<'a>(
     alloc: Global,
     whole: &Whole<'a>,
-    function: &'a PartialFunction<'a>,
+    function: &PartialFunction<'a>,
     labels: &BTreeSet<&'a str>,
     first: &mut First,
 ) -> Result<(), AllocError>
@@ -249,7 +249,7 @@ fn check_statements<'a>(
 fn check_function<'a>(
     alloc: Global,
     whole: &Whole<'a>,
-    function: &'a PartialFunction<'a>,
+    function: &PartialFunction<'a>,
     is_last: bool,
     rest: &Pieces<'a>,
     first: &mut First,
@@ -272,7 +272,7 @@ fn check_function<'a>(
 fn check_functions<'a>(
     alloc: Global,
     whole: &Whole<'a>,
-    functions: &'a [PartialFunction<'a>],
+    functions: &[PartialFunction<'a>],
     rest: &Pieces<'a>,
     first: &mut First,
 ) -> Result<(), AllocError>
@@ -293,7 +293,7 @@ fn check_functions<'a>(
 /// Want of memory.
 pub fn first_offence<'a>(
     alloc: Global,
-    text: &'a PartialText<'a>,
+    text: &PartialText<'a>,
     stop: Option<Offence>,
     rest: &Pieces<'a>,
 ) -> Result<Option<Offence>, AllocError>
@@ -303,7 +303,7 @@ pub fn first_offence<'a>(
         ++ offences.text_offences (text_of text.now) (pieces_of rest.now))) }
 {
     let heads = heads_in(alloc, rest)?;
-    let whole = known_of(alloc, text, &heads)?;
+    let whole = known_of(alloc, &*text, &heads)?;
     let mut first = First { offence: stop };
     tell_stack(text.lo, &mut first);
     tell_stack(text.hi, &mut first);

@@ -13,7 +13,10 @@ use std::alloc::AllocError;
 /// # Errors
 /// Where memory runs out.
 #[cycle(labels)]
-pub fn push_labels<'a>(rows: &'a [Row<'a>], found: &mut Vec<&'a WordAt<'a>>) -> Result<(), AllocError>
+pub fn push_labels<'r, 'a>(
+    rows: &'r [Row<'a>],
+    found: &mut Vec<&'r WordAt<'a>>,
+) -> Result<(), AllocError>
     ensures { OnOk result
         (map lent_word found.new.items ≡ map lent_word found.old.items ++ label_list (lines_of rows.now)) }
 {
@@ -25,7 +28,10 @@ pub fn push_labels<'a>(rows: &'a [Row<'a>], found: &mut Vec<&'a WordAt<'a>>) -> 
 
 // Appends the labels of a statement and of those inside it.
 #[cycle(labels)]
-fn push_labels_of<'a>(stmt: &'a PartialStmt<'a>, found: &mut Vec<&'a WordAt<'a>>) -> Result<(), AllocError>
+fn push_labels_of<'r, 'a>(
+    stmt: &'r PartialStmt<'a>,
+    found: &mut Vec<&'r WordAt<'a>>,
+) -> Result<(), AllocError>
     ensures { OnOk result
         (map lent_word found.new.items ≡ map lent_word found.old.items ++ labels_of (stmt_of stmt.now)) }
 {
@@ -54,9 +60,9 @@ fn push_labels_of<'a>(stmt: &'a PartialStmt<'a>, found: &mut Vec<&'a WordAt<'a>>
 
 // Appends the labels in the bodies of arms.
 #[cycle(labels)]
-fn push_arm_labels<'a>(
-    arms: &'a [PartialArm<'a>],
-    found: &mut Vec<&'a WordAt<'a>>,
+fn push_arm_labels<'r, 'a>(
+    arms: &'r [PartialArm<'a>],
+    found: &mut Vec<&'r WordAt<'a>>,
 ) -> Result<(), AllocError>
     ensures { OnOk result
         (map lent_word found.new.items ≡ map lent_word found.old.items ++ labels_in_arms (arms_of arms.now)) }

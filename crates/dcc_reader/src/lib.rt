@@ -23,8 +23,8 @@ pub use first::First;
 pub use head::head_at;
 pub use offence::{Offence, ParseKind};
 pub use partial::{
-    CaseAt, NumberAt, PartialArm, PartialCall, PartialChoice, PartialExpr, PartialFunction, PartialStmt,
-    PartialText, PartialVariable, Row, WordAt,
+    CaseAt, NumberAt, PartialArm, PartialCall, PartialChoice, PartialExpr, PartialFunction,
+    PartialStmt, PartialText, PartialVariable, Row, WordAt,
 };
 pub use reader::Reader;
 pub use statement_word::StatementWord;

@@ -5,6 +5,7 @@ use Rattle.dcc_c.specs.Kinds.{of_type, offence, only_if, first_after}
 use Rattle.dcc_c.specs.Offences.{expr_offences, told_type, unary_offences, binary_offences, wants_number, arms_offences}
 use Rattle.dcc_c.specs.Partial.{BinaryOf, ConditionalOf, place_of}
 use Rattle.dcc_c.specs.Typing as typing
+use Rattle.dcc_reader.specs.declared.partial.PartialChoice.{PartialChoice}
 use Rattle.dcc_reader.specs.declared.partial.PartialExpr.{PartialExpr, Conditional}
 use Rattle.dcc_reader.specs.PartialViews.{expr_of}
 use Rattle.dcc_reader.specs.Told.{told}
@@ -38,13 +39,13 @@ check_expr-returns-in-Binary-clause-told t c = λ s is.
     (then-told (told c.check_expr-a.new.first) (told c.check_expr-b.new.first) end (expr_offences s e) last (b.told s is) (c.check_binary.ensures s d e (a.operand s is) (b.operand s is)))
     ∙ ap (λ e. first_after (told c.args.first.now) (expr_offences s e)) tree
 
--- the tree of a conditional, by the parts that its boxes lend
-conditional-tree : (e x y z : PartialExpr) (a b d : Box PartialExpr Global) → x ≡ a.value → y ≡ b.value → z ≡ d.value → e ≡ Conditional a b d →
-    ConditionalOf (expr_of x) (expr_of y) (expr_of z) ≡ expr_of e
-conditional-tree e x y z a b d first second third is =
-    ap (λ p. ConditionalOf (expr_of p) (expr_of y) (expr_of z)) first
-    ∙ ap (λ p. ConditionalOf (expr_of a.value) (expr_of p) (expr_of z)) second
-    ∙ ap (λ p. ConditionalOf (expr_of a.value) (expr_of b.value) (expr_of p)) third
+-- the tree of a conditional, by the parts that its box lends
+conditional-tree : (e : PartialExpr) (x y z : PartialChoice) (b : Box PartialChoice Global) → x ≡ b.value → y ≡ b.value → z ≡ b.value → e ≡ Conditional b →
+    ConditionalOf (expr_of x.test) (expr_of y.first) (expr_of z.second) ≡ expr_of e
+conditional-tree e x y z b first second third is =
+    ap (λ p. ConditionalOf (expr_of p.test) (expr_of y.first) (expr_of z.second)) first
+    ∙ ap (λ p. ConditionalOf (expr_of b.value.test) (expr_of p.first) (expr_of z.second)) second
+    ∙ ap (λ p. ConditionalOf (expr_of b.value.test) (expr_of b.value.first) (expr_of p.second)) third
     ∙ ap expr_of (sym is)
 
 pub check_expr-returns-in-Conditional-clause-operand :
@@ -53,14 +54,14 @@ check_expr-returns-in-Conditional-clause-operand t c = λ s is.
     let a = c.check_expr-a-in-Conditional in
     let b = c.check_expr-b-in-Conditional in
     let c' = c.check_expr-c in
-    let tree = conditional-tree _ _ _ _ _ _ _ c.deref-in-Conditional.ensures c.deref-in-Conditional-2.ensures c.deref-in-Conditional-3.ensures c.in-Conditional.is in
+    let tree = conditional-tree _ _ _ _ _ c.deref-in-Conditional.ensures c.deref-in-Conditional-2.ensures c.deref-in-Conditional-3.ensures c.in-Conditional.is in
     ap (λ ty. record { ty = ty; at = a.result.at }) c.both_arms_type.ensures
     ∙ ap (λ o. record { ty = typing.both_arms_type b.result.ty c'.result.ty; at = o.at }) (a.ensures.operand s is)
-    ∙ ap (λ o. record { ty = typing.both_arms_type o.ty c'.result.ty; at = (operand s (expr_of c.deref-in-Conditional.result.now)).at }) (b.ensures.operand s is)
+    ∙ ap (λ o. record { ty = typing.both_arms_type o.ty c'.result.ty; at = (operand s (expr_of c.deref-in-Conditional.result.now.test)).at }) (b.ensures.operand s is)
     ∙ ap (λ o. record {
-      ty = typing.both_arms_type (told_type s.names (expr_of c.deref-in-Conditional-2.result.now)) o.ty;
+      ty = typing.both_arms_type (told_type s.names (expr_of c.deref-in-Conditional-2.result.now.first)) o.ty;
       at =
-          (operand s (expr_of c.deref-in-Conditional.result.now)).at;
+          (operand s (expr_of c.deref-in-Conditional.result.now.test)).at;
     }) (c'.ensures.operand s is)
     ∙ ap (operand s) tree
 
@@ -70,10 +71,10 @@ check_expr-returns-in-Conditional-clause-told t c = λ s is.
     let a = c.check_expr-a-in-Conditional.ensures in
     let b = c.check_expr-b-in-Conditional.ensures in
     let c' = c.check_expr-c.ensures in
-    let tree = conditional-tree _ _ _ _ _ _ _ c.deref-in-Conditional.ensures c.deref-in-Conditional-2.ensures c.deref-in-Conditional-3.ensures c.in-Conditional.is in
-    let x = expr_of c.deref-in-Conditional.result.now in
-    let y = expr_of c.deref-in-Conditional-2.result.now in
-    let z = expr_of c.deref-in-Conditional-3.result.now in
+    let tree = conditional-tree _ _ _ _ _ c.deref-in-Conditional.ensures c.deref-in-Conditional-2.ensures c.deref-in-Conditional-3.ensures c.in-Conditional.is in
+    let x = expr_of c.deref-in-Conditional.result.now.test in
+    let y = expr_of c.deref-in-Conditional-2.result.now.first in
+    let z = expr_of c.deref-in-Conditional-3.result.now.second in
     let start = told c.args.first.now in
     let after_a = told c.check_expr-a-in-Conditional.new.first in
     let after_b = told c.check_expr-b-in-Conditional.new.first in

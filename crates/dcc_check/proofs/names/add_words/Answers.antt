@@ -1,9 +1,9 @@
-use Rattle.std.proofs.Common.{◌∙◌}
+use Rattle.std.proofs.Common.{refl, ◌∙◌}
 use Rattle.dcc_check.proofs.NameLaws.{add-step}
 use Rattle.dcc_check.proofs.names.add_words.Goals as goal
 
 pub loop-name-preserved : goal.loop-name-preserved
 loop-name-preserved c = λ word.
-    add-step c.args.names.now c.loop-name.name-index c.name-item.result c.loop-name-test.true c.name-item.is
-    c.loop-name.words c.add_word.new.words c.as_str.result.now c.as_str.ensures.value c.in_ok-add_word.ensures word
+    add-step c.args.names.now c.loop-name.name-index _ _ c.loop-name-test.true refl
+    c.loop-name.words c.add_word.new.words c.in_ok-add_word.ensures word
     ∙ c.loop-name.invariant word

@@ -1,11 +1,10 @@
-use Rattle.std.proofs.Common.{◌∷◌, string_bytes, refl, sym, ap, ◌∙◌}
+use Rattle.std.proofs.Common.{refl, sym, ap, ◌∙◌}
 use Rattle.std.proofs.lemmas.List.{drop_all}
 use Rattle.dcc_c.specs.Grammar.{is_among}
 use Rattle.dcc_c.specs.Kinds.{first_after}
 use Rattle.dcc_c.specs.Offences.{repeated}
 use Rattle.dcc_check.specs.Names.{lent_names}
 use Rattle.dcc_reader.specs.Told.{told}
-use Rattle.dcc_reader.specs.WordViews.{holds}
 use Rattle.dcc_check.proofs.NameLaws.{known-step, told-step, none-held, new-or-taken}
 use Rattle.dcc_check.proofs.names.tell_repeated.Goals as goal
 
@@ -14,13 +13,12 @@ loop-name-init c = λ before all. (before, λ word. none-held c.args.taken.now c
 
 pub loop-name-preserved : goal.loop-name-preserved
 loop-name-preserved c = λ before all.
-    let inv = c.loop-name.invariant before all in
-    let x = c.name-item.result in (
-      string_bytes x.now.word ∷ inv.0,
-      known-step c.args.names.now c.loop-name.name-index x c.loop-name-test.true c.name-item.is
-          c.loop-name.own c.add_new.new.words c.as_str-word.result.now c.as_str-word.ensures.value c.in_ok-is_new.ensures.added c.args.taken.now inv.0 inv.1,
-      told-step c.args.names.now c.loop-name.name-index x c.loop-name-test.true c.name-item.is inv.0 (told c.loop-name.first) (told c.tell_if.new.self) c.is_repeated.result
-          (c.is_repeated.ensures ∙ new-or-taken (holds c.args.taken.now c.as_str-word.result.now) _ c.in_ok-is_new.is_new c.in_ok-is_new.ensures.new ∙ inv.1 c.as_str-word.result.now ∙ ap (is_among inv.0) c.as_str-word.ensures.value) c.tell_if.ensures
+    let inv = c.loop-name.invariant before all in (
+      _,
+      known-step c.args.names.now c.loop-name.name-index _ _ c.loop-name-test.true refl c.loop-name.own c.add_new.new.words c.in_ok-is_new.ensures.added
+          c.args.taken.now inv.0 inv.1,
+      told-step c.args.names.now c.loop-name.name-index _ _ c.loop-name-test.true refl inv.0 (told c.loop-name.first) (told c.tell_if.new.self) c.is_repeated.result
+          (c.is_repeated.ensures ∙ new-or-taken _ _ c.in_ok-is_new.is_new c.in_ok-is_new.ensures.new ∙ inv.1 _) c.tell_if.ensures
           ∙ inv.2,
     )
 
