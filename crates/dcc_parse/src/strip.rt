@@ -166,9 +166,9 @@ fn shrink_in_steps(rows: &mut Vec<Row>)
 // A statement with its line.
 #[cycle(strip)]
 fn strip_row(alloc: Global, row: Row) -> Result<Line, AllocError>
-    ensures stmt { (scene : Scene) (blocks : ℕ) → inner_offences scene blocks (partial.stmt_of row.stmt) ≡ [] →
-        IfOk result (λ r. tree.stmt_of r.stmt ≡ stripped.plain_stmt (partial.stmt_of row.stmt)) }
-    ensures line { IfOk result (λ r. r.line ≡ row.line) }
+    ensures stmt { (scene : Scene) (blocks : ℕ) → inner_offences scene blocks (partial.stmt_of row.entry.stmt) ≡ [] →
+        IfOk result (λ r. tree.stmt_of r.stmt ≡ stripped.plain_stmt (partial.stmt_of row.entry.stmt)) }
+    ensures line { IfOk result (λ r. r.line ≡ row.entry.line) }
 {
     let stmt = strip_stmt(alloc, row.stmt)?;
     Ok(Line {

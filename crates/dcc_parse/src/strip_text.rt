@@ -51,8 +51,8 @@ fn strip_init(alloc: Global, init: &[NumberAt]) -> Result<Vec<u32>, AllocError>
 }
 
 // A parameter or a local variable.
-fn strip_variable(alloc: Global, v: &PartialVariable) -> Result<Var, AllocError>
-    ensures { IfOk result (λ r. tree.variable_of r ≡ stripped.plain_variable (partial.variable_of v.now)) }
+fn strip_variable(alloc: Global, v: PartialVariable) -> Result<Var, AllocError>
+    ensures { IfOk result (λ r. tree.variable_of r ≡ stripped.plain_variable (partial.variable_of v.entry)) }
 {
     Ok(Var {
         name: strip_name(alloc, v.name)?,
@@ -69,7 +69,7 @@ fn strip_variables(alloc: Global, vs: Vec<PartialVariable>) -> Result<Vec<Var>, 
 {
     let mut found = Vec::with_capacity(alloc, vs.len())?;
     for v in vs {
-        found.push(strip_variable(alloc, &v)?)?;
+        found.push(strip_variable(alloc, v)?)?;
     }
     Ok(found)
 }

@@ -9,8 +9,8 @@ use Rattle.dcc_reader.specs.ReaderViews.{reader_of}
 use Rattle.dcc_parse.proofs.ParseRules.{read-whole}
 use Rattle.dcc_parse.proofs.parser.read_pieces.Goals as goal
 
-pub returns-in-None-clause-text : goal.returns-in-None-clause-text
-returns-in-None-clause-text c =
+pub returns-clause-text : goal.returns-clause-text
+returns-clause-text c =
     let reading = c.in_ok-reading.reading in
     read-whole (pieces_of c.args.pieces.now) (text_of reading.text) (reader_of reading.following) c.in_ok-reading.ensures
     (ap (λ rest. first_of (stop_offences (option_map offence_of reading.following.stop) ++ text_offences (text_of reading.text) rest)) (sym c.unread-rest.ensures)
