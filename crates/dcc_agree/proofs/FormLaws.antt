@@ -85,7 +85,7 @@ written_first : (xs ys : List Stmt) (m : Loc) → is_written ys m ≡ false → 
 written_first [] ys m e = e
 written_first (s ∷ xs) ys m e = ap (λ b. b || is_among (written_by s) m) (written_first xs ys m e)
 
-all_append : {X : Type 0} (f : X → Bool) (xs ys : List X) → list_all f xs ≡ true → list_all f ys ≡ true → list_all f (xs ++ ys) ≡ true
+pub all_append : {X : Type 0} (f : X → Bool) (xs ys : List X) → list_all f xs ≡ true → list_all f ys ≡ true → list_all f (xs ++ ys) ≡ true
 all_append f [] ys s t = t
 all_append f (x ∷ xs) ys s t = and_both (f x) (list_all f (xs ++ ys)) (and_left (f x) (list_all f xs) s) (all_append f xs ys (and_right (f x) (list_all f xs) s) t)
 

@@ -10,6 +10,7 @@ mod OperandLaws
 mod StoredLaws
 mod WorkLaws
 mod AluLaws
+mod AddressLaws
 mod TableLaws
 mod SettingLaws
 mod EnoughLaws
