@@ -131,7 +131,7 @@ module _ (o : Option Procedure) (body : Body) (exposed : Place → Bool) where
       from (in_frame k) l s p = absurd p
 
   -- BP is no place
-  bp_apart : (base : Option Reg) (location : Location) → is_bp base ≡ true → passes (held location) ≡ true → is_half_of_some location base ≡ false
+  pub bp_apart : (base : Option Reg) (location : Location) → is_bp base ≡ true → passes (held location) ≡ true → is_half_of_some location base ≡ false
   bp_apart (Some Bp) (half_of q h) e p = not-bp q p
   bp_apart (Some Bp) (flag_of f) e p = refl
   bp_apart (Some Ax) location e p = absurd (true≢false (sym e))

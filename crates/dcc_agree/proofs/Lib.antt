@@ -11,6 +11,7 @@ mod StoredLaws
 mod WorkLaws
 mod AluLaws
 mod AddressLaws
+mod FrameLaws
 mod TableLaws
 mod SettingLaws
 mod EnoughLaws
