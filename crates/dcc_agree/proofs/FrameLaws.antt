@@ -22,7 +22,7 @@ use Rattle.dcc_ir.specs.declared.syntax.Loc.TheVariants.{Half, Flag, Cell, Temp}
 use Rattle.dcc_ir.specs.Location.{same_location}
 use Rattle.dcc_ir.specs.Tree.{Address}
 use Rattle.dcc_ir.specs.Live.{is_among}
-use Rattle.dcc_ir.proofs.LocationLaws.{Contains-here, Contains-later, Contains-none, among_contains, contains_among}
+use Rattle.dcc_ir.proofs.LocationLaws.{Contains-here, Contains-later, Contains-none, Contains-cases, among_contains, contains_among}
 use Rattle.dcc_ir.proofs.PathLaws.{decided}
 use Rattle.dcc_ops.specs.Place.{Place as InnerPlace, byte, word, memory}
 use Rattle.dcc_lift.proofs.ListTests.{and_left, and_right, and_both, and_false, or_here, or_there, or_cases, or_none, same_test}
@@ -36,6 +36,8 @@ use Rattle.dcc_agree.proofs.ShownLaws.{Shows, shows_one, shows_both, shows_alike
 use Rattle.dcc_agree.proofs.StageLaws.{is_kept_place, reads_at, outs, is_stored, has_kept}
 use Rattle.dcc_agree.proofs.OperandLaws.{frame_read, in_cells, reads_by, writes_by, IsOperandAt}
 use Rattle.dcc_agree.proofs.AddressLaws.{bp_apart}
+use Rattle.dcc_agree.proofs.StoredLaws.{read_in_cells}
+use Rattle.dcc_sources.proofs.ListLaws.{only}
 
 module _ (o : Option Procedure) (q : Procedure) (found : o ≡ Some q) (heights : List (ℕ × ℕ)) where
   abbrev pub frame_body : Body
@@ -188,3 +190,152 @@ module _ (o : Option Procedure) (q : Procedure) (found : o ≡ Some q) (heights 
         stored = λ e. absurd (true≢false (sym e ∙ unstored));
         reached = λ j t. inr (stands j t);
       }
+
+    once : (L : Place) (l m : Loc) → IsSame o L l → IsSame o L m → l ≡ m
+    once L l m s t = same_once s t
+
+    one_byte_at : (n : ℕ) (h : HalfName) → frame_place q byte_width k ≡ byte (Cell n h) → has_byte k ≡ true → IsOperandAt o frame_body exposed (Mem byte_width ea) (byte (Cell n h))
+    one_byte_at n h place inside =
+        in_cells_at byte_width (byte (Cell n h)) (shows_alike (IsSame o) (λ L. L ≡ in_frame k) (Reads byte_width) (Cell n h ∷ []) (Cell n h ∷ []) (shows_one (IsSame o) once (in_frame k) (Cell n h) there) to from (λ l c. c) (λ l c. c))
+        refl refl refl (λ l c. c) (λ l c. c) (read_in_cells frame_body (Mem byte_width ea) k (first_read byte_width inside)) stands
+      where
+        there : IsSame o (in_frame k) (Cell n h)
+        there = IsSame.is_kept found place
+
+        at_first : (j : ℤ) → IsByte byte_width j → j ≡ k
+        at_first j (IsByte.is_first h e) = e
+        at_first j (IsByte.is_second v h e) = absurd (cc v)
+
+        to : (L : Place) (l : Loc) → IsSame o L l → L ≡ in_frame k → Reads byte_width L
+        to L l s e = subst (λ M. Reads byte_width M) (sym e) (inside, first_read byte_width inside)
+
+        from : (L : Place) (l : Loc) → IsSame o L l → Reads byte_width L → L ≡ in_frame k
+        from (held location) l s t = absurd (held_unread byte_width location t)
+        from (in_frame j) l s t = ap in_frame (at_first j (which byte_width j t.1))
+
+        stands : (j : ℤ) → frame_read frame_body (Mem byte_width ea) j ≡ true → (l : Loc) × IsSame o (in_frame j) l
+        stands j t = (Cell n h, subst (λ i. IsSame o (in_frame i) (Cell n h)) (sym (at_first j (which byte_width j t))) there)
+
+    swapped : (a b l : Loc) → Contains (a ∷ b ∷ []) l → Contains (b ∷ a ∷ []) l
+    swapped a b l c =
+        Contains-cases a (b ∷ []) l (Contains (b ∷ a ∷ []) l) (λ e. subst (λ m. Contains (b ∷ a ∷ []) m) e (Contains-later b (a ∷ []) a (Contains-here a [])))
+        (λ later. subst (λ m. Contains (b ∷ a ∷ []) m) (only b l later) (Contains-here b (a ∷ []))) c
+
+    one_word_at : (n : ℕ) → frame_place q byte_width k ≡ byte (Cell n Low) → frame_place q byte_width (k +ℤ pos 1) ≡ byte (Cell n High) → has_byte k ≡ true → has_byte (k +ℤ pos 1) ≡ true
+        → IsOperandAt o frame_body exposed (Mem word_width ea) (word (Cell n Low) (Cell n High))
+    one_word_at n low high inside inside_next =
+        in_cells_at word_width (word (Cell n Low) (Cell n High))
+        (shows_alike (IsSame o) (λ L. (L ≡ in_frame (k +ℤ pos 1)) ⊎ (L ≡ in_frame k)) (Reads word_width) (Cell n High ∷ Cell n Low ∷ []) (Cell n High ∷ Cell n Low ∷ [])
+        (shows_both (IsSame o) (λ L. L ≡ in_frame (k +ℤ pos 1)) (λ L. L ≡ in_frame k) (Cell n High ∷ []) (Cell n Low ∷ [])
+        (shows_one (IsSame o) once (in_frame (k +ℤ pos 1)) (Cell n High) there_next) (shows_one (IsSame o) once (in_frame k) (Cell n Low) there)) to from (λ l c. c) (λ l c. c))
+        refl refl refl (swapped (Cell n High) (Cell n Low)) (swapped (Cell n Low) (Cell n High)) (read_in_cells frame_body (Mem word_width ea) k (first_read word_width inside)) stands
+      where
+        there : IsSame o (in_frame k) (Cell n Low)
+        there = IsSame.is_kept found low
+
+        there_next : IsSame o (in_frame (k +ℤ pos 1)) (Cell n High)
+        there_next = IsSame.is_kept found high
+
+        to : (L : Place) (l : Loc) → IsSame o L l → (L ≡ in_frame (k +ℤ pos 1)) ⊎ (L ≡ in_frame k) → Reads word_width L
+        to L l s (inl e) = subst (λ M. Reads word_width M) (sym e) (inside_next, second_read inside_next)
+        to L l s (inr e) = subst (λ M. Reads word_width M) (sym e) (inside, first_read word_width inside)
+
+        of_byte : (j : ℤ) → IsByte word_width j → (in_frame j ≡ in_frame (k +ℤ pos 1)) ⊎ (in_frame j ≡ in_frame k)
+        of_byte j (IsByte.is_first h e) = inr (ap in_frame e)
+        of_byte j (IsByte.is_second v h e) = inl (ap in_frame e)
+
+        from : (L : Place) (l : Loc) → IsSame o L l → Reads word_width L → (L ≡ in_frame (k +ℤ pos 1)) ⊎ (L ≡ in_frame k)
+        from (held location) l s t = absurd (held_unread word_width location t)
+        from (in_frame j) l s t = of_byte j (which word_width j t.1)
+
+        stands_by : (j : ℤ) → IsByte word_width j → (l : Loc) × IsSame o (in_frame j) l
+        stands_by j (IsByte.is_first h e) = (Cell n Low, subst (λ i. IsSame o (in_frame i) (Cell n Low)) (sym e) there)
+        stands_by j (IsByte.is_second v h e) = (Cell n High, subst (λ i. IsSame o (in_frame i) (Cell n High)) (sym e) there_next)
+
+        stands : (j : ℤ) → frame_read frame_body (Mem word_width ea) j ≡ true → (l : Loc) × IsSame o (in_frame j) l
+        stands j t = stands_by j (which word_width j t)
+
+    -- In memory.
+
+    module _ (w : Width) (opens : IsOpen k) (opens_next : w ≡ word_width → IsOpen (k +ℤ pos 1)) where
+      open_byte : (j : ℤ) → IsByte w j → IsOpen j
+      open_byte j (IsByte.is_first h e) = subst IsOpen (sym e) opens
+      open_byte j (IsByte.is_second v h e) = subst IsOpen (sym e) (opens_next v)
+
+      -- what is open stands in no location
+      open_nowhere : (j : ℤ) (l : Loc) → IsOpen j → IsSame o (in_frame j) l → ⊥
+      open_nowhere j l x s = by (same_cases o s)
+        where
+          clash : (n : ℕ) → memory byte_width (Address n) ≡ byte l → ⊥
+          clash n e = cc e
+
+          by : SameCases o (in_frame j) l → ⊥
+          by (SameCases.by_held location p e g) = cc e
+          by (SameCases.by_kept other i p f kept g) =
+              let same : other ≡ q = cc (p, found) in
+              let byte_is : i ≡ j = cc f in
+              let here = subst (λ x. frame_place q byte_width x ≡ byte l) byte_is (subst (λ x. frame_place x byte_width i ≡ byte l) same g) in
+              clash (distance_of j) (sym (ap (λ b. if b then memory byte_width (Address (distance_of j)) else cell_place 0 (cells_of q) byte_width j) x.0) ∙ here)
+
+      unread_open : (L : Place) (l : Loc) → IsSame o L l → Reads w L → ⊥
+      unread_open (held location) l s t = held_unread w location t
+      unread_open (in_frame j) l s t = open_nowhere j l (open_byte j (which w j t.1)) s
+
+      exposed_open : (j : ℤ) → frame_read frame_body (Mem w ea) j ≡ true → exposed (in_frame j) ≡ true
+      exposed_open j t = exposed_is j ∙ (open_byte j (which w j t)).1 (in_place w j t)
+
+      stores_open : (A : Place) (l : Loc) → IsSame o A l → is_kept_place l ≡ true → writes_by frame_body (Mem w ea) A ≡ false
+      stores_open (held (half_of r h)) l s t = and_false (is_general r)
+      stores_open (held (flag_of f)) l s t = refl
+      stores_open (in_frame j) l s t = elim (decided (frame_read frame_body (Mem w ea) j)) [
+        | inr e ↦ e
+        | inl e ↦ absurd (open_nowhere j l (open_byte j (which w j e)) s)
+      ]
+
+      no_cell : (v : Width) → has_byte k ≡ false → (v ≡ word_width → has_byte (k +ℤ pos 1) ≡ false) → in_cells frame_body (Mem v ea) ≡ false
+      no_cell byte_width a b =
+          ap (list_any is_placed) (spots_are byte_width) ∙ ap (λ c. is_placed (if c then placed (in_frame k) else in_memory) || false) a
+      no_cell word_width a b =
+          ap (list_any is_placed) (spots_are word_width)
+          ∙ ap (λ c. is_placed (if c then placed (in_frame k) else in_memory) || (is_placed (frame_spot frame_body (k +ℤ pos 1)) || false)) a
+          ∙ ap (λ c. is_placed (if c then placed (in_frame (k +ℤ pos 1)) else in_memory) || false) (b refl)
+
+      abbrev InCells : Width → Type 0
+      InCells v = (in_cells frame_body (Mem v ea) ≡ false) ⊎ ((j : ℤ) × (frame_read frame_body (Mem v ea) j ≡ true))
+
+      stored_by : (v : Width) → InCells v
+      stored_by byte_width = elim (decided (has_byte k)) [
+        | inl t ↦ inr (k, first_read byte_width t)
+        | inr e ↦ inl (no_cell byte_width e (λ v. absurd (cc v)))
+      ]
+      stored_by word_width = elim (decided (has_byte k)) [
+        | inl t ↦ inr (k, first_read word_width t)
+        | inr e ↦ elim (decided (has_byte (k +ℤ pos 1))) [
+          | inl t ↦ inr (k +ℤ pos 1, second_read t)
+          | inr d ↦ inl (no_cell word_width e (λ v. d))
+        ]
+      ]
+
+      open_at : (distance : ℕ) → IsOperandAt o frame_body exposed (Mem w ea) (memory w (Address distance))
+      open_at distance = record {
+        reads = record { has = λ L l s t. absurd (unread_open L l s t); comes = λ l c. absurd (Contains-none l c) };
+        reads_kept = refl;
+        kept = refl;
+        stores = stores_open;
+        unstored = λ e. absurd (true≢false e);
+        stored = λ e. (refl, elim (stored_by w) [
+          | inl none ↦ inl none
+          | inr some ↦ inr (some.0, some.1, exposed_open some.0 some.1)
+        ]);
+        reached = λ j t. inl (exposed_open j t);
+      }
+
+    pub direct_at : (w : Width) → AccessAt w k → IsOperandAt o frame_body exposed (Mem w ea) (frame_place q w k)
+    direct_at w (AccessAt.byte_access n h v place inside) =
+        subst (λ u. IsOperandAt o frame_body exposed (Mem u ea) (frame_place q u k)) (sym v)
+        (subst (λ Q. IsOperandAt o frame_body exposed (Mem byte_width ea) Q) (sym place) (one_byte_at n h place inside))
+    direct_at w (AccessAt.word_access n v place low high inside inside_next) =
+        subst (λ u. IsOperandAt o frame_body exposed (Mem u ea) (frame_place q u k)) (sym v)
+        (subst (λ Q. IsOperandAt o frame_body exposed (Mem word_width ea) Q) (sym place) (one_word_at n low high inside inside_next))
+    direct_at w (AccessAt.open_access place opens opens_next) =
+        subst (λ Q. IsOperandAt o frame_body exposed (Mem w ea) Q) (sym place) (open_at w opens opens_next (distance_of k))
