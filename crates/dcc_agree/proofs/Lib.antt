@@ -12,6 +12,7 @@ mod WorkLaws
 mod AluLaws
 mod AddressLaws
 mod FrameLaws
+mod AccessLaws
 mod TableLaws
 mod SettingLaws
 mod EnoughLaws

@@ -134,7 +134,7 @@ module _ (image : Image) (program : Analysed) (p : Program) (is : IsTranslated i
         let node = node_in_some (nodes_in scene) (entry_in scene) (entry_is_node (nodes_in scene) (entry_in scene) image.ip sound) in
         subst (λ at. IsSettled coarse fine r entry at) (sym (ap (λ g. g.entry) coarse_is)) (settled_node (entry_in scene) node.0 node.1)
 
-    small_linked : (found : Procedure) → procedure_at (procedures_in program) entry ≡ Some found → All IsSmall (cells_of found)
+    pub small_linked : (found : Procedure) → procedure_at (procedures_in program) entry ≡ Some found → All IsSmall (cells_of found)
     small_linked found e =
         let one : procedure ≡ found = cc (x.procedure_found, e) in
         subst (λ q. All IsSmall (cells_of q)) one (same.small_cells image layout x.proc.entry procedure x.is_frame.cells)
