@@ -184,7 +184,7 @@ module _ (image : Image) (program : Analysed) (p : Program) (is : IsTranslated i
         }))
     ]
 
-    framed_there : is_framed image layout x.proc.entry ≡ true
+    pub framed_there : is_framed image layout x.proc.entry ≡ true
     framed_there = form_framed image layout x.proc.entry at node.instr.op form (sp_unmoved node.instr.op w ea operand) uses
 
     piece : IsPiece image layout entry (span_of (offset_in_frame ea) (bytes_in w))

@@ -1,5 +1,5 @@
 -- Instructions that do what their statements do together.
-use Rattle.std.proofs.Common.{◌≡◌, ℕ, ℤ, true, false, ◌&&◌, List, [], ◌∷◌, Option, Some, refl, sym, ap, ◌∙◌, subst, true≢false}
+use Rattle.std.proofs.Common.{◌≡◌, ℕ, ℤ, true, false, ◌&&◌, ◌||◌, List, [], ◌∷◌, Option, Some, refl, sym, ap, ◌∙◌, subst, true≢false}
 use Rattle.std.specs.Prelude.{Contains}
 use Rattle.dcc_prog.specs.declared.image.Image.{Image}
 use Rattle.dcc_prog.specs.declared.frame.Program.{Program as Analysed}
@@ -9,19 +9,23 @@ use Rattle.dcc_prog.specs.declared.instr.Op.TheVariants.{Alu as AluOp, Mov, Xchg
 use Rattle.dcc_prog.specs.declared.instr.Alu.{Alu}
 use Rattle.dcc_prog.specs.declared.instr.Operand.{Operand}
 use Rattle.dcc_prog.specs.declared.instr.Operand.TheVariants.{Word, Byte, Seg, Mem, Const}
-use Rattle.dcc_num.specs.declared.Reg.TheVariants.{Ax, Cx, Dx, Bx, Sp, Bp, Si, Di}
+use Rattle.dcc_num.specs.declared.Width.{Width}
+use Rattle.dcc_prog.specs.declared.instr.Ea.{Ea}
+use Rattle.dcc_prog.specs.Frame.{memory_of, memory_of_two}
+use Rattle.dcc_prog.specs.FrameForm.{is_by_bp}
+use Rattle.dcc_stack.specs.Slots.{is_memory}
+use Rattle.dcc_coupled.proofs.TabledOperands.{source-of}
 use Rattle.dcc_prog.specs.Trail.{op_successors, instr_successors, next_of, known_ah, targets_of}
 use Rattle.dcc_prog.specs.Wanted.{is_in_memory}
 use Rattle.dcc_ir.specs.declared.syntax.Loc.{Loc}
 use Rattle.dcc_ir.proofs.LocationLaws.{Contains-here}
-use Rattle.dcc_ops.specs.Registers.{is_register, is_source, register_place}
 use Rattle.dcc_coupled.specs.Operands.{operand_place}
-use Rattle.dcc_lift.proofs.ListTests.{and_left, and_right}
+use Rattle.dcc_lift.proofs.ListTests.{and_left, and_right, or_here, or_there}
 use Rattle.dcc_demand.specs.Procedures.{Procedures}
 use Rattle.dcc_asks.specs.Places.{Place}
 use Rattle.dcc_sums.specs.Points.{Position}
 use Rattle.dcc_refined.proofs.EdgeLaws.{next_is}
-use Rattle.dcc_agree.proofs.OperandLaws.{IsOperandAt, source_at}
+use Rattle.dcc_agree.proofs.NodeOperands.{have_places, operand_there}
 use Rattle.dcc_agree.proofs.AluLaws.{alu_agrees}
 use Rattle.dcc_ir.specs.Tree.{Program}
 use Rattle.dcc_coupled.specs.Procedures.{Procedure, pushed_of}
@@ -34,7 +38,7 @@ use Rattle.dcc_refined.specs.LiftedRefinement.{lifted_refinement}
 use Rattle.dcc_refined.proofs.LinkLaws.{Standing}
 use Rattle.dcc_refined.proofs.RefinedLaws as refined
 use Rattle.dcc_agree.specs.Agreement.{ending}
-use Rattle.dcc_agree.specs.Laws.{is_table_told, is_shown, AgreesWithItsStatements, ShownInstructionsAgree}
+use Rattle.dcc_agree.specs.Laws.{is_named, is_table_told, is_shown, AgreesWithItsStatements, ShownInstructionsAgree}
 use Rattle.dcc_agree.proofs.ClosedLaws.{closed_agrees}
 use Rattle.dcc_agree.proofs.TableLaws.{closed_op}
 use Rattle.dcc_agree.proofs.SettingLaws as setting
@@ -49,33 +53,31 @@ moves_nothing op e = refl
 
 -- Operands.
 
-source_place : (p : Procedure) (height : ℕ) (a : Operand) → is_source a ≡ true → operand_place p height a ≡ register_place a
-source_place p height (Word Ax) t = refl
-source_place p height (Word Cx) t = refl
-source_place p height (Word Dx) t = refl
-source_place p height (Word Bx) t = refl
-source_place p height (Word Si) t = refl
-source_place p height (Word Di) t = refl
-source_place p height (Word Sp) t = absurd (true≢false (sym t))
-source_place p height (Word Bp) t = absurd (true≢false (sym t))
-source_place p height (Byte r h) t = refl
-source_place p height (Const v n) t = refl
-source_place p height (Seg n) t = absurd (true≢false (sym t))
-source_place p height (Mem v ea) t = absurd (true≢false (sym t))
+same_memory : (a : Operand) → is_in_memory a ≡ is_memory a
+same_memory (Word r) = refl
+same_memory (Byte r h) = refl
+same_memory (Seg n) = refl
+same_memory (Mem v ea) = refl
+same_memory (Const v n) = refl
 
-register_source : (a : Operand) → is_register a ≡ true → is_source a ≡ true
-register_source (Word r) t = t
-register_source (Byte r h) t = t
-register_source (Const v n) t = refl
-register_source (Seg n) t = t
-register_source (Mem v ea) t = t
+-- of two operands, of which one at most lies in memory, each names that of the operation
+pub first_named : (a b : Operand) (v : Width) (ea : Ea) → memory_of a ≡ Some (v, ea) → memory_of_two a b ≡ Some (v, ea)
+first_named (Mem u e) b v ea t = t
+first_named (Word r) b v ea t = absurd (cc t)
+first_named (Byte r h) b v ea t = absurd (cc t)
+first_named (Seg n) b v ea t = absurd (cc t)
+first_named (Const u n) b v ea t = absurd (cc t)
 
-register_apart : (a : Operand) → is_register a ≡ true → is_in_memory a ≡ false
-register_apart (Word r) t = refl
-register_apart (Byte r h) t = refl
-register_apart (Const v n) t = refl
-register_apart (Seg n) t = refl
-register_apart (Mem v ea) t = absurd (true≢false (sym t))
+pub second_named : (a b : Operand) → (is_memory a && is_memory b) ≡ false → (v : Width) (ea : Ea) → memory_of b ≡ Some (v, ea) → memory_of_two a b ≡ Some (v, ea)
+second_named (Mem u e) (Mem v f) one w ea t = absurd (true≢false one)
+second_named (Mem u e) (Word r) one v ea t = absurd (cc t)
+second_named (Mem u e) (Byte r h) one v ea t = absurd (cc t)
+second_named (Mem u e) (Seg n) one v ea t = absurd (cc t)
+second_named (Mem u e) (Const w n) one v ea t = absurd (cc t)
+second_named (Word r) b one v ea t = t
+second_named (Byte r h) b one v ea t = t
+second_named (Seg n) b one v ea t = t
+second_named (Const u n) b one v ea t = t
 
 -- the instruction with that operation in the place of its own
 abbrev with_op : Node → Op → Node
@@ -128,18 +130,16 @@ module _ (image : Image) (program : Analysed) (p : Program) (is : IsTranslated i
             (sym (ap (λ g. g.next at) (refined.coarse_is image program p is entry x) ∙ next_is body x.are_heights.nodes at ∙ ap successors_in found ∙ succ)) (Contains-here next []),
       )
 
-  source_there : (a : Operand) → is_source a ≡ true → IsOperandAt found_procedure body (coarse.procedure entry).is_exposed a (operand_place scene.procedure height a)
-  source_there a t =
-      subst (λ Q. IsOperandAt found_procedure body (coarse.procedure entry).is_exposed a Q) (sym (source_place scene.procedure height a t))
-      (source_at found_procedure body (coarse.procedure entry).is_exposed a t)
-
-  alu_there : (node : Node) (operation : Alu) (a b : Operand) → StandsHere (with_op node (AluOp operation a b)) → (is_register a && is_source b) ≡ true → Shown (with_op node (AluOp operation a b))
+  alu_there : (node : Node) (operation : Alu) (a b : Operand) → StandsHere (with_op node (AluOp operation a b)) → (is_named a && is_named b) ≡ true → Shown (with_op node (AluOp operation a b))
   alu_there node operation a b found t =
-      let register = and_left (is_register a) (is_source b) t in
+      let here = with_op node (AluOp operation a b) in
+      let have = have_places image program p is entry x at here found in
       alu_agrees coarse fine (lifted_refinement program) entry at (pushed_of scene.procedure) found_procedure (bodies_of program) body node height operation a b
-      (setting.value_operation image program p is entry x at (with_op node (AluOp operation a b)) height found high refl)
-      (operand_place scene.procedure height a) (operand_place scene.procedure height b) (source_there a (register_source a register)) (source_there b (and_right (is_register a) (is_source b) t))
-      (ap (λ c. c && is_in_memory b) (register_apart a register)) (next_there (with_op node (AluOp operation a b)) found (λ next ah targets. refl))
+      (setting.value_operation image program p is entry x at here height found high refl)
+      (operand_place scene.procedure height a) (operand_place scene.procedure height b)
+      (operand_there image program p is entry x at here found height a (first_named a b) (λ u. or_here (is_by_bp a) (is_by_bp b) u) (and_left (is_named a) (is_named b) t) (source-of a have.target))
+      (operand_there image program p is entry x at here found height b (second_named a b have.one) (λ u. or_there (is_by_bp a) (is_by_bp b) u) (and_right (is_named a) (is_named b) t) have.source)
+      (ap (λ c. c && is_in_memory b) (same_memory a) ∙ ap (λ c. is_memory a && c) (same_memory b) ∙ have.one) (next_there here found (λ next ah targets. refl))
 
   by_operation : (op : Op) (node : Node) → StandsHere (with_op node op) → is_shown op ≡ true → Shown (with_op node op)
   by_operation (AluOp operation a b) node found t = alu_there node operation a b found t

@@ -13,6 +13,7 @@ mod AluLaws
 mod AddressLaws
 mod FrameLaws
 mod AccessLaws
+mod NodeOperands
 mod TableLaws
 mod SettingLaws
 mod EnoughLaws

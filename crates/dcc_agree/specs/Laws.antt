@@ -4,10 +4,12 @@ use Rattle.dcc_prog.specs.declared.image.Image.{Image}
 use Rattle.dcc_prog.specs.declared.frame.Program.{Program as Analysed}
 use Rattle.dcc_prog.specs.declared.procedure.Node.{Node}
 use Rattle.dcc_prog.specs.declared.instr.Plain.TheVariants.{Xlat}
+use Rattle.dcc_prog.specs.declared.instr.Operand.{Operand}
+use Rattle.dcc_prog.specs.declared.instr.Operand.TheVariants.{Byte, Seg}
 use Rattle.dcc_prog.specs.declared.instr.Op.{Op}
 use Rattle.dcc_prog.specs.declared.instr.Op.TheVariants.{Alu, Enter, Leave, Plain, Jump, Branch, Loop, LoopE, LoopNe, Jcxz, Ret}
+use Rattle.dcc_prog.specs.Trail.{is_general}
 use Rattle.dcc_ir.specs.Tree.{Program}
-use Rattle.dcc_ops.specs.Registers.{is_register, is_source}
 use Rattle.dcc_coupled.specs.Procedures.{pushed_of}
 use Rattle.dcc_coupled.specs.Statements.{node_stmts}
 use Rattle.dcc_lift.specs.Blocks.{node_in, Scene, nodes_in, height_in}
@@ -31,9 +33,15 @@ is_table_told (Jcxz target) = true
 is_table_told (Ret count) = true
 is_table_told op = false
 
+-- it is no segment register, and no half of SP or BP
+abbrev pub is_named : Operand → Bool
+is_named (Byte r half) = is_general r
+is_named (Seg number) = false
+is_named operand = true
+
 -- of these it is shown
 abbrev pub is_shown : Op → Bool
-is_shown (Alu operation a b) = is_register a && is_source b
+is_shown (Alu operation a b) = is_named a && is_named b
 is_shown op = is_table_told op
 
 module _ (image : Image) (program : Analysed) (p : Program) where
