@@ -1,5 +1,5 @@
 -- Where the memory operands of a procedure's instructions stand.
-use Rattle.std.proofs.Common.{◌≡◌, ℕ, ℤ, zero, suc, ◌+◌, Bool, true, false, not, ◌&&◌, ◌||◌, if◌then◌else◌, ◌⊎◌, inl, inr, List, [], ◌∷◌, ◌++◌, filter, Option, Some, None, All, refl, sym, ap, ◌∙◌, subst, true≢false, arith}
+use Rattle.std.proofs.Common.{◌≡◌, ℕ, ℤ, ◌+◌, Bool, true, false, not, ◌&&◌, ◌||◌, if◌then◌else◌, inl, inr, List, [], ◌∷◌, filter, Option, Some, refl, sym, ap, ◌∙◌, subst, true≢false, arith}
 use Rattle.std.specs.Prelude.{pos, ◌+ℤ◌, ◌≤ℤ◌, ◌<◌}
 use Rattle.std.specs.List.{list_any}
 use Rattle.std.specs.Ordering.{int_eq}
@@ -9,7 +9,7 @@ use Rattle.std.proofs.lemmas.List.Folds.{list_any-append}
 use Rattle.dcc_num.specs.declared.Width.{Width}
 use Rattle.dcc_num.specs.declared.Width.TheVariants.{Byte as byte_width, Word as word_width}
 use Rattle.dcc_num.specs.declared.Half.TheVariants.{Low, High}
-use Rattle.dcc_num.specs.declared.Reg.TheVariants.{Sp, Bp}
+use Rattle.dcc_num.specs.declared.Reg.TheVariants.{Sp}
 use Rattle.dcc_prog.specs.declared.image.Image.{Image}
 use Rattle.dcc_prog.specs.declared.procedure.Layout.{Layout}
 use Rattle.dcc_prog.specs.declared.procedure.Node.{Node}
@@ -19,7 +19,7 @@ use Rattle.dcc_prog.specs.declared.frame.Program.{Program as Analysed}
 use Rattle.dcc_prog.specs.declared.instr.Alu.TheVariants.{Add, Sub}
 use Rattle.dcc_prog.specs.declared.instr.Unary.TheVariants.{Inc, Dec}
 use Rattle.dcc_prog.specs.declared.instr.Ea.{Ea}
-use Rattle.dcc_prog.specs.declared.instr.Operand.TheVariants.{Word, Mem, Const}
+use Rattle.dcc_prog.specs.declared.instr.Operand.TheVariants.{Word, Const}
 use Rattle.dcc_prog.specs.declared.instr.Op.{Op}
 use Rattle.dcc_prog.specs.declared.instr.Op.TheVariants.{Alu as AluOp, Unary as UnaryOp}
 use Rattle.dcc_prog.specs.Construct.{foreign, is_system}
@@ -34,16 +34,16 @@ use Rattle.dcc_stack.specs.Slots.{is_within, exposes_of, is_placed as is_placed_
 use Rattle.dcc_stack.proofs.SlotPlaces.{any-tells, any-told, within-tells, placed-told, exposed-slot-told}
 use Rattle.dcc_ir.specs.declared.syntax.Loc.{Loc}
 use Rattle.dcc_ir.specs.declared.syntax.Loc.TheVariants.{Cell}
-use Rattle.dcc_ir.specs.Tree.{Program, Address}
+use Rattle.dcc_ir.specs.Tree.{Program}
 use Rattle.dcc_ir.proofs.PathLaws.{decided}
-use Rattle.dcc_ops.specs.Place.{Place as InnerPlace, byte, word, memory}
+use Rattle.dcc_ops.specs.Place.{Place as InnerPlace, byte}
 use Rattle.dcc_lift.specs.Blocks.{node_in}
 use Rattle.dcc_lift.specs.Translated.{IsTranslated, setting}
 use Rattle.dcc_lift.proofs.Lifting.{lifting}
-use Rattle.dcc_lift.proofs.ListTests.{and_left, and_right, and_both, and_false, or_here, or_there, or_cases}
+use Rattle.dcc_lift.proofs.ListTests.{and_left, and_both, and_false, or_here, or_there, or_cases}
 use Rattle.dcc_coupled.specs.Coupled.{Setting, half_in}
 use Rattle.dcc_coupled.specs.Places.{IsFramePlace, in_half, in_cell, in_memory}
-use Rattle.dcc_coupled.specs.Procedures.{Procedure, procedure_at, frame_place, cells_of, accessed_cells, is_accessed, distance_of}
+use Rattle.dcc_coupled.specs.Procedures.{Procedure, procedure_at, frame_place, cells_of, is_accessed}
 use Rattle.dcc_coupled.specs.FoundPlaces.{IsFoundAt}
 use Rattle.dcc_coupled.specs.Nodes.{procedures_in}
 use Rattle.dcc_asks.specs.Bodies.{Body}
@@ -177,11 +177,11 @@ module _ (image : Image) (program : Analysed) (p : Program) (is : IsTranslated i
     form = elim (decided (is_frame_form image layout x.proc.entry at node.instr.op)) [
       | inl t ↦ t
       | inr n ↦ absurd (is.of_file.is_program.procs.no_construct OUTSIDE at (record {
-          entry = x.proc.entry;
-          is_entry = x.reached;
-          node = node_found.node;
-          stands = foreign (record { op = node.instr.op; stands = (node.instr, node_found.instr, refl); foreign = or_there (is_system node.instr.op) (not (is_frame_form image layout x.proc.entry at node.instr.op)) (ap not n) });
-        }))
+        entry = x.proc.entry;
+        is_entry = x.reached;
+        node = node_found.node;
+        stands = foreign (record { op = node.instr.op; stands = (node.instr, node_found.instr, refl); foreign = or_there (is_system node.instr.op) (not (is_frame_form image layout x.proc.entry at node.instr.op)) (ap not n) });
+      }))
     ]
 
     pub framed_there : is_framed image layout x.proc.entry ≡ true

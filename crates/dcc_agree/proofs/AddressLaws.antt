@@ -1,6 +1,6 @@
 -- Operands in memory at an address that is computed: what of them is read.
-use Rattle.std.proofs.Common.{◌≡◌, ℕ, ℤ, Bool, true, false, not, ◌&&◌, ◌||◌, ◌==◌, if◌then◌else◌, ◌⊎◌, inl, inr, List, [], ◌∷◌, ◌++◌, Option, Some, None, refl, sym, ap, ◌∙◌, subst, true≢false}
-use Rattle.std.specs.Prelude.{Contains, option_map, pos, ◌+ℤ◌}
+use Rattle.std.proofs.Common.{◌≡◌, ℕ, ℤ, Bool, true, false, ◌&&◌, ◌||◌, ◌==◌, if◌then◌else◌, ◌⊎◌, inl, inr, List, [], ◌∷◌, ◌++◌, Option, Some, None, refl, sym, ap, ◌∙◌, subst, true≢false}
+use Rattle.std.specs.Prelude.{option_map, pos, ◌+ℤ◌}
 use Rattle.std.specs.List.{list_any, list_all}
 use Rattle.std.proofs.lemmas.List.{append-nil}
 use Rattle.std.proofs.lemmas.Grind.{flat_map-append}
@@ -19,7 +19,6 @@ use Rattle.dcc_prog.specs.Writes.{is_same_register}
 use Rattle.dcc_prog.specs.Wanted.{Location, half_of, flag_of, is_half, is_half_of_some, is_in_address, is_read}
 use Rattle.dcc_ir.specs.declared.syntax.Loc.{Loc}
 use Rattle.dcc_ir.specs.declared.syntax.Loc.TheVariants.{Half}
-use Rattle.dcc_ir.specs.declared.syntax.BinOp.{BinOp}
 use Rattle.dcc_ir.specs.declared.syntax.BinOp.TheVariants.{Add}
 use Rattle.dcc_ir.specs.Tree.{Expr, Const, Binary, Address}
 use Rattle.dcc_ir.specs.Use.{parts_of, got_by, reads_of}
@@ -35,7 +34,6 @@ use Rattle.dcc_asks.specs.Bodies.{Body}
 use Rattle.dcc_asks.specs.Places.{Place, held, in_frame, passes, is_at, is_placed, is_place, frame_spot, for_bytes, in_memory, spots_of_memory}
 use Rattle.dcc_asks.proofs.LeftLaws.{not-bp}
 use Rattle.dcc_refined.specs.LiftedRefinement.{IsSame}
-use Rattle.dcc_refined.proofs.SameLaws.{SameCases, same_cases}
 use Rattle.dcc_agree.proofs.ShownLaws.{Shows, shows_none, shows_both, shows_alike}
 use Rattle.dcc_agree.proofs.StageLaws.{is_kept_place}
 use Rattle.dcc_agree.proofs.FormLaws.{all_append}

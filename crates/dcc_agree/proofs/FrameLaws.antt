@@ -1,5 +1,5 @@
 -- Operands in the frame: bytes of a cell, or memory that may be read anywhere.
-use Rattle.std.proofs.Common.{◌≡◌, ℕ, ℤ, Bool, true, false, not, ◌&&◌, ◌||◌, if◌then◌else◌, ◌⊎◌, inl, inr, List, [], ◌∷◌, ◌++◌, Option, Some, None, refl, sym, ap, ◌∙◌, subst, true≢false}
+use Rattle.std.proofs.Common.{◌≡◌, ℕ, ℤ, Bool, true, false, not, ◌&&◌, ◌||◌, if◌then◌else◌, ◌⊎◌, inl, inr, List, [], ◌∷◌, Option, Some, None, refl, sym, ap, ◌∙◌, subst, true≢false}
 use Rattle.std.specs.Prelude.{Contains, pos, ◌+ℤ◌, is_none}
 use Rattle.std.specs.List.{list_any, list_all}
 use Rattle.std.specs.Ordering.{int_eq}
@@ -18,8 +18,7 @@ use Rattle.dcc_prog.specs.Trail.{is_general}
 use Rattle.dcc_prog.specs.Wanted.{Location, half_of, flag_of, is_half_of_some, is_read}
 use Rattle.dcc_stack.specs.Slots.{is_placed as is_placed_byte}
 use Rattle.dcc_ir.specs.declared.syntax.Loc.{Loc}
-use Rattle.dcc_ir.specs.declared.syntax.Loc.TheVariants.{Half, Flag, Cell, Temp}
-use Rattle.dcc_ir.specs.Location.{same_location}
+use Rattle.dcc_ir.specs.declared.syntax.Loc.TheVariants.{Cell}
 use Rattle.dcc_ir.specs.Tree.{Address}
 use Rattle.dcc_ir.specs.Live.{is_among}
 use Rattle.dcc_ir.proofs.LocationLaws.{Contains-here, Contains-later, Contains-none, Contains-cases, among_contains, contains_among}
@@ -28,7 +27,7 @@ use Rattle.dcc_ops.specs.Place.{Place as InnerPlace, byte, word, memory}
 use Rattle.dcc_lift.proofs.ListTests.{and_left, and_right, and_both, and_false, or_here, or_there, or_cases, or_none, same_test}
 use Rattle.dcc_coupled.specs.Procedures.{Procedure, frame_place, cell_place, cells_of, distance_of}
 use Rattle.dcc_asks.specs.Bodies.{Body}
-use Rattle.dcc_asks.specs.Places.{Place, Spot, placed, in_memory, held, in_frame, passes, is_at, is_placed, is_place, is_in_cell, is_exposed_place, frame_spot, for_bytes, spots_of_memory}
+use Rattle.dcc_asks.specs.Places.{Place, placed, in_memory, held, in_frame, passes, is_at, is_placed, is_place, is_in_cell, is_exposed_place, frame_spot, for_bytes, spots_of_memory}
 use Rattle.dcc_refined.specs.LiftedRefinement.{inner_of, IsSame}
 use Rattle.dcc_refined.proofs.SameLaws.{SameCases, same_cases, exposed_unkept}
 use Rattle.dcc_agree.proofs.IdleLaws.{same_once}
@@ -323,10 +322,13 @@ module _ (o : Option Procedure) (q : Procedure) (found : o ≡ Some q) (heights 
         kept = refl;
         stores = stores_open;
         unstored = λ e. absurd (true≢false e);
-        stored = λ e. (refl, elim (stored_by w) [
-          | inl none ↦ inl none
-          | inr some ↦ inr (some.0, some.1, exposed_open some.0 some.1)
-        ]);
+        stored = λ e. (
+          refl,
+          elim (stored_by w) [
+            | inl none ↦ inl none
+            | inr some ↦ inr (some.0, some.1, exposed_open some.0 some.1)
+          ],
+        );
         reached = λ j t. inl (exposed_open j t);
       }
 

@@ -1,12 +1,14 @@
 -- Instructions that do what their statements do together.
-use Rattle.std.proofs.Common.{◌≡◌, ℕ, ℤ, true, false, ◌&&◌, ◌||◌, List, [], ◌∷◌, Option, Some, refl, sym, ap, ◌∙◌, subst, true≢false}
+use Rattle.std.proofs.Common.{◌≡◌, ℕ, ℤ, true, false, ◌&&◌, List, [], ◌∷◌, Option, Some, refl, sym, ap, ◌∙◌, subst, true≢false}
 use Rattle.std.specs.Prelude.{Contains}
 use Rattle.dcc_prog.specs.declared.image.Image.{Image}
 use Rattle.dcc_prog.specs.declared.frame.Program.{Program as Analysed}
 use Rattle.dcc_prog.specs.declared.procedure.Node.{Node}
 use Rattle.dcc_prog.specs.declared.instr.Op.{Op}
-use Rattle.dcc_prog.specs.declared.instr.Op.TheVariants.{Alu as AluOp, Mov, Xchg, Push, Pop, Call}
+use Rattle.dcc_prog.specs.declared.instr.Op.TheVariants.{Alu as AluOp, Unary as UnaryOp, Mov, Xchg, Push, Pop, Call}
 use Rattle.dcc_prog.specs.declared.instr.Alu.{Alu}
+use Rattle.dcc_prog.specs.declared.instr.Unary.{Unary}
+use Rattle.dcc_prog.specs.declared.instr.Unary.TheVariants.{Inc, Dec, Neg}
 use Rattle.dcc_prog.specs.declared.instr.Operand.{Operand}
 use Rattle.dcc_prog.specs.declared.instr.Operand.TheVariants.{Word, Byte, Seg, Mem, Const}
 use Rattle.dcc_num.specs.declared.Width.{Width}
@@ -27,6 +29,9 @@ use Rattle.dcc_sums.specs.Points.{Position}
 use Rattle.dcc_refined.proofs.EdgeLaws.{next_is}
 use Rattle.dcc_agree.proofs.NodeOperands.{have_places, operand_there}
 use Rattle.dcc_agree.proofs.AluLaws.{alu_agrees}
+use Rattle.dcc_agree.proofs.OperandLaws.{IsOperandAt}
+use Rattle.dcc_agree.proofs.OperationLaws.{IsValueOperation}
+use Rattle.dcc_agree.proofs.UnaryLaws.{inc_agrees, dec_agrees, neg_agrees}
 use Rattle.dcc_ir.specs.Tree.{Program}
 use Rattle.dcc_coupled.specs.Procedures.{Procedure, pushed_of}
 use Rattle.dcc_coupled.specs.Statements.{node_stmts}
@@ -141,8 +146,32 @@ module _ (image : Image) (program : Analysed) (p : Program) (is : IsTranslated i
       (operand_there image program p is entry x at here found height b (second_named a b have.one) (λ u. or_there (is_by_bp a) (is_by_bp b) u) (and_right (is_named a) (is_named b) t) have.source)
       (ap (λ c. c && is_in_memory b) (same_memory a) ∙ ap (λ c. is_memory a && c) (same_memory b) ∙ have.one) (next_there here found (λ next ah targets. refl))
 
+  -- an operation on one operand has it at its place
+  one_there : (node : Node) (operation : Unary) (a : Operand) → StandsHere (with_op node (UnaryOp operation a)) → is_named a ≡ true
+      → IsOperandAt found_procedure body (coarse.procedure entry).is_exposed a (operand_place scene.procedure height a)
+  one_there node operation a found t =
+      let here = with_op node (UnaryOp operation a) in
+      operand_there image program p is entry x at here found height a (λ v ea e. e) (λ u. u) t (source-of a (have_places image program p is entry x at here found))
+
+  value_there : (node : Node) (operation : Unary) (a : Operand) → StandsHere (with_op node (UnaryOp operation a))
+      → IsValueOperation coarse fine (lifted_refinement program) entry at found_procedure (bodies_of program) body (record { node = with_op node (UnaryOp operation a); height = height })
+  value_there node operation a found = setting.value_operation image program p is entry x at (with_op node (UnaryOp operation a)) height found high refl
+
+  unary_there : (node : Node) (operation : Unary) (a : Operand) → StandsHere (with_op node (UnaryOp operation a)) → is_shown (UnaryOp operation a) ≡ true → Shown (with_op node (UnaryOp operation a))
+  unary_there node Inc a found t =
+      inc_agrees coarse fine (lifted_refinement program) entry at (pushed_of scene.procedure) found_procedure (bodies_of program) body node height a (operand_place scene.procedure height a)
+      (one_there node Inc a found t) (next_there (with_op node (UnaryOp Inc a)) found (λ next ah targets. refl)) (value_there node Inc a found)
+  unary_there node Dec a found t =
+      dec_agrees coarse fine (lifted_refinement program) entry at (pushed_of scene.procedure) found_procedure (bodies_of program) body node height a (operand_place scene.procedure height a)
+      (one_there node Dec a found t) (next_there (with_op node (UnaryOp Dec a)) found (λ next ah targets. refl)) (value_there node Dec a found)
+  unary_there node Neg a found t =
+      neg_agrees coarse fine (lifted_refinement program) entry at (pushed_of scene.procedure) found_procedure (bodies_of program) body node height a (operand_place scene.procedure height a)
+      (one_there node Neg a found t) (next_there (with_op node (UnaryOp Neg a)) found (λ next ah targets. refl)) (value_there node Neg a found)
+  unary_there node operation a found t = absurd (true≢false (sym t))
+
   by_operation : (op : Op) (node : Node) → StandsHere (with_op node op) → is_shown op ≡ true → Shown (with_op node op)
   by_operation (AluOp operation a b) node found t = alu_there node operation a b found t
+  by_operation (UnaryOp operation a) node found t = unary_there node operation a found t
   by_operation op node found t = told_agrees (with_op node op) found t
 
 pub shown-instructions_agree : ShownInstructionsAgree

@@ -14,6 +14,7 @@ mod AddressLaws
 mod FrameLaws
 mod AccessLaws
 mod NodeOperands
+mod UnaryLaws
 mod TableLaws
 mod SettingLaws
 mod EnoughLaws

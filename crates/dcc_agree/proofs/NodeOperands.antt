@@ -1,5 +1,5 @@
 -- The operands of an instruction of a procedure that is found stand at their places.
-use Rattle.std.proofs.Common.{◌≡◌, ℕ, ℤ, Bool, true, false, not, ◌&&◌, ◌||◌, if◌then◌else◌, List, [], ◌∷◌, Option, Some, None, refl, sym, ap, ◌∙◌, subst, true≢false}
+use Rattle.std.proofs.Common.{◌≡◌, ℕ, ℤ, Bool, true, false, ◌&&◌, if◌then◌else◌, [], Option, Some, refl, sym, ap, ◌∙◌, true≢false}
 use Rattle.std.specs.Prelude.{drop, is_none}
 use Rattle.dcc_num.specs.declared.Width.{Width}
 use Rattle.dcc_num.specs.declared.Reg.{Reg}
@@ -17,26 +17,25 @@ use Rattle.dcc_prog.specs.Frame.{memory_of, memory_operand, offset_in_frame}
 use Rattle.dcc_prog.specs.FrameForm.{is_by_bp, uses_bp_address}
 use Rattle.dcc_prog.specs.Trail.{is_general, code_within}
 use Rattle.dcc_prog.specs.Writes.{is_same_register}
-use Rattle.dcc_prog.specs.Wanted.{Location, half_of, flag_of}
+use Rattle.dcc_prog.specs.Wanted.{half_of, flag_of}
 use Rattle.dcc_ir.specs.declared.syntax.Loc.{Loc}
 use Rattle.dcc_ir.specs.Tree.{Program}
-use Rattle.dcc_ops.specs.Place.{Place as InnerPlace, constant, memory, computed}
+use Rattle.dcc_ops.specs.Place.{Place as InnerPlace, memory, computed}
 use Rattle.dcc_ops.specs.Computed.{computed_expr}
-use Rattle.dcc_ops.specs.Registers.{register_place}
 use Rattle.dcc_lift.specs.Blocks.{node_in}
 use Rattle.dcc_lift.specs.Translated.{IsTranslated}
 use Rattle.dcc_lift.proofs.CodeBounds.{bytes-dropped, code-bytes, loaded-bytes}
 use Rattle.dcc_lift.proofs.FoundSound.{node-user}
-use Rattle.dcc_lift.proofs.ListTests.{and_left, and_right, or_here, or_none}
+use Rattle.dcc_lift.proofs.ListTests.{and_left, or_here, or_none}
 use Rattle.dcc_coupled.specs.Procedures.{Procedure, procedure_at, frame_place}
 use Rattle.dcc_coupled.specs.Nodes.{procedures_in}
 use Rattle.dcc_coupled.specs.Operands.{address_of, stack_pointer, frame_pointer, operand_place}
 use Rattle.dcc_coupled.proofs.TabledOperands.{IsSource, HavePlaces, instruction-placed}
 use Rattle.dcc_demand.specs.Procedures.{Procedures}
-use Rattle.dcc_asks.specs.Bodies.{Body, bodies_of}
+use Rattle.dcc_asks.specs.Bodies.{Body}
 use Rattle.dcc_asks.specs.Places.{Place, held, in_frame, passes, is_exposed_place}
 use Rattle.dcc_asks.proofs.LeftLaws.{not-sp, not-bp}
-use Rattle.dcc_refined.specs.LiftedRefinement.{inner_of, IsSame}
+use Rattle.dcc_refined.specs.LiftedRefinement.{IsSame}
 use Rattle.dcc_refined.specs.Laws.{machine}
 use Rattle.dcc_refined.proofs.SameLaws.{SameCases, same_cases, one_place}
 use Rattle.dcc_refined.proofs.RefinedLaws as refined

@@ -74,6 +74,17 @@ shows_so P ls to from x = record {
   comes = λ l c. let found = x.comes l c in (found.0, to found.0 l found.1, found.2);
 }
 
+-- what is kept is no temporary
+pub all_lasting : (ls : List Loc) → list_all is_kept_place ls ≡ true → list_all is_lasting ls ≡ true
+all_lasting [] t = refl
+all_lasting (l ∷ ls) t = and_both (is_lasting l) (list_all is_lasting ls) (lasting l (and_left (is_kept_place l) (list_all is_kept_place ls) t)) (all_lasting ls (and_right (is_kept_place l) (list_all is_kept_place ls) t))
+  where
+    lasting : (l : Loc) → is_kept_place l ≡ true → is_lasting l ≡ true
+    lasting (Half q h) t = refl
+    lasting (Cell n h) t = refl
+    lasting (Flag g) t = refl
+    lasting (Temp n) t = absurd (true≢false (sym t))
+
 module _ (coarse : Procedures ℕ Place ℤ) (fine : Procedures Position Loc Loc) (r : Refinement ℕ Place ℤ Position Loc Loc) (entry at pushed : ℕ)
     (o : Option Procedure) (bodies : List Body) (body : Body) (point : Point) (v : IsValueOperation coarse fine r entry at o bodies body point)
     (w : Width) (a : Operand) (P F G : InnerPlace) (first_reads second_reads : Place → Bool) (working : List Stmt) (stored : Bool) (result_inputs : List Input) (flag_inputs : FlagName → List Input) where
@@ -114,16 +125,6 @@ module _ (coarse : Procedures ℕ Place ℤ) (fine : Procedures Position Loc Loc
     pub next : (b : ℕ) × Contains ((coarse.procedure entry).next at) b
 
   module _ (f : IsStoring) where
-    lasting_all : (ls : List Loc) → list_all is_kept_place ls ≡ true → list_all is_lasting ls ≡ true
-    lasting_all [] t = refl
-    lasting_all (l ∷ ls) t = and_both (is_lasting l) (list_all is_lasting ls) (lasting l (and_left (is_kept_place l) (list_all is_kept_place ls) t)) (lasting_all ls (and_right (is_kept_place l) (list_all is_kept_place ls) t))
-      where
-        lasting : (l : Loc) → is_kept_place l ≡ true → is_lasting l ≡ true
-        lasting (Half q h) t = refl
-        lasting (Cell n h) t = refl
-        lasting (Flag g) t = refl
-        lasting (Temp n) t = absurd (true≢false (sym t))
-
     -- What is written and made.
 
     -- a flag is no half
@@ -245,7 +246,7 @@ module _ (coarse : Procedures ℕ Place ℤ) (fine : Procedures Position Loc Loc
     storing_agrees = form_agrees coarse fine r entry at pushed o bodies body point v w P F G first_reads second_reads working stored result_inputs flag_inputs (record {
       work = f.work;
       kept = f.operand.kept;
-      second_kept = lasting_all (reads_at G) f.second_kept;
+      second_kept = all_lasting (reads_at G) f.second_kept;
       firsts = shows_so (Reads first_reads) (reads_at F) v.as_same v.same f.firsts;
       seconds = shows_so (Reads second_reads) (reads_at G) v.as_same v.same f.seconds;
       writes_place = writes_place;

@@ -3,11 +3,12 @@ use Rattle.std.specs.Prelude.{◌≡◌, ℕ, Bool, true, false, ◌&&◌, Some}
 use Rattle.dcc_prog.specs.declared.image.Image.{Image}
 use Rattle.dcc_prog.specs.declared.frame.Program.{Program as Analysed}
 use Rattle.dcc_prog.specs.declared.procedure.Node.{Node}
+use Rattle.dcc_prog.specs.declared.instr.Unary.TheVariants.{Inc, Dec, Neg}
 use Rattle.dcc_prog.specs.declared.instr.Plain.TheVariants.{Xlat}
 use Rattle.dcc_prog.specs.declared.instr.Operand.{Operand}
 use Rattle.dcc_prog.specs.declared.instr.Operand.TheVariants.{Byte, Seg}
 use Rattle.dcc_prog.specs.declared.instr.Op.{Op}
-use Rattle.dcc_prog.specs.declared.instr.Op.TheVariants.{Alu, Enter, Leave, Plain, Jump, Branch, Loop, LoopE, LoopNe, Jcxz, Ret}
+use Rattle.dcc_prog.specs.declared.instr.Op.TheVariants.{Alu, Unary as UnaryOp, Enter, Leave, Plain, Jump, Branch, Loop, LoopE, LoopNe, Jcxz, Ret}
 use Rattle.dcc_prog.specs.Trail.{is_general}
 use Rattle.dcc_ir.specs.Tree.{Program}
 use Rattle.dcc_coupled.specs.Procedures.{pushed_of}
@@ -42,6 +43,9 @@ is_named operand = true
 -- of these it is shown
 abbrev pub is_shown : Op → Bool
 is_shown (Alu operation a b) = is_named a && is_named b
+is_shown (UnaryOp Inc a) = is_named a
+is_shown (UnaryOp Dec a) = is_named a
+is_shown (UnaryOp Neg a) = is_named a
 is_shown op = is_table_told op
 
 module _ (image : Image) (program : Analysed) (p : Program) where

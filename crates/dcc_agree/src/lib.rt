@@ -10,8 +10,8 @@ pub fn agreeing_instructions_are_enough()
     ensures { AgreeingInstructionsAreEnough }
 {}
 
-/// Instructions that are shown to do what their statements do together: those without operand, jumps, returns, and sums,
-/// differences, comparisons and logic of registers.
+/// Instructions that are shown to do what their statements do together (`is_shown`): those without operand, jumps,
+/// returns, sums, differences, comparisons, logic, and INC, DEC and NEG.
 pub fn shown_instructions_agree()
     ensures { ShownInstructionsAgree }
 {}
