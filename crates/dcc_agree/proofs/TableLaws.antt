@@ -1,12 +1,15 @@
 -- Operations whose halves and flags are told by the operation alone: jumps, returns, and what has no operand.
 use Rattle.std.proofs.Common.{◌≡◌, ℕ, true, if◌then◌else◌, List, [], Option, refl, sym, true≢false}
+use Rattle.dcc_num.specs.declared.Reg.{Reg}
+use Rattle.dcc_num.specs.declared.Reg.TheVariants.{Ax, Cx, Dx, Bx, Sp, Bp, Si, Di}
+use Rattle.dcc_prog.specs.Trail.{is_general}
 use Rattle.dcc_prog.specs.declared.cpu.Cpu.{Cpu}
 use Rattle.dcc_prog.specs.declared.instr.Cond.{Cond}
 use Rattle.dcc_prog.specs.declared.instr.Cond.TheVariants.{O, No, B, Ae, Z, Nz, Be, A, S, Ns, L, Ge, Le, G}
 use Rattle.dcc_prog.specs.declared.instr.Plain.{Plain}
 use Rattle.dcc_prog.specs.declared.instr.Plain.TheVariants.{Nop, Cbw, Cwd, Clc, Stc, Cmc, Cli, Sti, Cld, Xlat}
 use Rattle.dcc_prog.specs.declared.instr.Op.{Op}
-use Rattle.dcc_prog.specs.declared.instr.Op.TheVariants.{Enter, Leave, Plain as PlainOp, Jump, Branch, Loop, LoopE, LoopNe, Jcxz, Ret}
+use Rattle.dcc_prog.specs.declared.instr.Op.TheVariants.{Enter, Leave, Plain as PlainOp, Jump, Branch, Loop, LoopE, LoopNe, Jcxz, Table, Ret}
 use Rattle.dcc_coupled.specs.Procedures.{Procedure}
 use Rattle.dcc_coupled.specs.Statements.{moves_frame, working_stmts}
 use Rattle.dcc_ir.specs.Tree.{Stmt}
@@ -52,7 +55,17 @@ module _ (cpu : Cpu) (procedures : List Procedure) (procedure : Procedure) (heig
   closed_plain Cli e = record { told = refl; cells = λ n h. refl; unwritten = λ n h. refl; no_write = λ k. refl; no_use = λ k. refl; not_made = λ l k. refl }
   closed_plain Sti e = record { told = refl; cells = λ n h. refl; unwritten = λ n h. refl; no_write = λ k. refl; no_use = λ k. refl; not_made = λ l k. refl }
   closed_plain Cld e = record { told = refl; cells = λ n h. refl; unwritten = λ n h. refl; no_write = λ k. refl; no_use = λ k. refl; not_made = λ l k. refl }
-  closed_plain Xlat e = absurd (true≢false (sym e))
+  closed_plain Xlat e = record { told = refl; cells = λ n h. refl; unwritten = λ n h. refl; no_write = λ k. refl; no_use = λ k. refl; not_made = λ l k. refl }
+
+  closed_table : (r : Reg) (offset : ℕ) → is_general r ≡ true → Closed (Table r offset)
+  closed_table Ax offset e = record { told = refl; cells = λ n h. refl; unwritten = λ n h. refl; no_write = λ k. refl; no_use = λ k. refl; not_made = λ l k. refl }
+  closed_table Cx offset e = record { told = refl; cells = λ n h. refl; unwritten = λ n h. refl; no_write = λ k. refl; no_use = λ k. refl; not_made = λ l k. refl }
+  closed_table Dx offset e = record { told = refl; cells = λ n h. refl; unwritten = λ n h. refl; no_write = λ k. refl; no_use = λ k. refl; not_made = λ l k. refl }
+  closed_table Bx offset e = record { told = refl; cells = λ n h. refl; unwritten = λ n h. refl; no_write = λ k. refl; no_use = λ k. refl; not_made = λ l k. refl }
+  closed_table Si offset e = record { told = refl; cells = λ n h. refl; unwritten = λ n h. refl; no_write = λ k. refl; no_use = λ k. refl; not_made = λ l k. refl }
+  closed_table Di offset e = record { told = refl; cells = λ n h. refl; unwritten = λ n h. refl; no_write = λ k. refl; no_use = λ k. refl; not_made = λ l k. refl }
+  closed_table Sp offset e = absurd (true≢false (sym e))
+  closed_table Bp offset e = absurd (true≢false (sym e))
 
   pub closed_op : (op : Op) → is_table_told op ≡ true → Closed op
   closed_op (Jump target) e = record { told = refl; cells = λ n h. refl; unwritten = λ n h. refl; no_write = λ k. refl; no_use = λ k. refl; not_made = λ l k. refl }
@@ -65,4 +78,5 @@ module _ (cpu : Cpu) (procedures : List Procedure) (procedure : Procedure) (heig
   closed_op Leave e = record { told = refl; cells = λ n h. refl; unwritten = λ n h. refl; no_write = λ k. refl; no_use = λ k. refl; not_made = λ l k. refl }
   closed_op (Branch c target) e = closed_branch c target
   closed_op (PlainOp operation) e = closed_plain operation e
+  closed_op (Table r offset) e = closed_table r offset e
   closed_op op e = absurd (true≢false (sym e))

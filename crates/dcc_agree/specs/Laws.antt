@@ -4,11 +4,10 @@ use Rattle.dcc_prog.specs.declared.image.Image.{Image}
 use Rattle.dcc_prog.specs.declared.frame.Program.{Program as Analysed}
 use Rattle.dcc_prog.specs.declared.procedure.Node.{Node}
 use Rattle.dcc_prog.specs.declared.instr.Unary.TheVariants.{Inc, Dec, Neg}
-use Rattle.dcc_prog.specs.declared.instr.Plain.TheVariants.{Xlat}
 use Rattle.dcc_prog.specs.declared.instr.Operand.{Operand}
 use Rattle.dcc_prog.specs.declared.instr.Operand.TheVariants.{Byte, Seg}
 use Rattle.dcc_prog.specs.declared.instr.Op.{Op}
-use Rattle.dcc_prog.specs.declared.instr.Op.TheVariants.{Alu, Unary as UnaryOp, Enter, Leave, Plain, Jump, Branch, Loop, LoopE, LoopNe, Jcxz, Ret}
+use Rattle.dcc_prog.specs.declared.instr.Op.TheVariants.{Alu, Unary as UnaryOp, Enter, Leave, Plain, Jump, Branch, Loop, LoopE, LoopNe, Jcxz, Table, Ret}
 use Rattle.dcc_prog.specs.Trail.{is_general}
 use Rattle.dcc_ir.specs.Tree.{Program}
 use Rattle.dcc_coupled.specs.Procedures.{pushed_of}
@@ -21,7 +20,6 @@ use Rattle.dcc_agree.specs.Agreement.{ending, Agrees}
 
 -- what it makes and uses of halves and flags is told by the operation alone: it has no operand, jumps or returns
 abbrev pub is_table_told : Op → Bool
-is_table_told (Plain Xlat) = false
 is_table_told (Plain operation) = true
 is_table_told (Enter count) = true
 is_table_told Leave = true
@@ -31,6 +29,7 @@ is_table_told (Loop target) = true
 is_table_told (LoopE target) = true
 is_table_told (LoopNe target) = true
 is_table_told (Jcxz target) = true
+is_table_told (Table r offset) = is_general r
 is_table_told (Ret count) = true
 is_table_told op = false
 
