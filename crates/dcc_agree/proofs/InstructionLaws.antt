@@ -1,11 +1,11 @@
 -- Instructions that do what their statements do together.
-use Rattle.std.proofs.Common.{◌≡◌, ℕ, ℤ, true, false, ◌&&◌, List, [], ◌∷◌, Option, Some, refl, sym, ap, ◌∙◌, subst, true≢false}
+use Rattle.std.proofs.Common.{◌≡◌, ℕ, ℤ, true, false, ◌&&◌, inl, inr, List, [], ◌∷◌, Option, Some, None, refl, sym, ap, ◌∙◌, subst, true≢false}
 use Rattle.std.specs.Prelude.{Contains}
 use Rattle.dcc_prog.specs.declared.image.Image.{Image}
 use Rattle.dcc_prog.specs.declared.frame.Program.{Program as Analysed}
 use Rattle.dcc_prog.specs.declared.procedure.Node.{Node}
 use Rattle.dcc_prog.specs.declared.instr.Op.{Op}
-use Rattle.dcc_prog.specs.declared.instr.Op.TheVariants.{Alu as AluOp, Unary as UnaryOp, Mov, Xchg, Push, Pop, Call}
+use Rattle.dcc_prog.specs.declared.instr.Op.TheVariants.{Alu as AluOp, Unary as UnaryOp, Mov, Xchg, Push, Pop, Call, Int21}
 use Rattle.dcc_prog.specs.declared.instr.Alu.{Alu}
 use Rattle.dcc_prog.specs.declared.instr.Unary.{Unary}
 use Rattle.dcc_prog.specs.declared.instr.Unary.TheVariants.{Inc, Dec, Neg}
@@ -45,7 +45,12 @@ use Rattle.dcc_refined.proofs.RefinedLaws as refined
 use Rattle.dcc_agree.specs.Agreement.{ending}
 use Rattle.dcc_agree.specs.Laws.{is_named, is_table_told, is_shown, AgreesWithItsStatements, ShownInstructionsAgree}
 use Rattle.dcc_agree.proofs.ClosedLaws.{closed_agrees}
-use Rattle.dcc_agree.proofs.TableLaws.{closed_op}
+use Rattle.dcc_agree.proofs.TableLaws.{closed_op, ClosedCall, closed_call}
+use Rattle.dcc_prog.specs.declared.instr.Instr.{Instr}
+use Rattle.dcc_prog.specs.declared.refusal.construct.TheConstants.{DOS_NUMBER}
+use Rattle.dcc_prog.specs.Construct.{is_dos_number, HasAh, HasNoNumber, dos_number}
+use Rattle.dcc_prog.specs.Found.{IsNodeFound}
+use Rattle.dcc_ir.proofs.PathLaws.{decided}
 use Rattle.dcc_agree.proofs.SettingLaws as setting
 
 moves_nothing : (op : Op) → is_table_told op ≡ true → moves_or_calls op ≡ false
@@ -87,6 +92,9 @@ second_named (Const u n) b one v ea t = t
 -- the instruction with that operation in the place of its own
 abbrev with_op : Node → Op → Node
 with_op node op = record node { instr = record (node.instr) { op = op } }
+
+abbrev node_instr : Node → Instr
+node_instr node = record (node.instr) { op = Int21 }
 
 -- it goes on at the next one, whatever its trail is
 abbrev GoesOn : Op → Type 0
@@ -169,8 +177,39 @@ module _ (image : Image) (program : Analysed) (p : Program) (is : IsTranslated i
       (one_there node Neg a found t) (next_there (with_op node (UnaryOp Neg a)) found (λ next ah targets. refl)) (value_there node Neg a found)
   unary_there node operation a found t = absurd (true≢false (sym t))
 
+  -- the number of a DOS call is one of the five
+  number_there : (node : Node) → StandsHere (with_op node Int21) → (n : ℕ) × (node.number ≡ Some n) × (is_dos_number n ≡ true)
+  number_there node found = by node.number refl
+    where
+      there : IsNodeFound image program.layout x.proc.entry (at, with_op node Int21)
+      there = refined.found_there image program p is entry x at (with_op node Int21) found
+
+      ah : HasAh image program.layout x.proc.entry at node.number
+      ah = record { before = there.node.before; trail = there.node.trail; stands = (node_instr node, there.instr, refl); ah_is = there.number refl there.node.before there.node.trail }
+
+      no_number : ¬ HasNoNumber image program.layout x.proc.entry at
+      no_number none = is.of_file.is_program.procs.no_construct DOS_NUMBER at (record { entry = x.proc.entry; is_entry = x.reached; node = there.node; stands = dos_number none })
+
+      by : (number : Option ℕ) → node.number ≡ number → (n : ℕ) × (node.number ≡ Some n) × (is_dos_number n ≡ true)
+      by None e = absurd (no_number (HasNoNumber.not_known (subst (HasAh image program.layout x.proc.entry at) e ah)))
+      by (Some n) e = elim (decided (is_dos_number n)) [
+        | inl t ↦ (n, e, t)
+        | inr f ↦ absurd (no_number (HasNoNumber.other_number (subst (HasAh image program.layout x.proc.entry at) e ah) f))
+      ]
+
+  dos_there : (node : Node) → StandsHere (with_op node Int21) → Shown (with_op node Int21)
+  dos_there node found =
+      let here = with_op node Int21 in
+      let known = number_there node found in
+      closed_agrees coarse fine (lifted_refinement program) entry at (pushed_of scene.procedure)
+      (node_stmts scene.cpu scene.procedures scene.procedure height here) (ending Int21)
+      found_procedure (bodies_of program) body (setting.point image program p is entry x at here height found high)
+      (setting.value_operation image program p is entry x at here height found high refl)
+      (subst (λ number. ClosedCall scene.cpu scene.procedures scene.procedure height body number) (sym known.1) (closed_call scene.cpu scene.procedures scene.procedure height body known.0 known.2))
+
   by_operation : (op : Op) (node : Node) → StandsHere (with_op node op) → is_shown op ≡ true → Shown (with_op node op)
   by_operation (AluOp operation a b) node found t = alu_there node operation a b found t
+  by_operation Int21 node found t = dos_there node found
   by_operation (UnaryOp operation a) node found t = unary_there node operation a found t
   by_operation op node found t = told_agrees (with_op node op) found t
 

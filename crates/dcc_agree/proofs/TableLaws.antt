@@ -1,5 +1,5 @@
 -- Operations whose halves and flags are told by the operation alone: jumps, returns, and what has no operand.
-use Rattle.std.proofs.Common.{◌≡◌, ℕ, true, if◌then◌else◌, List, [], Option, refl, sym, true≢false}
+use Rattle.std.proofs.Common.{◌≡◌, ℕ, true, ◌==◌, ◌||◌, if◌then◌else◌, inl, inr, List, [], Option, Some, refl, sym, subst, eqb-true, true≢false}
 use Rattle.dcc_num.specs.declared.Reg.{Reg}
 use Rattle.dcc_num.specs.declared.Reg.TheVariants.{Ax, Cx, Dx, Bx, Sp, Bp, Si, Di}
 use Rattle.dcc_prog.specs.Trail.{is_general}
@@ -9,7 +9,10 @@ use Rattle.dcc_prog.specs.declared.instr.Cond.TheVariants.{O, No, B, Ae, Z, Nz, 
 use Rattle.dcc_prog.specs.declared.instr.Plain.{Plain}
 use Rattle.dcc_prog.specs.declared.instr.Plain.TheVariants.{Nop, Cbw, Cwd, Clc, Stc, Cmc, Cli, Sti, Cld, Xlat}
 use Rattle.dcc_prog.specs.declared.instr.Op.{Op}
-use Rattle.dcc_prog.specs.declared.instr.Op.TheVariants.{Enter, Leave, Plain as PlainOp, Jump, Branch, Loop, LoopE, LoopNe, Jcxz, Table, Ret}
+use Rattle.dcc_prog.specs.declared.instr.Op.TheVariants.{Enter, Leave, Plain as PlainOp, Jump, Branch, Loop, LoopE, LoopNe, Jcxz, Table, Ret, Int21}
+use Rattle.dcc_num.specs.declared.dos.TheConstants.{GETCHE, PUTC, GETCH, PUTS, EXIT}
+use Rattle.dcc_prog.specs.Construct.{is_dos_number}
+use Rattle.dcc_lift.proofs.ListTests.{or_cases}
 use Rattle.dcc_coupled.specs.Procedures.{Procedure}
 use Rattle.dcc_coupled.specs.Statements.{moves_frame, working_stmts}
 use Rattle.dcc_ir.specs.Tree.{Stmt}
@@ -80,3 +83,42 @@ module _ (cpu : Cpu) (procedures : List Procedure) (procedure : Procedure) (heig
   closed_op (PlainOp operation) e = closed_plain operation e
   closed_op (Table r offset) e = closed_table r offset e
   closed_op op e = absurd (true≢false (sym e))
+
+-- The DOS calls.
+
+module _ (cpu : Cpu) (procedures : List Procedure) (procedure : Procedure) (height : ℕ) (body : Body) where
+  abbrev pub ClosedCall : Option ℕ → Type 0
+  ClosedCall number = IsClosed body Int21 number (stmts_of cpu procedures procedure height body number Int21) (ending Int21)
+
+  closed_getche : ClosedCall (Some GETCHE)
+  closed_getche = record { told = refl; cells = λ n h. refl; unwritten = λ n h. refl; no_write = λ k. refl; no_use = λ k. refl; not_made = λ l k. refl }
+
+  closed_putc : ClosedCall (Some PUTC)
+  closed_putc = record { told = refl; cells = λ n h. refl; unwritten = λ n h. refl; no_write = λ k. refl; no_use = λ k. refl; not_made = λ l k. refl }
+
+  closed_getch : ClosedCall (Some GETCH)
+  closed_getch = record { told = refl; cells = λ n h. refl; unwritten = λ n h. refl; no_write = λ k. refl; no_use = λ k. refl; not_made = λ l k. refl }
+
+  closed_puts : ClosedCall (Some PUTS)
+  closed_puts = record { told = refl; cells = λ n h. refl; unwritten = λ n h. refl; no_write = λ k. refl; no_use = λ k. refl; not_made = λ l k. refl }
+
+  closed_exit : ClosedCall (Some EXIT)
+  closed_exit = record { told = refl; cells = λ n h. refl; unwritten = λ n h. refl; no_write = λ k. refl; no_use = λ k. refl; not_made = λ l k. refl }
+
+  pub closed_call : (n : ℕ) → is_dos_number n ≡ true → ClosedCall (Some n)
+  closed_call n t = elim (or_cases ((n == GETCHE) || (n == PUTC) || (n == GETCH) || (n == PUTS)) (n == EXIT) t) [
+    | inr e ↦ at EXIT closed_exit e
+    | inl t ↦ elim (or_cases ((n == GETCHE) || (n == PUTC) || (n == GETCH)) (n == PUTS) t) [
+      | inr e ↦ at PUTS closed_puts e
+      | inl t ↦ elim (or_cases ((n == GETCHE) || (n == PUTC)) (n == GETCH) t) [
+        | inr e ↦ at GETCH closed_getch e
+        | inl t ↦ elim (or_cases (n == GETCHE) (n == PUTC) t) [
+          | inr e ↦ at PUTC closed_putc e
+          | inl e ↦ at GETCHE closed_getche e
+        ]
+      ]
+    ]
+  ]
+    where
+      at : (known : ℕ) → ClosedCall (Some known) → (n == known) ≡ true → ClosedCall (Some n)
+      at known closed e = subst (λ m. ClosedCall (Some m)) (sym (eqb-true n known e)) closed

@@ -7,7 +7,7 @@ use Rattle.dcc_prog.specs.declared.instr.Unary.TheVariants.{Inc, Dec, Neg}
 use Rattle.dcc_prog.specs.declared.instr.Operand.{Operand}
 use Rattle.dcc_prog.specs.declared.instr.Operand.TheVariants.{Byte, Seg}
 use Rattle.dcc_prog.specs.declared.instr.Op.{Op}
-use Rattle.dcc_prog.specs.declared.instr.Op.TheVariants.{Alu, Unary as UnaryOp, Enter, Leave, Plain, Jump, Branch, Loop, LoopE, LoopNe, Jcxz, Table, Ret}
+use Rattle.dcc_prog.specs.declared.instr.Op.TheVariants.{Alu, Unary as UnaryOp, Enter, Leave, Plain, Jump, Branch, Loop, LoopE, LoopNe, Jcxz, Table, Ret, Int21}
 use Rattle.dcc_prog.specs.Trail.{is_general}
 use Rattle.dcc_ir.specs.Tree.{Program}
 use Rattle.dcc_coupled.specs.Procedures.{pushed_of}
@@ -42,6 +42,7 @@ is_named operand = true
 -- of these it is shown
 abbrev pub is_shown : Op → Bool
 is_shown (Alu operation a b) = is_named a && is_named b
+is_shown Int21 = true
 is_shown (UnaryOp Inc a) = is_named a
 is_shown (UnaryOp Dec a) = is_named a
 is_shown (UnaryOp Neg a) = is_named a
