@@ -149,7 +149,8 @@ fn strip_offset(number: Option<NumberAt>) -> u16
 
 /// A whole text in which nothing offends. Each part of what has been read is freed as its own form is made.
 pub(crate) fn strip(alloc: Global, text: PartialText) -> Result<Unit, AllocError>
-    ensures { is_complete_text (partial.text_of text.entry) ≡ true → text_offences (partial.text_of text.entry) [] ≡ [] →
+    ensures { is_complete_text (partial.text_of text.entry) ≡ true →
+        text_offences (partial.text_of text.entry) [] ≡ [] →
         IfOk result (λ unit. tree.tree_of unit ≡ stripped.plain_text (partial.text_of text.entry)) }
 {
     Ok(Unit {

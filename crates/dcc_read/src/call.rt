@@ -16,11 +16,7 @@ use dcc_reader::{PartialCall, PartialExpr, PartialStmt, Reader, WordAt};
 use std::alloc::Global;
 
 // Reads the arguments of a call after its opening parenthesis. The closing one is left.
-fn read_arguments<'a>(
-    r: &mut Reader<'a>,
-    alloc: Global,
-    calls: usize,
-) -> Got<Vec<PartialExpr<'a>>>
+fn read_arguments<'a>(r: &mut Reader<'a>, alloc: Global, calls: usize) -> Got<Vec<PartialExpr<'a>>>
     ensures { IfOk result (λ arguments.
         reading.got (map expr_of arguments.items) (reader_of r.new)
         ≡ statements.read_arguments calls (reader_of r.old)) }

@@ -85,12 +85,7 @@ fn missing<'a>() -> Measured<'a>
 }
 
 // The unary operator on an operand.
-fn unary_at<'a>(
-    alloc: Global,
-    at: u32,
-    operator: CUn,
-    operand: Measured<'a>,
-) -> Got<Measured<'a>>
+fn unary_at<'a>(alloc: Global, at: u32, operator: CUn, operand: Measured<'a>) -> Got<Measured<'a>>
     ensures { IfOk result (λ e. expr_of e.expr ≡ partial.UnaryHere at operator (expr_of operand.entry.expr)) }
 {
     let depth = deeper(operand.depth);
@@ -102,12 +97,7 @@ fn unary_at<'a>(
 }
 
 // The cast of an operand.
-fn cast_at<'a>(
-    alloc: Global,
-    at: u32,
-    ty: CType,
-    operand: Measured<'a>,
-) -> Got<Measured<'a>>
+fn cast_at<'a>(alloc: Global, at: u32, ty: CType, operand: Measured<'a>) -> Got<Measured<'a>>
     ensures { IfOk result (λ e. expr_of e.expr ≡ partial.CastHere at ty (expr_of operand.entry.expr)) }
 {
     let depth = deeper(operand.depth);

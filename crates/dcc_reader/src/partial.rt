@@ -1,5 +1,5 @@
 //! The syntax of a text as far as it has been read: trees in which parts may be missing, and which know where their
-//! parts stand. A place is the number of pieces before it.
+//! parts stand. A place is the number of pieces before it. Names are borrowed from the text.
 
 use dcc_c::{Base, CBin, CType, CUn, Class};
 
