@@ -15,6 +15,7 @@ mod FrameLaws
 mod AccessLaws
 mod NodeOperands
 mod UnaryLaws
+mod ShiftLaws
 mod TableLaws
 mod SettingLaws
 mod EnoughLaws
