@@ -5,8 +5,10 @@ use Rattle.dcc_prog.specs.declared.image.Image.{Image}
 use Rattle.dcc_prog.specs.declared.frame.Program.{Program as Analysed}
 use Rattle.dcc_prog.specs.declared.procedure.Node.{Node}
 use Rattle.dcc_prog.specs.declared.instr.Op.{Op}
-use Rattle.dcc_prog.specs.declared.instr.Op.TheVariants.{Alu as AluOp, Unary as UnaryOp, Mov, Xchg, Push, Pop, Call, Int21}
+use Rattle.dcc_prog.specs.declared.instr.Op.TheVariants.{Alu as AluOp, Unary as UnaryOp, Shift as ShiftOp, Mov, Xchg, Push, Pop, Call, Int21}
 use Rattle.dcc_prog.specs.declared.instr.Alu.{Alu}
+use Rattle.dcc_prog.specs.declared.instr.Shift.{Shift}
+use Rattle.dcc_prog.specs.declared.instr.Count.{Count}
 use Rattle.dcc_prog.specs.declared.instr.Unary.{Unary}
 use Rattle.dcc_prog.specs.declared.instr.Unary.TheVariants.{Inc, Dec, Neg}
 use Rattle.dcc_prog.specs.declared.instr.Operand.{Operand}
@@ -31,6 +33,7 @@ use Rattle.dcc_agree.proofs.NodeOperands.{have_places, operand_there}
 use Rattle.dcc_agree.proofs.AluLaws.{alu_agrees}
 use Rattle.dcc_agree.proofs.OperandLaws.{IsOperandAt}
 use Rattle.dcc_agree.proofs.OperationLaws.{IsValueOperation}
+use Rattle.dcc_agree.proofs.ShiftNodes.{shift_agrees}
 use Rattle.dcc_agree.proofs.UnaryLaws.{inc_agrees, dec_agrees, neg_agrees}
 use Rattle.dcc_ir.specs.Tree.{Program}
 use Rattle.dcc_coupled.specs.Procedures.{Procedure, pushed_of}
@@ -43,7 +46,7 @@ use Rattle.dcc_refined.specs.LiftedRefinement.{lifted_refinement}
 use Rattle.dcc_refined.proofs.LinkLaws.{Standing}
 use Rattle.dcc_refined.proofs.RefinedLaws as refined
 use Rattle.dcc_agree.specs.Agreement.{ending}
-use Rattle.dcc_agree.specs.Laws.{is_named, is_table_told, is_shown, AgreesWithItsStatements, ShownInstructionsAgree}
+use Rattle.dcc_agree.specs.Laws.{is_named, is_shiftable, is_table_told, is_shown, AgreesWithItsStatements, ShownInstructionsAgree}
 use Rattle.dcc_agree.proofs.ClosedLaws.{closed_agrees}
 use Rattle.dcc_agree.proofs.TableLaws.{closed_op, ClosedCall, closed_call}
 use Rattle.dcc_prog.specs.declared.instr.Instr.{Instr}
@@ -207,8 +210,18 @@ module _ (image : Image) (program : Analysed) (p : Program) (is : IsTranslated i
       (setting.value_operation image program p is entry x at here height found high refl)
       (subst (λ number. ClosedCall scene.cpu scene.procedures scene.procedure height body number) (sym known.1) (closed_call scene.cpu scene.procedures scene.procedure height body known.0 known.2))
 
+  shift_there : (node : Node) (operation : Shift) (a : Operand) (count : Count) → StandsHere (with_op node (ShiftOp operation a count)) → (is_named a && is_shiftable operation count) ≡ true
+      → Shown (with_op node (ShiftOp operation a count))
+  shift_there node operation a count found t =
+      let here = with_op node (ShiftOp operation a count) in
+      shift_agrees coarse fine (lifted_refinement program) entry at (pushed_of scene.procedure) found_procedure (bodies_of program) body node height scene.cpu operation a count
+      (setting.value_operation image program p is entry x at here height found high refl) (operand_place scene.procedure height a)
+      (operand_there image program p is entry x at here found height a (λ v ea e. e) (λ u. u) (and_left (is_named a) (is_shiftable operation count) t) (source-of a (have_places image program p is entry x at here found)))
+      (and_right (is_named a) (is_shiftable operation count) t) (next_there here found (λ next ah targets. refl))
+
   by_operation : (op : Op) (node : Node) → StandsHere (with_op node op) → is_shown op ≡ true → Shown (with_op node op)
   by_operation (AluOp operation a b) node found t = alu_there node operation a b found t
+  by_operation (ShiftOp operation a count) node found t = shift_there node operation a count found t
   by_operation Int21 node found t = dos_there node found
   by_operation (UnaryOp operation a) node found t = unary_there node operation a found t
   by_operation op node found t = told_agrees (with_op node op) found t

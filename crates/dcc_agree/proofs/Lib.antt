@@ -16,6 +16,7 @@ mod AccessLaws
 mod NodeOperands
 mod UnaryLaws
 mod ShiftLaws
+mod ShiftNodes
 mod TableLaws
 mod SettingLaws
 mod EnoughLaws

@@ -1,10 +1,10 @@
 -- Shifts and rotates: what the work of their statements makes, and what dcc_asks tells of them, by tables.
-use Rattle.std.proofs.Common.{◌≡◌, ℕ, ℤ, Bool, true, false, not, ◌&&◌, ◌||◌, ◌==◌, if◌then◌else◌, List, [], ◌∷◌, ◌++◌, refl, sym, ap, ◌∙◌, true≢false}
+use Rattle.std.proofs.Common.{◌≡◌, ℤ, Bool, true, false, not, ◌&&◌, ◌||◌, if◌then◌else◌, List, [], ◌∷◌, ◌++◌, refl, sym, ap, ◌∙◌, true≢false}
 use Rattle.std.specs.List.{list_any}
 use Rattle.dcc_num.specs.declared.Width.{Width}
 use Rattle.dcc_num.specs.declared.Width.TheVariants.{Byte as byte_width, Word as word_width}
 use Rattle.dcc_num.specs.declared.FlagName.{FlagName}
-use Rattle.dcc_num.specs.declared.FlagName.TheVariants.{Cf, Zf, Sf, Of}
+use Rattle.dcc_num.specs.declared.FlagName.TheVariants.{Cf, Of}
 use Rattle.dcc_prog.specs.declared.instr.Shift.{Shift}
 use Rattle.dcc_prog.specs.declared.instr.Shift.TheVariants.{Rol, Ror, Rcl, Rcr, Shl, Shr, Sar}
 use Rattle.dcc_prog.specs.declared.instr.Count.TheVariants.{One, Cl}
@@ -19,7 +19,7 @@ use Rattle.dcc_lift.proofs.ListTests.{and_left, and_right}
 use Rattle.dcc_asks.specs.Places.{Place, held, in_frame}
 use Rattle.dcc_agree.proofs.ValueLaws.{is_written}
 use Rattle.dcc_agree.proofs.ClosedLaws.{same_test, tests_same}
-use Rattle.dcc_agree.proofs.FormLaws.{Input, first, second, carry, itself, has_itself, made_by, input_reads, IsWork}
+use Rattle.dcc_agree.proofs.FormLaws.{Input, first, second, carry, itself, has_itself, made_by, IsWork}
 use Rattle.dcc_agree.proofs.WorkLaws.{all_flags, every_flag, worked, flags_written}
 
 -- What the result and the flags are made of, where the count is in CL or not, and where OF is 0 for it or not.
@@ -36,7 +36,7 @@ base_inputs Rcl f = first ∷ []
 base_inputs Rcr f = first ∷ []
 base_inputs operation f = first ∷ second ∷ []
 
-abbrev is_overflow : FlagName → Bool
+abbrev pub is_overflow : FlagName → Bool
 is_overflow Of = true
 is_overflow f = false
 
@@ -46,6 +46,11 @@ shift_flags operation cl cleared f =
     else if cl && not (is_turn operation) then second ∷ itself ∷ base_inputs operation f
     else if cleared && is_overflow f then []
     else base_inputs operation f
+
+-- what is not written stays
+pub unwritten_inputs : (operation : Shift) (cl cleared : Bool) (f : FlagName) → shift_writes_flag operation f ≡ false → shift_flags operation cl cleared f ≡ itself ∷ []
+unwritten_inputs operation cl cleared f e =
+    ap (λ s. if not s then itself ∷ [] else if cl && not (is_turn operation) then second ∷ itself ∷ base_inputs operation f else if cleared && is_overflow f then [] else base_inputs operation f) e
 
 abbrev pub Works : Shift → Width → List Stmt → Bool → Bool → Type 0
 Works operation w working cl cleared =
@@ -84,20 +89,18 @@ input_value r c k itself = false
 abbrev pub made_value : List Input → Bool → Bool → Bool → Bool
 made_value inputs r c k = list_any (input_value r c k) inputs
 
+abbrev each : (Bool → Bool) → Bool
+each test = test true && test false
+
+each_one : (test : Bool → Bool) → each test ≡ true → (b : Bool) → test b ≡ true
+each_one test t true = and_left (test true) (test false) t
+each_one test t false = and_right (test true) (test false) t
+
 abbrev every_three : (Bool → Bool → Bool → Bool) → Bool
-every_three test =
-    (test true true true && (test true true false && (test true false true && test true false false)))
-    && (test false true true && (test false true false && (test false false true && test false false false)))
+every_three test = each (λ r. each (λ y. each (test r y)))
 
 three : (test : Bool → Bool → Bool → Bool) → every_three test ≡ true → (r y k : Bool) → test r y k ≡ true
-three test t true true true = and_left (test true true true) (test true true false && (test true false true && test true false false)) (and_left (test true true true && (test true true false && (test true false true && test true false false))) (test false true true && (test false true false && (test false false true && test false false false))) t)
-three test t true true false = and_left (test true true false) (test true false true && test true false false) (and_right (test true true true) (test true true false && (test true false true && test true false false)) (and_left (test true true true && (test true true false && (test true false true && test true false false))) (test false true true && (test false true false && (test false false true && test false false false))) t))
-three test t true false true = and_left (test true false true) (test true false false) (and_right (test true true false) (test true false true && test true false false) (and_right (test true true true) (test true true false && (test true false true && test true false false)) (and_left (test true true true && (test true true false && (test true false true && test true false false))) (test false true true && (test false true false && (test false false true && test false false false))) t)))
-three test t true false false = and_right (test true false true) (test true false false) (and_right (test true true false) (test true false true && test true false false) (and_right (test true true true) (test true true false && (test true false true && test true false false)) (and_left (test true true true && (test true true false && (test true false true && test true false false))) (test false true true && (test false true false && (test false false true && test false false false))) t)))
-three test t false true true = and_left (test false true true) (test false true false && (test false false true && test false false false)) (and_right (test true true true && (test true true false && (test true false true && test true false false))) (test false true true && (test false true false && (test false false true && test false false false))) t)
-three test t false true false = and_left (test false true false) (test false false true && test false false false) (and_right (test false true true) (test false true false && (test false false true && test false false false)) (and_right (test true true true && (test true true false && (test true false true && test true false false))) (test false true true && (test false true false && (test false false true && test false false false))) t))
-three test t false false true = and_left (test false false true) (test false false false) (and_right (test false true false) (test false false true && test false false false) (and_right (test false true true) (test false true false && (test false false true && test false false false)) (and_right (test true true true && (test true true false && (test true false true && test true false false))) (test false true true && (test false true false && (test false false true && test false false false))) t)))
-three test t false false false = and_right (test false false true) (test false false false) (and_right (test false true false) (test false false true && test false false false) (and_right (test false true true) (test false true false && (test false false true && test false false false)) (and_right (test true true true && (test true true false && (test true false true && test true false false))) (test false true true && (test false true false && (test false false true && test false false false))) t)))
+three test t r y k = each_one (test r y) (each_one (λ y. each (test r y)) (each_one (λ r. each (λ y. each (test r y))) t r) y) k
 
 -- the table of an operation
 abbrev result_told : Shift → Bool → Bool
@@ -120,7 +123,7 @@ may_be operation cl cleared = not cleared || (not cl && not (is_turn operation))
 
 -- Tables.
 
-one_work : (operation : Shift) (w : Width) → Works operation w (shift_working operation w One) false false
+pub one_work : (operation : Shift) (w : Width) → Works operation w (shift_working operation w One) false false
 one_work Shl byte_width = works_by Shl byte_width (shift_working Shl byte_width One) false false (worked byte_width (shift_working Shl byte_width One) (shift_inputs Shl) (shift_flags Shl false false) refl (λ r h. refl) (λ n h. refl) (λ r h. refl) (λ n h. refl)) refl
 one_work Shl word_width = works_by Shl word_width (shift_working Shl word_width One) false false (worked word_width (shift_working Shl word_width One) (shift_inputs Shl) (shift_flags Shl false false) refl (λ r h. refl) (λ n h. refl) (λ r h. refl) (λ n h. refl)) refl
 one_work Shr byte_width = works_by Shr byte_width (shift_working Shr byte_width One) false false (worked byte_width (shift_working Shr byte_width One) (shift_inputs Shr) (shift_flags Shr false false) refl (λ r h. refl) (λ n h. refl) (λ r h. refl) (λ n h. refl)) refl
@@ -136,7 +139,7 @@ one_work Rcl word_width = works_by Rcl word_width (shift_working Rcl word_width 
 one_work Rcr byte_width = works_by Rcr byte_width (shift_working Rcr byte_width One) false false (worked byte_width (shift_working Rcr byte_width One) (shift_inputs Rcr) (shift_flags Rcr false false) refl (λ r h. refl) (λ n h. refl) (λ r h. refl) (λ n h. refl)) refl
 one_work Rcr word_width = works_by Rcr word_width (shift_working Rcr word_width One) false false (worked word_width (shift_working Rcr word_width One) (shift_inputs Rcr) (shift_flags Rcr false false) refl (λ r h. refl) (λ n h. refl) (λ r h. refl) (λ n h. refl)) refl
 
-cl_work : (operation : Shift) (w : Width) → Works operation w (shift_working operation w Cl) true false
+pub cl_work : (operation : Shift) (w : Width) → Works operation w (shift_working operation w Cl) true false
 cl_work Shl byte_width = works_by Shl byte_width (shift_working Shl byte_width Cl) true false (worked byte_width (shift_working Shl byte_width Cl) (shift_inputs Shl) (shift_flags Shl true false) refl (λ r h. refl) (λ n h. refl) (λ r h. refl) (λ n h. refl)) refl
 cl_work Shl word_width = works_by Shl word_width (shift_working Shl word_width Cl) true false (worked word_width (shift_working Shl word_width Cl) (shift_inputs Shl) (shift_flags Shl true false) refl (λ r h. refl) (λ n h. refl) (λ r h. refl) (λ n h. refl)) refl
 cl_work Shr byte_width = works_by Shr byte_width (shift_working Shr byte_width Cl) true false (worked byte_width (shift_working Shr byte_width Cl) (shift_inputs Shr) (shift_flags Shr true false) refl (λ r h. refl) (λ n h. refl) (λ r h. refl) (λ n h. refl)) refl
@@ -152,7 +155,7 @@ cl_work Rcl word_width = works_by Rcl word_width (shift_working Rcl word_width C
 cl_work Rcr byte_width = works_by Rcr byte_width (shift_working Rcr byte_width Cl) true false (worked byte_width (shift_working Rcr byte_width Cl) (shift_inputs Rcr) (shift_flags Rcr true false) refl (λ r h. refl) (λ n h. refl) (λ r h. refl) (λ n h. refl)) refl
 cl_work Rcr word_width = works_by Rcr word_width (shift_working Rcr word_width Cl) true false (worked word_width (shift_working Rcr word_width Cl) (shift_inputs Rcr) (shift_flags Rcr true false) refl (λ r h. refl) (λ n h. refl) (λ r h. refl) (λ n h. refl)) refl
 
-const_work : (c : Bool) (operation : Shift) (w : Width) → is_turn operation ≡ false → Works operation w (const_working c operation w) false (not c)
+pub const_work : (c : Bool) (operation : Shift) (w : Width) → is_turn operation ≡ false → Works operation w (const_working c operation w) false (not c)
 const_work true Shl byte_width e = works_by Shl byte_width (const_working true Shl byte_width) false false (worked byte_width (const_working true Shl byte_width) (shift_inputs Shl) (shift_flags Shl false false) refl (λ r h. refl) (λ n h. refl) (λ r h. refl) (λ n h. refl)) refl
 const_work true Shl word_width e = works_by Shl word_width (const_working true Shl word_width) false false (worked word_width (const_working true Shl word_width) (shift_inputs Shl) (shift_flags Shl false false) refl (λ r h. refl) (λ n h. refl) (λ r h. refl) (λ n h. refl)) refl
 const_work true Shr byte_width e = works_by Shr byte_width (const_working true Shr byte_width) false false (worked byte_width (const_working true Shr byte_width) (shift_inputs Shr) (shift_flags Shr false false) refl (λ r h. refl) (λ n h. refl) (λ r h. refl) (λ n h. refl)) refl

@@ -106,7 +106,7 @@ neg_works byte_width = works_by Neg byte_width (subtracting byte_width) (worked 
 neg_works word_width = works_by Neg word_width (subtracting word_width) (worked word_width (subtracting word_width) both_inputs (unary_flags Neg) refl (λ r h. refl) (λ n h. refl) (λ r h. refl) (λ n h. refl)) refl
 
 -- a byte of an operand that is written
-one_written : (body : Body) (a : Operand) (k : ℤ) → (is_memory a && frame_read body a k) ≡ frame_read body a k
+pub one_written : (body : Body) (a : Operand) (k : ℤ) → (is_memory a && frame_read body a k) ≡ frame_read body a k
 one_written body (Mem v ea) k = refl
 one_written body (Word r) k = refl
 one_written body (Byte r h) k = refl

@@ -1,14 +1,18 @@
 -- Instructions that do what their statements do together are all that is to be shown of them.
-use Rattle.std.specs.Prelude.{◌≡◌, ℕ, Bool, true, false, ◌&&◌, Some}
+use Rattle.std.specs.Prelude.{◌≡◌, ℕ, ◌%◌, ◌==◌, Bool, true, false, not, ◌&&◌, Some}
 use Rattle.dcc_prog.specs.declared.image.Image.{Image}
 use Rattle.dcc_prog.specs.declared.frame.Program.{Program as Analysed}
 use Rattle.dcc_prog.specs.declared.procedure.Node.{Node}
 use Rattle.dcc_prog.specs.declared.instr.Unary.TheVariants.{Inc, Dec, Neg}
 use Rattle.dcc_prog.specs.declared.instr.Operand.{Operand}
 use Rattle.dcc_prog.specs.declared.instr.Operand.TheVariants.{Byte, Seg}
+use Rattle.dcc_prog.specs.declared.instr.Shift.{Shift}
+use Rattle.dcc_prog.specs.declared.instr.Count.{Count}
+use Rattle.dcc_prog.specs.declared.instr.Count.TheVariants.{Const as ConstCount}
 use Rattle.dcc_prog.specs.declared.instr.Op.{Op}
-use Rattle.dcc_prog.specs.declared.instr.Op.TheVariants.{Alu, Unary as UnaryOp, Enter, Leave, Plain, Jump, Branch, Loop, LoopE, LoopNe, Jcxz, Table, Ret, Int21}
+use Rattle.dcc_prog.specs.declared.instr.Op.TheVariants.{Alu, Unary as UnaryOp, Shift as ShiftOp, Enter, Leave, Plain, Jump, Branch, Loop, LoopE, LoopNe, Jcxz, Table, Ret, Int21}
 use Rattle.dcc_prog.specs.Trail.{is_general}
+use Rattle.dcc_prog.specs.Wanted.{is_turn}
 use Rattle.dcc_ir.specs.Tree.{Program}
 use Rattle.dcc_coupled.specs.Procedures.{pushed_of}
 use Rattle.dcc_coupled.specs.Statements.{node_stmts}
@@ -39,9 +43,15 @@ is_named (Byte r half) = is_general r
 is_named (Seg number) = false
 is_named operand = true
 
+-- it shifts, and RCL and RCR don't go by a constant
+abbrev pub is_shiftable : Shift → Count → Bool
+is_shiftable operation (ConstCount number) = not (number % 32 == 0) && not (is_turn operation)
+is_shiftable operation count = true
+
 -- of these it is shown
 abbrev pub is_shown : Op → Bool
 is_shown (Alu operation a b) = is_named a && is_named b
+is_shown (ShiftOp operation a count) = is_named a && is_shiftable operation count
 is_shown Int21 = true
 is_shown (UnaryOp Inc a) = is_named a
 is_shown (UnaryOp Dec a) = is_named a

@@ -11,7 +11,7 @@ pub fn agreeing_instructions_are_enough()
 {}
 
 /// Instructions that are shown to do what their statements do together (`is_shown`): those without operand, jumps,
-/// returns, DOS calls, sums, differences, comparisons, logic, and INC, DEC and NEG.
+/// returns, DOS calls, sums, differences, comparisons, logic, INC, DEC, NEG, shifts and rotates.
 pub fn shown_instructions_agree()
     ensures { ShownInstructionsAgree }
 {}
