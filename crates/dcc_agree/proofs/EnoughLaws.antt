@@ -31,7 +31,7 @@ use Rattle.dcc_agree.specs.Agreement.{ending, Agrees}
 use Rattle.dcc_agree.specs.Laws.{IsInstruction, AgreesWithItsStatements, AgreeingInstructionsAreEnough}
 use Rattle.dcc_agree.proofs.PointLaws as points
 use Rattle.dcc_agree.proofs.SettingLaws.{found_height, action_there}
-use Rattle.dcc_agree.proofs.IdleLaws.{same_once, idle_agrees}
+use Rattle.dcc_agree.proofs.IdleLaws.{same_once, idle_is, idle_agrees}
 
 -- Instructions at offsets.
 
@@ -89,7 +89,7 @@ module _ (image : Image) (program : Analysed) (p : Program) (is : IsTranslated i
     agrees : Agrees coarse fine (lifted_refinement program) entry at pushed stmts after
 
   idle_there : (entry at pushed : ℕ) → (coarse.procedure entry).action at ≡ asks.idle → Agrees coarse fine (lifted_refinement program) entry at pushed [] []
-  idle_there entry at pushed idle = idle_agrees coarse fine (lifted_refinement program) entry at pushed (λ L l m s t. same_once s t) idle
+  idle_there entry at pushed idle = idle_agrees coarse fine (lifted_refinement program) entry at pushed (λ L l m s t. same_once s t) (idle_is ((coarse.procedure entry).action at) idle)
 
   module _ (entry : ℕ) (x : refined.Link image program p is entry) where
     abbrev scene : Scene

@@ -1,5 +1,5 @@
 -- What does nothing agrees with no statements.
-use Rattle.std.proofs.Common.{◌≡◌, ℕ, ℤ, false, inl, inr, [], ◌∷◌, refl, sym, ap, ◌∙◌, subst, true≢false}
+use Rattle.std.proofs.Common.{◌≡◌, ℕ, ℤ, false, inl, inr, [], ◌∷◌, None, refl, sym, ap, ◌∙◌, subst, true≢false}
 use Rattle.std.specs.Prelude.{Contains, Option}
 use Rattle.dcc_ir.specs.declared.syntax.Loc.{Loc}
 use Rattle.dcc_ir.proofs.LocationLaws.{Contains-here, Contains-none}
@@ -30,23 +30,34 @@ same_once s t = by s t refl
         let places : byte l ≡ byte m = sym g ∙ ap (λ x. frame_place found byte_width x) byte_is ∙ ap (λ q. frame_place q byte_width j) one ∙ i in
         cc places
 
+-- nothing is done
+pub record IsIdle (x : Action Place ℤ) : Type 0 where
+  pub leaves : (L : Place) → x.effect L ≡ Leaves
+  pub leaves_word : (k : ℤ) → x.word_effect k ≡ LeavesWord
+  pub unused : (L : Place) → x.uses L ≡ false
+  pub unsure : (L : Place) → x.surely L ≡ false
+  pub quiet : x.callee ≡ None
+
+pub idle_is : (x : Action Place ℤ) → x ≡ asks.idle → IsIdle x
+idle_is x is = record {
+  leaves = λ L. ap (λ (y : Action Place ℤ). y.effect L) is;
+  leaves_word = λ k. ap (λ (y : Action Place ℤ). y.word_effect k) is;
+  unused = λ L. ap (λ (y : Action Place ℤ). y.uses L) is;
+  unsure = λ L. ap (λ (y : Action Place ℤ). y.surely L) is;
+  quiet = ap (λ (y : Action Place ℤ). y.callee) is;
+}
+
 module _ (coarse : Procedures ℕ Place ℤ) (fine : Procedures Position Loc Loc) (r : Refinement ℕ Place ℤ Position Loc Loc) (entry at pushed : ℕ)
     (once : (L : Place) (l m : Loc) → r.same entry L l → r.same entry L m → l ≡ m)
-    (idle : (coarse.procedure entry).action at ≡ asks.idle) where
+    (idle : IsIdle ((coarse.procedure entry).action at)) where
   abbrev x : Action Place ℤ
   x = (coarse.procedure entry).action at
 
-  leaves : (L : Place) → x.effect L ≡ Leaves
-  leaves L = ap (λ (y : Action Place ℤ). y.effect L) idle
-
-  leaves_word : (k : ℤ) → x.word_effect k ≡ LeavesWord
-  leaves_word k = ap (λ (y : Action Place ℤ). y.word_effect k) idle
-
   unwritten : (L : Place) → is_left (x.effect L) ≡ false → ⊥
-  unwritten L e = true≢false (sym (ap is_left (leaves L)) ∙ e)
+  unwritten L e = true≢false (sym (ap is_left (idle.leaves L)) ∙ e)
 
   no_takes : (L : Place) → Takes coarse fine r entry at L → ⊥
-  no_takes L (inl u) = true≢false (sym u ∙ ap (λ (y : Action Place ℤ). y.uses L) idle)
+  no_takes L (inl u) = true≢false (sym u ∙ idle.unused L)
   no_takes L (inr (to, b, e, c, w, m)) = unwritten to w
 
   carries_itself : (L A : Place) → Carries coarse fine r entry at L A → L ≡ A
@@ -55,16 +66,16 @@ module _ (coarse : Procedures ℕ Place ℤ) (fine : Procedures Position Loc Loc
 
   pub idle_agrees : Agrees coarse fine r entry at pushed [] []
   idle_agrees = record {
-    effect = λ L l s t. subst (λ e. EffectsAgree coarse fine r entry e Leaves) (sym (leaves L)) EffectsAgree.both_leave;
-    word_effect = λ L l k w s t u. subst (λ e. WordEffectsAgree coarse fine r L l e LeavesWord) (sym (leaves_word k)) WordEffectsAgree.both_leave;
-    saved = λ L l k s t e. absurd (cc (e, leaves_word k));
+    effect = λ L l s t. subst (λ e. EffectsAgree coarse fine r entry e Leaves) (sym (idle.leaves L)) EffectsAgree.both_leave;
+    word_effect = λ L l k w s t u. subst (λ e. WordEffectsAgree coarse fine r L l e LeavesWord) (sym (idle.leaves_word k)) WordEffectsAgree.both_leave;
+    saved = λ L l k s t e. absurd (cc (e, idle.leaves_word k));
     popped = λ L l k w s t u e. refl;
-    callees = inl (ap (λ (y : Action Place ℤ). y.callee) idle, tt);
+    callees = inl (idle.quiet, tt);
     carried = λ L A l a s t c.
         let same : l ≡ a = once L l a s (subst (λ M. r.same entry M a) (sym (carries_itself L A c)) t) in
         inl (subst (λ m. Contains (a ∷ []) m) (sym same) (Contains-here a []));
     taken = λ L l s t. absurd (no_takes L t);
-    flows = λ A l a s f. (A, subst (λ m. r.same entry A m) (only a l f) s, inl (inr (refl, ap (λ (y : Action Place ℤ). y.surely A) idle)));
+    flows = λ A l a s f. (A, subst (λ m. r.same entry A m) (only a l f) s, inl (inr (refl, idle.unsure A)));
     uses = λ l u. absurd (Contains-none l u);
     made = λ L to w m. absurd (unwritten to w);
   }

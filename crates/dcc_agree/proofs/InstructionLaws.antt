@@ -33,6 +33,9 @@ use Rattle.dcc_agree.proofs.NodeOperands.{have_places, operand_there}
 use Rattle.dcc_agree.proofs.AluLaws.{alu_agrees}
 use Rattle.dcc_agree.proofs.OperandLaws.{IsOperandAt}
 use Rattle.dcc_agree.proofs.OperationLaws.{IsValueOperation}
+use Rattle.dcc_num.specs.declared.Reg.TheVariants.{Sp, Bp}
+use Rattle.dcc_agree.proofs.IdleLaws.{same_once, IsIdle, idle_agrees}
+use Rattle.dcc_agree.proofs.FrameMoves.{moves_idle}
 use Rattle.dcc_agree.proofs.ShiftNodes.{shift_agrees}
 use Rattle.dcc_agree.proofs.UnaryLaws.{inc_agrees, dec_agrees, neg_agrees}
 use Rattle.dcc_ir.specs.Tree.{Program}
@@ -45,8 +48,8 @@ use Rattle.dcc_asks.specs.Values.{moves_or_calls}
 use Rattle.dcc_refined.specs.LiftedRefinement.{lifted_refinement}
 use Rattle.dcc_refined.proofs.LinkLaws.{Standing}
 use Rattle.dcc_refined.proofs.RefinedLaws as refined
-use Rattle.dcc_agree.specs.Agreement.{ending}
-use Rattle.dcc_agree.specs.Laws.{is_named, is_shiftable, is_table_told, is_shown, AgreesWithItsStatements, ShownInstructionsAgree}
+use Rattle.dcc_agree.specs.Agreement.{ending, Agrees}
+use Rattle.dcc_agree.specs.Laws.{is_named, is_shiftable, is_frame_move, is_table_told, is_shown, AgreesWithItsStatements, ShownInstructionsAgree}
 use Rattle.dcc_agree.proofs.ClosedLaws.{closed_agrees}
 use Rattle.dcc_agree.proofs.TableLaws.{closed_op, ClosedCall, closed_call}
 use Rattle.dcc_prog.specs.declared.instr.Instr.{Instr}
@@ -219,9 +222,22 @@ module _ (image : Image) (program : Analysed) (p : Program) (is : IsTranslated i
       (operand_there image program p is entry x at here found height a (λ v ea e. e) (λ u. u) (and_left (is_named a) (is_shiftable operation count) t) (source-of a (have_places image program p is entry x at here found)))
       (and_right (is_named a) (is_shiftable operation count) t) (next_there here found (λ next ah targets. refl))
 
+  idle_there : (node : Node) (op : Op) → StandsHere (with_op node op) → is_frame_move op ≡ true → (pushed : ℕ) → Agrees coarse fine (lifted_refinement program) entry at pushed [] []
+  idle_there node op found t pushed =
+      idle_agrees coarse fine (lifted_refinement program) entry at pushed (λ L l m s t. same_once s t)
+      (subst IsIdle (sym (setting.action_is image program p is entry x at (with_op node op) height found high)) (moves_idle (bodies_of program) body node height op t))
+
+  frame_move_there : (op : Op) (node : Node) → StandsHere (with_op node op) → is_frame_move op ≡ true → Shown (with_op node op)
+  frame_move_there (Mov (Word Bp) (Word Sp)) node found t = idle_there node (Mov (Word Bp) (Word Sp)) found t (pushed_of scene.procedure)
+  frame_move_there (Mov (Word Sp) (Word Bp)) node found t = idle_there node (Mov (Word Sp) (Word Bp)) found t (pushed_of scene.procedure)
+  frame_move_there (Pop (Word Bp)) node found t = idle_there node (Pop (Word Bp)) found t (pushed_of scene.procedure)
+  frame_move_there op node found t = absurd (true≢false (sym t))
+
   by_operation : (op : Op) (node : Node) → StandsHere (with_op node op) → is_shown op ≡ true → Shown (with_op node op)
   by_operation (AluOp operation a b) node found t = alu_there node operation a b found t
   by_operation (ShiftOp operation a count) node found t = shift_there node operation a count found t
+  by_operation (Mov to from) node found t = frame_move_there (Mov to from) node found t
+  by_operation (Pop a) node found t = frame_move_there (Pop a) node found t
   by_operation Int21 node found t = dos_there node found
   by_operation (UnaryOp operation a) node found t = unary_there node operation a found t
   by_operation op node found t = told_agrees (with_op node op) found t

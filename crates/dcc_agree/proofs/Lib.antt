@@ -17,6 +17,7 @@ mod NodeOperands
 mod UnaryLaws
 mod ShiftLaws
 mod ShiftNodes
+mod FrameMoves
 mod TableLaws
 mod SettingLaws
 mod EnoughLaws

@@ -1,16 +1,17 @@
 -- Instructions that do what their statements do together are all that is to be shown of them.
 use Rattle.std.specs.Prelude.{◌≡◌, ℕ, ◌%◌, ◌==◌, Bool, true, false, not, ◌&&◌, Some}
+use Rattle.dcc_num.specs.declared.Reg.TheVariants.{Sp, Bp}
 use Rattle.dcc_prog.specs.declared.image.Image.{Image}
 use Rattle.dcc_prog.specs.declared.frame.Program.{Program as Analysed}
 use Rattle.dcc_prog.specs.declared.procedure.Node.{Node}
 use Rattle.dcc_prog.specs.declared.instr.Unary.TheVariants.{Inc, Dec, Neg}
 use Rattle.dcc_prog.specs.declared.instr.Operand.{Operand}
-use Rattle.dcc_prog.specs.declared.instr.Operand.TheVariants.{Byte, Seg}
+use Rattle.dcc_prog.specs.declared.instr.Operand.TheVariants.{Word, Byte, Seg}
 use Rattle.dcc_prog.specs.declared.instr.Shift.{Shift}
 use Rattle.dcc_prog.specs.declared.instr.Count.{Count}
 use Rattle.dcc_prog.specs.declared.instr.Count.TheVariants.{Const as ConstCount}
 use Rattle.dcc_prog.specs.declared.instr.Op.{Op}
-use Rattle.dcc_prog.specs.declared.instr.Op.TheVariants.{Alu, Unary as UnaryOp, Shift as ShiftOp, Enter, Leave, Plain, Jump, Branch, Loop, LoopE, LoopNe, Jcxz, Table, Ret, Int21}
+use Rattle.dcc_prog.specs.declared.instr.Op.TheVariants.{Alu, Unary as UnaryOp, Shift as ShiftOp, Mov, Pop, Enter, Leave, Plain, Jump, Branch, Loop, LoopE, LoopNe, Jcxz, Table, Ret, Int21}
 use Rattle.dcc_prog.specs.Trail.{is_general}
 use Rattle.dcc_prog.specs.Wanted.{is_turn}
 use Rattle.dcc_ir.specs.Tree.{Program}
@@ -48,10 +49,19 @@ abbrev pub is_shiftable : Shift → Count → Bool
 is_shiftable operation (ConstCount number) = not (number % 32 == 0) && not (is_turn operation)
 is_shiftable operation count = true
 
+-- it moves SP to BP or BP to SP, or takes BP back
+abbrev pub is_frame_move : Op → Bool
+is_frame_move (Mov (Word Bp) (Word Sp)) = true
+is_frame_move (Mov (Word Sp) (Word Bp)) = true
+is_frame_move (Pop (Word Bp)) = true
+is_frame_move op = false
+
 -- of these it is shown
 abbrev pub is_shown : Op → Bool
 is_shown (Alu operation a b) = is_named a && is_named b
 is_shown (ShiftOp operation a count) = is_named a && is_shiftable operation count
+is_shown (Mov to from) = is_frame_move (Mov to from)
+is_shown (Pop a) = is_frame_move (Pop a)
 is_shown Int21 = true
 is_shown (UnaryOp Inc a) = is_named a
 is_shown (UnaryOp Dec a) = is_named a
