@@ -22,3 +22,4 @@ mod TableLaws
 mod SettingLaws
 mod EnoughLaws
 mod InstructionLaws
+mod RelationLaws

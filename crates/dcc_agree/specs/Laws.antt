@@ -19,6 +19,7 @@ use Rattle.dcc_coupled.specs.Procedures.{pushed_of}
 use Rattle.dcc_coupled.specs.Statements.{node_stmts}
 use Rattle.dcc_lift.specs.Blocks.{node_in, Scene, nodes_in, height_in}
 use Rattle.dcc_lift.specs.Translated.{IsTranslated}
+use Rattle.dcc_match.specs.Laws.{HaveSameRelations}
 use Rattle.dcc_refined.specs.LiftedRefinement.{scenes_in, scene_at, lifted_refinement}
 use Rattle.dcc_refined.specs.Laws.{machine, inner, InstructionsAgree}
 use Rattle.dcc_agree.specs.Agreement.{ending, Agrees}
@@ -98,3 +99,12 @@ ShownInstructionsAgree =
     → (entry at : ℕ) (scene : Scene) (node : Node) (height : ℕ)
     → IsInstruction image program p entry at scene node height → is_shown node.instr.op ≡ true
     → AgreesWithItsStatements image program p entry at scene node height
+
+-- Where all other instructions do so too, the lifted program and the machine's procedures have the same relations.
+abbrev pub OtherInstructionsAreLeft : Type 0
+OtherInstructionsAreLeft =
+    (image : Image) (program : Analysed) (p : Program) → IsTranslated image program p
+    → ((entry at : ℕ) (scene : Scene) (node : Node) (height : ℕ)
+    → IsInstruction image program p entry at scene node height → is_shown node.instr.op ≡ false
+    → AgreesWithItsStatements image program p entry at scene node height)
+    → HaveSameRelations (machine image program p) (inner image program p) (lifted_refinement program)
