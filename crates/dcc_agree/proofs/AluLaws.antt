@@ -43,7 +43,7 @@ use Rattle.dcc_agree.proofs.StageLaws.{before_both, both_left}
 use Rattle.dcc_agree.proofs.ClosedLaws.{same_test}
 use Rattle.dcc_agree.proofs.FormLaws.{Input, first, second, input_location, has_itself, made_by, IsWork}
 use Rattle.dcc_agree.proofs.OperandLaws.{frame_read, in_cells, reads_by, IsOperandAt}
-use Rattle.dcc_agree.proofs.WorkLaws.{all_flags, worked, flags_written, and_true, and_again, and_moved, carry_if, carry_held, carry_framed, unread_frame, read_in_memory, two_read, two_are_read, first_of_two}
+use Rattle.dcc_agree.proofs.WorkLaws.{point_with_op, all_flags, worked, flags_written, and_true, and_again, and_moved, carry_if, carry_held, carry_framed, unread_frame, read_in_memory, two_read, two_are_read, first_of_two}
 use Rattle.dcc_agree.proofs.StoredLaws.{storing_agrees}
 
 -- what the result is made of, and each flag
@@ -119,7 +119,7 @@ module _ (coarse : Procedures ℕ Place ℤ) (fine : Procedures Position Loc Loc
   op = AluOp operation a b
 
   abbrev pub alu_point : Point
-  alu_point = record { node = record node { instr = record (node.instr) { op = AluOp operation a b } }; height = height }
+  alu_point = point_with_op node height (AluOp operation a b)
 
   abbrev w : Width
   w = operand_width a

@@ -14,10 +14,11 @@ use Rattle.dcc_asks.specs.Values.{is_sure}
 use Rattle.dcc_asks.specs.Instance as asks
 use Rattle.dcc_agree.specs.Laws.{is_frame_move}
 use Rattle.dcc_agree.proofs.IdleLaws.{IsIdle}
+use Rattle.dcc_agree.proofs.WorkLaws.{point_with_op}
 
 module _ (bodies : List Body) (body : Body) (node : Node) (height : ℕ) where
   abbrev pub moving_point : Op → Point
-  moving_point op = record { node = record node { instr = record (node.instr) { op = op } }; height = height }
+  moving_point op = point_with_op node height op
 
   module _ (op : Op) (held_left : (l : Location) → asks.effect_at bodies body (moving_point op) (held l) ≡ Leaves) (frame_left : (k : ℤ) → asks.effect_at bodies body (moving_point op) (in_frame k) ≡ Leaves)
       (held_unused : (l : Location) → asks.uses_at bodies body (moving_point op) (held l) ≡ false) (frame_unused : (k : ℤ) → asks.uses_at bodies body (moving_point op) (in_frame k) ≡ false)

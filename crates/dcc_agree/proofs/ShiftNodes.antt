@@ -48,7 +48,7 @@ use Rattle.dcc_agree.proofs.OperationLaws.{IsValueOperation}
 use Rattle.dcc_agree.proofs.StageLaws.{is_kept_place, reads_at, before_both, both_left}
 use Rattle.dcc_agree.proofs.FormLaws.{Input, first, second, carry, input_location, made_by}
 use Rattle.dcc_agree.proofs.OperandLaws.{frame_read, in_cells, reads_by, IsOperandAt, byte_at}
-use Rattle.dcc_agree.proofs.WorkLaws.{and_true, and_moved, read_in_memory}
+use Rattle.dcc_agree.proofs.WorkLaws.{point_with_op, and_true, and_moved, read_in_memory}
 use Rattle.dcc_agree.proofs.StoredLaws.{storing_agrees}
 use Rattle.dcc_agree.proofs.UnaryLaws.{one_written}
 use Rattle.dcc_agree.proofs.ShiftLaws.{shift_inputs, unwritten_inputs, shift_flags, is_overflow, Works, one_work, cl_work, const_work, result_made, made_value, may_be, result_is_told, flag_is_told, sure_is_told, made_held, made_framed}
@@ -172,13 +172,10 @@ module _ (coarse : Procedures ℕ Place ℤ) (fine : Procedures Position Loc Loc
   op = ShiftOp operation a count
 
   abbrev pub shift_point : Point
-  shift_point = record { node = record node { instr = record (node.instr) { op = ShiftOp operation a count } }; height = height }
+  shift_point = point_with_op node height (ShiftOp operation a count)
 
   abbrev w : Width
   w = operand_width a
-
-  abbrev ra : Place → Bool
-  ra L = reads_by body a L
 
   abbrev rb : Place → Bool
   rb L = count_reads count L
@@ -193,7 +190,7 @@ module _ (coarse : Procedures ℕ Place ℤ) (fine : Procedures Position Loc Loc
   flags f = shift_flags operation (is_in_cl count) (cleared_of count) f
 
   abbrev made_so : List Input → Place → Bool
-  made_so inputs L = made_by ra rb inputs L
+  made_so inputs L = made_by (reads_by body a) rb inputs L
 
   abbrev G : InnerPlace
   G = computed (count_expr cpu w count)
@@ -207,12 +204,12 @@ module _ (coarse : Procedures ℕ Place ℤ) (fine : Procedures Position Loc Loc
     moves = ap not (shifts operation count able)
 
     all_made : (l : Location) → result_made operation cl (is_read l a) (is_cl l) (is_flag Cf l) ≡ made_so (shift_inputs operation) (held l)
-    all_made l = result_is_told operation cl cleared may (is_read l a) (is_cl l) (is_flag Cf l) ∙ sym (made_held ra rb (shift_inputs operation) l)
+    all_made l = result_is_told operation cl cleared may (is_read l a) (is_cl l) (is_flag Cf l) ∙ sym (made_held (reads_by body a) rb (shift_inputs operation) l)
 
     frame_made : (k : ℤ) → frame_read body a k ≡ made_so (shift_inputs operation) (in_frame k)
     frame_made k =
         sym (nothing_more (frame_read body a k) (cl && not (is_turn operation)) (is_turn operation)) ∙ result_is_told operation cl cleared may (frame_read body a k) false false
-        ∙ ap (λ c. made_value (shift_inputs operation) (frame_read body a k) c false) (and_false cl) ∙ sym (made_framed ra rb (shift_inputs operation) k)
+        ∙ ap (λ c. made_value (shift_inputs operation) (frame_read body a k) c false) (and_false cl) ∙ sym (made_framed (reads_by body a) rb (shift_inputs operation) k)
 
     makes_half : (q : Reg) (h : HalfName) → is_half_of q h a ≡ true → (L : Place) → value_made_of body op (held (half_of q h)) L ≡ made_so (shift_inputs operation) L
     makes_half q h t (held l) =
@@ -229,13 +226,13 @@ module _ (coarse : Procedures ℕ Place ℤ) (fine : Procedures Position Loc Loc
     makes_flag f t (held l) =
         ap (λ c. (c && ((not (is_constant_flag operation f) && is_read l a) || (((cl && not (is_turn operation)) && is_cl l) || (brings_carry operation (flag_of f) && is_flag Cf l)))) && not (is_cleared op (flag_of f))) t
         ∙ ap (λ c. ((not (is_constant_flag operation f) && is_read l a) || (((cl && not (is_turn operation)) && is_cl l) || (brings_carry operation (flag_of f) && is_flag Cf l))) && not c) (flag_cleared operation a count f)
-        ∙ flag_is_told operation cl cleared may f (sym (writes_one f) ∙ t) (is_read l a) (is_cl l) (is_flag Cf l) ∙ sym (made_held ra rb (flags f) l)
+        ∙ flag_is_told operation cl cleared may f (sym (writes_one f) ∙ t) (is_read l a) (is_cl l) (is_flag Cf l) ∙ sym (made_held (reads_by body a) rb (flags f) l)
     makes_flag f t (in_frame k) =
         ap (λ c. ((c && not (is_constant_flag operation f)) && not (is_cleared op (flag_of f))) && frame_read body a k) t
         ∙ ap (λ c. (not (is_constant_flag operation f) && not c) && frame_read body a k) (flag_cleared operation a count f)
         ∙ flag_framed (not (is_constant_flag operation f)) (not (cleared && is_overflow f)) (frame_read body a k) (cl && not (is_turn operation)) (brings_carry operation (flag_of f))
         ∙ flag_is_told operation cl cleared may f (sym (writes_one f) ∙ t) (frame_read body a k) false false
-        ∙ ap (λ c. made_value (flags f) (frame_read body a k) c false) (and_false cl) ∙ sym (made_framed ra rb (flags f) k)
+        ∙ ap (λ c. made_value (flags f) (frame_read body a k) c false) (and_false cl) ∙ sym (made_framed (reads_by body a) rb (flags f) k)
 
     makes_frame : (k : ℤ) → frame_read body a k ≡ true → (L : Place) → value_made_of body op (in_frame k) L ≡ made_so (shift_inputs operation) L
     makes_frame k t (held l) =
@@ -259,7 +256,7 @@ module _ (coarse : Procedures ℕ Place ℤ) (fine : Procedures Position Loc Loc
     shift_agrees =
         subst (λ ss. Agrees coarse fine r entry at pushed ss [])
         (sym (ap (λ b. if b then staying w P else count_taking cpu w P count ++ (shift_working operation w count ++ storing P (result w))) (shifts operation count able)))
-        (storing_agrees coarse fine r entry at pushed o bodies body shift_point v w a P P G ra rb (shift_working operation w count) true (shift_inputs operation) flags (record {
+        (storing_agrees coarse fine r entry at pushed o bodies body shift_point v w a P P G (reads_by body a) rb (shift_working operation w count) true (shift_inputs operation) flags (record {
           operand = x;
           work = (count_works operation w count able).0;
           firsts = x.reads;

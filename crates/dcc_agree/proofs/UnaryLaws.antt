@@ -47,7 +47,7 @@ use Rattle.dcc_agree.proofs.StageLaws.{is_kept_place, reads_at, before_both, bot
 use Rattle.dcc_agree.proofs.ClosedLaws.{same_test}
 use Rattle.dcc_agree.proofs.FormLaws.{Input, first, second, itself, input_location, has_itself, made_by, IsWork, form_stmts}
 use Rattle.dcc_agree.proofs.OperandLaws.{frame_read, in_cells, reads_by, IsOperandAt}
-use Rattle.dcc_agree.proofs.WorkLaws.{all_flags, worked, flags_written, and_true, and_moved, read_in_memory}
+use Rattle.dcc_agree.proofs.WorkLaws.{point_with_op, all_flags, worked, flags_written, and_true, and_moved, read_in_memory}
 use Rattle.dcc_agree.proofs.StoredLaws.{all_lasting, storing_agrees}
 
 -- what dcc_prog tells of an operation that stores to its operand what it makes of it
@@ -119,7 +119,7 @@ module _ (coarse : Procedures ℕ Place ℤ) (fine : Procedures Position Loc Loc
   op = UnaryOp operation a
 
   abbrev pub unary_point : Point
-  unary_point = record { node = record node { instr = record (node.instr) { op = UnaryOp operation a } }; height = height }
+  unary_point = point_with_op node height (UnaryOp operation a)
 
   abbrev w : Width
   w = operand_width a

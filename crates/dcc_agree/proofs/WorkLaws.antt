@@ -6,6 +6,8 @@ use Rattle.dcc_num.specs.declared.Reg.{Reg}
 use Rattle.dcc_num.specs.declared.Half.{Half as HalfName}
 use Rattle.dcc_num.specs.declared.FlagName.{FlagName}
 use Rattle.dcc_num.specs.declared.FlagName.TheVariants.{Cf, Zf, Sf, Of}
+use Rattle.dcc_prog.specs.declared.procedure.Node.{Node}
+use Rattle.dcc_prog.specs.declared.instr.Op.{Op}
 use Rattle.dcc_prog.specs.declared.instr.Operand.{Operand}
 use Rattle.dcc_prog.specs.declared.instr.Operand.TheVariants.{Word, Byte, Seg, Mem, Const}
 use Rattle.dcc_prog.specs.Frame.{memory_of_two}
@@ -15,7 +17,7 @@ use Rattle.dcc_ir.specs.declared.syntax.Loc.TheVariants.{Half, Flag, Cell}
 use Rattle.dcc_ir.specs.Tree.{Stmt}
 use Rattle.dcc_ops.specs.Temporaries.{result_place}
 use Rattle.dcc_lift.proofs.ListTests.{and_left, and_right, or_none, not_true}
-use Rattle.dcc_asks.specs.Bodies.{Body}
+use Rattle.dcc_asks.specs.Bodies.{Body, Point}
 use Rattle.dcc_asks.specs.Places.{Place, held, in_frame, is_at, spots_of_memory}
 use Rattle.dcc_sources.specs.Sources.{sources}
 use Rattle.dcc_agree.proofs.ValueLaws.{is_value, is_written}
@@ -23,6 +25,10 @@ use Rattle.dcc_agree.proofs.StageLaws.{have_same, is_useless}
 use Rattle.dcc_agree.proofs.ClosedLaws.{same_test, tests_same}
 use Rattle.dcc_agree.proofs.FormLaws.{Input, carry, input_location, has_itself, made_by, IsWork}
 use Rattle.dcc_agree.proofs.OperandLaws.{frame_read}
+
+-- the instruction with that operation in the place of its own, at a height of the stack
+abbrev pub point_with_op : Node → ℕ → Op → Point
+point_with_op node height op = record { node = record node { instr = record (node.instr) { op = op } }; height = height }
 
 -- Tests of flags.
 
