@@ -7,6 +7,7 @@ pub mod TextableLaws
 pub mod TrimmedLaws
 pub mod PackedLaws
 pub mod PassingLaws
+pub mod ReturnLaws
 pub mod PreparedLaws
 mod CallExample
 pub mod PipeLaws

@@ -1,5 +1,5 @@
 -- A program of the form that is lifted, whose summaries a text can have, is prepared by the passes in their order.
-use Rattle.std.proofs.Common.{◌≡◌, ℕ, ◌≤◌, List, [], ◌∷◌, map, refl, ap, ap₂, ◌∙◌, subst, arith}
+use Rattle.std.proofs.Common.{◌≡◌, ℕ, ◌≤◌, List, [], ◌∷◌, map, refl, sym, ap, ap₂, ◌∙◌, subst, arith}
 use Rattle.std.specs.Prelude.{All, if◌then◌else◌, ◌==◌}
 use Rattle.std.specs.List.{AllZip}
 use Rattle.std.proofs.lemmas.List.Elements.{All-map, All-weaker}
@@ -13,7 +13,7 @@ use Rattle.dcc_ir.specs.Use.{graph_exprs}
 use Rattle.dcc_ir.proofs.KeepsLaws.{keeps_trans}
 use Rattle.dcc_lift.specs.Lifted.{IsShallow}
 use Rattle.dcc_sums.specs.Laws.{IsKeptBy}
-use Rattle.dcc_sums.specs.Localised.{sum_at, trim_by, localised}
+use Rattle.dcc_sums.specs.Localised.{sum_at, trim_by, localised, CallsJust, PassesJust}
 use Rattle.dcc_sums.proofs.KeepLaws.{localised-keeps}
 use Rattle.dcc_pack.specs.Packed.{pack_graph, packed}
 use Rattle.dcc_pack.specs.Laws.{PassesOneValue, PassesAtMostOne}
@@ -23,12 +23,13 @@ use Rattle.dcc_pack.proofs.LocalLaws.{localised-passes_one_value}
 use Rattle.dcc_pack.proofs.PackLaws.{packed-keeps}
 use Rattle.dcc_pipe.specs.Textable.{lifted_levels, levels}
 use Rattle.dcc_pipe.specs.Simplified.{IsSimplifiedGraph, HasEachChanged, IsSimplified}
-use Rattle.dcc_pipe.specs.Prepared.{HasLiftedForm, AreSumsOfText, IsPrepared, WhatIsLeftIsPrepared}
-use Rattle.dcc_pipe.proofs.ReplacedLaws.{HasSameBlocks, blocks-stay}
+use Rattle.dcc_pipe.specs.Prepared.{has_ret, returns, TakesOfReturning, HasLiftedForm, AreSumsOfText, IsPrepared, WhatIsLeftIsPrepared}
+use Rattle.dcc_pipe.proofs.ReplacedLaws.{HasSameBlocks, alike-at, blocks-stay}
 use Rattle.dcc_pipe.proofs.SimplifiedLaws.{deepest-of, none-deeper, never-stuck, all-both, simplified-trans, program-simplified}
 use Rattle.dcc_pipe.proofs.TrimmedLaws.{trimmed-parts, trimmed-reads}
 use Rattle.dcc_pipe.proofs.PackedLaws.{packed-reads}
-use Rattle.dcc_pipe.proofs.PassingLaws.{passes-stay}
+use Rattle.dcc_pipe.proofs.PassingLaws.{AllPass, simplified-entry, passes-stay}
+use Rattle.dcc_pipe.proofs.ReturnLaws.{just-taken, graph-taken, trimmed-returns, packed-returns, simplified-returns}
 use mathlib.Core.Path.{fun_ext}
 
 -- Programs of which each graph is changed by one function.
@@ -76,9 +77,9 @@ module _ (p : Program) (sums : List Summary) (form : HasLiftedForm p) (known : A
 
   together-places : (place : Place) → has_block together place ≡ has_block p place
   together-places place =
-      blocks-stay p.image p.lo p.hi just.graphs together.graphs place
+      blocks-stay just together place
       (all-changed HasSameBlocks pack_graph packed-blocks just.graphs)
-      ∙ blocks-stay p.image p.lo p.hi p.graphs just.graphs place
+      ∙ blocks-stay p just place
       (all-changed HasSameBlocks (trim_graph trim) trimmed-blocks p.graphs)
 
   -- and so do the depth, and how flags are read
@@ -122,20 +123,55 @@ module _ (p : Program) (sums : List Summary) (form : HasLiftedForm p) (known : A
       subst (λ sum_of. PassesAtMostOne sum_of together) (fun_ext (sum-still p.graphs sums))
       (packed-passes_one just sums localised-kept.formed one-value)
 
+  -- results are taken of procedures that return
+  just-passes : PassesJust (sum_at p.graphs sums) just
+  just-passes =
+      subst (λ sum_of. PassesJust sum_of just) (fun_ext (sum-still p.graphs sums)) one-value.just
+
+  abbrev Taken : Graph → Type 0
+  Taken g = All (λ b. All (TakesOfReturning (returns p)) b.stmts) g.blocks
+
+  together-returned : All Taken together.graphs
+  together-returned =
+      All-map Taken pack_graph just.graphs
+      (All-weaker (λ g. All (λ b. All (CallsJust (sum_at p.graphs sums)) b.stmts) g.blocks) (λ g. Taken (pack_graph g))
+      (λ g calls. graph-taken (returns p) g
+      (All-weaker (λ b. All (CallsJust (sum_at p.graphs sums)) b.stmts) (λ b. All (TakesOfReturning (returns p)) b.stmts)
+      (λ b stmts. All-weaker (CallsJust (sum_at p.graphs sums)) (TakesOfReturning (returns p))
+      (just-taken p sums known.are) b.stmts stmts) g.blocks calls)) just.graphs just-passes.calls)
+
+  -- the graph has the other's entry, and returns where that does
+  abbrev HasChanged : Graph → Graph → Type 0
+  HasChanged g h = (h.entry ≡ g.entry) × (has_ret h ≡ has_ret g)
+
   module _ (q : Program) (left : HasEachChanged IsSimplifiedGraph together q) where
     left-simplified : IsSimplified levels together q
     left-simplified =
         program-simplified lifted_levels together q together-simplified.textable
         (All-weaker Fine FlagsReadPlainly (λ g fine. fine.1) together.graphs together-fine) left
 
-    left-passes : PassesAtMostOne (sum_at p.graphs sums) q
-    left-passes = passes-stay (sum_at p.graphs sums) together q left.graphs together-passes
+    left-passes : AllPass (returns p) (sum_at p.graphs sums) q
+    left-passes =
+        passes-stay (returns p) (sum_at p.graphs sums) together q left.graphs
+        (record { one = together-passes; returned = together-returned })
+
+    -- the same procedures return
+    returns-still : returns q ≡ returns p
+    returns-still = fun_ext (λ entry.
+        alike-at IsSimplifiedGraph has_ret simplified-entry simplified-returns together.graphs q.graphs left.graphs entry
+        ∙ alike-at HasChanged has_ret (λ g h is. is.0) (λ g h is. is.1) just.graphs together.graphs
+        (all-changed HasChanged pack_graph (λ g. (refl, packed-returns g)) just.graphs) entry
+        ∙ alike-at HasChanged has_ret (λ g h is. is.0) (λ g h is. is.1) p.graphs just.graphs
+        (all-changed HasChanged (trim_graph trim) (λ g. (refl, trimmed-returns trim g)) p.graphs) entry)
 
     pub left-prepared : IsPrepared p q
     left-prepared = record {
       sums = sums;
       known = known;
-      passes = left-passes;
+      passes = left-passes.one;
+      returned =
+          subst (λ known. All (λ g. All (λ b. All (TakesOfReturning known) b.stmts) g.blocks) q.graphs) (sym returns-still)
+          left-passes.returned;
       simplified = simplified-trans lifted_levels levels p together q together-simplified left-simplified;
     }
 

@@ -1,5 +1,5 @@
 -- Programs in which other graphs stand in the places of all graphs.
-use Rattle.std.proofs.Common.{◌≡◌, ℕ, Bool, true, false, ◌==◌, List, [], ◌∷◌, ◌++◌, map, Option, Some, refl, sym, ap, ap₂, ◌∙◌, subst, append_assoc, eq-eqb, eqb-true, true≢false, Contains}
+use Rattle.std.proofs.Common.{◌≡◌, ℕ, Bool, true, false, ◌==◌, List, [], ◌∷◌, ◌++◌, map, Some, refl, sym, ap, ap₂, ◌∙◌, subst, append_assoc, eq-eqb, eqb-true, true≢false, Contains}
 use Rattle.std.specs.Prelude.{◌||◌, not, if◌then◌else◌}
 use Rattle.std.specs.List.{AllZip, list_any}
 use Rattle.std.proofs.lemmas.Bool.{and_parts}
@@ -152,29 +152,34 @@ module _ (image : List ℕ) (lo hi : ℕ) where
             (subst (Keeps p) is (all.0.keeps p formed there)) later.keeps;
       })
 
-  -- whether the graph has a block at the address
-  abbrev has : ℕ → Option Graph → Bool
-  has at graph = list_any (λ block. block.at == at) (graph_or_none graph).blocks
-
-  has-among : (at : ℕ) (blocks : List Block)
-      → list_any (λ block. block.at == at) blocks ≡ list_any (λ a. a == at) (map (λ b. b.at) blocks)
-  has-among at [] = refl
-  has-among at (b ∷ blocks) = ap (λ c. (b.at == at) || c) (has-among at blocks)
-
-  -- the graph with an entry has the same blocks
-  pub blocks-stay : (before after : List Graph) (place : Place) → AllZip HasSameBlocks before after
-      → has_block (with_graphs after) place ≡ has_block (with_graphs before) place
-  blocks-stay [] [] place all = refl
-  blocks-stay [] (h ∷ after) place all = absurd all
-  blocks-stay (g ∷ before) [] place all = absurd all
-  blocks-stay (g ∷ before) (h ∷ after) place all =
-      ap (λ n. has place.at (if n == place.entry then Some h else graph_at after place.entry)) all.0.entry
-      ∙ by (g.entry == place.entry) (blocks-stay before after place all.1)
+-- what is alike in the graphs at each place is alike in those with each entry
+module _ {B : Type 0} (R : Graph → Graph → Type 0) (F : Graph → B)
+    (entries_are : (g h : Graph) → R g h → h.entry ≡ g.entry) (same : (g h : Graph) → R g h → F h ≡ F g) where
+  pub alike-at : (before after : List Graph) → AllZip R before after → (entry : ℕ)
+      → F (graph_or_none (graph_at after entry)) ≡ F (graph_or_none (graph_at before entry))
+  alike-at [] [] all entry = refl
+  alike-at [] (h ∷ after) all entry = absurd all
+  alike-at (g ∷ before) [] all entry = absurd all
+  alike-at (g ∷ before) (h ∷ after) all entry =
+      ap (λ n. F (graph_or_none (if n == entry then Some h else graph_at after entry))) (entries_are g h all.0)
+      ∙ by (g.entry == entry) (alike-at before after all.1 entry)
     where
-      by : (b : Bool) → has place.at (graph_at after place.entry) ≡ has place.at (graph_at before place.entry)
-          → has place.at (if b then Some h else graph_at after place.entry)
-          ≡ has place.at (if b then Some g else graph_at before place.entry)
-      by true later =
-          has-among place.at h.blocks ∙ ap (list_any (λ a. a == place.at)) all.0.addresses
-          ∙ sym (has-among place.at g.blocks)
+      by : (b : Bool) → F (graph_or_none (graph_at after entry)) ≡ F (graph_or_none (graph_at before entry))
+          → F (graph_or_none (if b then Some h else graph_at after entry))
+          ≡ F (graph_or_none (if b then Some g else graph_at before entry))
+      by true later = same g h all.0
       by false later = later
+
+-- The blocks.
+
+addresses-tell : (at : ℕ) (blocks : List Block)
+    → list_any (λ block. block.at == at) blocks ≡ list_any (λ a. a == at) (map (λ b. b.at) blocks)
+addresses-tell at [] = refl
+addresses-tell at (b ∷ blocks) = ap (λ c. (b.at == at) || c) (addresses-tell at blocks)
+
+pub blocks-stay : (p q : Program) (place : Place) → AllZip HasSameBlocks p.graphs q.graphs
+    → has_block q place ≡ has_block p place
+blocks-stay p q place all =
+    alike-at HasSameBlocks (λ g. list_any (λ block. block.at == place.at) g.blocks) (λ g h is. is.entry)
+    (λ g h is. addresses-tell place.at h.blocks ∙ ap (list_any (λ a. a == place.at)) is.addresses
+    ∙ sym (addresses-tell place.at g.blocks)) p.graphs q.graphs all place.entry

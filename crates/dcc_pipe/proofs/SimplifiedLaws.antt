@@ -238,7 +238,6 @@ program-simplified depth p q textable reads is =
       };
       keeps = keeps;
       places = λ place.
-          ap (λ r. has_block r place) (sym same)
-          ∙ blocks-stay p.image p.lo p.hi p.graphs q.graphs place
+          blocks-stay p q place
           (weaker_zipped StandsFor HasSameBlocks (λ g h stands. stands.blocks) p.graphs q.graphs stand);
     }

@@ -1,5 +1,5 @@
 -- What the passes leave of a lifted program has what a text needs, and follows the image.
-use Rattle.std.proofs.Common.{◌≡◌, List, [], ◌∷◌, refl}
+use Rattle.std.proofs.Common.{◌≡◌, ℕ, List, [], ◌∷◌, refl}
 use Rattle.std.specs.List.{AllZip}
 use Rattle.dcc_prog.specs.declared.image.Image.{Image}
 use Rattle.dcc_prog.specs.declared.frame.Program.{Program}
@@ -8,6 +8,8 @@ use Rattle.dcc_ir.specs.Tree as inner
 use Rattle.dcc_lift.specs.Lifted.{HasOneGraph, IsLifted, IsLiftOf}
 use Rattle.dcc_pipe.specs.Textable.{lifted_levels, levels, IsTextable}
 use Rattle.dcc_pipe.specs.Simplified.{IsSimplifiedGraph, HasEachChanged, IsSimplified}
+use Rattle.dcc_pipe.specs.Prepared.{HasLiftedForm, LiftedHasTheForm}
+use Rattle.dcc_ir.specs.Passing.{PassesAll}
 use Rattle.dcc_pipe.specs.Following.{IsFollowing}
 use Rattle.dcc_pipe.proofs.SimplifiedLaws.{simplified-follows, program-simplified}
 
@@ -20,19 +22,31 @@ one-left Leaves (x ∷ []) (h ∷ []) g one all = (h, refl)
 one-left Leaves (x ∷ []) (h ∷ k ∷ after) g one all = absurd all.1
 one-left Leaves (x ∷ y ∷ before) (h ∷ after) g one all = absurd (cc)
 
+-- what is lifted has what a text needs
+textable-lifted : (image : Image) (program : Program) (p : inner.Program) → IsLifted image program p
+    → IsTextable lifted_levels p
+textable-lifted image program p lifted =
+    record { formed = lifted.well_formed; shallow = lifted.shallow; never_stuck = lifted.never_stuck }
+
+pub lifted-has_the_form : LiftedHasTheForm
+lifted-has_the_form image program p lifted = with_back lifted.passes
+  where
+    with_back : {back : ℕ → List ℕ} → PassesAll back p → HasLiftedForm p
+    with_back {back = back} passes = record {
+      textable = textable-lifted image program p lifted;
+      back = back;
+      passes = passes;
+      reads = lifted.flag_reads;
+    }
+
 module _ (image : Image) (program : Program) (p : inner.Program) (of : IsLiftOf image program p) where
   abbrev lifted : IsLifted image program p
   lifted = of.lifted
 
-  -- what is lifted has what a text needs
-  pub lifted-textable : IsTextable lifted_levels p
-  lifted-textable =
-      record { formed = lifted.well_formed; shallow = lifted.shallow; never_stuck = lifted.never_stuck }
-
   module _ (q : inner.Program) (left : HasEachChanged IsSimplifiedGraph p q) where
     -- and so has what the passes leave
     pub left-simplified : IsSimplified levels p q
-    left-simplified = program-simplified lifted_levels p q lifted-textable lifted.flag_reads left
+    left-simplified = program-simplified lifted_levels p q (textable-lifted image program p lifted) lifted.flag_reads left
 
     -- which follows the image
     pub left-follows : IsFollowing image program q
