@@ -145,7 +145,7 @@ module _ (o : Option Procedure) (body : Body) (exposed : Place → Bool) where
   same_base true base location e p = sym (bp_apart base location e p)
   same_base false base location e p = refl
 
-  abbrev Addressed : Ea → Place → Type 0
+  abbrev pub Addressed : Ea → Place → Type 0
   Addressed ea (held location) = (is_place body (held location) ≡ true) × (is_in_address location ea ≡ true)
   Addressed ea (in_frame k) = ⊥
 

@@ -18,6 +18,7 @@ mod UnaryLaws
 mod ShiftLaws
 mod ShiftNodes
 mod FrameMoves
+mod LeaLaws
 mod TableLaws
 mod SettingLaws
 mod EnoughLaws
