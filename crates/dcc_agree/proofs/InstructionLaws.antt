@@ -1,11 +1,11 @@
 -- Instructions that do what their statements do together.
-use Rattle.std.proofs.Common.{◌≡◌, ℕ, ℤ, true, false, ◌&&◌, inl, inr, List, [], ◌∷◌, Option, Some, None, refl, sym, ap, ◌∙◌, subst, true≢false}
+use Rattle.std.proofs.Common.{◌≡◌, ℕ, ℤ, true, false, ◌&&◌, inl, inr, if◌then◌else◌, List, [], ◌∷◌, Option, Some, None, refl, sym, ap, ◌∙◌, subst, true≢false}
 use Rattle.std.specs.Prelude.{Contains}
 use Rattle.dcc_prog.specs.declared.image.Image.{Image}
 use Rattle.dcc_prog.specs.declared.frame.Program.{Program as Analysed}
 use Rattle.dcc_prog.specs.declared.procedure.Node.{Node}
 use Rattle.dcc_prog.specs.declared.instr.Op.{Op}
-use Rattle.dcc_prog.specs.declared.instr.Op.TheVariants.{Alu as AluOp, Unary as UnaryOp, Shift as ShiftOp, Mov, Xchg, Push, Pop, Call, Int21}
+use Rattle.dcc_prog.specs.declared.instr.Op.TheVariants.{Alu as AluOp, Unary as UnaryOp, Shift as ShiftOp, Mov, Lea, Xchg, Push, Pop, Call, Int21}
 use Rattle.dcc_prog.specs.declared.instr.Alu.{Alu}
 use Rattle.dcc_prog.specs.declared.instr.Shift.{Shift}
 use Rattle.dcc_prog.specs.declared.instr.Count.{Count}
@@ -33,7 +33,17 @@ use Rattle.dcc_agree.proofs.NodeOperands.{have_places, operand_there}
 use Rattle.dcc_agree.proofs.AluLaws.{alu_agrees}
 use Rattle.dcc_agree.proofs.OperandLaws.{IsOperandAt}
 use Rattle.dcc_agree.proofs.OperationLaws.{IsValueOperation}
-use Rattle.dcc_num.specs.declared.Reg.TheVariants.{Sp, Bp}
+use Rattle.dcc_num.specs.declared.Width.TheVariants.{Word as word_width}
+use Rattle.dcc_num.specs.declared.Reg.{Reg}
+use Rattle.dcc_num.specs.declared.Reg.TheVariants.{Ax, Cx, Dx, Bx, Sp, Bp, Si, Di}
+use Rattle.dcc_prog.specs.Trail.{is_general}
+use Rattle.dcc_ops.specs.Place.{computed}
+use Rattle.dcc_ops.specs.Computed.{computed_expr}
+use Rattle.dcc_ops.specs.Registers.{register_place}
+use Rattle.dcc_ops.specs.Statements.{mov_stmts}
+use Rattle.dcc_coupled.specs.Operands.{address_of}
+use Rattle.dcc_coupled.specs.Statements.{moves_frame}
+use Rattle.dcc_agree.proofs.LeaLaws.{lea_agrees}
 use Rattle.dcc_agree.proofs.IdleLaws.{same_once, IsIdle, idle_agrees}
 use Rattle.dcc_agree.proofs.FrameMoves.{moves_idle}
 use Rattle.dcc_agree.proofs.ShiftNodes.{shift_agrees}
@@ -94,6 +104,17 @@ second_named (Word r) b one v ea t = t
 second_named (Byte r h) b one v ea t = t
 second_named (Seg n) b one v ea t = t
 second_named (Const u n) b one v ea t = t
+
+-- LEA of a general register moves no frame
+lea_moves_none : (r : Reg) (ea : Ea) → is_general r ≡ true → moves_frame (Lea r ea) ≡ false
+lea_moves_none Ax ea t = refl
+lea_moves_none Cx ea t = refl
+lea_moves_none Dx ea t = refl
+lea_moves_none Bx ea t = refl
+lea_moves_none Si ea t = refl
+lea_moves_none Di ea t = refl
+lea_moves_none Sp ea t = absurd (true≢false (sym t))
+lea_moves_none Bp ea t = absurd (true≢false (sym t))
 
 -- the instruction with that operation in the place of its own
 abbrev with_op : Node → Op → Node
@@ -233,11 +254,20 @@ module _ (image : Image) (program : Analysed) (p : Program) (is : IsTranslated i
   frame_move_there (Pop (Word Bp)) node found t = idle_there node (Pop (Word Bp)) found t (pushed_of scene.procedure)
   frame_move_there op node found t = absurd (true≢false (sym t))
 
+  lea_there : (node : Node) (r : Reg) (ea : Ea) → StandsHere (with_op node (Lea r ea)) → is_general r ≡ true → Shown (with_op node (Lea r ea))
+  lea_there node r ea found t =
+      let here = with_op node (Lea r ea) in
+      subst (λ ss. Agrees coarse fine (lifted_refinement program) entry at (pushed_of scene.procedure) ss [])
+      (sym (ap (λ b. if b then [] else mov_stmts word_width (register_place (Word r)) (computed (computed_expr (address_of ea)))) (lea_moves_none r ea t)))
+      (lea_agrees coarse fine (lifted_refinement program) entry at (pushed_of scene.procedure) found_procedure (bodies_of program) body node height r ea
+      (setting.value_operation image program p is entry x at here height found high refl) t (have_places image program p is entry x at here found).plain)
+
   by_operation : (op : Op) (node : Node) → StandsHere (with_op node op) → is_shown op ≡ true → Shown (with_op node op)
   by_operation (AluOp operation a b) node found t = alu_there node operation a b found t
   by_operation (ShiftOp operation a count) node found t = shift_there node operation a count found t
   by_operation (Mov to from) node found t = frame_move_there (Mov to from) node found t
   by_operation (Pop a) node found t = frame_move_there (Pop a) node found t
+  by_operation (Lea r ea) node found t = lea_there node r ea found t
   by_operation Int21 node found t = dos_there node found
   by_operation (UnaryOp operation a) node found t = unary_there node operation a found t
   by_operation op node found t = told_agrees (with_op node op) found t

@@ -1,13 +1,12 @@
 -- LEA of a general register does what its statements do.
-use Rattle.std.proofs.Common.{◌≡◌, ℕ, ℤ, Bool, true, false, not, ◌&&◌, ◌||◌, if◌then◌else◌, ◌⊎◌, inl, inr, List, [], ◌∷◌, ◌++◌, Option, None, refl, sym, ap, ◌∙◌, subst, true≢false}
+use Rattle.std.proofs.Common.{◌≡◌, ℕ, ℤ, Bool, true, false, ◌&&◌, ◌||◌, if◌then◌else◌, ◌⊎◌, inl, inr, List, [], ◌∷◌, ◌++◌, Option, refl, sym, ap, ◌∙◌, subst, true≢false}
 use Rattle.std.specs.Prelude.{Contains, flat_map}
 use Rattle.std.proofs.lemmas.List.{append-nil}
-use Rattle.std.proofs.lemmas.List.Elements.{Contains-append_left, Contains-append_right, Contains-append_cases}
+use Rattle.std.proofs.lemmas.List.Elements.{Contains-append_left}
 use Rattle.dcc_num.specs.declared.Width.TheVariants.{Word as word_width}
 use Rattle.dcc_num.specs.declared.Reg.{Reg}
 use Rattle.dcc_num.specs.declared.Half.{Half as HalfName}
 use Rattle.dcc_num.specs.declared.Half.TheVariants.{Low, High}
-use Rattle.dcc_num.specs.declared.FlagName.{FlagName}
 use Rattle.dcc_prog.specs.declared.procedure.Node.{Node}
 use Rattle.dcc_prog.specs.declared.instr.Ea.{Ea}
 use Rattle.dcc_prog.specs.declared.instr.Operand.TheVariants.{Word}
@@ -17,7 +16,7 @@ use Rattle.dcc_prog.specs.Trail.{is_general}
 use Rattle.dcc_prog.specs.Writes.{is_same_register}
 use Rattle.dcc_prog.specs.Wanted.{Location, half_of, flag_of, is_in_address}
 use Rattle.dcc_ir.specs.declared.syntax.Loc.{Loc}
-use Rattle.dcc_ir.specs.declared.syntax.Loc.TheVariants.{Half, Flag, Cell, Temp}
+use Rattle.dcc_ir.specs.declared.syntax.Loc.TheVariants.{Half, Flag, Temp}
 use Rattle.dcc_ir.specs.Location.{same_location}
 use Rattle.dcc_ir.specs.Tree.{Part, Stmt, Set}
 use Rattle.dcc_ir.specs.Use.{reads_of}
@@ -33,8 +32,8 @@ use Rattle.dcc_coupled.specs.Operands.{address_of}
 use Rattle.dcc_coupled.specs.Places.{IsPlainAddress}
 use Rattle.dcc_demand.specs.Procedures.{Procedures}
 use Rattle.dcc_asks.specs.Bodies.{Body, Point}
-use Rattle.dcc_asks.specs.Places.{Place, held, in_frame, passes, is_place}
-use Rattle.dcc_asks.specs.Values.{value_written, is_sure, value_made_of}
+use Rattle.dcc_asks.specs.Places.{Place, held, in_frame, passes}
+use Rattle.dcc_asks.specs.Values.{value_written, is_sure}
 use Rattle.dcc_sums.specs.Points.{Position}
 use Rattle.dcc_match.specs.Refinement.{Refinement, Carries, Takes}
 use Rattle.dcc_sources.specs.Sources.{before, sources, used}
@@ -46,7 +45,7 @@ use Rattle.dcc_agree.proofs.ShownLaws.{Shows, shows_none, shows_one, shows_alike
 use Rattle.dcc_agree.proofs.ValueLaws.{is_written, value_agrees}
 use Rattle.dcc_agree.proofs.ClosedLaws.{pushed_cell}
 use Rattle.dcc_agree.proofs.OperationLaws.{IsValueOperation, CarriesOn, effect_there, word_there, callee_there, writes_if, carries_on, on_carries, uses_if}
-use Rattle.dcc_agree.proofs.OperandLaws.{writes_by, word_at}
+use Rattle.dcc_agree.proofs.OperandLaws.{word_at}
 use Rattle.dcc_agree.proofs.AddressLaws.{address_shown, Addressed}
 use Rattle.dcc_agree.proofs.StoredLaws.{shows_so}
 use Rattle.dcc_agree.proofs.WorkLaws.{point_with_op, and_true}

@@ -11,7 +11,7 @@ use Rattle.dcc_prog.specs.declared.instr.Shift.{Shift}
 use Rattle.dcc_prog.specs.declared.instr.Count.{Count}
 use Rattle.dcc_prog.specs.declared.instr.Count.TheVariants.{Const as ConstCount}
 use Rattle.dcc_prog.specs.declared.instr.Op.{Op}
-use Rattle.dcc_prog.specs.declared.instr.Op.TheVariants.{Alu, Unary as UnaryOp, Shift as ShiftOp, Mov, Pop, Enter, Leave, Plain, Jump, Branch, Loop, LoopE, LoopNe, Jcxz, Table, Ret, Int21}
+use Rattle.dcc_prog.specs.declared.instr.Op.TheVariants.{Alu, Unary as UnaryOp, Shift as ShiftOp, Mov, Lea, Pop, Enter, Leave, Plain, Jump, Branch, Loop, LoopE, LoopNe, Jcxz, Table, Ret, Int21}
 use Rattle.dcc_prog.specs.Trail.{is_general}
 use Rattle.dcc_prog.specs.Wanted.{is_turn}
 use Rattle.dcc_ir.specs.Tree.{Program}
@@ -63,6 +63,7 @@ is_shown (Alu operation a b) = is_named a && is_named b
 is_shown (ShiftOp operation a count) = is_named a && is_shiftable operation count
 is_shown (Mov to from) = is_frame_move (Mov to from)
 is_shown (Pop a) = is_frame_move (Pop a)
+is_shown (Lea r ea) = is_general r
 is_shown Int21 = true
 is_shown (UnaryOp Inc a) = is_named a
 is_shown (UnaryOp Dec a) = is_named a

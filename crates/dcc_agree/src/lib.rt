@@ -11,7 +11,8 @@ pub fn agreeing_instructions_are_enough()
 {}
 
 /// Instructions that are shown to do what their statements do together (`is_shown`): those without operand, jumps,
-/// returns, DOS calls, moves between SP and BP, sums, differences, comparisons, logic, INC, DEC, NEG, shifts and rotates.
+/// returns, DOS calls, moves between SP and BP, LEA, sums, differences, comparisons, logic, INC, DEC, NEG, shifts and
+/// rotates.
 pub fn shown_instructions_agree()
     ensures { ShownInstructionsAgree }
 {}
