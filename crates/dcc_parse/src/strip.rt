@@ -8,6 +8,7 @@ ghost use Rattle.dcc_c.specs.Offences.{Scene, default_offences, lines_offences, 
 ghost use Rattle.dcc_reader.specs.PartialViews as partial;
 
 use dcc_c::{Arm, Base, CExpr, CStmt, CType, Line};
+use dcc_reader::spare::without_spare;
 use dcc_reader::{CaseAt, NumberAt, PartialArm, PartialExpr, PartialStmt, Row, WordAt};
 use std::alloc::{AllocError, Global};
 
@@ -226,7 +227,7 @@ fn strip_arms(alloc: Global, arms: Vec<PartialArm>) -> Result<Arms, AllocError>
         }
     }
     Ok(Arms {
-        with_cases,
+        with_cases: without_spare(with_cases),
         default,
     })
 }

@@ -12,6 +12,7 @@ ghost use Rattle.dcc_reader.specs.ReaderViews.{reader_of};
 use crate::Got;
 use dcc_lex::{Keyword, Mark, Suffix, Token};
 use dcc_reader::list::push_some;
+use dcc_reader::spare::without_spare;
 use dcc_reader::{CaseAt, Reader};
 use std::alloc::Global;
 
@@ -106,7 +107,7 @@ pub(crate) fn read_arm_head(r: &mut Reader<'_>, alloc: Global, calls: usize) -> 
         let numbers = Vec::new(alloc);
         return Ok(ArmHead { numbers, default });
     }
-    let numbers = read_cases(r, alloc, calls)?;
+    let numbers = without_spare(read_cases(r, alloc, calls)?);
     let default = None;
     Ok(ArmHead { numbers, default })
 }

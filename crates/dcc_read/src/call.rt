@@ -12,6 +12,7 @@ use crate::Got;
 use crate::expression::{Inside, name_here, read_enclosed, read_unary, read_value};
 use dcc_c::CUn;
 use dcc_lex::Mark;
+use dcc_reader::spare::without_spare;
 use dcc_reader::{PartialCall, PartialExpr, PartialStmt, Reader, WordAt};
 use std::alloc::Global;
 
@@ -52,7 +53,7 @@ fn read_call_after<'a>(
 {
     let depth = r.depth;
     r.skip();
-    let arguments = read_arguments(r, alloc, calls)?;
+    let arguments = without_spare(read_arguments(r, alloc, calls)?);
     r.take_mark(Mark::CloseParenthesis);
     let closed = !r.is_stopped();
     r.take_mark(Mark::Semicolon);

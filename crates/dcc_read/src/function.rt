@@ -8,11 +8,11 @@ ghost use Rattle.dcc_reader.specs.PartialViews.{function_of};
 ghost use Rattle.dcc_reader.specs.ReaderViews.{reader_of};
 
 use crate::Got;
-use crate::spare::without_spare;
 use crate::statement::read_lines;
 use dcc_lex::Mark;
 use dcc_reader::declaration::read_locals;
 use dcc_reader::head::{Begun, read_begun, read_head};
+use dcc_reader::spare::without_spare;
 use dcc_reader::{Around, PartialFunction, Reader};
 use std::alloc::Global;
 

@@ -6,7 +6,6 @@ mod call;
 mod expression;
 mod function;
 mod short;
-mod spare;
 mod statement;
 mod text;
 

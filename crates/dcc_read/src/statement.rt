@@ -15,10 +15,10 @@ use crate::arm::{begins_arm, read_arm_head};
 use crate::call::read_simple;
 use crate::expression::read_test;
 use crate::short::{read_goto, read_leave, read_return};
-use crate::spare::without_spare;
 use dcc_lex::{Head, Keyword, Mark};
 use dcc_reader::list::push_some;
 use dcc_reader::pragma::read_depth;
+use dcc_reader::spare::without_spare;
 use dcc_reader::{Around, ParseKind, PartialArm, PartialStmt, Reader, Row, StatementWord};
 use std::alloc::Global;
 
@@ -364,7 +364,7 @@ fn read_switch<'a>(
     r.take_mark(Mark::OpenBrace);
     let arms = read_arms(r, alloc, calls, around.in_switch())?;
     r.take_mark(Mark::CloseBrace);
-    Ok(PartialStmt::Switch(test, done, arms))
+    Ok(PartialStmt::Switch(test, done, without_spare(arms)))
 }
 
 // Reads a block, which must stand here.
@@ -509,6 +509,6 @@ fn read_arm<'a>(
     Ok(PartialArm {
         numbers: head.numbers,
         default: head.default,
-        body,
+        body: without_spare(body),
     })
 }

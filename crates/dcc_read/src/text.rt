@@ -19,6 +19,7 @@ use dcc_reader::declaration::{read_init, read_size};
 use dcc_reader::head::{Begun, read_begun};
 use dcc_reader::pragma::take_number_of_line;
 use dcc_reader::reader::reader_at;
+use dcc_reader::spare::without_spare;
 use dcc_reader::{NumberAt, PartialFunction, PartialText, PartialVariable, Reader};
 use std::alloc::{AllocError, Global};
 
@@ -168,8 +169,8 @@ fn read_text<'a>(r: &mut Reader<'a>, alloc: Global, calls: usize) -> Got<Partial
     Ok(PartialText {
         lo,
         hi,
-        globals: declared.globals,
-        functions: declared.functions,
+        globals: without_spare(declared.globals),
+        functions: without_spare(declared.functions),
     })
 }
 

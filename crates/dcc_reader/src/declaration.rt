@@ -11,6 +11,7 @@ ghost use Rattle.dcc_reader.specs.ReaderViews.{reader_of};
 use crate::list::push_some;
 use crate::partial::{NumberAt, PartialVariable};
 use crate::reader::Reader;
+use crate::spare::without_spare;
 use dcc_c::Class;
 use dcc_lex::{Keyword, Mark};
 use std::alloc::{AllocError, Global};
@@ -62,7 +63,7 @@ fn read_list(r: &mut Reader<'_>, alloc: Global, calls: usize) -> Result<Vec<Numb
     push_some(&mut values, first)?;
     more_values(r, calls, &mut values)?;
     r.take_mark(Mark::CloseBrace);
-    Ok(values)
+    Ok(without_spare(values))
 }
 
 // Reads initial values: some in braces, or one.
@@ -73,7 +74,7 @@ fn read_values(r: &mut Reader<'_>, alloc: Global, calls: usize) -> Result<Vec<Nu
     if r.sees_mark(Mark::OpenBrace) {
         return read_list(r, alloc, calls);
     }
-    let mut values = Vec::new(alloc);
+    let mut values = Vec::with_capacity(alloc, 1)?;
     let value = r.take_plain();
     push_some(&mut values, value)?;
     Ok(values)

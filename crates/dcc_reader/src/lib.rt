@@ -13,6 +13,7 @@ pub mod operator;
 pub mod partial;
 pub mod pragma;
 pub mod reader;
+pub mod spare;
 pub mod statement_word;
 pub mod token;
 pub mod unread;

@@ -2,7 +2,7 @@ use Rattle.std.proofs.Common.{arith, suc, length, not, map, Some, refl, sym, ap,
 use Rattle.std.specs.Vec.Iter.{into_iter_items, into_iter_len}
 use Rattle.dcc_c.specs.declared.syntax.Arm.{roll-Arm}
 use Rattle.dcc_c.specs.Stripped.{plain_numbers}
-use Rattle.dcc_c.specs.Views.{lines_of}
+use Rattle.dcc_c.specs.Views.{lines_of, arms_of}
 use Rattle.dcc_reader.specs.PartialViews as partial
 use Rattle.dcc_reader.specs.declared.partial.Row.{size-Row}
 use Rattle.dcc_parse.proofs.Moved.{none-left}
@@ -36,7 +36,8 @@ strip_arms-loop-arm-preserved t c scene blocks none single =
 
 pub strip_arms-returns : goal.strip_arms-returns
 strip_arms-returns t c scene blocks none single =
-    arms-end scene blocks c.loop-arm.with_cases.items c.loop-arm.default c.in-None.ensures.steps.0 (c.loop-arm.invariant scene blocks none single)
+    let both = arms-end scene blocks c.loop-arm.with_cases.items c.loop-arm.default c.in-None.ensures.steps.0 (c.loop-arm.invariant scene blocks none single) in
+    (ap arms_of c.without_spare.ensures ∙ both.0, both.1)
 
 pub strip_lines-loop-row-preserved : goal.strip_lines-loop-row-preserved
 strip_lines-loop-row-preserved t c scene blocks none =

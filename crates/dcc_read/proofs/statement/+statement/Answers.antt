@@ -1,5 +1,5 @@
 use Rattle.std.proofs.Common.{◌-◌, false, not, codes, map, Some, None, sym, ap, ◌∙◌, arith}
-use Rattle.dcc_c.specs.Partial.{IfOf, BreakOf, ContinueOf, no_rows, no_cases, cases}
+use Rattle.dcc_c.specs.Partial.{IfOf, SwitchOf, BreakOf, ContinueOf, no_rows, no_cases, cases}
 use Rattle.dcc_c.specs.Reading.{got, next_token}
 use Rattle.dcc_c.specs.Token.{depth_line}
 use Rattle.dcc_c.specs.ReadingStatements as s
@@ -23,7 +23,8 @@ pub read_arm-returns : goal.read_arm-returns
 read_arm-returns t c others =
     ap (λ arms. got arms (reader_of c.end_arm-body.new.r))
     (arm-parts _ others
-    ∙ ap (λ a. cases (map case_of a.numbers.items) a.default (lines_of a.body.items) others) (out-roll-PartialArm _))
+    ∙ ap (λ a. cases (map case_of a.numbers.items) a.default (lines_of a.body.items) others) (out-roll-PartialArm _)
+    ∙ ap (λ rows. cases (map case_of c.in_ok-head.head.numbers.items) c.in_ok-head.head.default (lines_of rows) others) c.without_spare.ensures)
     ∙ lines.arm-read c.args.calls (around_of c.args.around) (reader_of c.args.r.now) (reader_of c.read_arm_head.new.r) (reader_of c.read_lines.new.r)
     (reader_of c.end_arm-body.new.r) (arm_head_of c.in_ok-head.head) (block_of c.in_ok-block.block) (lines_of c.end_arm-body.result.items) others
     c.in_ok-head.ensures c.in_ok-block.ensures c.end_arm-body.ensures
@@ -295,7 +296,8 @@ read_switch-skip-requires t c = record { seen = c.requires.seen }
 
 pub read_switch-returns : goal.read_switch-returns
 read_switch-returns t c =
-    ap (λ stmt. got stmt (reader_of c.take_mark-2.new.self)) (switch-tree c.in_ok-test.test (not c.is_stopped-done.result) c.in_ok-arms.arms)
+    ap (λ stmt. got stmt (reader_of c.take_mark-2.new.self)) (switch-tree c.in_ok-test.test (not c.is_stopped-done.result) c.without_spare.result
+    ∙ ap (λ l. SwitchOf (expr_of c.in_ok-test.test) (not c.is_stopped-done.result) (arms_of l)) c.without_spare.ensures)
     ∙ laws.switch-read c.args.calls (around_of c.args.around) (around_of c.in_switch.result) (reader_of c.args.r.now) (reader_of c.skip.new.self)
     (reader_of c.read_test.new.r) (reader_of c.take_mark.new.self)
     (reader_of c.read_arms.new.r) (reader_of c.take_mark-2.new.self) (expr_of c.in_ok-test.test) c.is_stopped-done.result

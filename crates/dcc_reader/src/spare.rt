@@ -3,7 +3,7 @@
 ghost use Rattle.std.specs.Prelude.{◌≡◌};
 
 /// The list, with no more room than its items take.
-pub(crate) fn without_spare<T: Drop>(list: Vec<T>) -> Vec<T>
+pub fn without_spare<T: Drop>(list: Vec<T>) -> Vec<T>
     ensures { result.items ≡ list.items }
 {
     let mut list = list;
