@@ -8,8 +8,8 @@ ghost use Rattle.dcc_read.specs.Stars.{after_star};
 ghost use Rattle.dcc_reader.specs.PartialViews.{expr_of, stmt_of, word_of};
 ghost use Rattle.dcc_reader.specs.ReaderViews.{reader_of};
 
-use crate::Got;
 use crate::expression::{Inside, name_here, read_enclosed, read_unary, read_value};
+use crate::{Got, GotStmt};
 use dcc_c::CUn;
 use dcc_lex::Mark;
 use dcc_reader::spare::without_spare;
@@ -46,7 +46,7 @@ fn read_call_after<'a>(
     calls: usize,
     place: Option<PartialExpr<'a>>,
     function: WordAt<'a>,
-) -> Got<PartialStmt<'a>>
+) -> GotStmt<'a>
     requires seen { is_some (reading.next_token (reader_of r.old)) ≡ true }
     ensures { IfOk result (λ stmt. reading.got (stmt_of stmt) (reader_of r.new)
         ≡ statements.call_of calls (option_map expr_of place.entry) (word_of function.entry) (reader_of r.old)) }
@@ -72,7 +72,7 @@ fn read_call<'a>(
     alloc: Global,
     calls: usize,
     place: Option<PartialExpr<'a>>,
-) -> Got<PartialStmt<'a>>
+) -> GotStmt<'a>
     requires begins { statements.begins_call (reader_of r.old) ≡ true }
     ensures { IfOk result (λ stmt. reading.got (stmt_of stmt) (reader_of r.new)
         ≡ statements.read_call calls (option_map expr_of place.entry) (reader_of r.old)) }
@@ -115,7 +115,7 @@ fn read_assigned<'a>(
     alloc: Global,
     calls: usize,
     place: PartialExpr<'a>,
-) -> Got<PartialStmt<'a>>
+) -> GotStmt<'a>
     ensures { IfOk result (λ stmt. reading.got (stmt_of stmt) (reader_of r.new)
         ≡ statements.read_assigned calls (reading.got (expr_of place.entry) (reader_of r.old))) }
 {
@@ -134,11 +134,7 @@ fn read_assigned<'a>(
 }
 
 /// Reads an assignment or a call.
-pub(crate) fn read_simple<'a>(
-    r: &mut Reader<'a>,
-    alloc: Global,
-    calls: usize,
-) -> Got<PartialStmt<'a>>
+pub(crate) fn read_simple<'a>(r: &mut Reader<'a>, alloc: Global, calls: usize) -> GotStmt<'a>
     ensures { IfOk result (λ stmt. reading.got (stmt_of stmt) (reader_of r.new)
         ≡ statements.read_simple calls (reader_of r.old)) }
 {

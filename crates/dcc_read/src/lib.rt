@@ -9,8 +9,12 @@ mod short;
 mod statement;
 mod text;
 
+use dcc_reader::PartialStmt;
 use std::alloc::AllocError;
 pub use text::{Reading, read};
 
 /// What is read of a text; an error where memory runs out.
 pub type Got<T> = Result<T, AllocError>;
+
+/// The same of a statement.
+pub(crate) type GotStmt<'a> = Got<PartialStmt<'a>>;

@@ -7,7 +7,7 @@ ghost use Rattle.dcc_c.specs.ReadingStatements as statements;
 ghost use Rattle.dcc_reader.specs.PartialViews.{stmt_of};
 ghost use Rattle.dcc_reader.specs.ReaderViews.{reader_of};
 
-use crate::Got;
+use crate::GotStmt;
 use crate::expression::read_value;
 use dcc_lex::Mark;
 use dcc_reader::{PartialStmt, Reader};
@@ -49,11 +49,7 @@ pub(crate) fn read_goto<'a>(r: &mut Reader<'a>) -> PartialStmt<'a>
 }
 
 /// Reads a `return`, the word of which stands here.
-pub(crate) fn read_return<'a>(
-    r: &mut Reader<'a>,
-    alloc: Global,
-    calls: usize,
-) -> Got<PartialStmt<'a>>
+pub(crate) fn read_return<'a>(r: &mut Reader<'a>, alloc: Global, calls: usize) -> GotStmt<'a>
     requires seen { is_some (reading.next_token (reader_of r.old)) ≡ true }
     ensures { IfOk result (λ stmt.
         reading.got (stmt_of stmt) (reader_of r.new) ≡ statements.read_return calls (reader_of r.old)) }

@@ -10,11 +10,11 @@ ghost use Rattle.dcc_read.specs.Lines.{block_of, after_line, take_forever, while
 ghost use Rattle.dcc_reader.specs.PartialViews.{expr_of, stmt_of, lines_of, arm_before, arms_of};
 ghost use Rattle.dcc_reader.specs.ReaderViews.{reader_of};
 
-use crate::Got;
 use crate::arm::{begins_arm, read_arm_head};
 use crate::call::read_simple;
 use crate::expression::read_test;
 use crate::short::{read_goto, read_leave, read_return};
+use crate::{Got, GotStmt};
 use dcc_lex::{Head, Keyword, Mark};
 use dcc_reader::list::push_some;
 use dcc_reader::pragma::read_depth;
@@ -208,7 +208,7 @@ fn read_label<'a>(r: &mut Reader<'a>, around: Around) -> LineRead<'a>
 }
 
 // Reads a statement without a word: `;`, an assignment or a call.
-fn read_wordless<'a>(r: &mut Reader<'a>, alloc: Global, calls: usize) -> Got<PartialStmt<'a>>
+fn read_wordless<'a>(r: &mut Reader<'a>, alloc: Global, calls: usize) -> GotStmt<'a>
     ensures { IfOk result (λ stmt. reading.got (stmt_of stmt) (reader_of r.new)
         ≡ wordless_stmt calls (reader_of r.old)) }
 {
@@ -221,12 +221,7 @@ fn read_wordless<'a>(r: &mut Reader<'a>, alloc: Global, calls: usize) -> Got<Par
 
 // Reads a statement that is no label.
 #[cycle(statement)]
-fn read_stmt<'a>(
-    r: &mut Reader<'a>,
-    alloc: Global,
-    calls: usize,
-    around: Around,
-) -> Got<PartialStmt<'a>>
+fn read_stmt<'a>(r: &mut Reader<'a>, alloc: Global, calls: usize, around: Around) -> GotStmt<'a>
     requires room { around.blocks + calls ≤ usize.MAX }
     ensures { IfOk result (λ stmt. reading.got (stmt_of stmt) (reader_of r.new)
         ≡ statements.read_stmt calls (around_of around) (reader_of r.old)) }
@@ -257,12 +252,7 @@ fn read_stmt<'a>(
 
 // Reads an `if`, the word of which stands here.
 #[cycle(statement)]
-fn read_if<'a>(
-    r: &mut Reader<'a>,
-    alloc: Global,
-    calls: usize,
-    around: Around,
-) -> Got<PartialStmt<'a>>
+fn read_if<'a>(r: &mut Reader<'a>, alloc: Global, calls: usize, around: Around) -> GotStmt<'a>
     requires seen { is_some (reading.next_token (reader_of r.old)) ≡ true }
     requires room { around.blocks + calls < usize.MAX }
     ensures { IfOk result (λ stmt. reading.got (stmt_of stmt) (reader_of r.new)
@@ -286,12 +276,7 @@ fn read_if<'a>(
 
 // Reads a `while` loop, the word of which stands here.
 #[cycle(statement)]
-fn read_while<'a>(
-    r: &mut Reader<'a>,
-    alloc: Global,
-    calls: usize,
-    around: Around,
-) -> Got<PartialStmt<'a>>
+fn read_while<'a>(r: &mut Reader<'a>, alloc: Global, calls: usize, around: Around) -> GotStmt<'a>
     requires seen { is_some (reading.next_token (reader_of r.old)) ≡ true }
     requires room { around.blocks + calls < usize.MAX }
     ensures { IfOk result (λ stmt. reading.got (stmt_of stmt) (reader_of r.new)
@@ -306,12 +291,7 @@ fn read_while<'a>(
 
 // Reads a `do` loop, the word of which stands here.
 #[cycle(statement)]
-fn read_do<'a>(
-    r: &mut Reader<'a>,
-    alloc: Global,
-    calls: usize,
-    around: Around,
-) -> Got<PartialStmt<'a>>
+fn read_do<'a>(r: &mut Reader<'a>, alloc: Global, calls: usize, around: Around) -> GotStmt<'a>
     requires seen { is_some (reading.next_token (reader_of r.old)) ≡ true }
     requires room { around.blocks + calls < usize.MAX }
     ensures { IfOk result (λ stmt. reading.got (stmt_of stmt) (reader_of r.new)
@@ -328,12 +308,7 @@ fn read_do<'a>(
 
 // Reads a loop without a test, the word of which stands here.
 #[cycle(statement)]
-fn read_for<'a>(
-    r: &mut Reader<'a>,
-    alloc: Global,
-    calls: usize,
-    around: Around,
-) -> Got<PartialStmt<'a>>
+fn read_for<'a>(r: &mut Reader<'a>, alloc: Global, calls: usize, around: Around) -> GotStmt<'a>
     requires seen { is_some (reading.next_token (reader_of r.old)) ≡ true }
     requires room { around.blocks + calls < usize.MAX }
     ensures { IfOk result (λ stmt. reading.got (stmt_of stmt) (reader_of r.new)
@@ -347,12 +322,7 @@ fn read_for<'a>(
 
 // Reads a `switch`, the word of which stands here.
 #[cycle(statement)]
-fn read_switch<'a>(
-    r: &mut Reader<'a>,
-    alloc: Global,
-    calls: usize,
-    around: Around,
-) -> Got<PartialStmt<'a>>
+fn read_switch<'a>(r: &mut Reader<'a>, alloc: Global, calls: usize, around: Around) -> GotStmt<'a>
     requires seen { is_some (reading.next_token (reader_of r.old)) ≡ true }
     requires room { around.blocks + calls < usize.MAX }
     ensures { IfOk result (λ stmt. reading.got (stmt_of stmt) (reader_of r.new)
