@@ -61,7 +61,7 @@ use Rattle.dcc_refined.proofs.RefinedLaws as refined
 use Rattle.dcc_agree.specs.Agreement.{ending, Agrees}
 use Rattle.dcc_agree.specs.Laws.{is_named, is_shiftable, is_frame_move, is_table_told, is_shown, AgreesWithItsStatements, ShownInstructionsAgree}
 use Rattle.dcc_agree.proofs.ClosedLaws.{closed_agrees}
-use Rattle.dcc_agree.proofs.TableLaws.{closed_op, ClosedCall, closed_call}
+use Rattle.dcc_agree.proofs.TableLaws.{closed_op, closed_lea, ClosedCall, closed_call}
 use Rattle.dcc_prog.specs.declared.instr.Instr.{Instr}
 use Rattle.dcc_prog.specs.declared.refusal.construct.TheConstants.{DOS_NUMBER}
 use Rattle.dcc_prog.specs.Construct.{is_dos_number, HasAh, HasNoNumber, dos_number}
@@ -262,12 +262,23 @@ module _ (image : Image) (program : Analysed) (p : Program) (is : IsTranslated i
       (lea_agrees coarse fine (lifted_refinement program) entry at (pushed_of scene.procedure) found_procedure (bodies_of program) body node height r ea
       (setting.value_operation image program p is entry x at here height found high refl) t (have_places image program p is entry x at here found).plain)
 
+  -- of SP or BP it writes no place
+  pointer_there : (node : Node) (r : Reg) (ea : Ea) → StandsHere (with_op node (Lea r ea)) → is_general r ≡ false → Shown (with_op node (Lea r ea))
+  pointer_there node r ea found e =
+      let here = with_op node (Lea r ea) in
+      closed_agrees coarse fine (lifted_refinement program) entry at (pushed_of scene.procedure) (node_stmts scene.cpu scene.procedures scene.procedure height here) [] found_procedure (bodies_of program) body
+      (setting.point image program p is entry x at here height found high) (setting.value_operation image program p is entry x at here height found high refl)
+      (closed_lea scene.cpu scene.procedures scene.procedure height body node.number r ea e)
+
   by_operation : (op : Op) (node : Node) → StandsHere (with_op node op) → is_shown op ≡ true → Shown (with_op node op)
   by_operation (AluOp operation a b) node found t = alu_there node operation a b found t
   by_operation (ShiftOp operation a count) node found t = shift_there node operation a count found t
   by_operation (Mov to from) node found t = frame_move_there (Mov to from) node found t
   by_operation (Pop a) node found t = frame_move_there (Pop a) node found t
-  by_operation (Lea r ea) node found t = lea_there node r ea found t
+  by_operation (Lea r ea) node found t = elim (decided (is_general r)) [
+    | inl general ↦ lea_there node r ea found general
+    | inr e ↦ pointer_there node r ea found e
+  ]
   by_operation Int21 node found t = dos_there node found
   by_operation (UnaryOp operation a) node found t = unary_there node operation a found t
   by_operation op node found t = told_agrees (with_op node op) found t

@@ -1,5 +1,5 @@
 -- Operations whose halves and flags are told by the operation alone: jumps, returns, and what has no operand.
-use Rattle.std.proofs.Common.{◌≡◌, ℕ, true, ◌==◌, ◌||◌, if◌then◌else◌, inl, inr, List, [], Option, Some, refl, sym, subst, eqb-true, true≢false}
+use Rattle.std.proofs.Common.{◌≡◌, ℕ, Bool, true, false, ◌==◌, ◌||◌, if◌then◌else◌, inl, inr, List, [], Option, Some, refl, sym, subst, eqb-true, true≢false}
 use Rattle.dcc_num.specs.declared.Reg.{Reg}
 use Rattle.dcc_num.specs.declared.Reg.TheVariants.{Ax, Cx, Dx, Bx, Sp, Bp, Si, Di}
 use Rattle.dcc_prog.specs.Trail.{is_general}
@@ -9,10 +9,18 @@ use Rattle.dcc_prog.specs.declared.instr.Cond.TheVariants.{O, No, B, Ae, Z, Nz, 
 use Rattle.dcc_prog.specs.declared.instr.Plain.{Plain}
 use Rattle.dcc_prog.specs.declared.instr.Plain.TheVariants.{Nop, Cbw, Cwd, Clc, Stc, Cmc, Cli, Sti, Cld, Xlat}
 use Rattle.dcc_prog.specs.declared.instr.Op.{Op}
-use Rattle.dcc_prog.specs.declared.instr.Op.TheVariants.{Enter, Leave, Plain as PlainOp, Jump, Branch, Loop, LoopE, LoopNe, Jcxz, Table, Ret, Int21}
+use Rattle.dcc_prog.specs.declared.instr.Op.TheVariants.{Lea, Enter, Leave, Plain as PlainOp, Jump, Branch, Loop, LoopE, LoopNe, Jcxz, Table, Ret, Int21}
 use Rattle.dcc_num.specs.declared.dos.TheConstants.{GETCHE, PUTC, GETCH, PUTS, EXIT}
 use Rattle.dcc_prog.specs.Construct.{is_dos_number}
 use Rattle.dcc_lift.proofs.ListTests.{or_cases}
+use Rattle.dcc_num.specs.declared.Width.TheVariants.{Word as word_width}
+use Rattle.dcc_prog.specs.declared.instr.Ea.{Ea}
+use Rattle.dcc_prog.specs.declared.instr.Operand.TheVariants.{Word}
+use Rattle.dcc_ops.specs.Place.{computed}
+use Rattle.dcc_ops.specs.Computed.{computed_expr}
+use Rattle.dcc_ops.specs.Registers.{register_place}
+use Rattle.dcc_ops.specs.Statements.{mov_stmts}
+use Rattle.dcc_coupled.specs.Operands.{address_of}
 use Rattle.dcc_coupled.specs.Procedures.{Procedure}
 use Rattle.dcc_coupled.specs.Statements.{moves_frame, working_stmts}
 use Rattle.dcc_ir.specs.Tree.{Stmt}
@@ -69,6 +77,21 @@ module _ (cpu : Cpu) (procedures : List Procedure) (procedure : Procedure) (heig
   closed_table Di offset e = record { told = refl; cells = λ n h. refl; unwritten = λ n h. refl; no_write = λ k. refl; no_use = λ k. refl; not_made = λ l k. refl }
   closed_table Sp offset e = absurd (true≢false (sym e))
   closed_table Bp offset e = absurd (true≢false (sym e))
+
+  -- LEA of SP or BP writes no place
+  closed_lea_sp : (ea : Ea) (b : Bool) → IsClosed body (Lea Sp ea) number (if b then [] else mov_stmts word_width (register_place (Word Sp)) (computed (computed_expr (address_of ea)))) []
+  closed_lea_sp ea true = record { told = refl; cells = λ n h. refl; unwritten = λ n h. refl; no_write = λ k. refl; no_use = λ k. refl; not_made = λ l k. refl }
+  closed_lea_sp ea false = record { told = refl; cells = λ n h. refl; unwritten = λ n h. refl; no_write = λ k. refl; no_use = λ k. refl; not_made = λ l k. refl }
+
+  pub closed_lea : (r : Reg) (ea : Ea) → is_general r ≡ false → Closed (Lea r ea)
+  closed_lea Sp ea e = closed_lea_sp ea (moves_frame (Lea Sp ea))
+  closed_lea Bp ea e = record { told = refl; cells = λ n h. refl; unwritten = λ n h. refl; no_write = λ k. refl; no_use = λ k. refl; not_made = λ l k. refl }
+  closed_lea Ax ea e = absurd (true≢false e)
+  closed_lea Cx ea e = absurd (true≢false e)
+  closed_lea Dx ea e = absurd (true≢false e)
+  closed_lea Bx ea e = absurd (true≢false e)
+  closed_lea Si ea e = absurd (true≢false e)
+  closed_lea Di ea e = absurd (true≢false e)
 
   pub closed_op : (op : Op) → is_table_told op ≡ true → Closed op
   closed_op (Jump target) e = record { told = refl; cells = λ n h. refl; unwritten = λ n h. refl; no_write = λ k. refl; no_use = λ k. refl; not_made = λ l k. refl }
