@@ -217,7 +217,7 @@ def texts(folder):
     for what, text in shapes.named(100_000).items():
         path.write_bytes(text)
         seconds, memory, _ = best(["runc", path, "--steps", 0], [20])
-        tell(f"the same on 100,000 {what}", f"{seconds:.2f} s, {memory / MIB:.0f} MiB")
+        tell(f"`runc --steps 0` on 100,000 {what}", f"{seconds:.2f} s, {memory / MIB:.0f} MiB")
     names = b"".join(b"int x%d;\n" % number for number in range(10))
     path.write_bytes(shapes.START + b"f();\n}\nvoid f(void)\n{\n" + names + b"f();\n}\n")
     seconds, memory, _ = best(["runc", path, "--steps", 1_000_000], [20])
