@@ -74,16 +74,6 @@ head-step o n b v s name others n_is s_is =
       step None true = ap Some s_is
       step None false = refl
 
--- an answer more, before others
-pub found-step : {X Y : Type 0} (f : Y → X) (o n : Option X) (b : Bool) (v : X) (y : Y) (others : Option Y) →
-    n ≡ first_found o (if b then Some v else None) → v ≡ f y →
-    first_found n (option_map f others) ≡ first_found o (option_map f (if b then Some y else others))
-found-step {X = X} f o n b v y others n_is v_is = ap (λ m. first_found m (option_map f others)) n_is ∙ step o b where
-  step : (o : Option X) (b : Bool) → first_found (first_found o (if b then Some v else None)) (option_map f others) ≡ first_found o (option_map f (if b then Some y else others))
-  step (Some x) b = refl
-  step None true = ap Some v_is
-  step None false = refl
-
 -- a known function more, before others
 pub known-step : (k : Known) (ks : List Known) (word : Word) (o n : Option (Option Signature)) (v : Option Signature) →
     n ≡ first_found o (if same_bytes k.name word then Some v else None) → option_map signature_of v ≡ k.signature →

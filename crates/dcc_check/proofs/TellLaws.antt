@@ -1,11 +1,11 @@
 -- Offences that are told one after the other.
 use Rattle.std.proofs.Common.{◌≡◌, ℕ, Bool, true, false, Bor, List, ◌++◌, Option, Some, None, refl, sym, ap, ◌∙◌}
-use Rattle.std.specs.Prelude.{◌&&◌, not, if◌then◌else◌, option_map, option_and_then, is_some, is_none}
+use Rattle.std.specs.Prelude.{◌&&◌, not, if◌then◌else◌, option_map, is_some, is_none}
 use Rattle.dcc_c.specs.declared.syntax.CUn.{CUn}
 use Rattle.dcc_c.specs.declared.syntax.CUn.TheVariants.{Minus, Complement, Not, Deref, AddressOf}
 use Rattle.dcc_c.specs.Kinds.{of_type, Offence, offence, only_if, first_after}
 use Rattle.dcc_c.specs.Partial.{PartialExpr, UnaryHere, place_of}
-use Rattle.dcc_c.specs.Typing.{Declared, unary_type, type_of_address}
+use Rattle.dcc_c.specs.Typing.{Declared, type_of_address}
 use Rattle.dcc_c.specs.Offences.{Scene, told_type, operand_of_address, expr_offences, unary_offences, address_offences, place_offences}
 use Rattle.dcc_reader.specs.declared.partial.PartialExpr.{PartialExpr as Read, Missing, Number, Name, Unary', Binary', Conditional', Cast'}
 use Rattle.dcc_reader.specs.PartialViews.{expr_of}
@@ -29,14 +29,6 @@ operator-told scene at Complement a other = refl
 operator-told scene at Not a other = refl
 operator-told scene at Deref a other = refl
 operator-told scene at AddressOf a other = absurd (other refl)
-
-pub operator-type : (scene : Scene) (at : _) (operator : CUn) (a : PartialExpr) → (operator ≡ AddressOf → ⊥) →
-    told_type scene.names (UnaryHere at operator a) ≡ option_and_then (unary_type operator) (told_type scene.names a)
-operator-type scene at Minus a other = refl
-operator-type scene at Complement a other = refl
-operator-type scene at Not a other = refl
-operator-type scene at Deref a other = refl
-operator-type scene at AddressOf a other = absurd (other refl)
 
 -- `&` before what is no variable
 pub address-told : (scene : Scene) (a : PartialExpr) → operand_of_address scene.names a ≡ None →

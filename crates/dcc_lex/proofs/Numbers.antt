@@ -108,10 +108,6 @@ decimal_value_great digits great =
     let n = decimal_from 0 digits in
     cond-false (same_bytes digits (decimal n) && nat_le n 4294967295) (Some n) None (and_right (same_bytes digits (decimal n)) (nat_le n 4294967295) (lt-leb n 4294967295 great))
 
--- digits are few where their value is that of a short run
-pub short_few : (digits : List ℕ) → is_short digits ≡ true → length digits ≤ 10
-short_few digits short = (short_parts digits short).1
-
 -- Hexadecimal.
 
 pub hex_from-le : (n : ℕ) (digits : List ℕ) → n ≤ hex_from n digits

@@ -3,7 +3,7 @@ use Rattle.std.proofs.Common.{◌≡◌, ℕ, zero, suc, ◌<◌, ◌≤◌, tru
 use Rattle.std.specs.Prelude.{nat_le, not}
 use Rattle.std.specs.List.{list_all}
 use Rattle.std.specs.Str.{IsUtf8, IsAscii}
-use Rattle.std.proofs.lemmas.Bool.{and_parts, and_from, or_cases, leb-true, le-leb, eqb-true, cond-false, cond_both, false_from_ne_true}
+use Rattle.std.proofs.lemmas.Bool.{and_parts, and_from, or_cases, leb-true, le-leb, eqb-true, cond-false, cond_both}
 use Rattle.std.proofs.lemmas.Str.{IsUtf8-from_ascii}
 use Rattle.dcc_c.specs.Token.{Token, WordToken, is_digit, is_letter, is_between, is_word_byte, is_word}
 use Rattle.dcc_c.specs.Grammar.{is_among}
@@ -67,10 +67,3 @@ too_long (b ∷ bytes) is long =
     let (first, others) = and_parts (is_letter b) (list_all is_word_byte bytes && nat_le (length bytes) 30) is in
     let few = leb-true (length bytes) 30 (and_parts (list_all is_word_byte bytes) (nat_le (length bytes) 30) others).1 in
     omega arith
-
-pub none_is_no_word : (run : List ℕ) → length run ≡ 0 → is_word run ≡ false
-none_is_no_word [] none = refl
-none_is_no_word (b ∷ bytes) none = absurd (omega arith)
-
-pub long_is_no_word : (run : List ℕ) → 31 < length run → is_word run ≡ false
-long_is_no_word run long = false_from_ne_true (is_word run) (λ is. too_long run is long)

@@ -1,5 +1,4 @@
 pub mod CutsLex
-pub mod Enough
 pub mod LexesCut
 pub mod Marks
 pub mod Numbers

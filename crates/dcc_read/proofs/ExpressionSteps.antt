@@ -1,16 +1,15 @@
 -- One step of reading an expression, by what the reader sees.
-use Rattle.std.proofs.Common.{◌≡◌, ℕ, suc, ◌+◌, ◌<◌, ◌≤◌, Bool, true, false, refl, sym, ap, ◌∙◌, add-one, Option, Some, None, arith}
-use Rattle.std.specs.Prelude.{nat_le, codes, if◌then◌else◌, zero, Result}
+use Rattle.std.proofs.Common.{◌≡◌, ℕ, suc, ◌+◌, ◌<◌, Bool, true, false, refl, sym, ap, ◌∙◌, add-one, Option, Some, None, arith}
+use Rattle.std.specs.Prelude.{nat_le, codes, if◌then◌else◌, Result}
 use Rattle.std.specs.Result.{IfOk}
 use Rattle.std.proofs.lemmas.Result.{IfOk-weaker}
-use Rattle.std.proofs.lemmas.Bool.{le-leb, lt-leb}
+use Rattle.std.proofs.lemmas.Bool.{lt-leb}
 use Rattle.dcc_c.specs.declared.syntax.CUn.{CUn}
 use Rattle.dcc_c.specs.declared.syntax.CBin.{CBin}
 use Rattle.dcc_c.specs.declared.syntax.CType.{CType}
 use Rattle.dcc_c.specs.Grammar.{strength}
-use Rattle.dcc_c.specs.Kinds.{of_depth}
 use Rattle.dcc_c.specs.Partial.{PartialExpr, Missing}
-use Rattle.dcc_c.specs.Reading.{Reader, Got, got, Inside, in_operator, in_parentheses, next_token, skip, stop_at, sees_mark, take_mark, take_type, begins_type, unary_of, binary_of, stop_if_enclosed, closed, cast_of, unary_at, joined, chosen, read_leaf, read_unary, read_parentheses, read_cast, read_binary, read_more, read_expr, read_rest}
+use Rattle.dcc_c.specs.Reading.{Reader, Got, got, Inside, in_operator, in_parentheses, next_token, skip, sees_mark, take_mark, take_type, begins_type, unary_of, binary_of, stop_if_enclosed, closed, cast_of, unary_at, joined, chosen, read_leaf, read_unary, read_parentheses, read_cast, read_binary, read_more, read_expr, read_rest}
 use Rattle.dcc_c.proofs.reading.Stopping.{if-true, if-false, choice-some, choice-none}
 use Rattle.dcc_read.specs.declared.expression.Measured.{Measured}
 use Rattle.dcc_read.specs.ExpressionViews.{strong_enough}
@@ -24,30 +23,7 @@ no_calls calls few = omega arith
 pub unary-none : (calls : ℕ) (inside : Inside) (r : Reader) → calls < 1 → got Missing r ≡ read_unary calls inside r
 unary-none calls inside r few = rw (no_calls calls few) refl
 
-pub parentheses-none : (calls : ℕ) (inside : Inside) (at : ℕ) (r : Reader) → calls < 1 → got Missing r ≡ read_parentheses calls inside at r
-parentheses-none calls inside at r few = rw (no_calls calls few) refl
-
-pub cast-none : (calls : ℕ) (inside : Inside) (at : ℕ) (type : Got (Option CType)) → calls < 1 → got Missing type.following ≡ read_cast calls inside at type
-cast-none calls inside at type few = rw (no_calls calls few) refl
-
-pub binary-none : (calls : ℕ) (inside : Inside) (weakest : ℕ) (r : Reader) → calls < 1 → got Missing r ≡ read_binary calls inside weakest r
-binary-none calls inside weakest r few = rw (no_calls calls few) refl
-
-pub more-none : (calls : ℕ) (inside : Inside) (weakest : ℕ) (left : Got PartialExpr) → calls < 1 → left ≡ read_more calls inside weakest left
-more-none calls inside weakest left few = rw (no_calls calls few) refl
-
-pub expr-none : (calls : ℕ) (inside : Inside) (r : Reader) → calls < 1 → got Missing r ≡ read_expr calls inside r
-expr-none calls inside r few = rw (no_calls calls few) refl
-
-pub rest-none : (calls : ℕ) (inside : Inside) (test : Got PartialExpr) → calls < 1 → test ≡ read_rest calls inside test
-rest-none calls inside test few = rw (no_calls calls few) refl
-
 -- A unary part.
-
-pub unary-deep : (calls fewer : ℕ) (inside : Inside) (r : Reader) → calls ≡ fewer + 1 → 200 ≤ inside.operators →
-    got Missing (stop_at of_depth inside.start r) ≡ read_unary calls inside r
-unary-deep calls fewer inside r is deep =
-    rw (is, add-one) (sym (if-true (nat_le 200 inside.operators) _ _ (le-leb 200 inside.operators deep)))
 
 pub unary-operator : (calls fewer : ℕ) (inside : Inside) (r : Reader) (operator : CUn) (a : Got PartialExpr) → calls ≡ fewer + 1 →
     inside.operators < 200 → unary_of (next_token r) ≡ Some operator → a ≡ read_unary fewer (in_operator inside) (skip r) →
@@ -98,11 +74,6 @@ pub cast-some : (calls fewer : ℕ) (inside : Inside) (at : ℕ) (type : CType) 
     a ≡ read_unary fewer (in_operator inside) (take_mark (codes ")") r) →
     cast_of at type a ≡ read_cast calls inside at (got (Some type) r)
 cast-some calls fewer inside at type r a is got_is = rw (is, add-one) (ap (cast_of at type) got_is)
-
-pub cast-no_type : (calls : ℕ) (inside : Inside) (at : ℕ) (r : Reader) →
-    got Missing r ≡ read_cast calls inside at (got None r)
-cast-no_type zero inside at r = refl
-cast-no_type (suc calls) inside at r = refl
 
 -- Operators.
 
@@ -161,11 +132,6 @@ more-ends calls fewer inside weakest left is sees =
 pub expr-test : (calls fewer : ℕ) (inside : Inside) (r : Reader) (a : Got PartialExpr) → calls ≡ fewer + 1 →
     a ≡ read_binary fewer inside 1 r → read_rest fewer inside a ≡ read_expr calls inside r
 expr-test calls fewer inside r a is got_is = rw (is, add-one) (ap (read_rest fewer inside) got_is)
-
-pub rest-ends : (calls fewer : ℕ) (inside : Inside) (test : Got PartialExpr) → calls ≡ fewer + 1 →
-    sees_mark (codes "?") test.following ≡ false → test ≡ read_rest calls inside test
-rest-ends calls fewer inside test is sees =
-    rw (is, add-one) (sym (if-false (sees_mark (codes "?") test.following) _ _ sees))
 
 pub rest-chooses : (calls fewer : ℕ) (inside : Inside) (test first second : Got PartialExpr) → calls ≡ fewer + 1 →
     sees_mark (codes "?") test.following ≡ true →

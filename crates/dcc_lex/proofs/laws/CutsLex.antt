@@ -275,10 +275,6 @@ module _ (spot : Spot) (line b : ℕ) (bytes : List ℕ) where
       (λ _. if-cases (IsGoodCut spot line b bytes) (is_blank b) (λ is. blank_cut spot line b bytes is)
       (λ _. if-cases (IsGoodCut spot line b bytes) (is_word_byte b) (λ is. word_cut spot line b bytes is) (λ _. mark_cut))))
 
--- the first cut takes a byte
-pub cut_shorter : (spot : Spot) (line b : ℕ) (bytes : List ℕ) → length (first_cut spot line b bytes).rest ≤ length bytes
-cut_shorter spot line b bytes = (first_good spot line b bytes).shorter
-
 no_bytes_at : (spot : Spot) (line : ℕ) (tokens : List Placed) → has_more spot [] ≡ true → [] ≡ pieces_with tokens → IsAt spot line [] tokens
 no_bytes_at line_start line [] more same = ends
 no_bytes_at in_line line [] more same = ends

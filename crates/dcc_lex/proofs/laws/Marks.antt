@@ -26,9 +26,6 @@ mark_short mark is = among_all is_short marks mark refl is
 no_mark_of_three : (b c d : ℕ) (bytes : List ℕ) → is_mark (b ∷ c ∷ d ∷ bytes) ≡ false
 no_mark_of_three b c d bytes = false_from_ne_true _ (λ is. absurd (both_ways false refl (mark_short (b ∷ c ∷ d ∷ bytes) is)))
 
-pub no_empty_mark : is_mark [] ≡ true → ⊥
-no_empty_mark is = absurd cc
-
 pub mark_begins : (b : ℕ) (others : List ℕ) → is_mark (b ∷ others) ≡ true → begins_mark b ≡ true
 mark_begins b [] is = mark_short (b ∷ []) is
 mark_begins b (c ∷ []) is = mark_short (b ∷ c ∷ []) is

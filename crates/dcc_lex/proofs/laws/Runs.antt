@@ -1,7 +1,7 @@
 -- Runs of bytes of one kind, and bytes that begin with given ones.
 use Rattle.std.proofs.Common.{◌≡◌, ◌≤◌, ℕ, Bool, true, false, not, ◌==◌, List, [], ◌∷◌, ◌++◌, length, drop, length-drop, Some, refl, sym, ap, ◌∙◌, subst, inl, inr, arith}
 use Rattle.std.specs.List.{take_while, list_all}
-use Rattle.std.proofs.lemmas.Bool.{and_parts, and_from, cases_Bool, cond-true, cond-false, not_from_false, eq-eqb, eqb-true}
+use Rattle.std.proofs.lemmas.Bool.{and_parts, and_from, cases_Bool, cond-true, cond-false, not_from_false, eqb-true}
 use Rattle.std.proofs.lemmas.List.Sums.{take_while-cons}
 use Rattle.dcc_c.specs.Pieces.{after_while, after}
 use Rattle.dcc_c.proofs.reading.Passing.{if-cases}
@@ -73,7 +73,3 @@ after-is (w ∷ words) (b ∷ bytes) rest =
     if-cases (λ o. o ≡ Some rest → b ∷ bytes ≡ w ∷ (words ++ rest)) (w == b)
     (λ same is. let head : w ≡ b = eqb-true w b same in let tail : bytes ≡ words ++ rest = after-is words bytes rest is in cc)
     (λ _ is. absurd cc)
-
-pub after-append : (words rest : List ℕ) → after words (words ++ rest) ≡ Some rest
-after-append [] rest = refl
-after-append (w ∷ words) rest = cond-true _ _ _ (eq-eqb w w refl) ∙ after-append words rest
