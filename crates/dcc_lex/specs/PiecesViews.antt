@@ -8,7 +8,8 @@ use Rattle.dcc_lex.specs.CutViews.{spot_of, remaining}
 -- all of them: the first two, and those of the bytes that have not been cut
 unfoldable pub pieces_of : Pieces → List spec.Piece
 pieces_of p =
-    map piece_of (option_to_list p.first) ++ (map piece_of (option_to_list p.second) ++ remaining (spot_of p.spot) p.line p.bytes.now)
+    map piece_of (option_to_list p.first)
+    ++ (map piece_of (option_to_list p.second) ++ remaining (spot_of p.spot) p.line p.bytes.now)
 
 -- the pieces begin with this one, or there are none
 abbrev pub BeginWith : Option spec.Piece → List spec.Piece → Type 0

@@ -43,7 +43,8 @@ impl<'a> Cut<'a> {
     // A token or bytes that are none, and where the text goes on in their line.
     fn with_piece(token: Option<Token<'a>>, spot: Spot, line: u32, rest: &'a [u8]) -> Cut<'a>
         ensures { cuts.cut_of result
-            ≡ spec.cut (spec.piece line (option_map views.token_of token.entry) ∷ []) (cuts.spot_of spot) line rest.now }
+            ≡ spec.cut (spec.piece line (option_map views.token_of token.entry) ∷ [])
+            (cuts.spot_of spot) line rest.now }
     {
         let piece = Some(Piece { token, line });
         Cut {

@@ -1,4 +1,4 @@
-//! What is left of a text: its pieces, cut as they are asked for.
+//! What is left of a text: its pieces, cut as those before them are passed.
 
 ghost use Rattle.std.specs.Prelude.{◌≡◌, ◌+◌, ◌≤◌, length, option_to_list};
 ghost use Rattle.std.specs.Option.{ForNone};

@@ -7,7 +7,8 @@ ghost use Rattle.dcc_lex.specs.PiecesViews.{pieces_of};
 
 use crate::left::Pieces;
 
-/// The pieces of the bytes after the version line, which are at most 67108864. They are cut as they are asked for.
+/// The pieces of the bytes after the version line, which are at most 67108864. Each is cut as those before it are
+/// passed.
 pub fn pieces(rest: &[u8]) -> Pieces<'_>
     requires short { length rest.now ≤ 67108864 }
     ensures pieces { pieces_of result ≡ spec.pieces_of rest.now }

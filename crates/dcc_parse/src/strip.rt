@@ -7,12 +7,12 @@ ghost use Rattle.dcc_c.specs.Stripped as stripped;
 ghost use Rattle.dcc_c.specs.Offences.{Scene, default_offences, lines_offences, inner_offences, arms_inner};
 ghost use Rattle.dcc_reader.specs.PartialViews as partial;
 
-use dcc_c::{Arm, Base, CExpr, CStmt, CType, Line};
+use dcc_c::{Arm, Base, CExpr, CStmt, Line};
 use dcc_reader::spare::without_spare;
-use dcc_reader::{CaseAt, NumberAt, PartialArm, PartialExpr, PartialStmt, Row, WordAt};
+use dcc_reader::{CaseAt, PartialArm, PartialExpr, PartialStmt, Row, WordAt};
 use std::alloc::{AllocError, Global};
 
-// The room of rows is given back in steps of so many.
+// Rows that are more give back their room in steps of so many.
 const SHRINK_STEP: usize = 1024;
 
 // An expression.

@@ -100,7 +100,7 @@ impl<'a> Reader<'a> {
         ensures { result ≡ is_some (reading.name_of (reading.next_token (reader_of self.now)))
             && reading.is_the_mark (mark_of mark) (reading.second_token (reader_of self.now)) }
     {
-        // The name is looked for first: the token after it has to be cut for the question.
+        // The name is looked for first: of most tokens the one after them need not be looked at.
         if self.name().is_none() {
             return false;
         }
