@@ -9,7 +9,8 @@ what runs beside it matters little, and by the clock where bytes go through a pi
 for the machine and gcc for texts, which apt-get installs where they are missing; where that cannot be, the table says
 so. What the emulators run ends by itself, so that all execute the same instructions: the mix of bench/programs.py in
 two loops. gcc reads the same texts and makes no code; beside it stand the reader of texts alone, called by a small
-program over the proved crates, and `runc`, which makes the text ready to run as well.
+program over the proved crates, and `runc`, which makes the text ready to run as well. Of the reader alone the seconds
+are those of its call, without the text's way into memory; memory is always the peak of the whole process.
 """
 import importlib.machinery
 import importlib.util
