@@ -1,5 +1,12 @@
 pub mod TokenCounts
-pub mod WritableText
+pub mod OpeningLines
+pub mod FunctionTables
+pub mod FreeBodies
+pub mod PlainTexts
+pub mod WholeTexts
+pub mod WritableWholes
+pub mod UnitLaws
+pub mod OneGraph
 pub mod TextRuns
 pub mod ReplacedLaws
 pub mod SimplifiedLaws

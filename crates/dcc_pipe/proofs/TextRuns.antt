@@ -1,6 +1,6 @@
 -- The text of a program that shadows an image agrees with the image.
 use Rattle.std.proofs.Common.{◌≡◌, ◌≢◌, ℕ, zero, suc, ◌+◌, ◌*◌, ◌^◌, ◌<◌, true, false, List, ◌∷◌, length, refl, sym, ap, ◌∙◌, subst, true≢false, arith}
-use Rattle.std.specs.Prelude.{All, None, get_or}
+use Rattle.std.specs.Prelude.{All}
 use Rattle.std.proofs.Math.Nat.{mul_comm}
 use Rattle.dcc_run.specs.End.{Stuck, is_over}
 use Rattle.dcc_run.specs.Place.{Place}
@@ -22,30 +22,21 @@ use Rattle.dcc_prog.proofs.WatchLaws.{machine_watchable, machine_after}
 use Rattle.dcc_ir.specs.Tree as inner
 use Rattle.dcc_ir.specs.Run as run
 use Rattle.dcc_ir.specs.Keeps.{has_block}
-use Rattle.dcc_lift.specs.Lifted.{HasOneGraph, steps_between, steps_at_start}
+use Rattle.dcc_lift.specs.Lifted.{steps_between, steps_at_start}
 use Rattle.dcc_c.specs.Tree.{Function, Tree}
-use Rattle.dcc_c.specs.Numbered.{rows, numbered, numbered_function}
+use Rattle.dcc_c.specs.Numbered.{numbered}
 use Rattle.dcc_c.specs.Run as c
 use Rattle.dcc_c.specs.Run.{text_system}
 use Rattle.dcc_c.specs.Text.{StandsFor}
 use Rattle.dcc_c.proofs.RunLaws.{text_lawful}
-use Rattle.dcc_c.specs.Written.{written_globals}
-use Rattle.dcc_text.specs.Holding.{Alike, Holds}
-use Rattle.dcc_plan.specs.Laws.{IsPlanned, IsCounted}
-use Rattle.dcc_plan.specs.PlanText.{IsPlanText}
-use Rattle.dcc_plan.proofs.PlanRuns.{plans-count}
-use Rattle.dcc_plan.proofs.TextLaws.{numbered-text}
-use Rattle.dcc_variables.specs.Variables.{shape_of, graph_spelling}
-use Rattle.dcc_variables.specs.Globals.{globals_of}
-use Rattle.dcc_variables.specs.Laws.{AreFew, mentioned}
-use Rattle.dcc_variables.proofs.Names.{spelling-is}
-use Rattle.dcc_variables.proofs.FirstStates.{first-holds}
-use Rattle.dcc_pipe.specs.Start.{control, start_of, text_tree}
-use Rattle.dcc_pipe.specs.Textable.{levels, IsTextable}
+use Rattle.dcc_plan.specs.Laws.{IsCounted}
+use Rattle.dcc_plan.proofs.PlanRuns.{programs-count}
+use Rattle.dcc_pipe.specs.WholeText.{opened, whole_text, FitsText}
 use Rattle.dcc_pipe.specs.Agreement.{RunsAgree}
 use Rattle.dcc_pipe.specs.Following.{IsFollowing}
 use Rattle.dcc_pipe.proofs.TokenCounts.{unit-count}
-use Rattle.dcc_pipe.proofs.WritableText.{formed, named-matters, control-plan}
+use Rattle.dcc_pipe.proofs.WholeTexts.{texts, start-is, whole-text, whole-begins, all-kept}
+use Rattle.dcc_pipe.proofs.WholeTexts.{program as inner_program}
 
 head-equal : {A : Type 0} {a b : A} {xs ys : List A} → a ∷ xs ≡ b ∷ ys → a ≡ b
 head-equal e = cc
@@ -78,19 +69,20 @@ module _ {T : Type 0} (program : Program) (w : Watch) (other : System T) (t : T)
             record { end = ap (λ (s : Machine). s.end) (sym same) ∙ z.end; events = ap (λ (s : Machine). s.events) (sym same) ∙ z.events };
       }
 
-module _ (image : Image) (program : Program) (p : inner.Program) (is_program : IsProgramOf program.layout.cpu image program)
-    (textable : IsTextable levels p) (alone : HasOneGraph p) (few : AreFew (shape_of alone.graph))
-    (follows : IsFollowing image program p)
-    (text : List ℕ) (stands : StandsFor text (numbered (text_tree p)))
-    (input : List ℕ) (fill : ℕ) (bytes : All (λ b. b < 256) input) (fits : fill < 2 ^ 16) where
+module _ (image : Image) (program : Program) (g : inner.Graph) (others : List inner.Graph) (bytes_of : List ℕ) (lo hi : ℕ)
+    (is_program : IsProgramOf program.layout.cpu image program)
+    (fits : FitsText (inner_program g others bytes_of lo hi))
+    (follows : IsFollowing image program (inner_program g others bytes_of lo hi))
+    (text : List ℕ) (stands : StandsFor text (numbered (whole_text (inner_program g others bytes_of lo hi))))
+    (input : List ℕ) (fill : ℕ) (bytes : All (λ b. b < 256) input) (small : fill < 2 ^ 16) where
+  abbrev p : inner.Program
+  p = inner_program g others bytes_of lo hi
+
   abbrev layout : Layout
   layout = program.layout
 
-  abbrev g : inner.Graph
-  g = alone.graph
-
   abbrev tree : Tree
-  tree = numbered (text_tree p)
+  tree = numbered (whole_text p)
 
   abbrev start : Function
   start = stands.allowed.start
@@ -98,44 +90,20 @@ module _ (image : Image) (program : Program) (p : inner.Program) (is_program : I
   abbrev tokens : ℕ
   tokens = length stands.tokens
 
-  -- the line of the function's head
-  abbrev head : ℕ
-  head = 3 + rows (written_globals None (globals_of p))
-
-  -- the function of the text is that of the graph, its lines counted
-  start-is : numbered_function head (start_of g) ≡ start
-  start-is = ap (λ graphs. numbered_function head (start_of (get_or graphs 0 run.no_graph))) (sym alone.one) ∙ head-equal stands.allowed.first
-
   unstuck : (n at : ℕ) → end_after (run.inner_system p fill) n (run.first_state p fill input) ≢ Stuck at
-  unstuck n at = textable.never_stuck fill input n at fits bytes
+  unstuck n at = fits.textable.never_stuck fill input n at small bytes
 
-  -- no call waits at first
-  abbrev NoneWaits : Alike
-  NoneWaits waiting others = Unit {0}
-
-  planned : IsPlanned p g (graph_spelling g) (mentioned g) (control g) start
-  planned =
-      let plan = control-plan p textable alone in
-      record {
-        alone = alone.one;
-        well = textable.formed;
-        spelling = spelling-is g few;
-        matters = named-matters p textable alone;
-        is_plan = plan.0;
-        begins = plan.1;
-        text = subst (λ (f : Function). IsPlanText (graph_spelling g) g (control g) f.body) start-is
-            (numbered-text (graph_spelling g) g (control g) 2 (head + 2 + length (start_of g).locals));
-      }
-
-  first : Holds (graph_spelling g) (λ location. (graph_spelling g).named location ≡ true) NoneWaits (run.first_state p fill input) (c.first_state tree start fill input)
-  first =
-      first-holds g few (formed p textable alone) p alone.one textable.formed tree start NoneWaits tt refl refl refl
-      (ap (λ (f : Function). f.params) (sym start-is)) (ap (λ (f : Function). f.locals) (sym start-is)) fill input
-
+  -- the text counts the blocks that the program visits
   together : IsCounted p tree start fill input tokens
   together =
-      plans-count (mentioned g) NoneWaits p g (graph_spelling g) (control g) tree start fill input planned bytes unstuck first tokens
-      (unit-count 200 stands.tokens tree start stands.allowed.others stands.formed stands.allowed.first)
+      let well = fits.textable.formed in
+      let first-is = start-is g others bytes_of lo hi well fits.few fits.apart fits.gives in
+      subst (λ f. IsCounted p tree f fill input tokens) (first-is ∙ head-equal stands.allowed.first)
+      (programs-count opened (texts g others bytes_of lo hi) p tree g others fill input (λ place. true)
+      (whole-text g others bytes_of lo hi well fits.few fits.apart fits.gives)
+      (whole-begins g others bytes_of lo hi well fits.few fits.apart fits.gives)
+      (all-kept g others bytes_of lo hi well fits.few fits.apart fits.gives) bytes unstuck tokens
+      (unit-count 200 stands.tokens tree stands.formed))
 
   -- The machine watched, in the places of blocks.
   abbrev machine : Watched Watch Place
@@ -158,7 +126,7 @@ module _ (image : Image) (program : Program) (p : inner.Program) (is_program : I
       subst (λ m. KeepsUp (machine_system layout.cpu) (start_state image input) n (text_system tree) t m) (mul_comm tokens (n + 1))
       (machine-first program w (text_system tree) t n (tokens * (n + 1)) (clean program is_program)
       (third_keeps_up (λ place. true) machine (run.watched_inner p fill) (text_system tree) machine-law (text_lawful tree) w i t tokens together.counts
-      (follows.runs fill input fits bytes) together.shows n (clean program is_program)))
+      (follows.runs fill input small bytes) together.shows n (clean program is_program)))
 
   machine-keeps_up : (k : ℕ) → IsClean layout.cpu image input ((k + 1) * 65536) → KeepsUp (text_system tree) t k (machine_system layout.cpu) (start_state image input) ((k + 1) * 65536)
   machine-keeps_up zero clean = record {
@@ -169,7 +137,7 @@ module _ (image : Image) (program : Program) (p : inner.Program) (is_program : I
       let enough_steps : steps_at_start + suc k * steps_between < (suc k + 1) * 65536 = omega arith in
       machine-second program w (text_system tree) t (suc k) ((suc k + 1) * 65536) (clean program is_program)
       (first_keeps_up_with_third (λ place. true) machine (run.watched_inner p fill) (text_system tree) machine-law (text_lawful tree) w i t tokens together.counts
-      (follows.runs fill input fits bytes) steps_at_start steps_between (pace_of_all machine w steps_at_start steps_between (follows.pace input bytes))
+      (follows.runs fill input small bytes) steps_at_start steps_between (pace_of_all machine w steps_at_start steps_between (follows.pace input bytes))
       (suc k) ((suc k + 1) * 65536) enough_steps (clean program is_program))
 
   pub text-agrees : RunsAgree layout.cpu image tree start tokens input fill

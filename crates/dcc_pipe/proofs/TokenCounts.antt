@@ -1,5 +1,6 @@
--- A text has at least as many tokens as its first function has statements, those inside others too.
-use Rattle.std.proofs.Common.{◌≡◌, ℕ, ◌+◌, ◌<◌, ◌≤◌, Bool, List, ◌∷◌, length, Option, ap, subst, arith}
+-- A text has at least as many tokens as its functions have statements, those inside others too, with one for each
+-- function.
+use Rattle.std.proofs.Common.{ℕ, suc, ◌+◌, ◌<◌, ◌≤◌, Bool, List, length, Option, ap, arith}
 use Rattle.std.proofs.lemmas.List.{length-append}
 use Rattle.dcc_c.specs.declared.syntax.Class.{Class}
 use Rattle.dcc_c.specs.declared.syntax.CType.{CType}
@@ -8,6 +9,7 @@ use Rattle.dcc_c.specs.Lexing.{Placed}
 use Rattle.dcc_c.specs.Tree.{Word, Expr, Stmt, Lines, Arms, Global, Variable, Function, Tree}
 use Rattle.dcc_c.specs.Parts.{stmts_in, inner_stmts, arm_stmts}
 use Rattle.dcc_c.specs.Grammar.{Begins, none, one, IsExpr, number, name, parentheses, unary, cast, binary, conditional, stronger, IsPlace, name_place, deref_place, AreArguments, no_argument, last_argument, more_arguments, IsCall, call, Around, AreCases, last_case, more_cases, IsStmt, assign, call_alone, call_into, if_alone, if_else, while, do_while, for_ever, switch, break, continue, goto, empty, return_nothing, return_value, IsBlock, block, AreLines, no_more, depth_pragma, label, statement, AreArms, no_arm, case_arm, default_arm, HasSize, no_size, size, AreNumbers, last_number, more_numbers, AreInitial, no_value, one_value, values, IsGlobal, AreGlobals, no_global, placed_at, one_global, HasClass, no_class, auto_class, register_class, IsParam, AreSomeParams, last_param, more_params, AreParams, no_param, some_params, IsLocal, AreLocals, no_local, one_local, HasResult, no_result, result, IsFunction, AreFunctions, last_function, more_functions, IsUnit}
+use Rattle.dcc_plan.specs.Programs.{text_size}
 
 -- Expressions.
 
@@ -129,20 +131,20 @@ result-short : {tokens rest : List Placed} {type : Option CType} → HasResult t
 result-short no_result = omega arith
 result-short (result type b) = begins-short b
 
-function-count : {limit : ℕ} {tokens rest : List Placed} {f : Function} → IsFunction limit tokens f rest → length (stmts_in f.body) ≤ length tokens
+function-count : {limit : ℕ} {tokens rest : List Placed} {f : Function} → IsFunction limit tokens f rest
+    → suc (length (stmts_in f.body)) + length rest ≤ length tokens
 function-count x = omega (arith, result-short x.result_is, params-short x.params_are, locals-short x.locals_are, lines-count x.body_is)
 
-first-count : {limit : ℕ} {tokens : List Placed} {f : Function} {functions : List Function} → AreFunctions limit tokens (f ∷ functions) → length (stmts_in f.body) ≤ length tokens
-first-count (last_function x) = function-count x
-first-count (more_functions x others) = function-count x
+functions-count : {limit : ℕ} {tokens : List Placed} {functions : List Function} → AreFunctions limit tokens functions
+    → text_size functions ≤ length tokens
+functions-count (last_function x) = let count = function-count x in omega (arith, count)
+functions-count (more_functions x others) =
+    let count = function-count x in
+    let rest = functions-count others in
+    omega (arith, count, rest)
 
--- the first function of a text
-pub unit-count : (limit : ℕ) (tokens : List Placed) (tree : Tree) (f : Function) (others : List Function) → IsUnit limit tokens tree
-    → tree.functions ≡ f ∷ others → length (stmts_in f.body) ≤ length tokens
-unit-count limit tokens tree f others unit functions =
-    omega (
-      arith,
-      ap length unit.head_is,
-      globals-short unit.globals_are,
-      first-count (subst (AreFunctions limit unit.functions) functions unit.functions_are),
-    )
+-- the functions of a text
+pub unit-count : (limit : ℕ) (tokens : List Placed) (tree : Tree) → IsUnit limit tokens tree
+    → text_size tree.functions ≤ length tokens
+unit-count limit tokens tree unit =
+    omega (arith, ap length unit.head_is, globals-short unit.globals_are, functions-count unit.functions_are)

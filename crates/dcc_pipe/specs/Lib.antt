@@ -2,7 +2,8 @@ pub mod Textable
 pub mod Simplified
 pub mod Prepared
 pub mod Following
-pub mod Start
+pub mod WholeText
+pub mod Lines
 pub mod Agreement
 pub mod Unbroken
 pub mod Unbuilt

@@ -13,7 +13,7 @@ use crate::analysis::analyse;
 use crate::built::reached_unbuilt;
 use crate::number::number;
 use crate::passes::simplified;
-use crate::start::unit_of;
+use crate::unit::unit_of;
 use dcc_c::Unit;
 use dcc_lift::lift;
 use dcc_prog::{Cpu, Image, Program, Refusal};

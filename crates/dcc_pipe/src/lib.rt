@@ -8,7 +8,7 @@ pub mod laws;
 mod number;
 mod passes;
 mod preparation;
-mod start;
+mod unit;
 
 pub use analysis::analyse;
 pub use decompilation::decompile;

@@ -1,0 +1,73 @@
+-- The text of a program, with a function for each graph: the arrays of its image, and functions with the parameters and
+-- variables of their graphs, the assignments that open the bytes of arguments, a label before each block, and jumps.
+use Rattle.std.specs.Prelude.{◌≡◌, ◌<◌, ◌≤◌, Bool, true, List, [], ◌∷◌, length, map, drop, codes, All, Some}
+use Rattle.dcc_ir.specs.declared.syntax.Loc.{Loc}
+use Rattle.dcc_ir.specs.Tree.{Stmt as Statement, Call, Graph, Program}
+use Rattle.dcc_ir.specs.Run.{graph_at}
+use Rattle.dcc_ir.specs.WellFormed.{all_ret_widths}
+use Rattle.dcc_c.specs.Tree.{Word, Stmt, Lines, line, Function, Tree}
+use Rattle.dcc_plan.specs.Calls.{all_places, locations_differ}
+use Rattle.dcc_plan.specs.Plan.{Plan}
+use Rattle.dcc_plan.specs.Programs.{GivesFew}
+use Rattle.dcc_plan.specs.PlanText.{plan_text}
+use Rattle.dcc_plan.specs.GotoPlan.{goto_plan}
+use Rattle.dcc_plan.specs.Complete.{completed}
+use Rattle.dcc_variables.specs.Globals.{globals_of}
+use Rattle.dcc_variables.specs.FunctionLaws.{HasFewNames}
+use Rattle.dcc_variables.specs.Functions.{function_name, function_spelling, function_of, openings}
+use Rattle.dcc_pipe.specs.Textable.{levels, IsTextable}
+
+-- the control of a graph's text
+abbrev pub control : Graph → Plan
+control graph = completed (goto_plan graph)
+
+-- the bytes of arguments that are opened: those that have variables
+abbrev pub opened : Graph → Loc → Bool
+opened graph location = (function_spelling graph).named location
+
+-- the statements, and then the lines
+abbrev pub before_lines : List Stmt → Lines → Lines
+before_lines [] lines = lines
+before_lines (stmt ∷ stmts) lines = line stmt 0 (before_lines stmts lines)
+
+abbrev pub body_of : Graph → Lines
+body_of graph =
+    before_lines (openings (opened graph) graph) (plan_text (function_spelling graph) graph (control graph))
+
+-- the function of a graph, its lines not counted yet
+abbrev pub text_function : Word → Graph → Function
+text_function name graph = function_of graph name (body_of graph) 0
+
+-- the functions of the graphs after the first
+abbrev pub other_functions : List Graph → List Function
+other_functions graphs = map (λ graph. text_function (function_name graph.entry) graph) graphs
+
+abbrev pub text_functions : List Graph → List Function
+text_functions [] = []
+text_functions (first ∷ others) = text_function (codes "start") first ∷ other_functions others
+
+abbrev pub whole_text : Program → Tree
+whole_text p = record {
+  version = 1;
+  lo = p.lo;
+  hi = p.hi;
+  globals = globals_of p;
+  functions = text_functions p.graphs;
+}
+
+-- A Call takes one value at most, of a graph that has a Ret.
+abbrev pub TakesFew : Program → Statement → Type 0
+TakesFew p (Call results entry arguments depth) =
+    (length results ≤ 1)
+    × ((callee : Graph) → graph_at (drop 1 p.graphs) entry ≡ Some callee → 0 < length results
+    → 0 < length (all_ret_widths callee))
+TakesFew p stmt = Unit {0}
+
+-- What a program needs for its text: returns give at most one value, and calls take at most one, of graphs that return;
+-- no location takes two arguments, and names have numbers.
+pub record FitsText (p : Program) : Type 0 where
+  pub textable : IsTextable levels p
+  pub gives : All (λ g. All GivesFew g.blocks) p.graphs
+  pub takes : All (λ g. All (λ b. All (TakesFew p) b.stmts) g.blocks) p.graphs
+  pub apart : All (λ g. locations_differ (all_places g.params) ≡ true) p.graphs
+  pub few : All HasFewNames p.graphs
