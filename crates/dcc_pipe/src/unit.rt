@@ -70,7 +70,8 @@ fn function(alloc: Global, name: String, graph: &Graph) -> Result<Func, AllocErr
 
 // The functions of the graphs after the first.
 fn other_functions(alloc: Global, graphs: &[Graph]) -> Result<Vec<Func>, AllocError>
-    ensures functions { IfOk result (λ funcs. map function_of funcs.items ≡ spec.other_functions (map graph_of graphs.now)) }
+    ensures functions { IfOk result
+        (λ funcs. map function_of funcs.items ≡ spec.other_functions (map graph_of graphs.now)) }
     ensures few { OnOk result (All (λ graph. HasFewNames (graph_of graph)) graphs.now) }
 {
     let mut funcs = Vec::new(alloc);
@@ -83,7 +84,8 @@ fn other_functions(alloc: Global, graphs: &[Graph]) -> Result<Vec<Func>, AllocEr
 
 // The function of the first graph, which is `start`, and those of the others.
 fn all_functions(alloc: Global, graphs: &[Graph]) -> Result<Vec<Func>, AllocError>
-    ensures functions { IfOk result (λ funcs. map function_of funcs.items ≡ spec.text_functions (map graph_of graphs.now)) }
+    ensures functions { IfOk result
+        (λ funcs. map function_of funcs.items ≡ spec.text_functions (map graph_of graphs.now)) }
     ensures few { OnOk result (All HasFewNames (map graph_of graphs.now)) }
 {
     let mut funcs = Vec::new(alloc);
