@@ -14,7 +14,7 @@ use Rattle.dcc_num.specs.declared.Half.{Half}
 use Rattle.dcc_num.specs.declared.Half.TheVariants.{Low, High}
 use Rattle.dcc_num.specs.declared.FlagName.TheVariants.{Cf, Zf, Of}
 use Rattle.dcc_num.specs.Numbers.{signed_of}
-use Rattle.dcc_prog.specs.declared.instr.Alu.TheVariants.{Add, And}
+use Rattle.dcc_prog.specs.declared.instr.Alu.TheVariants.{Add, And, Sub, Xor}
 use Rattle.dcc_prog.specs.declared.instr.Shift.TheVariants.{Shl}
 use Rattle.dcc_prog.specs.declared.instr.Count.TheVariants.{One, Cl, Const as ConstCount}
 use Rattle.dcc_prog.specs.declared.instr.Unary.TheVariants.{Inc, Div}
@@ -439,6 +439,23 @@ module _ (proc : Proc) (frame : Frame) where
       × ((doing 0 (AluOp And (Word Ax) (Word Bx))).made_of (half Ax Low) (half Bx High) ≡ true)
       × ((doing 0 (AluOp And (Word Ax) (Word Bx))).made_of (held (flag_of Cf)) (half Bx High) ≡ false)
   halves_apart = (refl, refl, refl, refl)
+
+  -- XOR and SUB of a register with itself, or of a half of one, make what they write, flags too, of nothing
+  zeroes :
+      ((doing 0 (AluOp Xor (Word Dx) (Word Dx))).effect (half Dx High) ≡ Makes)
+      × ((doing 0 (AluOp Xor (Word Dx) (Word Dx))).made_of (half Dx High) (half Dx High) ≡ false)
+      × ((doing 0 (AluOp Xor (Word Dx) (Word Dx))).made_of (held (flag_of Zf)) (half Dx Low) ≡ false)
+      × ((doing 0 (AluOp Xor (Word Dx) (Word Dx))).surely (held (flag_of Zf)) ≡ true)
+      × ((doing 0 (AluOp Sub (Byte Ax Low) (Byte Ax Low))).effect al ≡ Makes)
+      × ((doing 0 (AluOp Sub (Byte Ax Low) (Byte Ax Low))).made_of al al ≡ false)
+  zeroes = (refl, refl, refl, refl, refl, refl)
+
+  -- near misses: two registers, two halves of one, and AND
+  not_zeroing :
+      ((doing 0 (AluOp Xor (Word Ax) (Word Bx))).made_of (half Ax Low) (half Bx Low) ≡ true)
+      × ((doing 0 (AluOp Sub (Byte Ax Low) (Byte Ax High))).made_of al al ≡ true)
+      × ((doing 0 (AluOp And (Word Ax) (Word Ax))).made_of al al ≡ true)
+  not_zeroing = (refl, refl, refl)
 
   -- BP is no place, and what lies elsewhere is stored
   stores :

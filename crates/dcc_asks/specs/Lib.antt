@@ -4,4 +4,5 @@ pub mod Moves
 pub mod Values
 pub mod Instance
 pub mod Asked
+pub mod Refused
 pub mod Laws

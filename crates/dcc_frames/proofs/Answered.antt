@@ -8,7 +8,7 @@ use Rattle.dcc_prog.specs.declared.frame.Frame.{Frame}
 use Rattle.dcc_prog.specs.declared.refusal.construct.TheConstants.{FRAME_ACCESS, ARGUMENTS_SHORT}
 use Rattle.dcc_prog.specs.declared.refusal.LimitName.TheVariants.{Procedures, Instructions, Total, Cells, Entries, Arguments}
 use Rattle.dcc_prog.specs.declared.refusal.Refusal.{Refusal}
-use Rattle.dcc_prog.specs.declared.refusal.Refusal.TheVariants.{Construct, Limit, NotYet, Memory}
+use Rattle.dcc_prog.specs.declared.refusal.Refusal.TheVariants.{Construct, Limit, Memory}
 use Rattle.dcc_prog.specs.Trail.{IsNode}
 use Rattle.dcc_prog.specs.Construct.{IsAtFrame, bad_access, short_call, IsOfFrames}
 use Rattle.dcc_prog.specs.Frame.{HasArguments, IsCell}
@@ -119,7 +119,6 @@ module _ (image : Image) (layout : Layout) (body : Body) (counts : ℕ → Optio
       cells-refused (Limit Arguments count) h = absurd h
       cells-refused Memory h = no_memory
       cells-refused (Construct kind at) h = absurd h
-      cells-refused (NotYet at) h = absurd h
 
       module _ (none : All (λ (run : Piece). long_user lacks run ≡ None) runs) (frame : Frame)
           (framed_is : frame.framed ≡ body.framed) (args_are : frame.args ≡ body.args)

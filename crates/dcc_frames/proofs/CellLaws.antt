@@ -7,7 +7,7 @@ use Rattle.std.proofs.lemmas.List.Concat.{flat_map-append}
 use Rattle.dcc_prog.specs.declared.frame.Cell.{Cell}
 use Rattle.dcc_prog.specs.declared.refusal.LimitName.TheVariants.{Procedures, Instructions, Total, Cells, Entries, Arguments}
 use Rattle.dcc_prog.specs.declared.refusal.Refusal.{Refusal}
-use Rattle.dcc_prog.specs.declared.refusal.Refusal.TheVariants.{Construct, Limit, NotYet, Memory}
+use Rattle.dcc_prog.specs.declared.refusal.Refusal.TheVariants.{Construct, Limit, Memory}
 use Rattle.dcc_frames.specs.declared.bytes.Piece.{Piece}
 use Rattle.dcc_frames.specs.CellLists.{small_cell, cells_from, IsOverfull}
 use Rattle.dcc_frames.proofs.Flat.{flat-shorter}
@@ -23,7 +23,6 @@ overfull-longer few more (Limit Entries count) le h = absurd h
 overfull-longer few more (Limit Arguments count) le h = absurd h
 overfull-longer few more Memory le h = tt
 overfull-longer few more (Construct kind at) le h = absurd h
-overfull-longer few more (NotYet at) le h = absurd h
 
 overfull-all :
     (runs : List Piece) (i : ℕ) (d : Piece) (refusal : Refusal) → i < length runs

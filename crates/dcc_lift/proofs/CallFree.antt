@@ -21,6 +21,7 @@ use Rattle.dcc_prog.specs.declared.instr.Op.TheVariants.{Alu as AluOp, Unary as 
 use Rattle.dcc_prog.specs.declared.procedure.Node.{Node}
 use Rattle.dcc_prog.specs.Machine.{operand_width}
 use Rattle.dcc_prog.specs.Writes.{never_shifts}
+use Rattle.dcc_prog.specs.Wanted.{is_zeroing}
 use Rattle.dcc_ir.specs.declared.syntax.Loc.{Loc}
 use Rattle.dcc_ir.specs.Tree.{Expr, Get, Stmt}
 use Rattle.dcc_ir.specs.Run.{is_call}
@@ -30,7 +31,7 @@ use Rattle.dcc_ops.specs.Place.{Place, constant, byte, word, memory, address, co
 use Rattle.dcc_ops.specs.Registers.{register_place}
 use Rattle.dcc_ops.specs.Expressions.{result, left, right}
 use Rattle.dcc_ops.specs.Computed.{computed_expr}
-use Rattle.dcc_ops.specs.Statements.{alu_storing, alu_working, unary_stmts, shift_working, shifting, staying, shift_stmts, mov_stmts, xchg_stmts, plain_stmts, dos_stmts, op_stmts}
+use Rattle.dcc_ops.specs.Statements.{alu_storing, alu_working, alu_stmts, zeroing, unary_stmts, shift_working, shifting, staying, shift_stmts, mov_stmts, xchg_stmts, plain_stmts, dos_stmts, op_stmts}
 use Rattle.dcc_coupled.specs.Procedures.{Procedure, frame_place}
 use Rattle.dcc_coupled.specs.Operands.{address_of, operand_place, first_place, second_place}
 use Rattle.dcc_coupled.specs.Statements.{argument_offset, top_place, place_below_top, taking_all_back, moves_frame, working_stmts, node_stmts}
@@ -151,12 +152,18 @@ dos-free : (number : Option ℕ) → IsCallFree (dos_stmts number)
 dos-free = dos_all (λ l. IsCallFree l) refl (λ n. refl) (λ n. refl) (λ n. refl) (λ n. refl)
 
 op-free : (cpu : Cpu) (op : Op) (number : Option ℕ) (p q : Place) → IsCallFree (op_stmts cpu op number p q)
-op-free cpu (AluOp operation a b) number p q =
-    let w = operand_width a in
-    taken (left_place w) p
-    (taken (right_place w) q
-    (free-append (alu_working operation w) (alu_storing operation w p) (alu-working-free operation w)
-    (alu-storing-free operation w p)))
+op-free cpu (AluOp operation a b) number p q = go (is_zeroing operation a b)
+  where
+    w : Width
+    w = operand_width a
+
+    go : (zero : Bool) → IsCallFree (if zero then zeroing w p else alu_stmts operation w p q)
+    go true = mov-free w p (constant w 0)
+    go false =
+        taken (left_place w) p
+        (taken (right_place w) q
+        (free-append (alu_working operation w) (alu_storing operation w p) (alu-working-free operation w)
+        (alu-storing-free operation w p)))
 op-free cpu (UnaryOp operation a) number p q = unary-free operation (operand_width a) p
 op-free cpu (ShiftOp operation a count) number p q = shift-free cpu operation (operand_width a) p count
 op-free cpu (Mov to from) number p q = mov-free (operand_width to) p q

@@ -21,7 +21,7 @@ use Rattle.dcc_prog.specs.declared.instr.Op.{Op}
 use Rattle.dcc_prog.specs.declared.instr.Op.TheVariants.{Alu as AluOp, Unary as UnaryOp, Shift as ShiftOp, Mov, Xchg, Imul3, Plain as PlainOp, Loop, LoopE, LoopNe, Int21}
 use Rattle.dcc_prog.specs.Machine.{operand_width}
 use Rattle.dcc_prog.specs.Writes.{shift_writes_flag, never_shifts, writes_flag}
-use Rattle.dcc_prog.specs.Wanted.{is_turn}
+use Rattle.dcc_prog.specs.Wanted.{is_turn, is_zeroing}
 use Rattle.dcc_ir.specs.declared.syntax.Loc.{Loc}
 use Rattle.dcc_ir.specs.declared.syntax.BinOp.TheVariants.{DivS, DivU, RemS, RemU}
 use Rattle.dcc_ir.specs.Tree.{Expr, Get, Stmt, Set}
@@ -31,7 +31,7 @@ use Rattle.dcc_ops.specs.Temporaries.{left_place, right_place, result_place}
 use Rattle.dcc_ops.specs.Expressions.{left, right, result, product, sum, difference, count_expr}
 use Rattle.dcc_ops.specs.Registers.{register_place}
 use Rattle.dcc_ops.specs.Place.{Place, constant, byte, word, place_value, taking, storing}
-use Rattle.dcc_ops.specs.Statements.{operands_taking, word_taking, result_taking, sum_flags, difference_flags, subtracting, alu_working, alu_storing, alu_stmts, product_storing, accumulator, product_working, triple_product, division_storing, division_working, complementing, unary_stmts, shift_working, count_taking, shifting, staying, shift_stmts, mov_stmts, exchanging, xchg_stmts, plain_stmts, counting, dos_stmts, op_stmts}
+use Rattle.dcc_ops.specs.Statements.{operands_taking, word_taking, result_taking, sum_flags, difference_flags, subtracting, alu_working, alu_storing, alu_stmts, zeroing, product_storing, accumulator, product_working, triple_product, division_storing, division_working, complementing, unary_stmts, shift_working, count_taking, shifting, staying, shift_stmts, mov_stmts, exchanging, xchg_stmts, plain_stmts, counting, dos_stmts, op_stmts}
 use Rattle.dcc_lift.specs.FlagStmts.{is_flag_read, is_on_flags, has_carry_in}
 use Rattle.dcc_ops.proofs.DosStatements.{dos_all}
 use Rattle.dcc_ops.proofs.ShiftCounts.{HoldsByEach, holds_by_count}
@@ -280,7 +280,14 @@ dos-off = dos_all (λ l. are_off_flags l ≡ true) refl (λ n. refl) (λ n. refl
 
 pub op-few : (cpu : Cpu) (op : Op) (number : Option ℕ) (p q : Place) → is_apart p ≡ true → is_apart q ≡ true
     → AreFew op (op_stmts cpu op number p q)
-op-few cpu (AluOp operation a b) number p q one other = alu-few operation a b (operand_width a) p q one other
+op-few cpu (AluOp operation a b) number p q one other = go (is_zeroing operation a b)
+  where
+    w : Width
+    w = operand_width a
+
+    go : (zero : Bool) → AreFew (AluOp operation a b) (if zero then zeroing w p else alu_stmts operation w p q)
+    go true = nothing (AluOp operation a b) (zeroing w p) (mov-off w p (constant w 0) refl)
+    go false = alu-few operation a b w p q one other
 op-few cpu (UnaryOp operation a) number p q one other = unary-few operation a (operand_width a) p one
 op-few cpu (ShiftOp operation a count) number p q one other = shift-few cpu operation a (operand_width a) p count one
 op-few cpu (Mov to from) number p q one other =

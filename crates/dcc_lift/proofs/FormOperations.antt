@@ -25,6 +25,7 @@ use Rattle.dcc_prog.specs.declared.instr.Op.{Op}
 use Rattle.dcc_prog.specs.declared.instr.Op.TheVariants.{Alu as AluOp, Unary as UnaryOp, Shift as ShiftOp, Mov, Xchg, Imul3, Plain as PlainOp, Branch, Loop, LoopE, LoopNe, Jcxz, Int21}
 use Rattle.dcc_prog.specs.Machine.{operand_width}
 use Rattle.dcc_prog.specs.Writes.{never_shifts}
+use Rattle.dcc_prog.specs.Wanted.{is_zeroing}
 use Rattle.dcc_ir.specs.declared.syntax.Loc.{Loc}
 use Rattle.dcc_ir.specs.declared.syntax.Loc.TheVariants.{Half}
 use Rattle.dcc_ir.specs.declared.syntax.BinOp.TheVariants.{DivU, DivS, RemU, RemS}
@@ -33,7 +34,7 @@ use Rattle.dcc_ops.specs.Temporaries.{left_place, right_place, result_place}
 use Rattle.dcc_ops.specs.Place.{Place, constant, byte, word, taking, storing}
 use Rattle.dcc_ops.specs.Registers.{register_place}
 use Rattle.dcc_ops.specs.Expressions.{word_of, left, right, result, product, count_expr, sum, difference, condition}
-use Rattle.dcc_ops.specs.Statements.{operands_taking, word_taking, result_taking, sum_flags, difference_flags, subtracting, alu_working, alu_storing, product_storing, product_working, triple_product, division_storing, division_working, accumulator, complementing, unary_stmts, shift_working, shifting, staying, shift_stmts, mov_stmts, exchanging, xchg_stmts, plain_stmts, dos_stmts, op_stmts, op_test}
+use Rattle.dcc_ops.specs.Statements.{operands_taking, word_taking, result_taking, sum_flags, difference_flags, subtracting, alu_working, alu_storing, alu_stmts, zeroing, product_storing, product_working, triple_product, division_storing, division_working, accumulator, complementing, unary_stmts, shift_working, shifting, staying, shift_stmts, mov_stmts, exchanging, xchg_stmts, plain_stmts, dos_stmts, op_stmts, op_test}
 use Rattle.dcc_ops.proofs.ShiftCounts.{HoldsByEach, holds_by_count}
 use Rattle.dcc_lift.proofs.FormPlaces.{is_sound_expr, are_sound, sound-cons, sound-append, IsLocationOf, half-location, left-location, right-location, result-location, set-sound, get-sound, constant-sound, IsGoodPlace, taken, halves-set, stored, halves-located}
 
@@ -302,9 +303,16 @@ triple-sound r p factor good fits =
 
 pub op-sound : (cpu : Cpu) (op : Op) (number : Option ℕ) (p q : Place) → HasGoodPlaces op p q
     → are_sound (op_stmts cpu op number p q) ≡ true
-op-sound cpu (AluOp operation a b) number p q good =
-    worked (operand_width a) p q (alu_working operation (operand_width a)) (alu_storing operation (operand_width a) p)
-    good.0 good.1 (alu-sound operation (operand_width a)) (alu-stored operation (operand_width a) p good.0)
+op-sound cpu (AluOp operation a b) number p q good = go (is_zeroing operation a b)
+  where
+    w : Width
+    w = operand_width a
+
+    go : (zero : Bool) → are_sound (if zero then zeroing w p else alu_stmts operation w p q) ≡ true
+    go true = mov-sound w p (constant w 0) good.0 (small-constant w 0 (omega arith))
+    go false =
+        worked w p q (alu_working operation w) (alu_storing operation w p) good.0 good.1 (alu-sound operation w)
+        (alu-stored operation w p good.0)
 op-sound cpu (UnaryOp operation a) number p q good = unary-sound operation (operand_width a) p good
 op-sound cpu (ShiftOp operation a count) number p q good = shift-sound cpu operation (operand_width a) p count good
 op-sound cpu (Mov to from) number p q good = mov-sound (operand_width to) p q good.0 good.1

@@ -30,7 +30,6 @@ pub mod StartMemory
 pub mod RunStart
 pub mod RunBegun
 pub mod RunLaws
-pub mod OneGraph
 pub mod NeverForms
 pub mod NeverMirrors
 pub mod NeverSteps

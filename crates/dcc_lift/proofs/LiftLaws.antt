@@ -13,7 +13,6 @@ use Rattle.dcc_lift.proofs.FormFlagReads.{flags-read}
 use Rattle.dcc_lift.proofs.FormHasBlocks.{have-blocks}
 use Rattle.dcc_lift.proofs.FlagGraphs.{translation-few}
 use Rattle.dcc_lift.proofs.NeverEnds.{never-stuck}
-use Rattle.dcc_lift.proofs.OneGraph.{one-graph}
 
 module _ (image : Image) (program : Analysed) (p : Program) (of : IsTranslated image program p) where
   lifted : IsLifted image program p
@@ -35,4 +34,4 @@ module _ (image : Image) (program : Analysed) (p : Program) (of : IsTranslated i
   }
 
   pub lift-of : IsLiftOf image program p
-  lift-of = record { translation = of.translation; lifted = lifted; one_graph = one-graph image program p of }
+  lift-of = record { translation = of.translation; lifted = lifted }

@@ -8,7 +8,6 @@ pub mod Laws
 pub mod Incoming
 pub mod Known
 pub mod Translated
-pub use Rattle.dcc_prog.specs.Built
 pub use Rattle.dcc_prog.specs.Found
 pub use Rattle.dcc_prog.specs.Layout
 pub use Rattle.dcc_prog.specs.MzImage

@@ -8,7 +8,6 @@ use Rattle.dcc_prog.specs.declared.procedure.Proc.{Proc}
 use Rattle.dcc_prog.specs.declared.frame.Program.{Program as Analysed}
 use Rattle.dcc_prog.specs.declared.instr.Op.TheVariants.{Call}
 use Rattle.dcc_prog.specs.Trail.{next_of}
-use Rattle.dcc_prog.specs.Built.{IsBuilt}
 use Rattle.dcc_prog.specs.Watch.{watched_machine, first_watch}
 use Rattle.dcc_ir.specs.Tree.{Graph, Program}
 use Rattle.dcc_ir.specs.Use.{graph_exprs}
@@ -127,13 +126,7 @@ pub record IsLifted (image : Image) (program : Analysed) (p : Program) : Type 0 
   pub never_stuck : IsNeverStuck p
   pub blocks : AllHaveBlocks image p program.procs.items
 
--- the program has one graph and no other
-pub record HasOneGraph (p : Program) : Type 0 where
-  pub graph : Graph
-  pub one : p.graphs ≡ graph ∷ []
-
--- All that is known of the program that `lift` gives. Where no call is reached, it has one graph.
+-- All that is known of the program that `lift` gives.
 pub record IsLiftOf (image : Image) (program : Analysed) (p : Program) : Type 0 where
   pub translation : IsTranslation image program.layout program.procs.items program.heights program.cells p
   pub lifted : IsLifted image program p
-  pub one_graph : IsBuilt image program.layout → HasOneGraph p

@@ -31,7 +31,15 @@ const QUIET: Row = Row {
     end: Stepped::Exit(0),
 };
 
-static ROWS: [Row; 19] = [
+static ROWS: [Row; 20] = [
+    // XOR and SUB of a register with itself, after STC: 0, ZF set and the other flags clear.
+    Row {
+        code: b"\xB8\x34\x12\xF9\x33\xC0\x75\x22\x72\x20\x78\x1E\x70\x1C\xB3\x80\xF9\x2A\xDB\x75\x15\x72\
+            \x13\x78\x11\x70\x0F\x04\x41\x02\xC3\x8A\xD0\xB4\x02\xCD\x21\xB8\x00\x4C\xCD\x21\xB8\x01\x4C\
+            \xCD\x21",
+        output: b"A",
+        ..QUIET
+    },
     // A local, below which SP is lowered by a negative raise.
     Row {
         code: b"\xE8\x05\x00\xB8\x00\x4C\xCD\x21\x55\x8B\xEC\x83\xC4\xFE\xC6\x46\xFE\x41\x8A\x56\xFE\xB4\x02\xCD\

@@ -20,6 +20,7 @@ use Rattle.dcc_prog.specs.declared.instr.Plain.TheVariants.{Nop, Cbw, Cwd, Xlat,
 use Rattle.dcc_prog.specs.declared.instr.Op.TheVariants.{Alu as AluOp, Unary as UnaryOp, Shift as ShiftOp, Mov, Xchg, Imul3, Plain as PlainOp, Int21}
 use Rattle.dcc_prog.specs.Machine.{operand_width}
 use Rattle.dcc_prog.specs.Writes.{never_shifts}
+use Rattle.dcc_prog.specs.Wanted.{is_zeroing}
 use Rattle.dcc_ir.specs.declared.syntax.Loc.{Loc}
 use Rattle.dcc_ir.specs.declared.syntax.Loc.TheVariants.{Half, Flag, Temp, Cell}
 use Rattle.dcc_ir.specs.declared.syntax.BinOp.{BinOp}
@@ -32,7 +33,7 @@ use Rattle.dcc_ops.specs.Temporaries.{left_place, right_place, result_place}
 use Rattle.dcc_ops.specs.Place.{Place, constant, byte, word, memory, address, computed, place_value, taking, storing, is_half, is_low, is_high, is_sound_place}
 use Rattle.dcc_ops.specs.Registers.{register_place}
 use Rattle.dcc_ops.specs.Expressions.{left, right, result, product, count_expr, sum, difference}
-use Rattle.dcc_ops.specs.Statements.{operands_taking, word_taking, result_taking, sum_flags, difference_flags, subtracting, alu_working, alu_storing, product_storing, product_working, division_storing, division_working, accumulator, complementing, unary_stmts, shift_working, shifting, staying, shift_stmts, mov_stmts, exchanging, xchg_stmts, plain_stmts, dos_stmts}
+use Rattle.dcc_ops.specs.Statements.{operands_taking, word_taking, result_taking, sum_flags, difference_flags, subtracting, alu_working, alu_storing, alu_stmts, zeroing, product_storing, product_working, division_storing, division_working, accumulator, complementing, unary_stmts, shift_working, shifting, staying, shift_stmts, mov_stmts, exchanging, xchg_stmts, plain_stmts, dos_stmts}
 use Rattle.dcc_ops.specs.FlagReading.{sets_flags_plainly, OperationsSetFlagsPlainly}
 
 abbrev are_plain : List Stmt → Bool
@@ -285,9 +286,16 @@ dos_plain = dos_all (λ l. are_plain l ≡ true) refl (λ n. refl) (λ n. refl) 
 
 -- All operations.
 pub op_plain : OperationsSetFlagsPlainly
-op_plain cpu (AluOp operation a b) number p q sound other =
-    worked (operand_width a) p q (alu_working operation (operand_width a)) (alu_storing operation (operand_width a) p)
-    (alu_plain operation (operand_width a)) (alu_stored operation (operand_width a) p sound)
+op_plain cpu (AluOp operation a b) number p q sound other = go (is_zeroing operation a b)
+  where
+    w : Width
+    w = operand_width a
+
+    go : (zero : Bool) → are_plain (if zero then zeroing w p else alu_stmts operation w p q) ≡ true
+    go true = mov_plain w p (constant w 0) sound
+    go false =
+        worked w p q (alu_working operation w) (alu_storing operation w p) (alu_plain operation w)
+        (alu_stored operation w p sound)
 op_plain cpu (UnaryOp operation a) number p q sound other = unary_plain operation (operand_width a) p sound
 op_plain cpu (ShiftOp operation a count) number p q sound other =
     shift_plain cpu operation (operand_width a) p count sound

@@ -9,6 +9,7 @@ pub mod ShiftCounts
 pub mod ShiftPerformed
 pub mod ProductPerformed
 pub mod MovePerformed
+pub mod ZeroPerformed
 pub mod PerformedLaws
 pub mod TestLaws
 pub mod DosStatements

@@ -1,11 +1,13 @@
 -- The statements of each operation do to the run what the operation does to the machine, in any coupling.
 use Rattle.std.proofs.Common.{◌≡◌, ◌∙◌, sym, ap, refl, subst, ℕ, ◌+◌, ◌-◌, ◌%◌, ◌^◌, ◌<◌, Bool, true, false, not, Option, arith, true≢false}
+use Rattle.std.specs.Prelude.{if◌then◌else◌}
 use Rattle.std.specs.Int.{from_bool}
 use Rattle.std.specs.List.{list_all}
 use Rattle.dcc_num.specs.declared.Width.TheVariants.{Word as word_width}
 use Rattle.dcc_num.specs.declared.Reg.TheVariants.{Cx}
 use Rattle.dcc_num.specs.declared.FlagName.TheVariants.{Cf}
 use Rattle.dcc_prog.specs.declared.cpu.Cpu.{Cpu}
+use Rattle.dcc_prog.specs.declared.instr.Alu.{Alu}
 use Rattle.dcc_prog.specs.declared.instr.Unary.{Unary}
 use Rattle.dcc_prog.specs.declared.instr.Unary.TheVariants.{Inc, Dec, Neg, Not, Mul, Imul, Div, Idiv}
 use Rattle.dcc_prog.specs.declared.instr.Plain.{Plain}
@@ -13,11 +15,13 @@ use Rattle.dcc_prog.specs.declared.instr.Plain.TheVariants.{Nop, Cbw, Cwd, Xlat,
 use Rattle.dcc_prog.specs.declared.instr.Operand.{Operand}
 use Rattle.dcc_prog.specs.declared.instr.Operand.TheVariants.{Word}
 use Rattle.dcc_prog.specs.declared.instr.Op.TheVariants.{Alu as AluOp, Unary as UnaryOp, Shift as ShiftOp, Mov, Xchg, Lea, Imul3, Push, Pop, Enter, Leave, Plain as PlainOp, Jump, Branch, Loop, LoopE, LoopNe, Jcxz, Table, Call, Ret, Int21}
-use Rattle.dcc_prog.specs.Machine.{State as Machine, word_in, with_word_in}
+use Rattle.dcc_prog.specs.Machine.{State as Machine, operand_width, word_in, with_word_in}
 use Rattle.dcc_prog.specs.Operations.{with_carry, loop_step}
 use Rattle.dcc_prog.specs.Prepared.{is_division}
 use Rattle.dcc_prog.specs.Step.{op_step}
-use Rattle.dcc_prog.specs.Wanted.{stores_back}
+use Rattle.dcc_prog.specs.Wanted.{is_zeroing, stores_back}
+use Rattle.dcc_prog.specs.WellFormed.{AreOperands}
+use Rattle.dcc_prog.specs.Writes.{writes_operand}
 use Rattle.dcc_ir.specs.declared.syntax.Loc.TheVariants.{Flag, Temp}
 use Rattle.dcc_ir.specs.declared.syntax.BinOp.TheVariants.{Sub as SubOp}
 use Rattle.dcc_ir.specs.Location.{Values}
@@ -27,12 +31,13 @@ use Rattle.dcc_ir.specs.Run.{State, scene_of, execute}
 use Rattle.dcc_ir.proofs.ExecuteLaws.{execute-append}
 use Rattle.dcc_ops.specs.Place.{Place}
 use Rattle.dcc_ops.specs.Expressions.{word_of, at_width, number, bit, flag, negated, result}
-use Rattle.dcc_ops.specs.Statements.{result_taking, word_taking, carry_taking, counting, op_stmts}
+use Rattle.dcc_ops.specs.Statements.{result_taking, word_taking, carry_taking, counting, alu_stmts, zeroing, op_stmts}
 use Rattle.dcc_ops.specs.Coupling.{Relation, IsCoupling, IsRead, IsWrittenIf, Follows}
 use Rattle.dcc_ops.specs.Performed.{is_xlat, OperationsArePerformed, RegistersStand}
 use Rattle.dcc_ops.proofs.SumValues.{not_bit}
 use Rattle.dcc_ops.proofs.CouplingLaws.{sets_scratch, worked_on, sets_values, register_value, register_taken, register_read, register_written, word_bytes, held_below}
 use Rattle.dcc_ops.proofs.AluPerformed.{alu_performed}
+use Rattle.dcc_ops.proofs.ZeroPerformed.{zeroing_writes, zero_performed}
 use Rattle.dcc_ops.proofs.UnaryPerformed.{inc_performed, dec_performed, neg_performed, not_performed}
 use Rattle.dcc_ops.proofs.ShiftPerformed.{shift_performed}
 use Rattle.dcc_ops.proofs.ProductPerformed.{mul_performed, imul_performed, triple_performed, cbw_performed, cwd_performed}
@@ -117,9 +122,24 @@ module _ (R After : Relation) (coupling : IsCoupling R) (after : IsCoupling Afte
   plain_case Sti cpu number at p q s t undivided follows rel = follows _ _ rel
   plain_case Cld cpu number at p q s t undivided follows rel = follows _ _ rel
 
+  -- where the operation makes 0 of its operands, that moves there
+  alu_case : (operation : Alu) (a b : Operand) (cpu : Cpu) (number : Option ℕ) (at : ℕ) (p q : Place) (s : Machine)
+      (t : State) → AreOperands a b → IsRead R s a p → IsRead R s b q
+      → IsWrittenIf (writes_operand operation) R After s a p → R s t
+      → After (op_step cpu (AluOp operation a b) at s) (execute (op_stmts cpu (AluOp operation a b) number p q) t)
+  alu_case operation a b cpu number at p q s t are first second written rel = go (is_zeroing operation a b) refl
+    where
+      go : (zero : Bool) → is_zeroing operation a b ≡ zero
+          → After (op_step cpu (AluOp operation a b) at s)
+          (execute (if zero then zeroing (operand_width a) p else alu_stmts operation (operand_width a) p q) t)
+      go true is =
+          zero_performed R After coupling after operation a b p s t are.first is
+          (subst (λ (writes : Bool). IsWrittenIf writes R After s a p) (zeroing_writes operation a b is) written) rel
+      go false is = alu_performed R After coupling operation a b p q s t are first second written rel
+
   pub performed : OperationsArePerformed R After
   performed cpu (AluOp operation a b) number at s t p q ok stands rel =
-      alu_performed R After coupling operation a b p q s t ok stands.0 stands.1 stands.2 rel
+      alu_case operation a b cpu number at p q s t ok stands.0 stands.1 stands.2 rel
   performed cpu (UnaryOp operation a) number at s t p q ok stands rel =
       unary_case operation a cpu number at p q s t stands.0 stands.1 stands.2 rel
   performed cpu (ShiftOp operation a count) number at s t p q ok stands rel =

@@ -1,6 +1,6 @@
 -- The statements that stand for an instruction, and how its block ends. Each instruction takes every operand once into
 -- a temporary, makes the result and the flags of temporaries, and stores last; moves between halves go without
--- temporaries.
+-- temporaries, and so do XOR and SUB of a register with itself, which take no operand.
 use Rattle.std.specs.Prelude.{ℕ, ◌+◌, ◌/◌, ◌%◌, ◌==◌, Bool, true, false, ◌||◌, if◌then◌else◌, List, [], ◌∷◌, ◌++◌, Option, Some, None}
 use Rattle.dcc_num.specs.declared.Width.{Width}
 use Rattle.dcc_num.specs.declared.Width.TheVariants.{Byte as byte_width, Word as word_width}
@@ -26,6 +26,7 @@ use Rattle.dcc_prog.specs.declared.instr.Op.{Op}
 use Rattle.dcc_prog.specs.declared.instr.Op.TheVariants.{Alu as AluOp, Unary as UnaryOp, Shift as ShiftOp, Mov, Xchg, Imul3, Plain as PlainOp, Branch, Loop, LoopE, LoopNe, Jcxz, Int21}
 use Rattle.dcc_prog.specs.Machine.{operand_width}
 use Rattle.dcc_prog.specs.Writes.{never_shifts}
+use Rattle.dcc_prog.specs.Wanted.{is_zeroing}
 use Rattle.dcc_ir.specs.declared.syntax.Loc.{Loc}
 use Rattle.dcc_ir.specs.declared.syntax.Loc.TheVariants.{Half, Flag}
 use Rattle.dcc_ir.specs.declared.syntax.UnOp.TheVariants.{Not as NotOp}
@@ -240,6 +241,11 @@ mov_stmts w (word low high) (word l h) = Set low (Get l) ∷ Set high (Get h) �
 mov_stmts w (word low high) (constant v n) = Set low (Const 8 (n % 256)) ∷ Set high (Const 8 (n / 256)) ∷ []
 mov_stmts w p q = taking (left_place w) q ∷ storing p (left w)
 
+-- XOR and SUB of a place with itself: the flags of 0, and 0 moves there
+abbrev pub zeroing : Width → Place → List Stmt
+zeroing w p =
+    flags_taking (bit 0) (bit 0) (bit 1) ++ (carry_taking (bit 0) ++ mov_stmts w p (constant w 0))
+
 -- two bytes are exchanged
 abbrev pub exchanging : Loc → Loc → List Stmt
 exchanging a b = Set (left_place byte_width) (Get a) ∷ Set a (Get b) ∷ Set b (left byte_width) ∷ []
@@ -284,7 +290,8 @@ dos_stmts (Some number) =
 
 -- All operations that are built, with the places of their operands; INT 21h has the number of its call.
 abbrev pub op_stmts : Cpu → Op → Option ℕ → Place → Place → List Stmt
-op_stmts cpu (AluOp operation a b) number p q = alu_stmts operation (operand_width a) p q
+op_stmts cpu (AluOp operation a b) number p q =
+    if is_zeroing operation a b then zeroing (operand_width a) p else alu_stmts operation (operand_width a) p q
 op_stmts cpu (UnaryOp operation a) number p q = unary_stmts operation (operand_width a) p
 op_stmts cpu (ShiftOp operation a count) number p q = shift_stmts cpu operation (operand_width a) p count
 op_stmts cpu (Mov to from) number p q = mov_stmts (operand_width to) p q

@@ -130,6 +130,15 @@ impl Writer {
         self.alu_storing(operation, w, p)
     }
 
+    /// XOR or SUB of a place of that width with itself: the flags of 0, and 0 moves there.
+    pub fn zero(&mut self, w: Width, p: Place) -> Result<(), AllocError>
+        ensures { OnOk result (written self.new ≡ written self.old ++ spec.zeroing w (place_of p)) }
+    {
+        self.take_flags(bit(false), bit(false), bit(true))?;
+        self.take_carry(bit(false))?;
+        self.mov(w, p, Place::Constant(w, 0))
+    }
+
     // INC.
     fn inc(&mut self, w: Width, p: Place) -> Result<(), AllocError>
         ensures { OnOk result (written self.new ≡ written self.old ++ spec.unary_stmts Unary.Inc w (place_of p)) }

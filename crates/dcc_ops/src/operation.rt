@@ -26,6 +26,7 @@ impl Writer {
             ≡ written self.old ++ spec.op_stmts cpu op number (place_of p) (place_of q)) }
     {
         match op {
+            Op::Alu(operation, a, b) if operation.is_zeroing(a, b) => self.zero(a.width(), p),
             Op::Alu(operation, a, _) => self.alu(operation, a.width(), p, q),
             Op::Unary(operation, a) => self.unary(operation, a.width(), p),
             Op::Shift(operation, a, count) => self.shift(cpu, operation, a.width(), p, count),

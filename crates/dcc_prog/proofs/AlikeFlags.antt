@@ -41,7 +41,7 @@ use Rattle.dcc_prog.specs.AlikeLaws.{AgreeIn, divides_by, AreAlikeFor}
 use Rattle.dcc_prog.proofs.OperationForms.{alu_result, alu_written, alu-form}
 use Rattle.dcc_prog.proofs.LocationKept.{operand-flags}
 use Rattle.dcc_prog.proofs.AlikeValues.{and-both, and-parts, or-first, or-second, AgreeWhere, AreTwo, value-alike, count-alike}
-use Rattle.dcc_prog.proofs.AlikeHalves.{all_of, alu_reads, alu-results, factors-alike, same-division}
+use Rattle.dcc_prog.proofs.AlikeHalves.{all_of, alu-made, factors-alike, same-division}
 
 -- the flags after an operand has taken a result
 result-flags : (x : Operand) (result : ℕ × Flags) (s : State) → (with_result x result s).flags ≡ result.1
@@ -98,8 +98,7 @@ alu-flag clear cpu operation a b at s t flag two is made =
         logic-clear operation _ _ _ _ flag both.0 both.1 ∙ sym (logic-clear operation _ _ _ _ flag both.0 both.1)
     go false e =
         ap (λ (x : ℕ × Flags). flag_in x.1 flag)
-        (alu-results operation a b s t two.beside
-        (all_of (not (is_logic operation && is_carry_or_overflow flag)) (alu_reads operation a b) s t (ap not e) made))
+        (alu-made operation a b s t (not (is_logic operation && is_carry_or_overflow flag)) two.beside (ap not e) made)
 
 -- Operations on one operand.
 

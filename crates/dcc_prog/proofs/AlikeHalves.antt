@@ -39,11 +39,12 @@ use Rattle.dcc_prog.specs.Dos.{dos_step, with_key, key_step}
 use Rattle.dcc_prog.specs.Step.{op_step}
 use Rattle.dcc_prog.specs.WellFormed.{IsOperation, AreOperands}
 use Rattle.dcc_prog.specs.Writes.{is_same_register, is_same_half, is_half_of, writes_operand, is_in_pair, plain_writes_half, writes_half}
-use Rattle.dcc_prog.specs.Wanted.{Location, half_of, flag_of, is_part, is_half, is_in_address, is_read, is_flag, is_al, is_accumulator, takes_carry, is_cl, is_turn, is_in_cl, is_by_cl, moves, plain_makes, makes, is_dividend, gives_byte}
+use Rattle.dcc_prog.specs.Wanted.{Location, half_of, flag_of, is_zeroing, is_part, is_half, is_in_address, is_read, is_flag, is_al, is_accumulator, takes_carry, is_cl, is_turn, is_in_cl, is_by_cl, moves, plain_makes, makes, is_dividend, gives_byte}
 use Rattle.dcc_prog.specs.StateForm.{IsState}
 use Rattle.dcc_prog.specs.LocationLaws.{half_in}
 use Rattle.dcc_prog.specs.AlikeLaws.{AgreeBeside, IsCallNumber, divides_by, AreAlikeFor}
 use Rattle.dcc_prog.proofs.OperationForms.{alu_result, alu_written, alu-form}
+use Rattle.dcc_prog.proofs.ZeroingLaws.{zeroed-result}
 use Rattle.dcc_prog.proofs.DosLaws.{calls-relate}
 use Rattle.dcc_prog.proofs.StateKept.{value-fits, of_width, top-below}
 use Rattle.dcc_prog.proofs.LocationKept.{word-taken, word-other, half-other, operand-half, operand-count}
@@ -83,6 +84,26 @@ alu-results operation a b s t beside agree =
     (or-second (is_read (flag_of Cf) a) _
     (or-second (is_read (flag_of Cf) b) _ (and-both (takes_carry operation) true takes refl))))
 
+-- the result, where it is made of what they read, or of nothing
+pub alu-made :
+    (operation : AluName) (a b : Operand) (s t : State) (written : Bool) → AgreeBeside s t → written ≡ true
+    → AgreeWhere (λ from. not (is_zeroing operation a b) && (written && alu_reads operation a b from)) s t
+    → alu_result operation (operand_width a) (operand_value s a) (operand_value s b) s.flags.cf
+    ≡ alu_result operation (operand_width a) (operand_value t a) (operand_value t b) t.flags.cf
+alu-made operation a b s t written beside e made = go (is_zeroing operation a b) refl
+  where
+    go :
+        (zeroing : Bool) → is_zeroing operation a b ≡ zeroing
+        → alu_result operation (operand_width a) (operand_value s a) (operand_value s b) s.flags.cf
+        ≡ alu_result operation (operand_width a) (operand_value t a) (operand_value t b) t.flags.cf
+    go true is =
+        zeroed-result operation a b (operand_width a) s s.flags.cf is
+        ∙ sym (zeroed-result operation a b (operand_width a) t t.flags.cf is)
+    go false is =
+        alu-results operation a b s t beside
+        (all_of written (alu_reads operation a b) s t e
+        (all_of (not (is_zeroing operation a b)) (λ from. written && alu_reads operation a b from) s t (ap not is) made))
+
 alu-half :
     (cpu : Cpu) (operation : AluName) (a b : Operand) (at : ℕ) (s t : State) (r : Reg) (half : Half) → AreTwo s t
     → writes_half (Alu operation a b) r half ≡ true → AgreeWhere (makes (Alu operation a b) (half_of r half)) s t
@@ -93,8 +114,7 @@ alu-half cpu operation a b at s t r half two e made =
     let first = alu_result operation w (operand_value s a) (operand_value s b) s.flags.cf in
     let second = alu_result operation w (operand_value t a) (operand_value t b) t.flags.cf in
     let same : first ≡ second =
-    alu-results operation a b s t two.beside
-    (all_of (writes_operand operation && is_half_of r half a) (alu_reads operation a b) s t e made) in
+    alu-made operation a b s t (writes_operand operation && is_half_of r half a) two.beside e made in
     ap (λ u. half_in u r half) (alu-form operation w a (operand_value s a) (operand_value s b) s)
     ∙ ap (λ so. half_in (alu_written so a first s) r half) parts.0
     ∙ result-alike a first second s t r half (ap (λ (x : ℕ × Flags). x.0) same) two.first.registers.count

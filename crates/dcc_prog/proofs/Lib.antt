@@ -10,7 +10,6 @@ pub mod PreludeOffsets
 pub mod LayoutLaws
 pub mod TrailLaws
 pub mod ConstructLaws
-pub mod FoundLaws
 pub mod Counting
 pub mod FoundNodes
 pub mod RefusedLaws
@@ -29,6 +28,7 @@ pub mod StateKept
 pub mod StartState
 pub mod LocationKept
 pub mod AlikeValues
+pub mod ZeroingLaws
 pub mod AlikeHalves
 pub mod AlikeFlags
 pub mod AlikeUsed

@@ -3,7 +3,6 @@ use Rattle.std.proofs.Common.{◌≡◌, ℕ, ◌+◌, ◌*◌, ◌/◌, ◌%◌
 use Rattle.std.proofs.lemmas.Bool.{eqb-true}
 use Rattle.std.proofs.lemmas.Bool.Decides.{nat_tests}
 use Rattle.std.proofs.lemmas.Int.{ints}
-use Rattle.std.specs.Int.Bits.{xor_self}
 use Rattle.std.specs.Prelude.{not, ◌||◌, if◌then◌else◌, ◌==◌}
 use Rattle.dcc_run.specs.End.{is_over}
 use Rattle.dcc_num.specs.declared.Width.{Width}
@@ -46,6 +45,7 @@ use Rattle.dcc_prog.proofs.FetchLaws.{image-placed, fetched-instruction}
 use Rattle.dcc_prog.proofs.WellFormedLaws.{instruction-operation}
 use Rattle.dcc_prog.proofs.ResultBounds.{sign_extension-low}
 use Rattle.dcc_prog.proofs.StateKept.{same-state, states-kept, code-bytes}
+use Rattle.dcc_prog.proofs.ZeroingLaws.{difference-self, exclusive-self}
 use Rattle.dcc_prog.proofs.LocationKept.{op-half, word-taken, word-other, or-none}
 use Rattle.dcc_prog.proofs.AlikeValues.{and-parts, word-joined}
 
@@ -166,15 +166,6 @@ upper-taken byte_width v s form =
     ∙ upper-byte (word_in s Ax) v
 upper-taken word_width v s form = word-taken s Dx Dx v form.registers.count refl
 
-difference-none : (w : Width) (a : ℕ) → (difference_of w a a false).0 ≡ 0
-unfolding difference_of
-difference-none byte_width a = omega arith
-difference-none word_width a = omega arith
-
-exclusive-none : (w : Width) (a : ℕ) → (exclusive_of w a a).0 ≡ 0
-unfolding exclusive_of
-exclusive-none w a = xor_self a
-
 upper-result :
     (w :
     Width) (result : ℕ × Flags) (s : State) → IsState s → upper_in w
@@ -196,14 +187,14 @@ zeroed cpu w (Alu Sub a b) at s form e =
     ap (λ y. upper_in w (op_step cpu (Alu Sub y b) at s)) (upper-is w a both.0)
     ∙ ap (λ y. upper_in w (op_step cpu (Alu Sub x y) at s)) (upper-is w b both.1)
     ∙ upper-result w (difference_of (operand_width x) (operand_value s x) (operand_value s x) false) s form
-    ∙ difference-none (operand_width x) (operand_value s x)
+    ∙ ap (λ (result : ℕ × Flags). result.0) (difference-self (operand_width x) (operand_value s x))
 zeroed cpu w (Alu Xor a b) at s form e =
     let both = and-parts (is_upper w a) (is_upper w b) e in
     let x = upper_operand w in
     ap (λ y. upper_in w (op_step cpu (Alu Xor y b) at s)) (upper-is w a both.0)
     ∙ ap (λ y. upper_in w (op_step cpu (Alu Xor x y) at s)) (upper-is w b both.1)
     ∙ upper-result w (exclusive_of (operand_width x) (operand_value s x) (operand_value s x)) s form
-    ∙ exclusive-none (operand_width x) (operand_value s x)
+    ∙ ap (λ (result : ℕ × Flags). result.0) (exclusive-self (operand_width x) (operand_value s x))
 zeroed cpu w op at s form e = cc
 
 -- the upper half of an extended byte repeats its sign

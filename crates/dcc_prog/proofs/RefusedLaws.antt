@@ -1,5 +1,5 @@
--- A program in which the analyses find nothing to refuse is sound, and if all is built accepted; one that is sound is
--- refused by the analyses for want of memory alone, and one that is accepted by decompilation.
+-- A program in which the analyses find nothing to refuse is sound, and one that is sound is refused by them for want of
+-- memory alone.
 use Rattle.std.proofs.Common.{◌≡◌, ◌⊎◌, inl, inr, ℕ, refl, subst}
 use Rattle.dcc_prog.specs.declared.cpu.Cpu.{Cpu}
 use Rattle.dcc_prog.specs.declared.image.Image.{Image}
@@ -10,8 +10,7 @@ use Rattle.dcc_prog.specs.declared.refusal.Refusal.TheVariants.{Memory}
 use Rattle.dcc_prog.specs.Layout.{HasLayout}
 use Rattle.dcc_prog.specs.Construct.{IsOfTrails, IsOfHeights, IsOfFrames, IsConstruct, lacks_layout, of_trails, of_heights, of_frames}
 use Rattle.dcc_prog.specs.Limit.{IsAbove, IsAboveInFrames}
-use Rattle.dcc_prog.specs.Built.{IsNotYet, IsBuilt}
-use Rattle.dcc_prog.specs.Refused.{PassesLimit, ReachesUnbuilt, IsSound, IsAcceptedProgram, IsUnsound, IsRefusedImage, has_construct, passes_limit, is_unsound, reaches_unbuilt, IsRefusedBy, construct, limit, IsAcceptedByAll, IsRefusedByAnalysis, no_layout, by_trails, by_heights, by_frames, IsRefusedFor, by_analysis, not_yet}
+use Rattle.dcc_prog.specs.Refused.{PassesLimit, IsSound, IsUnsound, has_construct, passes_limit, IsRefusedBy, construct, limit, IsAcceptedByAll, IsRefusedByAnalysis, no_layout, by_trails, by_heights, by_frames}
 use Rattle.dcc_prog.proofs.LayoutLaws.{layout-once}
 
 module _ (image : Image) (layout : Layout) (has : HasLayout image layout) where
@@ -41,20 +40,10 @@ module _ (image : Image) (layout : Layout) (has : HasLayout image layout) where
     pub all-sound : IsSound layout.cpu image
     all-sound = record { no_construct = no-construct; no_limit = no-limit }
 
-  no-unbuilt : IsBuilt image layout → (at : ℕ) → ¬ ReachesUnbuilt layout.cpu image at
-  no-unbuilt built at r = built at (subst (λ l. IsNotYet image l at) (same_layout r.layout r.runs_on r.has) r.reached)
-
-  pub all-accepted : IsAcceptedByAll image layout → IsBuilt image layout → IsAcceptedProgram layout.cpu image
-  all-accepted all built = record { sound = all-sound all; built = no-unbuilt built }
-
--- nothing stands in a sound program for which it would be refused, nor in an accepted one
+-- nothing stands in a sound program for which it would be refused
 pub sound-not_unsound : (cpu : Cpu) (image : Image) → IsSound cpu image → ¬ IsUnsound cpu image
 sound-not_unsound cpu image s (has_construct {kind = kind} {at = at} h) = s.no_construct kind at h
 sound-not_unsound cpu image s (passes_limit {what = what} {count = count} h) = s.no_limit what count h
-
-pub accepted-not_refused : (cpu : Cpu) (image : Image) → IsAcceptedProgram cpu image → ¬ IsRefusedImage cpu image
-accepted-not_refused cpu image a (is_unsound h) = sound-not_unsound cpu image a.sound h
-accepted-not_refused cpu image a (reaches_unbuilt {at = at} h) = a.built at h
 
 -- where an analysis may tell nothing, it tells want of memory alone
 told-memory :
@@ -81,11 +70,3 @@ sound-memory cpu image refusal s (by_frames {layout = layout} runs_on has trails
     (λ what count c. s.no_limit what count (record { layout = layout; runs_on = runs_on; has = has; above = inr c }))
     refusal h
 sound-memory cpu image refusal s IsRefusedByAnalysis.no_memory = refl
-
--- and what is told of an accepted one
-pub accepted-memory :
-    (cpu : Cpu) (image : Image) (refusal : Refusal) → IsAcceptedProgram cpu image → IsRefusedFor cpu image refusal
-    → refusal ≡ Memory
-accepted-memory cpu image refusal a (by_analysis h) = sound-memory cpu image refusal a.sound h
-accepted-memory cpu image refusal a (not_yet {layout = layout} {at = at} runs_on has all h) =
-    absurd (a.built at (record { layout = layout; runs_on = runs_on; has = has; reached = h }))

@@ -19,7 +19,6 @@ pub mod Construct
 pub mod Limit
 pub mod Frame
 pub mod Wanted
-pub mod Built
 pub mod Found
 pub mod Refused
 pub mod Analysed

@@ -1,4 +1,4 @@
--- Which programs are decompiled, and why one is refused.
+-- What the analyses refuse of programs, and why.
 use Rattle.std.specs.Prelude.{◌≡◌, ◌⊎◌, ℕ}
 use Rattle.dcc_prog.specs.declared.cpu.Cpu.{Cpu}
 use Rattle.dcc_prog.specs.declared.image.Image.{Image}
@@ -6,11 +6,10 @@ use Rattle.dcc_prog.specs.declared.procedure.Layout.{Layout}
 use Rattle.dcc_prog.specs.declared.refusal.construct.TheConstants.{NO_LAYOUT}
 use Rattle.dcc_prog.specs.declared.refusal.LimitName.{LimitName}
 use Rattle.dcc_prog.specs.declared.refusal.Refusal.{Refusal}
-use Rattle.dcc_prog.specs.declared.refusal.Refusal.TheVariants.{Construct, Limit, NotYet, Memory}
+use Rattle.dcc_prog.specs.declared.refusal.Refusal.TheVariants.{Construct, Limit, Memory}
 use Rattle.dcc_prog.specs.Layout.{HasLayout}
 use Rattle.dcc_prog.specs.Construct.{LacksLayout, IsOfTrails, IsOfHeights, IsOfFrames, IsConstruct}
 use Rattle.dcc_prog.specs.Limit.{IsAbove, IsAboveInFrames}
-use Rattle.dcc_prog.specs.Built.{IsNotYet}
 
 -- in a layout of the image for the processor the count is above its greatest number
 pub record PassesLimit (cpu : Cpu) (image : Image) (what : LimitName) (count : ℕ) : Type 0 where
@@ -19,32 +18,15 @@ pub record PassesLimit (cpu : Cpu) (image : Image) (what : LimitName) (count : �
   pub has : HasLayout image layout
   pub above : IsAbove image layout what count ⊎ IsAboveInFrames image layout what count
 
--- an instruction that is reached at the offset is of a form that is not built
-pub record ReachesUnbuilt (cpu : Cpu) (image : Image) (at : ℕ) : Type 0 where
-  pub layout : Layout
-  pub runs_on : layout.cpu ≡ cpu
-  pub has : HasLayout image layout
-  pub reached : IsNotYet image layout at
-
 -- no construct stands anywhere, and no count passes its greatest number
 pub record IsSound (cpu : Cpu) (image : Image) : Type 0 where
   pub no_construct : (kind at : ℕ) → ¬ IsConstruct cpu kind image at
   pub no_limit : (what : LimitName) (count : ℕ) → ¬ PassesLimit cpu image what count
 
--- besides no instruction that is not built is reached
-pub record IsAcceptedProgram (cpu : Cpu) (image : Image) : Type 0 where
-  pub sound : IsSound cpu image
-  pub built : (at : ℕ) → ¬ ReachesUnbuilt cpu image at
-
 -- a construct of any kind stands somewhere, or a count passes its greatest number
 pub data IsUnsound (cpu : Cpu) (image : Image) : Type 0 where
   has_construct : {kind at : ℕ} → IsConstruct cpu kind image at → IsUnsound cpu image
   passes_limit : {what : LimitName} {count : ℕ} → PassesLimit cpu image what count → IsUnsound cpu image
-
--- the same, or an instruction that is not built is reached
-pub data IsRefusedImage (cpu : Cpu) (image : Image) : Type 0 where
-  is_unsound : IsUnsound cpu image → IsRefusedImage cpu image
-  reaches_unbuilt : {at : ℕ} → ReachesUnbuilt cpu image at → IsRefusedImage cpu image
 
 -- What one analysis may tell of a program that it refuses: a construct of those that it tells, or a count of its own
 -- above its greatest number; where several of these stand, any of them may be told. Want of memory has no cause.
@@ -114,15 +96,3 @@ pub data IsRefusedByAnalysis (cpu : Cpu) (image : Image) : Refusal → Type 0 wh
       → IsRefusedByFrames image layout refusal
       → IsRefusedByAnalysis cpu image refusal
   no_memory : IsRefusedByAnalysis cpu image Memory
-
--- The same of decompilation: what the analyses tell, and only where these refuse nothing an instruction that is reached
--- and not built.
-pub data IsRefusedFor (cpu : Cpu) (image : Image) : Refusal → Type 0 where
-  by_analysis : {refusal : Refusal} → IsRefusedByAnalysis cpu image refusal → IsRefusedFor cpu image refusal
-  not_yet :
-      {layout : Layout} {at : ℕ}
-      → layout.cpu ≡ cpu
-      → HasLayout image layout
-      → IsAcceptedByAll image layout
-      → IsNotYet image layout at
-      → IsRefusedFor cpu image (NotYet at)

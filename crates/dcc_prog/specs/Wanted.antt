@@ -1,8 +1,7 @@
--- Which locations of a procedure are wanted before an instruction: those whose value a jump, a store, a division or
--- a DOS call may come to use (liveness by demand, after C. Cifuentes, Reverse Compilation Techniques, 1994, section
--- 5.4). So far no word of the stack takes part: a procedure that pushes, pops or calls has further locations and
--- rules.
-use Rattle.std.specs.Prelude.{◌≡◌, ℕ, ◌==◌, Bool, true, false, not, ◌&&◌, ◌||◌, if◌then◌else◌, Option, Some, None}
+-- What an operation uses for a jump, a store, a division or a DOS call, what it makes of what, and what it surely writes,
+-- of the halves of the word registers and the flags: by that it is told which of them are wanted before an instruction
+-- (liveness by demand, after C. Cifuentes, Reverse Compilation Techniques, 1994, section 5.4).
+use Rattle.std.specs.Prelude.{ℕ, ◌==◌, Bool, true, false, not, ◌&&◌, ◌||◌, if◌then◌else◌, Option, Some, None}
 use Rattle.dcc_num.specs.declared.Width.{Width}
 use Rattle.dcc_num.specs.declared.Width.TheVariants.{Byte as byte_width, Word as word_width}
 use Rattle.dcc_num.specs.declared.Reg.{Reg}
@@ -12,10 +11,8 @@ use Rattle.dcc_num.specs.declared.Half.TheVariants.{Low, High}
 use Rattle.dcc_num.specs.declared.dos.TheConstants.{GETCHE, PUTC, GETCH, PUTS, EXIT}
 use Rattle.dcc_num.specs.declared.FlagName.{FlagName}
 use Rattle.dcc_num.specs.declared.FlagName.TheVariants.{Cf, Zf, Sf, Of}
-use Rattle.dcc_prog.specs.declared.image.Image.{Image}
-use Rattle.dcc_prog.specs.declared.procedure.Layout.{Layout}
 use Rattle.dcc_prog.specs.declared.instr.Alu.{Alu}
-use Rattle.dcc_prog.specs.declared.instr.Alu.TheVariants.{Adc, Sbb, And, Or, Xor, Test}
+use Rattle.dcc_prog.specs.declared.instr.Alu.TheVariants.{Adc, Sbb, And, Sub, Or, Xor, Test}
 use Rattle.dcc_prog.specs.declared.instr.Shift.{Shift}
 use Rattle.dcc_prog.specs.declared.instr.Shift.TheVariants.{Rcl, Rcr, Sar}
 use Rattle.dcc_prog.specs.declared.instr.Count.{Count}
@@ -32,9 +29,8 @@ use Rattle.dcc_prog.specs.declared.instr.Operand.TheVariants.{Word, Byte, Mem}
 use Rattle.dcc_prog.specs.declared.instr.Op.{Op}
 use Rattle.dcc_prog.specs.declared.instr.Op.TheVariants.{Alu as AluOp, Unary as UnaryOp, Shift as ShiftOp, Mov, Xchg, Lea, Imul3, Pop, Plain as PlainOp, Branch, Loop, LoopE, LoopNe, Jcxz, Table, Int21}
 use Rattle.dcc_prog.specs.Machine.{operand_width}
-use Rattle.dcc_prog.specs.Trail.{StandsAt, IsNode, IsEdge}
+use Rattle.dcc_prog.specs.Trail.{is_general}
 use Rattle.dcc_prog.specs.Prepared.{is_division}
-use Rattle.dcc_prog.specs.Construct.{HasAh}
 use Rattle.dcc_prog.specs.Writes.{is_same_register, is_same_half, is_half_of, writes_operand, is_in_pair, is_carry_or_overflow, unary_writes_flag, shift_writes_flag, never_shifts, writes_half, writes_flag}
 
 -- a half of a word register, or a flag
@@ -100,6 +96,18 @@ abbrev pub takes_carry : Alu → Bool
 takes_carry Adc = true
 takes_carry Sbb = true
 takes_carry operation = false
+
+-- the two are one general register, or one half of such a register
+abbrev pub is_same_general : Operand → Operand → Bool
+is_same_general (Word r) (Word q) = is_general r && is_same_register r q
+is_same_general (Byte r half) (Byte q other) = is_general r && (is_same_register r q && is_same_half half other)
+is_same_general a b = false
+
+-- XOR and SUB of such a register with itself: the result is 0 whatever it held, and the flags are constants
+abbrev pub is_zeroing : Alu → Operand → Operand → Bool
+is_zeroing Xor a b = is_same_general a b
+is_zeroing Sub a b = is_same_general a b
+is_zeroing operation a b = false
 
 -- the location takes a value that is no constant
 abbrev pub alu_makes : Alu → Operand → Location → Bool
@@ -196,7 +204,8 @@ triple_product_makes q a (flag_of flag) from = is_carry_or_overflow flag && is_r
 -- of all operations
 abbrev pub makes : Op → Location → Location → Bool
 makes (AluOp operation a b) to from =
-    alu_makes operation a to && (is_read from a || (is_read from b || (takes_carry operation && is_flag Cf from)))
+    not (is_zeroing operation a b)
+    && (alu_makes operation a to && (is_read from a || (is_read from b || (takes_carry operation && is_flag Cf from))))
 makes (UnaryOp operation a) to from = unary_makes operation a to && unary_reads operation a from
 makes (ShiftOp operation a count) to from = shift_makes operation a count to from
 makes (Mov to_operand operand) to from = moves to_operand operand to from
@@ -303,33 +312,3 @@ surely_writes_flag op flag = writes_flag op flag
 abbrev pub surely_writes : Op → Option ℕ → Location → Bool
 surely_writes op number (half_of r half) = surely_writes_half op number r half
 surely_writes op number (flag_of flag) = surely_writes_flag op flag
-
--- Wanted.
-
--- the operation stands at a node; INT 21h has that number
-pub record HasOperation (image : Image) (layout : Layout) (entry at : ℕ) (op : Op) (number : Option ℕ) : Type 0 where
-  pub node : IsNode image layout entry at
-  pub stands : StandsAt image layout at op
-  pub number_is : op ≡ Int21 → HasAh image layout entry at number
-
--- the least relation: the location is wanted before the instruction at the offset
-pub data IsWanted (image : Image) (layout : Layout) (entry : ℕ) : ℕ → Location → Type 0 where
-  used :
-      {at : ℕ} {location : Location} {op : Op} {number : Option ℕ}
-      → HasOperation image layout entry at op number
-      → uses op number location ≡ true
-      → IsWanted image layout entry at location
-  made_of :
-      {at next : ℕ} {location to : Location} {op : Op} {number : Option ℕ}
-      → HasOperation image layout entry at op number
-      → IsEdge image layout entry at next
-      → makes op to location ≡ true
-      → IsWanted image layout entry next to
-      → IsWanted image layout entry at location
-  left :
-      {at next : ℕ} {location : Location} {op : Op} {number : Option ℕ}
-      → HasOperation image layout entry at op number
-      → IsEdge image layout entry at next
-      → surely_writes op number location ≡ false
-      → IsWanted image layout entry next location
-      → IsWanted image layout entry at location

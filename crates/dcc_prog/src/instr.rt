@@ -7,6 +7,7 @@ ghost use Rattle.dcc_prog.specs.Layout.{is_control};
 ghost use Rattle.dcc_prog.specs.Machine.{operand_width};
 ghost use Rattle.dcc_prog.specs.Operations.{holds};
 ghost use Rattle.dcc_prog.specs.Trail.{next_of};
+ghost use Rattle.dcc_prog.specs.Wanted.{is_same_general, is_zeroing};
 
 use dcc_num::{Flags, Half, Reg, Width};
 
@@ -54,6 +55,20 @@ impl Operand {
     {
         matches!(self, Operand::Seg(_))
     }
+
+    // Both are one general register, or one half of such a register.
+    fn is_same_general(self, other: Operand) -> bool
+        ensures { result ≡ is_same_general self other }
+    {
+        match (self, other) {
+            (Operand::Word(r), Operand::Word(q)) => !matches!(r, Reg::Sp | Reg::Bp) && r == q,
+            (Operand::Byte(r, Half::Low), Operand::Byte(q, Half::Low))
+            | (Operand::Byte(r, Half::High), Operand::Byte(q, Half::High)) => {
+                !matches!(r, Reg::Sp | Reg::Bp) && r == q
+            }
+            _ => false,
+        }
+    }
 }
 
 /// An operation on two operands.
@@ -68,6 +83,16 @@ pub enum Alu {
     Xor,
     Cmp,
     Test,
+}
+
+impl Alu {
+    /// Whether the operation makes 0 of these operands whatever they hold: XOR or SUB of a general register, or of a
+    /// half of one, with itself.
+    pub fn is_zeroing(self, a: Operand, b: Operand) -> bool
+        ensures { result ≡ is_zeroing self a b }
+    {
+        matches!(self, Alu::Xor | Alu::Sub) && a.is_same_general(b)
+    }
 }
 
 /// A shift or rotate.

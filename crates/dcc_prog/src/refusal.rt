@@ -3,7 +3,6 @@
 use std::alloc::{AllocError, AllocFailed};
 
 /// What each number of a construct says. The first is told at the entry, the others at an instruction that is reached.
-/// The kinds 9 and 10 are told of no program yet.
 pub mod construct {
     /// No layout of the small memory model holds of the image.
     pub const NO_LAYOUT: u8 = 1;
@@ -71,8 +70,6 @@ pub enum Refusal {
     Construct { kind: u8, at: u16 },
     /// A count is above its greatest number.
     Limit { what: LimitName, count: u32 },
-    /// The instruction that is reached at the offset is of a form that is not built yet.
-    NotYet { at: u16 },
     /// Memory ran out.
     Memory,
 }
