@@ -65,7 +65,7 @@ sp_unmoved (UnaryOp Inc (Word Sp)) w ea e = absurd (cc e)
 sp_unmoved (UnaryOp Dec (Word Sp)) w ea e = absurd (cc e)
 sp_unmoved op w ea e = refl
 
-any_kept : {X : Type 0} (p f : X → Bool) (xs : List X) → list_any p (filter f xs) ≡ true → list_any p xs ≡ true
+pub any_kept : {X : Type 0} (p f : X → Bool) (xs : List X) → list_any p (filter f xs) ≡ true → list_any p xs ≡ true
 any_kept p f [] e = e
 any_kept p f (x ∷ xs) e = by (f x) e (λ d. any_kept p f xs d)
   where
@@ -108,13 +108,13 @@ module _ (image : Image) (program : Analysed) (p : Program) (is : IsTranslated i
   abbrev q : Procedure
   q = refined.procedure image program p is entry x
 
-  is_entry : IsEntry image layout entry
+  pub is_entry : IsEntry image layout entry
   is_entry = subst (IsEntry image layout) x.entry_is x.reached
 
   found : IsFoundAt e entry q
   found = record { lifting = lifting image program p is.of_file is.translation; is_entry = is_entry; procedure = x.procedure_found }
 
-  frame_is : IsFrameFor image program entry q.frame
+  pub frame_is : IsFrameFor image program entry q.frame
   frame_is = frame-for e found.lifting entry is_entry q x.procedure_found
 
   abbrev found_here : Option Procedure
@@ -127,7 +127,7 @@ module _ (image : Image) (program : Analysed) (p : Program) (is : IsTranslated i
   has_byte k = is_in_cell body_here k
 
   -- a byte in a location belongs to a cell
-  in_some_cell : (k : ℤ) (l : Loc) → frame_place q byte_width k ≡ byte l → has_byte k ≡ true
+  pub in_some_cell : (k : ℤ) (l : Loc) → frame_place q byte_width k ≡ byte l → has_byte k ≡ true
   in_some_cell k l place =
       let kept = kept_in q k l place in
       let cells = q.frame.cells.items in
@@ -168,6 +168,35 @@ module _ (image : Image) (program : Analysed) (p : Program) (is : IsTranslated i
   more byte_width u = absurd (cc u)
   more word_width u = omega arith
 
+  -- where bytes that belong together stand
+  module _ (k : ℤ) (w : Width) (piece : IsPiece image layout entry (span_of k (bytes_in w))) where
+    one_in : (v : Width) → (k +ℤ pos 1) ≤ℤ (k +ℤ pos (bytes_in v))
+    one_in byte_width = omega (arith, ints)
+    one_in word_width = omega (arith, ints)
+
+    two_in : (v : Width) → v ≡ word_width → ((k +ℤ pos 1) +ℤ pos 1) ≤ℤ (k +ℤ pos (bytes_in v))
+    two_in byte_width u = absurd (cc u)
+    two_in word_width u = omega (arith, ints)
+
+    -- a byte or a word of them
+    part_at : (v : Width) (j : ℤ) → k ≤ℤ j → (j +ℤ pos (bytes_in v)) ≤ℤ (k +ℤ pos (bytes_in w)) → IsFramePlace e entry j v (frame_place q v j)
+    part_at v j low high = found-places.frame e entry q (span_of k (bytes_in w)) v j found piece low high
+
+    access_by : (v : Width) (Q : InnerPlace) → frame_place q v k ≡ Q → IsFramePlace e entry k v Q → ((v ≡ word_width) → (w ≡ word_width)) → AccessAt found_here q x.procedure_found x.own v k
+    access_by byte_width Q place (in_half {number = number} {half = half} there) same =
+        AccessAt.byte_access number half refl place (in_some_cell k (Cell number half) place)
+    access_by word_width Q place (in_cell {number = number} low high) same =
+        let first = byte_of_half k (Cell number Low) (frame_place q byte_width k) refl (part_at byte_width k (omega (arith, ints)) (one_in w)) low.apart low.is in
+        let second = byte_of_half (k +ℤ pos 1) (Cell number High) (frame_place q byte_width (k +ℤ pos 1)) refl (part_at byte_width (k +ℤ pos 1) (omega (arith, ints)) (two_in w (same refl))) high.apart high.is in
+        AccessAt.word_access number refl place first second (in_some_cell k (Cell number Low) first) (in_some_cell (k +ℤ pos 1) (Cell number High) second)
+    access_by v Q place (in_memory placed) same =
+        let here : (k +ℤ pos 0) ≡ k = omega (arith, ints) in
+        let first = subst (IsPlaced image layout entry) here (placed 0 (some v)) in
+        AccessAt.open_access place (placed_at k first, opened k first) (λ u. let second = placed 1 (more v u) in (placed_at (k +ℤ pos 1) second, opened (k +ℤ pos 1) second))
+
+    pub piece_access : AccessAt found_here q x.procedure_found x.own w k
+    piece_access = access_by w (frame_place q w k) refl (part_at w k (omega (arith, ints)) (omega (arith, ints))) (λ u. u)
+
   module _ (at : ℕ) (node : Node) (stands : node_in x.proc.nodes.entries at ≡ Some node) (w : Width) (ea : Ea) (operand : memory_operand node.instr.op ≡ Some (w, ea))
       (direct : is_direct ea ≡ true) (uses : uses_bp_address node.instr.op ≡ true) where
     node_found : IsNodeFound image layout x.proc.entry (at, node)
@@ -192,32 +221,5 @@ module _ (image : Image) (program : Analysed) (p : Program) (is : IsTranslated i
         subst (λ n. IsPiece image layout n (span_of (offset_in_frame ea) (bytes_in w))) x.entry_is
         (IsPiece.used node_found.node (IsUsed.accessed (IsDirectAccess.direct framed_there (node.instr, node_found.instr, refl) operand direct)))
 
-    abbrev k : ℤ
-    k = offset_in_frame ea
-
-    one_in : (v : Width) → (k +ℤ pos 1) ≤ℤ (k +ℤ pos (bytes_in v))
-    one_in byte_width = omega (arith, ints)
-    one_in word_width = omega (arith, ints)
-
-    two_in : (v : Width) → v ≡ word_width → ((k +ℤ pos 1) +ℤ pos 1) ≤ℤ (k +ℤ pos (bytes_in v))
-    two_in byte_width u = absurd (cc u)
-    two_in word_width u = omega (arith, ints)
-
-    -- a byte or a word of it
-    part_at : (v : Width) (j : ℤ) → k ≤ℤ j → (j +ℤ pos (bytes_in v)) ≤ℤ (k +ℤ pos (bytes_in w)) → IsFramePlace e entry j v (frame_place q v j)
-    part_at v j low high = found-places.frame e entry q (span_of (offset_in_frame ea) (bytes_in w)) v j found piece low high
-
-    access_by : (v : Width) (Q : InnerPlace) → frame_place q v k ≡ Q → IsFramePlace e entry k v Q → ((v ≡ word_width) → (w ≡ word_width)) → AccessAt found_here q x.procedure_found x.own v k
-    access_by byte_width Q place (in_half {number = number} {half = half} there) same =
-        AccessAt.byte_access number half refl place (in_some_cell k (Cell number half) place)
-    access_by word_width Q place (in_cell {number = number} low high) same =
-        let first = byte_of_half k (Cell number Low) (frame_place q byte_width k) refl (part_at byte_width k (omega (arith, ints)) (one_in w)) low.apart low.is in
-        let second = byte_of_half (k +ℤ pos 1) (Cell number High) (frame_place q byte_width (k +ℤ pos 1)) refl (part_at byte_width (k +ℤ pos 1) (omega (arith, ints)) (two_in w (same refl))) high.apart high.is in
-        AccessAt.word_access number refl place first second (in_some_cell k (Cell number Low) first) (in_some_cell (k +ℤ pos 1) (Cell number High) second)
-    access_by v Q place (in_memory placed) same =
-        let here : (k +ℤ pos 0) ≡ k = omega (arith, ints) in
-        let first = subst (IsPlaced image layout entry) here (placed 0 (some v)) in
-        AccessAt.open_access place (placed_at k first, opened k first) (λ u. let second = placed 1 (more v u) in (placed_at (k +ℤ pos 1) second, opened (k +ℤ pos 1) second))
-
-    pub access_at : AccessAt found_here q x.procedure_found x.own w k
-    access_at = access_by w (frame_place q w k) refl (part_at w k (omega (arith, ints)) (omega (arith, ints))) (λ u. u)
+    pub access_at : AccessAt found_here q x.procedure_found x.own w (offset_in_frame ea)
+    access_at = piece_access (offset_in_frame ea) w piece

@@ -18,7 +18,7 @@ use Rattle.dcc_prog.specs.declared.instr.Op.TheVariants.{Alu as AluOp}
 use Rattle.dcc_prog.specs.Machine.{operand_width}
 use Rattle.dcc_prog.specs.Frame.{memory_of_two}
 use Rattle.dcc_prog.specs.Writes.{writes_operand, is_half_of, is_carry_or_overflow}
-use Rattle.dcc_prog.specs.Wanted.{Location, half_of, flag_of, is_flag, is_read, is_in_memory, is_logic, takes_carry}
+use Rattle.dcc_prog.specs.Wanted.{Location, half_of, flag_of, is_flag, is_read, is_in_memory, is_logic, is_zeroing, takes_carry}
 use Rattle.dcc_stack.specs.Slots.{is_memory}
 use Rattle.dcc_ir.specs.declared.syntax.Loc.{Loc}
 use Rattle.dcc_ir.specs.declared.syntax.Loc.TheVariants.{Flag}
@@ -137,7 +137,7 @@ module _ (coarse : Procedures ℕ Place ℤ) (fine : Procedures Position Loc Loc
   all_read l = is_read l a || (is_read l b || (takes_carry operation && is_flag Cf l))
 
   module _ (v : IsValueOperation coarse fine r entry at o bodies body alu_point) (P G : InnerPlace) (x : IsOperandAt o body (coarse.procedure entry).is_exposed a P) (y : IsOperandAt o body (coarse.procedure entry).is_exposed b G)
-      (one : (is_in_memory a && is_in_memory b) ≡ false) (next : (b : ℕ) × Contains ((coarse.procedure entry).next at) b) where
+      (one : (is_in_memory a && is_in_memory b) ≡ false) (next : (b : ℕ) × Contains ((coarse.procedure entry).next at) b) (other : is_zeroing operation a b ≡ false) where
     all_made : (l : Location) → all_read l ≡ made_so (alu_inputs operation) (held l)
     all_made l = ap (λ c. is_read l a || (is_read l b || c)) (carry_held ra rb (takes_carry operation) l)
 
@@ -147,7 +147,9 @@ module _ (coarse : Procedures ℕ Place ℤ) (fine : Procedures Position Loc Loc
         ∙ ap (λ c. frame_read body a k || c) (sym (or_none (frame_read body b k)) ∙ ap (λ c. frame_read body b k || c) (sym (carry_framed ra rb (takes_carry operation) k)))
 
     makes_half : (q : Reg) (h : HalfName) → (writes_operand operation && is_half_of q h a) ≡ true → (L : Place) → value_made_of body op (held (half_of q h)) L ≡ made_so (alu_inputs operation) L
-    makes_half q h t (held l) = ap (λ c. (c && all_read l) && true) t ∙ and_true (all_read l) ∙ all_made l
+    makes_half q h t (held l) =
+        ap (λ z. (not z && ((writes_operand operation && is_half_of q h a) && all_read l)) && true) other
+        ∙ ap (λ c. (c && all_read l) && true) t ∙ and_true (all_read l) ∙ all_made l
     makes_half q h t (in_frame k) = ap (λ c. (c && true) && two_read body a b k) t ∙ frame_made k
 
     makes_unless : (cleared : Bool) (L : Place) → (made_at : Bool) → made_at ≡ made_so (alu_inputs operation) L → (not cleared && made_at) ≡ made_so (inputs_unless cleared operation) L
@@ -156,7 +158,8 @@ module _ (coarse : Procedures ℕ Place ℤ) (fine : Procedures Position Loc Loc
 
     makes_flag : (f : FlagName) (L : Place) → value_made_of body op (held (flag_of f)) L ≡ made_so (alu_flags operation f) L
     makes_flag f (held l) =
-        and_true (not (is_logic operation && is_carry_or_overflow f) && all_read l)
+        ap (λ z. (not z && (not (is_logic operation && is_carry_or_overflow f) && all_read l)) && true) other
+        ∙ and_true (not (is_logic operation && is_carry_or_overflow f) && all_read l)
         ∙ makes_unless (is_logic operation && is_carry_or_overflow f) (held l) (all_read l) (all_made l)
     makes_flag f (in_frame k) =
         ap (λ c. c && two_read body a b k) (and_true (not (is_logic operation && is_carry_or_overflow f)))

@@ -17,7 +17,7 @@ use Rattle.dcc_ir.specs.Tree.{Stmt}
 use Rattle.dcc_ir.specs.Live.{is_among}
 use Rattle.dcc_ir.proofs.LocationLaws.{location_same, location_itself, among_contains, contains_among}
 use Rattle.dcc_lift.proofs.ListTests.{and_left, and_right, and_both, or_here, or_there, or_cases, not_true}
-use Rattle.dcc_coupled.specs.Procedures.{Procedure, pushed_of}
+use Rattle.dcc_coupled.specs.Procedures.{Procedure}
 use Rattle.dcc_demand.specs.Procedures.{Procedures}
 use Rattle.dcc_asks.specs.Bodies.{Body, Point, op_of}
 use Rattle.dcc_asks.specs.Places.{Place, held, in_frame, passes, passed}
@@ -31,8 +31,8 @@ use Rattle.dcc_refined.proofs.SameLaws.{same_passes, one_location, SameCases, sa
 use Rattle.dcc_agree.specs.Agreement.{Agrees}
 use Rattle.dcc_agree.proofs.IdleLaws.{same_once}
 use Rattle.dcc_agree.proofs.ShownLaws.{Shows, shows_one, shows_both, shows_alike}
-use Rattle.dcc_agree.proofs.OperationLaws.{IsValueOperation, CarriesOn, effect_there, word_there, callee_there, writes_if, carries_on, on_carries, uses_if, if_uses}
-use Rattle.dcc_agree.proofs.ValueLaws.{is_value, is_written, value_agrees}
+use Rattle.dcc_agree.proofs.OperationLaws.{IsValueOperation, CarriesOn, writes_if, carries_on, on_carries, uses_if, if_uses, operation_agrees}
+use Rattle.dcc_agree.proofs.ValueLaws.{is_value, is_written}
 
 -- Tests of all members.
 
@@ -116,13 +116,6 @@ module _ (body : Body) (op : Op) (number : Option ℕ) (stmts : List Stmt) (afte
     pub no_write : (k : ℤ) → value_written body op number (in_frame k) ≡ false
     pub no_use : (k : ℤ) → value_uses body op number (in_frame k) ≡ false
     pub not_made : (location : Location) (k : ℤ) → value_made_of body op (held location) (in_frame k) ≡ false
-
--- the cell of a word that is pushed
-pub pushed_cell : (n : ℕ) (l : Loc) → sums.is_pushed n l ≡ true → (m : ℕ) × (h : HalfName) × (l ≡ Cell m h)
-pushed_cell n (Cell m h) t = (m, h, refl)
-pushed_cell n (Half r h) t = absurd (true≢false (sym t))
-pushed_cell n (Flag f) t = absurd (true≢false (sym t))
-pushed_cell n (Temp m) t = absurd (true≢false (sym t))
 
 -- all locations that pass are places of the other ones
 module _ (coarse : Procedures ℕ Place ℤ) (fine : Procedures Position Loc Loc) (r : Refinement ℕ Place ℤ Position Loc Loc) (entry at pushed : ℕ) (stmts : List Stmt) (after : List Loc)
@@ -331,19 +324,10 @@ module _ (coarse : Procedures ℕ Place ℤ) (fine : Procedures Position Loc Loc
   written_somewhere (in_frame k) w = absurd (true≢false (sym w ∙ closed.no_write k))
 
   pub closed_agrees : Agrees coarse fine r entry at pushed stmts after
-  closed_agrees = value_agrees coarse fine r entry at pushed stmts after (record {
-    written = λ L. value_written body op number L;
-    word_written = λ k. value_written body op number (in_frame k);
-    effect = effect_there coarse fine r entry at o bodies body point v;
-    word_effect = word_there coarse fine r entry at o bodies body point v;
-    callee = callee_there coarse fine r entry at o bodies body point v;
+  closed_agrees = operation_agrees coarse fine r entry at o bodies body point v pushed stmts after (record {
     values = and_right (list_all sums.passes users) (list_all is_value stmts) last;
     writes = writes;
-    writes_word = λ k l w.
-        let is = v.same_word k l w in
-        let cell = pushed_cell (pushed_of is.found) l is.pushed in
-        (closed.no_write k ∙ sym (ap (is_written stmts) cell.2 ∙ closed.unwritten cell.0 cell.1), cell);
     using = using;
     making = making;
-    made = λ L to w m. inr (written_somewhere to (writes_if coarse fine r entry at o bodies body point v to w));
+    made = λ A w. inr (written_somewhere A w);
   })

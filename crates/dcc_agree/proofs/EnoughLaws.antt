@@ -21,6 +21,7 @@ use Rattle.dcc_asks.specs.Instance as asks
 use Rattle.dcc_sums.specs.Points.{Position}
 use Rattle.dcc_sums.specs.Instance as sums
 use Rattle.dcc_sources.specs.Laws.{AreAt}
+use Rattle.dcc_sources.proofs.SiteLaws.{EndsSo, are_at}
 use Rattle.dcc_points.specs.InstructionPoints.{points_by, points_at, end_sites}
 use Rattle.dcc_refined.specs.LiftedRefinement.{steps_in, lifted_refinement}
 use Rattle.dcc_refined.specs.Laws.{machine, inner, InstructionsAgree}
@@ -64,10 +65,10 @@ module _ (scene : Scene) (prelude : ℕ) (sound : AreSound (nodes_in scene) (ent
   same_places : GoesOnAt node.instr.op (map (block_place scene) node.succ.items)
   same_places = points.goes_on_alike node.instr.op (block_place scene) node.succ.items goes_on
 
-  ends_so : (pushed : ℕ) → points.EndsSo pushed (end_sites scene (onward (nodes_in scene) (entry_in scene) at) at) (ending node.instr.op)
+  ends_so : (pushed : ℕ) → EndsSo pushed (end_sites scene (onward (nodes_in scene) (entry_in scene) at) at) (ending node.instr.op)
   ends_so pushed = by (onward (nodes_in scene) (entry_in scene) at) refl
     where
-      by : (o : Option ℕ) → onward (nodes_in scene) (entry_in scene) at ≡ o → points.EndsSo pushed (end_sites scene o at) (ending node.instr.op)
+      by : (o : Option ℕ) → onward (nodes_in scene) (entry_in scene) at ≡ o → EndsSo pushed (end_sites scene o at) (ending node.instr.op)
       by None on = ap (λ o. sums.only_using (sums.used_at_end (node_exit scene o))) found
           ∙ ap sums.only_using (points.used_at_end scene.procedure node.instr.op (map (block_place scene) node.succ.items) same_places)
       by (Some next) on = unused_within next on
@@ -133,7 +134,7 @@ module _ (image : Image) (program : Analysed) (p : Program) (is : IsTranslated i
           after = ending node.instr.op;
           are = are_there at (pushed_of scene.procedure) stmts (ending node.instr.op) (sym (ap (λ (g : Graph). g.pushed) x.is_graph.graph_is))
               (subst (λ ss. AreAt (sums.procedure_of x.graph) x.graph.pushed (points_at scene at) ss (ending node.instr.op)) stand
-              (points.are_at x.graph (points_at scene at) (stmts_at scene at) (end_sites scene (onward (nodes_in scene) (entry_in scene) at) at) (ending node.instr.op) sites
+              (are_at x.graph (points_at scene at) (stmts_at scene at) (end_sites scene (onward (nodes_in scene) (entry_in scene) at) at) (ending node.instr.op) sites
               (ends_so scene image.ip (refined.sound image program p is entry x) at node found x.graph.pushed)));
           agrees = agree entry at scene node height.0 (record { scene_is = x.scene_found; node_is = found; height_is = high });
         }

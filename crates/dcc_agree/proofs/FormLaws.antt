@@ -21,8 +21,8 @@ use Rattle.dcc_ops.specs.Place.{Place as InnerPlace, constant, byte, word, memor
 use Rattle.dcc_ops.specs.Expressions.{result}
 use Rattle.dcc_ops.specs.Temporaries.{left_place, right_place, result_place}
 use Rattle.dcc_lift.proofs.ListTests.{and_left, and_right, and_both, or_here, or_there, or_cases, or_none}
-use Rattle.dcc_coupled.specs.Procedures.{Procedure, pushed_of}
-use Rattle.dcc_demand.specs.Procedures.{Procedures, is_left}
+use Rattle.dcc_coupled.specs.Procedures.{Procedure}
+use Rattle.dcc_demand.specs.Procedures.{Procedures}
 use Rattle.dcc_asks.specs.Bodies.{Body, Point, op_of}
 use Rattle.dcc_asks.specs.Places.{Place, held, in_frame, is_place}
 use Rattle.dcc_asks.specs.Values.{value_written, is_sure, value_made_of}
@@ -35,9 +35,8 @@ use Rattle.dcc_refined.proofs.SameLaws.{SameCases, same_cases}
 use Rattle.dcc_agree.specs.Agreement.{Agrees}
 use Rattle.dcc_agree.proofs.IdleLaws.{same_once}
 use Rattle.dcc_agree.proofs.ShownLaws.{Shows, shows_none, shows_one, shows_both, shows_alike}
-use Rattle.dcc_agree.proofs.ValueLaws.{is_value, is_written, value_agrees}
-use Rattle.dcc_agree.proofs.OperationLaws.{IsValueOperation, CarriesOn, effect_there, word_there, callee_there, carries_on, on_carries}
-use Rattle.dcc_agree.proofs.ClosedLaws.{pushed_cell}
+use Rattle.dcc_agree.proofs.ValueLaws.{is_value, is_written}
+use Rattle.dcc_agree.proofs.OperationLaws.{IsValueOperation, CarriesOn, carries_on, on_carries, operation_agrees}
 use Rattle.dcc_agree.proofs.StageLaws.{HaveSame, have_itself, have_equal, have_then, have_mapped, have_same, have_tested, flat_still, sources_append, used_append, is_useless, used_useless, is_kept_place, reads_at, is_lasting, before_both, both_lasting, both_left, both_right, sources_taken, used_taken, outs, is_stored, has_kept, taking_writes, lasts_left, lasts_right, sources_storing, used_storing, written_storing, values_storing}
 
 -- What a result or a flag is made of: the two operands, CF as it comes in, or what stood there.
@@ -72,18 +71,19 @@ pub record IsWork (w : Width) (working : List Stmt) (result_inputs : List Input)
   pub cell_left : (n : ℕ) (h : HalfName) → is_written working (Cell n h) ≡ false
   pub new : has_itself result_inputs ≡ false
 
-pub written_append : (xs ys : List Stmt) (m : Loc) → is_written xs m ≡ false → is_written (xs ++ ys) m ≡ is_written ys m
-written_append [] ys m e = refl
-written_append (s ∷ xs) ys m e = by (is_written xs m) refl e (λ f. written_append xs ys m f)
+pub written_both : (xs ys : List Stmt) (m : Loc) → is_written (xs ++ ys) m ≡ (is_written ys m || is_written xs m)
+written_both [] ys m = sym (or_none (is_written ys m))
+written_both (s ∷ xs) ys m = ap (λ b. b || is_among (written_by s) m) (written_both xs ys m) ∙ again (is_written ys m) (is_written xs m) (is_among (written_by s) m)
   where
-    by : (b : Bool) → is_written xs m ≡ b → (b || is_among (written_by s) m) ≡ false → (is_written xs m ≡ false → is_written (xs ++ ys) m ≡ is_written ys m)
-        → (is_written (xs ++ ys) m || is_among (written_by s) m) ≡ is_written ys m
-    by true f e later = absurd (true≢false e)
-    by false f e later = ap (λ b. b || is_among (written_by s) m) (later f) ∙ ap (λ b. is_written ys m || b) e ∙ or_none (is_written ys m)
+    again : (a b c : Bool) → ((a || b) || c) ≡ (a || (b || c))
+    again true b c = refl
+    again false b c = refl
 
-written_first : (xs ys : List Stmt) (m : Loc) → is_written ys m ≡ false → is_written (xs ++ ys) m ≡ is_written xs m
-written_first [] ys m e = e
-written_first (s ∷ xs) ys m e = ap (λ b. b || is_among (written_by s) m) (written_first xs ys m e)
+pub written_append : (xs ys : List Stmt) (m : Loc) → is_written xs m ≡ false → is_written (xs ++ ys) m ≡ is_written ys m
+written_append xs ys m e = written_both xs ys m ∙ ap (λ b. is_written ys m || b) e ∙ or_none (is_written ys m)
+
+pub written_first : (xs ys : List Stmt) (m : Loc) → is_written ys m ≡ false → is_written (xs ++ ys) m ≡ is_written xs m
+written_first xs ys m e = written_both xs ys m ∙ ap (λ b. b || is_written xs m) e
 
 pub all_append : {X : Type 0} (f : X → Bool) (xs ys : List X) → list_all f xs ≡ true → list_all f ys ≡ true → list_all f (xs ++ ys) ≡ true
 all_append f [] ys s t = t
@@ -198,6 +198,75 @@ outs_no_flag (memory v e) f t = refl
 outs_no_flag (address n) f t = refl
 outs_no_flag (computed e) f t = refl
 
+-- Where two operands are taken: what of their places is read for inputs, and what statements make of them.
+module _ (coarse : Procedures ℕ Place ℤ) (fine : Procedures Position Loc Loc) (r : Refinement ℕ Place ℤ Position Loc Loc) (entry at : ℕ)
+    (o : Option Procedure) (bodies : List Body) (body : Body) (point : Point) (v : IsValueOperation coarse fine r entry at o bodies body point)
+    (w : Width) (F G : InnerPlace) (first_reads second_reads : Place → Bool) (second_kept : list_all is_lasting (reads_at G) ≡ true)
+    (firsts : Shows (r.same entry) (λ L. (is_place body L ≡ true) × (first_reads L ≡ true)) (reads_at F))
+    (seconds : Shows (r.same entry) (λ L. (is_place body L ≡ true) × (second_reads L ≡ true)) (reads_at G)) where
+  abbrev AnyMade : Place → List Input → Place → Type 0
+  AnyMade A inputs L = MadeOfAny first_reads second_reads (is_place body) A inputs L
+
+  one_shown : (A : Place) (m : Loc) → r.same entry A m → is_lasting m ≡ true → (input : Input)
+      → Shows (r.same entry) (MadeOf first_reads second_reads (is_place body) A input) (before_both w F G (input_location w m input))
+  one_shown A m s t first = subst (λ ls. Shows (r.same entry) (MadeOf first_reads second_reads (is_place body) A first) ls) (sym (both_left w F G)) firsts
+  one_shown A m s t second = subst (λ ls. Shows (r.same entry) (MadeOf first_reads second_reads (is_place body) A second) ls) (sym (both_right w F G second_kept)) seconds
+  one_shown A m s t carry =
+      subst (λ ls. Shows (r.same entry) (MadeOf first_reads second_reads (is_place body) A carry) ls) (sym (both_lasting w F G (Flag Cf) refl))
+      (shows_one (r.same entry) (λ L l n a b. same_once (v.same L l a) (v.same L n b)) (held (flag_of Cf)) (Flag Cf) (v.as_same (held (flag_of Cf)) (Flag Cf) (IsSame.is_held refl)))
+  one_shown A m s t itself =
+      subst (λ ls. Shows (r.same entry) (MadeOf first_reads second_reads (is_place body) A itself) ls) (sym (both_lasting w F G m t))
+      (shows_one (r.same entry) (λ L l n a b. same_once (v.same L l a) (v.same L n b)) A m s)
+
+  pub inputs_shown : (A : Place) (m : Loc) → r.same entry A m → is_lasting m ≡ true → (inputs : List Input) → Shows (r.same entry) (AnyMade A inputs) (flat_map (before_both w F G) (map (input_location w m) inputs))
+  inputs_shown A m s t [] = shows_none (r.same entry)
+  inputs_shown A m s t (input ∷ inputs) =
+      shows_both (r.same entry) (MadeOf first_reads second_reads (is_place body) A input) (AnyMade A inputs) (before_both w F G (input_location w m input)) (flat_map (before_both w F G) (map (input_location w m) inputs))
+      (one_shown A m s t input) (inputs_shown A m s t inputs)
+
+  module _ (stmts : List Stmt) (using : Shows (r.same entry) (Takes coarse fine r entry at) (used stmts [])) where
+    abbrev MakesAt : Place → Place → Type 0
+    MakesAt A L = Carries coarse fine r entry at L A ⊎ Takes coarse fine r entry at L
+
+    abbrev CarriesAt : Place → Place → Type 0
+    CarriesAt L A = CarriesOn coarse fine r entry at o bodies body point v L A
+
+    -- where what it carries is made of inputs
+    pub making_of : (A : Place) (a : Loc) (inputs : List Input) → r.same entry A a → is_lasting a ≡ true → HaveSame (sources stmts a) (flat_map (before_both w F G) (map (input_location w a) inputs))
+        → ((L : Place) → CarriesAt L A → IsMade first_reads second_reads (is_place body) A inputs L) → ((L : Place) → IsMade first_reads second_reads (is_place body) A inputs L → CarriesAt L A)
+        → Shows (r.same entry) (MakesAt A) (sources stmts a ++ used stmts [])
+    making_of A a inputs s t same to from =
+        let more = have_more (sources stmts a) (flat_map (before_both w F G) (map (input_location w a) inputs)) (used stmts []) same in
+        shows_alike (r.same entry) (λ L. AnyMade A inputs L ⊎ Takes coarse fine r entry at L) (MakesAt A) (flat_map (before_both w F G) (map (input_location w a) inputs) ++ used stmts []) (sources stmts a ++ used stmts [])
+        (shows_both (r.same entry) (AnyMade A inputs) (Takes coarse fine r entry at) (flat_map (before_both w F G) (map (input_location w a) inputs)) (used stmts []) (inputs_shown A a s t inputs) using)
+        (λ L l q m. elim m [
+          | inl made ↦ inl (on_carries coarse fine r entry at o bodies body point v L A (from L (is_made first_reads second_reads body A inputs L made)))
+          | inr taken ↦ inr taken
+        ])
+        (λ L l q m. elim m [
+          | inl carried ↦ inl (any_made first_reads second_reads body A inputs L (to L (carries_on coarse fine r entry at o bodies body point v L A carried)))
+          | inr taken ↦ inr taken
+        ]) more.shrink more.grow
+
+-- what is taken is a temporary
+pub taking_written : (to : Loc) (Q : InnerPlace) (a : Loc) → same_location a to ≡ false → (ss : List Stmt) → is_written (taking to Q ∷ ss) a ≡ is_written ss a
+taking_written to Q a e ss =
+    ap (λ b. is_written ss a || b) (ap (λ ls. is_among ls a) (taking_writes to Q) ∙ or_none (same_location a to) ∙ e) ∙ or_none (is_written ss a)
+
+pub both_written : (w : Width) (F G : InnerPlace) (ss : List Stmt) (a : Loc) → is_lasting a ≡ true → is_written (taking (left_place w) F ∷ taking (right_place w) G ∷ ss) a ≡ is_written ss a
+both_written w F G ss a t = taking_written (left_place w) F a (lasts_left w a t) (taking (right_place w) G ∷ ss) ∙ taking_written (right_place w) G a (lasts_right w a t) ss
+
+pub taking_value : (w : Width) (Q : InnerPlace) → (is_value (taking (left_place w) Q) ≡ true) × (is_value (taking (right_place w) Q) ≡ true)
+taking_value byte_width (memory u e) = (refl, refl)
+taking_value word_width (memory u e) = (refl, refl)
+taking_value byte_width Q = (refl, refl)
+taking_value word_width Q = (refl, refl)
+
+pub both_values : (w : Width) (F G : InnerPlace) (ss : List Stmt) → list_all is_value ss ≡ true → list_all is_value (taking (left_place w) F ∷ taking (right_place w) G ∷ ss) ≡ true
+both_values w F G ss t =
+    and_both (is_value (taking (left_place w) F)) (list_all is_value (taking (right_place w) G ∷ ss)) (taking_value w F).0
+    (and_both (is_value (taking (right_place w) G)) (list_all is_value ss) (taking_value w G).1 t)
+
 module _ (coarse : Procedures ℕ Place ℤ) (fine : Procedures Position Loc Loc) (r : Refinement ℕ Place ℤ Position Loc Loc) (entry at pushed : ℕ)
     (o : Option Procedure) (bodies : List Body) (body : Body) (point : Point) (v : IsValueOperation coarse fine r entry at o bodies body point)
     (w : Width) (P F G : InnerPlace) (first_reads second_reads : Place → Bool) (working : List Stmt) (stored : Bool) (result_inputs : List Input) (flag_inputs : FlagName → List Input) where
@@ -240,8 +309,7 @@ module _ (coarse : Procedures ℕ Place ℤ) (fine : Procedures Position Loc Loc
     pub taken : (stored && is_stored P) ≡ true → (L : Place) → is_place body L ≡ true → made_so result_inputs L ≡ true → Takes coarse fine r entry at L
     pub address_made : (stored && is_stored P) ≡ true → (l : Loc) → Contains (reads_at P) l → Contains (flat_map bb results) l
     pub address_kept : list_all is_kept_place (reads_at P) ≡ true
-    pub made : (L to : Place) → is_left (((coarse.procedure entry).action at).effect to) ≡ false → ((coarse.procedure entry).action at).made_of to L ≡ true
-        → ((coarse.procedure entry).is_exposed to ≡ true) ⊎ ((fine_to : Loc) × r.same entry to fine_to)
+    pub made : (A : Place) → writes_at A ≡ true → ((coarse.procedure entry).is_exposed A ≡ true) ⊎ ((l : Loc) × r.same entry A l)
 
   module _ (f : IsForm) where
     abbrev MadeAt : Place → List Input → Place → Type 0
@@ -261,25 +329,6 @@ module _ (coarse : Procedures ℕ Place ℤ) (fine : Procedures Position Loc Loc
 
     both_kept : (a : Loc) → is_kept_place a ≡ true → bb a ≡ a ∷ []
     both_kept a t = both_lasting w F G a (lasting a t)
-
-    -- What is read for inputs.
-
-    one_shown : (A : Place) (m : Loc) → r.same entry A m → is_lasting m ≡ true → (input : Input)
-        → Shows (r.same entry) (MadeOf first_reads second_reads (is_place body) A input) (bb (input_location w m input))
-    one_shown A m s t first = subst (λ ls. Shows (r.same entry) (MadeOf first_reads second_reads (is_place body) A first) ls) (sym (both_left w F G)) f.firsts
-    one_shown A m s t second = subst (λ ls. Shows (r.same entry) (MadeOf first_reads second_reads (is_place body) A second) ls) (sym (both_right w F G f.second_kept)) f.seconds
-    one_shown A m s t carry =
-        subst (λ ls. Shows (r.same entry) (MadeOf first_reads second_reads (is_place body) A carry) ls) (sym (both_lasting w F G (Flag Cf) refl))
-        (shows_one (r.same entry) (λ L l n a b. same_once (v.same L l a) (v.same L n b)) (held (flag_of Cf)) (Flag Cf) (v.as_same (held (flag_of Cf)) (Flag Cf) (IsSame.is_held refl)))
-    one_shown A m s t itself =
-        subst (λ ls. Shows (r.same entry) (MadeOf first_reads second_reads (is_place body) A itself) ls) (sym (both_lasting w F G m t))
-        (shows_one (r.same entry) (λ L l n a b. same_once (v.same L l a) (v.same L n b)) A m s)
-
-    inputs_shown : (A : Place) (m : Loc) → r.same entry A m → is_lasting m ≡ true → (inputs : List Input) → Shows (r.same entry) (MadeAt A inputs) (flat_map bb (map (input_location w m) inputs))
-    inputs_shown A m s t [] = shows_none (r.same entry)
-    inputs_shown A m s t (input ∷ inputs) =
-        shows_both (r.same entry) (MadeOf first_reads second_reads (is_place body) A input) (MadeAt A inputs) (bb (input_location w m input)) (flat_map bb (map (input_location w m) inputs))
-        (one_shown A m s t input) (inputs_shown A m s t inputs)
 
     -- What the statements make.
 
@@ -356,7 +405,8 @@ module _ (coarse : Procedures ℕ Place ℤ) (fine : Procedures Position Loc Loc
     results_shown : Shows (r.same entry) (MadeAt (held (flag_of Cf)) result_inputs) (flat_map bb results)
     results_shown =
         subst (λ ls. Shows (r.same entry) (MadeAt (held (flag_of Cf)) result_inputs) (flat_map bb ls)) (same_inputs w (Flag Cf) (result_place w) result_inputs f.work.new)
-        (inputs_shown (held (flag_of Cf)) (Flag Cf) (v.as_same (held (flag_of Cf)) (Flag Cf) (IsSame.is_held refl)) refl result_inputs)
+        (inputs_shown coarse fine r entry at o bodies body point v w F G first_reads second_reads f.second_kept f.firsts f.seconds (held (flag_of Cf)) (Flag Cf)
+        (v.as_same (held (flag_of Cf)) (Flag Cf) (IsSame.is_held refl)) refl result_inputs)
 
     address_stays : flat_map bb (flat_map (sources working) (reads_at P)) ≡ reads_at P
     address_stays =
@@ -398,22 +448,10 @@ module _ (coarse : Procedures ℕ Place ℤ) (fine : Procedures Position Loc Loc
     abbrev CarriesTo : Place → Place → Type 0
     CarriesTo L A = CarriesOn coarse fine r entry at o bodies body point v L A
 
-    -- where what it carries is made of inputs
-    making_of : (A : Place) (a : Loc) (inputs : List Input) → r.same entry A a → is_lasting a ≡ true → HaveSame (sources form_stmts a) (flat_map bb (map (input_location w a) inputs))
+    shows_made : (A : Place) (a : Loc) (inputs : List Input) → r.same entry A a → is_lasting a ≡ true → HaveSame (sources form_stmts a) (flat_map bb (map (input_location w a) inputs))
         → ((L : Place) → CarriesTo L A → IsMade first_reads second_reads (is_place body) A inputs L) → ((L : Place) → IsMade first_reads second_reads (is_place body) A inputs L → CarriesTo L A)
         → Shows (r.same entry) (Making A) (sources form_stmts a ++ used form_stmts [])
-    making_of A a inputs s t same to from =
-        let more = have_more (sources form_stmts a) (flat_map bb (map (input_location w a) inputs)) (used form_stmts []) same in
-        shows_alike (r.same entry) (λ L. MadeAt A inputs L ⊎ Taking L) (Making A) (flat_map bb (map (input_location w a) inputs) ++ used form_stmts []) (sources form_stmts a ++ used form_stmts [])
-        (shows_both (r.same entry) (MadeAt A inputs) Taking (flat_map bb (map (input_location w a) inputs)) (used form_stmts []) (inputs_shown A a s t inputs) using)
-        (λ L l q m. elim m [
-          | inl made ↦ inl (on_carries coarse fine r entry at o bodies body point v L A (from L (is_made first_reads second_reads body A inputs L made)))
-          | inr taken ↦ inr taken
-        ])
-        (λ L l q m. elim m [
-          | inl carried ↦ inl (any_made first_reads second_reads body A inputs L (to L (carries_on coarse fine r entry at o bodies body point v L A carried)))
-          | inr taken ↦ inr taken
-        ]) more.shrink more.grow
+    shows_made = making_of coarse fine r entry at o bodies body point v w F G first_reads second_reads f.second_kept f.firsts f.seconds form_stmts using
 
     module _ (A : Place) (a : Loc) (s : r.same entry A a) (t : is_kept_place a ≡ true) where
       sure : is_sure (op_of point) A ≡ true
@@ -433,7 +471,7 @@ module _ (coarse : Procedures ℕ Place ℤ) (fine : Procedures Position Loc Loc
 
       making_place : Shows (r.same entry) (Making A) (sources form_stmts a ++ used form_stmts [])
       making_place =
-          making_of A a (inputs_of (is_among form_outs a)) s (lasting a t) (place_sources a (is_among form_outs a) t refl)
+          shows_made A a (inputs_of (is_among form_outs a)) s (lasting a t) (place_sources a (is_among form_outs a) t refl)
           (place_made (is_among form_outs a) (f.writes_place A a s t)) (place_carried (is_among form_outs a) (f.writes_place A a s t))
 
     module _ (g : FlagName) where
@@ -452,7 +490,7 @@ module _ (coarse : Procedures ℕ Place ℤ) (fine : Procedures Position Loc Loc
 
       making_flag : Shows (r.same entry) (Making (held (flag_of g))) (sources form_stmts (Flag g) ++ used form_stmts [])
       making_flag =
-          making_of (held (flag_of g)) (Flag g) (flag_inputs g) (v.as_same (held (flag_of g)) (Flag g) (IsSame.is_held refl)) refl (flag_sources g) flag_made
+          shows_made (held (flag_of g)) (Flag g) (flag_inputs g) (v.as_same (held (flag_of g)) (Flag g) (IsSame.is_held refl)) refl (flag_sources g) flag_made
           (flag_carried (writes_at (held (flag_of g))) refl)
 
     -- Together.
@@ -481,15 +519,6 @@ module _ (coarse : Procedures ℕ Place ℤ) (fine : Procedures Position Loc Loc
       | Kind.is_kept_at t ↦ making_place A a s t
     ]
 
-    taking_written : (to : Loc) (Q : InnerPlace) (a : Loc) → same_location a to ≡ false → (ss : List Stmt) → is_written (taking to Q ∷ ss) a ≡ is_written ss a
-    taking_written to Q a e ss =
-        ap (λ b. is_written ss a || b) (ap (λ ls. is_among ls a) (taking_writes to Q) ∙ or_none (same_location a to) ∙ e) ∙ or_none (is_written ss a)
-
-    form_written : (a : Loc) → is_lasting a ≡ true → is_written form_stmts a ≡ is_written (working ++ keeping) a
-    form_written a t =
-        taking_written (left_place w) F a (lasts_left w a t) (taking (right_place w) G ∷ (working ++ keeping))
-        ∙ taking_written (right_place w) G a (lasts_right w a t) (working ++ keeping)
-
     keeping_written : (a : Loc) → is_written keeping a ≡ is_among form_outs a
     keeping_written a = by stored
       where
@@ -505,26 +534,15 @@ module _ (coarse : Procedures ℕ Place ℤ) (fine : Procedures Position Loc Loc
 
     writes_kept : (A : Place) (a : Loc) → r.same entry A a → is_kept_place a ≡ true → writes_at A ≡ is_written form_stmts a
     writes_kept A a s t =
-        f.writes_place A a s t ∙ sym (form_written a (lasting a t) ∙ written_append working keeping a (work_writes a t) ∙ keeping_written a)
+        f.writes_place A a s t ∙ sym (both_written w F G (working ++ keeping) a (lasting a t) ∙ written_append working keeping a (work_writes a t) ∙ keeping_written a)
 
     writes : (A : Place) (a : Loc) → r.same entry A a → writes_at A ≡ is_written form_stmts a
     writes A a s = elim (kind A a s) [
       | Kind.is_flag_of g e k ↦
           ap writes_at e ∙ f.writes_flag g
-          ∙ sym (ap (is_written form_stmts) k ∙ form_written (Flag g) refl ∙ written_first working keeping (Flag g) (keeping_written (Flag g) ∙ flag_unstored g))
+          ∙ sym (ap (is_written form_stmts) k ∙ both_written w F G (working ++ keeping) (Flag g) refl ∙ written_first working keeping (Flag g) (keeping_written (Flag g) ∙ flag_unstored g))
       | Kind.is_kept_at t ↦ writes_kept A a s t
     ]
-
-    writes_word : (k : ℤ) (a : Loc) → r.same_word entry k a → (writes_at (in_frame k) ≡ is_written form_stmts a) × ((n : ℕ) × (h : HalfName) × (a ≡ Cell n h))
-    writes_word k a s =
-        let word = v.same_word k a s in
-        (writes (in_frame k) a (v.as_same (in_frame k) a (IsSame.is_kept word.is_found word.kept)), pushed_cell (pushed_of word.found) a word.pushed)
-
-    taking_value : (w : Width) (Q : InnerPlace) → (is_value (taking (left_place w) Q) ≡ true) × (is_value (taking (right_place w) Q) ≡ true)
-    taking_value byte_width (memory u e) = (refl, refl)
-    taking_value word_width (memory u e) = (refl, refl)
-    taking_value byte_width Q = (refl, refl)
-    taking_value word_width Q = (refl, refl)
 
     keeping_values : list_all is_value keeping ≡ true
     keeping_values = by stored
@@ -534,21 +552,12 @@ module _ (coarse : Procedures ℕ Place ℤ) (fine : Procedures Position Loc Loc
         by false = refl
 
     form_values : list_all is_value form_stmts ≡ true
-    form_values =
-        and_both (is_value (taking (left_place w) F)) (list_all is_value (taking (right_place w) G ∷ (working ++ keeping))) (taking_value w F).0
-        (and_both (is_value (taking (right_place w) G)) (list_all is_value (working ++ keeping)) (taking_value w G).1
-        (all_append is_value working keeping f.work.values keeping_values))
+    form_values = both_values w F G (working ++ keeping) (all_append is_value working keeping f.work.values keeping_values)
 
     pub form_agrees : Agrees coarse fine r entry at pushed form_stmts []
-    form_agrees = value_agrees coarse fine r entry at pushed form_stmts [] (record {
-      written = writes_at;
-      word_written = λ k. writes_at (in_frame k);
-      effect = effect_there coarse fine r entry at o bodies body point v;
-      word_effect = word_there coarse fine r entry at o bodies body point v;
-      callee = callee_there coarse fine r entry at o bodies body point v;
+    form_agrees = operation_agrees coarse fine r entry at o bodies body point v pushed form_stmts [] (record {
       values = form_values;
       writes = writes;
-      writes_word = writes_word;
       using = using;
       making = making;
       made = f.made;

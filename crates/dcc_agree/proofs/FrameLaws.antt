@@ -38,6 +38,12 @@ use Rattle.dcc_agree.proofs.AddressLaws.{bp_apart}
 use Rattle.dcc_agree.proofs.StoredLaws.{read_in_cells}
 use Rattle.dcc_sources.proofs.ListLaws.{only}
 
+-- two locations in the other order
+pub swapped : (a b l : Loc) → Contains (a ∷ b ∷ []) l → Contains (b ∷ a ∷ []) l
+swapped a b l c =
+    Contains-cases a (b ∷ []) l (Contains (b ∷ a ∷ []) l) (λ e. subst (λ m. Contains (b ∷ a ∷ []) m) e (Contains-later b (a ∷ []) a (Contains-here a [])))
+    (λ later. subst (λ m. Contains (b ∷ a ∷ []) m) (only b l later) (Contains-here b (a ∷ []))) c
+
 module _ (o : Option Procedure) (q : Procedure) (found : o ≡ Some q) (heights : List (ℕ × ℕ)) where
   abbrev pub frame_body : Body
   frame_body = record { proc = q.proc; frame = q.frame; heights = heights }
@@ -48,6 +54,21 @@ module _ (o : Option Procedure) (q : Procedure) (found : o ≡ Some q) (heights 
   -- the byte is in memory, and may be read anywhere where it belongs to a cell
   abbrev pub IsOpen : ℤ → Type 0
   IsOpen k = (is_placed_byte q.frame k ≡ true) × (has_byte k ≡ true → is_exposed_place frame_body (in_frame k) ≡ true)
+
+  -- what is open stands in no location
+  pub open_nowhere : (j : ℤ) (l : Loc) → IsOpen j → IsSame o (in_frame j) l → ⊥
+  open_nowhere j l x s = by (same_cases o s)
+    where
+      clash : (n : ℕ) → memory byte_width (Address n) ≡ byte l → ⊥
+      clash n e = cc e
+
+      by : SameCases o (in_frame j) l → ⊥
+      by (SameCases.by_held location p e g) = cc e
+      by (SameCases.by_kept other i p f kept g) =
+          let same : other ≡ q = cc (p, found) in
+          let byte_is : i ≡ j = cc f in
+          let here = subst (λ x. frame_place q byte_width x ≡ byte l) byte_is (subst (λ x. frame_place x byte_width i ≡ byte l) same g) in
+          clash (distance_of j) (sym (ap (λ b. if b then memory byte_width (Address (distance_of j)) else cell_place 0 (cells_of q) byte_width j) x.0) ∙ here)
 
   -- where a byte or a word of the frame stands
   pub data AccessAt (w : Width) (k : ℤ) : Type 0 where
@@ -215,11 +236,6 @@ module _ (o : Option Procedure) (q : Procedure) (found : o ≡ Some q) (heights 
         stands : (j : ℤ) → frame_read frame_body (Mem byte_width ea) j ≡ true → (l : Loc) × IsSame o (in_frame j) l
         stands j t = (Cell n h, subst (λ i. IsSame o (in_frame i) (Cell n h)) (sym (at_first j (which byte_width j t))) there)
 
-    swapped : (a b l : Loc) → Contains (a ∷ b ∷ []) l → Contains (b ∷ a ∷ []) l
-    swapped a b l c =
-        Contains-cases a (b ∷ []) l (Contains (b ∷ a ∷ []) l) (λ e. subst (λ m. Contains (b ∷ a ∷ []) m) e (Contains-later b (a ∷ []) a (Contains-here a [])))
-        (λ later. subst (λ m. Contains (b ∷ a ∷ []) m) (only b l later) (Contains-here b (a ∷ []))) c
-
     one_word_at : (n : ℕ) → frame_place q byte_width k ≡ byte (Cell n Low) → frame_place q byte_width (k +ℤ pos 1) ≡ byte (Cell n High) → has_byte k ≡ true → has_byte (k +ℤ pos 1) ≡ true
         → IsOperandAt o frame_body exposed (Mem word_width ea) (word (Cell n Low) (Cell n High))
     one_word_at n low high inside inside_next =
@@ -260,21 +276,6 @@ module _ (o : Option Procedure) (q : Procedure) (found : o ≡ Some q) (heights 
       open_byte : (j : ℤ) → IsByte w j → IsOpen j
       open_byte j (IsByte.is_first h e) = subst IsOpen (sym e) opens
       open_byte j (IsByte.is_second v h e) = subst IsOpen (sym e) (opens_next v)
-
-      -- what is open stands in no location
-      open_nowhere : (j : ℤ) (l : Loc) → IsOpen j → IsSame o (in_frame j) l → ⊥
-      open_nowhere j l x s = by (same_cases o s)
-        where
-          clash : (n : ℕ) → memory byte_width (Address n) ≡ byte l → ⊥
-          clash n e = cc e
-
-          by : SameCases o (in_frame j) l → ⊥
-          by (SameCases.by_held location p e g) = cc e
-          by (SameCases.by_kept other i p f kept g) =
-              let same : other ≡ q = cc (p, found) in
-              let byte_is : i ≡ j = cc f in
-              let here = subst (λ x. frame_place q byte_width x ≡ byte l) byte_is (subst (λ x. frame_place x byte_width i ≡ byte l) same g) in
-              clash (distance_of j) (sym (ap (λ b. if b then memory byte_width (Address (distance_of j)) else cell_place 0 (cells_of q) byte_width j) x.0) ∙ here)
 
       unread_open : (L : Place) (l : Loc) → IsSame o L l → Reads w L → ⊥
       unread_open (held location) l s t = held_unread w location t

@@ -1,5 +1,5 @@
 -- What moves SP and BP between each other, or takes BP back, does nothing to places.
-use Rattle.std.proofs.Common.{◌≡◌, ℕ, ℤ, true, false, not, ◌&&◌, List, None, refl, sym, ap, ◌∙◌, true≢false}
+use Rattle.std.proofs.Common.{◌≡◌, ℕ, ℤ, Bool, true, false, not, ◌&&◌, List, None, refl, sym, ap, ◌∙◌, true≢false}
 use Rattle.dcc_num.specs.declared.Reg.TheVariants.{Sp, Bp}
 use Rattle.dcc_prog.specs.declared.procedure.Node.{Node}
 use Rattle.dcc_prog.specs.declared.instr.Operand.TheVariants.{Word}
@@ -12,9 +12,15 @@ use Rattle.dcc_asks.specs.Bodies.{Body, Point}
 use Rattle.dcc_asks.specs.Places.{Place, held, in_frame, is_place}
 use Rattle.dcc_asks.specs.Values.{is_sure}
 use Rattle.dcc_asks.specs.Instance as asks
-use Rattle.dcc_agree.specs.Laws.{is_frame_move}
 use Rattle.dcc_agree.proofs.IdleLaws.{IsIdle}
 use Rattle.dcc_agree.proofs.WorkLaws.{point_with_op}
+
+-- it moves SP to BP or BP to SP, or takes BP back
+abbrev pub is_frame_move : Op → Bool
+is_frame_move (Mov (Word Bp) (Word Sp)) = true
+is_frame_move (Mov (Word Sp) (Word Bp)) = true
+is_frame_move (Pop (Word Bp)) = true
+is_frame_move op = false
 
 module _ (bodies : List Body) (body : Body) (node : Node) (height : ℕ) where
   abbrev pub moving_point : Op → Point

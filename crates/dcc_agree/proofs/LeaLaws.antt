@@ -27,7 +27,7 @@ use Rattle.dcc_ops.specs.Computed.{computed_expr}
 use Rattle.dcc_ops.specs.Registers.{register_place}
 use Rattle.dcc_ops.specs.Statements.{mov_stmts}
 use Rattle.dcc_lift.proofs.ListTests.{and_left, and_right, and_both}
-use Rattle.dcc_coupled.specs.Procedures.{Procedure, pushed_of}
+use Rattle.dcc_coupled.specs.Procedures.{Procedure}
 use Rattle.dcc_coupled.specs.Operands.{address_of}
 use Rattle.dcc_coupled.specs.Places.{IsPlainAddress}
 use Rattle.dcc_demand.specs.Procedures.{Procedures}
@@ -42,9 +42,8 @@ use Rattle.dcc_refined.proofs.SameLaws.{SameCases, same_cases}
 use Rattle.dcc_agree.specs.Agreement.{Agrees}
 use Rattle.dcc_agree.proofs.IdleLaws.{same_once}
 use Rattle.dcc_agree.proofs.ShownLaws.{Shows, shows_none, shows_one, shows_alike}
-use Rattle.dcc_agree.proofs.ValueLaws.{is_written, value_agrees}
-use Rattle.dcc_agree.proofs.ClosedLaws.{pushed_cell}
-use Rattle.dcc_agree.proofs.OperationLaws.{IsValueOperation, CarriesOn, effect_there, word_there, callee_there, writes_if, carries_on, on_carries, uses_if}
+use Rattle.dcc_agree.proofs.ValueLaws.{is_written}
+use Rattle.dcc_agree.proofs.OperationLaws.{IsValueOperation, CarriesOn, writes_if, carries_on, on_carries, uses_if, operation_agrees}
 use Rattle.dcc_agree.proofs.OperandLaws.{word_at}
 use Rattle.dcc_agree.proofs.AddressLaws.{address_shown, Addressed}
 use Rattle.dcc_agree.proofs.StoredLaws.{shows_so}
@@ -215,19 +214,10 @@ module _ (coarse : Procedures ℕ Place ℤ) (fine : Procedures Position Loc Loc
     made_where (in_frame k) w = absurd (true≢false (sym w))
 
     pub lea_agrees : Agrees coarse fine r entry at pushed lea_stmts []
-    lea_agrees = value_agrees coarse fine r entry at pushed lea_stmts [] (record {
-      written = written;
-      word_written = λ k. written (in_frame k);
-      effect = effect_there coarse fine r entry at o bodies body lea_point v;
-      word_effect = word_there coarse fine r entry at o bodies body lea_point v;
-      callee = callee_there coarse fine r entry at o bodies body lea_point v;
+    lea_agrees = operation_agrees coarse fine r entry at o bodies body lea_point v pushed lea_stmts [] (record {
       values = refl;
       writes = writes;
-      writes_word = λ k l w.
-          let is = v.same_word k l w in
-          let cell = pushed_cell (pushed_of is.found) l is.pushed in
-          (sym (ap (is_written lea_stmts) cell.2), cell);
       using = shows_alike (r.same entry) (λ L. ⊥) Taking [] [] (shows_none (r.same entry)) (λ L l s t. absurd t) (λ L l s t. no_takes L t) (λ l c. c) (λ l c. c);
       making = making;
-      made = λ L A w m. inr (made_where A (writes_if coarse fine r entry at o bodies body lea_point v A w));
+      made = λ A w. inr (made_where A w);
     })

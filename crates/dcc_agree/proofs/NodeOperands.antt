@@ -13,7 +13,7 @@ use Rattle.dcc_prog.specs.declared.instr.Operand.{Operand}
 use Rattle.dcc_prog.specs.declared.instr.Operand.TheVariants.{Word, Byte, Seg, Mem, Const}
 use Rattle.dcc_prog.specs.Machine.{is_bp}
 use Rattle.dcc_prog.specs.Access.{is_direct}
-use Rattle.dcc_prog.specs.Frame.{memory_of, memory_operand, offset_in_frame}
+use Rattle.dcc_prog.specs.Frame.{memory_of, memory_of_two, memory_operand, offset_in_frame}
 use Rattle.dcc_prog.specs.FrameForm.{is_by_bp, uses_bp_address}
 use Rattle.dcc_prog.specs.Trail.{is_general, code_within}
 use Rattle.dcc_prog.specs.Writes.{is_same_register}
@@ -27,6 +27,7 @@ use Rattle.dcc_lift.specs.Translated.{IsTranslated}
 use Rattle.dcc_lift.proofs.CodeBounds.{bytes-dropped, code-bytes, loaded-bytes}
 use Rattle.dcc_lift.proofs.FoundSound.{node-user}
 use Rattle.dcc_lift.proofs.ListTests.{and_left, or_here, or_none}
+use Rattle.dcc_stack.specs.Slots.{is_memory}
 use Rattle.dcc_coupled.specs.Procedures.{Procedure, procedure_at, frame_place}
 use Rattle.dcc_coupled.specs.Nodes.{procedures_in}
 use Rattle.dcc_coupled.specs.Operands.{address_of, stack_pointer, frame_pointer, operand_place}
@@ -39,12 +40,31 @@ use Rattle.dcc_refined.specs.LiftedRefinement.{IsSame}
 use Rattle.dcc_refined.specs.Laws.{machine}
 use Rattle.dcc_refined.proofs.SameLaws.{SameCases, same_cases, one_place}
 use Rattle.dcc_refined.proofs.RefinedLaws as refined
-use Rattle.dcc_agree.specs.Laws.{is_named}
+use Rattle.dcc_agree.proofs.DecodedLaws.{is_named, is_decoded, instruction-decoded}
 use Rattle.dcc_agree.proofs.StageLaws.{reads_at, outs, is_stored, has_kept}
 use Rattle.dcc_agree.proofs.OperandLaws.{reads_by, writes_by, IsOperandAt, word_at, byte_at, nothing_at, constant_at}
 use Rattle.dcc_agree.proofs.AddressLaws.{reads_computed, elsewhere_at}
 use Rattle.dcc_agree.proofs.FrameLaws.{direct_at}
 use Rattle.dcc_agree.proofs.AccessLaws.{framed_there, access_at}
+
+-- of two operands, of which one at most lies in memory, each names that of the operation
+pub first_named : (a b : Operand) (v : Width) (ea : Ea) → memory_of a ≡ Some (v, ea) → memory_of_two a b ≡ Some (v, ea)
+first_named (Mem u e) b v ea t = t
+first_named (Word r) b v ea t = absurd (cc t)
+first_named (Byte r h) b v ea t = absurd (cc t)
+first_named (Seg n) b v ea t = absurd (cc t)
+first_named (Const u n) b v ea t = absurd (cc t)
+
+pub second_named : (a b : Operand) → (is_memory a && is_memory b) ≡ false → (v : Width) (ea : Ea) → memory_of b ≡ Some (v, ea) → memory_of_two a b ≡ Some (v, ea)
+second_named (Mem u e) (Mem v f) one w ea t = absurd (true≢false one)
+second_named (Mem u e) (Word r) one v ea t = absurd (cc t)
+second_named (Mem u e) (Byte r h) one v ea t = absurd (cc t)
+second_named (Mem u e) (Seg n) one v ea t = absurd (cc t)
+second_named (Mem u e) (Const w n) one v ea t = absurd (cc t)
+second_named (Word r) b one v ea t = t
+second_named (Byte r h) b one v ea t = t
+second_named (Seg n) b one v ea t = t
+second_named (Const u n) b one v ea t = t
 
 -- SP and BP are no places.
 
@@ -97,6 +117,13 @@ module _ (image : Image) (program : Analysed) (p : Program) (is : IsTranslated i
       let there = refined.found_there image program p is entry x at node stands in
       instruction-placed program.layout.cpu at (drop at (code_within image program.layout)) node.instr
       (bytes-dropped at (code_within image program.layout) (code-bytes image program.layout (loaded-bytes image is.of_file.loaded))) there.instr
+      (node-user image program.layout program.procs.items is.of_file.is_program.procs x.proc.entry x.reached at node.instr there.node there.instr)
+
+  -- and such as decoding gives
+  pub decoded_there : is_decoded node.instr.op ≡ true
+  decoded_there =
+      let there = refined.found_there image program p is entry x at node stands in
+      instruction-decoded program.layout.cpu at (drop at (code_within image program.layout)) node.instr there.instr
       (node-user image program.layout program.procs.items is.of_file.is_program.procs x.proc.entry x.reached at node.instr there.node there.instr)
 
   module _ (height : ℕ) (a : Operand) (named : (w : Width) (ea : Ea) → memory_of a ≡ Some (w, ea) → memory_operand node.instr.op ≡ Some (w, ea)) (uses : is_by_bp a ≡ true → uses_bp_address node.instr.op ≡ true) where

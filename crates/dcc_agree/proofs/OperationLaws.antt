@@ -1,17 +1,33 @@
 -- Operations that make values, in their procedure: what they do, by what is told of places.
-use Rattle.std.proofs.Common.{◌≡◌, ℕ, ℤ, Bool, true, false, not, ◌&&◌, if◌then◌else◌, inl, inr, List, Option, None, refl, sym, ap, ◌∙◌, subst, true≢false}
+use Rattle.std.proofs.Common.{◌≡◌, ℕ, ℤ, Bool, true, false, not, ◌&&◌, if◌then◌else◌, ◌⊎◌, inl, inr, List, ◌++◌, Option, None, refl, sym, ap, ◌∙◌, subst, true≢false}
+use Rattle.std.specs.List.{list_all}
+use Rattle.dcc_num.specs.declared.Half.{Half as HalfName}
 use Rattle.dcc_prog.specs.declared.instr.Op.{Op}
 use Rattle.dcc_ir.specs.declared.syntax.Loc.{Loc}
+use Rattle.dcc_ir.specs.declared.syntax.Loc.TheVariants.{Half, Flag, Cell, Temp}
+use Rattle.dcc_ir.specs.Tree.{Stmt}
 use Rattle.dcc_lift.proofs.ListTests.{and_left, and_right, and_both}
-use Rattle.dcc_coupled.specs.Procedures.{Procedure}
+use Rattle.dcc_coupled.specs.Procedures.{Procedure, pushed_of}
 use Rattle.dcc_demand.specs.Procedures.{Effect, Leaves, Makes, LeavesWord, Overwrites, Action, Procedures, is_left}
 use Rattle.dcc_asks.specs.Bodies.{Body, Point, op_of}
 use Rattle.dcc_asks.specs.Places.{Place, in_frame, is_place, is_exposed_place}
 use Rattle.dcc_asks.specs.Values.{value_written, is_sure, value_made_of, value_uses}
 use Rattle.dcc_asks.specs.Instance as asks
 use Rattle.dcc_sums.specs.Points.{Position}
+use Rattle.dcc_sums.specs.Instance.{is_pushed}
 use Rattle.dcc_match.specs.Refinement.{Refinement, Carries, Takes}
+use Rattle.dcc_sources.specs.Sources.{sources, used}
 use Rattle.dcc_refined.specs.LiftedRefinement.{IsSame, IsSameWord}
+use Rattle.dcc_agree.specs.Agreement.{Agrees}
+use Rattle.dcc_agree.proofs.ShownLaws.{Shows}
+use Rattle.dcc_agree.proofs.ValueLaws.{is_value, is_written, value_agrees}
+
+-- the cell of a word that is pushed
+pub pushed_cell : (n : ℕ) (l : Loc) → is_pushed n l ≡ true → (m : ℕ) × (h : HalfName) × (l ≡ Cell m h)
+pushed_cell n (Cell m h) t = (m, h, refl)
+pushed_cell n (Half r h) t = absurd (true≢false (sym t))
+pushed_cell n (Flag f) t = absurd (true≢false (sym t))
+pushed_cell n (Temp m) t = absurd (true≢false (sym t))
 
 module _ (coarse : Procedures ℕ Place ℤ) (fine : Procedures Position Loc Loc) (r : Refinement ℕ Place ℤ Position Loc Loc) (entry at : ℕ) (o : Option Procedure) (bodies : List Body) (body : Body) (point : Point) where
   abbrev x : Action Place ℤ
@@ -102,3 +118,30 @@ module _ (coarse : Procedures ℕ Place ℤ) (fine : Procedures Position Loc Loc
 
     pub if_uses : (L : Place) → is_place body L ≡ true → value_uses body (op_of point) point.node.number L ≡ true → Takes coarse fine r entry at L
     if_uses L p u = inl (uses_there L ∙ and_both (is_place body L) (value_uses body (op_of point) point.node.number L) p u)
+
+    -- Statements that write what it writes, and make and use just what it does.
+    module _ (pushed : ℕ) (stmts : List Stmt) (after : List Loc) where
+      pub record DoAll : Type 0 where
+        pub values : list_all is_value stmts ≡ true
+        pub writes : (L : Place) (l : Loc) → r.same entry L l → written L ≡ is_written stmts l
+        pub using : Shows (r.same entry) (Takes coarse fine r entry at) (used stmts after)
+        pub making : (A : Place) (a : Loc) → r.same entry A a
+            → Shows (r.same entry) (λ L. Carries coarse fine r entry at L A ⊎ Takes coarse fine r entry at L) (sources stmts a ++ used stmts after)
+        pub made : (A : Place) → written A ≡ true → ((coarse.procedure entry).is_exposed A ≡ true) ⊎ ((l : Loc) × r.same entry A l)
+
+      pub operation_agrees : DoAll → Agrees coarse fine r entry at pushed stmts after
+      operation_agrees all = value_agrees coarse fine r entry at pushed stmts after (record {
+        written = λ L. written L;
+        word_written = λ k. written (in_frame k);
+        effect = effect_there;
+        word_effect = word_there;
+        callee = callee_there;
+        values = all.values;
+        writes = all.writes;
+        writes_word = λ k l s.
+            let is = v.same_word k l s in
+            (all.writes (in_frame k) l (v.as_same (in_frame k) l (IsSame.is_kept is.is_found is.kept)), pushed_cell (pushed_of is.found) l is.pushed);
+        using = all.using;
+        making = all.making;
+        made = λ L A n m. all.made A (writes_if A n);
+      })

@@ -1,9 +1,9 @@
 -- The points of an instruction do what its statements do, so what is told of these is told of the points.
-use Rattle.std.proofs.Common.{◌≡◌, ℕ, ℤ, false, inl, inr, List, [], ◌∷◌, ◌++◌, map, Option, Some, None, refl, sym, ap, ◌∙◌, subst, true≢false}
+use Rattle.std.proofs.Common.{◌≡◌, ℕ, ℤ, false, inl, inr, List, [], ◌∷◌, map, Option, Some, None, refl, sym, ap, ◌∙◌, subst, true≢false}
 use Rattle.dcc_prog.specs.declared.instr.Op.{Op}
 use Rattle.dcc_prog.specs.declared.instr.Op.TheVariants.{Table, Ret}
 use Rattle.dcc_ir.specs.declared.syntax.Loc.{Loc}
-use Rattle.dcc_ir.specs.Tree.{Expr, Stmt, Graph}
+use Rattle.dcc_ir.specs.Tree.{Expr, Stmt}
 use Rattle.dcc_ir.specs.Live.{is_among}
 use Rattle.dcc_ops.specs.Statements.{op_test, exit_to}
 use Rattle.dcc_coupled.specs.Procedures.{Procedure}
@@ -12,9 +12,9 @@ use Rattle.dcc_lift.specs.Blocks.{is_table}
 use Rattle.dcc_lift.specs.Sound.{AgreesWith, GoesOnAt}
 use Rattle.dcc_demand.specs.Procedures.{Action, Procedures}
 use Rattle.dcc_asks.specs.Places.{Place}
-use Rattle.dcc_sums.specs.Points.{Position, Site, Executes, site_of}
+use Rattle.dcc_sums.specs.Points.{Position}
 use Rattle.dcc_sums.specs.Instance as sums
-use Rattle.dcc_sums.specs.Instance.{used_by, written_by, only_using, action_of}
+use Rattle.dcc_sums.specs.Instance.{action_of}
 use Rattle.dcc_match.specs.Steps as steps
 use Rattle.dcc_match.specs.Refinement.{Refinement, EffectsAgree, WordEffectsAgree, CallsFirst, ChangesAgree, CalleesAgree, WantsAgree}
 use Rattle.dcc_sources.specs.Laws.{AreAt, TellPoints}
@@ -62,35 +62,6 @@ pub goes_on_alike : (op : Op) (f : ℕ → ℕ) (places : List ℕ) → GoesOnAt
 goes_on_alike (Table r offset) f places goes = tt
 goes_on_alike (Ret count) f places goes = ap (map f) goes
 goes_on_alike op f places goes = alike (op_test op) f places goes
-
--- Sites.
-
--- these uses what comes after statements
-abbrev pub EndsSo : ℕ → List Site → List Loc → Type 0
-EndsSo pushed [] after = after ≡ []
-EndsSo pushed (site ∷ []) after = sums.action_at pushed site ≡ only_using after
-EndsSo pushed (site ∷ other ∷ sites) after = ⊥
-
-module _ (graph : Graph) where
-  ends_at : (points : List Position) (ends : List Site) (after : List Loc) → map (site_of graph) points ≡ ends → EndsSo graph.pushed ends after
-      → AreAt (sums.procedure_of graph) graph.pushed points [] after
-  ends_at [] [] after e so = so
-  ends_at [] (site ∷ ends) after e so = absurd (cc e)
-  ends_at (a ∷ points) [] after e so = absurd (cc e)
-  ends_at (a ∷ []) (site ∷ []) after e so =
-      let here : site_of graph a ≡ site = cc e in
-      (refl, ap (sums.action_at graph.pushed) here ∙ so)
-  ends_at (a ∷ b ∷ points) (site ∷ []) after e so = absurd (cc e)
-  ends_at (a ∷ points) (site ∷ other ∷ ends) after e so = absurd so
-
-  -- statements stand at points
-  pub are_at : (points : List Position) (stmts : List Stmt) (ends : List Site) (after : List Loc) → map (site_of graph) points ≡ map Executes stmts ++ ends → EndsSo graph.pushed ends after
-      → AreAt (sums.procedure_of graph) graph.pushed points stmts after
-  are_at points [] ends after e so = ends_at points ends after e so
-  are_at [] (s ∷ stmts) ends after e so = absurd (cc e)
-  are_at (a ∷ points) (s ∷ stmts) ends after e so =
-      let here : site_of graph a ≡ Executes s = cc e in
-      (ap (sums.action_at graph.pushed) here, are_at points stmts ends after (cc e) so)
 
 -- What points do.
 

@@ -26,12 +26,13 @@ use Rattle.dcc_prog.specs.Writes.{is_same_register, is_same_half, is_half_of, ne
 use Rattle.dcc_prog.specs.Wanted.{Location, half_of, flag_of, is_flag, is_read, is_in_memory, is_cl, is_turn, is_in_cl, is_constant_flag, brings_carry}
 use Rattle.dcc_ir.specs.declared.syntax.Loc.{Loc}
 use Rattle.dcc_ir.specs.declared.syntax.Loc.TheVariants.{Half, Flag}
+use Rattle.dcc_ir.specs.Tree.{Stmt}
 use Rattle.dcc_ir.proofs.LocationLaws.{Contains-here}
-use Rattle.dcc_ops.specs.Place.{Place as InnerPlace, computed, storing}
-use Rattle.dcc_ops.specs.Expressions.{result, count_expr}
+use Rattle.dcc_ops.specs.Place.{Place as InnerPlace, computed, taking, storing}
+use Rattle.dcc_ops.specs.Expressions.{result, sum, count_expr}
 use Rattle.dcc_ops.specs.Temporaries.{left_place, right_place, result_place}
-use Rattle.dcc_ops.specs.Statements.{count_taking, shift_working, staying, shift_stmts}
-use Rattle.dcc_lift.proofs.ListTests.{and_left, and_right, and_false, or_none, not_true}
+use Rattle.dcc_ops.specs.Statements.{result_taking, shift_working, shifting, staying, shift_stmts}
+use Rattle.dcc_lift.proofs.ListTests.{and_left, and_false, or_none, not_true}
 use Rattle.dcc_coupled.specs.Procedures.{Procedure}
 use Rattle.dcc_demand.specs.Procedures.{Procedures}
 use Rattle.dcc_asks.specs.Bodies.{Body, Point}
@@ -42,15 +43,17 @@ use Rattle.dcc_match.specs.Refinement.{Refinement}
 use Rattle.dcc_sources.proofs.ListLaws.{in_flat}
 use Rattle.dcc_refined.specs.LiftedRefinement.{IsSame}
 use Rattle.dcc_agree.specs.Agreement.{Agrees}
-use Rattle.dcc_agree.specs.Laws.{is_shiftable}
+use Rattle.dcc_agree.proofs.DecodedLaws.{is_shiftable}
 use Rattle.dcc_agree.proofs.ShownLaws.{Shows, shows_none, shows_alike}
-use Rattle.dcc_agree.proofs.OperationLaws.{IsValueOperation}
+use Rattle.dcc_agree.proofs.ValueLaws.{is_written}
+use Rattle.dcc_agree.proofs.OperationLaws.{IsValueOperation, callee_there}
 use Rattle.dcc_agree.proofs.StageLaws.{is_kept_place, reads_at, before_both, both_left}
-use Rattle.dcc_agree.proofs.FormLaws.{Input, first, second, carry, input_location, made_by}
+use Rattle.dcc_agree.proofs.FormLaws.{Input, first, second, carry, itself, input_location, has_itself, made_by, IsWork}
+use Rattle.dcc_agree.proofs.AlikeLaws.{same_lasts, word_lasts, set_unwritten, prepared_agrees, two_prepare, result_prepares}
 use Rattle.dcc_agree.proofs.OperandLaws.{frame_read, in_cells, reads_by, IsOperandAt, byte_at}
 use Rattle.dcc_agree.proofs.WorkLaws.{point_with_op, and_true, and_moved, read_in_memory}
 use Rattle.dcc_agree.proofs.StoredLaws.{storing_agrees}
-use Rattle.dcc_agree.proofs.UnaryLaws.{one_written}
+use Rattle.dcc_agree.proofs.UnaryLaws.{both_inputs, one_works, sum_makes, one_written}
 use Rattle.dcc_agree.proofs.ShiftLaws.{shift_inputs, unwritten_inputs, shift_flags, is_overflow, Works, one_work, cl_work, const_work, result_made, made_value, may_be, result_is_told, flag_is_told, sure_is_told, made_held, made_framed}
 
 -- Counts.
@@ -73,15 +76,22 @@ flag_cleared operation a (ConstCount n) Cf = sym (and_false (not (n % 32 == 1)))
 flag_cleared operation a (ConstCount n) Zf = sym (and_false (not (n % 32 == 1)))
 flag_cleared operation a (ConstCount n) Sf = sym (and_false (not (n % 32 == 1)))
 
-shifts : (operation : Shift) (count : Count) → is_shiftable operation count ≡ true → never_shifts count ≡ false
-shifts operation One t = refl
-shifts operation Cl t = refl
-shifts operation (ConstCount n) t = not_true (n % 32 == 0) (and_left (not (n % 32 == 0)) (not (is_turn operation)) t)
+-- by a constant it is no RCL or RCR
+turns_never : (operation : Shift) (count : Count) → is_shiftable operation count ≡ true → never_shifts count ≡ true → is_turn operation ≡ false
+turns_never operation (ConstCount n) t never = not_true (is_turn operation) t
+turns_never operation One t never = absurd (true≢false (sym never))
+turns_never operation Cl t never = absurd (true≢false (sym never))
+
+-- nor reads its count anything
+unread_count : (cpu : Cpu) (w : Width) (count : Count) → never_shifts count ≡ true → reads_at (computed (count_expr cpu w count)) ≡ []
+unread_count cpu w (ConstCount n) never = refl
+unread_count cpu w One never = absurd (true≢false (sym never))
+unread_count cpu w Cl never = absurd (true≢false (sym never))
 
 may_count : (operation : Shift) (count : Count) → is_shiftable operation count ≡ true → may_be operation (is_in_cl count) (cleared_of count) ≡ true
 may_count operation One t = refl
 may_count operation Cl t = refl
-may_count operation (ConstCount n) t = by (n % 32 == 1) (and_right (not (n % 32 == 0)) (not (is_turn operation)) t)
+may_count operation (ConstCount n) t = by (n % 32 == 1) t
   where
     by : (b : Bool) → not (is_turn operation) ≡ true → may_be operation false (not b) ≡ true
     by true e = refl
@@ -99,7 +109,7 @@ const_works Rcr w n e = absurd (true≢false e)
 count_works : (operation : Shift) (w : Width) (count : Count) → is_shiftable operation count ≡ true → Works operation w (shift_working operation w count) (is_in_cl count) (cleared_of count)
 count_works operation w One t = one_work operation w
 count_works operation w Cl t = cl_work operation w
-count_works operation w (ConstCount n) t = const_works operation w n (not_true (is_turn operation) (and_right (not (n % 32 == 0)) (not (is_turn operation)) t))
+count_works operation w (ConstCount n) t = const_works operation w n (not_true (is_turn operation) t)
 
 -- Tests.
 
@@ -200,9 +210,6 @@ module _ (coarse : Procedures ℕ Place ℤ) (fine : Procedures Position Loc Loc
     may : may_be operation cl cleared ≡ true
     may = may_count operation count able
 
-    moves : not (never_shifts count) ≡ true
-    moves = ap not (shifts operation count able)
-
     all_made : (l : Location) → result_made operation cl (is_read l a) (is_cl l) (is_flag Cf l) ≡ made_so (shift_inputs operation) (held l)
     all_made l = result_is_told operation cl cleared may (is_read l a) (is_cl l) (is_flag Cf l) ∙ sym (made_held (reads_by body a) rb (shift_inputs operation) l)
 
@@ -219,21 +226,6 @@ module _ (coarse : Procedures ℕ Place ℤ) (fine : Procedures Position Loc Loc
     makes_half q h t (in_frame k) =
         ap (λ c. ((c && true) && not (is_cleared op (half_of q h))) && frame_read body a k) t ∙ ap (λ c. not c && frame_read body a k) (half_uncleared operation a count q h) ∙ frame_made k
 
-    writes_one : (f : FlagName) → (shift_writes_flag operation f && not (never_shifts count)) ≡ shift_writes_flag operation f
-    writes_one f = ap (λ c. shift_writes_flag operation f && c) moves ∙ and_true (shift_writes_flag operation f)
-
-    makes_flag : (f : FlagName) → (shift_writes_flag operation f && not (never_shifts count)) ≡ true → (L : Place) → value_made_of body op (held (flag_of f)) L ≡ made_so (flags f) L
-    makes_flag f t (held l) =
-        ap (λ c. (c && ((not (is_constant_flag operation f) && is_read l a) || (((cl && not (is_turn operation)) && is_cl l) || (brings_carry operation (flag_of f) && is_flag Cf l)))) && not (is_cleared op (flag_of f))) t
-        ∙ ap (λ c. ((not (is_constant_flag operation f) && is_read l a) || (((cl && not (is_turn operation)) && is_cl l) || (brings_carry operation (flag_of f) && is_flag Cf l))) && not c) (flag_cleared operation a count f)
-        ∙ flag_is_told operation cl cleared may f (sym (writes_one f) ∙ t) (is_read l a) (is_cl l) (is_flag Cf l) ∙ sym (made_held (reads_by body a) rb (flags f) l)
-    makes_flag f t (in_frame k) =
-        ap (λ c. ((c && not (is_constant_flag operation f)) && not (is_cleared op (flag_of f))) && frame_read body a k) t
-        ∙ ap (λ c. (not (is_constant_flag operation f) && not c) && frame_read body a k) (flag_cleared operation a count f)
-        ∙ flag_framed (not (is_constant_flag operation f)) (not (cleared && is_overflow f)) (frame_read body a k) (cl && not (is_turn operation)) (brings_carry operation (flag_of f))
-        ∙ flag_is_told operation cl cleared may f (sym (writes_one f) ∙ t) (frame_read body a k) false false
-        ∙ ap (λ c. made_value (flags f) (frame_read body a k) c false) (and_false cl) ∙ sym (made_framed (reads_by body a) rb (flags f) k)
-
     makes_frame : (k : ℤ) → frame_read body a k ≡ true → (L : Place) → value_made_of body op (in_frame k) L ≡ made_so (shift_inputs operation) L
     makes_frame k t (held l) =
         ap (λ c. c && (is_in_memory a && result_made operation cl (is_read l a) (is_cl l) (is_flag Cf l))) t
@@ -245,20 +237,21 @@ module _ (coarse : Procedures ℕ Place ℤ) (fine : Procedures Position Loc Loc
         and_moved (not (in_cells body a)) (is_in_memory a) (result_made operation cl (is_read l a) (is_cl l) (is_flag Cf l))
         ∙ ap (λ c. (is_in_memory a && not (in_cells body a)) && c) (all_made l)
 
-    left_flag : (f : FlagName) → (shift_writes_flag operation f && not (never_shifts count)) ≡ false → (L : Place) → made_so (flags f) L ≡ false
-    left_flag f t L = ap (λ inputs. made_so inputs L) (unwritten_inputs operation cl cleared f (sym (writes_one f) ∙ t))
-
     first_there : (b : Bool) → Contains (map (input_location w (result_place w)) (if b then first ∷ carry ∷ [] else first ∷ second ∷ [])) (left_place w)
     first_there true = Contains-here (left_place w) (Flag Cf ∷ [])
     first_there false = Contains-here (left_place w) (right_place w ∷ [])
 
-    pub shift_agrees : Agrees coarse fine r entry at pushed (shift_stmts cpu operation w P count) []
-    shift_agrees =
-        subst (λ ss. Agrees coarse fine r entry at pushed ss [])
-        (sym (ap (λ b. if b then staying w P else count_taking cpu w P count ++ (shift_working operation w count ++ storing P (result w))) (shifts operation count able)))
-        (storing_agrees coarse fine r entry at pushed o bodies body shift_point v w a P P G (reads_by body a) rb (shift_working operation w count) true (shift_inputs operation) flags (record {
+    -- where this is done to the operand and the count, and the flags are made of these
+    stored_agrees : (working : List Stmt) (flag_inputs : FlagName → List Input) → IsWork w working (shift_inputs operation) flag_inputs
+        → ((f : FlagName) → (shift_writes_flag operation f && not (never_shifts count)) ≡ is_written working (Flag f))
+        → ((f : FlagName) → (shift_writes_flag operation f && not (never_shifts count)) ≡ true → (L : Place) → value_made_of body op (held (flag_of f)) L ≡ made_so (flag_inputs f) L)
+        → ((f : FlagName) → ((shift_writes_flag operation f && not (never_shifts count)) && ((shift_writes_flag operation f && not (never_shifts count)) && not (cl && not (is_turn operation)))) ≡ not (has_itself (flag_inputs f)))
+        → ((f : FlagName) → (shift_writes_flag operation f && not (never_shifts count)) ≡ false → (L : Place) → made_so (flag_inputs f) L ≡ false)
+        → Agrees coarse fine r entry at pushed (taking (left_place w) P ∷ taking (right_place w) G ∷ (working ++ storing P (result w))) []
+    stored_agrees working flag_inputs work writes_flag makes_flag sure_flag left_flag =
+        storing_agrees coarse fine r entry at pushed o bodies body shift_point v w a P P G (reads_by body a) rb working true (shift_inputs operation) flag_inputs (record {
           operand = x;
-          work = (count_works operation w count able).0;
+          work = work;
           firsts = x.reads;
           seconds = count_shown o body (coarse.procedure entry).is_exposed cpu w count;
           second_kept = count_kept cpu w count;
@@ -269,16 +262,75 @@ module _ (coarse : Procedures ℕ Place ℤ) (fine : Procedures Position Loc Loc
             | inr e ↦ absurd (true≢false (sym e))
           ];
           writes_half = λ q h. refl;
-          writes_flag = λ f. writes_one f ∙ (count_works operation w count able).1 f;
+          writes_flag = writes_flag;
           writes_frame = λ k. one_written body a k;
           makes_half = makes_half;
           makes_flag = makes_flag;
           makes_frame = makes_frame;
           sure_half = λ q h. refl;
           sure_frame = λ k. refl;
-          sure_flag = λ f. ap (λ s. s && (s && not (cl && not (is_turn operation)))) (writes_one f) ∙ sure_is_told operation cl cleared may f;
+          sure_flag = sure_flag;
           left_flag = left_flag;
           uses_held = uses_held;
           uses_frame = λ k. refl;
           next = next;
-        }))
+        })
+
+    -- it shifts
+    module _ (moves : not (never_shifts count) ≡ true) where
+      writes_one : (f : FlagName) → (shift_writes_flag operation f && not (never_shifts count)) ≡ shift_writes_flag operation f
+      writes_one f = ap (λ c. shift_writes_flag operation f && c) moves ∙ and_true (shift_writes_flag operation f)
+
+      makes_flag : (f : FlagName) → (shift_writes_flag operation f && not (never_shifts count)) ≡ true → (L : Place) → value_made_of body op (held (flag_of f)) L ≡ made_so (flags f) L
+      makes_flag f t (held l) =
+          ap (λ c. (c && ((not (is_constant_flag operation f) && is_read l a) || (((cl && not (is_turn operation)) && is_cl l) || (brings_carry operation (flag_of f) && is_flag Cf l)))) && not (is_cleared op (flag_of f))) t
+          ∙ ap (λ c. ((not (is_constant_flag operation f) && is_read l a) || (((cl && not (is_turn operation)) && is_cl l) || (brings_carry operation (flag_of f) && is_flag Cf l))) && not c) (flag_cleared operation a count f)
+          ∙ flag_is_told operation cl cleared may f (sym (writes_one f) ∙ t) (is_read l a) (is_cl l) (is_flag Cf l) ∙ sym (made_held (reads_by body a) rb (flags f) l)
+      makes_flag f t (in_frame k) =
+          ap (λ c. ((c && not (is_constant_flag operation f)) && not (is_cleared op (flag_of f))) && frame_read body a k) t
+          ∙ ap (λ c. (not (is_constant_flag operation f) && not c) && frame_read body a k) (flag_cleared operation a count f)
+          ∙ flag_framed (not (is_constant_flag operation f)) (not (cleared && is_overflow f)) (frame_read body a k) (cl && not (is_turn operation)) (brings_carry operation (flag_of f))
+          ∙ flag_is_told operation cl cleared may f (sym (writes_one f) ∙ t) (frame_read body a k) false false
+          ∙ ap (λ c. made_value (flags f) (frame_read body a k) c false) (and_false cl) ∙ sym (made_framed (reads_by body a) rb (flags f) k)
+
+      left_flag : (f : FlagName) → (shift_writes_flag operation f && not (never_shifts count)) ≡ false → (L : Place) → made_so (flags f) L ≡ false
+      left_flag f t L = ap (λ inputs. made_so inputs L) (unwritten_inputs operation cl cleared f (sym (writes_one f) ∙ t))
+
+      moving_agrees : Agrees coarse fine r entry at pushed (shifting cpu operation w P count) []
+      moving_agrees =
+          stored_agrees (shift_working operation w count) flags (count_works operation w count able).0 (λ f. writes_one f ∙ (count_works operation w count able).1 f) makes_flag
+          (λ f. ap (λ s. s && (s && not (cl && not (is_turn operation)))) (writes_one f) ∙ sure_is_told operation cl cleared may f) left_flag
+
+    -- it shifts nothing
+    module _ (never : never_shifts count ≡ true) where
+      abbrev keeping : List Stmt
+      keeping = result_taking w (sum w)
+
+      turnless : is_turn operation ≡ false
+      turnless = turns_never operation count able never
+
+      flag_left : (f : FlagName) → (shift_writes_flag operation f && not (never_shifts count)) ≡ false
+      flag_left f = ap (λ c. shift_writes_flag operation f && not c) never ∙ and_false (shift_writes_flag operation f)
+
+      inputs_are : shift_inputs operation ≡ both_inputs
+      inputs_are = ap (λ b. if b then first ∷ carry ∷ [] else first ∷ second ∷ []) turnless
+
+      summed_agrees : Agrees coarse fine r entry at pushed (taking (left_place w) P ∷ taking (right_place w) G ∷ (keeping ++ storing P (result w))) []
+      summed_agrees =
+          stored_agrees keeping (λ f. itself ∷ []) (subst (λ inputs. IsWork w keeping inputs (λ f. itself ∷ [])) (sym inputs_are) (one_works w).0)
+          (λ f. flag_left f ∙ sym (set_unwritten w (sum w) (Flag f) refl)) (λ f t L. absurd (true≢false (sym t ∙ flag_left f)))
+          (λ f. ap (λ s. s && (s && not (cl && not (is_turn operation)))) (flag_left f)) (λ f e L. refl)
+
+      staying_agrees : Agrees coarse fine r entry at pushed (staying w P) []
+      staying_agrees =
+          prepared_agrees w P x.kept x.reads_kept (taking (left_place w) P ∷ taking (right_place w) G ∷ keeping) (taking (result_place w) P ∷ [])
+          (two_prepare w P G (unread_count cpu w count never) (sum w) (sum_makes w)) (result_prepares w P)
+          coarse fine r entry at pushed (λ L l s. same_lasts o L l (v.same L l s)) (λ k l s. word_lasts o k l (v.same_word k l s))
+          (callee_there coarse fine r entry at o bodies body shift_point v) summed_agrees
+
+    pub shift_agrees : Agrees coarse fine r entry at pushed (shift_stmts cpu operation w P count) []
+    shift_agrees = by (never_shifts count) refl
+      where
+        by : (b : Bool) → never_shifts count ≡ b → Agrees coarse fine r entry at pushed (if b then staying w P else shifting cpu operation w P count) []
+        by true never = staying_agrees never
+        by false moving = moving_agrees (ap not moving)

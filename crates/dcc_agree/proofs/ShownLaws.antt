@@ -17,6 +17,9 @@ module _ (Same : Place → Loc → Type 0) where
   pub shows_none : Shows (λ L. ⊥) []
   shows_none = record { has = λ L l s p. absurd p; comes = λ l c. absurd (Contains-none l c) }
 
+  pub shows_never : (P : Place → Type 0) → ((L : Place) → P L → ⊥) → Shows P []
+  shows_never P never = record { has = λ L l s p. absurd (never L p); comes = λ l c. absurd (Contains-none l c) }
+
   pub shows_one : ((L : Place) (l m : Loc) → Same L l → Same L m → l ≡ m) → (A : Place) (a : Loc) → Same A a → Shows (λ L. L ≡ A) (a ∷ [])
   shows_one once A a t = record {
     has = λ L l s p.

@@ -155,7 +155,7 @@ right_is_left : (w : Width) → same_location (right_place w) (left_place w) ≡
 right_is_left byte_width = refl
 right_is_left word_width = refl
 
-left_itself : (w : Width) → same_location (left_place w) (left_place w) ≡ true
+pub left_itself : (w : Width) → same_location (left_place w) (left_place w) ≡ true
 left_itself byte_width = refl
 left_itself word_width = refl
 

@@ -260,5 +260,5 @@ module _ (coarse : Procedures ℕ Place ℤ) (fine : Procedures Position Loc Loc
       taken = taken;
       address_made = λ e l c. f.address l c;
       address_kept = f.operand.reads_kept;
-      made = λ L to w m. made_where to (writes_if coarse fine r entry at o bodies body point v to w);
+      made = made_where;
     })

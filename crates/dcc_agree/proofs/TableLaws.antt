@@ -26,8 +26,23 @@ use Rattle.dcc_coupled.specs.Statements.{moves_frame, working_stmts}
 use Rattle.dcc_ir.specs.Tree.{Stmt}
 use Rattle.dcc_asks.specs.Bodies.{Body}
 use Rattle.dcc_agree.specs.Agreement.{ending}
-use Rattle.dcc_agree.specs.Laws.{is_table_told}
+use Rattle.dcc_agree.proofs.DecodedLaws.{is_decoded}
 use Rattle.dcc_agree.proofs.ClosedLaws.{is_told, IsClosed}
+
+-- what it makes and uses of halves and flags is told by the operation alone: it has no operand, jumps or returns
+abbrev pub is_table_told : Op → Bool
+is_table_told (PlainOp operation) = true
+is_table_told (Enter count) = true
+is_table_told Leave = true
+is_table_told (Jump target) = true
+is_table_told (Branch condition target) = true
+is_table_told (Loop target) = true
+is_table_told (LoopE target) = true
+is_table_told (LoopNe target) = true
+is_table_told (Jcxz target) = true
+is_table_told (Table r offset) = true
+is_table_told (Ret count) = true
+is_table_told op = false
 
 module _ (cpu : Cpu) (procedures : List Procedure) (procedure : Procedure) (height : ℕ) (body : Body) (number : Option ℕ) where
   -- the statements of the operation
@@ -93,19 +108,19 @@ module _ (cpu : Cpu) (procedures : List Procedure) (procedure : Procedure) (heig
   closed_lea Si ea e = absurd (true≢false e)
   closed_lea Di ea e = absurd (true≢false e)
 
-  pub closed_op : (op : Op) → is_table_told op ≡ true → Closed op
-  closed_op (Jump target) e = record { told = refl; cells = λ n h. refl; unwritten = λ n h. refl; no_write = λ k. refl; no_use = λ k. refl; not_made = λ l k. refl }
-  closed_op (Loop target) e = record { told = refl; cells = λ n h. refl; unwritten = λ n h. refl; no_write = λ k. refl; no_use = λ k. refl; not_made = λ l k. refl }
-  closed_op (LoopE target) e = record { told = refl; cells = λ n h. refl; unwritten = λ n h. refl; no_write = λ k. refl; no_use = λ k. refl; not_made = λ l k. refl }
-  closed_op (LoopNe target) e = record { told = refl; cells = λ n h. refl; unwritten = λ n h. refl; no_write = λ k. refl; no_use = λ k. refl; not_made = λ l k. refl }
-  closed_op (Jcxz target) e = record { told = refl; cells = λ n h. refl; unwritten = λ n h. refl; no_write = λ k. refl; no_use = λ k. refl; not_made = λ l k. refl }
-  closed_op (Ret count) e = record { told = refl; cells = λ n h. refl; unwritten = λ n h. refl; no_write = λ k. refl; no_use = λ k. refl; not_made = λ l k. refl }
-  closed_op (Enter count) e = record { told = refl; cells = λ n h. refl; unwritten = λ n h. refl; no_write = λ k. refl; no_use = λ k. refl; not_made = λ l k. refl }
-  closed_op Leave e = record { told = refl; cells = λ n h. refl; unwritten = λ n h. refl; no_write = λ k. refl; no_use = λ k. refl; not_made = λ l k. refl }
-  closed_op (Branch c target) e = closed_branch c target
-  closed_op (PlainOp operation) e = closed_plain operation e
-  closed_op (Table r offset) e = closed_table r offset e
-  closed_op op e = absurd (true≢false (sym e))
+  pub closed_op : (op : Op) → is_table_told op ≡ true → is_decoded op ≡ true → Closed op
+  closed_op (Jump target) e d = record { told = refl; cells = λ n h. refl; unwritten = λ n h. refl; no_write = λ k. refl; no_use = λ k. refl; not_made = λ l k. refl }
+  closed_op (Loop target) e d = record { told = refl; cells = λ n h. refl; unwritten = λ n h. refl; no_write = λ k. refl; no_use = λ k. refl; not_made = λ l k. refl }
+  closed_op (LoopE target) e d = record { told = refl; cells = λ n h. refl; unwritten = λ n h. refl; no_write = λ k. refl; no_use = λ k. refl; not_made = λ l k. refl }
+  closed_op (LoopNe target) e d = record { told = refl; cells = λ n h. refl; unwritten = λ n h. refl; no_write = λ k. refl; no_use = λ k. refl; not_made = λ l k. refl }
+  closed_op (Jcxz target) e d = record { told = refl; cells = λ n h. refl; unwritten = λ n h. refl; no_write = λ k. refl; no_use = λ k. refl; not_made = λ l k. refl }
+  closed_op (Ret count) e d = record { told = refl; cells = λ n h. refl; unwritten = λ n h. refl; no_write = λ k. refl; no_use = λ k. refl; not_made = λ l k. refl }
+  closed_op (Enter count) e d = record { told = refl; cells = λ n h. refl; unwritten = λ n h. refl; no_write = λ k. refl; no_use = λ k. refl; not_made = λ l k. refl }
+  closed_op Leave e d = record { told = refl; cells = λ n h. refl; unwritten = λ n h. refl; no_write = λ k. refl; no_use = λ k. refl; not_made = λ l k. refl }
+  closed_op (Branch c target) e d = closed_branch c target
+  closed_op (PlainOp operation) e d = closed_plain operation e
+  closed_op (Table r offset) e d = closed_table r offset d
+  closed_op op e d = absurd (true≢false (sym e))
 
 -- The DOS calls.
 

@@ -1,4 +1,4 @@
--- INC, DEC and NEG do what their statements do.
+-- INC, DEC, NEG and NOT do what their statements do.
 use Rattle.std.proofs.Common.{◌≡◌, ℕ, ℤ, Bool, true, false, not, ◌&&◌, ◌||◌, if◌then◌else◌, ◌⊎◌, inl, inr, List, [], ◌∷◌, ◌++◌, map, Option, None, refl, sym, ap, ◌∙◌, subst, true≢false}
 use Rattle.std.specs.Prelude.{Contains, flat_map}
 use Rattle.std.specs.List.{list_all}
@@ -9,7 +9,7 @@ use Rattle.dcc_num.specs.declared.Half.{Half as HalfName}
 use Rattle.dcc_num.specs.declared.FlagName.{FlagName}
 use Rattle.dcc_prog.specs.declared.procedure.Node.{Node}
 use Rattle.dcc_prog.specs.declared.instr.Unary.{Unary}
-use Rattle.dcc_prog.specs.declared.instr.Unary.TheVariants.{Inc, Dec, Neg}
+use Rattle.dcc_prog.specs.declared.instr.Unary.TheVariants.{Inc, Dec, Neg, Not}
 use Rattle.dcc_prog.specs.declared.instr.Operand.{Operand}
 use Rattle.dcc_prog.specs.declared.instr.Operand.TheVariants.{Word, Byte, Seg, Mem, Const}
 use Rattle.dcc_prog.specs.declared.instr.Op.{Op}
@@ -23,12 +23,14 @@ use Rattle.dcc_prog.specs.Wanted.{Location, half_of, flag_of, is_read, is_in_mem
 use Rattle.dcc_stack.specs.Slots.{is_memory}
 use Rattle.dcc_ir.specs.declared.syntax.Loc.{Loc}
 use Rattle.dcc_ir.specs.declared.syntax.Loc.TheVariants.{Flag}
-use Rattle.dcc_ir.specs.Tree.{Stmt}
+use Rattle.dcc_ir.specs.declared.syntax.UnOp.TheVariants.{Not as NotOp}
+use Rattle.dcc_ir.specs.Tree.{Unary as UnaryExpr, Stmt}
 use Rattle.dcc_ir.proofs.LocationLaws.{Contains-here, Contains-later}
-use Rattle.dcc_ops.specs.Place.{Place as InnerPlace, constant}
-use Rattle.dcc_ops.specs.Expressions.{sum, difference}
+use Rattle.dcc_ops.specs.Place.{Place as InnerPlace, constant, taking}
+use Rattle.dcc_num.specs.Numbers.{bits_of}
+use Rattle.dcc_ops.specs.Expressions.{left, sum, difference}
 use Rattle.dcc_ops.specs.Temporaries.{left_place, right_place, result_place}
-use Rattle.dcc_ops.specs.Statements.{result_taking, sum_flags, difference_flags, subtracting, unary_stmts}
+use Rattle.dcc_ops.specs.Statements.{result_taking, sum_flags, difference_flags, subtracting, complementing, unary_stmts}
 use Rattle.dcc_lift.proofs.ListTests.{or_none}
 use Rattle.dcc_coupled.specs.Procedures.{Procedure}
 use Rattle.dcc_demand.specs.Procedures.{Procedures}
@@ -37,15 +39,17 @@ use Rattle.dcc_asks.specs.Places.{Place, held, in_frame, is_place}
 use Rattle.dcc_asks.specs.Values.{value_made_of, value_uses, division_uses}
 use Rattle.dcc_sums.specs.Points.{Position}
 use Rattle.dcc_match.specs.Refinement.{Refinement}
+use Rattle.dcc_sources.specs.Sources.{sources}
 use Rattle.dcc_sources.proofs.ListLaws.{in_flat}
 use Rattle.dcc_refined.specs.LiftedRefinement.{IsSame}
 use Rattle.dcc_agree.specs.Agreement.{Agrees}
 use Rattle.dcc_agree.proofs.ShownLaws.{Shows, shows_none, shows_alike}
 use Rattle.dcc_agree.proofs.ValueLaws.{is_written}
-use Rattle.dcc_agree.proofs.OperationLaws.{IsValueOperation}
+use Rattle.dcc_agree.proofs.OperationLaws.{IsValueOperation, callee_there}
 use Rattle.dcc_agree.proofs.StageLaws.{is_kept_place, reads_at, before_both, both_left, both_right}
 use Rattle.dcc_agree.proofs.ClosedLaws.{same_test}
 use Rattle.dcc_agree.proofs.FormLaws.{Input, first, second, itself, input_location, has_itself, made_by, IsWork, form_stmts}
+use Rattle.dcc_agree.proofs.AlikeLaws.{same_lasts, word_lasts, prepared_agrees, two_prepare, left_prepares}
 use Rattle.dcc_agree.proofs.OperandLaws.{frame_read, in_cells, reads_by, IsOperandAt}
 use Rattle.dcc_agree.proofs.WorkLaws.{point_with_op, all_flags, worked, flags_written, and_true, and_moved, read_in_memory}
 use Rattle.dcc_agree.proofs.StoredLaws.{all_lasting, storing_agrees}
@@ -68,6 +72,9 @@ plain_dec = record { writes = λ a q h. refl; makes = λ a q h. refl; makes_flag
 
 pub plain_neg : IsPlainUnary Neg
 plain_neg = record { writes = λ a q h. refl; makes = λ a q h. refl; makes_flag = λ a f. refl; reads = λ a l. refl; back = refl; stores = refl; no_division = refl }
+
+plain_not : IsPlainUnary Not
+plain_not = record { writes = λ a q h. refl; makes = λ a q h. refl; makes_flag = λ a f. refl; reads = λ a l. refl; back = refl; stores = refl; no_division = refl }
 
 -- What the result and the flags are made of.
 
@@ -104,6 +111,19 @@ dec_works word_width = works_by Dec word_width (taking_one word_width) (worked w
 neg_works : (w : Width) → Works Neg w (subtracting w)
 neg_works byte_width = works_by Neg byte_width (subtracting byte_width) (worked byte_width (subtracting byte_width) both_inputs (unary_flags Neg) refl (λ r h. refl) (λ n h. refl) (λ r h. refl) (λ n h. refl)) refl
 neg_works word_width = works_by Neg word_width (subtracting word_width) (worked word_width (subtracting word_width) both_inputs (unary_flags Neg) refl (λ r h. refl) (λ n h. refl) (λ r h. refl) (λ n h. refl)) refl
+
+-- of one operand and of what reads nothing a sum is made of the same as the operand's complement, or as it itself
+pub one_works : (w : Width) → Works Not w (result_taking w (sum w))
+one_works byte_width = works_by Not byte_width (result_taking byte_width (sum byte_width)) (worked byte_width (result_taking byte_width (sum byte_width)) both_inputs (unary_flags Not) refl (λ r h. refl) (λ n h. refl) (λ r h. refl) (λ n h. refl)) refl
+one_works word_width = works_by Not word_width (result_taking word_width (sum word_width)) (worked word_width (result_taking word_width (sum word_width)) both_inputs (unary_flags Not) refl (λ r h. refl) (λ n h. refl) (λ r h. refl) (λ n h. refl)) refl
+
+pub sum_makes : (w : Width) → sources (result_taking w (sum w)) (result_place w) ≡ left_place w ∷ right_place w ∷ []
+sum_makes byte_width = refl
+sum_makes word_width = refl
+
+complement_makes : (w : Width) → sources (complementing w) (result_place w) ≡ left_place w ∷ []
+complement_makes byte_width = refl
+complement_makes word_width = refl
 
 -- a byte of an operand that is written
 pub one_written : (body : Body) (a : Operand) (k : ℤ) → (is_memory a && frame_read body a k) ≡ frame_read body a k
@@ -240,3 +260,12 @@ module _ (coarse : Procedures ℕ Place ℤ) (fine : Procedures Position Loc Loc
 
   pub neg_agrees : IsValueOperation coarse fine r entry at o bodies body (unary_point coarse fine r entry at pushed o bodies body node height Neg a) → Agrees coarse fine r entry at pushed (unary_stmts Neg (operand_width a) P) []
   neg_agrees v = negated_agrees coarse fine r entry at pushed o bodies body node height Neg a v P x next plain_neg (subtracting (operand_width a)) (neg_works (operand_width a))
+
+  pub not_agrees : IsValueOperation coarse fine r entry at o bodies body (unary_point coarse fine r entry at pushed o bodies body node height Not a) → Agrees coarse fine r entry at pushed (unary_stmts Not (operand_width a) P) []
+  not_agrees v =
+      let w = operand_width a in
+      prepared_agrees w P x.kept x.reads_kept (taking (left_place w) P ∷ taking (right_place w) (constant w 1) ∷ result_taking w (sum w)) (taking (left_place w) P ∷ complementing w)
+      (two_prepare w P (constant w 1) refl (sum w) (sum_makes w)) (left_prepares w P (UnaryExpr NotOp (bits_of w) (left w)) (complement_makes w))
+      coarse fine r entry at pushed (λ L l s. same_lasts o L l (v.same L l s)) (λ k l s. word_lasts o k l (v.same_word k l s))
+      (callee_there coarse fine r entry at o bodies body (unary_point coarse fine r entry at pushed o bodies body node height Not a) v)
+      (stepped_agrees coarse fine r entry at pushed o bodies body node height Not a v P x next plain_not (result_taking w (sum w)) (one_works w))

@@ -1,5 +1,5 @@
 -- Operations that make values: they write locations by values of their own, and save and call nothing.
-use Rattle.std.proofs.Common.{◌≡◌, ℕ, ℤ, Bool, true, false, ◌||◌, if◌then◌else◌, ◌⊎◌, inl, List, [], ◌∷◌, ◌++◌, None, refl, sym, ap, ◌∙◌, subst, true≢false}
+use Rattle.std.proofs.Common.{◌≡◌, ℕ, ℤ, Bool, true, false, not, ◌&&◌, ◌||◌, if◌then◌else◌, ◌⊎◌, inl, List, [], ◌∷◌, ◌++◌, None, refl, sym, ap, ◌∙◌, subst, true≢false}
 use Rattle.std.specs.List.{list_all}
 use Rattle.std.proofs.lemmas.List.Elements.{Contains-append_left, Contains-append_cases}
 use Rattle.dcc_num.specs.declared.Half.{Half as HalfName}
@@ -7,11 +7,11 @@ use Rattle.dcc_ir.specs.declared.syntax.Loc.{Loc}
 use Rattle.dcc_ir.specs.declared.syntax.Loc.TheVariants.{Half, Flag, Cell, Temp}
 use Rattle.dcc_ir.specs.Tree.{Get, Stmt, Set, Call}
 use Rattle.dcc_ir.specs.Live.{is_among}
-use Rattle.dcc_lift.proofs.ListTests.{and_left, and_right}
-use Rattle.dcc_demand.specs.Procedures.{Effect, Leaves, Makes, LeavesWord, Overwrites, Pops, Pushes, Action, Procedure, Procedures, is_left}
+use Rattle.dcc_lift.proofs.ListTests.{and_left, and_right, and_both, not_true}
+use Rattle.dcc_demand.specs.Procedures.{Effect, Leaves, Copies, Makes, LeavesWord, Overwrites, Pops, Pushes, Action, Procedure, Procedures, is_left}
 use Rattle.dcc_asks.specs.Places.{Place}
 use Rattle.dcc_sums.specs.Points.{Position}
-use Rattle.dcc_sums.specs.Instance.{written_by, effect_of, word_effect_of, action_of}
+use Rattle.dcc_sums.specs.Instance.{written_by, is_half, is_pushed, effect_of, word_effect_of, action_of}
 use Rattle.dcc_match.specs.Steps.{later_effect, later_word_effect, LosesAtOnce, Spoils}
 use Rattle.dcc_match.specs.Refinement.{Refinement, EffectsAgree, WordEffectsAgree, Carries, Takes}
 use Rattle.dcc_sources.specs.Sources.{sources, used, effect_after, word_effect_after}
@@ -32,24 +32,42 @@ abbrev pub is_written : List Stmt → Loc → Bool
 is_written [] location = false
 is_written (stmt ∷ stmts) location = is_written stmts location || is_among (written_by stmt) location
 
+-- it pops a half from a pushed word
+abbrev pub is_pop : ℕ → Stmt → Bool
+is_pop pushed (Set to (Get from)) = is_half to && is_pushed pushed from
+is_pop pushed stmt = false
+
+pub value_kept : (pushed : ℕ) (s : Stmt) → is_value s ≡ true → is_pop pushed s ≡ false
+value_kept pushed (Set (Half r h) (Get (Cell n k))) v = absurd (true≢false (sym v))
+value_kept pushed (Set (Half r h) (Get (Half q k))) v = refl
+value_kept pushed (Set (Half r h) (Get (Flag f))) v = refl
+value_kept pushed (Set (Half r h) (Get (Temp n))) v = refl
+value_kept pushed (Set (Cell m h) (Get from)) v = refl
+value_kept pushed (Set (Flag f) (Get from)) v = refl
+value_kept pushed (Set (Temp n) (Get from)) v = refl
+value_kept pushed s v = refl
+
+-- none of them pops
+abbrev pub none_pops : ℕ → List Stmt → Bool
+none_pops pushed ss = list_all (λ s. not (is_pop pushed s)) ss
+
+values_kept : (pushed : ℕ) (ss : List Stmt) → list_all is_value ss ≡ true → none_pops pushed ss ≡ true
+values_kept pushed [] v = refl
+values_kept pushed (s ∷ ss) v =
+    and_both (not (is_pop pushed s)) (none_pops pushed ss) (ap not (value_kept pushed s (and_left (is_value s) (list_all is_value ss) v)))
+    (values_kept pushed ss (and_right (is_value s) (list_all is_value ss) v))
+
 module _ (g : Procedure Position Loc Loc) (pushed : ℕ) where
-  loses : (s : Stmt) → is_value s ≡ true → LosesAtOnce g (effect_of pushed s)
-  loses (Set (Temp n) (Get from)) v = LosesAtOnce.copied
-  loses (Set (Flag f) (Get from)) v = LosesAtOnce.copied
-  loses (Set (Half r h) (Get (Temp n))) v = LosesAtOnce.copied
-  loses (Set (Half r h) (Get (Flag f))) v = LosesAtOnce.copied
-  loses (Set (Cell m h) (Get (Temp n))) v = LosesAtOnce.copied
-  loses (Set (Cell m h) (Get (Flag f))) v = LosesAtOnce.copied
-  loses (Set location (Get (Half r h))) v = absurd (true≢false (sym v))
-  loses (Set location (Get (Cell n h))) v = absurd (true≢false (sym v))
-  loses s v = LosesAtOnce.made
+  loses : (s : Stmt) → is_pop pushed s ≡ false → LosesAtOnce g (effect_of pushed s)
+  loses (Set to (Get from)) e = subst (λ b. LosesAtOnce g (if b then Pops from else Copies from)) (sym e) LosesAtOnce.copied
+  loses s e = LosesAtOnce.made
 
   loses_later : {x : Effect Loc Loc} (y : Effect Loc Loc) → LosesAtOnce g x → LosesAtOnce g (later_effect x y)
   loses_later y LosesAtOnce.made = LosesAtOnce.made
   loses_later y LosesAtOnce.copied = LosesAtOnce.copied
   loses_later y (LosesAtOnce.popped_open o) = LosesAtOnce.popped_open o
 
-  effect_left : (ss : List Stmt) (l : Loc) → is_written ss l ≡ false → effect_after pushed ss l ≡ Leaves
+  pub effect_left : (ss : List Stmt) (l : Loc) → is_written ss l ≡ false → effect_after pushed ss l ≡ Leaves
   effect_left [] l w = refl
   effect_left (s ∷ ss) l w = by (is_written ss l) refl w (λ f. effect_left ss l f)
     where
@@ -59,9 +77,9 @@ module _ (g : Procedure Position Loc Loc) (pushed : ℕ) where
       by false e w rest =
           ap (λ x. later_effect x ((action_of pushed s).effect l)) (rest e) ∙ ap (λ b. if b then effect_of pushed s else Leaves) w
 
-  effect_lost : (ss : List Stmt) (l : Loc) → list_all is_value ss ≡ true → is_written ss l ≡ true → LosesAtOnce g (effect_after pushed ss l)
+  pub effect_lost : (ss : List Stmt) (l : Loc) → none_pops pushed ss ≡ true → is_written ss l ≡ true → LosesAtOnce g (effect_after pushed ss l)
   effect_lost [] l v w = absurd (true≢false (sym w))
-  effect_lost (s ∷ ss) l v w = by (is_written ss l) refl w (λ f. effect_lost ss l (and_right (is_value s) (list_all is_value ss) v) f)
+  effect_lost (s ∷ ss) l v w = by (is_written ss l) refl w (λ f. effect_lost ss l (and_right (not (is_pop pushed s)) (none_pops pushed ss) v) f)
     where
       by : (b : Bool) → is_written ss l ≡ b → (b || is_among (written_by s) l) ≡ true → (is_written ss l ≡ true → LosesAtOnce g (effect_after pushed ss l))
           → LosesAtOnce g (effect_after pushed (s ∷ ss) l)
@@ -69,7 +87,7 @@ module _ (g : Procedure Position Loc Loc) (pushed : ℕ) where
       by false e w rest =
           subst (λ x. LosesAtOnce g x)
           (sym (ap (λ x. later_effect x ((action_of pushed s).effect l)) (effect_left ss l e) ∙ ap (λ b. if b then effect_of pushed s else Leaves) w))
-          (loses s (and_left (is_value s) (list_all is_value ss) v))
+          (loses s (not_true (is_pop pushed s) (and_left (not (is_pop pushed s)) (none_pops pushed ss) v)))
 
   -- Words.
 
@@ -83,7 +101,7 @@ module _ (g : Procedure Position Loc Loc) (pushed : ℕ) where
   overwrites (Set (Cell m k) (Get (Cell j i))) n h v w = absurd (true≢false (sym v))
   overwrites s n h v w = refl
 
-  word_left : (ss : List Stmt) (l : Loc) → is_written ss l ≡ false → word_effect_after pushed ss l ≡ LeavesWord
+  pub word_left : (ss : List Stmt) (l : Loc) → is_written ss l ≡ false → word_effect_after pushed ss l ≡ LeavesWord
   word_left [] l w = refl
   word_left (s ∷ ss) l w = by (is_written ss l) refl w (λ f. word_left ss l f)
     where
@@ -93,7 +111,7 @@ module _ (g : Procedure Position Loc Loc) (pushed : ℕ) where
       by false e w rest =
           ap (λ x. later_word_effect x ((action_of pushed s).word_effect l)) (rest e) ∙ ap (λ b. if b then word_effect_of s else LeavesWord) w
 
-  word_spoiled : (ss : List Stmt) (n : ℕ) (h : HalfName) → list_all is_value ss ≡ true → is_written ss (Cell n h) ≡ true → word_effect_after pushed ss (Cell n h) ≡ Overwrites
+  pub word_spoiled : (ss : List Stmt) (n : ℕ) (h : HalfName) → list_all is_value ss ≡ true → is_written ss (Cell n h) ≡ true → word_effect_after pushed ss (Cell n h) ≡ Overwrites
   word_spoiled [] n h v w = absurd (true≢false (sym w))
   word_spoiled (s ∷ ss) n h v w = by (is_written ss (Cell n h)) refl w (λ f. word_spoiled ss n h (and_right (is_value s) (list_all is_value ss) v) f)
     where
@@ -109,9 +127,19 @@ quiet_one : (s : Stmt) → is_value s ≡ true → (action_of 0 s).callee ≡ No
 quiet_one (Call results entry arguments depth) v = absurd (true≢false (sym v))
 quiet_one s v = refl
 
-quiet : (ss : List Stmt) → list_all is_value ss ≡ true → Quiet ss
+pub quiet : (ss : List Stmt) → list_all is_value ss ≡ true → Quiet ss
 quiet [] v = tt
 quiet (s ∷ ss) v = (quiet_one s (and_left (is_value s) (list_all is_value ss) v), quiet ss (and_right (is_value s) (list_all is_value ss) v))
+
+-- what makes or leaves pushes and pops nothing
+
+pub no_push : (b : Bool) (L : Place) → (if b then Overwrites else LeavesWord) ≡ Pushes L → ⊥
+no_push true L e = cc e
+no_push false L e = cc e
+
+pub no_pop : (b : Bool) (k : ℤ) (y : Effect Place ℤ) → y ≡ (if b then Makes else Leaves) → y ≡ Pops k → ⊥
+no_pop true k y e f = cc (e, f)
+no_pop false k y e f = cc (e, f)
 
 module _ (coarse : Procedures ℕ Place ℤ) (fine : Procedures Position Loc Loc) (r : Refinement ℕ Place ℤ Position Loc Loc) (entry at pushed : ℕ) (stmts : List Stmt) (after : List Loc) where
   abbrev x : Action Place ℤ
@@ -139,7 +167,7 @@ module _ (coarse : Procedures ℕ Place ℤ) (fine : Procedures Position Loc Loc
     effect_agrees : (b : Bool) (L : Place) (l : Loc) → v.written L ≡ b → is_written stmts l ≡ b → EffectsAgree coarse fine r entry (x.effect L) (effect_after pushed stmts l)
     effect_agrees true L l e f =
         EffectsAgree.both_lose (subst (λ y. LosesAtOnce (coarse.procedure entry) y) (sym (v.effect L ∙ ap (λ b. if b then Makes else Leaves) e)) LosesAtOnce.made)
-        (effect_lost (fine.procedure entry) pushed stmts l v.values f)
+        (effect_lost (fine.procedure entry) pushed stmts l (values_kept pushed stmts v.values) f)
     effect_agrees false L l e f =
         subst (λ y. EffectsAgree coarse fine r entry y (effect_after pushed stmts l)) (sym (v.effect L ∙ ap (λ b. if b then Makes else Leaves) e))
         (subst (λ y. EffectsAgree coarse fine r entry Leaves y) (sym (effect_left (fine.procedure entry) pushed stmts l f)) EffectsAgree.both_leave)
@@ -153,14 +181,6 @@ module _ (coarse : Procedures ℕ Place ℤ) (fine : Procedures Position Loc Loc
     word_agrees false L l k n h e f =
         subst (λ y. WordEffectsAgree coarse fine r L l y (word_effect_after pushed stmts (Cell n h))) (sym (v.word_effect k ∙ ap (λ b. if b then Overwrites else LeavesWord) e))
         (subst (λ y. WordEffectsAgree coarse fine r L l LeavesWord y) (sym (word_left (fine.procedure entry) pushed stmts (Cell n h) f)) WordEffectsAgree.both_leave)
-
-    no_push : (b : Bool) (L : Place) → (if b then Overwrites else LeavesWord) ≡ Pushes L → ⊥
-    no_push true L e = cc e
-    no_push false L e = cc e
-
-    no_pop : (b : Bool) (k : ℤ) (y : Effect Place ℤ) → y ≡ (if b then Makes else Leaves) → y ≡ Pops k → ⊥
-    no_pop true k y e f = cc (e, f)
-    no_pop false k y e f = cc (e, f)
 
     pub value_agrees : Agrees coarse fine r entry at pushed stmts after
     value_agrees = record {

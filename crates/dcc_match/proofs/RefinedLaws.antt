@@ -8,7 +8,7 @@ use Rattle.dcc_demand.specs.Wanted.{WantedFamily, IsWantedBy, Wanted, IsParam, I
 use Rattle.dcc_demand.proofs.WantedLaws.{wanted-least}
 use Rattle.dcc_match.specs.Steps.{CallNothing, Walks, Flows, Uses, Passes, PassBy}
 use Rattle.dcc_match.specs.Refinement.{Refinement, Carries, Takes, CallsFirst, IsSettled, IsApart, IsRefined}
-use Rattle.dcc_match.specs.Laws.{HaveSameRelations}
+use Rattle.dcc_match.specs.Laws.{IsAwaited, HaveSameRelations}
 use Rattle.dcc_match.proofs.TrailLaws.{only, walks_nowhere, changes_up, changes_down}
 use Rattle.dcc_match.proofs.WantedLaws as wants
 use Rattle.dcc_match.proofs.WantedLaws.{itself, changes_pass, call_passes, Line, RestCallsNothing, FirstLeaves}
@@ -197,17 +197,15 @@ module _ {Point Location Word FinePoint FineLocation FineWord : Type 0} (coarse 
   abbrev Stands : ℕ → Point → FineLocation → Type 0
   Stands i a m = (l : Location) × r.same i l m × Wanted coarse i a l
 
-  -- the last steps of a point use the location, or carry it to where it stands for what is wanted
-  data Ends (i : ℕ) (a : Point) (steps : List FinePoint) (m : FineLocation) : Type 0 where
-    used : Uses (fine.procedure i) steps m → Ends i a steps m
-    carried : {n : FineLocation} {b : Point} → Flows (fine.procedure i) steps m n → Contains ((coarse.procedure i).next a) b → Stands i b n → Ends i a steps m
+  abbrev Awaited : ℕ → Point → List FinePoint → FineLocation → Type 0
+  Awaited = IsAwaited coarse fine r
 
   -- before a step that has these before it in its point
   abbrev StandsAfter : List FinePoint → ℕ → Point → List FinePoint → FineLocation → Type 0
   StandsAfter [] i a steps m = Stands i a m
-  StandsAfter (x ∷ before) i a steps m = Ends i a steps m
+  StandsAfter (x ∷ before) i a steps m = Awaited i a steps m
 
-  after_one : (before : List FinePoint) (step : FinePoint) {i : ℕ} {a : Point} {steps : List FinePoint} {m : FineLocation} → StandsAfter (before ++ (step ∷ [])) i a steps m → Ends i a steps m
+  after_one : (before : List FinePoint) (step : FinePoint) {i : ℕ} {a : Point} {steps : List FinePoint} {m : FineLocation} → StandsAfter (before ++ (step ∷ [])) i a steps m → Awaited i a steps m
   after_one [] step w = w
   after_one (x ∷ before) step w = w
 
@@ -244,19 +242,20 @@ module _ {Point Location Word FinePoint FineLocation FineWord : Type 0} (coarse 
 
   -- after a step
   ends_by : (i : ℕ) (a : Point) (before : List FinePoint) (step : FinePoint) (after : List FinePoint) → r.steps i a ≡ before ++ (step ∷ after) → (to : FinePoint) (m : FineLocation)
-      → Contains ((fine.procedure i).next step) to → Family i to m → Ends i a after m
+      → Contains ((fine.procedure i).next step) to → Family i to m → Awaited i a after m
   ends_by i a before step [] e to m c w =
       let come = (refined.edges i a).comes before step to e c in
-      Ends.carried Flows.stays come.1 (begins_stand i (refined.settled i a come.0 come.1) m (subst (λ x. Family i x m) come.2 w))
+      let s = begins_stand i (refined.settled i a come.0 come.1) m (subst (λ x. Family i x m) come.2 w) in
+      IsAwaited.carried Flows.stays come.1 s.1 s.2
   ends_by i a before step (next ∷ after) e to m c w =
       let one : next ≡ to = only (subst (λ x. Contains x to) ((refined.edges i a).within before after step next e).0 c) in
       after_one before step (subst (λ x. Family i x m) (sym one) w a (before ++ (step ∷ [])) after (e ∙ sym (append_assoc before (step ∷ []) (next ∷ after))))
 
   -- before the steps of a point, by what is so before these
   stand_by : (i : ℕ) (a : Point) (before steps : List FinePoint) (m : FineLocation) → r.steps i a ≡ before ++ steps
-      → (before ≡ [] → (l : Location) → r.same i l m → ¬ CallChanges (Changes coarse) ((coarse.procedure i).action a).callee l) → Ends i a steps m → StandsAfter before i a steps m
-  stand_by i a [] steps m e leaves (Ends.used u) = use_stands i a m (subst (λ s. Uses (fine.procedure i) s m) (sym e) u)
-  stand_by i a [] steps m e leaves (Ends.carried {n = n} {b = b} f c w) = flow_stands i a m n b (leaves refl) (subst (λ s. Flows (fine.procedure i) s m n) (sym e) f) c w
+      → (before ≡ [] → (l : Location) → r.same i l m → ¬ CallChanges (Changes coarse) ((coarse.procedure i).action a).callee l) → Awaited i a steps m → StandsAfter before i a steps m
+  stand_by i a [] steps m e leaves (IsAwaited.used u) = use_stands i a m (subst (λ s. Uses (fine.procedure i) s m) (sym e) u)
+  stand_by i a [] steps m e leaves (IsAwaited.carried {fine_after = n} {after = l} {b = b} f c same w) = flow_stands i a m n b (leaves refl) (subst (λ s. Flows (fine.procedure i) s m n) (sym e) f) c (l, same, w)
   stand_by i a (x ∷ before) steps m e leaves w = w
 
   -- a call of a fine point, by the coarse one
@@ -273,20 +272,20 @@ module _ {Point Location Word FinePoint FineLocation FineWord : Type 0} (coarse 
       let there = refined.called caller callee call e in
       by there.0 there.1 there.2 (first_of caller there.0 call there.1 there.2) (ends_by caller there.0 [] call there.1 there.2 after m c w)
     where
-      by : (a : Point) (others : List FinePoint) → r.steps caller a ≡ call ∷ others → First caller a call others → Ends caller a others m → CallDown callee caller m
+      by : (a : Point) (others : List FinePoint) → r.steps caller a ≡ call ∷ others → First caller a call others → Awaited caller a others m → CallDown callee caller m
       by a others at f ends = elim f.passed [
         | inl none ↦ absurd (cc (e, f.callee, none))
         | inr calls ↦ with_others ends (calls.3 m passes).1
       ]
         where
-          with_others : Ends caller a others m → PassBy (fine.procedure caller) m others → CallDown callee caller m
-          with_others (Ends.used u) q = absurd (wants.unused (fine.procedure caller) q u)
-          with_others (Ends.carried {n = n} {b = b} flow c w) q = record {
+          with_others : Awaited caller a others m → PassBy (fine.procedure caller) m others → CallDown callee caller m
+          with_others (IsAwaited.used u) q = absurd (wants.unused (fine.procedure caller) q u)
+          with_others (IsAwaited.carried {fine_after = n} {after = l} {b = b} flow c same w) q = record {
             call = a;
             after = b;
             calls = sym f.callee ∙ e;
             goes = c;
-            stands = (w.0, subst (λ x. r.same caller w.0 x) (sym (wants.flows_still (fine.procedure caller) q flow)) w.1, w.2);
+            stands = (l, subst (λ x. r.same caller l x) (sym (wants.flows_still (fine.procedure caller) q flow)) same, w);
           }
 
   made_free_down : (i : ℕ) (a : Point) (first : FinePoint) (others : List FinePoint) → r.steps i a ≡ first ∷ others → (m to : FineLocation) → ((fine.procedure i).action first).made_of to m ≡ true
@@ -306,9 +305,9 @@ module _ {Point Location Word FinePoint FineLocation FineWord : Type 0} (coarse 
       leaves : before ≡ [] → (l : Location) → r.same i l m → ¬ CallChanges (Changes coarse) ((coarse.procedure i).action a).callee l
       leaves none = made_free_down i a step after (at ∙ ap (λ x. x ++ (step ∷ after)) none) m to e
 
-      by : Ends i a after to → Ends i a (step ∷ after) m
-      by (Ends.used u) = Ends.used (Uses.made h e u)
-      by (Ends.carried f c w) = Ends.carried (Flows.made h e f) c w
+      by : Awaited i a after to → Awaited i a (step ∷ after) m
+      by (IsAwaited.used u) = IsAwaited.used (Uses.made h e u)
+      by (IsAwaited.carried f c same w) = IsAwaited.carried (Flows.made h e f) c same w
 
   unwritten_down : (i : ℕ) (step b : FinePoint) (m : FineLocation) → Contains ((fine.procedure i).next step) b → ((fine.procedure i).action step).surely m ≡ false
       → ¬ CallChanges (Changes fine) ((fine.procedure i).action step).callee m → Family i b m → Family i step m
@@ -319,9 +318,9 @@ module _ {Point Location Word FinePoint FineLocation FineWord : Type 0} (coarse 
           let f = first_of i a step after (at ∙ ap (λ x. x ++ (step ∷ after)) none) in
           n (subst (λ x. CallChanges (Changes fine) x m) (sym f.callee) (call_up i l m same ((coarse.procedure i).action a).callee changes))
 
-      by : Ends i a after m → Ends i a (step ∷ after) m
-      by (Ends.used u) = Ends.used (Uses.kept e u)
-      by (Ends.carried f c w) = Ends.carried (Flows.kept e f) c w
+      by : Awaited i a after m → Awaited i a (step ∷ after) m
+      by (IsAwaited.used u) = IsAwaited.used (Uses.kept e u)
+      by (IsAwaited.carried f c same w) = IsAwaited.carried (Flows.kept e f) c same w
 
   taken_down : (i callee : ℕ) (step : FinePoint) (m : FineLocation) → ((fine.procedure i).action step).callee ≡ Some callee → fine.passes m ≡ true → Family callee (fine.procedure callee).entry m → Family i step m
   taken_down i callee step m e passes w a (x ∷ before) after at = absurd (cc (e, later_calls_nothing i a x before step after at))
@@ -356,7 +355,7 @@ module _ {Point Location Word FinePoint FineLocation FineWord : Type 0} (coarse 
 
   used_down : (i : ℕ) (step : FinePoint) (m : FineLocation) → ((fine.procedure i).action step).uses m ≡ true → Family i step m
   used_down i step m u a [] after at = use_stands i a m (subst (λ s. Uses (fine.procedure i) s m) (sym at) (Uses.here u))
-  used_down i step m u a (x ∷ before) after at = Ends.used (Uses.here u)
+  used_down i step m u a (x ∷ before) after at = IsAwaited.used (Uses.here u)
 
   down_closed : IsClosedUnderDemand fine (Changes fine) Family
   down_closed = record {
@@ -375,6 +374,42 @@ module _ {Point Location Word FinePoint FineLocation FineWord : Type 0} (coarse 
   wanted_down i a l m same settled w =
       let s = begins_stand i settled m (family_holds w) in
       subst (λ x. Wanted coarse i a x) (refined.one i s.0 l m s.1 same) s.2
+
+  -- Between the steps of a point.
+
+  -- the steps that are left lead to where the next point begins
+  tail_walk : (i : ℕ) (before steps : List FinePoint) (x y : FinePoint) → Walks (fine.procedure i) x (before ++ steps) y → (z : FinePoint) × Walks (fine.procedure i) z steps y
+  tail_walk i [] steps x y walk = (x, walk)
+  tail_walk i (s ∷ before) steps x y walk =
+      let next = wants.walks_first (fine.procedure i) walk refl in
+      tail_walk i before steps next.0 y next.2
+
+  walk_head : (i : ℕ) {x y step : FinePoint} {steps : List FinePoint} → Walks (fine.procedure i) x (step ∷ steps) y → x ≡ step
+  walk_head i walk = by walk refl
+    where
+      by : {x y step : FinePoint} {steps all : List FinePoint} → Walks (fine.procedure i) x all y → all ≡ step ∷ steps → x ≡ step
+      by Walks.stands e = absurd (cc e)
+      by (Walks.goes next walk) e = cc e
+
+  rest_calls_nothing : (before : List FinePoint) (steps : List FinePoint) (i : ℕ) → CallNothing (fine.procedure i) (before ++ steps) → CallNothing (fine.procedure i) steps
+  rest_calls_nothing [] steps i quiet = quiet
+  rest_calls_nothing (s ∷ before) steps i quiet = rest_calls_nothing before steps i quiet.1
+
+  module _ (i : ℕ) (a : Point) (first step : FinePoint) (before steps : List FinePoint) (at : r.steps i a ≡ first ∷ (before ++ (step ∷ steps))) where
+    quiet_left : CallNothing (fine.procedure i) (step ∷ steps)
+    quiet_left = rest_calls_nothing before (step ∷ steps) i (first_of i a first (before ++ (step ∷ steps)) at).then
+
+    awaited_wanted : (m : FineLocation) → Awaited i a (step ∷ steps) m → Wanted fine i step m
+    awaited_wanted m (IsAwaited.used u) =
+        wants.by_use_first fine i (line_of i a (first ∷ before) step steps at) quiet_left.1 (λ c. absurd (wants.free fine m quiet_left.0 c)) u
+    awaited_wanted m (IsAwaited.carried {fine_after = n} {after = l} {b = b} f c same w) =
+        let all = subst (λ s. Walks (fine.procedure i) (r.begin i a) s (r.begin i b)) at ((refined.edges i a).goes b c) in
+        let left = tail_walk i (first ∷ before) (step ∷ steps) (r.begin i a) (r.begin i b) all in
+        subst (λ x. Wanted fine i x m) (walk_head i left.1)
+        (wants.through_first fine i left.1 quiet_left.1 (λ c. wants.free fine m quiet_left.0 c) f (wanted_up w n same))
+
+    wanted_awaited : (m : FineLocation) → Wanted fine i step m → Awaited i a (step ∷ steps) m
+    wanted_awaited m w = family_holds w a (first ∷ before) steps at
 
   -- What is taken and given back.
 
@@ -417,6 +452,7 @@ module _ {Point Location Word FinePoint FineLocation FineWord : Type 0} (coarse 
       (λ q. (passes_back i l m same q.0, λ c. q.1 (changes_up coarse fine r refined i l m same c))),
     );
     wanted = λ i a l m same settled. ((λ w. wanted_up w m same), wanted_down i a l m same settled);
+    between = λ i a first step before steps m at. (wanted_awaited i a first step before steps at m, awaited_wanted i a first step before steps at m);
     params = params_agree;
     results = λ i l m same. (result_up i l m same, result_down i l m same);
   }

@@ -124,7 +124,7 @@ module _ (image : Image) (program : Analysed) (p : Program) (is : IsTranslated i
         let node = node_in_some (nodes_in scene) b (successor_is_node (nodes_in scene) (entry_in scene) image.ip sound at b (any_contained (successors_in (node_in (nodes_in scene) at)) b there)) in
         settled_node b node.0 node.1
 
-    begins_linked : x.first ≡ 0 → r.begin entry (coarse.procedure entry).entry ≡ (fine.procedure entry).entry
+    pub begins_linked : x.first ≡ 0 → r.begin entry (coarse.procedure entry).entry ≡ (fine.procedure entry).entry
     begins_linked e =
         ap (r.begin entry) (ap (λ g. g.entry) coarse_is)
         ∙ ap (λ o. begin_in o x.proc.entry) x.scene_found ∙ has.entry e ∙ sym (ap (λ g. g.entry) fine_is)
@@ -161,7 +161,7 @@ module _ (image : Image) (program : Analysed) (p : Program) (is : IsTranslated i
     pub steps_none : (at : ℕ) → r.steps entry at ≡ begin_of 0 ∷ []
     steps_none at = ap (λ o. steps_in o at) x.scene_none
 
-    begin_none : (at : ℕ) → r.begin entry at ≡ begin_of 0
+    pub begin_none : (at : ℕ) → r.begin entry at ≡ begin_of 0
     begin_none at = ap (λ o. begin_in o at) x.scene_none
 
     one_step : (before : List Position) (step : Position) (a : Position) → a ∷ [] ≡ before ++ (step ∷ []) → a ≡ step

@@ -1,0 +1,6 @@
+mod LocationLaws
+mod SummaryLaws
+mod BackLaws
+mod CallLaws
+mod ReusedLaws
+mod KindLaws
