@@ -2,4 +2,5 @@ pub mod RowLaws
 pub mod WantedLaws
 pub mod WorkLaws
 pub mod LiveLaws
+pub mod StartLaws
 pub mod DeadLaws

@@ -137,10 +137,10 @@ tells_all places has i bits all h k x at = h.below k x (omega (arith, all, slice
 
 -- Reads before writes.
 
-among_append : (xs ys : List Loc) (l : Loc) → is_among (xs ++ ys) l ≡ (is_among xs l || is_among ys l)
+pub among_append : (xs ys : List Loc) (l : Loc) → is_among (xs ++ ys) l ≡ (is_among xs l || is_among ys l)
 among_append xs ys l = list_any-append (same_location l) xs ys
 
-among_others : (written : Loc → Bool) (xs : List Loc) (l : Loc) → is_among (others written xs) l ≡ (not (written l) && is_among xs l)
+pub among_others : (written : Loc → Bool) (xs : List Loc) (l : Loc) → is_among (others written xs) l ≡ (not (written l) && is_among xs l)
 among_others written [] l = go (not (written l))
   where
     go : (b : Bool) → false ≡ (b && false)

@@ -56,12 +56,12 @@ uses_plain (Dos number place argument) l c = refl
 -- Sets.
 
 -- an element that passes a test, and one that is wanted
-pub any_passes : (p : Loc → Bool) (xs : List Loc) (l : Loc) → Contains xs l → p l ≡ true → list_any p xs ≡ true
+pub any_passes : {A : Type 0} (p : A → Bool) (xs : List A) (l : A) → Contains xs l → p l ≡ true → list_any p xs ≡ true
 any_passes p [] l c t = absurd (Contains-none l c)
 any_passes p (x ∷ xs) l c t = Contains-cases x xs l (list_any p (x ∷ xs) ≡ true)
     (λ e. or_left (p x) (list_any p xs) (ap p e ∙ t)) (λ d. or_right (p x) (list_any p xs) (any_passes p xs l d t)) c
 
-pub some_passes : (p : Loc → Bool) (xs : List Loc) → list_any p xs ≡ true → (l : Loc) × Contains xs l × (p l ≡ true)
+pub some_passes : {A : Type 0} (p : A → Bool) (xs : List A) → list_any p xs ≡ true → (l : A) × Contains xs l × (p l ≡ true)
 some_passes p [] e = absurd (true≢false (sym e))
 some_passes p (x ∷ xs) e = elim (or_cases (p x) (list_any p xs) e) [
   | inl t ↦ (x, Contains-here x xs, t)

@@ -1,3 +1,4 @@
 pub mod First
+pub mod Start
 pub mod Wanted
 pub mod Dead

@@ -6,10 +6,13 @@
 #![tactic(auto)]
 
 mod dead;
+pub mod laws;
 mod living;
 mod places;
 mod rows;
+mod start;
 mod wanted;
 
 pub use dead::drop_dead;
 pub use living::live;
+pub use start::live_at_start;

@@ -43,6 +43,22 @@ impl Row {
         self.writes.extend_from_slice(access.writes.as_slice())?;
         written.add_all(access.writes.as_slice())
     }
+
+    /// What is live before the block, where this is live at its end: what the block reads first, and what it doesn't
+    /// write.
+    pub fn live_before(&self, alloc: Global, at_end: &[Loc]) -> Result<Vec<Loc>, AllocError>
+        ensures { IfOk result (λ live. live.items
+            ≡ self.now.first.items ++ others (with_all empty self.now.writes.items) at_end.now) }
+    {
+        let mut written = Marks::new(alloc);
+        written.add_all(self.writes.as_slice())?;
+        let mut row = Row {
+            first: self.first.clone()?,
+            writes: Vec::new(alloc),
+        };
+        row.read(&written, at_end)?;
+        Ok(row.first)
+    }
 }
 
 // What a block reads before it writes it, and what it writes. The set is empty, before and after.

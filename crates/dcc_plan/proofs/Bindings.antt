@@ -20,10 +20,11 @@ use Rattle.dcc_c.specs.Run.{storage_of, variable_binding, param_bindings, with_a
 use Rattle.dcc_c.specs.Token.{same_bytes}
 use Rattle.dcc_c.specs.Tree.{Word, Lines, Variable}
 use Rattle.dcc_c.specs.Types.{bits_of, plain, size_of}
-use Rattle.dcc_c.specs.Value.{Value, Unplaced, Binding, variable_in}
+use Rattle.dcc_c.specs.Value.{Value, Unplaced, PlacedAt, Binding, variable_in}
 use Rattle.dcc_text.specs.Spelled.{unsigned_type}
-use Rattle.dcc_variables.specs.Functions.{parameter_name, is_taken_whole, place_from, parameter_class, parameter, parameters_from}
+use Rattle.dcc_variables.specs.Functions.{parameter_name, is_taken_whole, place_from, parameter_class, parameter, parameters_from, memory_from}
 use Rattle.dcc_plan.specs.Calls.{places, all_places, locations_differ}
+use Rattle.dcc_variables.proofs.FramePlaces.{memory-is as memory-is-put}
 use Rattle.dcc_variables.proofs.ParamNames.{places-apart, whole-is}
 use Rattle.dcc_plan.proofs.Passings.{put_memory, memory_after, values_after, put_values, others-differ, whole-value, low-value, high-value, word-stored}
 
@@ -206,6 +207,28 @@ module _ (bits : List ℕ) (base : ℕ) where
         ap (λ c. if c then Some (bound_parameter bits base j p v) else variable_in rest (parameter_name j)) (same_bytes-refl (parameter_name j)),
         bound-after (bound_parameter bits base j p v) j refl rest (j + 1) params vs (omega arith) (omega (arith, few)) (all-bound (j + 1) params vs others (omega (arith, few))),
       )
+
+  -- an argument in memory is found where it stands
+  pub memory-bound : (variables : List Binding) (j : ℕ) (params : List Param) (vs : List Value) (ns : List ℕ) (k : ℕ) → AreArguments bits params vs ns
+      → AreBound bits base variables j params vs → memory_from j params ≡ Some k
+      → variable_in variables (parameter_name k) ≡ Some (record { name = parameter_name k; type = plain Uint; is_array = false; storage = PlacedAt ((base + 2 * k) % 65536) })
+  memory-bound variables j [] vs ns k are bound is = absurd cc
+  memory-bound variables j (p ∷ params) [] ns k are bound is = absurd are
+  memory-bound variables j (p ∷ params) (v ∷ vs) [] k are bound is = absurd are
+  memory-bound variables j (p ∷ params) (v ∷ vs) (n ∷ ns) k are bound is = elim (decided (p.stack && is_memory p.put)) [
+    | inl here ↦
+        (let same : j ≡ k = some-equal (sym (ap (λ b. if b then Some j else memory_from (j + 1) params) here) ∙ is) in
+        subst (λ m. variable_in variables (parameter_name m) ≡ Some (record { name = parameter_name m; type = plain Uint; is_array = false; storage = PlacedAt ((base + 2 * m) % 65536) })) same
+        (bound.0 ∙ ap (λ put. Some (record {
+          name = parameter_name j;
+          type = plain (unsigned_type (put_width bits put));
+          is_array = false;
+          storage = storage_of (place_at base j put) v.bits;
+        })) (memory-is-put p.put (and_parts p.stack (is_memory p.put) here).1)))
+    | inr later ↦
+        memory-bound variables (j + 1) params vs ns k are.1 bound.1
+        (sym (ap (λ b. if b then Some j else memory_from (j + 1) params) later) ∙ is)
+  ]
 
   -- another name is no parameter's
   pub no-parameter : (word : Word) (j : ℕ) (params : List Param) (vs : List Value) (others : List Binding)

@@ -1,5 +1,5 @@
 -- The frame of a call in the text: the parameters, then the variables of the graph.
-use Rattle.std.proofs.Common.{◌≡◌, ℕ, ◌+◌, ◌%◌, ◌^◌, ◌<◌, true, false, ◌==◌, List, [], ◌∷◌, ◌++◌, length, map, Option, Some, None, is_some, refl, sym, ap, ◌∙◌, subst, true≢false, arith, mod-lt}
+use Rattle.std.proofs.Common.{◌≡◌, ℕ, ◌+◌, ◌-◌, ◌*◌, ◌%◌, ◌^◌, ◌<◌, ◌≤◌, true, false, ◌==◌, List, [], ◌∷◌, ◌++◌, length, map, Option, Some, None, is_some, refl, sym, ap, ◌∙◌, subst, true≢false, arith, mod-lt}
 use Rattle.std.specs.Prelude.{not, filter, if◌then◌else◌}
 use Rattle.std.specs.List.{list_all}
 use Rattle.std.proofs.lemmas.Nat.{pow_pos}
@@ -10,12 +10,12 @@ use Rattle.dcc_ir.specs.Live.{is_among}
 use Rattle.dcc_ir.specs.Tree as inner
 use Rattle.dcc_ir.specs.Run as inner_run
 use Rattle.dcc_ir.specs.WellFormed.{is_width, is_param_list, memory_params_last, IsGraph}
-use Rattle.dcc_c.specs.declared.syntax.Base.TheVariants.{Uchar, Int}
+use Rattle.dcc_c.specs.declared.syntax.Base.TheVariants.{Uchar, Int, Uint}
 use Rattle.dcc_c.specs.Placement.{below, local_places, params_of_call}
 use Rattle.dcc_c.specs.Run as c
 use Rattle.dcc_c.specs.Tree.{Word, Function}
 use Rattle.dcc_c.specs.Types.{bits_of, plain, extended_bits, convert}
-use Rattle.dcc_c.specs.Value.{Value, Unplaced, Binding, variable_in}
+use Rattle.dcc_c.specs.Value.{Value, Unplaced, PlacedAt, Binding, variable_in}
 use Rattle.dcc_text.specs.Holding.{Locations, HoldsFrame}
 use Rattle.dcc_text.specs.Meaning.{IsVariable, IsHeld, IsPlaced}
 use Rattle.dcc_text.specs.Spelled.{unsigned_type}
@@ -23,14 +23,14 @@ use Rattle.dcc_text.specs.Spelling.{Placed, Spelling}
 use Rattle.dcc_text.proofs.Sizes.{bits, size-of}
 use Rattle.dcc_text.proofs.StmtSteps.{type-bits, taken-low}
 use Rattle.dcc_variables.specs.Laws.{AreFew}
-use Rattle.dcc_variables.specs.Variables.{locations, Shape, shape_of, variable_name, frame_name, variable, frame_array, frame_place, placed_at}
+use Rattle.dcc_variables.specs.Variables.{locations, Shape, shape_of, variable_name, frame_name, variable, frame_array, frame_place}
 use Rattle.dcc_variables.proofs.FirstStates.{type-for, wide-of, bound, array_bound, variable-found, array-after, array-found}
 use Rattle.dcc_variables.proofs.Lists.{filter-among, among-filter}
-use Rattle.dcc_variables.specs.Functions.{place_in, parameters, name_or, is_own, own_declarations, function_spelling, function_of}
+use Rattle.dcc_variables.specs.Functions.{parameter_name, place_in, parameters, memory_from, name_or, is_own, function_shape, own_declarations, argument_place, function_spelling, function_of}
 use Rattle.dcc_variables.specs.FunctionLaws.{has_name}
 use Rattle.dcc_plan.specs.Calls.{all_byte_places, all_places, locations_differ}
-use Rattle.dcc_plan.proofs.Bindings.{param_places_from, is_unplaced, places-are, AreArguments, AreBound, all-bound, no-parameter, IsParameter, parameter-is, AreWords, words-are}
-use Rattle.dcc_variables.proofs.ParamNames.{placed-is}
+use Rattle.dcc_plan.proofs.Bindings.{param_places_from, is_unplaced, places-are, AreArguments, AreBound, all-bound, no-parameter, memory-bound, IsParameter, parameter-is, AreWords, words-are}
+use Rattle.dcc_variables.proofs.FramePlaces.{IsToldBy, by_parameter, by_array, place-told}
 use Rattle.dcc_plan.proofs.Passings.{values_after, values-other, takes-none}
 
 -- the low bits of what a variable of a type for so many bits holds at first
@@ -44,6 +44,11 @@ low-filled fill width wide =
 -- where an address in the frame lies
 array-there : (base distance bytes : ℕ) → (below base (4 + bytes) + (distance + (4 + bytes)) % 65536) % 65536 ≡ (base + distance) % 65536
 array-there base distance bytes = omega arith
+
+-- where an argument lies, above the first in memory
+argument-there : (base distance k : ℕ) → 2 * k ≤ distance
+    → ((base + 2 * k) % 65536 + (distance - 2 * k)) % 65536 ≡ (base + distance) % 65536
+argument-there base distance k low = omega (arith, low)
 
 -- What a call of the function of a graph has.
 module _ (g : inner.Graph) (few : AreFew (shape_of g)) (few_params : length g.params < 2 ^ 32) (apart : locations_differ (all_places g.params) ≡ true) (formed : IsGraph g)
@@ -67,14 +72,18 @@ module _ (g : inner.Graph) (few : AreFew (shape_of g)) (few_params : length g.pa
   taken places = c.param_bindings (parameters g) places vs
 
   -- the variables that are no parameters
+  -- how many bytes the array has
+  abbrev bytes : ℕ
+  bytes = (function_shape g).frame
+
   abbrev own_bound : List Binding
-  own_bound = map (bound g few formed fill) own ++ array_bound g few formed fill base shape.frame
+  own_bound = map (bound g few formed fill) own ++ array_bound g few formed fill base bytes
 
   abbrev pub variables : List Binding
   variables = taken (param_places_from base 0 g.params) ++ own_bound
 
-  locals-are : (xs : List Loc) → c.local_bindings fill (map (variable shape) xs ++ frame_array shape.frame) (local_places base 4 (map (variable shape) xs ++ frame_array shape.frame))
-      ≡ map (bound g few formed fill) xs ++ array_bound g few formed fill base shape.frame
+  locals-are : (xs : List Loc) → c.local_bindings fill (map (variable shape) xs ++ frame_array bytes) (local_places base 4 (map (variable shape) xs ++ frame_array bytes))
+      ≡ map (bound g few formed fill) xs ++ array_bound g few formed fill base bytes
   locals-are [] = refl
   locals-are (x ∷ xs) = ap (λ bs. bound g few formed fill x ∷ bs) (locals-are xs)
 
@@ -150,24 +159,43 @@ module _ (g : inner.Graph) (few : AreFew (shape_of g)) (few_params : length g.pa
 
   -- Addresses.
 
-  placed-here : (distance : ℕ) → is_some (placed_at shape.frame distance) ≡ true → IsPlaced s base variables distance
-  placed-here distance some = by (placed_at shape.frame distance) refl some
+  memory-here : (k : ℕ) → memory_from 0 g.params ≡ Some k → variable_in variables (parameter_name k) ≡ Some (record {
+    name = parameter_name k;
+    type = plain Uint;
+    is_array = false;
+    storage = PlacedAt ((base + 2 * k) % 65536);
+  })
+  memory-here k memory = memory-bound g.bits base variables 0 g.params vs ns k are bound-all memory
+
+  by-place : (distance : ℕ) (q : Placed) → s.place distance ≡ Some q → IsToldBy (memory_from 0 g.params) bytes distance q → IsPlaced s base variables distance
+  by-place distance q given (by_parameter k memory low high same) = record {
+    placed = argument_place k distance;
+    given = given ∙ ap Some same;
+    type = Uint;
+    at = (base + 2 * k) % 65536;
+    found = memory-here k memory;
+    small = omega (arith, high);
+    there = argument-there base distance k low;
+  }
+  by-place distance q given (by_array some same) = record {
+    placed = frame_place bytes distance;
+    given = given ∙ ap Some same;
+    type = Uchar;
+    at = below base (4 + bytes);
+    found = no-parameter g.bits base _ 0 g.params vs own_bound
+        ∙ array-after g few formed fill own (array_bound g few formed fill base bytes) (λ x among. filter-among (is_own g) (locations g) x among)
+        ∙ ap (λ bs. variable_in bs frame_name) (sym (append-nil (array_bound g few formed fill base bytes)))
+        ∙ array-found g few formed fill base bytes [] some;
+    small = mod-lt (distance + (4 + bytes)) (omega arith);
+    there = array-there base distance bytes;
+  }
+
+  placed-here : (distance : ℕ) → is_some (s.place distance) ≡ true → IsPlaced s base variables distance
+  placed-here distance some = by (s.place distance) refl some
     where
-      by : (o : Option Placed) → placed_at shape.frame distance ≡ o → is_some o ≡ true → IsPlaced s base variables distance
+      by : (o : Option Placed) → s.place distance ≡ o → is_some o ≡ true → IsPlaced s base variables distance
       by None given some = absurd (true≢false (sym some))
-      by (Some q) given some =
-          let (same, there) = placed-is g few few_params shape.frame distance q given in record {
-            placed = frame_place shape.frame distance;
-            given = given ∙ ap Some same;
-            type = Uchar;
-            at = below base (4 + shape.frame);
-            found = no-parameter g.bits base _ 0 g.params vs own_bound
-                ∙ array-after g few formed fill own (array_bound g few formed fill base shape.frame) (λ x among. filter-among (is_own g) (locations g) x among)
-                ∙ ap (λ bs. variable_in bs frame_name) (sym (append-nil (array_bound g few formed fill base shape.frame)))
-                ∙ array-found g few formed fill base shape.frame [] there;
-            small = mod-lt (distance + (4 + shape.frame)) (omega arith);
-            there = array-there base distance shape.frame;
-          }
+      by (Some q) given some = by-place distance q given (place-told (memory_from 0 g.params) bytes distance q given)
 
   -- What the frame holds at first: all but the bytes of words.
 

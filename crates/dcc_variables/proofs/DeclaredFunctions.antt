@@ -1,16 +1,19 @@
 -- The declarations of a function's parameters and variables give what the spelling names.
-use Rattle.std.proofs.Common.{◌≡◌, ℕ, ◌+◌, ◌<◌, ◌^◌, Bool, true, false, inl, inr, List, [], ◌∷◌, ◌++◌, length, map, Option, Some, None, is_some, refl, sym, ap, ◌∙◌, subst, true≢false, arith}
-use Rattle.std.specs.Prelude.{not, filter, if◌then◌else◌}
+use Rattle.std.proofs.Common.{◌≡◌, ℕ, ◌+◌, ◌<◌, ◌^◌, Bool, true, false, inl, inr, List, [], ◌∷◌, ◌++◌, length, map, Option, Some, None, is_some, refl, sym, ap, ◌∙◌, subst, true≢false, arith, mod-lt}
+use Rattle.std.specs.Prelude.{◌==◌, ◌&&◌, not, filter, if◌then◌else◌}
 use Rattle.std.specs.Fmt.{decimal}
-use Rattle.std.proofs.lemmas.Bool.{and_from, and_parts, or_left, or_right, false_from_ne_true}
+use Rattle.std.proofs.lemmas.Bool.{and_from, and_parts, or_cases, or_left, or_right, false_from_ne_true}
 use Rattle.dcc_ir.specs.declared.syntax.Loc.{Loc}
+use Rattle.dcc_ir.specs.declared.syntax.Put.{Put}
 use Rattle.dcc_ir.specs.declared.syntax.Param.{Param}
 use Rattle.dcc_ir.specs.Live.{is_among}
 use Rattle.dcc_ir.specs.Location.{location_width, same_location}
 use Rattle.dcc_ir.specs.Tree.{Graph}
-use Rattle.dcc_ir.specs.WellFormed.{put_width, IsGraph}
-use Rattle.dcc_ir.proofs.LocationLaws.{location_itself}
+use Rattle.dcc_ir.specs.WellFormed.{is_memory, put_width, IsGraph}
+use Rattle.dcc_ir.proofs.LocationLaws.{location_same, location_itself}
 use Rattle.dcc_ir.proofs.PathLaws.{decided}
+use Rattle.dcc_c.specs.declared.syntax.Base.TheVariants.{Uchar, Uint}
+use Rattle.dcc_c.specs.declared.syntax.Class.TheVariants.{Auto}
 use Rattle.dcc_c.proofs.NameLaws.{same_bytes-refl}
 use Rattle.dcc_c.specs.Grammar.{is_name, keywords}
 use Rattle.dcc_c.specs.Grammar as words
@@ -28,8 +31,9 @@ use Rattle.dcc_variables.specs.Variables.{locations, Shape, shape_of, variable_n
 use Rattle.dcc_variables.proofs.Declared.{names-declared}
 use Rattle.dcc_variables.proofs.FirstStates.{type-for, wide-of}
 use Rattle.dcc_variables.proofs.Names.{names-same, frame-apart, numbered-name}
-use Rattle.dcc_variables.specs.Functions.{parameter_name, is_taken_whole, place_from, place_in, parameter, parameters_from, parameters, name_or, is_own, own_declarations, function_spelling}
-use Rattle.dcc_variables.proofs.ParamNames.{places-apart, whole-is, place-small, placed-is}
+use Rattle.dcc_variables.specs.Functions.{parameter_name, is_taken_whole, place_from, place_in, parameter, parameters_from, parameters, memory_from, name_or, is_own, function_shape, own_declarations, function_spelling}
+use Rattle.dcc_variables.proofs.FramePlaces.{IsToldBy, by_parameter, by_array, place-told, memory-within, memory-is}
+use Rattle.dcc_variables.proofs.ParamNames.{places-apart, whole-is, place-small}
 
 some-equal : {A : Type 0} {a b : A} → Some a ≡ Some b → a ≡ b
 some-equal e = cc
@@ -85,6 +89,26 @@ module _ (bits : List ℕ) where
         }))
     | inr later ↦ parameter-declared names (j + 1) params l k are.1 (sym (ap (λ b. if b then Some j else place_from (j + 1) params l) later) ∙ is)
   ]
+
+  -- so is that of an argument in memory, and it has a place
+  memory-declared : (names : List Declared) (j : ℕ) (params : List Param) (k : ℕ) → AreDeclaredFrom names j params → memory_from j params ≡ Some k
+      → declared_as names (parameter_name k) ≡ Some (record { name = parameter_name k; type = plain Uint; is_array = false; is_placed = true })
+  memory-declared names j [] k are is = absurd cc
+  memory-declared names j (p ∷ params) k are is = elim (decided (p.stack && is_memory p.put)) [
+    | inl here ↦
+        (let same : j ≡ k = some-equal (sym (ap (λ b. if b then Some j else memory_from (j + 1) params) here) ∙ is) in
+        subst (λ m. declared_as names (parameter_name m) ≡ Some (record { name = parameter_name m; type = plain Uint; is_array = false; is_placed = true })) same
+        (are.0 ∙ declared-so p.stack p.put here))
+    | inr later ↦
+        memory-declared names (j + 1) params k are.1
+        (sym (ap (λ b. if b then Some j else memory_from (j + 1) params) later) ∙ is)
+  ]
+    where
+      declared-so : (stack : Bool) (put : Put) → (stack && is_memory put) ≡ true
+          → Some (declared_param (parameter bits j (record { stack = stack; put = put })))
+          ≡ Some (record { name = parameter_name j; type = plain Uint; is_array = false; is_placed = true })
+      declared-so true put is = ap (λ put. Some (declared_param (parameter bits j (record { stack = true; put = put })))) (memory-is put is)
+      declared-so false put is = absurd (true≢false (sym is))
 
   -- another name is no parameter's
   no-parameter-declared : (j : ℕ) (params : List Param) (others : List Declared) (word : Word)
@@ -142,13 +166,38 @@ module _ (g : Graph) (few : AreFew (shape_of g)) (few_params : length g.params <
           (frame-apart g few x (all x (or_left (same_location x x) (is_among xs x) (location_itself x)))) ∙ rest
       by false rest = rest
 
+  -- whatever stands after the variables
+  front-declared : (xs : List Loc) (more others : List Declared) (l : Loc) → is_among xs l ≡ true
+      → declared_as (map declared_local (map (variable shape) xs) ++ more) (variable_name shape l)
+      ≡ declared_as (map declared_local (map (variable shape) xs) ++ others) (variable_name shape l)
+  front-declared [] more others l there = absurd (true≢false (sym there))
+  front-declared (x ∷ xs) more others l there = elim (or_cases (same_location l x) (is_among xs l) there) [
+    | inl here ↦
+        subst (λ y. declared_as (map declared_local (map (variable shape) (y ∷ xs)) ++ more) (variable_name shape l)
+        ≡ declared_as (map declared_local (map (variable shape) (y ∷ xs)) ++ others) (variable_name shape l)) (location_same l x here)
+        (found more ∙ sym (found others))
+    | inr later ↦
+        ap (λ rest. if same_bytes (variable_name shape x) (variable_name shape l) then Some (declared_local (variable shape x)) else rest)
+        (front-declared xs more others l later)
+  ]
+    where
+      found : (rest : List Declared) → declared_as (map declared_local (map (variable shape) (l ∷ xs)) ++ rest) (variable_name shape l)
+          ≡ Some (declared_local (variable shape l))
+      found rest =
+          ap (λ c. if c then Some (declared_local (variable shape l)) else declared_as (map declared_local (map (variable shape) xs) ++ rest) (variable_name shape l))
+          (same_bytes-refl (variable_name shape l))
+
   split : (xs ys : List Variable) (more : List Declared) → map declared_local (xs ++ ys) ++ more ≡ map declared_local xs ++ (map declared_local ys ++ more)
   split [] ys more = refl
   split (x ∷ xs) ys more = ap (λ ds. declared_local x ∷ ds) (split xs ys more)
 
   module _ (tree : Tree) (f : Function) (params : f.params ≡ parameters g) (locals : f.locals ≡ own_declarations g) where
+    -- how many bytes the array has
+    abbrev bytes : ℕ
+    bytes = (function_shape g).frame
+
     abbrev more : List Declared
-    more = map declared_local (frame_array shape.frame) ++ map declared_global tree.globals
+    more = map declared_local (frame_array bytes) ++ map declared_global tree.globals
 
     -- the same variables in a function without parameters
     abbrev alone : Function
@@ -163,10 +212,12 @@ module _ (g : Graph) (few : AreFew (shape_of g)) (few_params : length g.params <
         ap (λ ps. declared_as (map declared_param ps ++ (map declared_local f.locals ++ map declared_global tree.globals)) (118 ∷ word)) params
         ∙ ap (λ vs. declared_as (map declared_param (parameters g) ++ (map declared_local vs ++ map declared_global tree.globals)) (118 ∷ word)) locals
         ∙ no-parameter-declared g.bits 0 g.params (map declared_local (own_declarations g) ++ map declared_global tree.globals) word
-        ∙ ap (λ ds. declared_as ds (118 ∷ word)) (split (map (variable shape) (filter (is_own g) ls)) (frame_array shape.frame) (map declared_global tree.globals))
+        ∙ ap (λ ds. declared_as ds (118 ∷ word)) (split (map (variable shape) (filter (is_own g) ls)) (frame_array bytes) (map declared_global tree.globals))
 
-    looked-up-alone : (word : Word) → declared_as (declared_in tree alone) word ≡ declared_as (map declared_local (map (variable shape) ls) ++ more) word
-    looked-up-alone word = ap (λ ds. declared_as ds word) (split (map (variable shape) ls) (frame_array shape.frame) (map declared_global tree.globals))
+    looked-up-alone : (l : Loc) → is_among ls l ≡ true → declared_as (declared_in tree alone) (variable_name shape l) ≡ declared_as (map declared_local (map (variable shape) ls) ++ more) (variable_name shape l)
+    looked-up-alone l named =
+        ap (λ ds. declared_as ds (variable_name shape l)) (split (map (variable shape) ls) (frame_array shape.frame) (map declared_global tree.globals))
+        ∙ front-declared ls (map declared_local (frame_array shape.frame) ++ map declared_global tree.globals) more l named
 
     variable-declared : (l : Loc) → (graph_spelling g).named l ≡ true → (o : Option ℕ) → place_in g l ≡ o → IsDeclared (declared_in tree f) (function_spelling g) l
     variable-declared l named (Some k) place =
@@ -196,28 +247,42 @@ module _ (g : Graph) (few : AreFew (shape_of g)) (few_params : length g.params <
             is_array = false;
             is_placed = x.is_placed;
           })) name
-              (looked-up _ ∙ others-declared ls more l (λ y there. there) named (ap (λ o. not (is_some o)) place) ∙ sym (looked-up-alone (variable_name shape l)) ∙ x.declared);
+              (looked-up _ ∙ others-declared ls more l (λ y there. there) named (ap (λ o. not (is_some o)) place) ∙ sym (looked-up-alone l named) ∙ x.declared);
         }
 
-    array-same : declared_as (declared_in tree f) frame_name ≡ declared_as (declared_in tree alone) frame_name
-    array-same =
+    -- the array is declared, where it has bytes
+    array-there : (bytes == 0) ≡ false → declared_as (declared_in tree f) frame_name ≡ Some (record {
+      name = frame_name;
+      type = plain Uchar;
+      is_array = true;
+      is_placed = true;
+    })
+    array-there some =
+        let array : Variable = record { name = frame_name; type = plain Uchar; len = Some bytes; class = Auto } in
         looked-up _ ∙ array-declared (is_own g) ls more (λ y there. there)
-        ∙ sym (ap (λ xs. declared_as (map declared_local (map (variable shape) xs) ++ more) frame_name) (sym (all-kept ls)) ∙ array-declared (λ x. true) ls more (λ y there. there))
-        ∙ sym (looked-up-alone frame_name)
-      where
-        all-kept : (xs : List Loc) → filter (λ x. true) xs ≡ xs
-        all-kept [] = refl
-        all-kept (x ∷ xs) = ap (λ ys. x ∷ ys) (all-kept xs)
+        ∙ ap (λ none. declared_as (map declared_local (if none then [] else array ∷ []) ++ map declared_global tree.globals) frame_name) some
+        ∙ ap (λ same. if same then Some (declared_local array) else declared_as (map declared_global tree.globals) frame_name)
+        (same_bytes-refl frame_name)
 
-    place-declared : (distance : ℕ) (q : Placed) → (graph_spelling g).place distance ≡ Some q → IsDeclaredPlace (declared_in tree f) q
-    place-declared distance q is =
-        let x = are-alone.places distance q is in
-        let name : q.name ≡ frame_name = ap (λ r. r.name) (placed-is g few few_params shape.frame distance q is).0 in record {
-          word = x.word;
-          type = x.type;
-          declared = ap (declared_as (declared_in tree f)) name ∙ array-same ∙ ap (declared_as (declared_in tree alone)) (sym name) ∙ x.declared;
-          small = x.small;
-        }
+    place-declared : (distance : ℕ) (q : Placed) → IsToldBy (memory_from 0 g.params) bytes distance q → IsDeclaredPlace (declared_in tree f) q
+    place-declared distance q (by_parameter place memory low high same) =
+        let rest = map declared_local f.locals ++ map declared_global tree.globals in
+        let within = memory-within g.params 0 place memory in
+        subst (IsDeclaredPlace (declared_in tree f)) (sym same) (record {
+          word = parameter-word place (omega (arith, within.1, few_params));
+          type = Uint;
+          declared = ap (λ ps. declared_as (map declared_param ps ++ rest) (parameter_name place)) params
+              ∙ memory-declared g.bits (map declared_param (parameters g) ++ rest) 0 g.params place
+              (all-declared g.bits 0 g.params rest (omega (arith, few_params))) memory;
+          small = omega (arith, high);
+        })
+    place-declared distance q (by_array some same) =
+        subst (IsDeclaredPlace (declared_in tree f)) (sym same) (record {
+          word = numbered-name 17 (omega arith);
+          type = Uchar;
+          declared = array-there some;
+          small = mod-lt (distance + (4 + bytes)) (omega arith);
+        })
 
     pub function-declared : AreDeclared (declared_in tree f) (function_spelling g)
-    function-declared = record { variables = λ l named. variable-declared l named (place_in g l) refl; places = place-declared }
+    function-declared = record { variables = λ l named. variable-declared l named (place_in g l) refl; places = λ distance q is. place-declared distance q (place-told (memory_from 0 g.params) bytes distance q is) }

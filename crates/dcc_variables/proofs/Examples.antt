@@ -74,6 +74,13 @@ declared : own_declarations procedure
 unfolding sum named_locations stack_locations
 declared = refl
 
+-- the address of the second argument's high byte, and that of the lowest byte of the frame
+told-from-argument : (function_spelling procedure).place 3 ≡ Some (record { name = parameter_name 1; is_array = false; above = 1 })
+told-from-argument = refl
+
+told-from-array : (function_spelling procedure).place 65530 ≡ Some (record { name = numbered_name 17; is_array = true; above = 0 })
+told-from-array = refl
+
 given : result_type procedure ≡ Some (plain Uchar)
 unfolding sum
 given = refl

@@ -6,6 +6,7 @@ pub mod FirstStates
 pub mod Declared
 pub mod Steps
 pub mod AddressLaws
+pub mod FramePlaces
 pub mod ParamNames
 pub mod DeclaredFunctions
 pub mod Words

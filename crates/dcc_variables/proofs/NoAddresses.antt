@@ -1,6 +1,6 @@
--- The texts of a graph take the address of no name.
-use Rattle.std.proofs.Common.{◌≡◌, ℕ, ◌+◌, ◌-◌, ◌^◌, Bool, true, false, ◌==◌, List, [], ◌∷◌, ◌++◌, map, Option, Some, None, refl, sym, ap, ap₂, ◌∙◌}
-use Rattle.std.specs.Prelude.{◌&&◌, ◌||◌, not, nat_lt, if◌then◌else◌, flat_map, option_to_list}
+-- The texts of a graph take the address of no name but that of the first argument in memory.
+use Rattle.std.proofs.Common.{◌≡◌, ℕ, ◌+◌, ◌-◌, ◌^◌, Bool, true, false, ◌==◌, inl, inr, List, [], ◌∷◌, ◌++◌, map, Option, Some, None, refl, sym, ap, ap₂, ◌∙◌}
+use Rattle.std.specs.Prelude.{◌⊎◌, ◌&&◌, ◌||◌, not, nat_lt, if◌then◌else◌, flat_map, option_to_list}
 use Rattle.std.specs.List.{list_any}
 use Rattle.std.proofs.lemmas.Bool.{or_from}
 use Rattle.std.proofs.lemmas.List.Folds.{list_any-append}
@@ -23,14 +23,16 @@ use Rattle.dcc_c.specs.declared.syntax.CBin.TheVariants.{And as BitAnd, Or as Bi
 use Rattle.dcc_c.specs.declared.syntax.CUn.TheVariants.{Minus, Complement, Deref, AddressOf}
 use Rattle.dcc_c.specs.Parts.{parts_of, exprs_of, stmts_in}
 use Rattle.dcc_c.specs.Placement.{is_address_of, takes_address}
+use Rattle.dcc_c.specs.Token.{same_bytes}
 use Rattle.dcc_c.specs.Tree.{Word, Expr, Number, Name, Unary, Binary, Conditional, Cast, Stmt, Assign, Lines}
 use Rattle.dcc_c.specs.Types.{is_signed, plain, pointer_to, same_type}
 use Rattle.dcc_text.specs.Spelled.{Way, Low, Exact, Signed, unsigned_type, signed_type, reckoning_type, small, cut, signed_reading, cut_to, taken, constant, as_char, bit_read, variable, placed, pointer, operand_way, unary_text, left_way, right_way, symbol, unary_result, binary_result, votes_left, votes_right, moved_down, joined, text, byte_quotient, byte_remainder, division_text, text_division}
 use Rattle.dcc_text.specs.Spelling.{Placed, Spelling}
 use Rattle.dcc_text.specs.Stmts.{place_of, assigned, wanted_way, setting, stmt_text}
-use Rattle.dcc_variables.specs.Variables.{frame_bytes, frame_place, placed_at}
-use Rattle.dcc_variables.specs.Addresses.{has_address_of, stmt_has_address_of, TakesNoAddress}
-use Rattle.dcc_variables.specs.Functions.{parameter_name, function_spelling, ret_text, low_byte, high_byte, opening, put_openings, openings_from}
+use Rattle.dcc_variables.specs.Variables.{frame_bytes}
+use Rattle.dcc_variables.proofs.FramePlaces.{IsToldBy, by_parameter, by_array, place-told}
+use Rattle.dcc_variables.specs.Addresses.{has_address_of, stmt_has_address_of, TakesNoAddress, IsNoMemoryName}
+use Rattle.dcc_variables.specs.Functions.{parameter_name, memory_from, function_spelling, ret_text, low_byte, high_byte, opening, put_openings, openings_from}
 
 -- Bodies.
 
@@ -50,7 +52,11 @@ body-takes body word =
 
 -- Texts.
 
-module _ (s : Spelling) (word : Word) (arrays : (distance : ℕ) (p : Placed) → s.place distance ≡ Some p → p.is_array ≡ true) where
+-- what addresses go by is an array or has another name
+abbrev IsOther : Word → Placed → Type 0
+IsOther word p = (p.is_array ≡ true) ⊎ (same_bytes word p.name ≡ false)
+
+module _ (s : Spelling) (word : Word) (others : (distance : ℕ) (p : Placed) → s.place distance ≡ Some p → IsOther word p) where
   abbrev None-taken : Expr → Type 0
   None-taken e = has_address_of word e ≡ false
 
@@ -121,16 +127,22 @@ module _ (s : Spelling) (word : Word) (arrays : (distance : ℕ) (p : Placed) �
       either type.pointer (cut_to way width e) (if width == 1 then bit else number) (cut-to-none way width e x)
       (either (width == 1) bit number (taken-none Exact way 1 (bit_read way votes settled type e) (bit-none way votes settled type e x)) (taken-none (if is_signed type.base then Signed else Exact) way width e x))
 
-  -- an address in the frame goes by an array
+  -- an address in the frame goes by such a name
   placed-none : (distance : ℕ) → None-taken (placed (s.place distance))
   placed-none distance = by (s.place distance) refl
     where
+      by-name : (p : Placed) → IsOther word p → None-taken (if p.is_array then Name p.name else Unary AddressOf (Name p.name))
+      by-name p (inl array) = ap (λ b. has_address_of word (if b then Name p.name else Unary AddressOf (Name p.name))) array
+      by-name p (inr other) =
+          either p.is_array (Name p.name) (Unary AddressOf (Name p.name)) refl (or_from (same_bytes word p.name) false other refl)
+
       by : (o : Option Placed) → s.place distance ≡ o → None-taken (placed o)
       by None is = refl
       by (Some p) is =
-          let at : Bool → Expr = λ array. Cast (plain Uint) (if array then Name p.name else Unary AddressOf (Name p.name)) in
-          ap (λ array. has_address_of word (if p.above == 0 then at array else Binary Plus (at array) (Number p.above Uint))) (arrays distance p is)
-          ∙ either (p.above == 0) (at true) (Binary Plus (at true) (Number p.above Uint)) refl refl
+          let name = if p.is_array then Name p.name else Unary AddressOf (Name p.name) in
+          let at = Cast (plain Uint) name in
+          let none = by-name p (others distance p is) in
+          either (p.above == 0) at (Binary Plus at (Number p.above Uint)) none (both Plus at (Number p.above Uint) none refl)
 
   pointer-none : (width : ℕ) (address : inner.Expr) (e : Expr) → None-taken e → None-taken (pointer s width address e)
   pointer-none width (inner.Get location) e x =
@@ -279,20 +291,21 @@ module _ (s : Spelling) (word : Word) (arrays : (distance : ℕ) (p : Placed) �
         list_any-append (stmt_has_address_of word) (put_openings s opens (parameter_name j) p.put) (openings_from s opens (j + 1) params)
         ∙ or_from _ _ (put-free (parameter_name j) p.put) (openings-free (j + 1) params)
 
--- the frame's bytes go by an array
-frame-is-array : (bytes distance : ℕ) (p : Placed) → placed_at bytes distance ≡ Some p → p.is_array ≡ true
-frame-is-array bytes distance p = by (bytes == 0)
-  where
-    by : (none : Bool) → (if none then None else Some (frame_place bytes distance)) ≡ Some p → p.is_array ≡ true
-    by true is = absurd cc
-    by false is = ap (λ (o : Option Placed). elim o [ None ↦ true | Some q ↦ q.is_array ]) (sym is)
+-- local bytes of the frame go by an array, and arguments by the first that is in memory
+places-other : (graph : inner.Graph) (word : Word) → IsNoMemoryName graph word → (bytes distance : ℕ) (p : Placed)
+    → IsToldBy (memory_from 0 graph.params) bytes distance p → IsOther word p
+places-other graph word none bytes distance p (by_parameter place memory low high same) =
+    inr (ap (λ (q : Placed). same_bytes word q.name) same ∙ none place memory)
+places-other graph word none bytes distance p (by_array some same) = inl (ap (λ (q : Placed). q.is_array) same)
 
-pub texts-take-none : (graph : inner.Graph) (word : Word) → TakesNoAddress graph word
-texts-take-none graph word =
+pub texts-take-none : (graph : inner.Graph) (word : Word) → IsNoMemoryName graph word → TakesNoAddress graph word
+texts-take-none graph word none =
     let s = function_spelling graph in
-    let arrays = frame-is-array (frame_bytes graph) in record {
-      expressions = text-none s word arrays;
-      statements = stmt-free s word arrays;
-      returns = return-free s word arrays;
-      openings = λ opens. openings-free s word arrays opens 0 graph.params;
+    let told = memory_from 0 graph.params in
+    let bytes = frame_bytes told graph in
+    let others = λ (distance : ℕ) (p : Placed) (is : s.place distance ≡ Some p). places-other graph word none bytes distance p (place-told told bytes distance p is) in record {
+      expressions = text-none s word others;
+      statements = stmt-free s word others;
+      returns = return-free s word others;
+      openings = λ opens. openings-free s word others opens 0 graph.params;
     }

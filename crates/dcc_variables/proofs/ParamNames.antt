@@ -1,6 +1,6 @@
 -- Names of parameters: each has its own, and no variable has it.
 use Rattle.std.proofs.Common.{◌≡◌, ℕ, ◌+◌, ◌<◌, ◌≤◌, ◌^◌, true, false, inl, inr, List, [], ◌∷◌, length, Option, Some, None, refl, sym, ap, ◌∙◌, subst, true≢false, arith}
-use Rattle.std.specs.Prelude.{◌==◌, if◌then◌else◌}
+use Rattle.std.specs.Prelude.{◌==◌, Bool, ◌&&◌, if◌then◌else◌}
 use Rattle.std.proofs.lemmas.Bool.{false_from_ne_true}
 use Rattle.std.proofs.lemmas.Fmt.{decimal_injective}
 use Rattle.dcc_ir.specs.declared.syntax.Loc.{Loc}
@@ -9,6 +9,7 @@ use Rattle.dcc_ir.specs.declared.syntax.Put.TheVariants.{Memory, One, Two}
 use Rattle.dcc_ir.specs.declared.syntax.Param.{Param}
 use Rattle.dcc_ir.specs.Location.{same_location}
 use Rattle.dcc_ir.specs.Tree.{Graph}
+use Rattle.dcc_ir.specs.WellFormed.{is_memory}
 use Rattle.dcc_ir.proofs.LocationLaws.{location_same, location_itself}
 use Rattle.dcc_ir.proofs.PathLaws.{decided}
 use Rattle.dcc_c.proofs.NameLaws.{same_bytes-equal}
@@ -16,9 +17,10 @@ use Rattle.dcc_c.specs.Token.{same_bytes}
 use Rattle.dcc_text.specs.Holding.{IsSpelling}
 use Rattle.dcc_text.specs.Spelling.{Placed}
 use Rattle.dcc_variables.specs.Laws.{AreFew}
-use Rattle.dcc_variables.specs.Variables.{Shape, shape_of, variable_name, frame_name, frame_place, placed_at, graph_spelling}
+use Rattle.dcc_variables.specs.Variables.{Shape, shape_of, variable_name, frame_name, graph_spelling}
+use Rattle.dcc_variables.proofs.FramePlaces.{IsToldBy, by_parameter, by_array, place-told, memory-within}
 use Rattle.dcc_variables.proofs.Names.{names-same, frame-apart}
-use Rattle.dcc_variables.specs.Functions.{parameter_name, is_taken_whole, place_from, place_in, name_or, location_name, function_spelling}
+use Rattle.dcc_variables.specs.Functions.{parameter_name, is_taken_whole, place_from, place_in, memory_from, name_or, function_shape, location_name, function_spelling}
 
 some-equal : {A : Type 0} {a b : A} → Some a ≡ Some b → a ≡ b
 some-equal e = cc
@@ -81,6 +83,35 @@ place-same (p ∷ params) j a b k one other = elim (decided (is_taken_whole p.pu
         let within = place-within params (j + 1) y k (later y apart also) in
         omega (arith, e, within.0)
 
+-- a param in memory takes nothing whole
+pub not-both : (params : List Param) (j : ℕ) (l : Loc) (k : ℕ) → place_from j params l ≡ Some k
+    → memory_from j params ≡ Some k → ⊥
+not-both [] j l k place memory = cc
+not-both (p ∷ params) j l k place memory = elim (decided (is_taken_whole p.put l)) [
+  | inl whole ↦
+      let later : memory_from (j + 1) params ≡ Some k =
+      sym (by-itself p.stack p.put (whole-is p.put l whole)) ∙ memory in
+      let e : j ≡ k = some-equal (sym (ap (λ b. if b then Some j else place_from (j + 1) params l) whole) ∙ place) in
+      let within = memory-within params (j + 1) k later in
+      omega (arith, e, within.0)
+  | inr other ↦
+      let later = sym (ap (λ b. if b then Some j else place_from (j + 1) params l) other) ∙ place in
+      elim (decided (p.stack && is_memory p.put)) [
+        | inl here ↦
+            let e : j ≡ k = some-equal (sym (ap (λ b. if b then Some j else memory_from (j + 1) params) here) ∙ memory) in
+            let within = place-within params (j + 1) l k later in
+            omega (arith, e, within.0)
+        | inr away ↦
+            not-both params (j + 1) l k later
+            (sym (ap (λ b. if b then Some j else memory_from (j + 1) params) away) ∙ memory)
+      ]
+]
+  where
+    by-itself : (stack : Bool) (put : Put) → put ≡ One l
+        → (if stack && is_memory put then Some j else memory_from (j + 1) params) ≡ memory_from (j + 1) params
+    by-itself true put is = ap (λ put. if is_memory put then Some j else memory_from (j + 1) params) is
+    by-itself false put is = refl
+
 -- Names of locations.
 
 module _ (g : Graph) (few : AreFew (shape_of g)) (few_params : length g.params < 2 ^ 32) where
@@ -104,17 +135,28 @@ module _ (g : Graph) (few : AreFew (shape_of g)) (few_params : length g.params <
   frame-other l named None = frame-apart g few l named
   frame-other l named (Some j) = refl
 
-  -- what an address goes by
-  pub placed-is : (bytes distance : ℕ) (p : Placed) → placed_at bytes distance ≡ Some p → (p ≡ frame_place bytes distance) × ((bytes == 0) ≡ false)
-  placed-is bytes distance p is = elim (decided (bytes == 0)) [
-    | inl none ↦ (let e : None ≡ Some p = sym (ap (λ b. if b then None else Some (frame_place bytes distance)) none) ∙ is in absurd cc)
-    | inr some ↦ (sym (some-equal (sym (ap (λ b. if b then None else Some (frame_place bytes distance)) some) ∙ is)), some)
-  ]
+  -- an argument in memory is no location
+  memory-other : (l : Loc) (k : ℕ) → memory_from 0 g.params ≡ Some k → (one : Option ℕ) → place_in g l ≡ one
+      → same_bytes (name_or one (variable_name shape l)) (parameter_name k) ≡ false
+  memory-other l k memory None place = refl
+  memory-other l k memory (Some j) place =
+      false_from_ne_true _ (λ same.
+      let within = memory-within g.params 0 k memory in
+      let e = places-same j k (place-small l j place) (omega (arith, within.1, few_params)) same in
+      not-both g.params 0 l k (place ∙ ap Some e) memory)
+
+  by-name : (l : Loc) → (graph_spelling g).named l ≡ true → {bytes distance : ℕ} (p : Placed)
+      → IsToldBy (memory_from 0 g.params) bytes distance p → same_bytes (location_name g l) p.name ≡ false
+  by-name l is p (by_parameter place memory low high same) =
+      subst (λ (q : Placed). same_bytes (location_name g l) q.name ≡ false) (sym same)
+      (memory-other l place memory (place_in g l) refl)
+  by-name l is p (by_array some same) =
+      subst (λ (q : Placed). same_bytes (location_name g l) q.name ≡ false) (sym same) (frame-other l is (place_in g l))
 
   pub spelling-is : IsSpelling (function_spelling g)
   spelling-is = record {
     apart = λ a b one other same.
         subst (λ x. same_location a x ≡ true) (locations-same a b one other (place_in g a) (place_in g b) refl refl same) (location_itself a);
     placed_apart = λ l distance p is there.
-        subst (λ name. same_bytes (location_name g l) name ≡ false) (ap (λ q. q.name) (sym (placed-is shape.frame distance p there).0)) (frame-other l is (place_in g l));
+        by-name l is p (place-told (memory_from 0 g.params) (function_shape g).frame distance p there);
   }

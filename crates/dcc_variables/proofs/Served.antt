@@ -1,6 +1,6 @@
 -- What a graph with calls reads, writes and takes addresses of. A statement alone, and expressions alone as those of a Ret,
 -- make a graph without calls, of which it is known; and what has a name there has one in the whole graph.
-use Rattle.std.proofs.Common.{◌≡◌, ℕ, ◌<◌, Bool, true, false, ◌==◌, inl, inr, List, [], ◌∷◌, ◌++◌, length, Some, None, is_some, refl, sym, ap, ◌∙◌, true≢false, arith}
+use Rattle.std.proofs.Common.{◌≡◌, ℕ, ◌<◌, Bool, true, false, ◌==◌, inl, inr, List, [], ◌∷◌, ◌++◌, length, Option, is_some, refl, sym, ap, ◌∙◌, true≢false, arith}
 use Rattle.std.specs.Prelude.{◌&&◌, ◌||◌, nat_lt, nat_le, filter, flat_map, if◌then◌else◌, All, Contains}
 use Rattle.std.specs.List.{list_all, list_any}
 use Rattle.std.proofs.lemmas.Bool.{and_parts, and_from, or_cases, or_left, or_right}
@@ -11,20 +11,21 @@ use Rattle.dcc_ir.specs.Live.{is_among}
 use Rattle.dcc_ir.specs.Location.{same_location}
 use Rattle.dcc_ir.specs.Run.{is_call}
 use Rattle.dcc_ir.specs.Tree.{Expr, Stmt, Set, Fetch, Store, Div, Call, Dos, Exit, Goto, If, Switch, Ret, Stop, Block, Graph}
-use Rattle.dcc_ir.specs.Use.{reads_of, exprs_of, writes_of, exit_exprs}
+use Rattle.dcc_ir.specs.Use.{parts_of, reads_of, addresses_of, exprs_of, writes_of, exit_exprs}
 use Rattle.dcc_ir.specs.Value.{width_of}
 use Rattle.dcc_ir.specs.WellFormed.{is_location, is_expr, is_expr_of, is_stmt, is_exit, is_block, jumps_after_call, IsGraph}
 use Rattle.dcc_ir.proofs.ListLaws.{all_had}
+use Rattle.dcc_ir.proofs.PathLaws.{decided}
 use Rattle.dcc_ir.proofs.LocationLaws.{location_same, contains_among, Contains-here, Contains-none, Contains-cases}
 use Rattle.dcc_ir.proofs.ReachedLaws.{all_at}
 use Rattle.dcc_flow.specs.Mentions.{stmt_mentions, block_mentions, graph_mentions}
 use Rattle.dcc_text.specs.Holding.{IsWithin}
-use Rattle.dcc_text.specs.Spelling.{Placed}
-use Rattle.dcc_variables.specs.Variables.{has_address, stmt_has_address, block_has_address, takes_address, all_locations, cells_among, frame_bytes, frame_place, placed_at, graph_spelling}
+use Rattle.dcc_variables.specs.Variables.{is_told_from, has_address, stmt_has_address, block_has_address, takes_address, all_locations, cells_among, frame_bytes, graph_spelling}
+use Rattle.dcc_variables.proofs.FramePlaces.{told-placed, array-placed, all-told, frame-some}
 use Rattle.dcc_variables.proofs.Lists.{among-left, among-right}
 use Rattle.dcc_variables.proofs.Numbers.{mentioned-among, locations-there}
 use Rattle.dcc_variables.proofs.Steps.{stmt-step, exit-within}
-use Rattle.dcc_variables.specs.Functions.{function_spelling}
+use Rattle.dcc_variables.specs.Functions.{memory_from, function_spelling}
 use Rattle.dcc_variables.specs.FunctionLaws.{has_name, IsServedStmt, IsServedByFunction, FunctionsAreServed}
 
 -- Lists.
@@ -70,6 +71,22 @@ end-formed bits count Stop formed = refl
 -- Of a part of a graph.
 
 module _ (g : Graph) (formed : IsGraph g) (b : Block) (inside : Contains g.blocks b) where
+  -- the parameter from which addresses of arguments are told
+  abbrev told : Option ℕ
+  told = memory_from 0 g.params
+
+  -- addresses have places: they are told from that parameter, or the graph has an array
+  addresses-placed : (e : Expr) → (has_address told e ≡ true → takes_address told g ≡ true)
+      → All (λ d. is_some ((function_spelling g).place d) ≡ true) (addresses_of e)
+  addresses-placed e takes = elim (decided (has_address told e)) [
+    | inl some ↦
+        all_had (λ d. is_some ((function_spelling g).place d) ≡ true) (addresses_of e)
+        (λ d c. array-placed told (frame_bytes told g) d (frame-some told g (takes some)))
+    | inr none ↦
+        All-weaker (λ d. is_told_from told d ≡ true) (λ d. is_some ((function_spelling g).place d) ≡ true)
+        (told-placed told (frame_bytes told g)) (addresses_of e) (all-told told (parts_of e) none)
+  ]
+
   -- the block with other statements and another end, and the graph that has this block alone
   abbrev part : List Stmt → Exit → Block
   part stmts exit = record { at = b.at; stmts = stmts; exit = exit }
@@ -89,9 +106,8 @@ module _ (g : Graph) (formed : IsGraph g) (b : Block) (inside : Contains g.block
     blocks = and_from (is_block g.bits 1 (part stmts exit)) true (and_from (list_all (is_stmt g.bits) stmts) (is_exit g.bits 1 exit) stmts_formed exit_formed) refl;
   }
 
-  -- What has a name in the part has one in the graph, and so have places.
-  module _ (stmts : List Stmt) (exit : Exit) (mentions : (l : Loc) → is_among (block_mentions (part stmts exit)) l ≡ true → is_among (graph_mentions g) l ≡ true)
-      (takes : block_has_address (part stmts exit) ≡ true → takes_address g ≡ true) where
+  -- What has a name in the part has one in the graph.
+  module _ (stmts : List Stmt) (exit : Exit) (mentions : (l : Loc) → is_among (block_mentions (part stmts exit)) l ≡ true → is_among (graph_mentions g) l ≡ true) where
     abbrev h : Graph
     h = alone stmts exit
 
@@ -100,31 +116,21 @@ module _ (g : Graph) (formed : IsGraph g) (b : Block) (inside : Contains g.block
         mentioned-among g l (locations-there h l named)
         (mentions l (among-alone (block_mentions (part stmts exit)) l (filter-passes (is_among (graph_mentions h)) (all_locations (length h.bits) (cells_among (graph_mentions h))) l named)))
 
-    place-there : (distance : ℕ) → is_some (placed_at (frame_bytes (alone stmts exit)) distance) ≡ true → is_some (placed_at (frame_bytes g) distance) ≡ true
-    place-there distance = by (g.local == 0) (block_has_address (part stmts exit)) (takes_address g) takes
-      where
-        by : (none own whole : Bool) → (own ≡ true → whole ≡ true)
-            → is_some {T = Placed} (if (if none then (if own || false then 1 else 0) else g.local) == 0 then None else Some (frame_place (if none then (if own || false then 1 else 0) else g.local) distance)) ≡ true
-            → is_some {T = Placed} (if (if none then (if whole then 1 else 0) else g.local) == 0 then None else Some (frame_place (if none then (if whole then 1 else 0) else g.local) distance)) ≡ true
-        by false own whole takes is = is
-        by true false whole takes is = absurd (true≢false (sym is))
-        by true true true takes is = refl
-        by true true false takes is = absurd (true≢false (sym (takes refl)))
-
-    within-there : (e : Expr) → IsWithin (graph_spelling (alone stmts exit)) (λ l. (graph_spelling (alone stmts exit)).named l ≡ true) e → IsWithin (function_spelling g) (has_name g) e
-    within-there e x = record {
-      reads = All-weaker (λ l. (graph_spelling (alone stmts exit)).named l ≡ true) (has_name g) name-there (reads_of e) x.reads;
-      addresses = All-weaker (λ d. is_some (placed_at (frame_bytes (alone stmts exit)) d) ≡ true) (λ d. is_some (placed_at (frame_bytes g) d) ≡ true) place-there _ x.addresses;
-    }
+    within-there : (es : List Expr) → (list_any (has_address told) es ≡ true → takes_address told g ≡ true)
+        → All (IsWithin (graph_spelling (alone stmts exit)) (λ l. (graph_spelling (alone stmts exit)).named l ≡ true)) es → All (IsWithin (function_spelling g) (has_name g)) es
+    within-there es takes within = all_had (IsWithin (function_spelling g) (has_name g)) es (λ e c.
+        let x = All-contains (IsWithin (graph_spelling (alone stmts exit)) (λ l. (graph_spelling (alone stmts exit)).named l ≡ true)) es e within c in record {
+          reads = All-weaker (λ l. (graph_spelling (alone stmts exit)).named l ≡ true) (has_name g) name-there (reads_of e) x.reads;
+          addresses = addresses-placed e (λ is. takes (any-at (has_address told) es e c is));
+        })
 
   -- Expressions, as those of a Ret.
   exprs-served : (es : List Expr) → list_all (is_expr g.bits) es ≡ true → ((l : Loc) → is_among (flat_map reads_of es) l ≡ true → is_among (graph_mentions g) l ≡ true)
-      → (list_any has_address es ≡ true → takes_address g ≡ true) → All (IsWithin (function_spelling g) (has_name g)) es
+      → (list_any (has_address told) es ≡ true → takes_address told g ≡ true) → All (IsWithin (function_spelling g) (has_name g)) es
   exprs-served es exprs_formed mentions takes =
       let here = alone-formed [] (Ret es) refl exprs_formed refl in
       let no_calls = All-cons (λ (x : Block). All (λ stmt. is_call stmt ≡ false) x.stmts) (part [] (Ret es)) [] (All-nil (λ stmt. is_call stmt ≡ false)) (All-nil (λ (x : Block). All (λ stmt. is_call stmt ≡ false) x.stmts)) in
-      All-weaker (IsWithin (graph_spelling (alone [] (Ret es))) (λ l. (graph_spelling (alone [] (Ret es))).named l ≡ true)) (IsWithin (function_spelling g) (has_name g))
-      (within-there [] (Ret es) mentions takes) es (exit-within (alone [] (Ret es)) here no_calls (part [] (Ret es)) (Contains-here (part [] (Ret es)) []))
+      within-there [] (Ret es) mentions es takes (exit-within (alone [] (Ret es)) here no_calls (part [] (Ret es)) (Contains-here (part [] (Ret es)) []))
 
   -- A statement.
   module _ (stmt : Stmt) (there : Contains b.stmts stmt) (stmt_formed : is_stmt g.bits stmt ≡ true) where
@@ -132,9 +138,10 @@ module _ (g : Graph) (formed : IsGraph g) (b : Block) (inside : Contains g.block
     stmt-mentions l is =
         among-flat block_mentions g.blocks b l inside (among-left (flat_map stmt_mentions b.stmts) (flat_map reads_of (exit_exprs b.exit)) l (among-flat stmt_mentions b.stmts stmt l there is))
 
-    stmt-takes : stmt_has_address stmt ≡ true → takes_address g ≡ true
+    stmt-takes : stmt_has_address told stmt ≡ true → takes_address told g ≡ true
     stmt-takes is =
-        any-at block_has_address g.blocks b inside (or_left (list_any stmt_has_address b.stmts) (list_any has_address (exit_exprs b.exit)) (any-at stmt_has_address b.stmts stmt there is))
+        any-at (block_has_address told) g.blocks b inside
+        (or_left (list_any (stmt_has_address told) b.stmts) (list_any (has_address told) (exit_exprs b.exit)) (any-at (stmt_has_address told) b.stmts stmt there is))
 
     -- one that is no call
     plain-served : is_call stmt ≡ false → IsServedStmt g stmt
@@ -144,17 +151,11 @@ module _ (g : Graph) (formed : IsGraph g) (b : Block) (inside : Contains g.block
         let calls = λ (x : Block). All (λ s. is_call s ≡ false) x.stmts in
         let no_calls = All-cons calls (part stmts Stop) [] (All-cons (λ s. is_call s ≡ false) stmt [] no_call (All-nil (λ s. is_call s ≡ false))) (All-nil calls) in
         let x = stmt-step (alone stmts Stop) here no_calls (part stmts Stop) (Contains-here (part stmts Stop) []) stmt (Contains-here stmt []) in
-        let mentions = λ (l : Loc) (is : is_among (block_mentions (part (stmt ∷ []) Stop)) l ≡ true). stmt-mentions l (among-alone (stmt_mentions stmt) l (among-alone (stmt_mentions stmt ++ []) l is)) in
-        let takes = λ (is : block_has_address (part (stmt ∷ []) Stop) ≡ true). stmt-takes (one (stmt_has_address stmt) is) in record {
+        let mentions = λ (l : Loc) (is : is_among (block_mentions (part (stmt ∷ []) Stop)) l ≡ true). stmt-mentions l (among-alone (stmt_mentions stmt) l (among-alone (stmt_mentions stmt ++ []) l is)) in record {
           formed = stmt_formed;
-          within = All-weaker (IsWithin (graph_spelling (alone stmts Stop)) (λ l. (graph_spelling (alone stmts Stop)).named l ≡ true)) (IsWithin (function_spelling g) (has_name g))
-              (within-there stmts Stop mentions takes) (exprs_of stmt) x.within;
-          written = All-weaker (λ l. (graph_spelling (alone stmts Stop)).named l ≡ true) (has_name g) (name-there stmts Stop mentions takes) (writes_of stmt) x.written;
+          within = within-there stmts Stop mentions (exprs_of stmt) stmt-takes x.within;
+          written = All-weaker (λ l. (graph_spelling (alone stmts Stop)).named l ≡ true) (has_name g) (name-there stmts Stop mentions) (writes_of stmt) x.written;
         }
-      where
-        one : (c : Bool) → ((c || false) || false) ≡ true → c ≡ true
-        one true is = refl
-        one false is = absurd (true≢false (sym is))
 
   -- a call
   call-served : (results : List Loc) (entry : ℕ) (arguments : List Expr) (own : ℕ) → Contains b.stmts (Call results entry arguments own) → is_stmt g.bits (Call results entry arguments own) ≡ true
@@ -184,7 +185,7 @@ module _ (g : Graph) (formed : IsGraph g) (b : Block) (inside : Contains g.block
         stmts = all_had (IsServedStmt g) b.stmts (λ stmt there. stmt-served stmt there (all_at (is_stmt g.bits) b.stmts stmt stmts_formed there));
         exits = exprs-served es (end-formed g.bits (length g.blocks) b.exit end)
             (λ l is. among-flat block_mentions g.blocks b l inside (among-right (flat_map stmt_mentions b.stmts) (flat_map reads_of es) l is))
-            (λ is. any-at block_has_address g.blocks b inside (or_right (list_any stmt_has_address b.stmts) (list_any has_address es) is));
+            (λ is. any-at (block_has_address told) g.blocks b inside (or_right (list_any (stmt_has_address told) b.stmts) (list_any (has_address told) es) is));
       }
 
 pub functions-served : FunctionsAreServed

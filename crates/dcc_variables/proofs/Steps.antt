@@ -128,7 +128,7 @@ module _ (bits : List ℕ) where
 
 -- Addresses.
 
-no-address : (es : List Expr) → list_any is_address es ≡ false → flat_map addressed_by es ≡ []
+no-address : (es : List Expr) → list_any (is_address None) es ≡ false → flat_map addressed_by es ≡ []
 no-address [] is = refl
 no-address (Const width n ∷ es) is = no-address es is
 no-address (Get l ∷ es) is = no-address es is
@@ -142,8 +142,8 @@ no-address (Choose test a b ∷ es) is = no-address es is
 no-address (Address distance ∷ es) is = absurd (true≢false is)
 
 -- a graph without bytes in memory takes no address
-frame-none : (g : Graph) → (frame_bytes g == 0) ≡ true → takes_address g ≡ false
-frame-none g is = by (g.local == 0) refl (takes_address g) is
+frame-none : (g : Graph) → (frame_bytes None g == 0) ≡ true → takes_address None g ≡ false
+frame-none g is = by (g.local == 0) refl (takes_address None g) is
   where
     by : (zero : Bool) → (g.local == 0) ≡ zero → (taken : Bool) → ((if zero then (if taken then 1 else 0) else g.local) == 0) ≡ true → taken ≡ false
     by true e true is = absurd (true≢false (sym is))
@@ -168,15 +168,15 @@ module _ (g : Graph) (formed : IsGraph g) (no_calls : All (λ b. All (λ stmt. i
 
   -- the places of addresses
   abbrev HasPlaces : Expr → Type 0
-  HasPlaces e = All (λ distance. is_some (placed_at (frame_bytes g) distance) ≡ true) (addresses_of e)
+  HasPlaces e = All (λ distance. is_some (placed_at (frame_bytes None g) distance) ≡ true) (addresses_of e)
 
-  placed-some : (e : Expr) → (frame_bytes g == 0) ≡ false → HasPlaces e
+  placed-some : (e : Expr) → (frame_bytes None g == 0) ≡ false → HasPlaces e
   placed-some e some =
-      all_had (λ distance. is_some (placed_at (frame_bytes g) distance) ≡ true) (addresses_of e)
-      (λ distance c. ap (λ (b : Bool). is_some {T = Placed} (if b then None else Some (frame_place (frame_bytes g) distance))) some)
+      all_had (λ distance. is_some (placed_at (frame_bytes None g) distance) ≡ true) (addresses_of e)
+      (λ distance c. ap (λ (b : Bool). is_some {T = Placed} (if b then None else Some (frame_place (frame_bytes None g) distance))) some)
 
-  placed-none : (e : Expr) → has_address e ≡ false → HasPlaces e
-  placed-none e is = subst (All (λ distance. is_some (placed_at (frame_bytes g) distance) ≡ true)) (sym (no-address (parts_of e) is)) (All-nil (λ distance. is_some (placed_at (frame_bytes g) distance) ≡ true))
+  placed-none : (e : Expr) → has_address None e ≡ false → HasPlaces e
+  placed-none e is = subst (All (λ distance. is_some (placed_at (frame_bytes None g) distance) ≡ true)) (sym (no-address (parts_of e) is)) (All-nil (λ distance. is_some (placed_at (frame_bytes None g) distance) ≡ true))
 
   module _ (b : Block) (inside : Contains g.blocks b) where
     block-formed : is_block g.bits (length g.blocks) b ≡ true
@@ -191,8 +191,8 @@ module _ (g : Graph) (formed : IsGraph g) (no_calls : All (λ b. All (λ stmt. i
     exit-mentioned : All (λ e. All Mentioned (reads_of e)) (exit_exprs b.exit)
     exit-mentioned = all_parts Mentioned reads_of (exit_exprs b.exit) (right_part Mentioned (flat_map stmt_mentions b.stmts) (flat_map reads_of (exit_exprs b.exit)) mentioned)
 
-    block-no-address : (frame_bytes g == 0) ≡ true → block_has_address b ≡ false
-    block-no-address zero = All-contains (λ x. block_has_address x ≡ false) g.blocks b (none block_has_address g.blocks (frame-none g zero)) inside
+    block-no-address : (frame_bytes None g == 0) ≡ true → block_has_address None b ≡ false
+    block-no-address zero = All-contains (λ x. block_has_address None x ≡ false) g.blocks b (none (block_has_address None) g.blocks (frame-none g zero)) inside
 
     abbrev ReadsNamed : Expr → Type 0
     ReadsNamed e = All Named (reads_of e)
@@ -205,10 +205,10 @@ module _ (g : Graph) (formed : IsGraph g) (no_calls : All (λ b. All (λ stmt. i
         (All-contains (AllLocated g.bits) (exit_exprs b.exit) e (exit-located g.bits (length g.blocks) b.exit (and_parts (list_all (is_stmt g.bits) b.stmts) _ block-formed).1) c))
 
     exit-places : All HasPlaces (exit_exprs b.exit)
-    exit-places = elim (decided (frame_bytes g == 0)) [
+    exit-places = elim (decided (frame_bytes None g == 0)) [
       | inl zero ↦
-          let no = (or_parts (list_any stmt_has_address b.stmts) (list_any has_address (exit_exprs b.exit)) (block-no-address zero)).1 in
-          All-weaker (λ e. has_address e ≡ false) HasPlaces (λ e is. placed-none e is) (exit_exprs b.exit) (none has_address (exit_exprs b.exit) no)
+          let no = (or_parts (list_any (stmt_has_address None) b.stmts) (list_any (has_address None) (exit_exprs b.exit)) (block-no-address zero)).1 in
+          All-weaker (λ e. has_address None e ≡ false) HasPlaces (λ e is. placed-none e is) (exit_exprs b.exit) (none (has_address None) (exit_exprs b.exit) no)
       | inr some ↦ all_had HasPlaces (exit_exprs b.exit) (λ e c. placed-some e some)
     ]
 
@@ -244,11 +244,11 @@ module _ (g : Graph) (formed : IsGraph g) (no_calls : All (λ b. All (λ stmt. i
           (writes-located g.bits stmt stmt-formed stmt-no-call)
 
       stmt-places : All HasPlaces (exprs_of stmt)
-      stmt-places = elim (decided (frame_bytes g == 0)) [
+      stmt-places = elim (decided (frame_bytes None g == 0)) [
         | inl zero ↦
-            let no = (or_parts (list_any stmt_has_address b.stmts) (list_any has_address (exit_exprs b.exit)) (block-no-address zero)).0 in
-            let own = All-contains (λ x. stmt_has_address x ≡ false) b.stmts stmt (none stmt_has_address b.stmts no) there in
-            All-weaker (λ e. has_address e ≡ false) HasPlaces (λ e is. placed-none e is) (exprs_of stmt) (none has_address (exprs_of stmt) own)
+            let no = (or_parts (list_any (stmt_has_address None) b.stmts) (list_any (has_address None) (exit_exprs b.exit)) (block-no-address zero)).0 in
+            let own = All-contains (λ x. stmt_has_address None x ≡ false) b.stmts stmt (none (stmt_has_address None) b.stmts no) there in
+            All-weaker (λ e. has_address None e ≡ false) HasPlaces (λ e is. placed-none e is) (exprs_of stmt) (none (has_address None) (exprs_of stmt) own)
         | inr some ↦ all_had HasPlaces (exprs_of stmt) (λ e c. placed-some e some)
       ]
 

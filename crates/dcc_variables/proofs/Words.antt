@@ -1,8 +1,9 @@
 -- The names of a text differ: each kind begins in its own way, and within a kind numbers and offsets differ.
-use Rattle.std.proofs.Common.{◌≡◌, ℕ, Some, ◌+◌, ◌<◌, ◌^◌, Bool, true, false, ◌==◌, List, [], ◌∷◌, ◌++◌, length, map, append_assoc, refl, sym, ap, ◌∙◌, true≢false, arith}
+use Rattle.std.proofs.Common.{◌≡◌, ℕ, Some, ◌+◌, ◌<◌, ◌^◌, Bool, true, false, ◌==◌, inl, inr, List, [], ◌∷◌, ◌++◌, length, map, append_assoc, refl, sym, ap, ◌∙◌, true≢false, arith}
 use Rattle.std.specs.Prelude.{◌&&◌, not, filter, codes, if◌then◌else◌, All}
 use Rattle.std.specs.List.{list_all, list_any}
 use Rattle.std.proofs.lemmas.Bool.{and_from, and_parts, eqb-false, not-true, not_from_false, or_from, or_parts, false_from_ne_true}
+use Rattle.std.proofs.lemmas.List.{append-nil}
 use Rattle.std.proofs.lemmas.List.Elements.{All-head, All-tail}
 use Rattle.std.proofs.lemmas.List.Folds.{list_all-append, list_any-append}
 use Rattle.dcc_ir.specs.declared.syntax.Loc.{Loc}
@@ -24,7 +25,8 @@ use Rattle.dcc_variables.specs.Globals.{array_of, bytes_below, bytes_above, glob
 use Rattle.dcc_variables.specs.Laws.{AreFew}
 use Rattle.dcc_variables.specs.Variables.{locations, Shape, shape_of, frame_name, variable, frame_array, declarations}
 use Rattle.dcc_variables.proofs.Declared.{own-differ, known-differ, all_names}
-use Rattle.dcc_variables.specs.Functions.{function_name, function_names, parameter_name, parameters_from, parameters, is_own, own_declarations}
+use Rattle.dcc_variables.specs.Functions.{function_name, function_names, parameter_name, parameters_from, parameters, memory_from, is_own, function_shape, own_declarations}
+use Rattle.dcc_variables.proofs.FramePlaces.{fewer-bytes}
 use Rattle.dcc_variables.proofs.ParamNames.{places-apart}
 
 -- Lists of names.
@@ -199,25 +201,43 @@ module _ (g : Graph) (few : AreFew (shape_of g)) (few_params : length g.params <
   named-again [] = refl
   named-again (x ∷ xs) = ap (λ ws. (variable shape x).name ∷ ws) (named-again xs)
 
-  abbrev own_names : List Loc → List Word
-  own_names xs = map (λ l. (variable shape l).name) xs ++ names_of (frame_array shape.frame)
+  -- how many bytes the array has
+  abbrev bytes : ℕ
+  bytes = (function_shape g).frame
 
-  own-is : (xs : List Loc) → names_of (map (variable shape) xs ++ frame_array shape.frame) ≡ own_names xs
-  own-is xs = names-append (map (variable shape) xs) (frame_array shape.frame) ∙ ap (λ ws. ws ++ names_of (frame_array shape.frame)) (named-again xs)
+  abbrev names_with : ℕ → List Loc → List Word
+  names_with count xs = map (λ l. (variable shape l).name) xs ++ names_of (frame_array count)
+
+  abbrev own_names : List Loc → List Word
+  own_names xs = names_with bytes xs
+
+  own-is : (count : ℕ) (xs : List Loc) → names_of (map (variable shape) xs ++ frame_array count) ≡ names_with count xs
+  own-is count xs = names-append (map (variable shape) xs) (frame_array count) ∙ ap (λ ws. ws ++ names_of (frame_array count)) (named-again xs)
 
   own-begin : (test : Word → Bool) → ((word : Word) → test (118 ∷ word) ≡ true) → (xs : List Loc) → Passes test (own_names xs)
-  own-begin test each [] = by (shape.frame == 0)
+  own-begin test each [] = by (bytes == 0)
     where
-      by : (none : Bool) → Passes test (names_of (if none then [] else record { name = frame_name; type = plain Uchar; len = Some shape.frame; class = Auto } ∷ []))
+      by : (none : Bool) → Passes test (names_of (if none then [] else record { name = frame_name; type = plain Uchar; len = Some bytes; class = Auto } ∷ []))
       by true = refl
       by false = and_from _ true (each _) refl
   own-begin test each (x ∷ xs) = and_from _ _ (each _) (own-begin test each xs)
 
   module _ (p : Program) (well : IsProgram p) where
+    -- the names with the array of all addresses differ, so those without an array do
+    names-apart : all_differ (own_names (locations g)) ≡ true
+    names-apart =
+        let all = ap all_differ (sym (own-is shape.frame (locations g))) ∙ differ-first (names_of (declarations shape)) (all_names (globals_of p)) (own-differ g few formed_graph p well.hi) in
+        elim (fewer-bytes (memory_from 0 g.params) g) [
+          | inl none ↦
+              ap (λ count. all_differ (names_with count (locations g))) none
+              ∙ ap all_differ (append-nil (map (λ l. (variable shape l).name) (locations g)))
+              ∙ differ-first (map (λ l. (variable shape l).name) (locations g)) (names_of (frame_array shape.frame)) all
+          | inr same ↦ ap (λ count. all_differ (names_with count (locations g))) same ∙ all
+        ]
+
     own-apart : all_differ (own_names (filter (is_own g) (locations g))) ≡ true
     own-apart =
-        differ-filter (λ l. (variable shape l).name) (is_own g) (names_of (frame_array shape.frame)) (locations g)
-        (ap all_differ (sym (own-is (locations g))) ∙ differ-first (names_of (declarations shape)) (all_names (globals_of p)) (own-differ g few formed_graph p well.hi))
+        differ-filter (λ l. (variable shape l).name) (is_own g) (names_of (frame_array bytes)) (locations g) names-apart
 
     abbrev own : List Word
     own = own_names (filter (is_own g) (locations g))
@@ -225,7 +245,7 @@ module _ (g : Graph) (few : AreFew (shape_of g)) (few_params : length g.params <
     pub all-apart : all_differ (names_of (parameters g ++ own_declarations g) ++ known p well) ≡ true
     all-apart =
         let names = names_of (parameters g) in
-        ap (λ ws. all_differ (ws ++ known p well)) (names-append (parameters g) (own_declarations g) ∙ ap (λ ws. names ++ ws) (own-is (filter (is_own g) (locations g))))
+        ap (λ ws. all_differ (ws ++ known p well)) (names-append (parameters g) (own_declarations g) ∙ ap (λ ws. names ++ ws) (own-is bytes (filter (is_own g) (locations g))))
         ∙ ap all_differ (append_assoc names own (known p well))
         ∙ differ-join (begins 112) names (own ++ known p well) (parameters-begin (begins 112) (λ place. refl) g.bits 0 g.params)
         (list_all-append (λ w. not (begins 112 w)) own (known p well) ∙ and_from _ _ (own-begin (λ w. not (begins 112 w)) (λ word. refl) (filter (is_own g) (locations g)))

@@ -1,14 +1,15 @@
 -- Where a text takes addresses of names.
-use Rattle.std.specs.Prelude.{◌≡◌, ℕ, Bool, false, List}
+use Rattle.std.specs.Prelude.{◌≡◌, ℕ, Bool, false, List, Some}
 use Rattle.std.specs.List.{list_any}
 use Rattle.dcc_ir.specs.declared.syntax.Loc.{Loc}
 use Rattle.dcc_ir.specs.Tree as inner
 use Rattle.dcc_c.specs.Parts.{parts_of, exprs_of, stmts_in}
 use Rattle.dcc_c.specs.Placement.{is_address_of, takes_address}
+use Rattle.dcc_c.specs.Token.{same_bytes}
 use Rattle.dcc_c.specs.Tree.{Word, Expr, Stmt, Lines}
 use Rattle.dcc_text.specs.Spelled.{Way, text}
 use Rattle.dcc_text.specs.Stmts.{stmt_text}
-use Rattle.dcc_variables.specs.Functions.{function_spelling, ret_text, openings}
+use Rattle.dcc_variables.specs.Functions.{parameter_name, memory_from, function_spelling, ret_text, openings}
 
 -- the expression, or one inside it, is the address of the name
 abbrev pub has_address_of : Word → Expr → Bool
@@ -23,7 +24,7 @@ abbrev pub BodiesTakeWhatStatementsTake : Type 0
 BodiesTakeWhatStatementsTake = (body : Lines) (word : Word)
     → takes_address body word ≡ list_any (stmt_has_address_of word) (stmts_in body)
 
--- Texts of a graph as a function take the address of no name: a frame's bytes go by an array.
+-- Texts of a graph as a function take the address of no such name.
 pub record TakesNoAddress (graph : inner.Graph) (word : Word) : Type 0 where
   pub expressions : (e : inner.Expr) (way : Way) (votes : Bool)
       → has_address_of word (text (function_spelling graph) way votes e) ≡ false
@@ -33,5 +34,11 @@ pub record TakesNoAddress (graph : inner.Graph) (word : Word) : Type 0 where
       → stmt_has_address_of word (ret_text (function_spelling graph) values) ≡ false
   pub openings : (opens : Loc → Bool) → list_any (stmt_has_address_of word) (openings opens graph) ≡ false
 
+-- The name is not that of the first argument in memory.
+abbrev pub IsNoMemoryName : inner.Graph → Word → Type 0
+IsNoMemoryName graph word =
+    (place : ℕ) → memory_from 0 graph.params ≡ Some place → same_bytes word (parameter_name place) ≡ false
+
+-- Local bytes of the frame go by an array, and arguments by that parameter alone.
 abbrev pub TextsTakeNoAddress : Type 0
-TextsTakeNoAddress = (graph : inner.Graph) (word : Word) → TakesNoAddress graph word
+TextsTakeNoAddress = (graph : inner.Graph) (word : Word) → IsNoMemoryName graph word → TakesNoAddress graph word

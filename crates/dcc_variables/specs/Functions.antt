@@ -1,6 +1,6 @@
 -- The functions of a text: one for each graph of a program. Their names, parameters, variables and results; how a body
 -- begins; and the text of a Ret.
-use Rattle.std.specs.Prelude.{◌≡◌, ℕ, ◌+◌, Bool, false, not, if◌then◌else◌, List, [], ◌∷◌, ◌++◌, filter, map, codes, Option, Some, None, is_some}
+use Rattle.std.specs.Prelude.{◌≡◌, ℕ, ◌+◌, ◌-◌, ◌*◌, Bool, false, ◌&&◌, not, if◌then◌else◌, List, [], ◌∷◌, ◌++◌, filter, map, codes, Option, Some, None, is_some}
 use Rattle.std.specs.Fmt.{decimal}
 use Rattle.dcc_ir.specs.declared.syntax.Loc.{Loc}
 use Rattle.dcc_ir.specs.declared.syntax.Put.{Put}
@@ -15,10 +15,10 @@ use Rattle.dcc_c.specs.declared.syntax.CType.{CType}
 use Rattle.dcc_c.specs.Types.{plain}
 use Rattle.dcc_c.specs.Tree.{Word, Expr, Name, Stmt, Assign, Return, Lines, no_lines, line, Variable, Function}
 use Rattle.dcc_text.specs.Hex.{name_at}
-use Rattle.dcc_text.specs.Spelling.{Spelling}
+use Rattle.dcc_text.specs.Spelling.{Placed, Spelling}
 use Rattle.dcc_text.specs.Spelled.{Low, unsigned_type, cut, moved_down, text}
 use Rattle.dcc_text.specs.Stmts.{place_of}
-use Rattle.dcc_variables.specs.Variables.{Shape, shape_of, variable_name, variable, frame_array, spelling_of}
+use Rattle.dcc_variables.specs.Variables.{Shape, is_told_from, frame_bytes, shape_of, variable_name, variable, frame_array, placed_at, spelling_of}
 
 -- Names.
 
@@ -72,7 +72,17 @@ parameters_from bits place (p ∷ params) = parameter bits place p ∷ parameter
 abbrev pub parameters : inner.Graph → List Variable
 parameters graph = parameters_from graph.bits 0 graph.params
 
+-- the place of the first argument of the stack that is kept in memory, among these params from a place on
+abbrev pub memory_from : ℕ → List Param → Option ℕ
+memory_from place [] = None
+memory_from place (p ∷ params) =
+    if p.stack && is_memory p.put then Some place else memory_from (place + 1) params
+
 -- Variables.
+
+-- a function has an array for the addresses that are told from no parameter
+abbrev pub function_shape : inner.Graph → Shape
+function_shape graph = record (shape_of graph) { frame = frame_bytes (memory_from 0 graph.params) graph }
 
 -- A location that takes a whole argument is that parameter; each other one has a variable of its own.
 abbrev pub name_or : Option ℕ → Word → Word
@@ -83,15 +93,30 @@ name_or None word = word
 abbrev pub name_by : Shape → List Param → Loc → Word
 name_by shape params location = name_or (place_from 0 params location) (variable_name shape location)
 
+-- an address by how far it lies above the parameter at a place
+abbrev pub argument_place : ℕ → ℕ → Placed
+argument_place place distance =
+    record { name = parameter_name place; is_array = false; above = distance - 2 * place }
+
+-- An address is told from the first argument in memory, or else from the array of so many bytes.
+abbrev pub place_by : Option ℕ → ℕ → ℕ → Option Placed
+place_by None bytes distance = placed_at bytes distance
+place_by (Some place) bytes distance =
+    if is_told_from (Some place) distance then Some (argument_place place distance) else placed_at bytes distance
+
 abbrev pub spelling_by : Shape → List Param → Spelling
-spelling_by shape params = record (spelling_of shape) { name = name_by shape params; function = function_name }
+spelling_by shape params = record (spelling_of shape) {
+  name = name_by shape params;
+  place = place_by (memory_from 0 params) shape.frame;
+  function = function_name;
+}
 
 abbrev pub location_name : inner.Graph → Loc → Word
-location_name graph = name_by (shape_of graph) graph.params
+location_name graph = name_by (function_shape graph) graph.params
 
 -- the spelling of a graph in the text of a program
 abbrev pub function_spelling : inner.Graph → Spelling
-function_spelling graph = spelling_by (shape_of graph) graph.params
+function_spelling graph = spelling_by (function_shape graph) graph.params
 
 -- the location is no parameter
 abbrev pub is_no_parameter : List Param → Loc → Bool
@@ -100,13 +125,13 @@ is_no_parameter params location = not (is_some (place_from 0 params location))
 abbrev pub is_own : inner.Graph → Loc → Bool
 is_own graph = is_no_parameter graph.params
 
--- the local variables: those of the locations that are no parameters, and the array of the frame's bytes
+-- the local variables: those of the locations that are no parameters, and the array of the frame
 abbrev pub own_by : Shape → List Param → List Variable
 own_by shape params =
     map (variable shape) (filter (is_no_parameter params) shape.locations) ++ frame_array shape.frame
 
 abbrev pub own_declarations : inner.Graph → List Variable
-own_declarations graph = own_by (shape_of graph) graph.params
+own_declarations graph = own_by (function_shape graph) graph.params
 
 -- Results.
 

@@ -1,6 +1,6 @@
--- The variables of a graph's text: one for each location that the graph reads or writes, and an array for the bytes of
--- its frame that are in memory.
-use Rattle.std.specs.Prelude.{ℕ, suc, ◌+◌, ◌*◌, ◌%◌, ◌==◌, max, Bool, true, false, ◌||◌, if◌then◌else◌, List, [], ◌∷◌, ◌++◌, filter, flat_map, length, map, codes, Option, Some, None}
+-- The variables of a graph's text: one for each location that the graph reads or writes, and an array for the local bytes
+-- of its frame that are in memory.
+use Rattle.std.specs.Prelude.{ℕ, suc, ◌+◌, ◌*◌, ◌%◌, ◌==◌, nat_le, nat_lt, max, Bool, true, false, not, ◌&&◌, ◌||◌, if◌then◌else◌, List, [], ◌∷◌, ◌++◌, filter, flat_map, length, map, codes, Option, Some, None}
 use Rattle.std.specs.List.{list_any, range_with_len}
 use Rattle.std.specs.Fmt.{decimal}
 use Rattle.dcc_num.specs.declared.Reg.{Reg}
@@ -62,31 +62,40 @@ locations graph =
 
 -- The bytes of the frame.
 
-abbrev pub is_address : Expr → Bool
-is_address (Address distance) = true
-is_address _ = false
+-- An address of the arguments, which lie above the frame's base, is told from the parameter at a place where it lies no
+-- deeper than that: parameters of the stack are words.
+abbrev pub is_told_from : Option ℕ → ℕ → Bool
+is_told_from None distance = false
+is_told_from (Some place) distance = nat_le (2 * place) distance && nat_lt distance 32768
 
--- an address in the frame is taken in the expression; in a statement; in a block; in the graph
-abbrev pub has_address : Expr → Bool
-has_address e = list_any is_address (parts_of e)
+-- an address that is told from no parameter, where there may be one from which some are
+abbrev pub is_address : Option ℕ → Expr → Bool
+is_address told (Address distance) = not (is_told_from told distance)
+is_address told _ = false
 
-abbrev pub stmt_has_address : Stmt → Bool
-stmt_has_address stmt = list_any has_address (exprs_of stmt)
+-- such an address is taken in the expression; in a statement; in a block; in the graph
+abbrev pub has_address : Option ℕ → Expr → Bool
+has_address told e = list_any (is_address told) (parts_of e)
 
-abbrev pub block_has_address : Block → Bool
-block_has_address block = list_any stmt_has_address block.stmts || list_any has_address (exit_exprs block.exit)
+abbrev pub stmt_has_address : Option ℕ → Stmt → Bool
+stmt_has_address told stmt = list_any (has_address told) (exprs_of stmt)
 
-abbrev pub takes_address : Graph → Bool
-takes_address graph = list_any block_has_address graph.blocks
+abbrev pub block_has_address : Option ℕ → Block → Bool
+block_has_address told block =
+    list_any (stmt_has_address told) block.stmts || list_any (has_address told) (exit_exprs block.exit)
 
--- how many bytes of the frame are in memory: a graph that takes an address there has one at least
-abbrev pub frame_bytes : Graph → ℕ
-frame_bytes graph = if graph.local == 0 then (if takes_address graph then 1 else 0) else graph.local
+abbrev pub takes_address : Option ℕ → Graph → Bool
+takes_address told graph = list_any (block_has_address told) graph.blocks
+
+-- how many bytes the array of the frame has: its local bytes in memory, and where there are none, one for the addresses
+-- that are told from no parameter, if there are such
+abbrev pub frame_bytes : Option ℕ → Graph → ℕ
+frame_bytes told graph = if graph.local == 0 then (if takes_address told graph then 1 else 0) else graph.local
 
 -- Names.
 
 -- What names depend on: the widths of the temporaries, the locations that have variables, how many cells there are up to
--- the last that has one, and how many bytes of the frame are in memory.
+-- the last that has one, and how many bytes the array of the frame has.
 pub record Shape : Type 0 where
   pub bits : List ℕ
   pub locations : List Loc
@@ -98,7 +107,7 @@ shape_of graph = record {
   bits = graph.bits;
   locations = locations graph;
   cells = cells_among (graph_mentions graph);
-  frame = frame_bytes graph;
+  frame = frame_bytes None graph;
 }
 
 -- the numbers of variables begin here for cells, and for SP and BP

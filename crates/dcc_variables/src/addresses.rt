@@ -8,101 +8,113 @@ ghost use Rattle.dcc_variables.specs.Variables as spec;
 
 use dcc_ir::{Block, End, Expr, Graph, Stmt};
 
-// An address is taken in the expression.
+/// Whether the address at a distance from the frame's base is told from the parameter at a place.
+pub fn is_told_from(told: Option<usize>, distance: u16) -> bool
+    ensures { result ≡ spec.is_told_from told distance }
+{
+    match told {
+        Some(place) => place <= usize::from(distance) / 2 && distance < 32768,
+        None => false,
+    }
+}
+
+// An address that is told from no parameter is taken in the expression.
 #[tactic(auto, using(crate::proofs::AddressLaws::any_rules))]
-fn has_address(e: &Expr) -> bool
-    ensures { result ≡ spec.has_address (expr_of e.now) }
+fn has_address(told: Option<usize>, e: &Expr) -> bool
+    ensures { result ≡ spec.has_address told (expr_of e.now) }
 {
     match e {
         Expr::Const(..) | Expr::Get(_) => false,
-        Expr::Address(_) => true,
-        Expr::Load(_, address) => has_address(address),
+        Expr::Address(distance) => !is_told_from(told, *distance),
+        Expr::Load(_, address) => has_address(told, address),
         Expr::Un(_, _, operand) | Expr::Widen(_, _, operand) | Expr::Part(_, _, operand) => {
-            has_address(operand)
+            has_address(told, operand)
         }
-        Expr::Bin(_, _, left, right) => has_address(left) || has_address(right),
-        Expr::Join(high, low) => has_address(high) || has_address(low),
+        Expr::Bin(_, _, left, right) => has_address(told, left) || has_address(told, right),
+        Expr::Join(high, low) => has_address(told, high) || has_address(told, low),
         Expr::Choose(test, one, other) => {
-            has_address(test) || has_address(one) || has_address(other)
+            has_address(told, test) || has_address(told, one) || has_address(told, other)
         }
     }
 }
 
-// An address is taken in one of the expressions.
-fn have_address(es: &[Expr]) -> bool
-    ensures { result ≡ list_any (λ e. spec.has_address (expr_of e)) es.now }
+// Such an address is taken in one of the expressions.
+fn have_address(told: Option<usize>, es: &[Expr]) -> bool
+    ensures { result ≡ list_any (λ e. spec.has_address told (expr_of e)) es.now }
 {
-    es.iter().any(|e| has_address(e))
+    es.iter().any(|e| has_address(told, e))
 }
 
-// An address is taken in the statement.
+// Such an address is taken in the statement.
 #[tactic(auto, using(crate::proofs::AddressLaws::any_rules))]
-fn stmt_has_address(stmt: &Stmt) -> bool
-    ensures { result ≡ spec.stmt_has_address (stmt_of stmt.now) }
+fn stmt_has_address(told: Option<usize>, stmt: &Stmt) -> bool
+    ensures { result ≡ spec.stmt_has_address told (stmt_of stmt.now) }
 {
     match stmt {
-        Stmt::Set { value, .. } => has_address(value),
-        Stmt::Load { address, .. } => has_address(address),
-        Stmt::Store { address, value, .. } => has_address(address) || has_address(value),
-        Stmt::Div { division, .. } => has_address(division),
-        Stmt::Call { arguments, .. } => have_address(arguments.as_slice()),
+        Stmt::Set { value, .. } => has_address(told, value),
+        Stmt::Load { address, .. } => has_address(told, address),
+        Stmt::Store { address, value, .. } => has_address(told, address)
+            || has_address(told, value),
+        Stmt::Div { division, .. } => has_address(told, division),
+        Stmt::Call { arguments, .. } => have_address(told, arguments.as_slice()),
         Stmt::Dos { argument, .. } => match argument {
-            Some(e) => has_address(e),
+            Some(e) => has_address(told, e),
             None => false,
         },
     }
 }
 
-// An address is taken at the end of a block.
+// Such an address is taken at the end of a block.
 #[tactic(auto, using(crate::proofs::AddressLaws::any_rules))]
-fn end_has_address(end: &End) -> bool
-    ensures { result ≡ list_any spec.has_address (exit_exprs (exit_of end.now)) }
+fn end_has_address(told: Option<usize>, end: &End) -> bool
+    ensures { result ≡ list_any (spec.has_address told) (exit_exprs (exit_of end.now)) }
 {
     match end {
-        End::If { test, .. } => has_address(test),
-        End::Switch { value, .. } => has_address(value),
-        End::Ret(values) => have_address(values.as_slice()),
+        End::If { test, .. } => has_address(told, test),
+        End::Switch { value, .. } => has_address(told, value),
+        End::Ret(values) => have_address(told, values.as_slice()),
         End::Goto(_) | End::Stop => false,
     }
 }
 
-// An address is taken in one of the statements.
-fn have_address_within(stmts: &[Stmt]) -> bool
-    ensures { result ≡ list_any (λ stmt. spec.stmt_has_address (stmt_of stmt)) stmts.now }
+// Such an address is taken in one of the statements.
+fn have_address_within(told: Option<usize>, stmts: &[Stmt]) -> bool
+    ensures { result ≡ list_any (λ stmt. spec.stmt_has_address told (stmt_of stmt)) stmts.now }
 {
-    stmts.iter().any(|stmt| stmt_has_address(stmt))
+    stmts.iter().any(|stmt| stmt_has_address(told, stmt))
 }
 
-// An address is taken in the block.
+// Such an address is taken in the block.
 #[tactic(auto, using(crate::proofs::AddressLaws::any_rules))]
-fn block_has_address(block: &Block) -> bool
-    ensures { result ≡ spec.block_has_address (block_of block.now) }
+fn block_has_address(told: Option<usize>, block: &Block) -> bool
+    ensures { result ≡ spec.block_has_address told (block_of block.now) }
 {
-    have_address_within(block.stmts.as_slice()) || end_has_address(&block.end)
+    have_address_within(told, block.stmts.as_slice()) || end_has_address(told, &block.end)
 }
 
-// An address is taken in one of the blocks.
-fn have_address_inside(blocks: &[Block]) -> bool
-    ensures { result ≡ list_any (λ b. spec.block_has_address (block_of b)) blocks.now }
+// Such an address is taken in one of the blocks.
+fn have_address_inside(told: Option<usize>, blocks: &[Block]) -> bool
+    ensures { result ≡ list_any (λ b. spec.block_has_address told (block_of b)) blocks.now }
 {
-    blocks.iter().any(|block| block_has_address(block))
+    blocks.iter().any(|block| block_has_address(told, block))
 }
 
-// An address is taken in the graph.
+// Such an address is taken in the graph.
 #[tactic(auto, using(crate::proofs::AddressLaws::any_rules))]
-fn takes_address(graph: &Graph) -> bool
-    ensures { result ≡ spec.takes_address (graph_of graph.now) }
+fn takes_address(told: Option<usize>, graph: &Graph) -> bool
+    ensures { result ≡ spec.takes_address told (graph_of graph.now) }
 {
-    have_address_inside(graph.blocks.as_slice())
+    have_address_inside(told, graph.blocks.as_slice())
 }
 
-/// How many bytes of the frame are in memory: a graph that takes an address there has one at least.
-pub fn frame_bytes(graph: &Graph) -> u16
-    ensures { result ≡ spec.frame_bytes (graph_of graph.now) }
+/// How many bytes the array of the frame has: its local bytes in memory, and where there are none, one for the addresses
+/// that are told from no parameter, if there are such. Some addresses are told from the parameter at the place.
+pub fn frame_bytes(told: Option<usize>, graph: &Graph) -> u16
+    ensures { result ≡ spec.frame_bytes told (graph_of graph.now) }
 {
     if graph.local != 0 {
         graph.local
-    } else if takes_address(graph) {
+    } else if takes_address(told, graph) {
         1
     } else {
         0

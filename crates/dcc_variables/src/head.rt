@@ -1,15 +1,18 @@
 //! The head of a graph's function: its name, parameters, variables and result.
 
-ghost use Rattle.std.specs.Prelude.{◌≡◌, ℕ, ◌+◌, ◌^◌, ◌<◌, ◌++◌, IfOk, OnOk, IfSome, filter, length, map, string_bytes};
+ghost use Rattle.std.specs.Prelude.{◌≡◌, ℕ, ◌+◌, ◌^◌, ◌<◌, ◌++◌, true, IfOk, OnOk, IfSome, filter, length, map, option_map, string_bytes};
 ghost use Rattle.dcc_ir.specs.Value.{width_of};
 ghost use Rattle.dcc_ir.specs.Views.{expr_of, graph_of};
 ghost use Rattle.dcc_ir.specs.WellFormed as formed;
 ghost use Rattle.dcc_c.specs.Views.{variable_of};
-ghost use Rattle.dcc_variables.specs.Variables.{shape_of, variable};
+ghost use Rattle.dcc_text.specs.Views.{placed_of};
+ghost use Rattle.dcc_variables.specs.Variables as shapes;
+ghost use Rattle.dcc_variables.specs.Variables.{variable};
 ghost use Rattle.dcc_variables.specs.Views.{shape_in};
 ghost use Rattle.dcc_variables.specs.Functions as spec;
 ghost use Rattle.dcc_variables.specs.FunctionLaws.{HasFewNames};
 
+use crate::addresses::{frame_bytes, is_told_from};
 use crate::variables::Variables;
 use dcc_c::{Base, CType, Class, Var};
 use dcc_ir::plain::scene::{same_location, width_of};
@@ -35,6 +38,26 @@ pub fn parameter_name(alloc: Global, place: usize) -> Result<String, AllocError>
     format!(in alloc; "p{number}")
 }
 
+// What stands for an address that is told from the parameter at a place.
+fn argument_place(
+    alloc: Global,
+    told: Option<usize>,
+    distance: u16,
+) -> Result<Option<Place>, AllocError>
+    requires { shapes.is_told_from told distance ≡ true }
+    ensures { IfOk result (λ place. option_map placed_of place
+        ≡ option_map (λ place. spec.argument_place place distance) told) }
+{
+    let Some(place) = told else {
+        return Ok(None);
+    };
+    Ok(Some(Place {
+        name: parameter_name(alloc, place)?,
+        is_array: false,
+        above: distance - 2 * place as u16,
+    }))
+}
+
 // Whether a location takes all bits of an argument.
 fn is_taken_whole(put: Put, location: Loc) -> bool
     ensures { result ≡ spec.is_taken_whole put location }
@@ -43,6 +66,19 @@ fn is_taken_whole(put: Put, location: Loc) -> bool
         Put::One(other) => same_location(location, other),
         Put::Memory | Put::Two(..) => false,
     }
+}
+
+// The place of the first argument of the stack that is kept in memory.
+fn memory_place(params: &[Param]) -> Option<usize>
+    ensures place { result ≡ spec.memory_from 0 params.now }
+    ensures within { IfSome result (λ place. place < length params.now) }
+{
+    for (place, p) in params.iter().enumerate() {
+        if p.stack && matches!(p.put, Put::Memory) {
+            return Some(place);
+        }
+    }
+    None
 }
 
 // How the parameter of a param is stored.
@@ -97,16 +133,19 @@ impl Head {
     /// The head of a graph's function. That there are more temporaries or params than 32 bits can number is told as
     /// want of memory.
     pub fn of(alloc: Global, graph: &Graph) -> Result<Self, AllocError>
-        ensures shape { IfOk result (λ h. shape_in h.variables ≡ shape_of (graph_of graph.now)) }
+        ensures shape { IfOk result (λ h. shape_in h.variables ≡ spec.function_shape (graph_of graph.now)) }
         ensures params { IfOk result (λ h. h.params.items ≡ (graph_of graph.now).params) }
         ensures few { OnOk result (HasFewNames (graph_of graph.now)) }
     {
         if u32::try_from(graph.params.len()).is_err() {
             return Err(AllocError);
         }
+        let params = graph.params.clone()?;
+        let frame = frame_bytes(memory_place(params.as_slice()), graph);
+        let variables = Variables::of(alloc, graph)?;
         Ok(Head {
-            variables: Variables::of(alloc, graph)?,
-            params: graph.params.clone()?,
+            variables: Variables { frame, ..variables },
+            params,
         })
     }
 
@@ -231,7 +270,11 @@ impl Spells for Head {
     }
 
     fn place(&self, alloc: Global, distance: u16) -> Result<Option<Place>, AllocError> {
-        self.variables.place(alloc, distance)
+        let told = memory_place(self.params.as_slice());
+        if !is_told_from(told, distance) {
+            return self.variables.place(alloc, distance);
+        }
+        argument_place(alloc, told, distance)
     }
 
     fn function(&self, alloc: Global, entry: u16) -> Result<String, AllocError> {

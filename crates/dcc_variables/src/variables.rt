@@ -119,7 +119,7 @@ pub struct Variables {
     pub locations: Vec<Loc>,
     /// How many cells there are up to the last that has a variable.
     pub cells: u32,
-    /// How many bytes of the frame are in memory.
+    /// How many bytes the array of the frame has.
     pub frame: u16,
 }
 
@@ -140,7 +140,7 @@ impl Variables {
             bits: graph.bits.clone()?,
             locations: mentioned(alloc, graph, all.as_slice())?,
             cells,
-            frame: frame_bytes(graph),
+            frame: frame_bytes(None, graph),
         })
     }
 
