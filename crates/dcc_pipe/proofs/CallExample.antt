@@ -28,7 +28,7 @@ use Rattle.dcc_sums.specs.Localised.{localised}
 use Rattle.dcc_ir.specs.Use.{graph_exprs}
 use Rattle.dcc_lift.specs.Lifted.{IsShallow}
 use Rattle.dcc_pack.specs.Packed.{packed}
-use Rattle.dcc_pipe.specs.Textable.{lifted_levels}
+use Rattle.dcc_pipe.specs.Textable.{lifted_levels, TakesApart}
 use Rattle.dcc_pipe.specs.Simplified.{IsSimplifiedGraph, HasEachChanged}
 use Rattle.dcc_pipe.specs.Prepared.{HasLiftedForm, IsPrepared}
 use Rattle.dcc_pipe.proofs.PreparedLaws.{what-is_left-is_prepared}
@@ -215,6 +215,7 @@ has-form = record {
   };
   back = no_words;
   passes = all-pass;
+  apart = of-both TakesApart refl refl;
   reads = reads-plain;
 }
 

@@ -1,31 +1,39 @@
--- The body of a graph's function takes no address of a name.
-use Rattle.std.proofs.Common.{◌≡◌, Bool, true, false, List, [], ◌∷◌, ◌++◌, Option, Some, None, slice_get, refl, sym, ap, ap₂, ◌∙◌, subst, true≢false}
-use Rattle.std.specs.Prelude.{◌||◌}
+-- The body of a graph's function takes the address of no name but that of the first argument in memory, and so of no
+-- parameter that is not in memory.
+use Rattle.std.proofs.Common.{◌≡◌, ℕ, ◌+◌, ◌^◌, ◌<◌, Bool, true, false, inl, inr, List, [], ◌∷◌, ◌++◌, length, Option, Some, None, slice_get, refl, sym, ap, ap₂, ◌∙◌, subst, true≢false, arith}
+use Rattle.std.specs.Prelude.{◌⊎◌, ◌&&◌, ◌||◌, not, if◌then◌else◌}
 use Rattle.std.specs.List.{list_all, list_any}
-use Rattle.std.proofs.lemmas.Bool.{or_parts}
+use Rattle.std.proofs.lemmas.Bool.{and_from, or_parts, or_left, or_right, false_from_ne_true}
 use Rattle.std.proofs.lemmas.List.Folds.{list_any-append}
 use Rattle.dcc_ir.specs.Tree as inner
 use Rattle.dcc_ir.specs.Live.{block_in}
+use Rattle.dcc_ir.specs.declared.syntax.Param.{Param}
+use Rattle.dcc_ir.specs.declared.syntax.Put.{Put}
+use Rattle.dcc_ir.specs.WellFormed.{is_memory}
+use Rattle.dcc_ir.proofs.PathLaws.{decided}
+use Rattle.dcc_c.specs.declared.syntax.Class.TheVariants.{Plain, Auto}
 use Rattle.dcc_c.specs.Parts.{stmts_in, inner_stmts, arm_stmts}
-use Rattle.dcc_c.specs.Placement.{takes_address}
+use Rattle.dcc_c.specs.Placement.{is_auto, takes_address}
 use Rattle.dcc_c.specs.Tree.{Word, Stmt, Assign, Empty, Lines, no_lines, line, Arms}
 use Rattle.dcc_text.specs.Spelled.{Low, Exact}
 use Rattle.dcc_text.specs.Spelling.{Spelling}
 use Rattle.dcc_text.specs.Stmts.{stmt_text}
-use Rattle.dcc_variables.specs.Addresses.{has_address_of, stmt_has_address_of, TakesNoAddress}
-use Rattle.dcc_variables.specs.Functions.{function_spelling, openings, BeginsWith}
+use Rattle.dcc_variables.specs.Addresses.{has_address_of, stmt_has_address_of, TakesNoAddress, IsNoMemoryName}
+use Rattle.dcc_variables.specs.Functions.{parameter_name, parameter_class, parameters_from, parameters, memory_from, function_spelling, openings, BeginsWith}
+use Rattle.dcc_variables.proofs.FramePlaces.{memory-within}
 use Rattle.dcc_variables.proofs.NoAddresses.{body-takes, texts-take-none}
+use Rattle.dcc_variables.proofs.ParamNames.{places-same}
 use Rattle.dcc_plan.specs.Plan as plan
 use Rattle.dcc_plan.specs.Plan.{Plan, Item}
 use Rattle.dcc_plan.specs.PlanText.{text_of_test, text_of_choice, text_of_return, IsPlanText, nothing, one_more, IsItemText, does, marks, jumps, tests, chooses, returns, repeats, breaks, continues, AreArmsText, no_more, next_arm}
 use Rattle.dcc_pipe.proofs.OpeningLines.{is_assignment}
 
-module _ (graph : inner.Graph) (word : Word) where
+module _ (graph : inner.Graph) (word : Word) (apart : IsNoMemoryName graph word) where
   abbrev s : Spelling
   s = function_spelling graph
 
   none : TakesNoAddress graph word
-  none = texts-take-none graph word
+  none = texts-take-none graph word apart
 
   abbrev Free : List Stmt → Type 0
   Free stmts = list_any (stmt_has_address_of word) stmts ≡ false
@@ -120,3 +128,59 @@ module _ (graph : inner.Graph) (word : Word) where
       → BeginsWith (openings opens graph) body lines → IsPlanText s graph p lines → takes_address body word ≡ false
   body-free opens body lines all begins is =
       body-takes body word ∙ opened-free (openings opens graph) (none.openings opens) all body lines begins (plan-free is)
+
+-- Parameters.
+
+module _ (graph : inner.Graph) (few : length graph.params < 2 ^ 32) (body : Lines)
+    (free : (word : Word) → IsNoMemoryName graph word → takes_address body word ≡ false) where
+  -- from a place on these are the params
+  abbrev IsRest : ℕ → List Param → Type 0
+  IsRest j params = (place : ℕ) → memory_from 0 graph.params ≡ Some place
+      → (place < j) ⊎ (memory_from j params ≡ Some place)
+
+  next-rest : (j : ℕ) (p : Param) (params : List Param) → IsRest j (p ∷ params) → IsRest (j + 1) params
+  next-rest j p params rest place memory = elim (rest place memory) [
+    | inl before ↦ inl (omega (arith, before))
+    | inr here ↦ by (p.stack && is_memory p.put) here
+  ]
+    where
+      by : (b : Bool) → (if b then Some j else memory_from (j + 1) params) ≡ Some place
+          → (place < j + 1) ⊎ (memory_from (j + 1) params ≡ Some place)
+      by true is = inl (let e : j ≡ place = cc in omega (arith, e))
+      by false is = inr is
+
+  -- a param that isn't in memory has another name than that which is
+  other-name : (j : ℕ) (p : Param) (params : List Param) → j < 2 ^ 63 → (p.stack && is_memory p.put) ≡ false
+      → IsRest j (p ∷ params) → IsNoMemoryName graph (parameter_name j)
+  other-name j p params small away rest place memory =
+      false_from_ne_true _ (λ same.
+      let within = memory-within graph.params 0 place memory in
+      let e = places-same j place small (omega (arith, within.1, few)) same in
+      elim (rest place memory) [
+        | inl before ↦ absurd (omega (arith, before, e))
+        | inr here ↦
+            let later = memory-within params (j + 1) place
+            (sym (ap (λ b. if b then Some j else memory_from (j + 1) params) away) ∙ here) in
+            absurd (omega (arith, later.0, e))
+      ])
+
+  unplaced-from : (j : ℕ) (params : List Param) → j + length params < 2 ^ 63 → IsRest j params
+      → list_all (λ v. is_auto v.class || not (takes_address body v.name)) (parameters_from graph.bits j params) ≡ true
+  unplaced-from j [] small rest = refl
+  unplaced-from j (p ∷ params) small rest =
+      and_from (is_auto (parameter_class p) || not (takes_address body (parameter_name j))) _
+      (elim (decided (p.stack && is_memory p.put)) [
+        | inl here ↦ or_left (is_auto (parameter_class p)) _ (auto p.stack p.put here)
+        | inr away ↦
+            or_right (is_auto (parameter_class p)) _
+            (ap not (free (parameter_name j) (other-name j p params (omega (arith, small)) away rest)))
+      ])
+      (unplaced-from (j + 1) params (omega (arith, small)) (next-rest j p params rest))
+    where
+      auto : (stack : Bool) (put : Put) → (stack && is_memory put) ≡ true
+          → is_auto (parameter_class (record { stack = stack; put = put })) ≡ true
+      auto true put is = ap (λ b. is_auto (if b then Auto else Plain)) is
+      auto false put is = absurd (true≢false (sym is))
+
+  pub unplaced : list_all (λ v. is_auto v.class || not (takes_address body v.name)) (parameters graph) ≡ true
+  unplaced = unplaced-from 0 graph.params (omega (arith, few)) (λ place memory. inr memory)

@@ -79,7 +79,7 @@ ret-meant bits Stop few = tt
 
 -- What a call takes is one value at most, of a procedure that returns.
 module _ (known : ℕ → Bool) where
-  abbrev Takes : List ℕ → Stmt → Type 0
+  abbrev pub Takes : List ℕ → Stmt → Type 0
   Takes bits stmt = TakesAtMostOne bits stmt × TakesOfReturning known stmt
 
   abbrev FewResults : List ℕ → Signature → Type 0
@@ -235,6 +235,12 @@ module _ (known : ℕ → Bool) where
       (λ b stmts. All-weaker (Takes known g.bits) (TakesOfReturning known) (λ stmt takes. takes.1) b.stmts stmts) g.blocks
       few.calls
 
+  -- so of each graph where at most one value passes back
+  pub all-few : (sum_of : ℕ → Summary) (p : Program) → AllPass known sum_of p → All (GivesFew known) p.graphs
+  all-few sum_of p passes =
+      all_had (GivesFew known) p.graphs (λ g c. few-of g (All-contains Gives p.graphs g passes.one.rets c)
+      (All-contains Calls p.graphs g passes.one.calls c) (All-contains Returned p.graphs g passes.returned c))
+
   -- what passes in a program passes still where each graph is simplified
   pub passes-stay : (sum_of : ℕ → Summary) (p q : Program) → AllZip IsSimplifiedGraph p.graphs q.graphs
       → AllPass known sum_of p → AllPass known sum_of q
@@ -254,5 +260,4 @@ module _ (known : ℕ → Bool) where
       few-each : All (GivesFew known) q.graphs
       few-each =
           all_zipped IsSimplifiedGraph (GivesFew known) (GivesFew known) (simplified-few known) p.graphs q.graphs left
-          (all_had (GivesFew known) p.graphs (λ g c. few-of g (All-contains Gives p.graphs g passes.one.rets c)
-          (All-contains Calls p.graphs g passes.one.calls c) (All-contains Returned p.graphs g passes.returned c)))
+          (all-few sum_of p passes)

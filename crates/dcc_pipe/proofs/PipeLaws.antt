@@ -1,6 +1,5 @@
 -- The text of a loaded program, from its parts.
-use Rattle.std.proofs.Common.{◌≡◌, ℕ, ◌<◌, List, [], ◌∷◌, length, Result, Ok, Err, IfOk, refl, sym, subst, arith}
-use Rattle.std.specs.declared.alloc.AllocError.{AllocError}
+use Rattle.std.proofs.Common.{◌≡◌, ℕ, ◌<◌, true, List, [], ◌∷◌, length, refl, sym, ap, ◌∙◌, subst, arith}
 use Rattle.dcc_prog.specs.declared.image.Image.{Image}
 use Rattle.dcc_prog.specs.declared.frame.Program.{Program}
 use Rattle.dcc_prog.specs.Analysed.{IsProgramOf}
@@ -9,13 +8,16 @@ use Rattle.dcc_c.specs.declared.syntax.Unit.{Unit as TextUnit}
 use Rattle.dcc_c.specs.Views.{tree_of}
 use Rattle.dcc_c.specs.Written.{written_form}
 use Rattle.dcc_c.specs.Numbered.{numbered}
+use Rattle.dcc_c.specs.Tree.{Tree}
 use Rattle.dcc_c.proofs.NumberedForm.{written_numbered}
 use Rattle.dcc_c.proofs.PrintLaws.{writable_stands}
 use Rattle.dcc_c.proofs.Writable.{IsWritable}
+use Rattle.dcc_pipe.specs.Unbroken.{is_unbroken_tree}
 use Rattle.dcc_pipe.specs.WholeText.{whole_text, FitsText}
 use Rattle.dcc_pipe.specs.Agreement.{IsTextOf}
 use Rattle.dcc_pipe.specs.Following.{IsFollowing}
 use Rattle.dcc_pipe.proofs.TextRuns.{text-agrees}
+use Rattle.dcc_pipe.proofs.UnbrokenText.{tree-unbroken}
 use Rattle.dcc_pipe.proofs.WholeTexts.{program as inner_program}
 use Rattle.dcc_pipe.proofs.WritableWholes.{whole-writable}
 
@@ -41,6 +43,12 @@ fits-writable p fits =
     (λ fits. whole-writable it.first it.others p.image p.lo p.hi fits.textable.formed fits.few fits.textable.shallow fits.takes)
     fits
 
+-- the tree whose lines are counted is that text's
+pub counted-tree : (p : inner.Program) → FitsText p → (counted tree : Tree) → tree ≡ whole_text p
+    → (is_unbroken_tree tree ≡ true → counted ≡ numbered tree) → counted ≡ numbered (whole_text p)
+counted-tree p fits counted tree same counts =
+    counts (ap is_unbroken_tree same ∙ tree-unbroken (whole_text p) (fits-writable p fits)) ∙ ap numbered same
+
 -- The text of a program that follows the image.
 module _ (image : Image) (program : Program) (is : IsProgramOf program.layout.cpu image program) where
   -- it agrees with the image
@@ -60,12 +68,11 @@ module _ (image : Image) (program : Program) (is : IsProgramOf program.layout.cp
       }) fits follows
 
   -- what is told of a unit whose tree is that text's, with its lines counted
-  pub text-is : (p : inner.Program) → FitsText p → IsFollowing image program p → (result : Result TextUnit AllocError)
-      → IfOk result (λ unit. tree_of unit ≡ numbered (whole_text p))
-      → IfOk result (λ unit. IsTextOf program.layout.cpu image (written_form (tree_of unit)) (tree_of unit))
-  text-is p fits follows (Ok unit) same =
+  pub text-is : (p : inner.Program) → FitsText p → IsFollowing image program p → (unit : TextUnit)
+      → tree_of unit ≡ numbered (whole_text p)
+      → IsTextOf program.layout.cpu image (written_form (tree_of unit)) (tree_of unit)
+  text-is p fits follows unit same =
       let tree = numbered (whole_text p) in
       subst (λ t. IsTextOf program.layout.cpu image (written_form t) t) (sym same)
       (subst (λ text. IsTextOf program.layout.cpu image text tree) (sym (written_numbered (whole_text p)))
       (agreeing-text p fits follows))
-  text-is p fits follows (Err fault) same = tt

@@ -11,6 +11,7 @@ use Rattle.dcc_ir.specs.Measure.{depth_of}
 use Rattle.dcc_ir.specs.Trimmed.{Trim, trim_graph}
 use Rattle.dcc_ir.specs.Use.{graph_exprs}
 use Rattle.dcc_ir.proofs.KeepsLaws.{keeps_trans}
+use Rattle.dcc_ir.proofs.ZipLaws.{all_zipped}
 use Rattle.dcc_lift.specs.Lifted.{IsShallow}
 use Rattle.dcc_sums.specs.Laws.{IsKeptBy}
 use Rattle.dcc_sums.specs.Localised.{sum_at, trim_by, localised, CallsJust, PassesJust}
@@ -21,9 +22,10 @@ use Rattle.dcc_pack.proofs.DepthLaws.{packed-is_shallow}
 use Rattle.dcc_pack.proofs.GiveLaws.{packed-passes_one}
 use Rattle.dcc_pack.proofs.LocalLaws.{localised-passes_one_value}
 use Rattle.dcc_pack.proofs.PackLaws.{packed-keeps}
-use Rattle.dcc_pipe.specs.Textable.{lifted_levels, levels}
+use Rattle.dcc_pipe.specs.Textable.{lifted_levels, levels, TakesApart}
 use Rattle.dcc_pipe.specs.Simplified.{IsSimplifiedGraph, HasEachChanged, IsSimplified}
 use Rattle.dcc_pipe.specs.Prepared.{has_ret, returns, TakesOfReturning, HasLiftedForm, AreSumsOfText, IsPrepared, WhatIsLeftIsPrepared}
+use Rattle.dcc_pipe.proofs.ApartLaws.{trimmed-apart, packed-apart, simplified-apart}
 use Rattle.dcc_pipe.proofs.ReplacedLaws.{HasSameBlocks, alike-at, blocks-stay}
 use Rattle.dcc_pipe.proofs.SimplifiedLaws.{deepest-of, none-deeper, never-stuck, all-both, simplified-trans, program-simplified}
 use Rattle.dcc_pipe.proofs.TrimmedLaws.{trimmed-parts, trimmed-reads}
@@ -100,6 +102,14 @@ module _ (p : Program) (sums : List Summary) (form : HasLiftedForm p) (known : A
       (λ g fine. (trimmed-parts trim (λ e. depth_of e ≤ lifted_levels) g fine.0, trimmed-reads trim g fine.1)) p.graphs
       (all-both (IsShallow lifted_levels) FlagsReadPlainly p.graphs form.textable.shallow form.reads))))
 
+  -- no location takes two arguments
+  together-apart : All TakesApart together.graphs
+  together-apart =
+      All-map TakesApart pack_graph just.graphs
+      (All-weaker TakesApart (λ g. TakesApart (pack_graph g)) packed-apart just.graphs
+      (All-map TakesApart (trim_graph trim) p.graphs
+      (All-weaker TakesApart (λ g. TakesApart (trim_graph trim g)) (trimmed-apart trim) p.graphs form.apart)))
+
   together-simplified : IsSimplified lifted_levels p together
   together-simplified = record {
     textable = record {
@@ -168,10 +178,14 @@ module _ (p : Program) (sums : List Summary) (form : HasLiftedForm p) (known : A
     left-prepared = record {
       sums = sums;
       known = known;
+      made = left;
       passes = left-passes.one;
       returned =
           subst (λ known. All (λ g. All (λ b. All (TakesOfReturning known) b.stmts) g.blocks) q.graphs) (sym returns-still)
           left-passes.returned;
+      apart =
+          all_zipped IsSimplifiedGraph TakesApart TakesApart simplified-apart together.graphs q.graphs left.graphs
+          together-apart;
       simplified = simplified-trans lifted_levels levels p together q together-simplified left-simplified;
     }
 

@@ -1,19 +1,29 @@
--- What refuses a program's layout refuses the program, and nothing refuses one that is analysed.
-use Rattle.std.proofs.Common.{◌≡◌, List, sym, subst}
+-- What refuses a program's layout refuses the program, and nothing refuses one that is analysed. What is at fault in what
+-- is lifted of it is a construct.
+use Rattle.std.proofs.Common.{◌≡◌, ℕ, List, sym, subst}
 use Rattle.dcc_prog.specs.declared.cpu.Cpu.{Cpu}
 use Rattle.dcc_prog.specs.declared.image.Image.{Image}
 use Rattle.dcc_prog.specs.declared.procedure.Layout.{Layout}
 use Rattle.dcc_prog.specs.declared.procedure.Proc.{Proc}
-use Rattle.dcc_prog.specs.declared.frame.Program.{Program}
+use Rattle.dcc_prog.specs.declared.frame.Program.{Program as Analysed}
 use Rattle.dcc_prog.specs.declared.refusal.Refusal.{Refusal}
 use Rattle.dcc_prog.specs.declared.refusal.Refusal.TheVariants.{Construct}
-use Rattle.dcc_prog.specs.Analysed.{IsProgramOf}
-use Rattle.dcc_prog.specs.Built.{IsBuilt}
 use Rattle.dcc_prog.specs.Found.{AreFound}
 use Rattle.dcc_prog.specs.Layout.{HasLayout}
-use Rattle.dcc_prog.specs.Refused.{IsAcceptedByTrails, IsAcceptedByHeights, IsAcceptedByFrames, IsAcceptedByAll, IsAcceptedProgram, IsSound, IsRefusedByAnalysis, no_layout}
-use Rattle.dcc_prog.proofs.RefusedLaws.{all-sound, all-accepted}
+use Rattle.dcc_prog.specs.Refused.{IsAcceptedByTrails, IsAcceptedByHeights, IsAcceptedByFrames, IsAcceptedByAll, IsSound, IsRefusedByAnalysis, no_layout}
+use Rattle.dcc_prog.proofs.RefusedLaws.{all-sound}
 use Rattle.dcc_layout.specs.Refusal as layout
+use Rattle.dcc_stack.specs.Accepted.{IsProgramOfFile}
+use Rattle.dcc_asks.specs.Asked.{IsOfSummaries}
+use Rattle.dcc_asks.specs.Bodies.{bodies_of}
+use Rattle.dcc_ir.specs.Tree.{Program, Summary}
+use Rattle.dcc_lift.specs.Lifted.{IsLiftOf}
+use Rattle.dcc_lift.specs.Translated.{IsTranslated}
+use Rattle.dcc_agree.specs.Laws.{LiftedRelationsAreTheMachines}
+use Rattle.dcc_wanted.specs.declared.summaries.SumsFault.{SumsFault}
+use Rattle.dcc_wanted.specs.Summaries.{IsFault}
+use Rattle.dcc_kinds.specs.Laws.{IsLikeMachine, IsConstructOf, FaultsAreConstructs, SummedProgramsHaveNone}
+use Rattle.dcc_pipe.specs.Prepared.{AreSumsOfText}
 
 pub layout-refused : (cpu : Cpu) (image : Image) (refusal : Refusal) → layout.IsRefusal cpu image refusal → IsRefusedByAnalysis cpu image refusal
 layout-refused cpu image (Construct kind at) h = subst (λ k. IsRefusedByAnalysis cpu image (Construct k at)) (sym h.0) (no_layout h.1)
@@ -31,11 +41,21 @@ accepted-all image layout procs found heights frames =
 pub accepted-sound : (cpu : Cpu) (image : Image) (layout : Layout) → layout.cpu ≡ cpu → HasLayout image layout → IsAcceptedByAll image layout → IsSound cpu image
 accepted-sound cpu image layout runs_on has all = subst (λ c. IsSound c image) runs_on (all-sound image layout has all)
 
-module _ (cpu : Cpu) (image : Image) (program : Program) (is : IsProgramOf cpu image program) where
-  -- no analysis tells anything of a program that is analysed
-  pub program-by_all : IsAcceptedByAll image program.layout
-  program-by_all = accepted-all image program.layout program.procs.items is.procs is.heights.accepted is.cells.accepted
+-- What is lifted of a file's image, where lifted programs have the relations of the machine's procedures.
+module _ (image : Image) (program : Analysed) (p : Program) (file : IsProgramOfFile program.layout.cpu image program)
+    (of : IsLiftOf image program p) (same : LiftedRelationsAreTheMachines) where
+  translated : IsTranslated image program p
+  translated = record { of_file = file; translation = of.translation }
 
-  -- and if all is built, it is decompiled
-  pub program-accepted : IsBuilt image program.layout → IsAcceptedProgram cpu image
-  program-accepted built = subst (λ c. IsAcceptedProgram c image) is.runs_on (all-accepted image program.layout is.layout program-by_all built)
+  like : IsLikeMachine image program p
+  like = record { translated = translated; relations = same image program p translated }
+
+  -- what is at fault in it is a construct of the image
+  pub fault-construct : FaultsAreConstructs → (fault : SumsFault) → IsFault p fault
+      → IsConstructOf (bodies_of program) fault
+  fault-construct law fault is = law image program p fault like is
+
+  -- and where it has summaries that a text can have, there is none
+  pub summed-none : SummedProgramsHaveNone → (sums : List Summary) → AreSumsOfText p sums → (kind at : ℕ)
+      → ¬ IsOfSummaries (bodies_of program) kind at
+  summed-none law sums known = law image program p sums like known.are known.reuses known.one

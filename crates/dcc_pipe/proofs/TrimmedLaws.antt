@@ -14,7 +14,7 @@ use Rattle.dcc_ir.proofs.ListLaws.{left_part}
 -- Lists.
 
 -- what all elements have, those have that stay
-kept-all : {A : Type 0} (P : A → Type 0) (stays : ℕ → Bool) (xs : List A) → All P xs → All P (kept stays xs)
+pub kept-all : {A : Type 0} (P : A → Type 0) (stays : ℕ → Bool) (xs : List A) → All P xs → All P (kept stays xs)
 kept-all P stays [] all = all
 kept-all P stays (x ∷ xs) all = by (stays 0) (kept-all P (λ k. stays (suc k)) xs (All-tail P x xs all))
   where

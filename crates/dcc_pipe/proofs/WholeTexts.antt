@@ -4,9 +4,7 @@ use Rattle.std.specs.Prelude.{◌⊎◌, ◌&&◌, ◌||◌, not, All, Contains,
 use Rattle.std.specs.List.{AllZip, list_all, list_any}
 use Rattle.std.proofs.lemmas.Bool.{and_parts, or_left, or_parts}
 use Rattle.std.proofs.lemmas.List.Elements.{All-contains, All-head, All-tail, Contains-get_or}
-use Rattle.dcc_ir.specs.Families.{Family}
 use Rattle.dcc_ir.specs.Live.{block_in}
-use Rattle.dcc_ir.specs.Run.{is_call, no_block}
 use Rattle.dcc_ir.specs.Tree as inner
 use Rattle.dcc_ir.specs.WellFormed.{all_differ, IsGraph, IsProgram}
 use Rattle.dcc_ir.proofs.ListLaws.{all_had}
@@ -16,18 +14,15 @@ use Rattle.dcc_c.specs.Numbered.{rows, numbered, numbered_lines, numbered_functi
 use Rattle.dcc_c.specs.Placement.{is_auto, takes_address}
 use Rattle.dcc_c.specs.Rules as rules
 use Rattle.dcc_c.specs.Run.{function_in}
-use Rattle.dcc_c.specs.Tree.{Word, Variable, Function, Tree}
+use Rattle.dcc_c.specs.Tree.{Word, Function, Tree}
 use Rattle.dcc_c.specs.Written.{written_globals}
-use Rattle.dcc_text.specs.Laws.{IsStep}
-use Rattle.dcc_variables.specs.FunctionLaws.{HasFewNames, has_name, IsServedStmt, IsServedByFunction}
+use Rattle.dcc_variables.specs.FunctionLaws.{HasFewNames}
 use Rattle.dcc_variables.specs.Functions.{function_name, function_names, function_spelling, openings, BeginsWith, IsFunctionOf}
 use Rattle.dcc_variables.specs.Globals.{globals_of}
 use Rattle.dcc_variables.proofs.ParamNames.{spelling-is}
-use Rattle.dcc_variables.proofs.Served.{functions-served}
 use Rattle.dcc_variables.proofs.Words.{known-differ-all}
 use Rattle.dcc_plan.specs.CallLaws.{IsBeginning}
 use Rattle.dcc_plan.specs.Calls.{all_places, locations_differ, IsNamed, IsCallable, AreFunctions}
-use Rattle.dcc_plan.specs.Laws.{IsCallStep, AreSteps, Matters}
 use Rattle.dcc_plan.specs.PlanText.{plan_text, IsPlanText}
 use Rattle.dcc_plan.specs.Programs.{Texts, OpensWith, IsGraphText, open_setting, GivesFew, IsProgramText, AreAllKept}
 use Rattle.dcc_plan.specs.Valid.{IsPlanOf, BeginsAll, only_goes}
@@ -36,10 +31,11 @@ use Rattle.dcc_plan.specs.GotoPlan.{goto_plan}
 use Rattle.dcc_plan.proofs.CompleteLaws.{completed-valid}
 use Rattle.dcc_plan.proofs.GotoLaws.{goto-valid}
 use Rattle.dcc_plan.proofs.TextLaws.{numbered-text}
-use Rattle.dcc_pipe.specs.WholeText.{control, opened, text_function, other_functions, whole_text}
+use Rattle.dcc_pipe.specs.WholeText.{control, opened, text_function, other_functions, text_functions, whole_text}
+use Rattle.dcc_pipe.proofs.MatteringLaws.{mattering, mattering-matters, matters-opened, opened-named}
 use Rattle.dcc_pipe.proofs.OpeningLines.{openings-assign, GoesOn, goes-on, after_lines, after-opens}
 use Rattle.dcc_pipe.proofs.FunctionTables.{function_for, later-functions, functions-are, each-of, each-function, IsNumbered, IsOther, IsOne, others-numbered, all-numbered, found-by_name}
-use Rattle.dcc_pipe.proofs.FreeBodies.{body-free}
+use Rattle.dcc_pipe.proofs.FreeBodies.{body-free, unplaced}
 
 -- Names in a list of which a part is taken.
 
@@ -65,57 +61,14 @@ differ-left (x ∷ xs) ys differ =
     ap₂ (λ a b. a && b) (not-among (is_among xs x) (is_among (xs ++ ys) x) (among-left xs ys x) parts.0)
     (differ-left xs ys parts.1)
 
--- What has a name matters everywhere.
-
-abbrev pub all_named : inner.Graph → Family
-all_named graph block stmts location = has_name graph location
+-- One graph and its function.
 
 module _ (g : inner.Graph) (formed : IsGraph g) where
-  steps-served : (stmts : List inner.Stmt) → All (IsServedStmt g) stmts
-      → AreSteps (function_spelling g) (λ rest location. has_name g location) stmts
-  steps-served [] served = tt
-  steps-served (stmt ∷ stmts) served =
-      let here = All-head (IsServedStmt g) stmt stmts served in
-      (by (is_call stmt) refl here, steps-served stmts (All-tail (IsServedStmt g) stmt stmts served))
-    where
-      by : (b : Bool) → is_call stmt ≡ b → IsServedStmt g stmt
-          → IsStep (function_spelling g) (has_name g) (has_name g) stmt ⊎ IsCallStep (function_spelling g) (has_name g) (has_name g) stmt
-      by true call here = inr (record {
-        formed = here.formed;
-        call = call;
-        within = here.within;
-        written = here.written;
-        named = λ location is. is;
-        left = λ location is. inr is;
-      })
-      by false call here = inl (record {
-        formed = here.formed;
-        no_call = call;
-        within = here.within;
-        written = here.written;
-        named = λ location is. is;
-        left = λ location is. inr is;
-      })
-
-  served-in : (b : ℕ) → b < length g.blocks → IsServedByFunction g (block_in g b)
-  served-in b less =
-      All-contains (IsServedByFunction g) g.blocks (block_in g b) (functions-served g formed)
-      (Contains-get_or g.blocks b no_block less)
-
-  pub named-matters : Matters (function_spelling g) g (all_named g)
-  named-matters = record {
-    steps = λ b less. steps-served (block_in g b).stmts (served-in b less).stmts;
-    tested = λ b less. (served-in b less).exits;
-    goes = λ b next less to there location is. is;
-  }
-
   pub control-plan : IsPlanOf g (control g) × BeginsAll g (control g)
   control-plan =
       let plan = goto-valid g formed in
       let whole = completed-valid g (goto_plan g) plan.0 in
       (whole.0, whole.1 plan.1)
-
--- One graph and its function.
 
 module _ (g : inner.Graph) (f : Function) (is : IsOne g f) where
   pub body-goes : GoesOn (openings (opened g) g) f.body (plan_text (function_spelling g) g (control g))
@@ -125,8 +78,36 @@ module _ (g : inner.Graph) (f : Function) (is : IsOne g f) where
       (goes-on (openings (opened g) g) (openings-assign (function_spelling g) (opened g) 0 g.params) 2 _
       (plan_text (function_spelling g) g (control g)))
 
+  -- the body takes the address of no parameter that is not in memory
+  pub one-unplaced : HasFewNames g → list_all (λ v. is_auto v.class || not (takes_address f.body v.name)) f.params ≡ true
+  one-unplaced few =
+      let number = is.1 in
+      let plan = plan_text (function_spelling g) g (control g) in
+      subst (λ vs. list_all (λ v. is_auto v.class || not (takes_address f.body v.name)) vs ≡ true)
+      (sym (ap (λ (h : Function). h.params) number.is))
+      (unplaced g few.params f.body (λ word apart.
+      body-free g word apart (opened g) f.body (numbered_lines body-goes.depth body-goes.at plan)
+      (openings-assign (function_spelling g) (opened g) 0 g.params) body-goes.begins
+      (numbered-text (function_spelling g) g (control g) _ _)))
+
 function-of : (name : Word) (g : inner.Graph) (f : Function) → IsNumbered name g f → IsFunctionOf g name f
 function-of name g f number = subst (IsFunctionOf g name) (sym number.is) refl
+
+-- The functions of graphs have their names.
+
+names-are : (at : ℕ) (graphs : List inner.Graph)
+    → map (λ f. f.name) (numbered_functions at (other_functions graphs)) ≡ map (λ graph. function_name graph.entry) graphs
+names-are at [] = refl
+names-are at (g ∷ graphs) =
+    let here = numbered_function at (text_function (function_name g.entry) g) in
+    ap (λ ws. function_name g.entry ∷ ws) (names-are (here.last + 1) graphs)
+
+pub text-names : (at : ℕ) (graphs : List inner.Graph)
+    → map (λ f. f.name) (numbered_functions at (text_functions graphs)) ≡ function_names graphs
+text-names at [] = refl
+text-names at (g ∷ graphs) =
+    let here = numbered_function at (text_function (codes "start") g) in
+    ap (λ ws. codes "start" ∷ ws) (names-are (here.last + 1) graphs)
 
 -- A program with a first graph.
 
@@ -153,21 +134,14 @@ module _ (first : inner.Graph) (others : List inner.Graph) (image : List ℕ) (l
   texts = record {
     spelling = function_spelling;
     function = function;
-    matters = all_named;
+    matters = mattering;
     plan = control;
     openings = λ graph. length (openings (opened graph) graph);
     lines = λ graph. after_lines (length (openings (opened graph) graph)) (function graph).body;
   }
 
-  names-are : (at : ℕ) (graphs : List inner.Graph)
-      → map (λ f. f.name) (numbered_functions at (other_functions graphs)) ≡ map (λ graph. function_name graph.entry) graphs
-  names-are at [] = refl
-  names-are at (g ∷ graphs) =
-      let here = numbered_function at (text_function (function_name g.entry) g) in
-      ap (λ ws. function_name g.entry ∷ ws) (names-are (here.last + 1) graphs)
-
   pub all-names : map (λ f. f.name) tree.functions ≡ function_names program.graphs
-  all-names = ap (λ ws. codes "start" ∷ ws) (names-are (start.last + 1) others)
+  all-names = text-names head program.graphs
 
   module _ (well : IsProgram program) (few : All HasFewNames program.graphs)
       (apart : All (λ g. locations_differ (all_places g.params) ≡ true) program.graphs)
@@ -201,7 +175,7 @@ module _ (first : inner.Graph) (others : List inner.Graph) (image : List ℕ) (l
     graph-text : (g : inner.Graph) → Contains program.graphs g → IsGraphText texts g
     graph-text g c = record {
       spelling = spelling-is g (few-of g c).variables (few-of g c).params;
-      matters = named-matters g (graph-formed g c);
+      matters = mattering-matters g (graph-formed g c);
       is_plan = (control-plan g (graph-formed g c)).0;
       text = lines-text g c;
       opens = subst (OpensWith (texts.openings g) (function g).body) (sym (lines-are g c)) (body-goes g (function g) (one-of g c)).opens;
@@ -213,7 +187,7 @@ module _ (first : inner.Graph) (others : List inner.Graph) (image : List ℕ) (l
     graph-named g c = record {
       few = few-of g c;
       apart = All-contains (λ g. locations_differ (all_places g.params) ≡ true) program.graphs g apart c;
-      named = λ block stmts location is. is;
+      named = λ block stmts location is. is.0;
     }
 
     others-each : All (λ g. IsOther g (function g)) others
@@ -256,25 +230,10 @@ module _ (first : inner.Graph) (others : List inner.Graph) (image : List ℕ) (l
           function = is;
           found = subst (λ word. function_in tree.functions word ≡ Some (function g)) (ap (λ (f : Function). f.name) is)
               (found-by_name tree.functions functions-differ (function g) (function-there g there));
-          unplaced = unplaced (function g).params;
-          opened = λ location among is. is;
-          named = λ location is. is;
+          unplaced = one-unplaced g (function g) (one-of g there) (few-of g there);
+          opened = λ location among is. matters-opened g (graph-formed g there) location is;
+          named = opened-named g (graph-formed g there);
         }
-      where
-        free : (word : Word) → takes_address (function g).body word ≡ false
-        free word =
-            let c = Contains-later first others g c in
-            body-free g word (opened g) (function g).body (texts.lines g) (openings-assign (function_spelling g) (opened g) 0 g.params)
-            (begins-lines g c) (lines-text g c)
-
-        either : (b : Bool) → (b || true) ≡ true
-        either true = refl
-        either false = refl
-
-        unplaced : (vs : List Variable) → list_all (λ v. is_auto v.class || not (takes_address (function g).body v.name)) vs ≡ true
-        unplaced [] = refl
-        unplaced (v ∷ vs) =
-            ap₂ (λ a b. a && b) (ap (λ b. is_auto v.class || not b) (free v.name) ∙ either (is_auto v.class)) (unplaced vs)
 
     all-functions : AreFunctions opened (open_setting texts) program tree
     all-functions = record {

@@ -1,9 +1,9 @@
 -- The text of a whole program is writable.
-use Rattle.std.proofs.Common.{◌≡◌, ℕ, ◌+◌, ◌^◌, ◌<◌, ◌≤◌, Bool, true, false, cond, ◌==◌, List, [], ◌∷◌, ◌++◌, length, map, flat_map, Some, None, refl, sym, ap, ◌∙◌, subst, eqb-true, true≢false, arith}
-use Rattle.std.specs.Prelude.{◌&&◌, All, Contains, filter, codes}
+use Rattle.std.proofs.Common.{◌≡◌, ℕ, ◌+◌, ◌^◌, ◌<◌, ◌≤◌, Bool, true, false, cond, ◌==◌, inl, inr, List, [], ◌∷◌, ◌++◌, length, map, flat_map, Some, None, refl, sym, ap, ◌∙◌, subst, eqb-true, true≢false, arith}
+use Rattle.std.specs.Prelude.{◌⊎◌, ◌&&◌, All, Contains, filter, codes}
 use Rattle.std.specs.List.{list_all}
 use Rattle.std.proofs.lemmas.Bool.{and_parts, and_from}
-use Rattle.std.proofs.lemmas.List.Elements.{All-contains, All-head, All-tail, All-weaker, Contains-append_left, Contains-append_right}
+use Rattle.std.proofs.lemmas.List.Elements.{All-contains, All-head, All-tail, All-weaker}
 use Rattle.std.proofs.lemmas.List.Folds.{list_all-append}
 use Rattle.dcc_ir.specs.declared.syntax.Loc.{Loc}
 use Rattle.dcc_ir.specs.declared.syntax.Param.{Param}
@@ -24,11 +24,13 @@ use Rattle.dcc_c.proofs.Writable.{is_writable_param, is_writable_local, is_writa
 use Rattle.dcc_text.specs.Allowed.{AreDeclared, IsAllowedStmt}
 use Rattle.dcc_text.specs.Holding.{IsWithin}
 use Rattle.dcc_text.specs.Stmts.{stmt_text}
+use Rattle.dcc_sums.proofs.ArgumentLaws.{contains_flat}
 use Rattle.dcc_variables.specs.FunctionLaws.{HasFewNames, has_name, IsServedStmt, IsServedByFunction}
-use Rattle.dcc_variables.specs.Functions.{function_name, function_names, parameter_name, parameters_from, function_spelling, is_own, type_for, type_for_any, openings}
+use Rattle.dcc_variables.specs.Functions.{function_name, function_names, parameter_name, parameters_from, function_spelling, is_own, memory_from, function_shape, type_for, type_for_any, openings}
 use Rattle.dcc_variables.specs.Variables.{Shape, shape_of, variable, declarations, frame_array}
 use Rattle.dcc_variables.proofs.Declared.{globals-allowed, globals-off, globals-writable, globals-apart, locals-writable, locals-have-elements}
 use Rattle.dcc_variables.proofs.DeclaredFunctions.{parameter-word, function-declared}
+use Rattle.dcc_variables.proofs.FramePlaces.{fewer-bytes}
 use Rattle.dcc_variables.proofs.Served.{functions-served}
 use Rattle.dcc_variables.proofs.Words.{known-differ-all, own-differ-all}
 use Rattle.dcc_plan.specs.Allowed.{CallsFit, may_give, may_return, ReturnsFit, AreAllowedLines}
@@ -43,7 +45,8 @@ use Rattle.dcc_pipe.specs.WholeText.{TakesFew, control, opened, before_lines, bo
 use Rattle.dcc_pipe.proofs.OpeningLines.{is_assignment, openings-assign}
 use Rattle.dcc_pipe.proofs.FunctionTables.{found-by_name}
 use Rattle.dcc_pipe.proofs.PlainTexts.{plain-text}
-use Rattle.dcc_pipe.proofs.WholeTexts.{differ-left, differ-right, all_named, named-matters, control-plan}
+use Rattle.dcc_pipe.proofs.MatteringLaws.{mattering, mattering-matters, opened-named}
+use Rattle.dcc_pipe.proofs.WholeTexts.{differ-left, differ-right, control-plan}
 
 -- Bodies that open with assignments.
 
@@ -79,14 +82,20 @@ module _ (P : Variable → Bool) (shape : Shape) where
       by true here later = and_from (P (variable shape l)) (list_all P (map (variable shape) (filter q ls))) here later
       by false here later = later
 
-  own-pass : (q : Loc → Bool) → list_all P (declarations shape) ≡ true
-      → list_all P (map (variable shape) (filter q shape.locations) ++ frame_array shape.frame) ≡ true
-  own-pass q all =
+  -- and of the array, which has no byte or as many
+  own-pass : (q : Loc → Bool) (bytes : ℕ) → (bytes ≡ 0) ⊎ (bytes ≡ shape.frame) → list_all P (declarations shape) ≡ true
+      → list_all P (map (variable shape) (filter q shape.locations) ++ frame_array bytes) ≡ true
+  own-pass q bytes fewer all =
       let parts = and_parts (list_all P (map (variable shape) shape.locations)) (list_all P (frame_array shape.frame))
       (sym (list_all-append P (map (variable shape) shape.locations) (frame_array shape.frame)) ∙ all) in
-      list_all-append P (map (variable shape) (filter q shape.locations)) (frame_array shape.frame)
-      ∙ and_from (list_all P (map (variable shape) (filter q shape.locations))) (list_all P (frame_array shape.frame))
-      (some-variables q shape.locations parts.0) parts.1
+      list_all-append P (map (variable shape) (filter q shape.locations)) (frame_array bytes)
+      ∙ and_from (list_all P (map (variable shape) (filter q shape.locations))) (list_all P (frame_array bytes))
+      (some-variables q shape.locations parts.0) (array fewer parts.1)
+    where
+      array : (bytes ≡ 0) ⊎ (bytes ≡ shape.frame) → list_all P (frame_array shape.frame) ≡ true
+          → list_all P (frame_array bytes) ≡ true
+      array (inl none) is = ap (λ n. list_all P (frame_array n)) none
+      array (inr same) is = ap (λ n. list_all P (frame_array n)) same ∙ is
 
 params-writable : (bits : List ℕ) (place : ℕ) (params : List Param) → place + length params < 2 ^ 63
     → list_all is_writable_param (parameters_from bits place params) ≡ true
@@ -97,14 +106,6 @@ params-writable bits place (q ∷ params) small =
     (params-writable bits (place + 1) params (omega (arith, small)))
 
 -- Results.
-
-flat-contains : {X A : Type 0} (f : X → List A) (xs : List X) (x : X) (y : A) → Contains xs x → Contains (f x) y
-    → Contains (flat_map f xs) y
-flat-contains f [] x y c d = absurd (Contains-none x c)
-flat-contains f (z ∷ xs) x y c d =
-    Contains-cases z xs x (Contains (flat_map f (z ∷ xs)) y)
-    (λ same. Contains-append_left (f z) (flat_map f xs) y (subst (λ u. Contains (f u) y) (sym same) d))
-    (λ later. Contains-append_right (f z) (flat_map f xs) y (flat-contains f xs x y later d)) c
 
 gives-type : (bits : List ℕ) (values : List inner.Expr) → may_give (type_for (map (width_of bits) values)) values ≡ true
 gives-type bits [] = refl
@@ -222,7 +223,7 @@ module _ (first : inner.Graph) (others : List inner.Graph) (image : List ℕ) (l
           (λ stmt there. call-fits b inside stmt there))
 
       returns-fit : ReturnsFit f g
-      returns-fit = all_had (λ b. may_return f.result b.exit ≡ true) g.blocks (λ b inside. by b.exit (λ widths d. flat-contains (λ b. ret_widths g.bits b.exit) g.blocks b widths inside d))
+      returns-fit = all_had (λ b. may_return f.result b.exit ≡ true) g.blocks (λ b inside. by b.exit (λ widths d. contains_flat (λ b. ret_widths g.bits b.exit) g.blocks b widths inside d))
         where
           same : (widths : List ℕ) → Contains (all_ret_widths g) widths → (a : List ℕ) → Contains (all_ret_widths g) a → a ≡ widths
           same widths there a d = All-contains (λ g. (a b : List ℕ) → Contains (all_ret_widths g) a → Contains (all_ret_widths g) b → a ≡ b) program.graphs g well.rets c a widths d there
@@ -241,19 +242,22 @@ module _ (first : inner.Graph) (others : List inner.Graph) (image : List ℕ) (l
       body-allowed : AreAllowedLines tree f 200 (body_of g)
       body-allowed =
           opened-lines tree f (openings (opened g) g) (openings-assign (function_spelling g) (opened g) 0 g.params)
-          (openings-allowed tree f g (opened g) levels 200 place formed own-few refl (λ location is. is))
+          (openings-allowed tree f g (opened g) levels 200 place formed own-few refl (opened-named g formed))
           (plan_text (function_spelling g) g (control g))
           (texts-allowed tree f (function_spelling g) g (control g) (plan_text (function_spelling g) g (control g)) levels 200 declared formed
-          (spelled-graph (function_spelling g) g (all_named g) levels refl (named-matters g formed) (λ b location less is. is) own-shallow)
+          (spelled-graph (function_spelling g) g (mattering g) levels refl (mattering-matters g formed) (λ b location less is. is.0) own-shallow)
           calls-fit returns-fit (omega arith) (control-plan g formed).0 (goto-stands g formed)
           (plain-text (function_spelling g) g (control g)))
+
+      fewer : ((function_shape g).frame ≡ 0) ⊎ ((function_shape g).frame ≡ (shape_of g).frame)
+      fewer = fewer-bytes (memory_from 0 g.params) g
 
       function-allowed : IsAllowedFunction tree f
       function-allowed = record {
         own_names = own-differ-all program tree well refl all-names g own-few.variables own-few.params formed f refl refl;
         labels = body-allowed.labels;
         types = body-allowed.types;
-        arrays = own-pass (λ v. has_element v.len) (shape_of g) (is_own g) (locals-have-elements g own-few.variables formed);
+        arrays = own-pass (λ v. has_element v.len) (shape_of g) (is_own g) (function_shape g).frame fewer (locals-have-elements g own-few.variables formed);
         depth = body-allowed.depth;
       }
 
@@ -263,7 +267,7 @@ module _ (first : inner.Graph) (others : List inner.Graph) (image : List ℕ) (l
           and_from (is_name name) _ named
           (and_from (list_all is_writable_param f.params) _ (params-writable g.bits 0 g.params (omega (arith, small)))
           (and_from (list_all is_writable_local f.locals) (are_writable_lines outermost false f.body)
-          (own-pass is_writable_local (shape_of g) (is_own g) (locals-writable g own-few.variables formed)) body-allowed.writable))
+          (own-pass is_writable_local (shape_of g) (is_own g) (function_shape g).frame fewer (locals-writable g own-few.variables formed)) body-allowed.writable))
 
     others-allowed : (graphs : List inner.Graph) → ((g : inner.Graph) → Contains graphs g → Contains others g)
         → AreAllowed tree (other_functions graphs) × (list_all is_writable_function (other_functions graphs) ≡ true)

@@ -1,13 +1,16 @@
 pub mod Textable
 pub mod Simplified
 pub mod Prepared
+pub mod Standing
 pub mod Following
 pub mod WholeText
+pub mod TypedFrames
 pub mod Lines
 pub mod Agreement
 pub mod Unbroken
-pub mod Unbuilt
 pub use Rattle.dcc_prog.specs.MzImage
 pub use Rattle.dcc_prog.specs.Refused
+pub use Rattle.dcc_asks.specs.Asked
+pub use Rattle.dcc_asks.specs.Bodies
 pub use Rattle.dcc_c.specs.Views
 pub use Rattle.dcc_c.specs.Written

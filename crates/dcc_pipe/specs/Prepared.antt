@@ -4,6 +4,7 @@ use Rattle.std.specs.Prelude.{◌≡◌, ℕ, Bool, true, ◌⊎◌, List, [], A
 use Rattle.std.specs.List.{list_any}
 use Rattle.dcc_prog.specs.declared.image.Image.{Image}
 use Rattle.dcc_prog.specs.declared.frame.Program.{Program as Analysed}
+use Rattle.dcc_prog.specs.Analysed.{IsProgramOf}
 use Rattle.dcc_ir.specs.Tree.{Stmt, Call, Graph, Program, Summary}
 use Rattle.dcc_ir.specs.Ends.{is_ret}
 use Rattle.dcc_ir.specs.Flow.{graph_or_none}
@@ -15,7 +16,7 @@ use Rattle.dcc_sums.specs.Sums.{AreSums, ReusesNone, GivesOneValue}
 use Rattle.dcc_sums.specs.Localised.{sum_at, localised}
 use Rattle.dcc_pack.specs.Packed.{packed}
 use Rattle.dcc_pack.specs.Laws.{PassesAtMostOne}
-use Rattle.dcc_pipe.specs.Textable.{lifted_levels, levels, IsTextable}
+use Rattle.dcc_pipe.specs.Textable.{lifted_levels, levels, TakesApart, IsTextable}
 use Rattle.dcc_pipe.specs.Simplified.{IsSimplifiedGraph, HasEachChanged, IsSimplified}
 
 -- one of the graph's blocks ends in a Ret
@@ -31,12 +32,13 @@ abbrev pub TakesOfReturning : (ℕ → Bool) → Stmt → Type 0
 TakesOfReturning returning (Call results entry arguments depth) = (results ≡ []) ⊎ (returning entry ≡ true)
 TakesOfReturning returning stmt = Unit {0}
 
--- What is lifted has this form: all halves and flags pass between procedures, definitions of flags read flags and load
--- plainly, and it has what a text needs but for what passes.
+-- What is lifted has this form: all halves and flags pass between procedures, no location takes two arguments,
+-- definitions of flags read flags and load plainly, and it has what a text needs but for what passes.
 pub record HasLiftedForm (p : Program) : Type 0 where
   pub textable : IsTextable lifted_levels p
   pub back : ℕ → List ℕ
   pub passes : PassesAll back p
+  pub apart : All TakesApart p.graphs
   pub reads : All FlagsReadPlainly p.graphs
 
 -- The summaries of all procedures, which a text can have: no argument is wanted after a call that may change it, and no
@@ -48,17 +50,21 @@ pub record AreSumsOfText (p : Program) (sums : List Summary) : Type 0 where
 
 -- The second program keeps the first one's runs and blocks, and has what a text needs. Just what is wanted passes in
 -- it: each procedure takes the argument words and what its summary says, a register in one, and gives at most one
--- value, which is taken of procedures that return alone.
+-- value, which is taken of procedures that return alone. No location takes two arguments. It is made of the first one,
+-- pass after pass.
 pub record IsPrepared (p q : Program) : Type 0 where
   pub sums : List Summary
   pub known : AreSumsOfText p sums
+  pub made : HasEachChanged IsSimplifiedGraph (packed (localised sums p)) q
   pub passes : PassesAtMostOne (sum_at p.graphs sums) q
   pub returned : All (λ g. All (λ b. All (TakesOfReturning (returns q)) b.stmts) g.blocks) q.graphs
+  pub apart : All TakesApart q.graphs
   pub simplified : IsSimplified levels p q
 
--- What is lifted has that form.
+-- What is lifted of an analysed program has that form.
 abbrev pub LiftedHasTheForm : Type 0
-LiftedHasTheForm = (image : Image) (program : Analysed) (p : Program) → IsLifted image program p → HasLiftedForm p
+LiftedHasTheForm = (image : Image) (program : Analysed) (p : Program) → IsProgramOf program.layout.cpu image program
+    → IsLifted image program p → HasLiftedForm p
 
 -- Prepared is what passes leave of each graph, where just what the summaries say passes, together.
 abbrev pub WhatIsLeftIsPrepared : Type 0

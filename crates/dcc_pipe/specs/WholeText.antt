@@ -5,8 +5,8 @@ use Rattle.dcc_ir.specs.declared.syntax.Loc.{Loc}
 use Rattle.dcc_ir.specs.Tree.{Stmt as Statement, Call, Graph, Program}
 use Rattle.dcc_ir.specs.Run.{graph_at}
 use Rattle.dcc_ir.specs.WellFormed.{all_ret_widths}
+use Rattle.dcc_live.specs.Start.{begins_live}
 use Rattle.dcc_c.specs.Tree.{Word, Stmt, Lines, line, Function, Tree}
-use Rattle.dcc_plan.specs.Calls.{all_places, locations_differ}
 use Rattle.dcc_plan.specs.Plan.{Plan}
 use Rattle.dcc_plan.specs.Programs.{GivesFew}
 use Rattle.dcc_plan.specs.PlanText.{plan_text}
@@ -15,15 +15,15 @@ use Rattle.dcc_plan.specs.Complete.{completed}
 use Rattle.dcc_variables.specs.Globals.{globals_of}
 use Rattle.dcc_variables.specs.FunctionLaws.{HasFewNames}
 use Rattle.dcc_variables.specs.Functions.{function_name, function_spelling, function_of, openings}
-use Rattle.dcc_pipe.specs.Textable.{levels, IsTextable}
+use Rattle.dcc_pipe.specs.Textable.{levels, TakesApart, IsTextable}
 
 -- the control of a graph's text
 abbrev pub control : Graph → Plan
 control graph = completed (goto_plan graph)
 
--- the bytes of arguments that are opened: those that have variables
+-- the bytes of arguments that are opened: those that are live where the graph begins
 abbrev pub opened : Graph → Loc → Bool
-opened graph location = (function_spelling graph).named location
+opened graph location = begins_live graph location
 
 -- the statements, and then the lines
 abbrev pub before_lines : List Stmt → Lines → Lines
@@ -69,5 +69,5 @@ pub record FitsText (p : Program) : Type 0 where
   pub textable : IsTextable levels p
   pub gives : All (λ g. All GivesFew g.blocks) p.graphs
   pub takes : All (λ g. All (λ b. All (TakesFew p) b.stmts) g.blocks) p.graphs
-  pub apart : All (λ g. locations_differ (all_places g.params) ≡ true) p.graphs
+  pub apart : All TakesApart p.graphs
   pub few : All HasFewNames p.graphs

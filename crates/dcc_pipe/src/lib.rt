@@ -2,7 +2,6 @@
 #![tactic(auto)]
 
 mod analysis;
-mod built;
 mod decompilation;
 pub mod laws;
 mod number;

@@ -2,8 +2,9 @@
 
 ghost use Rattle.std.specs.Prelude.{◌≡◌, ◌++◌, IfOk, OnOk, All, map, string_bytes};
 ghost use Rattle.dcc_ir.specs.Views.{graph_of, program_of};
+ghost use Rattle.dcc_ir.specs.WellFormed.{IsGraph};
 ghost use Rattle.dcc_c.specs.Views.{function_of, lines_of, tree_of};
-ghost use Rattle.dcc_variables.specs.Variables.{shape_of};
+ghost use Rattle.dcc_variables.specs.Functions.{function_shape};
 ghost use Rattle.dcc_variables.specs.Views.{shape_in};
 ghost use Rattle.dcc_variables.specs.FunctionLaws.{HasFewNames};
 ghost use Rattle.dcc_pipe.specs.WholeText as spec;
@@ -11,6 +12,7 @@ ghost use Rattle.dcc_pipe.specs.Lines.{fresh_line};
 
 use dcc_c::{CStmt, Func, Line, Unit};
 use dcc_ir::{Graph, IrProgram};
+use dcc_live::live_at_start;
 use dcc_plan::complete::completed;
 use dcc_plan::goto_plan::goto_plan;
 use dcc_plan::plan_text::plan_text;
@@ -39,14 +41,17 @@ fn joined(first: Vec<Line>, second: Vec<Line>) -> Result<Vec<Line>, AllocError>
     Ok(lines)
 }
 
-// The body of a graph's function, which has this head: the assignments that open it, and the text of its plan.
+// The body of a graph's function, which has this head: the assignments that open the bytes of arguments that are live
+// where it begins, and the text of its plan.
 fn body(alloc: Global, head: &Head, graph: &Graph) -> Result<Vec<Line>, AllocError>
-    requires shape { shape_in head.now.variables ≡ shape_of (graph_of graph.now) }
+    requires graph { IsGraph (graph_of graph.now) }
+    requires shape { shape_in head.now.variables ≡ function_shape (graph_of graph.now) }
     requires params { head.now.params.items ≡ (graph_of graph.now).params }
     ensures { IfOk result (λ lines. lines_of lines.items ≡ spec.body_of (graph_of graph.now)) }
 {
     let plan = completed(alloc, goto_plan(alloc, graph)?)?;
-    let first = openings(alloc, head, head.variables.locations.as_slice())?;
+    let wanted = live_at_start(alloc, graph)?;
+    let first = openings(alloc, head, wanted.as_slice())?;
     let first = fresh_lines(alloc, first)?;
     let second = plan_text(alloc, head, graph, plan.as_slice())?;
     joined(first, second)
@@ -54,6 +59,7 @@ fn body(alloc: Global, head: &Head, graph: &Graph) -> Result<Vec<Line>, AllocErr
 
 // The function of a graph with this name, its lines not counted yet.
 fn function(alloc: Global, name: String, graph: &Graph) -> Result<Func, AllocError>
+    requires { IsGraph (graph_of graph.now) }
     ensures function { IfOk result (λ f. function_of f ≡ spec.text_function (string_bytes name) (graph_of graph.now)) }
     ensures few { OnOk result (HasFewNames (graph_of graph.now)) }
 {
@@ -70,6 +76,7 @@ fn function(alloc: Global, name: String, graph: &Graph) -> Result<Func, AllocErr
 
 // The functions of the graphs after the first.
 fn other_functions(alloc: Global, graphs: &[Graph]) -> Result<Vec<Func>, AllocError>
+    requires { All (λ graph. IsGraph (graph_of graph)) graphs.now }
     ensures functions { IfOk result
         (λ funcs. map function_of funcs.items ≡ spec.other_functions (map graph_of graphs.now)) }
     ensures few { OnOk result (All (λ graph. HasFewNames (graph_of graph)) graphs.now) }
@@ -84,6 +91,7 @@ fn other_functions(alloc: Global, graphs: &[Graph]) -> Result<Vec<Func>, AllocEr
 
 // The function of the first graph, which is `start`, and those of the others.
 fn all_functions(alloc: Global, graphs: &[Graph]) -> Result<Vec<Func>, AllocError>
+    requires { All IsGraph (map graph_of graphs.now) }
     ensures functions { IfOk result
         (λ funcs. map function_of funcs.items ≡ spec.text_functions (map graph_of graphs.now)) }
     ensures few { OnOk result (All HasFewNames (map graph_of graphs.now)) }
@@ -104,6 +112,7 @@ fn all_functions(alloc: Global, graphs: &[Graph]) -> Result<Vec<Func>, AllocErro
 /// in memory, a label before each block, and jumps between them. Numbers that 32 bits can't hold are told as want of
 /// memory.
 pub(crate) fn unit_of(alloc: Global, p: &IrProgram) -> Result<Unit, AllocError>
+    requires { All IsGraph (program_of p.now).graphs }
     ensures text { IfOk result (λ unit. tree_of unit ≡ spec.whole_text (program_of p.now)) }
     ensures few { OnOk result (All HasFewNames (program_of p.now).graphs) }
 {

@@ -3,7 +3,9 @@
 
 mod answers;
 mod both;
+mod calls;
 mod files;
+mod functions;
 mod lifted;
 mod listings;
 mod memory;

@@ -9,7 +9,8 @@ use Rattle.dcc_run.specs.End.{End}
 use Rattle.dcc_prog.specs.declared.cpu.Cpu.{Cpu}
 use Rattle.dcc_prog.specs.declared.refusal.Refusal.{Refusal}
 use Rattle.dcc_prog.specs.MzImage.{FormatFault, IsFirstFault}
-use Rattle.dcc_prog.specs.Refused.{IsSound, IsAcceptedProgram, IsUnsound, IsRefusedImage}
+use Rattle.dcc_prog.specs.Refused.{IsSound, IsUnsound}
+use Rattle.dcc_asks.specs.Refused.{IsAcceptedProgram, IsRefusedImage}
 use Rattle.dcc_reader.specs.declared.offence.ParseKind.{ParseKind}
 use Rattle.dcc_parse.specs.Fault.{IsRefusal as IsTextRefusal}
 use Rattle.dcc_top.specs.declared.reply.Reply.{Reply}
@@ -24,7 +25,7 @@ use Rattle.dcc_top.specs.Status.{IsOneOf, end_status}
 use Rattle.dcc_top.specs.Status as exit
 use Rattle.dcc_top.proofs.HeadlineLaws.{has-text, has-listing}
 use Rattle.dcc_top.proofs.StatusLaws.{apart, are_apart, image_faults, refusals, text_faults, unmade_statuses, unmade-status, product_statuses, product-status, watched_run-status, status-not_six, reply-at_3, reply-at_4, reply-at_5, reply-at_7, no_file-status, no_image-status, no_unit-status, refusal-status, run_statuses, run-status, text_run-status}
-use Rattle.dcc_top.proofs.NamedLaws.{name-of, file-name, IsAcceptedIn, refused_statuses, accepted-one, refused-always as always-refused, job-misshapen, job-missing, text-refused, job-ended, watch-refused, watch-foul}
+use Rattle.dcc_top.proofs.NamedLaws.{name-of, file-name, IsAcceptedIn, IsRefusedIn, refused_statuses, accepted-one, refused-always as always-refused, job-misshapen, job-missing, text-refused, job-ended, watch-refused, watch-foul}
 
 module _ (call : Call) where
   abbrev told : Files
@@ -422,15 +423,19 @@ module _ (call : Call) where
   of-product product name cpu ns six seven named a each =
       one-of ns six seven (λ reply output h. each reply output (for-product product name cpu reply output (subst (λ j. Allowed j reply output) named h))) a
 
-  pub refused-always : Comes → (name file : List ℕ) (cpu : Cpu) → call.job ≡ Some (Decompile name cpu) → Names call file → OfImages file (IsRefusedImage cpu) → IsOneOf call.status (9 ∷ (10 ∷ (12 ∷ exit.faults)))
+  product-refused : (product : Product) (name file : List ℕ) (cpu : Cpu) → Comes → call.job ≡ Some (job_to_make product name cpu) → (n : Names call file) → n.files name ≡ Some file → OfImages file (IsRefusedIn product cpu) →
+      IsOneOf call.status refused_statuses
+  product-refused product name file cpu a named n has each =
+      of-product product name cpu refused_statuses (inr (inr (inr (inl refl)))) (inr (inr (inr (inr (inl refl))))) named a
+      (always-refused told name n.files n.tells product cpu file has each)
+
+  pub refused-always : Comes → (name file : List ℕ) (cpu : Cpu) → call.job ≡ Some (Decompile name cpu) → Names call file → OfImages file (IsRefusedImage cpu) → IsOneOf call.status (9 ∷ (10 ∷ exit.faults))
   refused-always a name file cpu named n each =
-      of-product Text name cpu (refused_statuses Text) (inr (inr (inr (inr (inl refl))))) (inr (inr (inr (inr (inr (inl refl)))))) named a
-      (always-refused told name n.files n.tells Text cpu file (named-file (Decompile name cpu) file named n) each)
+      product-refused Text name file cpu a named n (named-file (Decompile name cpu) file named n) each
 
   pub listing_refused-always : Comes → (name file : List ℕ) (cpu : Cpu) → call.job ≡ Some (ListProcedures name cpu) → Names call file → OfImages file (IsUnsound cpu) → IsOneOf call.status (9 ∷ (10 ∷ exit.faults))
   listing_refused-always a name file cpu named n each =
-      of-product Listing name cpu (refused_statuses Listing) (inr (inr (inr (inl refl)))) (inr (inr (inr (inr (inl refl))))) named a
-      (always-refused told name n.files n.tells Listing cpu file (named-file (ListProcedures name cpu) file named n) each)
+      product-refused Listing name file cpu a named n (named-file (ListProcedures name cpu) file named n) each
 
   pub watch_refused-always : Comes → (name file : List ℕ) (steps : ℕ) (cpu : Cpu) → call.job ≡ Some (ExecuteWatched name steps cpu) → Names call file → OfImages file (IsUnsound cpu) →
       IsOneOf call.status (9 ∷ (10 ∷ exit.faults))

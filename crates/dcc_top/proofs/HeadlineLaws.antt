@@ -34,6 +34,7 @@ has-text cpu told name before after file text has appended d =
       tree = t.tree;
       stands = t.is_text.stands;
       written_is = t.written_is;
+      typed = t.typed;
       runs = λ input fill bytes small.
           runs-agree cpu d.image t.tree t.is_text.stands.allowed.start _ input fill (t.is_text.runs input fill bytes small);
     }

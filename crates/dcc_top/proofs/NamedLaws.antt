@@ -8,11 +8,10 @@ use Rattle.dcc_run.specs.System.{end_after}
 use Rattle.dcc_run.specs.Watched.{state}
 use Rattle.dcc_prog.specs.declared.cpu.Cpu.{Cpu}
 use Rattle.dcc_prog.specs.declared.image.Image.{Image}
-use Rattle.dcc_prog.specs.declared.refusal.LimitName.{LimitName}
 use Rattle.dcc_prog.specs.declared.refusal.Refusal.{Refusal}
-use Rattle.dcc_prog.specs.declared.refusal.Refusal.TheVariants.{Construct as ConstructRefused, Limit as LimitRefused, NotYet as NotYetRefused, Memory as MemoryRefused}
+use Rattle.dcc_prog.specs.declared.refusal.Refusal.TheVariants.{Construct as ConstructRefused, Limit as LimitRefused, Memory as MemoryRefused}
 use Rattle.dcc_prog.specs.MzImage.{IsImageOf, FormatFault, IsFirstFault, too_large, short, not_mz, bad_pages, header_past_image, bad_relocation, entry_outside}
-use Rattle.dcc_prog.specs.Refused.{IsSound, IsAcceptedProgram, IsUnsound, IsRefusedImage, IsRefusedBy, IsRefusedByAnalysis, by_trails, by_heights, by_frames}
+use Rattle.dcc_prog.specs.Refused.{IsSound, IsUnsound}
 use Rattle.dcc_prog.specs.Step.{machine_system}
 use Rattle.dcc_prog.specs.Clean.{Foul as FoulStep}
 use Rattle.dcc_prog.specs.Watch.{IsClean, is_foul, watched_machine, first_watch}
@@ -20,7 +19,9 @@ use Rattle.dcc_prog.proofs.MzImageLaws.{not_both}
 use Rattle.dcc_prog.proofs.WatchLaws.{not_foul_before}
 use Rattle.dcc_watch.proofs.StepLaws.{foul-stopped}
 use Rattle.dcc_watch.specs.Executor.{is_stopped}
-use Rattle.dcc_prog.proofs.RefusedLaws.{sound-not_unsound, sound-memory, accepted-not_refused, accepted-memory}
+use Rattle.dcc_prog.proofs.RefusedLaws.{sound-not_unsound, sound-memory}
+use Rattle.dcc_asks.specs.Refused.{IsAcceptedProgram, IsRefusedImage}
+use Rattle.dcc_asks.proofs.RefusedLaws.{accepted-is_not_refused}
 use Rattle.dcc_top.specs.declared.reply.Reply.{Reply}
 use Rattle.dcc_top.specs.Words.{Job, Decompile, ListProcedures, Execute, ExecuteWatched, ExecuteText, Product, Text, Listing, name_of, file_of, LoadsImage}
 use Rattle.dcc_top.specs.Execution.{Subject, machine_of, text_of, Finishes, ended, stopped_at_read, not_begun, FinishesOrStops, finishes, found_none}
@@ -61,42 +62,25 @@ IsRefusedIn Text cpu image = IsRefusedImage cpu image
 IsRefusedIn Listing cpu image = IsUnsound cpu image
 
 made-not_refused : (product : Product) (cpu : Cpu) (image : Image) (made : List ℕ) → IsMadeOf product cpu image made → ¬ IsRefusedIn product cpu image
-made-not_refused Text cpu image made m = accepted-not_refused cpu image m.accepted
+made-not_refused Text cpu image made m = accepted-is_not_refused.apart cpu image m.accepted
 made-not_refused Listing cpu image made m = sound-not_unsound cpu image m.sound
 
 accepted-by_memory : (product : Product) (cpu : Cpu) (image : Image) (refusal : Refusal) → IsAcceptedIn product cpu image → Refuses product cpu image refusal → refusal ≡ MemoryRefused
-accepted-by_memory Text cpu image refusal a h = accepted-memory cpu image refusal a h
+accepted-by_memory Text cpu image refusal a h = accepted-is_not_refused.memory cpu image refusal a h
 accepted-by_memory Listing cpu image refusal a h = sound-memory cpu image refusal a h
 
--- an analysis never tells that an instruction is not built
-told-not_yet : (Stands : ℕ → ℕ → Type 0) (Passes : LimitName → ℕ → Type 0) (at : ℕ) → ¬ IsRefusedBy Stands Passes (NotYetRefused at)
-told-not_yet Stands Passes at h = elim h [ ]
-
-analysis-not_yet : (cpu : Cpu) (image : Image) (at : ℕ) → ¬ IsRefusedByAnalysis cpu image (NotYetRefused at)
-analysis-not_yet cpu image at (by_trails runs_on has h) = told-not_yet _ _ at h
-analysis-not_yet cpu image at (by_heights runs_on has trails h) = told-not_yet _ _ at h
-analysis-not_yet cpu image at (by_frames runs_on has trails heights h) = told-not_yet _ _ at h
-
 -- the statuses of a refusal, before those of faults
-abbrev pub refused_statuses : Product → List ℕ
-refused_statuses Text = 9 ∷ (10 ∷ (12 ∷ (4 ∷ (6 ∷ (7 ∷ [])))))
-refused_statuses Listing = 9 ∷ (10 ∷ (4 ∷ (6 ∷ (7 ∷ []))))
+abbrev pub refused_statuses : List ℕ
+refused_statuses = 9 ∷ (10 ∷ (4 ∷ (6 ∷ (7 ∷ []))))
 
-refused-one : (product : Product) (cpu : Cpu) (image : Image) (refusal : Refusal) → Refuses product cpu image refusal → IsOneOf (status_of (refusal_reply refusal)) (refused_statuses product)
-refused-one Text cpu image (ConstructRefused kind at) h = inl refl
-refused-one Text cpu image (LimitRefused what count) h = inr (inl refl)
-refused-one Text cpu image (NotYetRefused at) h = inr (inr (inl refl))
-refused-one Text cpu image MemoryRefused h = inr (inr (inr (inr (inr (inl refl)))))
-refused-one Listing cpu image (ConstructRefused kind at) h = inl refl
-refused-one Listing cpu image (LimitRefused what count) h = inr (inl refl)
-refused-one Listing cpu image (NotYetRefused at) h = absurd (analysis-not_yet cpu image at h)
-refused-one Listing cpu image MemoryRefused h = inr (inr (inr (inr (inl refl))))
+refused-one : (refusal : Refusal) → IsOneOf (status_of (refusal_reply refusal)) refused_statuses
+refused-one (ConstructRefused kind at) = inl refl
+refused-one (LimitRefused what count) = inr (inl refl)
+refused-one MemoryRefused = inr (inr (inr (inr (inl refl))))
 
-faulty-refused : (product : Product) (status : ℕ) → (status ≡ 4) ⊎ (status ≡ 7) → IsOneOf status (refused_statuses product)
-faulty-refused Text status (inl four) = inr (inr (inr (inl four)))
-faulty-refused Text status (inr seven) = inr (inr (inr (inr (inr (inl seven)))))
-faulty-refused Listing status (inl four) = inr (inr (inl four))
-faulty-refused Listing status (inr seven) = inr (inr (inr (inr (inl seven))))
+faulty-refused : (status : ℕ) → (status ≡ 4) ⊎ (status ≡ 7) → IsOneOf status refused_statuses
+faulty-refused status (inl four) = inr (inr (inl four))
+faulty-refused status (inr seven) = inr (inr (inr (inr (inl seven))))
 
 -- Runs.
 
@@ -240,15 +224,13 @@ module _ (told : Files) (name : List ℕ) (files : List ℕ → Option (List ℕ
   accepted-one product cpu file has a reply _ (unmade h) = faulty-one 0 (status_of reply) (unmade-faulty product cpu file has a reply h)
 
   unmade-refused : (product : Product) (cpu : Cpu) (file : List ℕ) → files name ≡ Some file → OfImages file (IsRefusedIn product cpu) → (reply : Reply) → IsUnmade product cpu told name reply →
-      IsOneOf (status_of reply) (refused_statuses product)
-  unmade-refused product cpu file has a _ (refused refusal f) =
-      let d = held file (IsRefusedAs product cpu refusal) has f in
-      refused-one product cpu d.image refusal d.refused
+      IsOneOf (status_of reply) refused_statuses
+  unmade-refused product cpu file has a _ (refused refusal f) = refused-one refusal
   unmade-refused product cpu file has a reply (no_image h) =
-      faulty-refused product (status_of reply) (no_image-faulty file has a.image a.is_image reply h)
+      faulty-refused (status_of reply) (no_image-faulty file has a.image a.is_image reply h)
 
   pub refused-always : (product : Product) (cpu : Cpu) (file : List ℕ) → files name ≡ Some file → OfImages file (IsRefusedIn product cpu) → (reply : Reply) (output : List ℕ) →
-      AllowsProduct product cpu told name reply output → IsOneOf (status_of reply) (refused_statuses product)
+      AllowsProduct product cpu told name reply output → IsOneOf (status_of reply) refused_statuses
   refused-always product cpu file has a _ output (made_of_file f) =
       let d = held file (λ x. Makes product cpu x output) has f in
       absurd (made-not_refused product cpu d.image output d.is_made (a.each d.image d.is_image))
@@ -350,7 +332,7 @@ module _ (told : Files) (before left : Option (List ℕ)) (files : List ℕ → 
 
   -- a watched run is refused where a construct stands or a count is too great
   pub watch-refused : (name : List ℕ) (steps : ℕ) (cpu : Cpu) (file : List ℕ) → files name ≡ Some file → OfImages file (IsUnsound cpu) → (reply : Reply) (output : List ℕ) →
-      Allows told before left (Some (ExecuteWatched name steps cpu)) reply output → IsOneOf (status_of reply) (refused_statuses Listing)
+      Allows told before left (Some (ExecuteWatched name steps cpu)) reply output → IsOneOf (status_of reply) refused_statuses
   watch-refused name steps cpu file has a reply output (watched_file f) =
       let r = held told name files tells file (λ x. WatchesFile cpu x steps before left reply output) has f in
       absurd (sound-not_unsound cpu r.image r.watches.sound (a.each r.image r.is_image))

@@ -9,7 +9,7 @@ use Rattle.dcc_prog.specs.declared.image.Image.{Image}
 use Rattle.dcc_prog.specs.declared.frame.Program.{Program}
 use Rattle.dcc_run.specs.End.{End, Running, Exit, Divide, Outside as outside, Stuck as stuck}
 use Rattle.dcc_prog.specs.declared.refusal.Refusal.{Refusal}
-use Rattle.dcc_prog.specs.declared.refusal.Refusal.TheVariants.{Construct as ConstructRefused, Limit as LimitRefused, NotYet as NotYetRefused, Memory as MemoryRefused}
+use Rattle.dcc_prog.specs.declared.refusal.Refusal.TheVariants.{Construct as ConstructRefused, Limit as LimitRefused, Memory as MemoryRefused}
 use Rattle.dcc_prog.proofs.TableLaws.{and_right}
 use Rattle.dcc_top.specs.declared.reply.Reply.{Reply}
 use Rattle.dcc_top.specs.declared.reply.Reply.TheVariants.{Done, NoFile, FileFault, InputFault, Memory}
@@ -92,12 +92,11 @@ no_unit-status told name _ (offends f) = inl refl
 
 -- the statuses of a refusal
 abbrev pub refusals : List ℕ
-refusals = 7 ∷ (9 ∷ (10 ∷ (12 ∷ [])))
+refusals = 7 ∷ (9 ∷ (10 ∷ []))
 
 pub refusal-status : (refusal : Refusal) → IsOneOf (status_of (refusal_reply refusal)) refusals
 refusal-status (ConstructRefused kind at) = inr (inl refl)
 refusal-status (LimitRefused what count) = inr (inr (inl refl))
-refusal-status (NotYetRefused at) = inr (inr (inr (inl refl)))
 refusal-status MemoryRefused = inl refl
 
 pub image-status : (product : Product) (cpu : Cpu) (image : Image) (reply : Reply) (output : List ℕ) → AllowsImage product cpu image reply output → IsOneOf (status_of reply) (0 ∷ refusals)
@@ -106,18 +105,17 @@ image-status product cpu image _ _ (image_refused refusal h) = inr (refusal-stat
 
 -- the statuses where nothing is made of an executable
 abbrev pub unmade_statuses : List ℕ
-unmade_statuses = 9 ∷ (10 ∷ (12 ∷ (8 ∷ (3 ∷ (4 ∷ (7 ∷ []))))))
+unmade_statuses = 9 ∷ (10 ∷ (8 ∷ (3 ∷ (4 ∷ (7 ∷ [])))))
 
 among-unmade : (refusal : Refusal) → IsOneOf (status_of (refusal_reply refusal)) unmade_statuses
 among-unmade (ConstructRefused kind at) = inl refl
 among-unmade (LimitRefused what count) = inr (inl refl)
-among-unmade (NotYetRefused at) = inr (inr (inl refl))
-among-unmade MemoryRefused = inr (inr (inr (inr (inr (inr (inl refl))))))
+among-unmade MemoryRefused = inr (inr (inr (inr (inr (inl refl)))))
 
 pub unmade-status : (product : Product) (cpu : Cpu) (told : Files) (name : List ℕ) (reply : Reply) → IsUnmade product cpu told name reply →
     IsOneOf (status_of reply) unmade_statuses
 unmade-status product cpu told name _ (refused refusal f) = among-unmade refusal
-unmade-status product cpu told name reply (no_image h) = inr (inr (inr (no_image-status told name reply h)))
+unmade-status product cpu told name reply (no_image h) = inr (inr (no_image-status told name reply h))
 
 -- the statuses of what is made of an executable
 abbrev pub product_statuses : List ℕ
@@ -173,16 +171,15 @@ watched_run-status cpu image steps before left _ _ (lacked_memory h) = inr (inl 
 
 -- and those of one that may be refused
 abbrev pub watched_statuses : List ℕ
-watched_statuses = 9 ∷ (10 ∷ (12 ∷ run_statuses))
+watched_statuses = 9 ∷ (10 ∷ run_statuses)
 
 pub watched-status : (cpu : Cpu) (image : Image) (steps : ℕ) (before left : Option (List ℕ)) (reply : Reply) (output : List ℕ)
     → AllowsWatched cpu image steps before left reply output → IsOneOf (status_of reply) watched_statuses
 watched-status cpu image steps before left reply output (image_watched w) =
-    inr (inr (inr (watched_run-status cpu image steps before left reply output w.finishes)))
+    inr (inr (watched_run-status cpu image steps before left reply output w.finishes))
 watched-status cpu image steps before left _ _ (image_unwatched (ConstructRefused kind at) h same) = inl refl
 watched-status cpu image steps before left _ _ (image_unwatched (LimitRefused what count) h same) = inr (inl refl)
-watched-status cpu image steps before left _ _ (image_unwatched (NotYetRefused at) h same) = inr (inr (inl refl))
-watched-status cpu image steps before left _ _ (image_unwatched MemoryRefused h same) = inr (inr (inr (inr (inl refl))))
+watched-status cpu image steps before left _ _ (image_unwatched MemoryRefused h same) = inr (inr (inr (inl refl)))
 
 -- an answer with one of these statuses is not another
 pub other-than : (reply other : Reply) (ns : List ℕ) → are_apart (status_of other ∷ []) ns ≡ true → IsOneOf (status_of reply) ns → reply ≡ other → ⊥

@@ -18,10 +18,11 @@ use Rattle.dcc_prog.specs.declared.refusal.LimitName.TheVariants.{Procedures, In
 use Rattle.dcc_prog.specs.declared.refusal.LimitName.TheVariants.{Arguments}
 use Rattle.dcc_prog.specs.declared.refusal.Refusal.{Refusal}
 use Rattle.dcc_prog.specs.declared.refusal.Refusal.TheVariants.{Construct as ConstructRefused, Limit as LimitRefused}
-use Rattle.dcc_prog.specs.declared.refusal.Refusal.TheVariants.{NotYet as NotYetRefused, Memory as MemoryRefused}
+use Rattle.dcc_prog.specs.declared.refusal.Refusal.TheVariants.{Memory as MemoryRefused}
 use Rattle.dcc_prog.specs.Analysed.{IsProgramOf}
 use Rattle.dcc_prog.specs.MzImage.{IsImageOf}
-use Rattle.dcc_prog.specs.Refused.{IsRefusedFor, IsRefusedByAnalysis, IsAcceptedProgram, IsSound}
+use Rattle.dcc_prog.specs.Refused.{IsRefusedByAnalysis, IsSound}
+use Rattle.dcc_asks.specs.Refused.{IsRefusedFor, IsAcceptedProgram}
 use Rattle.dcc_c.specs.Text.{StandsFor}
 use Rattle.dcc_c.specs.Tree.{Tree}
 use Rattle.dcc_c.specs.Written.{written_form}
@@ -31,9 +32,10 @@ use Rattle.dcc_parse.specs.declared.fault.ParseFault.{ParseFault}
 use Rattle.dcc_parse.specs.declared.fault.ParseFault.TheVariants.{At, Memory as ParseMemory}
 use Rattle.dcc_parse.specs.Fault.{IsRefusal as IsTextRefusal}
 use Rattle.dcc_pipe.specs.Agreement.{IsTextOf}
+use Rattle.dcc_pipe.specs.TypedFrames.{HasTypedFrames}
 use Rattle.dcc_top.specs.declared.reply.Reply.{Reply}
 use Rattle.dcc_top.specs.declared.reply.Reply.TheVariants.{Done, Exited, Usage, NoFile, FileFault, InputFault, Memory}
-use Rattle.dcc_top.specs.declared.reply.Reply.TheVariants.{Format, Construct, Limit, NotYet, TextFault, Unfinished}
+use Rattle.dcc_top.specs.declared.reply.Reply.TheVariants.{Format, Construct, Limit, TextFault, Unfinished}
 use Rattle.dcc_top.specs.declared.reply.Reply.TheVariants.{Divided, Outside, Foul, Stuck}
 use Rattle.dcc_top.specs.Change.{Change}
 use Rattle.dcc_top.specs.Execution.{machine_of, text_of, Finishes, FinishesOrStops, IsCutRun}
@@ -72,7 +74,6 @@ status_of (Format fault) = exit.format
 status_of (Construct kind at) = exit.construct
 status_of (Limit what count) = exit.limit
 status_of (TextFault line kind) = exit.text_fault
-status_of (NotYet at) = exit.not_yet
 status_of (Unfinished steps) = exit.unfinished
 status_of Divided = exit.divided
 status_of (Outside at) = exit.outside
@@ -96,7 +97,6 @@ line_of (Limit what count) =
     codes "dcc: limit " ++ (limit_word what ++ (codes " " ++ (decimal count ++ codes "\n")))
 line_of (TextFault line kind) =
     codes "dcc: text " ++ (kind_word kind ++ (codes " at line " ++ (decimal line ++ codes "\n")))
-line_of (NotYet at) = codes "dcc: not yet at " ++ (hex_offset at ++ codes "\n")
 line_of (Unfinished steps) = codes "running after " ++ (decimal steps ++ codes " steps\n")
 line_of Divided = codes "divide\n"
 line_of (Outside at) = codes "outside at " ++ (hex_offset at ++ codes "\n")
@@ -125,7 +125,6 @@ parse_reply ParseMemory = Memory
 abbrev pub refusal_reply : Refusal → Reply
 refusal_reply (ConstructRefused kind at) = Construct kind at
 refusal_reply (LimitRefused what count) = Limit what count
-refusal_reply (NotYetRefused at) = NotYet at
 refusal_reply MemoryRefused = Memory
 
 -- Files.
@@ -170,11 +169,13 @@ pub data HasNoUnit (told : Files) (name : List ℕ) : Reply → Type 0 where
 
 -- What is made of an executable.
 
--- on this processor the image is accepted, and these bytes are the written form of a tree that is its text
+-- on this processor the image is accepted, and these bytes are the written form of a tree that is its text, in which
+-- memory has just what the frames expose, and one byte where a frame exposes no local one and SP is moved by a sum
 pub record IsTextOfImage (cpu : Cpu) (image : Image) (text : List ℕ) : Type 0 where
   pub accepted : IsAcceptedProgram cpu image
   pub tree : Tree
   pub is_text : IsTextOf cpu image text tree
+  pub typed : HasTypedFrames cpu image tree
   pub written_is : text ≡ written_form tree
 
 -- on this processor these bytes are what is asked for of the image: its text, or the lines of its procedures

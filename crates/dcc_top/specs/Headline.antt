@@ -7,8 +7,10 @@ use Rattle.dcc_prog.specs.declared.image.Image.{Image}
 use Rattle.dcc_prog.specs.declared.frame.Program.{Program}
 use Rattle.dcc_prog.specs.Analysed.{IsProgramOf}
 use Rattle.dcc_prog.specs.MzImage.{IsImageOf}
-use Rattle.dcc_prog.specs.Refused.{IsSound, IsAcceptedProgram}
+use Rattle.dcc_prog.specs.Refused.{IsSound}
 use Rattle.dcc_prog.specs.Watch.{IsClean}
+use Rattle.dcc_asks.specs.Refused.{IsAcceptedProgram}
+use Rattle.dcc_pipe.specs.TypedFrames.{HasTypedFrames}
 use Rattle.dcc_c.specs.Text.{StandsFor}
 use Rattle.dcc_c.specs.Tree.{Tree}
 use Rattle.dcc_c.specs.Written.{written_form}
@@ -28,7 +30,8 @@ pub record RunsAgree {T : Type 0} (cpu : Cpu) (image : Image) (text : Subject T)
     pub never_stuck : (k line : ℕ) → ending_after text k input ≢ Stuck line
 
 -- THE THEOREM. A text was appended to the output that does what the executable of this name does on this processor, on
--- every input, as long as the executable's run is clean.
+-- every input, as long as the executable's run is clean. In memory it has just the arguments and the local bytes that
+-- the procedures' frames expose, and one byte where a frame exposes no local one and its procedure moves SP by a sum.
 pub record HasText (cpu : Cpu) (told : Files) (name : List ℕ) (before after : Option (List ℕ)) : Type 0 where
   pub file : List ℕ
   pub text : List ℕ
@@ -40,6 +43,7 @@ pub record HasText (cpu : Cpu) (told : Files) (name : List ℕ) (before after : 
   pub tree : Tree
   pub stands : StandsFor text tree
   pub written_is : text ≡ written_form tree
+  pub typed : HasTypedFrames cpu image tree
   pub runs : (input : List ℕ) (fill : ℕ) → All (λ b. b < 256) input → fill < 2 ^ 16
       → RunsAgree cpu image (text_of tree stands.allowed.start fill) (length stands.tokens) input
 

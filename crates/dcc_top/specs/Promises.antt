@@ -4,7 +4,8 @@ use Rattle.std.specs.Prelude.{◌≡◌, ◌≢◌, ◌⊎◌, ℕ, List, [], �
 use Rattle.dcc_run.specs.End.{End}
 use Rattle.dcc_prog.specs.declared.cpu.Cpu.{Cpu}
 use Rattle.dcc_prog.specs.MzImage.{FormatFault, IsFirstFault}
-use Rattle.dcc_prog.specs.Refused.{IsSound, IsAcceptedProgram, IsUnsound, IsRefusedImage}
+use Rattle.dcc_prog.specs.Refused.{IsSound, IsUnsound}
+use Rattle.dcc_asks.specs.Refused.{IsAcceptedProgram, IsRefusedImage}
 use Rattle.dcc_top.specs.declared.reply.Reply.TheVariants.{Memory}
 use Rattle.dcc_top.specs.WatchedRun.{MeetsFoul}
 use Rattle.dcc_top.specs.Words.{Job, Decompile, ListProcedures, ExecuteWatched, ExecuteText, IsExecution, LoadsImage}
@@ -90,14 +91,14 @@ pub record KeepsRefusals (call : Call) : Type 0 where
       → Names call file
       → IsFirstFault file fault
       → IsOneOf call.status (exit.format ∷ exit.faults)
-  -- the program is refused: for a construct, for a count, or for an instruction that is not built yet
+  -- the program is refused, for a construct or for a count
   pub refused : IsOneOf call.status exit.refusals → HasRefusal call
   pub refused_always : (name file : List ℕ) (cpu : Cpu)
       → call.job ≡ Some (Decompile name cpu)
       → Names call file
       → OfImages file (IsRefusedImage cpu)
-      → IsOneOf call.status (exit.construct ∷ (exit.limit ∷ (exit.not_yet ∷ exit.faults)))
-  -- `procs` is refused wherever a construct stands or a count is too great, and for nothing else
+      → IsOneOf call.status (exit.construct ∷ (exit.limit ∷ exit.faults))
+  -- `procs` is refused wherever a construct stands that the analyses tell or a count is too great, and for nothing else
   pub listing_refused_always : (name file : List ℕ) (cpu : Cpu)
       → call.job ≡ Some (ListProcedures name cpu)
       → Names call file

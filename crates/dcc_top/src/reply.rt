@@ -40,8 +40,6 @@ pub enum Reply {
         what: LimitName,
         count: u32,
     },
-    /// The instruction at this offset in the code segment is of a form that is not built yet.
-    NotYet(u16),
     /// The text is refused for what offends first, in this line.
     TextFault {
         line: u32,
@@ -105,7 +103,6 @@ impl From<Refusal> for Reply {
         match refusal {
             Refusal::Construct { kind, at } => Reply::Construct { kind, at },
             Refusal::Limit { what, count } => Reply::Limit { what, count },
-            Refusal::NotYet { at } => Reply::NotYet(at),
             Refusal::Memory => Reply::Memory,
         }
     }
@@ -127,7 +124,6 @@ impl Reply {
             Reply::Construct { .. } => 9,
             Reply::Limit { .. } => 10,
             Reply::TextFault { .. } => 11,
-            Reply::NotYet(_) => 12,
             Reply::Unfinished(_) => 20,
             Reply::Divided => 21,
             Reply::Outside(_) => 22,
@@ -175,7 +171,6 @@ impl fmt::Display for Reply {
                 let word = kind.word();
                 writeln!(f, "dcc: text {word} at line {line}")
             }
-            Reply::NotYet(at) => writeln!(f, "dcc: not yet at {at:04X}"),
             Reply::Unfinished(steps) => writeln!(f, "running after {steps} steps"),
             Reply::Divided => writeln!(f, "divide"),
             Reply::Outside(at) => writeln!(f, "outside at {at:04X}"),

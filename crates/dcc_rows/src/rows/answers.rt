@@ -1,5 +1,6 @@
 //! The status and the line of each answer.
 
+use super::calls::FACTORIAL;
 use super::files::{Answer, Faults, NO_FAULTS, PRINTS_A, answered, program};
 use std::alloc::{AllocError, Global};
 use std::process::Abort;
@@ -117,7 +118,7 @@ fn files_without_an_image_are_refused(rt: HostRuntime) -> Result<(), Fail> {
 // The code after the instructions that set DS, the status and the line.
 type RefusalRow = (&'static [u8], u8, &'static str);
 
-static REFUSALS: [RefusalRow; 17] = [
+static REFUSALS: [RefusalRow; 16] = [
     // No instruction of the profile.
     (b"\xCD\x20", 9, "dcc: construct 2 at 0005\n"),
     // CLI after the prelude.
@@ -167,27 +168,24 @@ static REFUSALS: [RefusalRow; 17] = [
         9,
         "dcc: construct 12 at 000A\n",
     ),
-    // What is not built: a call, after a load, before a division and before a written string.
+    // The callee doubles its argument, which the caller takes back after the CALL and prints.
     (
-        b"\xA1\x00\x02\xE8\x05\x00\xB8\x00\x4C\xCD\x21\xC3",
-        12,
-        "dcc: not yet at 0008\n",
-    ),
-    (
-        b"\xE8\x09\x00\x99\xF7\xF9\xB8\x00\x4C\xCD\x21\x90\xC3",
-        12,
-        "dcc: not yet at 0005\n",
-    ),
-    (
-        b"\xE8\x09\x00\xB4\x09\xCD\x21\xB8\x00\x4C\xCD\x21\xC3",
-        12,
-        "dcc: not yet at 0005\n",
-    ),
-    // A construct comes before what is not built, wherever it stands.
-    (
-        b"\xE8\x06\x00\xB8\x00\x4C\xFA\xCD\x21\xC3",
+        b"\xB8\x05\x00\x50\xE8\x0C\x00\x58\x8B\xD0\xB4\x02\xCD\x21\xB8\x00\x4C\xCD\x21\x55\x8B\xEC\
+            \xD1\x66\x04\x5D\xC3",
         9,
-        "dcc: construct 2 at 000B\n",
+        "dcc: construct 9 at 0009\n",
+    ),
+    // The callee gives BX and CX back.
+    (
+        b"\xE8\x08\x00\x03\xD9\x8A\xC3\xB4\x4C\xCD\x21\xBB\x01\x00\xB9\x02\x00\xC3",
+        9,
+        "dcc: construct 10 at 0010\n",
+    ),
+    // A construct comes before what is at fault between procedures, wherever it stands.
+    (
+        b"\xE8\x07\x00\x03\xC3\xB4\x4C\xFA\xCD\x21\xB8\x01\x00\xBB\x02\x00\xC3",
+        9,
+        "dcc: construct 2 at 000C\n",
     ),
 ];
 
@@ -243,10 +241,13 @@ fn a_write_that_fails_leaves_a_part_of_the_answer(rt: HostRuntime) -> Result<(),
         out: 2,
         err: 0,
     };
-    let given = answered(rt.alloc(), &["c", "ROW1.EXE"], &PRINTS_A, second_of_text)?;
-    assert_eq!(rt; given.status, 6);
-    assert_eq!(rt; given.out.as_slice(), b"#pragma ".as_slice());
-    assert!(rt; given.err.is_empty());
+    let recursive = program(&rt, rt.alloc(), FACTORIAL)?;
+    for file in [PRINTS_A.as_slice(), recursive.as_slice()] {
+        let given = answered(rt.alloc(), &["c", "ROW1.EXE"], file, second_of_text)?;
+        assert_eq!(rt; given.status, 6);
+        assert_eq!(rt; given.out.as_slice(), b"#pragma ".as_slice());
+        assert!(rt; given.err.is_empty());
+    }
 
     let first_of_line = Faults {
         fetch: 0,

@@ -144,7 +144,15 @@ fn programs() -> &'static [Program] {
 }
 
 // Programs of the 80186, or with another end on it.
-static LATER_PROGRAMS: [Program; 8] = [
+static LATER_PROGRAMS: [Program; 9] = [
+    // A procedure that sets up its frame by ENTER prints a star from a variable in it.
+    Program {
+        code: b"\xE8\x05\x00\xB8\x00\x4C\xCD\x21\xC8\x02\x00\x00\xC6\x46\xFE\x2A\x8A\x56\xFE\xB4\x02\xCD\x21\
+            \xC9\xC3",
+        input: b"",
+        output: b"*",
+        line: "exit 0\n",
+    },
     // A count in CL is taken modulo 32.
     Program {
         code: b"\xB8\x01\x00\xB1\x20\xD3\xE0\xB4\x4C\xCD\x21",
@@ -249,6 +257,21 @@ pub(super) fn check_both(
     Ok(())
 }
 
+/// Each of these programs on a processor and its text put out the same and end alike, from two fills.
+pub(super) fn check_all(
+    rt: &impl Abort,
+    alloc: Global,
+    programs: &[Program],
+    cpu: &str,
+) -> Result<(), Fail> {
+    for program_row in programs {
+        let file = program(rt, alloc, program_row.code)?;
+        check_both(rt, alloc, &file, program_row, cpu, "0")?;
+        check_both(rt, alloc, &file, program_row, cpu, "43690")?;
+    }
+    Ok(())
+}
+
 #[test]
 fn texts_put_out_and_end_as_their_programs_do(rt: HostRuntime) -> Result<(), Fail> {
     let alloc = rt.alloc();
@@ -259,23 +282,12 @@ fn texts_put_out_and_end_as_their_programs_do(rt: HostRuntime) -> Result<(), Fai
         line: "exit 3\n",
     };
     check_both(&rt, alloc, &PRINTS_A, &prints_a, "8086", "0")?;
-    for program_row in programs() {
-        let file = program(&rt, alloc, program_row.code)?;
-        check_both(&rt, alloc, &file, program_row, "8086", "0")?;
-        check_both(&rt, alloc, &file, program_row, "8086", "43690")?;
-    }
-    Ok(())
+    check_all(&rt, alloc, programs(), "8086")
 }
 
 #[test]
 fn texts_for_the_80186_put_out_and_end_as_their_programs_do(rt: HostRuntime) -> Result<(), Fail> {
-    let alloc = rt.alloc();
-    for program_row in later_programs() {
-        let file = program(&rt, alloc, program_row.code)?;
-        check_both(&rt, alloc, &file, program_row, "186", "0")?;
-        check_both(&rt, alloc, &file, program_row, "186", "43690")?;
-    }
-    Ok(())
+    check_all(&rt, rt.alloc(), later_programs(), "186")
 }
 
 #[test]

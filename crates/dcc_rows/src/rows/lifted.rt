@@ -14,8 +14,8 @@ use std::test::Fail;
 // Adds 1 to 255, and ends with 1 where that carries, else with 0.
 const CARRIES: &[u8] = b"\xB0\xFF\x04\x01\x72\x05\xB8\x00\x4C\xCD\x21\xB8\x01\x4C\xCD\x21";
 
-// The unit of the program of some code.
-fn decompiled(rt: &impl Abort, alloc: Global, code: &[u8]) -> Result<Unit, Fail> {
+/// The unit of the program of some code.
+pub(super) fn decompiled(rt: &impl Abort, alloc: Global, code: &[u8]) -> Result<Unit, Fail> {
     let image = load(alloc, &program(rt, alloc, code)?)?;
     Ok(decompile(alloc, &image, Cpu::I8086)?)
 }

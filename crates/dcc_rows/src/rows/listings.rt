@@ -98,9 +98,8 @@ fn lists() -> &'static [ListRow] {
     &LISTS
 }
 
-// One procedure alone has a text, several have none yet.
 #[test]
-fn procedures_are_listed_also_where_they_have_no_text_yet(rt: HostRuntime) -> Result<(), Fail> {
+fn procedures_are_listed_and_have_a_text(rt: HostRuntime) -> Result<(), Fail> {
     let alloc = rt.alloc();
     for row in lists() {
         let file = program(&rt, alloc, row.code)?;
@@ -119,9 +118,8 @@ fn procedures_are_listed_also_where_they_have_no_text_yet(rt: HostRuntime) -> Re
             &file,
             NO_FAULTS,
         )?;
-        let alone = row.lines.split('\n').count() == 2;
-        assert_eq!(rt; text.status, if alone { 0 } else { 12 }, "{}", row.lines);
-        assert_eq!(rt; text.out.is_empty(), !alone, "{}", row.lines);
+        assert_eq!(rt; text.err.as_slice(), b"".as_slice(), "{}", row.lines);
+        assert_eq!(rt; text.status, 0, "{}", row.lines);
     }
     Ok(())
 }

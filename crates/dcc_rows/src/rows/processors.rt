@@ -21,7 +21,7 @@ struct Answered {
     line: &'static str,
 }
 
-static ANSWERS: [Answered; 7] = [
+static ANSWERS: [Answered; 6] = [
     Answered {
         code: ENTERS,
         command: "run",
@@ -45,14 +45,6 @@ static ANSWERS: [Answered; 7] = [
         status: 9,
         out: b"",
         line: "dcc: construct 2 at 000D\n",
-    },
-    Answered {
-        code: ENTERS,
-        command: "c",
-        cpu: "186",
-        status: 12,
-        out: b"",
-        line: "dcc: not yet at 0005\n",
     },
     Answered {
         code: MULTIPLIES,

@@ -1,30 +1,52 @@
-use Rattle.std.proofs.Common.{ap, ◌∙◌}
-use Rattle.std.proofs.lemmas.Result.{IfOk-weaker}
+use Rattle.std.proofs.lemmas.Result.{err_from_is_err_and}
 use Rattle.dcc_ir.specs.Views.{program_of}
-use Rattle.dcc_c.specs.Numbered.{numbered}
-use Rattle.dcc_pipe.specs.Unbroken.{is_unbroken_tree}
-use Rattle.dcc_pipe.specs.WholeText.{whole_text}
-use Rattle.dcc_pipe.proofs.TextableLaws.{left-simplified, left-follows, left-alone}
-use Rattle.dcc_pipe.proofs.OneGraph.{one-fits}
-use Rattle.dcc_pipe.proofs.PipeLaws.{fits-writable, text-is}
-use Rattle.dcc_pipe.proofs.UnbrokenText.{tree-unbroken}
+use Rattle.dcc_pipe.proofs.PipeLaws.{counted-tree, text-is}
+use Rattle.dcc_pipe.proofs.PreparedFits.{prepared-fits}
+use Rattle.dcc_pipe.proofs.RefusedLaws.{fault-construct, summed-none}
+use Rattle.dcc_pipe.proofs.TextableLaws.{lifted-has_the_form, prepared-follows}
+use Rattle.dcc_pipe.proofs.TypedLaws.{typed-tree}
 use Rattle.dcc_pipe.proofs.decompilation.text_of.Goals as goal
 
-pub simplified-requires : goal.simplified-requires
-simplified-requires c = c.in_ok-lifted.ensures.lifted.lifted.well_formed.graphs
+pub prepared-requires : goal.prepared-requires
+prepared-requires c =
+    lifted-has_the_form c.args.image.now c.args.program.now (program_of c.in_ok-lifted.lifted) c.requires.program
+    c.in_ok-lifted.ensures.lifted.lifted
 
-pub returns : goal.returns
-returns c =
+pub returns-in_err-prepared-clause-fault : goal.returns-in_err-prepared-clause-fault
+returns-in_err-prepared-clause-fault c =
+    let p = err_from_is_err_and c.from_residual-in_err-prepared.result c.from_residual-in_err-prepared.ensures.1 in
+    rw (p.1, p.2) (fault-construct c.args.image.now c.args.program.now (program_of c.in_ok-lifted.lifted)
+    (record { loaded = c.requires.loaded; is_program = c.requires.program }) c.in_ok-lifted.ensures.lifted
+    c.lifted_relations_are_the_machines.ensures c.faults_are_constructs.ensures _ c.in_err-prepared.ensures.fault)
+
+pub returns-clause-text : goal.returns-clause-text
+returns-clause-text c =
     let image = c.args.image.now in
     let program = c.args.program.now in
     let p = program_of c.in_ok-lifted.lifted in
-    let q = program_of c.in_ok-simple.simple in
-    let of = c.in_ok-lifted.ensures.lifted in
-    let left = c.in_ok-simple.ensures in
-    let textable = (left-simplified image program p of q left).textable in
-    let fits = one-fits q textable (left-alone image program p of q left c.requires.built) c.in_ok-unit.ensures.few in
-    let unbroken =
-    ap is_unbroken_tree c.in_ok-unit.ensures.text ∙ tree-unbroken (whole_text q) (fits-writable q fits) in
-    text-is image program c.requires.program q fits (left-follows image program p of q left) c.number.result
-    (IfOk-weaker c.number.result _ _ (λ unit same. same ∙ ap numbered c.in_ok-unit.ensures.text)
-    (c.number.ensures unbroken))
+    let q = program_of c.in_ok-prepared.prepared in
+    let is = c.in_ok-prepared.ensures.ready in
+    let fits = prepared-fits p q is c.in_ok-unit.ensures.few in
+    text-is image program c.requires.program q fits
+    (prepared-follows image program p q c.in_ok-lifted.ensures.lifted.lifted is) c.in_ok-number.field-0
+    (counted-tree q fits _ _ c.in_ok-unit.ensures.text c.in_ok-number.ensures)
+
+pub returns-clause-none : goal.returns-clause-none
+returns-clause-none c =
+    let is = c.in_ok-prepared.ensures.ready in
+    summed-none c.args.image.now c.args.program.now (program_of c.in_ok-lifted.lifted)
+    (record { loaded = c.requires.loaded; is_program = c.requires.program }) c.in_ok-lifted.ensures.lifted
+    c.lifted_relations_are_the_machines.ensures c.summed_programs_have_none.ensures is.sums is.known
+
+pub returns-clause-typed : goal.returns-clause-typed
+returns-clause-typed c =
+    let p = program_of c.in_ok-lifted.lifted in
+    let q = program_of c.in_ok-prepared.prepared in
+    let is = c.in_ok-prepared.ensures.ready in
+    typed-tree c.args.image.now c.args.program.now p q
+    (record { loaded = c.requires.loaded; is_program = c.requires.program }) c.in_ok-lifted.ensures.lifted is
+    c.in_ok-unit.ensures.few _
+    (counted-tree q (prepared-fits p q is c.in_ok-unit.ensures.few) _ _ c.in_ok-unit.ensures.text c.in_ok-number.ensures)
+
+pub unit_of-requires : goal.unit_of-requires
+unit_of-requires c = c.in_ok-prepared.ensures.ready.simplified.textable.formed.graphs

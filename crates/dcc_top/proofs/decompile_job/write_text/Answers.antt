@@ -2,7 +2,8 @@ use Rattle.std.proofs.Common.{ap, refl, subst, sym}
 use Rattle.dcc_c.specs.Views.{tree_of}
 use Rattle.dcc_c.specs.Written.{written_form}
 use Rattle.dcc_prog.specs.declared.refusal.Refusal.TheVariants.{Memory as MemoryRefused}
-use Rattle.dcc_prog.specs.Refused.{IsRefusedByAnalysis, by_analysis}
+use Rattle.dcc_prog.specs.Refused.{IsRefusedByAnalysis}
+use Rattle.dcc_asks.specs.Refused.{by_analysis}
 use Rattle.dcc_top.specs.declared.reply.Reply.TheVariants.{Memory}
 use Rattle.dcc_top.specs.Answer.{AllowsImage, image_made, image_refused}
 use Rattle.dcc_top.specs.Words.{Text}
@@ -18,7 +19,7 @@ pub returns-in-Ok-print-clause-answers : goal.returns-in-Ok-print-clause-answers
 returns-in-Ok-print-clause-answers g c = record {
   output = written_form (tree_of c.in-Ok.unit);
   wrote = c.in-Ok-print.ensures.whole;
-  is_answer = image_made (record { accepted = c.in-Ok.ensures.accepted; tree = tree_of c.in-Ok.unit; is_text = c.in-Ok.ensures.text; written_is = refl });
+  is_answer = image_made (record { accepted = c.in-Ok.ensures.accepted; tree = tree_of c.in-Ok.unit; is_text = c.in-Ok.ensures.text; typed = c.in-Ok.ensures.typed; written_is = refl });
 }
 
 pub returns-clause-answers : goal.returns-clause-answers
@@ -28,6 +29,6 @@ returns-clause-answers g c =
 pub returns-in-Err-Failed-clause-cut_short : goal.returns-in-Err-Failed-clause-cut_short
 returns-in-Err-Failed-clause-cut_short g c = record {
   due = written_form (tree_of c.in-Ok.unit);
-  is_due = record { accepted = c.in-Ok.ensures.accepted; tree = tree_of c.in-Ok.unit; is_text = c.in-Ok.ensures.text; written_is = refl };
+  is_due = record { accepted = c.in-Ok.ensures.accepted; tree = tree_of c.in-Ok.unit; is_text = c.in-Ok.ensures.text; typed = c.in-Ok.ensures.typed; written_is = refl };
   part = rw c.in-Err-Failed.field-0-is at c.in-Err-Failed.ensures.part refl;
 }

@@ -1,0 +1,137 @@
+-- Which addresses the graph of a lifted procedure takes that exposes no local byte and moves SP by no sum: those of
+-- arguments in memory alone.
+use Rattle.std.proofs.Common.{◌≡◌, ℕ, zero, suc, ◌+◌, ◌*◌, ◌<◌, ◌≤◌, Bool, true, false, ◌==◌, ◌&&◌, ◌||◌, List, [], ◌∷◌, ◌++◌, map, Option, Some, None, refl, sym, ap, ◌∙◌, subst, true≢false, arith}
+use Rattle.std.specs.Prelude.{pos, if◌then◌else◌, All, slice_index, ◌/◌, ◌%◌}
+use Rattle.std.specs.List.{list_all, list_any, flat_map}
+use Rattle.std.proofs.lemmas.Bool.{or_parts}
+use Rattle.dcc_prog.specs.declared.image.Image.{Image}
+use Rattle.dcc_prog.specs.declared.procedure.Node.{Node}
+use Rattle.dcc_prog.specs.declared.procedure.Proc.{Proc}
+use Rattle.dcc_prog.specs.declared.frame.Program.{Program as Analysed}
+use Rattle.dcc_prog.specs.FrameForm.{is_sp_move}
+use Rattle.dcc_prog.specs.Frame.{argument_word}
+use Rattle.dcc_prog.specs.Trail.{IsEntry}
+use Rattle.dcc_stack.specs.Accepted.{IsFrameFor}
+use Rattle.dcc_stack.specs.Slots.{exposes_of}
+use Rattle.dcc_ir.specs.Tree.{Stmt, Exit, Stop, Block, Graph, Program}
+use Rattle.dcc_ir.specs.Use.{exit_exprs}
+use Rattle.dcc_ir.specs.WellFormed.{is_memory}
+use Rattle.dcc_coupled.specs.Nodes.{procedures_in}
+use Rattle.dcc_coupled.specs.Passed.{argument_param}
+use Rattle.dcc_coupled.specs.Procedures.{Procedure, procedure_at}
+use Rattle.dcc_coupled.specs.Statements as placed
+use Rattle.dcc_coupled.proofs.FoundProcedures.{frame-for}
+use Rattle.dcc_lift.specs.Blocks.{Scene, Nodes, node_in, height_in, node_stmts, stmts_at, node_exit, exit_at, last_of, leaders, nodes_in, entry_in, block_place, IsBlockAt, AreBlocksAt}
+use Rattle.dcc_lift.specs.Translated.{setting, IsTranslated}
+use Rattle.dcc_lift.specs.Translation.{prelude_block}
+use Rattle.dcc_lift.proofs.FormBlocks.{args-few}
+use Rattle.dcc_lift.proofs.FormScenes.{translated_at, procedure_at_entry, graph_of_entry, instruction-at, lifted}
+use Rattle.dcc_lift.proofs.LocatedBlocks.{located_at, scene_at, blocks-are}
+use Rattle.dcc_lift.proofs.TranslationLaws.{front_of}
+use Rattle.dcc_pipe.specs.TypedFrames.{moves_sp}
+use Rattle.dcc_pipe.proofs.OperationAddresses.{passes, all_pass, appended}
+use Rattle.dcc_pipe.proofs.NodeAddresses.{op-passes}
+use Rattle.dcc_pipe.proofs.ExitAddresses.{exit-passes}
+
+both : (a b : Bool) → a ≡ true → b ≡ true → (a && b) ≡ true
+both true b e f = f
+both false b e f = e
+
+-- no instruction of these moves SP by a sum
+node-still : (nodes : Nodes) (at : ℕ) (node : Node) → list_any (λ (found : ℕ × Node). is_sp_move found.1.instr.op) nodes ≡ false
+    → node_in nodes at ≡ Some node → is_sp_move node.instr.op ≡ false
+node-still [] at node none is = absurd cc
+node-still (found ∷ nodes) at node none is =
+    let parts =
+    or_parts (is_sp_move found.1.instr.op) (list_any (λ (found : ℕ × Node). is_sp_move found.1.instr.op) nodes) none in
+    by (found.0 == at) is parts.0 (node-still nodes at node parts.1)
+  where
+    by : (b : Bool) → (if b then Some found.1 else node_in nodes at) ≡ Some node → is_sp_move found.1.instr.op ≡ false
+        → (node_in nodes at ≡ Some node → is_sp_move node.instr.op ≡ false) → is_sp_move node.instr.op ≡ false
+    by true is here later = let same : found.1 ≡ node = cc in subst (λ (n : Node). is_sp_move n.instr.op ≡ false) same here
+    by false is here later = later is
+
+-- all addresses of a block pass a test; so those of blocks
+abbrev pub block_passes : (ℕ → Bool) → Block → Bool
+block_passes test b = all_pass test b.stmts && list_all (passes test) (exit_exprs b.exit)
+
+abbrev pub blocks_pass : (ℕ → Bool) → List Block → Bool
+blocks_pass test blocks = list_all (block_passes test) blocks
+
+module _ (image : Image) (program : Analysed) (p : Program) (is : IsTranslated image program p) (entry : ℕ)
+    (is_entry : IsEntry image program.layout entry) where
+  abbrev q : Procedure
+  q = procedure_at_entry image program p is entry is_entry
+
+  abbrev scene : Scene
+  scene = scene_at image program p is entry is_entry
+
+  frame : IsFrameFor image program entry q.frame
+  frame =
+      frame-for (setting image program p) (lifted image program p is) entry is_entry q
+      (located_at image program p is entry is_entry).procedure_found
+
+  few : q.frame.args ≤ 32
+  few = args-few image program p is entry is_entry
+
+  module _ (none : q.frame.exposed.local ≡ 0) (still : moves_sp q.proc ≡ false)
+      (memory : (n : ℕ) → n < q.frame.args → is_memory (argument_param q n).put ≡ exposes_of q.frame (argument_word n))
+      (test : ℕ → Bool)
+      (tested : (n : ℕ) → n < q.frame.args → exposes_of q.frame (argument_word n) ≡ true → (d : ℕ) → 2 * n ≤ d
+      → d < 32768 → test d ≡ true) where
+    stmts-pass : (at : ℕ) → all_pass test (stmts_at scene at) ≡ true
+    stmts-pass at = go (node_in (nodes_in scene) at) refl
+      where
+        nothing : (height : Option ℕ) → all_pass test (node_stmts scene height None) ≡ true
+        nothing None = refl
+        nothing (Some height) = refl
+
+        go : (o : Option Node) → node_in (nodes_in scene) at ≡ o
+            → all_pass test (node_stmts scene (height_in scene.heights at) o) ≡ true
+        go None e = nothing (height_in scene.heights at)
+        go (Some node) e =
+            let here = instruction-at image program p is entry is_entry at node e in
+            subst (λ h. all_pass test (node_stmts scene h (Some node)) ≡ true) (sym here.height_is)
+            (op-passes image program entry q frame none few test tested at here.height here.before is.of_file here.is_at
+            node.instr.op (node.instr, here.found.instr, refl) scene.cpu scene.procedures node refl
+            (node-still (nodes_in scene) at node still e) here.have)
+
+    all-stmts-pass : (places : List ℕ) → all_pass test (flat_map (stmts_at scene) places) ≡ true
+    all-stmts-pass [] = refl
+    all-stmts-pass (at ∷ places) =
+        appended test (stmts_at scene at) (flat_map (stmts_at scene) places) (stmts-pass at) (all-stmts-pass places)
+
+    end-passes : (at : ℕ) → list_all (passes test) (exit_exprs (exit_at scene at)) ≡ true
+    end-passes at = go (node_in (nodes_in scene) at)
+      where
+        go : (o : Option Node) → list_all (passes test) (exit_exprs (node_exit scene o)) ≡ true
+        go None = refl
+        go (Some node) = exit-passes q few memory test tested node.instr.op (map (block_place scene) node.succ.items)
+
+    all-blocks-pass : (places : List ℕ) (blocks : List Block) → AreBlocksAt scene places blocks
+        → blocks_pass test blocks ≡ true
+    all-blocks-pass [] [] are = refl
+    all-blocks-pass [] (b ∷ blocks) are = absurd are
+    all-blocks-pass (at ∷ places) [] are = absurd are
+    all-blocks-pass (at ∷ places) (b ∷ blocks) are =
+        let here = are.0 in
+        both (block_passes test b) (blocks_pass test blocks)
+        (both (all_pass test b.stmts) (list_all (passes test) (exit_exprs b.exit))
+        (ap (all_pass test) here.stmts_are ∙ all-stmts-pass (at ∷ here.rest))
+        (ap (λ e. list_all (passes test) (exit_exprs e)) here.exit_is ∙ end-passes (last_of at here.rest)))
+        (all-blocks-pass places blocks are.1)
+
+    front-passes : (blocks : List Block) → blocks_pass test blocks ≡ true
+        → blocks_pass test (front_of image program.layout scene ++ blocks) ≡ true
+    front-passes blocks are = by (scene.before == 0)
+      where
+        by : (b : Bool) → blocks_pass test ((if b then [] else prelude_block image program.layout scene ∷ []) ++ blocks) ≡ true
+        by true = are
+        by false = are
+
+    pub graph-passes : blocks_pass test (graph_of_entry image program p is entry is_entry).blocks ≡ true
+    graph-passes =
+        let x = located_at image program p is entry is_entry in
+        ap (blocks_pass test) (blocks-are image program p is entry is_entry)
+        ∙ front-passes x.is_graph.blocks
+        (all-blocks-pass (leaders (nodes_in scene) (entry_in scene)) x.is_graph.blocks x.is_graph.blocks_are)

@@ -1,0 +1,161 @@
+-- A graph that is prepared takes an address that is told from no parameter only where its procedure exposes local bytes
+-- or moves SP by a sum.
+use Rattle.std.proofs.Common.{◌≡◌, ℕ, zero, suc, ◌+◌, ◌*◌, ◌<◌, ◌≤◌, Bool, true, false, ◌&&◌, inl, inr, List, [], ◌∷◌, ◌++◌, map, Option, Some, None, refl, sym, ap, ◌∙◌, subst, true≢false, le-leb, lt-ltb, arith}
+use Rattle.std.specs.Prelude.{if◌then◌else◌, nat_le, nat_lt, All}
+use Rattle.std.specs.List.{AllZip, range_with_len}
+use Rattle.std.proofs.lemmas.Bool.{cases_lt, and_from}
+use Rattle.std.proofs.lemmas.List.Elements.{All-head, All-tail}
+use Rattle.dcc_prog.specs.declared.image.Image.{Image}
+use Rattle.dcc_prog.specs.declared.frame.Program.{Program as Analysed}
+use Rattle.dcc_prog.specs.Frame.{argument_word}
+use Rattle.dcc_prog.specs.Trail.{IsEntry}
+use Rattle.dcc_stack.specs.Slots.{exposes_of}
+use Rattle.dcc_ir.specs.declared.syntax.Param.{Param}
+use Rattle.dcc_ir.specs.Tree.{Graph, Program}
+use Rattle.dcc_ir.specs.Trimmed.{Trim, trim_graph}
+use Rattle.dcc_ir.specs.WellFormed.{is_memory}
+use Rattle.dcc_ir.proofs.PathLaws.{decided}
+use Rattle.dcc_coupled.specs.Nodes.{procedures_in, IsGraphFor}
+use Rattle.dcc_coupled.specs.Passed.{argument_param, argument_params}
+use Rattle.dcc_coupled.specs.Procedures.{Procedure, procedure_at}
+use Rattle.dcc_lift.specs.Translated.{IsTranslated}
+use Rattle.dcc_lift.proofs.FormDrawn.{all-graphs}
+use Rattle.dcc_lift.proofs.FormGraphs.{entry-of}
+use Rattle.dcc_lift.proofs.FormScenes.{graph_of_entry, procedure_at_entry}
+use Rattle.dcc_lift.proofs.LocatedBlocks.{located_at}
+use Rattle.dcc_pack.specs.Packed.{pack_graph}
+use Rattle.dcc_variables.specs.Functions.{memory_from}
+use Rattle.dcc_variables.specs.Variables.{is_told_from, takes_address}
+use Rattle.dcc_pipe.specs.Simplified.{IsSimplifiedGraph}
+use Rattle.dcc_pipe.specs.Standing.{StandsForProcedure}
+use Rattle.dcc_pipe.specs.TypedFrames.{moves_sp}
+use Rattle.dcc_pipe.proofs.GraphAddresses.{blocks_pass, graph-passes}
+use Rattle.dcc_pipe.proofs.LeftAddresses.{Passes, AllPass, blocks-all, packed-pass, simplified-pass, takes-none}
+use Rattle.dcc_pipe.proofs.TrimmedLaws.{trimmed-parts}
+
+-- Addresses of arguments in memory are told from the first of these.
+
+module _ (x : Procedure) (others : List Param) where
+  record IsFirst (a n : ℕ) (params : List Param) : Type 0 where
+    place : ℕ
+    is : memory_from a params ≡ Some place
+    below : place ≤ n
+
+  words-first : (a m n : ℕ) → a ≤ n → n < a + m → is_memory (argument_param x n).put ≡ true
+      → IsFirst a n (map (argument_param x) (range_with_len a m) ++ others)
+  words-first a zero n low high told = absurd (omega (arith, low, high))
+  words-first a (suc m) n low high told = by (is_memory (argument_param x a).put) refl (words-first (a + 1) m n)
+    where
+      later : (is_memory (argument_param x a).put ≡ false) → a + 1 ≤ n
+      later away = elim (cases_lt a n) [
+        | inl less ↦ omega (arith, less)
+        | inr le ↦
+            let same : n ≡ a = omega (arith, le, low) in
+            absurd (true≢false (sym told ∙ ap (λ k. is_memory (argument_param x k).put) same ∙ away))
+      ]
+
+      by : (b : Bool) → is_memory (argument_param x a).put ≡ b
+          → (a + 1 ≤ n → n < (a + 1) + m → is_memory (argument_param x n).put ≡ true
+          → IsFirst (a + 1) n (map (argument_param x) (range_with_len (a + 1) m) ++ others))
+          → IsFirst a n (map (argument_param x) (range_with_len a (suc m)) ++ others)
+      by true here next = record {
+        place = a;
+        is = ap (λ b. if b then Some a else memory_from (a + 1) (map (argument_param x) (range_with_len (a + 1) m) ++ others)) here;
+        below = low;
+      }
+      by false away next =
+          let rest = next (later away) (omega (arith, high)) told in record {
+            place = rest.place;
+            is = ap (λ b. if b then Some a else memory_from (a + 1) (map (argument_param x) (range_with_len (a + 1) m) ++ others)) away ∙ rest.is;
+            below = rest.below;
+          }
+
+told-at : (told : Option ℕ) (place n d : ℕ) → told ≡ Some place → place ≤ n → 2 * n ≤ d → d < 32768
+    → is_told_from told d ≡ true
+told-at told place n d is below low small =
+    ap (λ o. is_told_from o d) is
+    ∙ and_from (nat_le (2 * place) d) (nat_lt d 32768) (le-leb (2 * place) d (omega (arith, below, low))) (lt-ltb d 32768 small)
+
+-- the graph takes such an address only where it has local bytes in memory or its procedure moves SP by a sum
+abbrev pub MovesWhere : Procedure → Graph → Type 0
+MovesWhere x h = takes_address (memory_from 0 h.params) h ≡ true → h.local ≡ 0 → moves_sp x.proc ≡ true
+
+-- What is lifted of a procedure.
+
+module _ (image : Image) (program : Analysed) (p : Program) (is : IsTranslated image program p) where
+  abbrev Memory : Procedure → Type 0
+  Memory x = (n : ℕ) → n < x.frame.args → is_memory (argument_param x n).put ≡ exposes_of x.frame (argument_word n)
+
+  abbrev Tested : Procedure → (ℕ → Bool) → Type 0
+  Tested x test = (n : ℕ) → n < x.frame.args → exposes_of x.frame (argument_word n) ≡ true → (d : ℕ) → 2 * n ≤ d
+      → d < 32768 → test d ≡ true
+
+  abbrev LiftedPass : Graph → Type 0
+  LiftedPass g = (x : Procedure) → procedure_at (procedures_in program) g.entry ≡ Some x → x.frame.exposed.local ≡ 0
+      → moves_sp x.proc ≡ false → Memory x → (test : ℕ → Bool) → Tested x test → AllPass test g
+
+  entry-passes : (entry : ℕ) (is_entry : IsEntry image program.layout entry)
+      → LiftedPass (graph_of_entry image program p is entry is_entry)
+  entry-passes entry is_entry x found none still memory test tested =
+      let here = located_at image program p is entry is_entry in
+      let found_here : procedure_at (procedures_in program) entry ≡ Some x =
+      sym (ap (procedure_at (procedures_in program)) (entry-of image program p is entry is_entry)) ∙ found in
+      let same : procedure_at_entry image program p is entry is_entry ≡ x = some-equal (sym here.procedure_found ∙ found_here) in
+      blocks-all test (graph_of_entry image program p is entry is_entry).blocks (of x same none still memory tested)
+    where
+      some-equal : {A : Type 0} {a b : A} → Some a ≡ Some b → a ≡ b
+      some-equal e = cc
+
+      of : (x : Procedure) → procedure_at_entry image program p is entry is_entry ≡ x → x.frame.exposed.local ≡ 0
+          → moves_sp x.proc ≡ false → Memory x → Tested x test
+          → blocks_pass test (graph_of_entry image program p is entry is_entry).blocks ≡ true
+      of x same =
+          subst (λ x. x.frame.exposed.local ≡ 0 → moves_sp x.proc ≡ false → Memory x → Tested x test
+          → blocks_pass test (graph_of_entry image program p is entry is_entry).blocks ≡ true) same
+          (λ none still memory tested. graph-passes image program p is entry is_entry none still memory test tested)
+
+  pub lifted-pass : All LiftedPass p.graphs
+  lifted-pass = all-graphs image program p is LiftedPass entry-passes
+
+  -- What is prepared of it.
+
+  graph-moves : (trim : Trim) (x : Procedure) (g h : Graph) → procedure_at (procedures_in program) g.entry ≡ Some x
+      → LiftedPass g → StandsForProcedure x h → IsSimplifiedGraph (pack_graph (trim_graph trim g)) h → MovesWhere x h
+  graph-moves trim x g h found passes stands simplified takes zero_local = by (moves_sp x.proc) refl
+    where
+      first : (n : ℕ) → n < x.frame.args → exposes_of x.frame (argument_word n) ≡ true → (d : ℕ) → 2 * n ≤ d → d < 32768
+          → is_told_from (memory_from 0 h.params) d ≡ true
+      first n less exposes d low small =
+          let of = words-first x stands.others 0 x.frame.args n (omega arith) (omega (arith, less)) (stands.memory n less ∙ exposes) in
+          told-at (memory_from 0 h.params) of.place n d (ap (memory_from 0) stands.params ∙ of.is) of.below low small
+
+      none : moves_sp x.proc ≡ false → takes_address (memory_from 0 h.params) h ≡ false
+      none still =
+          let test = is_told_from (memory_from 0 h.params) in
+          takes-none (memory_from 0 h.params) h
+          (simplified-pass test (pack_graph (trim_graph trim g)) h simplified
+          (packed-pass test (trim_graph trim g)
+          (trimmed-parts trim (Passes test) g (passes x found (sym stands.local ∙ zero_local) still stands.memory test first))))
+
+      by : (b : Bool) → moves_sp x.proc ≡ b → b ≡ true
+      by true is = refl
+      by false is = absurd (true≢false (sym takes ∙ none is))
+
+  pub graphs-move : (trim : Trim) (start : ℕ) (xs : List Procedure) (gs hs : List Graph)
+      → AllZip (IsGraphFor start) xs gs → All (λ (x : Procedure). procedure_at (procedures_in program) x.proc.entry ≡ Some x) xs
+      → All LiftedPass gs → AllZip StandsForProcedure xs hs
+      → AllZip IsSimplifiedGraph (map pack_graph (map (trim_graph trim) gs)) hs → AllZip MovesWhere xs hs
+  graphs-move trim start [] [] [] graphs found passes stand left = tt
+  graphs-move trim start [] [] (h ∷ hs) graphs found passes stand left = absurd stand
+  graphs-move trim start [] (g ∷ gs) hs graphs found passes stand left = absurd graphs
+  graphs-move trim start (x ∷ xs) [] hs graphs found passes stand left = absurd graphs
+  graphs-move trim start (x ∷ xs) (g ∷ gs) [] graphs found passes stand left = absurd stand
+  graphs-move trim start (x ∷ xs) (g ∷ gs) (h ∷ hs) graphs found passes stand left = (
+    graph-moves trim x g h
+        (ap (procedure_at (procedures_in program)) graphs.0.entry
+        ∙ All-head (λ (x : Procedure). procedure_at (procedures_in program) x.proc.entry ≡ Some x) x xs found)
+        (All-head LiftedPass g gs passes) stand.0 left.0,
+    graphs-move trim start xs gs hs graphs.1
+        (All-tail (λ (x : Procedure). procedure_at (procedures_in program) x.proc.entry ≡ Some x) x xs found)
+        (All-tail LiftedPass g gs passes) stand.1 left.1,
+  )
