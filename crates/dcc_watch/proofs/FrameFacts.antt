@@ -89,7 +89,7 @@ module _ (program : Program) where
   abbrev shapes : List Shape
   shapes = shapes_of program.procs.items program.cells.frames.items
 
-  end-is : (live : Live) → HasShape shapes live → told.end_of program (live_frame live) ≡ end_of live
+  pub end-is : (live : Live) → HasShape shapes live → told.end_of program (live_frame live) ≡ end_of live
   end-is live has =
       end-told (frame_of program (live_frame live)) live.base
       ∙ ap (λ (s : Shape). live.base + 2 * s.args) (sym (shape-told program.procs.items program.cells.frames.items live.entry live.shape has))

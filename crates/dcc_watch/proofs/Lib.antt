@@ -8,8 +8,10 @@ pub mod InsideLaws
 pub mod Laws
 pub mod LiveLaws
 pub mod MarkLaws
+pub mod OrderLaws
 pub mod Quiet
 pub mod ReachedLaws
+pub mod ReachedOrder
 pub mod RunProofs
 pub mod ShapeLaws
 pub mod StepLaws

@@ -6,4 +6,5 @@ pub mod Kept
 pub mod Marks
 pub mod Reached
 pub mod Shapes
+pub mod Ordered
 pub mod Watching

@@ -1,7 +1,8 @@
 //! The frames that live.
 
-ghost use Rattle.std.specs.Prelude.{◌≡◌, ◌+◌, ◌*◌, ◌<◌, [], ◌∷◌, drop, length, not, ◌&&◌, IfOk, nat_le};
+ghost use Rattle.std.specs.Prelude.{◌≡◌, ◌+◌, ◌<◌, ◌≤◌, [], ◌∷◌, drop, length, IfOk, nat_le};
 ghost use Rattle.dcc_watch.specs.Shapes.{end_of, exposed_in};
+ghost use Rattle.dcc_watch.specs.Ordered.{AreOrdered, AreBelow};
 
 use crate::shape::{NO_SHAPE, Shape};
 use std::alloc::{AllocError, Global};
@@ -19,13 +20,30 @@ pub(crate) struct Live {
 }
 
 impl Live {
-    // Whether the part from the first offset up to the end of the arguments holds the second.
-    fn holds(self, low: u32, offset: u16) -> bool
-        ensures { result ≡ (nat_le low offset && not (nat_le (end_of self) offset)) }
+    // Whether its arguments end at an offset or below.
+    fn ends_by(self, offset: u16) -> bool
+        ensures { result ≡ nat_le (end_of self) offset }
     {
-        let end = u64::from(self.base) + 2 * u64::from(self.shape.args);
-        low <= u32::from(offset) && u64::from(offset) < end
+        u64::from(self.base) + 2 * u64::from(self.shape.args) <= u64::from(offset)
     }
+}
+
+// How many of these frames, which are in order, have arguments that end at an offset or below. They are the newest.
+fn count_below(lives: &[Live], offset: u16) -> usize
+    requires ordered { AreOrdered 0 lives.now }
+    ensures few { result ≤ length lives.now }
+    ensures below { AreBelow lives.now offset result }
+{
+    let (mut low, mut high) = (0, lives.len());
+    while low < high {
+        let middle = low + (high - low) / 2;
+        if lives[middle].ends_by(offset) {
+            low = middle + 1;
+        } else {
+            high = middle;
+        }
+    }
+    low
 }
 
 /// The frames that live, the newest first, and how many there is room for.
@@ -85,17 +103,23 @@ impl Frames {
         }
     }
 
-    /// Whether the newest frame whose part holds the byte at an offset exposes it; SP stands at the first offset.
+    /// Whether the newest frame whose part holds the byte at an offset exposes it; SP stands at the first offset. The
+    /// frames are in order, so that one is found by halving.
     pub(crate) fn is_exposed(&self, top: u32, offset: u16) -> bool
+        requires ordered { AreOrdered top self.now.live }
         ensures { result ≡ exposed_in top self.now.live offset }
     {
-        let mut low = top;
-        for live in &self.items[self.newest..] {
-            if live.holds(low, offset) {
-                return live.shape.exposes(live.base, offset);
-            }
-            low = live.base;
+        let lives = &self.items[self.newest..];
+        let place = count_below(lives, offset);
+        let low = if place == 0 {
+            top
+        } else {
+            lives[place - 1].base
+        };
+        if place == lives.len() || u32::from(offset) < low {
+            return false;
         }
-        false
+        let live = lives[place];
+        live.shape.exposes(live.base, offset)
     }
 }

@@ -6,6 +6,7 @@ ghost use Rattle.dcc_prog.specs.Clean.{top_in};
 ghost use Rattle.dcc_step.specs.Core.{state_of};
 ghost use Rattle.dcc_watch.specs.Accesses.{near};
 ghost use Rattle.dcc_watch.specs.Foul.{foul_in, told_foul};
+ghost use Rattle.dcc_watch.specs.Ordered.{AreOrdered};
 
 use crate::places::{hidden, unwritten};
 use crate::sp::{low, sp_after};
@@ -35,6 +36,7 @@ pub(crate) fn next_foul(
 ) -> Option<Foul>
     requires list { before.now.list ≡ near layout.now (found_accesses found (state_of machine.now)) }
     requires top { before.now.top ≡ top_in layout.now (state_of machine.now) }
+    requires ordered { AreOrdered before.now.top stack.now.frames.live }
     ensures { option_map told_foul result
         ≡ foul_in layout.now stack.now.frames.live stack.now.written (state_of machine.now) found }
 {

@@ -1,6 +1,6 @@
 //! Which offsets are marked.
 
-ghost use Rattle.std.specs.Prelude.{◌≡◌, ◌-◌, false, true, slice_set, IfOk, List};
+ghost use Rattle.std.specs.Prelude.{◌≡◌, ◌-◌, ◌≤◌, ◌^◌, false, true, slice_set, IfOk, List};
 ghost use Rattle.std.specs.List.{range_with_len};
 ghost use Rattle.dcc_prog.specs.Clean.{is_marked, with_marks};
 ghost use Rattle.dcc_watch.specs.Marks.{no_marks};
@@ -13,16 +13,19 @@ use std::marker::Model;
 #[derive(Drop)]
 pub(crate) struct Marks {
     items: Vec<bool>,
+    // No offset below this one is marked, so that a stack that falls and rises again without a store costs nothing.
+    lowest: usize,
 }
 
 impl Model for Marks {
     ghost use Rattle.std.specs.Prelude.{◌≡◌, ◌^◌, List, Bool, vec_len};
+    ghost use Rattle.dcc_watch.specs.Marks.{HasNoneBelow};
 
     ghost Value = { List Bool };
 
     ghost view = { λ marks. marks.items.items };
 
-    ghost invariant = { λ marks. vec_len marks.items ≡ 2 ^ 16 };
+    ghost invariant = { λ marks. (vec_len marks.items ≡ 2 ^ 16) × HasNoneBelow marks.lowest marks.items.items };
 }
 
 impl Marks {
@@ -32,7 +35,10 @@ impl Marks {
     {
         let mut items = Vec::with_capacity(alloc, OFFSETS)?;
         items.resize(OFFSETS, false)?;
-        Ok(Marks { items })
+        Ok(Marks {
+            items,
+            lowest: OFFSETS,
+        })
     }
 
     /// Whether an offset is marked.
@@ -46,18 +52,29 @@ impl Marks {
     pub(crate) fn mark(&mut self, offset: u16)
         ensures { self.new ≡ slice_set self.old offset true }
     {
-        self.items[usize::from(offset)] = true;
+        let place = usize::from(offset);
+        self.items[place] = true;
+        self.lowest = self.lowest.min(place);
     }
 
     /// From the first offset up to the second, which is not one of them, none is marked any more.
     pub(crate) fn unmark(&mut self, from: u32, to: u32)
         ensures { self.new ≡ with_marks false (range_with_len from (to - from)) self.old }
     {
-        for offset in from..to {
-            let place = offset as usize;
-            if place < OFFSETS {
-                self.items[place] = false;
-            }
+        let (from, to) = (from as usize, (to as usize).min(OFFSETS));
+        self.clear(from.max(self.lowest), to);
+        if from <= self.lowest {
+            self.lowest = self.lowest.max(to);
+        }
+    }
+
+    // The places from the first up to the second, which is not one of them, are marked no more.
+    fn clear(&mut self, from: usize, to: usize)
+        requires { to ≤ 2 ^ 16 }
+        ensures marks { self.new ≡ with_marks false (range_with_len from (to - from)) self.old }
+    {
+        for place in from..to {
+            self.items[place] = false;
         }
     }
 }

@@ -6,6 +6,7 @@ ghost use Rattle.dcc_prog.specs.Access.{addresses_of};
 ghost use Rattle.dcc_prog.specs.Clean.{stack_offset, is_marked, with_marks, stored_bytes};
 ghost use Rattle.dcc_watch.specs.Accesses.{access_of};
 ghost use Rattle.dcc_watch.specs.Shapes.{exposed_in};
+ghost use Rattle.dcc_watch.specs.Ordered.{AreOrdered};
 ghost use Rattle.dcc_watch.specs.Foul.{first_at, hidden_in, unwritten_in};
 
 use crate::access::{Access, Direction, Kind};
@@ -28,6 +29,7 @@ fn stack_offset(layout: &Layout, address: u32) -> Option<u16>
 
 // The stack's byte at a physical address, if it is one and no frame exposes it.
 fn hidden_at(layout: &Layout, frames: &Frames, top: u32, address: u32) -> Option<u16>
+    requires ordered { AreOrdered top frames.now.live }
     ensures { result ≡ first_at layout.now (λ offset. not (exposed_in top frames.now.live offset)) (address ∷ []) }
 {
     let offset = stack_offset(layout, address)?;
@@ -52,6 +54,7 @@ fn unwritten_at(layout: &Layout, written: &Marks, address: u32) -> Option<u16>
 
 // The first byte of an access that no frame exposes.
 fn hidden_byte(layout: &Layout, frames: &Frames, top: u32, access: Access) -> Option<u16>
+    requires ordered { AreOrdered top frames.now.live }
     ensures { result ≡ first_at layout.now (λ offset. not (exposed_in top frames.now.live offset))
         (addresses_of (access_of access)) }
 {
@@ -80,6 +83,7 @@ fn unwritten_byte(layout: &Layout, written: &Marks, access: Access) -> Option<u1
 
 // The first byte of an access that no frame exposes, if it is none of the stack or of a frame.
 fn hidden_of(layout: &Layout, frames: &Frames, top: u32, access: Access) -> Option<u16>
+    requires ordered { AreOrdered top frames.now.live }
     ensures { result ≡ hidden_in layout.now top frames.now.live (access_of access ∷ []) }
 {
     match access.kind {
@@ -101,6 +105,7 @@ fn unwritten_of(layout: &Layout, written: &Marks, access: Access) -> Option<u16>
 /// The first byte that no frame exposes, of accesses other than those of the stack and of frames; SP stands at the first
 /// offset.
 pub(crate) fn hidden(layout: &Layout, frames: &Frames, top: u32, list: &Accesses) -> Option<u16>
+    requires ordered { AreOrdered top frames.now.live }
     ensures { result ≡ hidden_in layout.now top frames.now.live list.now }
 {
     for access in list.items() {

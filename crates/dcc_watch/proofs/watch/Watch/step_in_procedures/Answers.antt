@@ -1,13 +1,16 @@
 use Rattle.std.proofs.Common.{◌≡◌, length, true, false, refl, sym, ap, ◌∙◌, subst, arith}
 use Rattle.std.specs.Prelude.{option_map}
-use Rattle.dcc_step.specs.Core.{state_of}
+use Rattle.dcc_prog.specs.Clean.{top_in}
+use Rattle.dcc_step.specs.Core.{Core, state_of}
 use Rattle.dcc_watch.specs.declared.progress.Progress.TheVariants.{Stopped}
 use Rattle.dcc_watch.specs.Foul.{told_foul}
 use Rattle.dcc_watch.specs.Kept.{Kept}
+use Rattle.dcc_watch.specs.Ordered.{AreOrdered}
 use Rattle.dcc_watch.specs.Watching.{Watching, stage_of}
 use Rattle.dcc_watch.specs.Reached.{IsKept, is_before}
 use Rattle.dcc_watch.specs.Executor.{is_stopped, is_in_procedures}
 use Rattle.dcc_watch.proofs.KeptLaws.{shapes_kept, viewed, foul_tells, follow_after, in_procedures, inside_unstopped, machine_end}
+use Rattle.dcc_watch.proofs.ReachedOrder.{ordered_there}
 use Rattle.dcc_watch.proofs.InsideLaws.{inside_of, foul_step, foul_comes, refused_step, room_for_call, made_step, made_comes}
 use Rattle.dcc_watch.proofs.StepLaws.{refused_kept, made_unless, clean_faults}
 use Rattle.dcc_watch.proofs.watch.Watch.step_in_procedures.Goals as goal
@@ -19,7 +22,19 @@ add_found-requires g c = record {
 }
 
 pub next_foul-requires : goal.next_foul-requires
-next_foul-requires g c = record { list = c.add_found.ensures; top = c.at-before.ensures.top }
+next_foul-requires g c = record {
+  list = c.add_found.ensures;
+  top = c.at-before.ensures.top;
+  ordered =
+      let i = c.self.inside in
+      let ordered =
+      ordered_there i.layout i.shapes.items i.stack.frames.room i.machine i.progress i.stack.frames.live i.stack.written
+      (in_procedures i.progress i.stack.frames.live i.stack.written
+      (ap (λ (k : Watching). is_in_procedures k.stage) c.self.view_is ∙ c.requires.inside))
+      (ap (λ (k : Watching). k.machine.end) c.self.view_is ∙ c.requires.runs) c.self.invariant.known c.self.invariant.reached in
+      subst (λ top. AreOrdered top i.stack.frames.live)
+      (ap (λ (m : Core). top_in i.layout (state_of m)) (sym c.next_instruction-found.ensures.kept) ∙ sym c.at-before.ensures.top) ordered;
+}
 
 pub invariant_of-self : goal.invariant_of-self
 invariant_of-self g c = record {
