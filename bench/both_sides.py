@@ -3,10 +3,11 @@
 
 bench/both_sides.py [--cpu 8086|186] [COUNT [SEED]]
 
-Random programs are drawn until COUNT have a text for the processor, the 8086 where the option doesn't stand. Of three
-programs one has instructions on registers with jumps to each of them, and two use memory, frames, pushes, divisions,
-tables and strings; what is refused is counted besides. The program dcc is built, and runs each executable, with data,
-on the processor and its text on a random input, the text with the fills 0 and 65535. Where the executable's run is
+Random programs are drawn until COUNT have a text for the processor, the 8086 where the option doesn't stand. Some have
+one procedure, with instructions on registers and jumps to each of them, or with memory, frames, pushes, divisions,
+tables and strings; most have several, with recursion, arguments, results, saved registers, addresses of frames that are
+passed on, and tails that procedures share. What is refused is counted besides. The program dcc is built, and runs each
+executable, with data, on the processor and its text on a random input, the text with the fills 0 and 65535. Where the executable's run is
 clean up to its end, the text ends alike behind the same output; where it goes on after 3,000 steps, or the next step
 isn't clean, the text has put out as much after 120,000 steps; and where the run goes on and the text has ended by then,
 the executable ends alike in 10,000,000 steps.
@@ -21,8 +22,9 @@ from collections import Counter
 
 from built import build, called
 from procs_show import file_of
+from random_calls import calling_file
 from random_programs import code_of
-from random_wholes import alone_code
+from random_wholes import alone_code, whole_code
 
 RUNNING = 20
 FOUL = 23
@@ -57,7 +59,10 @@ def answer_of(folder, drawn, cpu, draw):
 
 def drawn_file(draw, cpu):
     """A program's file, with some data."""
-    code = code_of(draw, cpu) if draw.randrange(3) == 0 else alone_code(draw, cpu == "186")
+    later, kind = cpu == "186", draw.randrange(8)
+    if kind > 3:
+        return calling_file(draw, later)
+    code = code_of(draw, cpu) if kind == 0 else alone_code(draw, later) if kind < 3 else whole_code(draw, later)
     return file_of(code, draw.randbytes(draw.choice([0, 4, 40, 64, 300])), draw.choice([0, 0, 2, 4]))
 
 

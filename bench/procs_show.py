@@ -59,7 +59,6 @@ fn refusal_of(alloc: Global, refusal: Refusal) -> Result<String, Error> {
     Ok(match refusal {
         Refusal::Construct { kind, at } => format!(in alloc; "construct {kind} {at}")?,
         Refusal::Limit { what, count } => format!(in alloc; "limit {what:?} {count}")?,
-        Refusal::NotYet { at } => format!(in alloc; "notyet {at}")?,
         Refusal::Memory => format!(in alloc; "memory")?,
     })
 }
