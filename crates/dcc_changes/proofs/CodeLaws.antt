@@ -1,6 +1,6 @@
 -- States of the code and of the graph.
 use Rattle.std.proofs.Common.{◌≡◌, ℕ, zero, suc, ◌+◌, ◌<◌, ◌≤◌, Bool, true, false, ◌||◌, inl, inr, List, [], ◌∷◌, ◌++◌, length, get_or, slice_set, map, replicate, refl, sym, ap, ◌∙◌, subst, true≢false, arith}
-use Rattle.std.specs.Prelude.{◌↔◌, Option, Some, None, All, option_map}
+use Rattle.std.specs.Prelude.{◌↔◌, ◌⊎◌, Option, Some, None, All, option_map}
 use Rattle.std.proofs.lemmas.Bool.{cases_eq, cases_lt, and_parts, and_from}
 use Rattle.std.proofs.lemmas.List.{map-set, get_or-map, get_or_read, get_or_past}
 use Rattle.dcc_ir.specs.declared.syntax.Loc.{Loc}
@@ -61,14 +61,14 @@ block_here blocks at block inside read = ap block_of read ∙ sym (get_or-map bl
 -- One turn after another.
 
 module _ (changed : ℕ → Bool) (graph : Graph) (location : Loc) where
-  pub turned_both : (a b c : States) (n m : Bool) (at : ℕ) → HasTurned changed graph location a b n (λ k. k < at) → HasTurned changed graph location b c m (λ k. k ≡ at)
-      → HasTurned changed graph location a c (n || m) (λ k. k < at + 1)
-  turned_both a b c n m at one other = record {
+  turned_then : (a b c : States) (n m : Bool) (P Q R : ℕ → Type 0) → ((k : ℕ) → R k → P k ⊎ Q k) → HasTurned changed graph location a b n P → HasTurned changed graph location b c m Q
+      → HasTurned changed graph location a c (n || m) R
+  turned_then a b c n m P Q R either one other = record {
     less = λ e. by n m refl refl e;
     same = λ e. let f = none n m e in other.same f.1 ∙ one.same f.0;
-    flowed = λ e k below. let f = none n m e in elim (cases_eq k at) [
-      | inl is ↦ subst (λ s. HasFlowed changed graph location s k) (one.same f.0) (other.flowed f.1 k is)
-      | inr o ↦ one.flowed f.0 k (omega (arith, below, o))
+    flowed = λ e k there. let f = none n m e in elim (either k there) [
+      | inl p ↦ one.flowed f.0 k p
+      | inr q ↦ subst (λ s. HasFlowed changed graph location s k) (one.same f.0) (other.flowed f.1 k q)
     ];
   }
     where
@@ -84,6 +84,24 @@ module _ (changed : ℕ → Bool) (graph : Graph) (location : Loc) where
       by true false f g e = let x = one.less f in subst (λ z. left z < left a) (sym (other.same g)) x
       by false true f g e = let y = other.less g in subst (λ z. left c < left z) (one.same f) y
       by false false f g e = absurd (true≢false (sym e ∙ ap (λ x. x || m) f ∙ g))
+
+  pub turned_both : (a b c : States) (n m : Bool) (at : ℕ) → HasTurned changed graph location a b n (λ k. k < at) → HasTurned changed graph location b c m (λ k. k ≡ at)
+      → HasTurned changed graph location a c (n || m) (λ k. k < at + 1)
+  turned_both a b c n m at = turned_then a b c n m (λ k. k < at) (λ k. k ≡ at) (λ k. k < at + 1) (λ k below. elim (cases_eq k at) [
+    | inl is ↦ inr is
+    | inr o ↦ inl (omega (arith, below, o))
+  ])
+
+  -- where it isn't told which blocks had a turn
+  pub turned_on : (a b c : States) (n m : Bool) → HasTurned changed graph location a b n (λ k. ⊥) → HasTurned changed graph location b c m (λ k. ⊥)
+      → HasTurned changed graph location a c (n || m) (λ k. ⊥)
+  turned_on a b c n m = turned_then a b c n m (λ k. ⊥) (λ k. ⊥) (λ k. ⊥) (λ k none. absurd none)
+
+  pub turned_some : (a b : States) (n : Bool) (at : ℕ) → HasTurned changed graph location a b n (λ k. k ≡ at) → HasTurned changed graph location a b n (λ k. ⊥)
+  turned_some a b n at one = record { less = one.less; same = one.same; flowed = λ e k none. absurd none }
+
+  pub unturned : (a : States) → HasTurned changed graph location a a false (λ k. ⊥)
+  unturned a = record { less = λ e. absurd (true≢false (sym e)); same = λ e. refl; flowed = λ e k none. absurd none }
 
   pub none_turned : (a : States) → HasTurned changed graph location a a false (λ k. k < 0)
   none_turned a = record { less = λ e. absurd (true≢false (sym e)); same = λ e. refl; flowed = λ e k below. absurd (omega (arith, below)) }

@@ -125,14 +125,14 @@ module _ (p : Program) (l : Loc) (good : IsProgram p) (passing : passes l ≡ tr
   pub first_looked : (changed : List Bool) → HasLooked p l changed changed false (λ place. place < 0)
   first_looked changed = record { less = λ e. absurd (true≢false (sym e)); same = λ e. refl; settled = λ e k below. absurd (omega (arith, below)) }
 
-  -- one graph after another
-  pub looked_both : (a b c : List Bool) (n m : Bool) (at : ℕ) → HasLooked p l a b n (λ k. k < at) → HasLooked p l b c m (λ k. k ≡ at) → HasLooked p l a c (n || m) (λ k. k < at + 1)
-  looked_both a b c n m at one other = record {
+  -- some graphs after others
+  looked_then : (a b c : List Bool) (n m : Bool) (P Q R : ℕ → Type 0) → ((k : ℕ) → R k → P k ⊎ Q k) → HasLooked p l a b n P → HasLooked p l b c m Q → HasLooked p l a c (n || m) R
+  looked_then a b c n m P Q R either one other = record {
     less = λ e. by n m refl refl e;
     same = λ e. let f = none n m e in other.same f.1 ∙ one.same f.0;
-    settled = λ e k below. let f = none n m e in elim (cases_eq k at) [
-      | inl is ↦ subst (λ s. IsSettled p l s k) (one.same f.0) (other.settled f.1 k is)
-      | inr o ↦ one.settled f.0 k (omega (arith, below, o))
+    settled = λ e k there. let f = none n m e in elim (either k there) [
+      | inl q ↦ one.settled f.0 k q
+      | inr q ↦ subst (λ s. IsSettled p l s k) (one.same f.0) (other.settled f.1 k q)
     ];
   }
     where
@@ -145,6 +145,22 @@ module _ (p : Program) (l : Loc) (good : IsProgram p) (passing : passes l ≡ tr
       by true false f g e = let x = one.less f in subst (λ z. untold z < untold a) (sym (other.same g)) x
       by false true f g e = let y = other.less g in subst (λ z. untold c < untold z) (one.same f) y
       by false false f g e = absurd (true≢false (sym e ∙ ap (λ x. x || m) f ∙ g))
+
+  pub looked_both : (a b c : List Bool) (n m : Bool) (at : ℕ) → HasLooked p l a b n (λ k. k < at) → HasLooked p l b c m (λ k. k ≡ at) → HasLooked p l a c (n || m) (λ k. k < at + 1)
+  looked_both a b c n m at = looked_then a b c n m (λ k. k < at) (λ k. k ≡ at) (λ k. k < at + 1) (λ k below. elim (cases_eq k at) [
+    | inl is ↦ inr is
+    | inr o ↦ inl (omega (arith, below, o))
+  ])
+
+  -- where it isn't told which graphs were looked at
+  pub looked_on : (a b c : List Bool) (n m : Bool) → HasLooked p l a b n (λ k. ⊥) → HasLooked p l b c m (λ k. ⊥) → HasLooked p l a c (n || m) (λ k. ⊥)
+  looked_on a b c n m = looked_then a b c n m (λ k. ⊥) (λ k. ⊥) (λ k. ⊥) (λ k none. absurd none)
+
+  pub looked_some : (a b : List Bool) (n : Bool) (at : ℕ) → HasLooked p l a b n (λ k. k ≡ at) → HasLooked p l a b n (λ k. ⊥)
+  looked_some a b n at one = record { less = one.less; same = one.same; settled = λ e k none. absurd none }
+
+  pub unlooked : (a : List Bool) → HasLooked p l a a false (λ k. ⊥)
+  unlooked a = record { less = λ e. absurd (true≢false (sym e)); same = λ e. refl; settled = λ e k none. absurd none }
 
   -- The end.
 

@@ -10,6 +10,7 @@ ghost use Rattle.dcc_changes.specs.Tables.{states_of, first_states, AreFlowing};
 ghost use Rattle.dcc_changes.specs.Flowing.{met, is_new, all_flowed, any_new, HasTurned, loses_at, Answers};
 
 use crate::state::{State, Subject};
+use crate::waiting::Waiting;
 use dcc_ir::{End, Stmt};
 use std::alloc::{AllocError, Global};
 
@@ -134,6 +135,76 @@ fn round(
     Ok(new)
 }
 
+// A block that waited has a turn. Those after it wait for one if something was new.
+fn turn_again(
+    alloc: Global,
+    begins: &mut Vec<Option<State>>,
+    at: usize,
+    waiting: &mut Waiting,
+    subject: &Subject<'_>,
+) -> Result<bool, AllocError>
+    requires graph { IsGraph (graph_of subject.now.graph.now) }
+    requires going { AreFlowing (told_in subject.now.changed.now) (graph_of subject.now.graph.now) subject.now.location
+        (states_of begins.old.items) }
+    ensures going { OnOk result (AreFlowing (told_in subject.now.changed.now) (graph_of subject.now.graph.now)
+        subject.now.location (states_of begins.new.items)) }
+    ensures turned { IfOk result (λ new. HasTurned (told_in subject.now.changed.now) (graph_of subject.now.graph.now)
+        subject.now.location (states_of begins.old.items) (states_of begins.new.items) new (λ block. ⊥)) }
+{
+    waiting.begin(at);
+    if at >= subject.graph.blocks.len() {
+        return Ok(false);
+    }
+    let new = turn(alloc, begins, at, subject)?;
+    if new {
+        waiting.add_after(&subject.graph.blocks[at].end)?;
+    }
+    Ok(new)
+}
+
+// These blocks have a turn each. The answer is whether something was new.
+fn turns(
+    alloc: Global,
+    begins: &mut Vec<Option<State>>,
+    blocks: &[usize],
+    waiting: &mut Waiting,
+    subject: &Subject<'_>,
+) -> Result<bool, AllocError>
+    requires graph { IsGraph (graph_of subject.now.graph.now) }
+    requires going { AreFlowing (told_in subject.now.changed.now) (graph_of subject.now.graph.now) subject.now.location
+        (states_of begins.old.items) }
+    ensures going { OnOk result (AreFlowing (told_in subject.now.changed.now) (graph_of subject.now.graph.now)
+        subject.now.location (states_of begins.new.items)) }
+    ensures turned { IfOk result (λ new. HasTurned (told_in subject.now.changed.now) (graph_of subject.now.graph.now)
+        subject.now.location (states_of begins.old.items) (states_of begins.new.items) new (λ block. ⊥)) }
+{
+    let mut new = false;
+    for at in blocks {
+        new |= turn_again(alloc, begins, *at, waiting, subject)?;
+    }
+    Ok(new)
+}
+
+// States flow from the first block on, until no block waits.
+fn spread(
+    alloc: Global,
+    begins: &mut Vec<Option<State>>,
+    subject: &Subject<'_>,
+) -> Result<(), AllocError>
+    requires graph { IsGraph (graph_of subject.now.graph.now) }
+    requires going { AreFlowing (told_in subject.now.changed.now) (graph_of subject.now.graph.now) subject.now.location
+        (states_of begins.old.items) }
+    ensures { OnOk result (AreFlowing (told_in subject.now.changed.now) (graph_of subject.now.graph.now)
+        subject.now.location (states_of begins.new.items)) }
+{
+    let mut waiting = Waiting::new(alloc, subject.graph.blocks.len())?;
+    let mut blocks = vec![in alloc; 0]?;
+    while turns(alloc, begins, blocks.as_slice(), &mut waiting, subject)? {
+        blocks = waiting.take(alloc);
+    }
+    Ok(())
+}
+
 // Only the first of so many blocks is reached.
 fn entered(alloc: Global, count: usize) -> Result<Vec<Option<State>>, AllocError>
     requires { 0 < count }
@@ -194,6 +265,7 @@ pub fn loses(alloc: Global, subject: &Subject<'_>) -> Result<bool, AllocError>
         ↔ GraphLoses (told_in subject.now.changed.now) (graph_of subject.now.graph.now) subject.now.location) }
 {
     let mut begins = entered(alloc, subject.graph.blocks.len())?;
+    spread(alloc, &mut begins, subject)?;
     while round(alloc, &mut begins, subject)? {}
     let lost = any_loses(alloc, &begins, subject)?;
     Ok(lost)

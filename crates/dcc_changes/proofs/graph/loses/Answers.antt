@@ -7,8 +7,8 @@ use Rattle.dcc_changes.specs.Flowing.{Answers}
 use Rattle.dcc_changes.proofs.CodeLaws.{first_flowing, answered}
 use Rattle.dcc_changes.proofs.graph.loses.Goals as goal
 
-pub loop-begins-init : goal.loop-begins-init
-loop-begins-init c =
+pub spread-requires-clause-going : goal.spread-requires-clause-going
+spread-requires-clause-going c =
     let changed = told_in c.args.subject.now.changed.now in
     let graph = graph_of c.args.subject.now.graph.now in
     let size : c.len.result ≡ length graph.blocks = omega (arith, length-map c.args.subject.now.graph.now.blocks.items block_of) in

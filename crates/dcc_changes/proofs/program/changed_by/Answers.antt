@@ -3,10 +3,10 @@ use Rattle.std.proofs.lemmas.List.{length-map}
 use Rattle.dcc_ir.specs.Views.{graph_of, program_of}
 use Rattle.dcc_changes.specs.Programs.{IsSettled}
 use Rattle.dcc_changes.proofs.ProgramLaws.{first_telling, all_told}
-use Rattle.dcc_changes.proofs.program.changed.Goals as goal
+use Rattle.dcc_changes.proofs.program.changed_by.Goals as goal
 
-pub loop-changed-init : goal.loop-changed-init
-loop-changed-init c = first_telling (program_of c.args.p.now) c.args.location c.requires.program c.requires.passes c.in_ok-changed.changed.items 65536 (c.in_ok-changed.ensures.items_if_clones_equal (λ y e. e)) refl
+pub spread-requires-clause-telling : goal.spread-requires-clause-telling
+spread-requires-clause-telling c = first_telling (program_of c.args.p.now) c.args.location c.requires.program c.requires.passes c.in_ok-changed.changed.items 65536 (c.in_ok-changed.ensures.items_if_clones_equal (λ y e. e)) refl
 
 pub returns : goal.returns
 returns c =

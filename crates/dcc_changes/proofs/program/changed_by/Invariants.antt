@@ -1,6 +1,6 @@
 use Rattle.dcc_ir.specs.Views.{program_of}
 use Rattle.dcc_changes.specs.Programs.{untold, AreTelling}
-use Rattle.dcc_changes.proofs.program.changed.Given as goal
+use Rattle.dcc_changes.proofs.program.changed_by.Given as goal
 
 abbrev pub invariant-loop-changed : goal.invariant-loop-changed
 invariant-loop-changed l = AreTelling (program_of l.p) l.location l.changed.items
