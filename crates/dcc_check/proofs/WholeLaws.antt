@@ -5,9 +5,9 @@ use Rattle.dcc_c.specs.Dos as dos
 use Rattle.dcc_c.specs.Known.{Known, known_as}
 use Rattle.dcc_c.specs.Tree.{Word}
 use Rattle.dcc_c.specs.Typing as typing
-use Rattle.dcc_types.specs.declared.names.Declared.{Declared}
+use Rattle.dcc_ctypes.specs.declared.names.Declared.{Declared}
 use Rattle.dcc_check.specs.Declarations.{first_found}
-use Rattle.dcc_types.specs.NameViews.{unnamed}
+use Rattle.dcc_ctypes.specs.NameViews.{unnamed}
 use Rattle.dcc_check.specs.Scenes.{head_of}
 use Rattle.dcc_check.proofs.MapLaws.{known-append, declared-append, map-found, found-group}
 

@@ -10,8 +10,8 @@ use Rattle.dcc_c.specs.Dos as dos
 use Rattle.dcc_c.specs.Known.{Known, known_as}
 use Rattle.dcc_c.specs.Grammar.{is_among}
 use Rattle.dcc_c.specs.Offences as offences
-use Rattle.dcc_types.specs.declared.names.Declared.{Declared}
-use Rattle.dcc_types.specs.NameViews.{unnamed}
+use Rattle.dcc_ctypes.specs.declared.names.Declared.{Declared}
+use Rattle.dcc_ctypes.specs.NameViews.{unnamed}
 use Rattle.dcc_reader.specs.WordViews.{holds}
 use Rattle.dcc_check.specs.declared.scene.Signature.{Signature}
 use Rattle.dcc_check.specs.declared.scene.Scene.{Scene}

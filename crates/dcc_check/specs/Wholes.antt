@@ -10,7 +10,7 @@ use Rattle.dcc_c.specs.Tree.{Word}
 use Rattle.dcc_c.specs.Typing as typing
 use Rattle.dcc_check.specs.declared.text.Whole.{Whole}
 use Rattle.dcc_check.specs.Declarations.{held_head}
-use Rattle.dcc_types.specs.NameViews.{unnamed}
+use Rattle.dcc_ctypes.specs.NameViews.{unnamed}
 use Rattle.dcc_reader.specs.WordViews.{holds}
 use Rattle.dcc_check.specs.Scenes.{held, head_of}
 

@@ -8,17 +8,17 @@ ghost use Rattle.dcc_c.specs.Partial as partial;
 ghost use Rattle.dcc_c.specs.Partial.{is_missing, is_name_here};
 ghost use Rattle.dcc_reader.specs.PartialViews.{expr_of};
 ghost use Rattle.dcc_reader.specs.Told.{Tells};
-ghost use Rattle.dcc_types.specs.NameViews.{unnamed};
+ghost use Rattle.dcc_ctypes.specs.NameViews.{unnamed};
 ghost use Rattle.dcc_check.specs.Scenes.{IsScene};
 ghost use Rattle.dcc_check.specs.Operands.{operand, target};
 
 use crate::operand::{Operand, check_binary, check_choice, check_unary, tell_typed, want_number};
 use crate::scene::Scene;
 use dcc_c::{CType, CUn};
+use dcc_ctypes::Declared;
+use dcc_ctypes::names::{type_of_address, type_of_name, type_of_variable};
+use dcc_ctypes::operators::{both_arms_type, both_types, type_of_unary};
 use dcc_reader::{First, ParseKind, PartialExpr};
-use dcc_types::Declared;
-use dcc_types::names::{type_of_address, type_of_name, type_of_variable};
-use dcc_types::operators::{both_arms_type, both_types, type_of_unary};
 
 /// Whether nothing has been read of the expression.
 pub(crate) fn is_missing(e: &PartialExpr) -> bool

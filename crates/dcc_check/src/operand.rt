@@ -9,10 +9,10 @@ ghost use Rattle.dcc_reader.specs.Told.{Tells};
 ghost use Rattle.dcc_check.specs.Operands.{operand, selector_offences};
 
 use dcc_c::{CBin, CType, CUn};
-use dcc_reader::{First, ParseKind};
-use dcc_types::operators::{
+use dcc_ctypes::operators::{
     both_arms_type, both_types, converts, is_comparison, is_pointer, is_sum, is_switch_type,
 };
+use dcc_reader::{First, ParseKind};
 
 /// An expression as an operand.
 #[derive(Clone, Copy)]

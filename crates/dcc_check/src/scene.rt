@@ -10,14 +10,14 @@ ghost use Rattle.dcc_c.specs.TextOffences.{declared_of};
 ghost use Rattle.dcc_c.specs.Token.{same_bytes};
 ghost use Rattle.dcc_c.specs.Tree.{Word};
 ghost use Rattle.dcc_c.specs.Typing.{declared_as};
-ghost use Rattle.dcc_types.specs.NameViews.{unnamed};
+ghost use Rattle.dcc_ctypes.specs.NameViews.{unnamed};
 ghost use Rattle.dcc_reader.specs.PartialViews.{variable_of, function_of};
 ghost use Rattle.dcc_check.specs.Declarations.{placed_in, first_found, held_head, taking, giving};
 ghost use Rattle.dcc_check.specs.Scenes.{held, head_of, lent_head, signature_of, IsScene};
 
 use dcc_c::{Base, CType, Class};
+use dcc_ctypes::Declared;
 use dcc_reader::{PartialFunction, PartialVariable};
-use dcc_types::Declared;
 use std::alloc::{AllocError, Global};
 use std::collections::{BTreeMap, BTreeSet};
 

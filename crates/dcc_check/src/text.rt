@@ -17,7 +17,7 @@ ghost use Rattle.dcc_c.specs.Offences.{lines_offences};
 ghost use Rattle.dcc_c.specs.Typing.{declared_as};
 ghost use Rattle.dcc_check.specs.Declarations.{held_head};
 ghost use Rattle.dcc_check.specs.Names.{lent_names};
-ghost use Rattle.dcc_types.specs.NameViews.{unnamed};
+ghost use Rattle.dcc_ctypes.specs.NameViews.{unnamed};
 ghost use Rattle.dcc_reader.specs.WordViews.{holds};
 ghost use Rattle.dcc_check.specs.Scenes.{held, head_of};
 ghost use Rattle.dcc_check.specs.Wholes.{IsWhole, labels_if, own_names};
@@ -29,11 +29,11 @@ use crate::names::{
 };
 use crate::places::{Stack, tell_globals, tell_sizes};
 use crate::scene::{Scene, Scope, Signature, add_dos, add_functions, declare};
+use dcc_ctypes::Declared;
 use dcc_lex::{Pieces, same_text};
 use dcc_reader::labels::push_labels;
 use dcc_reader::unread::{add_labels, heads_in};
 use dcc_reader::{First, NumberAt, Offence, ParseKind, PartialFunction, PartialText, WordAt};
-use dcc_types::Declared;
 use std::alloc::{AllocError, Global};
 use std::collections::{BTreeMap, BTreeSet};
 

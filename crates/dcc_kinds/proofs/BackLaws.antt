@@ -21,12 +21,12 @@ use Rattle.dcc_ir.proofs.LocationLaws.{Contains-here, Contains-later, Contains-n
 use Rattle.dcc_ir.proofs.PathLaws.{decided}
 use Rattle.dcc_ops.specs.Place.{Place as InnerPlace, constant, byte, memory, storing}
 use Rattle.dcc_lift.proofs.ListTests.{and_both}
-use Rattle.dcc_coupled.specs.Procedures.{Procedure, frame_place, cell_place, cells_of, distance_of}
-use Rattle.dcc_coupled.specs.Statements.{argument_offset, taking_all_back}
-use Rattle.dcc_coupled.proofs.ArgumentWords.{in-range}
-use Rattle.dcc_asks.specs.Instance.{passed_word}
-use Rattle.dcc_sources.specs.Sources.{before, sources, used}
-use Rattle.dcc_sources.proofs.ListLaws.{in_flat, of_flat, only}
+use Rattle.dcc_simulation.specs.Procedures.{Procedure, frame_place, cell_place, cells_of, distance_of}
+use Rattle.dcc_simulation.specs.Statements.{argument_offset, taking_all_back}
+use Rattle.dcc_simulation.proofs.ArgumentWords.{in-range}
+use Rattle.dcc_machine_demand.specs.Instance.{passed_word}
+use Rattle.dcc_lifted_demand.specs.Sources.{before, sources, used}
+use Rattle.dcc_lifted_demand.proofs.ListLaws.{in_flat, of_flat, only}
 
 -- Where a byte of the frame stands.
 

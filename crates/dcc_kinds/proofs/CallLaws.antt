@@ -27,25 +27,26 @@ use Rattle.dcc_ir.specs.declared.syntax.Loc.TheVariants.{Cell}
 use Rattle.dcc_ir.specs.Tree.{Program, Address}
 use Rattle.dcc_ir.proofs.LocationLaws.{Contains-here}
 use Rattle.dcc_ops.specs.Place.{Place as InnerPlace, byte, memory}
-use Rattle.dcc_coupled.specs.Coupled.{Setting}
-use Rattle.dcc_coupled.specs.Places.{IsFramePlace, in_half, in_memory}
-use Rattle.dcc_coupled.specs.Procedures.{Procedure, frame_place, cell_place, cells_of, is_accessed, distance_of, given_back}
-use Rattle.dcc_coupled.specs.Statements.{argument_offset}
-use Rattle.dcc_coupled.specs.FoundPlaces.{IsFoundAt}
-use Rattle.dcc_coupled.proofs.FoundPlaces.{found-places}
-use Rattle.dcc_coupled.proofs.FoundProcedures.{frame-for}
-use Rattle.dcc_coupled.proofs.PieceCells.{placed-cell}
-use Rattle.dcc_coupled.proofs.ArgumentWords.{range-tells}
+use Rattle.dcc_simulation.specs.Coupled.{Setting}
+use Rattle.dcc_simulation.specs.Places.{IsFramePlace, in_half, in_memory}
+use Rattle.dcc_simulation.specs.Procedures.{Procedure, frame_place, cell_place, cells_of, is_accessed, distance_of}
+use Rattle.dcc_simulation.specs.Procedures.{given_back}
+use Rattle.dcc_simulation.specs.Statements.{argument_offset}
+use Rattle.dcc_simulation.specs.FoundPlaces.{IsFoundAt}
+use Rattle.dcc_simulation.proofs.FoundPlaces.{found-places}
+use Rattle.dcc_simulation.proofs.FoundProcedures.{frame-for}
+use Rattle.dcc_simulation.proofs.PieceCells.{placed-cell}
+use Rattle.dcc_simulation.proofs.ArgumentWords.{range-tells}
 use Rattle.dcc_lift.specs.Blocks.{node_in, height_in}
 use Rattle.dcc_lift.specs.Translated.{IsTranslated, setting}
 use Rattle.dcc_lift.proofs.Lifting.{lifting, offsets-any, height-told}
 use Rattle.dcc_lift.proofs.ListTests.{and_both, or_here, or_there}
 use Rattle.dcc_lift.proofs.NodeLaws.{node_in_has}
-use Rattle.dcc_asks.specs.Bodies.{Body, find_at, point_at, point_with}
-use Rattle.dcc_asks.specs.Places.{in_frame, is_in_cell, is_exposed_place}
-use Rattle.dcc_asks.specs.Instance.{passed_word}
-use Rattle.dcc_refined.proofs.EdgeLaws.{found_node}
-use Rattle.dcc_refined.proofs.RefinedLaws as refined
+use Rattle.dcc_machine_demand.specs.Bodies.{Body, find_at, point_at, point_with}
+use Rattle.dcc_machine_demand.specs.Places.{in_frame, is_in_cell, is_exposed_place}
+use Rattle.dcc_machine_demand.specs.Instance.{passed_word}
+use Rattle.dcc_lifted_demand.proofs.EdgeLaws.{found_node}
+use Rattle.dcc_lifted_demand.proofs.RefinedLaws as refined
 use Rattle.dcc_kinds.proofs.LocationLaws.{all_by}
 use Rattle.dcc_kinds.proofs.BackLaws.{IsOpen, StandsIn}
 

@@ -23,14 +23,14 @@ use Rattle.dcc_ir.proofs.PathLaws.{clash}
 use Rattle.dcc_ir.proofs.ReachedLaws.{found_contained}
 use Rattle.dcc_ir.proofs.ZipLaws.{map_zipped}
 use Rattle.dcc_ops.specs.Temporaries.{returned_place}
-use Rattle.dcc_coupled.specs.Procedures.{Procedure, given_back}
-use Rattle.dcc_coupled.specs.Statements.{calling, results_of, arguments_of}
+use Rattle.dcc_simulation.specs.Procedures.{Procedure, given_back}
+use Rattle.dcc_simulation.specs.Statements.{calling, results_of, arguments_of}
 use Rattle.dcc_demand.specs.Wanted.{Wanted}
-use Rattle.dcc_asks.specs.Bodies.{Body, entry_of, bodies_of, body_at, Point, op_of, find_at, point_with}
-use Rattle.dcc_asks.specs.Places.{in_frame, is_in_cell}
-use Rattle.dcc_asks.specs.Instance.{passed_word, touched_of}
-use Rattle.dcc_asks.specs.Asked as asked
-use Rattle.dcc_asks.specs.Asked.{IsOfSummaries, argument_reused, several_results}
+use Rattle.dcc_machine_demand.specs.Bodies.{Body, entry_of, bodies_of, body_at, Point, op_of, find_at, point_with}
+use Rattle.dcc_machine_demand.specs.Places.{in_frame, is_in_cell}
+use Rattle.dcc_machine_demand.specs.Instance.{passed_word, touched_of}
+use Rattle.dcc_machine_demand.specs.Asked as asked
+use Rattle.dcc_machine_demand.specs.Asked.{IsOfSummaries, argument_reused, several_results}
 use Rattle.dcc_sums.specs.Points.{Position, next_of, Site, Executes, site_of}
 use Rattle.dcc_sums.specs.Instance as sums
 use Rattle.dcc_sums.specs.Instance.{passes}
@@ -39,15 +39,15 @@ use Rattle.dcc_lift.specs.Blocks.{node_in, is_call as is_call_op, onward, Scene,
 use Rattle.dcc_lift.specs.Translated.{IsTranslated}
 use Rattle.dcc_lift.proofs.CallFree.{IsCallFree, node-free}
 use Rattle.dcc_lift.proofs.FormProgram.{well-formed}
-use Rattle.dcc_points.specs.InstructionPoints.{begin_at, points_by, points_at, end_sites}
-use Rattle.dcc_points.specs.Laws.{HasInstructions}
-use Rattle.dcc_wanted.specs.declared.summaries.SumsFault.{SumsFault}
-use Rattle.dcc_wanted.specs.declared.summaries.SumsFault.TheVariants.{ArgumentReused, SeveralResults, Memory}
-use Rattle.dcc_wanted.specs.Summaries.{IsFault, IsReusedAt, GivesSeveral}
-use Rattle.dcc_refined.specs.Laws.{machine, inner}
-use Rattle.dcc_refined.proofs.LinkLaws.{Standing}
-use Rattle.dcc_refined.proofs.EdgeLaws.{found_node}
-use Rattle.dcc_refined.proofs.RefinedLaws as refined
+use Rattle.dcc_lifted_demand.specs.InstructionPoints.{begin_at, points_by, points_at, end_sites}
+use Rattle.dcc_lifted_demand.specs.InstructionsHavePoints.{HasInstructions}
+use Rattle.dcc_summaries.specs.declared.summaries.SumsFault.{SumsFault}
+use Rattle.dcc_summaries.specs.declared.summaries.SumsFault.TheVariants.{ArgumentReused, SeveralResults, Memory}
+use Rattle.dcc_summaries.specs.Summaries.{IsFault, IsReusedAt, GivesSeveral}
+use Rattle.dcc_lifted_demand.specs.LiftedIsRefined.{machine, inner}
+use Rattle.dcc_lifted_demand.proofs.LinkLaws.{Standing}
+use Rattle.dcc_lifted_demand.proofs.EdgeLaws.{found_node}
+use Rattle.dcc_lifted_demand.proofs.RefinedLaws as refined
 use Rattle.dcc_kinds.specs.Laws.{IsLikeMachine, IsConstructOf, FaultsAreConstructs, ConstructsAreFaults, SummedProgramsHaveNone, SummariesAreLifted}
 use Rattle.dcc_kinds.proofs.LocationLaws.{in_map, from_map, found_by_key}
 use Rattle.dcc_kinds.proofs.SummaryLaws.{IsBeside, beside, summaries_are, summaries_known, several_up, several_down, several_none}

@@ -21,13 +21,13 @@ use Rattle.dcc_ir.specs.Location.{same_location, register_number, half_number, f
 use Rattle.dcc_ir.specs.Passing as inner
 use Rattle.dcc_ir.proofs.LocationLaws.{Contains-here, Contains-later, Contains-none, Contains-cases}
 use Rattle.dcc_lift.proofs.ListTests.{and_left, and_right}
-use Rattle.dcc_asks.specs.Places as asks
-use Rattle.dcc_asks.specs.Places.{held, is_same_location}
-use Rattle.dcc_asks.specs.Asked as asked
+use Rattle.dcc_machine_demand.specs.Places as asks
+use Rattle.dcc_machine_demand.specs.Places.{held, is_same_location}
+use Rattle.dcc_machine_demand.specs.Asked as asked
 use Rattle.dcc_sums.specs.Instance.{passes}
 use Rattle.dcc_sums.specs.Sums as sums
-use Rattle.dcc_refined.specs.LiftedRefinement.{inner_of}
-use Rattle.dcc_refined.proofs.SameLaws.{one_location}
+use Rattle.dcc_lifted_demand.specs.LiftedRefinement.{inner_of}
+use Rattle.dcc_lifted_demand.proofs.SameLaws.{one_location}
 
 -- Lists.
 

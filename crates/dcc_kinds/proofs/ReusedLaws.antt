@@ -16,10 +16,11 @@ use Rattle.dcc_ir.specs.Live.{block_in}
 use Rattle.dcc_ir.specs.Run.{no_block}
 use Rattle.dcc_ir.proofs.PathLaws.{decided, clash}
 use Rattle.dcc_ops.specs.Statements.{exit_to}
-use Rattle.dcc_coupled.specs.Procedures.{Procedure, given_back, procedure_at}
-use Rattle.dcc_coupled.specs.Nodes.{procedures_in}
-use Rattle.dcc_coupled.specs.Passed.{exit_of}
-use Rattle.dcc_coupled.specs.Statements.{moves_frame, working_stmts, calling, results_of, arguments_of, taking_all_back}
+use Rattle.dcc_simulation.specs.Procedures.{Procedure, given_back, procedure_at}
+use Rattle.dcc_simulation.specs.Nodes.{procedures_in}
+use Rattle.dcc_simulation.specs.Passed.{exit_of}
+use Rattle.dcc_simulation.specs.Statements.{moves_frame, working_stmts, calling, results_of, arguments_of}
+use Rattle.dcc_simulation.specs.Statements.{taking_all_back}
 use Rattle.dcc_lift.specs.Blocks.{node_in, successors_in, calls_in, is_call as is_call_op, joins, onward, Scene, nodes_in, entry_in, block_place, node_stmts, stmts_at, node_exit, exit_at}
 use Rattle.dcc_lift.specs.Translated.{IsTranslated}
 use Rattle.dcc_lift.proofs.BlockLaws.{leader_block}
@@ -28,24 +29,24 @@ use Rattle.dcc_lift.proofs.NodeLaws.{node_in_has}
 use Rattle.dcc_lift.proofs.TranslationLaws.{front_of, graph-blocks}
 use Rattle.dcc_demand.specs.Procedures.{Procedures}
 use Rattle.dcc_demand.specs.Wanted.{IsWantedBy, Wanted}
-use Rattle.dcc_asks.specs.Bodies.{Body, bodies_of}
-use Rattle.dcc_asks.specs.Places.{Place, in_frame, is_in_cell}
-use Rattle.dcc_asks.specs.Instance.{passed_word}
+use Rattle.dcc_machine_demand.specs.Bodies.{Body, bodies_of}
+use Rattle.dcc_machine_demand.specs.Places.{Place, in_frame, is_in_cell}
+use Rattle.dcc_machine_demand.specs.Instance.{passed_word}
 use Rattle.dcc_sums.specs.Points.{Position, next_of, Executes, Ends, site_of, nexts_of}
 use Rattle.dcc_sums.specs.Instance as sums
-use Rattle.dcc_sources.specs.Sources.{sources, used}
-use Rattle.dcc_sources.specs.Laws.{AreAt, TellPoints}
-use Rattle.dcc_sources.proofs.SourceLaws.{statements-tell_points}
-use Rattle.dcc_sources.proofs.SiteLaws.{EndsSo, are_at}
-use Rattle.dcc_match.specs.Laws.{IsAwaited}
-use Rattle.dcc_points.specs.InstructionPoints.{begin_at, points_at, end_sites}
-use Rattle.dcc_points.proofs.BeginLaws.{begin_leads}
-use Rattle.dcc_refined.specs.LiftedRefinement.{IsSame, inner_of, steps_in, lifted_refinement, scene_at, scenes_in}
-use Rattle.dcc_refined.specs.Laws.{machine, inner}
-use Rattle.dcc_refined.proofs.EdgeLaws as edges
-use Rattle.dcc_refined.proofs.SameLaws as same
-use Rattle.dcc_refined.proofs.SameLaws.{SameCases, same_cases}
-use Rattle.dcc_refined.proofs.RefinedLaws as refined
+use Rattle.dcc_lifted_demand.specs.Sources.{sources, used}
+use Rattle.dcc_lifted_demand.specs.StatementsTellPoints.{AreAt, TellPoints}
+use Rattle.dcc_lifted_demand.proofs.SourceLaws.{statements-tell_points}
+use Rattle.dcc_lifted_demand.proofs.SiteLaws.{EndsSo, are_at}
+use Rattle.dcc_refinement.specs.Laws.{IsAwaited}
+use Rattle.dcc_lifted_demand.specs.InstructionPoints.{begin_at, points_at, end_sites}
+use Rattle.dcc_lifted_demand.proofs.BeginLaws.{begin_leads}
+use Rattle.dcc_lifted_demand.specs.LiftedRefinement.{IsSame, inner_of, steps_in, lifted_refinement, scene_at, scenes_in}
+use Rattle.dcc_lifted_demand.specs.LiftedIsRefined.{machine, inner}
+use Rattle.dcc_lifted_demand.proofs.EdgeLaws as edges
+use Rattle.dcc_lifted_demand.proofs.SameLaws as same
+use Rattle.dcc_lifted_demand.proofs.SameLaws.{SameCases, same_cases}
+use Rattle.dcc_lifted_demand.proofs.RefinedLaws as refined
 use Rattle.dcc_kinds.specs.Laws.{IsLikeMachine}
 use Rattle.dcc_kinds.proofs.BackLaws.{IsOpen, StandsIn, backs, put_back, takes_back, used_open, open_used, carried_kept, kept_carried, back_passed, passed_back}
 use Rattle.dcc_kinds.proofs.CallLaws as calls

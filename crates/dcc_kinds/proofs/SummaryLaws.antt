@@ -18,28 +18,29 @@ use Rattle.dcc_ir.specs.declared.syntax.Param.{Param}
 use Rattle.dcc_ir.specs.Tree.{Graph, Program, Summary}
 use Rattle.dcc_ir.specs.Passing.{passed, param_of}
 use Rattle.dcc_ir.proofs.LocationLaws.{Contains-none, among_contains}
-use Rattle.dcc_coupled.specs.Procedures.{procedures_of}
-use Rattle.dcc_coupled.specs.Passed.{argument_params, params_of}
-use Rattle.dcc_coupled.specs.Nodes.{IsGraphFor}
+use Rattle.dcc_simulation.specs.Procedures.{procedures_of}
+use Rattle.dcc_simulation.specs.Passed.{argument_params, params_of}
+use Rattle.dcc_simulation.specs.Nodes.{IsGraphFor}
 use Rattle.dcc_lift.specs.Translated.{IsTranslated}
 use Rattle.dcc_lift.proofs.Lifting.{lifting}
 use Rattle.dcc_demand.specs.Changes.{IsPreserved}
 use Rattle.dcc_demand.specs.Wanted.{IsParam, IsResult}
-use Rattle.dcc_asks.specs.Bodies.{Body, entry_of, bodies_of}
-use Rattle.dcc_asks.specs.Places as asks
-use Rattle.dcc_asks.specs.Places.{held}
-use Rattle.dcc_asks.specs.Asked as asked
-use Rattle.dcc_asks.specs.Asked.{IsSummary, AreSummaries, AreSummariesOf, IsOneValue, of_register, of_flag, of_pair, IsOfSummaries, several_results}
+use Rattle.dcc_machine_demand.specs.Bodies.{Body, entry_of, bodies_of}
+use Rattle.dcc_machine_demand.specs.Places as asks
+use Rattle.dcc_machine_demand.specs.Places.{held}
+use Rattle.dcc_machine_demand.specs.Asked as asked
+use Rattle.dcc_machine_demand.specs.Asked.{IsSummary, AreSummaries, AreSummariesOf, IsOneValue, of_register, of_flag}
+use Rattle.dcc_machine_demand.specs.Asked.{of_pair, IsOfSummaries, several_results}
 use Rattle.dcc_sums.specs.Instance.{passes}
 use Rattle.dcc_sums.specs.Sums as sums
 use Rattle.dcc_sums.specs.Sums.{IsSum, AreSums, AreOneValue}
-use Rattle.dcc_match.proofs.WantedLaws.{changes_pass}
-use Rattle.dcc_wanted.specs.Summaries.{GivesSeveral}
-use Rattle.dcc_refined.specs.LiftedRefinement.{inner_of, IsSame}
-use Rattle.dcc_refined.specs.Laws.{machine, inner}
-use Rattle.dcc_refined.proofs.SameLaws.{same_passes, one_location}
-use Rattle.dcc_refined.proofs.RefinedLaws as refined
-use Rattle.dcc_refined.proofs.LinkLaws.{Standing}
+use Rattle.dcc_refinement.proofs.WantedLaws.{changes_pass}
+use Rattle.dcc_summaries.specs.Summaries.{GivesSeveral}
+use Rattle.dcc_lifted_demand.specs.LiftedRefinement.{inner_of, IsSame}
+use Rattle.dcc_lifted_demand.specs.LiftedIsRefined.{machine, inner}
+use Rattle.dcc_lifted_demand.proofs.SameLaws.{same_passes, one_location}
+use Rattle.dcc_lifted_demand.proofs.RefinedLaws as refined
+use Rattle.dcc_lifted_demand.proofs.LinkLaws.{Standing}
 use Rattle.dcc_kinds.specs.Laws.{IsLikeMachine, inner_summary}
 use Rattle.dcc_kinds.proofs.LocationLaws.{in_map, all_by, zipped_left, zipped_right, outer_of, outer_list, AreAlike, just_up, just_down}
 

@@ -4,17 +4,17 @@ use Rattle.dcc_prog.specs.declared.image.Image.{Image}
 use Rattle.dcc_prog.specs.declared.refusal.construct.TheConstants.{ARGUMENT_REUSED, SEVERAL_RESULTS}
 use Rattle.dcc_prog.specs.declared.frame.Program.{Program as Analysed}
 use Rattle.dcc_ir.specs.Tree.{Program, Summary}
-use Rattle.dcc_asks.specs.Bodies.{Body, bodies_of}
-use Rattle.dcc_asks.specs.Asked.{IsOfSummaries, AreSummariesOf}
-use Rattle.dcc_asks.specs.Asked as asked
+use Rattle.dcc_machine_demand.specs.Bodies.{Body, bodies_of}
+use Rattle.dcc_machine_demand.specs.Asked.{IsOfSummaries, AreSummariesOf}
+use Rattle.dcc_machine_demand.specs.Asked as asked
 use Rattle.dcc_sums.specs.Sums.{AreSums, ReusesNone, GivesOneValue}
-use Rattle.dcc_match.specs.Laws.{HaveSameRelations}
-use Rattle.dcc_wanted.specs.declared.summaries.SumsFault.{SumsFault}
-use Rattle.dcc_wanted.specs.declared.summaries.SumsFault.TheVariants.{ArgumentReused, SeveralResults, Memory}
-use Rattle.dcc_wanted.specs.Summaries.{IsFault}
+use Rattle.dcc_refinement.specs.Laws.{HaveSameRelations}
+use Rattle.dcc_summaries.specs.declared.summaries.SumsFault.{SumsFault}
+use Rattle.dcc_summaries.specs.declared.summaries.SumsFault.TheVariants.{ArgumentReused, SeveralResults, Memory}
+use Rattle.dcc_summaries.specs.Summaries.{IsFault}
 use Rattle.dcc_lift.specs.Translated.{IsTranslated}
-use Rattle.dcc_refined.specs.LiftedRefinement.{inner_of, lifted_refinement}
-use Rattle.dcc_refined.specs.Laws.{machine, inner}
+use Rattle.dcc_lifted_demand.specs.LiftedRefinement.{inner_of, lifted_refinement}
+use Rattle.dcc_lifted_demand.specs.LiftedIsRefined.{machine, inner}
 
 -- the program is the lifted one of an analysed file, and has the relations of the machine's procedures
 pub record IsLikeMachine (image : Image) (program : Analysed) (p : Program) : Type 0 where

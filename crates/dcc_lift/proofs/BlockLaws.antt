@@ -9,7 +9,7 @@ use Rattle.dcc_prog.specs.declared.instr.Op.TheVariants.{Table, Ret}
 use Rattle.dcc_ir.specs.Tree.{Expr, Goto, Block}
 use Rattle.dcc_ir.specs.Flow.{targets, stands_at, has_edge}
 use Rattle.dcc_ops.specs.Statements.{op_test, exit_to}
-use Rattle.dcc_coupled.specs.Passed.{exit_of}
+use Rattle.dcc_simulation.specs.Passed.{exit_of}
 use Rattle.dcc_lift.specs.Blocks.{node_in, successors_in, IsChain, leaders, place_in, Scene, nodes_in, entry_in, block_place, node_exit, exit_at, last_of, IsBlockAt, AreBlocksAt}
 use Rattle.dcc_lift.specs.Sound.{AgreesWith, GoesOnAt, AreSound}
 use Rattle.dcc_lift.proofs.ListTests.{and_left, and_right, and_both, or_here, or_there, or_none, or_cases, same_number, any_agree, any_map, any_same, any_at, passing}

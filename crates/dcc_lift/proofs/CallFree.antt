@@ -32,9 +32,10 @@ use Rattle.dcc_ops.specs.Registers.{register_place}
 use Rattle.dcc_ops.specs.Expressions.{result, left, right}
 use Rattle.dcc_ops.specs.Computed.{computed_expr}
 use Rattle.dcc_ops.specs.Statements.{alu_storing, alu_working, alu_stmts, zeroing, unary_stmts, shift_working, shifting, staying, shift_stmts, mov_stmts, xchg_stmts, plain_stmts, dos_stmts, op_stmts}
-use Rattle.dcc_coupled.specs.Procedures.{Procedure, frame_place}
-use Rattle.dcc_coupled.specs.Operands.{address_of, operand_place, first_place, second_place}
-use Rattle.dcc_coupled.specs.Statements.{argument_offset, top_place, place_below_top, taking_all_back, moves_frame, working_stmts, node_stmts}
+use Rattle.dcc_simulation.specs.Procedures.{Procedure, frame_place}
+use Rattle.dcc_simulation.specs.Operands.{address_of, operand_place, first_place, second_place}
+use Rattle.dcc_simulation.specs.Statements.{argument_offset, top_place, place_below_top, taking_all_back, moves_frame}
+use Rattle.dcc_simulation.specs.Statements.{working_stmts, node_stmts}
 use Rattle.dcc_lift.specs.Blocks.{is_call as is_call_op}
 
 -- no statement is a Call

@@ -17,9 +17,9 @@ use Rattle.dcc_prog.specs.Analysed.{AreHeightsOf, IsFrameOf}
 use Rattle.dcc_prog.specs.Found.{IsFound, AreFound}
 use Rattle.dcc_prog.specs.Writes.{writes_flag}
 use Rattle.dcc_ir.specs.Tree.{Stmt, Block, Graph, Program}
-use Rattle.dcc_coupled.specs.Nodes.{procedures_in}
-use Rattle.dcc_coupled.specs.Procedures.{Procedure, procedures_of}
-use Rattle.dcc_coupled.specs.Statements as placed
+use Rattle.dcc_simulation.specs.Nodes.{procedures_in}
+use Rattle.dcc_simulation.specs.Procedures.{Procedure, procedures_of}
+use Rattle.dcc_simulation.specs.Statements as placed
 use Rattle.dcc_lift.specs.FlagStmts.{is_setter_of, is_other_flag_stmt, has_carry_in, graph_stmts, HasFewFlagStmts}
 use Rattle.dcc_lift.specs.Blocks.{Scene, nodes_in, entry_in}
 use Rattle.dcc_lift.specs.Sound.{AreSound}

@@ -7,7 +7,7 @@ use Rattle.std.proofs.lemmas.List.Elements.{All-head, All-tail}
 use Rattle.dcc_prog.specs.declared.procedure.Node.{Node}
 use Rattle.dcc_ir.specs.Tree.{Stmt, Block}
 use Rattle.dcc_ir.proofs.PathLaws.{decided, clash, or_left, or_right}
-use Rattle.dcc_coupled.specs.Statements as placed
+use Rattle.dcc_simulation.specs.Statements as placed
 use Rattle.dcc_lift.specs.Blocks.{Nodes, node_in, joins, IsChain, leaders, Scene, nodes_in, entry_in, height_in, node_stmts, stmts_at, AreBlocksAt}
 use Rattle.dcc_lift.specs.Sound.{offsets_of, AreSound}
 use Rattle.dcc_lift.proofs.ListTests.{and_left, and_right, and_both, not_true}

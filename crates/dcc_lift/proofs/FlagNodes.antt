@@ -28,9 +28,12 @@ use Rattle.dcc_ops.specs.Expressions.{word_of}
 use Rattle.dcc_ops.specs.Registers.{register_place}
 use Rattle.dcc_ops.specs.Place.{memory, computed, storing}
 use Rattle.dcc_ops.specs.Statements.{mov_stmts}
-use Rattle.dcc_coupled.specs.Procedures.{Procedure, procedure_at, within_cell, cell_place, cells_of, distance_of, frame_place, given_back}
-use Rattle.dcc_coupled.specs.Operands.{address_of, stack_pointer, frame_pointer, memory_place, operand_place, first_place, second_place}
-use Rattle.dcc_coupled.specs.Statements.{top_place, place_below_top, argument_offset, taking_back, taking_all_back, results_of, arguments_of, calling, moves_frame, working_stmts, node_stmts}
+use Rattle.dcc_simulation.specs.Procedures.{Procedure, procedure_at, within_cell, cell_place, cells_of, distance_of}
+use Rattle.dcc_simulation.specs.Procedures.{frame_place, given_back}
+use Rattle.dcc_simulation.specs.Operands.{address_of, stack_pointer, frame_pointer, memory_place, operand_place}
+use Rattle.dcc_simulation.specs.Operands.{first_place, second_place}
+use Rattle.dcc_simulation.specs.Statements.{top_place, place_below_top, argument_offset, taking_back, taking_all_back}
+use Rattle.dcc_simulation.specs.Statements.{results_of, arguments_of, calling, moves_frame, working_stmts, node_stmts}
 use Rattle.dcc_lift.specs.FlagStmts.{is_on_flags}
 use Rattle.dcc_lift.proofs.FlagCounts.{AreFew, are_off_flags, off-cons, off-append, is_apart, storing-off}
 use Rattle.dcc_lift.proofs.FlagOperations.{is_flag_part, nothing, mov-off, op-few}

@@ -28,10 +28,10 @@ use Rattle.dcc_stack.proofs.FormLaws.{in-form}
 use Rattle.dcc_ir.specs.declared.syntax.Loc.TheVariants.{Half}
 use Rattle.dcc_ir.specs.Tree.{Const, Stmt, Exit, Goto, Block, Program}
 use Rattle.dcc_ir.proofs.PathLaws.{decided}
-use Rattle.dcc_coupled.specs.Nodes.{procedures_in}
-use Rattle.dcc_coupled.specs.Statements as placed
-use Rattle.dcc_coupled.specs.Statements.{calling}
-use Rattle.dcc_coupled.specs.Passed.{exit_of}
+use Rattle.dcc_simulation.specs.Nodes.{procedures_in}
+use Rattle.dcc_simulation.specs.Statements as placed
+use Rattle.dcc_simulation.specs.Statements.{calling}
+use Rattle.dcc_simulation.specs.Passed.{exit_of}
 use Rattle.dcc_lift.specs.Blocks.{node_in, successors_in, is_call, calls_in, leaders, entry_in, block_place, stmts_at, node_exit, exit_at, last_of, IsBlockAt}
 use Rattle.dcc_lift.specs.Sound.{AreSound}
 use Rattle.dcc_lift.specs.Translated.{IsTranslated}

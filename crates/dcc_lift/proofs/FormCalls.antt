@@ -19,9 +19,11 @@ use Rattle.dcc_ir.specs.WellFormed.{is_location, is_expr, is_stmt, is_put, put_w
 use Rattle.dcc_ir.specs.Passing.{passed, param_of, bytes_at_put, bytes_of_param, bytes_of}
 use Rattle.dcc_ops.specs.Temporaries.{temporary_bits, most_returned, returned_place}
 use Rattle.dcc_ops.specs.Place.{Place, word, memory, place_value, storing, is_low, is_high, is_sound_place}
-use Rattle.dcc_coupled.specs.Procedures.{Procedure, cells_of, within_cell, cell_place, distance_of, frame_place, given_back}
-use Rattle.dcc_coupled.specs.Passed.{put_of, argument_param, argument_params, params_of, returned_values}
-use Rattle.dcc_coupled.specs.Statements.{argument_offset, argument_value, taking_back, taking_all_back, results_of, arguments_of}
+use Rattle.dcc_simulation.specs.Procedures.{Procedure, cells_of, within_cell, cell_place, distance_of, frame_place}
+use Rattle.dcc_simulation.specs.Procedures.{given_back}
+use Rattle.dcc_simulation.specs.Passed.{put_of, argument_param, argument_params, params_of, returned_values}
+use Rattle.dcc_simulation.specs.Statements.{argument_offset, argument_value, taking_back, taking_all_back, results_of}
+use Rattle.dcc_simulation.specs.Statements.{arguments_of}
 use Rattle.dcc_lift.proofs.ListTests.{and_left, and_right, and_both}
 use Rattle.dcc_lift.proofs.FormPlaces.{below-true, is_shallow, are_sound, sound-append, IsLocationOf, low-location, high-location, stored}
 use Rattle.dcc_lift.proofs.FormNodes.{distance-fits, frame-good}

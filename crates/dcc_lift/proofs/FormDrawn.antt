@@ -15,8 +15,8 @@ use Rattle.dcc_prog.specs.Analysed.{AreHeightsOf, IsFrameOf}
 use Rattle.dcc_ir.specs.Tree.{Graph, Program}
 use Rattle.dcc_ir.specs.Run.{graph_at}
 use Rattle.dcc_ir.specs.WellFormed.{all_differ}
-use Rattle.dcc_coupled.specs.Procedures.{Procedure, procedures_of}
-use Rattle.dcc_coupled.specs.Nodes.{procedures_in, IsGraphFor}
+use Rattle.dcc_simulation.specs.Procedures.{Procedure, procedures_of}
+use Rattle.dcc_simulation.specs.Nodes.{procedures_in, IsGraphFor}
 use Rattle.dcc_lift.specs.Translated.{IsTranslated}
 use Rattle.dcc_lift.specs.Translation.{IsGraphOf, scenes_of}
 use Rattle.dcc_lift.specs.Lifted.{HasFrameOf}

@@ -12,8 +12,8 @@ use Rattle.dcc_ir.specs.WellFormed.{is_expr, is_expr_of, is_exit}
 use Rattle.dcc_ir.specs.Use.{exit_exprs}
 use Rattle.dcc_ops.specs.Temporaries.{temporary_bits}
 use Rattle.dcc_ops.specs.Statements.{op_test, exit_to}
-use Rattle.dcc_coupled.specs.Procedures.{Procedure}
-use Rattle.dcc_coupled.specs.Passed.{returned_values, exit_of}
+use Rattle.dcc_simulation.specs.Procedures.{Procedure}
+use Rattle.dcc_simulation.specs.Passed.{returned_values, exit_of}
 use Rattle.dcc_lift.proofs.ListTests.{and_left, and_right, and_both, or_here, or_there, same_number}
 use Rattle.dcc_lift.proofs.FormPlaces.{le-true, is_shallow, expr-well, expr-shallow}
 use Rattle.dcc_lift.proofs.FormOperations.{IsSoundTest, test-good}

@@ -14,8 +14,8 @@ use Rattle.dcc_ir.specs.FlagReads.{nests_flatly, loads_plainly, FlagsReadPlainly
 use Rattle.dcc_ops.specs.FlagReading.{sets_flags_plainly}
 use Rattle.dcc_ops.specs.Temporaries.{returned_place}
 use Rattle.dcc_ops.specs.Place.{Place, constant, byte, word, memory, address, computed, storing, is_half, is_low, is_high, is_sound_place}
-use Rattle.dcc_coupled.specs.Procedures.{Procedure, frame_place, given_back}
-use Rattle.dcc_coupled.specs.Statements.{argument_offset, taking_back, taking_all_back}
+use Rattle.dcc_simulation.specs.Procedures.{Procedure, frame_place, given_back}
+use Rattle.dcc_simulation.specs.Statements.{argument_offset, taking_back, taking_all_back}
 use Rattle.dcc_lift.specs.Translated.{IsTranslated}
 use Rattle.dcc_lift.proofs.ListTests.{and_left, and_right, and_both}
 use Rattle.dcc_lift.proofs.FormNodes.{frame-good}

@@ -20,9 +20,9 @@ use Rattle.dcc_ops.specs.Place.{Place, memory, computed, is_sound_place}
 use Rattle.dcc_ops.specs.Statements.{mov_stmts}
 use Rattle.dcc_ops.specs.FlagReading.{sets_flags_plainly}
 use Rattle.dcc_ops.proofs.FlagReadLaws.{op_plain}
-use Rattle.dcc_coupled.specs.Procedures.{Procedure, frame_place}
-use Rattle.dcc_coupled.specs.Operands.{address_of, memory_place, operand_place, first_place, second_place}
-use Rattle.dcc_coupled.specs.Statements.{top_place, place_below_top, working_stmts}
+use Rattle.dcc_simulation.specs.Procedures.{Procedure, frame_place}
+use Rattle.dcc_simulation.specs.Operands.{address_of, memory_place, operand_place, first_place, second_place}
+use Rattle.dcc_simulation.specs.Statements.{top_place, place_below_top, working_stmts}
 use Rattle.dcc_lift.proofs.ListTests.{and_both}
 use Rattle.dcc_lift.proofs.FormNodes.{frame-good, IsNoCall}
 

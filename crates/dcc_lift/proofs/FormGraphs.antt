@@ -15,10 +15,10 @@ use Rattle.dcc_ir.specs.Run.{is_call}
 use Rattle.dcc_ir.specs.WellFormed.{is_width, is_expr, is_stmt, is_exit, is_block, is_jump, jumps_after_call, all_differ, ret_widths, all_ret_widths, is_put, is_param_list, memory_params_last, IsGraph}
 use Rattle.dcc_ir.specs.Use.{exprs_of, exit_exprs, block_exprs, graph_exprs}
 use Rattle.dcc_ops.specs.Temporaries.{temporary_bits}
-use Rattle.dcc_coupled.specs.Procedures.{given_back}
-use Rattle.dcc_coupled.specs.Passed.{params_of, returned_values}
-use Rattle.dcc_coupled.specs.Statements.{calling, taking_all_back, results_of, arguments_of}
-use Rattle.dcc_coupled.specs.FoundPlaces.{IsFoundAt}
+use Rattle.dcc_simulation.specs.Procedures.{given_back}
+use Rattle.dcc_simulation.specs.Passed.{params_of, returned_values}
+use Rattle.dcc_simulation.specs.Statements.{calling, taking_all_back, results_of, arguments_of}
+use Rattle.dcc_simulation.specs.FoundPlaces.{IsFoundAt}
 use Rattle.dcc_lift.specs.Blocks.{leaders, entry_in}
 use Rattle.dcc_lift.specs.Translated.{setting, IsTranslated}
 use Rattle.dcc_lift.specs.Translation.{prelude_block}

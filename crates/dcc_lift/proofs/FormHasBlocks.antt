@@ -13,7 +13,7 @@ use Rattle.dcc_ir.specs.Tree.{Goto, Block, Graph, Program}
 use Rattle.dcc_ir.specs.WellFormed.{all_differ}
 use Rattle.dcc_ir.specs.Flow.{first_address, flow_of, graph_or_none, flow_at, has_edge, IsContraction, HaveOneEdge}
 use Rattle.dcc_ir.proofs.PathLaws.{decided, clash}
-use Rattle.dcc_coupled.proofs.FoundProcedures.{listed}
+use Rattle.dcc_simulation.proofs.FoundProcedures.{listed}
 use Rattle.dcc_lift.specs.Blocks.{Nodes, node_in, successors_in, is_call, calls_in, joins, leaders, Scene, nodes_in, entry_in, block_place, AreBlocksAt}
 use Rattle.dcc_lift.specs.Sound.{AreSound}
 use Rattle.dcc_lift.specs.Translated.{setting, IsTranslated}

@@ -32,10 +32,11 @@ use Rattle.dcc_ops.specs.Temporaries.{temporary_bits}
 use Rattle.dcc_ops.specs.Expressions.{word_of}
 use Rattle.dcc_ops.specs.Registers.{register_place}
 use Rattle.dcc_ops.specs.Place.{Place, memory, computed}
-use Rattle.dcc_coupled.specs.Procedures.{Procedure, cells_of, within_cell, cell_place, distance_of, frame_place}
-use Rattle.dcc_coupled.specs.Operands.{from_frame, address_of, memory_place, operand_place, first_place, second_place}
-use Rattle.dcc_coupled.specs.Statements.{top_place, place_below_top, working_stmts}
-use Rattle.dcc_coupled.proofs.TabledOperands.{IsAddress, IsSource, IsRegister, HavePlaces, source-of}
+use Rattle.dcc_simulation.specs.Procedures.{Procedure, cells_of, within_cell, cell_place, distance_of, frame_place}
+use Rattle.dcc_simulation.specs.Operands.{from_frame, address_of, memory_place, operand_place, first_place}
+use Rattle.dcc_simulation.specs.Operands.{second_place}
+use Rattle.dcc_simulation.specs.Statements.{top_place, place_below_top, working_stmts}
+use Rattle.dcc_simulation.proofs.TabledOperands.{IsAddress, IsSource, IsRegister, HavePlaces, source-of}
 use Rattle.dcc_lift.proofs.ListTests.{and_left, and_right, and_both}
 use Rattle.dcc_lift.proofs.FormPlaces.{le-true, below-true, is_shallow, is_sound_expr, are_sound, constant-sound, address-sound, IsGoodPlace}
 use Rattle.dcc_lift.proofs.FormOperations.{mov-sound, HasGoodPlaces, op-sound}

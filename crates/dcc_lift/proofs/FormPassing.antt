@@ -19,10 +19,10 @@ use Rattle.dcc_ir.specs.WellFormed.{all_differ}
 use Rattle.dcc_ir.specs.Passing.{passed, is_word_put, AreNumbers, RetPasses, GraphPasses, CallPasses, StmtPasses, PassesAll}
 use Rattle.dcc_ops.specs.Temporaries.{returned_place}
 use Rattle.dcc_ops.specs.Place.{Place, word}
-use Rattle.dcc_coupled.specs.Procedures.{Procedure, frame_place, given_back}
-use Rattle.dcc_coupled.specs.Nodes.{procedures_in}
-use Rattle.dcc_coupled.specs.Passed.{put_of, argument_param, argument_params}
-use Rattle.dcc_coupled.specs.Statements.{argument_value, taking_all_back, results_of, arguments_of}
+use Rattle.dcc_simulation.specs.Procedures.{Procedure, frame_place, given_back}
+use Rattle.dcc_simulation.specs.Nodes.{procedures_in}
+use Rattle.dcc_simulation.specs.Passed.{put_of, argument_param, argument_params}
+use Rattle.dcc_simulation.specs.Statements.{argument_value, taking_all_back, results_of, arguments_of}
 use Rattle.dcc_lift.specs.Translated.{IsTranslated}
 use Rattle.dcc_lift.specs.Lifted.{back_of}
 use Rattle.dcc_lift.proofs.ListTests.{and_both}

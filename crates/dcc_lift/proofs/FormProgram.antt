@@ -17,9 +17,9 @@ use Rattle.dcc_ir.specs.Use.{graph_exprs}
 use Rattle.dcc_ir.specs.Measure.{depth_of}
 use Rattle.dcc_ir.specs.WellFormed.{put_width, all_ret_widths, is_param_list, memory_params_last, IsGraph, IsCall, IsCalling, IsProgram}
 use Rattle.dcc_ops.specs.Temporaries.{temporary_bits}
-use Rattle.dcc_coupled.specs.Procedures.{given_back}
-use Rattle.dcc_coupled.specs.Passed.{returned_values}
-use Rattle.dcc_coupled.specs.Statements.{taking_all_back, results_of, arguments_of}
+use Rattle.dcc_simulation.specs.Procedures.{given_back}
+use Rattle.dcc_simulation.specs.Passed.{returned_values}
+use Rattle.dcc_simulation.specs.Statements.{taking_all_back, results_of, arguments_of}
 use Rattle.dcc_lift.specs.Translated.{IsTranslated}
 use Rattle.dcc_lift.specs.Translation.{data_image}
 use Rattle.dcc_lift.specs.Lifted.{IsShallow}

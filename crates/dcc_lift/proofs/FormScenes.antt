@@ -17,10 +17,10 @@ use Rattle.dcc_prog.proofs.WellFormedLaws.{AreBytes, instruction-operation}
 use Rattle.dcc_stack.specs.Accepted.{IsAt}
 use Rattle.dcc_stack.proofs.FormHeights.{no-system, heights-fit}
 use Rattle.dcc_ir.specs.Tree.{Stmt, Block, Graph, Program}
-use Rattle.dcc_coupled.specs.Procedures.{Procedure}
-use Rattle.dcc_coupled.specs.Nodes.{procedures_in, IsLifting}
-use Rattle.dcc_coupled.specs.Statements as placed
-use Rattle.dcc_coupled.proofs.TabledOperands.{HavePlaces, instruction-placed}
+use Rattle.dcc_simulation.specs.Procedures.{Procedure}
+use Rattle.dcc_simulation.specs.Nodes.{procedures_in, IsLifting}
+use Rattle.dcc_simulation.specs.Statements as placed
+use Rattle.dcc_simulation.proofs.TabledOperands.{HavePlaces, instruction-placed}
 use Rattle.dcc_lift.specs.Blocks.{Nodes, node_in, is_call, calls_in, Scene, nodes_in, entry_in, block_place, height_in, node_stmts, stmts_at}
 use Rattle.dcc_lift.specs.Translated.{setting, IsTranslated}
 use Rattle.dcc_lift.proofs.CodeBounds.{bytes-dropped, code-bytes, loaded-bytes}

@@ -13,8 +13,8 @@ use Rattle.dcc_prog.specs.Analysed.{bytes_of as bytes_of_cell}
 use Rattle.dcc_stack.specs.Slots.{gives_back}
 use Rattle.dcc_ir.specs.Passing.{bytes_at_put, bytes_of_param, bytes_of}
 use Rattle.dcc_lift.specs.declared.procedure.Procedure.{Procedure as Known}
-use Rattle.dcc_coupled.specs.Procedures.{Procedure, is_accessed, accessed_cells, other_cells}
-use Rattle.dcc_coupled.specs.Passed.{argument_param, argument_params}
+use Rattle.dcc_simulation.specs.Procedures.{Procedure, is_accessed, accessed_cells, other_cells}
+use Rattle.dcc_simulation.specs.Passed.{argument_param, argument_params}
 use Rattle.dcc_lift.specs.KnownProcedures.{KnowsProcedure}
 
 from_none : (n : ℕ) → 0 + n ≡ n

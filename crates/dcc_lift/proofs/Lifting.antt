@@ -20,11 +20,11 @@ use Rattle.dcc_stack.specs.Accepted.{IsAt, IsProgramOfFile}
 use Rattle.dcc_stack.proofs.FormLaws.{in-form}
 use Rattle.dcc_ir.specs.Tree.{Block, Graph, Program}
 use Rattle.dcc_ir.specs.Run.{graph_at}
-use Rattle.dcc_coupled.specs.Procedures.{Procedure, procedures_of, procedure_at}
-use Rattle.dcc_coupled.specs.Nodes.{procedures_in, IsGraphFor, HasCall, IsLifting}
-use Rattle.dcc_coupled.specs.Statements as placed
-use Rattle.dcc_coupled.specs.Statements.{calling}
-use Rattle.dcc_coupled.specs.Passed.{params_of, exit_of}
+use Rattle.dcc_simulation.specs.Procedures.{Procedure, procedures_of, procedure_at}
+use Rattle.dcc_simulation.specs.Nodes.{procedures_in, IsGraphFor, HasCall, IsLifting}
+use Rattle.dcc_simulation.specs.Statements as placed
+use Rattle.dcc_simulation.specs.Statements.{calling}
+use Rattle.dcc_simulation.specs.Passed.{params_of, exit_of}
 use Rattle.dcc_lift.specs.Blocks.{Nodes, node_in, is_call, calls_in, leaders, Scene, nodes_in, entry_in, block_place, height_in, node_stmts, stmts_at, node_exit, exit_at, last_of, IsBlockAt}
 use Rattle.dcc_lift.specs.Sound.{AreSound}
 use Rattle.dcc_lift.specs.Translated.{setting}

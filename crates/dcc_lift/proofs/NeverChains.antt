@@ -19,9 +19,9 @@ use Rattle.dcc_ir.proofs.ExecuteLaws.{execute_over, execute-append, execute-with
 use Rattle.dcc_ir.proofs.FitStates.{IsFit, scene-fits}
 use Rattle.dcc_ir.proofs.ReachedLaws.{IsWithinAt, within-next, first-fit}
 use Rattle.dcc_ops.specs.Temporaries.{temporary_bits}
-use Rattle.dcc_coupled.specs.Nodes.{leads_to}
-use Rattle.dcc_coupled.specs.Passed.{exit_of}
-use Rattle.dcc_coupled.specs.Procedures.{Procedure}
+use Rattle.dcc_simulation.specs.Nodes.{leads_to}
+use Rattle.dcc_simulation.specs.Passed.{exit_of}
+use Rattle.dcc_simulation.specs.Procedures.{Procedure}
 use Rattle.dcc_lift.specs.Blocks.{Nodes, successors_in, IsChain, last_of, Scene, nodes_in, entry_in, stmts_at}
 use Rattle.dcc_lift.specs.Sound.{AreSound, GoesOnAt}
 use Rattle.dcc_lift.specs.Translation.{IsTranslation}

@@ -17,10 +17,10 @@ use Rattle.dcc_ir.specs.Ends.{IsNeverStuck, is_ret, is_stop, is_exit_call, stops
 use Rattle.dcc_ir.proofs.PathLaws.{decided}
 use Rattle.dcc_ir.proofs.UnstuckLaws.{never_stuck}
 use Rattle.dcc_ops.specs.Statements.{op_test, exit_to}
-use Rattle.dcc_coupled.specs.Nodes.{procedures_in}
-use Rattle.dcc_coupled.specs.Passed.{exit_of}
-use Rattle.dcc_coupled.specs.Procedures.{Procedure}
-use Rattle.dcc_coupled.specs.Statements.{moves_frame, working_stmts}
+use Rattle.dcc_simulation.specs.Nodes.{procedures_in}
+use Rattle.dcc_simulation.specs.Passed.{exit_of}
+use Rattle.dcc_simulation.specs.Procedures.{Procedure}
+use Rattle.dcc_simulation.specs.Statements.{moves_frame, working_stmts}
 use Rattle.dcc_lift.specs.Blocks.{last_of, Scene, nodes_in, entry_in, block_place, stmts_at, node_exit, IsBlockAt}
 use Rattle.dcc_lift.specs.Translated.{IsTranslated}
 use Rattle.dcc_lift.proofs.ListTests.{or_here, or_there}

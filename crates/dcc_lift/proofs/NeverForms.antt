@@ -18,7 +18,7 @@ use Rattle.dcc_prog.specs.Trail.{instruction_in, operation_in, is_general, moved
 use Rattle.dcc_prog.specs.Writes.{is_same_register}
 use Rattle.dcc_prog.proofs.AlikeValues.{and-parts}
 use Rattle.dcc_ops.specs.Registers.{is_register, is_source}
-use Rattle.dcc_coupled.proofs.Coupling.{registers-apart}
+use Rattle.dcc_simulation.proofs.Coupling.{registers-apart}
 
 -- Operations that are followed: they work on general registers, their halves and constants, or are branches.
 

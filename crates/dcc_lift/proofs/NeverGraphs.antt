@@ -15,8 +15,8 @@ use Rattle.dcc_ir.specs.Tree.{Block, Graph, Program}
 use Rattle.dcc_ir.specs.WellFormed.{all_differ, IsProgram}
 use Rattle.dcc_ir.specs.Run.{graph_at, no_graph}
 use Rattle.dcc_ir.proofs.ReachedLaws.{named_again}
-use Rattle.dcc_coupled.specs.Nodes.{IsGraphFor}
-use Rattle.dcc_coupled.specs.Procedures.{procedures_of}
+use Rattle.dcc_simulation.specs.Nodes.{IsGraphFor}
+use Rattle.dcc_simulation.specs.Procedures.{procedures_of}
 use Rattle.dcc_lift.specs.Blocks.{leaders, nodes_in, entry_in, IsBlockAt}
 use Rattle.dcc_lift.specs.Translated.{IsTranslated}
 use Rattle.dcc_lift.specs.Translation.{prelude_block}

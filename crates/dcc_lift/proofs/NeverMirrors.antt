@@ -46,12 +46,12 @@ use Rattle.dcc_ops.proofs.CouplingLaws.{register_read, register_written}
 use Rattle.dcc_ops.proofs.MovePerformed.{register_source}
 use Rattle.dcc_ops.proofs.PerformedLaws.{performed}
 use Rattle.dcc_ops.proofs.TestLaws.{tests_decide}
-use Rattle.dcc_coupled.specs.Nodes.{leads_to}
-use Rattle.dcc_coupled.specs.Operands.{operand_place, first_place, second_place}
-use Rattle.dcc_coupled.specs.Passed.{exit_of}
-use Rattle.dcc_coupled.specs.Procedures.{Procedure}
-use Rattle.dcc_coupled.specs.Statements.{moves_frame, working_stmts}
-use Rattle.dcc_coupled.proofs.Coupling.{words-set}
+use Rattle.dcc_simulation.specs.Nodes.{leads_to}
+use Rattle.dcc_simulation.specs.Operands.{operand_place, first_place, second_place}
+use Rattle.dcc_simulation.specs.Passed.{exit_of}
+use Rattle.dcc_simulation.specs.Procedures.{Procedure}
+use Rattle.dcc_simulation.specs.Statements.{moves_frame, working_stmts}
+use Rattle.dcc_simulation.proofs.Coupling.{words-set}
 use Rattle.dcc_lift.proofs.NeverForms.{is_followed}
 use Rattle.dcc_lift.proofs.RunNodes.{only-one}
 

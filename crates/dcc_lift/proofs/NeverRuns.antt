@@ -19,11 +19,11 @@ use Rattle.dcc_ir.proofs.ExecuteLaws.{execute-within, block-executed}
 use Rattle.dcc_ir.proofs.FitStates.{IsFit, scene-fits}
 use Rattle.dcc_ir.proofs.ReachedLaws.{IsGood, within-of, step-good}
 use Rattle.dcc_ir.proofs.StepLaws.{passing-alike}
-use Rattle.dcc_coupled.specs.Nodes.{leads_to}
-use Rattle.dcc_coupled.specs.Passed.{exit_of}
-use Rattle.dcc_coupled.specs.Procedures.{Procedure, given_back}
-use Rattle.dcc_coupled.specs.Statements.{results_of, arguments_of, taking_all_back}
-use Rattle.dcc_coupled.specs.Statements as placed
+use Rattle.dcc_simulation.specs.Nodes.{leads_to}
+use Rattle.dcc_simulation.specs.Passed.{exit_of}
+use Rattle.dcc_simulation.specs.Procedures.{Procedure, given_back}
+use Rattle.dcc_simulation.specs.Statements.{results_of, arguments_of, taking_all_back}
+use Rattle.dcc_simulation.specs.Statements as placed
 use Rattle.dcc_lift.specs.Blocks.{node_in, is_call, calls_in, last_of, Scene, nodes_in, entry_in, block_place, stmts_at, node_exit}
 use Rattle.dcc_lift.specs.Translated.{IsTranslated}
 use Rattle.dcc_lift.specs.Translation.{prelude_block}

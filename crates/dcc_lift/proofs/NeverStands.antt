@@ -15,9 +15,9 @@ use Rattle.dcc_ir.specs.Run.{State as Inner, Waiting, value_in, setting, enterin
 use Rattle.dcc_ir.proofs.FitStates.{IsFit, scene-fits}
 use Rattle.dcc_ir.proofs.StepLaws.{giving-alike}
 use Rattle.dcc_ops.specs.Temporaries.{temporary_bits}
-use Rattle.dcc_coupled.specs.Nodes.{leads_to}
-use Rattle.dcc_coupled.specs.Passed.{exit_of}
-use Rattle.dcc_coupled.specs.Procedures.{Procedure}
+use Rattle.dcc_simulation.specs.Nodes.{leads_to}
+use Rattle.dcc_simulation.specs.Passed.{exit_of}
+use Rattle.dcc_simulation.specs.Procedures.{Procedure}
 use Rattle.dcc_lift.specs.Blocks.{successors_in, Scene, nodes_in, entry_in, block_place, IsBlockAt}
 use Rattle.dcc_lift.specs.Translated.{IsTranslated}
 use Rattle.dcc_lift.specs.Translation.{prelude_block}

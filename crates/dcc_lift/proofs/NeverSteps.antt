@@ -31,11 +31,11 @@ use Rattle.dcc_ops.specs.Expressions.{word_of}
 use Rattle.dcc_ops.specs.Temporaries.{temporary_bits}
 use Rattle.dcc_ops.specs.Statements.{op_stmts}
 use Rattle.dcc_ops.proofs.CouplingLaws.{register_value}
-use Rattle.dcc_coupled.specs.Nodes.{procedures_in, leads_to}
-use Rattle.dcc_coupled.specs.Operands.{first_place, second_place}
-use Rattle.dcc_coupled.specs.Passed.{exit_of}
-use Rattle.dcc_coupled.specs.Procedures.{Procedure}
-use Rattle.dcc_coupled.proofs.ExitsLead.{IsGeneralTable, general-table}
+use Rattle.dcc_simulation.specs.Nodes.{procedures_in, leads_to}
+use Rattle.dcc_simulation.specs.Operands.{first_place, second_place}
+use Rattle.dcc_simulation.specs.Passed.{exit_of}
+use Rattle.dcc_simulation.specs.Procedures.{Procedure}
+use Rattle.dcc_simulation.proofs.ExitsLead.{IsGeneralTable, general-table}
 use Rattle.dcc_lift.specs.Blocks.{node_in, Scene, nodes_in, stmts_at}
 use Rattle.dcc_lift.specs.Translation.{IsTranslation}
 use Rattle.dcc_lift.proofs.Lifting.{Located, procedure_of, scene_of, node-at, stmts-at, told-at}

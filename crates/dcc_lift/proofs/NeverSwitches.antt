@@ -19,10 +19,10 @@ use Rattle.dcc_ir.specs.Ends.{SwitchesHavePlaces}
 use Rattle.dcc_ir.proofs.ReachedLaws.{IsGood, first-good}
 use Rattle.dcc_ops.specs.Expressions.{word_of}
 use Rattle.dcc_ops.specs.Statements.{op_test, exit_to}
-use Rattle.dcc_coupled.specs.Nodes.{procedures_in}
-use Rattle.dcc_coupled.specs.Passed.{exit_of}
-use Rattle.dcc_coupled.specs.Procedures.{Procedure}
-use Rattle.dcc_coupled.specs.Statements.{moves_frame, working_stmts}
+use Rattle.dcc_simulation.specs.Nodes.{procedures_in}
+use Rattle.dcc_simulation.specs.Passed.{exit_of}
+use Rattle.dcc_simulation.specs.Procedures.{Procedure}
+use Rattle.dcc_simulation.specs.Statements.{moves_frame, working_stmts}
 use Rattle.dcc_lift.specs.Blocks.{last_of, block_place, stmts_at}
 use Rattle.dcc_lift.specs.Translated.{IsTranslated}
 use Rattle.dcc_lift.proofs.CallFree.{IsCallFree}

@@ -7,10 +7,10 @@ use Rattle.dcc_prog.specs.declared.instr.Operand.{Operand}
 use Rattle.dcc_prog.specs.declared.instr.Op.{Op}
 use Rattle.dcc_prog.specs.declared.instr.Op.TheVariants.{Lea, Push, Pop, Table, Call, Ret}
 use Rattle.dcc_ops.specs.Statements.{op_test, exit_to, op_stmts}
-use Rattle.dcc_coupled.specs.Procedures.{Procedure}
-use Rattle.dcc_coupled.specs.Operands.{first_place, second_place}
-use Rattle.dcc_coupled.specs.Statements.{working_stmts}
-use Rattle.dcc_coupled.specs.Passed.{exit_of}
+use Rattle.dcc_simulation.specs.Procedures.{Procedure}
+use Rattle.dcc_simulation.specs.Operands.{first_place, second_place}
+use Rattle.dcc_simulation.specs.Statements.{working_stmts}
+use Rattle.dcc_simulation.specs.Passed.{exit_of}
 
 pub exit_by_test : (p : Procedure) (op : Op) (places : List ℕ) → ((r : Reg) (offset : ℕ) → op ≡ Table r offset → ⊥)
     → ((count : ℕ) → op ≡ Ret count → ⊥)

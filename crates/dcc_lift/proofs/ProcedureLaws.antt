@@ -5,7 +5,7 @@ use Rattle.std.proofs.lemmas.List.{at_drop_all}
 use Rattle.dcc_prog.specs.declared.procedure.Layout.{Layout}
 use Rattle.dcc_prog.specs.declared.procedure.Proc.{Proc}
 use Rattle.dcc_prog.specs.declared.frame.Frame.{Frame}
-use Rattle.dcc_coupled.specs.Procedures.{procedures_of}
+use Rattle.dcc_simulation.specs.Procedures.{procedures_of}
 
 no_frames : (layout : Layout) (procs : List Proc) → procedures_of layout procs [] ≡ []
 no_frames layout [] = refl

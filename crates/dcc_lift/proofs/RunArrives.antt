@@ -19,11 +19,11 @@ use Rattle.dcc_ir.specs.Tree.{Expr, Stmt, Call, Block, Graph}
 use Rattle.dcc_ir.specs.Run.{State as Inner, Waiting, is_call, entering, going_to}
 use Rattle.dcc_ir.proofs.PathLaws.{clash}
 use Rattle.dcc_ir.proofs.ReachedLaws.{contained}
-use Rattle.dcc_coupled.specs.Coupled.{IsActivationOf, WaitsAfterCall, AreWaiting, AreCoupled}
-use Rattle.dcc_coupled.specs.Nodes.{procedures_in}
-use Rattle.dcc_coupled.specs.Procedures.{Procedure, procedure_at, given_back}
-use Rattle.dcc_coupled.specs.Statements.{calling, taking_all_back}
-use Rattle.dcc_coupled.specs.Passed.{exit_of}
+use Rattle.dcc_simulation.specs.Coupled.{IsActivationOf, WaitsAfterCall, AreWaiting, AreCoupled}
+use Rattle.dcc_simulation.specs.Nodes.{procedures_in}
+use Rattle.dcc_simulation.specs.Procedures.{Procedure, procedure_at, given_back}
+use Rattle.dcc_simulation.specs.Statements.{calling, taking_all_back}
+use Rattle.dcc_simulation.specs.Passed.{exit_of}
 use Rattle.dcc_lift.specs.Blocks.{node_in, nodes_in, entry_in, block_place, IsBlockAt}
 use Rattle.dcc_lift.proofs.ListTests.{or_there}
 use Rattle.dcc_lift.proofs.CallFree.{IsCallFree, back-free}

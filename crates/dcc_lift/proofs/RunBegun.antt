@@ -32,8 +32,8 @@ use Rattle.dcc_ir.specs.Run.{State as Inner, graph_at}
 use Rattle.dcc_ir.proofs.FitStates.{IsFit, filled-are, execute-fit}
 use Rattle.dcc_ops.specs.Temporaries.{temporary_bits}
 use Rattle.dcc_ops.specs.Coupling.{HoldFlags}
-use Rattle.dcc_coupled.specs.Coupled.{IsActivationOf, AreCoupled}
-use Rattle.dcc_coupled.proofs.Begins.{runs-begin}
+use Rattle.dcc_simulation.specs.Coupled.{IsActivationOf, AreCoupled}
+use Rattle.dcc_simulation.proofs.Begins.{runs-begin}
 use Rattle.dcc_lift.specs.Translation.{general_registers, register_starting, flag_starting, flags_starting}
 use Rattle.dcc_lift.proofs.CodeBounds.{loaded-placed}
 use Rattle.dcc_lift.proofs.PreludeWords.{layout-registers, layout-words}

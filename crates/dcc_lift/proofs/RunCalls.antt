@@ -17,11 +17,11 @@ use Rattle.dcc_ir.specs.Run.{State as Inner, value_in, entering, activation, pas
 use Rattle.dcc_ir.proofs.PathLaws.{decided}
 use Rattle.dcc_ir.proofs.StepLaws.{passing-alike}
 use Rattle.dcc_ir.proofs.ReachedLaws.{contained}
-use Rattle.dcc_coupled.specs.Coupled.{AreCoupled}
-use Rattle.dcc_coupled.specs.Procedures.{Procedure, given_back}
-use Rattle.dcc_coupled.specs.Statements.{results_of, arguments_of, calling, taking_all_back}
-use Rattle.dcc_coupled.proofs.CallNodes.{call-nodes-agree}
-use Rattle.dcc_coupled.proofs.Next.{next-stands}
+use Rattle.dcc_simulation.specs.Coupled.{AreCoupled}
+use Rattle.dcc_simulation.specs.Procedures.{Procedure, given_back}
+use Rattle.dcc_simulation.specs.Statements.{results_of, arguments_of, calling, taking_all_back}
+use Rattle.dcc_simulation.proofs.CallNodes.{call-nodes-agree}
+use Rattle.dcc_simulation.proofs.Next.{next-stands}
 use Rattle.dcc_lift.specs.Blocks.{node_in, leaders, place_in, Scene, nodes_in, entry_in, block_place, IsBlockAt}
 use Rattle.dcc_lift.proofs.ChainLaws.{is_leader, entry_is_leader}
 use Rattle.dcc_lift.proofs.BlockLaws.{HasBlock}

@@ -18,12 +18,12 @@ use Rattle.dcc_prog.proofs.CleanLaws.{frames-stay}
 use Rattle.dcc_ir.specs.Tree.{Stmt, Block}
 use Rattle.dcc_ir.specs.Run.{State as Inner, execute, going_to, exit_step, block_step}
 use Rattle.dcc_ir.proofs.ExecuteLaws.{execute-within, block-executed}
-use Rattle.dcc_coupled.specs.Coupled.{AreCoupled}
-use Rattle.dcc_coupled.specs.Nodes.{procedures_in, StepAgrees, agree, over, leads_to}
-use Rattle.dcc_coupled.specs.Passed.{exit_of}
-use Rattle.dcc_coupled.specs.Statements as placed
-use Rattle.dcc_coupled.proofs.NodesAgree.{nodes-agree}
-use Rattle.dcc_coupled.proofs.ExitsLead.{exits-lead}
+use Rattle.dcc_simulation.specs.Coupled.{AreCoupled}
+use Rattle.dcc_simulation.specs.Nodes.{procedures_in, StepAgrees, agree, over, leads_to}
+use Rattle.dcc_simulation.specs.Passed.{exit_of}
+use Rattle.dcc_simulation.specs.Statements as placed
+use Rattle.dcc_simulation.proofs.NodesAgree.{nodes-agree}
+use Rattle.dcc_simulation.proofs.ExitsLead.{exits-lead}
 use Rattle.dcc_lift.specs.Blocks.{Nodes, node_in, successors_in, is_call, calls_in, IsChain, Scene, nodes_in, entry_in, block_place, stmts_at, node_exit, exit_at, last_of}
 use Rattle.dcc_lift.specs.Sound.{GoesOnAt}
 use Rattle.dcc_lift.proofs.ListTests.{any_contained}

@@ -15,9 +15,9 @@ use Rattle.dcc_ir.specs.Tree.{Expr, Exit, Goto, If, Switch, Ret as RetTo, Stop}
 use Rattle.dcc_ir.specs.Run.{State as Inner, value_in, going_to, switching, exit_step}
 use Rattle.dcc_ir.proofs.ReachedLaws.{contained}
 use Rattle.dcc_ops.specs.Statements.{op_test, exit_to}
-use Rattle.dcc_coupled.specs.Nodes.{leads_to}
-use Rattle.dcc_coupled.specs.Procedures.{Procedure}
-use Rattle.dcc_coupled.specs.Passed.{exit_of}
+use Rattle.dcc_simulation.specs.Nodes.{leads_to}
+use Rattle.dcc_simulation.specs.Procedures.{Procedure}
+use Rattle.dcc_simulation.specs.Passed.{exit_of}
 use Rattle.dcc_lift.specs.Blocks.{node_in, calls_in, IsChain, nodes_in, entry_in, stmts_at}
 use Rattle.dcc_lift.proofs.CallFree.{IsCallFree}
 use Rattle.dcc_lift.proofs.LocatedBlocks.{stmts-free as scene-stmts-free, chain-free as scene-chain-free}

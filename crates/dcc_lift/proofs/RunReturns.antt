@@ -19,13 +19,13 @@ use Rattle.dcc_ir.specs.Tree.{Block}
 use Rattle.dcc_ir.specs.Run.{State as Inner, Waiting, is_call as is_call_stmt, value_in, returning, giving, going_to, exit_step, block_step, step}
 use Rattle.dcc_ir.proofs.ExecuteLaws.{execute-within}
 use Rattle.dcc_ir.proofs.StepLaws.{giving-alike}
-use Rattle.dcc_coupled.specs.Coupled.{AreWaiting, AreCoupled}
-use Rattle.dcc_coupled.specs.Nodes.{procedures_in, returned, resumed}
-use Rattle.dcc_coupled.specs.Procedures.{Procedure}
-use Rattle.dcc_coupled.specs.Passed.{returned_values, exit_of}
-use Rattle.dcc_coupled.specs.Statements as placed
-use Rattle.dcc_coupled.proofs.Next.{next-stands}
-use Rattle.dcc_coupled.proofs.ReturnNodes.{return-nodes-agree}
+use Rattle.dcc_simulation.specs.Coupled.{AreWaiting, AreCoupled}
+use Rattle.dcc_simulation.specs.Nodes.{procedures_in, returned, resumed}
+use Rattle.dcc_simulation.specs.Procedures.{Procedure}
+use Rattle.dcc_simulation.specs.Passed.{returned_values, exit_of}
+use Rattle.dcc_simulation.specs.Statements as placed
+use Rattle.dcc_simulation.proofs.Next.{next-stands}
+use Rattle.dcc_simulation.proofs.ReturnNodes.{return-nodes-agree}
 use Rattle.dcc_lift.specs.Blocks.{Nodes, node_in, successors_in, is_call, calls_in, onward, Scene, nodes_in, entry_in, block_place, stmts_at, node_exit, exit_at}
 use Rattle.dcc_lift.specs.Sound.{AreSound}
 use Rattle.dcc_lift.proofs.ListTests.{any_contained}

@@ -26,11 +26,11 @@ use Rattle.dcc_ir.specs.Run.{State as Inner, Waiting, graph_at, watched_inner}
 use Rattle.dcc_ir.specs.Keeps.{has_block}
 use Rattle.dcc_ir.specs.Flow.{flow_of, graph_or_none}
 use Rattle.dcc_ir.proofs.PathLaws.{decided}
-use Rattle.dcc_coupled.specs.Coupled.{Setting, AreCoupled}
-use Rattle.dcc_coupled.specs.Laws.{IsCleanInstruction}
-use Rattle.dcc_coupled.specs.Nodes.{procedures_in, IsLifting, IsNodeHere}
-use Rattle.dcc_coupled.specs.Procedures.{procedure_at}
-use Rattle.dcc_coupled.proofs.FoundProcedures.{numbered}
+use Rattle.dcc_simulation.specs.Coupled.{Setting, AreCoupled}
+use Rattle.dcc_simulation.specs.Laws.{IsCleanInstruction}
+use Rattle.dcc_simulation.specs.Nodes.{procedures_in, IsLifting, IsNodeHere}
+use Rattle.dcc_simulation.specs.Procedures.{procedure_at}
+use Rattle.dcc_simulation.proofs.FoundProcedures.{numbered}
 use Rattle.dcc_lift.specs.Blocks.{Nodes, node_in, Scene, nodes_in, entry_in, block_place}
 use Rattle.dcc_lift.specs.Sound.{AreSound}
 use Rattle.dcc_lift.specs.Translation.{prelude_block}

@@ -12,8 +12,8 @@ use Rattle.dcc_ir.specs.Location.{filled}
 use Rattle.dcc_ir.specs.Tree.{Block, Graph}
 use Rattle.dcc_ir.specs.Run.{State as Inner, activation, no_graph, first_memory, opened, first_state, entering, going_to, execute, step, graph_at}
 use Rattle.dcc_ops.specs.Temporaries.{temporary_bits}
-use Rattle.dcc_coupled.specs.Nodes.{procedures_in, IsGraphFor}
-use Rattle.dcc_coupled.specs.Procedures.{Procedure, procedures_of}
+use Rattle.dcc_simulation.specs.Nodes.{procedures_in, IsGraphFor}
+use Rattle.dcc_simulation.specs.Procedures.{Procedure, procedures_of}
 use Rattle.dcc_lift.specs.Blocks.{Scene, block_place}
 use Rattle.dcc_lift.specs.Translation.{prelude_block}
 use Rattle.dcc_lift.proofs.ListTests.{same_number}

@@ -14,7 +14,7 @@ use Rattle.dcc_prog.specs.declared.frame.Frame.{Frame}
 use Rattle.dcc_prog.specs.Found.{IsFound}
 use Rattle.dcc_prog.specs.Height.{greatest_height}
 use Rattle.dcc_ir.specs.Tree.{Graph}
-use Rattle.dcc_coupled.specs.Procedures.{Procedure, procedures_of}
+use Rattle.dcc_simulation.specs.Procedures.{Procedure, procedures_of}
 use Rattle.dcc_lift.specs.declared.procedure.Procedure.{Procedure as Known}
 use Rattle.dcc_lift.specs.KnownProcedures.{procedure_of}
 use Rattle.dcc_lift.specs.Blocks.{Scene, height_in, node_stmts}

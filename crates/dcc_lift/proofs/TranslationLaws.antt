@@ -11,7 +11,7 @@ use Rattle.dcc_prog.specs.Found.{IsFound}
 use Rattle.dcc_prog.specs.Analysed.{AreHeightsOf, IsFrameOf}
 use Rattle.dcc_ir.specs.Tree.{Block, Graph}
 use Rattle.dcc_ir.specs.Run.{graph_at}
-use Rattle.dcc_coupled.specs.Procedures.{Procedure, procedures_of, procedure_at}
+use Rattle.dcc_simulation.specs.Procedures.{Procedure, procedures_of, procedure_at}
 use Rattle.dcc_lift.specs.Blocks.{Scene}
 use Rattle.dcc_lift.specs.Translation.{prelude_block, graph_with, IsGraphOf, scenes_of}
 

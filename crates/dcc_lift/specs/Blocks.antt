@@ -8,9 +8,9 @@ use Rattle.dcc_prog.specs.declared.instr.Op.{Op}
 use Rattle.dcc_prog.specs.declared.instr.Op.TheVariants.{Table, Call}
 use Rattle.dcc_prog.specs.declared.procedure.Node.{Node}
 use Rattle.dcc_ir.specs.Tree.{Stmt, Exit, Stop, Block}
-use Rattle.dcc_coupled.specs.Procedures.{Procedure}
-use Rattle.dcc_coupled.specs.Statements as placed
-use Rattle.dcc_coupled.specs.Passed as passed
+use Rattle.dcc_simulation.specs.Procedures.{Procedure}
+use Rattle.dcc_simulation.specs.Statements as placed
+use Rattle.dcc_simulation.specs.Passed as passed
 
 -- instructions by their offsets, in ascending order
 abbrev pub Nodes : Type 0

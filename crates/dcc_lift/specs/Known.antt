@@ -6,7 +6,7 @@ use Rattle.dcc_prog.specs.declared.procedure.Layout.{Layout}
 use Rattle.dcc_prog.specs.Height.{greatest_height}
 use Rattle.dcc_ir.specs.declared.syntax.Param.{Param}
 use Rattle.dcc_ir.specs.Tree.{Block}
-use Rattle.dcc_coupled.specs.Passed.{params_of}
+use Rattle.dcc_simulation.specs.Passed.{params_of}
 use Rattle.dcc_lift.specs.KnownProcedures.{procedure_of, KnowsProcedure, KnowsProcedures}
 use Rattle.dcc_lift.specs.declared.flow.Instructions.{Instructions}
 use Rattle.dcc_lift.specs.declared.outline.Scene.{Scene as Given}

@@ -6,7 +6,7 @@ use Rattle.dcc_prog.specs.Frame.{Span, span_of}
 use Rattle.dcc_stack.specs.Slots.{is_within, exposes_of}
 use Rattle.dcc_lift.specs.declared.access.Bytes.{Bytes}
 use Rattle.dcc_lift.specs.declared.procedure.Procedure.{Procedure as Known}
-use Rattle.dcc_coupled.specs.Procedures.{Procedure, cells_of, pushed_of, given_back}
+use Rattle.dcc_simulation.specs.Procedures.{Procedure, cells_of, pushed_of, given_back}
 
 abbrev pub span_of_bytes : Bytes → Span
 span_of_bytes bytes = span_of bytes.first bytes.size

@@ -19,8 +19,8 @@ use Rattle.dcc_ir.specs.Run.{watched_inner, first_state}
 use Rattle.dcc_ir.specs.Flow.{Flow, flow_at, IsContraction, HaveOneEdge}
 use Rattle.dcc_ir.specs.Keeps.{has_block}
 use Rattle.dcc_ir.specs.Ends.{IsNeverStuck}
-use Rattle.dcc_coupled.specs.Procedures.{Procedure, procedure_at, given_back, pushed_of}
-use Rattle.dcc_coupled.specs.Nodes.{procedures_in, IsGraphFor}
+use Rattle.dcc_simulation.specs.Procedures.{Procedure, procedure_at, given_back, pushed_of}
+use Rattle.dcc_simulation.specs.Nodes.{procedures_in, IsGraphFor}
 use Rattle.dcc_lift.specs.FlagStmts.{HasFewFlagStmts}
 use Rattle.dcc_lift.specs.Translation.{data_image, IsTranslation}
 

@@ -4,8 +4,8 @@ use Rattle.dcc_prog.specs.declared.image.Image.{Image}
 use Rattle.dcc_prog.specs.declared.frame.Program.{Program as Analysed}
 use Rattle.dcc_stack.specs.Accepted.{IsProgramOfFile}
 use Rattle.dcc_ir.specs.Tree.{Program}
-use Rattle.dcc_coupled.specs.Coupled.{Setting}
-use Rattle.dcc_coupled.specs.Nodes.{procedures_in, cells_at}
+use Rattle.dcc_simulation.specs.Coupled.{Setting}
+use Rattle.dcc_simulation.specs.Nodes.{procedures_in, cells_at}
 use Rattle.dcc_lift.specs.Translation.{IsTranslation}
 
 -- the program runs as the lifting of all procedures that are found, on their processor

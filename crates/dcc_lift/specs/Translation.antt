@@ -18,9 +18,9 @@ use Rattle.dcc_ir.specs.declared.syntax.Loc.TheVariants.{Half, Flag}
 use Rattle.dcc_prog.specs.declared.frame.Heights.{Heights}
 use Rattle.dcc_prog.specs.declared.frame.Cells.{Cells}
 use Rattle.dcc_ir.specs.Tree.{Const, Stmt, Set, Goto, Block, Graph, Program}
-use Rattle.dcc_coupled.specs.Procedures.{Procedure, procedures_of, pushed_of}
+use Rattle.dcc_simulation.specs.Procedures.{Procedure, procedures_of, pushed_of}
 use Rattle.dcc_ops.specs.Temporaries.{temporary_bits}
-use Rattle.dcc_coupled.specs.Passed.{params_of}
+use Rattle.dcc_simulation.specs.Passed.{params_of}
 use Rattle.dcc_lift.specs.Blocks.{Scene, nodes_in, entry_in, leaders, block_place, AreBlocksAt}
 
 -- the word registers whose halves are locations, in the order of their numbers

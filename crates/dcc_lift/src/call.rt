@@ -5,8 +5,8 @@ ghost use Rattle.std.specs.List.{range_with_len};
 ghost use Rattle.dcc_prog.specs.Height.{greatest_height};
 ghost use Rattle.dcc_ir.specs.Views.{expr_of};
 ghost use Rattle.dcc_ops.specs.Writing.{written};
-ghost use Rattle.dcc_coupled.specs.Statements as spec;
-ghost use Rattle.dcc_coupled.specs.Procedures.{procedure_at};
+ghost use Rattle.dcc_simulation.specs.Statements as spec;
+ghost use Rattle.dcc_simulation.specs.Procedures.{procedure_at};
 ghost use Rattle.dcc_lift.specs.KnownProcedures.{procedure_of, shared_procedure_of, KnowsProcedure, KnowsShared, KnowsProcedures};
 
 use crate::passed::{passed, passed_values};

@@ -4,7 +4,7 @@ ghost use Rattle.std.specs.Prelude.{◌≡◌, ◌≤◌, pos, neg_ℤ, ◌++◌
 ghost use Rattle.dcc_prog.specs.Height.{greatest_height};
 ghost use Rattle.dcc_ops.specs.Writing.{written};
 ghost use Rattle.dcc_ops.specs.Placing.{place_of};
-ghost use Rattle.dcc_coupled.specs.Statements as spec;
+ghost use Rattle.dcc_simulation.specs.Statements as spec;
 ghost use Rattle.dcc_lift.specs.KnownProcedures.{procedure_of, KnowsProcedure, KnowsProcedures};
 
 use crate::call::callee_of;

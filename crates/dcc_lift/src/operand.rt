@@ -2,7 +2,7 @@
 
 ghost use Rattle.std.specs.Prelude.{◌≡◌, pos, ◌-ℤ◌};
 ghost use Rattle.dcc_ops.specs.Placing.{place_of};
-ghost use Rattle.dcc_coupled.specs.Operands as spec;
+ghost use Rattle.dcc_simulation.specs.Operands as spec;
 ghost use Rattle.dcc_lift.specs.KnownProcedures.{procedure_of, KnowsProcedure};
 
 use crate::procedure::{Procedure, distance_of};

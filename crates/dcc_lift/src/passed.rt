@@ -8,7 +8,7 @@ ghost use Rattle.dcc_ir.specs.Passing as passing;
 ghost use Rattle.dcc_ops.specs.Expressions.{word_of};
 ghost use Rattle.dcc_ops.specs.Placing.{place_of};
 ghost use Rattle.dcc_ops.specs.Statements.{exit_to};
-ghost use Rattle.dcc_coupled.specs.Passed as spec;
+ghost use Rattle.dcc_simulation.specs.Passed as spec;
 ghost use Rattle.dcc_lift.specs.KnownProcedures.{procedure_of, KnowsProcedure};
 
 use crate::procedure::Procedure;

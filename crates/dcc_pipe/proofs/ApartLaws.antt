@@ -11,7 +11,8 @@ use Rattle.dcc_ir.specs.Live.{is_among}
 use Rattle.dcc_ir.specs.Location.{same_location}
 use Rattle.dcc_ir.specs.Tree.{Graph}
 use Rattle.dcc_ir.specs.Trimmed.{Trim, kept, trim_graph}
-use Rattle.dcc_pack.specs.Packed.{are_halves, two_or_one, in_front, merged, one_put, param_with, one_param, pack_graph}
+use Rattle.dcc_signatures.specs.Packed.{are_halves, two_or_one, in_front, merged, one_put, param_with, one_param}
+use Rattle.dcc_signatures.specs.Packed.{pack_graph}
 use Rattle.dcc_plan.specs.Calls.{places, all_places, locations_differ}
 use Rattle.dcc_pipe.specs.Simplified.{IsSimplifiedGraph}
 use Rattle.dcc_pipe.specs.Textable.{TakesApart}

@@ -28,9 +28,9 @@ use Rattle.dcc_ir.specs.Passing.{passed, param_of}
 use Rattle.dcc_ir.specs.Tree.{Address, Graph}
 use Rattle.dcc_ir.proofs.PathLaws.{decided}
 use Rattle.dcc_ops.specs.Place.{memory}
-use Rattle.dcc_coupled.specs.Nodes.{IsGraphFor}
-use Rattle.dcc_coupled.specs.Passed.{put_of, argument_param, params_of}
-use Rattle.dcc_coupled.specs.Procedures.{Procedure, procedures_of, cells_of, within_cell, cell_place, distance_of}
+use Rattle.dcc_simulation.specs.Nodes.{IsGraphFor}
+use Rattle.dcc_simulation.specs.Passed.{put_of, argument_param, params_of}
+use Rattle.dcc_simulation.specs.Procedures.{Procedure, procedures_of, cells_of, within_cell, cell_place, distance_of}
 use Rattle.dcc_plan.specs.Calls.{places, all_places, locations_differ}
 use Rattle.dcc_pipe.specs.Textable.{TakesApart}
 

@@ -14,13 +14,13 @@ use Rattle.dcc_ir.specs.Tree.{Address}
 use Rattle.dcc_ir.specs.WellFormed.{is_memory}
 use Rattle.dcc_ir.proofs.PathLaws.{decided}
 use Rattle.dcc_ops.specs.Place.{Place, memory}
-use Rattle.dcc_coupled.specs.Coupled.{Setting}
-use Rattle.dcc_coupled.specs.FoundPlaces.{IsFoundAt}
-use Rattle.dcc_coupled.specs.Places.{IsFramePlace, in_half, in_cell, in_memory}
-use Rattle.dcc_coupled.specs.Passed.{put_of, argument_param}
-use Rattle.dcc_coupled.specs.Procedures.{Procedure, cells_of, cell_place, distance_of}
-use Rattle.dcc_coupled.proofs.FoundPlaces.{frame-place}
-use Rattle.dcc_coupled.proofs.FoundProcedures.{frame-for}
+use Rattle.dcc_simulation.specs.Coupled.{Setting}
+use Rattle.dcc_simulation.specs.FoundPlaces.{IsFoundAt}
+use Rattle.dcc_simulation.specs.Places.{IsFramePlace, in_half, in_cell, in_memory}
+use Rattle.dcc_simulation.specs.Passed.{put_of, argument_param}
+use Rattle.dcc_simulation.specs.Procedures.{Procedure, cells_of, cell_place, distance_of}
+use Rattle.dcc_simulation.proofs.FoundPlaces.{frame-place}
+use Rattle.dcc_simulation.proofs.FoundProcedures.{frame-for}
 
 module _ (e : Setting) (entry : ℕ) (q : Procedure) (at : IsFoundAt e entry q) (number : ℕ) (less : number < q.frame.args) where
   abbrev layout : Layout

@@ -27,7 +27,7 @@ use Rattle.dcc_sums.specs.Sums.{IsSum, AreSums, ReusesNone, AreOneValue, GivesOn
 use Rattle.dcc_sums.specs.Localised.{localised}
 use Rattle.dcc_ir.specs.Use.{graph_exprs}
 use Rattle.dcc_lift.specs.Lifted.{IsShallow}
-use Rattle.dcc_pack.specs.Packed.{packed}
+use Rattle.dcc_signatures.specs.Packed.{packed}
 use Rattle.dcc_pipe.specs.Textable.{lifted_levels, TakesApart}
 use Rattle.dcc_pipe.specs.Simplified.{IsSimplifiedGraph, HasEachChanged}
 use Rattle.dcc_pipe.specs.Prepared.{HasLiftedForm, IsPrepared}

@@ -20,8 +20,8 @@ use Rattle.dcc_ir.specs.Use.{exit_exprs}
 use Rattle.dcc_ir.specs.WellFormed.{is_memory}
 use Rattle.dcc_ops.specs.Expressions.{condition}
 use Rattle.dcc_ops.specs.Statements.{op_test, exit_to}
-use Rattle.dcc_coupled.specs.Passed.{argument_param, argument_params, exit_of}
-use Rattle.dcc_coupled.specs.Procedures.{Procedure, given_back}
+use Rattle.dcc_simulation.specs.Passed.{argument_param, argument_params, exit_of}
+use Rattle.dcc_simulation.specs.Procedures.{Procedure, given_back}
 use Rattle.dcc_pipe.proofs.OperationAddresses.{passes}
 
 both : (a b : Bool) → a ≡ true → b ≡ true → (a && b) ≡ true

@@ -29,7 +29,7 @@ use Rattle.dcc_ops.specs.declared.place.Computed.{Computed}
 use Rattle.dcc_ops.specs.Computed.{plus, adding, ending, computed_expr}
 use Rattle.dcc_ops.specs.Expressions.{word_of}
 use Rattle.dcc_ops.specs.Place.{Place, memory}
-use Rattle.dcc_coupled.specs.Procedures.{Procedure, cells_of, within_cell, cell_place, distance_of, frame_place}
+use Rattle.dcc_simulation.specs.Procedures.{Procedure, cells_of, within_cell, cell_place, distance_of, frame_place}
 use Rattle.dcc_pipe.proofs.OperationAddresses.{passes, place_passes}
 
 -- Computed words.

@@ -16,11 +16,11 @@ use Rattle.dcc_stack.specs.Slots.{exposes_of}
 use Rattle.dcc_ir.specs.Tree.{Stmt, Exit, Stop, Block, Graph, Program}
 use Rattle.dcc_ir.specs.Use.{exit_exprs}
 use Rattle.dcc_ir.specs.WellFormed.{is_memory}
-use Rattle.dcc_coupled.specs.Nodes.{procedures_in}
-use Rattle.dcc_coupled.specs.Passed.{argument_param}
-use Rattle.dcc_coupled.specs.Procedures.{Procedure, procedure_at}
-use Rattle.dcc_coupled.specs.Statements as placed
-use Rattle.dcc_coupled.proofs.FoundProcedures.{frame-for}
+use Rattle.dcc_simulation.specs.Nodes.{procedures_in}
+use Rattle.dcc_simulation.specs.Passed.{argument_param}
+use Rattle.dcc_simulation.specs.Procedures.{Procedure, procedure_at}
+use Rattle.dcc_simulation.specs.Statements as placed
+use Rattle.dcc_simulation.proofs.FoundProcedures.{frame-for}
 use Rattle.dcc_lift.specs.Blocks.{Scene, Nodes, node_in, height_in, node_stmts, stmts_at, node_exit, exit_at, last_of, leaders, nodes_in, entry_in, block_place, IsBlockAt, AreBlocksAt}
 use Rattle.dcc_lift.specs.Translated.{setting, IsTranslated}
 use Rattle.dcc_lift.specs.Translation.{prelude_block}

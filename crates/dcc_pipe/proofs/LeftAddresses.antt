@@ -19,9 +19,11 @@ use Rattle.dcc_ir.specs.Tree.{Expr, Const, Get, Load, Unary, Binary, Widen, Part
 use Rattle.dcc_ir.specs.Use.{parts_of, addressed_by, addresses_of, got_by, exprs_of, exit_exprs, block_exprs, graph_exprs}
 use Rattle.dcc_ir.proofs.ListLaws.{left_part}
 use Rattle.dcc_flags.specs.Kinds.{kind_of, all_parts, KindsStay}
-use Rattle.dcc_pack.specs.declared.packing.Fresh.{Fresh}
-use Rattle.dcc_pack.specs.declared.packing.Packing.TheVariants.{Apart, Word, Double}
-use Rattle.dcc_pack.specs.Packed.{are_halves, in_front, two_or_one, merged, word_of, one_argument, packing_of, given_or_zero, given_word, double_of, one_value, taking_part, taking_parts, pack_stmt, pack_exit, pack_block, fresh_after, pack_graph}
+use Rattle.dcc_signatures.specs.declared.packing.Fresh.{Fresh}
+use Rattle.dcc_signatures.specs.declared.packing.Packing.TheVariants.{Apart, Word, Double}
+use Rattle.dcc_signatures.specs.Packed.{are_halves, in_front, two_or_one, merged, word_of, one_argument, packing_of}
+use Rattle.dcc_signatures.specs.Packed.{given_or_zero, given_word, double_of, one_value, taking_part, taking_parts}
+use Rattle.dcc_signatures.specs.Packed.{pack_stmt, pack_exit, pack_block, fresh_after, pack_graph}
 use Rattle.dcc_variables.specs.Variables.{is_told_from, is_address, has_address, stmt_has_address, block_has_address, takes_address}
 use Rattle.dcc_pipe.specs.Simplified.{IsSimplifiedGraph}
 use Rattle.dcc_pipe.proofs.GraphAddresses.{block_passes, blocks_pass}

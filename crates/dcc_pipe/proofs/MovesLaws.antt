@@ -15,15 +15,15 @@ use Rattle.dcc_ir.specs.Tree.{Graph, Program}
 use Rattle.dcc_ir.specs.Trimmed.{Trim, trim_graph}
 use Rattle.dcc_ir.specs.WellFormed.{is_memory}
 use Rattle.dcc_ir.proofs.PathLaws.{decided}
-use Rattle.dcc_coupled.specs.Nodes.{procedures_in, IsGraphFor}
-use Rattle.dcc_coupled.specs.Passed.{argument_param, argument_params}
-use Rattle.dcc_coupled.specs.Procedures.{Procedure, procedure_at}
+use Rattle.dcc_simulation.specs.Nodes.{procedures_in, IsGraphFor}
+use Rattle.dcc_simulation.specs.Passed.{argument_param, argument_params}
+use Rattle.dcc_simulation.specs.Procedures.{Procedure, procedure_at}
 use Rattle.dcc_lift.specs.Translated.{IsTranslated}
 use Rattle.dcc_lift.proofs.FormDrawn.{all-graphs}
 use Rattle.dcc_lift.proofs.FormGraphs.{entry-of}
 use Rattle.dcc_lift.proofs.FormScenes.{graph_of_entry, procedure_at_entry}
 use Rattle.dcc_lift.proofs.LocatedBlocks.{located_at}
-use Rattle.dcc_pack.specs.Packed.{pack_graph}
+use Rattle.dcc_signatures.specs.Packed.{pack_graph}
 use Rattle.dcc_variables.specs.Functions.{memory_from}
 use Rattle.dcc_variables.specs.Variables.{is_told_from, takes_address}
 use Rattle.dcc_pipe.specs.Simplified.{IsSimplifiedGraph}

@@ -35,11 +35,13 @@ use Rattle.dcc_ops.specs.Computed.{computed_expr}
 use Rattle.dcc_ops.specs.Registers.{register_place}
 use Rattle.dcc_ops.specs.Temporaries.{returned_place}
 use Rattle.dcc_ops.specs.Place.{Place, constant, byte, word, memory, address, computed, place_value, storing}
-use Rattle.dcc_coupled.specs.Operands.{from_frame, address_of, memory_place, operand_place, first_place, second_place}
-use Rattle.dcc_coupled.specs.Procedures.{Procedure, procedure_at, frame_place, distance_of, given_back}
-use Rattle.dcc_coupled.specs.Statements.{argument_offset, argument_value, arguments_of, taking_back, taking_all_back, calling, moves_frame, working_stmts, node_stmts}
-use Rattle.dcc_coupled.proofs.FoundOperands.{register-named}
-use Rattle.dcc_coupled.proofs.TabledOperands.{IsRegister, HavePlaces}
+use Rattle.dcc_simulation.specs.Operands.{from_frame, address_of, memory_place, operand_place, first_place}
+use Rattle.dcc_simulation.specs.Operands.{second_place}
+use Rattle.dcc_simulation.specs.Procedures.{Procedure, procedure_at, frame_place, distance_of, given_back}
+use Rattle.dcc_simulation.specs.Statements.{argument_offset, argument_value, arguments_of, taking_back, taking_all_back}
+use Rattle.dcc_simulation.specs.Statements.{calling, moves_frame, working_stmts, node_stmts}
+use Rattle.dcc_simulation.proofs.FoundOperands.{register-named}
+use Rattle.dcc_simulation.proofs.TabledOperands.{IsRegister, HavePlaces}
 use Rattle.dcc_pipe.proofs.OperationAddresses.{passes, stmt_passes, all_pass, place_passes, appended, stored, mov_passes, op_passes}
 use Rattle.dcc_pipe.proofs.FrameAddresses.{computed-passes, frame-passes, start-passes}
 

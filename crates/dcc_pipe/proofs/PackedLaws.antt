@@ -7,9 +7,10 @@ use Rattle.dcc_ir.specs.declared.syntax.Loc.{Loc}
 use Rattle.dcc_ir.specs.declared.syntax.Loc.TheVariants.{Half, Flag, Cell, Temp}
 use Rattle.dcc_ir.specs.Tree.{Stmt, Set, Fetch, Store, Div, Call, Dos, Block, Graph}
 use Rattle.dcc_ir.specs.FlagReads.{nests_flatly, loads_plainly, FlagsReadPlainly}
-use Rattle.dcc_pack.specs.declared.packing.Fresh.{Fresh}
-use Rattle.dcc_pack.specs.declared.packing.Packing.TheVariants.{Apart, Word, Double}
-use Rattle.dcc_pack.specs.Packed.{packing_of, taking_part, taking_parts, value_places, pack_stmt, pack_block, fresh_after, pack_graph}
+use Rattle.dcc_signatures.specs.declared.packing.Fresh.{Fresh}
+use Rattle.dcc_signatures.specs.declared.packing.Packing.TheVariants.{Apart, Word, Double}
+use Rattle.dcc_signatures.specs.Packed.{packing_of, taking_part, taking_parts, value_places, pack_stmt, pack_block}
+use Rattle.dcc_signatures.specs.Packed.{fresh_after, pack_graph}
 use Rattle.dcc_pipe.proofs.TrimmedLaws.{changed-pass}
 
 all-joined : {A : Type 0} (test : A → Bool) (xs ys : List A) → list_all test xs ≡ true → list_all test ys ≡ true

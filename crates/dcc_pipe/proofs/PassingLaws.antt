@@ -13,7 +13,7 @@ use Rattle.dcc_ir.specs.Form.{Signature, signatures_of, BlockStays, GraphStays}
 use Rattle.dcc_ir.specs.Families.{Family, wanted, IsWithout, done, stays, goes, IsBlockWithout, IsGraphWithout}
 use Rattle.dcc_ir.proofs.ListLaws.{all_had, all_parts}
 use Rattle.dcc_ir.proofs.ZipLaws.{all_zipped}
-use Rattle.dcc_pack.specs.Laws.{AtMostOne, GivesAtMostOne, TakesAtMostOne, TakesTogether, PassesAtMostOne}
+use Rattle.dcc_signatures.specs.Laws.{AtMostOne, GivesAtMostOne, TakesAtMostOne, TakesTogether, PassesAtMostOne}
 use Rattle.dcc_pipe.specs.Prepared.{TakesOfReturning}
 use Rattle.dcc_pipe.specs.Simplified.{IsSimplifiedGraph}
 

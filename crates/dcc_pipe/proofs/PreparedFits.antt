@@ -11,7 +11,7 @@ use Rattle.dcc_ir.specs.Tree.{Stmt, Set, Fetch, Store, Div, Call, Dos, Exit, Got
 use Rattle.dcc_ir.specs.Value.{width_of}
 use Rattle.dcc_ir.specs.WellFormed.{ret_widths, all_ret_widths}
 use Rattle.dcc_ir.proofs.ReachedLaws.{named_again}
-use Rattle.dcc_pack.specs.Laws.{AtMostOne, GivesAtMostOne}
+use Rattle.dcc_signatures.specs.Laws.{AtMostOne, GivesAtMostOne}
 use Rattle.dcc_plan.specs.Programs as plan
 use Rattle.dcc_sums.specs.Localised.{sum_at}
 use Rattle.dcc_variables.specs.FunctionLaws.{HasFewNames}

@@ -16,12 +16,12 @@ use Rattle.dcc_lift.specs.Lifted.{IsShallow}
 use Rattle.dcc_sums.specs.Laws.{IsKeptBy}
 use Rattle.dcc_sums.specs.Localised.{sum_at, trim_by, localised, CallsJust, PassesJust}
 use Rattle.dcc_sums.proofs.KeepLaws.{localised-keeps}
-use Rattle.dcc_pack.specs.Packed.{pack_graph, packed}
-use Rattle.dcc_pack.specs.Laws.{PassesOneValue, PassesAtMostOne}
-use Rattle.dcc_pack.proofs.DepthLaws.{packed-is_shallow}
-use Rattle.dcc_pack.proofs.GiveLaws.{packed-passes_one}
-use Rattle.dcc_pack.proofs.LocalLaws.{localised-passes_one_value}
-use Rattle.dcc_pack.proofs.PackLaws.{packed-keeps}
+use Rattle.dcc_signatures.specs.Packed.{pack_graph, packed}
+use Rattle.dcc_signatures.specs.Laws.{PassesOneValue, PassesAtMostOne}
+use Rattle.dcc_signatures.proofs.DepthLaws.{packed-is_shallow}
+use Rattle.dcc_signatures.proofs.GiveLaws.{packed-passes_one}
+use Rattle.dcc_signatures.proofs.LocalLaws.{localised-passes_one_value}
+use Rattle.dcc_signatures.proofs.PackLaws.{packed-keeps}
 use Rattle.dcc_pipe.specs.Textable.{lifted_levels, levels, TakesApart}
 use Rattle.dcc_pipe.specs.Simplified.{IsSimplifiedGraph, HasEachChanged, IsSimplified}
 use Rattle.dcc_pipe.specs.Prepared.{has_ret, returns, TakesOfReturning, HasLiftedForm, AreSumsOfText, IsPrepared, WhatIsLeftIsPrepared}

@@ -14,14 +14,14 @@ use Rattle.dcc_prog.specs.Refused.{IsAcceptedByTrails, IsAcceptedByHeights, IsAc
 use Rattle.dcc_prog.proofs.RefusedLaws.{all-sound}
 use Rattle.dcc_layout.specs.Refusal as layout
 use Rattle.dcc_stack.specs.Accepted.{IsProgramOfFile}
-use Rattle.dcc_asks.specs.Asked.{IsOfSummaries}
-use Rattle.dcc_asks.specs.Bodies.{bodies_of}
+use Rattle.dcc_machine_demand.specs.Asked.{IsOfSummaries}
+use Rattle.dcc_machine_demand.specs.Bodies.{bodies_of}
 use Rattle.dcc_ir.specs.Tree.{Program, Summary}
 use Rattle.dcc_lift.specs.Lifted.{IsLiftOf}
 use Rattle.dcc_lift.specs.Translated.{IsTranslated}
-use Rattle.dcc_agree.specs.Laws.{LiftedRelationsAreTheMachines}
-use Rattle.dcc_wanted.specs.declared.summaries.SumsFault.{SumsFault}
-use Rattle.dcc_wanted.specs.Summaries.{IsFault}
+use Rattle.dcc_instruction_demand.specs.Laws.{LiftedRelationsAreTheMachines}
+use Rattle.dcc_summaries.specs.declared.summaries.SumsFault.{SumsFault}
+use Rattle.dcc_summaries.specs.Summaries.{IsFault}
 use Rattle.dcc_kinds.specs.Laws.{IsLikeMachine, IsConstructOf, FaultsAreConstructs, SummedProgramsHaveNone}
 use Rattle.dcc_pipe.specs.Prepared.{AreSumsOfText}
 

@@ -21,9 +21,10 @@ use Rattle.dcc_sums.specs.Points.{Position, site_at, is_return, site_of}
 use Rattle.dcc_sums.specs.Instance.{procedures_of}
 use Rattle.dcc_sums.specs.Sums.{IsSum, AreSums}
 use Rattle.dcc_sums.specs.Localised.{sum_at, CallsJust}
-use Rattle.dcc_pack.specs.declared.packing.Fresh.{Fresh}
-use Rattle.dcc_pack.specs.declared.packing.Packing.TheVariants.{Apart, Word, Double}
-use Rattle.dcc_pack.specs.Packed.{packing_of, taking_part, taking_parts, value_places, pack_stmt, pack_exit, pack_block, fresh_after, pack_graph}
+use Rattle.dcc_signatures.specs.declared.packing.Fresh.{Fresh}
+use Rattle.dcc_signatures.specs.declared.packing.Packing.TheVariants.{Apart, Word, Double}
+use Rattle.dcc_signatures.specs.Packed.{packing_of, taking_part, taking_parts, value_places, pack_stmt, pack_exit}
+use Rattle.dcc_signatures.specs.Packed.{pack_block, fresh_after, pack_graph}
 use Rattle.dcc_pipe.specs.Prepared.{has_ret, returns, TakesOfReturning}
 
 -- Where a procedure returns, its graph has a Ret.

@@ -21,14 +21,14 @@ use Rattle.dcc_ir.specs.Run.{graph_at}
 use Rattle.dcc_ir.specs.Tree.{Graph, Program, Summary}
 use Rattle.dcc_ir.specs.Trimmed.{Trim, trim_graph, kept}
 use Rattle.dcc_ir.specs.WellFormed.{all_differ, is_memory}
-use Rattle.dcc_coupled.specs.FoundPlaces.{IsFoundAt}
-use Rattle.dcc_coupled.specs.Nodes.{procedures_in, IsGraphFor}
-use Rattle.dcc_coupled.specs.Passed.{argument_param, argument_params, params_of}
-use Rattle.dcc_coupled.specs.Procedures.{Procedure, procedures_of, procedure_at}
+use Rattle.dcc_simulation.specs.FoundPlaces.{IsFoundAt}
+use Rattle.dcc_simulation.specs.Nodes.{procedures_in, IsGraphFor}
+use Rattle.dcc_simulation.specs.Passed.{argument_param, argument_params, params_of}
+use Rattle.dcc_simulation.specs.Procedures.{Procedure, procedures_of, procedure_at}
 use Rattle.dcc_lift.specs.Lifted.{HasFrameOf, IsLiftOf}
 use Rattle.dcc_lift.specs.Translated.{setting}
 use Rattle.dcc_lift.proofs.Lifting.{lifting}
-use Rattle.dcc_pack.specs.Packed.{merged, one_param, pack_graph}
+use Rattle.dcc_signatures.specs.Packed.{merged, one_param, pack_graph}
 use Rattle.dcc_sums.specs.Localised.{sum_at, is_taken, trim_by}
 use Rattle.dcc_pipe.specs.Prepared.{IsPrepared}
 use Rattle.dcc_pipe.specs.Simplified.{IsSimplifiedGraph}

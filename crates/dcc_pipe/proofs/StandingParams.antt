@@ -8,7 +8,7 @@ use Rattle.dcc_ir.specs.declared.syntax.Put.TheVariants.{Memory, One, Two}
 use Rattle.dcc_ir.specs.declared.syntax.Param.{Param}
 use Rattle.dcc_ir.specs.Trimmed.{kept}
 use Rattle.dcc_ir.specs.WellFormed.{is_memory}
-use Rattle.dcc_pack.specs.Packed.{are_halves, two_or_one, in_front, merged, one_put, param_with, one_param}
+use Rattle.dcc_signatures.specs.Packed.{are_halves, two_or_one, in_front, merged, one_put, param_with, one_param}
 use Rattle.dcc_sums.specs.Localised.{sets_one_of, is_taken}
 use Rattle.dcc_pipe.specs.Standing.{IsLocated}
 use Rattle.dcc_pipe.proofs.TrimmedLaws.{kept-all}

@@ -4,7 +4,7 @@ use Rattle.dcc_prog.specs.declared.image.Image.{Image}
 use Rattle.dcc_prog.specs.declared.frame.Program.{Program}
 use Rattle.dcc_prog.specs.Analysed.{IsProgramOf}
 use Rattle.dcc_ir.specs.Tree as inner
-use Rattle.dcc_coupled.specs.Nodes.{procedures_in}
+use Rattle.dcc_simulation.specs.Nodes.{procedures_in}
 use Rattle.dcc_lift.specs.Lifted.{IsLifted}
 use Rattle.dcc_pipe.specs.Textable.{lifted_levels, levels, IsTextable}
 use Rattle.dcc_pipe.specs.Prepared.{HasLiftedForm, LiftedHasTheForm, IsPrepared}

@@ -16,9 +16,9 @@ use Rattle.dcc_ir.specs.WellFormed.{is_memory}
 use Rattle.dcc_lift.specs.Lifted.{IsLiftOf}
 use Rattle.dcc_lift.specs.Translated.{IsTranslated}
 use Rattle.dcc_sums.specs.Localised.{trim_by}
-use Rattle.dcc_coupled.specs.Nodes.{procedures_in}
-use Rattle.dcc_coupled.specs.Passed.{argument_param, argument_params}
-use Rattle.dcc_coupled.specs.Procedures.{Procedure}
+use Rattle.dcc_simulation.specs.Nodes.{procedures_in}
+use Rattle.dcc_simulation.specs.Passed.{argument_param, argument_params}
+use Rattle.dcc_simulation.specs.Procedures.{Procedure}
 use Rattle.dcc_c.specs.declared.syntax.Base.TheVariants.{Uchar}
 use Rattle.dcc_c.specs.declared.syntax.Class.TheVariants.{Plain, Auto, Register}
 use Rattle.dcc_c.specs.Placement.{is_auto}

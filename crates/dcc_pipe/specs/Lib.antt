@@ -10,7 +10,7 @@ pub mod Agreement
 pub mod Unbroken
 pub use Rattle.dcc_prog.specs.MzImage
 pub use Rattle.dcc_prog.specs.Refused
-pub use Rattle.dcc_asks.specs.Asked
-pub use Rattle.dcc_asks.specs.Bodies
+pub use Rattle.dcc_machine_demand.specs.Asked
+pub use Rattle.dcc_machine_demand.specs.Bodies
 pub use Rattle.dcc_c.specs.Views
 pub use Rattle.dcc_c.specs.Written

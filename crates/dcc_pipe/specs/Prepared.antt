@@ -14,8 +14,8 @@ use Rattle.dcc_ir.specs.FlagReads.{FlagsReadPlainly}
 use Rattle.dcc_ir.specs.Passing.{PassesAll}
 use Rattle.dcc_sums.specs.Sums.{AreSums, ReusesNone, GivesOneValue}
 use Rattle.dcc_sums.specs.Localised.{sum_at, localised}
-use Rattle.dcc_pack.specs.Packed.{packed}
-use Rattle.dcc_pack.specs.Laws.{PassesAtMostOne}
+use Rattle.dcc_signatures.specs.Packed.{packed}
+use Rattle.dcc_signatures.specs.Laws.{PassesAtMostOne}
 use Rattle.dcc_pipe.specs.Textable.{lifted_levels, levels, TakesApart, IsTextable}
 use Rattle.dcc_pipe.specs.Simplified.{IsSimplifiedGraph, HasEachChanged, IsSimplified}
 

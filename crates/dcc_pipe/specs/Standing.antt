@@ -9,9 +9,9 @@ use Rattle.dcc_stack.specs.Slots.{exposes_of}
 use Rattle.dcc_ir.specs.declared.syntax.Param.{Param}
 use Rattle.dcc_ir.specs.Tree.{Graph, Program}
 use Rattle.dcc_ir.specs.WellFormed.{is_memory}
-use Rattle.dcc_coupled.specs.Nodes.{procedures_in}
-use Rattle.dcc_coupled.specs.Passed.{argument_param, argument_params}
-use Rattle.dcc_coupled.specs.Procedures.{Procedure, pushed_of}
+use Rattle.dcc_simulation.specs.Nodes.{procedures_in}
+use Rattle.dcc_simulation.specs.Passed.{argument_param, argument_params}
+use Rattle.dcc_simulation.specs.Procedures.{Procedure, pushed_of}
 use Rattle.dcc_lift.specs.Lifted.{IsLiftOf}
 use Rattle.dcc_pipe.specs.Prepared.{IsPrepared}
 

@@ -12,8 +12,8 @@ use Rattle.dcc_prog.specs.Analysed.{IsProgramOf}
 use Rattle.dcc_prog.specs.Frame.{argument_word}
 use Rattle.dcc_prog.specs.FrameForm.{is_sp_move}
 use Rattle.dcc_stack.specs.Slots.{exposes_of}
-use Rattle.dcc_coupled.specs.Procedures.{Procedure}
-use Rattle.dcc_coupled.specs.Nodes.{procedures_in}
+use Rattle.dcc_simulation.specs.Procedures.{Procedure}
+use Rattle.dcc_simulation.specs.Nodes.{procedures_in}
 use Rattle.dcc_c.specs.declared.syntax.Class.{Class}
 use Rattle.dcc_c.specs.declared.syntax.Class.TheVariants.{Plain, Auto, Register}
 use Rattle.dcc_c.specs.Placement.{is_auto, takes_address}

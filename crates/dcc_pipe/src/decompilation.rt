@@ -3,10 +3,10 @@
 ghost use Rattle.std.specs.Prelude.{◌≡◌, ℕ, IfOk, IfErr};
 ghost use Rattle.dcc_prog.specs.MzImage.{IsLoaded};
 ghost use Rattle.dcc_prog.specs.Analysed.{IsProgramOf};
-ghost use Rattle.dcc_asks.specs.Asked.{IsOfSummaries};
-ghost use Rattle.dcc_asks.specs.Bodies.{bodies_of};
-ghost use Rattle.dcc_asks.specs.Refused.{IsAcceptedProgram, IsRefusedFor};
-ghost use Rattle.dcc_coupled.specs.Nodes.{procedures_in};
+ghost use Rattle.dcc_machine_demand.specs.Asked.{IsOfSummaries};
+ghost use Rattle.dcc_machine_demand.specs.Bodies.{bodies_of};
+ghost use Rattle.dcc_machine_demand.specs.Refused.{IsAcceptedProgram, IsRefusedFor};
+ghost use Rattle.dcc_simulation.specs.Nodes.{procedures_in};
 ghost use Rattle.dcc_kinds.specs.Laws.{IsConstructOf};
 ghost use Rattle.dcc_c.specs.Views.{tree_of};
 ghost use Rattle.dcc_c.specs.Written.{written_form};
@@ -17,12 +17,12 @@ use crate::analysis::analyse;
 use crate::number::number;
 use crate::preparation::prepared;
 use crate::unit::unit_of;
-use dcc_agree::lifted_relations_are_the_machines;
 use dcc_c::Unit;
+use dcc_instruction_demand::lifted_relations_are_the_machines;
 use dcc_kinds::{faults_are_constructs, summed_programs_have_none};
 use dcc_lift::lift;
 use dcc_prog::{Cpu, Image, Program, Refusal, construct};
-use dcc_wanted::SumsFault;
+use dcc_summaries::SumsFault;
 use std::alloc::Global;
 
 // The text of a program that is analysed, or what is at fault between its procedures.

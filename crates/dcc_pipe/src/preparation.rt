@@ -2,14 +2,14 @@
 
 ghost use Rattle.std.specs.Prelude.{IfOk, IfErr};
 ghost use Rattle.dcc_ir.specs.Views.{program_of};
-ghost use Rattle.dcc_wanted.specs.Summaries.{IsFault};
+ghost use Rattle.dcc_summaries.specs.Summaries.{IsFault};
 ghost use Rattle.dcc_pipe.specs.Prepared.{HasLiftedForm, IsPrepared};
 
 use crate::passes::simplified;
 use dcc_ir::IrProgram;
 use dcc_localise::localise;
-use dcc_pack::pack;
-use dcc_wanted::{SumsFault, sums};
+use dcc_signatures::pack;
+use dcc_summaries::{SumsFault, sums};
 use std::alloc::Global;
 
 /// The program with what a text needs, from one of the form that is lifted: just what is wanted passes between its

@@ -10,7 +10,7 @@ use Rattle.dcc_prog.specs.declared.cpu.Cpu.{Cpu}
 use Rattle.dcc_prog.specs.declared.refusal.Refusal.{Refusal}
 use Rattle.dcc_prog.specs.MzImage.{FormatFault, IsFirstFault}
 use Rattle.dcc_prog.specs.Refused.{IsSound, IsUnsound}
-use Rattle.dcc_asks.specs.Refused.{IsAcceptedProgram, IsRefusedImage}
+use Rattle.dcc_machine_demand.specs.Refused.{IsAcceptedProgram, IsRefusedImage}
 use Rattle.dcc_reader.specs.declared.offence.ParseKind.{ParseKind}
 use Rattle.dcc_parse.specs.Fault.{IsRefusal as IsTextRefusal}
 use Rattle.dcc_top.specs.declared.reply.Reply.{Reply}

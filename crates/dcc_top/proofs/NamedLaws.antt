@@ -20,8 +20,8 @@ use Rattle.dcc_prog.proofs.WatchLaws.{not_foul_before}
 use Rattle.dcc_watch.proofs.StepLaws.{foul-stopped}
 use Rattle.dcc_watch.specs.Executor.{is_stopped}
 use Rattle.dcc_prog.proofs.RefusedLaws.{sound-not_unsound, sound-memory}
-use Rattle.dcc_asks.specs.Refused.{IsAcceptedProgram, IsRefusedImage}
-use Rattle.dcc_asks.proofs.RefusedLaws.{accepted-is_not_refused}
+use Rattle.dcc_machine_demand.specs.Refused.{IsAcceptedProgram, IsRefusedImage}
+use Rattle.dcc_machine_demand.proofs.RefusedLaws.{accepted-is_not_refused}
 use Rattle.dcc_top.specs.declared.reply.Reply.{Reply}
 use Rattle.dcc_top.specs.Words.{Job, Decompile, ListProcedures, Execute, ExecuteWatched, ExecuteText, Product, Text, Listing, name_of, file_of, LoadsImage}
 use Rattle.dcc_top.specs.Execution.{Subject, machine_of, text_of, Finishes, ended, stopped_at_read, not_begun, FinishesOrStops, finishes, found_none}

@@ -22,7 +22,7 @@ use Rattle.dcc_prog.specs.declared.refusal.Refusal.TheVariants.{Memory as Memory
 use Rattle.dcc_prog.specs.Analysed.{IsProgramOf}
 use Rattle.dcc_prog.specs.MzImage.{IsImageOf}
 use Rattle.dcc_prog.specs.Refused.{IsRefusedByAnalysis, IsSound}
-use Rattle.dcc_asks.specs.Refused.{IsRefusedFor, IsAcceptedProgram}
+use Rattle.dcc_machine_demand.specs.Refused.{IsRefusedFor, IsAcceptedProgram}
 use Rattle.dcc_c.specs.Text.{StandsFor}
 use Rattle.dcc_c.specs.Tree.{Tree}
 use Rattle.dcc_c.specs.Written.{written_form}

@@ -9,7 +9,7 @@ use Rattle.dcc_prog.specs.Analysed.{IsProgramOf}
 use Rattle.dcc_prog.specs.MzImage.{IsImageOf}
 use Rattle.dcc_prog.specs.Refused.{IsSound}
 use Rattle.dcc_prog.specs.Watch.{IsClean}
-use Rattle.dcc_asks.specs.Refused.{IsAcceptedProgram}
+use Rattle.dcc_machine_demand.specs.Refused.{IsAcceptedProgram}
 use Rattle.dcc_pipe.specs.TypedFrames.{HasTypedFrames}
 use Rattle.dcc_c.specs.Text.{StandsFor}
 use Rattle.dcc_c.specs.Tree.{Tree}

@@ -13,8 +13,8 @@ use crate::expression::{Resolved, Slot};
 use crate::value::number;
 use crate::variable::{Declared, Names};
 use dcc_c::{CBin, CExpr, CType, CUn};
-use dcc_types::names::{type_of_address, type_of_name};
-use dcc_types::operators::{arms_type, binary_type, both_arms_type, unary_type};
+use dcc_ctypes::names::{type_of_address, type_of_name};
+use dcc_ctypes::operators::{arms_type, binary_type, both_arms_type, unary_type};
 use std::alloc::{AllocError, Global};
 
 // The place of the first with the name.

@@ -2,7 +2,7 @@
 
 ghost use Rattle.std.specs.Prelude.{◌≡◌};
 ghost use Rattle.dcc_c.specs.Value.{variable_value, address_value, pointed_value};
-ghost use Rattle.dcc_types.specs.NameViews.{unnamed as unnamed_declaration};
+ghost use Rattle.dcc_ctypes.specs.NameViews.{unnamed as unnamed_declaration};
 ghost use Rattle.dcc_value.specs.Evaluation.{typed, outcome_of, unnamed, declared_of};
 
 use crate::declarations::Declarations;
@@ -38,10 +38,10 @@ pub struct Declared {
 
 impl Declared {
     /// The declaration without its name.
-    pub fn nameless(&self) -> dcc_types::Declared
+    pub fn nameless(&self) -> dcc_ctypes::Declared
         ensures { unnamed_declaration (declared_of self.now) ≡ result }
     {
-        dcc_types::Declared {
+        dcc_ctypes::Declared {
             ty: self.ty,
             is_array: self.is_array,
             is_placed: self.is_placed,

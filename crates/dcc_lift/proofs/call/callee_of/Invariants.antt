@@ -1,6 +1,6 @@
 -- None of the procedures so far has that entry.
 use Rattle.std.proofs.Common.{◌≡◌, drop, map}
-use Rattle.dcc_coupled.specs.Procedures.{procedure_at}
+use Rattle.dcc_simulation.specs.Procedures.{procedure_at}
 use Rattle.dcc_lift.specs.KnownProcedures.{procedure_of}
 use Rattle.dcc_lift.proofs.call.callee_of.Given as goal
 

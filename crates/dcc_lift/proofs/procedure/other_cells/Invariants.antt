@@ -1,7 +1,7 @@
 -- The cells so far, and those among the rest.
 use Rattle.std.proofs.Common.{◌≡◌, ◌++◌, drop, filter, not}
 use Rattle.dcc_prog.specs.Analysed.{bytes_of}
-use Rattle.dcc_coupled.specs.Procedures.{is_accessed, other_cells}
+use Rattle.dcc_simulation.specs.Procedures.{is_accessed, other_cells}
 use Rattle.dcc_lift.proofs.procedure.other_cells.Given as goal
 
 abbrev pub invariant-loop-cell : goal.invariant-loop-cell

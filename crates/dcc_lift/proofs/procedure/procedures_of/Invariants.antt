@@ -1,6 +1,6 @@
 -- The procedures so far are known, and they and the rest are all.
 use Rattle.std.proofs.Common.{◌≡◌, ◌++◌, drop, map}
-use Rattle.dcc_coupled.specs.Procedures.{procedures_of}
+use Rattle.dcc_simulation.specs.Procedures.{procedures_of}
 use Rattle.dcc_lift.specs.KnownProcedures.{procedure_of, KnowsProcedures}
 use Rattle.dcc_lift.proofs.procedure.procedures_of.Given as goal
 

@@ -3,7 +3,7 @@ use Rattle.std.specs.List.{AllZip}
 use Rattle.std.proofs.lemmas.List.{length-map, map-append, get_or-map}
 use Rattle.std.proofs.lemmas.List.Elements.{All-get_or}
 use Rattle.dcc_ir.specs.Views.{graph_of}
-use Rattle.dcc_coupled.specs.Procedures.{Procedure}
+use Rattle.dcc_simulation.specs.Procedures.{Procedure}
 use Rattle.dcc_lift.specs.KnownProcedures.{procedure_of, KnowsProcedure, KnowsProcedures}
 use Rattle.dcc_lift.specs.Blocks.{Scene}
 use Rattle.dcc_lift.specs.Translation.{IsGraphOf, scenes_of}

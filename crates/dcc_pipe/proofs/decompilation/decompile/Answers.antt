@@ -2,10 +2,10 @@ use Rattle.std.proofs.Common.{sym, subst}
 use Rattle.std.proofs.lemmas.Result.{err_from_is_err_and}
 use Rattle.dcc_prog.specs.declared.refusal.construct.TheConstants.{ARGUMENT_REUSED, SEVERAL_RESULTS}
 use Rattle.dcc_prog.specs.Refused.{IsRefusedByAnalysis}
-use Rattle.dcc_asks.specs.Asked.{IsOfSummaries}
-use Rattle.dcc_asks.specs.Bodies.{bodies_of}
-use Rattle.dcc_asks.specs.Refused.{by_analysis, by_summaries}
-use Rattle.dcc_asks.proofs.RefusedLaws.{accepted-is_not_refused}
+use Rattle.dcc_machine_demand.specs.Asked.{IsOfSummaries}
+use Rattle.dcc_machine_demand.specs.Bodies.{bodies_of}
+use Rattle.dcc_machine_demand.specs.Refused.{by_analysis, by_summaries}
+use Rattle.dcc_machine_demand.proofs.RefusedLaws.{accepted-is_not_refused}
 use Rattle.dcc_c.specs.Views.{tree_of}
 use Rattle.dcc_c.specs.Written.{written_form}
 use Rattle.dcc_prog.specs.Analysed.{IsProgramOf}

@@ -4,7 +4,7 @@ use Rattle.dcc_ir.specs.Views.{program_of, sums_of}
 use Rattle.dcc_ir.specs.WellFormed.{IsGraph}
 use Rattle.dcc_sums.specs.Sums.{AreSums, ReusesNone, GivesOneValue}
 use Rattle.dcc_sums.specs.Localised.{localised}
-use Rattle.dcc_pack.specs.Packed.{packed}
+use Rattle.dcc_signatures.specs.Packed.{packed}
 use Rattle.dcc_pipe.specs.Prepared.{HasLiftedForm, AreSumsOfText, IsPrepared}
 use Rattle.dcc_pipe.specs.Simplified.{IsSimplifiedGraph, HasEachChanged}
 use Rattle.dcc_pipe.proofs.PreparedLaws.{packed-kept, what-is_left-is_prepared}

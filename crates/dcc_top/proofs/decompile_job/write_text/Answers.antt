@@ -3,7 +3,7 @@ use Rattle.dcc_c.specs.Views.{tree_of}
 use Rattle.dcc_c.specs.Written.{written_form}
 use Rattle.dcc_prog.specs.declared.refusal.Refusal.TheVariants.{Memory as MemoryRefused}
 use Rattle.dcc_prog.specs.Refused.{IsRefusedByAnalysis}
-use Rattle.dcc_asks.specs.Refused.{by_analysis}
+use Rattle.dcc_machine_demand.specs.Refused.{by_analysis}
 use Rattle.dcc_top.specs.declared.reply.Reply.TheVariants.{Memory}
 use Rattle.dcc_top.specs.Answer.{AllowsImage, image_made, image_refused}
 use Rattle.dcc_top.specs.Words.{Text}

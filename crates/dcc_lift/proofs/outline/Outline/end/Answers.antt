@@ -2,7 +2,7 @@ use Rattle.std.proofs.Common.{◌≡◌, ◌∙◌, ap, sym, subst, map, Some, I
 use Rattle.std.specs.Option.{option_copied}
 use Rattle.std.proofs.lemmas.List.{take_all}
 use Rattle.dcc_ir.specs.Views as views
-use Rattle.dcc_coupled.specs.Passed.{exit_of}
+use Rattle.dcc_simulation.specs.Passed.{exit_of}
 use Rattle.dcc_lift.specs.Blocks.{node_in, nodes_in, node_exit, exit_at, block_place}
 use Rattle.dcc_lift.specs.Known.{scene_of}
 use Rattle.dcc_lift.proofs.outline.Outline.end.Goals as goal

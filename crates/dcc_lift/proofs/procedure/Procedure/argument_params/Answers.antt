@@ -2,7 +2,7 @@ use Rattle.std.proofs.Common.{◌∙◌, ap, sym, ◌++◌, ◌∷◌, [], true,
 use Rattle.std.specs.List.{range_with_len}
 use Rattle.dcc_ir.specs.declared.syntax.Put.{Put}
 use Rattle.dcc_ir.specs.declared.syntax.Param.{Param}
-use Rattle.dcc_coupled.specs.Passed.{argument_param}
+use Rattle.dcc_simulation.specs.Passed.{argument_param}
 use Rattle.dcc_lift.specs.KnownProcedures.{procedure_of}
 use Rattle.dcc_lift.proofs.ListLaws.{map_more}
 use Rattle.dcc_lift.proofs.procedure.Procedure.argument_params.Goals as goal

@@ -1,6 +1,6 @@
 use Rattle.std.proofs.Common.{◌≡◌, map}
 use Rattle.std.specs.List.{range_with_len}
-use Rattle.dcc_coupled.specs.Passed.{argument_param}
+use Rattle.dcc_simulation.specs.Passed.{argument_param}
 use Rattle.dcc_lift.specs.KnownProcedures.{procedure_of}
 use Rattle.dcc_lift.proofs.procedure.Procedure.argument_params.Given as goal
 

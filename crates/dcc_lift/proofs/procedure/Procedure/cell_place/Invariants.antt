@@ -1,6 +1,6 @@
 -- None of the cells so far has the byte.
 use Rattle.std.proofs.Common.{◌≡◌, drop}
-use Rattle.dcc_coupled.specs.Procedures.{cell_place, cells_of}
+use Rattle.dcc_simulation.specs.Procedures.{cell_place, cells_of}
 use Rattle.dcc_lift.specs.KnownProcedures.{procedure_of}
 use Rattle.dcc_lift.proofs.procedure.Procedure.cell_place.Given as goal
 

@@ -1,5 +1,5 @@
 use Rattle.std.proofs.Common.{◌≡◌, ap, length, arith}
-use Rattle.dcc_coupled.specs.Procedures.{accessed_cells}
+use Rattle.dcc_simulation.specs.Procedures.{accessed_cells}
 use Rattle.dcc_lift.proofs.KnownLaws.{few_accessed}
 use Rattle.dcc_lift.proofs.procedure.Procedure.new.Goals as goal
 

@@ -1,7 +1,7 @@
 use Rattle.std.proofs.Common.{◌<◌, ◌+◌, map, drop, length, arith}
 use Rattle.dcc_ir.specs.Views.{expr_of}
 use Rattle.dcc_ir.specs.Passing.{bytes_at_put, bytes_of}
-use Rattle.dcc_coupled.specs.Passed.{argument_param, argument_params, returned_values}
+use Rattle.dcc_simulation.specs.Passed.{argument_param, argument_params, returned_values}
 use Rattle.dcc_lift.specs.KnownProcedures.{procedure_of}
 use Rattle.dcc_lift.proofs.ListLaws.{pass_on}
 use Rattle.dcc_lift.proofs.KnownLaws.{returned_below, bytes_more}

@@ -2,7 +2,7 @@
 use Rattle.std.proofs.Common.{◌≡◌, ◌++◌, drop, map}
 use Rattle.dcc_ir.specs.Views.{expr_of}
 use Rattle.dcc_ir.specs.Passing.{bytes_of}
-use Rattle.dcc_coupled.specs.Passed.{argument_params, returned_values}
+use Rattle.dcc_simulation.specs.Passed.{argument_params, returned_values}
 use Rattle.dcc_lift.specs.KnownProcedures.{procedure_of}
 use Rattle.dcc_lift.proofs.procedure.Procedure.returned_values.Given as goal
 

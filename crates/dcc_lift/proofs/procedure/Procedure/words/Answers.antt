@@ -5,8 +5,8 @@ use Rattle.std.proofs.Math.Facts.{to_z-of_z}
 use Rattle.dcc_num.specs.declared.Width.TheVariants.{Word as word_width}
 use Rattle.dcc_ir.specs.Views.{expr_of}
 use Rattle.dcc_ops.specs.Place.{place_value}
-use Rattle.dcc_coupled.specs.Procedures.{frame_place}
-use Rattle.dcc_coupled.specs.Statements.{argument_value}
+use Rattle.dcc_simulation.specs.Procedures.{frame_place}
+use Rattle.dcc_simulation.specs.Statements.{argument_value}
 use Rattle.dcc_lift.specs.KnownProcedures.{procedure_of}
 use Rattle.dcc_lift.proofs.ListLaws.{map_more}
 use Rattle.dcc_lift.proofs.procedure.Procedure.words.Goals as goal

@@ -2,7 +2,7 @@
 use Rattle.std.proofs.Common.{◌≡◌, map}
 use Rattle.std.specs.List.{range_with_len}
 use Rattle.dcc_ir.specs.Views.{expr_of}
-use Rattle.dcc_coupled.specs.Statements.{argument_value}
+use Rattle.dcc_simulation.specs.Statements.{argument_value}
 use Rattle.dcc_lift.specs.KnownProcedures.{procedure_of}
 use Rattle.dcc_lift.proofs.procedure.Procedure.words.Given as goal
 

@@ -1,7 +1,7 @@
 -- What is written, and what takes the rest of the words back.
 use Rattle.std.proofs.Common.{◌≡◌, ◌++◌, drop, Some}
 use Rattle.dcc_ops.specs.Writing.{written}
-use Rattle.dcc_coupled.specs.Statements.{taking_all_back, calling}
+use Rattle.dcc_simulation.specs.Statements.{taking_all_back, calling}
 use Rattle.dcc_lift.specs.KnownProcedures.{procedure_of}
 use Rattle.dcc_lift.proofs.procedure.Procedure.write_call.Given as goal
 

@@ -1,5 +1,0 @@
-use Rattle.dcc_agree.proofs.EnoughLaws.{agreeing-instructions_are_enough}
-use Rattle.dcc_agree.proofs.agreeing_instructions_are_enough.Goals as goal
-
-pub returns : goal.returns
-returns c = agreeing-instructions_are_enough

@@ -1,5 +1,0 @@
-use Rattle.dcc_agree.proofs.RelationLaws.{lifted-relations_are_the_machines}
-use Rattle.dcc_agree.proofs.lifted_relations_are_the_machines.Goals as goal
-
-pub returns : goal.returns
-returns c = lifted-relations_are_the_machines

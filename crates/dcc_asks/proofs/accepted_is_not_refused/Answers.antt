@@ -1,5 +1,0 @@
-use Rattle.dcc_asks.proofs.RefusedLaws.{accepted-is_not_refused}
-use Rattle.dcc_asks.proofs.accepted_is_not_refused.Goals as goal
-
-pub returns : goal.returns
-returns c = accepted-is_not_refused

@@ -1,5 +1,0 @@
-use Rattle.dcc_asks.proofs.MadeLaws.{alike-stays}
-use Rattle.dcc_asks.proofs.what_instructions_make_alike_is_alike.Goals as goal
-
-pub returns : goal.returns
-returns c = alike-stays

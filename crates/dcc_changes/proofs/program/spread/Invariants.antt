@@ -1,9 +1,0 @@
-use Rattle.dcc_ir.specs.Views.{program_of}
-use Rattle.dcc_changes.specs.Programs.{untold, AreTelling}
-use Rattle.dcc_changes.proofs.program.spread.Given as goal
-
-abbrev pub invariant-loop-places : goal.invariant-loop-places
-invariant-loop-places l = AreTelling (program_of l.p) l.location l.changed.items
-
-abbrev pub decreases-loop-places : goal.decreases-loop-places
-decreases-loop-places l = untold l.changed.items

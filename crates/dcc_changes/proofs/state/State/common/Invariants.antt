@@ -1,6 +1,0 @@
-use Rattle.std.proofs.Common.{◌≡◌, take, filter}
-use Rattle.dcc_ir.specs.Live.{is_among}
-use Rattle.dcc_changes.proofs.state.State.common.Given as goal
-
-abbrev pub invariant-loop-word : goal.invariant-loop-word
-invariant-loop-word l = l.words.items ≡ filter (is_among l.other.saved.items) (take l.word-index l.self.saved.items)

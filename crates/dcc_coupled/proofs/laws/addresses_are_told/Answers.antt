@@ -1,5 +1,0 @@
-use Rattle.dcc_coupled.proofs.Addresses.{addresses-told}
-use Rattle.dcc_coupled.proofs.laws.addresses_are_told.Goals as goal
-
-pub returns : goal.returns
-returns c = addresses-told

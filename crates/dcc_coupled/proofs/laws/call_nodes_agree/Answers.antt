@@ -1,5 +1,0 @@
-use Rattle.dcc_coupled.proofs.CallNodes.{call-nodes-agree}
-use Rattle.dcc_coupled.proofs.laws.call_nodes_agree.Goals as goal
-
-pub returns : goal.returns
-returns c = call-nodes-agree

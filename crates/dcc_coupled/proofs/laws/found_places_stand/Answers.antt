@@ -1,5 +1,0 @@
-use Rattle.dcc_coupled.proofs.FoundPlaces.{found-places}
-use Rattle.dcc_coupled.proofs.laws.found_places_stand.Goals as goal
-
-pub returns : goal.returns
-returns c = found-places

@@ -1,5 +1,0 @@
-use Rattle.dcc_coupled.proofs.ReturnNodes.{return-nodes-agree}
-use Rattle.dcc_coupled.proofs.laws.return_nodes_agree.Goals as goal
-
-pub returns : goal.returns
-returns c = return-nodes-agree

@@ -1,5 +1,0 @@
-use Rattle.dcc_coupled.proofs.SpecialNodes.{special-nodes}
-use Rattle.dcc_coupled.proofs.laws.special_nodes_agree.Goals as goal
-
-pub returns : goal.returns
-returns c = special-nodes

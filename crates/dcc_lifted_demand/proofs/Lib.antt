@@ -1,0 +1,11 @@
+pub mod ListLaws
+pub mod SourceLaws
+pub mod SiteLaws
+pub mod PointLaws
+pub mod BeginLaws
+pub mod CallLaws
+pub mod InstructionLaws
+pub mod LinkLaws
+pub mod EdgeLaws
+pub mod SameLaws
+pub mod RefinedLaws

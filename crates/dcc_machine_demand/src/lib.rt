@@ -1,0 +1,34 @@
+//! Laws of what the instructions of the machine's procedures do to halves of registers and to flags, of what these
+//! procedures preserve, and of which programs are refused for what they take and give back. The functions do nothing:
+//! their contracts are proved for all.
+#![tactic(auto)]
+
+ghost use Rattle.dcc_machine_demand.specs.Laws.{WhatIsLeftStays, WhatInstructionsMakeAlikeIsAlike};
+ghost use Rattle.dcc_machine_demand.specs.Laws.{WhatIsPreservedIsHeld};
+ghost use Rattle.dcc_machine_demand.specs.Refused.{OneProgramIsFound, AcceptedIsNotRefused};
+
+/// What an instruction leaves, as its procedure sees it, is as it was after its step.
+pub fn what_is_left_stays()
+    ensures { WhatIsLeftStays }
+{}
+
+/// Two states that agree in all of which an instruction makes a half or a flag agree in it after its step.
+pub fn what_instructions_make_alike_is_alike()
+    ensures { WhatInstructionsMakeAlikeIsAlike }
+{}
+
+/// At each return of a procedure what it preserves is what it was at the entry.
+pub fn what_is_preserved_is_held()
+    ensures { WhatIsPreservedIsHeld }
+{}
+
+/// The analyses find one program in an image.
+pub fn one_program_is_found()
+    ensures { OneProgramIsFound }
+{}
+
+/// A program that the analyses find is accepted where no construct stands in it, and nothing refuses one that is
+/// accepted but want of memory.
+pub fn accepted_is_not_refused()
+    ensures { AcceptedIsNotRefused }
+{}

@@ -1,5 +1,0 @@
-use Rattle.dcc_match.proofs.RefinedLaws.{refined-agree}
-use Rattle.dcc_match.proofs.refined_agree.Goals as goal
-
-pub returns : goal.returns
-returns g c = refined-agree g.P.TwoProcedures.coarse g.P.TwoProcedures.fine g.P.TwoProcedures.refinement

@@ -1,0 +1,243 @@
+//! What trails to a point have done to a location.
+
+ghost use Rattle.std.specs.Prelude.{◌≡◌, not, map, filter, IfOk, OnOk};
+ghost use Rattle.std.specs.Option.{option_to_list};
+ghost use Rattle.dcc_ir.specs.Views.{stmt_of};
+ghost use Rattle.dcc_ir.specs.Live.{is_among};
+ghost use Rattle.dcc_demand.specs.Tables.{lost_after};
+ghost use Rattle.dcc_sums.specs.Instance.{passes, is_half, is_pushed, written_by, callee_of, action_of};
+ghost use Rattle.dcc_modref.specs.States.{state_of, at_entry, is_unsaved, joined, is_news, is_told, told_in};
+ghost use Rattle.dcc_modref.specs.States.{pushed_by, after, after_all};
+
+use dcc_ir::plain::scene::same_location;
+use dcc_ir::{Expr, Graph, Loc, PASSED_LOCATIONS, Stmt};
+use std::alloc::{AllocError, Global};
+
+/// Whether the location is one of the list.
+pub fn is_among(locations: &[Loc], location: Loc) -> bool
+    ensures { result ≡ is_among locations.now location }
+{
+    for other in locations {
+        if same_location(location, *other) {
+            return true;
+        }
+    }
+    false
+}
+
+/// Whether the location passes between procedures.
+pub fn passes(location: Loc) -> bool
+    ensures { result ≡ passes location }
+{
+    is_among(&PASSED_LOCATIONS, location)
+}
+
+fn is_half(location: Loc) -> bool
+    ensures { result ≡ is_half location }
+{
+    match location {
+        Loc::Half(..) => true,
+        _ => false,
+    }
+}
+
+// Whether the location is a byte of a pushed word's cell.
+fn is_pushed(pushed: u16, location: Loc) -> bool
+    ensures { result ≡ is_pushed pushed location }
+{
+    match location {
+        Loc::Cell(n, _) => pushed <= n,
+        _ => false,
+    }
+}
+
+/// Whether a statement writes the location. Of the places of a call's results only those of bytes of arguments are
+/// written.
+#[tactic(auto, using(crate::proofs::StateLaws::among_filter))]
+pub fn writes(stmt: &Stmt, location: Loc) -> bool
+    ensures { result ≡ is_among (written_by (stmt_of stmt.now)) location }
+{
+    match stmt {
+        Stmt::Set { place, .. } | Stmt::Load { place, .. } | Stmt::Div { place, .. } => {
+            same_location(location, *place)
+        }
+        Stmt::Store { .. } => false,
+        Stmt::Call { results, .. } => !passes(location) && is_among(results.as_slice(), location),
+        Stmt::Dos { place, .. } => match place {
+            Some(place) => same_location(location, *place),
+            None => false,
+        },
+    }
+}
+
+// Whether a statement calls one of the procedures that are told of.
+fn calls_one(stmt: &Stmt, changed: &[bool]) -> bool
+    ensures { result ≡ is_told (told_in changed.now) (callee_of (stmt_of stmt.now)) }
+{
+    match stmt {
+        Stmt::Call { entry, .. } => changed.get(*entry as usize).copied().unwrap_or(false),
+        _ => false,
+    }
+}
+
+// The word into which a statement pushes the location.
+fn pushed_by(stmt: &Stmt, location: Loc) -> Option<Loc>
+    ensures { option_to_list result ≡ pushed_by location (stmt_of stmt.now) }
+{
+    let Stmt::Set { place, value } = stmt else {
+        return None;
+    };
+    let Expr::Get(from) = value else {
+        return None;
+    };
+    if is_half(*from) && same_location(*from, location) {
+        Some(*place)
+    } else {
+        None
+    }
+}
+
+/// Which location is looked at where.
+#[derive(Drop)]
+pub struct Subject<'a> {
+    /// Whether the procedure of an entry is known to change the location.
+    pub changed: &'a [bool],
+    pub graph: &'a Graph,
+    pub location: Loc,
+}
+
+/// What some trails to a point have done to a location, and what all have.
+#[derive(Drop)]
+pub struct State {
+    /// Some trail has written it.
+    pub written: bool,
+    /// Some trail has lost it.
+    pub lost: bool,
+    /// All trails have saved it in these words.
+    pub saved: Vec<Loc>,
+}
+
+impl State {
+    /// At the entry of a procedure.
+    pub fn new(alloc: Global) -> State
+        ensures { state_of result ≡ at_entry }
+    {
+        State {
+            written: false,
+            lost: false,
+            saved: Vec::new(alloc),
+        }
+    }
+
+    /// The same.
+    pub fn copy(&self) -> Result<State, AllocError>
+        ensures { IfOk result (λ s. state_of s ≡ state_of self.now) }
+    {
+        let saved = self.saved.clone()?;
+        Ok(State {
+            written: self.written,
+            lost: self.lost,
+            saved,
+        })
+    }
+
+    // Whether the location is lost after a statement, but for what its call does.
+    fn loses(&self, stmt: &Stmt, pushed: u16, location: Loc) -> bool
+        ensures { result ≡ lost_after (is_pushed pushed) ((action_of pushed (stmt_of stmt.now)).effect location)
+            (is_unsaved (state_of self.now)) self.now.lost }
+    {
+        if !writes(stmt, location) {
+            return self.lost;
+        }
+        let Stmt::Set { place, value } = stmt else {
+            return true;
+        };
+        let Expr::Get(from) = value else {
+            return true;
+        };
+        !(is_half(*place) && is_pushed(pushed, *from) && is_among(self.saved.as_slice(), *from))
+    }
+
+    // Those of the words that a statement doesn't write.
+    fn unwritten(&self, alloc: Global, stmt: &Stmt) -> Result<Vec<Loc>, AllocError>
+        ensures { IfOk result (λ words. words.items
+            ≡ filter (λ word. not (is_among (written_by (stmt_of stmt.now)) word)) self.now.saved.items) }
+    {
+        let mut words = Vec::new(alloc);
+        for word in &self.saved {
+            if !writes(stmt, *word) {
+                words.push(*word)?;
+            }
+        }
+        Ok(words)
+    }
+
+    /// From before a statement to after it.
+    #[tactic(auto, using(crate::proofs::StateLaws::left_unwritten))]
+    pub fn pass(
+        &mut self,
+        alloc: Global,
+        stmt: &Stmt,
+        subject: &Subject<'_>,
+    ) -> Result<(), AllocError>
+        ensures { OnOk result (state_of self.new ≡ after (told_in subject.now.changed.now) subject.now.graph.now.pushed
+            subject.now.location (stmt_of stmt.now) (state_of self.old)) }
+    {
+        let called = calls_one(stmt, subject.changed);
+        let lost = called || self.loses(stmt, subject.graph.pushed, subject.location);
+        let mut saved = self.unwritten(alloc, stmt)?;
+        if !self.written {
+            if let Some(word) = pushed_by(stmt, subject.location) {
+                saved.push(word)?;
+            }
+        }
+        self.written = writes(stmt, subject.location) || called || self.written;
+        self.lost = lost;
+        self.saved = saved;
+        Ok(())
+    }
+
+    /// From before statements to after them.
+    pub fn pass_all(
+        &mut self,
+        alloc: Global,
+        stmts: &[Stmt],
+        subject: &Subject<'_>,
+    ) -> Result<(), AllocError>
+        ensures { OnOk result (state_of self.new ≡ after_all (told_in subject.now.changed.now)
+            subject.now.graph.now.pushed subject.now.location (map stmt_of stmts.now) (state_of self.old)) }
+    {
+        for stmt in stmts {
+            self.pass(alloc, stmt, subject)?;
+        }
+        Ok(())
+    }
+
+    // Those of the words that the other state has too.
+    fn common(&self, alloc: Global, other: &State) -> Result<Vec<Loc>, AllocError>
+        ensures { IfOk result (λ words. words.items ≡ filter (is_among other.now.saved.items) self.now.saved.items) }
+    {
+        let mut words = Vec::new(alloc);
+        for word in &self.saved {
+            if is_among(other.saved.as_slice(), *word) {
+                words.push(*word)?;
+            }
+        }
+        Ok(words)
+    }
+
+    /// Another trail comes to where this one has come. The answer is whether that is new.
+    pub fn join(&mut self, alloc: Global, other: &State) -> Result<bool, AllocError>
+        ensures state { OnOk result (state_of self.new ≡ joined (state_of self.old) (state_of other.now)) }
+        ensures new { IfOk result (λ new. new ≡ is_news (state_of self.old) (state_of other.now)) }
+    {
+        let saved = self.common(alloc, other)?;
+        let new = other.written && !self.written
+            || other.lost && !self.lost
+            || saved.len() < self.saved.len();
+        self.written |= other.written;
+        self.lost |= other.lost;
+        self.saved = saved;
+        Ok(new)
+    }
+}

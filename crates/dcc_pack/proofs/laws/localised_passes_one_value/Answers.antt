@@ -1,5 +1,0 @@
-use Rattle.dcc_pack.proofs.LocalLaws.{localised-passes_one_value}
-use Rattle.dcc_pack.proofs.laws.localised_passes_one_value.Goals as goal
-
-pub returns : goal.returns
-returns c = localised-passes_one_value

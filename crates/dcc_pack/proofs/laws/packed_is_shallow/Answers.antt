@@ -1,5 +1,0 @@
-use Rattle.dcc_pack.proofs.DepthLaws.{packed-is_shallow}
-use Rattle.dcc_pack.proofs.laws.packed_is_shallow.Goals as goal
-
-pub returns : goal.returns
-returns c = packed-is_shallow

@@ -1,5 +1,0 @@
-use Rattle.dcc_pack.proofs.GiveLaws.{packed-passes_one}
-use Rattle.dcc_pack.proofs.laws.packed_passes_one.Goals as goal
-
-pub returns : goal.returns
-returns c = packed-passes_one

@@ -1,5 +1,0 @@
-use Rattle.std.proofs.Common.{◌≡◌, take}
-use Rattle.dcc_pack.proofs.packing.value_places.Given as goal
-
-abbrev pub invariant-loop-location : goal.invariant-loop-location
-invariant-loop-location l = l.places.items ≡ take l.location-index l.results

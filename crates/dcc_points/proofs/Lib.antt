@@ -1,4 +1,0 @@
-pub mod PointLaws
-pub mod BeginLaws
-pub mod CallLaws
-pub mod InstructionLaws

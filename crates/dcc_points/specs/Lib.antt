@@ -1,2 +1,0 @@
-pub mod InstructionPoints
-pub mod Laws

@@ -1,4 +1,0 @@
-pub mod LinkLaws
-pub mod EdgeLaws
-pub mod SameLaws
-pub mod RefinedLaws

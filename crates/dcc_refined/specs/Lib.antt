@@ -1,2 +1,0 @@
-pub mod LiftedRefinement
-pub mod Laws

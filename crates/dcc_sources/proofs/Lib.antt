@@ -1,3 +1,0 @@
-pub mod ListLaws
-pub mod SourceLaws
-pub mod SiteLaws

@@ -1,5 +1,0 @@
-use Rattle.dcc_sources.proofs.SourceLaws.{statements-tell_points}
-use Rattle.dcc_sources.proofs.statements_tell_points.Goals as goal
-
-pub returns : goal.returns
-returns c = statements-tell_points

@@ -1,0 +1,46 @@
+-- What is known to be wanted while it is found, and what becomes known.
+use Rattle.std.specs.Prelude.{Bool, false, ◌||◌, not, List, [], ◌∷◌, ◌++◌, map, flat_map, filter, if◌then◌else◌}
+use Rattle.dcc_ir.specs.declared.syntax.Loc.{Loc}
+use Rattle.dcc_ir.specs.Tree.{Expr, Program}
+use Rattle.dcc_ir.specs.Use.{reads_of}
+use Rattle.dcc_sums.specs.Instance.{is_passing}
+use Rattle.dcc_summaries.specs.declared.points.Point.{Point}
+use Rattle.dcc_summaries.specs.declared.table.Want.{Want}
+use Rattle.dcc_summaries.specs.declared.demand.Demand.{Demand as DemandOf}
+use Rattle.dcc_summaries.specs.Points.{site_in, used_at}
+use Rattle.dcc_summaries.specs.Table.{told_in, same_want}
+
+-- what is known to be wanted, and what of it hasn't been followed yet, the newest last
+pub record Demand : Type 0 where
+  pub told : Want → Bool
+  pub pending : List Want
+
+abbrev pub demand_of : DemandOf → Demand
+demand_of d = record { told = told_in d.wants.rows.items; pending = d.pending.items }
+
+abbrev pub no_demand : Demand
+no_demand = record { told = λ x. false; pending = [] }
+
+abbrev pub want_at : Point → Loc → Want
+want_at at location = record { at = at; location = location }
+
+-- the locations are wanted before the point
+abbrev pub wants_at : Point → List Loc → List Want
+wants_at at locations = map (want_at at) locations
+
+-- it becomes known that this is wanted
+abbrev pub with_want : Demand → Want → Demand
+with_want d x =
+    if d.told x then d else record { told = λ y. same_want y x || d.told y; pending = d.pending ++ x ∷ [] }
+
+abbrev pub with_wants : Demand → List Want → Demand
+with_wants d [] = d
+with_wants d (x ∷ xs) = with_wants (with_want d x) xs
+
+-- what the arguments of a call read, but for halves and flags that pass
+abbrev pub argument_reads : List Expr → List Loc
+argument_reads arguments = flat_map reads_of (filter (λ e. not (is_passing e)) arguments)
+
+-- what is used at these points
+abbrev pub seeds : Program → List Point → List Want
+seeds p points = flat_map (λ at. wants_at at (used_at (site_in p at))) points
