@@ -95,10 +95,32 @@ fn changes() -> &'static [ChangeRow] {
 }
 
 #[test]
+fn a_file_that_is_cut_has_no_image(rt: HostRuntime) -> Result<(), Fail> {
+    let alloc = rt.alloc();
+    for length in 0..PRINTS_A.len() {
+        let line = if length < 28 {
+            format!(in alloc; "dcc: format 1 at {length}\n")?
+        } else {
+            format!(in alloc; "dcc: format 3 at 2\n")?
+        };
+        check_format(&rt, alloc, &PRINTS_A[..length], line.as_str())?;
+    }
+    Ok(())
+}
+
+#[test]
+fn more_relocations_than_a_file_has_are_refused(rt: HostRuntime) -> Result<(), Fail> {
+    let mut file = PRINTS_A;
+    assert!(rt; file.len() == 48);
+    file[0x06] = 0xFF;
+    file[0x07] = 0xFF;
+    check_format(&rt, rt.alloc(), &file, "dcc: format 5 at 1\n")?;
+    Ok(())
+}
+
+#[test]
 fn files_without_an_image_are_refused(rt: HostRuntime) -> Result<(), Fail> {
     let alloc = rt.alloc();
-    check_format(&rt, alloc, &[], "dcc: format 1 at 0\n")?;
-    check_format(&rt, alloc, &PRINTS_A[..47], "dcc: format 3 at 2\n")?;
     let text = b"hello, this is a text and not a program\n";
     check_format(&rt, alloc, text, "dcc: format 2 at 0\n")?;
     for length in [262_145, 300_000] {
