@@ -231,13 +231,16 @@ impl State {
         ensures state { OnOk result (state_of self.new ≡ joined (state_of self.old) (state_of other.now)) }
         ensures new { IfOk result (λ new. new ≡ is_news (state_of self.old) (state_of other.now)) }
     {
-        let saved = self.common(alloc, other)?;
-        let new = other.written && !self.written
-            || other.lost && !self.lost
-            || saved.len() < self.saved.len();
+        let new = other.written && !self.written || other.lost && !self.lost;
         self.written |= other.written;
         self.lost |= other.lost;
+        // Most states have saved nothing.
+        if self.saved.is_empty() {
+            return Ok(new);
+        }
+        let saved = self.common(alloc, other)?;
+        let fewer = saved.len() < self.saved.len();
         self.saved = saved;
-        Ok(new)
+        Ok(new || fewer)
     }
 }

@@ -23,7 +23,7 @@ fn numbered(place: usize) -> Result<u32, AllocError>
 fn jump(alloc: Global, b: u32) -> Result<Vec<Item>, AllocError>
     ensures { IfOk result (λ items. plan_of items.items ≡ spec.jump b) }
 {
-    let mut items = Vec::new(alloc);
+    let mut items = Vec::with_capacity(alloc, 1)?;
     items.push(Item::Jump(b))?;
     Ok(items)
 }
@@ -103,7 +103,7 @@ fn target_arms(alloc: Global, places: &[u32]) -> Result<Vec<Arm>, AllocError>
     let targets = distinct(alloc, places)?;
     let lists = case_lists(alloc, places, &targets)?;
     let targets = targets.as_slice();
-    let mut arms = Vec::new(alloc);
+    let mut arms = Vec::with_capacity(alloc, targets.len())?;
     for i in 0..targets.len() {
         let cases = lists[i].as_slice().to_vec(alloc)?;
         let body = jump(alloc, targets[i])?;

@@ -171,7 +171,7 @@ fn arms_text<S: Spells>(
     ensures { IfOk result (λ r. c_arms_of r.items
         ≡ spec.arms_text (S.spelling s.now) (graph_of graph.now) (arms_of arms.now)) }
 {
-    let mut bodies = Vec::new(alloc);
+    let mut bodies = Vec::with_capacity(alloc, arms.len())?;
     for arm in arms {
         let cases = arm.cases.as_slice().to_vec(alloc)?;
         let body = plan_text(alloc, s, graph, &arm.body)?;
@@ -192,7 +192,7 @@ pub fn plan_text<S: Spells>(
     ensures { IfOk result (λ r. lines_of r.items
         ≡ spec.plan_text (S.spelling s.now) (graph_of graph.now) (plan_of items.now)) }
 {
-    let mut lines = Vec::new(alloc);
+    let mut lines = Vec::with_capacity(alloc, items.len())?;
     for item in items {
         let stmt = item_text(alloc, s, graph, item)?;
         lines.push(Line { stmt, line: 0 })?;
