@@ -4,6 +4,7 @@ use Rattle.std.specs.Prelude.{if◌then◌else◌}
 use Rattle.std.proofs.lemmas.Bool.{cases_eq, cases_lt}
 use Rattle.std.proofs.lemmas.List.{length-set, get_or-set_same, get_or-set_other, get_or_past, map-append, drop_more}
 use Rattle.std.proofs.Common.{drop_of_length-le as drop_past}
+use Rattle.std.proofs.lemmas.List.Folds.{list_any-append}
 use Rattle.std.proofs.lemmas.List.Elements.{Contains-append_left, Contains-push, Contains-push_cases}
 use Rattle.dcc_num.specs.declared.Reg.{Reg}
 use Rattle.dcc_num.specs.declared.Reg.TheVariants.{Ax, Cx, Dx, Bx, Sp, Bp, Si, Di}
@@ -17,7 +18,7 @@ use Rattle.dcc_ir.specs.Location.{register_number, half_number, flag_number, sam
 use Rattle.dcc_ir.specs.Live.{is_among}
 use Rattle.dcc_ir.proofs.PathLaws.{decided}
 use Rattle.dcc_ir.proofs.LocationLaws.{register_same, half_same, flag_same, location_same, location_itself, Contains-none}
-use Rattle.dcc_flow.specs.Marks.{empty, with_one, without_one, with_all, without_all, location_number, members, AreNoted}
+use Rattle.dcc_flow.specs.Marks.{empty, with_one, without_one, with_all, without_all, location_number, members, AreNoted, AreThoseOf}
 use mathlib.Core.Path.{fun_ext}
 
 -- Numbers of locations.
@@ -226,3 +227,19 @@ not_false false e = absurd (true≢false e)
 pub not_true : (b : Bool) → not b ≡ true → b ≡ false
 not_true true e = absurd (true≢false (sym e))
 not_true false e = refl
+
+-- Lists whose locations are marked.
+
+pub those_still : (list : List Loc) (has more : List Bool) → ((n : ℕ) → get_or more n false ≡ get_or has n false) → AreThoseOf list has → AreThoseOf list more
+those_still list has more same are l = same (location_number l) ∙ are l
+
+pub those_more : (list : List Loc) (has : List Bool) (x : Loc) → location_number x < length has → AreThoseOf list has → AreThoseOf (list ++ x ∷ []) (slice_set has (location_number x) true)
+those_more list has x inside are l =
+    ap (λ m. m l) (marked has x inside) ∙ ap (λ b. same_location l x || b) (are l)
+    ∙ sym (list_any-append (same_location l) list (x ∷ []) ∙ turned (is_among list l) (same_location l x))
+  where
+    turned : (a s : Bool) → (a || (s || false)) ≡ (s || a)
+    turned true true = refl
+    turned true false = refl
+    turned false true = refl
+    turned false false = refl

@@ -1,11 +1,11 @@
 -- Laws of lists of numbers that stand in vectors, and of the successors of a graph's blocks.
-use Rattle.std.proofs.Common.{◌≡◌, ℕ, ◌+◌, ◌<◌, ◌≤◌, ◌^◌, true, false, ◌&&◌, not, inl, inr, List, [], ◌∷◌, ◌++◌, length, get_or, slice_set, map, take, drop, All, sym, ap, ◌∙◌, subst, arith}
+use Rattle.std.proofs.Common.{◌≡◌, ℕ, ◌+◌, ◌<◌, ◌≤◌, true, false, ◌&&◌, not, inl, inr, List, [], ◌∷◌, ◌++◌, length, get_or, slice_set, map, take, drop, All, sym, ap, ◌∙◌, subst, arith}
 use Rattle.std.specs.Prelude.{◌==◌, nat_lt, nat_le}
 use Rattle.std.specs.Global.{Vec}
 use Rattle.std.specs.List.{list_all, list_any, IsDistinct, AllByRecursion}
 use Rattle.std.proofs.lemmas.Bool.{false≢true, ltb-true, and_parts, or_cases, or_parts, eqb-true, not-true}
 use Rattle.std.proofs.lemmas.List.{length-map, map-set, map_push, get_or-map, take_more, drop_more}
-use Rattle.std.proofs.lemmas.List.Elements.{All-nil, All-cons, All-head, All-tail, All-from_get_or}
+use Rattle.std.proofs.lemmas.List.Elements.{All-nil, All-cons, All-head, All-tail}
 use Rattle.std.proofs.lemmas.Map.Steps.{length-le_from_distinct_below}
 use Rattle.std.proofs.Math.Dec.{eqb}
 use Rattle.dcc_ir.specs.declared.syntax.Block.{Block as BlockOf}
@@ -13,9 +13,8 @@ use Rattle.dcc_ir.specs.Tree.{Exit, Goto, If, Switch, Ret, Stop, Block, Graph}
 use Rattle.dcc_ir.specs.Views.{exit_of, block_of}
 use Rattle.dcc_ir.specs.Flow.{targets}
 use Rattle.dcc_ir.specs.WellFormed.{is_expr_of, is_stmt, is_exit, is_block, all_differ, IsGraph}
-use Rattle.dcc_flow.specs.Edges.{rows, successors_of, AreWithin, ArePredecessors}
+use Rattle.dcc_flow.specs.Edges.{rows, successors_of, AreWithin}
 use Rattle.dcc_flow.specs.Sources.{added, entered, all_entered}
-use Rattle.dcc_flow.proofs.SourceLaws.{in_at, predecessor_within}
 
 pub row_read : (vs : List (Vec ℕ)) (i : ℕ) (v : Vec ℕ) → i < length vs → v ≡ get_or vs i v → v.items ≡ get_or (rows vs) i []
 row_read vs i v h e = ap (λ w. w.items) e ∙ sym (get_or-map (λ w. w.items) vs i v [] h)

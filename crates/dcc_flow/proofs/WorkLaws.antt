@@ -1,18 +1,17 @@
 -- The work that is left while places flow: what it keeps, and that it becomes less.
-use Rattle.std.proofs.Common.{◌≡◌, ◌≢◌, ℕ, zero, suc, ◌+◌, ◌-◌, ◌*◌, ◌<◌, ◌≤◌, Bool, true, false, ◌&&◌, ◌||◌, not, ◌⊎◌, inl, inr, List, [], ◌∷◌, ◌++◌, length, get_or, slice_set, replicate, All, count_by, refl, sym, ap, ◌∙◌, subst, arith}
+use Rattle.std.proofs.Common.{◌≡◌, ◌≢◌, ℕ, zero, suc, ◌+◌, ◌-◌, ◌*◌, ◌<◌, ◌≤◌, Bool, true, false, ◌&&◌, ◌||◌, not, ◌⊎◌, inl, inr, List, [], ◌∷◌, ◌++◌, length, get_or, slice_set, replicate, All, refl, sym, ap, ◌∙◌, subst, arith}
 use Rattle.std.specs.Prelude.{◌==◌, if◌then◌else◌}
 use Rattle.std.specs.List.{range_with_len}
-use Rattle.std.proofs.lemmas.Bool.{false≢true, cases_Bool, cases_eq, cases_lt, eq-eqb, ne_eqb, or_cases, or_left, or_right, or_from, and_parts, and_from, not-true}
+use Rattle.std.proofs.lemmas.Bool.{false≢true, cases_Bool, cases_eq, cases_lt, ne_eqb, or_cases, or_left, or_right, or_from, and_parts, and_from, not-true}
 use Rattle.std.proofs.lemmas.List.{length-set, length-replicate, get_or-replicate, get_or-set_same, get_or-set_other, get_or_past}
 use Rattle.std.proofs.lemmas.List.Elements.{All-head, All-tail, All-get_or, All-from_get_or}
-use Rattle.std.proofs.lemmas.List.Sums.{sum_by-append}
 use Rattle.std.proofs.lemmas.List.FromFn.{length-map-range_with_len, get_or-map-range_with_len}
 use Rattle.std.proofs.Math.Nat.{mul-le-mul_left, mul-le-mul_right, mul-suc}
 use Rattle.dcc_ir.specs.Flow.{IsPath}
 use Rattle.dcc_flow.specs.Edges.{is_in, leads, entries, AreWithin, ArePredecessors}
 use Rattle.dcc_flow.specs.Bits.{bit, flowed, differ}
 use Rattle.dcc_flow.specs.Uses.{holds, IsUsedAfter, AreUses}
-use Rattle.dcc_flow.specs.Work.{Work, with_queued, with_answer, spread, without_queued, spread_from, first_work}
+use Rattle.dcc_flow.specs.Work.{Work, AllFlowed, IsTaken, with_answer, spread, without_queued, spread_from, first_work}
 use Rattle.dcc_flow.proofs.Members.{in_here, in_there, in_cases}
 use Rattle.dcc_flow.proofs.SourceLaws.{predecessor_within}
 use Rattle.dcc_flow.proofs.Sums.{total, total_less, total_same, total_suc, total_none}
@@ -87,38 +86,35 @@ truths_more (true ∷ xs) (false ∷ ys) e h d = absurd (false≢true (h 0 refl)
 truths_more (false ∷ xs) (true ∷ ys) e h d = let rec = truths_grow xs ys (omega arith) (λ i t. h (suc i) t) in omega (arith, rec)
 truths_more (false ∷ xs) (false ∷ ys) e h d = truths_more xs ys (omega arith) (λ i t. h (suc i) t) d
 
+-- where a place takes true, and where one that holds true no longer does
+pub truths_with : (xs : List Bool) (i : ℕ) → truths (slice_set xs i true) ≤ truths xs + 1
+unfolding truths
+truths_with [] i = omega arith
+truths_with (true ∷ xs) zero = omega arith
+truths_with (false ∷ xs) zero = omega arith
+truths_with (true ∷ xs) (suc i) = let rec = truths_with xs i in omega (arith, rec)
+truths_with (false ∷ xs) (suc i) = let rec = truths_with xs i in omega (arith, rec)
+
+pub truths_without : (xs : List Bool) (i : ℕ) → bit xs i ≡ true → truths (slice_set xs i false) + 1 ≡ truths xs
+unfolding truths
+truths_without [] i h = absurd (false≢true h)
+truths_without (true ∷ xs) zero h = omega arith
+truths_without (false ∷ xs) zero h = absurd (false≢true h)
+truths_without (true ∷ xs) (suc i) h = let rec = truths_without xs i h in omega (arith, rec)
+truths_without (false ∷ xs) (suc i) h = truths_without xs i h
+
 -- Blocks that are queued.
-
-abbrev times : List ℕ → ℕ → ℕ
-times pending p = count_by (λ x. x == p) pending
-
--- each queued block is pending once, and no other
-abbrev pub Agrees : Work → Type 0
-Agrees w = (p : ℕ) → count_by (λ x. x == p) w.pending ≡ (if get_or w.queued p false then 1 else 0)
 
 -- a block has another answer, or the same
 pub record Answered (w after : Work) (b : ℕ) (bits : List Bool) : Type 0 where
   pub answer_is : after.answer ≡ slice_set w.answer b bits
   pub flags : length after.queued ≡ length w.queued
   pub others : (p : ℕ) → p ≢ b → get_or after.queued p false ≡ get_or w.queued p false
-  pub agree : Agrees w → Agrees after
   pub change : ((differ (get_or w.answer b []) bits ≡ false) × (get_or after.queued b false ≡ get_or w.queued b false))
       ⊎ ((differ (get_or w.answer b []) bits ≡ true) × (get_or after.queued b false ≡ true))
 
 abbrev flag_of : Bool → ℕ
 flag_of b = if b then 1 else 0
-
-zero_add : (n : ℕ) → 0 + n ≡ n
-zero_add n = omega arith
-
-times_push : (pending : List ℕ) (b p : ℕ) → count_by (λ x. x == p) (pending ++ b ∷ []) ≡ count_by (λ x. x == p) pending + (if b == p then 1 else 0)
-times_push pending b p = sum_by-append (λ x. flag_of (x == p)) pending (b ∷ []) ∙ ap (λ x. count_by (λ y. y == p) pending + x) (zero_add (flag_of (b == p)))
-
-one_here : (b p : ℕ) → b ≡ p → ◌≡◌ {A = ℕ} (if b == p then 1 else 0) 1
-one_here b p e = ap flag_of (eq-eqb b p e)
-
-none_here : (b p : ℕ) → b ≢ p → ◌≡◌ {A = ℕ} (if b == p then 1 else 0) 0
-none_here b p o = ap flag_of (ne_eqb b p o)
 
 flag_one : (c : Bool) → c ≡ true → ◌≡◌ {A = ℕ} (if c then 1 else 0) 1
 flag_one c e = ap flag_of e
@@ -126,77 +122,29 @@ flag_one c e = ap flag_of e
 flag_none : (c : Bool) → c ≡ false → ◌≡◌ {A = ℕ} (if c then 1 else 0) 0
 flag_none c e = ap flag_of e
 
-pushed_agrees : (w : Work) (b : ℕ) → b < length w.queued → get_or w.queued b false ≡ false → Agrees w
-    → (p : ℕ) → count_by (λ x. x == p) (w.pending ++ b ∷ []) ≡ (if get_or (slice_set w.queued b true) p false then 1 else 0)
-pushed_agrees w b inside free agrees p = times_push w.pending b p ∙ elim (cases_eq b p) [
-  | inl e ↦
-      let here = one_here b p e in
-      let none = agrees p in
-      let was = flag_none (get_or w.queued p false) (subst (λ j. get_or w.queued j false ≡ false) e free) in
-      let flag : get_or (slice_set w.queued b true) p false ≡ true = subst (λ j. get_or (slice_set w.queued b true) j false ≡ true) e (get_or-set_same w.queued b true false inside) in
-      let right = flag_one (get_or (slice_set w.queued b true) p false) flag in
-      omega (arith, here, none, was, right)
-  | inr o ↦
-      let here = none_here b p o in
-      let old = agrees p in
-      let right = ap flag_of (get_or-set_other w.queued b p true false (λ e. o (sym e))) in
-      omega (arith, here, old, right)
-]
-
 pub with_answer_is : (w : Work) (b : ℕ) (bits : List Bool) → b < length w.queued → Answered w (with_answer w b bits) b bits
 with_answer_is w b bits inside =
     let answered : Work = record w { answer = slice_set w.answer b bits } in
+    let queued : Work = record answered { queued = slice_set w.queued b true } in
     elim (cases_Bool (differ (get_or w.answer b []) bits)) [
-      | inr same ↦ subst (λ x. Answered w x b bits) (sym (ap (λ c. if c then with_queued answered b else answered) same)) (record {
+      | inr same ↦ subst (λ x. Answered w x b bits) (sym (ap (λ c. if c then queued else answered) same)) (record {
         answer_is = refl;
         flags = refl;
         others = λ p o. refl;
-        agree = λ a. a;
         change = inl (same, refl);
       })
-      | inl other ↦ subst (λ x. Answered w x b bits) (sym (ap (λ c. if c then with_queued answered b else answered) other)) (elim (cases_Bool (get_or w.queued b false)) [
-        | inl was ↦ subst (λ x. Answered w x b bits) (sym (ap (λ c. if c then answered else record answered { pending = w.pending ++ b ∷ []; queued = slice_set w.queued b true }) was)) (record {
-          answer_is = refl;
-          flags = refl;
-          others = λ p o. refl;
-          agree = λ a. a;
-          change = inr (other, was);
-        })
-        | inr free ↦ subst (λ x. Answered w x b bits) (sym (ap (λ c. if c then answered else record answered { pending = w.pending ++ b ∷ []; queued = slice_set w.queued b true }) free)) (record {
-          answer_is = refl;
-          flags = length-set w.queued b true;
-          others = λ p o. get_or-set_other w.queued b p true false o;
-          agree = λ a. pushed_agrees w b inside free a;
-          change = inr (other, get_or-set_same w.queued b true false inside);
-        })
-      ])
+      | inl other ↦ subst (λ x. Answered w x b bits) (sym (ap (λ c. if c then queued else answered) other)) (record {
+        answer_is = refl;
+        flags = length-set w.queued b true;
+        others = λ p o. get_or-set_other w.queued b p true false o;
+        change = inr (other, get_or-set_same w.queued b true false inside);
+      })
     ]
 
+-- numbers that follow each other, and one more
 pub range_more : (a n : ℕ) → range_with_len a n ++ (a + n) ∷ [] ≡ range_with_len a (suc n)
 range_more a zero = ap (λ x. x ∷ []) (omega arith)
 range_more a (suc n) = ap (λ l. a ∷ l) (ap (λ x. range_with_len (a + 1) n ++ x ∷ []) (omega arith) ∙ range_more (a + 1) n)
-
--- how often a number stands among those that follow each other
-times_cons : (a p : ℕ) (ns : List ℕ) → count_by (λ x. x == p) (a ∷ ns) ≡ (if a == p then 1 else 0) + count_by (λ x. x == p) ns
-times_cons a p ns = sum_by-append (λ x. flag_of (x == p)) (a ∷ []) ns ∙ ap (λ x. x + count_by (λ y. y == p) ns) (zero_add (flag_of (a == p)))
-
-times_out : (a n p : ℕ) → (p < a) ⊎ (a + n ≤ p) → count_by (λ x. x == p) (range_with_len a n) ≡ 0
-times_out a zero p o = refl
-times_out a (suc n) p o =
-    let off : a ≢ p = λ e. elim o [ inl l ↦ omega arith | inr r ↦ omega arith ] in
-    let rest = times_out (a + 1) n p (elim o [ inl l ↦ inl (omega arith) | inr r ↦ inr (omega arith) ]) in
-    let one = none_here a p off in
-    let both = times_cons a p (range_with_len (a + 1) n) in
-    omega (arith, rest, one, both)
-
-times_in : (a n p : ℕ) → a ≤ p → p < a + n → count_by (λ x. x == p) (range_with_len a n) ≡ 1
-times_in a zero p le less = absurd (omega arith)
-times_in a (suc n) p le less =
-    let both = times_cons a p (range_with_len (a + 1) n) in
-    elim (cases_eq a p) [
-      | inl e ↦ let one = one_here a p e in let rest = times_out (a + 1) n p (inl (omega arith)) in omega (arith, both, one, rest)
-      | inr o ↦ let one = none_here a p o in let rest = times_in (a + 1) n p (omega arith) (omega arith) in omega (arith, both, one, rest)
-    ]
 
 all_in : (P : ℕ → Type 0) (xs : List ℕ) (x : ℕ) → All P xs → is_in xs x ≡ true → P x
 all_in P [] x all h = absurd (false≢true h)
@@ -241,7 +189,6 @@ module _ (next : List (List ℕ)) (used written : List (List Bool)) (len : ℕ) 
     pub count : length w.answer ≡ length next
     pub size : (b : ℕ) → b < length next → length (get_or w.answer b []) ≡ len
     pub flags : length w.queued ≡ length next
-    pub agree : (p : ℕ) → count_by (λ x. x == p) w.pending ≡ (if get_or w.queued p false then 1 else 0)
     pub sound : (b i : ℕ) → holds w.answer b i ≡ true → IsUsedAfter next used written b i
 
   -- the place is used by the block, or comes out of it
@@ -309,7 +256,6 @@ module _ (next : List (List ℕ)) (used written : List (List Bool)) (len : ℕ) 
         | inr o ↦ ap length (row_there c o) ∙ h.kept.size c below
       ];
       flags = is.flags ∙ h.kept.flags;
-      agree = is.agree h.kept.agree;
       sound = λ c i t. elim (cases_eq c b) [
         | inl e ↦
             let here = sym (ap (λ l. bit l i) row_here) ∙ ap (λ j. holds after.answer j i) (sym e) ∙ t in
@@ -419,20 +365,17 @@ module _ (next : List (List ℕ)) (used written : List (List Bool)) (len : ℕ) 
     pub kept : Kept w
     pub closed : ClosedBut (λ s b. Unit {0}) w
 
-  last_queued : (w : Work) (block : ℕ) (rest : List ℕ) → w.pending ≡ rest ++ block ∷ [] → Kept w → get_or w.queued block false ≡ true
-  last_queued w block rest is h = elim (cases_Bool (get_or w.queued block false)) [
-    | inl t ↦ t
-    | inr f ↦
-        let old = subst (λ l. count_by (λ x. x == block) l ≡ (if get_or w.queued block false then 1 else 0)) is (h.agree block) in
-        let more = times_push rest block block in
-        let one = one_here block block refl in
-        let none = flag_none (get_or w.queued block false) f in
-        absurd (omega (arith, old, more, one, none))
-  ]
+  -- a block that is queued is one of the graph
+  pub queued_inside : (w : Work) (block : ℕ) → get_or w.queued block false ≡ true → Kept w → block < length next
+  queued_inside w block was h = let there = within w.queued block was in omega (arith, there, h.flags)
 
-  -- a pending block is one of the graph
-  pub last_inside : (w : Work) (block : ℕ) (rest : List ℕ) → w.pending ≡ rest ++ block ∷ [] → Kept w → block < length next
-  last_inside w block rest is h = let there = within w.queued block (last_queued w block rest is h) in omega (arith, there, h.flags)
+  pub still_kept : (w : Work) (block : ℕ) → Kept w → Kept (without_queued w block)
+  still_kept w block h = record {
+    count = h.count;
+    size = h.size;
+    flags = length-set w.queued block false ∙ h.flags;
+    sound = h.sound;
+  }
 
   pub record Turned (w after : Work) (block : ℕ) : Type 0 where
     pub going : Going after
@@ -440,38 +383,15 @@ module _ (next : List (List ℕ)) (used written : List (List Bool)) (len : ℕ) 
     pub others : (s : ℕ) → s < length next → s ≢ block → share after s ≤ share w s
     pub here : share after block + 1 ≤ share w block
 
-  pub turned : (sources : List ℕ) (w : Work) (block : ℕ) (rest : List ℕ) → ((c : ℕ) → is_in sources c ≡ leads next c block) → w.pending ≡ rest ++ block ∷ [] → Going w
-      → Turned w (spread_from (record w { pending = rest }) block (get_or used block []) (get_or written block []) sources) block
+  pub turned : (sources : List ℕ) (w : Work) (block : ℕ) → ((c : ℕ) → is_in sources c ≡ leads next c block) → get_or w.queued block false ≡ true → Going w
+      → Turned w (spread_from (without_queued w block) block (get_or used block []) (get_or written block []) sources) block
   unfolding share
-  turned sources w block rest all is h =
+  turned sources w block all was h =
       let out = get_or w.answer block [] in
-      let popped : Work = record w { pending = rest } in
-      let start = without_queued popped block in
-      let old : (p : ℕ) → count_by (λ x. x == p) rest + (if block == p then 1 else 0) ≡ (if get_or w.queued p false then 1 else 0) = λ p.
-      sym (times_push rest block p) ∙ subst (λ l. count_by (λ x. x == p) l ≡ (if get_or w.queued p false then 1 else 0)) is (h.kept.agree p) in
-      let was = last_queued w block rest is h.kept in
+      let start = without_queued w block in
       let flagged : block < length w.queued = within w.queued block was in
       let inside : block < length next = omega (arith, flagged, h.kept.flags) in
-      let kept : Kept start = record {
-        count = h.kept.count;
-        size = h.kept.size;
-        flags = length-set w.queued block false ∙ h.kept.flags;
-        agree = λ p. elim (cases_eq block p) [
-          | inl e ↦
-              let o = old p in
-              let a = one_here block p e in
-              let b = flag_one (get_or w.queued p false) (subst (λ j. get_or w.queued j false ≡ true) e was) in
-              let c = flag_none (get_or (slice_set w.queued block false) p false)
-              (subst (λ j. get_or (slice_set w.queued block false) j false ≡ false) e (get_or-set_same w.queued block false false flagged)) in
-              omega (arith, o, a, b, c)
-          | inr n ↦
-              let o = old p in
-              let a = none_here block p n in
-              let c = ap flag_of (get_or-set_other w.queued block p false false (λ e. n (sym e))) in
-              omega (arith, o, a, c)
-        ];
-        sound = h.kept.sound;
-      } in
+      let kept = still_kept w block h.kept in
       let begun : Spreading block out sources start = record {
         kept = kept;
         closed = λ s b below free edge beside i small enters. elim (cases_eq s block) [
@@ -533,11 +453,6 @@ module _ (next : List (List ℕ)) (used written : List (List Bool)) (len : ℕ) 
       count = length-replicate (length next) (replicate len false);
       size = λ b below. ap length (get_or-replicate (length next) b (replicate len false) [] below) ∙ length-replicate len false;
       flags = length-replicate (length next) true;
-      agree = λ p. elim (cases_lt p (length next)) [
-        | inl below ↦ times_in 0 (length next) p (omega arith) (omega arith) ∙ sym (flag_one (get_or (replicate (length next) true) p false) (get_or-replicate (length next) p true false below))
-        | inr past ↦ times_out 0 (length next) p (inr (omega arith))
-            ∙ sym (flag_none (get_or (replicate (length next) true) p false) (get_or_past (replicate (length next) true) p false (omega (arith, length-replicate {A = Bool} (length next) true))))
-      ];
       sound = λ b i t. absurd (false≢true (sym (dark (length next) b i) ∙ t));
     };
     closed = λ s b below free edge x i small enters. absurd (false≢true (sym free ∙ get_or-replicate (length next) s true false below));
@@ -552,15 +467,8 @@ module _ (next : List (List ℕ)) (used written : List (List Bool)) (len : ℕ) 
 
   -- At the end.
 
-  pub answered : AreWithin next → (w : Work) → w.pending ≡ [] → Going w → AreUses next used written len w.answer
-  answered all w none h =
-      let free : (s : ℕ) → get_or w.queued s false ≡ false = λ s. elim (cases_Bool (get_or w.queued s false)) [
-        | inl t ↦ absurd (
-            let o = subst (λ l. count_by (λ x. x == s) l ≡ (if get_or w.queued s false then 1 else 0)) none (h.kept.agree s) in
-            let b = flag_one (get_or w.queued s false) t in
-            omega (arith, o, b))
-        | inr f ↦ f
-      ] in
+  pub answered : AreWithin next → (w : Work) → AllFlowed w → Going w → AreUses next used written len w.answer
+  answered all w free h =
       record {
         lists = record { count_is = h.kept.count; len_is = All-from_get_or (λ bits. length bits ≡ len) w.answer [] (λ b below. h.kept.size b (omega (arith, h.kept.count))) };
         exact = λ b i below small. (h.kept.sound b i, λ u. arrive free i small b u.between u.user u.path u.read);
@@ -583,12 +491,12 @@ module _ (next : List (List ℕ)) (used written : List (List Bool)) (len : ℕ) 
       ∙ ap (λ n. total (λ s. length (get_or sources s [])) n * (len + 1)) (sym same)
       ∙ ap (λ x. x * (len + 1)) (total_entries sources)
 
--- A turn of the loop, as its code has it: the last block that waits, the blocks before it, what it uses and writes.
-pub record Turn (next sources : List (List ℕ)) (used written : List (List Bool)) (len : ℕ) (w : Work) (block : ℕ)
-    (rest tos : List ℕ) (uses writes : List Bool) : Type 0 where
+-- A turn of the loop, as its code has it: a block that is taken, the blocks before it, what it uses and writes.
+pub record Turn (next sources : List (List ℕ)) (used written : List (List Bool)) (len : ℕ) (w taken : Work) (block : ℕ)
+    (tos : List ℕ) (uses writes : List Bool) : Type 0 where
   pub predecessors : ArePredecessors next sources
   pub going : Going next used written len w
-  pub waits : w.pending ≡ rest ++ block ∷ []
+  pub takes : IsTaken w taken block
   pub tos_is : tos ≡ get_or sources block []
   pub uses_is : uses ≡ get_or used block []
   pub writes_is : writes ≡ get_or written block []
@@ -597,41 +505,47 @@ pub record Turn (next sources : List (List ℕ)) (used written : List (List Bool
 abbrev pub weight : List (List ℕ) → ℕ → ℕ
 weight sources s = length (get_or sources s [])
 
-module _ {next sources : List (List ℕ)} {used written : List (List Bool)} {len : ℕ} {w : Work} {block : ℕ}
-    {rest tos : List ℕ} {uses writes : List Bool}
-    (t : Turn next sources used written len w block rest tos uses writes) where
-  turn : Turned next used written len w (spread_from (record w { pending = rest }) block uses writes tos) block
+module _ {next sources : List (List ℕ)} {used written : List (List Bool)} {len : ℕ} {w taken : Work} {block : ℕ}
+    {tos : List ℕ} {uses writes : List Bool}
+    (t : Turn next sources used written len w taken block tos uses writes) where
+  turn : Turned next used written len w (spread_from taken block uses writes tos) block
   turn =
-      let popped : Work = record w { pending = rest } in
-      let inside = last_inside next used written len w block rest t.waits t.going.kept in
-      subst (λ l. Turned next used written len w (spread_from popped block uses writes l) block) (sym t.tos_is)
-      (subst (λ u. Turned next used written len w (spread_from popped block u writes (get_or sources block [])) block)
+      let was = t.takes.waits in
+      let inside = queued_inside next used written len w block was t.going.kept in
+      let done = turned next used written len (get_or sources block []) w block (λ c. t.predecessors.exact c block inside) was t.going in
+      subst (λ l. Turned next used written len w (spread_from taken block uses writes l) block) (sym t.tos_is)
+      (subst (λ u. Turned next used written len w (spread_from taken block u writes (get_or sources block [])) block)
       (sym t.uses_is)
       (subst
-      (λ v. Turned next used written len w (spread_from popped block (get_or used block []) v (get_or sources block [])) block)
+      (λ v. Turned next used written len w (spread_from taken block (get_or used block []) v (get_or sources block [])) block)
       (sym t.writes_is)
-      (turned next used written len (get_or sources block []) w block rest (λ c. t.predecessors.exact c block inside)
-      t.waits t.going)))
+      (subst
+      (λ x. Turned next used written len w (spread_from x block (get_or used block []) (get_or written block []) (get_or sources block [])) block)
+      (sym t.takes.after_is) done)))
+
+  pub taken_kept : Kept next used written len taken
+  taken_kept =
+      subst (Kept next used written len) (sym t.takes.after_is) (still_kept next used written len w block t.going.kept)
 
   pub turn_going :
-      (last : Work) → last ≡ spread_from (record w { pending = rest }) block uses writes tos
+      (last : Work) → last ≡ spread_from taken block uses writes tos
       → Going next used written len last
   turn_going last e = subst (Going next used written len) (sym e) turn.going
 
   pub turn_less :
-      (last : Work) → last ≡ spread_from (record w { pending = rest }) block uses writes tos
+      (last : Work) → last ≡ spread_from taken block uses writes tos
       → rank next used written len last < rank next used written len w
   turn_less last e =
       subst (λ x. rank next used written len x < rank next used written len w) (sym e)
-      (rank_less next used written len w (spread_from (record w { pending = rest }) block uses writes tos) block turn)
+      (rank_less next used written len w (spread_from taken block uses writes tos) block turn)
 
   -- the steps of the turn
   turn_cost : (before now bound m : ℕ) → now ≤ before + length tos * m
       → before + cost next used written len (weight sources) w * m ≤ bound
-      → now + cost next used written len (weight sources) (spread_from (record w { pending = rest }) block uses writes tos) * m
+      → now + cost next used written len (weight sources) (spread_from taken block uses writes tos) * m
       ≤ bound
   turn_cost before now bound m le all =
-      let after = spread_from (record w { pending = rest }) block uses writes tos in
+      let after = spread_from taken block uses writes tos in
       let less = cost_less next used written len (weight sources) w after block turn in
       let times = mul-le-mul_right m less in
       let over = spread_over (cost next used written len (weight sources) after) (weight sources block) m in
@@ -639,7 +553,7 @@ module _ {next sources : List (List ℕ)} {used written : List (List Bool)} {len
       omega (arith, le, all, times, over, same)
 
   pub turn_steps :
-      (last : Work) → last ≡ spread_from (record w { pending = rest }) block uses writes tos
+      (last : Work) → last ≡ spread_from taken block uses writes tos
       → (before now bound m : ℕ) → now ≤ before + length tos * m
       → before + cost next used written len (weight sources) w * m ≤ bound
       → now + cost next used written len (weight sources) last * m ≤ bound

@@ -42,3 +42,7 @@ members has location = get_or has (location_number location) false
 -- the numbers that hold true are of locations that were noted
 abbrev pub AreNoted : List Bool → List Loc → Type 0
 AreNoted has noted = (n : ℕ) → get_or has n false ≡ true → Contains (map location_number noted) n
+
+-- the places that hold true are the numbers of the locations in the list
+abbrev pub AreThoseOf : List Loc → List Bool → Type 0
+AreThoseOf list has = (location : Loc) → members has location ≡ is_among list location

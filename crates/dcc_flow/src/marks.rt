@@ -8,8 +8,8 @@ use dcc_ir::Loc;
 use std::alloc::{AllocError, Global};
 use std::marker::Model;
 
-// A number of its own for each location.
-fn number(location: Loc) -> usize
+/// A number of its own for each location.
+pub(crate) fn number(location: Loc) -> usize
     ensures { result ≡ location_number location }
 {
     match location {
@@ -20,8 +20,8 @@ fn number(location: Loc) -> usize
     }
 }
 
-// The list has the place; what is added holds false.
-fn make_room(has: &mut Vec<bool>, place: usize) -> Result<(), AllocError>
+/// The list has the place; what is added holds false.
+pub(crate) fn make_room(has: &mut Vec<bool>, place: usize) -> Result<(), AllocError>
     ensures same { (n : ℕ) → get_or has.new.items n false ≡ get_or has.old.items n false }
     ensures room { OnOk result (place < length has.new.items) }
 {

@@ -1,10 +1,10 @@
 //! The reverse post order of a graph.
 
-ghost use Rattle.std.specs.Prelude.{◌≡◌, ◌<◌, length, IfOk, OnOk};
+ghost use Rattle.std.specs.Prelude.{◌≡◌, ◌<◌, [], ◌∷◌, length, IfOk, OnOk};
 ghost use Rattle.dcc_ir.specs.Views.{graph_of};
 ghost use Rattle.dcc_ir.specs.WellFormed.{IsGraph};
 ghost use Rattle.dcc_flow.specs.Edges.{rows, AreWithin};
-ghost use Rattle.dcc_flow.specs.Order.{IsReversePostOrder};
+ghost use Rattle.dcc_flow.specs.Order.{IsSearched, IsReversePostOrder};
 ghost use Rattle.dcc_flow.specs.Search.{search_of, visited, gone_on};
 
 use crate::edges::successors;
@@ -53,12 +53,12 @@ impl Search {
     }
 }
 
-/// The blocks that are reached from block 0, each once, in reverse post order.
-pub fn order(alloc: Global, g: &Graph) -> Result<Vec<u32>, AllocError>
-    requires { IsGraph (graph_of g.now) }
-    ensures { IfOk result (λ order. IsReversePostOrder (graph_of g.now) order.items) }
+/// The blocks that are reached from block 0, each once, in reverse post order, where these follow each block.
+pub(crate) fn order_of(alloc: Global, next: &Vec<Vec<u32>>) -> Result<Vec<u32>, AllocError>
+    requires some { 0 < length next.now.items }
+    requires next { AreWithin (rows next.now.items) }
+    ensures { IfOk result (λ order. IsSearched (rows next.now.items) [] (0 ∷ []) order.items) }
 {
-    let next = successors(alloc, g)?;
     let mut search = Search {
         seen: vec![in alloc; false; next.len()]?,
         begun: Vec::new(alloc),
@@ -66,9 +66,18 @@ pub fn order(alloc: Global, g: &Graph) -> Result<Vec<u32>, AllocError>
     };
     search.visit(0)?;
     while let Some(last) = search.begun.pop() {
-        search.go_on(&next, last.0, last.1)?;
+        search.go_on(next, last.0, last.1)?;
     }
     let mut order = search.finished;
     order.reverse();
     Ok(order)
+}
+
+/// The blocks that are reached from block 0, each once, in reverse post order.
+pub fn order(alloc: Global, g: &Graph) -> Result<Vec<u32>, AllocError>
+    requires { IsGraph (graph_of g.now) }
+    ensures { IfOk result (λ order. IsReversePostOrder (graph_of g.now) order.items) }
+{
+    let next = successors(alloc, g)?;
+    order_of(alloc, &next)
 }

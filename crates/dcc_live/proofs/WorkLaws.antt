@@ -22,10 +22,10 @@ use Rattle.dcc_ir.proofs.FamilyLaws.{wanted-least, tests-read}
 use Rattle.dcc_flow.specs.Edges.{is_in, leads, successors_of, ArePredecessors}
 use Rattle.dcc_flow.specs.Bits.{bit, flowed, differ}
 use Rattle.dcc_flow.specs.Uses.{AreLists}
-use Rattle.dcc_flow.specs.Work.{Work, with_answer, spread, first_work}
+use Rattle.dcc_flow.specs.Work.{Work, AllFlowed, IsTaken, without_queued, with_answer, spread, first_work}
 use Rattle.dcc_flow.proofs.SourceLaws.{in_at, predecessor_within}
 use Rattle.dcc_flow.proofs.WordLaws.{same_lists}
-use Rattle.dcc_flow.proofs.WorkLaws.{flowed_at, length_flowed_bits}
+use Rattle.dcc_flow.proofs.WorkLaws.{flowed_at, length_flowed_bits, within, truths, truths_with, truths_without}
 use Rattle.dcc_flow.specs.Access.{access_of, block_access_of, accesses_of}
 use Rattle.dcc_flow.specs.Marks.{selected}
 use Rattle.dcc_live.specs.First.{Row, row_of, Tells}
@@ -86,7 +86,7 @@ free_set (x ∷ lists) (suc b) bits inside = let on = free_set lists b bits (ome
 
 -- the work that is left
 pub weight : Work → ℕ
-weight w = 2 * free w.answer + length w.pending
+weight w = 2 * free w.answer + truths w.queued
 
 -- One block wants more.
 
@@ -105,22 +105,16 @@ wanting_at old start k inside = flowed_at old start start start k inside ∙ abs
 wanting_grows : (old start : List Bool) → Grows old (wanting old start)
 wanting_grows old start = grows_from old (wanting old start) (length_flowed_bits old start start start) (λ k inside t. wanting_at old start k inside ∙ or_left (bit old k) (bit start k) t)
 
--- what a turn keeps of the queue
-pub record Queue (count : ℕ) (w : Work) : Type 0 where
-  pub flags : length w.queued ≡ count
-  pub inside : All (λ b. b < count) w.pending
-  pub known : (b : ℕ) → get_or w.queued b false ≡ true → Contains w.pending b
-
 -- from one state of the work to another, in which these places are wanted at the ends of these blocks
 pub record Wants (count len : ℕ) (start : List Bool) (blocks : List ℕ) (w after : Work) : Type 0 where
   pub are : AreLists count len after.answer
-  pub queue : Queue count after
+  pub flags : length after.queued ≡ count
   pub bits : (p k : ℕ) → p < count → k < len → bit (get_or after.answer p []) k ≡ (bit (get_or w.answer p []) k || (is_in blocks p && bit start k))
   pub waits : (p : ℕ) → get_or after.queued p false ≡ false → get_or w.queued p false ≡ false
   pub same : (p : ℕ) → get_or after.queued p false ≡ false → get_or after.answer p [] ≡ get_or w.answer p []
   pub lighter : weight after ≤ weight w
 
-module _ (count len : ℕ) (start : List Bool) (w : Work) (are : AreLists count len w.answer) (queue : Queue count w) (b : ℕ) (inside : b < count) where
+module _ (count len : ℕ) (start : List Bool) (w : Work) (are : AreLists count len w.answer) (flags : length w.queued ≡ count) (b : ℕ) (inside : b < count) where
   abbrev old : List Bool
   old = get_or w.answer b []
 
@@ -130,8 +124,8 @@ module _ (count len : ℕ) (start : List Bool) (w : Work) (are : AreLists count 
   abbrev answered : Work
   answered = record w { answer = slice_set w.answer b new }
 
-  abbrev pushed : Work
-  pushed = record answered { pending = w.pending ++ b ∷ []; queued = slice_set w.queued b true }
+  abbrev queued : Work
+  queued = record answered { queued = slice_set w.queued b true }
 
   b_inside : b < length w.answer
   b_inside = omega (arith, are.count_is, inside)
@@ -174,69 +168,51 @@ module _ (count len : ℕ) (start : List Bool) (w : Work) (are : AreLists count 
   unfolding weight
   one_same d = record {
     are = lists;
-    queue = record { flags = queue.flags; inside = queue.inside; known = queue.known };
+    flags = flags;
     bits = one_bits;
     waits = λ p e. e;
     same = λ p e. unchanged d p;
     lighter = let less = falses_less old new (wanting_grows old start) in let is = weighed in omega (arith, less, is);
   }
 
-  one_waits : differ old new ≡ true → get_or w.queued b false ≡ true → Wants count len start (b ∷ []) w answered
+  one_queued : differ old new ≡ true → Wants count len start (b ∷ []) w queued
   unfolding weight
-  one_waits d q = record {
-    are = lists;
-    queue = record { flags = queue.flags; inside = queue.inside; known = queue.known };
-    bits = one_bits;
-    waits = λ p e. e;
-    same = λ p e. get_or-set_other w.answer b p new [] (λ is. true≢false (sym q ∙ ap (λ n. get_or w.queued n false) (sym is) ∙ e));
-    lighter = let less = falses_less old new (wanting_grows old start) in let is = weighed in omega (arith, less, is);
-  }
-
-  one_pushed : differ old new ≡ true → Wants count len start (b ∷ []) w pushed
-  unfolding weight
-  one_pushed d =
-      let flag : b < length w.queued = omega (arith, queue.flags, inside) in
+  one_queued d =
+      let flag : b < length w.queued = omega (arith, flags, inside) in
+      let here : get_or (slice_set w.queued b true) b false ≡ true = get_or-set_same w.queued b true false flag in
       record {
         are = lists;
-        queue = record {
-          flags = length-set w.queued b true ∙ queue.flags;
-          inside = All-push (λ b. b < count) w.pending b queue.inside inside;
-          known = λ p e. elim (cases_eq p b) [
-            | inl is ↦ subst (Contains (w.pending ++ b ∷ [])) (sym is) (Contains-push w.pending b)
-            | inr o ↦ Contains-append_left w.pending (b ∷ []) p (queue.known p (sym (get_or-set_other w.queued b p true false o) ∙ e))
-          ];
-        };
+        flags = length-set w.queued b true ∙ flags;
         bits = one_bits;
         waits = λ p e. elim (cases_eq p b) [
-          | inl is ↦ absurd (true≢false (sym (ap (λ n. get_or (slice_set w.queued b true) n false) is ∙ get_or-set_same w.queued b true false flag) ∙ e))
+          | inl is ↦ absurd (true≢false (sym (ap (λ n. get_or (slice_set w.queued b true) n false) is ∙ here) ∙ e))
           | inr o ↦ sym (get_or-set_other w.queued b p true false o) ∙ e
         ];
         same = λ p e. elim (cases_eq p b) [
-          | inl is ↦ absurd (true≢false (sym (ap (λ n. get_or (slice_set w.queued b true) n false) is ∙ get_or-set_same w.queued b true false flag) ∙ e))
+          | inl is ↦ absurd (true≢false (sym (ap (λ n. get_or (slice_set w.queued b true) n false) is ∙ here) ∙ e))
           | inr o ↦ get_or-set_other w.answer b p new [] o
         ];
         lighter =
             let less = falses_fewer old new (wanting_grows old start) d in
             let is = weighed in
-            let size : length (w.pending ++ b ∷ []) ≡ length w.pending + 1 = length_push w.pending b in
-            omega (arith, less, is, size);
+            let more = truths_with w.queued b in
+            omega (arith, less, is, more);
       }
 
   pub one_wants : Wants count len start (b ∷ []) w (with_answer w b new)
-  one_wants = go (differ old new) (get_or w.queued b false) refl refl
+  one_wants = go (differ old new) refl
     where
-      go : (d q : Bool) → differ old new ≡ d → get_or w.queued b false ≡ q → Wants count len start (b ∷ []) w (if d then (if q then answered else pushed) else answered)
-      go true true d q = one_waits d q
-      go true false d q = one_pushed d
-      go false q d _ = one_same d
+      go : (d : Bool) → differ old new ≡ d → Wants count len start (b ∷ []) w (if d then queued else answered)
+      go true d = one_queued d
+      go false d = one_same d
 
 -- All of them.
 
-pub all_want : (count len : ℕ) (start : List Bool) (blocks : List ℕ) (w : Work) → All (λ b. b < count) blocks → AreLists count len w.answer → Queue count w →
+pub all_want : (count len : ℕ) (start : List Bool) (blocks : List ℕ) (w : Work) → All (λ b. b < count) blocks → AreLists count len w.answer → length w.queued ≡ count →
     Wants count len start blocks w (spread start start start w blocks)
-all_want count len start [] w below are queue = record {
+all_want count len start [] w below are flags = record {
   are = are;
-  queue = queue;
+  flags = flags;
   bits = λ p k less small. none (bit (get_or w.answer p []) k);
   waits = λ p e. e;
   same = λ p e. refl;
@@ -246,13 +222,13 @@ all_want count len start [] w below are queue = record {
     none : (a : Bool) → a ≡ (a || false)
     none true = refl
     none false = refl
-all_want count len start (b ∷ blocks) w below are queue =
+all_want count len start (b ∷ blocks) w below are flags =
     let next = with_answer w b (wanting (get_or w.answer b []) start) in
-    let one = one_wants count len start w are queue b (All-head (λ b. b < count) b blocks below) in
-    let rest = all_want count len start blocks next (All-tail (λ b. b < count) b blocks below) one.are one.queue in
+    let one = one_wants count len start w are flags b (All-head (λ b. b < count) b blocks below) in
+    let rest = all_want count len start blocks next (All-tail (λ b. b < count) b blocks below) one.are one.flags in
     record {
       are = rest.are;
-      queue = rest.queue;
+      flags = rest.flags;
       bits = λ p k less small.
           rest.bits p k less small ∙ ap (λ t. t || (is_in blocks p && bit start k)) (one.bits p k less small)
           ∙ joined (bit (get_or w.answer p []) k) (b == p) (is_in blocks p) (bit start k);
@@ -301,7 +277,7 @@ module _ (graph : Graph) (places : List Loc) where
   -- what holds at each turn
   pub record Going (w : Work) : Type 0 where
     pub are : AreLists (length graph.blocks) (length places) w.answer
-    pub queue : Queue (length graph.blocks) w
+    pub flags : length w.queued ≡ length graph.blocks
     pub sound : (b k : ℕ) (block : Block) (x : Loc) → slice_get graph.blocks b ≡ Some block → slice_get places k ≡ Some x → bit (get_or w.answer b []) k ≡ true → IsWantedIn graph block [] x
     pub flows : (b : ℕ) (block : Block) → slice_get graph.blocks b ≡ Some block → get_or w.queued b false ≡ false → (a : ℕ) → leads (successors_of graph) a b ≡ true → (k : ℕ) (x : Loc) → slice_get places k ≡ Some x →
         before_block places (get_or w.answer b []) (block_access_of block) x ≡ true → bit (get_or w.answer a []) k ≡ true
@@ -316,24 +292,12 @@ module _ (graph : Graph) (places : List Loc) where
           count_is = length-replicate count (replicate len false);
           len_is = All-replicate (λ bits. length bits ≡ len) count (replicate len false) (length-replicate len false);
         };
-        queue = record {
-          flags = length-replicate count true;
-          inside = λ k d less.
-              let below : k < count = omega (arith, less, length-range_with_len 0 count) in
-              omega (arith, get_or-range_with_len 0 count k d below, below);
-          known = λ b e. elim (cases_lt b count) [
-            | inl below ↦ (b, omega (arith, below, length-range_with_len 0 count), get_or-range_with_len 0 count b b below ∙ plain b)
-            | inr past ↦ absurd (true≢false (sym e ∙ get_or_past (replicate count true) b false (omega (arith, past, length-replicate count true))))
-          ];
-        };
+        flags = length-replicate count true;
         sound = λ b k block x at pl t.
             absurd (true≢false (sym t ∙ ap (λ l. bit l k) (get_or-replicate count b (replicate len false) [] (slice_get_within graph.blocks b block at))
             ∙ get_or-replicate len k false false (slice_get_within places k x pl)));
         flows = λ b block at q a e k x pl t. absurd (true≢false (sym (get_or-replicate count b true false (slice_get_within graph.blocks b block at)) ∙ q));
       }
-    where
-      plain : (b : ℕ) → 0 + b ≡ b
-      plain b = omega arith
 
   -- what is wanted at the end of a block, by what is known
   end_sound : (w : Work) → Going w → (b : ℕ) (block : Block) (x : Loc) → slice_get graph.blocks b ≡ Some block → after_stmts places (get_or w.answer b []) (block_access_of block).last x ≡ true → IsWantedIn graph block [] x
@@ -348,12 +312,12 @@ module _ (graph : Graph) (places : List Loc) where
         ]
       ]
 
-  -- One turn: the last block that waits is taken, and what is wanted before it is wanted at the end of each block before it.
-  module _ (w : Work) (going : Going w) (rest : List ℕ) (block : ℕ) (last : w.pending ≡ rest ++ block ∷ []) (b : Block) (at : slice_get graph.blocks block ≡ Some b)
+  -- One turn: a block that waits is taken, and what is wanted before it is wanted at the end of each block before it.
+  module _ (w : Work) (going : Going w) (block : ℕ) (was : get_or w.queued block false ≡ true) (b : Block) (at : slice_get graph.blocks block ≡ Some b)
       (start : List Bool) (tells : Tells places (before_block places (get_or w.answer block []) (block_access_of b)) start)
       (sources : List ℕ) (edges : (a : ℕ) → is_in sources a ≡ leads (successors_of graph) a block) (below : All (λ a. a < length graph.blocks) sources) where
     abbrev pub taken : Work
-    taken = record w { pending = rest; queued = slice_set w.queued block false }
+    taken = without_queued w block
 
     abbrev pub after : Work
     after = spread start start start taken sources
@@ -361,23 +325,8 @@ module _ (graph : Graph) (places : List Loc) where
     inside : block < length graph.blocks
     inside = slice_get_within graph.blocks block b at
 
-    flag : block < length w.queued
-    flag = omega (arith, going.queue.flags, inside)
-
-    taken_queue : Queue (length graph.blocks) taken
-    taken_queue = record {
-      flags = length-set w.queued block false ∙ going.queue.flags;
-      inside = left_part (λ b. b < length graph.blocks) rest (block ∷ []) (subst (All (λ b. b < length graph.blocks)) last going.queue.inside);
-      known = λ p e. elim (cases_eq p block) [
-        | inl is ↦ absurd (true≢false (sym e ∙ ap (λ n. get_or (slice_set w.queued block false) n false) is ∙ get_or-set_same w.queued block false false flag))
-        | inr o ↦
-            let was = going.queue.known p (sym (get_or-set_other w.queued block p false false o) ∙ e) in
-            elim (Contains-push_cases rest block p (subst (λ l. Contains l p) last was)) [ inl c ↦ c | inr same ↦ absurd (o (sym same)) ]
-      ];
-    }
-
     wants : Wants (length graph.blocks) (length places) start sources taken after
-    wants = all_want (length graph.blocks) (length places) start sources taken below going.are taken_queue
+    wants = all_want (length graph.blocks) (length places) start sources taken below going.are (length-set w.queued block false ∙ going.flags)
 
     -- what is wanted before the block is wanted at the end of a block that goes there
     flows_back : (a : ℕ) (block' : Block) (x : Loc) → slice_get graph.blocks a ≡ Some block' → is_in sources a ≡ true → before_block places (get_or w.answer block []) (block_access_of b) x ≡ true → IsWantedIn graph block' [] x
@@ -389,7 +338,7 @@ module _ (graph : Graph) (places : List Loc) where
     pub turn_going : Going after
     turn_going = record {
       are = wants.are;
-      queue = wants.queue;
+      flags = wants.flags;
       sound = λ a k block' x there pl t.
           let count = slice_get_within graph.blocks a block' there in
           let size = slice_get_within places k x pl in
@@ -421,17 +370,11 @@ module _ (graph : Graph) (places : List Loc) where
     unfolding weight
     turn_less =
         let less = wants.lighter in
-        let size : length w.pending ≡ length rest + 1 = ap length last ∙ length_push rest block in
-        omega (arith, less, size)
+        let fewer = truths_without w.queued block was in
+        omega (arith, less, fewer)
 
   -- Where no block waits, all that is wanted is known.
-  module _ (w : Work) (going : Going w) (none : w.pending ≡ []) (tracked : All (λ row. All (Contains places) row.first) (map row_of (accesses_of graph))) where
-    free_now : (b : ℕ) → get_or w.queued b false ≡ false
-    free_now b = elim (decided (get_or w.queued b false)) [
-      | inl t ↦ absurd (Contains-none b (subst (λ l. Contains l b) none (going.queue.known b t)))
-      | inr f ↦ f
-    ]
-
+  module _ (w : Work) (going : Going w) (free_now : AllFlowed w) (tracked : All (λ row. All (Contains places) row.first) (map row_of (accesses_of graph))) where
     -- before the statements of the block at any place
     Known : Block → List Stmt → Loc → Type 0
     Known block stmts x = (b : ℕ) → slice_get graph.blocks b ≡ Some block → before_all (map access_of stmts) (after_stmts places (get_or w.answer b []) (block_access_of block).last) x ≡ true
@@ -473,12 +416,25 @@ module _ (graph : Graph) (places : List Loc) where
     }
 
 -- A turn as the code takes it.
-module _ (graph : Graph) (places : List Loc) (w : Work) (going : Going graph places w) (rest : List ℕ) (block : ℕ) (last : w.pending ≡ rest ++ block ∷ []) where
+module _ (graph : Graph) (places : List Loc) (w taken : Work) (going : Going graph places w) (block : ℕ) (takes : IsTaken w taken block) where
   pub waits_inside : block < length graph.blocks
-  waits_inside = All-contains (λ b. b < length graph.blocks) w.pending block going.queue.inside (subst (λ l. Contains l block) (sym last) (Contains-push rest block))
+  waits_inside = let there = within w.queued block takes.waits in omega (arith, there, going.flags)
 
-  pub bits_size : length (get_or w.answer block []) ≡ length places
-  bits_size = All-get_or (λ bits. length bits ≡ length places) w.answer block [] (omega (arith, going.are.count_is, waits_inside)) going.are.len_is
+  pub same_answer : taken.answer ≡ w.answer
+  same_answer = ap (λ (x : Work). x.answer) takes.after_is
+
+  pub taken_flags : length taken.queued ≡ length taken.answer
+  taken_flags =
+      ap (λ (x : Work). length x.queued) takes.after_is ∙ length-set w.queued block false ∙ going.flags
+      ∙ sym (ap length same_answer ∙ going.are.count_is)
+
+  pub taken_lists : AreLists (length graph.blocks) (length places) taken.answer
+  taken_lists = subst (AreLists (length graph.blocks) (length places)) (sym same_answer) going.are
+
+  pub bits_size : length (get_or taken.answer block []) ≡ length places
+  bits_size =
+      All-get_or (λ bits. length bits ≡ length places) taken.answer block []
+      (omega (arith, taken_lists.count_is, waits_inside)) taken_lists.len_is
 
   module _ (sources : List (List ℕ)) (are : ArePredecessors (successors_of graph) sources) where
     pub edges_to : (a : ℕ) → is_in (get_or sources block []) a ≡ leads (successors_of graph) a block
@@ -494,10 +450,11 @@ module _ (graph : Graph) (places : List Loc) (w : Work) (going : Going graph pla
       abbrev pub at_block : slice_get graph.blocks block ≡ Some (block_in graph block)
       at_block = slice_get-get_or graph.blocks block no_block waits_inside
 
-      pub kept : (after : Work) → after ≡ spread start start start (taken graph places w going rest block last (block_in graph block) at_block start tells (get_or sources block []) edges_to sources_below) (get_or sources block []) →
+      pub kept : (after : Work) → after ≡ spread start start start taken (get_or sources block []) →
           Going graph places after × (weight after < weight w)
       kept next is =
-          let b = block_in graph block in (
-            subst (Going graph places) (sym is) (turn_going graph places w going rest block last b at_block start tells (get_or sources block []) edges_to sources_below),
-            subst (λ x. weight x < weight w) (sym is) (turn_less graph places w going rest block last b at_block start tells (get_or sources block []) edges_to sources_below),
+          let b = block_in graph block in
+          let e = is ∙ ap (λ x. spread start start start x (get_or sources block [])) takes.after_is in (
+            subst (Going graph places) (sym e) (turn_going graph places w going block takes.waits b at_block start tells (get_or sources block []) edges_to sources_below),
+            subst (λ x. weight x < weight w) (sym e) (turn_less graph places w going block takes.waits b at_block start tells (get_or sources block []) edges_to sources_below),
           )

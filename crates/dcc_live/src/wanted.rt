@@ -10,7 +10,7 @@ ghost use Rattle.dcc_live.specs.Wanted.{stays, before_one, before_all, after_stm
 
 use crate::places::{bits_of, selected};
 use crate::rows::{places, rows};
-use dcc_flow::{Access, Bits, BlockAccess, Flow, Marks, Steps, Work, preds};
+use dcc_flow::{Access, Bits, BlockAccess, Flow, Marks, Steps, Work, preds, successors};
 use dcc_ir::{Graph, Loc};
 use std::alloc::{AllocError, Global};
 use std::sync::ledger::Ledger;
@@ -110,10 +110,10 @@ fn solved<L: Ledger>(
     ensures { IfOk result (λ at_end. AreWantedAtEnds (graph_of g.now) places.now at_end.items) }
 {
     let sources = preds(alloc, g)?;
+    let next = successors(alloc, g)?;
     let mut marks = Marks::new(alloc);
-    let mut work = Work::new(alloc, blocks.len(), places.len())?;
-    while let Some(block) = work.pending.pop() {
-        work.queued[block] = false;
+    let mut work = Work::new(alloc, &next, places.len())?;
+    while let Some(block) = work.take() {
         let start = wanted_before(
             alloc,
             &mut marks,
@@ -127,7 +127,7 @@ fn solved<L: Ledger>(
             out: &start,
             written: &start,
         };
-        work.spread(sources[block].as_slice(), &flow, steps)?;
+        work.spread(sources[block].as_slice(), &flow, steps);
     }
     Ok(work.answer)
 }

@@ -3,7 +3,7 @@ use Rattle.std.proofs.Common.{◌≡◌, ℕ, zero, suc, ◌<◌, Bool, true, fa
 use Rattle.std.specs.Prelude.{◌==◌}
 use Rattle.std.specs.Global.{Vec}
 use Rattle.std.proofs.lemmas.Bool.{cases_eq, eq-eqb, ne_eqb}
-use Rattle.std.proofs.lemmas.List.{length-map, map-set, get_or-set_same, get_or-set_other}
+use Rattle.std.proofs.lemmas.List.{length-map, map-set, get_or_read, get_or-set_same, get_or-set_other}
 use Rattle.std.proofs.lemmas.List.Folds.{list_any-append}
 use Rattle.dcc_ir.specs.declared.syntax.Loc.{Loc}
 use Rattle.dcc_ir.specs.Live.{is_among}
@@ -53,15 +53,25 @@ at_place n k s b a here there = elim (cases_eq n k) [
   | inr o ↦ there o ∙ ap (λ t. (t && s) || a) (sym (ne_eqb n k o))
 ]
 
-pub here_more : (old rows : List (Vec Loc)) (done : ℕ) (row more : Vec Loc) (location : Loc) → SameLists rows old → done < length rows → row ≡ get_or rows done row → more.items ≡ row.items ++ location ∷ []
-    → (n : ℕ) (l : Loc) → told_here (slice_set rows done more) n l ≡ (((n == done) && same_location l location) || told_here old n l)
-here_more old rows done row more location same inside read e n l = changed_list rows done n more inside (λ r. is_among r l ≡ (((n == done) && same_location l location) || told_here old n l))
-    (λ is. at_place n done (same_location l location) (is_among more.items l) (told_here old n l) (λ is'.
-    ap (λ r. is_among r l) e ∙ list_any-append (same_location l) row.items (location ∷ []) ∙ turned (is_among row.items l) (same_location l location)
-    ∙ ap (λ r. same_location l location || is_among r l) (read_list rows done row inside read ∙ same done ∙ ap (λ k. get_or (lists_of old) k []) (sym is'))) (λ o. absurd (o is)))
-    (λ o. at_place n done (same_location l location) (is_among (get_or (lists_of rows) n []) l) (told_here old n l) (λ is. absurd (o is)) (λ o'. ap (λ r. is_among r l) (same n)))
+-- a further empty row is as one that isn't there
+pub row_more : (rows : List (List Loc)) (row : List Loc) → row ≡ [] → (n : ℕ) → get_or (rows ++ row ∷ []) n [] ≡ get_or rows n []
+row_more [] row e zero = e
+row_more [] row e (suc n) = refl
+row_more (x ∷ rows) row e zero = refl
+row_more (x ∷ rows) row e (suc n) = row_more rows row e n
 
-pub block_more : (old blocks : List (Vec (Vec Loc))) (block done : ℕ) (rows more : Vec (Vec Loc)) (location : Loc) → SameLists blocks old → block < length blocks → rows ≡ get_or blocks block rows
+pub here_more : (old rows : List (List Loc)) (done : ℕ) (row more : List Loc) (location : Loc) → ((n : ℕ) → get_or rows n [] ≡ get_or old n []) → done < length rows → row ≡ get_or rows done row → more ≡ row ++ location ∷ []
+    → (n : ℕ) (l : Loc) → told_here (slice_set rows done more) n l ≡ (((n == done) && same_location l location) || told_here old n l)
+here_more old rows done row more location same inside read e n l =
+    at_place n done (same_location l location) (told_here (slice_set rows done more) n l) (told_here old n l)
+    (λ is.
+    let here : get_or (slice_set rows done more) n [] ≡ more = ap (λ k. get_or (slice_set rows done more) k []) is ∙ get_or-set_same rows done more [] inside in
+    let was : row ≡ get_or old n [] = get_or_read rows done row inside read [] ∙ same done ∙ ap (λ k. get_or old k []) (sym is) in
+    ap (λ r. is_among r l) (here ∙ e) ∙ list_any-append (same_location l) row (location ∷ []) ∙ turned (is_among row l) (same_location l location)
+    ∙ ap (λ r. same_location l location || is_among r l) was)
+    (λ o. ap (λ r. is_among r l) (get_or-set_other rows done n more [] o ∙ same n))
+
+pub block_more : (old blocks : List (Vec (List Loc))) (block done : ℕ) (rows more : Vec (List Loc)) (location : Loc) → SameLists blocks old → block < length blocks → rows ≡ get_or blocks block rows
     → ((n : ℕ) (l : Loc) → told_here more.items n l ≡ (((n == done) && same_location l location) || told_here rows.items n l))
     → (b n : ℕ) (l : Loc) → told_in_block (slice_set blocks block more) b n l ≡ (((b == block) && ((n == done) && same_location l location)) || told_in_block old b n l)
 block_more old blocks block done rows more location same inside read e b n l =
@@ -71,7 +81,7 @@ block_more old blocks block done rows more location same inside read e b n l =
     e n l ∙ ap (λ r. s || told_here r n l) (read_list blocks block rows inside read ∙ same block ∙ ap (λ k. get_or (lists_of old) k []) (sym is'))) (λ o. absurd (o is)))
     (λ o. at_place b block s (told_here (get_or (lists_of blocks) b []) n l) (told_in_block old b n l) (λ is. absurd (o is)) (λ o'. ap (λ r. told_here r n l) (same b)))
 
-pub graph_more : (old graphs : List (Vec (Vec (Vec Loc)))) (want : Want) (blocks more : Vec (Vec (Vec Loc))) → SameLists graphs old → want.at.graph < length graphs → blocks ≡ get_or graphs want.at.graph blocks
+pub graph_more : (old graphs : List (Vec (Vec (List Loc)))) (want : Want) (blocks more : Vec (Vec (List Loc))) → SameLists graphs old → want.at.graph < length graphs → blocks ≡ get_or graphs want.at.graph blocks
     → ((b n : ℕ) (l : Loc) → told_in_block more.items b n l ≡ (((b == want.at.block) && ((n == want.at.done) && same_location l want.location)) || told_in_block blocks.items b n l))
     → (x : Want) → told_in (slice_set graphs want.at.graph more) x ≡ (same_want x want || told_in old x)
 graph_more old graphs want blocks more same inside read e x =

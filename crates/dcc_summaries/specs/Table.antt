@@ -13,31 +13,31 @@ lists_of lists = map (λ v. v.items) lists
 
 -- The locations of so many statements done, of a block and of a graph; a list that isn't there is empty.
 
-abbrev pub row_of : List (Vec Loc) → ℕ → List Loc
-row_of rows done = get_or (lists_of rows) done []
+abbrev pub row_of : List (List Loc) → ℕ → List Loc
+row_of rows done = get_or rows done []
 
-abbrev pub block_rows : List (Vec (Vec Loc)) → ℕ → List (Vec Loc)
+abbrev pub block_rows : List (Vec (List Loc)) → ℕ → List (List Loc)
 block_rows blocks block = get_or (lists_of blocks) block []
 
-abbrev pub graph_rows : List (Vec (Vec (Vec Loc))) → ℕ → List (Vec (Vec Loc))
+abbrev pub graph_rows : List (Vec (Vec (List Loc))) → ℕ → List (Vec (List Loc))
 graph_rows graphs place = get_or (lists_of graphs) place []
 
 -- the locations before a point
-abbrev pub row_at : List (Vec (Vec (Vec Loc))) → Point → List Loc
+abbrev pub row_at : List (Vec (Vec (List Loc))) → Point → List Loc
 row_at graphs at = row_of (block_rows (graph_rows graphs at.graph) at.block) at.done
 
 -- Whether a location is among them.
 
-abbrev pub told_here : List (Vec Loc) → ℕ → Loc → Bool
+abbrev pub told_here : List (List Loc) → ℕ → Loc → Bool
 told_here rows done location = is_among (row_of rows done) location
 
-abbrev pub told_in_block : List (Vec (Vec Loc)) → ℕ → ℕ → Loc → Bool
+abbrev pub told_in_block : List (Vec (List Loc)) → ℕ → ℕ → Loc → Bool
 told_in_block blocks block done location = told_here (block_rows blocks block) done location
 
-abbrev pub told_in_graph : List (Vec (Vec (Vec Loc))) → ℕ → ℕ → ℕ → Loc → Bool
+abbrev pub told_in_graph : List (Vec (Vec (List Loc))) → ℕ → ℕ → ℕ → Loc → Bool
 told_in_graph graphs place block done location = told_in_block (graph_rows graphs place) block done location
 
-abbrev pub told_in : List (Vec (Vec (Vec Loc))) → Want → Bool
+abbrev pub told_in : List (Vec (Vec (List Loc))) → Want → Bool
 told_in graphs x = told_in_graph graphs x.at.graph x.at.block x.at.done x.location
 
 -- the two are one

@@ -9,8 +9,8 @@ ghost use Rattle.dcc_summaries.specs.Table.{told_in, same_want};
 ghost use Rattle.dcc_summaries.specs.Points.{next_point};
 
 use crate::points::Point;
+use dcc_flow::Locations;
 use dcc_ir::Loc;
-use dcc_modref::is_among;
 use std::alloc::{AllocError, Global};
 
 /// A location that is wanted before a point.
@@ -24,7 +24,7 @@ pub struct Want {
 #[derive(Drop)]
 pub struct Wants {
     /// By the places of graphs, the places of their blocks, and the number of statements that are done.
-    pub rows: Vec<Vec<Vec<Vec<Loc>>>>,
+    pub rows: Vec<Vec<Vec<Locations>>>,
 }
 
 // The list has the place; what is added is empty.
@@ -42,17 +42,28 @@ fn make_room<T: Drop>(
     Ok(())
 }
 
+// The lists of a block have the place; what is added is empty.
+fn make_row(alloc: Global, rows: &mut Vec<Locations>, done: usize) -> Result<(), AllocError>
+    ensures same { (n : ℕ) → row_of rows.new.items n ≡ row_of rows.old.items n }
+    ensures room { OnOk result (done < length rows.new.items) }
+{
+    while rows.len() <= done {
+        rows.push(Locations::new(alloc))?;
+    }
+    Ok(())
+}
+
 // The location is put into the list of so many statements done.
 fn add_in_block(
     alloc: Global,
-    rows: &mut Vec<Vec<Loc>>,
+    rows: &mut Vec<Locations>,
     done: usize,
     location: Loc,
 ) -> Result<(), AllocError>
     ensures { OnOk result ((n : ℕ) (l : LocOf) → told_here rows.new.items n l
         ≡ ((n == done) && same_location l location || told_here rows.old.items n l)) }
 {
-    make_room(alloc, rows, done)?;
+    make_row(alloc, rows, done)?;
     rows[done].push(location)?;
     Ok(())
 }
@@ -60,7 +71,7 @@ fn add_in_block(
 // The same for a point of a graph.
 fn add_in_graph(
     alloc: Global,
-    blocks: &mut Vec<Vec<Vec<Loc>>>,
+    blocks: &mut Vec<Vec<Locations>>,
     want: Want,
 ) -> Result<(), AllocError>
     ensures { OnOk result ((b n : ℕ) (l : LocOf) → told_in_block blocks.new.items b n l
@@ -73,7 +84,7 @@ fn add_in_graph(
 }
 
 // The list of one more statement done.
-fn row_after(rows: &[Vec<Loc>], done: usize) -> &[Loc]
+fn row_after(rows: &[Locations], done: usize) -> &[Loc]
     ensures { result.now ≡ row_of rows.now (suc done) }
 {
     let Some(rest) = rows.get(done..) else {
@@ -87,7 +98,7 @@ fn row_after(rows: &[Vec<Loc>], done: usize) -> &[Loc]
 
 impl Wants {
     // The lists of the block in which a point stands.
-    fn rows_at(&self, at: Point) -> &[Vec<Loc>]
+    fn rows_at(&self, at: Point) -> &[Locations]
         ensures { result.now ≡ block_rows (graph_rows self.now.rows.items at.graph) at.block }
     {
         let Some(blocks) = self.rows.get(at.graph) else {
@@ -120,7 +131,10 @@ impl Wants {
     pub fn has(&self, want: Want) -> bool
         ensures { result ≡ told_in self.now.rows.items want }
     {
-        is_among(self.before(want.at), want.location)
+        match self.rows_at(want.at).get(want.at.done) {
+            Some(row) => row.contains(want.location),
+            None => false,
+        }
     }
 
     /// It becomes known.

@@ -1,13 +1,13 @@
-use Rattle.std.proofs.Common.{◌≡◌, ◌<◌, ◌≤◌, ◌+◌, ◌-◌, ◌*◌, ℕ, Bool, List, [], ◌++◌, length, get_or, take, All, ap, sym, ◌∙◌, subst, arith}
+use Rattle.std.proofs.Common.{◌≡◌, ◌<◌, ◌≤◌, ◌+◌, ◌*◌, ℕ, Bool, List, [], length, get_or, All, ap, sym, ◌∙◌, subst, arith}
 use Rattle.std.proofs.lemmas.List.{get_or_read}
 use Rattle.std.proofs.lemmas.List.Elements.{All-get_or, All-from_get_or}
 use Rattle.dcc_flow.specs.Edges.{rows}
 use Rattle.dcc_flow.specs.Bits.{words_for}
-use Rattle.dcc_flow.specs.Uses.{AreLists}
-use Rattle.dcc_flow.specs.Work.{work_of}
+use Rattle.dcc_flow.specs.Uses.{AreLists, AreUses}
+use Rattle.dcc_flow.specs.Work.{Work, work_of}
 use Rattle.dcc_flow.proofs.RowLaws.{row_read, length_rows}
 use Rattle.dcc_flow.proofs.SourceLaws.{in_at, predecessor_within}
-use Rattle.dcc_flow.proofs.WorkLaws.{last_inside, answered, Turn, turn_going, turn_less, turn_steps, turn_bound, start_steps, start_going}
+use Rattle.dcc_flow.proofs.WorkLaws.{queued_inside, answered, Turn, turn_going, turn_less, turn_steps, turn_bound, taken_kept, start_steps, start_going}
 use Rattle.dcc_flow.proofs.uses.solve.Given.{Over}
 use Rattle.dcc_flow.proofs.uses.solve.Goals.{After-sources-in-Some-1, After-flow_from-arg-1}
 use Rattle.dcc_flow.proofs.uses.solve.Goals as goal
@@ -18,21 +18,21 @@ loop-block-init g c =
     let used = c.args.used.now.items in
     let written = c.args.written.now.items in
     let sources = rows c.in_ok-sources.sources.items in
-    let count : c.len.result ≡ length next = omega (arith, length_rows c.args.next.now.items) in
+    let count = length c.args.next.now.items in
+    let same : count ≡ length next = sym (length_rows c.args.next.now.items) in
     let are = c.in_ok-sources.ensures.sources in
     let first = work_of c.in_ok-work.work in
     record {
-      going = start_going next sources used written c.args.len are first c.len.result c.in_ok-work.ensures count;
-      steps = start_steps next sources used written c.args.len are first c.len.result c.args.steps.now
-          (words_for c.args.len) c.in_ok-work.ensures count c.in_ok-sources.ensures.few;
+      going = start_going next sources used written c.args.len are first count c.in_ok-work.ensures same;
+      steps = start_steps next sources used written c.args.len are first count c.args.steps.now
+          (words_for c.args.len) c.in_ok-work.ensures same c.in_ok-sources.ensures.few;
     }
 
--- the last block that waits is one of the graph
+-- the block that is taken is one of the graph
 inside : (g : Over) (c : After-sources-in-Some-1 g) → c.in-Some.block < length (rows c.args.next.now.items)
 inside g c =
-    last_inside (rows c.args.next.now.items) c.args.used.now.items c.args.written.now.items c.args.len
-    (work_of c.loop-block.work) c.in-Some.block c.pop.new.self.items c.in-Some.ensures.items
-    c.loop-block.invariant.going.kept
+    queued_inside (rows c.args.next.now.items) c.args.used.now.items c.args.written.now.items c.args.len
+    (work_of c.loop-block.work) c.in-Some.block c.in-Some.ensures.waits c.loop-block.invariant.going.kept
 
 pub index-requires : goal.index-requires
 index-requires g c =
@@ -54,7 +54,7 @@ block_inside g c = inside g (goal.at.flow_from-requires-clause-block g c).After-
 -- what the code read of the turn
 turn : (g : Over) (c : After-flow_from-arg-1 g)
     → Turn (rows c.args.next.now.items) (rows c.in_ok-sources.sources.items) c.args.used.now.items
-    c.args.written.now.items c.args.len (work_of c.loop-block.work) c.in-Some.block c.pop.new.self.items
+    c.args.written.now.items c.args.len (work_of c.loop-block.work) (work_of c.take.new.self) c.in-Some.block
     c.as_slice.result.now c.index-in-Some.result.now c.index-in-Some-2.result.now
 turn g c =
     let block = c.in-Some.block in
@@ -70,7 +70,7 @@ turn g c =
     record {
       predecessors = are;
       going = c.loop-block.invariant.going;
-      waits = c.in-Some.ensures.items;
+      takes = c.in-Some.ensures;
       tos_is = c.as_slice.ensures.value ∙ row_read vs block c.index.result.now listed c.index.ensures;
       uses_is = get_or_read used block c.index-in-Some.result.now uses c.index-in-Some.ensures [];
       writes_is = get_or_read written block c.index-in-Some-2.result.now writes c.index-in-Some-2.ensures [];
@@ -88,7 +88,7 @@ used_size g c =
     c.requires.used (omega (arith, block_inside g c, length_rows c.args.next.now.items)) (turn g c).uses_is
 
 pub flow_from-requires-clause-block : goal.flow_from-requires-clause-block
-flow_from-requires-clause-block g c = omega (arith, block_inside g c, c.loop-block.invariant.going.kept.count)
+flow_from-requires-clause-block g c = omega (arith, block_inside g c, (taken_kept (turn g c)).count)
 
 pub flow_from-requires-clause-sources : goal.flow_from-requires-clause-sources
 flow_from-requires-clause-sources g c =
@@ -96,16 +96,19 @@ flow_from-requires-clause-sources g c =
     let block = c.in-Some.block in
     let row = get_or (rows c.in_ok-sources.sources.items) block [] in
     let below = block_inside g c in
-    subst (λ l. All (λ source. source < length c.loop-block.work.answer.items) l) (sym (turn g c).tos_is)
-    (All-from_get_or (λ source. source < length c.loop-block.work.answer.items) row 0 (λ i less.
+    subst (λ l. All (λ source. source < length c.take.new.self.answer.items) l) (sym (turn g c).tos_is)
+    (All-from_get_or (λ source. source < length c.take.new.self.answer.items) row 0 (λ i less.
     let edge = sym (c.in_ok-sources.ensures.sources.exact (get_or row i 0) block below) ∙ in_at row i less in
     let there = predecessor_within next (get_or row i 0) block edge in
-    omega (arith, there, c.loop-block.invariant.going.kept.count)))
+    omega (arith, there, (taken_kept (turn g c)).count)))
+
+pub flow_from-requires-clause-queued : goal.flow_from-requires-clause-queued
+flow_from-requires-clause-queued g c = let kept = taken_kept (turn g c) in kept.flags ∙ sym kept.count
 
 pub flow_from-requires-clause-lists : goal.flow_from-requires-clause-lists
 flow_from-requires-clause-lists g c =
-    let kept = c.loop-block.invariant.going.kept in
-    All-from_get_or (λ l. length l ≡ length c.index-in-Some.result.now) c.loop-block.work.answer.items [] (λ b less.
+    let kept = taken_kept (turn g c) in
+    All-from_get_or (λ l. length l ≡ length c.index-in-Some.result.now) c.take.new.self.answer.items [] (λ b less.
     kept.size b (omega (arith, less, kept.count)) ∙ sym (used_size g c))
 
 pub flow_from-requires-clause-written : goal.flow_from-requires-clause-written
@@ -146,8 +149,9 @@ returns-in_err-flow_from-clause-cost g c =
 
 pub returns-clause-exact : goal.returns-clause-exact
 returns-clause-exact g c =
-    let last : c.pop.new.self.items ≡ [] =
-    c.in_default.ensures.rest ∙ ap (λ n. take (n - 1) c.loop-block.work.pending.items) c.in_default.ensures.cases.0 in
-    let none : c.loop-block.work.pending.items ≡ [] = c.in_default.ensures.items ∙ ap (λ l. l ++ []) last in
-    answered (rows c.args.next.now.items) c.args.used.now.items c.args.written.now.items c.args.len c.requires.next
-    (work_of c.loop-block.work) none c.loop-block.invariant.going
+    let next = rows c.args.next.now.items in
+    let used = c.args.used.now.items in
+    let written = c.args.written.now.items in
+    subst (λ (w : Work). AreUses next used written c.args.len w.answer) (sym c.in_default.ensures.1)
+    (answered next used written c.args.len c.requires.next (work_of c.loop-block.work) c.in_default.ensures.0
+    c.loop-block.invariant.going)

@@ -21,7 +21,7 @@ loop-source-preserved g c =
     let far : to < length c.args.self.now.answer.items = c.requires.sources i 0 inside in
     let within : to < length w.answer = omega (arith, far, c.loop-source.invariant.count) in
     let is = with_answer_is w to bits (omega (arith, within, c.loop-source.invariant.flags)) in
-    let work = c.in_ok-flow_to.ensures.work in
+    let work = c.flow_to.ensures.work in
     let answer = ap (λ (x : Work). x.answer) work ∙ is.answer_is in
     let flags = ap (λ (x : Work). length x.queued) work ∙ is.flags in
     let size = ap length answer ∙ length-set w.answer to bits in
@@ -33,5 +33,5 @@ loop-source-preserved g c =
       lists = subst (λ l. All (λ b. length b ≡ length used) l) (sym answer) (All-set (λ b. length b ≡ length used) w.answer to bits row c.loop-source.invariant.lists);
       count = size ∙ c.loop-source.invariant.count;
       flags = flags ∙ c.loop-source.invariant.flags ∙ sym size;
-      steps = omega (arith, one, c.in_ok-flow_to.ensures.cost, c.loop-source.invariant.steps);
+      steps = omega (arith, one, c.flow_to.ensures.cost, c.loop-source.invariant.steps);
     }

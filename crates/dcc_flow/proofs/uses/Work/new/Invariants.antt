@@ -1,9 +1,0 @@
-use Rattle.std.proofs.Common.{◌≡◌, false, replicate}
-use Rattle.std.specs.List.{range_with_len}
-use Rattle.dcc_flow.proofs.uses.Work.new.Given as goal
-
-abbrev pub invariant-loop-block : goal.invariant-loop-block
-invariant-loop-block l = record {
-  answer : l.answer.items ≡ replicate l.block (replicate l.len false);
-  pending : l.pending.items ≡ range_with_len 0 l.block;
-}
