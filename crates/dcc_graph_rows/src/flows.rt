@@ -5,10 +5,9 @@ ghost use Rattle.dcc_ir.specs.Views.{graph_of};
 ghost use Rattle.dcc_ir.specs.WellFormed.{IsGraph};
 ghost use Rattle.dcc_flow.specs.Uses.{AreLists};
 
-use crate::graphs::{Exit, Line, graph};
+use crate::graphs::bare_graph;
 use dcc_flow::{Bits, Steps, order, preds, solve, successors};
 use dcc_ir::Graph;
-use dcc_num::{FlagName, Reg};
 use std::alloc::{AllocError, Global};
 use std::marker::Brand;
 use std::process::Abort;
@@ -121,28 +120,6 @@ const CASES: [(&str, Case); 9] = [
     ("self loops", SELF_LOOPS),
     ("switch with repeats", SWITCH_WITH_REPEATS),
 ];
-
-// A block without statements, which leads to these.
-fn line_to(blocks: &'static [u32]) -> Line {
-    let exit = match blocks {
-        [] => Exit::Stop,
-        [block] => Exit::Goto(*block),
-        [one, other] => Exit::If(FlagName::Cf, *one, *other),
-        _ => Exit::Switch(Reg::Ax, blocks),
-    };
-    Line(&[], exit)
-}
-
-// A graph of blocks without statements, which lead to these.
-fn bare_graph(rt: &impl Abort, alloc: Global, next: &[&'static [u32]]) -> Result<Graph, AllocError>
-    ensures { IfOk result (λ graph. IsGraph (graph_of graph)) }
-{
-    let mut lines = Vec::new(alloc);
-    for blocks in next {
-        lines.push(line_to(blocks))?;
-    }
-    graph(rt, alloc, lines.as_slice())
-}
 
 #[test]
 fn edges_and_order(rt: HostRuntime) -> Result<(), Fail> {

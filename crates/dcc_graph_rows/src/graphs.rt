@@ -323,3 +323,29 @@ pub(crate) fn graph(rt: &impl Abort, alloc: Global, lines: &[Line]) -> Result<Gr
         bits: Vec::new(alloc),
     })
 }
+
+// A block without statements, which leads to these.
+fn line_to(blocks: &'static [u32]) -> Line {
+    let exit = match blocks {
+        [] => Exit::Stop,
+        [block] => Exit::Goto(*block),
+        [one, other] => Exit::If(FlagName::Cf, *one, *other),
+        _ => Exit::Switch(Reg::Ax, blocks),
+    };
+    Line(&[], exit)
+}
+
+// A graph of blocks without statements, which lead to these.
+pub(crate) fn bare_graph(
+    rt: &impl Abort,
+    alloc: Global,
+    next: &[&'static [u32]],
+) -> Result<Graph, AllocError>
+    ensures { IfOk result (λ graph. IsGraph (graph_of graph)) }
+{
+    let mut lines = Vec::new(alloc);
+    for blocks in next {
+        lines.push(line_to(blocks))?;
+    }
+    graph(rt, alloc, lines.as_slice())
+}

@@ -10,4 +10,6 @@ mod functions;
 #[cfg(test)]
 mod graphs;
 #[cfg(test)]
+mod intervals;
+#[cfg(test)]
 mod living;

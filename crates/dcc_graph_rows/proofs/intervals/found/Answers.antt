@@ -1,0 +1,13 @@
+use Rattle.std.proofs.Common.{sym, subst}
+use Rattle.dcc_ir.specs.Views.{graph_of}
+use Rattle.dcc_flow.specs.Edges.{AreWithin}
+use Rattle.dcc_flow.proofs.RowLaws.{successors_within}
+use Rattle.dcc_graph_rows.proofs.intervals.found.Goals as goal
+
+pub derived-requires-clause-within : goal.derived-requires-clause-within
+derived-requires-clause-within g c =
+    subst AreWithin (sym c.in_ok-next.ensures) (successors_within (graph_of c.args.graph.now) c.requires)
+
+pub loop_headers-requires-clause-within : goal.loop_headers-requires-clause-within
+loop_headers-requires-clause-within g c =
+    subst AreWithin (sym c.in_ok-next.ensures) (successors_within (graph_of c.args.graph.now) c.requires)

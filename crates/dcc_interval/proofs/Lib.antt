@@ -1,0 +1,13 @@
+pub mod IntervalLaws
+pub mod PlaceLaws
+pub mod PartLaws
+pub mod NotedLaws
+pub mod ReachLaws
+pub mod GrowthLaws
+pub mod PartedLaws
+pub mod CollapseLaws
+pub mod SequenceLaws
+pub mod GreatestLaws
+pub mod JoinLaws
+pub mod PartingLaws
+pub mod LoopLaws

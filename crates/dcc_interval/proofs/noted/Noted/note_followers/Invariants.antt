@@ -1,0 +1,11 @@
+use Rattle.std.proofs.Common.{◌≡◌, length, drop}
+use Rattle.dcc_flow.specs.Edges.{rows}
+use Rattle.dcc_interval.specs.Noted.{noted_of, with_all_noted, followers}
+use Rattle.dcc_interval.proofs.noted.Noted.note_followers.Given as goal
+
+abbrev pub invariant-loop-node : goal.invariant-loop-node
+invariant-loop-node l = record {
+  count : length l.self.marks.items ≡ length l.initial.self.marks.items;
+  rest : with_all_noted (noted_of l.self) (followers (rows l.next.items) (drop l.node-index l.nodes))
+      ≡ with_all_noted (noted_of l.initial.self) (followers (rows l.next.items) l.nodes);
+}

@@ -1,0 +1,14 @@
+//! Laws of intervals. The functions do nothing: their contracts are proved for all graphs.
+
+ghost use Rattle.dcc_interval.specs.Laws.{IntervalsPartGraphs, IntervalsAreGreatest};
+
+/// Each node that is reached is in just one of the intervals that part a graph.
+pub fn intervals_part_graphs()
+    ensures { IntervalsPartGraphs }
+{}
+
+/// The interval of a header is the greatest subgraph that is entered at the header alone and in which each closed path
+/// holds it.
+pub fn intervals_are_greatest()
+    ensures { IntervalsAreGreatest }
+{}
