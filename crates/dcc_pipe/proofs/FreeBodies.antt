@@ -23,8 +23,8 @@ use Rattle.dcc_variables.specs.Functions.{parameter_name, parameter_class, param
 use Rattle.dcc_variables.proofs.FramePlaces.{memory-within}
 use Rattle.dcc_variables.proofs.NoAddresses.{body-takes, texts-take-none}
 use Rattle.dcc_variables.proofs.ParamNames.{places-same}
-use Rattle.dcc_plan.specs.Plan as plan
-use Rattle.dcc_plan.specs.Plan.{Plan, Item}
+use Rattle.dcc_control.specs.Plan as plan
+use Rattle.dcc_control.specs.Plan.{Plan, Item}
 use Rattle.dcc_plan.specs.PlanText.{text_of_test, text_of_choice, text_of_return, IsPlanText, nothing, one_more, IsItemText, does, marks, jumps, tests, chooses, returns, repeats, breaks, continues, AreArmsText, no_more, next_arm}
 use Rattle.dcc_pipe.proofs.OpeningLines.{is_assignment}
 

@@ -1,7 +1,7 @@
 -- The text of a plan is its text, whatever the numbers of its lines.
 use Rattle.dcc_ir.specs.Tree as inner
 use Rattle.dcc_text.specs.Spelling.{Spelling}
-use Rattle.dcc_plan.specs.Plan.{Item, Do, Mark, Jump, If, Switch, Return, For, Break, Continue, Plan, no_items, item, Arms, no_arms, arm}
+use Rattle.dcc_control.specs.Plan.{Item, Do, Mark, Jump, If, Switch, Return, For, Break, Continue, Plan, no_items, item, Arms, no_arms, arm}
 use Rattle.dcc_plan.specs.PlanText.{plan_text, item_text, arms_text, IsPlanText, nothing, one_more, IsItemText, does, marks, jumps, tests, chooses, returns, repeats, breaks, continues, AreArmsText, no_more, next_arm}
 
 -- The lines of a plan's text are its text.

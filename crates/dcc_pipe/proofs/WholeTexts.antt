@@ -25,11 +25,11 @@ use Rattle.dcc_plan.specs.CallLaws.{IsBeginning}
 use Rattle.dcc_plan.specs.Calls.{all_places, locations_differ, IsNamed, IsCallable, AreFunctions}
 use Rattle.dcc_plan.specs.PlanText.{plan_text, IsPlanText}
 use Rattle.dcc_plan.specs.Programs.{Texts, OpensWith, IsGraphText, open_setting, GivesFew, IsProgramText, AreAllKept}
-use Rattle.dcc_plan.specs.Valid.{IsPlanOf, BeginsAll, only_goes}
-use Rattle.dcc_plan.specs.Plan.{is_begun}
-use Rattle.dcc_plan.specs.GotoPlan.{goto_plan}
-use Rattle.dcc_plan.proofs.CompleteLaws.{completed-valid}
-use Rattle.dcc_plan.proofs.GotoLaws.{goto-valid}
+use Rattle.dcc_control.specs.Valid.{IsPlanOf, BeginsAll, only_goes}
+use Rattle.dcc_control.specs.Plan.{is_begun}
+use Rattle.dcc_control.specs.GotoPlan.{goto_plan}
+use Rattle.dcc_control.proofs.CompleteLaws.{completed-valid}
+use Rattle.dcc_control.proofs.GotoLaws.{goto-valid}
 use Rattle.dcc_plan.proofs.TextLaws.{numbered-text}
 use Rattle.dcc_pipe.specs.WholeText.{control, opened, text_function, other_functions, text_functions, whole_text}
 use Rattle.dcc_pipe.proofs.MatteringLaws.{mattering, mattering-matters, matters-opened, opened-named}

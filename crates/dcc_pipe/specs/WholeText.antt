@@ -7,11 +7,11 @@ use Rattle.dcc_ir.specs.Run.{graph_at}
 use Rattle.dcc_ir.specs.WellFormed.{all_ret_widths}
 use Rattle.dcc_live.specs.Start.{begins_live}
 use Rattle.dcc_c.specs.Tree.{Word, Stmt, Lines, line, Function, Tree}
-use Rattle.dcc_plan.specs.Plan.{Plan}
+use Rattle.dcc_control.specs.Plan.{Plan}
 use Rattle.dcc_plan.specs.Programs.{GivesFew}
 use Rattle.dcc_plan.specs.PlanText.{plan_text}
-use Rattle.dcc_plan.specs.GotoPlan.{goto_plan}
-use Rattle.dcc_plan.specs.Complete.{completed}
+use Rattle.dcc_control.specs.GotoPlan.{goto_plan}
+use Rattle.dcc_control.specs.Complete.{completed}
 use Rattle.dcc_variables.specs.Globals.{globals_of}
 use Rattle.dcc_variables.specs.FunctionLaws.{HasFewNames}
 use Rattle.dcc_variables.specs.Functions.{function_name, function_spelling, function_of, openings}

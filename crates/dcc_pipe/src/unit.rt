@@ -11,10 +11,10 @@ ghost use Rattle.dcc_pipe.specs.WholeText as spec;
 ghost use Rattle.dcc_pipe.specs.Lines.{fresh_line};
 
 use dcc_c::{CStmt, Func, Line, Unit};
+use dcc_control::complete::completed;
+use dcc_control::goto_plan::goto_plan;
 use dcc_ir::{Graph, IrProgram};
 use dcc_live::live_at_start;
-use dcc_plan::complete::completed;
-use dcc_plan::goto_plan::goto_plan;
 use dcc_plan::plan_text::plan_text;
 use dcc_variables::{Head, function_name, image_arrays, openings, result_type};
 use std::alloc::{AllocError, Global};

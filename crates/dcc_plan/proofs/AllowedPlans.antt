@@ -34,11 +34,11 @@ use Rattle.dcc_text.proofs.Depths.{shallow}
 use Rattle.dcc_text.proofs.TypedTexts.{text-allowed}
 use Rattle.dcc_variables.specs.Functions.{ret_text}
 use Rattle.dcc_plan.specs.Allowed.{is_mark, has_an_arm, may_stand, item_may_stand, arms_may_stand, may_give, may_return, CallsFit, ReturnsFit, IsSpelled, PlanTextsAreAllowed}
-use Rattle.dcc_plan.specs.Plan as plan
-use Rattle.dcc_plan.specs.Plan.{Item, Plan, no_items, item, Arms, marks, item_marks, arm_marks, is_in, all_cases}
+use Rattle.dcc_control.specs.Plan as plan
+use Rattle.dcc_control.specs.Plan.{Item, Plan, no_items, item, Arms, marks, item_marks, arm_marks, is_in, all_cases}
 use Rattle.dcc_plan.specs.PlanText as planned
 use Rattle.dcc_plan.specs.PlanText.{text_of_stmt, text_of_test, text_of_choice, text_of_return, IsPlanText, nothing, one_more, IsItemText, AreArmsText, no_more, next_arm}
-use Rattle.dcc_plan.specs.Valid.{Context, outside, IsValid, IsValidItem, AreValidArms}
+use Rattle.dcc_control.specs.Valid.{Context, outside, IsValid, IsValidItem, AreValidArms}
 use Rattle.dcc_plan.proofs.LabelWords.{label, label-word, label-among, labels-apart}
 
 -- a test that holds of all elements holds of each

@@ -30,16 +30,16 @@ use Rattle.dcc_text.specs.Stmts.{stmt_text}
 use Rattle.dcc_text.specs.Holding.{Locations, IsWithin, HoldsFrame, Holds, HoldsOrEnds, IsWaiting}
 use Rattle.dcc_text.specs.Laws.{IsStep}
 use Rattle.dcc_text.proofs.StmtLaws.{statements-step}
-use Rattle.dcc_plan.specs.Plan as plan
-use Rattle.dcc_plan.specs.Plan.{Item, Plan, Arms, is_in, is_begun, arm_with}
+use Rattle.dcc_control.specs.Plan as plan
+use Rattle.dcc_control.specs.Plan.{Item, Plan, Arms, is_in, is_begun, arm_with}
 use Rattle.dcc_plan.specs.PlanText as planned
 use Rattle.dcc_plan.specs.PlanText.{text_of_stmt, text_of_test, text_of_choice, text_of_return, IsPlanText, IsItemText, AreArmsText}
 use Rattle.dcc_plan.specs.Programs.{IsGraphText}
-use Rattle.dcc_plan.specs.Valid as valid
-use Rattle.dcc_plan.specs.Valid.{Point, Begin, Before, Nowhere, Leads, Context, item_entry, entry, only_goes, in_sides, in_arms, IsValid, IsValidItem, AreValidArms}
+use Rattle.dcc_control.specs.Valid as valid
+use Rattle.dcc_control.specs.Valid.{Point, Begin, Before, Nowhere, Leads, Context, item_entry, entry, only_goes, in_sides, in_arms, IsValid, IsValidItem, AreValidArms}
 use Rattle.dcc_plan.specs.Laws.{IsCallStep, AreSteps}
-use Rattle.dcc_plan.proofs.LabelLaws.{block-at}
-use Rattle.dcc_plan.proofs.ListLaws.{drop-first, drop-next, drop-less, drop-all}
+use Rattle.dcc_control.proofs.ListLaws.{block-at}
+use Rattle.dcc_control.proofs.ListLaws.{drop-first, drop-next, drop-less, drop-all}
 use Rattle.dcc_plan.proofs.Rests.{AreBegun, ArmsBegun, Sound, SoundItem, whole-begun, lines_count, inside_count, arms_count, left, is_jumping, Stands, AtItem, AtTurn, Head, at_item, at_turn, at_end, head, Lands, break-lands, IsStart, is_nowhere, is_begin, continue-starts}
 use Rattle.dcc_plan.proofs.Rests as rests
 use Rattle.dcc_plan.proofs.Settings.{AreNamed, debts, rests_of, limit_of, StandsAt, Continuing, setting_of, Premises}
@@ -98,7 +98,7 @@ module _ (G : Premises) (graph : inner.Graph) (inside : Contains G.p.graphs grap
   exit-formed : (b : ℕ) → b < length graph.blocks → is_exit graph.bits (length graph.blocks) (block_in graph b).exit ≡ true
   exit-formed b known =
       (and_parts (list_all (is_stmt graph.bits) (block_in graph b).stmts) (is_exit graph.bits (length graph.blocks) (block_in graph b).exit)
-      (all_at (is_block graph.bits (length graph.blocks)) graph.blocks (block_in graph b) well.blocks (contained graph.blocks b (block_in graph b) (block-at graph well b known)))).1
+      (all_at (is_block graph.bits (length graph.blocks)) graph.blocks (block_in graph b) well.blocks (contained graph.blocks b (block_in graph b) (block-at graph b known)))).1
 
   -- the text's step from a continuation on
   pub steps-from : (k : Continuation) (t : c.State) → is_over t.end ≡ false → c_step (goes_on k t) ≡ step_at text k (goes_on k t)
@@ -170,7 +170,7 @@ module _ (G : Premises) (graph : inner.Graph) (inside : Contains G.p.graphs grap
     module _ (b m next : ℕ) (i : run.State) (t : c.State) (mid : Midway extra b m [] i t) (there : next < length graph.blocks) (target : Contains (targets (block_in graph b).exit) next)
         (goes : run.going_to next i ≡ last) where
       entered : run.entering (Some (block_in graph next)) i ≡ last
-      entered = ap (λ o. run.entering o i) (sym (block-at graph well next there) ∙ ap (λ g. slice_get g.blocks next) (sym mid.graph_is)) ∙ goes
+      entered = ap (λ o. run.entering o i) (sym (block-at graph next there) ∙ ap (λ g. slice_get g.blocks next) (sym mid.graph_is)) ∙ goes
 
       arrives : (k : Continuation) (context : Context) (point : Point) (leads : Leads graph begun (Begin next) point) → Standing k context → context.next ≡ point → left k ≤ limit
           → Comes true (suc (moves leads)) (goes_on k t)
@@ -697,7 +697,7 @@ module _ (G : Premises) (graph : inner.Graph) (inside : Contains G.p.graphs grap
               let called = subst (AreCalled G.texts p graph) those mid.called in
               let callers = subst (AreCallers p graph) those (subst (λ g. AreCallers p g i.waiting) mid.graph_is mid.placed.callers) in
               let y = caller-goes-on G values w waiting v others x.at i past mid.filled (results-named G.texts p graph i.waiting mid.called) mid.running those other_waits mid.fit graph own mid.graph_is mid.block_is
-              inside called.0 (contained graph.blocks b own (block-at graph well b mid.known)) is_ret (within-end (inner.Ret values) is_ret) callers mid.function held
+              inside called.0 (contained graph.blocks b own (block-at graph b mid.known)) is_ret (within-end (inner.Ret values) is_ret) callers mid.function held
               in
               let z = is-returned (map (run.value_in i) values) w waiting i in
               let back : run.State = run.returning (map (run.value_in i) values) (w ∷ waiting) i in

@@ -17,7 +17,7 @@ use Rattle.dcc_ir.specs.Tree.{Stmt, Exit, Goto, If, Switch, Ret, Stop, Block, Gr
 use Rattle.dcc_ir.specs.WellFormed.{is_jump, IsGraph}
 use Rattle.dcc_ir.proofs.ExecuteLaws.{block-first}
 use Rattle.dcc_ir.proofs.StepLaws.{stmt-within, passing-alike, giving-alike}
-use Rattle.dcc_plan.proofs.LabelLaws.{block-at}
+use Rattle.dcc_control.proofs.ListLaws.{block-at}
 
 -- Calls.
 
@@ -49,7 +49,7 @@ is-called fill results depth arguments callee s well =
     in
     let given : State = passing 0 callee.params arguments begun in
     let same = passing-alike 0 callee.params arguments begun in
-    let there : slice_get given.running.graph.blocks 0 ≡ Some (block_in callee 0) = ap (λ (g : Graph). slice_get g.blocks 0) same.graph ∙ block-at callee well 0 well.begins in
+    let there : slice_get given.running.graph.blocks 0 ≡ Some (block_in callee 0) = ap (λ (g : Graph). slice_get g.blocks 0) same.graph ∙ block-at callee 0 well.begins in
     subst (λ o. IsCalled callee results s (entering o given)) (sym there)
     (record { graph = same.graph; block = refl; rest = refl; begins = refl; waiting = same.waiting; end = passing-end 0 callee.params arguments begun })
 

@@ -4,15 +4,14 @@ use Rattle.std.specs.Prelude.{not, codes, slice_get}
 use Rattle.std.specs.List.{list_any}
 use Rattle.std.proofs.lemmas.Bool.{and_parts, or_left, or_right, not-true, cases_Bool, eqb-true, eq-eqb}
 use Rattle.std.proofs.lemmas.List.Elements.{All-contains}
-use Rattle.std.proofs.lemmas.Option.{slice_get-get_or}
 use Rattle.dcc_ir.specs.Tree as inner
 use Rattle.dcc_ir.specs.Live.{block_in}
-use Rattle.dcc_ir.specs.Run.{no_block}
 use Rattle.dcc_ir.specs.WellFormed.{all_differ, IsGraph}
 use Rattle.dcc_ir.proofs.ReachedLaws.{contained}
 use Rattle.dcc_c.specs.Token.{same_bytes}
 use Rattle.dcc_c.proofs.NameLaws.{same_bytes-refl}
 use Rattle.dcc_text.proofs.HexLaws.{name_at-differ}
+use Rattle.dcc_control.proofs.ListLaws.{block-at}
 use Rattle.dcc_plan.specs.Labels.{label_name, label_at}
 
 -- Blocks of a graph.
@@ -45,15 +44,11 @@ one-place (x ∷ blocks) (suc a) (suc b) first second differ is also same =
     ap suc (one-place blocks a b first second others is also same)
 
 module _ (graph : inner.Graph) (well : IsGraph graph) where
-  -- the block at a place
-  pub block-at : (b : ℕ) → b < length graph.blocks → slice_get graph.blocks b ≡ Some (block_in graph b)
-  block-at b less = slice_get-get_or graph.blocks b no_block less
-
   pub label-is : (b : ℕ) → b < length graph.blocks → label_at graph.blocks b ≡ label_name (block_in graph b).at
-  label-is b less = ap (λ o. elim o [ Some block ↦ label_name block.at | None ↦ codes "L" ]) (block-at b less)
+  label-is b less = ap (λ o. elim o [ Some block ↦ label_name block.at | None ↦ codes "L" ]) (block-at graph b less)
 
   address-below : (b : ℕ) → b < length graph.blocks → (block_in graph b).at < 65536
-  address-below b less = All-contains (λ x. x.at < 65536) graph.blocks (block_in graph b) well.offsets (contained graph.blocks b (block_in graph b) (block-at b less))
+  address-below b less = All-contains (λ x. x.at < 65536) graph.blocks (block_in graph b) well.offsets (contained graph.blocks b (block_in graph b) (block-at graph b less))
 
   -- two labels are the same where they are those of one block
   pub label-tested : (a b : ℕ) → a < length graph.blocks → b < length graph.blocks → same_bytes (label_at graph.blocks b) (label_at graph.blocks a) ≡ (a == b)
@@ -61,7 +56,7 @@ module _ (graph : inner.Graph) (well : IsGraph graph) where
     | inl same ↦ ap (λ k. same_bytes (label_at graph.blocks b) (label_at graph.blocks k)) (eqb-true a b same) ∙ same_bytes-refl (label_at graph.blocks b) ∙ sym same
     | inr apart ↦
         let differ : (block_in graph b).at ≡ (block_in graph a).at → ⊥ =
-        λ e. true≢false (sym (eq-eqb a b (sym (one-place graph.blocks b a (block_in graph b) (block_in graph a) well.addresses (block-at b second) (block-at a first) e))) ∙ apart) in
+        λ e. true≢false (sym (eq-eqb a b (sym (one-place graph.blocks b a (block_in graph b) (block_in graph a) well.addresses (block-at graph b second) (block-at graph a first) e))) ∙ apart) in
         ap₂ same_bytes (label-is b second) (label-is a first)
         ∙ name_at-differ (codes "L_") (block_in graph b).at (block_in graph a).at (address-below b second) (address-below a first) differ
         ∙ sym apart

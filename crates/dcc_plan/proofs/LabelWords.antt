@@ -13,7 +13,7 @@ use Rattle.dcc_c.specs.Tree.{Word}
 use Rattle.dcc_c.proofs.NameLaws.{same_bytes-refl}
 use Rattle.dcc_text.proofs.HexLaws.{name_at-name}
 use Rattle.dcc_plan.specs.Labels.{label_name, label_at}
-use Rattle.dcc_plan.specs.Plan.{is_in}
+use Rattle.dcc_control.specs.Plan.{is_in}
 use Rattle.dcc_plan.proofs.LabelLaws.{label-tested}
 
 -- Names.

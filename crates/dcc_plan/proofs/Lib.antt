@@ -9,7 +9,6 @@ pub mod CallSteps
 pub mod Returns
 pub mod FirstStates
 pub mod AllowedCalls
-pub mod ListLaws
 pub mod LabelLaws
 pub mod Rests
 pub mod Settles
@@ -23,17 +22,10 @@ pub mod Stages
 pub mod BlockRuns
 pub mod PlanRuns
 pub mod TextLaws
-pub mod GotoLaws
-pub mod CompleteLaws
 pub mod PlacedItems
 pub mod LabelWords
 pub mod AllowedPlans
 pub mod SpelledGraphs
-pub mod Examples
 pub mod WholeExamples
-pub mod ItemRows
-pub mod GotoSteps
-pub mod TargetLaws
 pub mod TextRows
 pub mod WrittenItems
-pub mod CompletedItems

@@ -10,9 +10,9 @@ use Rattle.dcc_c.specs.Grammar.{outermost, in_switch}
 use Rattle.dcc_c.specs.Rules.{differ}
 use Rattle.dcc_c.proofs.Writable.{are_cases}
 use Rattle.dcc_plan.specs.Allowed.{is_mark, may_stand, item_may_stand, arms_may_stand, GotoPlansMayStand}
-use Rattle.dcc_plan.specs.Complete.{completed_item, after_last, completed}
-use Rattle.dcc_plan.specs.GotoPlan.{jump, do_all, distinct, places_from, target_arms, goto_exit, goto_blocks}
-use Rattle.dcc_plan.specs.Plan.{Item, Do, Mark, Jump, If, Switch, Return, Plan, no_items, item, is_in, all_cases}
+use Rattle.dcc_control.specs.Complete.{completed_item, after_last, completed}
+use Rattle.dcc_control.specs.GotoPlan.{jump, do_all, distinct, places_from, target_arms, goto_exit, goto_blocks}
+use Rattle.dcc_control.specs.Plan.{Item, Do, Mark, Jump, If, Switch, Return, Plan, no_items, item, is_in, all_cases}
 
 -- Numbers that differ.
 

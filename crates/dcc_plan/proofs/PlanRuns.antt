@@ -28,18 +28,18 @@ use Rattle.dcc_text.proofs.FirstRuns.{opening}
 use Rattle.dcc_plan.specs.Calls.{Opens}
 use Rattle.dcc_plan.proofs.FirstStates.{first-states-stand}
 use Rattle.dcc_plan.proofs.Returns.{later-contained}
-use Rattle.dcc_plan.specs.Plan as plan
-use Rattle.dcc_plan.specs.Plan.{Item, Plan, no_items, item, is_begun}
+use Rattle.dcc_control.specs.Plan as plan
+use Rattle.dcc_control.specs.Plan.{Item, Plan, no_items, item, is_begun}
 use Rattle.dcc_plan.specs.PlanText as planned
 use Rattle.dcc_plan.specs.PlanText.{IsPlanText, IsItemText}
 use Rattle.dcc_plan.specs.Programs.{Texts, OpensWith, at_once, one_more, IsGraphText, open_setting, IsProgramText, AreAllKept, text_size, ProgramsCount}
-use Rattle.dcc_plan.specs.Valid as valid
-use Rattle.dcc_plan.specs.Valid.{Point, Begin, Before, Nowhere, Leads, Context, outside, item_entry, entry, turn, only_goes, has_step, IsValid, IsValidItem}
+use Rattle.dcc_control.specs.Valid as valid
+use Rattle.dcc_control.specs.Valid.{Point, Begin, Before, Nowhere, Leads, Context, outside, item_entry, entry, turn, only_goes, has_step, IsValid, IsValidItem}
 use Rattle.dcc_plan.specs.Laws.{AreSteps, IsTextOf, NeverStuck, AreKept, IsCountedBy, TextsCount, PlansCount}
 use Rattle.dcc_plan.proofs.CallStates.{jump-shown}
 use Rattle.dcc_plan.proofs.KeptLeaps.{keeps, paid, IsKeptLeap, leaps_count, leaps_show, leaps_go_on}
-use Rattle.dcc_plan.proofs.LabelLaws.{block-at}
-use Rattle.dcc_plan.proofs.ListLaws.{drop-none}
+use Rattle.dcc_control.proofs.ListLaws.{block-at}
+use Rattle.dcc_control.proofs.ListLaws.{drop-none}
 use Rattle.dcc_plan.proofs.Rests.{Sound, SoundItem, lines_count, inside_count, count-is, left, is_jumping, is_jump_stmt, loop_context, Stands, loops, AtItem, AtTurn, Head, at_item, at_turn, at_end, head}
 use Rattle.dcc_plan.proofs.Rests as rests
 use Rattle.dcc_plan.proofs.CallPremises.{held-there, functions-of, opens-nothing}
@@ -206,7 +206,7 @@ module _ (G : Premises) where
             filled = m.filled;
             running = m.running;
             placed = subst (λ rest. IsWithinAt G.p rest i) m.rest_is within;
-            jumps = All-contains (λ (b : inner.Block). jumps_after_call b.stmts b.exit ≡ true) graph.blocks (block_in graph m.b) graph_well.jumps (contained graph.blocks m.b (block_in graph m.b) (block-at graph graph_well m.b m.known));
+            jumps = All-contains (λ (b : inner.Block). jumps_after_call b.stmts b.exit ≡ true) graph.blocks (block_in graph m.b) graph_well.jumps (contained graph.blocks m.b (block_in graph m.b) (block-at graph m.b m.known));
             spare = λ some callee later. let room = G.spare graph callee inside later in omega (arith, room, within-most);
             fit = m.good.safe.fit;
             steps = (G.each graph inside).matters.steps m.b m.known;
@@ -425,7 +425,7 @@ module _ (G : Premises) where
 
     -- the program's first state
     first-is : run.entering (Some (block_in graph 0)) (opening G.p graph G.fill input) ≡ i0
-    first-is = sym (first_of_graphs-is G.p graph others (block_in graph 0) G.fill input first (block-at graph graph_well 0 graph_well.begins))
+    first-is = sym (first_of_graphs-is G.p graph others (block_in graph 0) G.fill input first (block-at graph 0 graph_well.begins))
 
     abbrev lines : Lines
     lines = G.texts.lines graph
@@ -607,7 +607,7 @@ programs-count opens texts p tree graph others fill input kept is beginning are_
     let first = beginning.graphs in
     let inside = subst (λ graphs. Contains graphs graph) (sym first) (contained (graph ∷ others) 0 graph refl) in
     let graph_well = graph_of p is.well graph inside in
-    let entered = sym (first_of_graphs-is p graph others (block_in graph 0) fill input first (block-at graph graph_well 0 graph_well.begins)) in
+    let entered = sym (first_of_graphs-is p graph others (block_in graph 0) fill input first (block-at graph 0 graph_well.begins)) in
     let i0 : run.State = run.first_state p fill input in
     let t0 : c.State = c.first_state tree (texts.function graph) fill input in
     let there = first-states-stand opens (open_setting texts) p tree graph others fill input beginning in

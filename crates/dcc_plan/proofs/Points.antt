@@ -7,12 +7,12 @@ use Rattle.dcc_c.specs.Run.{arm_for}
 use Rattle.dcc_c.specs.Tree as tree
 use Rattle.dcc_c.specs.Tree.{no_lines}
 use Rattle.dcc_text.specs.Spelling.{Spelling}
-use Rattle.dcc_plan.specs.Plan as plan
-use Rattle.dcc_plan.specs.Plan.{Plan, Arms, is_in, arm_with}
+use Rattle.dcc_control.specs.Plan as plan
+use Rattle.dcc_control.specs.Plan.{Plan, Arms, is_in, arm_with}
 use Rattle.dcc_plan.specs.PlanText as planned
 use Rattle.dcc_plan.specs.PlanText.{IsPlanText, AreArmsText}
-use Rattle.dcc_plan.specs.Valid as valid
-use Rattle.dcc_plan.specs.Valid.{Point, Begin, Before, Nowhere, Leads, Context, IsValid, AreValidArms}
+use Rattle.dcc_control.specs.Valid as valid
+use Rattle.dcc_control.specs.Valid.{Point, Begin, Before, Nowhere, Leads, Context, IsValid, AreValidArms}
 use Rattle.dcc_plan.proofs.Rests.{AreBegun, ArmsBegun, lines_count, arms_count, IsStart, is_nowhere, is_begin}
 
 abbrev pub block_of : Point → ℕ

@@ -14,11 +14,11 @@ use Rattle.dcc_c.specs.Run.{Continuation, ends_function, runs, tests, turns, end
 use Rattle.dcc_text.specs.Spelling.{Spelling}
 use Rattle.dcc_text.specs.Stmts.{stmt_text}
 use Rattle.dcc_plan.specs.Labels.{label_at}
-use Rattle.dcc_plan.specs.Plan as plan
-use Rattle.dcc_plan.specs.Plan.{Item, Plan, no_items, item, Arms, marks, item_marks, arm_marks, turns as turns_of, item_turns, arm_turns, is_in, is_begun}
+use Rattle.dcc_control.specs.Plan as plan
+use Rattle.dcc_control.specs.Plan.{Item, Plan, no_items, item, Arms, marks, item_marks, arm_marks, turns as turns_of, item_turns, arm_turns, is_in, is_begun}
 use Rattle.dcc_plan.specs.PlanText as planned
 use Rattle.dcc_plan.specs.PlanText.{text_of_stmt, text_of_return, IsPlanText, nothing, one_more, IsItemText, AreArmsText}
-use Rattle.dcc_plan.specs.Valid.{Point, Begin, Nowhere, Leads, Context, outside, item_entry, entry, turn, IsValid, IsValidItem, AreValidArms}
+use Rattle.dcc_control.specs.Valid.{Point, Begin, Nowhere, Leads, Context, outside, item_entry, entry, turn, IsValid, IsValidItem, AreValidArms}
 use Rattle.dcc_plan.proofs.LabelLaws.{label-tested}
 
 -- How many statements lines hold, those inside others too.

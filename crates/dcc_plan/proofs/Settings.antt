@@ -13,9 +13,9 @@ use Rattle.dcc_c.specs.Tree.{Tree}
 use Rattle.dcc_text.specs.Holding.{Setting}
 use Rattle.dcc_text.specs.Spelling.{Spelling}
 use Rattle.dcc_plan.specs.Calls.{Opens, AreFunctions}
-use Rattle.dcc_plan.specs.Plan.{is_begun}
+use Rattle.dcc_control.specs.Plan.{is_begun}
 use Rattle.dcc_plan.specs.Programs.{Texts, IsGraphText, IsOpened, GivesFew}
-use Rattle.dcc_plan.specs.Valid.{Point, Before, Leads, Context}
+use Rattle.dcc_control.specs.Valid.{Point, Before, Leads, Context}
 use Rattle.dcc_plan.proofs.Rests.{lines_count, left, Stands}
 
 -- these locations have variables

@@ -10,12 +10,12 @@ use Rattle.dcc_c.specs.Tree.{Word, Stmt, Goto, Lines, line, Function, Tree}
 use Rattle.dcc_c.specs.Run.{Continuation, ends_function, runs, State, goes_on, jump_step, from_label, after_goto, after_break, after_continue, stmt_step, step_at, step}
 use Rattle.dcc_text.specs.Spelling.{Spelling}
 use Rattle.dcc_plan.specs.Labels.{label_at}
-use Rattle.dcc_plan.specs.Plan as plan
-use Rattle.dcc_plan.specs.Plan.{Item, Plan, no_items, item, is_begun}
+use Rattle.dcc_control.specs.Plan as plan
+use Rattle.dcc_control.specs.Plan.{Item, Plan, no_items, item, is_begun}
 use Rattle.dcc_plan.specs.PlanText as planned
 use Rattle.dcc_plan.specs.PlanText.{IsPlanText, IsItemText}
 use Rattle.dcc_plan.specs.Programs.{OpensWith, at_once, one_more}
-use Rattle.dcc_plan.specs.Valid.{Point, Begin, Nowhere, Context, outside, item_entry, entry}
+use Rattle.dcc_control.specs.Valid.{Point, Begin, Nowhere, Context, outside, item_entry, entry}
 use Rattle.dcc_plan.proofs.Rests.{Sound, SoundItem, lines_count, inside_count, left, is_jump_stmt, is_jumping, Stands, closes, goes, Lands, AtItem, at_item, at_turn, at_end, head, break-lands, continue-lands, absent, lands, do-plain, return-plain, search-plan}
 
 -- assignments have no labels

@@ -11,7 +11,7 @@ use Rattle.dcc_ir.proofs.ReachedLaws.{IsGood}
 use Rattle.dcc_c.specs.Run as c
 use Rattle.dcc_text.specs.Holding.{Locations, Alike, Holds, AreWaiting}
 use Rattle.dcc_plan.specs.Programs.{Texts}
-use Rattle.dcc_plan.specs.Valid.{Begin, Nowhere}
+use Rattle.dcc_control.specs.Valid.{Begin, Nowhere}
 use Rattle.dcc_plan.proofs.Points.{moves}
 use Rattle.dcc_plan.proofs.Rests.{left, is_jumping}
 use Rattle.dcc_plan.proofs.Settings.{AreNamed, debts, rests_of, StandsAt, Continuing, setting_of, Premises}

@@ -7,7 +7,7 @@ use Rattle.dcc_c.specs.Numbered.{numbered_stmt, numbered_lines, numbered_arms}
 use Rattle.dcc_c.specs.Tree.{Empty}
 use Rattle.dcc_text.specs.Spelling.{Spelling}
 use Rattle.dcc_text.specs.Stmts.{stmt_text}
-use Rattle.dcc_plan.specs.Plan.{Item, Do, Mark, Jump, If, Switch, Return, For, Break, Continue, Plan, no_items, item, Arms, no_arms, arm}
+use Rattle.dcc_control.specs.Plan.{Item, Do, Mark, Jump, If, Switch, Return, For, Break, Continue, Plan, no_items, item, Arms, no_arms, arm}
 use Rattle.dcc_plan.specs.PlanText.{text_of_stmt, text_of_return, plan_text, item_text, arms_text, IsPlanText, nothing, one_more, IsItemText, does, marks, jumps, tests, chooses, returns, repeats, breaks, continues, AreArmsText, no_more, next_arm}
 
 module _ (s : Spelling) (graph : inner.Graph) where

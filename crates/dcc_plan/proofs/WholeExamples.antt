@@ -19,11 +19,11 @@ use Rattle.dcc_plan.specs.CallLaws.{IsBeginning}
 use Rattle.dcc_variables.specs.FunctionLaws.{HasFewNames}
 use Rattle.dcc_plan.specs.Calls.{Opens, all_places, locations_differ, IsNamed, IsCallable, AreFunctions}
 use Rattle.dcc_variables.proofs.ParamNames.{spelling-is}
-use Rattle.dcc_plan.specs.GotoPlan.{goto_plan}
+use Rattle.dcc_control.specs.GotoPlan.{goto_plan}
 use Rattle.dcc_plan.specs.Laws.{IsCallStep, AreSteps, Matters}
 use Rattle.dcc_plan.specs.PlanText.{plan_text}
 use Rattle.dcc_plan.specs.Programs.{Texts, at_once, IsGraphText, open_setting, IsOpened, GivesFew, IsProgramText}
-use Rattle.dcc_plan.proofs.GotoLaws.{goto-valid}
+use Rattle.dcc_control.proofs.GotoLaws.{goto-valid}
 use Rattle.dcc_plan.proofs.TextLaws.{numbered-text}
 
 abbrev told : inner.Expr

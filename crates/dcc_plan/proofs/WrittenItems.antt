@@ -11,11 +11,11 @@ use Rattle.dcc_c.specs.Tree as tree
 use Rattle.dcc_c.specs.Views.{expr_of, stmt_of, lines_of, arms_of as c_arms_of, arm_before}
 use Rattle.dcc_c.proofs.RowLaws.{if-tree, switch-tree, forever-tree}
 use Rattle.dcc_text.specs.Spelling.{Spelling}
-use Rattle.dcc_plan.specs.declared.item.Item.{Item as TheItem, If as IfOf, Switch as SwitchOf, For as ForOf}
-use Rattle.dcc_plan.specs.declared.item.Arm.{Arm as TheArm}
+use Rattle.dcc_control.specs.declared.item.Item.{Item as TheItem, If as IfOf, Switch as SwitchOf, For as ForOf}
+use Rattle.dcc_control.specs.declared.item.Arm.{Arm as TheArm}
 use Rattle.dcc_plan.specs.PlanText.{text_of_test, text_of_choice, plan_text, item_text, arms_text}
-use Rattle.dcc_plan.specs.Views.{item_of, plan_of, arms_of}
-use Rattle.dcc_plan.proofs.ItemRows.{if-item, switch-item, for-item}
+use Rattle.dcc_control.specs.Views.{item_of, plan_of, arms_of}
+use Rattle.dcc_control.proofs.ItemRows.{if-item, switch-item, for-item}
 use Rattle.dcc_plan.proofs.TextRows.{lines_before, lines_before-append, bodies_before, bodies_before-append}
 
 module _ (s : Spelling) (graph : inner.Graph) where

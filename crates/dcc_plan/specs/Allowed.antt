@@ -15,11 +15,11 @@ use Rattle.dcc_c.proofs.Writable.{are_cases, are_writable_lines}
 use Rattle.dcc_text.specs.Allowed.{AreDeclared, IsAllowedStmt}
 use Rattle.dcc_text.specs.Spelling.{Spelling}
 use Rattle.dcc_text.specs.Stmts.{stmt_text}
-use Rattle.dcc_plan.specs.Complete.{completed}
-use Rattle.dcc_plan.specs.GotoPlan.{goto_plan}
-use Rattle.dcc_plan.specs.Plan.{Item, Mark, If, Switch, For, Break, Continue, Plan, no_items, item, Arms, no_arms, arm, all_cases}
+use Rattle.dcc_control.specs.Complete.{completed}
+use Rattle.dcc_control.specs.GotoPlan.{goto_plan}
+use Rattle.dcc_control.specs.Plan.{Item, Mark, If, Switch, For, Break, Continue, Plan, no_items, item, Arms, no_arms, arm, all_cases}
 use Rattle.dcc_plan.specs.PlanText.{IsPlanText}
-use Rattle.dcc_plan.specs.Valid.{IsPlanOf}
+use Rattle.dcc_control.specs.Valid.{IsPlanOf}
 
 -- Where items may stand.
 

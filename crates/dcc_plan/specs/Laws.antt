@@ -1,4 +1,4 @@
--- Laws of plans and their texts.
+-- Laws of the texts of plans.
 use Rattle.std.specs.Prelude.{◌≡◌, ◌≢◌, ℕ, ◌<◌, ◌≤◌, ◌⊎◌, Bool, true, List, [], ◌∷◌, length, All, Contains}
 use Rattle.dcc_run.specs.End.{Stuck, is_over}
 use Rattle.dcc_run.specs.Place.{Place}
@@ -14,7 +14,7 @@ use Rattle.dcc_ir.specs.Live.{block_in}
 use Rattle.dcc_ir.specs.Run as inner_run
 use Rattle.dcc_ir.specs.Tree as inner
 use Rattle.dcc_ir.specs.Use.{exprs_of, writes_of, exit_exprs}
-use Rattle.dcc_ir.specs.WellFormed.{is_stmt, IsGraph, IsProgram}
+use Rattle.dcc_ir.specs.WellFormed.{is_stmt, IsProgram}
 use Rattle.dcc_c.specs.Numbered.{numbered_lines}
 use Rattle.dcc_c.specs.Parts.{stmts_in}
 use Rattle.dcc_c.specs.Run as text_run
@@ -23,20 +23,14 @@ use Rattle.dcc_c.specs.Tree.{Function, Tree}
 use Rattle.dcc_text.specs.Spelling.{Spelling}
 use Rattle.dcc_text.specs.Holding.{Locations, Alike, IsSpelling, IsWithin, Holds}
 use Rattle.dcc_text.specs.Laws.{IsStep}
-use Rattle.dcc_plan.specs.Plan.{Plan}
+use Rattle.dcc_control.specs.Plan.{Plan}
 use Rattle.dcc_plan.specs.PlanText.{plan_text, IsPlanText}
-use Rattle.dcc_plan.specs.Valid.{IsPlanOf, BeginsAll, has_step}
-use Rattle.dcc_plan.specs.GotoPlan.{goto_plan}
+use Rattle.dcc_control.specs.Valid.{IsPlanOf, BeginsAll, has_step}
 
 -- the text of a plan is its text after its lines are numbered
 abbrev pub NumberedTextIsText : Type 0
 NumberedTextIsText = (s : Spelling) (graph : inner.Graph) (plan : Plan) (depth at : ℕ)
     → IsPlanText s graph plan (numbered_lines depth at (plan_text s graph plan))
-
--- the plan of a text with jumps is one of its graph, and has a step where each block begins
-abbrev pub GotoPlanIsValid : Type 0
-GotoPlanIsValid = (graph : inner.Graph) → IsGraph graph
-    → IsPlanOf graph (goto_plan graph) × BeginsAll graph (goto_plan graph)
 
 -- What matters.
 

@@ -1,14 +1,8 @@
 pub mod Labels
-pub mod Plan
 pub mod PlanText
-pub mod Valid
-pub mod GotoPlan
-pub mod Complete
 pub mod Allowed
 pub mod Laws
 pub mod Calls
 pub mod CallLaws
 pub mod AllowedCalls
 pub mod Programs
-pub mod Views
-pub mod Cases

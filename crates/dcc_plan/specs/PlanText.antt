@@ -9,8 +9,8 @@ use Rattle.dcc_text.specs.Spelled.{Low, Exact, text}
 use Rattle.dcc_text.specs.Stmts.{stmt_text}
 use Rattle.dcc_variables.specs.Functions.{ret_text}
 use Rattle.dcc_plan.specs.Labels.{label_at}
-use Rattle.dcc_plan.specs.Plan as plan
-use Rattle.dcc_plan.specs.Plan.{Plan, Item, no_items, item}
+use Rattle.dcc_control.specs.Plan as plan
+use Rattle.dcc_control.specs.Plan.{Plan, Item, no_items, item}
 
 -- the statement of a block; no call of the program's own functions stands in the text, so the depth of calls stays 2
 abbrev pub text_of_stmt : Spelling → inner.Graph → ℕ → ℕ → Stmt

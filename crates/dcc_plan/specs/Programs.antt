@@ -13,9 +13,9 @@ use Rattle.dcc_variables.specs.Functions.{openings, BeginsWith}
 use Rattle.dcc_plan.specs.CallLaws.{IsBeginning}
 use Rattle.dcc_plan.specs.Calls.{Opens, AreFunctions}
 use Rattle.dcc_plan.specs.Laws.{Matters, NeverStuck, AreKept, IsCountedBy}
-use Rattle.dcc_plan.specs.Plan.{Plan}
+use Rattle.dcc_control.specs.Plan.{Plan}
 use Rattle.dcc_plan.specs.PlanText.{IsPlanText}
-use Rattle.dcc_plan.specs.Valid.{IsPlanOf}
+use Rattle.dcc_control.specs.Valid.{IsPlanOf}
 
 -- What stands for each graph: a spelling, a function, the locations that matter, and a plan; and of the function's body
 -- how many assignments open it, and the text of the plan after them.

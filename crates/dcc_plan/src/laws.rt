@@ -1,25 +1,19 @@
-//! Laws of plans and their texts, of calls and returns. Each function only states a law by its contract, and does
+//! Laws of the texts of plans, of calls and returns. Each function only states a law by its contract, and does
 //! nothing.
 
 ghost use Rattle.dcc_plan.specs.Laws.{TextsCount};
 ghost use Rattle.dcc_ir.specs.Families.{Family};
 ghost use Rattle.dcc_text.specs.Holding.{Alike, Setting};
-ghost use Rattle.dcc_plan.specs.Laws.{NumberedTextIsText, GotoPlanIsValid, PlansCount};
+ghost use Rattle.dcc_plan.specs.Laws.{NumberedTextIsText, PlansCount};
 ghost use Rattle.dcc_plan.specs.Allowed.{PlanTextsAreAllowed, GotoPlansMayStand};
 ghost use Rattle.dcc_plan.specs.AllowedCalls.{CallsAreAllowed, ReturnsAreAllowed, OpeningsAreAllowed};
 ghost use Rattle.dcc_plan.specs.CallLaws.{FirstStatesStand, CallsBegin, ReturnsEnd, BracesEnd};
 ghost use Rattle.dcc_plan.specs.Calls.{Opens};
-ghost use Rattle.dcc_plan.specs.Complete.{CompletePlansAreValid};
 ghost use Rattle.dcc_plan.specs.Programs.{Texts, ProgramsCount};
 
 /// The text of a plan is its text after its lines are numbered.
 pub fn numbered_text_is_text()
     ensures { NumberedTextIsText }
-{}
-
-/// The plan of a text with jumps is a valid plan of its graph.
-pub fn goto_plan_is_valid()
-    ensures { GotoPlanIsValid }
 {}
 
 /// What matters, and what holds of calls that wait.
@@ -49,11 +43,6 @@ pub trait SomeTexts {
 /// The text of a whole program, with a function for each graph, counts the visits of the blocks that it has a step for.
 pub fn programs_count<T: SomeTexts>()
     ensures { ProgramsCount T.opens T.texts }
-{}
-
-/// A completed plan is a plan of the same graph.
-pub fn complete_plans_are_valid()
-    ensures { CompletePlansAreValid }
 {}
 
 /// The text of a valid plan is allowed where its items may stand.

@@ -8,10 +8,10 @@ ghost use Rattle.dcc_c.specs.Views.{expr_of, stmt_of, lines_of, arms_of as c_arm
 ghost use Rattle.dcc_variables.specs.Functions.{ret_value};
 ghost use Rattle.dcc_plan.specs.Labels as labels;
 ghost use Rattle.dcc_plan.specs.PlanText as spec;
-ghost use Rattle.dcc_plan.specs.Views.{item_of, plan_of, arms_of};
+ghost use Rattle.dcc_control.specs.Views.{item_of, plan_of, arms_of};
 
-use crate::item::{Arm, Item};
 use dcc_c::{Arm as CArm, Base, CExpr, CStmt, Line};
+use dcc_control::{Arm, Item};
 use dcc_ir::{Block, End, Expr, Graph};
 use dcc_text::expression::expr_text;
 use dcc_text::hex::name_at;

@@ -4,9 +4,9 @@ use Rattle.dcc_ir.specs.Live.{is_among}
 use Rattle.dcc_ir.specs.Views.{graph_of}
 use Rattle.dcc_variables.specs.Functions.{openings_from}
 use Rattle.dcc_variables.specs.Views.{shape_in, spelling_in}
-use Rattle.dcc_plan.specs.Complete.{completed}
+use Rattle.dcc_control.specs.Complete.{completed}
 use Rattle.dcc_plan.specs.PlanText.{plan_text}
-use Rattle.dcc_plan.specs.Views.{plan_of}
+use Rattle.dcc_control.specs.Views.{plan_of}
 use Rattle.dcc_pipe.proofs.UnitLaws.{body-is}
 use Rattle.dcc_pipe.proofs.unit.body.Goals as goal
 

@@ -3,11 +3,11 @@ use Rattle.std.proofs.lemmas.List.{drop_all}
 use Rattle.dcc_ir.specs.Views.{graph_of}
 use Rattle.dcc_c.specs.Tree.{arm}
 use Rattle.dcc_plan.specs.PlanText as spec
-use Rattle.dcc_plan.specs.Views.{plan_of, arms_of}
+use Rattle.dcc_control.specs.Views.{plan_of, arms_of}
 use denote.Param.Weighed.{most}
-use Rattle.dcc_plan.specs.declared.item.Item.{Item}
-use Rattle.dcc_plan.specs.declared.item.Item.TheViews.{If, the_lemmas}
-use Rattle.dcc_plan.proofs.item.Item.TheLaws.{the_size}
+use Rattle.dcc_control.specs.declared.item.Item.{Item}
+use Rattle.dcc_control.specs.declared.item.Item.TheViews.{If, the_lemmas}
+use Rattle.dcc_control.proofs.item.Item.TheLaws.{the_size}
 use Rattle.dcc_plan.proofs.TextRows.{lines_before, bodies_before, lines_before-none, bodies_before-none, rolled-body}
 use Rattle.dcc_plan.proofs.WrittenItems.{if-text, switch-text, for-text, item-step, arm-step}
 use Rattle.dcc_plan.proofs.plan_text.+text.Goals as goal

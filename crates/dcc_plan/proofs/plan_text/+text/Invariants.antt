@@ -1,7 +1,7 @@
 use Rattle.std.proofs.Common.{◌≡◌, drop}
 use Rattle.dcc_ir.specs.Views.{graph_of}
 use Rattle.dcc_plan.specs.PlanText as spec
-use Rattle.dcc_plan.specs.Views.{plan_of, arms_of}
+use Rattle.dcc_control.specs.Views.{plan_of, arms_of}
 use Rattle.dcc_plan.proofs.TextRows.{lines_before, bodies_before}
 use Rattle.dcc_plan.proofs.plan_text.+text.Given as goal
 

@@ -1,0 +1,9 @@
+pub mod ListLaws
+pub mod WeakerLaws
+pub mod GotoLaws
+pub mod CompleteLaws
+pub mod Examples
+pub mod ItemRows
+pub mod GotoSteps
+pub mod TargetLaws
+pub mod CompletedItems

@@ -1,0 +1,42 @@
+-- The plans that the declared types stand for.
+use Rattle.std.specs.Prelude.{List, [], ◌∷◌}
+use Rattle.dcc_control.specs.declared.item.Item.{Item as TheItem, Do as DoOf, Mark as MarkOf, Jump as JumpOf, If', Switch', Return as ReturnOf, For', Break as BreakOf, Continue as ContinueOf, Row_of-Item, end_of-Item, more_of-Item, Row_of-Arm, end_of-Arm, more_of-Arm}
+use Rattle.dcc_control.specs.declared.item.Arm.{Arm as TheArm}
+use Rattle.dcc_control.specs.Plan.{Item, Do, Mark, Jump, If, Switch, Return, For, Break, Continue, Plan, no_items, item, Arms, no_arms, arm}
+
+abbrev mutual
+  -- the plan's item
+  pub item_of : TheItem → Item
+  item_of (DoOf b m) = Do b m
+  item_of (MarkOf b) = Mark b
+  item_of (JumpOf b) = Jump b
+  item_of (If' b _ one _ other) = If b (plan_of_row one) (plan_of_row other)
+  item_of (Switch' b _ arms) = Switch b (arms_of_row arms)
+  item_of (ReturnOf b) = Return b
+  item_of (For' b _ body) = For b (plan_of_row body)
+  item_of BreakOf = Break
+  item_of ContinueOf = Continue
+
+  -- the plan inside an item
+  pub plan_of_row : {n : _} → Row_of-Item n → Plan
+  plan_of_row end_of-Item = no_items
+  plan_of_row (more_of-Item i rest) = item (item_of i) (plan_of_row rest)
+
+  -- the arms inside an item
+  pub arms_of_row : {n : _} → Row_of-Arm n → Arms
+  arms_of_row end_of-Arm = no_arms
+  arms_of_row (more_of-Arm cases _ body rest) = arm cases.items (plan_of_row body) (arms_of_row rest)
+
+-- the plan of a list of items, before what follows them
+abbrev pub plan_before : List TheItem → Plan → Plan
+plan_before [] plan = plan
+plan_before (i ∷ items) plan = item (item_of i) (plan_before items plan)
+
+-- the plan of a list of items
+abbrev pub plan_of : List TheItem → Plan
+plan_of items = plan_before items no_items
+
+-- the arms of a list of arms
+abbrev pub arms_of : List TheArm → Arms
+arms_of [] = no_arms
+arms_of (a ∷ arms) = arm a.cases.items (plan_of a.body.items) (arms_of arms)

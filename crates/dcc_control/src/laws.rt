@@ -1,0 +1,24 @@
+//! Laws of plans. Each function only states a law by its contract, and does nothing.
+
+ghost use Rattle.dcc_control.specs.Complete.{CompletePlansAreValid};
+ghost use Rattle.dcc_control.specs.Laws.{CompletePlansNestAlike, GotoPlanIsValid, WeakerBegun};
+
+/// The plan of a text with jumps is a valid plan of its graph.
+pub fn goto_plan_is_valid()
+    ensures { GotoPlanIsValid }
+{}
+
+/// A completed plan is a plan of the same graph.
+pub fn complete_plans_are_valid()
+    ensures { CompletePlansAreValid }
+{}
+
+/// A completed plan nests as deep as the plan.
+pub fn complete_plans_nest_alike()
+    ensures { CompletePlansNestAlike }
+{}
+
+/// A plan stays valid where fewer blocks have a step at their begin, and more have a label.
+pub fn weaker_begun()
+    ensures { WeakerBegun }
+{}
