@@ -1,19 +1,22 @@
 -- The folded graph has kinds of parts and statements that the graph has, beside reads of flags and temporaries, and
 -- statements that set temporaries.
-use Rattle.std.proofs.Common.{◌≡◌, ℕ, Bool, true, false, not, List, [], ◌∷◌, ◌++◌, length, Some, None, refl, sym, ap, ◌∙◌, true≢false, flat_map, map, rules}
-use Rattle.std.specs.Prelude.{if◌then◌else◌}
+use Rattle.std.proofs.Common.{◌≡◌, ℕ, Bool, true, false, not, inl, inr, List, [], ◌∷◌, ◌++◌, length, Some, None, refl, sym, ap, ◌∙◌, true≢false, flat_map, map, rules}
+use Rattle.std.specs.Prelude.{◌||◌, if◌then◌else◌, All}
 use Rattle.std.specs.List.{AllZip, list_all, list_any}
+use Rattle.std.proofs.lemmas.Bool.{or_cases, or_left, or_right}
 use Rattle.std.proofs.lemmas.List.Concat.{flat_map-append}
+use Rattle.std.proofs.lemmas.List.Elements.{All-nil, All-cons, All-head, All-tail}
 use Rattle.std.proofs.lemmas.List.Folds.{list_all-append}
 use Rattle.dcc_num.specs.declared.FlagName.{FlagName}
 use Rattle.dcc_num.specs.declared.FlagName.TheVariants.{Cf, Zf, Sf, Of}
+use Rattle.dcc_ir.specs.declared.syntax.BinOp.TheVariants.{Add}
 use Rattle.dcc_ir.specs.declared.syntax.Loc.TheVariants.{Half, Flag, Cell, Temp}
 use Rattle.dcc_ir.specs.Tree.{Expr, Const, Get, Load, Unary, Binary, Widen, Part, Join, Choose, Address, Stmt, Set, Fetch, Store, Div, Call, Dos, Exit, Goto, If, Switch, Ret, Stop, Block, Graph}
 use Rattle.dcc_ir.specs.Use.{parts_of, exprs_of, exit_exprs, block_exprs, graph_exprs}
 use Rattle.dcc_ir.proofs.FitLaws.{both}
 use Rattle.dcc_flags.specs.declared.kept.Kept.{Kept}
 use Rattle.dcc_flags.specs.Folding.{is_kept, Choices, choice, with_choices, stmt_with_choices, exit_with_choices, Taken, taken, has_truth, goes_with, stmt_folded, stmts_folded, bare_stmts, first_choice, first_choices, folded_graph}
-use Rattle.dcc_flags.specs.Kinds.{kind_of, stmt_kind, exit_kind, no_operand, all_parts, all_kinds, EndsAlike, KindsStay}
+use Rattle.dcc_flags.specs.Kinds.{kind_of, stmt_kind, exit_kind, no_operand, all_parts, parts_pass, is_frame_sum, takes_frame_sum, other_parts, all_kinds, EndsAlike, KindsStay}
 use Rattle.dcc_flow.proofs.FormedExprs.{and_both}
 use Rattle.dcc_flags.proofs.MeetLaws.{by_kept}
 use Rattle.dcc_flags.proofs.PartLaws.{or_none, neither, none_of, none_in, has_part, OfKind, in_chosen, chosen_lacks, none_has, copies_lack, value_if}
@@ -260,6 +263,109 @@ module _ (test : Expr → Bool) (flags : (f : FlagName) → test (Get (Flag f)) 
       lacks_still : AllLack (graph_exprs graph) → AllLack (graph_exprs (folded_graph kept graph order))
       lacks_still none = all_lack graph.blocks (folded_graph kept graph order).blocks (still (lacking_blocks graph.blocks none)) none
 
+    -- Where statements that set temporaries to sums of the frame need not lack such parts.
+
+    abbrev fine : Stmt → Bool
+    fine stmt = takes_frame_sum stmt || lacking stmt
+
+    sum_stays : (c : Choices) (e : Expr) → is_frame_sum e ≡ true → is_frame_sum (with_choices c e) ≡ true
+    sum_stays c (Address d) is = refl
+    sum_stays c (Binary Add w (Address d) (Const v n)) is = refl
+    sum_stays c e is = absurd (true≢false (sym is))
+
+    takes_stays : (c : Choices) (stmt : Stmt) → takes_frame_sum stmt ≡ true → takes_frame_sum (stmt_with_choices c stmt) ≡ true
+    takes_stays c (Set (Temp n) e) is = sum_stays c e is
+    takes_stays c stmt is = absurd (true≢false (sym is))
+
+    values_fine : ValuesHave Lacks fine
+    values_fine bits c f e is h = values_lack bits c f e is h
+
+    one_fine : (c : Choices) → Each Lacks c → (stmt : Stmt) → fine stmt ≡ true → list_all fine (stmt_with_choices c stmt ∷ []) ≡ true
+    one_fine c h stmt is =
+        and_both (fine (stmt_with_choices c stmt)) true (elim (or_cases (takes_frame_sum stmt) (lacking stmt) is) [
+          | inl takes ↦ or_left (takes_frame_sum (stmt_with_choices c stmt)) _ (takes_stays c stmt takes)
+          | inr lacks_it ↦
+              or_right (takes_frame_sum (stmt_with_choices c stmt)) _ (ap not (stmt_lacks c h stmt (lacks stmt lacks_it)))
+        ]) refl
+
+    all_fine : (stmts : List Stmt) → none_has at_kind stmts → list_all fine stmts ≡ true
+    all_fine [] none = refl
+    all_fine (stmt ∷ rest) none =
+        let parts = none_of (has_part at_kind) (exprs_of stmt) (flat_map exprs_of rest) none in
+        and_both (fine stmt) (list_all fine rest) (or_right (takes_frame_sum stmt) _ (ap not parts.0)) (all_fine rest parts.1)
+
+    folded_fine : (bits : List ℕ) (c : Choices) → Each Lacks c → (stmt : Stmt) → fine stmt ≡ true → list_all fine (stmt_folded kept bits c stmt).stmts ≡ true
+    folded_fine bits c h (Set (Flag g) e) is = go (is_kept kept g)
+      where
+        go : (b : Bool) → list_all fine (by_kept b bits c g (with_choices c e)).stmts ≡ true
+        go true = one_fine c h (Set (Flag g) e) is
+        go false = all_fine (taken bits (with_choices c e)).copies
+            (copies_lack at_kind bits (with_choices c e) (expr_lacks c h e (or_none (has_part at_kind e) false (lacks (Set (Flag g) e) is)).0))
+    folded_fine bits c h (Set (Half r x) e) is = one_fine c h (Set (Half r x) e) is
+    folded_fine bits c h (Set (Cell n x) e) is = one_fine c h (Set (Cell n x) e) is
+    folded_fine bits c h (Set (Temp n) e) is = one_fine c h (Set (Temp n) e) is
+    folded_fine bits c h (Fetch l w a) is = one_fine c h (Fetch l w a) is
+    folded_fine bits c h (Store w a e) is = one_fine c h (Store w a e) is
+    folded_fine bits c h (Div l e) is = one_fine c h (Div l e) is
+    folded_fine bits c h (Call r n a d) is = one_fine c h (Call r n a d) is
+    folded_fine bits c h (Dos n p a) is = one_fine c h (Dos n p a) is
+
+    fine_more : (cs ds : List Stmt) → list_all fine cs ≡ true → list_all fine ds ≡ true → list_all fine (cs ++ ds) ≡ true
+    fine_more cs ds p q = list_all-append fine cs ds ∙ and_both (list_all fine cs) (list_all fine ds) p q
+
+    stmts_fine : (bits : List ℕ) (c : Choices) → Each Lacks c → (stmts : List Stmt) → list_all fine stmts ≡ true → list_all fine (stmts_folded kept bits c stmts).stmts ≡ true
+    stmts_fine bits c h [] all = refl
+    stmts_fine bits c h (stmt ∷ rest) all =
+        let parts = both (fine stmt) (list_all fine rest) all in
+        let first = stmt_folded kept bits c stmt in
+        fine_more first.stmts (stmts_folded kept (bits ++ first.widths) first.choices rest).stmts (folded_fine bits c h stmt parts.0)
+        (stmts_fine (bits ++ first.widths) first.choices (each_past kept Lacks fine values_fine bits c stmt parts.0 h) rest parts.1)
+
+    bare_fine : (c : Choices) → Each Lacks c → (stmts : List Stmt) → list_all fine stmts ≡ true → list_all fine (bare_stmts kept c stmts) ≡ true
+    bare_fine c h [] all = refl
+    bare_fine c h (stmt ∷ rest) all =
+        let parts = both (fine stmt) (list_all fine rest) all in
+        go (goes_with kept stmt) (bare_fine c h rest parts.1) (one_fine c h stmt parts.0)
+      where
+        go : (b : Bool) → list_all fine (bare_stmts kept c rest) ≡ true → list_all fine (stmt_with_choices c stmt ∷ []) ≡ true
+            → list_all fine (if b then bare_stmts kept c rest else stmt_with_choices c stmt ∷ bare_stmts kept c rest) ≡ true
+        go true later here = later
+        go false later here = fine_more (stmt_with_choices c stmt ∷ []) (bare_stmts kept c rest) here later
+
+    record StillFine (before after : Block) : Type 0 where
+      stmts : list_all fine after.stmts ≡ true
+      exit : AllLack (exit_exprs before.exit) → AllLack (exit_exprs after.exit)
+
+    abbrev lacks_beside : Block → Type 0
+    lacks_beside b = (list_all fine b.stmts ≡ true) × AllLack (exit_exprs b.exit)
+
+    fine_still : (graph : Graph) (order : List ℕ) → All lacks_beside graph.blocks → All lacks_beside (folded_graph kept graph order).blocks
+    fine_still graph order all =
+        ends graph.blocks (folded_graph kept graph order).blocks
+        (each_block kept Lacks fine values_fine graph (first graph order) (first_each graph order) StillFine
+        (λ b fit. record {
+          stmts = bare_fine (first graph order) (first_each graph order) b.stmts fit;
+          exit = exit_lacks (first graph order) (first_each graph order) b.exit;
+        })
+        (λ bits c b fit h. record {
+          stmts = stmts_fine bits c h b.stmts fit;
+          exit = exit_lacks (stmts_folded kept bits c b.stmts).choices (each_end kept Lacks fine values_fine bits c b.stmts fit h) b.exit;
+        }) (starts graph.blocks all) order) all
+      where
+        starts : (bs : List Block) → All lacks_beside bs → list_all (λ b. list_all fine b.stmts) bs ≡ true
+        starts [] all = refl
+        starts (b ∷ bs) all =
+            and_both (list_all fine b.stmts) (list_all (λ (x : Block). list_all fine x.stmts) bs)
+            (All-head lacks_beside b bs all).0 (starts bs (All-tail lacks_beside b bs all))
+
+        ends : (xs ys : List Block) → AllZip StillFine xs ys → All lacks_beside xs → All lacks_beside ys
+        ends [] [] zip all = All-nil lacks_beside
+        ends [] (y ∷ ys) zip all = absurd zip
+        ends (x ∷ xs) [] zip all = absurd zip
+        ends (x ∷ xs) (y ∷ ys) zip all =
+            All-cons lacks_beside y ys (zip.0.stmts, zip.0.exit (All-head lacks_beside x xs all).1)
+            (ends xs ys zip.1 (All-tail lacks_beside x xs all))
+
 -- Statements.
 
 module _ (test : Stmt → Bool) (temps : (n : ℕ) → test (Set (Temp n) no_operand) ≡ true) where
@@ -395,17 +501,89 @@ ends_alike kept graph order =
     any_blocks [] = refl
     any_blocks (b ∷ bs) = and_both (list_all any_stmt b.stmts) (list_all (λ (x : Block). list_all any_stmt x.stmts) bs) (any_stmts b.stmts) (any_blocks bs)
 
+-- The laws.
+
+module _ (test : Expr → Bool) where
+  abbrev fails_kind : Expr → Bool
+  fails_kind e = not (test (kind_of e))
+
+  abbrev below : Expr → Bool
+  below e = list_all (λ part. test (kind_of part)) (parts_of e)
+
+  to_lack : (es : List Expr) → parts_pass test es ≡ true → list_any (has_part fails_kind) es ≡ false
+  to_lack es =
+      none_fails below (has_part fails_kind)
+      (λ e. none_fails (λ part. test (kind_of part)) fails_kind (λ part. contrary (test (kind_of part))) (parts_of e)) es
+
+  from_lack : (es : List Expr) → list_any (has_part fails_kind) es ≡ false → parts_pass test es ≡ true
+  from_lack es =
+      all_pass below (has_part fails_kind)
+      (λ e. all_pass (λ part. test (kind_of part)) fails_kind (λ part. passed (test (kind_of part))) (parts_of e)) es
+
+  module _ (flags : (f : FlagName) → test (Get (Flag f)) ≡ true) (temps : (n : ℕ) → test (Get (Temp n)) ≡ true) (kept : Kept)
+      (graph : Graph) (order : List ℕ) where
+    abbrev fails : Expr → Bool
+    fails e = not (test e)
+
+    no_flags : (f : FlagName) → fails (Get (Flag f)) ≡ false
+    no_flags f = contrary (test (Get (Flag f))) (flags f)
+
+    no_temps : (n : ℕ) → fails (Get (Temp n)) ≡ false
+    no_temps n = contrary (test (Get (Temp n))) (temps n)
+
+    parts_still : all_parts test graph ≡ true → all_parts test (folded_graph kept graph order) ≡ true
+    parts_still all =
+        from_lack (graph_exprs (folded_graph kept graph order))
+        (lacks_still fails no_flags no_temps kept graph order (to_lack (graph_exprs graph) all))
+
+    abbrev Beside : Block → Type 0
+    Beside b = lacks_beside fails no_flags no_temps kept b
+
+    to_fine : (stmts : List Stmt) → list_all (λ stmt. takes_frame_sum stmt || parts_pass test (exprs_of stmt)) stmts ≡ true
+        → list_all (fine fails no_flags no_temps kept) stmts ≡ true
+    to_fine [] all = refl
+    to_fine (stmt ∷ stmts) all =
+        let parts = both (takes_frame_sum stmt || parts_pass test (exprs_of stmt)) _ all in
+        and_both (fine fails no_flags no_temps kept stmt) _ (elim (or_cases (takes_frame_sum stmt) _ parts.0) [
+          | inl takes ↦ or_left (takes_frame_sum stmt) _ takes
+          | inr pass ↦ or_right (takes_frame_sum stmt) _ (ap not (to_lack (exprs_of stmt) pass))
+        ]) (to_fine stmts parts.1)
+
+    from_fine : (stmts : List Stmt) → list_all (fine fails no_flags no_temps kept) stmts ≡ true
+        → list_all (λ stmt. takes_frame_sum stmt || parts_pass test (exprs_of stmt)) stmts ≡ true
+    from_fine [] all = refl
+    from_fine (stmt ∷ stmts) all =
+        let parts = both (fine fails no_flags no_temps kept stmt) _ all in
+        and_both (takes_frame_sum stmt || parts_pass test (exprs_of stmt)) _ (elim (or_cases (takes_frame_sum stmt) _ parts.0) [
+          | inl takes ↦ or_left (takes_frame_sum stmt) _ takes
+          | inr lack ↦ or_right (takes_frame_sum stmt) _ (from_lack (exprs_of stmt) (lacks fails no_flags no_temps stmt lack))
+        ]) (from_fine stmts parts.1)
+
+    to_beside : (bs : List Block) → list_all (other_parts test) bs ≡ true → All Beside bs
+    to_beside [] all = All-nil Beside
+    to_beside (b ∷ bs) all =
+        let parts = both (other_parts test b) (list_all (other_parts test) bs) all in
+        let here = both _ (parts_pass test (exit_exprs b.exit)) parts.0 in
+        All-cons Beside b bs (to_fine b.stmts here.0, to_lack (exit_exprs b.exit) here.1) (to_beside bs parts.1)
+
+    from_beside : (bs : List Block) → All Beside bs → list_all (other_parts test) bs ≡ true
+    from_beside [] all = refl
+    from_beside (b ∷ bs) all =
+        let here = All-head Beside b bs all in
+        and_both (other_parts test b) (list_all (other_parts test) bs)
+        (and_both _ (parts_pass test (exit_exprs b.exit)) (from_fine b.stmts here.0) (from_lack (exit_exprs b.exit) here.1))
+        (from_beside bs (All-tail Beside b bs all))
+
+    others_still : list_all (other_parts test) graph.blocks ≡ true
+        → list_all (other_parts test) (folded_graph kept graph order).blocks ≡ true
+    others_still all =
+        from_beside (folded_graph kept graph order).blocks
+        (fine_still fails no_flags no_temps kept graph order (to_beside graph.blocks all))
+
 pub kinds_stay : (kept : Kept) (graph : Graph) (order : List ℕ) → KindsStay graph (folded_graph kept graph order)
 kinds_stay kept graph order = record {
-  parts = λ test flags temps all.
-      let fails : Expr → Bool = λ e. not (test e) in
-      let below : Expr → Bool = λ e. list_all (λ part. test (kind_of part)) (parts_of e) in
-      let none = none_fails below (has_part (λ e. fails (kind_of e)))
-      (λ e. none_fails (λ part. test (kind_of part)) (λ part. fails (kind_of part)) (λ part. contrary (test (kind_of part))) (parts_of e)) (graph_exprs graph) all in
-      all_pass below (has_part (λ e. fails (kind_of e)))
-      (λ e. all_pass (λ part. test (kind_of part)) (λ part. fails (kind_of part)) (λ part. passed (test (kind_of part))) (parts_of e))
-      (graph_exprs (folded_graph kept graph order))
-      (lacks_still fails (λ f. contrary (test (Get (Flag f))) (flags f)) (λ n. contrary (test (Get (Temp n))) (temps n)) kept graph order none);
+  parts = λ test flags temps. parts_still test flags temps kept graph order;
+  others = λ test flags temps. others_still test flags temps kept graph order;
   stmts = λ test temps all. passes_still test temps kept graph order all;
   exits = ends_alike kept graph order;
 }

@@ -1,10 +1,11 @@
 -- Kinds of parts, statements and ends of blocks: what is left of one beside its operands.
-use Rattle.std.specs.Prelude.{◌≡◌, ℕ, Bool, true, List, map, option_map}
+use Rattle.std.specs.Prelude.{◌≡◌, ℕ, Bool, true, false, ◌&&◌, ◌||◌, List, map, option_map}
 use Rattle.std.specs.List.{AllZip, list_all}
 use Rattle.dcc_num.specs.declared.FlagName.{FlagName}
+use Rattle.dcc_ir.specs.declared.syntax.BinOp.TheVariants.{Add}
 use Rattle.dcc_ir.specs.declared.syntax.Loc.TheVariants.{Flag, Temp}
 use Rattle.dcc_ir.specs.Tree.{Expr, Const, Get, Load, Unary, Binary, Widen, Part, Join, Choose, Address, Stmt, Set, Fetch, Store, Div, Call, Dos, Exit, Goto, If, Switch, Ret, Stop, Block, Graph}
-use Rattle.dcc_ir.specs.Use.{parts_of, graph_exprs}
+use Rattle.dcc_ir.specs.Use.{parts_of, exprs_of, exit_exprs, graph_exprs}
 
 -- what stands in place of each operand
 abbrev pub no_operand : Expr
@@ -44,15 +45,41 @@ all_parts test graph = list_all (λ e. list_all (λ part. test (kind_of part)) (
 abbrev pub all_kinds : (Stmt → Bool) → Graph → Bool
 all_kinds test graph = list_all (λ b. list_all (λ stmt. test (stmt_kind stmt)) b.stmts) graph.blocks
 
+-- an address in the frame, or its sum with a number
+abbrev pub is_frame_sum : Expr → Bool
+is_frame_sum (Address distance) = true
+is_frame_sum (Binary Add width (Address distance) (Const other n)) = true
+is_frame_sum e = false
+
+-- the statement sets a temporary to an address in the frame, or to the sum of one with a number
+abbrev pub takes_frame_sum : Stmt → Bool
+takes_frame_sum (Set (Temp n) e) = is_frame_sum e
+takes_frame_sum stmt = false
+
+-- the kinds of all parts of the expressions pass a test
+abbrev pub parts_pass : (Expr → Bool) → List Expr → Bool
+parts_pass test es = list_all (λ e. list_all (λ part. test (kind_of part)) (parts_of e)) es
+
+-- the kinds of all parts in a block pass a test, but for those of statements that set temporaries to addresses in the
+-- frame or to the sums of these with numbers
+abbrev pub other_parts : (Expr → Bool) → Block → Bool
+other_parts test b =
+    list_all (λ stmt. takes_frame_sum stmt || parts_pass test (exprs_of stmt)) b.stmts
+    && parts_pass test (exit_exprs b.exit)
+
 -- the blocks end in the same way
 abbrev pub EndsAlike : Block → Block → Type 0
 EndsAlike before after = exit_kind after.exit ≡ exit_kind before.exit
 
 -- The second graph has only kinds that the first has, beside reads of flags and of temporaries, and statements that set
--- temporaries: what the first one's pass, and these, the second one's pass too. Blocks end as they did.
+-- temporaries: what the first one's pass, and these, the second one's pass too; and so where statements that set
+-- temporaries to addresses in the frame, or to the sums of these with numbers, need not pass. Blocks end as they did.
 pub record KindsStay (before after : Graph) : Type 0 where
   pub parts : (test : Expr → Bool) → ((f : FlagName) → test (Get (Flag f)) ≡ true) → ((n : ℕ) → test (Get (Temp n)) ≡ true)
       → all_parts test before ≡ true → all_parts test after ≡ true
+  pub others : (test : Expr → Bool) → ((f : FlagName) → test (Get (Flag f)) ≡ true)
+      → ((n : ℕ) → test (Get (Temp n)) ≡ true)
+      → list_all (other_parts test) before.blocks ≡ true → list_all (other_parts test) after.blocks ≡ true
   pub stmts : (test : Stmt → Bool) → ((n : ℕ) → test (Set (Temp n) no_operand) ≡ true)
       → all_kinds test before ≡ true → all_kinds test after ≡ true
   pub exits : AllZip EndsAlike before.blocks after.blocks

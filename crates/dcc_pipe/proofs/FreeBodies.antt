@@ -3,8 +3,7 @@
 use Rattle.std.proofs.Common.{◌≡◌, ℕ, ◌+◌, ◌^◌, ◌<◌, Bool, true, false, inl, inr, List, [], ◌∷◌, ◌++◌, length, Option, Some, None, slice_get, refl, sym, ap, ap₂, ◌∙◌, subst, true≢false, arith}
 use Rattle.std.specs.Prelude.{◌⊎◌, ◌&&◌, ◌||◌, not, if◌then◌else◌}
 use Rattle.std.specs.List.{list_all, list_any}
-use Rattle.std.proofs.lemmas.Bool.{and_from, or_parts, or_left, or_right, false_from_ne_true}
-use Rattle.std.proofs.lemmas.List.Folds.{list_any-append}
+use Rattle.std.proofs.lemmas.Bool.{and_from, and_parts, not-true, or_parts, or_left, or_right, false_from_ne_true}
 use Rattle.dcc_ir.specs.Tree as inner
 use Rattle.dcc_ir.specs.Live.{block_in}
 use Rattle.dcc_ir.specs.declared.syntax.Param.{Param}
@@ -12,20 +11,19 @@ use Rattle.dcc_ir.specs.declared.syntax.Put.{Put}
 use Rattle.dcc_ir.specs.WellFormed.{is_memory}
 use Rattle.dcc_ir.proofs.PathLaws.{decided}
 use Rattle.dcc_c.specs.declared.syntax.Class.TheVariants.{Plain, Auto}
-use Rattle.dcc_c.specs.Parts.{stmts_in, inner_stmts, arm_stmts}
+use Rattle.dcc_c.specs.Parts.{stmts_in}
 use Rattle.dcc_c.specs.Placement.{is_auto, takes_address}
-use Rattle.dcc_c.specs.Tree.{Word, Stmt, Assign, Empty, Lines, no_lines, line, Arms}
+use Rattle.dcc_c.specs.Tree.{Word, Stmt, Lines}
 use Rattle.dcc_text.specs.Spelled.{Low, Exact}
 use Rattle.dcc_text.specs.Spelling.{Spelling}
-use Rattle.dcc_text.specs.Stmts.{stmt_text}
 use Rattle.dcc_variables.specs.Addresses.{has_address_of, stmt_has_address_of, TakesNoAddress, IsNoMemoryName}
 use Rattle.dcc_variables.specs.Functions.{parameter_name, parameter_class, parameters_from, parameters, memory_from, function_spelling, openings, BeginsWith}
 use Rattle.dcc_variables.proofs.FramePlaces.{memory-within}
 use Rattle.dcc_variables.proofs.NoAddresses.{body-takes, texts-take-none}
 use Rattle.dcc_variables.proofs.ParamNames.{places-same}
-use Rattle.dcc_control.specs.Plan as plan
-use Rattle.dcc_control.specs.Plan.{Plan, Item}
-use Rattle.dcc_plan.specs.PlanText.{text_of_test, text_of_choice, text_of_return, IsPlanText, nothing, one_more, IsItemText, does, marks, jumps, tests, chooses, returns, repeats, breaks, continues, AreArmsText, no_more, next_arm}
+use Rattle.dcc_control.specs.Plan.{Plan}
+use Rattle.dcc_plan.specs.PlanText.{text_of_test, text_of_choice, text_of_return, IsPlanText}
+use Rattle.dcc_pipe.proofs.BodyStatements.{TextsPass, plan-passes, opened-passes}
 use Rattle.dcc_pipe.proofs.OpeningLines.{is_assignment}
 
 module _ (graph : inner.Graph) (word : Word) (apart : IsNoMemoryName graph word) where
@@ -35,33 +33,9 @@ module _ (graph : inner.Graph) (word : Word) (apart : IsNoMemoryName graph word)
   none : TakesNoAddress graph word
   none = texts-take-none graph word apart
 
-  abbrev Free : List Stmt → Type 0
-  Free stmts = list_any (stmt_has_address_of word) stmts ≡ false
-
-  joined : (xs ys : List Stmt) → Free xs → Free ys → Free (xs ++ ys)
-  joined xs ys first second =
-      list_any-append (stmt_has_address_of word) xs ys ∙ ap₂ (λ a b. a || b) first second
-
-  alone : (b : Bool) → b ≡ false → (b || false) ≡ false
-  alone b is = ap (λ c. c || false) is
-
-  -- statements of blocks have no statements inside
-  inside-none : (stmt : inner.Stmt) → inner_stmts (stmt_text s 2 stmt) ≡ []
-  inside-none (inner.Set l e) = refl
-  inside-none (inner.Fetch l width address) = refl
-  inside-none (inner.Store width address e) = refl
-  inside-none (inner.Div l e) = refl
-  inside-none (inner.Call [] entry arguments depth) = refl
-  inside-none (inner.Call (l ∷ results) entry arguments depth) = refl
-  inside-none (inner.Dos number None argument) = refl
-  inside-none (inner.Dos number (Some l) argument) = refl
-
-  abbrev FreeStmt : Stmt → Type 0
-  FreeStmt stmt = (stmt_has_address_of word stmt ≡ false) × Free (inner_stmts stmt)
-
-  done-free : (stmt : Option inner.Stmt) → FreeStmt (elim stmt [ Some stmt ↦ stmt_text s 2 stmt | None ↦ Empty ])
-  done-free (Some stmt) = (none.statements stmt 2, ap (list_any (stmt_has_address_of word)) (inside-none stmt))
-  done-free None = (refl, refl)
+  -- the statement takes no such address
+  abbrev free : Stmt → Bool
+  free stmt = not (stmt_has_address_of word stmt)
 
   test-free : (exit : inner.Exit) → has_address_of word (text_of_test s exit) ≡ false
   test-free (inner.If test one other) = none.expressions test Exact false
@@ -77,57 +51,45 @@ module _ (graph : inner.Graph) (word : Word) (apart : IsNoMemoryName graph word)
   choice-free (inner.Ret values) = refl
   choice-free inner.Stop = refl
 
-  return-free : (exit : inner.Exit) → FreeStmt (text_of_return s exit)
-  return-free (inner.Ret values) = (none.returns values, refl)
-  return-free (inner.Goto next) = (refl, refl)
-  return-free (inner.If test one other) = (refl, refl)
-  return-free (inner.Switch e places) = (refl, refl)
-  return-free inner.Stop = (refl, refl)
+  return-free : (exit : inner.Exit) → stmt_has_address_of word (text_of_return s exit) ≡ false
+  return-free (inner.Ret values) = none.returns values
+  return-free (inner.Goto next) = refl
+  return-free (inner.If test one other) = refl
+  return-free (inner.Switch e places) = refl
+  return-free inner.Stop = refl
 
-  mutual
-    pub plan-free : {p : Plan} {lines : Lines} → IsPlanText s graph p lines → Free (stmts_in lines)
-    plan-free nothing = refl
-    plan-free (one_more {stmt = stmt} {lines = lines} i p) =
-        let here = item-free i in
-        ap₂ (λ a b. a || b) here.0 (joined (inner_stmts stmt) (stmts_in lines) here.1 (plan-free p))
+  texts-free : TextsPass s graph free
+  texts-free = record {
+    done = λ b m stmt is. ap not (none.statements stmt 2);
+    tested = λ b body otherwise. ap (λ c. not (c || false)) (test-free (block_in graph b).exit);
+    chosen = λ b bodies. ap (λ c. not (c || false)) (choice-free (block_in graph b).exit);
+    returned = λ b. ap not (return-free (block_in graph b).exit);
+    repeated = λ body. refl;
+    marked = λ w. refl;
+    jumped = λ w. refl;
+    broken = refl;
+    continued = refl;
+    empty = refl;
+  }
 
-    item-free : {i : Item} {stmt : Stmt} → IsItemText s graph i stmt → FreeStmt stmt
-    item-free (does {b = b} {m = m}) = done-free (slice_get (block_in graph b).stmts m)
-    item-free marks = (refl, refl)
-    item-free jumps = (refl, refl)
-    item-free (tests {b = b} {body = body} {otherwise = otherwise} p q) = (
-      alone (has_address_of word (text_of_test s (block_in graph b).exit)) (test-free (block_in graph b).exit),
-      joined (stmts_in body) (stmts_in otherwise) (plan-free p) (plan-free q),
-    )
-    item-free (chooses {b = b} {bodies = bodies} arms) = (
-      alone (has_address_of word (text_of_choice s (block_in graph b).exit)) (choice-free (block_in graph b).exit),
-      joined (arm_stmts bodies) [] (arms-free arms) refl,
-    )
-    item-free (returns {b = b}) = return-free (block_in graph b).exit
-    item-free (repeats p) = (refl, plan-free p)
-    item-free breaks = (refl, refl)
-    item-free continues = (refl, refl)
+  all-free : (stmts : List Stmt) → list_any (stmt_has_address_of word) stmts ≡ false → list_all free stmts ≡ true
+  all-free [] is = refl
+  all-free (stmt ∷ stmts) is =
+      let parts = or_parts (stmt_has_address_of word stmt) (list_any (stmt_has_address_of word) stmts) is in
+      and_from (free stmt) (list_all free stmts) (ap not parts.0) (all-free stmts parts.1)
 
-    arms-free : {arms : plan.Arms} {bodies : Arms} → AreArmsText s graph arms bodies → Free (arm_stmts bodies)
-    arms-free no_more = refl
-    arms-free (next_arm {lines = lines} {bodies = bodies} p arms) =
-        joined (stmts_in lines) (arm_stmts bodies) (plan-free p) (arms-free arms)
-
-  -- so does a body that opens with assignments
-  opened-free : (stmts : List Stmt) → Free stmts → list_all is_assignment stmts ≡ true → (body lines : Lines)
-      → BeginsWith stmts body lines → Free (stmts_in lines) → Free (stmts_in body)
-  opened-free [] free all body lines begins later = subst (λ b. Free (stmts_in b)) (sym begins) later
-  opened-free (Assign place e ∷ stmts) free all (line first at body) lines begins later =
-      let parts = or_parts (stmt_has_address_of word (Assign place e)) (list_any (stmt_has_address_of word) stmts) free in
-      subst (λ stmt. Free (stmt ∷ (inner_stmts stmt ++ stmts_in body))) (sym begins.0)
-      (ap₂ (λ a b. a || b) parts.0 (opened-free stmts parts.1 all body lines begins.1 later))
-  opened-free (Assign place e ∷ stmts) free all no_lines lines begins later = absurd begins
-  opened-free (stmt ∷ stmts) free all body lines begins later = absurd (true≢false (sym all))
+  none-takes : (stmts : List Stmt) → list_all free stmts ≡ true → list_any (stmt_has_address_of word) stmts ≡ false
+  none-takes [] is = refl
+  none-takes (stmt ∷ stmts) is =
+      let parts = and_parts (free stmt) (list_all free stmts) is in
+      ap₂ (λ a b. a || b) (not-true (stmt_has_address_of word stmt) parts.0) (none-takes stmts parts.1)
 
   pub body-free : (opens : _) (body lines : Lines) {p : Plan} → list_all is_assignment (openings opens graph) ≡ true
       → BeginsWith (openings opens graph) body lines → IsPlanText s graph p lines → takes_address body word ≡ false
   body-free opens body lines all begins is =
-      body-takes body word ∙ opened-free (openings opens graph) (none.openings opens) all body lines begins (plan-free is)
+      body-takes body word
+      ∙ none-takes (stmts_in body) (opened-passes s graph free texts-free (openings opens graph)
+      (all-free (openings opens graph) (none.openings opens)) all body lines begins (plan-passes s graph free texts-free is))
 
 -- Parameters.
 

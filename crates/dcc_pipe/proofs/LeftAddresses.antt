@@ -1,8 +1,9 @@
--- What is prepared takes only addresses that pass a test, where what is lifted does.
+-- What is prepared takes only addresses that pass a test, where what is lifted does, but for statements that set
+-- temporaries to sums of the frame.
 use Rattle.std.proofs.Common.{◌≡◌, ℕ, ◌+◌, Bool, true, false, ◌&&◌, ◌||◌, inl, inr, List, [], ◌∷◌, ◌++◌, map, flat_map, Option, Some, None, refl, sym, ap, ◌∙◌, subst, true≢false}
 use Rattle.std.specs.Prelude.{All, not, if◌then◌else◌}
 use Rattle.std.specs.List.{AllZip, list_all, list_any}
-use Rattle.std.proofs.lemmas.Bool.{and_parts, or_from}
+use Rattle.std.proofs.lemmas.Bool.{and_parts, or_cases, or_left, or_right, or_from}
 use Rattle.std.proofs.lemmas.List.Concat.{flat_map-append}
 use Rattle.std.proofs.lemmas.List.Elements.{All-nil, All-cons, All-head, All-tail, All-append}
 use Rattle.std.proofs.lemmas.List.Folds.{list_all-append}
@@ -18,7 +19,8 @@ use Rattle.dcc_ir.specs.Live.{is_among}
 use Rattle.dcc_ir.specs.Tree.{Expr, Const, Get, Load, Unary, Binary, Widen, Part, Join, Choose, Address, Stmt, Set, Fetch, Store, Div, Call, Dos, Exit, Goto, If, Switch, Ret, Stop, Block, Graph}
 use Rattle.dcc_ir.specs.Use.{parts_of, addressed_by, addresses_of, got_by, exprs_of, exit_exprs, block_exprs, graph_exprs}
 use Rattle.dcc_ir.proofs.ListLaws.{left_part}
-use Rattle.dcc_flags.specs.Kinds.{kind_of, all_parts, KindsStay}
+use Rattle.dcc_ir.specs.Trimmed.{Trim, trim_stmt, trim_block, trim_graph}
+use Rattle.dcc_flags.specs.Kinds.{kind_of, takes_frame_sum, parts_pass, other_parts, KindsStay}
 use Rattle.dcc_signatures.specs.declared.packing.Fresh.{Fresh}
 use Rattle.dcc_signatures.specs.declared.packing.Packing.TheVariants.{Apart, Word, Double}
 use Rattle.dcc_signatures.specs.Packed.{are_halves, in_front, two_or_one, merged, word_of, one_argument, packing_of}
@@ -26,39 +28,19 @@ use Rattle.dcc_signatures.specs.Packed.{given_or_zero, given_word, double_of, on
 use Rattle.dcc_signatures.specs.Packed.{pack_stmt, pack_exit, pack_block, fresh_after, pack_graph}
 use Rattle.dcc_variables.specs.Variables.{is_told_from, is_address, has_address, stmt_has_address, block_has_address, takes_address}
 use Rattle.dcc_pipe.specs.Simplified.{IsSimplifiedGraph}
-use Rattle.dcc_pipe.proofs.GraphAddresses.{block_passes, blocks_pass}
-use Rattle.dcc_pipe.proofs.OperationAddresses.{passes, stmt_passes, all_pass}
-use Rattle.dcc_pipe.proofs.TrimmedLaws.{trimmed-parts}
+use Rattle.dcc_pipe.proofs.GraphAddresses.{block_told, blocks_told}
+use Rattle.dcc_pipe.proofs.OperationAddresses.{passes, stmt_passes, stmt_told, all_told}
+use Rattle.dcc_pipe.proofs.TrimmedLaws.{kept-all, exit-parts}
 
 module _ (test : ℕ → Bool) where
   abbrev pub Passes : Expr → Type 0
   Passes e = passes test e ≡ true
 
-  abbrev pub AllPass : Graph → Type 0
-  AllPass g = All Passes (graph_exprs g)
-
-  -- From tests of blocks.
-
-  each-passes : (es : List Expr) → list_all (passes test) es ≡ true → All Passes es
+  pub each-passes : (es : List Expr) → list_all (passes test) es ≡ true → All Passes es
   each-passes [] is = All-nil Passes
   each-passes (e ∷ es) is =
       let parts = and_parts (passes test e) (list_all (passes test) es) is in
       All-cons Passes e es parts.0 (each-passes es parts.1)
-
-  stmts-pass : (stmts : List Stmt) → all_pass test stmts ≡ true → All Passes (flat_map exprs_of stmts)
-  stmts-pass [] is = All-nil Passes
-  stmts-pass (stmt ∷ stmts) is =
-      let parts = and_parts (stmt_passes test stmt) (all_pass test stmts) is in
-      All-append Passes (exprs_of stmt) (flat_map exprs_of stmts) (each-passes (exprs_of stmt) parts.0) (stmts-pass stmts parts.1)
-
-  pub blocks-all : (blocks : List Block) → blocks_pass test blocks ≡ true → All Passes (flat_map block_exprs blocks)
-  blocks-all [] is = All-nil Passes
-  blocks-all (b ∷ blocks) is =
-      let parts = and_parts (block_passes test b) (blocks_pass test blocks) is in
-      let here = and_parts (all_pass test b.stmts) (list_all (passes test) (exit_exprs b.exit)) parts.0 in
-      All-append Passes (block_exprs b) (flat_map block_exprs blocks)
-      (All-append Passes (flat_map exprs_of b.stmts) (exit_exprs b.exit) (stmts-pass b.stmts here.0) (each-passes (exit_exprs b.exit) here.1))
-      (blocks-all blocks parts.1)
 
   -- What passes together is one value.
 
@@ -132,29 +114,6 @@ module _ (test : ℕ → Bool) where
         | Double ↦ each-taken fresh.double true results
       ]
 
-  alone : (stmt : Stmt) → All Passes (exprs_of stmt) → All Passes (flat_map exprs_of (stmt ∷ []))
-  alone stmt all = All-append Passes (exprs_of stmt) [] all (All-nil Passes)
-
-  stmt-packed : (fresh : Fresh) (stmt : Stmt) → All Passes (exprs_of stmt)
-      → All Passes (flat_map exprs_of (pack_stmt fresh stmt))
-  stmt-packed fresh (Call results entry arguments depth) all =
-      All-append Passes (merged one_argument arguments) (flat_map exprs_of (taking_parts fresh results))
-      (merged-pass arguments all) (parts-taken fresh results)
-  stmt-packed fresh (Set location e) all = alone (Set location e) all
-  stmt-packed fresh (Fetch location width address) all = alone (Fetch location width address) all
-  stmt-packed fresh (Store width address e) all = alone (Store width address e) all
-  stmt-packed fresh (Div location e) all = alone (Div location e) all
-  stmt-packed fresh (Dos number place argument) all = alone (Dos number place argument) all
-
-  stmts-packed : (fresh : Fresh) (stmts : List Stmt) → All Passes (flat_map exprs_of stmts)
-      → All Passes (flat_map exprs_of (flat_map (pack_stmt fresh) stmts))
-  stmts-packed fresh [] all = all
-  stmts-packed fresh (stmt ∷ stmts) all =
-      subst (All Passes) (sym (flat_map-append exprs_of (pack_stmt fresh stmt) (flat_map (pack_stmt fresh) stmts)))
-      (All-append Passes (flat_map exprs_of (pack_stmt fresh stmt)) (flat_map exprs_of (flat_map (pack_stmt fresh) stmts))
-      (stmt-packed fresh stmt (left_part Passes (exprs_of stmt) (flat_map exprs_of stmts) all))
-      (stmts-packed fresh stmts (right_part Passes (exprs_of stmt) (flat_map exprs_of stmts) all)))
-
   exit-packed : (exit : Exit) → All Passes (exit_exprs exit) → All Passes (exit_exprs (pack_exit exit))
   exit-packed (Ret values) all = value-passes (flat_map got_by values) values all
   exit-packed (Goto next) all = all
@@ -162,45 +121,150 @@ module _ (test : ℕ → Bool) where
   exit-packed (Switch e places) all = all
   exit-packed Stop all = all
 
-  blocks-packed : (fresh : Fresh) (blocks : List Block) → All Passes (flat_map block_exprs blocks)
-      → All Passes (flat_map block_exprs (map (pack_block fresh) blocks))
-  blocks-packed fresh [] all = all
-  blocks-packed fresh (b ∷ blocks) all =
-      let here = left_part Passes (block_exprs b) (flat_map block_exprs blocks) all in
-      All-append Passes (block_exprs (pack_block fresh b)) (flat_map block_exprs (map (pack_block fresh) blocks))
-      (All-append Passes (flat_map exprs_of (flat_map (pack_stmt fresh) b.stmts)) (exit_exprs (pack_exit b.exit))
-      (stmts-packed fresh b.stmts (left_part Passes (flat_map exprs_of b.stmts) (exit_exprs b.exit) here))
-      (exit-packed b.exit (right_part Passes (flat_map exprs_of b.stmts) (exit_exprs b.exit) here)))
-      (blocks-packed fresh blocks (right_part Passes (block_exprs b) (flat_map block_exprs blocks) all))
+  -- Statements.
 
-  pub packed-pass : (g : Graph) → AllPass g → AllPass (pack_graph g)
-  packed-pass g = blocks-packed (fresh_after g.bits) g.blocks
+  all-passes : (es : List Expr) → All Passes es → list_all (passes test) es ≡ true
+  all-passes [] all = refl
+  all-passes (e ∷ es) all =
+      both (passes test e) (list_all (passes test) es) (All-head Passes e es all) (all-passes es (All-tail Passes e es all))
 
-  -- Assignments that go.
+  module _ (sums : Bool) where
+    abbrev pub Told : Stmt → Type 0
+    Told stmt = stmt_told test sums stmt ≡ true
 
-  without-pass : (Has : List Stmt → Loc → Type 0) {before after : List Stmt} → IsWithout Has before after
-      → All Passes (flat_map exprs_of before) → All Passes (flat_map exprs_of after)
-  without-pass Has done all = all
-  without-pass Has (stays {stmt} {rest} {rest'} later) all =
-      All-append Passes (exprs_of stmt) (flat_map exprs_of rest')
-      (left_part Passes (exprs_of stmt) (flat_map exprs_of rest) all)
-      (without-pass Has later (right_part Passes (exprs_of stmt) (flat_map exprs_of rest) all))
-  without-pass Has (goes {stmt} {rest} {rest'} assigns none later) all =
-      without-pass Has later (right_part Passes (exprs_of stmt) (flat_map exprs_of rest) all)
+    -- a block and a graph of such statements
+    pub record IsTold (b : Block) : Type 0 where
+      pub stmts : All Told b.stmts
+      pub exit : All Passes (exit_exprs b.exit)
 
-  blocks-without : (family : Family) (before after : List Block) → AllZip (IsBlockWithout family) before after
-      → All Passes (flat_map block_exprs before) → All Passes (flat_map block_exprs after)
-  blocks-without family [] [] zip all = all
-  blocks-without family [] (b ∷ after) zip all = absurd zip
-  blocks-without family (a ∷ before) [] zip all = absurd zip
-  blocks-without family (a ∷ before) (b ∷ after) zip all =
-      let here = left_part Passes (block_exprs a) (flat_map block_exprs before) all in
-      All-append Passes (block_exprs b) (flat_map block_exprs after)
-      (All-append Passes (flat_map exprs_of b.stmts) (exit_exprs b.exit)
-      (without-pass (family a) zip.0.stmts (left_part Passes (flat_map exprs_of a.stmts) (exit_exprs a.exit) here))
-      (subst (λ e. All Passes (exit_exprs e)) (sym zip.0.exit)
-      (right_part Passes (flat_map exprs_of a.stmts) (exit_exprs a.exit) here)))
-      (blocks-without family before after zip.1 (right_part Passes (block_exprs a) (flat_map block_exprs before) all))
+    abbrev pub AllTold : Graph → Type 0
+    AllTold g = All IsTold g.blocks
+
+    -- statements that take no sum pass
+    told-passes : (stmt : Stmt) → (sums && takes_frame_sum stmt) ≡ false → Told stmt → All Passes (exprs_of stmt)
+    told-passes stmt none told = elim (or_cases (stmt_passes test stmt) (sums && takes_frame_sum stmt) told) [
+      | inl pass ↦ each-passes (exprs_of stmt) pass
+      | inr takes ↦ absurd (true≢false (sym takes ∙ none))
+    ]
+
+    passes-told : (stmt : Stmt) → All Passes (exprs_of stmt) → Told stmt
+    passes-told stmt all =
+        or_left (stmt_passes test stmt) (sums && takes_frame_sum stmt) (all-passes (exprs_of stmt) all)
+
+    each-told : (stmts : List Stmt) → All Passes (flat_map exprs_of stmts) → All Told stmts
+    each-told [] all = All-nil Told
+    each-told (stmt ∷ stmts) all =
+        All-cons Told stmt stmts (passes-told stmt (left_part Passes (exprs_of stmt) (flat_map exprs_of stmts) all))
+        (each-told stmts (right_part Passes (exprs_of stmt) (flat_map exprs_of stmts) all))
+
+    no-sum : (b : Bool) → (b && false) ≡ false
+    no-sum true = refl
+    no-sum false = refl
+
+    -- From tests of blocks.
+
+    stmts-told : (stmts : List Stmt) → all_told test sums stmts ≡ true → All Told stmts
+    stmts-told [] is = All-nil Told
+    stmts-told (stmt ∷ stmts) is =
+        let parts = and_parts (stmt_told test sums stmt) (all_told test sums stmts) is in
+        All-cons Told stmt stmts parts.0 (stmts-told stmts parts.1)
+
+    pub blocks-all : (blocks : List Block) → blocks_told test sums blocks ≡ true → All IsTold blocks
+    blocks-all [] is = All-nil IsTold
+    blocks-all (b ∷ blocks) is =
+        let parts = and_parts (block_told test sums b) (blocks_told test sums blocks) is in
+        let here = and_parts (all_told test sums b.stmts) (list_all (passes test) (exit_exprs b.exit)) parts.0 in
+        All-cons IsTold b blocks
+        (record { stmts = stmts-told b.stmts here.0; exit = each-passes (exit_exprs b.exit) here.1 })
+        (blocks-all blocks parts.1)
+
+    -- blocks that are changed one by one
+    changed : (f : Block → Block) → ((b : Block) → IsTold b → IsTold (f b)) → (blocks : List Block) → All IsTold blocks
+        → All IsTold (map f blocks)
+    changed f to [] all = All-nil IsTold
+    changed f to (b ∷ blocks) all =
+        All-cons IsTold (f b) (map f blocks) (to b (All-head IsTold b blocks all))
+        (changed f to blocks (All-tail IsTold b blocks all))
+
+    -- Arguments and values given back that go.
+
+    stmt-trimmed : (trim : Trim) (stmt : Stmt) → Told stmt → Told (trim_stmt trim stmt)
+    stmt-trimmed trim (Call results entry arguments depth) told =
+        passes-told (trim_stmt trim (Call results entry arguments depth))
+        (kept-all Passes (trim.takes entry) arguments
+        (told-passes (Call results entry arguments depth) (no-sum sums) told))
+    stmt-trimmed trim (Set location e) told = told
+    stmt-trimmed trim (Fetch location width address) told = told
+    stmt-trimmed trim (Store width address e) told = told
+    stmt-trimmed trim (Div location e) told = told
+    stmt-trimmed trim (Dos number place argument) told = told
+
+    stmts-trimmed : (trim : Trim) (stmts : List Stmt) → All Told stmts → All Told (map (trim_stmt trim) stmts)
+    stmts-trimmed trim [] all = All-nil Told
+    stmts-trimmed trim (stmt ∷ stmts) all =
+        All-cons Told (trim_stmt trim stmt) (map (trim_stmt trim) stmts)
+        (stmt-trimmed trim stmt (All-head Told stmt stmts all)) (stmts-trimmed trim stmts (All-tail Told stmt stmts all))
+
+    pub trimmed-told : (trim : Trim) (g : Graph) → AllTold g → AllTold (trim_graph trim g)
+    trimmed-told trim g =
+        changed (trim_block trim g.entry)
+        (λ b is. record {
+          stmts = stmts-trimmed trim b.stmts is.stmts;
+          exit = exit-parts trim Passes g.entry b.exit is.exit;
+        }) g.blocks
+
+    -- What passes together.
+
+    one-told : (stmt : Stmt) → Told stmt → All Told (stmt ∷ [])
+    one-told stmt told = All-cons Told stmt [] told (All-nil Told)
+
+    stmt-packed : (fresh : Fresh) (stmt : Stmt) → Told stmt → All Told (pack_stmt fresh stmt)
+    stmt-packed fresh (Call results entry arguments depth) told =
+        each-told (pack_stmt fresh (Call results entry arguments depth))
+        (All-append Passes (merged one_argument arguments) (flat_map exprs_of (taking_parts fresh results))
+        (merged-pass arguments (told-passes (Call results entry arguments depth) (no-sum sums) told))
+        (parts-taken fresh results))
+    stmt-packed fresh (Set location e) told = one-told (Set location e) told
+    stmt-packed fresh (Fetch location width address) told = one-told (Fetch location width address) told
+    stmt-packed fresh (Store width address e) told = one-told (Store width address e) told
+    stmt-packed fresh (Div location e) told = one-told (Div location e) told
+    stmt-packed fresh (Dos number place argument) told = one-told (Dos number place argument) told
+
+    stmts-packed : (fresh : Fresh) (stmts : List Stmt) → All Told stmts → All Told (flat_map (pack_stmt fresh) stmts)
+    stmts-packed fresh [] all = All-nil Told
+    stmts-packed fresh (stmt ∷ stmts) all =
+        All-append Told (pack_stmt fresh stmt) (flat_map (pack_stmt fresh) stmts)
+        (stmt-packed fresh stmt (All-head Told stmt stmts all)) (stmts-packed fresh stmts (All-tail Told stmt stmts all))
+
+    pub packed-told : (g : Graph) → AllTold g → AllTold (pack_graph g)
+    packed-told g =
+        let fresh = fresh_after g.bits in
+        changed (pack_block fresh)
+        (λ b is. record { stmts = stmts-packed fresh b.stmts is.stmts; exit = exit-packed b.exit is.exit }) g.blocks
+
+    -- Assignments that go.
+
+    without-told : (Has : List Stmt → Loc → Type 0) {before after : List Stmt} → IsWithout Has before after
+        → All Told before → All Told after
+    without-told Has done all = all
+    without-told Has (stays {stmt} {rest} {rest'} later) all =
+        All-cons Told stmt rest' (All-head Told stmt rest all) (without-told Has later (All-tail Told stmt rest all))
+    without-told Has (goes {stmt} {rest} {rest'} assigns none later) all =
+        without-told Has later (All-tail Told stmt rest all)
+
+    blocks-without : (family : Family) (before after : List Block) → AllZip (IsBlockWithout family) before after
+        → All IsTold before → All IsTold after
+    blocks-without family [] [] zip all = all
+    blocks-without family [] (b ∷ after) zip all = absurd zip
+    blocks-without family (a ∷ before) [] zip all = absurd zip
+    blocks-without family (a ∷ before) (b ∷ after) zip all =
+        let here = All-head IsTold a before all in
+        All-cons IsTold b after
+        (record {
+          stmts = without-told (family a) zip.0.stmts here.stmts;
+          exit = subst (λ e. All Passes (exit_exprs e)) (sym zip.0.exit) here.exit;
+        })
+        (blocks-without family before after zip.1 (All-tail IsTold a before all))
 
   -- Flags.
 
@@ -235,22 +299,94 @@ module _ (test : ℕ → Bool) where
       let parts = and_parts (list_all (λ part. kind_passes (kind_of part)) (parts_of e)) _ is in
       All-cons Passes e es (sym (kinds-are (parts_of e)) ∙ parts.0) (from-kinds es parts.1)
 
-  folded-pass : (before after : Graph) → KindsStay before after → AllPass before → AllPass after
-  folded-pass before after kinds all =
-      from-kinds (graph_exprs after)
-      (kinds.parts kind_passes (λ f. refl) (λ n. refl) (to-kinds (graph_exprs before) all))
+  -- all expressions of a graph without sums pass
+  graph-passes : (blocks : List Block) → All (IsTold false) blocks → All Passes (flat_map block_exprs blocks)
+  graph-passes [] all = All-nil Passes
+  graph-passes (b ∷ blocks) all =
+      let here = All-head (IsTold false) b blocks all in
+      All-append Passes (block_exprs b) (flat_map block_exprs blocks)
+      (All-append Passes (flat_map exprs_of b.stmts) (exit_exprs b.exit) (each b.stmts here.stmts) here.exit)
+      (graph-passes blocks (All-tail (IsTold false) b blocks all))
+    where
+      each : (stmts : List Stmt) → All (Told false) stmts → All Passes (flat_map exprs_of stmts)
+      each [] all = All-nil Passes
+      each (stmt ∷ stmts) all =
+          All-append Passes (exprs_of stmt) (flat_map exprs_of stmts)
+          (told-passes false stmt refl (All-head (Told false) stmt stmts all))
+          (each stmts (All-tail (Told false) stmt stmts all))
 
-  pub simplified-pass : (before after : Graph) → IsSimplifiedGraph before after → AllPass before → AllPass after
-  simplified-pass before after is all =
-      blocks-without _ is.folded.blocks after.blocks is.last.without.blocks
-      (folded-pass is.wanted is.folded is.flags.kinds
-      (blocks-without _ before.blocks is.wanted.blocks is.first.without.blocks all))
+  passes-graph : (blocks : List Block) → All Passes (flat_map block_exprs blocks) → All (IsTold false) blocks
+  passes-graph [] all = All-nil (IsTold false)
+  passes-graph (b ∷ blocks) all =
+      let here = left_part Passes (block_exprs b) (flat_map block_exprs blocks) all in
+      All-cons (IsTold false) b blocks
+      (record {
+        stmts = each-told false b.stmts (left_part Passes (flat_map exprs_of b.stmts) (exit_exprs b.exit) here);
+        exit = right_part Passes (flat_map exprs_of b.stmts) (exit_exprs b.exit) here;
+      })
+      (passes-graph blocks (right_part Passes (block_exprs b) (flat_map block_exprs blocks) all))
+
+  -- statements with sums, as they are told of graphs whose flags are folded
+  abbrev is_other : Stmt → Bool
+  is_other stmt = takes_frame_sum stmt || parts_pass kind_passes (exprs_of stmt)
+
+  to-others : (stmts : List Stmt) → All (Told true) stmts → list_all is_other stmts ≡ true
+  to-others [] all = refl
+  to-others (stmt ∷ stmts) all =
+      both (is_other stmt) (list_all is_other stmts)
+      (elim (or_cases (stmt_passes test stmt) (takes_frame_sum stmt) (All-head (Told true) stmt stmts all)) [
+        | inl pass ↦ or_right (takes_frame_sum stmt) _ (to-kinds (exprs_of stmt) (each-passes (exprs_of stmt) pass))
+        | inr takes ↦ or_left (takes_frame_sum stmt) _ takes
+      ]) (to-others stmts (All-tail (Told true) stmt stmts all))
+
+  from-others : (stmts : List Stmt) → list_all is_other stmts ≡ true → All (Told true) stmts
+  from-others [] is = All-nil (Told true)
+  from-others (stmt ∷ stmts) is =
+      let parts = and_parts (is_other stmt) (list_all is_other stmts) is in
+      All-cons (Told true) stmt stmts
+      (elim (or_cases (takes_frame_sum stmt) (parts_pass kind_passes (exprs_of stmt)) parts.0) [
+        | inl takes ↦ or_right (stmt_passes test stmt) (takes_frame_sum stmt) takes
+        | inr pass ↦ passes-told true stmt (from-kinds (exprs_of stmt) pass)
+      ]) (from-others stmts parts.1)
+
+  to-other-blocks : (blocks : List Block) → All (IsTold true) blocks → list_all (other_parts kind_passes) blocks ≡ true
+  to-other-blocks [] all = refl
+  to-other-blocks (b ∷ blocks) all =
+      let here = All-head (IsTold true) b blocks all in
+      both (other_parts kind_passes b) (list_all (other_parts kind_passes) blocks)
+      (both (list_all is_other b.stmts) (parts_pass kind_passes (exit_exprs b.exit)) (to-others b.stmts here.stmts)
+      (to-kinds (exit_exprs b.exit) here.exit))
+      (to-other-blocks blocks (All-tail (IsTold true) b blocks all))
+
+  from-other-blocks : (blocks : List Block) → list_all (other_parts kind_passes) blocks ≡ true → All (IsTold true) blocks
+  from-other-blocks [] is = All-nil (IsTold true)
+  from-other-blocks (b ∷ blocks) is =
+      let parts = and_parts (other_parts kind_passes b) (list_all (other_parts kind_passes) blocks) is in
+      let here = and_parts (list_all is_other b.stmts) (parts_pass kind_passes (exit_exprs b.exit)) parts.0 in
+      All-cons (IsTold true) b blocks
+      (record { stmts = from-others b.stmts here.0; exit = from-kinds (exit_exprs b.exit) here.1 })
+      (from-other-blocks blocks parts.1)
+
+  folded-told : (sums : Bool) (before after : Graph) → KindsStay before after → AllTold sums before → AllTold sums after
+  folded-told true before after kinds all =
+      from-other-blocks after.blocks
+      (kinds.others kind_passes (λ f. refl) (λ n. refl) (to-other-blocks before.blocks all))
+  folded-told false before after kinds all =
+      passes-graph after.blocks (from-kinds (graph_exprs after)
+      (kinds.parts kind_passes (λ f. refl) (λ n. refl) (to-kinds (graph_exprs before) (graph-passes before.blocks all))))
+
+  pub simplified-told : (sums : Bool) (before after : Graph) → IsSimplifiedGraph before after → AllTold sums before
+      → AllTold sums after
+  simplified-told sums before after is all =
+      blocks-without sums _ is.folded.blocks after.blocks is.last.without.blocks
+      (folded-told sums is.wanted is.folded is.flags.kinds
+      (blocks-without sums _ before.blocks is.wanted.blocks is.first.without.blocks all))
 
 -- No address is told from no parameter, where all pass that test.
 
 module _ (told : Option ℕ) where
-  abbrev Told : Expr → Type 0
-  Told = Passes (is_told_from told)
+  abbrev FromParameter : Expr → Type 0
+  FromParameter = Passes (is_told_from told)
 
   none-untold : (es : List Expr) → list_all (is_told_from told) (flat_map addressed_by es) ≡ true
       → list_any (is_address told) es ≡ false
@@ -268,29 +404,29 @@ module _ (told : Option ℕ) where
       let parts = and_parts (is_told_from told distance) (list_all (is_told_from told) (flat_map addressed_by es)) is in
       or_from (not (is_told_from told distance)) (list_any (is_address told) es) (ap not parts.0) (none-untold es parts.1)
 
-  exprs-untold : (es : List Expr) → All Told es → list_any (has_address told) es ≡ false
+  exprs-untold : (es : List Expr) → All FromParameter es → list_any (has_address told) es ≡ false
   exprs-untold [] all = refl
   exprs-untold (e ∷ es) all =
-      or_from (has_address told e) (list_any (has_address told) es) (none-untold (parts_of e) (All-head Told e es all))
-      (exprs-untold es (All-tail Told e es all))
+      or_from (has_address told e) (list_any (has_address told) es) (none-untold (parts_of e) (All-head FromParameter e es all))
+      (exprs-untold es (All-tail FromParameter e es all))
 
-  stmts-untold : (stmts : List Stmt) → All Told (flat_map exprs_of stmts) → list_any (stmt_has_address told) stmts ≡ false
+  stmts-untold : (stmts : List Stmt) → All FromParameter (flat_map exprs_of stmts) → list_any (stmt_has_address told) stmts ≡ false
   stmts-untold [] all = refl
   stmts-untold (stmt ∷ stmts) all =
       or_from (stmt_has_address told stmt) (list_any (stmt_has_address told) stmts)
-      (exprs-untold (exprs_of stmt) (left_part Told (exprs_of stmt) (flat_map exprs_of stmts) all))
-      (stmts-untold stmts (right_part Told (exprs_of stmt) (flat_map exprs_of stmts) all))
+      (exprs-untold (exprs_of stmt) (left_part FromParameter (exprs_of stmt) (flat_map exprs_of stmts) all))
+      (stmts-untold stmts (right_part FromParameter (exprs_of stmt) (flat_map exprs_of stmts) all))
 
-  blocks-untold : (blocks : List Block) → All Told (flat_map block_exprs blocks)
+  blocks-untold : (blocks : List Block) → All FromParameter (flat_map block_exprs blocks)
       → list_any (block_has_address told) blocks ≡ false
   blocks-untold [] all = refl
   blocks-untold (b ∷ blocks) all =
-      let here = left_part Told (block_exprs b) (flat_map block_exprs blocks) all in
+      let here = left_part FromParameter (block_exprs b) (flat_map block_exprs blocks) all in
       or_from (block_has_address told b) (list_any (block_has_address told) blocks)
       (or_from (list_any (stmt_has_address told) b.stmts) (list_any (has_address told) (exit_exprs b.exit))
-      (stmts-untold b.stmts (left_part Told (flat_map exprs_of b.stmts) (exit_exprs b.exit) here))
-      (exprs-untold (exit_exprs b.exit) (right_part Told (flat_map exprs_of b.stmts) (exit_exprs b.exit) here)))
-      (blocks-untold blocks (right_part Told (block_exprs b) (flat_map block_exprs blocks) all))
+      (stmts-untold b.stmts (left_part FromParameter (flat_map exprs_of b.stmts) (exit_exprs b.exit) here))
+      (exprs-untold (exit_exprs b.exit) (right_part FromParameter (flat_map exprs_of b.stmts) (exit_exprs b.exit) here)))
+      (blocks-untold blocks (right_part FromParameter (block_exprs b) (flat_map block_exprs blocks) all))
 
-  pub takes-none : (g : Graph) → AllPass (is_told_from told) g → takes_address told g ≡ false
-  takes-none g = blocks-untold g.blocks
+  pub takes-none : (g : Graph) → AllTold (is_told_from told) false g → takes_address told g ≡ false
+  takes-none g all = blocks-untold g.blocks (graph-passes (is_told_from told) g.blocks all)

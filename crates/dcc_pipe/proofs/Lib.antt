@@ -1,6 +1,7 @@
 pub mod TokenCounts
 pub mod OpeningLines
 pub mod FunctionTables
+pub mod BodyStatements
 pub mod FreeBodies
 pub mod PlainTexts
 pub mod MatteringLaws
@@ -29,6 +30,7 @@ pub mod ExitAddresses
 pub mod GraphAddresses
 pub mod LeftAddresses
 pub mod MovesLaws
+pub mod ArrayTexts
 pub mod TypedLaws
 mod CallExample
 pub mod PipeLaws

@@ -1,5 +1,5 @@
--- A graph that is prepared takes an address that is told from no parameter only where its procedure exposes local bytes
--- or moves SP by a sum.
+-- A graph that is prepared, of a procedure that exposes no local byte, takes an address that is told from no parameter only
+-- where the procedure moves SP by a sum, and then a temporary is set to it.
 use Rattle.std.proofs.Common.{◌≡◌, ℕ, zero, suc, ◌+◌, ◌*◌, ◌<◌, ◌≤◌, Bool, true, false, ◌&&◌, inl, inr, List, [], ◌∷◌, ◌++◌, map, Option, Some, None, refl, sym, ap, ◌∙◌, subst, true≢false, le-leb, lt-ltb, arith}
 use Rattle.std.specs.Prelude.{if◌then◌else◌, nat_le, nat_lt, All}
 use Rattle.std.specs.List.{AllZip, range_with_len}
@@ -25,13 +25,12 @@ use Rattle.dcc_lift.proofs.FormScenes.{graph_of_entry, procedure_at_entry}
 use Rattle.dcc_lift.proofs.LocatedBlocks.{located_at}
 use Rattle.dcc_signatures.specs.Packed.{pack_graph}
 use Rattle.dcc_variables.specs.Functions.{memory_from}
-use Rattle.dcc_variables.specs.Variables.{is_told_from, takes_address}
+use Rattle.dcc_variables.specs.Variables.{is_told_from}
 use Rattle.dcc_pipe.specs.Simplified.{IsSimplifiedGraph}
 use Rattle.dcc_pipe.specs.Standing.{StandsForProcedure}
 use Rattle.dcc_pipe.specs.TypedFrames.{moves_sp}
-use Rattle.dcc_pipe.proofs.GraphAddresses.{blocks_pass, graph-passes}
-use Rattle.dcc_pipe.proofs.LeftAddresses.{Passes, AllPass, blocks-all, packed-pass, simplified-pass, takes-none}
-use Rattle.dcc_pipe.proofs.TrimmedLaws.{trimmed-parts}
+use Rattle.dcc_pipe.proofs.GraphAddresses.{blocks_told, graph-told}
+use Rattle.dcc_pipe.proofs.LeftAddresses.{AllTold, blocks-all, trimmed-told, packed-told, simplified-told}
 
 -- Addresses of arguments in memory are told from the first of these.
 
@@ -76,9 +75,9 @@ told-at told place n d is below low small =
     ap (λ o. is_told_from o d) is
     ∙ and_from (nat_le (2 * place) d) (nat_lt d 32768) (le-leb (2 * place) d (omega (arith, below, low))) (lt-ltb d 32768 small)
 
--- the graph takes such an address only where it has local bytes in memory or its procedure moves SP by a sum
+-- the graph has local bytes in memory, or takes such an address only where its procedure moves SP by a sum
 abbrev pub MovesWhere : Procedure → Graph → Type 0
-MovesWhere x h = takes_address (memory_from 0 h.params) h ≡ true → h.local ≡ 0 → moves_sp x.proc ≡ true
+MovesWhere x h = h.local ≡ 0 → AllTold (is_told_from (memory_from 0 h.params)) (moves_sp x.proc) h
 
 -- What is lifted of a procedure.
 
@@ -92,27 +91,27 @@ module _ (image : Image) (program : Analysed) (p : Program) (is : IsTranslated i
 
   abbrev LiftedPass : Graph → Type 0
   LiftedPass g = (x : Procedure) → procedure_at (procedures_in program) g.entry ≡ Some x → x.frame.exposed.local ≡ 0
-      → moves_sp x.proc ≡ false → Memory x → (test : ℕ → Bool) → Tested x test → AllPass test g
+      → Memory x → (test : ℕ → Bool) → Tested x test → AllTold test (moves_sp x.proc) g
 
   entry-passes : (entry : ℕ) (is_entry : IsEntry image program.layout entry)
       → LiftedPass (graph_of_entry image program p is entry is_entry)
-  entry-passes entry is_entry x found none still memory test tested =
+  entry-passes entry is_entry x found none memory test tested =
       let here = located_at image program p is entry is_entry in
       let found_here : procedure_at (procedures_in program) entry ≡ Some x =
       sym (ap (procedure_at (procedures_in program)) (entry-of image program p is entry is_entry)) ∙ found in
       let same : procedure_at_entry image program p is entry is_entry ≡ x = some-equal (sym here.procedure_found ∙ found_here) in
-      blocks-all test (graph_of_entry image program p is entry is_entry).blocks (of x same none still memory tested)
+      blocks-all test (moves_sp x.proc) (graph_of_entry image program p is entry is_entry).blocks (of x same none memory tested)
     where
       some-equal : {A : Type 0} {a b : A} → Some a ≡ Some b → a ≡ b
       some-equal e = cc
 
       of : (x : Procedure) → procedure_at_entry image program p is entry is_entry ≡ x → x.frame.exposed.local ≡ 0
-          → moves_sp x.proc ≡ false → Memory x → Tested x test
-          → blocks_pass test (graph_of_entry image program p is entry is_entry).blocks ≡ true
+          → Memory x → Tested x test
+          → blocks_told test (moves_sp x.proc) (graph_of_entry image program p is entry is_entry).blocks ≡ true
       of x same =
-          subst (λ x. x.frame.exposed.local ≡ 0 → moves_sp x.proc ≡ false → Memory x → Tested x test
-          → blocks_pass test (graph_of_entry image program p is entry is_entry).blocks ≡ true) same
-          (λ none still memory tested. graph-passes image program p is entry is_entry none still memory test tested)
+          subst (λ x. x.frame.exposed.local ≡ 0 → Memory x → Tested x test
+          → blocks_told test (moves_sp x.proc) (graph_of_entry image program p is entry is_entry).blocks ≡ true) same
+          (λ none memory tested. graph-told image program p is entry is_entry none memory test tested)
 
   pub lifted-pass : All LiftedPass p.graphs
   lifted-pass = all-graphs image program p is LiftedPass entry-passes
@@ -121,25 +120,18 @@ module _ (image : Image) (program : Analysed) (p : Program) (is : IsTranslated i
 
   graph-moves : (trim : Trim) (x : Procedure) (g h : Graph) → procedure_at (procedures_in program) g.entry ≡ Some x
       → LiftedPass g → StandsForProcedure x h → IsSimplifiedGraph (pack_graph (trim_graph trim g)) h → MovesWhere x h
-  graph-moves trim x g h found passes stands simplified takes zero_local = by (moves_sp x.proc) refl
+  graph-moves trim x g h found passes stands simplified zero_local =
+      let test = is_told_from (memory_from 0 h.params) in
+      let sums = moves_sp x.proc in
+      simplified-told test sums (pack_graph (trim_graph trim g)) h simplified
+      (packed-told test sums (trim_graph trim g)
+      (trimmed-told test sums trim g (passes x found (sym stands.local ∙ zero_local) stands.memory test first)))
     where
       first : (n : ℕ) → n < x.frame.args → exposes_of x.frame (argument_word n) ≡ true → (d : ℕ) → 2 * n ≤ d → d < 32768
           → is_told_from (memory_from 0 h.params) d ≡ true
       first n less exposes d low small =
           let of = words-first x stands.others 0 x.frame.args n (omega arith) (omega (arith, less)) (stands.memory n less ∙ exposes) in
           told-at (memory_from 0 h.params) of.place n d (ap (memory_from 0) stands.params ∙ of.is) of.below low small
-
-      none : moves_sp x.proc ≡ false → takes_address (memory_from 0 h.params) h ≡ false
-      none still =
-          let test = is_told_from (memory_from 0 h.params) in
-          takes-none (memory_from 0 h.params) h
-          (simplified-pass test (pack_graph (trim_graph trim g)) h simplified
-          (packed-pass test (trim_graph trim g)
-          (trimmed-parts trim (Passes test) g (passes x found (sym stands.local ∙ zero_local) still stands.memory test first))))
-
-      by : (b : Bool) → moves_sp x.proc ≡ b → b ≡ true
-      by true is = refl
-      by false is = absurd (true≢false (sym takes ∙ none is))
 
   pub graphs-move : (trim : Trim) (start : ℕ) (xs : List Procedure) (gs hs : List Graph)
       → AllZip (IsGraphFor start) xs gs → All (λ (x : Procedure). procedure_at (procedures_in program) x.proc.entry ≡ Some x) xs

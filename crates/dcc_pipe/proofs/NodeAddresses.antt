@@ -1,9 +1,9 @@
--- Which addresses the statements of an instruction take, and the end of its block, where the procedure exposes no local
--- byte and the instruction doesn't move SP: those of arguments in memory alone.
-use Rattle.std.proofs.Common.{◌≡◌, ◌≢◌, ℕ, zero, suc, ◌+◌, ◌*◌, ◌<◌, ◌≤◌, Bool, true, false, ◌&&◌, ◌||◌, inl, inr, List, [], ◌∷◌, ◌++◌, length, map, slice_get, Option, Some, None, refl, sym, ap, ◌∙◌, subst, true≢false, arith}
+-- Which addresses the statements of an instruction take where the procedure exposes no local byte: those of arguments in
+-- memory alone, and if the instruction moves SP, that of SP, to which a temporary is set.
+use Rattle.std.proofs.Common.{◌≡◌, ◌≢◌, ℕ, zero, suc, ◌+◌, ◌*◌, ◌<◌, ◌≤◌, Bool, true, false, ◌==◌, ◌&&◌, ◌||◌, inl, inr, List, [], ◌∷◌, ◌++◌, length, map, slice_get, Option, Some, None, refl, sym, ap, ◌∙◌, subst, true≢false, arith}
 use Rattle.std.specs.Prelude.{ℤ, pos, ◌+ℤ◌, ◌-ℤ◌, ◌⊎◌, if◌then◌else◌}
 use Rattle.std.specs.List.{list_all, range_with_len, flat_map}
-use Rattle.std.proofs.lemmas.Bool.{or_parts}
+use Rattle.std.proofs.lemmas.Bool.{or_parts, or_right}
 use Rattle.std.proofs.lemmas.List.Folds.{list_all-append}
 use Rattle.dcc_num.specs.declared.Width.{Width}
 use Rattle.dcc_num.specs.declared.Width.TheVariants.{Byte as byte_width, Word as word_width}
@@ -17,6 +17,8 @@ use Rattle.dcc_prog.specs.declared.frame.Program.{Program as Analysed}
 use Rattle.dcc_prog.specs.declared.instr.Ea.{Ea}
 use Rattle.dcc_prog.specs.declared.instr.Operand.{Operand}
 use Rattle.dcc_prog.specs.declared.instr.Operand.TheVariants.{Word, Byte, Seg, Mem, Const as Constant}
+use Rattle.dcc_prog.specs.declared.instr.Alu.TheVariants.{Add, Sub}
+use Rattle.dcc_prog.specs.declared.instr.Unary.TheVariants.{Inc, Dec}
 use Rattle.dcc_prog.specs.declared.instr.Op.{Op}
 use Rattle.dcc_prog.specs.declared.instr.Op.TheVariants.{Alu, Unary, Shift, Mov, Xchg, Lea, Imul3, Push, Pop, Call as CallOp}
 use Rattle.dcc_prog.specs.Machine.{is_bp}
@@ -28,21 +30,25 @@ use Rattle.dcc_stack.specs.Accepted.{IsAt, IsFrameFor, IsProgramOfFile}
 use Rattle.dcc_stack.specs.Slots.{is_memory, exposes_of}
 use Rattle.dcc_stack.proofs.FormHeights.{form-there, has-height}
 use Rattle.dcc_stack.proofs.FormOps.{FormOf, moves, unnamed, leaves, copies, saves, points, enters}
-use Rattle.dcc_ir.specs.Tree.{Expr, Get, Address, Stmt}
+use Rattle.dcc_ir.specs.declared.syntax.BinOp.TheVariants.{Add as AddOp}
+use Rattle.dcc_ir.specs.Tree.{Expr, Const, Get, Binary, Address, Stmt, Set}
 use Rattle.dcc_ir.specs.Passing.{passed}
+use Rattle.dcc_flags.specs.Kinds.{is_frame_sum}
 use Rattle.dcc_ops.specs.declared.place.Computed.{Computed}
 use Rattle.dcc_ops.specs.Computed.{computed_expr}
 use Rattle.dcc_ops.specs.Registers.{register_place}
-use Rattle.dcc_ops.specs.Temporaries.{returned_place}
-use Rattle.dcc_ops.specs.Place.{Place, constant, byte, word, memory, address, computed, place_value, storing}
-use Rattle.dcc_simulation.specs.Operands.{from_frame, address_of, memory_place, operand_place, first_place}
+use Rattle.dcc_ops.specs.Expressions.{sum, difference}
+use Rattle.dcc_ops.specs.Statements.{result_taking, sum_flags, difference_flags, alu_working}
+use Rattle.dcc_ops.specs.Temporaries.{left_place, right_place, returned_place}
+use Rattle.dcc_ops.specs.Place.{Place, constant, byte, word, memory, address, computed, place_value, taking, storing}
+use Rattle.dcc_simulation.specs.Operands.{from_frame, stack_pointer, address_of, memory_place, operand_place, first_place}
 use Rattle.dcc_simulation.specs.Operands.{second_place}
 use Rattle.dcc_simulation.specs.Procedures.{Procedure, procedure_at, frame_place, distance_of, given_back}
 use Rattle.dcc_simulation.specs.Statements.{argument_offset, argument_value, arguments_of, taking_back, taking_all_back}
 use Rattle.dcc_simulation.specs.Statements.{calling, moves_frame, working_stmts, node_stmts}
 use Rattle.dcc_simulation.proofs.FoundOperands.{register-named}
 use Rattle.dcc_simulation.proofs.TabledOperands.{IsRegister, HavePlaces}
-use Rattle.dcc_pipe.proofs.OperationAddresses.{passes, stmt_passes, all_pass, place_passes, appended, stored, mov_passes, op_passes}
+use Rattle.dcc_pipe.proofs.OperationAddresses.{passes, stmt_passes, all_pass, stmt_told, all_told, pass-told, place_passes, appended, stored, mov_passes, op_passes}
 use Rattle.dcc_pipe.proofs.FrameAddresses.{computed-passes, frame-passes, start-passes}
 
 both : (a b : Bool) → a ≡ true → b ≡ true → (a && b) ≡ true
@@ -111,6 +117,37 @@ record IsCopy (op : Op) : Type 0 where
 copy-is : (op : Op) → copies_bp op ≡ true → IsCopy op
 copy-is (Mov (Word r) (Word Bp)) is = record { to = r; general = is; same = refl }
 copy-is op is = cc
+
+-- A move of SP sets a temporary to SP's address, from which it makes a result and flags.
+
+module _ (test : ℕ → Bool) (q : Procedure) (height : ℕ) (cpu : Cpu) (procedures : List Procedure) (number : Option ℕ) where
+  pointer-sum : is_frame_sum (computed_expr (stack_pointer q height)) ≡ true
+  pointer-sum = by (distance_of (pos 0)) (stack_pointer q height).number ((stack_pointer q height).number == 0)
+    where
+      by : (distance n : ℕ) (none : Bool)
+          → is_frame_sum (if none then Address distance else Binary AddOp 16 (Address distance) (Const 16 n)) ≡ true
+      by distance n true = refl
+      by distance n false = refl
+
+  pointer-taken : (rest : List Stmt) → all_told test true rest ≡ true
+      → all_told test true (Set (left_place word_width) (computed_expr (stack_pointer q height)) ∷ rest) ≡ true
+  pointer-taken rest is =
+      let stmt = Set (left_place word_width) (computed_expr (stack_pointer q height)) in
+      both (stmt_told test true stmt) (all_told test true rest) (or_right (stmt_passes test stmt) _ pointer-sum) is
+
+  move-told : (op : Op) → is_sp_move op ≡ true
+      → all_told test true (if moves_frame op then [] else working_stmts cpu procedures q height op number) ≡ true
+  move-told (Alu Add (Word Sp) (Constant w n)) is =
+      pointer-taken (taking (right_place word_width) (constant w n) ∷ (alu_working Add word_width ++ [])) refl
+  move-told (Alu Sub (Word Sp) (Constant w n)) is =
+      pointer-taken (taking (right_place word_width) (constant w n) ∷ (alu_working Sub word_width ++ [])) refl
+  move-told (Unary Inc (Word Sp)) is =
+      pointer-taken (taking (right_place word_width) (constant word_width 1)
+      ∷ ((result_taking word_width (sum word_width) ++ sum_flags word_width) ++ [])) refl
+  move-told (Unary Dec (Word Sp)) is =
+      pointer-taken (taking (right_place word_width) (constant word_width 1)
+      ∷ ((result_taking word_width (difference word_width) ++ difference_flags word_width) ++ [])) refl
+  move-told op is = absurd (true≢false (sym is))
 
 module _ (image : Image) (program : Analysed) (entry : ℕ) (q : Procedure) (f : IsFrameFor image program entry q.frame)
     (none : q.frame.exposed.local ≡ 0) (few : q.frame.args ≤ 32) (test : ℕ → Bool)
@@ -277,9 +314,9 @@ module _ (image : Image) (program : Analysed) (entry : ℕ) (q : Procedure) (f :
         (both _ true (started (pos 2 -ℤ pos height)
         (by_copy stands copied (has-height program.layout.cpu image program file entry at before (pos height) here))) refl)))
 
-    pub op-passes : (cpu : Cpu) (procedures : List Procedure) (node : Node) → node.instr.op ≡ op → is_sp_move op ≡ false
+    still-passes : (cpu : Cpu) (procedures : List Procedure) (node : Node) → node.instr.op ≡ op → is_sp_move op ≡ false
         → HavePlaces op → all_pass test (node_stmts cpu procedures q height node) ≡ true
-    op-passes cpu procedures node same still have =
+    still-passes cpu procedures node same still have =
         subst (λ o. all_pass test (if moves_frame o then [] else working_stmts cpu procedures q height o node.number) ≡ true)
         (sym same) (by (moves_frame op) refl)
       where
@@ -291,3 +328,17 @@ module _ (image : Image) (program : Analysed) (entry : ℕ) (q : Procedure) (f :
               | inl other ↦ working-passes cpu procedures node.number other have op refl
               | inr copied ↦ copied-passes cpu procedures node.number copied
             ]
+
+    -- Where sums of the frame may be set if it moves SP: a move of SP sets one to SP's address.
+    pub op-told : (sums : Bool) (cpu : Cpu) (procedures : List Procedure) (node : Node) → node.instr.op ≡ op
+        → (is_sp_move op ≡ true → sums ≡ true) → HavePlaces op
+        → all_told test sums (node_stmts cpu procedures q height node) ≡ true
+    op-told sums cpu procedures node same where_moves have = by (is_sp_move op) refl
+      where
+        by : (b : Bool) → is_sp_move op ≡ b → all_told test sums (node_stmts cpu procedures q height node) ≡ true
+        by true moved =
+            subst (λ sums. all_told test sums (node_stmts cpu procedures q height node) ≡ true) (sym (where_moves moved))
+            (subst (λ o. all_told test true (if moves_frame o then [] else working_stmts cpu procedures q height o node.number) ≡ true)
+            (sym same) (move-told test q height cpu procedures node.number op moved))
+        by false still =
+            pass-told test sums (node_stmts cpu procedures q height node) (still-passes cpu procedures node same still have)

@@ -1,7 +1,8 @@
 -- The statements of an operation take no address but those of its operands' places.
-use Rattle.std.proofs.Common.{◌≡◌, ◌∙◌, ℕ, Bool, true, false, ◌&&◌, if◌then◌else◌, List, [], ◌∷◌, ◌++◌, Option, refl}
+use Rattle.std.proofs.Common.{◌≡◌, ◌∙◌, ℕ, Bool, true, false, ◌&&◌, ◌||◌, if◌then◌else◌, List, [], ◌∷◌, ◌++◌, Option, refl}
 use Rattle.std.specs.Prelude.{◌/◌, ◌%◌}
 use Rattle.std.specs.List.{list_all}
+use Rattle.std.proofs.lemmas.Bool.{and_parts, or_left}
 use Rattle.std.proofs.lemmas.List.Folds.{list_all-append}
 use Rattle.dcc_num.specs.declared.Width.{Width}
 use Rattle.dcc_num.specs.declared.Width.TheVariants.{Byte as byte_width, Word as word_width}
@@ -28,6 +29,7 @@ use Rattle.dcc_ir.specs.declared.syntax.BinOp.{BinOp}
 use Rattle.dcc_ir.specs.declared.syntax.BinOp.TheVariants.{DivU, DivS, RemU, RemS}
 use Rattle.dcc_ir.specs.Tree.{Expr, Const, Get, Part, Stmt, Set}
 use Rattle.dcc_ir.specs.Use.{addresses_of, exprs_of}
+use Rattle.dcc_flags.specs.Kinds.{takes_frame_sum}
 use Rattle.dcc_ops.proofs.DosStatements.{dos_all}
 use Rattle.dcc_ops.proofs.ShiftCounts.{HoldsByEach, holds_by_count}
 use Rattle.dcc_ops.specs.Temporaries.{left_place, right_place, result_place}
@@ -50,6 +52,25 @@ module _ (test : ℕ → Bool) where
 
   abbrev pub all_pass : List Stmt → Bool
   all_pass stmts = list_all stmt_passes stmts
+
+  -- where sums of the frame may be set, statements that set temporaries to such need not pass the test
+  abbrev pub stmt_told : Bool → Stmt → Bool
+  stmt_told sums stmt = stmt_passes stmt || (sums && takes_frame_sum stmt)
+
+  abbrev pub all_told : Bool → List Stmt → Bool
+  all_told sums stmts = list_all (stmt_told sums) stmts
+
+  pub pass-told : (sums : Bool) (stmts : List Stmt) → all_pass stmts ≡ true → all_told sums stmts ≡ true
+  pass-told sums [] is = refl
+  pass-told sums (stmt ∷ stmts) is =
+      let parts = and_parts (stmt_passes stmt) (all_pass stmts) is in
+      both (stmt_told sums stmt) (all_told sums stmts)
+      (or_left (stmt_passes stmt) (sums && takes_frame_sum stmt) parts.0) (pass-told sums stmts parts.1)
+
+  pub told-appended : (sums : Bool) (stmts others : List Stmt) → all_told sums stmts ≡ true → all_told sums others ≡ true
+      → all_told sums (stmts ++ others) ≡ true
+  told-appended sums stmts others p q =
+      list_all-append (stmt_told sums) stmts others ∙ both (all_told sums stmts) (all_told sums others) p q
 
   -- so do those of a place
   abbrev pub place_passes : Place → Bool

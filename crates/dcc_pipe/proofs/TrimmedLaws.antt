@@ -51,7 +51,7 @@ module _ (trim : Trim) where
   stmt-parts P (Div location e) all = all
   stmt-parts P (Dos number place argument) all = all
 
-  exit-parts : (P : Expr → Type 0) (entry : ℕ) (exit : Exit) → All P (exit_exprs exit)
+  pub exit-parts : (P : Expr → Type 0) (entry : ℕ) (exit : Exit) → All P (exit_exprs exit)
       → All P (exit_exprs (trim_exit trim entry exit))
   exit-parts P entry (Ret values) all = kept-all P (trim.gives entry) values all
   exit-parts P entry (Goto next) all = all

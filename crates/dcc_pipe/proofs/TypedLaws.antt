@@ -1,5 +1,5 @@
 -- The functions of a text keep in memory just what the frames of their procedures expose.
-use Rattle.std.proofs.Common.{◌≡◌, ℕ, zero, suc, ◌+◌, ◌<◌, ◌≤◌, Bool, true, false, ◌==◌, List, [], ◌∷◌, ◌++◌, length, map, replicate, Some, refl, sym, ap, ap₂, ◌∙◌, subst, eqb-true, arith}
+use Rattle.std.proofs.Common.{◌≡◌, ℕ, zero, suc, ◌+◌, ◌<◌, ◌≤◌, Bool, true, false, ◌==◌, List, [], ◌∷◌, ◌++◌, length, map, replicate, Option, Some, refl, sym, ap, ap₂, ◌∙◌, subst, true≢false, eqb-true, arith}
 use Rattle.std.specs.Prelude.{filter, if◌then◌else◌, ◌||◌, not, All, codes}
 use Rattle.std.specs.List.{AllZip, list_all, range_with_len}
 use Rattle.std.proofs.lemmas.List.{map-append}
@@ -12,7 +12,7 @@ use Rattle.dcc_stack.specs.Slots.{exposes_of}
 use Rattle.dcc_ir.specs.declared.syntax.Loc.{Loc}
 use Rattle.dcc_ir.specs.declared.syntax.Param.{Param}
 use Rattle.dcc_ir.specs.Tree.{Graph, Program}
-use Rattle.dcc_ir.specs.WellFormed.{is_memory}
+use Rattle.dcc_ir.specs.WellFormed.{is_memory, IsGraph}
 use Rattle.dcc_lift.specs.Lifted.{IsLiftOf}
 use Rattle.dcc_lift.specs.Translated.{IsTranslated}
 use Rattle.dcc_sums.specs.Localised.{trim_by}
@@ -24,15 +24,17 @@ use Rattle.dcc_c.specs.declared.syntax.Class.TheVariants.{Plain, Auto, Register}
 use Rattle.dcc_c.specs.Placement.{is_auto}
 use Rattle.dcc_c.specs.Types.{plain}
 use Rattle.dcc_c.specs.Numbered.{numbered}
-use Rattle.dcc_c.specs.Tree.{Variable, Function, Tree}
+use Rattle.dcc_c.specs.Tree.{Lines, Variable, Function, Tree}
 use Rattle.dcc_variables.specs.FunctionLaws.{HasFewNames}
 use Rattle.dcc_variables.specs.Functions.{function_name, function_names, parameter_class, parameters_from, parameters, memory_from, function_shape, is_own, own_declarations}
-use Rattle.dcc_variables.specs.Variables.{Shape, takes_address, variable, frame_name, frame_array}
+use Rattle.dcc_variables.specs.Variables.{Shape, is_told_from, takes_address, variable, frame_name, frame_array}
 use Rattle.dcc_pipe.specs.Prepared.{IsPrepared}
 use Rattle.dcc_pipe.specs.WholeText.{whole_text}
 use Rattle.dcc_pipe.specs.Standing.{IsLocated, StandsForProcedure}
-use Rattle.dcc_pipe.specs.TypedFrames.{argument_class, param_classes, moves_sp, procedure_names, HasArrayOf, exposed, for_moves, HasTypedFrame, AreTypedFrames}
+use Rattle.dcc_pipe.specs.TypedFrames.{argument_class, param_classes, moves_sp, procedure_names, is_only_addressed, HasArrayOf, exposed, for_moves, HasTypedFrame, AreTypedFrames}
+use Rattle.dcc_pipe.proofs.ArrayTexts.{only-addressed}
 use Rattle.dcc_pipe.proofs.FunctionTables.{IsOne, all-numbered}
+use Rattle.dcc_pipe.proofs.LeftAddresses.{AllTold, takes-none}
 use Rattle.dcc_pipe.proofs.MovesLaws.{MovesWhere, lifted-pass, graphs-move}
 use Rattle.dcc_pipe.proofs.StandingLaws.{prepared-stands, procedures-found}
 use Rattle.dcc_pipe.proofs.WholeTexts.{one-unplaced, text-names}
@@ -88,28 +90,36 @@ module _ (p : Procedure) (g : Graph) (stands : StandsForProcedure p g) where
   abbrev bytes : ℕ
   bytes = (function_shape g).frame
 
-  abbrev Moves : Type 0
-  Moves = takes_address (memory_from 0 g.params) g ≡ true → g.local ≡ 0 → moves_sp p.proc ≡ true
+  abbrev told : Option ℕ
+  told = memory_from 0 g.params
 
-  array-of : Moves → HasArrayOf p bytes
-  array-of moves = by (g.local == 0) refl (takes_address (memory_from 0 g.params) g) refl
+  array-of : (body : Lines) → MovesWhere p g
+      → (AllTold (is_told_from told) true g → is_only_addressed frame_name body ≡ true) → HasArrayOf p body bytes
+  array-of body moves addressed = by (g.local == 0) refl (takes_address told g) refl
     where
-      by : (none : Bool) → (g.local == 0) ≡ none → (takes : Bool) → takes_address (memory_from 0 g.params) g ≡ takes
-          → HasArrayOf p (if none then (if takes then 1 else 0) else g.local)
-      by false is takes taken = subst (HasArrayOf p) (sym stands.local) exposed
-      by true is true taken =
-          let none = eqb-true g.local 0 is in for_moves (sym stands.local ∙ none) (moves taken none)
-      by true is false taken = subst (HasArrayOf p) (sym stands.local ∙ eqb-true g.local 0 is) exposed
+      where-taken : (b : Bool) → moves_sp p.proc ≡ b → takes_address told g ≡ true → g.local ≡ 0 → HasArrayOf p body 1
+      where-taken true is taken none =
+          for_moves (sym stands.local ∙ none) is
+          (addressed (subst (λ sums. AllTold (is_told_from told) sums g) is (moves none)))
+      where-taken false is taken none =
+          absurd (true≢false (sym taken
+          ∙ takes-none told g (subst (λ sums. AllTold (is_told_from told) sums g) is (moves none))))
+
+      by : (none : Bool) → (g.local == 0) ≡ none → (takes : Bool) → takes_address told g ≡ takes
+          → HasArrayOf p body (if none then (if takes then 1 else 0) else g.local)
+      by false is takes taken = subst (HasArrayOf p body) (sym stands.local) exposed
+      by true is true taken = where-taken (moves_sp p.proc) refl taken (eqb-true g.local 0 is)
+      by true is false taken = subst (HasArrayOf p body) (sym stands.local ∙ eqb-true g.local 0 is) exposed
 
   -- The function.
 
-  typed-frame : Moves → HasFewNames g → (f : Function) → IsOne g f → HasTypedFrame p f
-  typed-frame moves few f is =
+  typed-frame : MovesWhere p g → IsGraph g → HasFewNames g → (f : Function) → IsOne g f → HasTypedFrame p f
+  typed-frame moves formed few f is =
       let number = is.1 in record {
         others = length stands.others;
         params = ap (λ (h : Function). map (λ (v : Variable). v.class) h.params) number.is ∙ params-classes;
         bytes = bytes;
-        array = array-of moves;
+        array = array-of f.body moves (λ all. only-addressed g formed few all f is);
         locals = ap (λ (h : Function). autos h.locals) number.is
             ∙ locals-auto (function_shape g) (filter (is_own g) (function_shape g).locations) bytes;
         addresses = one-unplaced g f is few;
@@ -118,15 +128,15 @@ module _ (p : Procedure) (g : Graph) (stands : StandsForProcedure p g) where
 -- The functions of a text.
 
 all-typed : (ps : List Procedure) (gs : List Graph) (fs : List Function) → AllZip StandsForProcedure ps gs
-    → AllZip MovesWhere ps gs → All HasFewNames gs → AllZip IsOne gs fs → AllZip HasTypedFrame ps fs
-all-typed [] [] [] stand move few are = tt
-all-typed [] [] (f ∷ fs) stand move few are = absurd are
-all-typed [] (g ∷ gs) fs stand move few are = absurd stand
-all-typed (p ∷ ps) [] fs stand move few are = absurd stand
-all-typed (p ∷ ps) (g ∷ gs) [] stand move few are = absurd are
-all-typed (p ∷ ps) (g ∷ gs) (f ∷ fs) stand move few are = (
-  typed-frame p g stand.0 move.0 (All-head HasFewNames g gs few) f are.0,
-  all-typed ps gs fs stand.1 move.1 (All-tail HasFewNames g gs few) are.1,
+    → AllZip MovesWhere ps gs → All IsGraph gs → All HasFewNames gs → AllZip IsOne gs fs → AllZip HasTypedFrame ps fs
+all-typed [] [] [] stand move formed few are = tt
+all-typed [] [] (f ∷ fs) stand move formed few are = absurd are
+all-typed [] (g ∷ gs) fs stand move formed few are = absurd stand
+all-typed (p ∷ ps) [] fs stand move formed few are = absurd stand
+all-typed (p ∷ ps) (g ∷ gs) [] stand move formed few are = absurd are
+all-typed (p ∷ ps) (g ∷ gs) (f ∷ fs) stand move formed few are = (
+  typed-frame p g stand.0 move.0 (All-head IsGraph g gs formed) (All-head HasFewNames g gs few) f are.0,
+  all-typed ps gs fs stand.1 move.1 (All-tail IsGraph g gs formed) (All-tail HasFewNames g gs few) are.1,
 )
 
 others-are : (ps : List Procedure) (gs : List Graph) → AllZip StandsForProcedure ps gs
@@ -158,5 +168,7 @@ typed-tree image program p q file of is few tree same =
     subst (λ (t : Tree). AreTypedFrames (procedures_in program) t.functions) (sym same)
     (record {
       names = text-names _ q.graphs ∙ names-are (procedures_in program) q.graphs stand;
-      frames = all-typed (procedures_in program) q.graphs functions stand move few (all-numbered _ q.graphs);
+      frames =
+          all-typed (procedures_in program) q.graphs functions stand move is.simplified.textable.formed.graphs few
+          (all-numbered _ q.graphs);
     })

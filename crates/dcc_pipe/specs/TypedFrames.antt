@@ -1,6 +1,6 @@
 -- The frames of a text's functions: which arguments and which local variables are in memory. Local variables that are
 -- not `auto` have no address by the dialect itself (`&` takes a name with a place alone).
-use Rattle.std.specs.Prelude.{◌≡◌, ℕ, Bool, true, ◌||◌, not, if◌then◌else◌, List, [], ◌∷◌, ◌++◌, map, filter, replicate, codes}
+use Rattle.std.specs.Prelude.{◌≡◌, ℕ, Bool, true, false, ◌&&◌, ◌||◌, not, if◌then◌else◌, List, [], ◌∷◌, ◌++◌, map, filter, replicate, codes}
 use Rattle.std.specs.List.{AllZip, list_all, list_any, range_with_len}
 use Rattle.dcc_prog.specs.declared.cpu.Cpu.{Cpu}
 use Rattle.dcc_prog.specs.declared.image.Image.{Image}
@@ -16,10 +16,15 @@ use Rattle.dcc_simulation.specs.Procedures.{Procedure}
 use Rattle.dcc_simulation.specs.Nodes.{procedures_in}
 use Rattle.dcc_c.specs.declared.syntax.Class.{Class}
 use Rattle.dcc_c.specs.declared.syntax.Class.TheVariants.{Plain, Auto, Register}
+use Rattle.dcc_c.specs.declared.syntax.CBin.TheVariants.{Add}
+use Rattle.dcc_c.specs.Grammar.{is_among}
+use Rattle.dcc_c.specs.Parts.{exprs_of, stmts_in}
 use Rattle.dcc_c.specs.Placement.{is_auto, takes_address}
-use Rattle.dcc_c.specs.Tree.{Word, Variable, Function, Tree}
+use Rattle.dcc_c.specs.Token.{same_bytes}
+use Rattle.dcc_c.specs.Tree.{Word, Expr, Number, Name, Binary, Cast, Stmt, Assign, Lines, Variable, Function, Tree}
+use Rattle.dcc_text.specs.Names.{names_in}
 use Rattle.dcc_variables.specs.Functions.{function_name}
-use Rattle.dcc_variables.specs.Variables.{frame_array}
+use Rattle.dcc_variables.specs.Variables.{frame_name, frame_array}
 
 -- an argument word is in memory just where the frame exposes a byte of it
 abbrev pub argument_class : Frame → ℕ → Class
@@ -33,11 +38,41 @@ param_classes frame others = map (argument_class frame) (range_with_len 0 frame.
 abbrev pub moves_sp : Proc → Bool
 moves_sp proc = list_any (λ (found : ℕ × Node). is_sp_move found.1.instr.op) proc.nodes.entries
 
+-- Of an array nothing but the address is used.
+
+-- the name stands in the expression
+abbrev pub stands_in : Word → Expr → Bool
+stands_in word e = is_among (names_in e) word
+
+-- the expression is the array of the name, which is its address, or a sum of that address with numbers
+abbrev pub is_sum_from : Word → Expr → Bool
+is_sum_from word (Name other) = same_bytes word other
+is_sum_from word (Cast type e) = is_sum_from word e
+is_sum_from word (Binary Add e (Number n base)) = is_sum_from word e
+is_sum_from word e = false
+
+-- The statement has the name of an array nowhere but where the array's address, or a sum of that with numbers, is
+-- assigned to another variable.
+abbrev pub tells_address : Word → Stmt → Bool
+tells_address word (Assign (Name variable) e) =
+    not (same_bytes word variable) && (is_sum_from word e || not (stands_in word e))
+tells_address word stmt = not (list_any (stands_in word) (exprs_of stmt))
+
+-- All that the body does with the array of a name is to assign its address, and sums of that with numbers, to other
+-- variables: the name stands beneath no `*`, in no place that is assigned to, and in no call, test or return.
+abbrev pub is_only_addressed : Word → Lines → Bool
+is_only_addressed word body = list_all (tells_address word) (stmts_in body)
+
+-- Arrays.
+
 -- The array of a frame has the local bytes that the frame exposes. Where it exposes none, there may be one byte, if the
--- procedure moves SP so.
-pub data HasArrayOf (p : Procedure) : ℕ → Type 0 where
-  exposed : HasArrayOf p p.frame.exposed.local
-  for_moves : p.frame.exposed.local ≡ 0 → moves_sp p.proc ≡ true → HasArrayOf p 1
+-- procedure moves SP by ADD, SUB, INC or DEC; it stands for no cell, and nothing but its address is used.
+pub data HasArrayOf (p : Procedure) (body : Lines) : ℕ → Type 0 where
+  exposed : HasArrayOf p body p.frame.exposed.local
+  for_moves : p.frame.exposed.local ≡ 0 → moves_sp p.proc ≡ true → is_only_addressed frame_name body ≡ true
+      → HasArrayOf p body 1
+
+-- Frames.
 
 -- The function keeps in memory just the arguments and the local bytes whose address may be computed. It takes the
 -- address of no other parameter.
@@ -45,7 +80,7 @@ pub record HasTypedFrame (p : Procedure) (f : Function) : Type 0 where
   pub others : ℕ
   pub params : map (λ (v : Variable). v.class) f.params ≡ param_classes p.frame others
   pub bytes : ℕ
-  pub array : HasArrayOf p bytes
+  pub array : HasArrayOf p f.body bytes
   pub locals : filter (λ (v : Variable). is_auto v.class) f.locals ≡ frame_array bytes
   pub addresses : list_all (λ v. is_auto v.class || not (takes_address f.body v.name)) f.params ≡ true
 
