@@ -61,7 +61,7 @@ abbrev pub is_text : List (List Piece) → Bool
 is_text [] = true
 is_text (row ∷ rows) = are_apart row (text_bytes rows) && is_text rows
 
--- such a token has its spelling
+-- a token that can be spelled has its spelling
 pub spelled : (read : Token) → is_spelled read ≡ true → Spells (spelling read) read
 spelled (WordToken word) good = (refl, good)
 spelled (Decimal n suffix) good = (refl, leb-true n 4294967295 good)

@@ -147,7 +147,7 @@ expr_apart (simple_binary {a} {b} operator first second) rest others free apart 
     let mark_apart = and_from _ _ (operator_is operator) (and_from _ _ (operator_ends operator (row_bytes (between (is_compound b) (expr_row b) others) rest)) second_apart) in
     between_apart (is_compound a) (expr_row a) rest (expr_apart first rest) _ refl mark_apart
 
--- so much above a strength
+-- the strength a number of levels above another
 abbrev above : ℕ → ℕ → ℕ
 above zero s = s
 above (suc k) s = suc (above k s)
@@ -236,7 +236,7 @@ stmt_row_tokens (simple_assign name is simple) at rest =
 stmt_row_tokens (simple_call function is simple) at rest =
     ap (λ (ts : List Placed). word at function ∷ mark at (codes "(") ∷ ts) (expr_row_tokens simple at rest (Spelled (Mark (codes ")")) ∷ Spelled (Mark (codes ";")) ∷ []))
 
--- such statements, the first in a line and each other in the line after the one before
+-- simple statements, the first in a line and each other in the line after the one before
 pub data AreSimple : ℕ → Lines → ℕ → Type 0 where
   simple_end : {at : ℕ} → AreSimple at no_lines at
   simple_line : {at last : ℕ} {stmt : Stmt} {lines : Lines} → IsSimpleStmt stmt → AreSimple (suc at) lines last → AreSimple at (line stmt at lines) last

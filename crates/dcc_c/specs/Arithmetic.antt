@@ -22,7 +22,7 @@ magnitude type n = if is_negative type n then 2 ^ bits_of type - n else n
 abbrev pub with_sign : Bool → Base → ℕ → ℕ
 with_sign negative type n = if negative then negated type n else n
 
--- both are numbers below 0, or neither is
+-- both numbers are below 0, or neither is
 abbrev pub same_sign : Base → ℕ → ℕ → Bool
 same_sign type a b = if is_negative type a then is_negative type b else not (is_negative type b)
 

@@ -42,7 +42,7 @@ dos_in (dos ∷ others) word = if same_bytes (dos_name dos) word then Some dos e
 abbrev pub dos_of : Word → Option Dos
 dos_of word = dos_in all_dos word
 
--- the result of a function and the types of its parameters
+-- the signature of a function: its result and the types of its parameters
 pub record Signature : Type 0 where
   pub result : Option CType
   pub params : List CType

@@ -104,7 +104,7 @@ abbrev pub type_tokens : CType → List Token
 type_tokens type = map WordToken (base_words type.base) ++
     (if type.pointer then Mark (codes "*") ∷ [] else [])
 
--- the placed tokens begin with these, in whatever lines they stand
+-- the placed tokens begin with the tokens of the list, in whatever lines they stand
 pub data Begins : List Placed → List Token → List Placed → Type 0 where
   none : {rest : List Placed} → Begins rest [] rest
   one : {at : ℕ} {token : Token} {tokens : List Token} {all rest : List Placed} →
@@ -170,11 +170,11 @@ pub data IsCall : List Placed → Word → List Expr → List Placed → Type 0 
 
 -- what stands around a statement
 pub record Around : Type 0 where
-  -- how many blocks, without the function's own braces
+  -- how many blocks stand around the statement, without the function's own braces
   pub blocks : ℕ
-  -- a loop or a `switch`, which a `break` leaves
+  -- whether a loop or a `switch` stands around the statement, which a `break` leaves
   pub breaks : Bool
-  -- a loop, which a `continue` goes on with
+  -- whether a loop stands around the statement, which a `continue` goes on with
   pub continues : Bool
 
 -- what stands around the statements of a function, of a block, of a loop, and of an arm
@@ -206,7 +206,7 @@ pub data AreCases : List Placed → List ℕ → List Placed → Type 0 where
       AreCases (word at (codes "case") ∷ placed place token ∷ mark colon (codes ":") ∷ others) (n ∷ cases)
       rest
 
--- there is an arm
+-- the `switch` has an arm
 abbrev pub has_arm : Arms → Bool
 has_arm no_arms = false
 has_arm (arm cases body arms) = true
@@ -288,7 +288,7 @@ mutual
         IsExpr 0 tokens e (mark end (codes ";") ∷ rest) →
         IsStmt limit around depth (word at (codes "return") ∷ tokens) (Return (Some e)) depth rest
 
-  -- the tokens begin with a block, with this around its statements
+  -- the tokens begin with a block, around whose statements stands what is given
   pub data IsBlock (limit : ℕ) : Around → ℕ → List Placed → Lines → ℕ → List Placed → Type 0 where
     block : {around : Around} {depth after opening closing : ℕ} {tokens rest : List Placed}
         {lines : Lines} →
@@ -377,8 +377,8 @@ pub record IsGlobal (tokens : List Placed) (g : Global) (rest : List Placed) : T
   pub len_is : HasSize after_name g.len after_size
   pub init_is : AreInitial after_size g.init (mark end_at (codes ";") ∷ rest)
 
--- The tokens begin with global variables. Each stands at the address of the line before it, or where the one before it
--- ends; before the first such line none stands.
+-- The tokens begin with global variables. Each stands at the address that the line before it tells, or where the
+-- variable before it ends; the first one has such a line.
 pub data AreGlobals : Option ℕ → List Placed → List Global → List Placed → Type 0 where
   no_global : {place : Option ℕ} {rest : List Placed} → AreGlobals place rest [] rest
   placed_at : {place : Option ℕ} {at n : ℕ} {tokens rest : List Placed} {globals : List Global} →

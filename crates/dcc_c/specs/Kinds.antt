@@ -2,13 +2,13 @@
 use Rattle.std.specs.Prelude.{ℕ, nat_lt, ◌==◌, ◌&&◌, ◌||◌, Bool, if◌then◌else◌, List, [], ◌∷◌, Option, Some, None}
 
 pub data Kind : Type 0 where
-  -- more than 67,108,864 bytes
+  -- the text has more than 67,108,864 bytes
   of_length : Kind
-  -- another first line than the version line
+  -- the text's first line is no version line
   of_version : Kind
-  -- bytes that are no token
+  -- bytes that are no token stand there
   of_token : Kind
-  -- a token that the grammar does not allow, or the end of the text too early
+  -- a token that the grammar does not allow stands there, or the text ends too early
   of_grammar : Kind
   of_name : Kind
   of_type : Kind
@@ -43,7 +43,7 @@ abbrev pub earlier : Option Offence → Offence → Option Offence
 earlier None o = Some o
 earlier (Some first) o = if is_before o first then Some o else Some first
 
--- the first of some offences and one before
+-- the first of some offences and the earlier one so far
 abbrev pub first_after : Option Offence → List Offence → Option Offence
 first_after first [] = first
 first_after first (o ∷ offences) = first_after (earlier first o) offences

@@ -20,7 +20,7 @@ known name signature = record { name = name; signature = signature }
 abbrev pub known_dos : List Known
 known_dos = map (λ dos. known (dos_name dos) (Some (dos_signature dos))) all_dos
 
--- the first of the functions with the name
+-- the first function with the name
 abbrev pub known_as : List Known → Word → Option Known
 known_as [] word = None
 known_as (k ∷ others) word = if same_bytes k.name word then Some k else known_as others word

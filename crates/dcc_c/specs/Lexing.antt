@@ -30,8 +30,8 @@ are_pragma_numbers version_line [] = true
 are_pragma_numbers version_line (n ∷ numbers) = false
 are_pragma_numbers head numbers = list_all (λ n. nat_le n 4294967295) numbers
 
--- The bytes, which begin in this line, and at its beginning where `fresh` says so, are these tokens. Spaces,
--- tabs and line feeds are free between tokens; each token is the longest; a pragma has a line of its own.
+-- The bytes are these tokens, where the bytes begin in the given line, and at its beginning where `fresh` says so.
+-- Spaces, tabs and line feeds are free between tokens; each token is the longest; a pragma has a line of its own.
 pub data Lexes : Bool → ℕ → List ℕ → List Placed → Type 0 where
   ends : {fresh : Bool} {line : ℕ} → Lexes fresh line [] []
   blank : {fresh : Bool} {line b : ℕ} {bytes : List ℕ} {tokens : List Placed} → is_blank b ≡ true →

@@ -10,7 +10,7 @@ rows [] = 0
 rows (b ∷ bytes) = if b == 10 then suc (rows bytes) else rows bytes
 
 abbrev mutual
-  -- statements, the first of which stands in this line or after its pragma
+  -- statements with their lines, where the first one stands in this line or after its pragma
   pub numbered_lines : ℕ → ℕ → Lines → Lines
   numbered_lines depth at no_lines = no_lines
   numbered_lines depth at (line stmt was lines) =
@@ -20,7 +20,7 @@ abbrev mutual
       line (numbered_stmt own here stmt) here
       (numbered_lines (depth_after own (stmt ∷ inner_stmts stmt)) following lines)
 
-  -- the statements inside a statement in this line
+  -- a statement with the lines of the statements inside it, where it stands in this line
   pub numbered_stmt : ℕ → ℕ → Stmt → Stmt
   numbered_stmt depth at (If e body otherwise) =
       let second = at + 2 + rows (written_lines 1 depth body) in
@@ -35,7 +35,7 @@ abbrev mutual
       Switch e (numbered_arms depth (at + 1) arms) (numbered_default following second last)
   numbered_stmt depth at stmt = stmt
 
-  -- arms, the first case of which stands in this line
+  -- arms with their lines, where the first case stands in this line
   pub numbered_arms : ℕ → ℕ → Arms → Arms
   numbered_arms depth at no_arms = no_arms
   numbered_arms depth at (arm cases body arms) =
@@ -44,12 +44,13 @@ abbrev mutual
       arm cases (numbered_lines depth first body)
       (numbered_arms (depth_after depth (stmts_in body)) following arms)
 
-  -- the default arm, whose body begins in this line
+  -- the default arm with its lines, where its body begins in this line
   pub numbered_default : ℕ → ℕ → Arms → Arms
   numbered_default depth at no_arms = no_arms
   numbered_default depth at (arm cases body arms) = arm cases (numbered_lines depth at body) arms
 
--- a function whose head stands in this line: its braces and its local variables have lines of their own
+-- a function with its lines, where its head stands in this line: its braces and its local variables have lines of
+-- their own
 abbrev pub numbered_function : ℕ → Function → Function
 numbered_function at f =
     let first = at + 2 + length f.locals in

@@ -67,11 +67,11 @@ value_offences scene at word called = elim (declared_as scene.names word) [
 
 -- Expressions.
 
--- A number is wanted.
+-- A number is wanted: an operand that is known to be none offends.
 abbrev pub wants_number : Scene → PartialExpr → List Offence
 wants_number scene e = only_if (is_pointer (told_type scene.names e)) (offence of_type (place_of e))
 
--- a pointer is wanted
+-- a pointer is wanted: an operand that is known to be none offends
 abbrev pub wants_pointer : Scene → PartialExpr → List Offence
 wants_pointer scene e = elim (told_type scene.names e) [
   | Some type ↦ only_if (not type.pointer) (offence of_type (place_of e))
@@ -135,12 +135,13 @@ place_offences scene (NameHere at word called) = elim (declared_as scene.names w
 ]
 place_offences scene e = expr_offences scene e
 
--- A value of the first type goes where one of the second is wanted, and offends at a place.
+-- A value of the first type goes where one of the second is wanted: it offends at the place where it may not become
+-- one.
 abbrev pub conversion : Option CType → Option CType → ℕ → List Offence
 conversion (Some from) (Some to) at = only_if (not (converts from to)) (offence of_type at)
 conversion from to at = []
 
--- the value goes where one of the type is wanted, where it has been read to its end
+-- the value goes where one of the type is wanted, if it has been read to its end
 abbrev pub becomes : Scene → PartialExpr → Bool → Option CType → List Offence
 becomes scene e done to = if done then conversion (told_type scene.names e) to (place_of e) else []
 
@@ -171,13 +172,13 @@ abbrev pub count_read : List PartialExpr → ℕ
 count_read [] = 0
 count_read (e ∷ es) = if is_missing e then count_read es else suc (count_read es)
 
--- there are more arguments than parameters, or fewer up to the closing parenthesis
+-- a call has more arguments than the function parameters, or fewer up to the closing parenthesis
 abbrev pub count_offends : PartialCall → List CType → Bool
 count_offends call params =
     nat_lt (length params) (count_read call.arguments)
     || (call.closed && nat_lt (count_read call.arguments) (length params))
 
--- the result goes to the place, where there is one
+-- what offends where the result of a call goes to a place
 abbrev pub result_offences : Scene → ℕ → Option PartialExpr → WordAt → Option CType → List Offence
 result_offences scene at None function result = []
 result_offences scene at (Some place) function None = offence of_type at ∷ []
@@ -211,7 +212,7 @@ call_offences scene at place call =
 
 -- Other statements.
 
--- a test, read to its parenthesis or not
+-- what offends in a test, whether read to its parenthesis or not
 abbrev pub test_offences : Scene → PartialExpr → Bool → List Offence
 test_offences scene e done = expr_offences scene e ++ (if done then wants_number scene e else [])
 
@@ -256,7 +257,7 @@ own_offences scene at (ReturnOf e done) = return_offences scene at e done
 
 -- Cases.
 
--- the numbers that stand among earlier ones, or twice
+-- the numbers of cases that stand among earlier ones, or twice
 abbrev pub case_offences : List ℕ → List NumberAt → List Offence
 case_offences known [] = []
 case_offences known (n ∷ numbers) =
@@ -274,14 +275,14 @@ default_offences known (cases numbers (Some at) body arms) =
     only_if known (offence of_name at) ++ default_offences true arms
 
 abbrev mutual
-  -- all statements, at every depth, with so many blocks around them
+  -- what offends in statements, at every depth, with a number of blocks around them
   pub lines_offences : Scene → ℕ → PartialLines → List Offence
   lines_offences scene blocks no_rows = []
   lines_offences scene blocks (row stmt at line rows) =
       only_if (nat_lt 200 blocks) (offence of_depth at)
       ++ (own_offences scene at stmt ++ (inner_offences scene (suc blocks) stmt ++ lines_offences scene blocks rows))
 
-  -- the statements inside a statement, which have so many blocks around them, and its arms
+  -- what offends in the statements inside a statement, with a number of blocks around them, and in its arms
   pub inner_offences : Scene → ℕ → PartialStmt → List Offence
   inner_offences scene blocks (IfOf e done body otherwise) =
       lines_offences scene blocks body ++ lines_offences scene blocks otherwise
@@ -318,11 +319,11 @@ abbrev mutual
   labels_in_arms no_cases = []
   labels_in_arms (cases numbers default body arms) = label_list body ++ labels_in_arms arms
 
--- the names that are known already, or stand twice
+-- the labels whose names are known already, or stand twice
 abbrev pub repeated : List Word → List WordAt → List Offence
 repeated known [] = []
 repeated known (n ∷ names) = only_if (is_among known n.word) (offence of_name n.at) ++ repeated (n.word ∷ known) names
 
--- the statements of a function: each label stands once, and the rest
+-- what offends in the statements of a function: each label stands once, and the rest
 abbrev pub body_offences : Scene → PartialLines → List Offence
 body_offences scene body = repeated [] (label_list body) ++ lines_offences scene 0 body

@@ -19,7 +19,7 @@ pub record WordAt : Type 0 where
 
 -- an expression
 pub data PartialExpr : Type 0 where
-  -- not read
+  -- an expression that was not read
   Missing : PartialExpr
   NumberHere : ℕ → ℕ → Base → PartialExpr
   -- whether an opening parenthesis follows
@@ -109,7 +109,7 @@ pub record PartialVariable : Type 0 where
 -- `without_params` says that `void` stands there; `headed` says that the head was read to its closing parenthesis.
 pub record PartialFunction : Type 0 where
   pub at : ℕ
-  -- the result is a type, and which
+  -- whether the function's result is a type, and which
   pub has_result : Bool
   pub result : Option CType
   pub name : Option WordAt

@@ -38,7 +38,7 @@ exprs_of (Switch e arms last) = e ∷ []
 exprs_of (Return e) = expr_if e
 exprs_of _ = []
 
--- an expression and those inside it
+-- an expression and all expressions inside it
 abbrev pub parts_of : Expr → List Expr
 parts_of (Number n base) = Number n base ∷ []
 parts_of (Name word) = Name word ∷ []

@@ -15,8 +15,8 @@ pub record Piece : Type 0 where
 abbrev pub piece : ℕ → Option Token → Piece
 piece line token = record { token = token; line = line }
 
--- The token of a piece that is a token and may stand nowhere: for one that stands where the form of a pragma's line
--- forbids it. It is that of the version line, which stands in the first line alone.
+-- The token of a piece that is a token and may stand nowhere: a piece in a pragma's line that the line's form forbids.
+-- It is the token of the version line, which stands in the first line alone.
 abbrev pub stray : Token
 stray = Pragma version_line
 
@@ -24,7 +24,7 @@ stray = Pragma version_line
 abbrev pub after_while : (ℕ → Bool) → List ℕ → List ℕ
 after_while is_kind bytes = drop (length (take_while is_kind bytes)) bytes
 
--- the bytes after some, where they begin with these
+-- the bytes after some first ones, if the list begins with these
 abbrev pub after : List ℕ → List ℕ → Option (List ℕ)
 after [] bytes = Some bytes
 after (w ∷ words) [] = None
@@ -38,7 +38,7 @@ unused_keywords =
     codes "const" ∷ codes "double" ∷ codes "enum" ∷ codes "extern" ∷ codes "float" ∷ codes "short" ∷ codes "sizeof"
     ∷ codes "static" ∷ codes "struct" ∷ codes "typedef" ∷ codes "union" ∷ codes "volatile" ∷ []
 
--- the suffix that these bytes are
+-- the suffix of a number that the bytes are
 abbrev pub suffix_of : List ℕ → Option Suffix
 suffix_of bytes =
     if same_bytes bytes [] then Some plain_number
@@ -64,7 +64,7 @@ decimal_of bytes =
 abbrev pub is_hex_digit : ℕ → Bool
 is_hex_digit b = nat_le (hex_value b) 15
 
--- the same in hexadecimal, after `0x`: one to eight digits
+-- the number in hexadecimal that a run is, after `0x`: one to eight digits
 abbrev pub hex_of : List ℕ → Option Token
 hex_of bytes =
     let digits = take_while is_hex_digit bytes in
@@ -84,12 +84,12 @@ token_of_word (b ∷ bytes) =
 
 -- Lines.
 
--- the line ends before these bytes
+-- the line ends before the bytes
 abbrev pub is_line_end : List ℕ → Bool
 is_line_end [] = true
 is_line_end (b ∷ bytes) = b == 10
 
--- no word or number goes on with these bytes
+-- no word or number goes on with the bytes
 abbrev pub is_word_end : List ℕ → Bool
 is_word_end [] = true
 is_word_end (b ∷ bytes) = not (is_word_byte b)
@@ -117,15 +117,15 @@ head_in (head ∷ heads) bytes = head_if head (after (pragma_words head) bytes) 
 abbrev pub head_of : List ℕ → Option FoundHead
 head_of bytes = head_in (version_line ∷ stack_line ∷ place_line ∷ depth_line ∷ []) bytes
 
--- Where in a line bytes begin.
+-- A spot: where in a line bytes begin.
 pub data Spot : Type 0 where
-  -- at its beginning
+  -- at the beginning of a line
   line_start : Spot
   -- in a line of tokens
   in_line : Spot
   -- after the words of a pragma or one of its numbers
   in_pragma : Spot
-  -- after blanks in such a line, where no token may stand
+  -- after blanks in a pragma's line, where no token may stand
   in_blanks : Spot
 
 -- no token but a number after one space may stand here
@@ -153,7 +153,7 @@ pub record Cut : Type 0 where
 abbrev pub cut : List Piece → Spot → ℕ → List ℕ → Cut
 cut pieces spot line rest = record { pieces = pieces; spot = spot; line = line; rest = rest }
 
--- the token, which may not stand in the line of a pragma
+-- the token at a spot; in the line of a pragma a token may not stand
 abbrev pub allowed_at : Spot → Option Token → Option Token
 allowed_at spot token = if is_of_pragma spot then option_map (λ t. stray) token else token
 
@@ -162,13 +162,13 @@ abbrev pub first_mark : ℕ → List ℕ → List ℕ
 first_mark b [] = b ∷ []
 first_mark b (c ∷ bytes) = if is_mark (b ∷ c ∷ []) then b ∷ c ∷ [] else b ∷ []
 
--- the words of a pragma: it begins at the beginning of a line
+-- what is cut at the words of a pragma, which begin at the beginning of a line
 abbrev pub cut_head : Spot → ℕ → FoundHead → Cut
 cut_head spot line found =
     if is_line_start spot then cut (piece line (Some (Pragma found.head)) ∷ []) in_pragma line found.rest
     else cut (piece line (Some stray) ∷ []) in_line line found.rest
 
--- a mark, the words of a pragma, or a byte that begins no token
+-- what is cut at another byte: a mark, the words of a pragma, or a byte that begins no token
 abbrev pub cut_mark : Spot → ℕ → ℕ → List ℕ → Cut
 cut_mark spot line b bytes =
     let mark = first_mark b bytes in
@@ -179,7 +179,7 @@ cut_mark spot line b bytes =
       | None ↦ cut (piece line None ∷ []) in_line line bytes
     ]
 
--- a run of letters, digits and `_`, or another byte
+-- what is cut at the begin of a run of letters, digits and `_`, or at another byte
 abbrev pub cut_token : Spot → ℕ → ℕ → List ℕ → Cut
 cut_token spot line b bytes =
     if is_word_byte b
@@ -187,7 +187,7 @@ cut_token spot line b bytes =
     (after_while is_word_byte (b ∷ bytes))
     else cut_mark spot line b bytes
 
--- a space or a tab: in the line of a pragma something stands after it, else it offends itself
+-- what is cut at a space or a tab: in the line of a pragma something stands after it, else it offends itself
 abbrev pub cut_blank : Spot → ℕ → List ℕ → Cut
 cut_blank spot line bytes =
     if not (is_of_pragma spot) then cut [] in_line line bytes
@@ -205,9 +205,9 @@ abbrev pub has_number : Spot → ℕ → List ℕ → Bool
 has_number spot b bytes =
     is_in_pragma spot && ((b == 32) && is_plain (token_of_word (take_while is_word_byte bytes)))
 
--- The first bytes of a text, which begin at this spot of this line. Each token is the longest. A run of letters, digits
--- and `_` is one piece, and so is each other byte that begins no token. The words of a pragma stand at the beginning of
--- a line, one space stands before each of its numbers, and nothing else stands in the line.
+-- The first piece of a text that begins at this spot of this line. Each token is the longest. A run of letters, digits
+-- and `_` is one piece, and so is each other byte that begins no token. The words of a pragma stand at the beginning
+-- of a line, one space stands before each of its numbers, and nothing else stands in the line.
 abbrev pub first_cut : Spot → ℕ → ℕ → List ℕ → Cut
 first_cut spot line b bytes =
     if b == 10 then cut [] line_start (suc line) bytes
@@ -217,7 +217,7 @@ first_cut spot line b bytes =
     else if is_blank b then cut_blank spot line bytes
     else cut_token spot line b bytes
 
--- The pieces of these bytes, cut at most so many times.
+-- The pieces of the bytes, cut at most a number of times.
 abbrev pub pieces_from : ℕ → Spot → ℕ → List ℕ → List Piece
 pieces_from zero spot line bytes = []
 pieces_from (suc more) spot line [] = []
@@ -232,11 +232,11 @@ after_version text = elim (after (head_bytes version_line) text) [
   | None ↦ None
 ]
 
--- the pieces after the version line; each is cut off once
+-- the pieces of a text after its version line, each cut off once
 abbrev pub pieces_of : List ℕ → List Piece
 pieces_of rest = pieces_from (length rest) in_line 1 rest
 
--- the line of the piece at a place, or the last line, which is that after the last line feed
+-- the line of the piece at a place, or the last line of the text, the one after the last line feed
 abbrev pub line_at : List Piece → ℕ → ℕ → ℕ
 line_at [] last at = last
 line_at (p ∷ pieces) last zero = p.line

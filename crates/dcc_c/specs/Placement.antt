@@ -20,7 +20,7 @@ elements (Some len) = len
 abbrev pub bytes_of : CType → Option ℕ → ℕ
 bytes_of type len = size_of type * elements len
 
--- the address above a global variable, where the next one stands
+-- the address after a global variable, where the next one stands
 abbrev pub after_global : Global → ℕ
 after_global g = g.at + bytes_of g.type g.len
 
@@ -28,7 +28,7 @@ after_global g = g.at + bytes_of g.type g.len
 abbrev pub first_base : ℕ → ℕ
 first_base hi = (hi + 2) % 65536
 
--- the address so many bytes below another
+-- the address a number of bytes below another
 abbrev pub below : ℕ → ℕ → ℕ
 below at bytes = (at + 65536 - bytes % 65536) % 65536
 
@@ -62,8 +62,8 @@ param_places body base number placed (v ∷ params) =
     Some ((base + 2 * number) % 65536) ∷ param_places body base (number + 1) true params
     else None ∷ param_places body base (number + 1) false params
 
--- The addresses of local variables: those of `auto` ones go downwards, each its size below the one before, which is
--- `used` bytes below the base.
+-- The addresses of local variables: `auto` ones go downwards, each its size below the one before, which is `used`
+-- bytes below the base.
 abbrev pub local_places : ℕ → ℕ → List Variable → List (Option ℕ)
 local_places base used [] = []
 local_places base used (v ∷ locals) =

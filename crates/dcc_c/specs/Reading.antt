@@ -42,7 +42,7 @@ abbrev pub first_token : List Piece → Option Token
 first_token [] = None
 first_token (p ∷ pieces) = p.token
 
--- the next token, and the one after it
+-- the next token; `second_token`: the one after it
 abbrev pub next_token : Reader → Option Token
 next_token r = if is_stopped r then None else first_token r.left
 
@@ -58,7 +58,7 @@ line_of (p ∷ pieces) = p.line
 abbrev pub skip : Reader → Reader
 skip r = record r { left = drop 1 r.left; at = suc r.at }
 
--- Reading stops.
+-- How reading stops.
 
 abbrev pub stop_at : Kind → ℕ → Reader → Reader
 stop_at kind at r = if is_stopped r then r else record r { stop = Some (offence kind at) }
@@ -68,7 +68,7 @@ abbrev pub stop_kind : List Piece → Kind
 stop_kind [] = of_grammar
 stop_kind (p ∷ pieces) = if is_some p.token then of_grammar else of_token
 
--- the next piece is not allowed
+-- reading stops since the next piece is not allowed
 abbrev pub fail : Reader → Reader
 fail r = stop_at (stop_kind r.left) r.at r
 
@@ -115,7 +115,7 @@ abbrev pub plain_of : Option Token → Option ℕ
 plain_of (Some (Decimal n plain_number)) = Some n
 plain_of token = None
 
--- such a number, which must stand here
+-- a decimal number without suffix, which must stand here
 abbrev pub take_plain : Reader → Got (Option NumberAt)
 take_plain r = elim (plain_of (next_token r)) [
   | Some n ↦ got (Some (record { value = n; at = r.at })) (skip r)
@@ -129,7 +129,7 @@ begins_type token =
     (is_the_word (codes "signed") token || is_the_word (codes "unsigned") token)
     || (is_the_word (codes "int") token || is_the_word (codes "long") token)
 
--- the base, after its last word
+-- the number type whose words have been read
 abbrev pub base_following : Base → Reader → Got (Option Base)
 base_following base r = got (Some base) (skip r)
 
@@ -221,8 +221,8 @@ begins_expr token =
     (is_some (unary_of token) || is_the_mark (codes "(") token)
     || (is_some (number_of token) || is_some (name_of token))
 
--- Reading stops where the expression, a part of which this is, gets more than 200 deep. The expression offends where it
--- begins.
+-- Reading stops where an expression gets more than 200 deep, of which the given one is a part. The expression offends
+-- where it begins.
 abbrev pub stop_if_deep : Inside → PartialExpr → Reader → Reader
 stop_if_deep inside e r = if nat_lt 200 (inside.operators + depth_of e) then stop_at of_depth inside.start r else r
 
@@ -300,7 +300,7 @@ abbrev mutual
   read_binary zero inside weakest r = got Missing r
   read_binary (suc calls) inside weakest r = read_more calls inside weakest (read_unary calls inside r)
 
-  -- the same after the first operand
+  -- the operands that are joined to the first one by binary operators of at least this strength
   pub read_more : ℕ → Inside → ℕ → Got PartialExpr → Got PartialExpr
   read_more zero inside weakest left = left
   read_more (suc calls) inside weakest left = elim (binary_of (next_token left.following)) [

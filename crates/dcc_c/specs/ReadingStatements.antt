@@ -11,7 +11,7 @@ use Rattle.dcc_c.specs.Reading.{Reader, Got, got, is_stopped, next_token, second
 
 -- Whole expressions.
 
--- a whole expression begins here, inside so many parentheses
+-- what stands around a whole expression that begins here, inside a number of parentheses
 abbrev pub whole : ℕ → Reader → Inside
 whole opened r = record { start = r.at; operators = 0; opened = opened }
 
@@ -215,7 +215,7 @@ begins_label r = is_some (name_of (next_token r)) && is_the_mark (codes ":") (se
 abbrev pub is_nested : Around → Bool
 is_nested around = nat_lt 200 around.blocks
 
--- Such a statement, which begins at a place, is the last that is read.
+-- A statement that more than 200 blocks stand around, and that begins at a place, is the last that is read.
 abbrev pub stop_if_nested : Around → ℕ → Reader → Reader
 stop_if_nested around at r = if is_nested around then stop_at of_depth at r else r
 
@@ -320,7 +320,7 @@ abbrev mutual
   read_block zero around r = got no_rows r
   read_block (suc calls) around r = end_block (read_lines calls around false false (take_mark (codes "{") r))
 
-  -- Statements as long as they come. A statement must stand after a label; `leaves` says that the one before these is
+  -- Statements as long as they come. After a label a statement must stand; `leaves` says that the statement before is
   -- a `break` without a label.
   pub read_lines : ℕ → Around → Bool → Bool → Reader → Got Block
   read_lines zero around labelled leaves r = got (block_of no_rows leaves) r
@@ -328,8 +328,8 @@ abbrev mutual
       if begins_stmt (next_token r) then read_line calls around labelled r
       else got (block_of no_rows leaves) (if labelled then fail r else r)
 
-  -- A depth line, a label or a statement, and those after it. Inside more than 200 blocks no depth line and no
-  -- statement with blocks is read.
+  -- A depth line, a label or a statement, and the statements after it. Inside more than 200 blocks no depth line and
+  -- no statement with blocks is read.
   pub read_line : ℕ → Around → Bool → Reader → Got Block
   read_line zero around labelled r = got (block_of no_rows false) r
   read_line (suc calls) around labelled r =

@@ -29,7 +29,7 @@ read_begun r =
     if sees_word (codes "void") r then begun_by r.at false None (take_name (skip r))
     else (let type = take_type r in begun_by r.at (begins_type (next_token r)) type.value (take_name type.following))
 
--- the head of a function with these parameters, where the first of them begins at this reader
+-- the head of a function with the given parameters, where the first of them begins at the reader
 abbrev pub head_with : Got Begun → Reader → Got (List PartialVariable) → Got PartialFunction
 head_with begun inside params =
     let end = take_mark (codes ")") params.following in
@@ -104,7 +104,7 @@ read_global calls address begun =
       done = not (is_stopped end);
     }) end
 
--- how many bytes it takes
+-- how many bytes a global variable takes
 abbrev pub size_in_bytes : PartialVariable → ℕ
 size_in_bytes v = elim v.type [ Some type ↦ bytes_of type (option_map (λ n. n.value) v.size) | None ↦ 0 ]
 

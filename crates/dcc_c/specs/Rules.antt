@@ -54,7 +54,7 @@ abbrev pub goto_of : Stmt → List Word
 goto_of (Goto word) = word ∷ []
 goto_of _ = []
 
--- each `goto` names a label of the function, which stands once
+-- each `goto` names a label of the function, and each label stands once
 abbrev pub allows_labels : Lines → Bool
 allows_labels body =
     all_differ (labels_in body) && list_all (is_among (labels_in body)) (flat_map goto_of (stmts_in body))

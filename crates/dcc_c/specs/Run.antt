@@ -33,7 +33,7 @@ pub record Frame : Type 0 where
   pub base : ℕ
   pub variables : List Binding
 
--- a call that waits for another one to return: what it then goes on with, and where it wants the result
+-- a call that waits for another one to return: what it goes on with then, and where it wants the result
 pub record Waiting : Type 0 where
   pub frame : Frame
   pub rest : Continuation
@@ -47,7 +47,7 @@ pub record State : Type 0 where
   pub waiting : List Waiting
   -- what variables without a value hold
   pub fill : ℕ
-  -- 65,536 bytes
+  -- the memory, of 65,536 bytes
   pub memory : List ℕ
   -- the input bytes that are not yet read, and what has happened at the console, the oldest first
   pub input : List ℕ
@@ -60,8 +60,8 @@ with_end end s = record s { end = end }
 abbrev pub goes_on : Continuation → State → State
 goes_on rest s = record s { rest = rest }
 
--- The step goes on with what an evaluation gives. A division that faults ends the run, and so does one that has no
--- meaning, in this line.
+-- The step goes on with what an evaluation gives. An evaluation in which a division faults ends the run, and so does
+-- one that has no meaning, in this line.
 abbrev pub on : {A : Type 0} → Outcome A → ℕ → State → (A → State) → State
 on (Gives a) at s next = next a
 on Divides at s next = with_end Divide s
@@ -73,12 +73,12 @@ on Undefined at s next = with_end (Stuck at) s
 abbrev pub global_binding : Global → Binding
 global_binding g = record { name = g.name; type = g.type; is_array = is_some g.len; storage = PlacedAt g.at }
 
--- what expressions are evaluated over: the call's variables, the global ones, and the memory
+-- the scope of expressions: the call's variables, the global ones, and the memory
 abbrev pub scope_of : Tree → State → Scope
 scope_of tree s =
     record { variables = s.frame.variables ++ map global_binding tree.globals; memory = s.memory }
 
--- a variable that is placed, or else holds these bits
+-- where a variable is stored: at its address, if it is placed, or by itself with its bits
 abbrev pub storage_of : Option ℕ → ℕ → Storage
 storage_of (Some at) bits = PlacedAt at
 storage_of None bits = Unplaced bits
@@ -146,13 +146,13 @@ first_of (Some rest) other = Some rest
 first_of None other = other
 
 abbrev mutual
-  -- from a label on, in these statements that have this after them
+  -- what is to be executed from a label on, in the statements and what follows them
   pub from_label : Word → Lines → Continuation → Option Continuation
   from_label word no_lines rest = None
   from_label word (line stmt at lines) rest =
       first_of (from_label_inside word stmt at lines rest) (from_label word lines rest)
 
-  -- from a label on that this statement is, or that stands inside it
+  -- what is to be executed from a label on that the statement is, or that stands inside it
   pub from_label_inside : Word → Stmt → ℕ → Lines → Continuation → Option Continuation
   from_label_inside word (Label other) at lines rest =
       if same_bytes word other then Some (runs (line (Label other) at lines) rest) else None
@@ -166,13 +166,13 @@ abbrev mutual
       (from_label_in_arms word last (ends_switch (runs lines rest)))
   from_label_inside word _ at lines rest = None
 
-  -- from a label on in these arms
+  -- what is to be executed from a label on in the arms
   pub from_label_in_arms : Word → Arms → Continuation → Option Continuation
   from_label_in_arms word no_arms rest = None
   from_label_in_arms word (arm cases body arms) rest =
       first_of (from_label word body rest) (from_label_in_arms word arms rest)
 
--- from a label of the function on
+-- what is to be executed from a label of the function on
 abbrev pub after_goto : Function → Word → Option Continuation
 after_goto function word = from_label word function.body (ends_function function.last)
 
@@ -222,7 +222,7 @@ back_step (w ∷ waiting) v at s =
 abbrev pub is_start : Function → Bool
 is_start function = same_bytes function.name (codes "start")
 
--- the closing brace: neither `start` nor a function with a result has a step there
+-- a step at the closing brace: neither `start` nor a function with a result has one there
 abbrev pub close_step : ℕ → State → State
 close_step at s =
     if is_start s.frame.function || is_some s.frame.function.result then with_end (Stuck at) s
@@ -239,12 +239,12 @@ give_step (Some type) v at s =
     if is_start s.frame.function then with_end (Stuck at) s
     else on v at s (λ v. back_step s.waiting (Some (converted type v)) at s)
 
--- these events happen at the console
+-- the state after these events at the console
 abbrev pub with_events : List Event → State → State
 with_events events s = record s { events = s.events ++ events }
 
--- The target takes the next of these input bytes, which is written after that where it is echoed. Where there is none,
--- the run meets the end of the input, and the target takes 1Ah.
+-- The target takes the next input byte, which is written after that where it is echoed. Where there is none, the run
+-- meets the end of the input, and the target takes 1Ah.
 abbrev pub key_step : Bool → List ℕ → Option Target → ℕ → State → State
 key_step echo [] target at s =
     result_step target (Some (number Uchar 0x1A)) at (with_events (MetEnd ∷ []) s)

@@ -59,11 +59,11 @@ surplus v = first_number (drop (element_count v.size) v.init)
 abbrev pub end_of : PartialVariable → ℕ
 end_of v = v.address + size_in_bytes v
 
--- the two take no byte in common
+-- the two variables take no byte in common
 abbrev pub stand_apart : PartialVariable → PartialVariable → Bool
 stand_apart a b = nat_le (end_of a) b.address || nat_le (end_of b) a.address
 
--- The variable, which has a byte, has one beyond memory, in the stack or in an earlier variable.
+-- A variable that takes a byte has one beyond memory, in the stack or in an earlier variable.
 abbrev pub is_misplaced : ℕ → ℕ → List PartialVariable → PartialVariable → Bool
 is_misplaced lo hi earlier v =
     nat_lt 0 (size_in_bytes v)
@@ -98,7 +98,8 @@ number_or_zero None = 0
 
 -- Functions.
 
--- A function's name: it repeats none of the global variables, the DOS calls and the functions before it.
+-- The names of functions that offend: a name repeats none of the global variables, the DOS calls and the functions
+-- before it.
 abbrev pub function_names : List PartialFunction → List WordAt
 function_names [] = []
 function_names (f ∷ functions) = elim f.name [

@@ -22,7 +22,7 @@ is_signed Uint = false
 is_signed Long = true
 is_signed Ulong = false
 
--- the two are one number type
+-- the two number types are one
 abbrev pub same_base : Base → Base → Bool
 same_base Schar Schar = true
 same_base Uchar Uchar = true
@@ -79,7 +79,7 @@ plain base = record { base = base; pointer = false }
 abbrev pub pointer_to : Base → CType
 pointer_to base = record { base = base; pointer = true }
 
--- the two are one type
+-- the two types are one
 abbrev pub same_type : CType → CType → Bool
 same_type a b = same_base a.base b.base && beq a.pointer b.pointer
 

@@ -14,10 +14,10 @@ use Rattle.dcc_c.specs.Tree.{Word, Expr, Number, Name, Unary, Binary, Conditiona
 -- what a name is declared as
 pub record Declared : Type 0 where
   pub name : Word
-  -- its type, or that of its elements where it is an array
+  -- the type of the name, or of its elements where it is an array
   pub type : CType
   pub is_array : Bool
-  -- it has an address
+  -- whether the name has an address
   pub is_placed : Bool
 
 abbrev pub declared_as : List Declared → Word → Option Declared
@@ -36,7 +36,7 @@ type_of_address d =
     else if d.type.pointer then None
     else Some (pointer_to d.type.base)
 
--- the number type, where the type is one
+-- the number type that a type is, if it is one
 abbrev pub number_type : CType → Option Base
 number_type type = if type.pointer then None else Some type.base
 

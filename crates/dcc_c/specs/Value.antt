@@ -25,7 +25,7 @@ value type bits = record { type = type; bits = bits }
 abbrev pub number : Base → ℕ → Value
 number base bits = value (plain base) bits
 
--- 0 or 1
+-- the truth value 0 or 1, an int
 abbrev pub truth : Bool → Value
 truth b = number Int (if b then 1 else 0)
 
@@ -39,9 +39,9 @@ converted type v = value type (convert (number_of_type v.type) (number_of_type t
 -- what an evaluation comes to
 pub data Outcome (A : Type 0) : Type 0 where
   Gives : A → Outcome A
-  -- a division that faults
+  -- a division faults
   Divides : Outcome A
-  -- no meaning: a name or an operand is not allowed
+  -- there is no meaning: a name or an operand is not allowed
   Undefined : Outcome A
 
 -- the second evaluation goes on with what the first one gives
@@ -58,9 +58,9 @@ given None = Undefined
 
 -- how a variable is kept
 pub data Storage : Type 0 where
-  -- by itself, with these bits
+  -- the variable is kept by itself, with these bits
   Unplaced : ℕ → Storage
-  -- in memory, from this address on
+  -- the variable is in memory, from this address on
   PlacedAt : ℕ → Storage
 
 -- a variable with its storage; the type is that of its elements where it is an array
@@ -158,7 +158,7 @@ binary_value Div type a b = if division_faults type a b then Divides else Gives 
 binary_value Rem type a b = if division_faults type a b then Divides else Gives (number type (remainder type a b))
 binary_value operator type a b = compared operator type a b
 
--- an operator on two numbers: both are converted to their common type, but for a shift, whose left one is promoted
+-- an operator on two numbers: both are converted to their common type; of a shift the left one alone is promoted
 abbrev pub numbers_value : CBin → Base → ℕ → Base → ℕ → Outcome Value
 numbers_value Shl a m b n =
     let type = promoted_type a in Gives (number type (shifted_left type (convert a type m) b n))
@@ -217,9 +217,9 @@ value_of scope (Cast type a) = and_then (λ v. Gives (converted type v)) (value_
 
 -- where a value goes
 pub data Target : Type 0 where
-  -- to the variable that is kept by itself
+  -- the value goes to the variable that is kept by itself
   ToVariable : Word → Target
-  -- into memory, as a value of the type
+  -- the value goes into memory, as one of the type
   ToMemory : CType → ℕ → Target
 
 -- the target of an assignment to the variable with the name

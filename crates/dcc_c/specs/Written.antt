@@ -20,7 +20,8 @@ use Rattle.dcc_c.specs.Tree.{Word, Expr, Number, Name, Unary, Binary, Conditiona
 abbrev pub suffix_gives : ℕ → Base → Suffix → Bool
 suffix_gives n base suffix = same_base (decimal_type n suffix) base
 
--- no suffix where that gives the type, else the first of U, L and UL that does
+-- the suffix that a number of the type is written with: none where that gives the type, else the first of U, L and UL
+-- that does
 abbrev pub suffix_for : ℕ → Base → Suffix
 suffix_for n base =
     if suffix_gives n base plain_number then plain_number
@@ -97,13 +98,13 @@ indented braces bytes = indentation braces ++ bytes
 
 -- The depth of calls.
 
--- the depth in force after these statements
+-- the depth in force after the statements
 abbrev pub depth_after : ℕ → List Stmt → ℕ
 depth_after depth [] = depth
 depth_after depth (Call place function arguments own ∷ stmts) = depth_after own stmts
 depth_after depth (stmt ∷ stmts) = depth_after depth stmts
 
--- the depth of the call that comes next, where one does: statements begin with it, or with its labels
+-- the depth of the call that comes next, if one does: the statements begin with it, or with its labels
 abbrev pub next_depth : ℕ → Lines → ℕ
 next_depth depth (line (Label word) at lines) = next_depth depth lines
 next_depth depth (line (Call place function arguments own) at lines) = own
@@ -171,8 +172,8 @@ abbrev mutual
   written_stmt braces depth Empty = indented braces (codes ";\n")
   written_stmt braces depth (Return e) = indented braces (written_return e)
 
-  -- Statements, with this depth in force before them. A pragma stands before a call with another depth, and before the
-  -- first of its labels.
+  -- The written form of statements, with a depth of calls in force before them. A pragma stands before a call with
+  -- another depth, and before the first of its labels.
   pub written_lines : ℕ → ℕ → Lines → Word
   written_lines braces depth no_lines = []
   written_lines braces depth (line stmt at lines) =
@@ -188,7 +189,7 @@ abbrev mutual
       ++ (written_lines braces depth body
       ++ (indented braces (codes "break;\n") ++ written_arms braces (depth_after depth (stmts_in body)) arms))
 
-  -- the default arm, which comes last
+  -- the written form of the default arm, which comes last
   pub written_default : ℕ → ℕ → Arms → Word
   written_default braces depth no_arms = []
   written_default braces depth (arm cases body arms) =
@@ -260,7 +261,7 @@ written_place None at = codes "#pragma dcc at " ++ (decimal at ++ codes "\n")
 written_place (Some following) at =
     if following == at then [] else codes "#pragma dcc at " ++ (decimal at ++ codes "\n")
 
--- global variables, the one before them ending here
+-- the written form of global variables, where the one before them ends at the address
 abbrev pub written_globals : Option ℕ → List Global → Word
 written_globals following [] = []
 written_globals following (g ∷ globals) =

@@ -22,7 +22,7 @@ pub enum Base {
 pub struct CType {
     /// The number type, or that of what the pointer points to.
     pub base: Base,
-    /// Whether it is a pointer.
+    /// Whether the type is a pointer.
     pub pointer: bool,
 }
 
@@ -137,7 +137,7 @@ pub enum CStmt {
 pub struct Line {
     /// The statement.
     pub stmt: CStmt,
-    /// Its line in the text.
+    /// The line where the statement begins, from 1.
     pub line: u32,
 }
 
@@ -147,7 +147,7 @@ pub struct Line {
 pub struct Arm {
     /// The values of its `case` labels.
     pub cases: Vec<u16>,
-    /// Its statements.
+    /// The statements of the arm, without the `break` that ends it.
     pub body: Vec<Line>,
 }
 
@@ -165,43 +165,43 @@ pub enum Class {
 /// A global variable at its address; `len` elements where it is an array.
 #[derive(Drop)]
 pub struct Global_ {
-    /// Its name.
+    /// The name of the global variable.
     pub name: String,
     /// The address of its first byte.
     pub at: u32,
-    /// Its type, or that of an element.
+    /// The type of the variable, or of an element of an array.
     pub ty: CType,
     /// The number of elements of an array.
     pub len: Option<u32>,
-    /// The first values of its elements, in their order; 0 after them.
+    /// The first initial values of the variable, in their order; what follows is 0.
     pub init: Vec<u32>,
 }
 
 /// A local variable or a parameter; `len` elements where it is an array.
 #[derive(Drop)]
 pub struct Var {
-    /// Its name.
+    /// The name of the variable.
     pub name: String,
-    /// Its type, or that of an element.
+    /// The type of the variable, or of an element of an array.
     pub ty: CType,
     /// The number of elements of an array.
     pub len: Option<u32>,
-    /// How it is stored.
+    /// The storage class of the variable.
     pub class: Class,
 }
 
 /// A function; `last` is the line of its closing brace.
 #[derive(Drop)]
 pub struct Func {
-    /// Its name.
+    /// The name of the function.
     pub name: String,
     /// The type of its result; None for `void`.
     pub result: Option<CType>,
-    /// Its parameters, in their order.
+    /// The parameters of the function, in their order.
     pub params: Vec<Var>,
-    /// Its local variables, in the order of their declarations.
+    /// The local variables of the function, in the order of their declarations.
     pub locals: Vec<Var>,
-    /// Its statements.
+    /// The statements of the function.
     pub body: Vec<Line>,
     /// The line of its closing brace.
     pub last: u32,
@@ -216,8 +216,8 @@ pub struct Unit {
     pub lo: u16,
     /// The offset just above the stack.
     pub hi: u16,
-    /// Its global variables, in their order.
+    /// The global variables of the text, in their order.
     pub globals: Vec<Global_>,
-    /// Its functions, in their order; a run begins with the first.
+    /// The functions of the text, in their order; a run begins with the first.
     pub funcs: Vec<Func>,
 }

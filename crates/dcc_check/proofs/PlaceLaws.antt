@@ -45,7 +45,7 @@ and-true false = refl
 pub all-earlier : (v : PartialVariable) (variables : List PartialVariable) → list_all (stand_apart v) (earlier_of variables) ≡ all_apart v variables
 all-earlier v variables = all-after v [] variables ∙ and-true (all_apart v variables)
 
--- those that take bytes
+-- the variables that are kept as earlier ones take bytes
 takes-after : (es variables : List PartialVariable) → list_all takes_bytes es ≡ true → list_all takes_bytes (earlier_after es variables) ≡ true
 takes-after es [] all = all
 takes-after es (u ∷ variables) all =

@@ -6,7 +6,7 @@ use Rattle.dcc_c.specs.Kinds.{Offence}
 use Rattle.dcc_c.specs.Partial.{PartialVariable}
 use Rattle.dcc_c.specs.TextOffences.{end_of, is_misplaced, misplaced_at, takes_bytes}
 
--- one more variable, where it takes bytes
+-- the variables that take bytes, with one more in front, if it takes bytes
 abbrev pub earlier_with : PartialVariable → List PartialVariable → List PartialVariable
 earlier_with v earlier = if takes_bytes v then v ∷ earlier else earlier
 
@@ -26,11 +26,11 @@ in_stack lo hi v = not (nat_le hi lo || (nat_le (end_of v) lo || nat_le hi v.add
 abbrev pub misplaced_here : ℕ → ℕ → List PartialVariable → PartialVariable → List Offence
 misplaced_here lo hi earlier v = if v.done && is_misplaced lo hi earlier v then misplaced_at v.name else []
 
--- the byte is the variable's
+-- the byte is one of the variable's
 abbrev pub is_covered : ℕ → PartialVariable → Bool
 is_covered k v = nat_le v.address k && nat_lt k (end_of v)
 
--- Where they are complete, the marks are those of the variables.
+-- The marks of bytes are those of the variables so far, where they are complete.
 pub record IsOccupied (marks : List Bool) (complete : Bool) (earlier : List PartialVariable) : Type 0 where
   pub whole : length marks ≡ 65536
   pub marked : complete ≡ true → (k : ℕ) → k < 65536 → get_or marks k false ≡ list_any (is_covered k) earlier

@@ -30,7 +30,7 @@ head_of k = k.signature
 abbrev pub held : {X : Type 0} → BTreeMap (Bor (List ℕ)) X → Word → Option X
 held m word = get_by (λ k. slice_cmp nat_cmp word k.now) m
 
--- a local variable, or else a global one
+-- the variable with the name: a local one, or else a global one
 abbrev pub variable_in : Scene → Word → Option Declared
 variable_in scene word = elim (held scene.locals.now word) [
   | Some d ↦ Some d

@@ -81,7 +81,7 @@ pub fn add_words<'a>(words: &mut BTreeSet<&'a str>, names: &[&WordAt<'a>]) -> Re
     Ok(())
 }
 
-/// Tells each name that is taken, or that stands twice.
+/// Tells each name of the list that is taken, or that stands twice in it.
 pub fn tell_repeated(
     alloc: Global,
     taken: &BTreeSet<&str>,

@@ -17,13 +17,13 @@ use dcc_reader::{First, ParseKind};
 /// An expression as an operand.
 #[derive(Clone, Copy)]
 pub(crate) struct Operand {
-    /// Its type, as far as it can be told.
+    /// The type of the expression, as far as it can be told.
     pub(crate) ty: Option<CType>,
-    /// Where it begins.
+    /// Where the expression begins.
     pub(crate) at: u32,
 }
 
-/// A number is wanted.
+/// Tells that the operand offends where a number is wanted and it is known to be none.
 pub(crate) fn want_number(a: Operand, first: &mut First)
     ensures { (s : offences.Scene) (e : partial.PartialExpr) → a ≡ operand s e →
         Tells first.old first.new (wants_number s e) }
@@ -31,7 +31,7 @@ pub(crate) fn want_number(a: Operand, first: &mut First)
     first.tell_if(is_pointer(a.ty), ParseKind::Type_, a.at);
 }
 
-// A pointer is wanted.
+// Tells that the operand offends where a pointer is wanted and it is known to be none.
 fn want_pointer(a: Operand, first: &mut First)
     ensures { (s : offences.Scene) (e : partial.PartialExpr) → a ≡ operand s e →
         Tells first.old first.new (offences.wants_pointer s e) }
@@ -41,7 +41,7 @@ fn want_pointer(a: Operand, first: &mut First)
     }
 }
 
-/// The operand of `&` is no variable: it offends where it has a type.
+/// Tells that the operand of `&`, which is no variable, offends if it has a type.
 pub(crate) fn tell_typed(a: Operand, first: &mut First)
     ensures { (s : offences.Scene) (e : partial.PartialExpr) → a ≡ operand s e →
         Tells first.old first.new (only_if (is_some (told_type s.names e)) (offence of_type (partial.place_of e))) }
@@ -49,7 +49,7 @@ pub(crate) fn tell_typed(a: Operand, first: &mut First)
     first.tell_if(a.ty.is_some(), ParseKind::Type_, a.at);
 }
 
-/// The operand of a unary operator but `&`.
+/// Tells what offends in the operand of a unary operator but `&`.
 pub(crate) fn check_unary(operator: CUn, a: Operand, first: &mut First)
     ensures { (s : offences.Scene) (e : partial.PartialExpr) → a ≡ operand s e →
         Tells first.old first.new (unary_offences s operator e) }
@@ -60,8 +60,8 @@ pub(crate) fn check_unary(operator: CUn, a: Operand, first: &mut First)
     }
 }
 
-/// The operands of a binary operator, by its type: of a comparison, a sum and a difference the second one does not fit
-/// the first, of any other each is a number.
+/// Tells what offends in the operands of a binary operator, by its type: of a comparison, a sum and a difference the
+/// second one does not fit the first, of any other each is a number.
 pub(crate) fn check_binary(operator: CBin, a: Operand, b: Operand, first: &mut First)
     ensures { (s : offences.Scene) (d e : partial.PartialExpr) → a ≡ operand s d → b ≡ operand s e →
         Tells first.old first.new (binary_offences s operator d e) }
@@ -79,7 +79,7 @@ pub(crate) fn check_binary(operator: CBin, a: Operand, b: Operand, first: &mut F
     }
 }
 
-/// The last two operands of `?:`.
+/// Tells what offends in the last two operands of `?:`.
 pub(crate) fn check_choice(b: Operand, c: Operand, first: &mut First)
     ensures { (s : offences.Scene) (d e : partial.PartialExpr) → b ≡ operand s d → c ≡ operand s e →
         Tells first.old first.new (arms_offences s d e) }
@@ -92,7 +92,8 @@ pub(crate) fn check_choice(b: Operand, c: Operand, first: &mut First)
     );
 }
 
-/// The value of a `switch`, read to its parenthesis or not: an int or an unsigned int after promotion.
+/// Tells what offends in the value of a `switch`, whether read to its parenthesis or not: it is an int or an unsigned
+/// int after promotion.
 pub(crate) fn check_selector(a: Operand, done: bool, first: &mut First)
     ensures { (s : offences.Scene) (e : partial.PartialExpr) → a ≡ operand s e →
         Tells first.old first.new (selector_offences s e done) }
@@ -103,7 +104,8 @@ pub(crate) fn check_selector(a: Operand, done: bool, first: &mut First)
     }
 }
 
-/// A value of the first type goes where one of the second is wanted, and offends at a place.
+/// Tells that a value of the first type, which goes where one of the second is wanted, offends at a place if it may
+/// not become one.
 pub(crate) fn check_conversion(from: Option<CType>, to: Option<CType>, at: u32, first: &mut First)
     ensures { Tells first.old first.new (conversion from to at) }
 {
@@ -112,7 +114,7 @@ pub(crate) fn check_conversion(from: Option<CType>, to: Option<CType>, at: u32, 
     }
 }
 
-/// The value goes where one of the type is wanted, where it has been read to its end.
+/// Tells whether the value, which goes where one of the type is wanted, offends, if it has been read to its end.
 pub(crate) fn check_becomes(a: Operand, done: bool, to: Option<CType>, first: &mut First)
     ensures { (s : offences.Scene) (e : partial.PartialExpr) → a ≡ operand s e →
         Tells first.old first.new (becomes s e done to) }

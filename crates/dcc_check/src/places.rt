@@ -95,9 +95,9 @@ fn takes_bytes(variable: &PartialVariable) -> bool
 /// The addresses of the stack: from the first one up to the second.
 #[derive(Clone, Copy)]
 pub struct Stack {
-    /// Its lowest address.
+    /// The lowest address of the stack.
     pub lo: u64,
-    /// The address after it.
+    /// The address after the stack.
     pub hi: u64,
 }
 
@@ -113,8 +113,8 @@ fn is_in_stack(stack: Stack, variable: &PartialVariable) -> bool
 struct Occupied {
     /// Whether each byte of memory is taken.
     marks: Vec<bool>,
-    /// Whether the marks are those of all variables so far. They are up to the first one that is misplaced or whose
-    /// place needs no test.
+    /// Whether the marks are those of all variables so far. This holds up to the first variable that is misplaced or
+    /// whose place needs no test.
     complete: bool,
 }
 
@@ -157,7 +157,7 @@ fn clashes(earlier: &[PartialVariable], variable: &PartialVariable) -> bool
     false
 }
 
-// Whether an offence at this place may be the first.
+// Whether an offence at the place may be the first.
 fn may_be_first(first: &First, at: u32) -> bool
     ensures { result ≡ false → earlier (told first.now) (offence of_place at) ≡ told first.now }
 {
@@ -258,7 +258,7 @@ fn tell_place(
     take(occupied, variable);
 }
 
-// Marks for so many bytes, none of which is taken.
+// Marks for `count` bytes, none of which is taken.
 fn unmarked(alloc: Global, count: usize) -> Result<Vec<bool>, AllocError>
     ensures whole { IfOk result (λ marks. length marks.items ≡ count) }
     ensures free { IfOk result (λ marks. (k : ℕ) → k < count → get_or marks.items k false ≡ false) }

@@ -43,7 +43,7 @@ pub struct Scene<'s, 'n> {
     pub labels: &'s BTreeSet<&'n str>,
     /// Whether the result of the function is a type.
     pub has_result: bool,
-    /// Which type.
+    /// The type of the result, if it has one.
     pub result: Option<CType>,
 }
 
@@ -78,11 +78,11 @@ impl Scene<'_, '_> {
 /// Where variables are declared.
 #[derive(Clone, Copy, PartialEq, Eq, Debug)]
 pub enum Scope {
-    /// Outside functions.
+    /// The variables are declared outside functions.
     Text,
-    /// In the head of a function.
+    /// The variables are declared in the head of a function.
     Head,
-    /// In the body of a function.
+    /// The variables are declared in the body of a function.
     Body,
 }
 

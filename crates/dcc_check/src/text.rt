@@ -40,7 +40,7 @@ use std::collections::{BTreeMap, BTreeSet};
 // What the whole text knows.
 #[derive(Drop)]
 struct Whole<'a> {
-    /// The names of global variables and of functions, those of DOS calls among them.
+    /// The names of global variables and of functions, DOS calls among them.
     words: BTreeSet<&'a str>,
     /// The global variables.
     globals: BTreeMap<&'a str, Declared>,
@@ -186,7 +186,7 @@ fn tell_labels(alloc: Global, labels: &[&WordAt], first: &mut First) -> Result<(
     tell_repeated(alloc, &none, labels, first)
 }
 
-// The words of labels; with `is_last`, also of those after what has been read.
+// The words of labels; with `is_last`, also of the labels after what has been read.
 fn label_words<'a>(
     alloc: Global,
     labels: &[&WordAt<'a>],

@@ -128,7 +128,7 @@ module _ {W C S : Type 0} (executor : Executor W C S) (w : W) (start : List ℕ 
     stops_at_write_when_told steps before taken now s input told =
         stops_at_write steps input taken now (subst (λ b. StopsShort executor write_failed steps (scene code b taken) now) told s)
 
-    -- so a part of the whole run's output is there
+    -- where a write failed, a part of the whole run's output is there, and not all
     breaks_off : (steps : ℕ) (input : List ℕ) (taken : Option (List ℕ)) (now : Scene C) → IsLawfulExecutor executor →
         StopsShort executor write_failed steps (scene code (Some input) taken) now → AppendsProperPrefix taken now.taken (output_after subject steps input)
     breaks_off steps input taken now laws s =

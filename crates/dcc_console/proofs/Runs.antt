@@ -79,7 +79,7 @@ module _ {W C S : Type 0} (executor : Executor W C S) where
           (record { stands = stands; left = has; events = sym (append-nil (events_in executor w s)) });
     }
 
-    -- and any number of steps
+    -- what has ended makes any number of steps without a change
     ended_each : (more count : ℕ) (before now : Scene C) (end : End) → HasEnded executor now.code end → is_over end ≡ true
         → MakesEach executor count before now → MakesEach executor (count + more) before now
     ended_each zero count before now end ended over each =

@@ -41,7 +41,7 @@ module _ (memory : List ℕ) (segment start : ℕ) where
   abbrev pub NoneEnds : ℕ → Type 0
   NoneEnds k = (j : ℕ) → j < k → is_no_end (byte_in memory segment (start + j)) ≡ true
 
-  -- its length is known by the first byte that ends it
+  -- the string's length is known by the first byte that ends it
   pub length-string-is : (k : ℕ) → k ≤ 65536 → NoneEnds k
       → (k < 65536 → is_no_end (byte_in memory segment (start + k)) ≡ false) → k ≡ length (string_in memory segment start)
   length-string-is k le none ends =
@@ -72,7 +72,7 @@ module _ (memory : List ℕ) (segment start : ℕ) where
       none_more k (length piece) piece (omega arith) bytes
       (λ j lt. other_byte (get_or piece j 0) (λ is. found j (omega arith) lt (ap (is_byte 0x24) is))) none
 
-  -- and one that finds it
+  -- a search of the piece that finds an end tells the string's length
   pub end_found : (k at : ℕ) (piece : List ℕ) → k + length piece ≤ 65536 → Follows k piece → IsFirstByte (is_byte 0x24) piece (Some at)
       → NoneEnds k → k + at ≡ length (string_in memory segment start)
   end_found k at piece within bytes found none =

@@ -4,8 +4,8 @@ use Rattle.dcc_run.specs.End.{End}
 use Rattle.dcc_run.specs.Event.{Event}
 use Rattle.dcc_run.specs.System.{System, after, out_after, end_after}
 
--- A system with a console. What has happened there by a state is the system's; what the state has left of the input
--- stands here, and a state that is the same but for the input that it has left.
+-- A system with a console. What has happened at the console by a state is told by the system; what the state has left
+-- of the input is told here, as is the state that differs in what it has left alone.
 pub record Console (S : Type 0) : Type 0 where
   pub system : System S
   pub left : S → List ℕ
@@ -16,21 +16,21 @@ pub record Subject (S : Type 0) : Type 0 where
   pub console : Console S
   pub start : List ℕ → S
 
--- the state after so many steps on the input
+-- the state after `n` steps on the input
 abbrev pub state_after : {S : Type 0} → Subject S → ℕ → List ℕ → S
 state_after subject steps input = after subject.console.system.step steps (subject.start input)
 
--- the output of so many steps on the input
+-- the output of `n` steps on the input
 abbrev pub output_after : {S : Type 0} → Subject S → ℕ → List ℕ → List ℕ
 output_after subject steps input = out_after subject.console.system steps (subject.start input)
 
--- how the run on the input has ended after so many steps, if it has
+-- how the run on the input has ended after `n` steps, if it has
 abbrev pub ending_after : {S : Type 0} → Subject S → ℕ → List ℕ → End
 ending_after subject steps input = end_after subject.console.system steps (subject.start input)
 
 -- Code that executes systems with a console. There is a system for each W: for each text, say, or for each processor.
--- What the code keeps, a C, stands for states of them, whatever these have left to read and has happened at their
--- consoles.
+-- What the code keeps, a C, stands for states of the system, whatever these have left to read and has happened at
+-- their consoles.
 pub record Executor (W C S : Type 0) : Type 1 where
   pub console : W → Console S
   pub stands : W → C → S → Type 0

@@ -15,7 +15,7 @@ echoed echo byte = if echo then byte ∷ [] else []
 abbrev pub key_events : Bool → ℕ → List Event
 key_events echo byte = Took byte ∷ writes (echoed echo byte)
 
--- This key was taken: the next input byte, which was written where it is echoed; or 1Ah where the input has ended.
+-- A key was taken: the next input byte, which was written where it is echoed; or 1Ah where the input has ended.
 pub data TakesKey (echo : Bool) (left taken left_now taken_now : Option (List ℕ)) : ℕ → Type 0 where
   next_byte : {byte : ℕ} → left ≡ prepend_told (taken_by (key_events echo byte)) left_now →
       taken_now ≡ append_told taken (written_by (key_events echo byte)) →
@@ -35,7 +35,7 @@ pub record IsUntaken (left taken left_now taken_now : Option (List ℕ)) : Type 
   pub same_left : left_now ≡ left
   pub same_taken : taken_now ≡ taken
 
--- what a fault leaves
+-- what is left of input and output where a fault refused the key
 abbrev pub IsRefusedKey : Bool → Option (List ℕ) → Option (List ℕ) → Option (List ℕ) → Option (List ℕ) → Fault → Type 0
 IsRefusedKey echo left taken left_now taken_now Input = IsUntaken left taken left_now taken_now
 IsRefusedKey echo left taken left_now taken_now Output = IsCutKey echo left taken left_now taken_now

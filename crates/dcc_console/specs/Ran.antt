@@ -10,7 +10,7 @@ TakesInput console s =
     (byte : ℕ) (rest : List ℕ) → console.left (console.system.step (console.with_left (byte ∷ rest) s)) ≡ rest
 
 module _ {S : Type 0} (subject : Subject S) (steps : ℕ) (left : Option (List ℕ)) (output : List ℕ) where
-  -- the run on the input puts out these bytes in so many steps, leaves this input, and has ended so
+  -- the run on the input puts out these bytes in a number of steps, leaves this input, and has ended so
   pub record HasRun (end : End) (input : List ℕ) : Type 0 where
     pub output_is : output ≡ output_after subject steps input
     pub left_is : left ≡ Some (subject.console.left (state_after subject steps input))

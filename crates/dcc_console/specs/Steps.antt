@@ -86,14 +86,14 @@ module _ {W C S : Type 0} (executor : Executor W C S) where
     pub reached : IsBefore before
     pub made : Makes before now
 
-  -- so many steps were made, one after another, whatever the input and the output tell
+  -- a number of steps were made one after another, whatever the input and the output tell
   unfoldable pub MakesEach : ℕ → Scene C → Scene C → Type 0
   MakesEach zero before now = now ≡ before
   MakesEach (suc count) before now = StepsFrom (MakesEach count before) now
 
-  -- So many steps were made, one after another, and this has happened. Where the input tells what is left, they are one
-  -- run: from each state that the code stood for, with just the bytes to read that the input gave, so many steps lead
-  -- to a state that the code stands for now, at whose console just these events have joined.
+  -- A number of steps were made one after another, and these events have happened. Where the input tells what is left,
+  -- the steps are one run: from each state that the code stood for, with just the bytes to read that the input gave,
+  -- they lead to a state that the code stands for now, at whose console just these events have joined.
   pub record MakesSteps (count : ℕ) (before now : Scene C) : Type 0 where
     pub each : MakesEach count before now
     pub happened : List Event
@@ -103,7 +103,7 @@ module _ {W C S : Type 0} (executor : Executor W C S) where
         left_in executor w s ≡ taken_by happened ++ rest →
         Comes w now.code rest (events_in executor w s ++ happened) (after (step_in executor w) count s)
 
-  -- fewer steps than these were made, and the next one came out so
+  -- fewer than `most` steps were made, and the next one came out so
   pub record StopsShort (outcome : Outcome) (most : ℕ) (before now : Scene C) : Type 0 where
     pub count : ℕ
     pub short : count < most
@@ -111,8 +111,8 @@ module _ {W C S : Type 0} (executor : Executor W C S) where
     pub made : MakesSteps count before stop
     pub refused : Steps outcome stop now
 
-  -- What a run of at most so many steps leaves, by how it came out. A run that has ended stays, so it counts as one of
-  -- just so many steps.
+  -- What a run of at most `most` steps leaves, by how it came out. A run that has ended stays, so it counts as one of
+  -- just `most` steps.
   abbrev pub Runs : ℕ → Outcome → Scene C → Scene C → Type 0
   Runs most made before now = MakesSteps most before now
   Runs most read_failed before now = StopsShort read_failed most before now

@@ -15,6 +15,7 @@ is_no_end byte = not (byte == STRING_END)
 unfoldable pub string_room : List ℕ → ℕ → ℕ → List ℕ
 string_room memory segment start = map (λ k. byte_in memory segment (start + k)) (range_with_len 0 STRING_MOST)
 
--- the string: the bytes from the offset on up to the first `$`, which is not one of them, and at most 65,536
+-- the string at an offset in a segment: the bytes from there on up to the first `$`, which is not one of them, and at
+-- most 65,536
 unfoldable pub string_in : List ℕ → ℕ → ℕ → List ℕ
 string_in memory segment start = take_while is_no_end (string_room memory segment start)

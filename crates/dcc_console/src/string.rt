@@ -21,8 +21,8 @@ const MOST: usize = dos::STRING_MOST as usize;
 // What a byte past the end of memory is read as.
 static PAST_THE_END: [u8; 1] = [0];
 
-// The bytes from an offset in a segment on that memory has in one piece, up to where the offset or the address wraps, and
-// at most so many; past the end of memory one byte.
+// The bytes from an offset in a segment on that memory has in one piece, up to where the offset or the address wraps,
+// and at most `most`; past the end of memory one byte.
 fn stretch(memory: &[u8], segment: u16, at: usize, most: usize) -> &[u8]
     requires { 0 < most }
     ensures some { 0 < length result.now }

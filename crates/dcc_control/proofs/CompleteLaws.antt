@@ -11,7 +11,7 @@ use Rattle.dcc_control.specs.Laws.{CompletePlansNestAlike}
 use Rattle.dcc_control.proofs.WeakerLaws.{follows-still}
 use Rattle.dcc_control.specs.Valid.{Point, Begin, Before, Nowhere, Leads, is_there, begins, goes, stops, Context, outside, item_entry, entry, turn, IsValid, IsValidItem, AreValidArms}
 
--- The same labels and turns.
+-- A completed plan has the labels and the turns of the plan.
 
 item-marks-same : (i : Item) → item_marks (completed_item i) ≡ item_marks i
 item-marks-same (Do b m) = refl
@@ -73,7 +73,7 @@ turns-same (item i (item next plan)) = ap₂ (λ xs ys. xs ++ ys) (item-turns-sa
 begun-same : (plan : Plan) (b : ℕ) → is_begun (completed plan) b ≡ is_begun plan b
 begun-same plan b = ap₂ (λ ms ts. is_in b ms || is_in b ts) (marks-same plan) (turns-same plan)
 
--- The same nesting.
+-- A completed plan nests as deep as the plan.
 
 item-nests-same : (i : Item) → item_nests (completed_item i) ≡ item_nests i
 item-nests-same (Do b m) = refl

@@ -34,7 +34,7 @@ with-jumps = refl
 choice : target_arms (3 ∷ 5 ∷ 3 ∷ []) (distinct (3 ∷ 5 ∷ 3 ∷ [])) ≡ arm (0 ∷ 2 ∷ []) (jump 3) (arm (1 ∷ []) (jump 5) no_arms)
 choice = refl
 
--- the same graph with a loop
+-- a plan of the graph with a loop
 abbrev loops : Plan
 loops = item (Do 0 0) (item (For 1 (item (Do 1 0) (item (If 1 no_items (item Break no_items)) no_items))) (item (Do 2 0) no_items))
 

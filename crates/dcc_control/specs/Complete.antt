@@ -25,7 +25,7 @@ completed no_items = no_items
 completed (item i no_items) = item (completed_item i) (after_last i)
 completed (item i (item next plan)) = item (completed_item i) (completed (item next plan))
 
--- it is a plan of the same graphs, and its text has a step where the other's has
+-- a completed plan is a plan of the same graphs, and its text has a step where the plan's text has one
 abbrev pub CompletePlansAreValid : Type 0
 CompletePlansAreValid = (graph : inner.Graph) (plan : Plan) → IsPlanOf graph plan
     → IsPlanOf graph (completed plan) × (BeginsAll graph plan → BeginsAll graph (completed plan))

@@ -70,8 +70,8 @@ abbrev pub turn : ℕ → Plan → Point
 turn b (item (Mark a) plan) = if a == b then Begin b else Before b 0
 turn b _ = Before b 0
 
--- From each item of a plan the graph leads to what follows the item, and each jump has its label: `begun` tells for which
--- blocks the text has a step where they begin, `marked` which blocks have a label.
+-- From each item of a plan the graph leads to what follows the item, and each jump has its label: `begun` tells for
+-- which blocks the text has a step where they begin, `marked` which blocks have a label.
 module _ (graph : inner.Graph) (begun marked : ℕ → Bool) where
   abbrev mutual
     pub IsValidBy : Plan → Context → Type 0

@@ -29,8 +29,8 @@ pub enum Item {
 #[derive(Drop)]
 #[cycle(plan)]
 pub struct Arm {
-    /// Its cases.
+    /// The numbers for which the choice goes to the arm.
     pub cases: Vec<u16>,
-    /// What stands in it.
+    /// The items that stand in the arm.
     pub body: Vec<Item>,
 }

@@ -104,7 +104,7 @@ module _ (globals : List Bound) (m : Moment) (dos : DosCall) (target : Option Pl
   call_goes v is =
       call.is ∙ goes_further (arguments_of (scope_of tree s) (dos_signature (dos_call dos)).params call.exprs) (typed v ∷ []) line s _ (is tree points s call.exprs call.globals_are call.state call.stand)
 
-  -- its result is wanted, and there is none
+  -- a call whose result is wanted, and that gives none, is stuck
   pub result_missed : (v : Held) → IsArgument globals m dos arguments (Ok v) → is_some target ≡ true → IsEnded s now (Stuck line)
   result_missed v is some = by target some (call_goes v is)
     where
@@ -113,7 +113,7 @@ module _ (globals : List Bound) (m : Moment) (dos : DosCall) (target : Option Pl
       by (Some to) some step =
           subst (λ (t : State). IsEnded s t (Stuck line)) (sym (step ∙ no_result dos _ (typed v) line s)) (record { is = refl; quiet = record { input = refl; events = refl } })
 
-  -- its result is not wanted
+  -- a call whose result is not wanted is made
   pub call_made : (v : Held) → IsArgument globals m dos arguments (Ok v) → is_some target ≡ false → now ≡ dos_step (dos_call dos) None (typed v ∷ []) line s
   call_made v is none = by target none (call_goes v is)
     where

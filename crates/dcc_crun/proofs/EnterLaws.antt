@@ -34,7 +34,7 @@ pub record Enters (m now : Moment) (number next base : ℕ) (procedure : Procedu
   pub fill : now.fill ≡ m.fill
   pub end : now.end ≡ m.end
 
--- and it is the call of the text
+-- what the interpreter does at a call is the call of the text
 pub entered : (tree : Tree) (points : ℕ → List Continuation) (m now : Moment) (s : State) (number next base depth : ℕ) (f : Function)
     (procedure : Procedure) (target : Option Place) (arguments : List Held) →
     Enters m now number next base procedure target arguments → base ≡ below m.call.base depth →

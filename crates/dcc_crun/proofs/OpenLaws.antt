@@ -38,7 +38,7 @@ pub record Opens (tree : Tree) (m : Moment) (procedure : Procedure) (fill : ℕ)
   pub memory : m.memory.items ≡ first_memory tree fill
   pub end : m.end ≡ Running
 
--- and it is the start of the text
+-- what the interpreter does at the start is the start of the text
 pub opened : (tree : Tree) (points : ℕ → List Continuation) (program : Program) (m : Moment) (procedure : Procedure) (fill : ℕ)
     (start : Function) (others : List Function) (input : List ℕ) → IsProgram tree points program → Opens tree m procedure fill →
     slice_get program.procedures.items 0 ≡ Some procedure → tree.functions ≡ start ∷ others → start.params ≡ [] →

@@ -230,7 +230,7 @@ same_faults (Ok a) stop is counts = absurd is
 same_faults {reads} {reads_now} {writes} {writes_now} (Err y) stop is counts =
     subst (λ (x : Stop). let e : Result (Unit {0}) Stop = Err x in Counts e reads reads_now writes writes_now) (sym is) counts
 
--- and as a refusal
+-- a stop that is passed on as a refusal tells its faults
 pub refused_faults : {reads reads_now writes writes_now : ℕ} (stop : Stop) (fault : Refusal) → stop ≡ Refused fault →
     Counts {A = Unit {0}} (Err stop) reads reads_now writes writes_now →
     CountsFaults (IsErrOf {T = Unit {0}} (Err fault) Input) (IsErrOf {T = Unit {0}} (Err fault) Output) reads reads_now writes writes_now

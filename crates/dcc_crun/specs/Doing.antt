@@ -39,7 +39,7 @@ use Rattle.dcc_console.specs.Scene.{told_bytes}
 abbrev pub scene_in : Moment → List Bound → Scene
 scene_in m globals = record { frame = m.call.variables.items; globals = globals; memory = m.memory.items }
 
--- these are the global variables of the text
+-- the bound variables are the global variables of the text
 abbrev pub AreGlobals : Tree → List Bound → Type 0
 AreGlobals tree globals = bindings_named (map declared_global tree.globals) globals ≡ map global_binding tree.globals
 
@@ -68,7 +68,7 @@ pub record IsLed (tree : Tree) (points : ℕ → List Continuation) (m : Moment)
   pub going : IsGoing tree points m now
   pub quiet : IsQuiet s now
 
--- the run has ended so
+-- the run has ended with the given end, and nothing was read or written
 pub record IsEnded (s now : State) (end : End) : Type 0 where
   pub is : now.end ≡ end
   pub quiet : IsQuiet s now
@@ -123,9 +123,9 @@ ArgumentsAre (Err (Refused fault)) o = fault ≡ Memory
 abbrev pub Operation : Type 1
 Operation = Tree → (ℕ → List Continuation) → State → State → Type 0
 
--- The operation was made, and this has happened: the input gave what these events take, and the output took what they
--- write; and with just those bytes to read the state that the operation leads to is one of these, and just these events
--- have joined the others.
+-- The operation was made, and these events have happened: the input gave what they take, and the output took what they
+-- write; and with just those bytes to read the operation leads to one of the states of `done`, at whose console just
+-- these events have joined.
 pub record Does (op done : Operation) (left taken left_now taken_now : Option (List ℕ)) : Type 0 where
   pub happened : List Event
   pub took : left ≡ prepend_told (taken_by happened) left_now
@@ -155,7 +155,7 @@ pub record CannotGrow (left taken left_now taken_now : Option (List ℕ)) : Type
   pub same_left : left_now ≡ left
   pub same_taken : taken_now ≡ taken
 
--- the operation ends the run so, and reads and writes nothing
+-- the operation ends the run with the given end, and reads and writes nothing
 pub record Halts (op : Operation) (end : End) (left taken left_now taken_now : Option (List ℕ)) : Type 0 where
   pub ends : (tree : Tree) (points : ℕ → List Continuation) (s now : State) → op tree points s now → IsEnded s now end
   pub same_left : left_now ≡ left
@@ -167,7 +167,7 @@ Refuses Input op left taken left_now taken_now = CannotRead op left taken left_n
 Refuses Output op left taken left_now taken_now = CannotWrite op left taken left_now taken_now
 Refuses Memory op left taken left_now taken_now = CannotGrow left taken left_now taken_now
 
--- what an operation comes to, in this line, with what it leaves
+-- what an operation comes to, in the given line, with what it leaves
 abbrev pub ComesTo : {A : Type 0} → ℕ → Result A Stop → Operation → Operation → Option (List ℕ) → Option (List ℕ)
     → Option (List ℕ) → Option (List ℕ) → Type 0
 ComesTo line (Ok _) op done left taken left_now taken_now = Does op done left taken left_now taken_now
@@ -250,7 +250,7 @@ pub record CallsDos (m : Moment) (globals : List Bound) (dos : DosCall) (target 
   pub is : now ≡ on (arguments_of (scope_of tree s) (dos_signature (dos_call dos)).params exprs) line s
       (λ vs. dos_step (dos_call dos) (option_map (target_named (locals_declared s.frame.function)) target) vs line s)
 
--- the arguments of a call of a DOS function come to this, where it takes one
+-- the arguments of a call of a DOS function come to the result, if the function takes one
 abbrev pub IsArgument : List Bound → Moment → DosCall → List Resolved → Result Held NoValue → Type 0
 IsArgument globals m dos arguments r =
     (tree : Tree) (points : ℕ → List Continuation) (s : State) (es : List Expr) → AreGlobals tree globals →

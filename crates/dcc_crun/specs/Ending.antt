@@ -22,7 +22,7 @@ end_of (Exit code) = exited code
 end_of Divide = divided
 end_of (Stuck line) = stuck line
 
--- what a step answers whose run has ended so, or goes on
+-- what a step answers where the run has ended, or goes on
 abbrev pub answer_of : Ending → CStepped
 answer_of Running = still_running
 answer_of (Exit code) = exit_answered code

@@ -30,14 +30,14 @@ abbrev pub IsTargetIf : List Declared → Option Target → Type 0
 IsTargetIf names None = Unit {0}
 IsTargetIf names (Some target) = IsTargetIn names target
 
--- the call waits, and wants its result there
+-- a call of the code stands for one of the text that waits, and wants its result at the same place
 pub record IsWaiting (tree : Tree) (points : ℕ → List Continuation) (w : Waiting) (waiting : WaitingCall) : Type 0 where
   pub call : IsCallOf tree w.call waiting.frame
   pub rest : Goes tree (points w.call.procedure) w.call.at waiting.rest
   pub target : option_map (target_named (locals_declared waiting.frame.function)) w.target ≡ waiting.target
   pub lands : IsTargetIf (locals_declared waiting.frame.function) w.target
 
--- the last of the list waits as the first of the calls, and the others as the others
+-- the calls of the code that wait stand for those of the text: the last of the list for the newest
 abbrev pub AreWaiting : Tree → (ℕ → List Continuation) → List Waiting → List WaitingCall → Type 0
 AreWaiting tree points ws [] = ws ≡ []
 AreWaiting tree points ws (call ∷ waiting) =
@@ -46,7 +46,7 @@ AreWaiting tree points ws (call ∷ waiting) =
 
 -- States.
 
--- all but how the text goes on
+-- a moment of the code stands for a state of a text's run, but for how the text goes on
 pub record IsRunning (tree : Tree) (points : ℕ → List Continuation) (m : Moment) (s : State) : Type 0 where
   pub call : IsCallOf tree m.call s.frame
   pub waiting : AreWaiting tree points m.waiting.items s.waiting
@@ -54,12 +54,12 @@ pub record IsRunning (tree : Tree) (points : ℕ → List Continuation) (m : Mom
   pub memory : m.memory.items ≡ s.memory
   pub end : end_of m.end ≡ s.end
 
--- a run that is not over
+-- a moment stands for a state of a run that is not over
 pub record IsGoing (tree : Tree) (points : ℕ → List Continuation) (m : Moment) (s : State) : Type 0 where
   pub state : IsRunning tree points m s
   pub rest : Goes tree (points m.call.procedure) m.call.at s.rest
 
--- of a run that is over only its end counts
+-- a moment stands for a state of a run; of a run that is over only its end counts
 pub record IsMoment (tree : Tree) (points : ℕ → List Continuation) (m : Moment) (s : State) : Type 0 where
   pub end : end_of m.end ≡ s.end
   pub going : s.end ≡ running → IsGoing tree points m s

@@ -21,7 +21,7 @@ console_of tree = record {
 abbrev pub texts : Executor Tree CRun State
 texts = record { console = console_of; stands = StandsAt }
 
--- how a step or a run came out that answers so
+-- how a step or a run came out, by its answer
 abbrev pub outcome_of : CStepped → Outcome
 outcome_of Running = made
 outcome_of (Exit code) = made
@@ -31,7 +31,7 @@ outcome_of InFault = read_failed
 outcome_of OutFault = write_failed
 outcome_of Memory = no_memory
 
--- how the run has ended where a step or a run answers so
+-- how the run has ended, by the answer of a step or a run
 abbrev pub end_told : CStepped → End
 end_told Running = running
 end_told (Exit code) = exited code

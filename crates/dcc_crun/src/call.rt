@@ -6,13 +6,13 @@ use dcc_value::variable::Binding;
 /// A call: its function, the point where it goes on, its base, and its parameters and local variables.
 #[derive(Drop)]
 pub struct Call {
-    /// The number of its function.
+    /// The number of the function.
     pub procedure: usize,
-    /// The point.
+    /// The point where the call goes on.
     pub at: usize,
-    /// The base.
+    /// The base of the call: an address.
     pub base: u16,
-    /// Its parameters, and then its local variables.
+    /// The parameters of the function, and then its local variables.
     pub variables: Vec<Binding>,
 }
 
@@ -21,6 +21,6 @@ pub struct Call {
 pub struct Waiting {
     /// The call that waits.
     pub call: Call,
-    /// Where it wants the result.
+    /// Where the waiting call wants the result.
     pub target: Option<Target>,
 }

@@ -31,11 +31,11 @@ pub enum CStepped {
 pub enum Ending {
     /// The run goes on.
     Running,
-    /// With this exit code.
+    /// The run has ended with this exit code.
     Exit(u8),
-    /// By a division that has no quotient.
+    /// The run has ended by a division that has no quotient.
     Divide,
-    /// In this line, at a statement or a closing brace that has no step.
+    /// The run has ended in this line, at a statement or a closing brace that has no step.
     Stuck(u32),
 }
 
@@ -55,9 +55,9 @@ pub(crate) enum Refusal {
 pub(crate) enum Stop {
     /// A division has no quotient.
     Divides,
-    /// It has no meaning.
+    /// What the statement does has no meaning.
     Undefined,
-    /// It is refused.
+    /// What the statement does is refused.
     Refused(Refusal),
 }
 

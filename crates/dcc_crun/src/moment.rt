@@ -40,7 +40,7 @@ pub struct Moment {
     pub waiting: Vec<Waiting>,
     /// What variables hold before they have a value.
     pub fill: u16,
-    /// 65,536 bytes.
+    /// The memory, of 65,536 bytes.
     pub memory: Vec<u8>,
     /// How the run has ended, if it has.
     pub end: Ending,
@@ -68,7 +68,7 @@ fn case_or(case: &Case, n: u16, otherwise: usize) -> usize
     }
 }
 
-// Whether the value is one of these.
+// Whether the value is one of the list.
 fn has_value(values: &[u16], n: u16) -> bool
     ensures { result ≡ list_any (λ v. v == n) values.now }
 {
@@ -144,7 +144,7 @@ fn write_stop(written: Result<(), Failed>) -> Result<(), Stop>
     }
 }
 
-// Where the result goes, where it goes anywhere.
+// Where the result of a call goes, if it goes anywhere.
 fn result_target(scene: &Scene<'_>, place: &Option<Resolved>) -> Result<Option<Target>, NoValue>
     ensures value { (names : Names) (e : Option Expr) → StandsIf names e place.now → Fits names (scene_of scene.now) →
         outcome_of (option_map (target_named names.locals)) result
@@ -170,7 +170,7 @@ impl Moment {
         }
     }
 
-    // The target takes the value, converted to its type.
+    // Gives the target the value, converted to its type.
     fn take(&mut self, target: Target, v: Value)
         ensures state { (tree : Tree) (points : ℕ → List Continuation) (s : State) → IsRunning tree points self.old s →
             IsTargetIn (locals_declared s.frame.function) target →
@@ -181,7 +181,7 @@ impl Moment {
         take(target, v, &mut self.call.variables, &mut self.memory);
     }
 
-    // The place takes the value of the expression.
+    // Gives the place the value of the expression.
     fn assign(&mut self, globals: &[Binding], place: &Resolved, e: &Resolved) -> Result<(), NoValue>
         ensures state { (tree : Tree) (points : ℕ → List Continuation) (s : State) (place_expr expr : Expr) (line : ℕ) →
             AreGlobals tree globals.now → IsRunning tree points self.old s →
@@ -228,7 +228,7 @@ impl Moment {
         Ok(if is_zero(v) { no } else { yes })
     }
 
-    // The waiting call takes the result, where it wants one.
+    // Gives the waiting call the result, if it wants one.
     fn take_result(&mut self, target: Option<Target>, v: Option<Value>) -> Result<(), NoValue>
         ensures state { (tree : Tree) (points : ℕ → List Continuation) (s : State) (line : ℕ) →
             IsRunning tree points self.old s →
@@ -248,7 +248,7 @@ impl Moment {
         }
     }
 
-    // The newest of the waiting calls goes on.
+    // Goes on with the newest of the waiting calls.
     fn go_back(&mut self, v: Option<Value>) -> Result<(), NoValue>
         ensures { (tree : Tree) (points : ℕ → List Continuation) (s : State) (line : ℕ) →
             IsRunning tree points self.old s →
@@ -262,7 +262,7 @@ impl Moment {
         self.take_result(target, v)
     }
 
-    // The closing brace.
+    // Executes the closing brace of a function.
     fn close(&mut self, procedure: &Procedure) -> Result<(), NoValue>
         ensures { (tree : Tree) (points : ℕ → List Continuation) (s : State) (line : ℕ) →
             IsRunning tree points self.old s →
@@ -275,7 +275,7 @@ impl Moment {
         self.go_back(None)
     }
 
-    // A `return`, with a value where there is one, which becomes one of the function's result.
+    // Executes a `return`, with a value where there is one, which becomes one of the function's result.
     fn give(
         &mut self,
         globals: &[Binding],
@@ -301,7 +301,7 @@ impl Moment {
         self.go_back(Some(converted(ty, v)))
     }
 
-    // A function's body begins, and its caller waits.
+    // Begins a function's body, whose caller waits.
     fn enter(
         &mut self,
         alloc: Global,
@@ -342,7 +342,7 @@ impl Moment {
         Ok(())
     }
 
-    // The waiting call takes a key, where it wants one.
+    // Gives the running call a key, if it wants one.
     fn take_byte(&mut self, target: Option<Target>, byte: u8)
         ensures state { (tree : Tree) (points : ℕ → List Continuation) (s : State) (line : ℕ) →
             IsRunning tree points self.old s →
@@ -357,7 +357,7 @@ impl Moment {
         }
     }
 
-    // A DOS call that takes a key.
+    // Makes a DOS call that takes a key.
     fn key<I: Source, O: Sink>(
         &mut self,
         echo: bool,
@@ -395,7 +395,7 @@ impl Moment {
         Ok(v)
     }
 
-    // A DOS call.
+    // Makes a DOS call.
     fn dos<I: Source, O: Sink>(
         &mut self,
         globals: &[Binding],
@@ -433,7 +433,7 @@ impl Moment {
         }
     }
 
-    // A call of a function of the text.
+    // Makes a call of a function of the text.
     fn call_function(
         &mut self,
         alloc: Global,
@@ -463,7 +463,7 @@ impl Moment {
         Ok(())
     }
 
-    // A call.
+    // Makes a call.
     fn call<I: Source, O: Sink>(
         &mut self,
         alloc: Global,
@@ -490,7 +490,7 @@ impl Moment {
         }
     }
 
-    // What reads and writes nothing.
+    // Performs an action that reads and writes nothing.
     fn act(
         &mut self,
         program: &Program,
@@ -521,7 +521,7 @@ impl Moment {
         Ok(())
     }
 
-    // What stands at a point of a function.
+    // Performs what stands at a point of a function.
     fn perform<I: Source, O: Sink>(
         &mut self,
         alloc: Global,
@@ -544,7 +544,7 @@ impl Moment {
         }
     }
 
-    /// One step of a run that is not over.
+    /// Makes one step of a run that is not over.
     pub(crate) fn advance<I: Source, O: Sink>(
         &mut self,
         alloc: Global,

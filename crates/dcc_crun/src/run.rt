@@ -63,7 +63,7 @@ impl CRun {
         Ok(CRun { program, moment })
     }
 
-    /// One step. A run that is over answers its end again and changes nothing.
+    /// Makes one step. A run that is over answers its end again and changes nothing.
     pub fn step<I: Source, O: Sink>(
         &mut self,
         alloc: Global,
@@ -90,7 +90,7 @@ impl CRun {
         }
     }
 
-    /// Makes steps until one answers something else than Running, at most so many. After a fault the steps before the
+    /// Makes steps until one answers something else than Running, at most `most`. After a fault the steps before the
     /// one that failed stay made.
     pub fn run<I: Source, O: Sink>(
         &mut self,

@@ -9,11 +9,11 @@ use dcc_c::CType;
 /// What a name is declared as.
 #[derive(Clone, Copy)]
 pub struct Declared {
-    /// Its type, or that of its elements where it is an array.
+    /// The type of the name, or of its elements where it is an array.
     pub ty: CType,
-    /// Whether it is an array.
+    /// Whether the name is that of an array.
     pub is_array: bool,
-    /// Whether it has an address.
+    /// Whether the name has an address.
     pub is_placed: bool,
 }
 

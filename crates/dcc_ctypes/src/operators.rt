@@ -7,7 +7,7 @@ ghost use Rattle.dcc_c.specs.Offences.{is_pointer, is_switch_type};
 
 use dcc_c::{Base, CBin, CType, CUn};
 
-/// Whether the type is known, and that of an address.
+/// Whether the type is known to be that of an address.
 pub fn is_pointer(ty: Option<CType>) -> bool
     ensures { result ≡ is_pointer ty }
 {

@@ -196,9 +196,9 @@ enter_some at (a ∷ b ∷ c ∷ rest) l f g e =
 
 pub ruleset enter_rules = (enter_earlier, enter_short, enter_other, enter_some)
 
--- The other instructions -------------------------------------------------------------------------------
+-- Instructions that begin with another byte than 2Eh, C8h and CDh -----------------------------------------
 
--- a row that begins with another byte than these three has an opcode and a ModRM byte at most
+-- a row that begins with another byte than 2Eh, C8h and CDh has an opcode and a ModRM byte at most
 opcode_row :
     (cpu : Cpu) (b : ℕ) (bytes : List ℕ) (row : Row) → b < 256 → b ≢ 0x2e → b ≢ 0xc8 → b ≢ 0xcd → IsRow cpu row
     → fits row.pattern (b ∷ bytes) ≡ true → IsOpcodeRow row
@@ -283,7 +283,7 @@ decode-operation cpu at b bytes fields op l n o m reads fitting first some =
           ∙ ap Some (instr_same _ op _ fields.len (ap row.operation (sym same.0) ∙ found.3) (sym same.1))
     ]
 
--- The same of the bytes as a whole ---------------------------------------------------------------------
+-- Decoding of the bytes as a whole ---------------------------------------------------------------------
 
 pub nothing : (cpu : Cpu) (at : ℕ) (bytes : List ℕ) → length bytes ≡ 0 → instruction_at cpu at bytes ≡ None
 unfolding instruction_at table

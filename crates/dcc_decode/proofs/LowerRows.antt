@@ -54,7 +54,8 @@ find-long (row ∷ rows) a b h = rw (fits-long row.pattern a b (and_left _ _ h))
 abbrev pub empty : List Row → List BytePattern → Bool
 empty rows form = list_all (λ row. nat_lt 2 (length row.pattern)) (rows_within form rows)
 
--- then no row fits an opcode and a ModRM byte of that form
+-- where each row that bytes of a form may fit has more than two bytes, no row fits an opcode and a ModRM byte of that
+-- form
 pub no_row_fits :
     (rows : List Row) (form : List BytePattern) (a b : ℕ) → empty rows form ≡ true → fits form (a ∷ b ∷ []) ≡ true
     → find (λ row. fits row.pattern (a ∷ b ∷ [])) rows ≡ None

@@ -33,7 +33,7 @@ fits-two (p ∷ []) x y xs l h = h
 fits-two (p ∷ q ∷ []) x y xs l h = h
 fits-two (p ∷ q ∷ r ∷ ps) x y xs l h = absurd (omega arith)
 
--- and one byte is not enough for them
+-- one byte is not enough for two patterns
 fits-short : (ps : List BytePattern) (x : ℕ) → length ps ≡ 2 → fits ps (x ∷ []) ≡ true → ⊥
 fits-short [] x l h = omega arith
 fits-short (p ∷ []) x l h = omega arith

@@ -11,14 +11,14 @@ use Rattle.dcc_decode.specs.declared.fields.Constant.{Constant}
 use Rattle.dcc_decode.specs.declared.fields.Constant.TheVariants.{Absent, Byte, Word, SignedByte}
 use Rattle.dcc_decode.specs.declared.fields.Fields.{Fields}
 
--- the form of a constant, as the table has it
+-- a constant of the code as a form of the table
 abbrev pub form_of : Constant → ConstantForm
 form_of Absent = no_constant
 form_of Byte = byte_constant
 form_of Word = word_constant
 form_of SignedByte = signed_constant
 
--- the fields, as the parts from which the table makes an operation
+-- the fields of the code as the parts from which the table makes an operation
 abbrev pub parts_of : Fields → Parts
 parts_of fields = record {
   opcode = fields.opcode;

@@ -14,13 +14,13 @@ use dcc_prog::{Ea, Operand};
 /// Which constant ends an instruction.
 #[derive(Clone, Copy, PartialEq, Eq, Debug)]
 pub enum Constant {
-    /// None.
+    /// The instruction has no constant.
     Absent,
-    /// A byte.
+    /// The constant is a byte.
     Byte,
-    /// A word, low byte first.
+    /// The constant is a word, low byte first.
     Word,
-    /// A byte, sign-extended to a word.
+    /// The constant is a byte, sign-extended to a word.
     SignedByte,
 }
 
@@ -123,7 +123,7 @@ impl Fields {
         }
     }
 
-    /// The other one.
+    /// Of the operands r/m and r, the one that bit 1 of the opcode makes the source.
     pub fn source(self) -> Operand
         ensures { result ≡ source (parts_of self) }
     {

@@ -51,7 +51,8 @@ fn instruction_in(window: &[u8], at: u16, cpu: Cpu) -> Option<Instr>
     }
 }
 
-// An instruction other than these three, whose first bytes are its opcode and its ModRM byte.
+// An instruction other than INT 21h, the jump through a table and ENTER, whose first bytes are its opcode and its
+// ModRM byte.
 #[tactic(auto, using(crate::proofs::Decoding::field_rules))]
 fn decode_fields(bytes: &[u8], at: u16, cpu: Cpu) -> Option<Instr>
     requires some { 0 < length bytes.now }

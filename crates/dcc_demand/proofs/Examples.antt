@@ -109,7 +109,7 @@ saving_action callee three = record ret { callee = callee }
 saving_action callee four = pop_si
 saving_action callee spot = ret
 
--- each procedure is this one
+-- procedures that are all the same: each saves SI, changes it, may call, and takes it back
 abbrev saving : Option ℕ → Procedures Spot Register Stacked
 saving callee = record {
   procedure = λ i. record {

@@ -43,7 +43,7 @@ module _ {Point Location Word : Type 0} (p : Procedures Point Location Word) whe
     lost_tells (MayHaveLost.popped_unsaved {a = a} edge e u) = let found = unsaved_tells u in (a ∷ found.0, IsTrail.goes_on found.1 edge.goes, Loses.popped_unsaved e found.2)
     lost_tells (MayHaveLost.left {a = a} edge e lost) = let found = lost_tells lost in (a ∷ found.0, IsTrail.goes_on found.1 edge.goes, Loses.left e found.2)
 
-  -- And what a trail does has spread along it.
+  -- What a trail does has spread along it.
 
   call_spreads : (callee : Option ℕ) (l : Location) → CallChanges (MayChange p) callee l → (j : ℕ) × (callee ≡ Some j) × MayChange p j l
   call_spreads (Some j) l c = (j, refl, c)

@@ -8,7 +8,7 @@ use Rattle.dcc_demand.specs.Trail.{IsTrail}
 -- What the passed points of a trail do to a location, where calls change what is in the family.
 module _ {Point Location Word : Type 0} (changed : ChangeFamily Location) (procedure : Procedure Point Location Word)
     (location : Location) where
-  -- one of the points writes it
+  -- one of the points writes the location
   pub data IsWritten : List Point → Type 0 where
     by_point : {a : Point} {passed : List Point} → is_left ((procedure.action a).effect location) ≡ false
         → IsWritten (a ∷ passed)
@@ -16,8 +16,9 @@ module _ {Point Location Word : Type 0} (changed : ChangeFamily Location) (proce
         → IsWritten (a ∷ passed)
     before : {a : Point} {passed : List Point} → IsWritten passed → IsWritten (a ∷ passed)
 
-  -- The word's last writer didn't push it from before its first writer: nothing has written the word, or the last to
-  -- do so wrote it otherwise, or pushed another location, or this one when it was written already.
+  -- The word doesn't hold what the location held at the begin, as its last writer didn't push the location from before
+  -- its first writer: nothing has written the word, or the last to do so wrote it otherwise, or pushed another
+  -- location, or pushed this one when it was written already.
   pub data IsUnsaved (word : Word) : List Point → Type 0 where
     unpushed : IsUnsaved word []
     overwritten : {a : Point} {passed : List Point} → (procedure.action a).word_effect word ≡ Overwrites
@@ -29,7 +30,7 @@ module _ {Point Location Word : Type 0} (changed : ChangeFamily Location) (proce
     kept : {a : Point} {passed : List Point} → (procedure.action a).word_effect word ≡ LeavesWord
         → IsUnsaved word passed → IsUnsaved word (a ∷ passed)
 
-  -- the points write it and don't save it: its last writer is no POP from a private word that holds it saved
+  -- the points write the location and don't save it: its last writer is no POP from a private word that holds it saved
   pub data Loses : List Point → Type 0 where
     in_call : {a : Point} {passed : List Point} → CallChanges changed (procedure.action a).callee location
         → Loses (a ∷ passed)
@@ -44,7 +45,8 @@ module _ {Point Location Word : Type 0} (changed : ChangeFamily Location) (proce
         → Loses (a ∷ passed)
 
 module _ {Point Location Word : Type 0} (p : Procedures Point Location Word) where
-  -- where calls change this, some trail to a return loses the location, which passes between procedures
+  -- where calls change what is in the family, some trail to a return loses the location, which passes between
+  -- procedures
   pub record IsLost (changed : ChangeFamily Location) (i : ℕ) (location : Location) : Type 0 where
     pub passes : p.passes location ≡ true
     pub passed : List Point
@@ -53,19 +55,20 @@ module _ {Point Location Word : Type 0} (p : Procedures Point Location Word) whe
     pub returns : (p.procedure i).returns at ≡ true
     pub loses : Loses changed (p.procedure i) location passed
 
-  -- what trails lose by calls that stand in one another to less than this depth
+  -- what trails lose by calls that stand in one another to less than the given depth
   abbrev pub ChangesWithin : ℕ → ChangeFamily Location
   ChangesWithin zero = λ i location. ⊥
   ChangesWithin (suc depth) = λ i location. IsLost (ChangesWithin depth) i location
 
-  -- the procedure with this number changes the location: the least family that has what it makes trails lose
+  -- The procedure with this number changes the location: what trails lose, by calls to some depth. This is the least
+  -- family that has what trails lose where calls change what is in it.
   abbrev pub Changes : ChangeFamily Location
   Changes i location = (depth : ℕ) × ChangesWithin depth i location
 
-  -- the family has what it makes trails lose
+  -- the family has what trails lose where calls change what is in it
   abbrev pub IsClosedUnderLoss : ChangeFamily Location → Type 0
   IsClosedUnderLoss changed = (i : ℕ) (location : Location) → IsLost changed i location → changed i location
 
-  -- what the procedure leaves as it was
+  -- the procedure leaves the location as it was
   abbrev pub IsPreserved : ℕ → Location → Type 0
   IsPreserved i location = (p.passes location ≡ true) × ¬ Changes i location

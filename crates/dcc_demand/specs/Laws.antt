@@ -24,19 +24,19 @@ IsWithin {Location} less more = (i : ℕ) (location : Location) → less i locat
 module _ {Point Location Word : Type 0} (p : Procedures Point Location Word) where
   -- What is changed.
 
-  -- what trails lose by what is changed is changed
+  -- what trails lose where calls change what procedures change, procedures change
   abbrev pub ChangesAreClosed : Type 0
   ChangesAreClosed = IsClosedUnderLoss p (Changes p)
 
-  -- each such family has all that is changed
+  -- a family that has what trails lose where calls change what is in it has all that procedures change
   abbrev pub HasAllChanges : ChangeFamily Location → Type 0
   HasAllChanges changed = IsClosedUnderLoss p changed → IsWithin (Changes p) changed
 
-  -- where calls change more, no less is lost
+  -- where calls change more, trails lose no less
   abbrev pub LossIsMonotone : ChangeFamily Location → ChangeFamily Location → Type 0
   LossIsMonotone less more = IsWithin less more → IsWithin (IsLost p less) (IsLost p more)
 
-  -- these other procedures, whose points do the same, have the trails that these have, and perhaps more
+  -- other procedures, whose points do the same, have the trails that the given ones have, and perhaps more
   pub record HasMoreTrails (more : Procedures Point Location Word) : Type 0 where
     pub passes : (location : Location) → p.passes location ≡ true → more.passes location ≡ true
     pub action : (i : ℕ) (a : Point) → (more.procedure i).action a ≡ (p.procedure i).action a
@@ -67,7 +67,8 @@ module _ {Point Location Word : Type 0} (p : Procedures Point Location Word) whe
       → Saves changed (p.procedure i) location passed → Holds changed (p.procedure i) location passed location
 
   -- At the end of each trail to a return a location that the procedure leaves as it was holds what it held at the
-  -- begin. So where some location that passes doesn't, the procedure changes it, if that can be told at all.
+  -- begin. Where a location that passes doesn't hold that, the procedure changes it, if it can be told at all what is
+  -- changed.
   pub record PreservedIsHeld : Type 0 where
     pub held : AreDecided Location → (i : ℕ) (location : Location) (passed : List Point) (at : Point)
         → IsTrail (p.procedure i) passed at → (p.procedure i).returns at ≡ true → IsPreserved p i location
@@ -83,13 +84,14 @@ module _ {Point Location Word : Type 0} (p : Procedures Point Location Word) whe
   abbrev pub WantedIsClosed : Type 0
   WantedIsClosed = IsClosedUnderDemand p (Changes p) (Wanted p)
 
-  -- each such family has all that is wanted
+  -- a family that is closed under demand has all that is wanted
   abbrev pub HasAllWanted : WantedFamily Point Location → Type 0
   HasAllWanted wanted = IsClosedUnderDemand p (Changes p) wanted → (i : ℕ) (a : Point) (location : Location)
       → Wanted p i a location → wanted i a location
 
-  -- What is wanted after a call is given back by its procedure, if that changes it. If not, and if the call itself
-  -- doesn't surely write it, it is wanted before the call; and so is what the procedure takes.
+  -- What is wanted after a call is given back by the called procedure, if that changes it. If not, and if the call
+  -- itself doesn't surely write it, it is wanted before the call; and what the called procedure takes is wanted before
+  -- the call too.
   pub record CallsPassWanted : Type 0 where
     pub gives : (i callee : ℕ) (call after : Point) (location : Location)
         → ((p.procedure i).action call).callee ≡ Some callee → Contains ((p.procedure i).next call) after

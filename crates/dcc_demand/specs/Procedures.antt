@@ -4,7 +4,7 @@
 -- words.
 use Rattle.std.specs.Prelude.{ℕ, Bool, true, false, List, Option, Some, None}
 
--- what a point does to a location: it leaves it, copies that location to it, pops it from that word, or makes its
+-- what a point does to a location: it leaves it, copies another location to it, pops it from a word, or makes its
 -- value in another way
 pub data Effect (Location Word : Type 0) : Type 0 where
   Leaves : Effect Location Word
@@ -12,26 +12,27 @@ pub data Effect (Location Word : Type 0) : Type 0 where
   Pops : Word → Effect Location Word
   Makes : Effect Location Word
 
--- what a point does to a word: it leaves it, pushes that location into it, or writes it in another way
+-- what a point does to a word of the stack: it leaves it, pushes a location into it, or writes it in another way
 pub data WordEffect (Location : Type 0) : Type 0 where
   LeavesWord : WordEffect Location
   Pushes : Location → WordEffect Location
   Overwrites : WordEffect Location
 
--- What a point does, without what the procedure does that it calls. It takes all that it takes from before it.
+-- What a point does, without what a procedure does that it calls. What it takes it takes from before it.
 pub record Action (Location Word : Type 0) : Type 0 where
-  -- what it uses whatever is wanted after it: for a jump, a store, a division, a DOS call, an argument on the stack
+  -- what the point uses whatever is wanted after it: for a jump, a store, a division, a DOS call, an argument on the
+  -- stack
   pub uses : Location → Bool
   pub effect : Location → Effect Location Word
-  -- the value that it gives the first location is made of the second
+  -- the value that the point gives the first location is made of the second
   pub made_of : Location → Location → Bool
-  -- it writes the location in each case
+  -- the point writes the location in each case, as a shift by CL doesn't write a flag
   pub surely : Location → Bool
   pub word_effect : Word → WordEffect Location
   pub callee : Option ℕ
 
--- Edges lead from a point to each of its next ones; what is no point of the procedure has none. A point where it
--- returns does nothing.
+-- A procedure: its entry, its points, and the edges from each point to the next ones; what is no point of the
+-- procedure has no edges. A point where the procedure returns does nothing.
 pub record Procedure (Point Location Word : Type 0) : Type 0 where
   pub entry : Point
   pub next : Point → List Point
@@ -42,8 +43,8 @@ pub record Procedure (Point Location Word : Type 0) : Type 0 where
   -- what may be read anywhere, as the bytes of a cell whose address is taken
   pub is_exposed : Location → Bool
 
--- The procedures by their numbers; one that isn't there has no edges. Some locations pass between them, as registers
--- do; each call has the others for itself.
+-- The procedures of a program by their numbers; a number that none has stands for a procedure without edges. Some
+-- locations pass between procedures, as registers do; each call has the others for itself.
 pub record Procedures (Point Location Word : Type 0) : Type 0 where
   pub procedure : ℕ → Procedure Point Location Word
   pub passes : Location → Bool

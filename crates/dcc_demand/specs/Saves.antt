@@ -1,11 +1,12 @@
--- When the points of a trail save a location that they write; they do where they don't lose it.
+-- When the points of a trail save a location that they write: where they don't lose it.
 use Rattle.std.specs.Prelude.{◌≡◌, true, List, ◌∷◌}
 use Rattle.dcc_demand.specs.Procedures.{Leaves, Pops, LeavesWord, Pushes, Procedure, ChangeFamily, CallChanges}
 use Rattle.dcc_demand.specs.Changes.{IsWritten}
 
 module _ {Point Location Word : Type 0} (changed : ChangeFamily Location) (procedure : Procedure Point Location Word)
     (location : Location) where
-  -- the word's last writer has pushed the location, which no point before had written
+  -- the word holds what the location held at the begin: its last writer has pushed the location, which no point before
+  -- had written
   pub data IsSaved (word : Word) : List Point → Type 0 where
     pushed : {a : Point} {passed : List Point} → (procedure.action a).word_effect word ≡ Pushes location
         → ¬ IsWritten changed procedure location passed → IsSaved word (a ∷ passed)

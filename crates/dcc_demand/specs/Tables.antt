@@ -13,7 +13,7 @@ pub record Tables (Point Location Word : Type 0) : Type 0 where
   pub unsaved : ℕ → Point → Location → Word → Bool
   pub lost : ℕ → Point → Location → Bool
 
--- What is so after a point by its effect, where this is so before it.
+-- What the tables have after a point, by the point's effect and by what they have before it.
 
 abbrev pub written_after : {Location Word : Type 0} → Effect Location Word → Bool → Bool
 written_after Leaves written = written
@@ -41,13 +41,14 @@ TellsApart {Location} same = (x y : Location) → same x y ≡ true → x ≡ y
 abbrev pub changed_in : {Location : Type 0} → (ℕ → Location → Bool) → ChangeFamily Location
 changed_in changed i location = changed i location ≡ true
 
--- the same of what is wanted
+-- the family of what is true in a table of what is wanted
 abbrev pub wanted_in : {Point Location : Type 0} → (ℕ → Point → Location → Bool) → WantedFamily Point Location
 wanted_in wanted i a location = wanted i a location ≡ true
 
 module _ {Point Location Word : Type 0} (p : Procedures Point Location Word) where
-  -- What is so after a point that is reached is in the table at the end of each edge from there, and so is what the
-  -- point's call changes. At an entry no word is saved; what is lost at a return and passes is changed.
+  -- The tables are closed: what they have after a point that is reached they have at the end of each edge from there,
+  -- and what the point's call changes is written and lost. At an entry no word is saved; what is lost at a return and
+  -- passes is changed.
   pub record AreClosed (same : Location → Location → Bool) (t : Tables Point Location Word) : Type 0 where
     pub begins : (i : ℕ) (location : Location) (word : Word)
         → t.unsaved i (p.procedure i).entry location word ≡ true

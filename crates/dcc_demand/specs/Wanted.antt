@@ -9,11 +9,11 @@ abbrev pub WantedFamily : Type 0 → Type 0 → Type 1
 WantedFamily Point Location = ℕ → Point → Location → Type 0
 
 module _ {Point Location Word : Type 0} (p : Procedures Point Location Word) where
-  -- The least relation, where calls change what is in the family: before the point of the procedure the location is
-  -- wanted. A point uses it; or it is exposed; or what the point writes and makes of it is wanted after the point; or
-  -- it is wanted after the point and not surely written there, nor changed by a call; or the point calls a procedure
-  -- that wants it at its entry; or the procedure returns there, has changed it, and it is wanted after some call of
-  -- it.
+  -- The location is wanted before the point of the procedure, where calls change what is in the family. This is the
+  -- least relation by these rules: the point uses it; or it is exposed; or what the point writes and makes of it is
+  -- wanted after the point; or it is wanted after the point and not surely written there, nor changed by a call; or
+  -- the point calls a procedure that wants it at its entry; or the procedure returns there, has changed it, and it is
+  -- wanted after some call of the procedure.
   pub data IsWantedBy (changed : ChangeFamily Location) : ℕ → Point → Location → Type 0 where
     used : {i : ℕ} {a : Point} {location : Location} → ((p.procedure i).action a).uses location ≡ true
         → IsWantedBy changed i a location
@@ -35,11 +35,11 @@ module _ {Point Location Word : Type 0} (p : Procedures Point Location Word) whe
         → Contains ((p.procedure caller).next call) after → IsWantedBy changed caller after location
         → IsWantedBy changed i a location
 
-  -- what is wanted
+  -- what is wanted, where calls change what procedures change
   abbrev pub Wanted : WantedFamily Point Location
   Wanted = IsWantedBy (Changes p)
 
-  -- what the procedure takes
+  -- what the procedure takes: what passes and is wanted at its entry
   pub record IsParam (i : ℕ) (location : Location) : Type 0 where
     pub passes : p.passes location ≡ true
     pub wanted : Wanted i (p.procedure i).entry location
@@ -54,7 +54,7 @@ module _ {Point Location Word : Type 0} (p : Procedures Point Location Word) whe
     pub goes : Contains ((p.procedure caller).next call) after
     pub wanted : Wanted caller after location
 
-  -- the family is closed under the rules of what is wanted, where calls change this
+  -- the family is closed under the rules of what is wanted, where calls change what is in the other family
   pub record IsClosedUnderDemand (changed : ChangeFamily Location) (wanted : WantedFamily Point Location)
       : Type 0 where
     pub used : (i : ℕ) (a : Point) (location : Location) → ((p.procedure i).action a).uses location ≡ true

@@ -9,8 +9,8 @@ ghost use Rattle.dcc_demand.specs.Laws.{LosingIsNotSaving, SavedIsHeld, Preserve
 ghost use Rattle.dcc_demand.specs.Laws.{HasAllWanted, CallsPassWanted, ResultsAreWanted, SpreadIsChange};
 ghost use Rattle.dcc_demand.specs.Laws.{TablesHaveAllChanges, TablesHaveAllWanted};
 
-/// Some procedures, with what their points, their locations and the words of the stack are. Beside them other
-/// procedures of this kind, families of what calls change, and one of what matters before points.
+/// Some procedures, with the types of their points, of their locations and of the words of the stack. Beside them
+/// other procedures of these types, families of what calls change, and one of what matters before points.
 pub trait SomeProcedures {
     ghost point: { Type 0 };
 
@@ -34,7 +34,7 @@ pub fn changes_are_closed<P: SomeProcedures>()
     ensures { ChangesAreClosed P.procedures }
 {}
 
-/// It is the least such family.
+/// A family that has what trails lose where calls change what is in it has all that is changed.
 pub fn closed_families_have_all_changes<P: SomeProcedures>()
     ensures { HasAllChanges P.procedures P.changed }
 {}
@@ -69,7 +69,7 @@ pub fn wanted_is_closed<P: SomeProcedures>()
     ensures { WantedIsClosed P.procedures }
 {}
 
-/// It is the least one.
+/// A family that is closed under demand has all that is wanted: what is wanted is the least one.
 pub fn closed_families_have_all_wanted<P: SomeProcedures>()
     ensures { HasAllWanted P.procedures P.wanted }
 {}

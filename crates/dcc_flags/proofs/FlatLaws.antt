@@ -60,7 +60,7 @@ flat_negated n bits e (negation x same less) some width =
 
 -- How definitions read flags.
 
--- it reads none, or negates one, or chooses between a value and its own
+-- the expression reads no flag, or negates one, or chooses between a value and the flag's own
 pub data Nests (g : FlagName) : Expr → Type 0 where
   unread : {e : Expr} → reads_flag e ≡ false → Nests g e
   negates : {w : ℕ} {h : FlagName} → Nests g (Unary Not w (Get (Flag h)))

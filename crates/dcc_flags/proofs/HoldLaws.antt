@@ -297,7 +297,7 @@ module _ (graph after : Graph) (kept : Kept) (is : IsGraph graph) (exact : (f : 
     | inr other ↦ other
   ]
 
-  -- nor is a flag that isn't kept
+  -- a flag that isn't kept is not plain
   flag_apart : (l : Loc) → plain l ≡ true → (f : FlagName) → is_kept kept f ≡ false → same_location (Flag f) l ≡ false
   flag_apart (Half r h) is f none = refl
   flag_apart (Cell n h) is f none = refl
@@ -457,7 +457,7 @@ module _ (graph after : Graph) (kept : Kept) (is : IsGraph graph) (exact : (f : 
       | inr other ↦ other
     ]
 
-    -- the other flags' definitions reach past it
+    -- a definition of another flag that reaches the statement reaches past it
     past_it : (f : FlagName) → (flag_number f == flag_number g) ≡ false → (d : Definition) → Reaches graph f d b k → Reaches graph f d b (suc k)
     past_it f other d r = passes r at (ap (λ z. not (z || false) || chooses f (Set (Flag g) e)) other)
 

@@ -428,7 +428,7 @@ module _ (graph after : Graph) (kept : Kept) (is : IsGraph graph) (exact : (f : 
         calls_new = ap after_call h.new_rest;
       })))
 
-  -- Both begin alike.
+  -- Both runs begin alike.
 
   record Open (s t : State) : Type 0 where
     memory : t.memory ≡ s.memory
@@ -506,6 +506,6 @@ module _ (graph after : Graph) (kept : Kept) (is : IsGraph graph) (exact : (f : 
       }) in
       (o.memory, record { k = 0; old_rest = refl; new_rest = refl; holds = o.holds })
 
-  -- So the folded graph may stand in the place of the graph.
+  -- The folded graph may stand in the place of the graph.
   pub folded_stands : GraphStays graph after → IsGraph after → (p : Program) → IsProgram p → Contains p.graphs graph → IsKeptWith after p
   folded_stands stays fine p formed known = may_stand graph after inv stays fine begins_alike goes_on p formed known

@@ -62,7 +62,7 @@ module _ (graph after : Graph) (kept : Kept) (is : IsGraph graph) (exact : (f : 
   abbrev is_plain : Loc → Bool
   is_plain l = plain graph after kept is exact plan l
 
-  -- both states, in a block after so many statements
+  -- both states stand in a block, after so many statements
   pub record Both (b k : ℕ) (s t : State) : Type 0 where
     pub outside : AgreeOutside s t
     pub end : t.end ≡ s.end
@@ -185,7 +185,7 @@ module _ (graph after : Graph) (kept : Kept) (is : IsGraph graph) (exact : (f : 
         same_choices bits c (Call r n a d) sets = refl
         same_choices bits c (Dos n p a) sets = refl
 
-    -- what it writes is plain
+    -- each location that a statement with choices writes is plain
     pub written_plain : (l : Loc) → is_location bits l ≡ true → is_among (writes_of stmt) l ≡ true → is_plain l ≡ true
     written_plain (Half r h) ok among = refl
     written_plain (Cell n h) ok among = refl
@@ -211,7 +211,7 @@ module _ (graph after : Graph) (kept : Kept) (is : IsGraph graph) (exact : (f : 
           value_holds graph after kept is exact plan b k s.running.values t.running.values h.holds (exprs_of stmt) read_at (scene_of s) (scene_of t)
           (ap (λ (g : Graph). g.bits) s_graph) (ap (λ (g : Graph). g.bits) t_graph) h.outside.base h.outside.memory (scene-fits t fits) (λ l. refl) (λ l. refl) e there ok
 
-      -- the same of a part of an expression of the statement
+      -- a part of an expression of the statement has one value before and after the choices are put in
       step_part : (e x : Expr) → Contains (exprs_of stmt) e → ((l : Loc) → Contains (reads_of x) l → Contains (reads_of e) l) → is_expr bits x ≡ true → value_in t (with_choices c x) ≡ value_in s x
       step_part e x there part ok =
           value_holds graph after kept is exact plan b k s.running.values t.running.values h.holds (x ∷ [])
@@ -221,7 +221,7 @@ module _ (graph after : Graph) (kept : Kept) (is : IsGraph graph) (exact : (f : 
           from_one : (l : Loc) → Contains (reads_of x ++ []) l → Contains (reads_of x) l
           from_one l d = subst (λ ls. Contains ls l) (append-nil (reads_of x)) d
 
-  -- both statements do alike
+  -- a statement, and the same with its choices, do alike to both states
   pub step_both : (b k : ℕ) → plan.known b ≡ true → (stmt : Stmt) (rest : List Stmt) → is_call stmt ≡ false → Stays b k stmt rest → (s t : State) → s.running.graph ≡ graph → t.running.graph ≡ after → IsFit t → Both b k s t →
       Both b (suc k) (stmt_step stmt s) (stmt_step (stmt_with_choices (the_spot b k).choices stmt) t)
   step_both b k known (Set l e) rest plain_stmt stays s t sg tg fits h =

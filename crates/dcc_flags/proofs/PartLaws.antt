@@ -184,7 +184,7 @@ module _ (test : Expr → Bool) (of : OfReads test) where
   copy_is : (n : ℕ) → has_part test (Get (Temp n)) ≡ false
   copy_is n = neither (test (Get (Temp n))) false (of.temp n) refl
 
-  -- they read temporaries, and load nothing
+  -- the values of copies read temporaries, and load nothing
   pub value_lacks : (bits : List ℕ) (e : Expr) → has_part test (taken bits e).value ≡ false
   value_lacks bits (Const w n) = neither (test (Const w n)) false (of.const w n) refl
   value_lacks bits (Get l) = copy_is _

@@ -115,7 +115,7 @@ BeginsIn before after inv =
     → ((passing 0 before.params a t).memory ≡ (passing 0 before.params a s).memory)
     × inv (start_of before.entry) (passing 0 before.params a s).running.values (passing 0 before.params a t).running.values
 
--- and from each point of theirs they go on alike
+-- from each point of the graph and of the one in its place both go on alike
 abbrev pub GoesIn : Graph → Graph → Invariant → Type 0
 GoesIn before after inv =
     (p q : Program) → IsProgram p → IsProgram q → (a : List ℕ) (point : Point) (s t : State) → point.entry ≡ before.entry

@@ -77,7 +77,8 @@ module _ (graph : Graph) (is : IsGraph graph) (kept : Kept) (exact : (f : FlagNa
   abbrev none : Choices
   none = first_choices kept (length graph.bits)
 
-  -- Such a definition reaches the place. What is chosen there is flat, or a second definition reaches it.
+  -- A definition that is older than the place reaches it. What is chosen there is flat, or a second definition reaches
+  -- it.
   record Seen (Old : Definition → Type 0) (f : FlagName) (b k : ℕ) (e : Expr) : Type 0 where
     definition : Definition
     reaches : Reaches graph f definition b k

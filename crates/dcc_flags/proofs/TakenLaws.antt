@@ -244,7 +244,7 @@ copied_is bits e all ok =
           (eq-eqb (width_of (bits ++ w ∷ []) e) (location_width (bits ++ w ∷ []) (Temp n)) (more.width ∙ sym width))))) refl;
     }
 
--- the same after further temporaries
+-- what copies leave is well formed after further temporaries too
 later : (bits more : List ℕ) (e : Expr) (t : Taken) → IsTaken bits e t → Formed bits ((bits ++ t.widths) ++ more) e t.value
 later bits more e t h = let m = expr_more (bits ++ t.widths) more t.value h.value.formed in record { formed = m.formed; width = m.width ∙ h.value.width }
 

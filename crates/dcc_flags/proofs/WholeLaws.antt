@@ -457,7 +457,7 @@ module _ (graph : Graph) (is : IsGraph graph) (order : List ℕ) (searched : IsR
     abbrev pub known : List ℕ
     known = after_all (0 ∷ []) (tail_of.0)
 
-    -- those that are known are those that the order lists
+    -- the blocks that are known are those that the order lists
     known_kept : (before rest : List ℕ) (x : ℕ) → is_in before x ≡ true → is_in (after_all before rest) x ≡ true
     known_kept before [] x e = e
     known_kept before (p ∷ rest) x e = known_kept (p ∷ before) rest x (in_later p x before e)

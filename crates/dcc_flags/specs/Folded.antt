@@ -33,7 +33,7 @@ set_where test (Fetch location width address) = if test address then location �
 set_where test (Div location e) = if test e then location ∷ [] else []
 set_where test stmt = []
 
--- the places of truth statements, and of flag statements, in their order
+-- the places of truth statements, in their order; `flag_places`: those of flag statements
 abbrev pub truth_places : List Stmt → List Loc
 truth_places stmts = flat_map (set_where holds_truth) stmts
 
@@ -50,10 +50,11 @@ pub data IsPartOf : List Loc → List Loc → Type 0 where
 abbrev pub TruthsStay : Block → Block → Type 0
 TruthsStay before after = IsPartOf (truth_places after.stmts) (flag_places before.stmts)
 
--- The graph without flags but those that are kept. It is well formed, its form stays, and it may stand in the place of
--- the other in each program. Its parts and statements are of kinds that the other's are. Where definitions of flags
--- load from plain addresses, truth statements stay at their locations; where a definition of a flag reads flags only as
--- a negation, or as arms of a choice that are that flag, expressions are at most twice as deep.
+-- The graph `after` is `before` without the flags that are not kept. It is well formed, its form stays, and it may
+-- stand in the place of `before` in each program. Its parts and statements are of kinds that those of `before` are.
+-- Where definitions of flags load from plain addresses, truth statements stay at their locations; where a definition
+-- of a flag reads flags only as a negation, or as arms of a choice that are that flag, expressions are at most twice
+-- as deep.
 pub record IsFolded (before after : Graph) : Type 0 where
   pub formed : IsGraph after
   pub form : GraphStays before after

@@ -48,7 +48,7 @@ with_choice c Zf e = record c { zf = e }
 with_choice c Sf e = record c { sf = e }
 with_choice c Of e = record c { of = e }
 
--- a kept flag has its own value, and another one at the start what that temporary holds
+-- the choice for a flag at the start: a kept flag has its own value, and another one what the temporary holds
 abbrev pub first_choice : Kept → ℕ → FlagName → Expr
 first_choice kept temporary f = if is_kept kept f then Get (Flag f) else Get (Temp temporary)
 
@@ -221,7 +221,7 @@ stmts_folded kept bits c (stmt ∷ rest) =
 
 -- Blocks.
 
--- where no run comes, definitions of flags that aren't kept go
+-- the statements of a block to which no run comes: definitions of flags that aren't kept go
 abbrev pub bare_stmts : Kept → Choices → List Stmt → List Stmt
 bare_stmts kept c [] = []
 bare_stmts kept c (stmt ∷ rest) =
@@ -248,7 +248,7 @@ first_folding kept c graph = record {
   blocks = map (bare_block kept c) graph.blocks;
 }
 
--- these blocks begin with the choices
+-- the choices with which blocks begin, where the listed ones begin with the given choices
 abbrev pub given_to : Choices → List Choices → List ℕ → List Choices
 given_to c given [] = given
 given_to c given (place ∷ places) = given_to c (slice_set given place c) places

@@ -22,7 +22,7 @@ has_arm f _ = false
 abbrev pub defines : FlagName → Stmt → Bool
 defines f stmt = is_among (writes_of stmt) (Flag f)
 
--- it may leave the flag as it is: it chooses between a new value and the flag's own
+-- the statement may leave the flag as it is: it chooses between a new value and the flag's own
 abbrev pub chooses : FlagName → Stmt → Bool
 chooses f (Set location e) = has_arm f e
 chooses f _ = false
@@ -61,8 +61,8 @@ abbrev pub has_result : FlagName → Stmt → Bool
 has_result f (Call results entry arguments depth) = is_among results (Flag f)
 has_result f _ = false
 
--- A flag is kept where an argument goes into it or a call gives it back, and where two definitions reach one read. Two
--- that differ only along paths that no run begins at count for nothing.
+-- A flag is kept where an argument goes into it or a call gives it back, and where two definitions of it reach one
+-- read. Definitions that differ only along paths that no run begins at count for nothing.
 pub data IsKept (graph : Graph) (f : FlagName) : Type 0 where
   param : is_among (flat_map (λ p. places_of p.put) graph.params) (Flag f) ≡ true → IsKept graph f
   result :

@@ -12,7 +12,7 @@ use Rattle.dcc_flags.specs.Reaching.{Definition, Start as Begin, At as Stands, R
 use Rattle.dcc_flags.specs.declared.sources.Source.{Source}
 use Rattle.dcc_flags.specs.declared.sources.Source.TheVariants.{Nothing, Start, At, Several}
 
--- both reach
+-- what reaches a place where two sources come together
 abbrev pub joined : Source → Source → Source
 joined Nothing other = other
 joined Start Nothing = Start
@@ -25,21 +25,21 @@ joined (At block stmt) (At other place) = if (block == other) && (stmt == place)
 joined (At block stmt) Several = Several
 joined Several other = Several
 
--- past a definition
+-- what reaches past a definition
 abbrev pub defined : Source → ℕ → ℕ → Bool → Source
 defined Nothing block stmt chooses = Nothing
 defined source block stmt chooses = if chooses then joined source (At block stmt) else At block stmt
 
--- past a statement, by its place
+-- what reaches past a statement, by the statement's place
 abbrev pub moved : FlagName → Source → ℕ → ℕ → Stmt → Source
 moved f source block place stmt = if defines f stmt then defined source block place (chooses f stmt) else source
 
--- past the statements of a block from a place on
+-- what reaches past the statements of a block from a place on
 abbrev pub moved_past : FlagName → Source → ℕ → ℕ → List Stmt → Source
 moved_past f source block place [] = source
 moved_past f source block place (stmt ∷ stmts) = moved_past f (moved f source block place stmt) block (suc place) stmts
 
--- what reaches flows to these blocks
+-- what reaches flows to the blocks of the list
 abbrev pub spread : Source → List Source → List ℕ → List Source
 spread source table [] = table
 spread source table (block ∷ blocks) =
@@ -51,12 +51,12 @@ flowed f graph table block =
     spread (moved_past f (get_or table block Nothing) block 0 (block_in graph block).stmts) table
     (targets (block_in graph block).exit)
 
--- from each of these blocks
+-- what reaches the end of each of the listed blocks flows on
 abbrev pub swept : FlagName → Graph → List Source → List ℕ → List Source
 swept f graph table [] = table
 swept f graph table (block ∷ blocks) = swept f graph (flowed f graph table block) blocks
 
--- how much is known
+-- how much a source knows, as a number that rises
 abbrev pub rank : Source → ℕ
 rank Nothing = 0
 rank Start = 1
@@ -89,7 +89,7 @@ is_passed f graph =
 abbrev pub first_sources : ℕ → List Source
 first_sources count = slice_set (replicate count Nothing) 0 Start
 
--- the definition may be one that reaches
+-- the definition may be one that the source knows to reach
 abbrev pub Covers : Source → Definition → Type 0
 Covers Nothing d = ⊥
 Covers Start d = d ≡ Begin
@@ -103,7 +103,7 @@ AreFound Start Kind = Kind Begin
 AreFound (At block stmt) Kind = Kind (Stands block stmt)
 AreFound Several Kind = (d : Definition) × (other : Definition) × Kind d × Kind other × (d ≢ other)
 
--- for each block the source tells which definitions reach its begin: none, this one alone, or two and more
+-- for each block the table tells which definitions reach its begin: none, one alone, or two and more
 pub record AreTold (graph : Graph) (f : FlagName) (table : List Source) : Type 0 where
   pub count : length table ≡ length graph.blocks
   pub found : (block : ℕ) → AreFound (get_or table block Nothing) (λ d. Reaches graph f d block 0)

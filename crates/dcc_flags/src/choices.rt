@@ -19,7 +19,7 @@ pub struct Choices {
     pub of: Expr,
 }
 
-// The same expression.
+// A copy of an expression.
 pub fn copied(alloc: Global, e: &Expr) -> Result<Expr, AllocError>
     ensures { IfOk result (λ r. expr_of r ≡ expr_of e.now) }
 {
@@ -73,7 +73,7 @@ fn negated(alloc: Global, width: u8, a: Expr) -> Result<Expr, AllocError>
     }
 }
 
-// A kept flag has its own value, another one what the temporary holds.
+// The choice for a flag at the start: a kept flag has its own value, another one what the temporary holds.
 fn first_choice(kept: Kept, temporary: u32, f: FlagName) -> Expr
     ensures { expr_of result ≡ spec.first_choice kept temporary f }
 {
@@ -85,7 +85,7 @@ fn first_choice(kept: Kept, temporary: u32, f: FlagName) -> Expr
 }
 
 impl Choices {
-    /// Those at the start, where the temporary holds what the flags do that are not kept.
+    /// The choices at the start, where the temporary holds what the flags do that are not kept.
     pub fn first(kept: Kept, temporary: u32) -> Choices
         ensures { spec.choices_of result ≡ spec.first_choices kept temporary }
     {
@@ -97,7 +97,7 @@ impl Choices {
         }
     }
 
-    /// The same choices.
+    /// A copy of the choices.
     pub fn copy(&self, alloc: Global) -> Result<Choices, AllocError>
         ensures { IfOk result (λ r. spec.choices_of r ≡ spec.choices_of self.now) }
     {
@@ -121,7 +121,7 @@ impl Choices {
         }
     }
 
-    /// A flag has the value of that expression.
+    /// Sets the choice for a flag to the expression.
     pub fn choose(&mut self, f: FlagName, e: Expr)
         ensures { spec.choices_of self.new ≡ spec.with_choice (spec.choices_of self.old) f (expr_of e) }
     {

@@ -31,7 +31,7 @@ fn goes(kept: Kept, stmt: &Stmt) -> bool
     }
 }
 
-// The statements where no run comes: definitions of flags that are not kept go.
+// The statements of a block to which no run comes: definitions of flags that are not kept go.
 fn bare_stmts(
     alloc: Global,
     kept: Kept,
@@ -84,7 +84,7 @@ pub struct Folding {
     pub blocks: Vec<Block>,
 }
 
-// So many times the same choices.
+// A number of copies of the choices.
 fn repeated(alloc: Global, choices: &Choices, count: usize) -> Result<Vec<Choices>, AllocError>
     ensures { IfOk result (λ all. map choices_of all.items ≡ replicate count (choices_of choices.now)) }
 {
@@ -95,7 +95,7 @@ fn repeated(alloc: Global, choices: &Choices, count: usize) -> Result<Vec<Choice
     Ok(all)
 }
 
-// These blocks begin with the choices.
+// Notes that the listed blocks begin with the choices.
 fn give(
     alloc: Global,
     choices: &Choices,
@@ -113,7 +113,8 @@ fn give(
 }
 
 impl Folding {
-    // Nothing is folded: each block begins with these choices, and stands as if no run came there.
+    // A folding in which nothing is folded yet: each block begins with the given choices, and stands as if no run came
+    // there.
     fn new(alloc: Global, kept: Kept, choices: &Choices, g: &Graph) -> Result<Folding, AllocError>
         ensures folding { IfOk result (λ folding. folding_of folding
             ≡ spec.first_folding kept (choices_of choices.now) (graph_of g.now)) }
@@ -130,7 +131,7 @@ impl Folding {
         })
     }
 
-    // A block is folded, and the blocks after it begin with its choices.
+    // Folds a block; the blocks after it begin with its choices.
     fn fold_block(self, g: &Graph, place: usize, next: &[u32]) -> Result<Folding, AllocError>
         requires place { place < length g.now.blocks.items }
         requires blocks { length self.blocks.items ≡ length g.now.blocks.items }
@@ -167,7 +168,7 @@ impl Folding {
         })
     }
 
-    // The blocks are folded in that order.
+    // Folds the blocks in the given order.
     fn fold_blocks(
         self,
         g: &Graph,

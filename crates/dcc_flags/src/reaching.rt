@@ -13,7 +13,7 @@ use dcc_ir::{Graph, Stmt};
 use dcc_num::FlagName;
 use std::alloc::{AllocError, Global};
 
-// Past the statements of a block.
+// What reaches past the statements of a block.
 pub fn moved_past(f: FlagName, source: Source, block: usize, stmts: &[Stmt]) -> Source
     ensures { result ≡ spec.moved_past f source block 0 (map stmt_of stmts.now) }
 {
@@ -24,7 +24,7 @@ pub fn moved_past(f: FlagName, source: Source, block: usize, stmts: &[Stmt]) -> 
     source
 }
 
-// What reaches flows to these blocks.
+// Lets what reaches flow to the listed blocks.
 fn spread(source: Source, table: &mut Vec<Source>, blocks: &[u32])
     requires { All (λ block. block < length table.old.items) blocks.now }
     ensures { table.new.items ≡ spec.spread source table.old.items blocks.now }
@@ -34,7 +34,7 @@ fn spread(source: Source, table: &mut Vec<Source>, blocks: &[u32])
     }
 }
 
-// What reaches the end of each of these blocks flows on.
+// Lets what reaches the end of each listed block flow on.
 fn sweep(f: FlagName, g: &Graph, next: &Vec<Vec<u32>>, table: &mut Vec<Source>, blocks: &[u32])
     requires graph { IsGraph (graph_of g.now) }
     requires next { rows next.now.items ≡ successors_of (graph_of g.now) }
@@ -49,7 +49,7 @@ fn sweep(f: FlagName, g: &Graph, next: &Vec<Vec<u32>>, table: &mut Vec<Source>, 
     }
 }
 
-// How much is known.
+// How much the table knows, as a number that rises.
 fn rank(table: &[Source]) -> usize
     requires { length table.now ≤ 65536 }
     ensures { result ≡ spec.rank_of table.now }
@@ -61,7 +61,7 @@ fn rank(table: &[Source]) -> usize
     rank
 }
 
-// At first the start alone reaches the first block.
+// The table in which the start alone reaches the first block, and nothing the others.
 fn first_sources(alloc: Global, count: usize) -> Result<Vec<Source>, AllocError>
     requires { 0 < count }
     ensures { IfOk result (λ table. table.items ≡ spec.first_sources count) }
@@ -79,7 +79,7 @@ pub struct Walk<'a> {
     pub order: &'a [u32],
 }
 
-/// Which definition of the flag reaches the begin of each block. Whatever reaches flows from each of these blocks until
+/// Which definition of the flag reaches the begin of each block. Whatever reaches flows from block to block until
 /// nothing more is known.
 pub fn sources(alloc: Global, f: FlagName, walk: &Walk<'_>) -> Result<Vec<Source>, AllocError>
     requires graph { IsGraph (graph_of walk.now.graph.now) }

@@ -11,18 +11,18 @@ use dcc_num::FlagName;
 /// Which definition of a flag is known to reach a place.
 #[derive(Clone, Copy, PartialEq, Eq, Debug)]
 pub enum Source {
-    /// None so far.
+    /// No definition so far.
     Nothing,
-    /// The start of the graph.
+    /// The start of the graph alone.
     Start,
-    /// A statement of a block.
+    /// A statement of a block alone.
     At { block: usize, stmt: usize },
-    /// Two or more.
+    /// Two definitions or more.
     Several,
 }
 
 impl Source {
-    // Both reach.
+    // What is known where two sources come together.
     pub fn joined(self, other: Source) -> Source
         ensures { result ≡ spec.joined self other }
     {
@@ -47,7 +47,7 @@ impl Source {
         }
     }
 
-    // Past a definition, which may let earlier ones through.
+    // What is known past a definition, which may let earlier ones through.
     pub fn defined(self, block: usize, stmt: usize, chooses: bool) -> Source
         ensures { result ≡ spec.defined self block stmt chooses }
     {
@@ -64,7 +64,7 @@ impl Source {
         }
     }
 
-    // Past a statement, by the place of its block and its own.
+    // What is known past a statement, by the place of its block and its own.
     pub fn moved(self, f: FlagName, block: usize, place: usize, stmt: &Stmt) -> Source
         ensures { result ≡ spec.moved f self block place (stmt_of stmt.now) }
     {
@@ -75,7 +75,7 @@ impl Source {
         }
     }
 
-    // How much is known.
+    // How much is known, as a number that rises.
     pub fn rank(self) -> usize
         ensures { result ≡ spec.rank self }
     {

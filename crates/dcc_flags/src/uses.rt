@@ -22,7 +22,7 @@ pub fn is_flag(f: FlagName, location: Loc) -> bool
     }
 }
 
-// Whether the flag is one of these.
+// Whether the flag is one of the locations.
 pub fn is_among(f: FlagName, locations: &[Loc]) -> bool
     ensures { result ≡ is_among locations.now (Flag f) }
 {

@@ -44,7 +44,7 @@ fn bits_in(bits: &[u8], e: &Expr) -> u8
     }
 }
 
-/// The number of the temporary after these.
+/// The number of the temporary after the given ones.
 ///
 /// # Errors
 ///
@@ -63,12 +63,12 @@ pub struct Writer {
     pub kept: Kept,
     /// The bits of each temporary.
     pub bits: Vec<u8>,
-    /// What is written.
+    /// The statements written so far.
     pub stmts: Vec<Stmt>,
 }
 
 impl Writer {
-    // A fresh temporary takes the expression.
+    // Writes that a fresh temporary takes the expression, and gives its read.
     fn copy(&mut self, e: &Expr) -> Result<Expr, AllocError>
         ensures value { IfOk result (λ r. expr_of r ≡ (spec.copied self.old.bits.items (expr_of e.now)).value) }
         ensures stmts { OnOk result (map stmt_of self.new.stmts.items ≡ map stmt_of self.old.stmts.items
@@ -126,7 +126,7 @@ impl Writer {
         }
     }
 
-    // A location takes the expression. A flag that is not kept goes, and is chosen over fresh temporaries.
+    // Writes that a location takes the expression. A flag that is not kept goes, and is chosen over fresh temporaries.
     fn set(&mut self, choices: &mut Choices, place: Loc, e: Expr) -> Result<(), AllocError>
         ensures stmts { OnOk result (map stmt_of self.new.stmts.items ≡ map stmt_of self.old.stmts.items
             ++ (spec.set_folded self.old.kept self.old.bits.items (choices_of choices.old) place (expr_of e)).stmts) }
@@ -146,7 +146,7 @@ impl Writer {
         Ok(())
     }
 
-    // The statement with the choices in it, or what stands in its place.
+    // Writes the statement with the choices in it, or what stands in its place.
     fn fold_stmt(&mut self, choices: &mut Choices, stmt: &Stmt) -> Result<(), AllocError>
         ensures stmts { OnOk result (map stmt_of self.new.stmts.items ≡ map stmt_of self.old.stmts.items
             ++ (spec.stmt_folded self.old.kept self.old.bits.items (choices_of choices.old)
@@ -175,7 +175,7 @@ impl Writer {
         }
     }
 
-    /// What stands in place of these statements, and the choices after them.
+    /// Writes what stands in place of the statements, and leaves the choices after them.
     pub fn fold_stmts(&mut self, choices: &mut Choices, stmts: &[Stmt]) -> Result<(), AllocError>
         ensures stmts { OnOk result (map stmt_of self.new.stmts.items ≡ map stmt_of self.old.stmts.items
             ++ (spec.stmts_folded self.old.kept self.old.bits.items (choices_of choices.old)

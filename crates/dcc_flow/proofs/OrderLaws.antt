@@ -96,7 +96,7 @@ module _ (next : List (List ℕ)) where
     ]
   ]
 
-  -- so is each block that follows a listed one
+  -- each block that follows a listed one is listed, or was seen before
   pub closed : {seen blocks listed : List ℕ} → IsSearched next seen blocks listed → (x y : ℕ) → is_in listed x ≡ true → leads next x y ≡ true → (is_in listed y ≡ true) ⊎ (is_in seen y ≡ true)
   closed done x y h k = absurd (false≢true h)
   closed (again s r) x y h k = closed r x y h k

@@ -350,7 +350,7 @@ pub record Flowing (words after : List ℕ) (len : ℕ) (bits used out written :
   pub places : bits_in after len ≡ flowed bits used out written
   pub differs : (b : Bool) → MatchBool b (after ≢ words) (after ≡ words) → b ≡ differ bits (bits_in after len)
 
--- the same words keep a list of that length
+-- words that keep a list keep another one of that length with the same values
 keep_same : {words others : List ℕ} {len other : ℕ} {bits list : List Bool}
     → Keep words len bits → Keep others other list → length list ≡ length bits → Keep others len list
 keep_same {others = others} {list = list} k o e =

@@ -15,7 +15,7 @@ block_mentions b = flat_map stmt_mentions b.stmts ++ flat_map reads_of (exit_exp
 abbrev pub graph_mentions : Graph → List Loc
 graph_mentions g = flat_map block_mentions g.blocks
 
--- the same by what a block reads and writes
+-- the locations that a statement mentions, by what is told of its reads and writes
 abbrev pub access_mentions : Access → List Loc
 access_mentions a = a.reads ++ a.writes
 

@@ -14,7 +14,7 @@ abbrev pub entered : List (List ℕ) → ℕ → List ℕ → List (List ℕ)
 entered sources from [] = sources
 entered sources from (to ∷ tos) = entered (slice_set sources to (added (get_or sources to []) from)) from tos
 
--- and from the blocks after it to these
+-- the lists of sources after the edges from each block, from one number on, were added
 abbrev pub all_entered : List (List ℕ) → ℕ → List (List ℕ) → List (List ℕ)
 all_entered sources from [] = sources
 all_entered sources from (tos ∷ next) = all_entered (entered sources from tos) (from + 1) next

@@ -22,7 +22,7 @@ pub record AreWords (words : List ℕ) (len : ℕ) : Type 0 where
 abbrev pub flowed_word : ℕ → ℕ → ℕ → ℕ → ℕ
 flowed_word word used out written = bit_or (bit_or word used) (bit_and out (bit_not w64 written))
 
--- the same of each word
+-- the words after each has taken the bits of `used`, and those of `out` that `written` has not
 abbrev pub flowed_words : List ℕ → List ℕ → List ℕ → List ℕ → List ℕ
 flowed_words words used out written =
     map (λ k. flowed_word (get_or words k 0) (get_or used k 0) (get_or out k 0) (get_or written k 0))

@@ -23,9 +23,9 @@ pub struct Access {
 /// What a block reads and writes.
 #[derive(Drop)]
 pub struct BlockAccess {
-    /// Its statements.
+    /// What each statement of the block reads and writes, in their order.
     pub stmts: Vec<Access>,
-    /// The locations that its end reads.
+    /// The locations that the block's end reads.
     pub last: Vec<Loc>,
 }
 

@@ -27,7 +27,7 @@ impl Model for Bits {
     ghost invariant = { λ b. AreWords b.words.items b.len };
 }
 
-// The same on words. The answer is whether a word changed.
+// The flow of one row into another, word by word. The answer is whether a word changed.
 fn flow_words<L: Ledger>(
     words: &mut [u64],
     used: &[u64],
@@ -62,7 +62,7 @@ impl Bits {
         Ok(Bits { words, len })
     }
 
-    /// The same values.
+    /// A row of its own with the same values.
     pub(crate) fn copy(&self) -> Result<Bits, AllocError>
         ensures { IfOk result (λ bits. bits ≡ self.now) }
     {

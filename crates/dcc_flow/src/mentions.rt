@@ -34,7 +34,7 @@ fn all_mentions(alloc: Global, blocks: &Vec<BlockAccess>) -> Result<Vec<Loc>, Al
     Ok(list)
 }
 
-// Those of some locations that are in the set, in their order.
+// The locations of the list that are in the set, in the list's order.
 fn those_in(alloc: Global, marks: &Marks, among: &[Loc]) -> Result<Vec<Loc>, AllocError>
     ensures { IfOk result (λ list. list.items ≡ filter (members marks.now) among.now) }
 {
@@ -55,7 +55,7 @@ pub fn all_mentioned(alloc: Global, g: &Graph) -> Result<Vec<Loc>, AllocError>
     all_mentions(alloc, &accesses)
 }
 
-/// Those of some locations that a graph mentions, in their order: those that it reads or writes.
+/// The locations of the list that a graph mentions, as it reads or writes them, in the list's order.
 pub fn mentioned(alloc: Global, g: &Graph, among: &[Loc]) -> Result<Vec<Loc>, AllocError>
     ensures { IfOk result (λ list. list.items ≡ filter (is_among (graph_mentions (graph_of g.now))) among.now) }
 {

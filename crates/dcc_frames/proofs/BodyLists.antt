@@ -70,7 +70,7 @@ module _ (image : Image) (layout : Layout) (procs : List Proc) (heights : Height
       (ap (λ p. take place procs ++ p ∷ []) read ∙ sym (take_more procs place proc inside))
       (zipped-push (IsBodyOf image layout) (take place procs) bodies proc body before one)
 
--- Their numbers of arguments.
+-- The numbers of arguments of procedures.
 
 pub counts-none : (counts : ℕ → Option ℕ) → ((entry : ℕ) → counts entry ≡ None) → AreCounts [] counts
 counts-none counts none = record {

@@ -12,7 +12,7 @@ use Rattle.dcc_frames.specs.declared.bytes.Piece.{Piece}
 use Rattle.dcc_frames.specs.CellLists.{small_cell, cells_from, IsOverfull}
 use Rattle.dcc_frames.proofs.Flat.{flat-shorter}
 
--- where these are too many, more are
+-- where a list of cells is too many, a longer one is
 overfull-longer : (few more : List Cell) (refusal : Refusal) → length few ≤ length more → IsOverfull few refusal
     → IsOverfull more refusal
 overfull-longer few more (Limit Cells count) le h = (h.0, let longer = h.1 in omega (arith, le, longer))

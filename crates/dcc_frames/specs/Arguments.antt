@@ -10,24 +10,25 @@ pub record IsLeast (P : ℕ → Type 0) (number : ℕ) : Type 0 where
   pub holds : P number
   pub least : (other : ℕ) → P other → number ≤ other
 
--- so many argument words reach up to the end of bytes
+-- this number of argument words reaches up to the end of bytes
 abbrev pub ReachTo : ℤ → ℕ → Type 0
 ReachTo end count = end ≤ℤ pos (4 + 2 * count)
 
--- so many have every byte that an instruction accesses directly
+-- this number of argument words has every byte that an instruction accesses directly
 abbrev pub HasAccessRoom : Bool → Step → ℕ → Type 0
 HasAccessRoom framed step count = IfSome (access_of framed step.op) (λ (bytes : Bytes). ReachTo bytes.end count)
 
--- so many have the byte from which it exposes the frame
+-- this number of argument words has the byte from which an instruction exposes the frame
 abbrev pub HasStartRoom : Step → ℕ → Type 0
 HasStartRoom step count = IfSome (start_of step.op step.height) (λ (start : ℤ). ReachTo (start +ℤ pos 1) count)
 
--- both
+-- this number of argument words has the bytes that an instruction accesses directly, and the byte from which it
+-- exposes the frame
 pub record HasRoomFor (framed : Bool) (step : Step) (count : ℕ) : Type 0 where
   pub accessed : HasAccessRoom framed step count
   pub exposed : HasStartRoom step count
 
--- the same of all instructions, and what the RETs remove
+-- this number of argument words has what all instructions access and expose, and what the RETs remove
 pub record HasRoomIn (framed : Bool) (removed : ℕ) (steps : List Step) (count : ℕ) : Type 0 where
   pub removed_too : removed / 2 ≤ count
   pub used : All (λ step. HasRoomFor framed step count) steps

@@ -43,7 +43,7 @@ pub record IsBody (image : Image) (layout : Layout) (body : Body) : Type 0 where
   pub few : body.args ≤ 32
   pub steps : AreSteps image layout body.entry body.steps.items
 
--- that of a procedure as it was found
+-- the body of a procedure as it was found
 pub record IsBodyOf (image : Image) (layout : Layout) (proc : Proc) (body : Body) : Type 0 where
   pub entry_is : body.entry ≡ proc.entry
   pub is_body : IsBody image layout body
@@ -60,7 +60,8 @@ pub record IsMeasured
   pub start : is_start ≡ true → proc.entry ≡ layout.start_ip
   pub other : is_start ≡ false → proc.entry ≢ layout.start_ip
 
--- this is the body of the procedure in every program in which it is measured so, or such a program is refused so
+-- the body is the procedure's in every program in which these are its heights, what its RETs remove and whether it is
+-- the entry procedure; `IsBodyRefusal`: every such program is refused so
 abbrev pub IsBodyOfAll : Proc → List (ℕ × ℕ) → ℕ → Bool → Body → Type 0
 IsBodyOfAll proc heights removed is_start body =
     (image : Image) (layout : Layout)
@@ -82,7 +83,8 @@ pub record AreMeasured (image : Image) (layout : Layout) (procs : List Proc) (he
 abbrev pub AreBodies : Image → Layout → List Proc → List Body → Type 0
 AreBodies image layout procs bodies = AllZip (IsBodyOf image layout) procs bodies
 
--- these are the bodies in every such program, or it is refused so
+-- the bodies are those of the procedures in every program in which they have these heights; `IsBodiesRefusal`: every
+-- such program is refused so
 abbrev pub AreBodiesOfAll : List Proc → Heights → List Body → Type 0
 AreBodiesOfAll procs heights bodies =
     (image : Image) (layout : Layout) → AreMeasured image layout procs heights → AreBodies image layout procs bodies
@@ -93,24 +95,24 @@ IsBodiesRefusal procs heights refusal =
     → AreMeasured image layout procs heights
     → IsRefusedByFrames image layout refusal
 
--- a procedure with that entry and so many arguments is among these
+-- a procedure with that entry and that number of arguments is among the bodies
 pub record HasBody (bodies : List Body) (entry count : ℕ) : Type 0 where
   pub body : Body
   pub among : Contains bodies body
   pub entry_is : body.entry ≡ entry
   pub count_is : body.args ≡ count
 
--- each of these has its number of arguments, and no other entry has one
+-- each body has its number of arguments among the counts, and no other entry has one
 pub record AreCounts (bodies : List Body) (counts : ℕ → Option ℕ) : Type 0 where
   pub each : (entry count : ℕ) → counts entry ≡ Some count → HasBody bodies entry count
   pub every : All (λ (body : Body). (count : ℕ) × (counts body.entry ≡ Some count)) bodies
 
--- an entry has its number of arguments among these
+-- an entry has its number of arguments among the counts
 pub record HasCount (image : Image) (layout : Layout) (counts : ℕ → Option ℕ) (entry : ℕ) : Type 0 where
   pub count : ℕ
   pub found : counts entry ≡ Some count
   pub arguments : HasArguments image layout entry count
 
--- each procedure that is reached has
+-- each procedure that is reached has its number of arguments among the counts
 abbrev pub HasCounts : Image → Layout → (ℕ → Option ℕ) → Type 0
 HasCounts image layout counts = (entry : ℕ) → IsEntry image layout entry → HasCount image layout counts entry

@@ -3,18 +3,18 @@ use Rattle.std.specs.Prelude.{ℤ, pos, neg_ℤ, ◌+ℤ◌, ◌≤ℤ◌, ◌<�
 use Rattle.dcc_prog.specs.Frame.{Span}
 use Rattle.dcc_frames.specs.declared.bytes.Bytes.{Bytes}
 
--- the same as a span of the definitions, and back
+-- bytes as a span of the definitions, and a span as bytes
 abbrev pub as_span : Bytes → Span
 as_span bytes = record { first = bytes.first; end = bytes.end }
 
 abbrev pub as_bytes : Span → Bytes
 as_bytes span = record { first = span.first; end = span.end }
 
--- at most two bytes
+-- the bytes are at most two
 abbrev pub is_small : Bytes → Bool
 is_small bytes = int_le bytes.end (bytes.first +ℤ pos 2)
 
--- all lie from one offset on and before another
+-- the bytes lie from one offset on and before another
 abbrev pub is_between : Bytes → ℤ → ℤ → Bool
 is_between bytes low high = int_le low bytes.first && int_le bytes.end high
 

@@ -12,18 +12,18 @@ use Rattle.dcc_frames.specs.declared.bytes.Bytes.{Bytes}
 use Rattle.dcc_frames.specs.declared.bytes.Piece.{Piece}
 use Rattle.dcc_frames.specs.Bytes.{is_small}
 
--- the cell of at most two bytes
+-- the cell of one or two bytes
 abbrev pub cell_of : Bytes → Cell
 cell_of bytes = record { first = bytes.first; size = if int_le bytes.end (bytes.first +ℤ pos 1) then 1 else 2 }
 
--- that of a run, if it is small enough
+-- the cell of a run, if it has at most two bytes
 abbrev pub small_cell : Piece → Option Cell
 small_cell run = if is_small run.bytes then Some (cell_of run.bytes) else None
 
 abbrev pub cells_from : List Piece → List Cell
 cells_from runs = flat_map (λ run. option_to_list (small_cell run)) runs
 
--- these are too many cells, or there is no memory for them
+-- there are too many cells, or there is no memory for them
 abbrev pub IsOverfull : List Cell → Refusal → Type 0
 IsOverfull cells (Limit Cells count) = (count ≡ 513) × (512 < length cells)
 IsOverfull cells Memory = Unit {0}

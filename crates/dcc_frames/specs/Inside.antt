@@ -10,12 +10,12 @@ use Rattle.dcc_frames.specs.declared.steps.Step.{Step}
 use Rattle.dcc_frames.specs.Bytes.{is_between}
 use Rattle.dcc_frames.specs.Used.{access_of, start_of}
 
--- what is there passes a test, if there is anything
+-- what an option has passes the test, if it has anything
 abbrev pub passes : {A : Type 0} → (A → Bool) → Option A → Bool
 passes test None = true
 passes test (Some x) = test x
 
--- wholly in the arguments, or wholly between SP and BP
+-- the bytes lie wholly in the arguments, or wholly between SP and BP
 abbrev pub is_inside : ℕ → ℕ → Bytes → Bool
 is_inside args height bytes =
     is_between bytes (pos 4) (pos (4 + 2 * args)) || is_between bytes (pos 2 -ℤ pos height) (pos 0)
@@ -27,7 +27,8 @@ abbrev pub has_access_inside : Bool → ℕ → Step → Bool
 has_access_inside framed args step =
     passes (λ (bytes : Bytes). is_inside args step.height bytes) (access_of framed step.op)
 
--- where the frame's addresses can't be told, no byte may be exposed
+-- the byte from which an instruction exposes the frame lies inside it; where the frame's addresses can't be told,
+-- there may be none
 abbrev pub has_start_inside : ℕ → Bool → Step → Bool
 has_start_inside args lacks_addresses step =
     passes (λ (start : ℤ). not lacks_addresses && is_inside args step.height (byte_from start))
@@ -37,7 +38,7 @@ abbrev pub is_allowed : Bool → ℕ → Bool → Step → Bool
 is_allowed framed args lacks_addresses step =
     has_access_inside framed args step && has_start_inside args lacks_addresses step
 
--- how many bytes of its own a frame has
+-- how many bytes of its own a frame has at a height: the saved BP isn't counted
 abbrev pub own_of : Bool → ℕ → ℤ
 own_of framed height = if framed then pos height -ℤ pos 2 else pos height
 
@@ -46,12 +47,12 @@ abbrev pub passed_of : (ℕ → Option ℕ) → Op → ℕ
 passed_of counts (Call target) = unwrap_or (counts target) 0
 passed_of counts op = 0
 
--- the frame has them
+-- the frame has as many words of its own as the operation passes
 abbrev pub has_words : (ℕ → Option ℕ) → Bool → Step → Bool
 has_words counts framed step =
     (passed_of counts step.op == 0) || int_le (pos (2 * passed_of counts step.op)) (own_of framed step.height)
 
--- a construct of this kind is told at an instruction that isn't allowed
+-- a construct of the kind is told at an instruction that isn't allowed
 pub data IsToldOf (steps : List Step) (allowed : Step → Bool) (kind : ℕ) : Refusal → Type 0 where
   told :
       {step : Step} → Contains steps step → allowed step ≡ false → IsToldOf steps allowed kind (Construct kind step.at)

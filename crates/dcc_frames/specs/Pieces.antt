@@ -9,7 +9,7 @@ use Rattle.dcc_frames.specs.declared.body.Body.{Body}
 use Rattle.dcc_frames.specs.Used.{access_of, word_at, moved_of}
 use Rattle.dcc_frames.specs.Inside.{passed_of}
 
--- bytes that an instruction uses, if there are any
+-- the piece of bytes that an instruction uses, if there are any
 abbrev pub piece_of : Option Bytes → ℕ → List Piece
 piece_of None user = []
 piece_of (Some bytes) user = (record { bytes = bytes; user = Some user }) ∷ []
@@ -18,7 +18,7 @@ piece_of (Some bytes) user = (record { bytes = bytes; user = Some user }) ∷ []
 abbrev pub word_from : ℤ → Option ℕ → ℕ → Piece
 word_from first user number = record { bytes = word_at (first +ℤ pos (2 * number)); user = user }
 
--- so many words from an offset on
+-- a number of words from an offset on
 abbrev pub words_from : ℤ → ℕ → Option ℕ → List Piece
 words_from first count user = map (word_from first user) (range_with_len 0 count)
 

@@ -37,7 +37,8 @@ pub record IsFrameAt (image : Image) (layout : Layout) (entry : ℕ) (frame : Fr
   pub few_cells : ¬ HasMany (IsCell image layout entry) 513
   pub few_arguments : (count : ℕ) → HasArguments image layout entry count → count ≤ 32
 
--- procedures that are reached, and the same besides
+-- procedures that are reached, the numbers of arguments of all procedures, and how far the stack segment begins above
+-- the data segment
 pub record AreAllReady
     (image : Image) (layout : Layout) (bodies : List Body) (counts : ℕ → Option ℕ) (delta : ℕ) : Type 0 where
   pub are_bodies : All (IsBody image layout) bodies
@@ -48,7 +49,8 @@ pub record AreAllReady
 abbrev pub AreFramesAt : Image → Layout → List Body → List Frame → Type 0
 AreFramesAt image layout bodies frames = AllZip (λ (body : Body). IsFrameAt image layout body.entry) bodies frames
 
--- this is the frame in every program for which the procedure is ready so, or such a program is refused so
+-- the frame is the procedure's in every program for which the procedure is ready with these counts and this distance;
+-- `IsFrameRefusal`: every such program is refused so
 abbrev pub IsFrameOfAll : Body → (ℕ → Option ℕ) → ℕ → Frame → Type 0
 IsFrameOfAll body counts delta frame =
     (image : Image) (layout : Layout)
@@ -61,7 +63,8 @@ IsFrameRefusal body counts delta refusal =
     → IsReady image layout body counts delta
     → IsRefusedByFrames image layout refusal
 
--- the same of all procedures
+-- the frames are those of the procedures in every program for which all are ready with these counts and this distance;
+-- `IsFramesRefusal`: every such program is refused so
 abbrev pub AreFramesOfEach : List Body → (ℕ → Option ℕ) → ℕ → List Frame → Type 0
 AreFramesOfEach bodies counts delta frames =
     (image : Image) (layout : Layout)

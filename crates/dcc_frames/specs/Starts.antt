@@ -12,11 +12,11 @@ use Rattle.dcc_frames.specs.Used.{start_of}
 abbrev pub long_first : Piece → Option ℤ
 long_first run = if is_small run.bytes then None else Some run.bytes.first
 
--- by instructions
+-- from where instructions expose bytes
 abbrev pub starts_by : List Step → List ℤ
 starts_by steps = flat_map (λ step. option_to_list (start_of step.op step.height)) steps
 
--- and by runs besides
+-- from where instructions expose bytes, and from where runs that are too long for a cell do
 abbrev pub starts_of : List Step → List Piece → List ℤ
 starts_of steps runs = starts_by steps ++ flat_map (λ run. option_to_list (long_first run)) runs
 
@@ -25,7 +25,7 @@ pub record IsNear (start : ℤ) : Type 0 where
   pub low : neg_ℤ (pos 65535) ≤ℤ start
   pub high : start ≤ℤ pos 65535
 
--- so many bytes directly below BP are exposed, by the least start below BP
+-- this number of bytes directly below BP is exposed, by the least start below BP
 pub data IsLocalBy (starts : List ℤ) : ℕ → Type 0 where
   no_local : All (λ start. pos 0 ≤ℤ start) starts → IsLocalBy starts 0
   local :
@@ -35,7 +35,7 @@ pub data IsLocalBy (starts : List ℤ) : ℕ → Type 0 where
       → All (λ start. neg_ℤ (pos count) ≤ℤ start) starts
       → IsLocalBy starts count
 
--- the least start of 4 or more
+-- from which byte of the arguments on bytes are exposed: the least start of 4 or more
 pub data IsArgumentBy (starts : List ℤ) : Option ℕ → Type 0 where
   no_argument : All (λ start. start <ℤ pos 4) starts → IsArgumentBy starts None
   from_argument :

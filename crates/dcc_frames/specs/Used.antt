@@ -18,7 +18,7 @@ use Rattle.dcc_frames.specs.declared.bytes.Bytes.{Bytes}
 abbrev pub bytes_at : Width → Ea → Bytes
 bytes_at width ea = record { first = offset_in_frame ea; end = offset_in_frame ea +ℤ pos (bytes_in width) }
 
--- those of a memory operand, if its address has this form
+-- the bytes of a memory operand whose address is BP plus a displacement
 abbrev pub access_at : Option (Width × Ea) → Option Bytes
 access_at None = None
 access_at (Some (width, ea)) = if is_direct ea then Some (bytes_at width ea) else None
@@ -33,12 +33,12 @@ abbrev pub start_at : Option (Width × Ea) → Option ℤ
 start_at None = None
 start_at (Some (width, ea)) = if address_uses_bp ea && not (is_direct ea) then Some (offset_in_frame ea) else None
 
--- from where LEA of another register than SP does
+-- from where LEA of another register than SP exposes bytes
 abbrev pub start_by_lea : Reg → Ea → Option ℤ
 start_by_lea Sp ea = None
 start_by_lea r ea = if address_uses_bp ea then Some (offset_in_frame ea) else None
 
--- from where `mov r,bp` or a memory operand does
+-- from where `mov r,bp`, or a memory operand with BP and an index, exposes bytes
 abbrev pub start_by_other : Op → ℕ → Option ℤ
 start_by_other op height = if copies_bp op then Some (pos 2 -ℤ pos height) else start_at (memory_operand op)
 

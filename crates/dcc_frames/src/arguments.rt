@@ -19,7 +19,7 @@ fn words_to(end: i32) -> u16
     }
 }
 
-// How many there must be for a direct access of an instruction.
+// How many argument words there must be for a direct access of an instruction.
 fn access_room(framed: bool, step: Step) -> u16
     ensures { IsLeast (HasAccessRoom framed step) result }
 {
@@ -29,7 +29,7 @@ fn access_room(framed: bool, step: Step) -> u16
     }
 }
 
-// How many there must be for the byte from which it exposes the frame.
+// How many argument words there must be for the byte from which an instruction exposes the frame.
 fn start_room(step: Step) -> u16
     ensures { IsLeast (HasStartRoom step) result }
 {
@@ -39,7 +39,7 @@ fn start_room(step: Step) -> u16
     }
 }
 
-// How many there must be for what an instruction uses.
+// How many argument words there must be for what an instruction uses.
 fn room(framed: bool, step: Step) -> u16
     ensures { IsLeast (HasRoomFor framed step) result }
 {

@@ -17,13 +17,13 @@ const MOST_ARGUMENTS: u16 = 32;
 /// A procedure, as its frame is told.
 #[derive(Drop)]
 pub struct Body {
-    /// The offset of its first instruction.
+    /// The offset of the procedure's first instruction.
     pub entry: u16,
-    /// Whether it begins with PUSH BP and MOV BP,SP, or with ENTER.
+    /// Whether the procedure begins with PUSH BP and MOV BP,SP, or with ENTER.
     pub framed: bool,
     /// The number of argument words on the stack.
     pub args: u16,
-    /// Its instructions.
+    /// The procedure's instructions, each with its height.
     pub steps: Vec<Step>,
 }
 

@@ -9,19 +9,19 @@ ghost use Rattle.dcc_frames.specs.Bytes.{is_small, is_between};
 pub struct Bytes {
     /// The offset of the first byte.
     pub first: i32,
-    /// The offset after the last one.
+    /// The offset after the last byte.
     pub end: i32,
 }
 
 impl Bytes {
-    /// Whether these are at most two.
+    /// Whether the bytes are at most two.
     pub fn is_small(self) -> bool
         ensures { result ≡ is_small self }
     {
         i64::from(self.end) <= i64::from(self.first) + 2
     }
 
-    /// Whether all of them lie from one offset on and before another.
+    /// Whether the bytes lie from one offset on and before another.
     pub fn is_between(self, low: i32, high: i32) -> bool
         ensures { result ≡ is_between self low high }
     {
@@ -34,6 +34,6 @@ impl Bytes {
 pub struct Piece {
     /// The bytes.
     pub bytes: Bytes,
-    /// An instruction that uses some of them, if any does.
+    /// An instruction that uses some of the bytes, if any does.
     pub user: Option<u16>,
 }

@@ -11,7 +11,7 @@ use std::alloc::Global;
 // The greatest number of cells of a frame.
 const MOST_CELLS: usize = 512;
 
-// The cell of at most two bytes.
+// The cell of one or two bytes.
 fn cell_of(bytes: Bytes) -> Cell
     ensures { result ≡ cell_of bytes }
 {
@@ -26,7 +26,7 @@ fn cell_of(bytes: Bytes) -> Cell
     }
 }
 
-// The cell of a run, if it is small enough.
+// The cell of a run, if it has at most two bytes.
 fn small_cell(run: Piece) -> Option<Cell>
     ensures { result ≡ small_cell run }
 {

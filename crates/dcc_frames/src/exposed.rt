@@ -71,7 +71,7 @@ fn word(start: i32) -> u16
     start as u16
 }
 
-// The exposed bytes below BP, by so many and one more start.
+// The number of exposed bytes below BP, by the number so far and one more start.
 fn local_with(count: u16, start: i32) -> u16
     ensures { (starts : List ℤ)
         → IsNear start → IsLocalBy starts count → IsLocalBy (starts ++ start ∷ []) result }
@@ -94,7 +94,7 @@ fn local(starts: &[i32]) -> u16
     count
 }
 
-// The lesser of two starts of 4 or more, of which there may be one.
+// The least start of 4 or more, by the least so far and one more start.
 fn argument_with(least: Option<u16>, start: i32) -> Option<u16>
     ensures { (starts : List ℤ)
         → IsNear start → IsArgumentBy starts least → IsArgumentBy (starts ++ start ∷ []) result }
@@ -108,7 +108,7 @@ fn argument_with(least: Option<u16>, start: i32) -> Option<u16>
     }
 }
 
-// The least start of 4 or more.
+// From which byte of the arguments on bytes are exposed: the least start of 4 or more.
 fn argument(starts: &[i32]) -> Option<u16>
     ensures { All IsNear starts.now → IsArgumentBy starts.now result }
 {

@@ -6,7 +6,7 @@ ghost use Rattle.dcc_frames.specs.Runs.{AreRuns, AreAscending, user_of, run_with
 use crate::bytes::{Bytes, Piece};
 use std::alloc::{AllocError, Global};
 
-// The first user, else the second.
+// The first instruction that uses a run, if there is one, else the second.
 fn user_of(first: Option<u16>, second: Option<u16>) -> Option<u16>
     ensures { result ≡ user_of first second }
 {
@@ -28,7 +28,8 @@ fn run_with(run: Piece, piece: Piece) -> Piece
     }
 }
 
-// Joins a piece that begins no earlier than those that are joined. The last run is handed in and out apart.
+// Joins a piece that begins no earlier than the pieces that are joined already. The last run is handed in and out
+// apart.
 fn join(runs: &mut Vec<Piece>, last: Option<Piece>, piece: Piece) -> Result<Piece, AllocError>
     ensures { IfOk result (λ run. (runs.new.items ++ run ∷ []) ≡ joined_to runs.old.items last piece) }
 {

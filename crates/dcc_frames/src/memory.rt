@@ -21,7 +21,7 @@ fn memory_of(operand: Operand) -> Option<(Width, Ea)>
     }
 }
 
-// That of either of two, of which one at most lies in memory.
+// The memory operand among two operands, of which one at most lies in memory.
 fn memory_of_two(a: Operand, b: Operand) -> Option<(Width, Ea)>
     ensures { result ≡ memory_of_two a b }
 {

@@ -35,7 +35,7 @@ fn word(first: i32, user: Option<u16>, number: u16) -> Piece
     Piece { bytes, user }
 }
 
-// Adds so many words from an offset on.
+// Adds `count` words from an offset on.
 fn add_words(
     pieces: &mut Vec<Piece>,
     first: i32,

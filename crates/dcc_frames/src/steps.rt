@@ -10,9 +10,9 @@ use std::alloc::{AllocError, Global};
 /// An instruction that is reached.
 #[derive(Clone, Copy, PartialEq, Eq, Debug)]
 pub struct Step {
-    /// Its offset in the code segment.
+    /// The instruction's offset in the code segment.
     pub at: u16,
-    /// What it does.
+    /// The operation of the instruction.
     pub op: Op,
     /// By how many bytes SP lies below its value at the procedure's entry.
     pub height: u16,

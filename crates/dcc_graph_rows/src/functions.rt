@@ -8,7 +8,7 @@ use dcc_variables::{Head, function_name, openings, result_type};
 use std::alloc::{AllocError, Global};
 use std::test::Fail;
 
-// Its params: a word in locations, a word in memory, AL, and SI by its halves.
+// The params of the graph: a word in locations, a word in memory, AL, and SI by its halves.
 const PARAMS: [Param; 4] = [
     Param {
         stack: true,

@@ -43,7 +43,7 @@ one-pushed :
 one-pushed key x at y true e i = (exact_unsigned_eq at key e, i)
 one-pushed key x at y false e i = let clash = i in cc
 
--- and what is found then was there, or is the new one
+-- what is found after a new entry was there before, or is the new one
 pub lookup-pushed :
     {X : Type 0} (es : List (ℕ × X)) (key : ℕ) (x : X) (at : ℕ) (y : X)
     → lookup (nat_eq at) (es ++ (key, x) ∷ []) ≡ Some y

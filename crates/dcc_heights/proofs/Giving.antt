@@ -223,7 +223,7 @@ module _ (image : Image) (layout : Layout) (procs : List Proc) (found : AreFound
               (moves-on at from rest op (pos earlier.height) trail stands));
         }
 
-    -- and no other
+    -- the offset has the height that is found, and no other
     pub record Only (at : ℕ) (height : ℤ) : Type 0 where
       pub level : ℕ
       pub is : height_in heights at ≡ Some level

@@ -206,7 +206,7 @@ module _ (image : Image) (layout : Layout) (removed : ℕ → ℕ) (entry at : �
   moves-so op height form no_ret calls =
       other-moves op height (lowering_of op) (height_set_by op) refl refl form refl
 
-  -- and no operation leads to another one
+  -- an operation leads to no other height than the one that is computed
   pub moves-once :
       (op : Op) (height after : ℤ) → MovesHeight image layout entry at op height after
       → ((target count : ℕ) → op ≡ Call target → IsRemoved image layout target count → count ≡ removed target)

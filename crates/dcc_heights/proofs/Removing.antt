@@ -69,7 +69,7 @@ module _ (image : Image) (layout : Layout) (proc : Proc) (found : IsFound image 
         (reached-ret reaches.at count reaches.node reaches.stands)))
   ]
 
-  -- and no other number
+  -- no other number of bytes is removed than the one that is found
   pub size-only :
       (bytes count : ℕ) → IsSize proc.nodes.entries bytes → IsRemoved image layout proc.entry count → count ≡ bytes
   size-only bytes count size (by_ret reaches) =

@@ -64,7 +64,7 @@ reached-more scene heights to after are reached small = record {
   ];
 }
 
--- so is a successor of an offset that is reached
+-- a successor of an offset that is reached is reached
 pub successor-reached :
     (scene : Scene) (heights : List (ℕ × ℕ)) (at height after place : ℕ) (node : Node) (items : List ℕ)
     → AreReached scene heights → height_in heights at ≡ Some height → node_in scene at ≡ Some node
@@ -111,7 +111,7 @@ module _ (scene : Scene) (old : List (ℕ × ℕ)) (after : ℕ) where
               (lookup-push heights to after none);
         })
 
-    -- or it has another height
+    -- a successor with another height than it is reached at is a fault
     pub arrival-fault :
         (refusal : Refusal) → IsReachedAt scene to after → IsArrivalFault heights to after refusal
         → IsFault scene refusal

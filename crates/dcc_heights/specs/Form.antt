@@ -22,7 +22,7 @@ abbrev pub is_ret : Op → Bool
 is_ret (Ret count) = true
 is_ret op = false
 
--- one that needs the frame stands at height 0, or `pop bp` at another height than 2
+-- an operation that needs the frame stands at height 0, or `pop bp` at another height than 2
 abbrev pub is_misplaced : Op → ℕ → Bool
 is_misplaced op height = ((height == 0) && needs_frame op) || (is_pop_bp op && not (height == 2))
 
@@ -36,11 +36,11 @@ is_into_saved_bp framed op height after =
     && int_lt after (pos height)
     && int_lt after (pos 2)
 
--- or above its value at the entry
+-- SP rises above its value at the entry, or into the saved BP by another form than `pop bp` and LEAVE
 abbrev pub is_too_far : Bool → Op → ℕ → ℤ → Bool
 is_too_far framed op height after = int_lt after (pos 0) || is_into_saved_bp framed op height after
 
--- or the stack isn't empty at a RET, or the height is too great
+-- SP rises too far, or the stack isn't empty at a RET, or the height is too great
 abbrev pub is_bad : Bool → Op → ℕ → ℤ → Bool
 is_bad framed op height after =
     is_too_far framed op height after

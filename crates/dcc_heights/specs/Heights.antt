@@ -10,12 +10,12 @@ use Rattle.dcc_prog.specs.Found.{AreFound}
 use Rattle.dcc_prog.specs.Analysed.{AreHeights}
 use Rattle.dcc_prog.specs.Refused.{IsRefusedByHeights}
 
--- these are the heights
+-- the heights are those of every program of which these are the procedures that are found
 abbrev pub AreHeightsOfAll : List Proc → Heights → Type 0
 AreHeightsOfAll procs heights =
     (image : Image) (layout : Layout) → AreFound image layout procs → AreHeights image layout procs heights
 
--- the program is refused so
+-- every program of which these are the procedures that are found is refused so
 abbrev pub IsRefusalOfAll : List Proc → Refusal → Type 0
 IsRefusalOfAll procs refusal =
     (image : Image) (layout : Layout) → AreFound image layout procs → IsRefusedByHeights image layout refusal

@@ -10,7 +10,8 @@ use Rattle.dcc_prog.specs.Height.{lowering_of, height_set_by}
 abbrev pub removed_in : List (ℕ × ℕ) → ℕ → ℕ
 removed_in removed target = unwrap_or (lookup (nat_eq target) removed) 0
 
--- by a move of SP, else by an operation that sets the height, else none
+-- the height after an operation: the height before it and the bytes by which a move of SP lowers SP, else the height
+-- that the operation sets, else the height before it
 abbrev pub moved_by : Option ℤ → Option ℤ → ℤ → ℤ
 moved_by (Some bytes) set height = height +ℤ bytes
 moved_by None set height = unwrap_or set height

@@ -10,24 +10,24 @@ use Rattle.dcc_prog.specs.declared.refusal.construct.TheConstants.{HEIGHTS}
 use Rattle.dcc_prog.specs.declared.refusal.Refusal.{Refusal}
 use Rattle.dcc_prog.specs.declared.refusal.Refusal.TheVariants.{Construct, Memory}
 
--- a RET that removes so many bytes stands at an offset among these nodes
+-- a RET that removes this many bytes stands at an offset among the nodes
 pub record HasRet (nodes : List (ℕ × Node)) (at bytes : ℕ) : Type 0 where
   pub node : Node
   pub among : Contains nodes (at, node)
   pub is_ret : node.instr.op ≡ Ret bytes
 
--- the nodes' RETs remove so many bytes, or there are none and the number is 0
+-- each of the nodes' RETs removes this many bytes, or there are none and the number is 0
 pub record IsSize (nodes : List (ℕ × Node)) (bytes : ℕ) : Type 0 where
   pub same : (at other : ℕ) → HasRet nodes at other → other ≡ bytes
   pub some : ((at : ℕ) × HasRet nodes at bytes) ⊎ (((at other : ℕ) → ¬ HasRet nodes at other) × (bytes ≡ 0))
 
--- the RETs among these nodes remove so many bytes, if there are some
+-- the RETs among the nodes remove this many bytes, if there are some
 abbrev pub IsSizeSoFar : List (ℕ × Node) → Option ℕ → Type 0
 IsSizeSoFar nodes None = (at other : ℕ) → ¬ HasRet nodes at other
 IsSizeSoFar nodes (Some bytes) =
     ((at other : ℕ) → HasRet nodes at other → other ≡ bytes) × ((at : ℕ) × HasRet nodes at bytes)
 
--- two of them remove different sizes
+-- two RETs among the nodes remove different sizes
 pub data HasTwoSizes (nodes : List (ℕ × Node)) : Refusal → Type 0 where
   two_sizes :
       {at from bytes other : ℕ}
@@ -36,7 +36,7 @@ pub data HasTwoSizes (nodes : List (ℕ × Node)) : Refusal → Type 0 where
       → bytes ≢ other
       → HasTwoSizes nodes (Construct HEIGHTS at)
 
--- each number is that of a procedure with the entry, and each procedure's entry has one
+-- each number is what the RETs of a procedure with the entry remove, and each procedure's entry has one
 pub record AreByEntry (procs : List Proc) (removed : List (ℕ × ℕ)) : Type 0 where
   pub of_proc :
       (entry bytes : ℕ)
@@ -44,7 +44,7 @@ pub record AreByEntry (procs : List Proc) (removed : List (ℕ × ℕ)) : Type 0
       → (proc : Proc) × Contains procs proc × (proc.entry ≡ entry) × IsSize proc.nodes.entries bytes
   pub every : (proc : Proc) → Contains procs proc → is_some (lookup (nat_eq proc.entry) removed) ≡ true
 
--- the numbers of the procedures, in their order and by their entries
+-- how many bytes the RETs of each procedure remove, in the procedures' order and by their entries
 pub record AreSizes (procs : List Proc) (in_order : List ℕ) (by_entry : List (ℕ × ℕ)) : Type 0 where
   pub each : AllZip (λ proc bytes. IsSize proc.nodes.entries bytes) procs in_order
   pub are_by_entry : AreByEntry procs by_entry

@@ -51,7 +51,7 @@ pub record IsStep (scene : Scene) (at : ℕ) (op : Op) (height after : ℕ) : Ty
   pub fine : is_bad scene.framed op height (after_in scene op height) ≡ false
   pub after_is : after_in scene op height ≡ pos after
 
--- it may not
+-- the operation may not stand at the height, and is refused for that
 pub data IsStepFault (scene : Scene) (at : ℕ) (op : Op) (height : ℕ) : Refusal → Type 0 where
   misplaced : is_misplaced_in scene at op height ≡ true → IsStepFault scene at op height (Construct OUTSIDE at)
   bad :
@@ -118,7 +118,7 @@ pub record AreReached (scene : Scene) (heights : List (ℕ × ℕ)) : Type 0 whe
   pub reached : (at height : ℕ) → height_in heights at ≡ Some height → IsReachedAt scene at height
   pub small : (at height : ℕ) → height_in heights at ≡ Some height → at < 65536
 
--- from an offset with the height `after` behind its operation, the search has gone on to these successors
+-- from an offset with the height `after` behind its operation, the search has gone on to the successors in `passed`
 pub record IsGoing (scene : Scene) (old new : List (ℕ × ℕ)) (after : ℕ) (passed : List ℕ) : Type 0 where
   pub are : AreReached scene new
   pub extends : Extends old new
@@ -155,7 +155,7 @@ pub record AreAllHeights (scene : Scene) (heights : List (ℕ × ℕ)) : Type 0 
 
 -- One procedure.
 
--- in whatever program the procedure is found, this says whether it is framed
+-- whether the procedure is framed, as it is in every program in which it is found
 abbrev pub TellsFramed : Proc → Bool → Type 0
 TellsFramed proc framed =
     (image : Image) (layout : Layout) → IsFound image layout proc → framed ≡ is_framed image layout proc.entry
@@ -165,12 +165,12 @@ abbrev pub entry_of : ℕ → Option ℕ → List (ℕ × ℕ)
 entry_of at None = []
 entry_of at (Some height) = (at, height) ∷ []
 
--- the heights of these nodes, in their order
+-- the heights of the nodes, in their order
 abbrev pub ordered_by : List (ℕ × ℕ) → List (ℕ × Node) → List (ℕ × ℕ)
 ordered_by heights [] = []
 ordered_by heights (node ∷ nodes) = entry_of node.0 (height_in heights node.0) ++ ordered_by heights nodes
 
--- the heights of a procedure's nodes, where a CALL removes so many bytes
+-- the heights of a procedure's nodes, by how many bytes a CALL of each procedure removes
 pub record AreHeightsBy (removed : List (ℕ × ℕ)) (proc : Proc) (heights : List (ℕ × ℕ)) : Type 0 where
   pub framed : Bool
   pub framed_is : TellsFramed proc framed

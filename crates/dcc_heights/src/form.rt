@@ -8,10 +8,10 @@ use crate::moves::lowers;
 use dcc_num::Reg;
 use dcc_prog::{Alu, Op, Operand, Unary};
 
-// The greatest height.
+// The greatest height of a stack, in bytes.
 const GREATEST: i32 = 32766;
 
-// A SUB of a constant from SP.
+// Whether the operation is a SUB of a constant from SP.
 fn is_sp_sub(op: Op) -> bool
     ensures { result ≡ is_sp_sub op }
 {
@@ -21,7 +21,7 @@ fn is_sp_sub(op: Op) -> bool
     )
 }
 
-// A PUSH, a CALL, LEAVE, `mov sp,bp` or LEA of SP.
+// Whether the operation is a PUSH, a CALL, LEAVE, `mov sp,bp` or LEA of SP.
 fn is_frame_work(op: Op) -> bool
     ensures { result ≡ is_frame_work op }
 {
@@ -35,14 +35,14 @@ fn is_frame_work(op: Op) -> bool
     )
 }
 
-// The operation needs a frame that is set up.
+// Whether the operation needs a frame that is set up.
 fn needs_frame(op: Op) -> bool
     ensures { result ≡ needs_frame op }
 {
     is_frame_work(op) || is_sp_sub(op) || lowers(op) || op.copies_bp() || op.uses_bp_address()
 }
 
-// `pop bp`.
+// Whether the operation is `pop bp`.
 fn is_pop_bp(op: Op) -> bool
     ensures { result ≡ is_pop_bp op }
 {
@@ -57,8 +57,8 @@ pub fn is_misplaced(op: Op, height: u16) -> bool
     (height == 0 && needs_frame(op)) || (is_pop_bp(op) && height != 2)
 }
 
-// SP rises above its value at the entry, or in a framed procedure into the saved BP by another form than `pop bp`
-// and LEAVE.
+// Whether SP rises above its value at the entry, or in a framed procedure into the saved BP by another form than `pop
+// bp` and LEAVE.
 fn is_too_far(framed: bool, op: Op, height: u16, after: i32) -> bool
     ensures { result ≡ is_too_far framed op height after }
 {

@@ -7,7 +7,7 @@ use dcc_prog::Node;
 use indexmap::IndexMap;
 use std::alloc::{AllocError, Global};
 
-/// The same heights in the order of the nodes.
+/// The heights of a procedure's nodes, brought into the order of the nodes.
 pub fn ordered(
     alloc: Global,
     nodes: &IndexMap<u16, Node>,

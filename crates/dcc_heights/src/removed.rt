@@ -11,9 +11,9 @@ use std::alloc::Global;
 /// How many bytes the RETs of each procedure remove: 0 where it has none.
 #[derive(Drop)]
 pub struct Sizes {
-    /// In the order of the procedures.
+    /// The sizes in the order of the procedures.
     pub in_order: Vec<u16>,
-    /// By their entries.
+    /// The sizes by the procedures' entries.
     pub by_entry: IndexMap<u16, u16>,
 }
 

@@ -32,7 +32,7 @@ fn step(
     Ok(after as u16)
 }
 
-// A trail comes to an offset at a height: the first one, or the one that is known.
+// Notes that a trail comes to an offset at a height, which must be the one that is known there, if any is.
 fn arrive(heights: &mut IndexMap<u16, u16>, to: u16, height: u16) -> Result<(), Refusal>
     ensures arrived { OnOk result (IsArrived heights.old.entries heights.new.entries to height) }
     ensures small { to < 65536 }

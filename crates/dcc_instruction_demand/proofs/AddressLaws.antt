@@ -100,7 +100,7 @@ address_kept ea =
     ap (list_all is_kept_place) (reads_address ea)
     ∙ all_append is_kept_place (register_reads (base_of (is_bp ea.base) ea.base)) (register_reads ea.index) (register_kept (base_of (is_bp ea.base) ea.base)) (register_kept ea.index)
 
--- Which places these are.
+-- The places that an address reads: halves of its base and of its index.
 
 module _ (o : Option Procedure) (body : Body) (exposed : Place → Bool) where
   abbrev Halves : Option Reg → Place → Type 0

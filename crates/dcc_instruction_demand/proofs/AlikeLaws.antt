@@ -154,7 +154,7 @@ module _ (w : Width) (e : Expr) where
       by word_width = refl
 
 module _ (w : Width) (P : InnerPlace) where
-  -- they make the result of what is read of the place, and write no other place
+  -- the statements make the result of what is read of the place, and write no other place
   pub record IsPreparing (xs : List Stmt) : Type 0 where
     pub values : list_all is_value xs ≡ true
     pub useless : list_all is_useless xs ≡ true

@@ -78,7 +78,7 @@ alu_work Cmp word_width = worked word_width (alu_working Cmp word_width) (alu_in
 alu_work Test byte_width = worked byte_width (alu_working Test byte_width) (alu_inputs Test) (alu_flags Test) refl (λ r h. refl) (λ n h. refl) (λ r h. refl) (λ n h. refl)
 alu_work Test word_width = worked word_width (alu_working Test word_width) (alu_inputs Test) (alu_flags Test) refl (λ r h. refl) (λ n h. refl) (λ r h. refl) (λ n h. refl)
 
--- they write all flags
+-- the statements of an operation on two operands write all flags
 alu_writes : (operation : Alu) (w : Width) → all_flags (λ f. same_test true (is_written (alu_working operation w) (Flag f))) ≡ true
 alu_writes Add byte_width = refl
 alu_writes Add word_width = refl

@@ -129,7 +129,7 @@ module _ (o : Option Procedure) (q : Procedure) (found : o ≡ Some q) (heights 
     comes = λ l c. (in_frame k, out_there k l (frame_place q byte_width k) refl c (frame_byte q k), refl);
   }
 
-  -- it is written where it is this one
+  -- a location is written at a byte's place where it is that byte's
   byte_out : (k i : ℤ) (l : Loc) → IsSame o (in_frame k) l → is_among (outs (frame_place q byte_width i)) l ≡ int_eq k i
   byte_out k i l s = same_test (is_among (outs (frame_place q byte_width i)) l) (int_eq k i)
       (λ t.
@@ -314,7 +314,7 @@ module _ (coarse : Procedures ℕ Place ℤ) (fine : Procedures Position Loc Loc
         subst (λ e. EffectsAgree coarse fine r entry e (effect_after pushed stmts l)) (sym (leaves L p))
         (subst (λ e. EffectsAgree coarse fine r entry Leaves e) (sym (fine_leaves L l s p)) EffectsAgree.both_leave)
 
-    -- where it is taken back
+    -- a location is written after the Call where its byte is taken back
     taken_back : (k : ℤ) (l : Loc) → IsSame o (in_frame k) l → is_written others l ≡ touched (in_frame k)
     taken_back k l s = words_written o q found heights height one k l s 0 (given_back callee) ∙ ap (λ ns. is_passed height ns k) (sym back_are)
 

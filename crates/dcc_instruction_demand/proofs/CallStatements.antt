@@ -192,7 +192,7 @@ module _ (returned : Loc → Bool) where
       by (kept left from) = kept (or_none (is_written ss l) ∙ left) (ap (flat_map (before (Store w (Address d) (Get (Temp t))))) from)
       by (given u taken g from) = given u (or_none (is_written ss l) ∙ taken) g (ap (flat_map (before (Store w (Address d) (Get (Temp t))))) from)
 
-  -- they use what is given alone, which is gone before the call
+  -- the statements after a Call use what is given alone, which is gone before the Call
   pub back_used : {ss : List Stmt} → AreBack ss → (f : Loc → List Loc) → ((t : ℕ) → returned (Temp t) ≡ true → f (Temp t) ≡ []) → flat_map f (used ss []) ≡ []
   back_used no_more f gone = refl
   back_used (to_cell {n = n} {t = t} {h = h} {ss = ss} r rest) f gone =
@@ -203,7 +203,7 @@ module _ (returned : Loc → Bool) where
       ap (λ ls. ls ++ flat_map f (flat_map (before s) (used ss []))) (gone t r)
       ∙ flat_twice f (before s) (used ss []) ∙ back_used rest (λ l. flat_map f (before s l)) (λ u g. ap (λ ls. ls ++ []) (gone u g))
 
--- Which locations they write.
+-- Which locations stores and what puts arguments back write.
 
 pub storing_written : (P : InnerPlace) (e : Expr) (l : Loc) → is_frame_byte P ≡ true → is_written (storing P e) l ≡ is_among (outs P) l
 storing_written (constant v n) e l t = refl

@@ -87,7 +87,7 @@ tests_same false b t = sym (not_true b t)
 -- The table of an operation.
 
 module _ (body : Body) (op : Op) (number : Option ℕ) (stmts : List Stmt) (after : List Loc) where
-  -- what it gives the first is made of the second, or the second is the first and may stay
+  -- what the operation gives the first location is made of the second, or the second is the first and may stay
   abbrev pub carries_to : Location → Location → Bool
   carries_to to from =
       (value_written body op number (held to) && value_made_of body op (held to) (held from))
@@ -102,14 +102,14 @@ module _ (body : Body) (op : Op) (number : Option ℕ) (stmts : List Stmt) (afte
       && (list_all sums.passes (sources stmts (inner_of to))
       && same_test (value_written body op number (held to)) (is_written stmts (inner_of to)))
 
-  -- what it is told of all halves and flags
+  -- the table of the operation tells rightly of all halves and flags
   abbrev pub is_told : Bool
   is_told =
       list_all row passed
       && (list_all (λ from. same_test (uses_half from) (is_among (used stmts after) (inner_of from))) passed
       && (list_all sums.passes (used stmts after) && list_all is_value stmts))
 
-  -- and of cells, which it leaves
+  -- the statements do what is told of them of all halves and flags, and leave cells
   pub record IsClosed : Type 0 where
     pub told : is_told ≡ true
     pub cells : (n : ℕ) (h : HalfName) → sources stmts (Cell n h) ≡ Cell n h ∷ []
@@ -223,7 +223,7 @@ module _ (coarse : Procedures ℕ Place ℤ) (fine : Procedures Position Loc Loc
 
   -- What is made.
 
-  -- what it carries to a half or a flag
+  -- what the operation carries to a half or a flag comes from a half or a flag
   carries_half : (to : Location) (L : Place) → CarriesOn coarse fine r entry at o bodies body point v L (held to) → passes (held to) ≡ true
       → (from : Location) × (L ≡ held from) × (passes (held from) ≡ true) × (carries_one to from ≡ true)
   carries_half to (held from) (CarriesOn.made w q m) p = (

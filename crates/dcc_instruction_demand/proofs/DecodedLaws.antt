@@ -26,7 +26,7 @@ use Rattle.dcc_prog.proofs.LocationKept.{or-none}
 use Rattle.dcc_ir.proofs.PathLaws.{decided}
 use Rattle.dcc_lift.proofs.ListTests.{and_left, and_right, and_both}
 
--- it is no segment register, and no half of SP or BP
+-- the operand is no segment register, and no half of SP or BP
 abbrev pub is_named : Operand → Bool
 is_named (Byte r half) = is_general r
 is_named (Seg number) = false
@@ -52,7 +52,7 @@ one_width w v t = absurd (true≢false (sym t))
 abbrev pub are_alike : Operand → Operand → Bool
 are_alike a b = same_width (operand_width a) (operand_width b)
 
--- it is a word
+-- the operand is a word
 abbrev pub is_wide : Operand → Bool
 is_wide a = same_width (operand_width a) word_width
 
@@ -130,7 +130,7 @@ rm_width w modrm displacement =
       | false ↦ refl
     ]
 
--- both are of that width
+-- two operands of one width are alike
 alike : (w : Width) (a b : Operand) → operand_width a ≡ w → operand_width b ≡ w → are_alike a b ≡ true
 alike w a b e f = ap (λ v. same_width v (operand_width b)) e ∙ ap (same_width w) f ∙ width_itself w
 

@@ -54,7 +54,7 @@ module _ (a b : Loc) (a_kept : is_kept_place a ≡ true) (b_kept : is_kept_place
       ap (flat_map (before (taking (left_place byte_width) (byte a)))) (set_second a b (left_place byte_width) (Get b) (left byte_width) refl (temp_apart 0 a a_kept))
       ∙ taken (left_place byte_width) (byte a)
 
-  -- also where both are one
+  -- the first of two exchanged halves takes the second, also where both are one
   first_exchanged : sources (exchanging a b) a ≡ b ∷ []
   first_exchanged = elim (decided (same_location a b)) [
     | inl same ↦ let one = location_same a b same in ap (sources (exchanging a b)) one ∙ second_exchanged ∙ ap (λ c. c ∷ []) one

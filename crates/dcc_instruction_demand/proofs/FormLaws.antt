@@ -133,7 +133,7 @@ module _ (first_reads second_reads : Place → Bool) where
   MadeOfAny is A [] L = ⊥
   MadeOfAny is A (input ∷ inputs) L = MadeOf is A input L ⊎ MadeOfAny is A inputs L
 
-  -- the same by tests
+  -- what is made of inputs, as tests tell it
   abbrev pub IsMade : (Place → Bool) → Place → List Input → Place → Type 0
   IsMade is A inputs L = ((is L ≡ true) × (made_by inputs L ≡ true)) ⊎ ((has_itself inputs ≡ true) × (L ≡ A))
 
@@ -181,7 +181,7 @@ have_more xs ys zs a = record {
   shrink = λ l c. elim (Contains-append_cases ys zs l c) [ inl d ↦ Contains-append_left xs zs l (a.shrink l d) | inr d ↦ Contains-append_right xs zs l d ];
 }
 
--- the former ones are among the others
+-- a list in front of another one that contains it adds no location
 have_within : (xs ys : List Loc) → ((l : Loc) → Contains xs l → Contains ys l) → HaveSame (xs ++ ys) ys
 have_within xs ys within = record {
   grow = λ l c. elim (Contains-append_cases xs ys l c) [ inl d ↦ within l d | inr d ↦ d ];

@@ -15,7 +15,7 @@ use Rattle.dcc_machine_demand.specs.Instance as asks
 use Rattle.dcc_instruction_demand.proofs.IdleLaws.{IsIdle}
 use Rattle.dcc_instruction_demand.proofs.WorkLaws.{point_with_op}
 
--- it moves SP to BP or BP to SP, or takes BP back
+-- the operation moves SP to BP or BP to SP, or takes BP back
 abbrev pub is_frame_move : Op → Bool
 is_frame_move (Mov (Word Bp) (Word Sp)) = true
 is_frame_move (Mov (Word Sp) (Word Bp)) = true

@@ -110,7 +110,7 @@ with_op node op = record node { instr = record (node.instr) { op = op } }
 abbrev node_instr : Node → Instr
 node_instr node = record (node.instr) { op = Int21 }
 
--- it goes on at the next one, whatever its trail is
+-- the operation goes on at the next instruction, whatever its trail is
 abbrev GoesOn : Op → Type 0
 GoesOn op = (next : ℕ) (ah : Option ℕ) (targets : List ℕ) → op_successors op next ah targets ≡ next ∷ []
 

@@ -120,7 +120,7 @@ module _ (coarse : Procedures ℕ Place ℤ) (fine : Procedures Position Loc Loc
     abbrev CarriesTo : Place → Place → Type 0
     CarriesTo L A = CarriesOn coarse fine r entry at o bodies body lea_point v L A
 
-    -- where it leaves a place
+    -- LEA leaves a place that it doesn't write
     stays_shown : (A : Place) (a : Loc) → r.same entry A a → written A ≡ false → Shows (r.same entry) (Making A) ((a ∷ []) ++ [])
     stays_shown A a s e =
         shows_alike (r.same entry) (λ L. L ≡ A) (Making A) (a ∷ []) ((a ∷ []) ++ []) (shows_one (r.same entry) (λ L l m t u. same_once (v.same L l t) (v.same L m u)) A a s)
@@ -134,7 +134,7 @@ module _ (coarse : Procedures ℕ Place ℤ) (fine : Procedures Position Loc Loc
         same_by L (CarriesOn.made w p m) = absurd (true≢false (sym w ∙ e))
         same_by L (CarriesOn.stays same k) = same
 
-    -- where it makes it of the address
+    -- LEA makes the halves of its register of the address
     makes_shown : (q : Reg) (h : HalfName) → is_general q ≡ true → is_same_register q to ≡ true → Shows (r.same entry) (Making (held (half_of q h))) (reads ++ [])
     makes_shown q h g e =
         shows_alike (r.same entry) (Addressed o body exposed_so ea) (Making (held (half_of q h))) reads (reads ++ [])

@@ -261,7 +261,7 @@ module _ (image : Image) (program : Analysed) (p : Program) (is : IsTranslated i
                 direct_bytes o q x.procedure_found x.own exposed exposed_is w ea (x.is_frame.framed ∙ framed_there image program p is entry x at here stands w ea operand d (by_base d)) d (direct_access d)
             by false d = indirect_bytes o body exposed w ea d source.plain
 
-        -- it may be exchanged
+        -- the place of a memory operand may be exchanged
         memory_exchangeable : is_exchangeable (operand_place q height (Mem w ea)) ≡ true
         memory_exchangeable = by (is_direct ea) refl
           where

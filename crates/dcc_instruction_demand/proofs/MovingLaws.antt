@@ -41,7 +41,7 @@ use Rattle.dcc_instruction_demand.proofs.FormLaws.{all_append}
 abbrev pub moved_to : List Move → Place → Bool
 moved_to moves L = list_any (λ (move : Move). is_at move.to L) moves
 
--- each of them moves something
+-- each move of the list moves something
 abbrev pub all_move : List Move → Bool
 all_move moves = list_all (λ (move : Move). not (is_left move.effect)) moves
 
@@ -134,7 +134,7 @@ is_mover (Push a) = true
 is_mover (Pop a) = true
 is_mover op = false
 
--- it moves all that it moves, surely, and calls nothing
+-- the operation moves all that it moves, surely, and calls nothing
 pub record IsMover (bodies : List Body) (body : Body) (height : ℕ) (op : Op) : Type 0 where
   pub moving : moves_or_calls op ≡ true
   pub callee : asks.callee_in bodies op ≡ None
@@ -204,7 +204,7 @@ module _ (coarse : Procedures ℕ Place ℤ) (fine : Procedures Position Loc Loc
     -- no two places are one location, and none stands for what may be read anywhere
     pub one : (L M : Place) (l : Loc) → IsSame o L l → IsSame o M l → L ≡ M
     pub unexposed : (L : Place) (l : Loc) → IsSame o L l → (coarse.procedure entry).is_exposed L ≡ true → ⊥
-    -- it goes on
+    -- the instruction goes on
     pub goes : (b : ℕ) × Contains ((coarse.procedure entry).next at) b
     pub is : (coarse.procedure entry).action at ≡ asks.action_of bodies body point
     pub effect_is : (L : Place) → asks.effect_at bodies body point L ≡ moved_effect (moves_of body point.height (op_of point)) L
@@ -256,7 +256,7 @@ module _ (coarse : Procedures ℕ Place ℤ) (fine : Procedures Position Loc Loc
     pub if_writes : (L : Place) → moved_to moves L ≡ true → is_left (x.effect L) ≡ false
     if_writes L w = left_there L ∙ ap not w
 
-    -- What it carries on.
+    -- What the moves of an instruction carry on: what is moved, or what stays.
     pub data CarriesOn (L A : Place) : Type 0 where
       made : moved_to (moves_of body point.height (op_of point)) A ≡ true → is_place body L ≡ true → moved_made_of (moves_of body point.height (op_of point)) A L ≡ true → CarriesOn L A
       stays : L ≡ A → moved_to (moves_of body point.height (op_of point)) A ≡ false → CarriesOn L A

@@ -120,7 +120,7 @@ module _ (image : Image) (program : Analysed) (p : Program) (is : IsTranslated i
       (bytes-dropped at (code_within image program.layout) (code-bytes image program.layout (loaded-bytes image is.of_file.loaded))) there.instr
       (node-user image program.layout program.procs.items is.of_file.is_program.procs x.proc.entry x.reached at node.instr there.node there.instr)
 
-  -- and such as decoding gives
+  -- the operation is one that decoding gives
   pub decoded_there : is_decoded node.instr.op ≡ true
   decoded_there =
       let there = refined.found_there image program p is entry x at node stands in

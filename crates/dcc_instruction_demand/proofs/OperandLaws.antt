@@ -35,7 +35,7 @@ use Rattle.dcc_instruction_demand.proofs.StageLaws.{is_kept_place, reads_at, out
 abbrev pub frame_read : Body → Operand → ℤ → Bool
 frame_read body a k = list_any (λ spot. is_at spot (in_frame k)) (spots_of_memory body (memory_of a))
 
--- it stands in cells
+-- the operand stands in cells
 abbrev pub in_cells : Body → Operand → Bool
 in_cells body a = list_any is_placed (spots_of_memory body (memory_of a))
 
@@ -55,7 +55,7 @@ pub record IsOperandAt (o : Option Procedure) (body : Body) (exposed : Place →
   pub reads_kept : list_all is_kept_place (reads_at Q) ≡ true
   pub kept : has_kept Q ≡ true
   pub stores : (A : Place) (l : Loc) → IsSame o A l → is_kept_place l ≡ true → writes_by body a A ≡ is_among (outs Q) l
-  -- where it is no store to memory
+  -- the place is no store to memory, or it is one
   pub unstored : is_stored Q ≡ false
       → ((is_in_memory a && not (in_cells body a)) ≡ false) × ((k : ℤ) → frame_read body a k ≡ true → exposed (in_frame k) ≡ true → ⊥)
   pub stored : is_stored Q ≡ true

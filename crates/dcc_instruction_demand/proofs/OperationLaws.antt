@@ -93,7 +93,7 @@ module _ (coarse : Procedures ℕ Place ℤ) (fine : Procedures Position Loc Loc
     pub if_writes : (L : Place) → written L ≡ true → is_left (x.effect L) ≡ false
     if_writes L w = left_written (written L) (x.effect L) (effect_there L) w
 
-    -- What it carries on: what it makes of something, or what may stay.
+    -- What an operation carries on: what it makes of something, or what may stay.
     pub data CarriesOn (L A : Place) : Type 0 where
       made : written A ≡ true → is_place body L ≡ true → value_made_of body (op_of point) A L ≡ true → CarriesOn L A
       stays : L ≡ A → (written A && is_sure (op_of point) A) ≡ false → CarriesOn L A
@@ -110,7 +110,7 @@ module _ (coarse : Procedures ℕ Place ℤ) (fine : Procedures Position Loc Loc
         inl (if_writes A w, made_there A L ∙ and_both (is_place body L) (value_made_of body (op_of point) A L) p m)
     on_carries L A (CarriesOn.stays e s) = inr (e, subst (λ M. x.surely M ≡ false) (sym e) (surely_there A ∙ s))
 
-    -- what it uses at once
+    -- what an operation uses at once is a place that its table names
     pub uses_if : (L : Place) → x.uses L ≡ true → (is_place body L ≡ true) × (value_uses body (op_of point) point.node.number L ≡ true)
     uses_if L u =
         let both = sym (uses_there L) ∙ u in

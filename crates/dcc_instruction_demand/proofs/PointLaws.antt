@@ -58,7 +58,7 @@ alike None f [] goes = tt
 alike None f (x ∷ []) goes = tt
 alike None f (x ∷ y ∷ places) goes = absurd goes
 
--- it goes on at as many places, whatever these are
+-- an operation goes on at as many places, whatever the places are
 pub goes_on_alike : (op : Op) (f : ℕ → ℕ) (places : List ℕ) → GoesOnAt op places → GoesOnAt op (map f places)
 goes_on_alike (Table r offset) f places goes = tt
 goes_on_alike (Ret count) f places goes = ap (map f) goes

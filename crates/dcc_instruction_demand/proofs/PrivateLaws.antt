@@ -53,7 +53,7 @@ least_number n (cell ∷ cells) k m h e = by (is_within k (bytes_of cell)) e (λ
     by true e later = let same : n ≡ m = cc e in omega (arith, same)
     by false e later = let less = later e in omega (arith, less)
 
--- nor is that of one that is not among the first ones
+-- the number of a cell that is not among the first ones is not below theirs
 behind : (n : ℕ) (xs ys : List FrameCell) (k : ℤ) (m : ℕ) (h : HalfName) → half_in n (xs ++ ys) k ≡ Some (Cell m h) → list_any (λ cell. is_within k (bytes_of cell)) xs ≡ false → (n + length xs) ≤ m
 behind n [] ys k m h e f = let least = least_number n ys k m h e in omega (arith, least)
 behind n (cell ∷ xs) ys k m h e f = by (is_within k (bytes_of cell)) e f (λ d g. behind (n + 1) xs ys k m h d g)
@@ -198,7 +198,7 @@ module _ (image : Image) (program : Analysed) (p : Program) (is : IsTranslated i
               ]
         ]
 
-    -- its bytes belong to no cell
+    -- the bytes of the saved BP belong to no cell
     pub saved_apart : (k : ℤ) → pos 0 ≤ℤ k → k <ℤ pos 2 → is_in_cell body k ≡ false
     saved_apart k low high = elim (decided (is_in_cell body k)) [
       | inr f ↦ f

@@ -86,7 +86,7 @@ turns_never operation (ConstCount n) t never = not_true (is_turn operation) t
 turns_never operation One t never = absurd (true≢false (sym never))
 turns_never operation Cl t never = absurd (true≢false (sym never))
 
--- nor reads its count anything
+-- the count of a shift that never shifts reads nothing
 unread_count : (cpu : Cpu) (w : Width) (count : Count) → never_shifts count ≡ true → reads_at (computed (count_expr cpu w count)) ≡ []
 unread_count cpu w (ConstCount n) never = refl
 unread_count cpu w One never = absurd (true≢false (sym never))
@@ -280,7 +280,7 @@ module _ (coarse : Procedures ℕ Place ℤ) (fine : Procedures Position Loc Loc
           next = next;
         })
 
-    -- it shifts
+    -- where the operation shifts
     module _ (moves : not (never_shifts count) ≡ true) where
       writes_one : (f : FlagName) → (shift_writes_flag operation f && not (never_shifts count)) ≡ shift_writes_flag operation f
       writes_one f = ap (λ c. shift_writes_flag operation f && c) moves ∙ and_true (shift_writes_flag operation f)
@@ -305,7 +305,7 @@ module _ (coarse : Procedures ℕ Place ℤ) (fine : Procedures Position Loc Loc
           stored_agrees (shift_working operation w count) flags (count_works operation w count able).0 (λ f. writes_one f ∙ (count_works operation w count able).1 f) makes_flag
           (λ f. ap (λ s. s && (s && not (cl && not (is_turn operation)))) (writes_one f) ∙ sure_is_told operation cl cleared may f) left_flag
 
-    -- it shifts nothing
+    -- where the operation shifts nothing
     module _ (never : never_shifts count ≡ true) where
       abbrev keeping : List Stmt
       keeping = result_taking w (sum w)

@@ -249,7 +249,7 @@ module _ (coarse : Procedures ℕ Place ℤ) (fine : Procedures Position Loc Loc
             (high_word_then (fine.procedure entry) pushed c d apart (Part 8 0 (left word_width)) (Part 8 8 (left word_width)) (taking (left_place word_width) Q)) (WordEffectsAgree.both_spoil (open_spoils g next) Spoils.overwritten)
 
     module _ (addresses : Place → Bool) (k : ℤ) where
-      -- which of its bytes a word of the stack is
+      -- which byte of a pushed word a word of the stack is: the low one, the high one, or none
       data PushedAt (from : List Spot) (j : ℤ) (f g : Spot) : Type 0 where
         at_low : j ≡ k → pushed_from k from j ≡ pushing f → PushedAt from j f g
         at_high : j ≡ (k +ℤ pos 1) → pushed_from k from j ≡ pushing g → PushedAt from j f g
@@ -314,7 +314,7 @@ module _ (coarse : Procedures ℕ Place ℤ) (fine : Procedures Position Loc Loc
         x_there : IsSame o (in_frame j) x
         x_there = IsSame.is_kept is.is_found is.kept
 
-        -- it is left where it is another one
+        -- a byte of the stack is left where another one is pushed
         stays : (access : Access) → is_among (outs (frame_place q word_width k)) x ≡ false → pushed_from k (f ∷ g ∷ []) j ≡ LeavesWord → Agree (frame_place q word_width k) (pushed_from k (f ∷ g ∷ []) j) x
         stays access e d =
             subst (λ y. Agree (frame_place q word_width k) y x) (sym d)
@@ -323,7 +323,7 @@ module _ (coarse : Procedures ℕ Place ℤ) (fine : Procedures Position Loc Loc
             (word_left coarse fine r entry at (pushed_of q) o bodies body point v addresses (frame_spot body k) (frame_spot body (k +ℤ pos 1)) f g (frame_place q word_width k) Q (there_bytes access) w x (word_lasts o j x is) e)))
             WordEffectsAgree.both_leave)
 
-        -- it is a byte of that cell
+        -- the location of the byte that is pushed is that of the cell's byte
         byte_is : (i : ℤ) (c : Loc) → frame_place q byte_width i ≡ byte c → j ≡ i → x ≡ c
         byte_is i c place same = same_once x_there (subst (λ n. IsSame o (in_frame n) c) (sym same) (IsSame.is_kept found place))
 

@@ -85,7 +85,7 @@ abbrev pub is_empty : List Loc → Bool
 is_empty [] = true
 is_empty (l ∷ ls) = false
 
--- it uses nothing at once
+-- the statement uses nothing at once
 abbrev pub is_useless : Stmt → Bool
 is_useless s = is_empty (used_by s)
 
@@ -190,7 +190,7 @@ module _ (w : Width) (first second : Place) where
   abbrev pub two_taken : List Stmt
   two_taken = taking (left_place w) first ∷ taking (right_place w) second ∷ []
 
-  -- before both is taken
+  -- of what a location is made, where both operands are taken first
   abbrev pub before_both : Loc → List Loc
   before_both m = flat_map (before (taking (left_place w) first)) (before (taking (right_place w) second) m)
 
@@ -225,7 +225,7 @@ module _ (w : Width) (first second : Place) where
 
 -- Storing.
 
--- where it stores
+-- the locations at which a place stores
 abbrev pub outs : Place → List Loc
 outs (byte location) = location ∷ []
 outs (word low high) = low ∷ high ∷ []
@@ -249,7 +249,7 @@ kept_temp word_width (Cell n h) t = refl
 kept_temp w (Flag f) t = absurd (true≢false (sym t))
 kept_temp w (Temp n) t = absurd (true≢false (sym t))
 
--- what it stores is made of the result
+-- what the storing statements write is made of the result
 pub sources_storing : (w : Width) (place : Place) (m : Loc) → has_kept place ≡ true → HaveSame (sources (storing place (result w)) m) (if is_among (outs place) m then result_place w ∷ [] else m ∷ [])
 sources_storing w (constant v n) m t = have_itself (m ∷ [])
 sources_storing w (address distance) m t = have_itself (m ∷ [])
@@ -275,7 +275,7 @@ sources_storing w (word low high) m t = have_equal (sources (storing (word low h
         of_high false f ∙ ap (λ c. (if c || false then result_place w ∷ [] else m ∷ []) ++ []) e
         ∙ sym (ap (λ c. if c || (same_location m high || false) then result_place w ∷ [] else m ∷ []) e ∙ ap (λ c. if c || false then result_place w ∷ [] else m ∷ []) f)
 
--- what it uses: of a store to memory the address and the result
+-- what the storing statements use: of a store to memory the address and the result
 pub used_storing : (w : Width) (place : Place) → used (storing place (result w)) [] ≡ (if is_stored place then reads_at place ++ (result_place w ∷ []) else [])
 used_storing w (constant v n) = refl
 used_storing w (address distance) = refl

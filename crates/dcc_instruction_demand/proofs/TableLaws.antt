@@ -29,7 +29,8 @@ use Rattle.dcc_instruction_demand.specs.Agreement.{ending}
 use Rattle.dcc_instruction_demand.proofs.DecodedLaws.{is_decoded}
 use Rattle.dcc_instruction_demand.proofs.ClosedLaws.{is_told, IsClosed}
 
--- what it makes and uses of halves and flags is told by the operation alone: it has no operand, jumps or returns
+-- what an operation makes and uses of halves and flags is told by the operation alone: it has no operand, jumps or
+-- returns
 abbrev pub is_table_told : Op → Bool
 is_table_told (PlainOp operation) = true
 is_table_told (Enter count) = true

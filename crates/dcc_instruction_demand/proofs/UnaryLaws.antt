@@ -250,7 +250,7 @@ module _ (coarse : Procedures ℕ Place ℤ) (fine : Procedures Position Loc Loc
     negated_agrees plain working works =
         unary_agrees v P (constant w 0) P x plain nothing ra (λ L. sym (or_none (ra L))) only_second (constant_shown nothing (λ L. refl)) x.reads x.reads_kept (to_right (constant w 0)) working works next
 
--- whether it is one of them
+-- INC, DEC, NEG and NOT agree with their statements
 module _ (coarse : Procedures ℕ Place ℤ) (fine : Procedures Position Loc Loc) (r : Refinement ℕ Place ℤ Position Loc Loc) (entry at pushed : ℕ)
     (o : Option Procedure) (bodies : List Body) (body : Body) (node : Node) (height : ℕ) (a : Operand) (P : InnerPlace) (x : IsOperandAt o body (coarse.procedure entry).is_exposed a P)
     (next : (b : ℕ) × Contains ((coarse.procedure entry).next at) b) where

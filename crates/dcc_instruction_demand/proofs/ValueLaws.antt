@@ -18,7 +18,7 @@ use Rattle.dcc_lifted_demand.specs.Sources.{sources, used, effect_after, word_ef
 use Rattle.dcc_instruction_demand.specs.Agreement.{Quiet, Agrees}
 use Rattle.dcc_instruction_demand.proofs.ShownLaws.{Shows}
 
--- it sets a temporary or a flag, or writes by what is no copy of a half
+-- the statement sets a temporary or a flag, or writes by what is no copy of a half
 abbrev pub is_value : Stmt → Bool
 is_value (Set (Temp n) e) = true
 is_value (Set (Flag f) e) = true
@@ -32,7 +32,7 @@ abbrev pub is_written : List Stmt → Loc → Bool
 is_written [] location = false
 is_written (stmt ∷ stmts) location = is_written stmts location || is_among (written_by stmt) location
 
--- it pops a half from a pushed word
+-- the statement pops a half from a pushed word
 abbrev pub is_pop : ℕ → Stmt → Bool
 is_pop pushed (Set to (Get from)) = is_half to && is_pushed pushed from
 is_pop pushed stmt = false
@@ -47,7 +47,7 @@ value_kept pushed (Set (Flag f) (Get from)) v = refl
 value_kept pushed (Set (Temp n) (Get from)) v = refl
 value_kept pushed s v = refl
 
--- none of them pops
+-- none of the statements pops a word
 abbrev pub none_pops : ℕ → List Stmt → Bool
 none_pops pushed ss = list_all (λ s. not (is_pop pushed s)) ss
 
@@ -156,7 +156,7 @@ module _ (coarse : Procedures ℕ Place ℤ) (fine : Procedures Position Loc Loc
     pub values : list_all is_value stmts ≡ true
     pub writes : (L : Place) (l : Loc) → r.same entry L l → written L ≡ is_written stmts l
     pub writes_word : (k : ℤ) (l : Loc) → r.same_word entry k l → (word_written k ≡ is_written stmts l) × ((n : ℕ) × (h : HalfName) × (l ≡ Cell n h))
-    -- they make and use just what it does
+    -- the statements make and use just what the instruction does
     pub using : Shows (r.same entry) (Takes coarse fine r entry at) (used stmts after)
     pub making : (A : Place) (a : Loc) → r.same entry A a
         → Shows (r.same entry) (λ L. Carries coarse fine r entry at L A ⊎ Takes coarse fine r entry at L) (sources stmts a ++ used stmts after)

@@ -38,7 +38,7 @@ Quiet (stmt ∷ stmts) = (callee_of stmt ≡ None) × Quiet stmts
 abbrev pub Spares : Loc → Stmt → Type 0
 Spares location stmt = (is_among (makes_of stmt) location ≡ false) × (is_among (written_by stmt) location ≡ false)
 
--- nor does any of these statements, and none uses it
+-- no statement of the list makes anything of the location, writes it or uses it
 abbrev pub SparedBy : Loc → List Stmt → Type 0
 SparedBy location [] = Unit {0}
 SparedBy location (stmt ∷ stmts) =
@@ -46,7 +46,8 @@ SparedBy location (stmt ∷ stmts) =
 
 module _ (coarse : Procedures ℕ Place ℤ) (fine : Procedures Position Loc Loc)
     (r : Refinement ℕ Place ℤ Position Loc Loc) (entry at pushed : ℕ) (stmts : List Stmt) (after : List Loc) where
-  -- a call is the first statement; what passes with it is left by the instruction, and by the other statements
+  -- the instruction is a call: its first statement is the call, and what passes with it is left by the instruction and
+  -- by the other statements
   pub record IsCallFirst (callee : ℕ) : Type 0 where
     pub call : Stmt
     pub others : List Stmt
@@ -58,10 +59,10 @@ module _ (coarse : Procedures ℕ Place ℤ) (fine : Procedures Position Loc Loc
     pub spared : (location : Loc) → fine.passes location ≡ true
         → Spares location call × SparedBy location others × (is_among after location ≡ false)
 
-  -- The instruction at the offset does what these statements do together, after which these locations are used; pushed
-  -- words have the cells from that number on.
+  -- The instruction at the offset does what its statements do together, after which these locations are used; pushed
+  -- words have the cells from the given number on.
   pub record Agrees : Type 0 where
-    -- what changes
+    -- what the instruction does to what passes, its statements do
     pub effect : (place : Place) (location : Loc) → r.same entry place location → coarse.passes place ≡ true
         → EffectsAgree coarse fine r entry (((coarse.procedure entry).action at).effect place)
         (effect_after pushed stmts location)
@@ -79,7 +80,7 @@ module _ (coarse : Procedures ℕ Place ℤ) (fine : Procedures Position Loc Loc
     pub callees :
         ((((coarse.procedure entry).action at).callee ≡ None) × Quiet stmts)
         ⊎ ((callee : ℕ) × (((coarse.procedure entry).action at).callee ≡ Some callee) × IsCallFirst callee)
-    -- what is wanted
+    -- what the instruction carries from place to place, its statements carry or use
     pub carried : (place to : Place) (location fine_to : Loc) → r.same entry place location → r.same entry to fine_to
         → Carries coarse fine r entry at place to
         → Contains (sources stmts fine_to) location ⊎ Contains (used stmts after) location

@@ -20,14 +20,15 @@ module _ (image : Image) (program : Analysed) (p : Program) where
     pub node_is : node_in (nodes_in scene) at ≡ Some node
     pub height_is : height_in scene.heights at ≡ Some height
 
-  -- it does what its statements do together
+  -- the instruction does what its statements do together
   abbrev pub AgreesWithItsStatements : ℕ → ℕ → Scene → Node → ℕ → Type 0
   AgreesWithItsStatements entry at scene node height =
       Agrees (machine image program p) (inner image program p) (lifted_refinement program) entry at
       (pushed_of scene.procedure) (node_stmts scene.cpu scene.procedures scene.procedure height node)
       (ending node.instr.op)
 
--- where all instructions do, these agree as the lifted program wants it
+-- where each instruction does what its statements do together, the lifted program's points do what the machine's
+-- instructions do
 abbrev pub AgreeingInstructionsAreEnough : Type 0
 AgreeingInstructionsAreEnough =
     (image : Image) (program : Analysed) (p : Program) → IsTranslated image program p

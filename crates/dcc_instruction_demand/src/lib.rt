@@ -6,8 +6,8 @@ ghost use Rattle.dcc_instruction_demand.specs.Laws.{AgreeingInstructionsAreEnoug
 ghost use Rattle.dcc_instruction_demand.specs.Laws.{InstructionsAgreeWithTheirStatements};
 ghost use Rattle.dcc_instruction_demand.specs.Laws.{LiftedRelationsAreTheMachines};
 
-/// Where each instruction does what its statements do together, as it is computed of these, the lifted program does
-/// what the machine's procedures do.
+/// Where each instruction does what its statements do together, as it is computed of the statements, the lifted
+/// program does what the machine's procedures do.
 pub fn agreeing_instructions_are_enough()
     ensures { AgreeingInstructionsAreEnough }
 {}
@@ -17,7 +17,7 @@ pub fn instructions_agree_with_their_statements()
     ensures { InstructionsAgreeWithTheirStatements }
 {}
 
-/// So the lifted program and the machine's procedures change, preserve, want, take and give back the same.
+/// The lifted program and the machine's procedures change, preserve, want, take and give back the same.
 pub fn lifted_relations_are_the_machines()
     ensures { LiftedRelationsAreTheMachines }
 {}

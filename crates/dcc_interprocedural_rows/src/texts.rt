@@ -148,7 +148,7 @@ fn graph_text(alloc: Global, graph: &Graph) -> Result<String, AllocError> {
     joined(alloc, texts.as_slice(), "; ")
 }
 
-// Those of each graph.
+// The texts of all graphs, in their order.
 pub(crate) fn graph_texts(alloc: Global, graphs: &[Graph]) -> Result<Vec<String>, AllocError> {
     let mut texts = Vec::new(alloc);
     for graph in graphs {

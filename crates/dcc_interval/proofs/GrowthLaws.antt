@@ -275,7 +275,7 @@ module _ (next : List (List ℕ)) (entry : ℕ) (sources : List (List ℕ)) (don
             ]
           ]
 
-  -- it begins with the header alone
+  -- an interval that grows begins with the header alone
   pub growth_first : (free claimed : List Bool) → length free ≡ length next → length claimed ≡ length next → header < length next
       → ((n : ℕ) → IsReached (leads next) entry n → get_or free n false ≡ not (is_done done n))
       → ((n : ℕ) → get_or claimed n false ≡ (is_in heads n || is_done done n))

@@ -190,7 +190,7 @@ listing_end edge levels graph stands list place h past =
 pub declared_level : (xs : List (Vec IntervalOf)) (p : ℕ) (r : Vec IntervalOf) → p < length xs → r ≡ get_or xs p r → intervals_in r.items ≡ get_or (levels_in xs) p []
 declared_level xs p r less read = sym (get_or-map (λ (l : Vec IntervalOf). intervals_in l.items) xs p r [] less ∙ ap (λ (l : Vec IntervalOf). intervals_in l.items) (sym read))
 
--- those of these intervals with an edge back
+-- the intervals of the list with an edge back to their header
 abbrev kept : (ℕ → ℕ → Bool) → List IntervalOf → List Interval
 kept edge xs = filter (λ (i : Interval). list_any (λ m. edge m i.header) i.members) (intervals_in xs)
 

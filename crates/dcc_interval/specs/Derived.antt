@@ -18,7 +18,7 @@ leads_between edge ms ns = list_any (λ m. list_any (edge m) ns) ms
 abbrev pub collapsed : (ℕ → ℕ → Bool) → List Interval → ℕ → ℕ → Bool
 collapsed edge level a b = not (a == b) && leads_between edge (members_at level a) (members_at level b)
 
--- it is the only one of the list
+-- the list has one node alone
 abbrev pub is_single : List ℕ → Bool
 is_single (n ∷ []) = true
 is_single ns = false

@@ -68,7 +68,7 @@ pub record AreParted (next : List (List ℕ)) (entry : ℕ) (done : List Interva
   pub claimed : (n : ℕ) → get_or heads.marks n false ≡ (is_in heads.list n || is_done done n)
   pub closed : (m n : ℕ) → is_done done m ≡ true → leads next m n ≡ true → get_or heads.marks n false ≡ true
 
--- and so while the interval of a header grows
+-- what holds of marks and lists while the interval of a header grows
 pub record IsGrown (next : List (List ℕ)) (entry : ℕ) (done : List Interval) (heads : List ℕ) (header : ℕ) (s : Growing)
     : Type 0 where
   pub free_count : length s.free ≡ length next

@@ -34,7 +34,7 @@ pub record Interval : Type 0 where
 abbrev pub headers_of : List Interval → List ℕ
 headers_of intervals = map (λ i. i.header) intervals
 
--- its members are the nodes of its header's interval, each once
+-- the members of the interval are the nodes of its header's interval, each once
 pub record IsInterval (edge : ℕ → ℕ → Bool) (entry : ℕ) (interval : Interval) : Type 0 where
   pub once : all_differ interval.members ≡ true
   pub exact : (n : ℕ) → (is_in interval.members n ≡ true) ↔ InInterval edge entry interval.header n

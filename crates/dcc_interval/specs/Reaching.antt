@@ -15,7 +15,7 @@ abbrev pub entered : List (List ℕ) → ℕ → List ℕ → List (List ℕ)
 entered sources from [] = sources
 entered sources from (to ∷ tos) = entered (slice_set sources to (get_or sources to [] ++ from ∷ [])) from tos
 
--- and from each of these nodes to those that follow it
+-- the lists of sources after the edges from each of the nodes to those that follow it were added
 abbrev pub all_entered : List (List ℕ) → List (List ℕ) → List ℕ → List (List ℕ)
 all_entered sources next [] = sources
 all_entered sources next (from ∷ froms) = all_entered (entered sources from (get_or next from [])) next froms

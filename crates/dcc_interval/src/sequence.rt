@@ -14,7 +14,7 @@ use std::alloc::{AllocError, Global};
 /// A level of a derived sequence.
 #[derive(Drop)]
 pub struct Level {
-    /// Its intervals.
+    /// The intervals of the level's graph.
     pub intervals: Vec<Interval>,
     /// Whether collapsing changes neither nodes nor edges.
     pub still: bool,

@@ -40,7 +40,7 @@ pub record SinkState : Type 0 where
   pub taken : List ℕ
   -- the number of writes so far
   pub writes : ℕ
-  -- how many of them failed because memory was wanting
+  -- how many of the writes failed because memory was wanting
   pub refused : ℕ
   -- the numbers of the writes that are to fail
   pub fail : List ℕ
@@ -59,7 +59,7 @@ pub record ShelfState : Type 0 where
   pub asked : List (List ℕ × ℕ)
   -- the number of fetches so far
   pub fetches : ℕ
-  -- how many of them found no file
+  -- how many of the fetches found no file
   pub absences : ℕ
   -- the numbers of the fetches that are to fail
   pub fail : List ℕ

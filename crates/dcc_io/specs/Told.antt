@@ -1,11 +1,11 @@
 -- What an outside object tells of its content: Some of it, or None where it tells nothing.
 use Rattle.std.specs.Prelude.{◌≡◌, ℕ, ◌<◌, List, ◌++◌, length, take, Option, None, Some}
 
--- where the content is told, it is so
+-- where the content of an object is told, the predicate holds of it
 abbrev pub WhenTold : {T : Type 0} → Option T → (T → Type 0) → Type 0
 WhenTold {T} told P = (content : T) → told ≡ Some content → P content
 
--- the bytes that were told, and then more
+-- the bytes that were told, with more after them
 unfoldable pub append_told : Option (List ℕ) → List ℕ → Option (List ℕ)
 append_told None bytes = None
 append_told (Some held) bytes = Some (held ++ bytes)

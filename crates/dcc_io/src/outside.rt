@@ -15,9 +15,9 @@ pub struct Failed;
 /// How much of a file was fetched.
 #[derive(Clone, Copy, PartialEq, Eq, Debug)]
 pub enum Fetched {
-    /// All of it.
+    /// The whole file.
     Whole,
-    /// Its first bytes, as many as were asked for; the file has more.
+    /// The first bytes of the file, as many as were asked for; the file has more.
     Longer,
 }
 

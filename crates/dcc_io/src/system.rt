@@ -140,7 +140,7 @@ pub struct StdSink {
 }
 
 impl StdSink {
-    /// That stream, of which no write has failed yet.
+    /// An output stream of which no write has failed yet.
     pub fn new(stream: Stream) -> StdSink
         ensures untold { ⟦<StdSink as Sink>⟧.taken result ≡ None }
         ensures faults { ⟦<StdSink as Sink>⟧.faults result ≡ 0 }

@@ -412,7 +412,7 @@ first_rule_answers = record {
   form = λ _ _. ((λ e. cc), (λ e. cc));
 }
 
--- it has to answer where the expression has the form, and may not where it hasn't
+-- a rule has to answer where the expression has its form, and may not where it hasn't
 first_rule_answers_each : ¬ RuleAnswers 1 sum_with_zero None
 first_rule_answers_each p = let e = (p.form (omega arith) (omega arith)).0 refl in cc
 

@@ -13,7 +13,7 @@ pub execute_over : (stmts : List Stmt) (s : State) → is_over s.end ≡ true �
 execute_over [] s over = refl
 execute_over (stmt ∷ stmts) s over = ap (λ b. if b then s else execute stmts (stmt_step stmt s)) over
 
--- where it isn't, the first statement comes first; so a single statement is its step
+-- where the run isn't over, the first statement is executed first; a single statement is its step
 pub execute_first : (stmt : Stmt) (stmts : List Stmt) (s : State) → is_over s.end ≡ false → execute (stmt ∷ stmts) s ≡ execute stmts (stmt_step stmt s)
 execute_first stmt stmts s on = ap (λ b. if b then s else execute stmts (stmt_step stmt s)) on
 

@@ -252,7 +252,7 @@ stmt-fit (Div location e) s ok h = div-fit location e s (both (is_location s.run
 stmt-fit (Dos number place argument) s ok h = dos-fit number place argument s ok h
 stmt-fit (Call results entry arguments depth) s ok h = record { values = h.values; memory = h.memory; console = h.console }
 
--- so do statements one after another
+-- well-formed statements one after another keep what fits
 pub execute-fit : (stmts : List Stmt) (s : State) → list_all (is_stmt s.running.graph.bits) stmts ≡ true → IsFit s → IsFit (execute stmts s)
 execute-fit [] s ok h = h
 execute-fit (stmt ∷ stmts) s ok h =

@@ -108,14 +108,14 @@ program_passes = record {
 
 -- The program is well formed, and its ends are sound: so no run of it is ever stuck.
 
--- the same of both graphs
+-- what holds of both graphs holds of all
 of_both : (P : Graph → Type 0) → P caller → P callee → All P program.graphs
 of_both P h k = All-cons P caller (callee ∷ []) h (one P callee k)
 
 program_formed : IsProgram program
 program_formed = formed 0x4C (Const 8 0) caller.bits callee.bits (passed ++ places) (arguments ++ map Get passed) callee.params (map Get passed ++ in_order) refl refl refl refl refl refl refl refl refl
 
--- the same of each block
+-- what holds of each block holds of all
 of_blocks : (P : Block → Type 0) → P calling_block → P last_block → P callee_block → All (λ g. All P g.blocks) program.graphs
 of_blocks P h k l = of_both (λ g. All P g.blocks) (All-cons P calling_block (last_block ∷ []) h (one P last_block k)) (one P callee_block l)
 

@@ -51,7 +51,7 @@ module _ (goes : ℕ → ℕ → Bool) where
   path_first N a [] b p = (b, p)
   path_first N a (m ∷ ms) b p = (m, p.0)
 
-  -- and ends with one
+  -- a path ends with an edge
   pub path_last : (N : ℕ → Type 0) (a : ℕ) (ms : List ℕ) (b : ℕ) → IsPath goes N a ms b → (x : ℕ) × (goes x b ≡ true)
   path_last N a [] b p = (a, p)
   path_last N a (m ∷ ms) b p = path_last N m ms b p.2

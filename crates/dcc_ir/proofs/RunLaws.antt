@@ -74,7 +74,7 @@ stands_at_last p fill steps done s first within stands (inl all) = stands ∙ ap
 stands_at_last p fill steps done s first within stands (inr over) =
     stands ∙ sym (over_stays (inner_system p fill) (inner_lawful p fill) done steps first within (ap (λ t. is_over t.end) (sym stands) ∙ over))
 
--- and no state is foul
+-- the runs of the inner language are watchable: no state is foul
 pub inner_watchable : (p : Program) (fill : ℕ) → IsWatchable (watched_inner p fill)
 inner_watchable p fill = record {
   lawful = inner_lawful p fill;

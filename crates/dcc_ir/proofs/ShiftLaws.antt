@@ -17,7 +17,7 @@ all_out_up a width count far =
     let whole : a * 2 ^ d * 2 ^ width % 2 ^ width ≡ 0 = rw add-zero at (mod_low (a * 2 ^ d) width 0 (pow_pos width)) in
     sym (rw q whole)
 
--- nor at the bottom
+-- nothing is left at the bottom of a number that is moved down by its width or more
 pub all_out_down : (a width count : ℕ) → a < 2 ^ width → width ≤ count → 0 ≡ a / 2 ^ count
 all_out_down a width count small far =
     let whole : 2 ^ width ≤ 2 ^ count = pow-le-pow_right (lit< tt) {i = width} {j = count} far in

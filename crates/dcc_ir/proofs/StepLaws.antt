@@ -89,7 +89,7 @@ passing-alike j (param ∷ params) [] s = record { graph = refl; block = refl; b
 passing-alike j (param ∷ params) (n ∷ arguments) s =
     alike_trans (putting-alike j param.put n s) (passing-alike (j + 1) params arguments (putting j param.put n s))
 
--- so do values that are given back
+-- values that are given back into their places leave the rest
 pub giving-alike : (results : List Loc) (values : List ℕ) (s : State) → Alike s (giving results values s)
 giving-alike [] values s = record { graph = refl; block = refl; begins = refl; waiting = refl; events = refl }
 giving-alike (location ∷ results) [] s = record { graph = refl; block = refl; begins = refl; waiting = refl; events = refl }

@@ -6,7 +6,7 @@ use Rattle.dcc_ir.specs.Tree.{Stmt, Set, Fetch, Store, Div, Call, Dos, Exit, If,
 use Rattle.dcc_ir.specs.Use.{reads_of, writes_of}
 use Rattle.dcc_ir.specs.Flow.{targets}
 
--- the statement only makes a value for a location: it is a Set or a Load
+-- the statement only makes a value for a location: a Set or a Load
 abbrev pub is_assignment : Stmt → Bool
 is_assignment (Set location e) = true
 is_assignment (Fetch location width address) = true
@@ -26,14 +26,15 @@ makes_of (Set location e) = reads_of e
 makes_of (Fetch location width address) = reads_of address
 makes_of stmt = []
 
--- the locations that the test of a block's end uses, or its values where it gives some back
+-- the locations that a block's end uses: those of its test, or of the values that it gives back
 abbrev pub tests_of : Exit → List Loc
 tests_of (If test one other) = reads_of test
 tests_of (Switch e places) = reads_of e
 tests_of (Ret values) = flat_map reads_of values
 tests_of exit = []
 
--- the least relation: the location is wanted in the block before these statements, which are the last ones of it
+-- the location is wanted in the block before these statements, which are its last ones; the least relation by the
+-- rules
 pub data IsWantedIn (graph : Graph) : Block → List Stmt → Loc → Type 0 where
   used : {block : Block} {stmt : Stmt} {rest : List Stmt} {location : Loc} → Contains (uses_of stmt) location
       → IsWantedIn graph block (stmt ∷ rest) location

@@ -33,13 +33,14 @@ is_exit_call _ = false
 abbrev pub stops_soundly : List Stmt → Exit → Bool
 stops_soundly stmts exit = not (is_stop exit) || list_any is_exit_call stmts
 
--- where the block goes on by these statements, without a Call, to its Switch, the value has a place in the list
+-- where the block goes on to its Switch by these statements, without a Call, the value has a place in the Switch's
+-- list
 abbrev pub HasPlace : List Stmt → State → Type 0
 HasPlace stmts s = (e : Expr) (places : List ℕ) → s.running.block.exit ≡ Switch e places
     → list_any is_call stmts ≡ false → is_over (execute stmts s).end ≡ false
     → value_in (execute stmts s) e < length places
 
--- so it is in every state that a run reaches
+-- in every state that a run reaches the value of a Switch has a place in its list
 abbrev pub SwitchesHavePlaces : Program → Type 0
 SwitchesHavePlaces p = (fill : ℕ) (input : List ℕ) → fill < 65536 → AreBytes input → (n : ℕ)
     → HasPlace (reached p fill input n).running.rest (reached p fill input n)

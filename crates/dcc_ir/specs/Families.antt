@@ -1,4 +1,4 @@
--- Which locations matter where, and statements that may go since what they set doesn't.
+-- Which locations matter where, and assignments that may go since what they set doesn't matter.
 use Rattle.std.specs.Prelude.{◌≡◌, ℕ, true, false, ◌⊎◌, List, [], ◌∷◌, Contains, slice_get, Some}
 use Rattle.std.specs.List.{AllZip}
 use Rattle.dcc_ir.specs.declared.syntax.Loc.{Loc}
@@ -8,13 +8,13 @@ use Rattle.dcc_ir.specs.Demand.{is_assignment, uses_of, makes_of, tests_of, IsWa
 use Rattle.dcc_ir.specs.Flow.{targets}
 use Rattle.dcc_ir.specs.Live.{block_in, reads_first, writes, IsLiveAfter}
 
--- for a block and the last statements of it, the locations that matter before them
+-- a family: which locations matter before the last statements of a block
 abbrev pub Family : Type 1
 Family = Block → List Stmt → Loc → Type 0
 
--- What a statement or a block's end uses matters before it. Where a location that a statement makes matters after it,
--- what it is made of matters before it; what matters after a statement that doesn't write it matters before it too. And
--- what matters where a block begins matters at the end of each block that goes there.
+-- A family is closed: what a statement or a block's end uses matters before it; where a location that a statement
+-- makes matters after it, what it is made of matters before it; what matters after a statement that doesn't write it
+-- matters before it too; and what matters where a block begins matters at the end of each block that goes there.
 pub record IsClosed (graph : Graph) (family : Family) : Type 0 where
   pub used : (block : Block) (stmt : Stmt) (rest : List Stmt) (location : Loc) → Contains (uses_of stmt) location
       → family block (stmt ∷ rest) location
@@ -37,7 +37,8 @@ IsLiveAtStart graph place location =
     (reads_first block.stmts block.exit location ≡ true)
     ⊎ ((writes block.stmts location ≡ false) × IsLiveAfter graph place location)
 
--- what is live
+-- the family of what is live: the rest of the block reads the location first, or doesn't write it and the location is
+-- live at the begin of a block to which the block goes
 abbrev pub live : Graph → Family
 live graph block stmts location =
     (reads_first stmts block.exit location ≡ true)
@@ -48,7 +49,7 @@ live graph block stmts location =
 abbrev pub everything : Family
 everything block stmts location = Unit {0}
 
--- none of the locations that the statement writes is one of these
+-- the statement writes no location of the kind
 abbrev pub WritesNone : (Loc → Type 0) → Stmt → Type 0
 WritesNone Has stmt = (location : Loc) → Contains (writes_of stmt) location → ¬ Has location
 
@@ -74,7 +75,7 @@ pub record IsGraphWithout (family : Family) (before after : Graph) : Type 0 wher
   pub bits : after.bits ≡ before.bits
   pub blocks : AllZip (IsBlockWithout family) before.blocks after.blocks
 
--- Each assignment among these last statements of the block makes a location that is wanted after it.
+-- Each assignment among the last statements of the block makes a location that is wanted after it.
 abbrev pub AllWanted : Graph → Block → List Stmt → Type 0
 AllWanted graph block [] = Unit {0}
 AllWanted graph block (stmt ∷ rest) =

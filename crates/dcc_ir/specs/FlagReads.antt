@@ -31,7 +31,7 @@ abbrev pub is_plain_load : Expr → Bool
 is_plain_load (Load width address) = not (holds_truth address || reads_flag address)
 is_plain_load e = true
 
--- a statement that sets a flag loads from such addresses alone
+-- a statement that sets a flag loads from addresses alone that hold no truth and read no flag
 abbrev pub loads_plainly : Stmt → Bool
 loads_plainly (Set (Flag f) e) = list_all is_plain_load (parts_of e)
 loads_plainly stmt = true
@@ -50,7 +50,8 @@ nests_flatly stmt = true
 abbrev pub all_stmts : (Stmt → Bool) → Graph → Bool
 all_stmts test graph = list_all (λ b. list_all test b.stmts) graph.blocks
 
--- the statements that set a flag read flags so, and load from such addresses alone
+-- each statement of the graph that sets a flag reads flags as the negation of one or as an arm of a choice alone, and
+-- loads from addresses alone that hold no truth and read no flag
 pub record FlagsReadPlainly (graph : Graph) : Type 0 where
   pub flat : all_stmts nests_flatly graph ≡ true
   pub plain : all_stmts loads_plainly graph ≡ true

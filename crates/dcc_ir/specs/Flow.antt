@@ -5,7 +5,7 @@ use Rattle.std.specs.List.{list_any}
 use Rattle.dcc_ir.specs.Tree.{Exit, Goto, If, Switch, Ret, Stop, Block, Graph, Program}
 use Rattle.dcc_ir.specs.Run.{graph_at, no_graph}
 
--- the address of the first block, the addresses of all, and the edges between them
+-- a flow graph: the address of the first block, the addresses of all, and the edges between them
 pub record Flow : Type 0 where
   pub start : ℕ
   pub has : ℕ → Bool
@@ -51,12 +51,12 @@ flow_at p entry = flow_of (graph_or_none (graph_at p.graphs entry))
 
 -- Paths.
 
--- along these blocks, each of the kind, edges lead from the one block to the other
+-- along the blocks of the list, each of the kind, edges lead from the one block to the other
 abbrev pub IsPath : (ℕ → ℕ → Bool) → (ℕ → Type 0) → ℕ → List ℕ → ℕ → Type 0
 IsPath goes Between a [] c = goes a c ≡ true
 IsPath goes Between a (b ∷ bs) c = (goes a b ≡ true) × Between b × IsPath goes Between b bs c
 
--- of any kind
+-- the kind of all blocks
 abbrev pub Any : ℕ → Type 0
 Any a = Unit {0}
 
@@ -71,9 +71,9 @@ Reached flow a = ((a ≡ flow.start) × (flow.has a ≡ true))
 abbrev pub Leads : Flow → Flow → ℕ → ℕ → Type 0
 Leads p q a b = (between : List ℕ) × IsPath p.goes (λ c. q.has c ≡ false) a between b
 
--- The second graph has a part of the first one's blocks, the first block among them. Every closed path of reached
--- blocks holds one of them. The edges between them are those of the first graph, with each other block taken into the
--- block before it: each other reached block lies after one of them alone.
+-- The second flow graph has a part of the first one's blocks, the first block among them. Every closed path of reached
+-- blocks holds one of the second's. The edges between the second's blocks are those of the first graph, with each
+-- other block taken into the block before it: each other reached block lies after one of them alone.
 pub record IsContraction (p q : Flow) : Type 0 where
   pub start : q.start ≡ p.start
   pub blocks : (a : ℕ) → q.has a ≡ true → p.has a ≡ true

@@ -7,7 +7,7 @@ use Rattle.dcc_ir.specs.Value.{width_of}
 use Rattle.dcc_ir.specs.Flow.{targets}
 use Rattle.dcc_ir.specs.WellFormed.{is_jump, ret_widths}
 
--- a call, of whose arguments the widths alone are told
+-- the signature of a call: of its arguments the widths alone are told
 pub record Signature : Type 0 where
   pub results : List Loc
   pub entry : ℕ

@@ -50,7 +50,7 @@ same_flag true b = b
 same_flag false true = false
 same_flag false false = true
 
--- the two are one tree
+-- the two expressions are one tree
 abbrev pub same_expr : Expr → Expr → Bool
 same_expr (Const w n) (Const w' n') = w == w' && n == n'
 same_expr (Get location) (Get location') = same_location location location'
@@ -70,7 +70,8 @@ abbrev pub told_by_location : Loc → Option ℕ
 told_by_location (Temp n) = None
 told_by_location location = Some (location_width [] location)
 
--- a read of a temporary tells none; a Join and a Choose tell it by their parts
+-- the width that an expression tells, if any: a read of a temporary tells none; a Join and a Choose tell it by their
+-- parts
 abbrev pub told_by : Expr → Option ℕ
 told_by (Const width n) = Some width
 told_by (Get location) = told_by_location location
@@ -98,7 +99,7 @@ abbrev pub is_constant_of : ℕ → Expr → Bool
 is_constant_of width (Const w n) = w == width
 is_constant_of width _ = false
 
--- that constant of that width
+-- the expression is the constant of this width and number
 abbrev pub is_number : ℕ → ℕ → Expr → Bool
 is_number width n (Const w m) = w == width && m == n
 is_number width n _ = false
@@ -134,7 +135,7 @@ zero_of width = 0
 abbrev pub one_of : ℕ → ℕ
 one_of width = 1
 
--- an operator twice in a row, at one width
+-- the expression has a unary operator twice in a row, at one width
 abbrev pub is_twice : UnOp → Expr → Bool
 is_twice operator (Unary op width (Unary op' width' a)) = same_unary op operator && same_unary op' operator
     && width == width'
@@ -149,7 +150,8 @@ is_sum_of_sum outer inner _ = false
 abbrev pub is_shift : BinOp → Bool
 is_shift operator = same_binary operator Shl || same_binary operator Shr || same_binary operator Sar
 
--- a shift, a comparison or a unary operator on constants
+-- the expression is a shift of constants; `is_comparison_of_constants`: a comparison of constants;
+-- `is_unary_of_constant`: a unary operator on one
 abbrev pub is_shift_of_constants : Expr → Bool
 is_shift_of_constants (Binary operator width a b) = is_shift operator && are_constants width a b
 is_shift_of_constants _ = false
@@ -162,7 +164,7 @@ abbrev pub is_unary_of_constant : Expr → Bool
 is_unary_of_constant (Unary operator width a) = is_constant_of width a
 is_unary_of_constant _ = false
 
--- a Part or Widen of a constant
+-- the expression is a Part or Widen of a constant
 abbrev pub is_cut_constant : Expr → Bool
 is_cut_constant (Part width first a) = is_constant a
 is_cut_constant (Widen signed width a) = is_constant a
@@ -172,7 +174,7 @@ abbrev pub is_joined_constant : Expr → Bool
 is_joined_constant (Join high low) = is_constant high && is_constant low
 is_joined_constant _ = false
 
--- the lower half, and the upper half, of a Join
+-- the expression is the lower half of a Join; `is_high_of_join`: the upper half
 abbrev pub is_low_of_join : Expr → Bool
 is_low_of_join (Part width first (Join high low)) = first == 0 && tells (Join high low) (width + width)
 is_low_of_join _ = false
@@ -181,18 +183,18 @@ abbrev pub is_high_of_join : Expr → Bool
 is_high_of_join (Part width first (Join high low)) = first == width && tells (Join high low) (width + width)
 is_high_of_join _ = false
 
--- the two halves of one expression, joined
+-- the expression joins the two halves of one expression
 abbrev pub is_join_of_halves : Expr → Bool
 is_join_of_halves (Join (Part width first x) (Part width' first' x')) =
     width == width' && first == width && first' == 0 && same_expr x x' && tells x (width + width)
 is_join_of_halves _ = false
 
--- all bits of an expression
+-- the expression is a Part that takes all bits of its operand
 abbrev pub is_whole_part : Expr → Bool
 is_whole_part (Part width first x) = first == 0 && tells x width
 is_whole_part _ = false
 
--- the bits of an expression that was widened
+-- the expression is a Part of an expression that was widened
 abbrev pub is_part_of_widen : Expr → Bool
 is_part_of_widen (Part width first (Widen signed width' x)) = first == 0 && tells x width
 is_part_of_widen _ = false

@@ -19,15 +19,15 @@ use Rattle.dcc_ir.specs.Live.{is_among}
 use Rattle.dcc_ir.specs.Measure.{nodes_of, deepest, is_truth, truths_of}
 use Rattle.dcc_ir.specs.Rules.{are_widths}
 
--- these statements one after another, up to the end of the run
+-- the state after the statements, one after another, up to the end of the run
 abbrev pub performed : List Stmt → State → State
 performed [] s = s
 performed (stmt ∷ stmts) s =
     let next = stmt_step stmt s in
     if is_over next.end then next else performed stmts next
 
--- The two end alike, with the same events and the same input left; and where the run goes on, they have the same
--- memory, and the same values at all but these locations.
+-- Two states end alike, with the same events and the same input left; and where the run goes on, they have the same
+-- memory, and the same values at all locations but the given ones.
 pub record SameBut (locations : List Loc) (s t : State) : Type 0 where
   pub end : t.end ≡ s.end
   pub events : t.events ≡ s.events
@@ -51,7 +51,7 @@ ends_in_long bits (location ∷ locations) = ends_in_long bits locations
 abbrev pub all_exprs : List Stmt → List Expr
 all_exprs stmts = flat_map exprs_of stmts
 
--- the locations and the addresses that they name
+-- the locations and the distances of addresses that the statements name
 abbrev pub named_by : List Stmt → List Loc
 named_by stmts = flat_map reads_of (all_exprs stmts) ++ flat_map writes_of stmts
 
@@ -64,7 +64,7 @@ all_nodes stmts = sum_by nodes_of (all_exprs stmts)
 abbrev pub all_truths : List Stmt → ℕ
 all_truths stmts = sum_by truths_of (all_exprs stmts)
 
--- a Set, Load or Div, and its expression
+-- the expression of a Set, Load or Div
 abbrev pub assigned_by : Stmt → List Expr
 assigned_by (Set location e) = e ∷ []
 assigned_by (Fetch location width address) = address ∷ []
@@ -96,8 +96,9 @@ pub record IsWindow (bits : List ℕ) (given : List Stmt) (locations : List Loc)
   pub no_calls : list_any is_call given ≡ false
   pub long : ends_in_long bits locations ≡ true
 
--- The other statements do what the given ones do but at these locations, and are well formed, hold no call, have fewer
--- nodes and at most one truth node, name nothing else, and have no expression that is both over 32 deep and deeper.
+-- The statements of an idiom do what the given ones do but at the listed locations. They are well formed, hold no
+-- call, have fewer nodes and at most one truth node, name nothing that the given ones don't, and have no expression
+-- that is both over 32 deep and deeper than each of the given ones.
 pub record IsShorter (bits : List ℕ) (given : List Stmt) (locations : List Loc) (other : List Stmt) : Type 0 where
   pub formed : list_all (is_stmt bits) other ≡ true
   pub no_calls : list_any is_call other ≡ false

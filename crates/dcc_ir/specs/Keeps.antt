@@ -24,7 +24,7 @@ block_or_none None = no_block
 abbrev pub block_at : Program → ℕ → ℕ → Block
 block_at p entry at = block_or_none (find (λ block. block.at == at) (graph_or_none (graph_at p.graphs entry)).blocks)
 
--- the calls of that block, in their order
+-- the calls of the block at an address, in their order
 abbrev pub calls_at : Program → ℕ → ℕ → List (ℕ × ℕ)
 calls_at p entry at = flat_map calls_of (block_at p entry at).stmts
 
@@ -51,12 +51,12 @@ pub record Keeps (p q : Program) : Type 0 where
   pub flow : (entry : ℕ) → IsContraction (flow_at p entry) (flow_at q entry)
   pub calls : (entry : ℕ) → KeepsCalls p q entry
 
--- the same of a single pass, in which each block that goes has one edge in
+-- a pass that is made once keeps the program, and each reached block that goes has one edge in
 pub record KeepsInOne (p q : Program) : Type 0 where
   pub keeps : Keeps p q
   pub edges : (entry : ℕ) → HaveOneEdge (flow_at p entry) (flow_at q entry)
 
--- for each stack param, in their order, whether it is in memory
+-- for each stack param of the graph, in their order, whether it is in memory
 abbrev pub stack_params : Graph → List Bool
 stack_params graph = map (λ q. is_memory q.put) (filter (λ q. q.stack) graph.params)
 

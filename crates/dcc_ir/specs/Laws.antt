@@ -29,7 +29,7 @@ StatementsAreExecuted = (graphs : List Graph) (fill : ℕ) (stmts rest : List St
 abbrev pub ProgramsKeepThemselves : Type 0
 ProgramsKeepThemselves = (p : Program) → Keeps p p
 
--- what two passes keep one after another
+-- where two passes keep a program one after another, both together keep it
 abbrev pub KeepsComposes : Type 0
 KeepsComposes = (p q r : Program) → Keeps p q → Keeps q r → Keeps p r
 
@@ -69,7 +69,7 @@ UnreadMayGo = (trim : Trim) (p : Program) → IsProgram p → IsProgram (trimmed
 abbrev pub WantedIsClosed : Type 0
 WantedIsClosed = (graph : Graph) → IsClosed graph (wanted graph)
 
--- what is live is one, where all reads count
+-- what is live is a closed family, where all reads count
 abbrev pub LiveIsClosed : Type 0
 LiveIsClosed = (graph : Graph) → IsClosed graph (live graph)
 

@@ -22,7 +22,7 @@ reads_first [] exit location = reads (exit_exprs exit) location
 reads_first (stmt ∷ stmts) exit location =
     reads (exprs_of stmt) location || (not (is_among (writes_of stmt) location) && reads_first stmts exit location)
 
--- one of these statements writes the location
+-- one of the statements writes the location
 abbrev pub writes : List Stmt → Loc → Bool
 writes stmts location = is_among (flat_map writes_of stmts) location
 

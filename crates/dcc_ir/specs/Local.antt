@@ -7,7 +7,8 @@ use Rattle.dcc_ir.specs.Run.{State, value_in, stuck, stmt_step, going_to, callin
 
 -- Points.
 
--- a point of a program: in the graph with that entry, in its block at that place, after so many of the block's calls
+-- a point of a program: in the graph with that entry, in the block at that place, after the given number of the
+-- block's calls
 pub record Point : Type 0 where
   pub entry : ℕ
   pub place : ℕ
@@ -27,7 +28,7 @@ after_call [] = []
 after_call (Call results entry arguments depth ∷ rest) = rest
 after_call (stmt ∷ rest) = after_call rest
 
--- the statements after so many calls
+-- the statements after a number of calls
 abbrev pub after_calls : ℕ → List Stmt → List Stmt
 after_calls zero stmts = stmts
 after_calls (suc calls) stmts = after_call (after_calls calls stmts)
@@ -41,8 +42,8 @@ pub record Request : Type 0 where
   pub arguments : List ℕ
   pub depth : ℕ
 
--- where a local run halts, and in which state: the run is over; a call is made, for which that state will wait; an edge
--- leads to the block at that place; values are given back
+-- where a local run halts, and in which state: the run is over; a call is made, for which the state will wait; an edge
+-- leads to the block at a place; values are given back
 pub data Halt : Type 0 where
   Over : State → Halt
   Calls : Request → State → Halt
@@ -61,7 +62,7 @@ exit_halt (Switch e places) s = switch_halt (slice_get places (value_in s e)) s
 exit_halt (Ret values) s = Returns (map (value_in s) values) s
 exit_halt Stop s = Over (stuck s)
 
--- the local run of these statements of the block
+-- the halt of the local run of the statements of a block
 abbrev pub local_run : List Stmt → State → Halt
 local_run [] s = exit_halt s.running.block.exit s
 local_run (Call results entry arguments depth ∷ rest) s =
@@ -75,7 +76,7 @@ local_run (stmt ∷ rest) s =
 abbrev pub halt_of : State → Halt
 halt_of s = local_run s.running.rest s
 
--- the state that a halt leads to: one step is a local run, and what it leads to
+-- the state that a halt leads to: a step of the run is a local run, and what its halt leads to
 abbrev pub led_to : List Graph → ℕ → Halt → State
 led_to graphs fill (Over s) = s
 led_to graphs fill (Calls call s) =

@@ -30,7 +30,7 @@ flag_number Zf = 1
 flag_number Sf = 2
 flag_number Of = 3
 
--- the two are one location
+-- the two are the same location
 abbrev pub same_location : Loc → Loc → Bool
 same_location (Half r h) (Half r' h') = (register_number r == register_number r') && (half_number h == half_number h')
 same_location (Flag f) (Flag f') = flag_number f == flag_number f'

@@ -4,7 +4,7 @@ use Rattle.dcc_ir.specs.Tree.{Expr, Const, Get, Load, Unary, Binary, Widen, Part
 use Rattle.dcc_ir.specs.Value.{is_comparison, is_test}
 use Rattle.dcc_ir.specs.Use.{parts_of}
 
--- the number of its nodes
+-- the number of an expression's nodes
 abbrev pub nodes_of : Expr → ℕ
 nodes_of e = length (parts_of e)
 
@@ -33,6 +33,6 @@ is_truth (Binary operator width a b) = is_comparison operator
 is_truth (Choose test a b) = true
 is_truth _ = false
 
--- the number of its truth nodes
+-- the number of an expression's truth nodes
 abbrev pub truths_of : Expr → ℕ
 truths_of e = count_by is_truth (parts_of e)

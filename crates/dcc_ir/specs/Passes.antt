@@ -17,17 +17,18 @@ pub record Pass : Type 1 where
   pub place : ℕ → ℕ → ℕ
   -- what holds between the arguments of a graph in the first program and in the second
   pub Enter : ℕ → List ℕ → List ℕ → Type 0
-  -- what holds between the values that they give back; the first list is the arguments of the first program's graph
+  -- what holds between the values that a graph gives back in the first program and in the second; the first list is
+  -- the arguments of the first program's graph
   pub Leave : ℕ → List ℕ → List ℕ → List ℕ → Type 0
-  -- what holds between the values at a point of the second program and at that of the first which stands for it; the
-  -- list is the arguments of the first program's graph
+  -- what holds between the locations' values at a point of the second program and at the point of the first that
+  -- stands for it; the list is the arguments of the first program's graph
   pub Inv : List ℕ → Point → Values → Values → Type 0
 
 -- the point of the first program that stands for one of the second
 abbrev pub point_before : Pass → Point → Point
 point_before pass point = record point { place = pass.place point.entry point.place }
 
--- the values after locations have taken these, one after another
+-- the values after a list of locations has taken a list of numbers, one after another
 abbrev pub with_values : Values → List Loc → List ℕ → Values
 with_values values (location ∷ locations) (n ∷ ns) = with_values (with_value values location n) locations ns
 with_values values _ _ = values
@@ -42,20 +43,20 @@ FitIn _ _ = ⊥
 abbrev pub param_widths : Graph → List ℕ
 param_widths graph = map (λ q. put_width graph.bits q.put) graph.params
 
--- the activation stands at that point of the program
+-- the activation stands at the point of the program
 pub record IsAt (p : Program) (point : Point) (a : Activation) : Type 0 where
   pub graph : graph_at p.graphs point.entry ≡ Some a.graph
   pub block : slice_get a.graph.blocks point.place ≡ Some a.block
   pub rest : a.rest ≡ after_calls point.calls a.block.stmts
   pub begins : a.begins ≡ (point.calls == 0)
 
--- the run stands at that point of the program, and goes on; what it holds fits its widths
+-- the run stands at the point of the program, and goes on; what it holds fits its widths
 pub record Stands (p : Program) (point : Point) (s : State) : Type 0 where
   pub at : IsAt p point s.running
   pub running : is_over s.end ≡ false
   pub fits : StateFits s
 
--- outside the locations two runs have the same wherever they are compared
+-- two runs that are compared have the same outside of locations: memory, input, events and the base of the frame
 pub record AgreeOutside (s t : State) : Type 0 where
   pub memory : t.memory ≡ s.memory
   pub input : t.input ≡ s.input
@@ -73,8 +74,8 @@ pub record AreTogether (p q : Program) (pass : Pass) (arguments : List ℕ) (poi
 
 -- Where two local runs meet.
 
--- Both call one graph at one depth, from the block of that point itself. What the callees may give back makes the
--- values fit after the call.
+-- Two local runs meet at calls: both call one graph at one depth, from the block of the point itself. What the callees
+-- may give back makes the values fit after the call.
 pub record CallAlike (pass : Pass) (arguments : List ℕ) (point : Point) (dropped : ℕ) (call : Request) (s : State)
     (other : Request) (t : State) : Type 0 where
   pub at_once : dropped ≡ 0
@@ -88,25 +89,26 @@ pub record CallAlike (pass : Pass) (arguments : List ℕ) (point : Point) (dropp
       → pass.Inv arguments (next_of point) (with_values s.running.values call.results r)
       (with_values t.running.values other.results r')
 
--- Both go to one block.
+-- Two local runs meet at edges: both go to one block.
 pub record JumpAlike (pass : Pass) (arguments : List ℕ) (entry place : ℕ) (s : State) (other : ℕ)
     (t : State) : Type 0 where
   pub stands : place ≡ pass.place entry other
   pub outside : AgreeOutside s t
   pub holds : pass.Inv arguments (record { entry = entry; place = other; calls = 0 }) s.running.values t.running.values
 
--- Both give values back.
+-- Two local runs meet at returns: both give values back that may stand for each other.
 pub record ReturnAlike (pass : Pass) (arguments : List ℕ) (entry : ℕ) (r : List ℕ) (s : State) (r' : List ℕ)
     (t : State) : Type 0 where
   pub outside : AgreeOutside s t
   pub leaves : pass.Leave entry arguments r r'
 
--- Both end, with the same events; the memory doesn't matter any more.
+-- Two local runs meet at their ends: both end alike, with the same events; the memory doesn't matter any more.
 pub record EndAlike (s t : State) : Type 0 where
   pub end : t.end ≡ s.end
   pub events : t.events ≡ s.events
 
--- the local runs from a point meet again, the first one after so many dropped blocks
+-- the halts of the local runs from a point are where the two meet again, the first one after a number of dropped
+-- blocks
 abbrev pub Meet : Pass → List ℕ → Point → ℕ → Halt → Halt → Type 0
 Meet pass arguments point dropped (Over s) (Over t) = EndAlike s t
 Meet pass arguments point dropped (Calls call s) (Calls other t) = CallAlike pass arguments point dropped call s other t
@@ -114,7 +116,7 @@ Meet pass arguments point dropped (Jumps place s) (Jumps other t) = JumpAlike pa
 Meet pass arguments point dropped (Returns r s) (Returns r' t) = ReturnAlike pass arguments point.entry r s r' t
 Meet pass arguments point dropped _ _ = ⊥
 
--- The local run goes on through so many blocks that the flow graph hasn't, and so comes to a halt of that kind.
+-- The local run goes on through `n` blocks that the flow graph hasn't, and then comes to a halt of the kind.
 abbrev pub GoesOn : Flow → ℕ → (Halt → Type 0) → Halt → Type 0
 GoesOn flow zero Kind halt = Kind halt
 GoesOn flow (suc n) Kind (Jumps place s) =
@@ -145,10 +147,9 @@ pub record OwesBegin (pass : Pass) (entry : ℕ) (before after : Graph) : Type 0
       → t.running ≡ activation after (filled after.bits fill) base
       → BeginAlike pass entry a (passing 0 before.params a s) (passing 0 after.params a' t)
 
--- From a point where the pass says of the values what it says, both local runs meet again. How many dropped blocks the
--- first one goes through is for the pass to tell: where each closed path holds a block that stays, there are at most as
--- many as blocks are dropped. So an endless run through dropped blocks meets nothing, and nothing is asked of closed
--- paths here.
+-- From each point at which two runs are together, their local runs meet again. How many dropped blocks the first one
+-- goes through is for the pass to tell: where each closed path holds a block that stays, there are at most as many as
+-- blocks are dropped. An endless run through dropped blocks meets nothing, so nothing is asked of closed paths here.
 abbrev pub OwesGo : Program → Program → Pass → Type 0
 OwesGo p q pass = (arguments : List ℕ) (point : Point) (s t : State) → AreTogether p q pass arguments point s t
     → (dropped : ℕ)

@@ -47,7 +47,7 @@ abbrev pub bytes_of_param : ℕ → Option Param → List Expr
 bytes_of_param j (Some p) = bytes_at_put j p.put
 bytes_of_param j None = []
 
--- the bytes of the argument words of these numbers
+-- the bytes of the argument words of the given numbers
 abbrev pub bytes_of : List Param → List ℕ → List Expr
 bytes_of words numbers = flat_map (λ j. bytes_of_param j (slice_get words j)) numbers
 
@@ -56,12 +56,13 @@ pub record AreNumbers (params : List Param) (numbers : List ℕ) : Type 0 where
   pub ascending : IsStrictlyIncreasing numbers
   pub words : All (λ j. j < length params) numbers
 
--- a Ret gives the halves and flags, then the bytes of the argument words of these numbers
+-- a Ret gives the halves and flags, then the bytes of the argument words of the given numbers
 abbrev pub RetPasses : List Param → List ℕ → Exit → Type 0
 RetPasses words numbers (Ret values) = values ≡ map Get passed ++ bytes_of words numbers
 RetPasses words numbers _ = Unit {0}
 
--- the graph takes argument words, halves and flags, and gives back the halves, the flags and the words of these numbers
+-- the graph takes argument words, halves and flags, and gives back the halves, the flags and the argument words of the
+-- given numbers
 pub record GraphPasses (numbers : List ℕ) (graph : Graph) : Type 0 where
   pub words : List Param
   pub params : PassesIn words graph
@@ -70,8 +71,8 @@ pub record GraphPasses (numbers : List ℕ) (graph : Graph) : Type 0 where
 
 -- Calls.
 
--- a Call takes words, then the caller's halves and flags, and sets these and then a temporary of its own for each byte of
--- the words of these numbers, in the order in which the callee gives them
+-- a Call takes words, then the caller's halves and flags, and sets the halves and flags and then a temporary of its
+-- own for each byte of the words of the given numbers, in the order in which the callee gives them
 pub record CallPasses (numbers : List ℕ) (results : List Loc) (arguments : List Expr) : Type 0 where
   pub words : List Expr
   pub taken : arguments ≡ words ++ map Get passed
@@ -80,7 +81,7 @@ pub record CallPasses (numbers : List ℕ) (results : List Loc) (arguments : Lis
   pub differ : all_differ temporaries ≡ true
   pub two : length temporaries ≡ 2 * length numbers
 
--- the callee gives back what the entries tell
+-- a statement, if it is a Call, sets what its callee gives back by the callee's entry
 abbrev pub StmtPasses : (ℕ → List ℕ) → Stmt → Type 0
 StmtPasses back (Call results entry arguments depth) = CallPasses (back entry) results arguments
 StmtPasses back _ = Unit {0}

@@ -20,17 +20,17 @@ use Rattle.dcc_ir.specs.Location.{Values, with_value, filled}
 use Rattle.dcc_ir.specs.Value.{Scene}
 use Rattle.dcc_ir.specs.Run.{Activation, Waiting, State, no_block}
 
--- what happens at the console
+-- the event of the definitions that a happening of the plain run stands for
 abbrev pub event_of : Happening → Event
 event_of (Writes byte) = Wrote byte
 event_of (Takes byte) = Took byte
 event_of MeetsEnd = MetEnd
 
--- the values after locations have taken these, one after another, from the fill on
+-- the values after locations have taken what the plain run holds, one after another, from the fill on
 abbrev pub values_of : List ℕ → ℕ → List Held → Values
 values_of bits fill held = fold (λ values h. with_value values h.at h.bits) (filled bits fill) held
 
--- what the expressions read
+-- what the expressions read in a view of the plain run
 abbrev pub scene_of : View → Scene
 scene_of view = record {
   bits = view.bits.now;
@@ -39,7 +39,7 @@ scene_of view = record {
   memory = view.memory.now;
 }
 
--- how a run ends
+-- the end of the definitions that an ending of the plain run stands for
 abbrev pub end_of : Ending → End
 end_of StillRunning = Running
 end_of (Exits code) = ExitWith code

@@ -8,7 +8,7 @@ use Rattle.dcc_ir.specs.Keeps.{KeepsInOne}
 abbrev pub with_graph : Graph → Program → Program
 with_graph graph p = record p { graphs = map (λ g. if g.entry == graph.entry then graph else g) p.graphs }
 
--- the program stays well formed, and is kept
+-- with the graph in place of the one with its entry the program stays well formed, and is kept
 pub record IsKeptWith (graph : Graph) (p : Program) : Type 0 where
   pub formed : IsProgram (with_graph graph p)
   pub keeps : KeepsInOne p (with_graph graph p)

@@ -35,7 +35,7 @@ pub record RuleAnswers (id : ℕ) (given : Expr) (answer : Option Expr) : Type 0
   pub simpler : (other : Expr) → answer ≡ Some other → IsSimpler given other
   pub form : 1 ≤ id → id ≤ 40 → (answer ≡ None) ↔ (has_form id given ≡ false)
 
--- no part of the expression has the form of one of these numbers
+-- no part of the expression has the form of one of the numbers
 abbrev pub is_normal : List ℕ → Expr → Bool
 is_normal ids e = list_all (λ part. list_all (λ id. not (has_form id part)) ids) (parts_of e)
 

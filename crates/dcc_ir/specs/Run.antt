@@ -35,9 +35,9 @@ pub record Waiting : Type 0 where
 -- a state of the run
 pub record State : Type 0 where
   pub running : Activation
-  -- the innermost first
+  -- the activations that wait, the innermost first
   pub waiting : List Waiting
-  -- 65,536 bytes
+  -- the memory, of 65,536 bytes
   pub memory : List ℕ
   -- the input bytes that are not yet read, and what has happened at the console so far, the oldest first
   pub input : List ℕ
@@ -72,19 +72,20 @@ abbrev pub dividing : Loc → Option ℕ → State → State
 dividing location (Some n) s = setting location n s
 dividing location None s = ended Divide s
 
--- these events happen at the console
+-- the state after these events at the console
 abbrev pub happening : List Event → State → State
 happening events s = record s { events = s.events ++ events }
 
 abbrev pub writing : List ℕ → State → State
 writing bytes s = happening (writes bytes) s
 
--- the place takes a byte, where there is one
+-- the state after the place has taken a byte, where there is a place
 abbrev pub taking : Option Loc → ℕ → State → State
 taking (Some location) byte s = setting location byte s
 taking None byte s = s
 
--- the next of these input bytes is taken, and then written too where it is echoed; where there is none, 1Ah is taken
+-- the state after the next input byte was taken, and then written too where it is echoed; where there is none, 1Ah is
+-- taken
 abbrev pub keyed : Bool → Option Loc → List ℕ → State → State
 keyed echo place [] s = happening (MetEnd ∷ []) (taking place 0x1A s)
 keyed echo place (byte ∷ input) s =
@@ -149,7 +150,7 @@ entering None s = stuck s
 abbrev pub going_to : ℕ → State → State
 going_to place s = entering (slice_get s.running.graph.blocks place) s
 
--- one argument, the one at place j, goes where its param says
+-- the state after the argument at place j has gone where its param says
 abbrev pub putting : ℕ → Put → ℕ → State → State
 putting j Memory n s = storing 16 (s.running.base + 2 * j) n s
 putting j (One location) n s = setting location n s
@@ -256,6 +257,6 @@ abbrev pub block_mark : State → Option Place
 block_mark s =
     if s.running.begins then Some (record { entry = s.running.graph.entry; at = s.running.block.at }) else None
 
--- the same runs, of which the blocks are marked; no step is foul
+-- the runs of a program, with this fill, of which the blocks are marked; no step is foul
 abbrev pub watched_inner : Program → ℕ → Watched State Place
 watched_inner p fill = record { system = inner_system p fill; mark = block_mark; foul = λ s. false }

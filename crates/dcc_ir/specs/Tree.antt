@@ -7,35 +7,35 @@ use Rattle.dcc_ir.specs.declared.syntax.Param.{Param}
 
 -- an expression; a width is a number of bits
 pub data Expr : Type 0 where
-  -- a width and a number
+  -- a constant: its width and its number
   Const : ℕ → ℕ → Expr
   Get : Loc → Expr
-  -- so many bits of the memory, from an address on
+  -- a load: the number of bits, and the address
   Load : ℕ → Expr → Expr
-  -- an operator, the width of its operands, and these
+  -- a unary operator, the width of its operand, and the operand; `Binary`: with two operands
   Unary : UnOp → ℕ → Expr → Expr
   Binary : BinOp → ℕ → Expr → Expr → Expr
-  -- whether by its sign, the new width, and the operand
+  -- a wider number: whether by its sign, the new width, and the operand
   Widen : Bool → ℕ → Expr → Expr
-  -- the new width, the first bit, and the operand
+  -- a part of the bits: the new width, the first bit, and the operand
   Part : ℕ → ℕ → Expr → Expr
-  -- the upper and the lower half
+  -- two halves joined: the upper and the lower one
   Join : Expr → Expr → Expr
   Choose : Expr → Expr → Expr → Expr
-  -- the distance from the base of the frame
+  -- an address in the frame: the distance from its base
   Address : ℕ → Expr
 
 -- a statement
 pub data Stmt : Type 0 where
   Set : Loc → Expr → Stmt
-  -- the location, the bits that are loaded into it, and the address
+  -- a load into a location: the location, the number of bits, and the address
   Fetch : Loc → ℕ → Expr → Stmt
-  -- the bits that are stored, the address, and the value
+  -- a store: the number of bits, the address, and the value
   Store : ℕ → Expr → Expr → Stmt
   Div : Loc → Expr → Stmt
-  -- the places of the results, the entry of the callee, the arguments, and the depth
+  -- a call: the places of the results, the entry of the callee, the arguments, and the depth
   Call : List Loc → ℕ → List Expr → ℕ → Stmt
-  -- the number of the DOS call, the place of its byte, and its argument
+  -- a DOS call: its number, the place of its byte, and its argument
   Dos : ℕ → Option Loc → Option Expr → Stmt
 
 -- how a block ends; a block is named by its place in the graph

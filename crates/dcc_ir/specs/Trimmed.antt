@@ -10,12 +10,13 @@ use Rattle.dcc_ir.specs.Flow.{graph_or_none}
 use Rattle.dcc_ir.specs.Run.{graph_at}
 use Rattle.dcc_ir.specs.Passes.{Pass}
 
--- for the graph with that entry and each place in its list, whether the argument, or the value given back, stays
+-- what is trimmed: for the graph with an entry and each place in its list, whether the argument, or the value given
+-- back, stays
 pub record Trim : Type 0 where
   pub takes : ℕ → ℕ → Bool
   pub gives : ℕ → ℕ → Bool
 
--- all stay
+-- nothing is trimmed: all arguments and values stay
 abbrev pub nothing_trimmed : Trim
 nothing_trimmed = record { takes = λ entry k. true; gives = λ entry k. true }
 
@@ -24,7 +25,7 @@ abbrev pub kept : {A : Type 0} → (ℕ → Bool) → List A → List A
 kept stays [] = []
 kept stays (x ∷ xs) = if stays 0 then x ∷ kept (λ k. stays (suc k)) xs else kept (λ k. stays (suc k)) xs
 
--- the others
+-- the elements of a list whose places fail the test
 abbrev pub dropped : {A : Type 0} → (ℕ → Bool) → List A → List A
 dropped stays xs = kept (λ k. not (stays k)) xs
 
@@ -52,7 +53,7 @@ trimmed trim p = record p { graphs = map (trim_graph trim) p.graphs }
 abbrev pub reads_in : Graph → List Loc
 reads_in graph = flat_map reads_of (graph_exprs graph)
 
--- the location is none of these
+-- the location is none of those that are read
 abbrev pub IsUnread : List Loc → Loc → Type 0
 IsUnread reads location = All (λ read. same_location read location ≡ false) reads
 

@@ -26,11 +26,11 @@ abbrev pub addressed_by : Expr → List ℕ
 addressed_by (Address distance) = distance ∷ []
 addressed_by _ = []
 
--- the locations that an expression reads, as often as it does
+-- the locations that an expression reads, each as often as the expression reads it
 abbrev pub reads_of : Expr → List Loc
 reads_of e = flat_map got_by (parts_of e)
 
--- the distances of its Addresses
+-- the distances of the Addresses in an expression
 abbrev pub addresses_of : Expr → List ℕ
 addresses_of e = flat_map addressed_by (parts_of e)
 
@@ -43,7 +43,7 @@ exprs_of (Div location e) = e ∷ []
 exprs_of (Call results entry arguments depth) = arguments
 exprs_of (Dos number place argument) = option_to_list argument
 
--- the locations that a statement writes, after it has read
+-- the locations that a statement writes
 abbrev pub writes_of : Stmt → List Loc
 writes_of (Set location e) = location ∷ []
 writes_of (Fetch location width address) = location ∷ []

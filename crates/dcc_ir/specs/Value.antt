@@ -25,7 +25,7 @@ abbrev pub is_test : UnOp → Bool
 is_test IsZero = true
 is_test _ = false
 
--- how many bits an expression has, where the temporaries have these
+-- how many bits an expression has, by the widths of the temporaries
 abbrev pub width_of : List ℕ → Expr → ℕ
 width_of bits (Const width n) = width
 width_of bits (Get location) = location_width bits location
@@ -100,12 +100,12 @@ binary_value operator width a b = unwrap_or (division_at operator width a b) 0
 abbrev pub byte_at : List ℕ → ℕ → ℕ
 byte_at memory address = slice_index memory (address % 65536)
 
--- the number of so many bytes from an address on, low byte first
+-- the number in `count` bytes from an address on, low byte first
 abbrev pub bytes_at : List ℕ → ℕ → ℕ → ℕ
 bytes_at memory zero address = 0
 bytes_at memory (suc count) address = byte_at memory address + 256 * bytes_at memory count (address + 1)
 
--- the memory after a number has been stored in so many bytes
+-- the memory after a number has been stored in `count` bytes
 abbrev pub with_bytes_at : List ℕ → ℕ → ℕ → ℕ → List ℕ
 with_bytes_at memory zero address n = memory
 with_bytes_at memory (suc count) address n =

@@ -22,7 +22,7 @@ is_width width = width == 1 || width == 8 || width == 16 || width == 32
 abbrev pub is_stored_width : ℕ → Bool
 is_stored_width width = width == 8 || width == 16 || width == 32
 
--- a temporary has a number below that of the temporaries
+-- the location is one of the graph: the number of a temporary is below that of the temporaries
 abbrev pub is_location : List ℕ → Loc → Bool
 is_location bits (Temp n) = nat_lt n (length bits)
 is_location bits _ = true
@@ -80,7 +80,7 @@ abbrev pub is_byte_place : List ℕ → Option Loc → Bool
 is_byte_place bits None = true
 is_byte_place bits (Some location) = is_location bits location && (location_width bits location == 8)
 
--- 02h and 4Ch take a byte, 09h takes an address, 01h and 08h give a byte
+-- a DOS call has what its number asks: 02h and 4Ch take a byte, 09h takes an address, 01h and 08h give a byte
 abbrev pub is_dos : List ℕ → ℕ → Option Loc → Option Expr → Bool
 is_dos bits number None (Some e) =
     ((number == 0x02 || number == 0x4C) && is_expr_of bits 8 e) || ((number == 0x09) && is_expr_of bits 16 e)
@@ -98,7 +98,7 @@ is_stmt bits (Call results entry arguments depth) =
     list_all (is_location bits) results && list_all (is_expr bits) arguments && nat_lt depth 65536
 is_stmt bits (Dos number place argument) = is_dos bits number place argument
 
--- the end of a block in a graph of so many blocks
+-- the end of a block in a graph of the given number of blocks
 abbrev pub is_exit : List ℕ → ℕ → Exit → Bool
 is_exit bits count (Goto place) = nat_lt place count
 is_exit bits count (If test one other) = is_expr_of bits 1 test && nat_lt one count && nat_lt other count
@@ -117,7 +117,7 @@ is_jump (If test one other) = true
 is_jump (Switch e places) = true
 is_jump _ = false
 
--- after a Call these statements have no further Call, and the block ends in a jump
+-- after a Call the statements have no further Call, and the block ends in a jump
 abbrev pub jumps_after_call : List Stmt → Exit → Bool
 jumps_after_call [] exit = true
 jumps_after_call (stmt ∷ stmts) exit =
@@ -178,7 +178,7 @@ abbrev pub ret_widths : List ℕ → Exit → List (List ℕ)
 ret_widths bits (Ret values) = map (width_of bits) values ∷ []
 ret_widths bits _ = []
 
--- the same of each block of a graph
+-- the widths of the values that the Rets of a graph give back
 abbrev pub all_ret_widths : Graph → List (List ℕ)
 all_ret_widths graph = flat_map (λ b. ret_widths graph.bits b.exit) graph.blocks
 

@@ -6,11 +6,11 @@ use crate::syntax::Loc;
 /// `CL`, `CH`, `DL`, `DH`, `BL`, `BH`, the halves of SI and of DI, and the flags CF, ZF, SF and OF.
 #[derive(Drop)]
 pub struct Sum {
-    /// Those that are wanted at the graph's entry; none for the first graph.
+    /// The halves and flags that are wanted at the graph's entry; none for the first graph.
     pub params: Vec<Loc>,
-    /// Those that the procedure changes and that are wanted after some call of it.
+    /// The halves and flags that the procedure changes and that are wanted after some call of it.
     pub results: Vec<Loc>,
-    /// Those that the procedure does not change.
+    /// The halves and flags that the procedure does not change.
     pub preserved: Vec<Loc>,
 }
 

@@ -65,7 +65,7 @@ pub enum UnOp {
 }
 
 impl UnOp {
-    /// Whether it gives one bit.
+    /// Whether the operator gives one bit.
     pub fn is_test(self) -> bool
         ensures { result ≡ value.is_test self }
     {
@@ -100,7 +100,7 @@ pub enum BinOp {
 }
 
 impl BinOp {
-    /// Whether it gives one bit.
+    /// Whether the operator is a comparison, which gives one bit.
     pub fn is_comparison(self) -> bool
         ensures { result ≡ value.is_comparison self }
     {

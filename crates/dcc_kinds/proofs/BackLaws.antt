@@ -30,11 +30,11 @@ use Rattle.dcc_lifted_demand.proofs.ListLaws.{in_flat, of_flat, only}
 
 -- Where a byte of the frame stands.
 
--- it is in memory
+-- the byte of the frame is in memory
 abbrev pub IsOpen : Procedure → ℤ → Type 0
 IsOpen q k = (distance : ℕ) × (frame_place q byte_width k ≡ memory byte_width (Address distance))
 
--- it stands in that location
+-- the byte of the frame stands in the location
 abbrev pub StandsIn : Procedure → ℤ → Loc → Type 0
 StandsIn q k l = frame_place q byte_width k ≡ byte l
 
@@ -82,7 +82,7 @@ backs height index (number ∷ numbers) =
 abbrev putting : Procedure → ℤ × ℕ → List Stmt
 putting q back = storing (frame_place q byte_width back.0) (Get (Temp back.1))
 
--- they go to where the frame has them
+-- the bytes that a call gives back go to where the frame has them
 abbrev pub put_back : Procedure → List (ℤ × ℕ) → List Stmt
 put_back q [] = []
 put_back q (back ∷ rest) = putting q back ++ put_back q rest
@@ -163,7 +163,7 @@ module _ (q : Procedure) where
           subst (λ ss. Contains (used ss []) (Temp c.1)) (sym (with_place c bs (memory byte_width (Address e.0)) e.1))
           (Contains-here (Temp c.1) (flat_map (before (open_stmt e.0 c.1)) (used (put_back q bs) [])))
 
-  -- Those in cells are carried there.
+  -- Bytes of argument words that stand in cells are carried there.
 
   written_cell : (n : ℕ) (h : HalfName) (l : Loc) → is_among (Cell n h ∷ []) l ≡ true → Cell n h ≡ l
   written_cell n h l t = only (Cell n h) l (among_contains (Cell n h ∷ []) l t)
@@ -259,7 +259,7 @@ module _ (q : Procedure) where
                 (subst (λ b. Contains (if b then Temp c.1 ∷ [] else l ∷ []) (Temp c.1)) (sym (cell n h f e)) (Contains-here (Temp c.1) []))),
           )
 
--- Which bytes they are.
+-- The bytes that a call gets back are those of the words of its arguments.
 
 le_told : (a b : ℤ) → a ≤ℤ b → int_le a b ≡ true
 le_told a b le = grind (arith, ints, le)

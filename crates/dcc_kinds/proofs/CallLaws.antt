@@ -183,7 +183,7 @@ module _ (image : Image) (program : Analysed) (p : Program) (is : IsTranslated i
       calls_there : StandsAt image layout at (CallOp target)
       calls_there = (node.instr, node_found.instr, calls)
 
-      -- it goes on
+      -- the CALL goes on at the next instruction
       pub goes_on : Contains node.succ.items (next_of at node.instr)
       goes_on =
           subst (λ nexts. Contains nexts (next_of at node.instr)) (sym told) (Contains-here (next_of at node.instr) [])

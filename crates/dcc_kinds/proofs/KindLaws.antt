@@ -200,7 +200,7 @@ module _ (image : Image) (program : Analysed) (p : Program) (like : IsLikeMachin
       no_graph : {g : Graph} → Some g ≡ None → ⊥
       no_graph e = cc e
 
-  -- And back.
+  -- From the machine's summaries to those of the lifted program.
 
   module _ (entry : ℕ) (x : refined.Link image program p is entry) (at : ℕ) (again : asked.IsReused (bodies_of program) (refined.body image program p is entry x) at) where
     module _ (node : Node) (stands : node_in x.proc.nodes.entries at ≡ Some node) where

@@ -155,7 +155,7 @@ map_once (a ∷ xs) (b ∷ ys) e = ap₂ (λ x xs. x ∷ xs) (one_location a b (
 
 -- Lists of just those of a kind.
 
--- those of a list that pass, in their order
+-- the locations of a list that pass, in their order
 ordered : (xs : List Location) → filter (λ l. is_among (map inner_of xs) l) inner.passed ≡ map inner_of (filter (λ a. list_any (is_same_location a) xs) asks.passed)
 ordered xs =
     filter_map_is inner_of (λ l. is_among (map inner_of xs) l) asks.passed

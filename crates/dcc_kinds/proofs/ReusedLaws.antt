@@ -84,7 +84,7 @@ module _ (image : Image) (program : Analysed) (p : Program) (is : IsTranslated i
     | inr f ↦ f
   ]
 
-  -- its block begins there
+  -- the block of a CALL begins at the CALL
   pub block_at : (block_in x.graph (begin_at scene at).block).at ≡ at
   block_at =
       let has = leader_block scene image.ip (refined.sound image program p is entry x) (front_of image program.layout scene) front_is x.is_graph.blocks x.is_graph.blocks_are at
@@ -313,7 +313,7 @@ module _ (image : Image) (program : Analysed) (p : Program) (like : IsLikeMachin
               | inr b ↦ kept_wanted l L after b.0 b.1 b.2 same_place goes later
             ]
 
-    -- And back.
+    -- From the machine to the lifted program.
 
     pub byte_wanted : IsWantedByte → (t : ℤ × ℕ) × IsWantedTemporary t
     byte_wanted b =

@@ -46,7 +46,7 @@ use Rattle.dcc_kinds.proofs.LocationLaws.{in_map, all_by, zipped_left, zipped_ri
 
 -- Each procedure beside its graph.
 
--- they have one entry, and the graph takes halves and flags, if it isn't the first one
+-- a procedure and its graph have one entry, and the graph takes halves and flags, if it isn't the first one
 pub record IsBeside (start : ℕ) (body : Body) (graph : Graph) : Type 0 where
   pub entry : entry_of body ≡ graph.entry
   pub words : List Param

@@ -23,7 +23,7 @@ pub record IsLikeMachine (image : Image) (program : Analysed) (p : Program) : Ty
 
 -- Constructs.
 
--- the construct that a fault is, in these procedures; want of memory is none
+-- a fault of the lifted program is a construct of the machine's procedures; want of memory is none
 abbrev pub IsConstructOf : List Body → SumsFault → Type 0
 IsConstructOf bodies (ArgumentReused at) = IsOfSummaries bodies ARGUMENT_REUSED at
 IsConstructOf bodies (SeveralResults at) = IsOfSummaries bodies SEVERAL_RESULTS at
@@ -35,13 +35,14 @@ FaultsAreConstructs =
     (image : Image) (program : Analysed) (p : Program) (fault : SumsFault) → IsLikeMachine image program p
     → IsFault p fault → IsConstructOf (bodies_of program) fault
 
--- What stands there may be told of the lifted program, if this has summaries at all.
+-- A construct of the machine's procedures may be told of the lifted program, if this has summaries at all.
 abbrev pub ConstructsAreFaults : Type 0
 ConstructsAreFaults =
     (image : Image) (program : Analysed) (p : Program) (sums : List Summary) (fault : SumsFault)
     → IsLikeMachine image program p → AreSums p sums → IsConstructOf (bodies_of program) fault → IsFault p fault
 
--- so nothing stands there where the summaries are some that a text can have
+-- no construct of summaries stands in the machine's procedures where the lifted program's summaries are some that a
+-- text can have
 abbrev pub SummedProgramsHaveNone : Type 0
 SummedProgramsHaveNone =
     (image : Image) (program : Analysed) (p : Program) (sums : List Summary) → IsLikeMachine image program p
@@ -57,8 +58,8 @@ inner_summary summary = record {
   preserved = map inner_of summary.preserved;
 }
 
--- these are the summaries of the machine's procedures just where they are those of the lifted program, and this has no
--- others
+-- The summaries of the machine's procedures are just those of the lifted program, in the locations of the inner
+-- language, and the lifted program has no others.
 pub record SummariesAreLifted : Type 0 where
   pub are :
       (image : Image) (program : Analysed) (p : Program) (summaries : List asked.Summary)

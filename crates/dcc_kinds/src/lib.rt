@@ -10,12 +10,13 @@ pub fn faults_are_constructs()
     ensures { FaultsAreConstructs }
 {}
 
-/// And such a construct is a fault of the lifted program.
+/// A construct that summaries tell of the machine's procedures is a fault of the lifted program.
 pub fn constructs_are_faults()
     ensures { ConstructsAreFaults }
 {}
 
-/// So where the lifted program has summaries that a text can have, none of the constructs stands.
+/// Where the lifted program has summaries that a text can have, no construct that summaries tell stands in the
+/// machine's procedures.
 pub fn summed_programs_have_none()
     ensures { SummedProgramsHaveNone }
 {}

@@ -60,7 +60,7 @@ module _ (image : Image) (left : Prelude) (layout : Layout) (is : IsLeft layout.
         code_end = by.code_end ∙ ap (λ n. min ((n - image.cs) * 16) image.code_len) ds;
       }
 
-  -- and what suffices for it
+  -- what suffices for a layout that holds
   left-by_values : AreValues image left layout → IsLeftBy image is.prelude layout
   left-by_values v =
       let ds : layout.ds ≡ data_segment (state_after layout.cpu image is.prelude) =

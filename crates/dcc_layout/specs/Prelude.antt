@@ -8,7 +8,7 @@ use Rattle.dcc_prog.specs.Layout.{IsPrelude, offset_after, state_after}
 use Rattle.dcc_layout.specs.declared.prelude.Prelude.{Prelude}
 use Rattle.dcc_layout.specs.Registers.{registers_of}
 
--- these are the registers that the image's prelude leaves on the processor, and the offset after it
+-- the code has found the registers that the image's prelude leaves on the processor, and the offset after it
 pub record IsLeft (cpu : Cpu) (image : Image) (left : Prelude) : Type 0 where
   pub prelude : List Instr
   pub is_prelude : IsPrelude cpu (code_of image) image.ip prelude

@@ -6,14 +6,15 @@ ghost use Rattle.dcc_prog.specs.Layout.{is_data_segment, is_prelude_move, is_pre
 use dcc_num::Reg;
 use dcc_prog::{Alu, DS, ES, Op, Operand, Plain, SS, Shift};
 
-// The number is that of ES, SS or DS.
+// Whether the number is that of ES, SS or DS.
 fn is_data_segment(number: u8) -> bool
     ensures { result ≡ is_data_segment number }
 {
     matches!(number, ES | SS | DS)
 }
 
-// A constant or a register of the same width goes to a register, or a word register is moved from or to ES, SS or DS.
+// Whether a MOV with these operands may stand in a prelude: a constant or a register of the same width goes to a
+// register, or a word register is moved from or to ES, SS or DS.
 fn is_prelude_move(to: Operand, from: Operand) -> bool
     ensures { result ≡ is_prelude_move to from }
 {
@@ -26,7 +27,8 @@ fn is_prelude_move(to: Operand, from: Operand) -> bool
     }
 }
 
-// A word register is changed by a register or a constant.
+// Whether an ADD or SUB with these operands may stand in a prelude: a word register is changed by a register or a
+// constant.
 fn is_prelude_sum(a: Operand, b: Operand) -> bool
     ensures { result ≡ is_prelude_sum a b }
 {

@@ -17,7 +17,7 @@ use dcc_prog::{Cpu, Image, Instr};
 pub struct Prelude {
     /// The registers and flags.
     pub registers: Registers,
-    /// The offset after it in the code segment, at most 65,536.
+    /// The offset after the prelude in the code segment, at most 65,536.
     pub end: usize,
 }
 

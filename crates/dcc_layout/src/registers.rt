@@ -15,9 +15,9 @@ use dcc_prog::{Alu, Count, Cpu, Image, Op, Operand, PREFIX_SEGMENT};
 /// The registers and flags of a machine.
 #[derive(Clone, Copy)]
 pub struct Registers {
-    /// By number: AX, CX, DX, BX, SP, BP, SI, DI.
+    /// The word registers by number: AX, CX, DX, BX, SP, BP, SI, DI.
     pub regs: [u16; 8],
-    /// By number: ES, CS, SS, DS.
+    /// The segment registers by number: ES, CS, SS, DS.
     pub segs: [u16; 4],
     /// The four modelled flags.
     pub flags: Flags,

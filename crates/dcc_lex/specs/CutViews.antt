@@ -41,7 +41,7 @@ abbrev pub has_number : spec.Spot → List ℕ → Bool
 has_number spot [] = false
 has_number spot (b ∷ bytes) = spec.has_number spot b bytes
 
--- the cut of such bytes
+-- the cut of bytes that begin with the number of a pragma after one space
 abbrev pub number_cut : ℕ → List ℕ → spec.Cut
 number_cut line [] = spec.cut [] spec.in_pragma line []
 number_cut line (b ∷ bytes) =

@@ -6,7 +6,7 @@ use Rattle.dcc_lex.specs.declared.token.Mark.{Mark}
 use Rattle.dcc_lex.specs.declared.mark.FoundMark.{FoundMark}
 use Rattle.dcc_lex.specs.TokenViews.{mark_of}
 
--- the mark that these bytes are, if they are one
+-- the mark that the bytes are, if they are one
 abbrev pub IsMarkOf : Option Mark → List ℕ → Type 0
 IsMarkOf found bytes =
     MatchOption found (is_mark bytes ≡ false) (λ mark. (is_mark bytes ≡ true) × (mark_of mark ≡ bytes))

@@ -7,14 +7,14 @@ ghost use Rattle.dcc_c.specs.Lexing as lexing;
 ghost use Rattle.dcc_c.specs.Pieces as spec;
 ghost use Rattle.dcc_lex.specs.ByteViews.{has_kind};
 
-/// Whether this is a decimal digit.
+/// Whether the byte is a decimal digit.
 pub fn is_digit(byte: u8) -> bool
     ensures { result ≡ tokens.is_digit byte }
 {
     b'0' <= byte && byte <= b'9'
 }
 
-/// Whether this is a letter or `_`.
+/// Whether the byte is a letter or `_`.
 pub fn is_letter(byte: u8) -> bool
     ensures { result ≡ tokens.is_letter byte }
 {
@@ -28,7 +28,7 @@ pub fn is_word_byte(byte: u8) -> bool
     is_letter(byte) || is_digit(byte)
 }
 
-/// Whether this is a space or a tab.
+/// Whether the byte is a space or a tab.
 pub fn is_blank(byte: u8) -> bool
     ensures { result ≡ lexing.is_blank byte }
 {
@@ -50,7 +50,7 @@ pub fn hex_value(byte: u8) -> u8
     }
 }
 
-/// Whether this is a hexadecimal digit.
+/// Whether the byte is a hexadecimal digit.
 pub fn is_hex_digit(byte: u8) -> bool
     ensures { result ≡ spec.is_hex_digit byte }
 {
@@ -132,7 +132,7 @@ pub fn same_bytes(left: &[u8], right: &[u8]) -> bool
     left == right
 }
 
-/// The bytes after some, where they begin with these.
+/// The bytes after the given words, if the bytes begin with these.
 pub fn after<'a>(words: &[u8], bytes: &'a [u8]) -> Option<&'a [u8]>
     ensures { option_map (λ rest. rest.now) result ≡ spec.after words.now bytes.now }
 {

@@ -16,13 +16,13 @@ use crate::word::{plain_number, token_of_word};
 /// Where in a line bytes begin.
 #[derive(Clone, Copy, PartialEq, Eq, Debug)]
 pub enum Spot {
-    /// At its beginning.
+    /// At the beginning of a line.
     LineStart,
     /// In a line of tokens.
     InLine,
     /// After the words of a pragma or one of its numbers.
     InPragma,
-    /// After blanks in such a line, where no token may stand.
+    /// After blanks in a pragma's line, where no token may stand.
     InBlanks,
 }
 
@@ -31,11 +31,11 @@ pub enum Spot {
 pub struct Cut<'a> {
     /// The piece; None for a line feed and for blanks between tokens.
     pub piece: Option<Piece<'a>>,
-    /// Where the other bytes begin.
+    /// Where in a line the bytes after the piece begin.
     pub spot: Spot,
-    /// The line where they begin, from 1.
+    /// The line where the other bytes begin, from 1.
     pub line: u32,
-    /// The other bytes.
+    /// The bytes after the piece.
     pub rest: &'a [u8],
 }
 
@@ -69,7 +69,7 @@ impl<'a> Cut<'a> {
     }
 }
 
-// A token that the grammar allows nowhere but in the version line: what stands here may not.
+// A token that the grammar allows nowhere but in the version line, for a token that may not stand at its place.
 fn stray() -> Option<Token<'static>>
     ensures { option_map views.token_of result ≡ Some spec.stray }
 {
@@ -83,7 +83,7 @@ fn is_of_pragma(spot: Spot) -> bool
     matches!(spot, Spot::InPragma | Spot::InBlanks)
 }
 
-// The token, which may not stand in the line of a pragma.
+// The token at a spot; in the line of a pragma one that may stand nowhere.
 fn allowed_at<'a>(spot: Spot, token: Option<Token<'a>>) -> Option<Token<'a>>
     ensures { option_map views.token_of result
         ≡ spec.allowed_at (cuts.spot_of spot) (option_map views.token_of token.entry) }
@@ -94,7 +94,7 @@ fn allowed_at<'a>(spot: Spot, token: Option<Token<'a>>) -> Option<Token<'a>>
     token
 }
 
-// The words of a pragma, which begins at the beginning of a line.
+// The cut of the words of a pragma, which begins at the beginning of a line.
 fn head_cut<'a>(spot: Spot, line: u32, found: FoundHead<'a>) -> Cut<'a>
     ensures { cuts.cut_of result ≡ spec.cut_head (cuts.spot_of spot) line (found_of found.entry) }
 {
@@ -109,7 +109,7 @@ fn head_cut<'a>(spot: Spot, line: u32, found: FoundHead<'a>) -> Cut<'a>
     Cut::with_piece(stray(), Spot::InLine, line, found.rest)
 }
 
-// A token that may stand at this spot, or bytes that are none.
+// The cut of a token that may stand at the spot, or of bytes that are none.
 fn token_piece<'a>(spot: Spot, line: u32, token: Option<Token<'a>>, rest: &'a [u8]) -> Cut<'a>
     ensures { cuts.cut_of result
         ≡ spec.cut (spec.piece line (spec.allowed_at (cuts.spot_of spot) (option_map views.token_of token.entry)) ∷ [])
@@ -118,7 +118,7 @@ fn token_piece<'a>(spot: Spot, line: u32, token: Option<Token<'a>>, rest: &'a [u
     Cut::with_piece(allowed_at(spot, token), Spot::InLine, line, rest)
 }
 
-// A mark, the words of a pragma, or a byte that begins no token.
+// The cut of a mark, of the words of a pragma, or of a byte that begins no token.
 fn mark_cut(spot: Spot, line: u32, bytes: &[u8]) -> Cut<'_>
     requires { 0 < length bytes.now }
     ensures { cuts.cut_of result ≡ cuts.mark_cut (cuts.spot_of spot) line bytes.now }
@@ -132,7 +132,7 @@ fn mark_cut(spot: Spot, line: u32, bytes: &[u8]) -> Cut<'_>
     Cut::with_piece(None, Spot::InLine, line, &bytes[1..])
 }
 
-// A run of letters, digits and `_`, or another byte.
+// The cut of a run of letters, digits and `_`, or of another byte.
 fn token_cut(spot: Spot, line: u32, bytes: &[u8]) -> Cut<'_>
     requires { 0 < length bytes.now }
     ensures { cuts.cut_of result ≡ cuts.token_cut (cuts.spot_of spot) line bytes.now }
@@ -144,7 +144,7 @@ fn token_cut(spot: Spot, line: u32, bytes: &[u8]) -> Cut<'_>
     token_piece(spot, line, token_of_word(run), rest)
 }
 
-// A run of spaces and tabs: in the line of a pragma something stands after it, else it offends itself.
+// The cut of a run of spaces and tabs: in the line of a pragma something stands after it, else it offends itself.
 fn blank_cut(spot: Spot, line: u32, bytes: &[u8]) -> Cut<'_>
     ensures { cuts.cut_of result ≡ cuts.blank_run (cuts.spot_of spot) line bytes.now }
 {
@@ -158,7 +158,7 @@ fn blank_cut(spot: Spot, line: u32, bytes: &[u8]) -> Cut<'_>
     }
 }
 
-// The number of a pragma, after one space.
+// The cut of the number of a pragma, after one space.
 fn number_cut(spot: Spot, line: u32, bytes: &[u8]) -> Option<Cut<'_>>
     ensures { MatchOption result (cuts.has_number (cuts.spot_of spot) bytes.now ≡ false)
         (λ c. (cuts.has_number (cuts.spot_of spot) bytes.now ≡ true)

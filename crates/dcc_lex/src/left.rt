@@ -6,18 +6,18 @@ ghost use Rattle.std.specs.Option.{ForNone};
 use crate::cut::{Spot, next_piece};
 use crate::token::Piece;
 
-/// What is left of a text: its pieces. The first two have been cut, and those after them are when they are the second.
+/// What is left of a text: its pieces. The first two have been cut; each later one is cut when it becomes the second.
 #[derive(Clone, Copy)]
 pub struct Pieces<'a> {
-    // The first of them.
+    // The first piece.
     first: Option<Piece<'a>>,
-    // The one after it.
+    // The piece after the first.
     second: Option<Piece<'a>>,
-    /// How many pieces stand before them.
+    /// How many pieces stand before the first.
     pub at: u32,
     // Where in a line what has not been cut begins.
     spot: Spot,
-    // The line where it begins, from 1.
+    // The line where what has not been cut begins, from 1.
     line: u32,
     // What has not been cut.
     bytes: &'a [u8],
@@ -34,7 +34,7 @@ impl<'a> Pieces<'a> {
     ghost use Rattle.dcc_lex.specs.CutViews.{spot_of, remaining};
     ghost use Rattle.dcc_lex.specs.PiecesViews.{pieces_of, BeginWith};
 
-    // A piece that has been cut and those after it, where so many stand before it.
+    // The pieces that begin with one that has been cut; `at` pieces stand before it.
     fn from_first(
         at: u32,
         first: Option<Piece<'a>>,
@@ -95,7 +95,7 @@ impl<'a> Pieces<'a> {
         }
     }
 
-    /// The same pieces, none of which is counted yet.
+    /// The pieces that are left, counted from the first of them on.
     pub fn from_here(&self) -> Pieces<'a>
         ensures pieces { pieces_of result ≡ pieces_of self.now }
         ensures place { result.at ≡ 0 }

@@ -59,7 +59,7 @@ fn long_mark(first: u8, second: u8) -> Option<Mark>
 pub struct FoundMark<'a> {
     /// The mark.
     pub mark: Mark,
-    /// The bytes after it.
+    /// The bytes after the mark.
     pub rest: &'a [u8],
 }
 

@@ -10,7 +10,7 @@ ghost use Rattle.dcc_lex.specs.NumberViews.{is_short, decimal_value};
 use crate::bytes::{ByteKind, after, hex_value, same_bytes};
 use crate::token::{Suffix, Token};
 
-// The suffix that these bytes are.
+// The suffix that the bytes are.
 fn suffix_of(bytes: &[u8]) -> Option<Suffix>
     ensures { option_map views.suffix_of result ≡ spec.suffix_of bytes.now }
 {
@@ -27,7 +27,7 @@ fn suffix_of(bytes: &[u8]) -> Option<Suffix>
     }
 }
 
-// Whether these digits are one to ten, without a needless zero.
+// Whether the digits are one to ten, without a needless zero.
 fn is_short(digits: &[u8]) -> bool
     ensures { result ≡ is_short digits.now }
 {
@@ -66,7 +66,7 @@ fn decimal_value(digits: &[u8]) -> Option<u32>
     }
 }
 
-// The decimal number that these bytes are.
+// The decimal number that the bytes are.
 #[tactic(auto, using(crate::proofs::Numbers::decimal_none, crate::proofs::Numbers::decimal_some))]
 fn decimal_of(bytes: &[u8]) -> Option<Token<'static>>
     ensures { option_map views.token_of result ≡ spec.decimal_of bytes.now }
@@ -90,7 +90,7 @@ fn hex_number(digits: &[u8]) -> u32
     value
 }
 
-// The hexadecimal number that these bytes are after `0x`.
+// The hexadecimal number that the bytes are after `0x`.
 fn hex_of(bytes: &[u8]) -> Option<Token<'static>>
     ensures { option_map views.token_of result ≡ spec.hex_of bytes.now }
 {

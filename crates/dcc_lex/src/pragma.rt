@@ -13,7 +13,7 @@ use crate::token::Head;
 pub struct FoundHead<'a> {
     /// What the pragma is about.
     pub head: Head,
-    /// The bytes after its words.
+    /// The bytes after the pragma's words.
     pub rest: &'a [u8],
 }
 
@@ -29,7 +29,7 @@ fn pragma_words(head: Head) -> &'static [u8]
     }
 }
 
-// This pragma, if the bytes begin with its words.
+// The given pragma, if the bytes begin with its words.
 fn head_if(head: Head, bytes: &[u8]) -> Option<FoundHead<'_>>
     ensures { option_map found_of result
         ≡ spec.head_if (views.head_of head) (spec.after (spec.pragma_words (views.head_of head)) bytes.now) None }

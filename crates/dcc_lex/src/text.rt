@@ -13,7 +13,7 @@ pub fn first_byte(text: &str) -> u8
     }
 }
 
-/// Whether two texts are the same. Most differ in their length or first byte, so these are looked at before the whole.
+/// Whether two texts are the same. Most differ in length or first byte, so these are looked at before the whole.
 pub fn same_text(left: &str, right: &str) -> bool
     ensures { result ≡ tokens.same_bytes left.now right.now }
 {

@@ -171,6 +171,6 @@ pub enum Token<'a> {
 pub struct Piece<'a> {
     /// The token; None for bytes that are none.
     pub token: Option<Token<'a>>,
-    /// The line where it stands, from 1.
+    /// The line where the piece stands, from 1.
     pub line: u32,
 }

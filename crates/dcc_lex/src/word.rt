@@ -36,7 +36,7 @@ fn word_in(run: &[u8]) -> Option<&str>
     }
 }
 
-// The same of a word that begins with a letter from `a` to `c`.
+// The token that a word is which begins with a letter from `a` to `c`.
 fn token_from_a(word: &str) -> Option<Token<'_>>
     requires word { tokens.is_word word.now ≡ true }
     requires first { tokens.is_between 97 99 (get_or word.now 0 0) ≡ true }
@@ -53,7 +53,7 @@ fn token_from_a(word: &str) -> Option<Token<'_>>
     }
 }
 
-// The same of a word that begins with a letter from `d` to `f`.
+// The token that a word is which begins with a letter from `d` to `f`.
 fn token_from_d(word: &str) -> Option<Token<'_>>
     requires word { tokens.is_word word.now ≡ true }
     requires first { tokens.is_between 100 102 (get_or word.now 0 0) ≡ true }
@@ -69,7 +69,7 @@ fn token_from_d(word: &str) -> Option<Token<'_>>
     }
 }
 
-// The same of a word that begins with a letter from `g` to `r`.
+// The token that a word is which begins with a letter from `g` to `r`.
 fn token_from_g(word: &str) -> Option<Token<'_>>
     requires word { tokens.is_word word.now ≡ true }
     requires first { tokens.is_between 103 114 (get_or word.now 0 0) ≡ true }
@@ -86,7 +86,7 @@ fn token_from_g(word: &str) -> Option<Token<'_>>
     }
 }
 
-// The same of a word that begins with a letter from `s` to `w`.
+// The token that a word is which begins with a letter from `s` to `w`.
 fn token_from_s(word: &str) -> Option<Token<'_>>
     requires word { tokens.is_word word.now ≡ true }
     requires first { tokens.is_between 115 119 (get_or word.now 0 0) ≡ true }

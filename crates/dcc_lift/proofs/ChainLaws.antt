@@ -21,7 +21,7 @@ has_successor nodes a b = list_any (λ next. next == b) (successors_in (node_in 
 
 -- Joining.
 
--- what it says that an instruction joins the block of the one before it
+-- what is known where an instruction joins the block of the one before it
 pub record IsJoined (nodes : Nodes) (entry at : ℕ) : Type 0 where
   pub from : ℕ
   pub edges : edges_into nodes at ≡ from ∷ []
@@ -80,7 +80,7 @@ sole x a xs e t = eqb-true x a (sym (or_none (x == a)) ∙ sym (ap (list_any (λ
 
 -- Going on within a block.
 
--- what it says that the block goes on from one instruction to the next
+-- what is known where a block goes on from one instruction to the next
 pub record IsOnward (nodes : Nodes) (entry at next : ℕ) : Type 0 where
   pub succ : successors_in (node_in nodes at) ≡ next ∷ []
   pub goes : has_successor nodes at next ≡ true

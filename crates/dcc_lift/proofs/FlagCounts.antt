@@ -35,7 +35,8 @@ pub record AreWithin (writes : FlagName → Bool) (carry_in : Bool) (stmts : Lis
   pub setters : (flag : FlagName) → total (counted (is_setter_of flag)) stmts ≤ cond (writes flag) 1 0
   pub others : total (counted is_other_flag_stmt) stmts ≤ cond carry_in 1 0
 
--- so for an operation: which flags it writes, and whether CF goes into its result
+-- the statements of an operation on flags are few: within the flags that it writes, and within whether CF goes into
+-- its result
 abbrev pub AreFew : Op → List Stmt → Type 0
 AreFew op stmts = AreWithin (writes_flag op) (has_carry_in op) stmts
 
@@ -131,7 +132,7 @@ none-last : (a b c d : ℕ) → c ≡ a + b → b ≡ 0 → a ≤ d → c ≤ d
 none-last a b c d whole none few = omega (arith, whole, none, few)
 
 module _ (writes : FlagName → Bool) (carry_in : Bool) where
-  -- they are within any bounds
+  -- statements on no flags are within any bounds
   pub off-within : (stmts : List Stmt) → are_off_flags stmts ≡ true → AreWithin writes carry_in stmts
   off-within stmts off = record {
     setters = λ flag.

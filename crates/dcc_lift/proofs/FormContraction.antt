@@ -13,7 +13,7 @@ use Rattle.dcc_lift.proofs.NodeLaws.{is_node, goes_on, goes_from, goes_on_is, no
 use Rattle.dcc_lift.proofs.ChainLaws.{is_leader, has_successor, sole, IsJoined, joined, joined_from, onward_tells, edge_to_joined, leader_node, leader_begins, no_leader_joins, joins_no_leader, entry_is_leader}
 use Rattle.dcc_lift.proofs.BlockLaws.{has_block, leader_block, goes_between, edge_cases, front_goes, leader_goes}
 
--- such a flow graph, with one block more before it or without
+-- the flow graph of a procedure's instructions, with one block more before them or without
 abbrev pub begun_flow : Bool → ℕ → Nodes → ℕ → Flow
 begun_flow begun prelude nodes entry = record {
   start = if begun then prelude else entry;

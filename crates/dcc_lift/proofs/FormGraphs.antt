@@ -105,7 +105,7 @@ module _ (image : Image) (program : Analysed) (p : Program) (is : IsTranslated i
     pub bits-of : graph.bits ≡ temporary_bits
     bits-of = ap (λ (g : Graph). g.bits) (located_at image program p is entry is_entry).is_graph.graph_is
 
-    -- that of the entry procedure takes nothing
+    -- the graph of the entry procedure takes nothing
     pub params-first : entry ≡ layout.start_ip → graph.params ≡ []
     params-first first =
         ap (λ (g : Graph). g.params) (located_at image program p is entry is_entry).is_graph.graph_is

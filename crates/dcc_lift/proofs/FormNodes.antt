@@ -226,7 +226,7 @@ word-place p height a well wide is =
 word-register : (r : Reg) → IsGoodPlace word_width (register_place (Word r))
 word-register r = record { width = refl; sound = refl; value = tt }
 
--- it is no CALL
+-- the operation is no CALL
 abbrev pub IsNoCall : Op → Type 0
 IsNoCall (CallOp target) = ⊥
 IsNoCall op = Unit {0}

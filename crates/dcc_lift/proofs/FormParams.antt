@@ -83,7 +83,7 @@ module _ (e : Setting) (entry : ℕ) (q : Procedure) (at : IsFoundAt e entry q) 
       exposed-after is.offset later is.exposed (omega (arith, ints, small, from, high))
       (omega (arith, ints, small, to, low, before)) less
 
-  -- so the later ones are in memory too
+  -- where an argument is in memory, the later ones are in memory too
   memory-after : (number later : ℕ) → number < later → later < q.frame.args
       → is_memory (argument_param q number).put ≡ true → is_memory (argument_param q later).put ≡ true
   memory-after number later before less told =

@@ -34,7 +34,7 @@ below-true m n lt = grind (arith, nat_tests)
 abbrev pub is_shallow : Expr → Bool
 is_shallow e = nat_le (depth_of e) 7
 
--- it is so, well formed, and of a width
+-- the expression is shallow, well formed, and of the width
 abbrev pub is_sound_expr : ℕ → Expr → Bool
 is_sound_expr width e = is_expr_of temporary_bits width e && is_shallow e
 

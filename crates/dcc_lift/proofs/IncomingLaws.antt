@@ -25,11 +25,11 @@ noted-more from to successors i l =
     ∙ map-append (λ _. from) (filter (λ next. next == to) (take i successors))
     (filter (λ next. next == to) (get_or successors i 0 ∷ [])))
 
--- it leads there
+-- a successor that is the offset notes an edge to it
 pub noted-same : (from to next : ℕ) → next ≡ to → noted from to (next ∷ []) ≡ from ∷ []
 noted-same from to next e = ap (λ b. map (λ _. from) (if b then next ∷ [] else [])) (eq-eqb next to e)
 
--- or it does not
+-- a successor that is not the offset notes no edge to it
 pub noted-other : (from to next : ℕ) → (next == to) ≡ false → noted from to (next ∷ []) ≡ []
 noted-other from to next e = ap (λ b. map (λ _. from) (if b then next ∷ [] else [])) e
 

@@ -207,7 +207,7 @@ module _ (image : Image) (program : Analysed) (p : Program)
               (told.2 before (subst (λ n. IsTrail image layout n (at ∷ before)) (sym x.entry_is) trail)),
         )
 
-    -- it is that of each trail
+    -- the height that is found at a node is that of each trail to it
     pub height-at : (at : ℕ) (before : List ℕ) (height : ℕ) → IsAt image layout entry at before (pos height)
         → height_in x.heights at ≡ Some height
     height-at at before height is =

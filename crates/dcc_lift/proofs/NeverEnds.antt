@@ -178,6 +178,6 @@ module _ (image : Image) (program : Analysed) (p : Program) (well : IsProgram p)
     switches = switches-have-places image program p well is;
   }
 
-  -- so no run is stuck
+  -- no run of the lifted program is stuck
   pub never-stuck : IsNeverStuck p
   never-stuck = never_stuck p well sound-ends

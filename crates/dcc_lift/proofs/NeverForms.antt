@@ -100,7 +100,7 @@ moved-told q r found e general source = cc
 -- Trails.
 
 module _ (image : Image) (layout : Layout) where
-  -- its last instructions, as far as they are followed
+  -- the last instructions of a trail, as far as they are followed
   abbrev pub followed : List ℕ → List ℕ
   followed [] = []
   followed (at ∷ before) = if is_followed_in (operation_in image layout at) then at ∷ followed before else []

@@ -97,7 +97,7 @@ module _ (image : Image) (program : Analysed) (p : Program) (is : IsTranslated i
     pub rest_is : t.running.rest ≡ t.running.block.stmts
     pub follows : Follows entry is_entry at before t
 
-  -- it is about to begin the prelude's
+  -- the run is about to begin the prelude's block
   pub record AtPrelude (t : Inner) : Type 0 where
     pub entry : ℕ
     pub is_entry : IsEntry image layout entry

@@ -161,7 +161,7 @@ module _ (image : Image) (program : Analysed) (p : Program)
               (stepped f.passed f.here (ap is_over f.mirrors.goes) f.mirrors.code h.is_node.instr);
         }
 
-    -- so a mirror goes on to the next instruction
+    -- a mirror of the machine goes on to the next instruction
     pub goes-on : (next : ℕ) (t : Inner) → Followed at before t → IsRunning (execute (stmts_at scene at) t)
         → (is_followed instr.op ≡ true
         → leads_to (exit_of procedure instr.op h.node.succ.items) (execute (stmts_at scene at) t) ≡ Some next)

@@ -119,7 +119,7 @@ form-words cpu (PlainOp Sti) at s form well h = h
 form-words cpu (PlainOp Cld) at s form well h = h
 form-words cpu op at s form well h = cc
 
--- and so does a run
+-- a run of a prelude's operations leaves words
 run-words : (cpu : Cpu) (code : List ℕ) (at : ℕ) (run : List Instr) (s : State) → AreBytes code
     → IsRun cpu code at run → HasWords s → HasWords (executed cpu s run)
 run-words cpu code at [] s bytes is h = h
@@ -171,7 +171,7 @@ module _ (image : Image) (layout : Layout) (loaded : IsLoaded image) (has : HasL
   layout-registers = has.left.regs
       ∙ ap (λ (s : State). s.regs) (state_after-is layout.cpu image has.prelude loaded has.is_prelude.run)
 
-  -- they are eight words
+  -- the layout's registers are eight words
   pub layout-eight : length layout.regs ≡ 8
   layout-eight = ap length layout-registers ∙ following-words.eight
 

@@ -1,4 +1,4 @@
--- Where both runs come to a block, and what waits.
+-- Where both runs come to a block, and which procedures wait.
 use Rattle.std.proofs.Common.{◌≡◌, ℕ, pos, true, false, if◌then◌else◌, List, [], ◌∷◌, ◌++◌, slice_get, Contains, Option, Some, None, refl, sym, ap, ap₂, ◌∙◌, subst}
 use Rattle.std.specs.List.{list_any}
 use Rattle.std.proofs.lemmas.List.Folds.{list_any-append}
@@ -133,7 +133,7 @@ module _ (c : Runs) where
     waiting-block caller a w memory a.frame.base a.caller_bp are.0 are.1 waits (newest-in rest),
   )
 
-  -- it goes on in its block, which gives nothing back
+  -- the caller that waits goes on in its block, which gives nothing back
   resumes-by : (a : Activation) (callers : List Activation) (waiting : List Waiting) (memory : List ℕ) (top bp : ℕ)
       → AreWaiting (e c) a callers waiting
       → Stand c.image c.program.layout memory (a ∷ callers) top bp → Resumes waiting
@@ -173,7 +173,7 @@ module _ (c : Runs) where
     pub begins : t.running.begins ≡ true
     pub rest_is : t.running.rest ≡ t.running.block.stmts
 
-  -- it comes to a block of its graph
+  -- the run comes to a block of its graph
   abbrev entered : (s : Machine) (stack : Stack) (u : Inner) (block : Block) → AreCoupled (e c) s stack u
       → AreCoupled (e c) s stack (entering (Some block) u)
   entered s stack u block agree =

@@ -177,7 +177,7 @@ module _ (c : Runs) (input : List ℕ) (bytes : All (λ byte. byte < 256) input)
         × ((stands).callers ≡ [])
     only = one-only (stands).newest (stands).callers _ (stands).frames
 
-    -- Both.
+    -- Both runs at the begin of the entry procedure: its activation, and what holds of it.
 
     active : IsActivationOf (e c) (stands).newest (done).running
     active = record {

@@ -32,7 +32,7 @@ use Rattle.dcc_lift.proofs.RunArrives.{InBlock}
 use Rattle.dcc_lift.proofs.RunNodes.{Through, one-step, foul-through}
 use Rattle.dcc_lift.proofs.RunChains.{node, foul, next, next_stack}
 
--- the caller waits, and all others as before
+-- entering a block leaves the waiting activations as they are
 entering-waiting : (block : Option Block) (t : Inner) → (entering block t).waiting ≡ t.waiting
 entering-waiting (Some block) t = refl
 entering-waiting None t = refl
@@ -89,7 +89,7 @@ module _ (c : Runs) (entry : ℕ) (is_entry : IsEntry c.image (layout c) entry) 
   abbrev home : Scene
   home = scene_at c target is_target
 
-  -- it isn't the entry procedure, which nothing calls
+  -- the called procedure isn't the entry procedure, which nothing calls
   other : ((layout c).start_ip == target) ≡ false
   other = elim (decided ((layout c).start_ip == target)) [
     | inr different ↦ different

@@ -79,7 +79,7 @@ module _ (c : Runs) (entry : ℕ) (is_entry : IsEntry c.image (layout c) entry) 
         a.agree.stands.newest.before (stands_here c entry is_entry s stack t a).height
         (is_at c entry is_entry s stack t a) (node_here c entry is_entry s stack t a).1
 
-    -- it agrees with its statements
+    -- after the instruction the machine agrees with the run after its statements
     pub node-agrees : foul ≡ None → moves_frames node.instr.op ≡ false
         → StepAgrees (e c) s stack node.instr done
     node-agrees clean apart =
@@ -103,7 +103,7 @@ module _ (c : Runs) (entry : ℕ) (is_entry : IsEntry c.image (layout c) entry) 
       waits = subst (NoneBegins c) (sym (execute-within (stmts_at scene s.ip) t).waiting) a.waits;
     }
 
-    -- where it leads
+    -- the end of the instruction's block leads to where the machine goes on
     pub next-leads : foul ≡ None → moves_frames node.instr.op ≡ false → is_over next.end ≡ false
         → leads_to (exit_of (scene).procedure node.instr.op node.succ.items) done ≡ Some next.ip
     next-leads clean apart on =

@@ -63,7 +63,7 @@ goes-where (Switch test places) u place e = ap (λ o. switching o u) e
 goes-where (RetTo values) u place e = cc
 goes-where Stop u place e = cc
 
--- it is one of the places
+-- where an end leads is one of its places
 test-among : (test : Option Expr) (succ : List ℕ) (u : Inner) (to : ℕ) → leads_to (exit_to test succ) u ≡ Some to
     → Contains succ to
 test-among (Some test) [] u to e = cc

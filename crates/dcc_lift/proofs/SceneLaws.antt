@@ -127,7 +127,7 @@ module _ (image : Image) (layout : Layout) (all : List Procedure) (heights : Lis
       subst (λ scenes. AllZip (IsGraphOf image layout) scenes graphs)
       (sym (append-nil are.done) ∙ ap (λ rest. are.done ++ rest) (sym none) ∙ are.scenes_are) are.graphs_are
 
-  -- these are all, where no procedure is left, or no heights are
+  -- the graphs so far are all, where no procedure is left, or no heights are
   pub all_graphs : (n : ℕ) (graphs : List Graph) → AreGraphsOfFirst image layout all heights n graphs
       → min (length all) (length heights) ≤ n
       → AllZip (IsGraphOf image layout) (scenes_of layout all 1 all heights) graphs

@@ -198,7 +198,7 @@ module _ (p : Program) (fill : ℕ) where
       at-once before (exit_step exit u) (exit-shown exit u (cc))
       (subst (IsPrefix before) (sym (exit-events exit u)) events)
 
-  -- so it is after what is left of a block without Calls
+  -- the run is shown after what is left of a block without Calls
   pub soon-shown : (stmts : List Stmt) (t : State) → IsCallFree stmts → is_over t.end ≡ false → Resumes t.waiting
       → IsSoonShown t.events (block_step p.graphs fill stmts t)
   soon-shown stmts t free on resumes =
@@ -217,7 +217,7 @@ module _ (p : Program) (fill : ℕ) where
           exit-soon u.running.block.exit u t.events events
           (subst Resumes (sym (execute-within stmts t).waiting) resumes)
 
-  -- and at a Call
+  -- the run is shown at a Call
   pub call-soon : (results : List Loc) (entry : ℕ) (arguments : List Expr) (depth : ℕ) (rest : List Stmt) (t : State)
       → is_over t.end ≡ false
       → IsSoonShown t.events (block_step p.graphs fill (Call results entry arguments depth ∷ rest) t)
@@ -229,6 +229,6 @@ module _ (p : Program) (fill : ℕ) where
       (if b then s else block_step p.graphs fill (Call results entry arguments depth ∷ rest) t).events) on
       ((inner_lawful p fill).grows s))
     where
-      -- the same block is stepped from a state that has these statements left
+      -- the state with these statements left, from which the same block is stepped
       s : State
       s = record t { running = record t.running { rest = Call results entry arguments depth ∷ rest } }

@@ -21,7 +21,7 @@ abbrev pub node_in : Nodes → ℕ → Option Node
 node_in [] at = None
 node_in (found ∷ nodes) at = if found.0 == at then Some found.1 else node_in nodes at
 
--- where it goes on
+-- where an instruction goes on
 abbrev pub successors_in : Option Node → List ℕ
 successors_in None = []
 successors_in (Some node) = node.succ.items
@@ -61,7 +61,8 @@ comes_from_below nodes (from ∷ []) at =
     && not (jumps_by_table_in (node_in nodes from))
 comes_from_below nodes edges at = false
 
--- the instruction joins the block of the one before it; that at the entry begins a block, for the start leads there too
+-- the instruction joins the block of the one before it; the instruction at the entry begins a block, for the start
+-- leads there too
 abbrev pub joins : Nodes → ℕ → ℕ → Bool
 joins nodes entry at =
     not (at == entry) && comes_from_below nodes (edges_into nodes at) at && not (calls_in (node_in nodes at))
@@ -75,7 +76,7 @@ if_joins nodes entry places = None
 abbrev pub onward : Nodes → ℕ → ℕ → Option ℕ
 onward nodes entry at = if_joins nodes entry (successors_in (node_in nodes at))
 
--- the rest of a block after an instruction, to its end
+-- the offsets of a block's instructions after one of them, to the block's end
 abbrev pub IsChain : Nodes → ℕ → ℕ → List ℕ → Type 0
 IsChain nodes entry at [] = onward nodes entry at ≡ None
 IsChain nodes entry at (next ∷ rest) = (onward nodes entry at ≡ Some next) × IsChain nodes entry next rest
@@ -94,12 +95,12 @@ place_in (x ∷ xs) at = if x == at then 0 else suc (place_in xs at)
 pub record Scene : Type 0 where
   -- the processor
   pub cpu : Cpu
-  -- all procedures, and the one whose blocks these are
+  -- all procedures, and the procedure whose blocks these are
   pub procedures : List Procedure
   pub procedure : Procedure
-  -- the heights of the stack at its instructions, by their offsets
+  -- the heights of the stack at the procedure's instructions, by their offsets
   pub heights : List (ℕ × ℕ)
-  -- how many blocks come before those of its instructions
+  -- how many blocks of the graph come before those of the procedure's instructions
   pub before : ℕ
 
 abbrev pub nodes_in : Scene → Nodes
@@ -136,7 +137,7 @@ node_exit scene (Some node) =
 abbrev pub exit_at : Scene → ℕ → Exit
 exit_at scene at = node_exit scene (node_in (nodes_in scene) at)
 
--- the last of some offsets
+-- the last of an offset and the list of others after it
 abbrev pub last_of : ℕ → List ℕ → ℕ
 last_of at [] = at
 last_of at (next ∷ rest) = last_of next rest
@@ -149,7 +150,7 @@ pub record IsBlockAt (scene : Scene) (at : ℕ) (block : Block) : Type 0 where
   pub stmts_are : block.stmts ≡ flat_map (stmts_at scene) (at ∷ rest)
   pub exit_is : block.exit ≡ exit_at scene (last_of at rest)
 
--- the blocks that begin at these offsets, in their order
+-- the blocks that begin at the offsets of the list, in their order
 abbrev pub AreBlocksAt : Scene → List ℕ → List Block → Type 0
 AreBlocksAt scene [] [] = Unit {0}
 AreBlocksAt scene (at ∷ places) (block ∷ blocks) = IsBlockAt scene at block × AreBlocksAt scene places blocks

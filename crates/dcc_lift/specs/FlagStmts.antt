@@ -24,7 +24,7 @@ is_flag_read e = false
 abbrev pub is_on_flags : Expr → Bool
 is_on_flags e = list_any (λ part. is_flag_read part || is_truth part) (parts_of e)
 
--- so does the one that the statement sets, loads by or divides
+-- the expression that the statement sets, loads by or divides reads a flag or holds a truth node
 abbrev pub is_flag_stmt : Stmt → Bool
 is_flag_stmt (Set location e) = is_on_flags e
 is_flag_stmt (Fetch location width address) = is_on_flags address
@@ -35,7 +35,7 @@ abbrev pub is_flag_location : Loc → Bool
 is_flag_location (Flag flag) = true
 is_flag_location location = false
 
--- a statement on flags that sets this flag, and one that sets none
+-- a statement on flags that sets the flag; `is_other_flag_stmt`: one that sets none
 abbrev pub is_setter_of : FlagName → Stmt → Bool
 is_setter_of flag stmt = is_flag_stmt stmt && list_any (same_location (Flag flag)) (writes_of stmt)
 
@@ -52,7 +52,7 @@ abbrev pub graph_stmts : Graph → List Stmt
 graph_stmts graph = flat_map (λ block. block.stmts) graph.blocks
 
 -- Of each flag, the statements on flags that set it are no more than the procedure's instructions that may write it;
--- those that set none are no more than its ADCs, SBBs, RCLs and RCRs.
+-- the statements on flags that set none are no more than the procedure's ADCs, SBBs, RCLs and RCRs.
 pub record HasFewFlagStmts (proc : Proc) (graph : Graph) : Type 0 where
   pub setters :
       (flag : FlagName)

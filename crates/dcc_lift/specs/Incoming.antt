@@ -4,7 +4,7 @@ use Rattle.dcc_lift.specs.Blocks.{Nodes, edges_into}
 use Rattle.dcc_lift.specs.declared.edges.Incoming.{Incoming}
 use Rattle.dcc_lift.specs.declared.edges.Incoming.TheVariants.{Nowhere, From, Several}
 
--- none, one, or more
+-- the code's summary of a list of edges: none, one, or more
 abbrev pub incoming_of : List ℕ → Incoming
 incoming_of [] = Nowhere
 incoming_of (from ∷ []) = From from

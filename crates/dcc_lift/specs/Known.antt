@@ -36,7 +36,8 @@ scene_given given = record {
 abbrev pub scene_of : Outline → Scene
 scene_of outline = scene_given outline.scene
 
--- what is known of them: the procedures, that instructions ascend, and that no height is above the greatest
+-- what is known of the parts of which blocks are made: the procedures, that instructions ascend, and that no height is
+-- above the greatest
 pub record KnowsScene (given : Given) : Type 0 where
   pub procedure : KnowsProcedure given.procedure.now
   pub procedures : KnowsProcedures given.procedures.now
@@ -44,7 +45,7 @@ pub record KnowsScene (given : Given) : Type 0 where
   pub heights : All (λ (found : ℕ × ℕ). found.1 ≤ greatest_height) given.heights.now.entries
   pub before : given.before ≤ 1
 
--- the offsets at which blocks begin are all: the entry, then the others in ascending order
+-- the listed offsets are all at which blocks begin: the entry, then the others in ascending order
 pub record KnowsLeaders (outline : Outline) : Type 0 where
   pub scene : KnowsScene outline.scene
   pub edges : KnowsEdges outline.instructions
@@ -52,7 +53,7 @@ pub record KnowsLeaders (outline : Outline) : Type 0 where
   pub start : outline.instructions.start ≡ entry_in (scene_of outline)
   pub leaders_are : outline.leaders.items ≡ leaders (nodes_in (scene_of outline)) (entry_in (scene_of outline))
 
--- the blocks of a graph, of which some are the instructions'; where others come before them that is the prelude's
+-- the blocks of a graph: those of the procedure's instructions, after the prelude's block where one comes before them
 pub record AreBlocksOf (image : Image) (layout : Layout) (scene : Scene) (blocks : List Block) : Type 0 where
   pub own : List Block
   pub own_are : AreBlocksAt scene (leaders (nodes_in scene) (entry_in scene)) own
@@ -62,6 +63,6 @@ pub record AreBlocksOf (image : Image) (layout : Layout) (scene : Scene) (blocks
 abbrev pub graph_params : Scene → List Param
 graph_params scene = if scene.before == 0 then params_of scene.procedure else []
 
--- how many blocks come before those of the instructions in the graph of that number
+-- how many blocks come before those of the instructions in the graph of a number
 abbrev pub before_of : ℕ → ℕ
 before_of number = if number == 0 then 1 else 0

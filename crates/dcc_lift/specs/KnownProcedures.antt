@@ -18,7 +18,7 @@ exposes_argument frame k = elim frame.exposed.arg [
   | Some least ↦ int_le (pos least) k && int_lt k (pos (4 + 2 * frame.args))
 ]
 
--- the byte is one of these, of which the frame exposes one
+-- the byte is one of the span, of which the frame exposes one
 abbrev pub is_in_exposed_slot : Frame → ℤ → Span → Bool
 is_in_exposed_slot frame k span = is_within k span && exposes_of frame span
 
@@ -33,7 +33,7 @@ pub record KnowsProcedure (p : Known) : Type 0 where
   pub cells : p.cells.items ≡ cells_of (procedure_of p)
   pub pushed : p.pushed ≡ pushed_of (procedure_of p)
   pub given_back : p.given_back.items ≡ given_back (procedure_of p)
-  -- the analyses find no more
+  -- the analyses find at most 512 cells
   pub few_cells : length p.frame.now.cells.items ≤ 512
   pub few_arguments : p.frame.now.args ≤ 32
 

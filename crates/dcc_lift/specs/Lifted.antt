@@ -36,16 +36,18 @@ ShadowsMachine image program p =
     → Shadows (only (has_block p) (watched_machine program)) (first_watch image input)
     (watched_inner p fill) (first_state p fill input)
 
--- Between two places of blocks the machine runs no instruction of a procedure twice, and passes at most one call or
--- return; a procedure has at most 4,096 instructions. So these are the most steps from the one place to the next.
+-- The most steps of the machine from one place of a block to the next: between two of them the machine runs no
+-- instruction of a procedure twice, and passes at most one call or return; a procedure has at most 4,096 instructions.
 abbrev pub steps_between : ℕ
 steps_between = 8192
 
--- At the start the instructions of the prelude come first, at most 65,535.
+-- The most steps of the machine to the first place of a block: the instructions of the prelude come first, at most
+-- 65,535.
 abbrev pub steps_at_start : ℕ
 steps_at_start = 65535 + steps_between
 
--- for every input the machine comes to places of blocks, to its end or to where it is foul, within such numbers of steps
+-- for every input the machine comes to places of blocks, to its end or to where it is foul, within `steps_at_start`
+-- and `steps_between` steps
 abbrev pub MachineKeepsPace : Image → Analysed → Program → Type 0
 MachineKeepsPace image program p =
     (input : List ℕ) → All (λ byte. byte < 256) input
@@ -62,7 +64,7 @@ procedure_flow proc = record {
       list_any (λ found. (found.0 == a) && list_any (λ next. next == b) found.1.succ.items) proc.nodes.entries;
 }
 
--- the same with one block more, at an offset of the prelude, that goes to the procedure's entry
+-- the flow graph with one block more, at an offset of the prelude, that goes to the procedure's entry
 abbrev pub after_prelude : ℕ → Flow → Flow
 after_prelude at flow = record {
   start = at;
@@ -70,7 +72,7 @@ after_prelude at flow = record {
   goes = λ a b. ((at == a) && (flow.start == b)) || flow.goes a b;
 }
 
--- the instruction, a call, begins a block, and that after it begins another
+-- a CALL begins a block, and the instruction after it begins another
 pub record IsBlockOfCall (flow : Flow) (found : ℕ × Node) : Type 0 where
   pub begins : flow.has found.0 ≡ true
   pub after : flow.has (next_of found.0 found.1.instr) ≡ true
@@ -85,7 +87,8 @@ pub record HasBlocksOf (flow : Flow) (p : Program) (proc : Proc) : Type 0 where
       All (λ (found : ℕ × Node). (target : ℕ) → found.1.instr.op ≡ Call target
       → IsBlockOfCall (flow_at p proc.entry) found) proc.nodes.entries
 
--- so of each procedure; the entry procedure's graph begins with one block more, for the prelude
+-- each procedure's graph has blocks of its instructions; the entry procedure's graph begins with one block more, for
+-- the prelude
 abbrev pub AllHaveBlocks : Image → Program → List Proc → Type 0
 AllHaveBlocks image p [] = Unit {0}
 AllHaveBlocks image p (start ∷ procs) =
@@ -98,7 +101,7 @@ AllHaveBlocks image p (start ∷ procs) =
 abbrev pub back_of : List Procedure → ℕ → List ℕ
 back_of procedures entry = elim (procedure_at procedures entry) [ None ↦ [] | Some p ↦ given_back p ]
 
--- no expression is deeper
+-- no expression of the graph is deeper than the number
 abbrev pub IsShallow : ℕ → Graph → Type 0
 IsShallow depth graph = All (λ e. depth_of e ≤ depth) (graph_exprs graph)
 

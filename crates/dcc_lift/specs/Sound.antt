@@ -19,7 +19,8 @@ AgreesWith None [] = Unit {0}
 AgreesWith None (next ∷ []) = Unit {0}
 AgreesWith test places = ⊥
 
--- an operation goes on so too; but one through a table at any number of places, and a RET at none
+-- an operation goes on at as many places as its test says; a jump through a table at any number of places, and a RET
+-- at none
 abbrev pub GoesOnAt : Op → List ℕ → Type 0
 GoesOnAt (Table r offset) places = Unit {0}
 GoesOnAt (Ret count) places = places ≡ []

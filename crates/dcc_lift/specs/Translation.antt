@@ -1,5 +1,4 @@
--- The program that stands for all procedures, statement by statement. What it does is told in
--- specs/Lifted.antt.
+-- The program that stands for all procedures, statement by statement. What it does is told in specs/Lifted.antt.
 use Rattle.std.specs.Prelude.{◌≡◌, ℕ, ◌-◌, ◌*◌, ◌/◌, ◌%◌, ◌==◌, Bool, if◌then◌else◌, List, [], ◌∷◌, ◌++◌, map, flat_map, slice_index, take, drop}
 use Rattle.std.specs.Int.{from_bool}
 use Rattle.std.specs.List.{AllZip}
@@ -52,8 +51,7 @@ prelude_block image layout scene = record {
 unfoldable pub data_image : Image → Layout → List ℕ
 data_image image layout = take 65536 (drop ((layout.ds - load_segment) * 16) image.bytes.items)
 
--- the graph of a procedure, with its own blocks; where other blocks come before them that is the prelude's, and the graph
--- takes nothing
+-- the graph of a procedure, with its own blocks; where the prelude's block comes before them the graph takes nothing
 abbrev pub graph_with : Image → Layout → Scene → List Block → Graph
 graph_with image layout scene blocks = record {
   entry = entry_in scene;

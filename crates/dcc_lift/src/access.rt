@@ -10,7 +10,7 @@ use dcc_frames::{is_direct, memory_operand, offset_in_frame};
 use dcc_num::Width;
 use dcc_prog::{Alu, Op, Operand, Unary};
 
-/// So many bytes of a frame, from an offset from its base less 4 on.
+/// Bytes of a frame: `size` of them, from an offset from its base less 4 on.
 #[derive(Clone, Copy)]
 pub struct Bytes {
     pub first: i32,
@@ -18,14 +18,14 @@ pub struct Bytes {
 }
 
 impl Bytes {
-    /// The offset after them.
+    /// The offset after the bytes.
     pub fn end(self) -> i64
         ensures { result ≡ (span_of_bytes self).end }
     {
         i64::from(self.first) + i64::from(self.size)
     }
 
-    /// Whether they have the byte at an offset.
+    /// Whether the bytes have the one at an offset.
     pub fn hold(self, k: i32) -> bool
         ensures { result ≡ is_within k (span_of_bytes self) }
     {
@@ -87,7 +87,7 @@ fn writes_memory(op: Op) -> bool
     }
 }
 
-/// Whether the operation has one of these bytes by a direct access of a framed procedure.
+/// Whether the operation touches one of the bytes by a direct access of a framed procedure.
 pub fn has_access(op: Op, bytes: Bytes) -> bool
     ensures { result ≡ overlaps (span_of_bytes bytes) (direct_bytes (memory_operand op)) }
 {
@@ -97,7 +97,7 @@ pub fn has_access(op: Op, bytes: Bytes) -> bool
     }
 }
 
-/// Whether the operation writes one of these bytes by a direct access.
+/// Whether the operation writes one of the bytes by a direct access.
 pub fn writes_directly(op: Op, bytes: Bytes) -> bool
     ensures { result ≡ writes_directly op (span_of_bytes bytes) }
 {

@@ -50,7 +50,7 @@ impl Procedure<'_> {
         Ok(results)
     }
 
-    // The first argument words of a call at a height, so many of them.
+    // The first `count` argument words of a call at a height.
     fn words(&self, writer: &Writer, height: u16, count: u16) -> Result<Vec<Expr>, AllocError>
         requires { KnowsProcedure self.now }
         ensures { IfOk result (λ words. map expr_of words.items

@@ -13,16 +13,16 @@ pub const OFFSETS: usize = 65536;
 /// The edges to an offset.
 #[derive(Clone, Copy)]
 pub enum Incoming {
-    /// There is none.
+    /// No edge leads there.
     Nowhere,
-    /// There is one, from that offset.
+    /// One edge leads there, from that offset.
     From(u16),
-    /// There are more.
+    /// Several edges lead there.
     Several,
 }
 
 impl Incoming {
-    // With one edge more.
+    // The edges to an offset with one more.
     fn with(self, from: u16) -> Incoming
         ensures { (edges : List ℕ) → self ≡ incoming_of edges → result ≡ incoming_of (edges ++ from ∷ []) }
     {

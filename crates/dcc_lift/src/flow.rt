@@ -16,12 +16,12 @@ pub struct Instructions<'a> {
     pub nodes: &'a IndexMap<u16, Node>,
     /// The offset at which the procedure begins.
     pub start: u16,
-    /// By offset.
+    /// The edges to each instruction, by offset.
     pub incoming: Vec<Incoming>,
 }
 
 impl<'a> Instructions<'a> {
-    /// Those of a procedure that begins at `start`.
+    /// The instructions of a procedure that begins at `start`, with their edges.
     pub fn new(
         alloc: Global,
         nodes: &'a IndexMap<u16, Node>,
@@ -46,7 +46,7 @@ impl<'a> Instructions<'a> {
         self.nodes.get(&at)
     }
 
-    // The instruction at an offset is a CALL.
+    // Whether the instruction at an offset is a CALL.
     fn calls(&self, at: u16) -> bool
         ensures { result ≡ spec.calls_in (spec.node_in (nodes_of self.now) at) }
     {
@@ -56,7 +56,7 @@ impl<'a> Instructions<'a> {
         }
     }
 
-    // The instruction at an offset is a jump through a table.
+    // Whether the instruction at an offset is a jump through a table.
     fn jumps_by_table(&self, at: u16) -> bool
         ensures { result ≡ spec.jumps_by_table_in (spec.node_in (nodes_of self.now) at) }
     {
@@ -66,7 +66,7 @@ impl<'a> Instructions<'a> {
         }
     }
 
-    // The instruction at an offset goes on at one place alone.
+    // Whether the instruction at an offset goes on at one place alone.
     fn goes_one_way(&self, at: u16) -> bool
         ensures { result ≡ spec.is_one (spec.successors_in (spec.node_in (nodes_of self.now) at)) }
     {
@@ -76,7 +76,7 @@ impl<'a> Instructions<'a> {
         }
     }
 
-    /// The instruction at an offset joins the block of the one before it.
+    /// Whether the instruction at an offset joins the block of the one before it.
     pub fn joins(&self, at: u16) -> bool
         requires { KnowsEdges self.now }
         ensures { result ≡ spec.joins (nodes_of self.now) self.now.start at }

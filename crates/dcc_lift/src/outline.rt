@@ -19,15 +19,15 @@ use std::alloc::{AllocError, Global};
 /// What the blocks of a procedure are made of.
 #[derive(Clone, Copy)]
 pub struct Scene<'p, 'a> {
-    /// The processor that runs it.
+    /// The processor that runs the program.
     pub cpu: Cpu,
     /// All procedures.
     pub procedures: &'p [Procedure<'a>],
-    /// The one whose blocks these are.
+    /// The procedure whose blocks these are.
     pub procedure: &'p Procedure<'a>,
-    /// The heights of the stack at its instructions, by their offsets.
+    /// The heights of the stack at the procedure's instructions, by their offsets.
     pub heights: &'p IndexMap<u16, u16>,
-    /// How many blocks come before those of its instructions.
+    /// How many blocks of the graph come before those of the procedure's instructions.
     pub before: u32,
 }
 
@@ -40,7 +40,7 @@ pub struct Outline<'p, 'a> {
     pub leaders: Vec<u16>,
 }
 
-// The place of a number among increasing ones; how many these are, where it is not among them.
+// The place of a number among increasing ones; where it is not among them, how many there are.
 fn place_of(numbers: &[u16], n: u16) -> usize
     requires { IsStrictlyIncreasing numbers.now }
     ensures place { result ≡ spec.place_in numbers.now n }
@@ -54,7 +54,7 @@ fn place_of(numbers: &[u16], n: u16) -> usize
 }
 
 impl<'p, 'a> Outline<'p, 'a> {
-    /// That of a procedure.
+    /// The outline of a procedure.
     pub fn new(alloc: Global, scene: Scene<'p, 'a>) -> Result<Outline<'p, 'a>, AllocError>
         requires { KnowsScene scene }
         ensures scene { IfOk result (λ outline. outline.scene ≡ scene.entry) }

@@ -171,7 +171,8 @@ fn half_of_word(alloc: Global, r: Reg) -> Result<Expr, AllocError>
     maker.binary(BinOp::Shr, 16, maker.word_of(r)?, constant(16, 1))
 }
 
-// To one of two blocks by a test, to a block, or nowhere.
+// The end of a block by its test and the places of its successors: to one of two blocks by the test, to a block, or
+// nowhere.
 fn end_to(test: Option<Expr>, places: &[u32]) -> End
     ensures { views.exit_of result ≡ exit_to (option_map expr_of test) places.now }
 {

@@ -79,7 +79,7 @@ fn exposes(frame: &Frame, k: i64) -> bool
     below_bp || exposes_argument(frame, k)
 }
 
-// Whether the frame exposes one of these bytes, of which there are two at most.
+// Whether the frame exposes one of the bytes, of which there are two at most.
 fn exposes_one_of(frame: &Frame, bytes: Bytes) -> bool
     ensures { result ≡ exposes_of frame.now (span_of_bytes bytes) }
 {
@@ -88,7 +88,7 @@ fn exposes_one_of(frame: &Frame, bytes: Bytes) -> bool
     exposes(frame, first) || (second < bytes.end() && exposes(frame, second))
 }
 
-// Whether the byte is one of these, and the frame exposes one of them.
+// Whether the byte is one of the given ones, and the frame exposes one of them.
 fn is_exposed_with(frame: &Frame, bytes: Bytes, k: i32) -> bool
     ensures { result ≡ (is_within k (span_of_bytes bytes) && exposes_of frame.now (span_of_bytes bytes)) }
 {
@@ -127,7 +127,7 @@ fn is_placed(frame: &Frame, k: i32) -> bool
     exposes(frame, i64::from(k)) || is_with_exposed(frame, k)
 }
 
-// Whether a direct access of the procedure has one of these bytes.
+// Whether a direct access of the procedure touches one of the bytes.
 fn is_accessed(proc: &Proc, frame: &Frame, bytes: Bytes) -> bool
     ensures { result ≡ spec.is_accessed proc.now frame.now (span_of_bytes bytes) }
 {
@@ -138,7 +138,7 @@ fn is_accessed(proc: &Proc, frame: &Frame, bytes: Bytes) -> bool
             .any(|node| has_access(node.instr.op, bytes))
 }
 
-// Whether the procedure writes one of these bytes by a direct access.
+// Whether the procedure writes one of the bytes by a direct access.
 fn is_written(proc: &Proc, frame: &Frame, bytes: Bytes) -> bool
     ensures { result ≡ (frame.now.framed
         && list_any (λ (node : ℕ × Node). writes_directly node.1.instr.op (span_of_bytes bytes))
@@ -221,7 +221,7 @@ fn within_cell(number: u16, cell: Cell, width: Width, k: i32) -> Place
 }
 
 impl<'a> Procedure<'a> {
-    /// That of a procedure which is found, and of its frame.
+    /// The procedure as it is found, with its frame.
     pub fn new(
         alloc: Global,
         layout: &Layout,

@@ -23,7 +23,7 @@ use dcc_ops::{Writer, bit, byte, temporary_bits};
 use dcc_prog::{Cells, Heights, Image, LOAD_SEGMENT, Layout, Proc};
 use std::alloc::{AllocError, Global};
 
-// A word register begins with what it holds of these.
+// A word register begins with what the prelude leaves in it.
 fn start_register(writer: &mut Writer, regs: &[u16; 8], r: Reg) -> Result<(), AllocError>
     ensures { OnOk result (written writer.new ≡ written writer.old ++ spec.register_starting regs.now r) }
 {
@@ -108,7 +108,7 @@ fn graph_params(alloc: Global, scene: Scene<'_, '_>) -> Result<Vec<Param>, Alloc
     }
 }
 
-// The graph of a procedure. That of the entry procedure begins with the prelude, and takes nothing.
+// The graph of a procedure. The graph of the entry procedure begins with the prelude, and takes nothing.
 fn graph(
     alloc: Global,
     image: &Image,
@@ -129,7 +129,7 @@ fn graph(
     })
 }
 
-// How many blocks come before those of the instructions in the graph of that number: the prelude's in the first.
+// How many blocks come before those of the instructions in the graph of a number: the prelude's in the first.
 fn before_of(number: usize) -> u32
     ensures { result ≡ known.before_of number }
 {
@@ -153,10 +153,11 @@ fn data_image(alloc: Global, image: &Image, layout: &Layout) -> Result<Vec<u8>, 
 
 /// The program of the inner language that stands for all procedures: a graph for each, over the halves of registers,
 /// the flags, the cells of its frame and temporaries, and the image's data segment. Its run visits its blocks as the
-/// machine comes to their places, with the same events at the console and the same end, as long as that one is clean.
+/// machine comes to their places, with the same events at the console and the same end, as long as the machine's run
+/// is clean.
 ///
-/// The procedures, heights and frames are those that the analyses give for the image and its layout. Want of memory alone
-/// is an error, and leaves nothing.
+/// The procedures, heights and frames are those that the analyses give for the image and its layout. Want of memory
+/// alone is an error, and leaves nothing.
 pub fn lift(
     alloc: Global,
     image: &Image,

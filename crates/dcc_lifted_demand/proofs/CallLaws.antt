@@ -142,7 +142,7 @@ module _ (scene : Scene) (graph : Graph) (prelude : ℕ) (sound : AreSound (node
   call_first (suc n) exit s caller height (Some callee) e c =
       absurd (clash (site_calls n (taking_all_back caller height 0 (given_back callee)) exit s e c) (back-free caller height 0 (given_back callee)))
 
-  -- those of a node that is a CALL
+  -- the statements of a node that is a CALL begin with the Call
   called_stmts : (height : Option ℕ) (node : Node) (target n : ℕ) (exit : Exit) (s : Stmt) → node.instr.op ≡ CallOp target → site_at n (node_stmts scene height (Some node)) exit ≡ Executes s → is_call s ≡ true
       → (n ≡ 0) × (first : Stmt) × (rest : List Stmt) × (node_stmts scene height (Some node) ≡ first ∷ rest)
   called_stmts None node target n exit s op e c = absurd (true≢false (sym (site_calls n [] exit s e c)))

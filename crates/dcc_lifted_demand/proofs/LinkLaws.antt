@@ -46,7 +46,7 @@ module _ {Heights : Type 0} (entries : Heights → List (ℕ × ℕ)) (image : I
     pub graph : Graph
     pub entry_is : proc.entry ≡ entry
     pub few : first ≤ 1
-    -- but the first procedure none has a block before those of its instructions
+    -- only the first procedure has a block before those of its instructions
     pub starts : (first ≡ 0) ⊎ (entry ≡ start)
     pub found : IsFound image layout proc
     pub reached : IsEntry image layout proc.entry
@@ -58,7 +58,7 @@ module _ {Heights : Type 0} (entries : Heights → List (ℕ × ℕ)) (image : I
     pub graph_found : graph_at graphs entry ≡ Some graph
     pub is_graph : IsGraphOf image layout (scene_with proc frame own first) graph
 
-  -- or none has it
+  -- no procedure, body, scene or graph has that entry
   pub record Missing (before : ℕ) (procs : List Proc) (frames : List Frame) (heights : List Heights) (graphs : List Graph) (entry : ℕ) : Type 0 where
     pub procedure_none : procedure_at (procedures_of layout procs frames) entry ≡ None
     pub body_none : body_at (bodies_from procs frames heights) entry ≡ None

@@ -99,7 +99,7 @@ module _ (graph : Graph) where
   last_ends (x ∷ []) point [] exit e = absurd (cc e)
   last_ends (x ∷ y ∷ before) point [] exit e = absurd (cc e)
 
-  -- and else before a statement
+  -- the last point of a list that ends before a statement is before one
   pub last_executes : (before : List Position) (point : Position) (stmts : List Stmt) → map (site_of graph) (before ++ (point ∷ [])) ≡ map Executes stmts ++ [] → (s : Stmt) × (site_of graph point ≡ Executes s)
   last_executes [] point (s ∷ stmts) e = (s, cc e)
   last_executes (x ∷ before) point (s ∷ stmts) e = last_executes before point stmts (cc e)

@@ -22,7 +22,7 @@ either : {X : Type 0} (P : X → Type 0) (b : Bool) (x y : X) → P x → P y �
 either P true x y p q = p
 either P false x y p q = q
 
--- where it writes, it leaves nothing
+-- where a statement writes a location, its effect leaves nothing
 writes_something : (pushed : ℕ) (s : Stmt) → is_left (sums.effect_of pushed s) ≡ false
 writes_something pushed (Set location (Get from)) =
     either (λ (x : Effect Loc Loc). is_left x ≡ false) (sums.is_half location && sums.is_pushed pushed from) (Pops from) (Copies from) refl refl

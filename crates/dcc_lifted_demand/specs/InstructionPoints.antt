@@ -7,20 +7,20 @@ use Rattle.dcc_prog.specs.declared.instr.Op.TheVariants.{Ret}
 use Rattle.dcc_sums.specs.Points.{Position, begin_of, next_of, Site, Ends}
 use Rattle.dcc_lift.specs.Blocks.{Nodes, node_in, edges_into, joins, onward, Scene, nodes_in, entry_in, block_place, stmts_at, exit_at}
 
--- the offset from which the first edge leads to another one
+-- the offset from which the first edge to an instruction leads
 abbrev pub source_of : Nodes → ℕ → ℕ
 source_of nodes at = get_or (edges_into nodes at) 0 0
 
--- so many statements on
+-- the point a number of statements further on
 abbrev pub advanced : Position → ℕ → Position
 advanced a count = record a { done = a.done + count }
 
--- so many points from one on
+-- a number of points from one on
 abbrev pub points_from : Position → ℕ → List Position
 points_from a zero = []
 points_from a (suc count) = a ∷ points_from (next_of a) count
 
--- it is a RET
+-- the operation is a RET
 abbrev pub is_ret : Op → Bool
 is_ret (Ret count) = true
 is_ret op = false
@@ -34,8 +34,8 @@ module _ (scene : Scene) where
   abbrev pub count_at : ℕ → ℕ
   count_at at = length (stmts_at scene at)
 
-  -- where an instruction begins: its block does, or the one before it in the block has its statements up to there.
-  -- These are followed for so many instructions at most.
+  -- Where an instruction's points begin: where its block does, or after the statements of the instruction before it in
+  -- the block. `most` bounds how many of those before are followed.
   abbrev pub begin_within : ℕ → ℕ → Position
   begin_within zero at = begin_of (block_place scene at)
   begin_within (suc most) at =
@@ -43,11 +43,12 @@ module _ (scene : Scene) where
       if joins (nodes_in scene) (entry_in scene) at then advanced (begin_within most source) (count_at source)
       else begin_of (block_place scene at)
 
-  -- the source of an instruction that joins lies below it
+  -- where an instruction's points begin; as the source of an instruction that joins lies below it, its offset bounds
+  -- how many are followed
   abbrev pub begin_at : ℕ → Position
   begin_at at = begin_within (suc at) at
 
-  -- the end of the block, where the block goes on to no other instruction
+  -- the point at the end of the block, if the block goes on to no other instruction
   abbrev pub end_points : Option ℕ → ℕ → List Position
   end_points None at = advanced (begin_at at) (count_at at) ∷ []
   end_points (Some next) at = []
@@ -61,7 +62,8 @@ module _ (scene : Scene) where
   abbrev pub points_at : ℕ → List Position
   points_at at = points_by (node_in (nodes_in scene) at) at
 
-  -- what comes there last
+  -- what comes next at the last point of the instruction: the end of its block, if the block goes on to no other
+  -- instruction
   abbrev pub end_sites : Option ℕ → ℕ → List Site
   end_sites None at = Ends (exit_at scene at) ∷ []
   end_sites (Some next) at = []

@@ -13,7 +13,7 @@ use Rattle.dcc_lift.specs.Translation.{IsGraphOf}
 use Rattle.dcc_lifted_demand.specs.InstructionPoints.{returns_in, begin_at, points_at, end_sites}
 
 module _ (scene : Scene) where
-  -- the instructions from this one on come to one that has points
+  -- the instructions from the offset on come to one that has points
   pub data ComesToPoints : ℕ → Type 0 where
     by_points : {at : ℕ} {first : Position} {others : List Position} → points_at scene at ≡ first ∷ others
         → ComesToPoints at
@@ -27,19 +27,19 @@ module _ (scene : Scene) where
     pub sites : (at : ℕ) (node : Node) → node_in (nodes_in scene) at ≡ Some node
         → map (site_of graph) (points_at scene at)
         ≡ map Executes (stmts_at scene at) ++ end_sites scene (onward (nodes_in scene) (entry_in scene) at) at
-    -- they go on to each other alone
+    -- the points of an instruction go on to each other alone
     pub begins : (at : ℕ) (first : Position) (others : List Position) → points_at scene at ≡ first ∷ others
         → begin_at scene at ≡ first
     pub within : (at : ℕ) (before after : List Position) (point next : Position)
         → points_at scene at ≡ before ++ (point ∷ next ∷ after)
         → (nexts_of (site_of graph point) point ≡ next ∷ []) × (is_return (site_of graph point) ≡ false)
-    -- and the last one to where the instruction's successors begin
+    -- the last point of an instruction goes on to where its successors begin
     pub goes : (at next : ℕ) → Contains (successors_in (node_in (nodes_in scene) at)) next
         → Walks (procedure_of graph) (begin_at scene at) (points_at scene at) (begin_at scene next)
     pub comes : (at : ℕ) (before : List Position) (point to : Position) → points_at scene at ≡ before ++ (point ∷ [])
         → Contains (nexts_of (site_of graph point) point) to
         → (next : ℕ) × Contains (successors_in (node_in (nodes_in scene) at)) next × (to ≡ begin_at scene next)
-    -- a RET is one point, where the graph returns; it does nowhere else
+    -- a RET is one point, where the graph returns; the graph returns nowhere else
     pub returns : (at : ℕ) (before : List Position) (point : Position) → points_at scene at ≡ before ++ (point ∷ [])
         → is_return (site_of graph point) ≡ returns_in (node_in (nodes_in scene) at)
     pub alone : (at : ℕ) → returns_in (node_in (nodes_in scene) at) ≡ true
@@ -53,7 +53,7 @@ module _ (scene : Scene) where
     -- the entry's instruction begins where the graph does, if no other block comes before
     pub entry : scene.before ≡ 0 → begin_at scene (entry_in scene) ≡ begin_of 0
 
--- so it is of the graph of a procedure whose instructions are sound
+-- the points of the graph of a procedure, whose instructions are sound, are those of its instructions
 abbrev pub InstructionsHavePoints : Type 0
 InstructionsHavePoints =
     (image : Image) (layout : Layout) (scene : Scene) (graph : Graph) → IsGraphOf image layout scene graph

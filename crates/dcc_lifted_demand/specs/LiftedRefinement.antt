@@ -22,14 +22,14 @@ abbrev pub inner_of : Location → Loc
 inner_of (half_of r half) = Half r half
 inner_of (flag_of flag) = Flag flag
 
--- What of a procedure the two are: a half or a flag that passes between procedures, or the byte of a cell that is not
--- in memory.
+-- A place of the machine's procedure and a location of its graph are one: a half or a flag that passes between
+-- procedures, or the byte of a cell that is not in memory.
 pub data IsSame (p : Option Procedure) : Place → Loc → Type 0 where
   is_held : {location : Location} → passes (held location) ≡ true → IsSame p (held location) (inner_of location)
   is_kept : {found : Procedure} {k : ℤ} {location : Loc} → p ≡ Some found
       → frame_place found byte_width k ≡ byte location → IsSame p (in_frame k) location
 
--- the byte of the stack stands in that location, in a cell that only pushes, pops and calls use
+-- the byte of the stack stands in the location, in a cell that only pushes, pops and calls use
 pub record IsSameWord (p : Option Procedure) (k : ℤ) (location : Loc) : Type 0 where
   pub found : Procedure
   pub is_found : p ≡ Some found
@@ -40,7 +40,7 @@ pub record IsSameWord (p : Option Procedure) (k : ℤ) (location : Loc) : Type 0
 abbrev pub scenes_in : Analysed → List Scene
 scenes_in program = program_scenes program.layout program.procs.items program.heights program.cells
 
--- those of the procedure with that entry
+-- what the blocks of the procedure with that entry are made of
 abbrev pub scene_at : List Scene → ℕ → Option Scene
 scene_at scenes entry = find (λ scene. entry_in scene == entry) scenes
 

@@ -9,28 +9,28 @@ use Rattle.dcc_demand.specs.Procedures.{Effect, Leaves, WordEffect, LeavesWord}
 use Rattle.dcc_refinement.specs.Steps.{later_effect, later_word_effect}
 use Rattle.dcc_sums.specs.Instance.{used_by, written_by, action_of}
 
--- of what a statement makes the location, or the location itself, where it doesn't write it
+-- of what a statement makes the location: of the location itself, where it doesn't write it
 abbrev pub before : Stmt → Loc → List Loc
 before stmt location = if is_among (written_by stmt) location then makes_of stmt else location ∷ []
 
--- what the location holds after the statements is made of what these held before them
+-- the locations of whose values before the statements the location's value after them is made
 abbrev pub sources : List Stmt → Loc → List Loc
 sources [] location = location ∷ []
 sources (stmt ∷ stmts) location = flat_map (before stmt) (sources stmts location)
 
--- what the statements use, where these locations are used after them
+-- what the statements use, where the given locations are used after them
 abbrev pub used : List Stmt → List Loc → List Loc
 used [] after = after
 used (stmt ∷ stmts) after = used_by stmt ++ flat_map (before stmt) (used stmts after)
 
--- what the last of the statements that writes the location does to it, where pushed words have the cells from that
--- number on
+-- what the last of the statements that writes the location does to it, where pushed words have the cells from the
+-- given number on
 abbrev pub effect_after : ℕ → List Stmt → Loc → Effect Loc Loc
 effect_after pushed [] location = Leaves
 effect_after pushed (stmt ∷ stmts) location =
     later_effect (effect_after pushed stmts location) ((action_of pushed stmt).effect location)
 
--- the same of a word
+-- what the last of the statements that writes the word does to it
 abbrev pub word_effect_after : ℕ → List Stmt → Loc → WordEffect Loc
 word_effect_after pushed [] word = LeavesWord
 word_effect_after pushed (stmt ∷ stmts) word =

@@ -9,7 +9,8 @@ use Rattle.dcc_sums.specs.Instance.{action_of, only_using}
 use Rattle.dcc_lifted_demand.specs.Sources.{sources, used, effect_after, word_effect_after}
 
 module _ (procedure : Procedure Position Loc Loc) (pushed : ℕ) where
-  -- The points do what the statements do, and then there is one more, which only uses these locations; or none is used.
+  -- At the points stand the statements, and then there is one point more, which only uses the given locations; or none
+  -- is used.
   abbrev pub AreAt : List Position → List Stmt → List Loc → Type 0
   AreAt [] [] after = after ≡ []
   AreAt [] (stmt ∷ stmts) after = ⊥
@@ -22,7 +23,7 @@ module _ (procedure : Procedure Position Loc Loc) (pushed : ℕ) where
     pub flows : (location to : Loc) → Flows procedure steps location to ↔ Contains (sources stmts to) location
     pub uses : (location : Loc) → Uses procedure steps location ↔ Contains (used stmts after) location
 
--- so it is at each points where statements stand
+-- at points where statements stand, what the points do one after another is what is computed of the statements
 abbrev pub StatementsTellPoints : Type 0
 StatementsTellPoints =
     (procedure : Procedure Position Loc Loc) (pushed : ℕ) (steps : List Position) (stmts : List Stmt) (after : List Loc)

@@ -216,7 +216,7 @@ module _ (graph : Graph) (location : Loc) where
 pub begins-live : BeginsLiveIsLive
 begins-live graph location = (found-live graph location (length graph.blocks) 0, live-found graph location)
 
--- so does what is live before the statements of the first block
+-- what is live before the statements of the first block is live where the graph begins
 pub begins-where-live : (graph : Graph) (location : Loc)
     → live graph (block_in graph 0) (block_in graph 0).stmts location → begins_live graph location ≡ true
 begins-where-live graph location (inl read) = (begins-live graph location).1 (inl read)

@@ -9,7 +9,7 @@ use Rattle.dcc_live.specs.declared.rows.Row.{Row as RowOf}
 use Rattle.dcc_flow.specs.Access.{Access, BlockAccess}
 use Rattle.dcc_flow.specs.Marks.{empty, with_all}
 
--- those that are not in the set
+-- the locations of a list that are not in the set
 abbrev pub others : (Loc → Bool) → List Loc → List Loc
 others written xs = filter (λ x. not (written x)) xs
 
@@ -37,7 +37,7 @@ IsListed xs has = (x : Loc) → has x ≡ true → Contains xs x
 abbrev pub Tells : List Loc → (Loc → Bool) → List Bool → Type 0
 Tells places has bits = (k : ℕ) (x : Loc) → slice_get places k ≡ Some x → bit bits k ≡ has x
 
--- the same of the locations of a list
+-- at the place of each location the bits tell whether it is in the list
 abbrev pub TellsOf : List Loc → List Loc → List Bool → Type 0
 TellsOf places xs bits = Tells places (with_all empty xs) bits
 

@@ -10,11 +10,11 @@ use Rattle.dcc_ir.specs.Trimmed.{Trim}
 use Rattle.dcc_sums.specs.Localised.{no_sum, is_taken}
 use Rattle.dcc_localise.specs.declared.staying.Stays.{Stays}
 
--- which of these places stay
+-- the place stays, by a list of which places do
 abbrev pub stays_in : List Bool → ℕ → Bool
 stays_in stays k = get_or stays k false
 
--- of a graph, which params stay and which of the values that pass
+-- which params of a graph stay, and which of the values that pass
 pub record Places : Type 0 where
   pub params : List Bool
   pub results : List Bool
@@ -22,11 +22,11 @@ pub record Places : Type 0 where
 abbrev pub places_of : Stays → Places
 places_of s = record { params = s.params.items; results = s.results.items }
 
--- which params stay where these locations are taken
+-- which params stay where the given locations are taken
 abbrev pub taken_of : List Loc → List Param → List Bool
 taken_of locations params = map (λ param. is_taken locations (Some param)) params
 
--- which of the values that pass stay where these are given
+-- which of the values that pass stay where the given locations are given back
 abbrev pub given_of : List Loc → List Bool
 given_of locations = map (λ location. is_among locations location) passed
 
@@ -47,7 +47,7 @@ stays_at (graph ∷ graphs) (sum ∷ sums) entry =
 stays_at (graph ∷ graphs) [] entry =
     if graph.entry == entry then Some (stays_of graph no_sum) else stays_at graphs [] entry
 
--- where nothing is told, nothing stays
+-- which params stay of a graph, if anything is told of it; else none
 abbrev pub params_in : Option Places → List Bool
 params_in (Some places) = places.params
 params_in None = []

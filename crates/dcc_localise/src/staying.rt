@@ -22,13 +22,13 @@ pub struct Stays {
     pub results: Vec<bool>,
 }
 
-/// The same of each graph, by its entry.
+/// What stays of each graph, by the graph's entry.
 #[derive(Drop)]
 pub struct Staying {
     pub by_entry: IndexMap<u16, Stays>,
 }
 
-// Whether a location is one of these.
+// Whether a location is in the list.
 fn is_among(locations: &[Loc], location: Loc) -> bool
     ensures { result ≡ live.is_among locations.now location }
 {
@@ -37,7 +37,7 @@ fn is_among(locations: &[Loc], location: Loc) -> bool
         .any(|other| same_location(location, *other))
 }
 
-// Whether a param stays where the graph takes these locations.
+// Whether a param stays where the graph takes the given locations.
 fn is_taken(params: &[Loc], param: Param) -> bool
     ensures { result ≡ localised.is_taken params.now (Some param) }
 {
@@ -48,7 +48,7 @@ fn is_taken(params: &[Loc], param: Param) -> bool
         }
 }
 
-// Which params stay where the graph takes these locations.
+// Which params stay where the graph takes the given locations.
 fn taken(alloc: Global, locations: &[Loc], params: &[Param]) -> Result<Vec<bool>, AllocError>
     ensures { IfOk result (λ stays. stays.items ≡ taken_of locations.now params.now) }
 {
@@ -59,7 +59,7 @@ fn taken(alloc: Global, locations: &[Loc], params: &[Param]) -> Result<Vec<bool>
     Ok(stays)
 }
 
-// Which values stay where the graph gives these locations back.
+// Which values stay where the graph gives the given locations back.
 fn given(alloc: Global, locations: &[Loc]) -> Result<Vec<bool>, AllocError>
     ensures { IfOk result (λ stays. stays.items ≡ given_of locations.now) }
 {

@@ -9,14 +9,14 @@ use crate::staying::Staying;
 use dcc_ir::{Block, End, Graph, Stmt};
 use std::alloc::{AllocError, Global};
 
-// Whether a place stays; those past the end go.
+// Whether a place stays; places past the end of the list go.
 fn has(stays: &[bool], place: usize) -> bool
     ensures { result ≡ stays_in stays.now place }
 {
     stays.get(place).copied().unwrap_or(false)
 }
 
-// Those of a list whose places stay.
+// The items of a list whose places stay.
 fn kept<T: Drop>(alloc: Global, stays: &[bool], items: Vec<T>) -> Result<Vec<T>, AllocError>
     ensures { IfOk result (λ left. left.items ≡ trimmed.kept (stays_in stays.now) items.items) }
 {
@@ -32,7 +32,7 @@ fn kept<T: Drop>(alloc: Global, stays: &[bool], items: Vec<T>) -> Result<Vec<T>,
     Ok(left)
 }
 
-// A statement; a call passes the arguments that its callee takes, and takes what that gives.
+// A statement with what stays: a call passes the arguments that its callee takes, and takes what that gives.
 fn trim_stmt(alloc: Global, staying: &Staying, stmt: Stmt) -> Result<Stmt, AllocError>
     ensures { IfOk result (λ left. stmt_of left
         ≡ trimmed.trim_stmt (trim_in staying.now.by_entry.entries) (stmt_of stmt)) }
@@ -53,7 +53,7 @@ fn trim_stmt(alloc: Global, staying: &Staying, stmt: Stmt) -> Result<Stmt, Alloc
     }
 }
 
-// The end of a block of the graph with that entry; a return gives the values that stay.
+// The end of a block of the graph with that entry, with what stays: a return gives the values that stay.
 fn trim_end(alloc: Global, staying: &Staying, entry: u16, end: End) -> Result<End, AllocError>
     ensures { IfOk result (λ left. exit_of left
         ≡ trimmed.trim_exit (trim_in staying.now.by_entry.entries) entry (exit_of end)) }
@@ -64,7 +64,7 @@ fn trim_end(alloc: Global, staying: &Staying, entry: u16, end: End) -> Result<En
     }
 }
 
-// Each statement of a block so.
+// The statements of a block, of which each call passes and takes what stays.
 fn trim_stmts(alloc: Global, staying: &Staying, stmts: Vec<Stmt>) -> Result<Vec<Stmt>, AllocError>
     ensures { IfOk result (λ left. map stmt_of left.items
         ≡ map (trimmed.trim_stmt (trim_in staying.now.by_entry.entries)) (map stmt_of stmts.items)) }
@@ -76,7 +76,7 @@ fn trim_stmts(alloc: Global, staying: &Staying, stmts: Vec<Stmt>) -> Result<Vec<
     Ok(left)
 }
 
-// The blocks of the graph with that entry.
+// The blocks of the graph with that entry, with what stays.
 fn trim_blocks(
     alloc: Global,
     staying: &Staying,
@@ -97,7 +97,7 @@ fn trim_blocks(
     Ok(left)
 }
 
-// A graph with the params that stay; its calls and returns so.
+// A graph with the params that stay, and with the arguments and values that stay at its calls and returns.
 fn trim_graph(alloc: Global, staying: &Staying, g: Graph) -> Result<Graph, AllocError>
     ensures { IfOk result (λ left. graph_of left
         ≡ trimmed.trim_graph (trim_in staying.now.by_entry.entries) (graph_of g)) }

@@ -185,7 +185,7 @@ module _ (proc : Proc) (frame : Frame) where
   si_is_preserved Low = keeps (half Si Low) refl (unlost (P.procedure 0x10) (half Si Low) (pos 0) 0x10 0x11 0x12 refl refl refl refl refl)
   si_is_preserved High = keeps (half Si High) refl (unlost (P.procedure 0x10) (half Si High) (pos 1) 0x10 0x11 0x12 refl refl refl refl refl)
 
-  -- its flags aren't: INC writes ZF
+  -- the flags of the saver aren't kept: INC writes ZF
   zf_is_changed : Changes P 0x10 (held (flag_of Zf))
   zf_is_changed = changes-closed P 0x10 (held (flag_of Zf)) (record {
     passes = refl;
@@ -248,7 +248,7 @@ module _ (proc : Proc) (frame : Frame) where
   sum_is_given : (h : Half) → IsResult P 0x20 (half Ax h)
   sum_is_given h = record { changes = adds h; caller = 0; call = 0; after = 3; calls = refl; goes = here; wanted = asked h }
 
-  -- it takes AX and BX: each half of the sum is made of both halves of both
+  -- the adder takes AX and BX: each half of the sum is made of both halves of both
   sum_is_wanted : (h : Half) → Wanted P 0x20 0x22 (half Ax h)
   sum_is_wanted h = IsWantedBy.given_back {caller = 0} {call = 0} {after = 3} refl (adds h) refl here (asked h)
 
@@ -260,7 +260,7 @@ module _ (proc : Proc) (frame : Frame) where
   takes_bx Low = record { passes = refl; wanted = IsWantedBy.made_of {to = half Ax Low} here refl refl (sum_is_wanted Low) }
   takes_bx High = record { passes = refl; wanted = IsWantedBy.made_of {to = half Ax Low} here refl refl (sum_is_wanted Low) }
 
-  -- and nothing else
+  -- the adder takes nothing else
 
   -- the adder loses nothing that its ADD leaves
   added : (changed : ChangeFamily Place) (l : Place) → Loses changed (P.procedure 0x20) l (0x20 ∷ []) → is_left (((P.procedure 0x20).action 0x20).effect l) ≡ false
@@ -295,7 +295,7 @@ module _ (proc : Proc) (frame : Frame) where
       go zero h = absurd h
       go (suc depth) h = added (ChangesWithin P depth) l (subst (Loses (ChangesWithin P depth) (P.procedure 0x20) l) (added_there (along_added h.trail) h.returns) h.loses)
 
-  -- what it changes it surely writes
+  -- what the adding procedure changes it surely writes
   surely_added : (l : Location) → is_left (((P.procedure 0x20).action 0x20).effect (held l)) ≡ false → ((P.procedure 0x20).action 0x20).surely (held l) ≡ true
   surely_added (half_of r h) e = ap (λ b. not b && true) e
   surely_added (flag_of flag) e = ap (λ b. not b && true) e
@@ -365,7 +365,7 @@ module _ (proc : Proc) (frame : Frame) where
     | inr is ↦ (let e = is.1 in let f : Si ≡ Dx = cc in let numbers : 6 ≡ 2 = ap reg_number f in omega (arith, numbers))
   ]
 
-  -- so a construct stands at its entry
+  -- a construct of several results stands at the exchanger's entry
   is_refused : IsOfSummaries bodies 10 0x30
   is_refused = several_results {body = exchanger} (3, omega arith, refl) several
 
@@ -375,7 +375,7 @@ module _ (proc : Proc) (frame : Frame) where
   abbrev doing : ℕ → Op → Action Place ℤ
   doing height op = action_of bodies saver (record { node = node_of op []; height = height })
 
-  -- the same of a DOS call
+  -- what a DOS call does
   abbrev calling : ℕ → Action Place ℤ
   calling number = action_of bodies saver (record { node = record (node_of Int21 []) { number = Some number }; height = 0 })
 

@@ -258,7 +258,7 @@ module _ (image : Image) (layout : Layout) where
     frame : IsFrameOf image layout body.proc body.frame
     heights : AreHeightsOf image layout body.proc body.heights
 
-  -- all of these are so
+  -- the bodies are those of the procedures, and each is good
   record AreGood (procs : List Proc) (some : List Body) : Type 0 where
     same : map entry_of some ≡ map (λ (x : Proc). x.entry) procs
     good : All IsGood some
@@ -301,7 +301,7 @@ module _ (image : Image) (layout : Layout) where
       all_tt [] = All-nil (λ m. Unit {0})
       all_tt (m ∷ ms) = All-cons (λ m. Unit {0}) m ms tt (all_tt ms)
 
-  -- Those that are found.
+  -- Procedures that are found.
 
   abbrev below : ℕ → ℕ → Type 0
   below m n = m < n

@@ -64,7 +64,7 @@ places-apart (in_frame k) (in_frame j) e = ap in_frame ((Decides-int_eq k j).0 e
 places-apart (held l) (in_frame j) e = absurd (true≢false (sym e))
 places-apart (in_frame k) (held l) e = absurd (true≢false (sym e))
 
--- and takes each for itself
+-- the test takes each place for itself
 place-self : (place : Place) → is_same_place place place ≡ true
 place-self (held (half_of r h)) = and-both (is_same_register r r) (is_same_half h h) (register-self r) (half-self h)
 place-self (held (flag_of f)) = flag-self f

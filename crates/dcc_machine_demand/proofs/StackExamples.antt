@@ -110,7 +110,7 @@ module _ (proc : Proc) (frame : Frame) where
     wanted = inr (4, here, cell_is_wanted);
   }
 
-  -- so a construct stands at the CALL
+  -- a construct of a reused argument stands at the CALL
   is_refused : IsOfSummaries bodies 9 1
   is_refused = argument_reused {body = caller} (0, omega arith, refl) is_reused
 

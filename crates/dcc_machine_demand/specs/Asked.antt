@@ -17,19 +17,19 @@ use Rattle.dcc_machine_demand.specs.Bodies.{Body, entry_of, bodies_of, body_at, 
 use Rattle.dcc_machine_demand.specs.Places.{held, in_frame, passed, is_same_location, is_in_cell}
 use Rattle.dcc_machine_demand.specs.Instance.{passed_word, touched_of, procedures_of}
 
--- halves and flags that a procedure takes, gives back and leaves as they were
+-- the summary of a procedure: the halves and flags that it takes, gives back and leaves as they were
 pub record Summary : Type 0 where
   pub params : List Location
   pub results : List Location
   pub preserved : List Location
 
--- the list has just the halves and flags of that kind, each once, in the order in which they pass
+-- the list has just the halves and flags of the kind, each once, in the order in which they pass
 pub record AreJust (Kind : Location → Type 0) (locations : List Location) : Type 0 where
   pub order : locations ≡ filter (λ location. list_any (is_same_location location) locations) passed
   pub exact : (location : Location) → Contains locations location ↔ Kind location
 
--- The procedure takes what is wanted at its entry, but the first one, with that entry, takes nothing. It gives back
--- what it changes and what is wanted after some CALL of it, and preserves what it doesn't change.
+-- The summary of a procedure: it takes what is wanted at its entry, but the entry procedure takes nothing. It gives
+-- back what it changes and what is wanted after some CALL of it, and preserves what it doesn't change.
 pub record IsSummary (start : ℕ) (bodies : List Body) (body : Body) (summary : Summary) : Type 0 where
   pub params :
       AreJust (λ location. (entry_of body ≢ start) × IsParam (procedures_of bodies) (entry_of body) (held location))
@@ -43,7 +43,7 @@ pub record IsSummary (start : ℕ) (bodies : List Body) (body : Body) (summary :
 abbrev pub AreSummaries : ℕ → List Body → List Summary → Type 0
 AreSummaries start bodies summaries = AllZip (IsSummary start bodies) bodies summaries
 
--- of a program that the analyses have found
+-- the summaries of the procedures of a program that the analyses have found
 abbrev pub AreSummariesOf : Program → List Summary → Type 0
 AreSummariesOf program summaries = AreSummaries program.layout.start_ip (bodies_of program) summaries
 
@@ -78,11 +78,12 @@ pub data IsOneValue (Results : Location → Type 0) : Type 0 where
   of_pair :
       ((location : Location) → Results location → IsHalfOf Ax location ⊎ IsHalfOf Dx location) → IsOneValue Results
 
--- the results of the procedure with that entry are no one value
+-- the results of the procedure with that entry aren't one value
 abbrev pub GivesSeveral : List Body → ℕ → Type 0
 GivesSeveral bodies entry = ¬ IsOneValue (λ location. IsResult (procedures_of bodies) entry (held location))
 
--- a construct of this kind stands there: the first at the CALL, the second at the procedure's entry
+-- A construct of this kind, one that summaries tell, stands at the offset: an argument that is reused at the CALL,
+-- several results at the procedure's entry.
 pub data IsOfSummaries (bodies : List Body) : ℕ → ℕ → Type 0 where
   argument_reused :
       {body : Body} {at : ℕ} → Contains bodies body → IsReused bodies body at

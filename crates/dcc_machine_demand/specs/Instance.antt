@@ -16,16 +16,16 @@ use Rattle.dcc_machine_demand.specs.Values.{moves_or_calls, value_written, is_su
 
 -- Arguments of a CALL.
 
--- the word of the caller's frame that is the argument of that number of a CALL at a height
+-- the word of the caller's frame that is the argument of this number of a CALL at a height
 abbrev pub passed_word : ℕ → ℕ → Span
 passed_word height number = span_of (pos (2 + 2 * number) -ℤ pos height) 2
 
--- the byte belongs to one of these
+-- the byte of the caller's frame belongs to one of the arguments of these numbers
 abbrev pub is_passed : ℕ → List ℕ → ℤ → Bool
 is_passed height numbers k = list_any (λ number. is_within k (passed_word height number)) numbers
 
--- the numbers of a procedure's arguments, and of those that it may change: it writes one by a direct access of its
--- own, or its address may be computed
+-- the numbers of a procedure's arguments; `touched_of`: of those that it may change, as it writes them by a direct
+-- access of its own, or their addresses may be computed
 abbrev pub arguments_of : Option Body → List ℕ
 arguments_of None = []
 arguments_of (Some callee) = range_with_len 0 callee.frame.args
@@ -45,7 +45,7 @@ callee_in bodies op = None
 
 -- What an instruction does.
 
--- the byte is passed as an argument, and may be changed by the procedure that is called
+-- the byte is passed as an argument; `touches_byte`: and the procedure that is called may change it
 abbrev pub passes_byte : Option Body → ℕ → Place → Bool
 passes_byte callee height (in_frame k) = is_passed height (arguments_of callee) k
 passes_byte callee height place = false
@@ -78,7 +78,7 @@ module _ (bodies : List Body) (body : Body) (point : Point) where
       moved_uses moves place || passes_byte (callee_in bodies (op_of point)) point.height place
       else value_uses body (op_of point) point.node.number place
 
-  -- the bytes of the stack that it writes otherwise than by a PUSH
+  -- the bytes of the stack that the instruction writes otherwise than by a PUSH
   abbrev pub overwrites : ℤ → Bool
   overwrites k = touches (in_frame k) || (writes_memory (op_of point) && is_accessed_by body (op_of point) k)
 
@@ -94,7 +94,7 @@ module _ (bodies : List Body) (body : Body) (point : Point) where
     callee = callee_of (op_of point);
   }
 
--- nothing is done
+-- the action that does nothing
 abbrev pub idle : Action Place ℤ
 idle = record {
   uses = λ place. false;
@@ -133,7 +133,7 @@ procedure_of bodies body = record {
   is_exposed = is_exposed_place body;
 }
 
--- one without instructions
+-- the procedure without instructions
 abbrev pub no_procedure : Procedure ℕ Place ℤ
 no_procedure = record {
   entry = 0;

@@ -23,8 +23,9 @@ use Rattle.dcc_machine_demand.specs.Bodies.{Body, Point, op_of}
 use Rattle.dcc_machine_demand.specs.Places.{Place, held, passes}
 use Rattle.dcc_machine_demand.specs.Instance.{effect_at, action_of, procedures_of}
 
--- The step of an instruction leaves each half and each flag as it was that the instruction leaves; of a CALL that is
--- its own step. Which calls of INT 21h write AL rests on the number, so these are left out.
+-- The step of an instruction leaves each half and each flag as it was that the instruction is told to leave; the step
+-- of a CALL is that of the CALL alone, not of its procedure. Which calls of INT 21h write AL rests on the call's
+-- number, so INT 21h is left out of the law of halves.
 pub record WhatIsLeftStays : Type 0 where
   pub half :
       (bodies : List Body) (body : Body) (point : Point) (cpu : Cpu) (at : ℕ) (s : State) (r : Reg) (half : Half)
@@ -36,8 +37,8 @@ pub record WhatIsLeftStays : Type 0 where
       → IsOperation (op_of point) → effect_at bodies body point (held (flag_of flag)) ≡ Leaves
       → flag_in (op_step cpu (op_of point) at s).flags flag ≡ flag_in s.flags flag
 
--- Two states agree in all halves and flags of which an instruction makes this one, in this one where it doesn't surely
--- write it, and where it divides in all that it divides.
+-- Two states agree in all halves and flags of which an instruction makes the location, in the location itself where it
+-- isn't surely written, and where the instruction divides in all that it divides.
 pub record AreAlikeBefore (bodies : List Body) (body : Body) (point : Point) (s t : State) (to : Location)
     : Type 0 where
   pub made :
@@ -45,8 +46,8 @@ pub record AreAlikeBefore (bodies : List Body) (body : Body) (point : Point) (s 
   pub still : (action_of bodies body point).surely (held to) ≡ false → AgreeIn to s t
   pub divided : (from : Location) → divides_by (op_of point) from ≡ true → AgreeIn from s t
 
--- If they have the same memory too, and differ in nothing but halves and flags that pass, they agree in it after the
--- step, where the run goes on.
+-- Two states that are alike before an instruction for a location that passes, and have the same memory, SP and BP,
+-- agree in the location after the step, where the run goes on.
 abbrev pub WhatInstructionsMakeAlikeIsAlike : Type 0
 WhatInstructionsMakeAlikeIsAlike =
     (bodies : List Body) (body : Body) (point : Point) (cpu : Cpu) (at : ℕ) (s t : State) (to : Location)

@@ -21,19 +21,19 @@ abbrev pub copying : Spot → Effect Place ℤ
 copying (placed place) = Copies place
 copying spot = Makes
 
--- from that byte, where the addresses take these
+-- the move of one byte, which is made of that byte and of what takes part in the addresses
 abbrev pub move_from : (Place → Bool) → Spot → Spot → Move
 move_from addresses to from =
     record { to = to; effect = copying from; made_of = λ place. is_at from place || addresses place }
 
--- to each of the first bytes from that of the others
+-- the moves to each of the first bytes from the others, in their order
 abbrev pub moves_between : (Place → Bool) → List Spot → List Spot → List Move
 moves_between addresses [] from = []
 moves_between addresses (to ∷ rest) [] = move_from addresses to nowhere ∷ moves_between addresses rest []
 moves_between addresses (to ∷ rest) (from ∷ others) =
     move_from addresses to from ∷ moves_between addresses rest others
 
--- to each of these bytes from the frame, from that offset on
+-- the moves of a POP: to each byte of the operand from the frame, from an offset on
 abbrev pub popping : Body → Operand → List Spot → ℤ → List Move
 popping body a [] k = []
 popping body a (to ∷ rest) k =
@@ -44,7 +44,7 @@ popping body a (to ∷ rest) k =
 abbrev pub word_spots : Body → ℤ → List Spot
 word_spots body k = frame_spot body k ∷ frame_spot body (k +ℤ pos 1) ∷ []
 
--- the offsets of the word that a PUSH writes at a height, and of that which a POP reads
+-- the offset of the word that a PUSH writes at a height; `popped_offset`: of the word that a POP reads
 abbrev pub pushed_offset : ℕ → ℤ
 pushed_offset height = neg_ℤ (pos height)
 
@@ -74,7 +74,7 @@ moved_effect (move ∷ moves) place = if is_at move.to place then move.effect el
 abbrev pub moved_made_of : List Move → Place → Place → Bool
 moved_made_of moves to from = list_any (λ move. is_at move.to to && move.made_of from) moves
 
--- what is moved to memory is used
+-- moves use what they move to memory
 abbrev pub moved_uses : List Move → Place → Bool
 moved_uses moves place = list_any (λ move. is_memory move.to && move.made_of place) moves
 
@@ -84,12 +84,12 @@ abbrev pub pushing : Spot → WordEffect Place
 pushing (placed place) = Pushes place
 pushing spot = Overwrites
 
--- the bytes that are pushed
+-- the bytes of the operand of a PUSH
 abbrev pub pushed_spots : Body → Op → List Spot
 pushed_spots body (Push a) = spots_of body a
 pushed_spots body op = []
 
--- a PUSH of these bytes into the frame, from that offset on, at a byte of it
+-- what a PUSH of bytes into the frame, from an offset on, does to the byte of the stack at an offset
 abbrev pub pushed_from : ℤ → List Spot → ℤ → WordEffect Place
 pushed_from k [] j = LeavesWord
 pushed_from k (spot ∷ spots) j = if int_eq k j then pushing spot else pushed_from (k +ℤ pos 1) spots j

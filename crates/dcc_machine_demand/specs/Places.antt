@@ -34,7 +34,7 @@ passed =
     ∷ half_of Bx Low ∷ half_of Bx High ∷ half_of Si Low ∷ half_of Si High ∷ half_of Di Low ∷ half_of Di High
     ∷ flag_of Cf ∷ flag_of Zf ∷ flag_of Sf ∷ flag_of Of ∷ []
 
--- SP and BP don't pass
+-- the place passes between procedures, as all halves and flags do but those of SP and BP; bytes of frames don't
 abbrev pub passes : Place → Bool
 passes (held (half_of r half)) = is_general r
 passes (held (flag_of flag)) = true
@@ -55,12 +55,12 @@ is_same_place place other = false
 abbrev pub is_in_cell : Body → ℤ → Bool
 is_in_cell body k = list_any (λ cell. is_within k (bytes_of cell)) body.frame.cells.items
 
--- it is a place of the procedure
+-- the place is one of the procedure's: it passes, or is a byte of one of the procedure's cells
 abbrev pub is_place : Body → Place → Bool
 is_place body (held location) = passes (held location)
 is_place body (in_frame k) = is_in_cell body k
 
--- the byte belongs to a cell of which the address of one may be computed: it may be read at any time
+-- the byte belongs to a cell with a byte whose address may be computed: it may be read at any time
 abbrev pub is_exposed_place : Body → Place → Bool
 is_exposed_place body (held location) = false
 is_exposed_place body (in_frame k) =
@@ -86,16 +86,16 @@ abbrev pub is_placed : Spot → Bool
 is_placed (placed place) = true
 is_placed spot = false
 
--- what stands in no cell is memory
+-- what a byte of the frame stands in: the place of a cell's byte, or memory where no cell has it
 abbrev pub frame_spot : Body → ℤ → Spot
 frame_spot body k = if is_in_cell body k then placed (in_frame k) else in_memory
 
--- one thing for each byte of a width
+-- the list of one thing for each byte of a width
 abbrev pub for_bytes : {A : Type 0} → Width → A → A → List A
 for_bytes byte_width low high = low ∷ []
 for_bytes word_width low high = low ∷ high ∷ []
 
--- what lies at BP plus a displacement lies in the frame
+-- the address is one in the procedure's frame: BP plus a displacement, where the procedure is framed
 abbrev pub is_of_frame : Body → Ea → Bool
 is_of_frame body ea = body.frame.framed && is_direct ea
 
@@ -117,7 +117,7 @@ spots_of body (Seg number) = nowhere ∷ nowhere ∷ []
 spots_of body (Mem width ea) = memory_spots body width ea
 spots_of body (Const width constant) = for_bytes width nowhere nowhere
 
--- it takes part in the operand's address
+-- the place takes part in the operand's address
 abbrev pub is_of_address : Operand → Place → Bool
 is_of_address a (held location) = is_in_address_of location a
 is_of_address a (in_frame k) = false
@@ -127,23 +127,23 @@ abbrev pub spots_of_memory : Body → Option (Width × Ea) → List Spot
 spots_of_memory body None = []
 spots_of_memory body (Some (width, ea)) = memory_spots body width ea
 
--- the byte belongs to it
+-- the byte of the frame belongs to the operation's operand in memory
 abbrev pub is_accessed_by : Body → Op → ℤ → Bool
 is_accessed_by body op k = list_any (λ spot. is_at spot (in_frame k)) (spots_of_memory body (memory_operand op))
 
--- it stands in a cell
+-- the operation's operand in memory stands in a cell
 abbrev pub is_in_cells : Body → Op → Bool
 is_in_cells body op = list_any is_placed (spots_of_memory body (memory_operand op))
 
 -- Words of the stack.
 
--- a direct access of the procedure has one of these bytes
+-- a direct access of the procedure touches a byte of the span
 abbrev pub is_accessed : Body → Span → Bool
 is_accessed body span =
     body.frame.framed
     && list_any (λ (found : ℕ × Node). overlaps span (direct_bytes (memory_operand found.1.instr.op))) (nodes_of body)
 
--- the byte belongs to a cell that no address reaches: pushes, pops and calls alone do
+-- the byte belongs to a cell that pushes, pops and calls alone reach: no operand and no computed address does
 abbrev pub is_private_byte : Body → ℤ → Bool
 is_private_byte body k =
     list_any (λ cell.

@@ -17,7 +17,8 @@ pub record StandsInSummaries (cpu : Cpu) (image : Image) (kind at : ℕ) : Type 
   pub found : IsProgramOf cpu image program
   pub stands : IsOfSummaries (bodies_of program) kind at
 
--- no construct stands anywhere, also none of these two kinds, and no count passes its greatest number
+-- no construct stands anywhere, neither of those that the analyses tell nor of those that summaries tell, and no count
+-- passes its greatest number
 pub record IsAcceptedProgram (cpu : Cpu) (image : Image) : Type 0 where
   pub sound : IsSound cpu image
   pub none : (kind at : ℕ) → ¬ StandsInSummaries cpu image kind at
@@ -27,8 +28,8 @@ pub data IsRefusedImage (cpu : Cpu) (image : Image) : Type 0 where
   is_unsound : IsUnsound cpu image → IsRefusedImage cpu image
   of_summaries : {kind at : ℕ} → StandsInSummaries cpu image kind at → IsRefusedImage cpu image
 
--- what may be told of a program that is refused: what the analyses tell, or where these refuse nothing a construct of
--- these two kinds
+-- what may be told of a program that is refused: what the analyses tell, or where these refuse nothing a construct
+-- that summaries tell
 pub data IsRefusedFor (cpu : Cpu) (image : Image) : Refusal → Type 0 where
   by_analysis : {refusal : Refusal} → IsRefusedByAnalysis cpu image refusal → IsRefusedFor cpu image refusal
   by_summaries :
@@ -43,11 +44,11 @@ OneProgramIsFound =
 
 -- What is accepted and what is refused are apart.
 pub record AcceptedIsNotRefused : Type 0 where
-  -- where the analyses find a program in which no such construct stands, it is accepted
+  -- a program that the analyses find, in which no construct stands that summaries tell, is accepted
   pub accepted :
       (cpu : Cpu) (image : Image) (program : Program) → IsProgramOf cpu image program
       → ((kind at : ℕ) → ¬ IsOfSummaries (bodies_of program) kind at) → IsAcceptedProgram cpu image
-  -- what is accepted has nothing for which it is refused, and is refused for want of memory alone
+  -- what is accepted isn't refused, and is told to be refused for want of memory alone
   pub apart : (cpu : Cpu) (image : Image) → IsAcceptedProgram cpu image → ¬ IsRefusedImage cpu image
   pub memory :
       (cpu : Cpu) (image : Image) (refusal : Refusal) → IsAcceptedProgram cpu image

@@ -27,13 +27,14 @@ moves_or_calls op = false
 
 -- What is written.
 
--- the place takes a value that is made there; of the calls of INT 21h only those that give a byte write AL
+-- the operation gives the place a value that it makes; of the calls of INT 21h only those that give a byte write AL
 abbrev pub value_written : Body → Op → Option ℕ → Place → Bool
 value_written body op number (held (half_of r half)) = is_general r && surely_writes_half op number r half
 value_written body op number (held (flag_of flag)) = writes_flag op flag
 value_written body op number (in_frame k) = writes_memory op && is_accessed_by body op k
 
--- Where it writes, it surely does; a shift or rotate by CL may leave the flags.
+-- Where the operation writes the place, it surely does, whatever it finds; a shift or rotate by CL may leave the
+-- flags.
 abbrev pub is_sure : Op → Place → Bool
 is_sure (Call target) place = false
 is_sure op (held (flag_of flag)) = surely_writes_flag op flag
@@ -65,7 +66,9 @@ value_made_of body op (in_frame k) (in_frame j) = is_accessed_by body op k && is
 
 -- Uses.
 
--- a division uses its operand and the lower half of what it divides: that one tells the upper half, which is prepared
+-- what is wanted for a division: its operand and the lower half of what it divides. Of an accepted program the lower
+-- half tells the upper one, which is prepared; so the upper half doesn't count here, as it does in dcc_prog's `uses`,
+-- which tells what the division's step is made of.
 abbrev pub division_uses : Operand → Location → Bool
 division_uses a location = is_accumulator (operand_width a) location || is_read location a
 
@@ -74,8 +77,8 @@ abbrev pub divides : Op → Bool
 divides (UnaryOp operation a) = is_division operation
 divides op = false
 
--- What an operation uses for a jump, a store, a division or a DOS call. To write a memory operand that stands in a cell
--- is no store.
+-- What an operation uses for a jump, a store, a division or a DOS call, whatever is wanted after it. A write of a
+-- memory operand that stands in a cell is no store, and of what a division divides the lower half alone counts.
 abbrev pub value_uses : Body → Op → Option ℕ → Place → Bool
 value_uses body (UnaryOp operation a) number (held location) =
     if is_division operation then division_uses a location

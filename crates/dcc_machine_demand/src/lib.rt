@@ -7,17 +7,18 @@ ghost use Rattle.dcc_machine_demand.specs.Laws.{WhatIsLeftStays, WhatInstruction
 ghost use Rattle.dcc_machine_demand.specs.Laws.{WhatIsPreservedIsHeld};
 ghost use Rattle.dcc_machine_demand.specs.Refused.{OneProgramIsFound, AcceptedIsNotRefused};
 
-/// What an instruction leaves, as its procedure sees it, is as it was after its step.
+/// What an instruction is told to leave, as its procedure sees it, its step leaves as it was.
 pub fn what_is_left_stays()
     ensures { WhatIsLeftStays }
 {}
 
-/// Two states that agree in all of which an instruction makes a half or a flag agree in it after its step.
+/// Two states that agree in all of which an instruction makes a half or a flag agree in that half or flag after its
+/// step.
 pub fn what_instructions_make_alike_is_alike()
     ensures { WhatInstructionsMakeAlikeIsAlike }
 {}
 
-/// At each return of a procedure what it preserves is what it was at the entry.
+/// At each return of a procedure each place that it preserves holds what it held at the entry.
 pub fn what_is_preserved_is_held()
     ensures { WhatIsPreservedIsHeld }
 {}

@@ -15,17 +15,17 @@ fn decodes_on(cpu: Cpu, code: &[u8], op: Op) -> bool {
     }
 }
 
-// Whether they are that on both processors.
+// Whether all of the bytes are an instruction of both processors with the operation.
 fn decodes(code: &[u8], op: Op) -> bool {
     decodes_on(Cpu::I8086, code, op) && decodes_on(Cpu::I186, code, op)
 }
 
-// Whether they are that on the 80186, and no instruction of the 8086.
+// Whether all of the bytes are an instruction of the 80186 with the operation, and none of the 8086 begins there.
 fn decodes_later(code: &[u8], op: Op) -> bool {
     decodes_on(Cpu::I186, code, op) && decode(code, 0, Cpu::I8086).is_none()
 }
 
-// Whether they are an instruction of neither processor.
+// Whether neither processor has an instruction that the bytes begin with.
 fn is_none(code: &[u8]) -> bool {
     decode(code, 0, Cpu::I8086).is_none() && decode(code, 0, Cpu::I186).is_none()
 }

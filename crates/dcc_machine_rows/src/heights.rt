@@ -140,7 +140,7 @@ static REFUSED: [RefusedRow; 14] = [
     // INC, and a POP, raise SP into the saved BP.
     (Cpu::I8086, b"\x55\x8B\xEC\x44\xEB\xFE", HEIGHTS, 0x0008),
     (Cpu::I8086, b"\x55\x8B\xEC\x58\xEB\xFE", HEIGHTS, 0x0008),
-    // So does a CALL of a procedure that removes an argument.
+    // A CALL of a procedure that removes an argument raises SP into the saved BP.
     (
         Cpu::I8086,
         b"\x55\x8B\xEC\xE8\x02\x00\xEB\xFE\xC2\x02\x00",
@@ -167,7 +167,7 @@ static REFUSED: [RefusedRow; 14] = [
         HEIGHTS,
         0x000F,
     ),
-    // More than 32,766 bytes.
+    // A height above 32,766 bytes.
     (Cpu::I8086, b"\x50\x81\xEC\xFD\x7F\xEB\xFE", HEIGHTS, 0x0006),
     // A push, and LEAVE, where the frame is given up already.
     (Cpu::I8086, b"\x55\x8B\xEC\x5D\x50\xEB\xFE", OUTSIDE, 0x0009),

@@ -39,7 +39,7 @@ pub fn image_with(rt: &impl Abort, alloc: Global, code: &[u8], rest: &[u8]) -> R
     Ok(image)
 }
 
-/// The same without a rest.
+/// The image of a program with the code and nothing after it.
 pub fn image_of(rt: &impl Abort, alloc: Global, code: &[u8]) -> Result<Image, Fail>
     ensures { IfOk result IsLoaded }
 {
@@ -132,7 +132,7 @@ static PROGRAMS: [ProgramRow; 16] = [
         b"\xB4\x02\xCD\x21\x3C\x05\x75\xFA\xB4\x4C\xCD\x21",
         &["5: 5>7 7>9#2 9>11 11>7>13 13>15 15#76"],
     ),
-    // Both arms move one number to AH.
+    // An INT 21h whose AH two arms set, to one number.
     (
         Cpu::I8086,
         b"\x3B\xC3\x7C\x04\xB4\x02\xEB\x02\xB4\x02\xCD\x21\xB4\x4C\xCD\x21",

@@ -327,7 +327,7 @@ fn runs_end_at_faults_and_outside_the_table(rt: HostRuntime) -> Result<(), Fail>
             0x0001,
             Stepped::Outside(1),
         ),
-        // Another number in AH.
+        // INT 21h with another number in AH than the five.
         (
             b"\xB4\x30\xCD\x21",
             9,

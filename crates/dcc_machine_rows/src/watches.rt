@@ -19,7 +19,7 @@ static WATCHED: [WatchRow; 3] = [
         b"*",
         Watched::Clean(Stepped::Exit(0)),
     ),
-    // It is read before it is stored.
+    // A byte of a frame is read before it is stored.
     (
         Cpu::I8086,
         b"\x55\x8B\xEC\x83\xEC\x02\x8A\x56\xFE\xB4\x02\xCD\x21\xB8\x00\x4C\xCD\x21",

@@ -92,7 +92,7 @@ module _ (changed : ℕ → Bool) (graph : Graph) (location : Loc) where
         within = within_both at_entry known (joined known s) (subst (IsWithin at_entry) (sym (some_is known going.entered.state (e ∙ going.entered.there))) going.entered.within) (within_joined known s);
       }
 
-  -- it flows to all of these
+  -- a state flows to all blocks of the list
   all_flow : (begins : States) (s : State) (blocks : List ℕ) → Going begins → ((b : ℕ) → Contains blocks b → (b < length begins) × IsMet changed graph location (begin_of b) s)
       → ((word : Loc) → is_among s.saved word ≡ true → is_among words word ≡ true)
       → Going (all_flowed begins s blocks) × (left_in words (all_flowed begins s blocks) ≤ left_in words begins)

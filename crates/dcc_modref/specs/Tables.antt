@@ -77,13 +77,13 @@ abbrev pub one_if : Bool → ℕ
 one_if true = 1
 one_if false = 0
 
--- of a block
+-- how much the state at the begin of a block may still change
 abbrev pub left_of : List Loc → Option State → ℕ
 left_of words None = length words + 4
 left_of words (Some s) =
     one_if (not s.written) + one_if (not s.lost) + length (filter (is_among s.saved) words)
 
--- of these blocks
+-- how much the states at the begins of blocks may still change
 abbrev pub left_in : List Loc → States → ℕ
 left_in words [] = 0
 left_in words (state ∷ begins) = left_of words state + left_in words begins

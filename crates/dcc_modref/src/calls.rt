@@ -37,7 +37,7 @@ fn note(callers: &mut Vec<Vec<usize>>, at: usize, graph: &Graph) -> Result<(), A
 }
 
 impl Calls {
-    /// Those of a program.
+    /// The calls of a program.
     pub fn new(alloc: Global, p: &IrProgram) -> Result<Calls, AllocError> {
         let mut callers = no_callers(alloc)?;
         for at in 0..p.graphs.len() {

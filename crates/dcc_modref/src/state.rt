@@ -129,7 +129,7 @@ impl State {
         }
     }
 
-    /// The same.
+    /// A state of its own with the same facts.
     pub fn copy(&self) -> Result<State, AllocError>
         ensures { IfOk result (λ s. state_of s ≡ state_of self.now) }
     {
@@ -158,7 +158,7 @@ impl State {
         !(is_half(*place) && is_pushed(pushed, *from) && is_among(self.saved.as_slice(), *from))
     }
 
-    // Those of the words that a statement doesn't write.
+    // The words that hold the location saved and that a statement doesn't write.
     fn unwritten(&self, alloc: Global, stmt: &Stmt) -> Result<Vec<Loc>, AllocError>
         ensures { IfOk result (λ words. words.items
             ≡ filter (λ word. not (is_among (written_by (stmt_of stmt.now)) word)) self.now.saved.items) }
@@ -213,7 +213,7 @@ impl State {
         Ok(())
     }
 
-    // Those of the words that the other state has too.
+    // The words that hold the location saved in both states.
     fn common(&self, alloc: Global, other: &State) -> Result<Vec<Loc>, AllocError>
         ensures { IfOk result (λ words. words.items ≡ filter (is_among other.now.saved.items) self.now.saved.items) }
     {

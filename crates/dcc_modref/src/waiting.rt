@@ -65,7 +65,7 @@ impl Waiting {
         }
     }
 
-    /// Those that wait, for their turns.
+    /// The places that wait, taken out for their turns.
     pub fn take(&mut self, alloc: Global) -> Vec<usize> {
         std::mem::replace(&mut self.places, Vec::new(alloc))
     }

@@ -11,7 +11,7 @@ pub record IsSmall (z : ℤ) : Type 0 where
 pub small_fits : {z : ℤ} → IsSmall z → FitsSigned w64 z
 small_fits {z} p = omega (arith, ints)
 
--- so it passes through the 64 bits as it is
+-- a number of 16 bits in two's complement passes through the 64 bits as it is
 pub small_passed : {z : ℤ} → IsSmall z → to_z w64 (of_z w64 z) ≡ z
 small_passed {z} p = to_z-of_z (small_fits p)
 

@@ -34,13 +34,13 @@ dividend_fits z size = fits_signed_from_abs w64 z (omega arith)
 quotient_fits : (z d : ℤ) → unsigned_abs z ≤ 2 ^ 31 → FitsSigned w64 (int_div z d)
 quotient_fits z d size = let h = quotient_abs z d in fits_signed_from_abs w64 (int_div z d) (omega arith)
 
--- so the code's division is defined
+-- the code's division is defined
 pub can_divide : (z d : ℤ) → unsigned_abs z ≤ 2 ^ 31 → IsSmall d → FitsSigned w64 (int_div (to_z w64 (of_z w64 z)) (to_z w64 (of_z w64 d)))
 can_divide z d size p =
     subst (λ (x : ℤ). FitsSigned w64 (int_div x (to_z w64 (of_z w64 d)))) (sym (to_z-of_z (dividend_fits z size)))
     (subst (λ (x : ℤ). FitsSigned w64 (int_div z x)) (sym (small_passed p)) (quotient_fits z d size))
 
--- and gives the quotient and the remainder
+-- the code's division gives the quotient and the remainder
 quotient_passed : (z d : ℤ) → unsigned_abs z ≤ 2 ^ 31 → IsSmall d
     → to_z w64 (of_z w64 (int_div (to_z w64 (of_z w64 z)) (to_z w64 (of_z w64 d)))) ≡ int_div z d
 quotient_passed z d size p = quot_is w64 z d (dividend_fits z size) (small_fits p) (quotient_fits z d size)

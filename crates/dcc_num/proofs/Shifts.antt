@@ -22,7 +22,7 @@ nothing_left a b k h =
     let even : a * 2 ^ d * 2 * 2 ^ b / 2 ^ b % 2 ≡ 0 = rw (shl-shr (a * 2 ^ d * 2) b) (omega arith) in
     (rw q whole, rw q even)
 
--- so counts above the width may be taken as one of them
+-- shifts by counts above the width may be taken as one of them: nothing is left, nor of the last bit that left
 pub moved_far : (b a k : ℕ) → b < 17 → (a * 2 ^ min k 17 % 2 ^ b ≡ a * 2 ^ k % 2 ^ b) × (a * 2 ^ min k 17 / 2 ^ b % 2 ≡ a * 2 ^ k / 2 ^ b % 2)
 moved_far b a k small = elim (cases_lt k 18) [
   | inl near ↦ let e : min k 17 ≡ k = omega arith in rw e (refl, refl)
@@ -100,7 +100,7 @@ turned_is w a n p l ep el h within =
     let whole : a * 2 ^ n % 2 ^ 64 ≡ a * 2 ^ n = shl_whole a 16 n 64 (limit_small w a h) (omega arith) in
     rw (ep, el) (rw whole (turned_below a (bits_of w) n h within))
 
--- the same with p standing for the number and n for the places
+-- what the code computes for a shift down, with p standing for the number and n for the places
 pub moved_down_for : (a k p n : ℕ) → p ≡ a → n ≡ min k 17 → a < 2 ^ 16 → 0 < k
     → (p / 2 ^ (n - 1) / 2 ≡ a / 2 ^ k) × (p / 2 ^ (n - 1) ≡ a / 2 ^ (k - 1))
 moved_down_for a k p n ep en small some = rw (ep, en) (moved_down_is a k small some)

@@ -168,7 +168,7 @@ turned_more : (w : Width) (x y : ℕ) (c : Bool) → y ≡ x * 2 → y % limit_o
 turned_more Byte x y c e small = two (grind (arith, nat_tests)) (grind (arith, nat_tests))
 turned_more Word x y c e small = two (grind (arith, nat_tests)) (grind (arith, nat_tests))
 
--- and one place less
+-- one place less of a turn to the right, by the halves of what was moved up
 turned_less : (w : Width) (x y : ℕ) (c : Bool) → y ≡ x * 2 → y % limit_of w + y / limit_of w < limit_of w
     → right_rotation_step w (y % limit_of w + y / limit_of w, c) ≡ (x % limit_of w + x / limit_of w, has_sign w (x % limit_of w + x / limit_of w))
 turned_less Byte x y c e small = two (grind (arith, nat_tests)) (grind (arith, nat_tests))

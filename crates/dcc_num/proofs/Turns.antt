@@ -41,7 +41,7 @@ doubled Byte a false small = grind (arith, nat_tests)
 doubled Word a true small = grind (arith, nat_tests)
 doubled Word a false small = grind (arith, nat_tests)
 
--- so it turns the number by one place more; c stands for the carry
+-- one step turns the number by one place more; c stands for the carry
 turned_more : (w : Width) (x y a c : ℕ) → a < limit_of w → y ≡ x * 2 → y % 2 ^ (bits_of w + 1) + y / 2 ^ (bits_of w + 1) < 2 ^ (bits_of w + 1)
     → c * limit_of w + a ≡ x % 2 ^ (bits_of w + 1) + x / 2 ^ (bits_of w + 1) → c < 2
     → 2 * a + c ≡ y % 2 ^ (bits_of w + 1) + y / 2 ^ (bits_of w + 1)

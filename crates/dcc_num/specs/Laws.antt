@@ -48,11 +48,12 @@ IsRepeated step moved =
     (w : Width) (a count : ℕ) (was : Flags) → a < limit_of w
     → value_and_carry (moved w a count was) ≡ after_steps (step w) count (a, was.cf)
 
--- RCL and RCR: where the flags hold only that carry
+-- the flags of which CF alone may be set, for RCL and RCR, which take no other
 abbrev pub only_carry : Bool → Flags
 only_carry carry = record no_flags { cf = carry }
 
--- RCL, and RCR, on the operand and CF
+-- one place to the left through CF (RCL): CF comes in, and the top bit is the new CF; `right_turn_step` (RCR): CF
+-- comes in at the top, and the lowest bit is the new CF
 abbrev pub left_turn_step : Width → ℕ × Bool → ℕ × Bool
 left_turn_step w (a, carry) = value_and_carry (left_turn_of w a (only_carry carry))
 
@@ -107,8 +108,8 @@ abbrev pub DifferencesAreExact : Type 0
 DifferencesAreExact = (w : Width) (a b : ℕ) (borrow : Bool) → a < limit_of w → b < limit_of w
     → IsDifference w a b borrow (difference_of w a b borrow).0 (difference_of w a b borrow).1
 
--- two lower halves by ADD, and then the upper ones by ADC: the halves of the sum of the whole numbers, less 2 to both
--- widths where CF is set at last
+-- two numbers of two halves, whose lower halves are added by ADD and whose upper ones by ADC: the halves of the sum,
+-- less 2 to both widths where CF is set at last
 abbrev pub SumsCarryOn : Type 0
 SumsCarryOn = (w : Width) (high low high' low' : ℕ)
     → high < limit_of w → low < limit_of w → high' < limit_of w → low' < limit_of w
@@ -117,7 +118,8 @@ SumsCarryOn = (w : Width) (high low high' low' : ℕ)
     joined_of w upper.0 lower.0 + from_bool upper.1.cf * (limit_of w * limit_of w)
     ≡ joined_of w high low + joined_of w high' low'
 
--- the same by SUB and SBB
+-- two numbers of two halves, whose lower halves are subtracted by SUB and whose upper ones by SBB: the halves of the
+-- difference, 2 to both widths more where CF is set at last
 abbrev pub DifferencesCarryOn : Type 0
 DifferencesCarryOn = (w : Width) (high low high' low' : ℕ)
     → high < limit_of w → low < limit_of w → high' < limit_of w → low' < limit_of w
@@ -183,7 +185,7 @@ abbrev pub IsBitByBit : (Bool → Bool → Bool) → (Width → ℕ → ℕ → 
 IsBitByBit of_bits operation = (w : Width) (a b : ℕ) → a < limit_of w → b < limit_of w
     → IsBitwise w of_bits a b (operation w a b).0 (operation w a b).1
 
--- both bits are set, or one of them, or one alone
+-- both bits are set
 abbrev pub both : Bool → Bool → Bool
 both a b = a && b
 
@@ -192,25 +194,26 @@ either a b = a || b
 
 -- ---- the flags of shifts and rotations
 
--- by 1 place OF tells that the sign has changed, by more it is clear, and by none all stays
+-- After a shift or rotation by 1 place OF tells that the sign has changed, by more places it is clear, and by none the
+-- operand and all flags stay.
 pub record TellsSign (w : Width) (a count : ℕ) (was : Flags) (r : ℕ) (flags : Flags) : Type 0 where
   pub once : count ≡ 1 → flags.of ≡ differ (has_sign w a) (has_sign w r)
   pub more : 1 < count → flags.of ≡ false
   pub none : count ≡ 0 → (r ≡ a) × (flags ≡ was)
 
--- so it is with a shift, whose ZF and SF tell its result
+-- a shift: OF tells the change of the sign, and ZF and SF tell the result
 abbrev pub ShiftsTellResults : (Width → ℕ → ℕ → Flags → ℕ × Flags) → Type 0
 ShiftsTellResults moved = (w : Width) (a count : ℕ) (was : Flags) → a < limit_of w
     → TellsSign w a count was (moved w a count was).0 (moved w a count was).1
     × (0 < count → TellsResult w (moved w a count was).0 (moved w a count was).1)
 
--- and with a rotation, which leaves ZF and SF
+-- a rotation: OF tells the change of the sign, and ZF and SF stay
 abbrev pub RotationsKeepFlags : (Width → ℕ → ℕ → Flags → ℕ × Flags) → Type 0
 RotationsKeepFlags moved = (w : Width) (a count : ℕ) (was : Flags) → a < limit_of w
     → TellsSign w a count was (moved w a count was).0 (moved w a count was).1
     × ((moved w a count was).1.zf ≡ was.zf) × ((moved w a count was).1.sf ≡ was.sf)
 
--- so does RCL or RCR, which goes by 1 place
+-- RCL or RCR by 1 place: OF tells the change of the sign, and ZF and SF stay
 abbrev pub TurnsKeepFlags : (Width → ℕ → Flags → ℕ × Flags) → Type 0
 TurnsKeepFlags turned = (w : Width) (a : ℕ) (was : Flags) → a < limit_of w
     → ((turned w a was).1.of ≡ differ (has_sign w a) (has_sign w (turned w a was).0))
@@ -222,7 +225,7 @@ LeftShiftsCarry = (w : Width) (a count : ℕ) (was : Flags) → a < limit_of w �
     → (shl_of w a count was).1.cf
     ≡ (if nat_le count (bits_of w) then is_set a (bits_of w - count) else false)
 
--- that of SHR is counted from the bottom
+-- the last bit that SHR moves out is that bit of the operand, counted from the bottom
 abbrev pub RightShiftsCarry : Type 0
 RightShiftsCarry = (w : Width) (a count : ℕ) (was : Flags) → a < limit_of w → 0 < count
     → (shr_of w a count was).1.cf ≡ is_set a (count - 1)
@@ -232,7 +235,7 @@ RightShiftsCarry = (w : Width) (a count : ℕ) (was : Flags) → a < limit_of w 
 abbrev pub SignExtensionsAreExact : Type 0
 SignExtensionsAreExact = (a : ℕ) → a < 256 → signed_of Word (sign_extension_of a) ≡ signed_of Byte a
 
--- the two halves are the product, and CF tells that the lower one alone is not
+-- the two halves are the product of unsigned numbers, and CF tells that the lower half alone is not
 pub record IsProduct (w : Width) (a b low high : ℕ) (flags : Flags) : Type 0 where
   pub value : joined_of w high low ≡ a * b
   pub needed : flags.cf ≡ not (nat_lt (a * b) (limit_of w))
@@ -241,7 +244,7 @@ abbrev pub ProductsAreExact : Type 0
 ProductsAreExact = (w : Width) (a b : ℕ) → a < limit_of w → b < limit_of w
     → IsProduct w a b (product_of w a b).0 (product_of w a b).1 (product_of w a b).2
 
--- the same for signed numbers
+-- the two halves are the product of signed numbers, and CF tells that it does not fit the lower half
 pub record IsSignedProduct (w : Width) (a b low high : ℕ) (flags : Flags) : Type 0 where
   pub value : signed_joined_of w high low ≡ signed_of w a *ℤ signed_of w b
   pub needed : flags.cf ≡ not (fits_signed w (signed_of w a *ℤ signed_of w b))

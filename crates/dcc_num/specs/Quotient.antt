@@ -8,7 +8,7 @@ use Rattle.dcc_num.specs.Numbers.{limit_of, signed_of, fits_signed, wrapped_of}
 abbrev pub joined_of : Width → ℕ → ℕ → ℕ
 joined_of w high low = high * limit_of w + low
 
--- the same in two's complement
+-- the signed number, in two's complement, whose upper and lower half are two operands
 abbrev pub signed_joined_of : Width → ℕ → ℕ → ℤ
 signed_joined_of w high low = signed_of w high *ℤ pos (limit_of w) +ℤ pos low
 

@@ -27,7 +27,7 @@ difference_of w a b borrow =
 unfoldable pub negation_of : Width → ℕ → ℕ × Flags
 negation_of w a = difference_of w 0 a false
 
--- the same result and flags, but CF as it was
+-- a result with its flags, but with CF as it was before
 abbrev pub keeping_carry : Flags → ℕ × Flags → ℕ × Flags
 keeping_carry was (r, flags) = (r, record flags { cf = was.cf })
 

@@ -6,7 +6,7 @@ ghost use Rattle.dcc_num.specs.Halves.{half_of_word, word_with_half};
 use crate::Half;
 
 impl Half {
-    /// This byte of a word.
+    /// The low or the high byte of a word.
     pub fn of(self, word: u16) -> u8
         ensures { result ≡ half_of_word self word }
     {
@@ -16,7 +16,7 @@ impl Half {
         }
     }
 
-    /// A word after this byte of it has taken a value.
+    /// A word after its low or high byte has taken a value.
     pub fn put(self, word: u16, byte: u8) -> u16
         ensures { result ≡ word_with_half self word byte }
     {

@@ -85,7 +85,7 @@ pub fn increments_are_exact()
     ensures { IncrementsAreExact }
 {}
 
-/// DEC gives the number before and leaves CF.
+/// DEC gives the number less 1 and leaves CF.
 pub fn decrements_are_exact()
     ensures { DecrementsAreExact }
 {}

@@ -62,7 +62,8 @@ pub fn shr(w: Width, a: u16, count: u8, was: Flags) -> (u16, Flags)
     (result, flags_of(w, result, cf, of))
 }
 
-// The same for a signed operand.
+// The bits of a signed operand moved down by a count, with its sign coming in, and whether the last bit shifted out is
+// set.
 fn moved_down_signed(w: Width, a: u16, count: u8) -> (u16, bool)
     requires operand { a < limit_of w }
     requires moved { 0 < count }

@@ -43,7 +43,7 @@ use Rattle.dcc_ops.proofs.SumValues.{xor_bits, and_bits, sign_value, sum_result,
 abbrev pub after_set : Loc → Expr → Scene → Scene
 after_set location e scene = record scene { values = with_value scene.values location (value_of scene e) }
 
--- they are made by these expressions, each of which reads what those before it left
+-- the result and the flags are made by these expressions, each of which reads what those before it left
 pub worked : (w : Width) (scene : Scene) (e o n z c : Expr) (outcome : ℕ × Flags) → value_of scene e ≡ outcome.0
     → value_of (after_set (result_place w) e scene) o ≡ from_bool outcome.1.of
     → value_of (after_set (Flag Of) o (after_set (result_place w) e scene)) n ≡ from_bool outcome.1.sf
@@ -57,7 +57,7 @@ worked byte_width scene e o n z c outcome er eo en ez ec =
 worked word_width scene e o n z c outcome er eo en ez ec =
     record { value = er; flags = record { carry = ec; zero = ez; negative = en; overflow = eo } }
 
--- the same where CF stays
+-- the result and the flags but for CF, which stays, are made by these expressions
 pub worked_three : (w : Width) (scene : Scene) (e o n z : Expr) (outcome : ℕ × Flags) → value_of scene e ≡ outcome.0
     → value_of (after_set (result_place w) e scene) o ≡ from_bool outcome.1.of
     → value_of (after_set (Flag Of) o (after_set (result_place w) e scene)) n ≡ from_bool outcome.1.sf
@@ -259,7 +259,7 @@ difference_with_borrow_worked word_width c scene carry first second =
     (zero_flag _ outcome r (difference_zero word_width a b c))
     (chosen_test k c (nat_le a b) (nat_lt a b) carry ∙ ap from_bool (difference_borrow_of_both word_width a b c))
 
--- AND, OR, XOR and TEST
+-- the result and the flags of AND, OR, XOR and TEST
 combined_worked : (w : Width) (scene : Scene) (operator : BinOp) (outcome : ℕ × Flags)
     → binary_value operator (bits_of w) (scene.values (left_place w)) (scene.values (right_place w)) ≡ outcome.0
     → outcome.0 < limit_of w → outcome.1 ≡ result_flags w outcome.0 false false
@@ -320,7 +320,7 @@ alu_worked Test w c scene carry first second =
     combined_worked w scene AndOp (conjunction_of w (scene.values (left_place w)) (scene.values (right_place w))) refl
     (and_below w _ _ first) refl
 
--- they are statements on temporaries and flags
+-- the statements of an operation on two operands are on temporaries and flags
 pub alu_scratch : (operation : Alu) (w : Width) → list_all sets_scratch (alu_working operation w) ≡ true
 alu_scratch Add byte_width = refl
 alu_scratch Add word_width = refl

@@ -43,7 +43,7 @@ abbrev pub is_set : Stmt → Bool
 is_set (Set location e) = true
 is_set stmt = false
 
--- such statements change values alone
+-- statements that set locations change values alone
 pub sets_run : (stmts : List Stmt) (t : State) → list_all is_set stmts ≡ true → t.end ≡ Running
     → execute stmts t ≡ with_values (executed stmts (scene_of t)).values t
 sets_run [] t ok running = refl
@@ -56,7 +56,7 @@ sets_run (Div location e ∷ stmts) t ok running = absurd (true≢false (sym ok)
 sets_run (Call results entry arguments depth ∷ stmts) t ok running = absurd (true≢false (sym ok))
 sets_run (Dos number place argument ∷ stmts) t ok running = absurd (true≢false (sym ok))
 
--- it sets a temporary or a flag, and is well formed
+-- the statement sets a temporary or a flag, and is well formed
 abbrev pub sets_scratch : Stmt → Bool
 sets_scratch (Set location e) = is_scratch location && is_stmt temporary_bits (Set location e)
 sets_scratch stmt = false
@@ -310,7 +310,7 @@ module _ (R : Relation) (coupling : IsCoupling R) where
       (word_set s t r (word_with_half High (word_in s r) v) (values (Half r Low)) v g (half_below s t r Low rel)
       small word rel)
 
-  -- it takes two bytes of a temporary
+  -- a general register takes two bytes of a temporary
   pub register_taken : (s : Machine) (t : State) (r : Reg) (first n v : ℕ) → is_general r ≡ true
       → v ≡ t.running.values (Temp n) / 2 ^ (8 + first) % 2 ^ 8 * 256 + t.running.values (Temp n) / 2 ^ first % 2 ^ 8
       → R s t
@@ -382,7 +382,7 @@ module _ (R : Relation) (coupling : IsCoupling R) where
         (register_small (with_flags flags s) t x g ok rel);
   }
 
-  -- and what they take
+  -- a word register takes a temporary of a word, whatever the flags are
   word_written : (s : Machine) (r : Reg) (flags : Flags) (t : State) (from : Loc) → is_general r ≡ true
       → R (with_flags flags s) t → is_temporary_of word_width from ≡ true
       → R (with_operand (with_flags flags s) (Word r) (t.running.values from))

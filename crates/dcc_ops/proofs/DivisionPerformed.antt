@@ -32,7 +32,7 @@ use Rattle.dcc_ops.proofs.DivisionValues.{unsigned_is, signed_is, pattern_below}
 use Rattle.dcc_ops.proofs.CouplingLaws.{Holding, result_is, left_is, sets_run, worked_on, sets_values, scratch_values, temporary_set, held_below, word_set, word_bytes, register_taken, both_took}
 use Rattle.dcc_ops.proofs.ProductPerformed.{accumulator_width, accumulator_value, accumulator_read, accumulator_below}
 
--- Their statements, by parts.
+-- The statements of divisions, by parts.
 
 abbrev quotient_operator : Bool → BinOp
 quotient_operator true = DivS
@@ -78,7 +78,7 @@ module _ (R : Relation) (coupling : IsCoupling R) where
   going : (s : Machine) (t : State) → R s t → is_over t.end ≡ false
   going s t rel = ap is_over (coupling.running s t rel)
 
-  -- both end by the fault
+  -- the machine and the inner run both end by the divide fault
   faulted : (w : Width) (signed : Bool) (at : ℕ) (s : Machine) (u : State) (a b : ℕ) (rest : List Stmt)
       → Holding R w s u a b → division_at (quotient_operator signed) (bits_of w) a b ≡ None
       → IsDivided R at s (with_end Divide at s) (execute (halves_dividing w signed ++ rest) u)

@@ -57,7 +57,7 @@ signed_product_is : (w : Width) (scene : Scene) (a b : ℕ) → scene.bits ≡ t
 signed_product_is w scene a b bits held other first second =
     rw (held, other, left_width w scene.bits bits, right_width w scene.bits bits) (product_pattern w a b first second)
 
--- whether it needs its upper half
+-- whether a product of unsigned factors needs its upper half
 needed_is : (w : Width) (scene : Scene) (p : ℕ) → scene.values (product_place w) ≡ p → p < 2 ^ double w
     → value_of scene (needs_upper_half w false) ≡ from_bool (not (nat_eq (p / limit_of w) 0))
 needed_is w scene p is small = rw is (needs_half w p small)

@@ -27,7 +27,7 @@ pub product_small : (w : Width) (a b : ℕ) → a < limit_of w → b < limit_of 
 product_small Byte a b first second = mul-lt a b 256 256 first second
 product_small Word a b first second = mul-lt a b 65536 65536 first second
 
--- it needs its upper half
+-- a product needs its upper half where that is not 0
 pub needs_half : (w : Width) (p : ℕ) → p < 2 ^ double w
     → from_bool (nat_lt 0 (p / 2 ^ bits_of w % 2 ^ bits_of w)) ≡ from_bool (not (nat_eq (p / limit_of w) 0))
 needs_half Byte p small = grind (arith, nat_tests)
@@ -145,7 +145,7 @@ pattern_high Byte (negsuc n) = omega arith
 pattern_high Word (pos n) = omega arith
 pattern_high Word (negsuc n) = omega arith
 
--- it needs its upper half where that is not the sign extension of the lower one
+-- a product of signed numbers needs its upper half where that is not the sign extension of the lower one
 pub needs_signed_half : (w : Width) (p : ℕ) → p < 2 ^ double w
     → nat_eq (pattern_at (double w) (signed_at (bits_of w) (p / 2 ^ 0 % 2 ^ bits_of w))) p
     ≡ nat_eq (p / limit_of w) (extension_of w (p % limit_of w))

@@ -21,7 +21,7 @@ use Rattle.dcc_ops.specs.Executed.{executed}
 abbrev pub Alike : Values → Values → Type 0
 Alike values others = (location : Loc) → values location ≡ others location
 
--- the other half
+-- the high half of a register stays where a low half is set
 pub high_kept : (values : Values) (q r : Reg) (v : ℕ)
     → with_value values (Half r Low) v (Half q High) ≡ values (Half q High)
 high_kept values q r v =
@@ -110,7 +110,7 @@ executed_fits (Call results entry arguments depth ∷ rest) scene ok fits =
 executed_fits (Dos number place argument ∷ rest) scene ok fits =
     executed_fits rest scene (and_parts _ (list_all (is_stmt scene.bits) rest) ok).1 fits
 
--- they change nothing but values
+-- well-formed statements that set locations change nothing but values
 pub executed_values : (stmts : List Stmt) (scene : Scene)
     → executed stmts scene ≡ record scene { values = (executed stmts scene).values }
 executed_values [] scene = refl

@@ -32,7 +32,7 @@ as_other Shl w n t = rw t refl
 as_other Shr w n t = rw t refl
 as_other _ w n t = refl
 
--- so it holds by every count
+-- a test that holds of a shift's statements by 1, by CL and by another constant holds by every count
 pub holds_by_count : (test : List Stmt → Bool) (operation : Shift) (w : Width) (count : Count)
     → HoldsByEach test operation w → test (shift_working operation w count) ≡ true
 holds_by_count test operation w One each = each.one

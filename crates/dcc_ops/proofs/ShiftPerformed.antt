@@ -60,7 +60,7 @@ pub record Holds (w : Width) (scene : Scene) (a b : ℕ) : Type 0 where
   pub left : scene.values (left_place w) ≡ a
   pub right : scene.values (right_place w) ≡ b
 
--- and of the result
+-- what the temporaries of the operands and of the result hold
 pub record Yields (w : Width) (scene : Scene) (a b r : ℕ) : Type 0 where
   pub holds : Holds w scene a b
   pub result : scene.values (result_place w) ≡ r
@@ -79,7 +79,7 @@ yields_flag byte_width scene f v a b r y =
 yields_flag word_width scene f v a b r y =
     record { holds = record { left = y.holds.left; right = y.holds.right }; result = y.result }
 
--- nor does CF that comes in
+-- CF that comes in changes nothing of what the operands' temporaries hold
 holds_carry : (w : Width) (scene : Scene) (v a b : ℕ) → Holds w scene a b
     → Holds w (scene_with scene (with_value scene.values carry_place v)) a b
 holds_carry byte_width scene v a b h = record { left = h.left; right = h.right }
@@ -216,7 +216,7 @@ shift_flags_kept w count overflow carry was scene a n r o c f p y small one of_i
     told : (g : Flags → Bool) → from_bool (if n == 0 then g was else g moved) ≡ from_bool (g f)
     told g = flag_chosen (n == 0) was moved f g e
 
--- and after those of a rotate by a count
+-- flags and temporaries after the flags of a rotate by a count
 rotate_flags_kept : (w : Width) (count : Count) (overflow carry : Expr) (was : Flags) (scene : Scene) (a n r : ℕ)
     (o c : Bool) (f : Flags)
     → HoldFlags was scene.values → Yields w scene a n r → Counts count n
@@ -255,7 +255,7 @@ rotate_flags_kept w count overflow carry was scene a n r o c f p y one of_is cf_
     told : (g : Flags → Bool) → from_bool (if n == 0 then g was else g moved) ≡ from_bool (g f)
     told g = flag_chosen (n == 0) was moved f g e
 
--- and after those of a turn by one place through CF
+-- flags and temporaries after the flags of a turn by one place through CF
 turn_flags_kept : (w : Width) (overflow carry : Expr) (was : Flags) (scene : Scene) (a n r : ℕ) (o c : Bool)
     → HoldFlags was scene.values → Yields w scene a n r
     → ((seen : Scene) → Yields w seen a n r → value_of seen overflow ≡ from_bool o)
@@ -562,7 +562,7 @@ some_counted cpu One s shifts constant = omega arith
 some_counted cpu Cl s shifts constant = absurd (true≢false constant)
 some_counted cpu (ConstCount n) s shifts constant = omega (arith, eqb-false (n % 32) 0 shifts)
 
--- they are statements on temporaries and flags
+-- the statements of a shift or rotate are on temporaries and flags
 shift_scratch : (operation : Shift) (w : Width) (count : Count)
     → list_all sets_scratch (shift_working operation w count) ≡ true
 shift_scratch operation w count = holds_by_count (list_all sets_scratch) operation w count (each w operation)

@@ -57,7 +57,7 @@ last_out w a n some = top w (a * 2 ^ (n - 1)) (a * 2 ^ n) (doubled a n some)
     top Byte x y e = grind (arith, nat_tests)
     top Word x y e = grind (arith, nat_tests)
 
--- and at the bottom for a shift to the right
+-- the last bit that a shift to the right moves out stands at the bottom one place before
 pub lowest_out : (a n : ℕ) → is_set (a / 2 ^ (n - 1)) 0 ≡ is_set a (n - 1)
 lowest_out a n = grind (arith, nat_tests)
 

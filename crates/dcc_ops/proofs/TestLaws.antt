@@ -70,7 +70,7 @@ chosen_by : (k target next : ℕ) (p : Bool) → k ≡ from_bool p
     → (if p then target else next) ≡ (if k == 1 then target else next)
 chosen_by k target next p e = sym (ap (λ n. if n == 1 then target else next) e ∙ chosen p target next)
 
--- Where it goes on.
+-- Where an operation with a test goes on.
 
 -- the state goes on to the target where the test has the value 1, else to the next instruction
 abbrev Goes : Cpu → Op → Option ℕ → ℕ → Machine → Option ℕ → State → Place → Place → Expr → Type 0

@@ -33,7 +33,7 @@ zeroed_step Xor a b s e = ap (λ r. with_result a r s) (zeroed-result Xor a b (o
 zeroed_step Sub a b s e = ap (λ r. with_result a r s) (zeroed-result Sub a b (operand_width a) s s.flags.cf e)
 zeroed_step operation a b s e = absurd (true≢false (sym e))
 
--- and writes it
+-- an operation that makes 0 writes its operand
 pub zeroing_writes : (operation : Alu) (a b : Operand) → is_zeroing operation a b ≡ true → writes_operand operation ≡ true
 zeroing_writes Xor a b e = refl
 zeroing_writes Sub a b e = refl

@@ -12,12 +12,12 @@ abbrev pub plus : Option Expr → Expr → Expr
 plus None e = e
 plus (Some sum) e = Binary Add 16 sum e
 
--- with a register, where there is one
+-- the sum so far with a register, where there is one
 abbrev pub adding : Option Reg → Option Expr → Option Expr
 adding None sum = sum
 adding (Some r) sum = Some (plus sum (word_of r))
 
--- with a number: 0 is added to nothing
+-- the sum so far with a number: 0 is added to nothing
 abbrev pub ending : ℕ → Option Expr → Expr
 ending number None = Const 16 number
 ending number (Some sum) = if number == 0 then sum else Binary Add 16 sum (Const 16 number)

@@ -37,7 +37,7 @@ is_scratch (Flag flag) = true
 is_scratch (Temp n) = true
 is_scratch location = false
 
--- the running activation has these values
+-- the state with these values in the running activation
 abbrev pub with_values : Values → State → State
 with_values values t = record t { running = record t.running { values = values } }
 
@@ -65,7 +65,7 @@ pub record IsCoupling (R : Relation) : Type 0 where
 
 -- Operands, in a state of the machine, whatever its flags are.
 
--- what the place holds is what the operand holds
+-- the operand stands at the place: what the place holds is what the operand holds
 pub record IsRead (R : Relation) (s : Machine) (x : Operand) (place : Place) : Type 0 where
   pub width : place_width place ≡ operand_width x
   pub value : (flags : Flags) (t : State) → R (with_flags flags s) t
@@ -73,7 +73,8 @@ pub record IsRead (R : Relation) (s : Machine) (x : Operand) (place : Place) : T
   pub small : (flags : Flags) (t : State) → R (with_flags flags s) t
       → operand_value s x < limit_of (operand_width x)
 
--- the place takes a temporary as the operand takes its value, and then the other relation holds
+-- the operand may be written at the place: where the place takes a temporary as the operand takes its value, the
+-- relation for afterwards holds
 pub record IsWritten (R After : Relation) (s : Machine) (x : Operand) (place : Place) : Type 0 where
   pub width : place_width place ≡ operand_width x
   pub sound : is_sound_place place ≡ true

@@ -15,7 +15,7 @@ use Rattle.dcc_ops.specs.Place.{Place}
 use Rattle.dcc_ops.specs.Statements.{op_stmts}
 use Rattle.dcc_ops.specs.Coupling.{Relation, IsRead}
 
--- the upper half is prepared
+-- the upper half of what is divided is 0, or for a signed division the sign of the lower half
 abbrev pub HasUpper : Bool → Width → Machine → Type 0
 HasUpper true w s = upper_in w s ≡ extension_of w (accumulator_in w s)
 HasUpper false w s = upper_in w s ≡ 0
@@ -25,7 +25,7 @@ pub data IsDivided (R : Relation) (at : ℕ) (s : Machine) : Machine → State �
   divides : {after : Machine} {u : State} → R after u → IsDivided R at s after u
   faults : {u : State} → R s u → IsDivided R at s (with_end Divide at s) (ended Divide u)
 
--- after its statements
+-- the statements of a division, whose upper half is prepared, divide as the machine does
 pub record DivisionsArePerformed (R : Relation) : Type 0 where
   pub unsigned :
       (cpu : Cpu) (x : Operand) (number : Option ℕ) (at : ℕ) (s : Machine) (t : State) (p q : Place) → IsRead R s x p

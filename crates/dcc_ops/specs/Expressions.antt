@@ -27,7 +27,8 @@ use Rattle.dcc_ops.specs.Temporaries.{left_place, right_place, result_place, pro
 abbrev pub word_of : Reg → Expr
 word_of r = Join (Get (Half r High)) (Get (Half r Low))
 
--- what the temporaries hold
+-- what the temporary of the left operand holds; `right`, `result`, `product`: those of the right operand, the result
+-- and the product
 abbrev pub left : Width → Expr
 left w = Get (left_place w)
 
@@ -64,7 +65,7 @@ negated e = Unary Not 1 e
 abbrev pub is_zero : Width → Expr → Expr
 is_zero w e = Unary IsZero (bits_of w) e
 
--- the sign bit, and the bit below it
+-- the sign bit; `below_sign`: the bit below it
 abbrev pub sign : Width → Expr → Expr
 sign w e = Part 1 (bits_of w - 1) e
 
@@ -132,7 +133,7 @@ abbrev pub cl_at : Width → Expr
 cl_at byte_width = Get (Half Cx Low)
 cl_at word_width = Widen false 16 (Get (Half Cx Low))
 
--- as the processor takes it: the 80186 by its five lowest bits
+-- CL as the processor takes it: the 80186 by its five lowest bits
 abbrev pub taken_cl : Cpu → Width → Expr
 taken_cl I8086 w = cl_at w
 taken_cl I186 w = at_width And w (cl_at w) (number w 31)
@@ -142,12 +143,12 @@ count_expr cpu w One = number w 1
 count_expr cpu w Cl = taken_cl cpu w
 count_expr cpu w (ConstCount n) = number w (n % 32)
 
--- a flag: where the count is in CL and 0, it stays
+-- the new value of a flag: where the count is in CL and 0, the flag stays
 abbrev pub unless_zero : Width → Count → FlagName → Expr → Expr
 unless_zero w Cl f e = Choose (is_zero w (right w)) (flag f) e
 unless_zero w count f e = e
 
--- a bit for a count of 1; for others it is 0. By a constant nothing is read to tell which.
+-- a bit that counts for a count of 1 alone; for other counts it is 0. By a constant nothing is read to tell which.
 abbrev pub if_one : Width → Count → Expr → Expr
 if_one w One e = e
 if_one w Cl e = Binary And 1 (at_width Eq w (right w) (number w 1)) e
@@ -160,7 +161,7 @@ shifted operator w = at_width operator w (left w) (right w)
 abbrev pub nearly_shifted : BinOp → Width → Expr
 nearly_shifted operator w = at_width operator w (left w) (at_width Sub w (right w) (number w 1))
 
--- how many places a rotate moves the bits, and what is missing to a whole turn
+-- how many places a rotate moves the bits; `rest_of_turn`: what is missing to a whole turn
 abbrev pub turn : Width → Expr
 turn w = at_width And w (right w) (number w (bits_of w - 1))
 
@@ -173,7 +174,7 @@ rotated_left w = at_width Or w (at_width Shl w (left w) (turn w)) (at_width Shr 
 abbrev pub rotated_right : Width → Expr
 rotated_right w = at_width Or w (at_width Shr w (left w) (turn w)) (at_width Shl w (left w) (rest_of_turn w))
 
--- by one place, with CF as the bit that comes in
+-- the operand rotated to the left by one place, with CF as the bit that comes in; `turned_right`: to the right
 abbrev pub turned_left : Width → Expr
 turned_left w = at_width Or w (at_width Shl w (left w) (number w 1)) (carry_at w)
 
@@ -183,14 +184,15 @@ turned_right w =
 
 -- Products.
 
--- twice the width
+-- the number of bits of a product: twice the width
 abbrev pub double : Width → ℕ
 double w = bits_of w + bits_of w
 
 abbrev pub multiplied : Width → Bool → Expr
 multiplied w signed = Binary Mul (double w) (Widen signed (double w) (left w)) (Widen signed (double w) (right w))
 
--- the product needs its upper half: without a sign where that is not 0, else where it is not the lower one's sign
+-- the product needs its upper half: without a sign where that half is not 0, else where it is not the sign of the
+-- lower one
 abbrev pub needs_upper_half : Width → Bool → Expr
 needs_upper_half w signed =
     if signed then negated (Binary Eq (double w) (Widen true (double w) (Part (bits_of w) 0 (product w))) (product w))

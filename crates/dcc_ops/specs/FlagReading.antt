@@ -8,11 +8,12 @@ use Rattle.dcc_ir.specs.FlagReads.{nests_flatly, loads_plainly}
 use Rattle.dcc_ops.specs.Place.{Place, is_sound_place}
 use Rattle.dcc_ops.specs.Statements.{op_stmts}
 
--- a statement that sets a flag reads flags so, and loads from plain addresses
+-- a statement that sets a flag reads flags as the negation of one or as an arm of a choice alone, and loads from plain
+-- addresses
 abbrev pub sets_flags_plainly : Stmt → Bool
 sets_flags_plainly stmt = nests_flatly stmt && loads_plainly stmt
 
--- each statement of an operation does, wherever its operands stand
+-- each statement of an operation that sets a flag does so plainly, wherever the operands stand
 abbrev pub OperationsSetFlagsPlainly : Type 0
 OperationsSetFlagsPlainly =
     (cpu : Cpu) (op : Op) (number : Option ℕ) (p q : Place) → is_sound_place p ≡ true → is_sound_place q ≡ true

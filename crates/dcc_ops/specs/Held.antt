@@ -31,7 +31,7 @@ pub record IsHeld (R : Relation) (s : Machine) (x : Operand) (after : Machine) (
   pub taken : after ≡ with_operand (with_flags flags s) x (u.running.values temporary)
   pub stands : R (with_flags flags s) u
 
--- after the statements
+-- the statements of an operation whose destination stands at a computed place leave its result in a temporary
 pub record ResultsAreHeld (R : Relation) : Type 0 where
   pub alu :
       (cpu : Cpu) (operation : Alu) (a b : Operand) (number : Option ℕ) (at : ℕ) (s : Machine) (t : State) (e : Expr)

@@ -25,8 +25,8 @@ abbrev pub is_xlat : Plain → Bool
 is_xlat Xlat = true
 is_xlat operation = false
 
--- the operands of an operation stand at these places, and its destination may be written there; XCHG has a register as
--- its second operand. Other operations than these have no place here.
+-- The operands of an operation stand at the places, and its destination may be written there; XCHG has a register as
+-- its second operand. The last clause is of operations that have no place here.
 abbrev pub Stands : Relation → Relation → Machine → Op → Place → Place → Type 0
 Stands R After s (AluOp operation a b) p q =
     IsRead R s a p × IsRead R s b q × IsWrittenIf (writes_operand operation) R After s a p
@@ -46,7 +46,7 @@ Stands R After s (LoopNe target) p q = Follows R After
 Stands R After s (Jcxz target) p q = Follows R After
 Stands R After s op p q = ⊥
 
--- after its statements the other relation holds
+-- after the statements of an operation whose operands stand at their places the relation for afterwards holds
 abbrev pub OperationsArePerformed : Relation → Relation → Type 0
 OperationsArePerformed R After =
     (cpu : Cpu) (op : Op) (number : Option ℕ) (at : ℕ) (s : Machine) (t : State) (p q : Place) → IsOperation op

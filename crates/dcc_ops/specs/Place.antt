@@ -8,16 +8,16 @@ use Rattle.dcc_ir.specs.declared.syntax.Loc.{Loc}
 use Rattle.dcc_ir.specs.declared.syntax.Loc.TheVariants.{Half, Cell}
 use Rattle.dcc_ir.specs.Tree.{Expr, Const, Get, Load, Part, Join, Address, Stmt, Set, Fetch, Store}
 
--- a place
+-- where an operand stands
 pub data Place : Type 0 where
   constant : Width → ℕ → Place
   -- a half of a register or of a cell
   byte : Loc → Place
-  -- the low and the high half
+  -- a word: its low and its high half
   word : Loc → Loc → Place
-  -- so much of the memory, at an address that reads no temporary and no flag
+  -- a width's bytes of the memory, at an address that reads no temporary and no flag
   memory : Width → Expr → Place
-  -- the address at that distance from the base of the frame; nothing is stored there
+  -- the address at a distance from the base of the frame; nothing is stored there
   address : ℕ → Place
   -- a word that is computed from general registers and the base of the frame; nothing is stored there
   computed : Expr → Place
@@ -39,19 +39,19 @@ place_value (memory w at) = Load (bits_of w) at
 place_value (address distance) = Address distance
 place_value (computed e) = e
 
--- a location takes that; what lies in memory is loaded by a statement of its own
+-- the statement by which a location takes what a place holds; what lies in memory is loaded by a statement of its own
 abbrev pub taking : Loc → Place → Stmt
 taking to (memory w at) = Fetch to (bits_of w) at
 taking to place = Set to (place_value place)
 
--- the place takes the value of an expression over temporaries
+-- the statements by which a place takes the value of an expression over temporaries
 abbrev pub storing : Place → Expr → List Stmt
 storing (byte location) e = Set location e ∷ []
 storing (word low high) e = Set low (Part 8 0 e) ∷ Set high (Part 8 8 e) ∷ []
 storing (memory w at) e = Store (bits_of w) at e ∷ []
 storing place e = []
 
--- a half, a low one, and a high one
+-- the location is a half of a register or of a cell; `is_low`, `is_high`: a low half, a high half
 abbrev pub is_half : Loc → Bool
 is_half (Half r half) = true
 is_half (Cell number half) = true
@@ -67,7 +67,7 @@ is_high (Half r High) = true
 is_high (Cell number High) = true
 is_high location = false
 
--- a byte is a half, and a word has a low and a high one
+-- the place is sound: a byte is a half, and a word has a low and a high half
 abbrev pub is_sound_place : Place → Bool
 is_sound_place (byte location) = is_half location
 is_sound_place (word low high) = is_low low && is_high high

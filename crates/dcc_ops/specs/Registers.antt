@@ -8,18 +8,18 @@ use Rattle.dcc_prog.specs.Trail.{is_general}
 use Rattle.dcc_ir.specs.declared.syntax.Loc.TheVariants.{Half}
 use Rattle.dcc_ops.specs.Place.{Place, constant, byte, word}
 
--- a register whose halves are locations, or one of the halves
+-- the operand is a register whose halves are locations, or one of the halves
 abbrev pub is_register : Operand → Bool
 is_register (Word r) = is_general r
 is_register (Byte r half) = is_general r
 is_register operand = false
 
--- the same, or a constant
+-- the operand is a register whose halves are locations, one of the halves, or a constant
 abbrev pub is_source : Operand → Bool
 is_source (Const width number) = true
 is_source operand = is_register operand
 
--- their places; others have none
+-- the place of a register or a constant; other operands have none, and stand at a constant 0 here
 abbrev pub register_place : Operand → Place
 register_place (Word r) = word (Half r Low) (Half r High)
 register_place (Byte r half) = byte (Half r half)

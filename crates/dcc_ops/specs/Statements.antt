@@ -48,7 +48,7 @@ operands_taking w p q = taking (left_place w) p ∷ taking (right_place w) q ∷
 abbrev pub word_taking : Reg → ℕ → Expr → List Stmt
 word_taking r first e = Set (Half r Low) (Part 8 first e) ∷ Set (Half r High) (Part 8 (8 + first) e) ∷ []
 
--- OF, SF and ZF
+-- OF, SF and ZF take three expressions
 abbrev pub flags_taking : Expr → Expr → Expr → List Stmt
 flags_taking overflow negative zero = Set (Flag Of) overflow ∷ Set (Flag Sf) negative ∷ Set (Flag Zf) zero ∷ []
 
@@ -58,11 +58,11 @@ carry_taking e = Set (Flag Cf) e ∷ []
 abbrev pub result_taking : Width → Expr → List Stmt
 result_taking w e = Set (result_place w) e ∷ []
 
--- CF as it comes in
+-- the temporary of the carry takes CF as it comes in
 abbrev pub carry_in : Stmt
 carry_in = Set carry_place (flag Cf)
 
--- the flags of a sum, and of a difference, but for CF
+-- the flags of a sum but for CF; `difference_flags`: those of a difference
 abbrev pub sum_flags : Width → List Stmt
 sum_flags w = flags_taking (sum_overflow w) (sign w (result w)) (is_zero w (result w))
 
@@ -72,7 +72,7 @@ difference_flags w =
 
 -- Operations on two operands.
 
--- without CF
+-- a subtraction without the borrow
 abbrev pub subtracting : Width → List Stmt
 subtracting w = result_taking w (difference w) ++ (difference_flags w ++ carry_taking (borrow_out w))
 
@@ -97,7 +97,7 @@ alu_working Test w = combining w AndOp
 alu_working Or w = combining w OrOp
 alu_working Xor w = combining w XorOp
 
--- CMP and TEST store nothing
+-- the operand takes the result; CMP and TEST store nothing
 abbrev pub alu_storing : Alu → Width → Place → List Stmt
 alu_storing Cmp w p = []
 alu_storing Test w p = []
@@ -119,7 +119,7 @@ product_working w signed =
     Set (product_place w) (multiplied w signed)
     ∷ (flags_taking (needs_upper_half w signed) (bit 0) (bit 0) ++ carry_taking (needs_upper_half w signed))
 
--- AL or AX
+-- the accumulator of a width: AL or AX
 abbrev pub accumulator : Width → Operand
 accumulator byte_width = Byte Ax Low
 accumulator word_width = Word Ax
@@ -142,7 +142,7 @@ abbrev pub division_storing : Width → List Stmt
 division_storing byte_width = Set (Half Ax Low) (result byte_width) ∷ Set (Half Ax High) (left byte_width) ∷ []
 division_storing word_width = word_taking Ax 0 (result word_width) ++ word_taking Dx 0 (left word_width)
 
--- the quotient comes first; no flag stays set
+-- quotient and remainder of a division, the quotient first; no flag stays set
 abbrev pub division_working : Width → BinOp → BinOp → List Stmt
 division_working w quotient remainder =
     Div (result_place w) (at_width quotient w (left w) (right w))
@@ -182,7 +182,7 @@ shift_flags w count overflow carry =
     (unless_zero w count Zf (is_zero w (result w)))
     ++ carry_taking (unless_zero w count Cf carry)
 
--- those of a rotate
+-- the flags of a rotate
 abbrev pub rotate_flags : Width → Count → Expr → Expr → List Stmt
 rotate_flags w count overflow carry =
     Set (Flag Of) (unless_zero w count Of overflow) ∷ carry_taking (unless_zero w count Cf carry)
@@ -227,7 +227,7 @@ shifting cpu operation w p count =
 abbrev pub staying : Width → Place → List Stmt
 staying w p = taking (result_place w) p ∷ storing p (result w)
 
--- by a constant that is 0 modulo 32 nothing is shifted
+-- the statements of a shift or rotate; by a constant that is 0 modulo 32 nothing is shifted
 abbrev pub shift_stmts : Cpu → Shift → Width → Place → Count → List Stmt
 shift_stmts cpu operation w p count =
     if never_shifts count then staying w p else shifting cpu operation w p count
@@ -250,7 +250,7 @@ zeroing w p =
 abbrev pub exchanging : Loc → Loc → List Stmt
 exchanging a b = Set (left_place byte_width) (Get a) ∷ Set a (Get b) ∷ Set b (left byte_width) ∷ []
 
--- the first operand is stored first
+-- the statements of XCHG; the first operand is stored first
 abbrev pub xchg_stmts : Width → Place → Place → List Stmt
 xchg_stmts w (byte a) (byte b) = exchanging a b
 xchg_stmts w (word low high) (word l h) = exchanging low l ++ exchanging high h
@@ -315,7 +315,7 @@ op_test (LoopNe target) = Some (Binary AndOp 1 (negated (flag Zf)) goes_round)
 op_test (Jcxz target) = Some (is_zero word_width (word_of Cx))
 op_test op = None
 
--- to the places of the successors
+-- the end of a block by its test and the places of its successors
 abbrev pub exit_to : Option Expr → List ℕ → Exit
 exit_to (Some test) (target ∷ next ∷ []) = If test target next
 exit_to test (next ∷ []) = Goto next

@@ -14,35 +14,35 @@ most_returned = 64
 abbrev pub temporary_bits : List ℕ
 temporary_bits = 8 ∷ 8 ∷ 8 ∷ 16 ∷ 16 ∷ 16 ∷ 32 ∷ 1 ∷ replicate most_returned 8
 
--- the left operand
+-- the temporary of the left operand
 abbrev pub left_place : Width → Loc
 left_place byte_width = Temp 0
 left_place word_width = Temp 3
 
--- the right operand
+-- the temporary of the right operand
 abbrev pub right_place : Width → Loc
 right_place byte_width = Temp 1
 right_place word_width = Temp 4
 
--- the result
+-- the temporary of the result
 abbrev pub result_place : Width → Loc
 result_place byte_width = Temp 2
 result_place word_width = Temp 5
 
--- a product, of twice the width
+-- the temporary of a product, of twice the width
 abbrev pub product_place : Width → Loc
 product_place byte_width = Temp 5
 product_place word_width = Temp 6
 
--- CF as it comes in
+-- the temporary of CF as it comes in
 abbrev pub carry_place : Loc
 carry_place = Temp 7
 
--- a byte that a call gets back, by its index
+-- the temporary of a byte that a call gets back, by its index
 abbrev pub returned_place : ℕ → Loc
 returned_place index = Temp (8 + index)
 
--- a temporary of that width
+-- the location is a temporary of the width
 abbrev pub is_temporary_of : Width → Loc → Bool
 is_temporary_of w (Temp n) = get_or temporary_bits n 0 == bits_of w
 is_temporary_of w location = false

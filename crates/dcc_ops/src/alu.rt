@@ -16,7 +16,7 @@ use dcc_prog::{Alu, Unary};
 use std::alloc::AllocError;
 
 impl Writer {
-    // OF takes this; SF and ZF tell the sign of the result and whether it is 0.
+    // OF takes the expression; SF and ZF tell the sign of the result and whether it is 0.
     fn take_result_flags(&mut self, w: Width, overflow: Expr) -> Result<(), AllocError>
         ensures { OnOk result (written self.new ≡ written self.old ++ spec.flags_taking (expr_of overflow)
             (expressions.sign w (expressions.result w)) (expressions.is_zero w (expressions.result w))) }

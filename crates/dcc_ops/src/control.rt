@@ -66,7 +66,7 @@ impl Maker {
         self.negated(self.unary(UnOp::IsZero, 16, lowered)?)
     }
 
-    // The same, and one bit is set.
+    // CX is not 0 after it was lowered, and the given bit is set.
     fn goes_round_and(self, e: Expr) -> Result<Expr, AllocError>
         ensures { IfOk result (λ both. expr_of both ≡ tree.Binary BinOp.And 1 (expr_of e) expressions.goes_round) }
     {

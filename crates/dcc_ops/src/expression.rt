@@ -79,7 +79,7 @@ pub fn returned_place(index: u8) -> Loc
     Loc::Temp(8 + u32::from(index))
 }
 
-/// A number of so many bits.
+/// A constant of `width` bits.
 pub fn constant(width: u8, number: u32) -> Expr
     ensures { expr_of result ≡ tree.Const width number }
 {
@@ -122,14 +122,14 @@ pub struct Maker {
 }
 
 impl Maker {
-    /// An operator on one operand of so many bits.
+    /// An operator on one operand of `width` bits.
     pub fn unary(self, operator: UnOp, width: u8, a: Expr) -> Result<Expr, AllocError>
         ensures { IfOk result (λ e. expr_of e ≡ tree.Unary operator width (expr_of a)) }
     {
         Expr::unary(self.alloc, operator, width, a)
     }
 
-    /// An operator on two operands of so many bits.
+    /// An operator on two operands of `width` bits.
     pub fn binary(self, operator: BinOp, width: u8, a: Expr, b: Expr) -> Result<Expr, AllocError>
         ensures { IfOk result (λ e. expr_of e ≡ tree.Binary operator width (expr_of a) (expr_of b)) }
     {
@@ -143,7 +143,7 @@ impl Maker {
         Expr::widen(self.alloc, signed, width, a)
     }
 
-    /// So many bits of the operand, from that bit on.
+    /// A part of the operand: `width` bits, from bit `first` on.
     pub fn part(self, width: u8, first: u8, a: Expr) -> Result<Expr, AllocError>
         ensures { IfOk result (λ e. expr_of e ≡ tree.Part width first (expr_of a)) }
     {
@@ -157,7 +157,7 @@ impl Maker {
         Expr::join(self.alloc, high, low)
     }
 
-    /// The one expression where the test is 1, else the other.
+    /// The first expression where the test is 1, else the second.
     pub fn choose(self, test: Expr, a: Expr, b: Expr) -> Result<Expr, AllocError>
         ensures { IfOk result (λ e. expr_of e ≡ tree.Choose (expr_of test) (expr_of a) (expr_of b)) }
     {

@@ -23,7 +23,8 @@ pub fn operations_are_performed<C: SomeCoupling>()
     ensures { OperationsArePerformed C.before C.after }
 {}
 
-/// The statements of a division whose upper half is prepared do so too, or both end by a divide fault.
+/// The statements of a division whose upper half is prepared do to the run what the division does to the machine, or
+/// both end by a divide fault.
 pub fn divisions_are_performed<C: SomeCoupling>()
     requires { IsCoupling C.before }
     ensures { DivisionsArePerformed C.before }

@@ -17,7 +17,7 @@ use dcc_prog::Plain;
 use std::alloc::AllocError;
 
 impl Writer {
-    // The one place takes what the other holds, through a temporary of that width.
+    // The first place takes what the second holds, through a temporary of that width.
     fn move_through(&mut self, w: Width, to: Place, from: Place) -> Result<(), AllocError>
         ensures { OnOk result (written self.new ≡ written self.old
             ++ places.taking (temporaries.left_place w) (place_of from)
@@ -116,7 +116,7 @@ impl Writer {
         self.set(al, Expr::Get(kept))
     }
 
-    /// An operation without operands. Those of a prelude do nothing.
+    /// An operation without operands; CLI, STI and CLD do nothing.
     pub fn plain(&mut self, operation: Plain) -> Result<(), AllocError>
         ensures { OnOk result (written self.new ≡ written self.old ++ spec.plain_stmts operation) }
     {

@@ -11,9 +11,9 @@ use dcc_prog::{Cpu, Op};
 use std::alloc::AllocError;
 
 impl Writer {
-    /// An operation on a processor, with the places of its first and its second operand, and for INT 21h the number of
-    /// its call. Those that use the stack, call, return or jump through a table are refused before; a jump has no
-    /// statement.
+    /// The statements of an operation on a processor, with the places of its first and its second operand, and for INT
+    /// 21h the number of its call. Operations that use the stack, call, return or jump through a table are refused
+    /// before; a jump has no statement.
     pub fn operation(
         &mut self,
         cpu: Cpu,

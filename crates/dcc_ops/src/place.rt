@@ -8,10 +8,10 @@ use dcc_ir::Loc;
 use dcc_num::{Half, Reg, Width};
 use dcc_prog::Operand;
 
-/// A word that is computed without a statement of its own: the sum, modulo 65536, of what is there.
+/// A word that is computed without a statement of its own: the sum, modulo 65536, of the parts that are there.
 #[derive(Clone, Copy)]
 pub struct Computed {
-    /// The address at that distance from the base of the frame.
+    /// The address at a distance from the base of the frame, in bytes.
     pub frame: Option<u16>,
     /// Word registers.
     pub base: Option<Reg>,
@@ -28,15 +28,15 @@ pub enum Place {
     Byte(Loc),
     /// The low and the high half of a register or of a cell.
     Word(Loc, Loc),
-    /// So much of the memory, from an address on.
+    /// A width's bytes of the memory, from an address on.
     Memory(Width, Computed),
-    /// The address at that distance from the base of the frame. Nothing is stored there.
+    /// The address at a distance from the base of the frame, in bytes. Nothing is stored there.
     Address(u16),
-    /// A word that is computed. Nothing is stored there.
+    /// A computed word. Nothing is stored there.
     Computed(Computed),
 }
 
-/// The place of a register or a constant. Others are refused before, and are 0 here.
+/// The place of a register or a constant. Other operands are refused before, and are 0 here.
 pub fn register_place(operand: Operand) -> Place
     ensures { place_of result ≡ registers.register_place operand }
 {

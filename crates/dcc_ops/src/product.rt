@@ -16,7 +16,7 @@ use dcc_num::{Half, Reg, Width};
 use dcc_prog::Operand;
 use std::alloc::AllocError;
 
-/// AL or AX.
+/// The accumulator of a width: AL or AX.
 pub fn accumulator(w: Width) -> Place
     ensures { place_of result ≡ registers.register_place (spec.accumulator w) }
 {

@@ -17,7 +17,7 @@ use dcc_num::{FlagName, Half, Reg, Width};
 use dcc_prog::{Count, Cpu, Shift};
 use std::alloc::AllocError;
 
-// By a constant that is 0 modulo 32 nothing is shifted.
+// Whether nothing is shifted: the count is a constant that is 0 modulo 32.
 fn never_shifts(count: Count) -> bool
     ensures { result ≡ writes.never_shifts count }
 {
@@ -73,7 +73,7 @@ impl Maker {
         }
     }
 
-    // A bit for a count of 1; for others it is 0. By a constant nothing is read to tell which.
+    // A bit that counts for a count of 1 alone; for other counts it is 0. By a constant nothing is read to tell which.
     fn if_one(self, count: Count, e: Expr) -> Result<Expr, AllocError>
         ensures { IfOk result (λ bit. expr_of bit ≡ expressions.if_one self.w count (expr_of e)) }
     {
@@ -198,7 +198,7 @@ struct MovedOut {
 }
 
 impl Writer {
-    // A flag takes this, but stays where the count is in CL and 0.
+    // A flag takes the expression, but stays where the count is in CL and 0.
     fn take_shift_flag(
         &mut self,
         w: Width,
@@ -225,7 +225,7 @@ impl Writer {
         self.take_shift_flag(w, count, FlagName::Cf, out.carry)
     }
 
-    // Those of a rotate.
+    // The flags of a rotate.
     fn rotate_flags(&mut self, w: Width, count: Count, out: MovedOut) -> Result<(), AllocError>
         ensures { OnOk result (written self.new
             ≡ written self.old ++ spec.rotate_flags w count (expr_of out.overflow) (expr_of out.carry)) }

@@ -10,7 +10,7 @@ use dcc_ir::{BinOp, Expr, Loc};
 use std::alloc::AllocError;
 
 impl Maker {
-    // The one comparison of two locations where CF came in set, the other where it did not.
+    // The first comparison of two locations where CF came in set, the second where it did not.
     fn by_carry(self, set: BinOp, clear: BinOp, a: Loc, b: Loc) -> Result<Expr, AllocError>
         ensures { IfOk result (λ e. expr_of e ≡ spec.by_carry self.w set clear (tree.Get a) (tree.Get b)) }
     {
@@ -33,14 +33,14 @@ impl Maker {
         self.at_width(BinOp::Add, self.sum()?, self.carry()?)
     }
 
-    /// The carry out of the sum: it is below one of its parts.
+    /// The carry out of the sum: the sum is below one of its parts.
     pub fn carry_out(self) -> Result<Expr, AllocError>
         ensures { IfOk result (λ e. expr_of e ≡ spec.carry_out self.w) }
     {
         self.at_width(BinOp::LtU, self.result(), self.left())
     }
 
-    /// The carry out of the sum with the carry: where one came in, it may be equal to one of its parts too.
+    /// The carry out of the sum with the carry: where one came in, the sum may be equal to one of its parts too.
     pub fn carry_out_of_both(self) -> Result<Expr, AllocError>
         ensures { IfOk result (λ e. expr_of e ≡ spec.carry_out_of_both self.w) }
     {
@@ -56,7 +56,7 @@ impl Maker {
         self.binary(BinOp::Xor, 1, self.sign(e)?, self.sign(self.result())?)
     }
 
-    /// The overflow of a sum: both operands have another sign than it.
+    /// The overflow of a sum: both operands have another sign than the sum.
     pub fn sum_overflow(self) -> Result<Expr, AllocError>
         ensures { IfOk result (λ e. expr_of e ≡ spec.sum_overflow self.w) }
     {
@@ -94,7 +94,7 @@ impl Maker {
         self.by_carry(BinOp::LeU, BinOp::LtU, left, right)
     }
 
-    /// The overflow of a difference: its sign is not what the signed comparison of the operands says.
+    /// The overflow of a difference: the difference's sign is not what the signed comparison of the operands says.
     pub fn difference_overflow(self) -> Result<Expr, AllocError>
         ensures { IfOk result (λ e. expr_of e ≡ spec.difference_overflow self.w) }
     {

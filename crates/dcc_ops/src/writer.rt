@@ -32,7 +32,7 @@ pub struct Writer {
 }
 
 impl Writer {
-    /// Nothing is written.
+    /// A writer that has written nothing.
     pub fn new(alloc: Global) -> Writer
         ensures { written result ≡ [] }
     {
@@ -127,7 +127,7 @@ impl Writer {
         }
     }
 
-    /// A location takes so many bits of the memory, from an address on.
+    /// A location takes `width` bits of the memory, from an address on.
     pub fn fetch(&mut self, to: Loc, width: u8, address: Expr) -> Result<(), AllocError>
         ensures { OnOk result (written self.new ≡ written self.old ++ tree.Fetch to width (expr_of address) ∷ []) }
     {
@@ -164,7 +164,7 @@ impl Writer {
         self.take(right_place(w), q)
     }
 
-    /// CF comes in.
+    /// The temporary of the carry takes CF as it comes in.
     pub fn bring_carry(&mut self) -> Result<(), AllocError>
         ensures { OnOk result (written self.new ≡ written self.old ++ spec.carry_in ∷ []) }
     {
@@ -178,7 +178,7 @@ impl Writer {
         self.set(result_place(w), e)
     }
 
-    /// OF, SF and ZF take these.
+    /// OF, SF and ZF take three expressions.
     pub fn take_flags(
         &mut self,
         overflow: Expr,
@@ -193,14 +193,14 @@ impl Writer {
         self.set(Loc::Flag(FlagName::Zf), zero)
     }
 
-    /// CF takes this.
+    /// CF takes an expression.
     pub fn take_carry(&mut self, e: Expr) -> Result<(), AllocError>
         ensures { OnOk result (written self.new ≡ written self.old ++ spec.carry_taking (expr_of e)) }
     {
         self.set(Loc::Flag(FlagName::Cf), e)
     }
 
-    /// A word register takes two bytes, from this bit on, of a location that holds as much.
+    /// A word register takes two bytes, from bit `first` on, of a location that holds as much.
     pub fn take_word(&mut self, r: Reg, first: u8, from: Loc) -> Result<(), AllocError>
         requires { first + 8 < 256 }
         ensures { OnOk result (written self.new ≡ written self.old ++ spec.word_taking r first (tree.Get from)) }

@@ -14,7 +14,7 @@ use Rattle.dcc_reader.specs.declared.offence.ParseKind.{ParseKind}
 use Rattle.dcc_parse.specs.declared.fault.ParseFault.{ParseFault}
 use Rattle.dcc_parse.specs.declared.fault.ParseFault.TheVariants.{At, Memory}
 
--- The text is refused for what offends first, in this line. No tree stands for it, or it is too long.
+-- The text is refused for what offends in it first, in the given line. No tree stands for it, or it is too long.
 pub record IsRefusal (text : List ℕ) (line : ℕ) (kind : ParseKind) : Type 0 where
   pub refused : IsRefused text line (kind_of kind)
   pub no_tree : length text ≤ 67108864 → (tree : Tree) → ¬ StandsFor text tree

@@ -11,8 +11,8 @@ use Rattle.dcc_c.specs.Written.{written_form}
 abbrev pub TextsHaveOneTree : Type 0
 TextsHaveOneTree = (text : List ℕ) (a b : Tree) → StandsFor text a → StandsFor text b → a ≡ b
 
--- What is printed of a tree that a text stands for is a text of the same tree, with its lines counted anew. It is
--- refused for nothing, but for its length where it is too long.
+-- What is printed of a tree that a text stands for is a text of the same tree, with its lines counted anew. The
+-- printed text is refused for nothing, but for its length where it is too long.
 pub record PrintedTextsStand : Type 0 where
   pub stands : (text : List ℕ) (tree : Tree) → StandsFor text tree → StandsFor (written_form tree) (numbered tree)
   pub not_refused : (text : List ℕ) (tree : Tree) → StandsFor text tree → length (written_form tree) ≤ 67108864 →

@@ -8,7 +8,7 @@ use std::alloc::AllocError;
 /// Why a text is not parsed.
 #[derive(Clone, Copy, PartialEq, Eq, Debug)]
 pub enum ParseFault {
-    /// This offends in the line, and nothing does before it.
+    /// What offends in the line, where nothing offends before it.
     At { line: u32, kind: ParseKind },
     /// Memory ran out.
     Memory,

@@ -12,7 +12,7 @@ use dcc_reader::spare::without_spare;
 use dcc_reader::{CaseAt, PartialArm, PartialExpr, PartialStmt, Row, WordAt};
 use std::alloc::{AllocError, Global};
 
-// Rows that are more give back their room in steps of so many.
+// A list of more rows than this gives back its room in steps of as many.
 const SHRINK_STEP: usize = 1024;
 
 // An expression.
@@ -100,12 +100,12 @@ fn strip_numbers(alloc: Global, numbers: &[CaseAt]) -> Result<Vec<u16>, AllocErr
     Ok(found)
 }
 
-// The arms of a `switch`: those with cases, and the one with `default`.
+// The arms of a `switch`, with cases or with `default`.
 #[derive(Drop)]
 struct Arms {
-    /// Those with cases.
+    /// The arms with cases.
     with_cases: Vec<Arm>,
-    /// The one with `default`, of which there is at most one.
+    /// The arm with `default`, of which there is at most one.
     default: Option<Arm>,
 }
 

@@ -75,7 +75,7 @@ at-least number (cell ∷ cells) k m is = by (is_within k (bytes_of cell)) is (a
 le-tells : (a b : ℤ) → int_le a b ≡ true → a ≤ℤ b
 le-tells a b is = grind (arith, ints, is)
 
--- so bytes that lie two apart are of two cells
+-- bytes that lie two apart are of two cells
 numbers-apart : (number : ℕ) (cells : List Cell) → All IsSmall cells → (k l : ℤ) → (k +ℤ pos 2) ≤ℤ l → (m : ℕ)
     → number_of number cells k ≡ Some m → number_of number cells l ≡ Some m → ⊥
 numbers-apart number [] small k l apart m first second = absurd (cc)

@@ -29,7 +29,7 @@ module _ (e : Setting) (entry : ℕ) (q : Procedure) (at : IsFoundAt e entry q) 
   frame : IsFrameFor e.image e.program entry q.frame
   frame = frame-for e at.lifting entry at.is_entry q at.procedure
 
-  -- its first byte
+  -- the offset of the argument's first byte, from the base less 4
   abbrev first : ℤ
   first = pos (4 + 2 * number)
 

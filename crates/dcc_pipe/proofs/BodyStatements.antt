@@ -89,7 +89,7 @@ module _ (s : Spelling) (graph : inner.Graph) (test : Stmt → Bool) (pass : Tex
     arms-pass (next_arm {lines = lines} {bodies = bodies} p arms) =
         joined (stmts_in lines) (arm_stmts bodies) (plan-passes p) (arms-pass arms)
 
-  -- so do those of a body that opens with assignments
+  -- the statements of a body that opens with assignments pass
   pub opened-passes : (stmts : List Stmt) → Pass stmts → list_all is_assignment stmts ≡ true → (body lines : Lines)
       → BeginsWith stmts body lines → Pass (stmts_in lines) → Pass (stmts_in body)
   opened-passes [] all assign body lines begins later = subst (λ b. Pass (stmts_in b)) (sym begins) later

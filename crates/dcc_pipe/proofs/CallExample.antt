@@ -178,7 +178,7 @@ never-changed i l c = go c.0 i l c.1
     go zero i l h = h
     go (suc depth) i l h = nothing-lost (ChangesWithin P depth) (go depth) i l h.passed h.loses
 
--- So no summary tells of anything that passes.
+-- No summary of the example tells of anything that passes.
 
 abbrev idle_sum : Summary
 idle_sum = record { params = []; results = []; preserved = passed }

@@ -40,7 +40,7 @@ not-true : (b : Bool) → not b ≡ true → b ≡ false
 not-true true is = sym is
 not-true false is = refl
 
--- they are the functions of the graphs, in their order
+-- the functions that are found by the entries of the graphs are all functions, in their order
 pub functions-are : (R : Graph → Function → Type 0) (graphs : List Graph) (functions : List Function)
     → AllZip R graphs functions → all_differ (entries graphs) ≡ true
     → map (function_for graphs functions) graphs ≡ functions
@@ -66,7 +66,7 @@ each-function R graphs functions all differ =
     each-of R (function_for graphs functions) graphs
     (subst (AllZip R graphs) (sym (functions-are R graphs functions all differ)) all)
 
--- Their lines are counted.
+-- Functions whose lines are counted.
 
 -- the function is that of the graph by this name, its lines counted from some line on
 pub record IsNumbered (name : Word) (graph : Graph) (f : Function) : Type 0 where

@@ -233,7 +233,7 @@ module _ (image : Image) (program : Analysed) (entry : ℕ) (q : Procedure) (f :
     operand-passes (Mem w ea) other named = memory-passes w ea (named w ea refl)
     operand-passes (Constant w n) other named = refl
 
-    -- those of an operation that names neither SP nor BP
+    -- the first place of an operation that names neither SP nor BP passes
     first-passes : names_sp_or_bp op ≡ false → HavePlaces op → (o : Op) → op ≡ o
         → place_passes test (first_place q height o) ≡ true
     first-passes other have (Alu operation a b) same =

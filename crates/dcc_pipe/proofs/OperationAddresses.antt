@@ -72,7 +72,7 @@ module _ (test : ℕ → Bool) where
   told-appended sums stmts others p q =
       list_all-append (stmt_told sums) stmts others ∙ both (all_told sums stmts) (all_told sums others) p q
 
-  -- so do those of a place
+  -- the addresses that a place has pass
   abbrev pub place_passes : Place → Bool
   place_passes (memory w at) = passes at
   place_passes (address distance) = test distance && true

@@ -173,7 +173,7 @@ module _ (known : ℕ → Bool) where
       few-left (wanted is.folded) is.folded h is.last.without
       (few-stays is.wanted is.folded is.flags.form (few-left (wanted g) g is.wanted is.first.without few))
 
--- it takes what the graph took
+-- a simplified graph has the graph's entry, and takes what that took
 pub simplified-entry : (g h : Graph) → IsSimplifiedGraph g h → h.entry ≡ g.entry
 simplified-entry g h is = is.last.without.entry ∙ is.flags.form.entry ∙ is.first.without.entry
 
@@ -235,7 +235,7 @@ module _ (known : ℕ → Bool) where
       (λ b stmts. All-weaker (Takes known g.bits) (TakesOfReturning known) (λ stmt takes. takes.1) b.stmts stmts) g.blocks
       few.calls
 
-  -- so of each graph where at most one value passes back
+  -- each graph of a program in which at most one value passes back gives few
   pub all-few : (sum_of : ℕ → Summary) (p : Program) → AllPass known sum_of p → All (GivesFew known) p.graphs
   all-few sum_of p passes =
       all_had (GivesFew known) p.graphs (λ g c. few-of g (All-contains Gives p.graphs g passes.one.rets c)

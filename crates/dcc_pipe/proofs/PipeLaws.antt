@@ -51,7 +51,7 @@ counted-tree p fits counted tree same counts =
 
 -- The text of a program that follows the image.
 module _ (image : Image) (program : Program) (is : IsProgramOf program.layout.cpu image program) where
-  -- it agrees with the image
+  -- the text of a program that follows the image agrees with the image
   agreeing-text : (p : inner.Program) → FitsText p → IsFollowing image program p
       → IsTextOf program.layout.cpu image (written_form (whole_text p)) (numbered (whole_text p))
   agreeing-text p fits follows =

@@ -84,7 +84,7 @@ module _ (p : Program) (sums : List Summary) (form : HasLiftedForm p) (known : A
       ∙ blocks-stay p just place
       (all-changed HasSameBlocks (trim_graph trim) trimmed-blocks p.graphs)
 
-  -- and so do the depth, and how flags are read
+  -- a packed graph is no deeper than the lifting gives, and reads flags as before
   packed-shallow : (g : Graph) → IsShallow lifted_levels g → IsShallow lifted_levels (pack_graph g)
   packed-shallow g shallow =
       none-deeper lifted_levels (graph_exprs (pack_graph g))
@@ -165,7 +165,7 @@ module _ (p : Program) (sums : List Summary) (form : HasLiftedForm p) (known : A
         passes-stay (returns p) (sum_at p.graphs sums) together q left.graphs
         (record { one = together-passes; returned = together-returned })
 
-    -- the same procedures return
+    -- in the prepared program the procedures return that returned
     returns-still : returns q ≡ returns p
     returns-still = fun_ext (λ entry.
         alike-at IsSimplifiedGraph has_ret simplified-entry simplified-returns together.graphs q.graphs left.graphs entry

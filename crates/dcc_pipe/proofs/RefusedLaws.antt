@@ -33,7 +33,7 @@ layout-refused cpu image _ h = absurd h
 pub found-by_trails : (image : Image) (layout : Layout) (procs : List Proc) → AreFound image layout procs → IsAcceptedByTrails image layout
 found-by_trails image layout procs found = record { no_construct = found.no_construct; no_limit = found.no_limit }
 
--- and where heights and frames are found too, nothing tells anything
+-- where procedures, heights and frames are found, no analysis tells anything
 pub accepted-all : (image : Image) (layout : Layout) (procs : List Proc) → AreFound image layout procs → IsAcceptedByHeights image layout → IsAcceptedByFrames image layout → IsAcceptedByAll image layout
 accepted-all image layout procs found heights frames =
     record { trails = found-by_trails image layout procs found; heights = heights; frames = frames }
@@ -55,7 +55,7 @@ module _ (image : Image) (program : Analysed) (p : Program) (file : IsProgramOfF
       → IsConstructOf (bodies_of program) fault
   fault-construct law fault is = law image program p fault like is
 
-  -- and where it has summaries that a text can have, there is none
+  -- where the lifted program has summaries that a text can have, no construct of summaries stands in the image
   pub summed-none : SummedProgramsHaveNone → (sums : List Summary) → AreSumsOfText p sums → (kind at : ℕ)
       → ¬ IsOfSummaries (bodies_of program) kind at
   summed-none law sums known = law image program p sums like known.are known.reuses known.one

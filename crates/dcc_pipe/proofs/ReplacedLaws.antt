@@ -37,7 +37,7 @@ stands-for g h blocks may = record {
 abbrev in_place : Graph → Graph → Graph
 in_place h g = if g.entry == h.entry then h else g
 
--- it stands where that stood
+-- the graph that is put in place stands where the other stood
 in-place : (g h : Graph) (graphs : List Graph) → h.entry ≡ g.entry → Contains graphs g
     → Contains (map (in_place h) graphs) h
 in-place g h [] entry there = absurd (Contains-none g there)

@@ -55,7 +55,7 @@ returning g a is =
     let block = block_in g a.block in
     returning-block g.blocks a.block (returning-exit a.done block.stmts block.exit is)
 
--- So a procedure that gives something back returns.
+-- A procedure that gives something back returns.
 
 module _ (p : Program) where
   changed-returns : (entry : ℕ) (l : Loc) → Changes (procedures_of p) entry l → returns p entry ≡ true
@@ -173,7 +173,7 @@ trimmed-returns trim g = ends-stay (trim_block trim g.entry) (λ b. trimmed-end 
 pub packed-returns : (g : Graph) → has_ret (pack_graph g) ≡ has_ret g
 packed-returns g = ends-stay (pack_block (fresh_after g.bits)) (λ b. packed-end b.exit) g.blocks
 
--- and so they do as the graph is simplified
+-- A simplified graph returns where the graph did.
 
 abbrev is_some_list : {A : Type 0} → List A → Bool
 is_some_list [] = false

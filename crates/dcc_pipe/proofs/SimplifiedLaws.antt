@@ -110,7 +110,7 @@ module _ {Has : List inner.Stmt → Loc → Type 0} where
   left-all P (goes {stmt = stmt} {rest = rest} is none others) all =
       left-all P others (and_parts (P stmt) (list_all P rest) all).1
 
-  -- the same of their expressions
+  -- what holds of the expressions of statements holds of those of the statements that are left
   left-exprs : (Q : inner.Expr → Type 0) {xs ys : List inner.Stmt} → IsWithout Has xs ys → All Q (flat_map exprs_of xs)
       → All Q (flat_map exprs_of ys)
   left-exprs Q done all = all
@@ -175,7 +175,7 @@ dead-stands g h is =
     (record { entry = left.entry; addresses = addresses-stay (wanted g) g.blocks h.blocks left.blocks })
     (λ p formed there. kept_with p (wanted g) g h formed there (wanted-closed g) left)
 
--- its expressions are left
+-- a graph without what nothing wants is no deeper: its expressions are the graph's
 dead-shallow : (depth : ℕ) (g h : inner.Graph) → IsWithoutUnwanted g h → IsShallow depth g → IsShallow depth h
 dead-shallow depth g h is = exprs-stay (wanted g) (λ e. depth_of e ≤ depth) g.blocks h.blocks is.without.blocks
 

@@ -82,7 +82,7 @@ module _ (P : Variable → Bool) (shape : Shape) where
       by true here later = and_from (P (variable shape l)) (list_all P (map (variable shape) (filter q ls))) here later
       by false here later = later
 
-  -- and of the array, which has no byte or as many
+  -- the declarations of some locations, and of the array, which has no byte or as many, pass
   own-pass : (q : Loc → Bool) (bytes : ℕ) → (bytes ≡ 0) ⊎ (bytes ≡ shape.frame) → list_all P (declarations shape) ≡ true
       → list_all P (map (variable shape) (filter q shape.locations) ++ frame_array bytes) ≡ true
   own-pass q bytes fewer all =

@@ -4,7 +4,7 @@ use Rattle.dcc_prog.specs.declared.frame.Program.{Program as Analysed}
 use Rattle.dcc_ir.specs.Tree.{Program}
 use Rattle.dcc_lift.specs.Lifted.{ShadowsMachine, MachineKeepsPace}
 
--- it shadows the machine, which keeps pace with its blocks
+-- the program shadows the machine, which keeps pace with the program's blocks
 pub record IsFollowing (image : Image) (program : Analysed) (p : Program) : Type 0 where
   pub runs : ShadowsMachine image program p
   pub pace : MachineKeepsPace image program p

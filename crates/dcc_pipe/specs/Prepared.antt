@@ -23,7 +23,7 @@ use Rattle.dcc_pipe.specs.Simplified.{IsSimplifiedGraph, HasEachChanged, IsSimpl
 abbrev pub has_ret : Graph → Bool
 has_ret graph = list_any (λ b. is_ret b.exit) graph.blocks
 
--- so it is of the graph with that entry
+-- the graph with that entry has a Ret
 abbrev pub returns : Program → ℕ → Bool
 returns p entry = has_ret (graph_or_none (graph_at p.graphs entry))
 

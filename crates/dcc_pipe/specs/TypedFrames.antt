@@ -94,7 +94,7 @@ pub record AreTypedFrames (procedures : List Procedure) (functions : List Functi
   pub names : map (λ (f : Function). f.name) functions ≡ procedure_names procedures
   pub frames : AllZip HasTypedFrame procedures functions
 
--- so are the functions of the tree, for the procedures that are found in the image on the processor
+-- the functions of the tree have the typed frames of the procedures that are found in the image on the processor
 pub record HasTypedFrames (cpu : Cpu) (image : Image) (tree : Tree) : Type 0 where
   pub program : Analysed
   pub is_program : IsProgramOf cpu image program

@@ -42,7 +42,7 @@ fn text_of(alloc: Global, image: &Image, program: &Program) -> Result<Unit, Sums
         &program.heights,
         &program.cells,
     )?;
-    // By these laws what is at fault in the lifted program is a construct of the image.
+    // What is at fault in the lifted program is a construct of the image, by the three laws that are called here.
     lifted_relations_are_the_machines();
     faults_are_constructs();
     summed_programs_have_none();

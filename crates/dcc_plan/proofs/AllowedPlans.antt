@@ -154,7 +154,7 @@ module _ (whole : Tree) (f : Function) (s : Spelling) (graph : inner.Graph) (lev
     of-end : (P : inner.Expr → Type 0) → All P (graph_exprs graph) → All P (exit_exprs block.exit)
     of-end P has = right_part P (flat_map exprs_of block.stmts) (exit_exprs block.exit) (of-block P has)
 
-    -- and at a statement
+    -- what holds of all expressions of the graph holds of those of a statement of the block
     of-stmt : (P : inner.Expr → Type 0) → All P (graph_exprs graph) → (m : ℕ) (stmt : inner.Stmt) → slice_get block.stmts m ≡ Some stmt → All P (exprs_of stmt)
     of-stmt P has m stmt there =
         All-contains (λ x. All P (exprs_of x)) block.stmts stmt (all_parts P exprs_of block.stmts (left_part P (flat_map exprs_of block.stmts) (exit_exprs block.exit) (of-block P has)))

@@ -77,7 +77,7 @@ module _ (body : Lines) (base : ℕ) where
     class-is p stack memory on in_it =
         ap (λ b. if b then (if is_memory p.put then Auto else Plain) else Register) on ∙ ap (λ b. if stack then (if b then Auto else Plain) else Register) in_it
 
-    -- its place, before those of the others
+    -- the place of the first param, before the places of the others
     place-first : (p : Param) (j : ℕ) (memory : Bool) (others : List (Option ℕ)) → is_memory p.put ≡ memory
         → (if memory then Some ((base + 2 * j) % 65536) else None) ∷ others ≡ place_at base j p.put ∷ others
     place-first p j memory others in_it = ap (λ b. (if b then Some ((base + 2 * j) % 65536) else None) ∷ others) (sym in_it)

@@ -222,7 +222,7 @@ module _ (G : Premises) (graph : inner.Graph) (inside : Contains G.p.graphs grap
     no-end : (exit : inner.Exit) (i : run.State) → exit ≡ inner.Stop → run.exit_step exit i ≡ last → ⊥
     no-end exit i is goes = not-stuck i (ap (λ e. run.exit_step e i) (sym is) ∙ goes)
 
-    -- the same from each state of the text with fewer statements left
+    -- a block runs so from each state of the text with fewer statements left
     abbrev Later : ℕ → Type 0
     Later n = (stmts : List inner.Stmt) (b m : ℕ) (i : run.State) (t : c.State) → left t.rest < n → (mid : Midway extra b m stmts i t) → run.block_step p.graphs fill stmts i ≡ last
         → Comes (only_goes stmts (block_in graph b).exit) (moves mid.stand.leads) t

@@ -194,7 +194,7 @@ module _ (opens : Opens) (function : inner.Graph → Function) (matters : inner.
         ∙ ap (λ types. text_run.on (arguments_of scope types texts) at t (λ vs. enter_step f own (target_for s results) vs t)) types-are
         ∙ ap (λ o. text_run.on o at t (λ vs. enter_step f own (target_for s results) vs t)) x.given
 
-    -- It stands for the program, but for the bytes of words.
+    -- The text after the call stands for the program, but for the bytes of words.
 
     listed : is_param_list callee.bits callee.params ≡ true
     listed = of-callee (λ q. is_param_list q.bits q.params ≡ true) well.params

@@ -178,7 +178,7 @@ module _ {S T P : Type 0} (kept : P → Bool) (w : Watched S P) (other : System 
 
     -- The other run comes to a state that is related to the start after so many steps, and nothing is owed there.
     module _ (s : S) (t : T) (lead : ℕ) (begins : related s (after other.step lead t)) (free : owed s (after other.step lead t) ≡ 0) where
-      -- it counts the visits
+      -- the other run counts the visits
       pub leaps_count : (within : ℕ) → lead ≤ within → most ≤ within → Counts kept w s other t within
       leaps_count within led wide m =
           let x = stands_after m s (after other.step lead t) begins in
@@ -210,6 +210,6 @@ module _ {S T P : Type 0} (kept : P → Bool) (w : Watched S P) (other : System 
               let low : m ≤ m + 1 = omega arith in
               (m + 1, low, ap (is_shown w) (after-add w.system.step m 1 s) ∙ (leaps (state w m s) u r).shown none)
 
-      -- and it visits more and more kept places, or ends
+      -- the run visits more and more kept places, or ends
       pub leaps_go_on : (k : ℕ) → (m : ℕ) × ((k ≤ length (visits_of kept (visits w.system w.mark m s))) ⊎ (is_over (end_after w.system m s) ≡ true))
       leaps_go_on k = reaches k s (after other.step lead t) begins

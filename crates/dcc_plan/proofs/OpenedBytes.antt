@@ -129,7 +129,7 @@ module _ (g : inner.Graph) (spelling : IsSpelling (function_spelling g)) (whole 
     pub filled : t.fill ≡ fill
     pub waits : t.waiting ≡ waiting
 
-  -- it holds more than is wanted
+  -- a state that holds more than is wanted holds what is wanted
   weaken : (Has Wants : Locations) → ((l : Loc) → Wants l → Has l) → (lines : Lines) (j : ℕ) (params : List Param) (ns : List ℕ) (t : text_run.State) → Opening Has lines j params ns t
       → Opening Wants lines j params ns t
   weaken Has Wants all lines j params ns t x = record {

@@ -99,7 +99,7 @@ whole-value put params n ns values l is differ =
     ∙ values-other params ns (with_value values l n) l (first-apart l (all_places params) (subst (λ k. locations_differ (places k ++ all_places params) ≡ true) is differ))
     ∙ ap (λ b. if b then n else values l) (location_itself l)
 
--- and those that take the bytes of one
+-- a location that takes the low byte of an argument holds it after all params were put
 pub low-value : (low high : Loc) (params : List Param) (n : ℕ) (ns : List ℕ) (values : Values) → locations_differ (low ∷ high ∷ all_places params) ≡ true
     → values_after params ns (put_values (Two low high) n values) low ≡ n % 256
 low-value low high params n ns values differ =

@@ -221,7 +221,7 @@ module _ (G : Premises) where
         some : has_step graph whole m.b ≡ true → 0 < steps
         leads : Outcome G (not (has_step graph whole m.b)) (moves m.stand.leads) (most + debts_of t + extra) steps next (after c_step steps t)
 
-      -- the same after a step that begins the block
+      -- what is reached after a step that begins the block
       record Later (u : c.State) : Type 0 where
         steps : ℕ
         leads : Outcome G false 0 (left u.rest + debts_of u + extra) steps next (after c_step steps u)

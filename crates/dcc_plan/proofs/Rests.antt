@@ -181,7 +181,7 @@ module _ (s : Spelling) (graph : inner.Graph) (whole : Plan) where
     at_turn : AtTurn limit k next → Head limit k next
     at_end : next ≡ Nowhere → Head limit k next
 
-  -- the same before an end that is no step
+  -- a rest of the text before an end that is no step stands as that rest does
   past-end : (limit : ℕ) (k k' : Continuation) (next : Point) → ((t : Tree) (u : State) → step_at t k' u ≡ step_at t k u) → left k' ≡ left k → is_jumping k' ≡ is_jumping k → Head limit k next
       → Head limit k' next
   past-end limit k k' next same count jumps (at_item x) = at_item (record {
@@ -420,7 +420,7 @@ module _ (s : Spelling) (graph : inner.Graph) (whole : Plan) where
           (wider (lines_count lines + arms_count bodies + left rest) (omega arith) (search-plan body lines rest c text (valid.0.0, valid.1.0) stands (omega (arith, few))))
           (wider (lines_count lines + arms_count bodies + left rest) (omega arith) (search-arms arms bodies rest c others (valid.0.1, valid.1.1) stands (omega (arith, few)))))
 
-  -- where those of the plan are among the whole's, its labels and loops stand so
+  -- the labels and loops of the plan are among those of the whole plan, where that is known of their blocks
   abbrev Among : List ℕ → Type 0
   Among few = (b : ℕ) → is_in b few ≡ true → begun b ≡ true
 

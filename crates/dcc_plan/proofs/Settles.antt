@@ -121,7 +121,7 @@ module _ (s : Spelling) (graph : inner.Graph) (whole : Plan) (limit : ℕ) (text
       by plan.Break stmt planned.breaks good stands few = quiet plan.Break stmt (inr refl) stands few
       by plan.Continue stmt planned.continues good stands few = quiet plan.Continue stmt (inr refl) stands few
 
-  -- the same from each continuation with fewer statements left
+  -- jumps settle so from each continuation with fewer statements left
   abbrev Later : ℕ → Point → Type 0
   Later n point = (k : Continuation) (c : Context) → left k < n → left k ≤ limit → Stands s graph whole limit k c → c.next ≡ point → Settles k point
 

@@ -180,6 +180,6 @@ whole = record {
       (one GivesFew (block_in second 0) (gives (block_in second 0) refl));
 }
 
--- its first state stands for the program's
+-- the first state of the example's text stands for the program's
 begins : IsBeginning opens (open_setting texts) p tree first (second ∷ [])
 begins = record { graphs = refl; well = well; functions = all-functions; start = refl; lo = refl; hi = refl; globals = refl }

@@ -81,7 +81,7 @@ abbrev pub may_return : Option CType → inner.Exit → Bool
 may_return result (inner.Ret values) = may_give result values
 may_return result _ = true
 
--- so may each end of the graph's blocks
+-- each end of the graph's blocks gives what the function's result may be
 abbrev pub ReturnsFit : Function → inner.Graph → Type 0
 ReturnsFit f graph = All (λ b. may_return f.result b.exit ≡ true) graph.blocks
 
@@ -93,8 +93,8 @@ pub record AreAllowedLines (tree : Tree) (f : Function) (limit : ℕ) (lines : L
   pub types : list_all (allows_stmt tree f) (stmts_in lines) ≡ true
   pub depth : list_all (shallow_stmt limit) (stmts_in lines) ≡ true
 
--- So is the text of a valid plan whose items may stand where they do, whatever the numbers of its lines, in a function
--- that declares the names, may make the calls and gives back what the graph does.
+-- The text of a valid plan whose items may stand where they do, whatever the numbers of its lines, may be the body of
+-- a function that declares the names, may make the calls and gives back what the graph does.
 abbrev pub PlanTextsAreAllowed : Type 0
 PlanTextsAreAllowed = (tree : Tree) (f : Function) (s : Spelling) (graph : inner.Graph) (plan : Plan) (lines : Lines)
     (levels limit : ℕ) → AreDeclared (declared_in tree f) s → IsGraph graph → IsSpelled s levels graph

@@ -32,7 +32,7 @@ pub record IsBeginning (opens : Opens) (setting : Setting) (p : inner.Program) (
   pub hi : tree.hi ≡ p.hi
   pub globals : tree.globals ≡ globals_of p
 
--- Then the first state of the text stands for the program's.
+-- Where the text begins as the program does, its first state stands for the program's.
 abbrev pub FirstStatesStand : Opens → Setting → Type 0
 FirstStatesStand opens setting = (p : inner.Program) (tree : Tree) (first : inner.Graph) (others : List inner.Graph)
     (fill : ℕ) (input : List ℕ) → IsBeginning opens setting p tree first others
@@ -121,7 +121,7 @@ ReturnsEnd opens setting = (p : inner.Program) (tree : Tree) (fill : ℕ) (value
     → HasReturned setting fill t.waiting (inner_run.exit_step (inner.Ret values) i)
     (text_run.stmt_step tree (ret_text (setting.spelling i.running.graph) values) at t)
 
--- So does a step on the closing brace, where the Ret gives nothing.
+-- A step on the closing brace, where the Ret gives nothing, does what the Ret does.
 abbrev pub BracesEnd : Opens → Setting → Type 0
 BracesEnd opens setting = (p : inner.Program) (tree : Tree) (fill : ℕ) (w : inner_run.Waiting)
     (waiting : List inner_run.Waiting) (at : ℕ) (i : inner_run.State) (t : text_run.State)

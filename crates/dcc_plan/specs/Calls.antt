@@ -30,7 +30,7 @@ places Memory = []
 places (One location) = location ∷ []
 places (Two low high) = low ∷ high ∷ []
 
--- the same of all params
+-- the locations that take the bytes of words, of all params; `all_places`: the locations that params set
 abbrev pub all_byte_places : List Param → List Loc
 all_byte_places params = flat_map (λ p. byte_places p.put) params
 

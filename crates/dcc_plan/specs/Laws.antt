@@ -75,7 +75,7 @@ pub record IsTextOf (p : inner.Program) (graph : inner.Graph) (s : Spelling) (fa
   pub is_plan : IsPlanOf graph plan
   pub text : IsPlanText s graph plan f.body
 
--- the same, where the text has a step where each block begins
+-- the function of a program of one graph has the text of a valid plan, with a step where each block begins
 pub record IsPlanned (p : inner.Program) (graph : inner.Graph) (s : Spelling) (family : Family) (plan : Plan)
     (f : Function) : Type 0 where
   pub alone : p.graphs ≡ graph ∷ []
@@ -124,7 +124,7 @@ TextsCount family AreAlike = (p : inner.Program) (graph : inner.Graph) (s : Spel
     (text_run.first_state tree f fill input)
     → (within : ℕ) → length (stmts_in f.body) ≤ within → IsCountedBy kept p tree f fill input within
 
--- so each visit, where the text has a step where each block begins
+-- the text of a plan counts each visit, where it has a step where each block begins
 abbrev pub PlansCount : Family → Alike → Type 0
 PlansCount family AreAlike = (p : inner.Program) (graph : inner.Graph) (s : Spelling) (plan : Plan)
     (tree : Tree) (f : Function) (fill : ℕ) (input : List ℕ)

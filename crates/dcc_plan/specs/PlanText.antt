@@ -12,7 +12,8 @@ use Rattle.dcc_plan.specs.Labels.{label_at}
 use Rattle.dcc_control.specs.Plan as plan
 use Rattle.dcc_control.specs.Plan.{Plan, Item, no_items, item}
 
--- the statement of a block; no call of the program's own functions stands in the text, so the depth of calls stays 2
+-- the text of the statement at a place of a block: a DOS call carries the depth 2, which its step doesn't use, and a
+-- call of a function of the text a depth of its own
 abbrev pub text_of_stmt : Spelling → inner.Graph → ℕ → ℕ → Stmt
 text_of_stmt s graph b m = elim (slice_get (block_in graph b).stmts m) [
   | Some stmt ↦ stmt_text s 2 stmt
@@ -57,7 +58,7 @@ abbrev mutual
   arms_text s graph plan.no_arms = no_arms
   arms_text s graph (plan.arm cases body arms) = arm cases (plan_text s graph body) (arms_text s graph arms)
 
--- The same, whatever the numbers of the lines.
+-- When lines are the text of a plan, whatever numbers they have.
 mutual
   -- the lines are the text of the plan
   pub data IsPlanText (s : Spelling) (graph : inner.Graph) : Plan → Lines → Type 0 where

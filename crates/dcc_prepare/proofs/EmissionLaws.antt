@@ -63,7 +63,7 @@ relabels_after tree mid now before between after word (Some rest) None stay one 
     (one.0, two ∙ one.1, goes_stay tree mid now one.0 rest stay one.2)
 relabels_after tree mid now before between after word None None stay one two = two ∙ one
 
--- the same between lists with the same points
+-- labels that a piece found stand so between lists with the same points
 pub relabels_moved : (tree : Tree) (points : List Continuation) (before opened mid now : List Label) (word : Word)
     (found : Option Continuation) → point_named opened word ≡ point_named before word →
     point_named now word ≡ point_named mid word → Relabels tree points opened mid word found →
@@ -80,7 +80,7 @@ keep_after first second third one two word number is = two word number (one word
 pub keep_all : (labels : List Label) → KeepNumbers labels labels
 keep_all labels word number is = is
 
--- the same points under other labels, which keep their numbers
+-- rows stay the actions of their points under other labels, which keep their numbers
 pub rows_kept : (tree : Tree) (f : Function) (is_open : ℕ → Bool) (points : List Continuation) (rows now : List Row)
     (labels more : List Label) → AreRows tree f is_open points rows labels → KeepNumbers labels more → now ≡ rows →
     AreRows tree f is_open points now more
@@ -119,7 +119,7 @@ emits_after tree f is_open points before mid now first second at rest g h = reco
   goes = h.goes;
 }
 
--- the same, where the second piece may be wanting
+-- a piece after another one, where the second piece may be wanting
 pub emits_after_ok : (tree : Tree) (f : Function) (is_open : ℕ → Bool) (points : List Continuation) (before mid now : Code)
     (first second : Word → Option Continuation) (r : Result ℕ AllocError) (rest : Continuation)
     (g : Grows tree f is_open points before mid first) →
@@ -201,7 +201,7 @@ reserved tree f is_open points rows labels k row are = record {
       (are.acts at rest other (get-push points k at rest here (λ is. away (is ∙ are.same))) (get-push rows row at other has away) shut);
 }
 
--- its action
+-- a point whose action comes later takes its action
 pub closed : (tree : Tree) (f : Function) (is_open : ℕ → Bool) (points : List Continuation) (rows : List Row)
     (labels : List Label) (slot : ℕ) (k : Continuation) (line : ℕ) (action : Action) →
     AreRows tree f (with_open is_open slot) points rows labels → slice_get points slot ≡ Some k →
@@ -243,7 +243,7 @@ jump_sticks tree points own following None line goes does = record { following =
 
 -- Labels that are found.
 
--- the same labels are found
+-- what is emitted stays so where the same labels are found
 pub emits_found : (tree : Tree) (f : Function) (is_open : ℕ → Bool) (points : List Continuation) (before now : Code)
     (found other : Word → Option Continuation) (r : Result ℕ AllocError) (rest : Continuation) →
     ((word : Word) → found word ≡ other word) → IfOk r (λ at. Emits tree f is_open points before now found at rest) →

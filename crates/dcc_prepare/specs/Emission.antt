@@ -20,13 +20,14 @@ abbrev pub KeepNumbers : List Label → List Label → Type 0
 KeepNumbers before now =
     (word : Word) (number : ℕ) → label_named before word ≡ Some number → label_named now word ≡ Some number
 
--- the label with the name stands where the text goes on so, or as before where the text goes on nowhere
+-- the label with the name stands where the text goes on from it as the continuation tells, or as before where there is
+-- none
 abbrev pub Relabels : Tree → List Continuation → List Label → List Label → Word → Option Continuation → Type 0
 Relabels tree points before now word (Some rest) =
     (at : ℕ) × (point_named now word ≡ Some at) × Goes tree points at rest
 Relabels tree points before now word None = point_named now word ≡ point_named before word
 
--- the points and the labels have grown, with these labels found
+-- the points and the labels of the code have grown, and these labels are found
 pub record Grows (tree : Tree) (f : Function) (is_open : ℕ → Bool) (points : List Continuation) (before now : Code)
     (found : Word → Option Continuation) : Type 0 where
   pub grown : List Continuation
@@ -35,13 +36,13 @@ pub record Grows (tree : Tree) (f : Function) (is_open : ℕ → Bool) (points :
   pub numbers : KeepNumbers before.labels.items now.labels.items
   pub labels : (word : Word) → Relabels tree grown before.labels.items now.labels.items word (found word)
 
--- and the text goes on so from this point
+-- the points and the labels of the code have grown, and from the point the text goes on as the continuation does
 pub record Emits (tree : Tree) (f : Function) (is_open : ℕ → Bool) (points : List Continuation) (before now : Code)
     (found : Word → Option Continuation) (at : ℕ) (rest : Continuation) : Type 0 where
   pub grows : Grows tree f is_open points before now found
   pub goes : Goes tree grows.grown at rest
 
--- and from the points of these cases the bodies of the arms begin
+-- the points and the labels of the code have grown, and from the points of the cases the bodies of the arms begin
 pub record EmitsArms (tree : Tree) (f : Function) (is_open : ℕ → Bool) (points : List Continuation) (before now : Code)
     (found : Word → Option Continuation) (cases : List Case) (arms : Arms) (rest : Continuation) : Type 0 where
   pub grows : Grows tree f is_open points before now found
@@ -64,8 +65,8 @@ pub record IsContext (context : Context) (tree : Tree) (f : Function) : Type 0 w
   pub names : names_of context.names.now ≡ names_in tree f
   pub functions : AreFirst context.functions.now (function_names tree)
 
--- In each function of a text that has the context, and whose points so far are those of the code: where the points
--- after lead as they have to, the text goes on so from the point of the answer, with these labels found.
+-- In each function of a text that has the context, and whose points so far are those of the code, the text goes on
+-- from the point of the answer as told, with these labels found, where the points after lead as they have to.
 abbrev pub EmitsIn : {E : Type 0} → Context → Code → Code → Result ℕ E → (Tree → List Continuation → Type 0)
     → (Word → Option Continuation) → Continuation → Type 0
 EmitsIn context before now result Leading found rest =
@@ -73,20 +74,20 @@ EmitsIn context before now result Leading found rest =
     IsContext context tree f → AreRows tree f is_open points before.rows.items before.labels.items →
     Leading tree points → IfOk result (λ at. Emits tree f is_open points before now found at rest)
 
--- where the points after are these, and lead where the other continuation does
+-- what is emitted before given points, which lead where the other continuation does
 abbrev pub EmitsBefore : {E : Type 0} → Context → Code → Code → Result ℕ E → Following → Continuation
     → (Word → Option Continuation) → Continuation → Type 0
 EmitsBefore context before now result following after found rest =
     EmitsIn context before now result (λ tree points. Leads tree points following after) found rest
 
--- the statement in its line, before others that begin at the point
+-- what is emitted for a statement in its line, before others that begin at the point
 abbrev pub EmitsStmt : {E : Type 0} → Context → Code → Code → Result ℕ E → ℕ → Stmt → ℕ → Type 0
 EmitsStmt context before now result next stmt at =
     (lines : Lines) (rest : Continuation) →
     EmitsIn context before now result (λ tree points. Goes tree points next (runs lines rest))
     (λ word. from_label_inside word stmt at lines rest) (runs (line stmt at lines) rest)
 
--- the same of a statement with no names of variables, where the points after it are these
+-- what is emitted for a statement with no names of variables, where the points after it are these
 abbrev pub EmitsAlone : {E : Type 0} → Code → Code → Result ℕ E → (Tree → List Continuation → Continuation → Type 0)
     → Stmt → ℕ → Type 0
 EmitsAlone before now result Leading stmt at =

@@ -45,13 +45,14 @@ names_in tree f = record { locals = locals_declared f; globals = map declared_gl
 
 -- Points.
 
--- the text goes on from this point as the continuation does: the first list has the continuations of all points
+-- the text goes on from the point as the continuation does: the first list has the continuations of all points
 pub record Goes (tree : Tree) (points : List Continuation) (at : ℕ) (rest : Continuation) : Type 0 where
   pub own : Continuation
   pub here : slice_get points at ≡ Some own
   pub alike : (s : State) → step_at tree own s ≡ step_at tree rest s
 
--- it does so where there is a continuation, and there is a point exactly where there is one
+-- where there is a continuation, the text goes on from the point as it does; and there is a point exactly where there
+-- is one
 abbrev pub MayGo : Tree → List Continuation → Option ℕ → Option Continuation → Type 0
 MayGo tree points None None = Unit {0}
 MayGo tree points (Some at) (Some rest) = Goes tree points at rest
@@ -93,7 +94,7 @@ StandAll names [] (r ∷ rs) = ⊥
 
 -- What is executed at a point.
 
--- the point of the case, of the last one with it, or else the other point
+-- the point of the last case with the value, or else the other point
 abbrev pub case_point : List Case → ℕ → ℕ → ℕ
 case_point [] n otherwise = otherwise
 case_point (c ∷ cases) n otherwise =

@@ -12,7 +12,7 @@ use Rattle.dcc_prepare.specs.declared.code.Code.{Code}
 use Rattle.dcc_prepare.specs.Points.{Goes, MayGo, point_named, AreRows}
 use Rattle.dcc_prepare.specs.Programs.{none_open, IsProcedure}
 
--- the points are those of the whole function, whose body begins at this one
+-- the points of the code are those of the whole function, whose body begins at the given one
 pub record IsBody (tree : Tree) (f : Function) (code : Code) (entry : ℕ) : Type 0 where
   pub points : List Continuation
   pub rows : AreRows tree f none_open points code.rows.items code.labels.items
@@ -33,7 +33,7 @@ name_declared v x = record {
   is_placed = is_some x.offset;
 }
 
--- and several of them
+-- what several variables are declared as
 abbrev pub names_declared : List Var → List Variable → List Declared
 names_declared (v ∷ vs) (x ∷ xs) = name_declared v x ∷ names_declared vs xs
 names_declared _ _ = []

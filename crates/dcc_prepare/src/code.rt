@@ -43,7 +43,7 @@ pub struct Context<'a, 'l, 'g> {
 impl<'a> Code<'a> {
     ghost use Rattle.dcc_prepare.specs.Emission.{KeepNumbers};
 
-    /// No point.
+    /// A code without points.
     pub fn new(alloc: Global) -> Code<'a>
         ensures rows { result.rows.items ≡ [] }
         ensures labels { result.labels.items ≡ [] }
@@ -55,7 +55,7 @@ impl<'a> Code<'a> {
         }
     }
 
-    /// A further point.
+    /// Adds a point, whose number is the answer.
     pub fn push(&mut self, line: u32, action: Action) -> Result<usize, AllocError>
         ensures point { IfOk result (λ at. at ≡ length self.old.rows.items) }
         ensures rows { OnOk result
@@ -94,7 +94,7 @@ impl<'a> Code<'a> {
         }
     }
 
-    // A new label, whose number is the answer.
+    // Adds a label, whose number is the answer.
     fn add_label(&mut self, alloc: Global, name: &'a str) -> Result<usize, AllocError>
         ensures number { label_named self.old.labels.items name.now ≡ None →
             IfOk result (λ number. label_named self.new.labels.items name.now ≡ Some number) }
@@ -116,7 +116,7 @@ impl<'a> Code<'a> {
         Ok(number)
     }
 
-    /// The label with the name stands at this point.
+    /// Places the label with the name at a point.
     pub fn place_label(
         &mut self,
         alloc: Global,

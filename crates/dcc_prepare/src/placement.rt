@@ -117,7 +117,7 @@ fn bytes_of(variable: &Var) -> u16
     (u64::from(variable.ty.size()) * u64::from(elements) % 0x1_0000) as u16
 }
 
-// A variable at so many bytes above the base.
+// A variable at a number of bytes above the base, if it is in memory.
 fn variable(declared: &Var, offset: Option<u16>) -> Variable
     ensures kind { result.ty ≡ declared.now.ty }
     ensures array { result.is_array ≡ is_some declared.now.len }

@@ -57,9 +57,9 @@ pub struct Case {
 /// What is executed at a point, and the points where the run goes on.
 #[derive(Drop)]
 pub enum Action {
-    /// Nothing; the run goes on at this point.
+    /// Nothing is executed; the run goes on at the point.
     Pass(usize),
-    /// The place takes the value, and the run goes on at this point.
+    /// The place takes the value, and the run goes on at the point.
     Assign(Resolved, Resolved, usize),
     /// A call.
     Call(CallRow),
@@ -90,19 +90,19 @@ pub struct Row {
 /// A label of a function, or the goal of a `goto` in it, and the point where it stands, where it does.
 #[derive(Drop)]
 pub struct Label {
-    /// Its name.
+    /// The name of the label.
     pub name: String,
     /// The point.
     pub point: Option<usize>,
 }
 
-/// A parameter or a local variable: where it is in memory, its address is so many bytes above the base of the call,
-/// modulo 65536.
+/// A parameter or a local variable. Where it is in memory, its address lies a number of bytes above the base of the
+/// call, modulo 65536.
 #[derive(Clone, Copy, PartialEq, Eq, Debug)]
 pub struct Variable {
-    /// Its type, or that of its elements where it is an array.
+    /// The type of the variable, or of its elements where it is an array.
     pub ty: CType,
-    /// Whether it is an array.
+    /// Whether the variable is an array.
     pub is_array: bool,
     /// The bytes above the base.
     pub offset: Option<u16>,
@@ -111,17 +111,17 @@ pub struct Variable {
 /// A function.
 #[derive(Drop)]
 pub struct Procedure {
-    /// Whether it is the function `start`, which has no end of its own.
+    /// Whether the function is `start`, which has no end of its own.
     pub is_start: bool,
     /// The type of its result.
     pub result: Option<CType>,
-    /// Its parameters.
+    /// The parameters of the function.
     pub params: Vec<Variable>,
-    /// Its local variables.
+    /// The local variables of the function.
     pub locals: Vec<Variable>,
-    /// Its points.
+    /// The points of the function.
     pub rows: Vec<Row>,
-    /// Its labels.
+    /// The labels of the function.
     pub labels: Vec<Label>,
     /// The point where its body begins.
     pub entry: usize,

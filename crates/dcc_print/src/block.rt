@@ -21,8 +21,8 @@ fn inside(braces: usize) -> usize
     braces.min(16) + 1
 }
 
-/// Appends a statement inside so many pairs of braces, where calls have this depth. The answer is
-/// the depth in force after it.
+/// Appends a statement inside `braces` pairs of braces, where calls have the given depth. The answer is the depth in
+/// force after the statement.
 #[cycle(block)]
 pub(crate) fn push_stmt(
     text: &mut String,
@@ -70,8 +70,8 @@ pub(crate) fn push_stmt(
     Ok(depth)
 }
 
-// Appends the statements inside a statement, and then so much of the line that follows them. The
-// answer is the depth in force after them.
+// Appends the statements inside a statement, and then as much of the line that follows as is given. The answer is the
+// depth in force after the statements.
 #[cycle(block)]
 fn push_block(
     text: &mut String,
@@ -89,8 +89,8 @@ fn push_block(
     Ok(in_force)
 }
 
-// Appends the else part of an `if`, where it is not empty, and the line that ends the `if`. The
-// answer is the depth in force after it.
+// Appends the else part of an `if`, where it is not empty, and the line that ends the `if`. The answer is the depth in
+// force after the `if`.
 #[cycle(block)]
 fn push_else(
     text: &mut String,
@@ -111,7 +111,7 @@ fn push_else(
     push_block(text, braces, depth, otherwise, "}\n")
 }
 
-// Appends a `do` loop. The answer is the depth in force after it.
+// Appends a `do` loop. The answer is the depth in force after the loop.
 #[cycle(block)]
 fn push_do_while(
     text: &mut String,
@@ -131,8 +131,8 @@ fn push_do_while(
     Ok(in_force)
 }
 
-/// Appends the arms of a `switch`, each with the `break` that ends it. The answer is the depth in
-/// force after them.
+/// Appends the arms of a `switch`, each with the `break` that ends it. The answer is the depth in force after the
+/// arms.
 #[cycle(block)]
 pub(crate) fn push_arms(
     text: &mut String,
@@ -153,8 +153,8 @@ pub(crate) fn push_arms(
     Ok(in_force)
 }
 
-// Appends the default arm of a `switch`, where there is one, and the line that ends the `switch`.
-// The answer is the depth in force after it.
+// Appends the default arm of a `switch`, where there is one, and the line that ends the `switch`. The answer is the
+// depth in force after the `switch`.
 #[cycle(block)]
 fn push_default(
     text: &mut String,
@@ -182,8 +182,7 @@ fn push_default(
     }
 }
 
-/// Appends statements, with this depth in force before them. The answer is the depth in force
-/// after them.
+/// Appends statements, with the given depth in force before them. The answer is the depth in force after them.
 #[cycle(block)]
 pub(crate) fn push_lines(
     text: &mut String,

@@ -42,8 +42,8 @@ pub fn next_depth(depth: u32, lines: &[Line]) -> u32
     depth
 }
 
-/// Appends the pragma that changes the depth in force to that of the call that comes next, where it
-/// is another. The answer is the depth now in force. After a label it is so already.
+/// Appends the pragma that changes the depth in force to that of the call that comes next, where this is another one.
+/// The answer is the depth now in force. Between a label and its call no pragma stands: the label has it before it.
 pub(crate) fn push_depth(
     text: &mut String,
     depth: u32,

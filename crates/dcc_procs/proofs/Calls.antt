@@ -74,7 +74,7 @@ callees-reached image layout proc found is_entry target c =
     let f = found-at image layout proc.entry proc.nodes.entries r.0 r.1 found.nodes r.2 in
     called is_entry f.node (r.1.1.instr, f.instr, r.3)
 
--- and all of them are among these
+-- the targets of all calls of the procedure are among the listed ones
 pub callees-all :
     (image : Image) (layout : Layout) (proc : Proc) → IsFound image layout proc → (at target : ℕ)
     → IsNode image layout proc.entry at → StandsAt image layout at (Call target)

@@ -147,7 +147,7 @@ module _ (image : Image) (layout : Layout) (entry : ℕ) (offsets : List ℕ)
           ];
         })
 
-  -- all
+  -- all offsets have been collected
   pub collected-all :
       (seen : List (Option Known)) → AreAllSeen image layout entry seen → IsListing seen offsets
       → length offsets ≤ place

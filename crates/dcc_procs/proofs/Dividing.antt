@@ -27,7 +27,8 @@ use Rattle.dcc_procs.specs.Division.{unready, is_for, ready_after, ready_from, r
 
 -- One operation.
 
--- it prepares the division, or it keeps what is divided and the division was prepared before
+-- after an operation a division is prepared: the operation prepares it, or keeps what is divided and the division was
+-- prepared before
 after-is :
     (op : Op) (ready : Ready) (division : Unary) (width : Width) → is_division division ≡ true
     → is_for (ready_after op ready) division width
@@ -213,7 +214,7 @@ module _ (image : Image) (layout : Layout) (entry : ℕ) where
         (i : ℕ) → i < place → i < length order → IsReady image layout entry (reached i)
         (get_or ready (reached i) unready)
 
-    -- they find what they need
+    -- the first reached offsets find what they need
     abbrev pub AreFine : ℕ → List Ready → Type 0
     AreFine place ready =
         (i : ℕ) → i < place → i < length order → FindsReady image layout (reached i)
@@ -286,7 +287,7 @@ module _ (image : Image) (layout : Layout) (entry : ℕ) where
       here-now : get_or (slice_set ready (reached place) here) (reached place) unready ≡ here
       here-now = get_or-set_same ready (reached place) here unready fits
 
-      -- so it is said of one more offset
+      -- what holds of the first reached offsets holds of one more
       one-more :
           (P : ℕ → Ready → Type 0)
           → ((i : ℕ) → i < place → i < length order → P (reached i) (get_or ready (reached i) unready))

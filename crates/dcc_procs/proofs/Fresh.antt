@@ -26,7 +26,7 @@ pub seen-read :
 seen-read seen i at now value read same is inside =
     get_or_default seen at None now inside ∙ ap (λ n. get_or seen n now) (sym same) ∙ sym read ∙ is
 
--- it can't be that something is known
+-- an option that can't have a value has none
 pub not-seen : (o : Option Known) → (o ≢ None → ⊥) → o ≡ None
 not-seen None h = refl
 not-seen (Some known) h = absurd (h (λ e. let clash = e in cc))

@@ -20,11 +20,11 @@ use Rattle.dcc_prog.specs.Prepared.{zeroes_upper, extends_sign, writes_ax, write
 use Rattle.dcc_procs.specs.declared.division.Ready.{Ready}
 use Rattle.dcc_procs.specs.declared.known.Known.{Known}
 
--- no division does
+-- no division finds its upper half prepared
 abbrev pub unready : Ready
 unready = record { div_byte = false; div_word = false; idiv_byte = false; idiv_word = false }
 
--- whether a division of that width does; other operations need no preparation
+-- whether a division of that width finds its upper half prepared; other operations need no preparation
 abbrev pub is_for : Ready → Unary → Width → Bool
 is_for ready Div byte_width = ready.div_byte
 is_for ready Div word_width = ready.div_word
@@ -32,7 +32,7 @@ is_for ready Idiv byte_width = ready.idiv_byte
 is_for ready Idiv word_width = ready.idiv_word
 is_for ready operation width = true
 
--- whether DIV, or IDIV, finds it prepared after an operation, by whether it does before
+-- whether DIV, or IDIV, finds its upper half prepared after an operation, by whether it would have found it so before
 abbrev pub div_after : Width → Op → Bool → Bool
 div_after width op before = zeroes_upper width op || (not (writes_upper width op) && before)
 
@@ -51,7 +51,8 @@ abbrev pub ready_after_found : Option Instr → Ready → Ready
 ready_after_found None before = unready
 ready_after_found (Some instr) before = ready_after instr.op before
 
--- after the instruction at the only offset from which trails come, if there is one
+-- which divisions are prepared after the instruction at the only offset from which trails come; none where there is no
+-- such offset
 abbrev pub ready_from : Image → Layout → Option ℕ → List Ready → Ready
 ready_from image layout None ready = unready
 ready_from image layout (Some from) ready =
@@ -61,7 +62,7 @@ abbrev pub ready_at : Image → Layout → Option Known → List Ready → Ready
 ready_at image layout None ready = unready
 ready_at image layout (Some known) ready = ready_from image layout known.from ready
 
--- this is so at an offset exactly where the division is prepared
+-- the code's `ready` holds of a division at an offset exactly where the division is prepared there
 pub record IsReady (image : Image) (layout : Layout) (entry at : ℕ) (ready : Ready) : Type 0 where
   pub prepared :
       (division : Unary) (width : Width) → is_division division ≡ true → is_for ready division width ≡ true
@@ -76,7 +77,7 @@ FindsReady image layout at ready =
     (operation : Unary) (operand : Operand) → StandsAt image layout at (UnaryOp operation operand)
     → is_for ready operation (operand_width operand) ≡ true
 
--- a division at the offset doesn't
+-- a division at the offset that does not find its upper half prepared, and is refused for that
 pub record LacksReady (image : Image) (layout : Layout) (at : ℕ) (ready : Ready) (refusal : Refusal) : Type 0 where
   pub refusal_is : refusal ≡ Construct DIVISION at
   pub operation : Unary

@@ -8,17 +8,17 @@ use Rattle.dcc_prog.specs.declared.refusal.Refusal.TheVariants.{Limit, Memory}
 use Rattle.dcc_prog.specs.Trail.{IsEntry}
 use Rattle.dcc_procs.specs.declared.entries.Entries.{Entries}
 
--- each of these is the entry of a procedure that is reached
+-- each listed entry is that of a procedure that is reached
 abbrev pub AreAllReached : Image → Layout → List ℕ → Type 0
 AreAllReached image layout entries = (entry : ℕ) → Contains entries entry → IsEntry image layout entry
 
--- none is noted
+-- no entry is noted
 pub record IsEmpty (entries : Entries) : Type 0 where
   pub length_is : length entries.listed.items ≡ 65536
   pub listed : (at : ℕ) → get_or entries.listed.items at false ≡ false
   pub order : entries.order.items ≡ []
 
--- one is noted, where it wasn't
+-- an entry is noted, where it wasn't yet
 pub data IsAdded (old new : Entries) (entry : ℕ) : Type 0 where
   known : get_or old.listed.items entry false ≡ true → new ≡ old → IsAdded old new entry
   added :
@@ -28,7 +28,7 @@ pub data IsAdded (old new : Entries) (entry : ℕ) : Type 0 where
       → new.listed.items ≡ slice_set old.listed.items entry true
       → IsAdded old new entry
 
--- one more is too many, or there is no memory for it
+-- one more entry is too many, or there is no memory for it
 abbrev pub IsOverfull : Entries → ℕ → Refusal → Type 0
 IsOverfull old entry (Limit Procedures count) =
     (count ≡ 513) × (length old.order.items ≡ 512) × (get_or old.listed.items entry false ≡ false)
@@ -43,7 +43,7 @@ pub record AreEntries (image : Image) (layout : Layout) (entries : Entries) : Ty
   pub reached : AreAllReached image layout entries.order.items
   pub few : length entries.order.items ≤ 512
 
--- these are noted after the earlier ones
+-- the entries of the list are noted after the earlier ones
 pub record AreAdded (image : Image) (layout : Layout) (old new : Entries) (entries : List ℕ) : Type 0 where
   pub are : AreEntries image layout new
   pub more : List ℕ

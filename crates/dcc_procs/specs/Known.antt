@@ -31,13 +31,14 @@ is_same_form form other = false
 abbrev pub is_same_index : Index → Index → Bool
 is_same_index index other = is_same_register index.register other.register && index.number == other.number
 
--- the form that begins at a comparison
+-- the form of the last instructions after a comparison, with which a form begins
 abbrev pub form_begun : Op → Option Form
 form_begun (AluOp Cmp (Word r) (Const width number)) = if is_general r then Some (Compared r number) else None
 form_begun (AluOp Cmp (Byte Ax Low) (Const width number)) = Some (AlCompared number)
 form_begun op = None
 
--- the form that goes on from another one, where the operation goes on to an offset
+-- the form of the last instructions, which goes on from the one before the operation, where the operation goes on to
+-- an offset
 abbrev pub form_continued : Op → ℕ → ℕ → Form → Option Form
 form_continued op next to (Compared r number) = if is_bounds_test op next to then Some (InRange r number) else None
 form_continued op next to (AlCompared number) = if is_bounds_test op next to then Some (AlInRange number) else None
@@ -49,7 +50,7 @@ abbrev pub continued : Op → ℕ → ℕ → Option Form → Option Form
 continued op next to None = None
 continued op next to (Some form) = form_continued op next to form
 
--- the first one, else the second
+-- the first option where it has a value, else the second
 abbrev pub first_of : {A : Type 0} → Option A → Option A → Option A
 first_of (Some a) other = Some a
 first_of None other = other
@@ -57,7 +58,7 @@ first_of None other = other
 abbrev pub form_after : Op → ℕ → ℕ → Option Form → Option Form
 form_after op next to form = first_of (form_begun op) (continued op next to form)
 
--- the register to which the operation moves this other one
+-- the register to which the operation moves the given one
 abbrev pub moved_to : Reg → Op → Option Reg
 moved_to r (Mov (Word q) (Word p)) = if is_same_register r p && not (is_same_register q p) then Some q else None
 moved_to r op = None
@@ -78,11 +79,11 @@ number_of r (Some index) = if is_same_register index.register r then Some index.
 
 -- What a trail tells.
 
--- of the entry alone
+-- what the trail tells that has the entry alone: nothing
 abbrev pub nothing : Known
 nothing = record { ah = None; form = None; index = None; from = None }
 
--- after an instruction that goes on to an offset, by what is told before it
+-- what is told after an instruction that goes on to an offset, by what is told before it
 abbrev pub known_after : ℕ → Instr → ℕ → Known → Known
 known_after at instr to known = record {
   ah = if writes_half instr.op Ax High then constant_to_ah instr.op else known.ah;
@@ -95,7 +96,7 @@ abbrev pub told_after : ℕ → Option Instr → ℕ → Known → Known
 told_after at None to known = record { ah = known.ah; form = None; index = None; from = Some at }
 told_after at (Some instr) to known = known_after at instr to known
 
--- by a trail that goes to an offset
+-- what a trail that goes on to an offset tells
 abbrev pub told : Image → Layout → ℕ → List ℕ → Known
 told image layout to [] = nothing
 told image layout to (at ∷ before) = told_after at (instruction_in image layout at) to (told image layout at before)

@@ -19,7 +19,7 @@ pub record EntryAndSuccessorsAreNodes : Type 0 where
       (image : Image) (layout : Layout) (entry at : ℕ) (trail : List ℕ) → IsTrail image layout entry trail
       → Contains (successors image layout trail) at → IsNode image layout entry at
 
--- an edge from a node
+-- the node has an edge from another node of the procedure
 pub record HasPredecessor (image : Image) (layout : Layout) (entry at : ℕ) : Type 0 where
   pub from : ℕ
   pub node : IsNode image layout entry from

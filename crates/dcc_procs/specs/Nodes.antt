@@ -20,7 +20,7 @@ number_by op known = None
 abbrev pub HasInstruction : Image → Layout → ℕ → Type 0
 HasInstruction image layout at = (instr : Instr) × (instruction_in image layout at ≡ Some instr)
 
--- the node at an offset before which this is known: its instruction, where it goes on, the number of a DOS call
+-- the node at an offset, by what is known before it: its instruction, where it goes on, the number of a DOS call
 pub record IsNodeBy (image : Image) (layout : Layout) (at : ℕ) (known : Known) (node : Node) : Type 0 where
   pub instr : instruction_in image layout at ≡ Some node.instr
   pub succ : node.succ.items ≡ successors_by image at node.instr known

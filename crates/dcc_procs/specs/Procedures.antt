@@ -32,7 +32,7 @@ abbrev pub calls_of : List (ℕ × Node) → List ℕ
 calls_of [] = []
 calls_of (node ∷ rest) = target_of node.1.instr.op ++ calls_of rest
 
--- how many instructions they have
+-- how many instructions the procedures have
 abbrev pub total_of : List Proc → ℕ
 total_of procs = sum_by (λ proc. length proc.nodes.entries) procs
 

@@ -22,31 +22,32 @@ use Rattle.dcc_procs.specs.Known.{number_of, known_after, told, successors_by, c
 
 -- What is known at an offset.
 
--- what is known is so of what is told
+-- what is known of an offset holds of all that a trail tells of it
 pub record Covers (known told : Known) : Type 0 where
   pub ah : (number : ℕ) → known.ah ≡ Some number → told.ah ≡ Some number
   pub form : (form : Form) → known.form ≡ Some form → told.form ≡ Some form
   pub index : (index : Index) → known.index ≡ Some index → told.index ≡ Some index
   pub from : (at : ℕ) → known.from ≡ Some at → told.from ≡ Some at
 
--- a trail of the procedure comes to the offset, and what is known is so of it
+-- a trail of the procedure comes to the offset, and what is known of the offset holds of it
 pub record HasTrail (image : Image) (layout : Layout) (entry at : ℕ) (known : Known) : Type 0 where
   pub before : List ℕ
   pub trail : IsTrail image layout entry (at ∷ before)
   pub covers : Covers known (told image layout at before)
 
--- the two are not one value
+-- the two options have no value in common
 abbrev pub AreApart : {A : Type 0} → Option A → Option A → Type 0
 AreApart {A} a b = (x : A) → a ≡ Some x → b ≡ Some x → ⊥
 
--- two such trails, or one, tell no value in common in a field
+-- two trails to the offset of which the known holds (or one, twice) have no value in common in a field
 pub record Differ {A : Type 0} (image : Image) (layout : Layout) (entry at : ℕ) (known : Known)
     (field : Known → Option A) : Type 0 where
   pub one : HasTrail image layout entry at known
   pub other : HasTrail image layout entry at known
   pub apart : AreApart (field (told image layout at one.before)) (field (told image layout at other.before))
 
--- trails come to the offset of which this is so, and they tell no more in common
+-- trails come to the offset of which the known holds, and where a field is unknown, trails have no value of it in
+-- common
 pub record IsWitnessed (image : Image) (layout : Layout) (entry at : ℕ) (known : Known) : Type 0 where
   pub trail : HasTrail image layout entry at known
   pub ah : known.ah ≡ None → Differ image layout entry at known (λ k. k.ah)
@@ -54,18 +55,18 @@ pub record IsWitnessed (image : Image) (layout : Layout) (entry at : ℕ) (known
   pub index : known.index ≡ None → Differ image layout entry at known (λ k. k.index)
   pub from : known.from ≡ None → Differ image layout entry at known (λ k. k.from)
 
--- something is known, and it is so of what is told
+-- something is known, and it holds of what is told
 abbrev pub Tells : Option Known → Known → Type 0
 Tells None told = ⊥
 Tells (Some known) told = Covers known told
 
 -- Instructions.
 
--- one number of DOS is known
+-- the number of the DOS call is known
 abbrev pub HasDosNumber : Known → Type 0
 HasDosNumber known = (number : ℕ) × (known.ah ≡ Some number) × (is_dos_number number ≡ true)
 
--- one greatest number of the table's index is known, it is not too great, and the table lies in the code
+-- the greatest number of the table's index is known, it is not too great, and the table lies in the code
 pub record HasTable (image : Image) (layout : Layout) (known : Known) (r : Reg) (table : ℕ) : Type 0 where
   pub number : ℕ
   pub number_is : number_of r known.index ≡ Some number
@@ -79,13 +80,13 @@ pub record IsAllowed (image : Image) (layout : Layout) (entry : ℕ) (known : Kn
   pub returns : (count : ℕ) → op ≡ Ret count → entry ≢ layout.start_ip
   pub calls : op ≡ Call layout.start_ip → ⊥
 
--- this instruction stands at the offset and is no construct, but for a division
+-- the instruction stands at the offset and is no construct, unless a division that is not prepared
 pub record IsAccepted (image : Image) (layout : Layout) (entry at : ℕ) (known : Known) (instr : Instr) : Type 0 where
   pub found : instruction_in image layout at ≡ Some instr
   pub user : (is_system instr.op || not (is_frame_form image layout entry at instr.op)) ≡ false
   pub allowed : IsAllowed image layout entry known instr.op
 
--- a table jump before which this is known is refused
+-- a table jump is refused, by what is known before it
 pub data IsTableFault (image : Image) (layout : Layout) (at : ℕ) (known : Known) (r : Reg) (table : ℕ) : Refusal →
     Type 0 where
   no_number :
@@ -141,7 +142,7 @@ rank (Some known) = told_count known
 abbrev pub measure : Work → ℕ
 measure work = 2 * sum_by rank work.seen + length work.pending
 
--- this is known at the offset now, and it is to be followed
+-- the work with new knowledge at an offset, which is to be followed
 abbrev pub with_known : Work → List ℕ → ℕ → Known → Work
 with_known work order to known = record {
   seen = slice_set work.seen to (Some known);
@@ -149,7 +150,7 @@ with_known work order to known = record {
   pending = work.pending ++ to ∷ [];
 }
 
--- a trail comes to an offset, and tells this
+-- a trail comes to an offset with what is known along it, and the work notes that
 pub data IsArrived (old new : Work) (to : ℕ) (known : Known) : Type 0 where
   first_time :
       seen_at old.seen to ≡ None
@@ -175,7 +176,7 @@ IsFull work to (Limit Instructions count) = (count ≡ 4097) × (length work.ord
 IsFull work to Memory = Unit {0}
 IsFull work to refusal = ⊥
 
--- the offsets that are seen are these
+-- the list holds just the offsets that are seen
 abbrev pub IsListing : List (Option Known) → List ℕ → Type 0
 IsListing seen offsets = (at : ℕ) → Contains offsets at ↔ (seen_at seen at ≢ None)
 
@@ -193,7 +194,7 @@ pub record IsOrder (image : Image) (layout : Layout) (entry : ℕ) (seen : List 
       → (j : ℕ) × (j < i) × IsEdge image layout entry (get_or order j d) (get_or order i d)
   pub few : length order ≤ 4096
 
--- what is seen is so by trails
+-- what is seen of offsets holds of trails that come there
 pub record IsSound (image : Image) (layout : Layout) (entry : ℕ) (work : Work) : Type 0 where
   pub length_is : length work.seen ≡ 65536
   pub witnessed :
@@ -201,14 +202,14 @@ pub record IsSound (image : Image) (layout : Layout) (entry : ℕ) (work : Work)
   pub order : IsOrder image layout entry work.seen work.order
   pub waiting : (at : ℕ) → Contains work.pending at → seen_at work.seen at ≢ None
 
--- more is seen, and where it is, it is to be followed
+-- more is seen than before, and the offsets where more is seen are to be followed
 pub record Extends (old new : Work) : Type 0 where
   pub tells : (at : ℕ) (told : Known) → Tells (seen_at old.seen at) told → Tells (seen_at new.seen at) told
   pub stays : (at : ℕ) → (seen_at new.seen at ≡ seen_at old.seen at) ⊎ Contains new.pending at
   pub waits : (at : ℕ) → Contains old.pending at → Contains new.pending at
   pub less : measure new ≤ measure old
 
--- what each of these offsets has is so of what trails tell that come there from the instruction
+-- what is seen at each of the offsets holds of the trails that come there from the instruction
 abbrev pub AreTold : Work → ℕ → Instr → Known → List ℕ → Type 0
 AreTold work at instr known offsets =
     (to : ℕ) → Contains offsets to → (told : Known) → Covers (known_after at instr to known) told → Tells

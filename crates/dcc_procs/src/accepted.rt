@@ -24,7 +24,7 @@ use dcc_prog::{Image, Instr, Layout, LimitName, Op, Refusal};
 // The greatest N of a table, whose entries are one more.
 const MOST: u16 = 255;
 
-// The construct that FFh with this reg field is.
+// The kind of construct that FFh with this reg field is: an indirect jump or an indirect call.
 fn indirect_kind(reg: u8) -> u8
     ensures { result ≡ (if (reg == 2) || (reg == 3) then INDIRECT_CALL else if (reg == 4) || (reg == 5) then INDIRECT_JUMP else OUTSIDE) }
 {
@@ -48,7 +48,7 @@ fn unknown_kind(image: &Image, layout: &Layout, at: u16) -> u8
     }
 }
 
-// INT 21h needs one number of the five.
+// Refuses INT 21h without one number of the five known in AH.
 fn check_number(at: u16, known: Known) -> Result<(), Refusal>
     ensures number { OnOk result (HasDosNumber known) }
     ensures refused { IfErr result (λ refusal. refusal ≡ Construct DOS_NUMBER at) }
@@ -63,7 +63,7 @@ fn check_number(at: u16, known: Known) -> Result<(), Refusal>
     }
 }
 
-// A jump through a table needs one number, not above the greatest, and its table in the code.
+// Refuses a jump through a table without one greatest number, not above 255, and with its table in the code.
 fn check_table(
     image: &Image,
     layout: &Layout,
@@ -93,7 +93,7 @@ fn check_table(
     Ok(())
 }
 
-// What the operation needs beyond its form.
+// Refuses an operation that lacks what it needs beyond its form.
 fn check_operation(
     image: &Image,
     layout: &Layout,

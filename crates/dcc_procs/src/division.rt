@@ -16,7 +16,7 @@ use dcc_num::{Half, Reg, Width};
 use dcc_prog::construct::DIVISION;
 use dcc_prog::{Alu, Image, Layout, Op, Operand, Plain, Refusal, Unary};
 
-// The operand is the upper half of what a division of that width divides: AH, or DX.
+// Whether the operand is the upper half of what a division of that width divides: AH, or DX.
 fn is_upper(width: Width, operand: Operand) -> bool
     ensures { result ≡ is_upper width operand }
 {
@@ -26,7 +26,7 @@ fn is_upper(width: Width, operand: Operand) -> bool
     }
 }
 
-// MOV of 0 to the upper half, or SUB or XOR of it with itself.
+// Whether the operation is MOV of 0 to the upper half, or SUB or XOR of it with itself.
 fn zeroes_upper(width: Width, op: Op) -> bool
     ensures { result ≡ zeroes_upper width op }
 {
@@ -37,7 +37,7 @@ fn zeroes_upper(width: Width, op: Op) -> bool
     }
 }
 
-// CBW, or CWD.
+// Whether the operation extends the sign of the lower half: CBW, or CWD.
 fn extends_sign(width: Width, op: Op) -> bool
     ensures { result ≡ extends_sign width op }
 {
@@ -67,17 +67,17 @@ fn writes_upper(width: Width, op: Op) -> bool
 /// Which divisions find their upper half prepared at an offset.
 #[derive(Clone, Copy)]
 pub struct Ready {
-    /// DIV of a byte.
+    /// Whether DIV by a byte finds its upper half, AH, prepared.
     pub div_byte: bool,
-    /// DIV of a word.
+    /// Whether DIV by a word finds its upper half, DX, prepared.
     pub div_word: bool,
-    /// IDIV of a byte.
+    /// Whether IDIV by a byte finds its upper half, AH, prepared.
     pub idiv_byte: bool,
-    /// IDIV of a word.
+    /// Whether IDIV by a word finds its upper half, DX, prepared.
     pub idiv_word: bool,
 }
 
-/// None does.
+/// No division finds its upper half prepared.
 pub const UNREADY: Ready = Ready {
     div_byte: false,
     div_word: false,
@@ -85,14 +85,14 @@ pub const UNREADY: Ready = Ready {
     idiv_word: false,
 };
 
-// DIV finds its upper half prepared after an operation, by whether it does before.
+// Whether DIV finds its upper half prepared after an operation, by whether it would have before.
 fn div_after(width: Width, op: Op, before: bool) -> bool
     ensures { result ≡ div_after width op before }
 {
     zeroes_upper(width, op) || (!writes_upper(width, op) && before)
 }
 
-// IDIV.
+// Whether IDIV finds its upper half prepared after an operation, by whether it would have before.
 fn idiv_after(width: Width, op: Op, before: bool) -> bool
     ensures { result ≡ idiv_after width op before }
 {
@@ -100,7 +100,7 @@ fn idiv_after(width: Width, op: Op, before: bool) -> bool
 }
 
 impl Ready {
-    // After an operation, by what is so before it.
+    // Which divisions find their upper half prepared after an operation, by which would have before.
     fn after(self, op: Op) -> Ready
         ensures { result ≡ ready_after op self }
     {
@@ -112,7 +112,7 @@ impl Ready {
         }
     }
 
-    // Whether a division of that width finds it so.
+    // Whether a division of that width finds its upper half prepared; other operations need no preparation.
     fn is_for(self, division: Unary, width: Width) -> bool
         ensures { result ≡ is_for self division width }
     {
@@ -126,8 +126,8 @@ impl Ready {
     }
 }
 
-// Which divisions are prepared at an offset before which this is known, by what is so at each
-// offset that was reached before.
+// Which divisions are prepared at an offset, by what is known before it and by which divisions are prepared at each
+// offset that was reached earlier.
 fn ready_at(image: &Image, layout: &Layout, known: Option<Known>, ready: &[Ready]) -> Ready
     requires loaded { IsLoaded image.now }
     requires layout { HasLayout image.now layout.now }

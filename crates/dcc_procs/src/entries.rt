@@ -19,14 +19,14 @@ const MOST: usize = 512;
 /// The entries of the procedures that are reached.
 #[derive(Drop)]
 pub struct Entries {
-    /// In the order in which they were reached.
+    /// The entries in the order in which they were reached.
     pub order: Vec<u16>,
-    /// For each offset whether it is one of them.
+    /// For each offset whether it is a noted entry.
     pub listed: Vec<bool>,
 }
 
 impl Entries {
-    /// None.
+    /// No entry is noted.
     pub fn new(alloc: Global) -> Result<Entries, AllocError>
         ensures { IfOk result IsEmpty }
     {

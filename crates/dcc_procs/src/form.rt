@@ -30,7 +30,7 @@ fn is_same_half(half: Half, other: Half) -> bool
     }
 }
 
-// The half is the operand or one of its two bytes.
+// Whether the half is the operand or one of its two bytes.
 fn is_half_of(r: Reg, half: Half, operand: Operand) -> bool
     ensures { result ≡ is_half_of r half operand }
 {
@@ -41,7 +41,7 @@ fn is_half_of(r: Reg, half: Half, operand: Operand) -> bool
     }
 }
 
-// A product or a quotient takes AX, and DX too where the operand is a word.
+// Whether a product or a quotient takes the register: AX, and DX too where the operand is a word.
 fn is_in_pair(width: Width, r: Reg) -> bool
     ensures { result ≡ is_in_pair width r }
 {
@@ -60,7 +60,7 @@ fn unary_writes_half(operation: Unary, a: Operand, r: Reg, half: Half) -> bool
     }
 }
 
-// CBW writes AH, CWD DX, XLAT AL.
+// Whether the operation without operands writes the half: CBW writes AH, CWD DX, XLAT AL.
 fn plain_writes_half(operation: Plain, r: Reg, half: Half) -> bool
     ensures { result ≡ plain_writes_half operation r half }
 {

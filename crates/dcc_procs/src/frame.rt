@@ -46,7 +46,7 @@ fn second_of(entry: u16, first: Option<Instr>) -> u16
     }
 }
 
-// The procedure's first instructions are `push bp` and `mov bp,sp`.
+// Whether the procedure's first instructions are `push bp` and `mov bp,sp`.
 fn begins_by_push(image: &Image, layout: &Layout, entry: u16) -> bool
     requires loaded { IsLoaded image.now }
     requires layout { HasLayout image.now layout.now }
@@ -57,7 +57,8 @@ fn begins_by_push(image: &Image, layout: &Layout, entry: u16) -> bool
         && stands_mov_bp_sp(instruction_in(image, layout, second_of(entry, first)))
 }
 
-// Or its first instruction is ENTER.
+// Whether the procedure is framed: its first instructions are `push bp` and `mov bp,sp`, or its first instruction is
+// ENTER.
 fn is_framed(image: &Image, layout: &Layout, entry: u16) -> bool
     requires loaded { IsLoaded image.now }
     requires layout { HasLayout image.now layout.now }
@@ -66,7 +67,7 @@ fn is_framed(image: &Image, layout: &Layout, entry: u16) -> bool
     begins_by_push(image, layout, entry) || stands_enter(instruction_in(image, layout, entry))
 }
 
-// The operation, at an offset, is among the first instructions that make the procedure framed.
+// Whether the operation, at an offset, is among the first instructions that make the procedure framed.
 fn makes_frame(image: &Image, layout: &Layout, entry: u16, at: u16, op: Op) -> bool
     requires loaded { IsLoaded image.now }
     requires layout { HasLayout image.now layout.now }

@@ -9,7 +9,7 @@ use crate::form::{constant_to_ah, writes_ah};
 use crate::table::{Form, Index, form_after, index_after};
 use dcc_prog::Instr;
 
-/// What a trail to an offset tells; or what all trails to it tell that were followed so far: of each
+/// What a trail to an offset tells; or what all trails to the offset that were followed so far tell in common: of each
 /// field the value that they share, and none where one tells none or two tell different ones.
 #[derive(Clone, Copy)]
 pub struct Known {
@@ -19,7 +19,7 @@ pub struct Known {
     pub form: Option<Form>,
     /// The register that the last instructions leave as the index of a table, and its greatest number.
     pub index: Option<Index>,
-    /// The offset before it.
+    /// The offset of the instruction that went on to the offset.
     pub from: Option<u16>,
 }
 
@@ -31,7 +31,7 @@ pub const NOTHING: Known = Known {
     from: None,
 };
 
-// The number that both tell.
+// The number that both options have.
 fn common_byte(a: Option<u8>, b: Option<u8>) -> Option<u8>
     ensures { result ≡ common_of nat_eq a b }
 {
@@ -41,7 +41,7 @@ fn common_byte(a: Option<u8>, b: Option<u8>) -> Option<u8>
     }
 }
 
-// The word that both tell.
+// The word that both options have.
 fn common_word(a: Option<u16>, b: Option<u16>) -> Option<u16>
     ensures { result ≡ common_of nat_eq a b }
 {
@@ -51,7 +51,7 @@ fn common_word(a: Option<u16>, b: Option<u16>) -> Option<u16>
     }
 }
 
-// The form that both tell.
+// The form that both options have.
 fn common_form(a: Option<Form>, b: Option<Form>) -> Option<Form>
     ensures { result ≡ common_of is_same_form a b }
 {
@@ -61,7 +61,7 @@ fn common_form(a: Option<Form>, b: Option<Form>) -> Option<Form>
     }
 }
 
-// The index that both tell.
+// The index that both options have.
 fn common_index(a: Option<Index>, b: Option<Index>) -> Option<Index>
     ensures { result ≡ common_of is_same_index a b }
 {
@@ -89,7 +89,7 @@ impl Known {
         }
     }
 
-    /// What both tell.
+    /// What both trails tell in common.
     pub fn common(self, other: Known) -> Known
         ensures { result ≡ common self other }
     {
@@ -111,7 +111,7 @@ impl Known {
             + u8::from(self.from.is_some())
     }
 
-    /// What both tell, where that is less than what the first one tells.
+    /// What both tell in common, where that is less than what the first one tells.
     pub fn lessened(self, other: Known) -> Option<Known>
         ensures less { IfSome result (λ less. less ≡ common self other) }
         ensures fewer { IfSome result (λ less. told_count less < told_count self) }

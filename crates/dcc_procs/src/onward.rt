@@ -13,7 +13,7 @@ use dcc_prog::{Image, Instr, Op};
 use smallvec::SmallVec;
 use std::alloc::{AllocError, Global};
 
-/// The N + 1 words of a table, where N is told.
+/// The targets of a jump through a table: its N + 1 words, where N is told.
 pub fn table_targets(
     alloc: Global,
     image: &Image,
@@ -33,7 +33,7 @@ pub fn table_targets(
     Ok(targets)
 }
 
-// One offset, or this one and then another.
+// The given offset, and after it the other one, if there is one.
 fn offsets_of(
     alloc: Global,
     first: u16,

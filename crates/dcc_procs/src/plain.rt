@@ -57,7 +57,7 @@ fn operation_in(image: &Image, layout: &Layout, at: u16) -> Option<Op>
     }
 }
 
-// r, where the operation is `mov q,r` and moves it from another register.
+// The register r, where the operation is `mov q,r` and moves it from another register.
 fn moved_from(q: Reg, op: Option<Op>) -> Option<Reg>
     ensures { result ≡ moved_from q op }
 {
@@ -68,7 +68,7 @@ fn moved_from(q: Reg, op: Option<Op>) -> Option<Reg>
     }
 }
 
-// `shl r,1`.
+// Whether the operation is `shl r,1`.
 fn is_doubling(r: Reg, op: Option<Op>) -> bool
     ensures { result ≡ is_doubling r op }
 {
@@ -78,7 +78,7 @@ fn is_doubling(r: Reg, op: Option<Op>) -> bool
     }
 }
 
-// `xor ah,ah`, where r is AX.
+// Whether the operation is `xor ah,ah`, where r is AX.
 fn clears_upper(r: Reg, op: Option<Op>) -> bool
     ensures { result ≡ clears_upper r op }
 {
@@ -88,7 +88,7 @@ fn clears_upper(r: Reg, op: Option<Op>) -> bool
     }
 }
 
-// N, where the operation is `cmp r,N` of a general register.
+// The number N, where the operation is `cmp r,N` of a general register.
 fn compared_with(r: Reg, op: Option<Op>) -> Option<u16>
     ensures { result ≡ compared_with r op }
 {
@@ -99,7 +99,7 @@ fn compared_with(r: Reg, op: Option<Op>) -> Option<u16>
     }
 }
 
-// N, where the operation is `cmp al,N`.
+// The number N, where the operation is `cmp al,N`.
 fn al_compared_with(op: Option<Op>) -> Option<u16>
     ensures { result ≡ al_compared_with op }
 {
@@ -110,7 +110,7 @@ fn al_compared_with(op: Option<Op>) -> Option<u16>
     }
 }
 
-// A bounds test stands at an offset, and goes on to another one.
+// Whether a bounds test stands at an offset, and goes on to another one.
 fn is_test_to(instr: Option<Instr>, at: u16, to: u16) -> bool
     ensures { result ≡ is_test_to instr at to }
 {
@@ -164,7 +164,8 @@ fn greatest_in(image: &Image, layout: &Layout, r: Reg, to: u16, trail: &[u16]) -
     }
 }
 
-// The same, where the last instruction of the trail is `shl r,1` after that.
+// The greatest number that r may hold before the `shl r,1` with which the trail ends, by the trail before; none where
+// it doesn't end so.
 fn greatest_doubled(image: &Image, layout: &Layout, r: Reg, trail: &[u16]) -> Option<u16>
     requires loaded { IsLoaded image.now }
     requires layout { HasLayout image.now layout.now }

@@ -23,7 +23,7 @@ const OFFSETS: usize = 65536;
 // The greatest number of instructions over all procedures.
 const MOST_INSTRUCTIONS: usize = 32768;
 
-// The targets of the calls.
+// The targets of the calls among the nodes.
 fn callees(alloc: Global, nodes: &IndexMap<u16, Node>) -> Result<Vec<u16>, AllocError>
     ensures { IfOk result (λ targets. targets.items ≡ calls_of nodes.now.entries) }
 {
@@ -47,11 +47,11 @@ pub struct Finder {
     pub entries: Entries,
     /// The procedures of the first entries.
     pub procs: Vec<Proc>,
-    /// The number of their instructions.
+    /// The number of instructions of the procedures found so far.
     pub total: usize,
 }
 
-// The procedure with that entry, by a search that has seen nothing; and it forgets what it saw.
+// Finds the procedure with that entry, by a search that has seen nothing and is emptied after.
 fn procedure(
     alloc: Global,
     image: &Image,
@@ -79,7 +79,7 @@ fn procedure(
 }
 
 impl Finder {
-    // Nothing is found, and the procedure with the entry is to be.
+    // A finder that has found nothing yet; the procedure with the entry is to be found first.
     fn new(alloc: Global, image: &Image, layout: &Layout) -> Result<Finder, Refusal>
         requires loaded { IsLoaded image.now }
         requires layout { HasLayout image.now layout.now }

@@ -31,7 +31,7 @@ pub struct Search {
 }
 
 impl Search {
-    /// Nothing is seen.
+    /// A search that has seen nothing.
     pub fn new(alloc: Global) -> Result<Search, AllocError>
         ensures { IfOk result (λ search. IsFresh (work_of search)) }
     {
@@ -42,7 +42,7 @@ impl Search {
         })
     }
 
-    // A trail comes to an offset for the first time.
+    // Notes that a trail comes to an offset for the first time.
     fn reach(&mut self, to: u16, known: Known) -> Result<(), Refusal>
         requires length { length self.old.seen.items ≡ 65536 }
         requires first { seen_at self.old.seen.items to ≡ None }
@@ -103,8 +103,8 @@ impl Search {
         Ok(())
     }
 
-    /// Follows the trails of the procedure with that entry, where nothing was seen before. Where an
-    /// instruction that is reached is a construct, or there are too many, the program is refused.
+    /// Follows the trails of the procedure with that entry, where nothing was seen before. Where an instruction that
+    /// is reached is a construct, or more than 4,096 are reached, the program is refused.
     pub fn run(&mut self, image: &Image, layout: &Layout, entry: u16) -> Result<(), Refusal>
         requires loaded { IsLoaded image.now }
         requires layout { HasLayout image.now layout.now }

@@ -32,7 +32,7 @@ pub struct Index {
     pub number: u16,
 }
 
-/// The two are one register.
+/// Whether the two are one register.
 pub fn is_same_register(r: Reg, q: Reg) -> bool
     ensures { result ≡ is_same_register r q }
 {
@@ -75,15 +75,15 @@ impl Index {
     }
 }
 
-/// AX, CX, DX, BX, SI or DI.
+/// Whether the register is general: AX, CX, DX, BX, SI or DI.
 pub fn is_general(r: Reg) -> bool
     ensures { result ≡ is_general r }
 {
     !matches!(r, Reg::Sp | Reg::Bp)
 }
 
-/// A JA whose next instruction stands at the offset and whose target does not, or a JBE the other
-/// way round.
+/// Whether the operation is a JA whose next instruction stands at the offset and whose target does not, or a JBE the
+/// other way round.
 pub fn is_bounds_test(op: Op, next: u16, to: u16) -> bool
     ensures { result ≡ is_bounds_test op next to }
 {
@@ -94,7 +94,7 @@ pub fn is_bounds_test(op: Op, next: u16, to: u16) -> bool
     }
 }
 
-/// `xor ah,ah`.
+/// Whether the operation is `xor ah,ah`.
 pub fn clears_ah(op: Op) -> bool
     ensures { result ≡ clears_upper Ax (Some op) }
 {
@@ -108,7 +108,7 @@ pub fn clears_ah(op: Op) -> bool
     )
 }
 
-// `shl r,1`.
+// Whether the operation is `shl r,1`.
 fn is_doubling(r: Reg, op: Op) -> bool
     ensures { result ≡ is_doubling r (Some op) }
 {
@@ -118,7 +118,7 @@ fn is_doubling(r: Reg, op: Op) -> bool
     }
 }
 
-// The form that begins at a comparison.
+// The form that an operation begins, if it is a comparison with a constant.
 fn form_begun(op: Op) -> Option<Form>
     ensures { result ≡ form_begun op }
 {
@@ -133,7 +133,7 @@ fn form_begun(op: Op) -> Option<Form>
     }
 }
 
-// The form that goes on from another one.
+// The form after an operation that goes on to an offset, where it continues the form before it.
 fn form_continued(op: Op, next: u16, to: u16, form: Form) -> Option<Form>
     ensures { result ≡ form_continued op next to form }
 {
@@ -159,7 +159,7 @@ pub fn form_after(op: Op, next: u16, to: u16, form: Option<Form>) -> Option<Form
     }
 }
 
-// The register to which the operation moves this other one.
+// The register to which the operation moves the given one.
 fn moved_to(r: Reg, op: Op) -> Option<Reg>
     ensures { result ≡ moved_to r op }
 {

@@ -150,7 +150,7 @@ word_stores segment offset word =
     ∷ store_at (physical segment ((offset + 1) % 65536)) (word / 256)
     ∷ []
 
--- those where an operand takes a value
+-- the bytes that are stored where an operand takes a value
 abbrev pub operand_stores : Operand → ℕ → State → List Store
 operand_stores (Mem byte_width ea) v s = store_at (physical (segment_of s ea) (offset_of s ea)) v ∷ []
 operand_stores (Mem word_width ea) v s = word_stores (segment_of s ea) (offset_of s ea) v

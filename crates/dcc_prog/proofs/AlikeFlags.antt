@@ -373,7 +373,7 @@ shift-made cpu operation a count at s t flag two e made passed =
     still_flag turned none false c true q h = cc
     still_flag turned none false c false q h = absurd (count-some cpu count t c q none)
 
--- The others.
+-- IMUL with a constant, operations without operands, and then all operations together.
 
 imul3-flag :
     (cpu : Cpu) (to : Reg) (a : Operand) (constant at : ℕ) (s t : State) (flag : FlagName) → AreTwo s t

@@ -171,7 +171,7 @@ divided-alike a s t beside agree =
       by = value-alike s t a beside (λ from e. agree from (or-second (is_dividend (operand_width a) from) _ e));
     }
 
--- so a division, signed or not, gives the same
+-- where two states agree in what a division uses, the division, signed or not, gives the same
 pub same-division :
     {Division : Type 0} (divide : Width → ℕ → ℕ → ℕ → Division) (a : Operand) (s t : State) → AgreeBeside s t
     → AgreeWhere (λ from. is_dividend (operand_width a) from || is_read from a) s t

@@ -78,7 +78,7 @@ made-alike cpu op at number s t (flag_of flag) good first second beside m n alik
 
 -- Two states that differ in one location.
 
--- they agree where a test tells others
+-- two states that differ in one location agree where a test tells others alone
 agree-but :
     (test : Location → Bool) (location : Location) (s t : State) → AgreeBut location s t → test location ≡ false
     → AgreeWhere test s t

@@ -248,7 +248,7 @@ module _ (proc : Proc) (frame : Frame) (heights : Heights) where
   unfolding stack_by marks-at small callee first stack_with state_with instr_of at_bp
   pop-into_itself = refl
 
-  -- of the word below it, into that one
+  -- `pop [bp-2]` of the word below BP-2: what is stored stays written, the popped word does not
   pop-upwards : marks-at (0x30 ∷ 0x31 ∷ 0x32 ∷ 0x33 ∷ []) (stack_by (Pop (at_bp 0xFFFE)) 0x0020 (0x30 ∷ 0x31 ∷ [])) ≡ false ∷ false ∷ true ∷ true ∷ []
   unfolding stack_by marks-at small callee first stack_with state_with instr_of at_bp
   pop-upwards = refl

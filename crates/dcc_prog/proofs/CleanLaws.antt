@@ -75,7 +75,7 @@ frames-stay (Call target) top frames apart = cc
 frames-stay (Ret count) top frames apart = cc
 frames-stay op top frames apart = refl
 
--- its marks change where SP rises past them alone
+-- what uses no stack changes marks only where SP rises past them
 marks-passed : (layout : Layout) (s t : State) (instr : Instr) (written : List Bool) → UsesNoStack layout s instr
     → written_after layout (found_accesses (Some instr) s) (top_in layout s) (top_in layout t) written
     ≡ with_marks false (range_with_len (top_in layout s) (top_in layout t - top_in layout s)) written

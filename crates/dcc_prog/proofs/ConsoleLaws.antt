@@ -30,7 +30,7 @@ use Rattle.dcc_prog.specs.Step.{op_step}
 abbrev pub with_console_of : List ℕ → List Event → State → State
 with_console_of input events s = record s { input = input; events = events }
 
--- it does the same to the rest of the state beside any console, and leaves that
+-- the function does the same to the rest of the state beside any console, and leaves the console
 abbrev pub KeepsConsole : (State → State) → Type 0
 KeepsConsole f = (input : List ℕ) (events : List Event) (s : State) → f (with_console_of input events s) ≡ with_console_of input events (f s)
 
@@ -183,6 +183,6 @@ op-keeps cpu (Call target) at other input events s = refl
 op-keeps cpu (Ret count) at other input events s = refl
 op-keeps cpu Int21 at other input events s = absurd (other refl)
 
--- so nothing happens at the console
+-- in every operation but INT 21h nothing happens at the console
 pub op-keeps_events : (cpu : Cpu) (op : Op) (at : ℕ) → op ≢ Int21 → (s : State) → (op_step cpu op at s).events ≡ s.events
 op-keeps_events cpu op at other s = ap (λ (t : State). t.events) (op-keeps cpu op at other s.input s.events s)

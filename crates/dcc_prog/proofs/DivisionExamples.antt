@@ -170,7 +170,7 @@ line-prepared image layout a b c op operation width line stands prepared =
 abbrev after_one : ℕ → ℕ → ℕ → List ℕ
 after_one op opcode modrm = op ∷ opcode ∷ modrm ∷ 0xEB ∷ 0xFE ∷ []
 
--- the same with an operation of two bytes
+-- an operation of two bytes, a division of two, and a jump to itself
 abbrev after_two : ℕ → ℕ → ℕ → ℕ → List ℕ
 after_two op more opcode modrm = op ∷ more ∷ opcode ∷ modrm ∷ 0xEB ∷ 0xFE ∷ []
 

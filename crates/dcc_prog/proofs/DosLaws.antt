@@ -30,7 +30,7 @@ pub record CallsRelate (R : State → State → Type 0) (number at : ℕ) (s t :
       → (number == GETCH) ≡ false
       → R (with_end (Outside at) at s) (with_end (Outside at) at t)
 
--- so INT 21h with any number relates them
+-- INT 21h with any number relates two states that each call relates
 pub calls-relate :
     (R : State → State → Type 0) (number at : ℕ) (s t : State) → CallsRelate R number at s t
     → R (dos_step number at s) (dos_step number at t)

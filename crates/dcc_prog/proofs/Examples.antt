@@ -384,7 +384,7 @@ frame_operations =
     ∷ Mov (Word Bx) (Word Bp)
     ∷ []
 
--- and some that no procedure may have there
+-- some operations at offset 8 that no procedure may have there
 abbrev foreign_operations : List Op
 foreign_operations =
     Push (Word Bp)

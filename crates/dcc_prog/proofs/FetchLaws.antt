@@ -141,7 +141,7 @@ fetched-instruction cpu image end s instr placed holds found =
     ∙ sym (get_or-drop s.ip code k 0)) in
     instruction-prefix cpu s.ip (drop s.ip code) (code_bytes s) instr found same
 
--- the same of the whole code
+-- the instruction at the instruction pointer is the one that stands in the whole code
 pub fetched-whole :
     (cpu : Cpu) (image : Image) (s : State) (instr : Instr) → IsPlaced image → HoldsCode image image.code_len s
     → instruction_at cpu s.ip (drop s.ip (code_of image)) ≡ Some instr

@@ -43,7 +43,7 @@ module _ (image : Image) (layout : Layout) (proc : Proc) (found : IsFound image 
       All-contains (IsNodeFound image layout proc.entry) proc.nodes.entries (at, node) found.nodes
       (Contains-from_lookup exact_unsigned_eq at node proc.nodes.entries is)
 
-  -- and it finds each node
+  -- a look-up finds each node
   pub node-listed :
       (at : ℕ) → IsNode image layout proc.entry at → is_some (lookup (nat_eq at) proc.nodes.entries) ≡ true
   node-listed at node =
@@ -62,7 +62,7 @@ module _ (image : Image) (layout : Layout) (proc : Proc) (found : IsFound image 
       by None is some = absurd (true≢false (sym some))
       by (Some n) is some = sym (found-by at n is).instr
 
--- Whether it is framed, by the instructions at its first two offsets.
+-- Whether a procedure is framed, by the instructions at its first two offsets.
 
 push-onward :
     (op : Op) (next : ℕ) (ah : Option ℕ) (targets : List ℕ) → is_push_bp op ≡ true
@@ -111,7 +111,7 @@ module _ (image : Image) (layout : Layout) (entry : ℕ) (first : Instr)
       ∙ or-false (is_push_bp first.op && second) (is_enter first.op) (push-no_enter first.op push)
       ∙ ap (λ b. b && second) push
 
-  -- so it is told by what is found at the second offset
+  -- whether the procedure is framed is told by what is found at the second offset
   pub framed-second :
       is_push_bp first.op ≡ true → (next : ℕ) → next ≡ next_of entry first → (second : Option Instr)
       → (IsNode image layout entry next → second ≡ instruction_in image layout next)

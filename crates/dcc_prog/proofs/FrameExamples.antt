@@ -249,7 +249,7 @@ removing-takes =
     room.removed 2 (record { at = 0x0B; node = record { before = []; trail = refl }; stands = removing-stands }) in
     omega (arith, two))
 
--- and the word that the caller has pushed
+-- the word that the caller has pushed is passed
 removing-passed : IsPassedWord removing_image (layout_of removing) 5 0x06 (span_of (pos 0) 2)
 unfolding instruction_at table code_of word_at sign_extension_of signed_of vec_of
 removing-passed =

@@ -163,7 +163,7 @@ flat_image = record {
   sp = 0x0100;
 }
 
--- its prelude is empty
+-- the prelude of a program that loads no segment is empty
 flat-prelude : IsPrelude I8086 (code_of flat_image) 0 []
 unfolding instruction_at table word_at sign_extension_of signed_of code_of vec_of
 flat-prelude =

@@ -254,7 +254,7 @@ accumulator-kept byte_width layout instr s steps clear =
     (or-none (writes_half instr.op Ax Low) (writes_half instr.op Ax High) clear).0
 accumulator-kept word_width layout instr s steps clear = word-kept layout instr s Ax steps clear
 
--- it keeps what is divided
+-- an instruction that keeps what is divided leaves the upper half as it was
 kept-by :
     (division : UnaryName) (w : Width) (layout : Layout) (instr : Instr) (s : State) → IsStep layout instr s
     → keeps_dividend division w instr.op ≡ true → HasUpper division w s → HasUpper division w (step layout.cpu s)

@@ -178,7 +178,7 @@ prelude-of cpu code entry =
     let stop : NoFormAt cpu code (offset_after entry (c.front ++ c.rest)) = subst (λ l. NoFormAt cpu code (offset_after entry l)) c.joins whole.2 in
     (c.front, prelude-is cpu code entry c.front c.rest run stop c.ends c.none)
 
--- and just one
+-- each code has just one prelude
 pub prelude-once : (cpu : Cpu) (code : List ℕ) (entry : ℕ) (prelude other : List Instr) → IsPrelude cpu code entry prelude → IsPrelude cpu code entry other → prelude ≡ other
 prelude-once cpu code entry prelude other p q =
     let le = p.longest other q.run q.ends in

@@ -17,7 +17,7 @@ offset_in zero run at = at
 offset_in (suc k) [] at = at
 offset_in (suc k) (instr ∷ rest) at = offset_in k rest (at + instr.len)
 
--- it is the end of the run's front
+-- the offset of an instruction of a run is the end of the run's front before it
 pub offset-taken : (k : ℕ) (run : List Instr) (at : ℕ) → offset_in k run at ≡ offset_after at (take k run)
 offset-taken zero run at = refl
 offset-taken (suc k) [] at = refl
@@ -75,7 +75,7 @@ run-above cpu code run at r =
     let above = offset-above cpu code (length run) run at r in
     omega (arith, above, offset-end run at)
 
--- they lie before the run's end
+-- the offsets of a run's instructions lie before the run's end
 pub offset-before_end : (cpu : Cpu) (code : List ℕ) (k : ℕ) (run : List Instr) (at : ℕ) → IsRun cpu code at run → k < length run → offset_in k run at < offset_after at run
 offset-before_end cpu code k run at r inside =
     let up = offset-ascends cpu code k (length run) run at r inside (omega arith) in

@@ -51,7 +51,7 @@ form-step cpu (PlainOp Sti) at other s t h = refl
 form-step cpu (PlainOp Cld) at other s t h = refl
 form-step cpu _ at other s t h = cc
 
--- it leaves CS
+-- an operation of a prelude leaves CS
 pub form-code : (cpu : Cpu) (op : Op) (at : ℕ) (s : State) → is_prelude_form op ≡ true → code_segment (op_step cpu op at s) ≡ code_segment s
 form-code cpu (Mov (Word r) (Const width c)) at s h = refl
 form-code cpu (Mov (Byte r half) (Const width c)) at s h = refl
@@ -71,7 +71,7 @@ form-code cpu (PlainOp Sti) at s h = refl
 form-code cpu (PlainOp Cld) at s h = refl
 form-code cpu _ at s h = cc
 
--- it leaves DS, unless it writes it
+-- an operation of a prelude leaves DS, unless it writes it
 form-data : (cpu : Cpu) (op : Op) (at : ℕ) (s : State) → is_prelude_form op ≡ true → writes_ds op ≡ false → data_segment (op_step cpu op at s) ≡ data_segment s
 form-data cpu (Mov (Word r) (Const width c)) at s h idle = refl
 form-data cpu (Mov (Byte r half) (Const width c)) at s h idle = refl

@@ -14,7 +14,7 @@ use Rattle.dcc_prog.specs.Refused.{PassesLimit, IsSound, IsUnsound, has_construc
 use Rattle.dcc_prog.proofs.LayoutLaws.{layout-once}
 
 module _ (image : Image) (layout : Layout) (has : HasLayout image layout) where
-  -- a layout that holds on the same processor is this one
+  -- two layouts of an image that hold on one processor are the same
   same_layout : (other : Layout) → other.cpu ≡ layout.cpu → HasLayout image other → other ≡ layout
   same_layout other runs_on other_has = layout-once image layout other runs_on has other_has
 

@@ -56,7 +56,7 @@ bounded layout sp low =
     ap (λ n. is_low layout (pos n)) same
     ∙ ap₂ (λ a b. a || b) (lt-leb (suc sp) 0 (omega arith)) (lt-leb (suc (sp + layout.delta)) layout.lo above)
 
--- so an operation that doesn't write SP leaves it in its bounds, where it lies in them
+-- an operation that doesn't write SP leaves it in its bounds, where it lies in them
 pub unwritten-bounds : (layout : Layout) (op : Op) (s : State) → writes_half op Sp Low ≡ false
     → layout.lo ≤ top_in layout s
     → is_low layout (sp_after op s) ≡ false

@@ -50,7 +50,7 @@ pub length-marks : (mark : Bool) (offsets : List ℕ) (marks : List Bool)
 length-marks mark [] marks = refl
 length-marks mark (at ∷ rest) marks = length-marks mark rest (slice_set marks at mark) ∙ length-set marks at mark
 
--- those that are of that kind already stay
+-- offsets that are marked that way already stay so
 marks-keep : (mark : Bool) (offsets : List ℕ) (marks : List Bool) (offset : ℕ) → offset < length marks
     → is_marked marks offset ≡ mark
     → is_marked (with_marks mark offsets marks) offset ≡ mark
@@ -72,7 +72,7 @@ in_rest x y xs (k, inside, is) = (suc k, omega (arith, inside), is)
 pub at_head : (x y : ℕ) (xs : List ℕ) → x ≡ y → Contains (x ∷ xs) y
 at_head x y xs same = (0, omega arith, same)
 
--- those of the list are of that kind afterwards
+-- the offsets of the list are marked that way afterwards
 marks-take : (mark : Bool) (offsets : List ℕ) (marks : List Bool) (offset : ℕ) → offset < length marks
     → Contains offsets offset
     → is_marked (with_marks mark offsets marks) offset ≡ mark

@@ -213,7 +213,7 @@ module _ (image : Image) (program : Program) (loaded : IsLoaded image) (has : Ha
   before_its_end (suc k) less =
       let some : 0 < suc k = omega arith in subst IsBefore (sym (in_the_prelude (suc k) some less)) in_prelude
 
-  -- and after it in the procedure that begins there
+  -- after the prelude the run is in the procedure that begins there
   pub past_the_prelude : (watch_at (length has.prelude)).stage ≡ InProcedures (first_stack program.layout (machine_run (length has.prelude)))
   past_the_prelude =
       let some = prelude-some image program.layout loaded has in
@@ -239,7 +239,7 @@ module _ (image : Image) (program : Program) (loaded : IsLoaded image) (has : Ha
       not_foul_before program k (length has.prelude) (first_watch image input) le
       (ap (λ stage. is_foul (at_stage (watch_at (length has.prelude)).machine stage)) past_the_prelude)
 
-  -- so its steps are the machine's
+  -- up to the prelude's end the steps of the watched run are the machine's
   pub machine_at : (k : ℕ) → k ≤ length has.prelude → (watch_at k).machine ≡ machine_run k
   machine_at k le = machine_after program k (first_watch image input) (prelude_clean k le)
 

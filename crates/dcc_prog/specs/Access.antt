@@ -35,10 +35,10 @@ pub data Kind : Type 0 where
   OfStack : Kind
   -- a memory operand at BP plus a displacement, without an index
   OfFrame : Kind
-  -- any other: another memory operand, the byte of XLAT, the word of a table, the string of a DOS call
+  -- another access: a memory operand elsewhere, the byte of XLAT, the word of a table, the string of a DOS call
   Other : Kind
 
--- so many bytes from an offset in a segment on
+-- an access: `size` bytes from an offset in a segment on, read or written
 pub record Access : Type 0 where
   pub direction : Direction
   pub kind : Kind
@@ -113,7 +113,7 @@ other_read segment offset size =
 abbrev pub string_size : State → ℕ
 string_size s = min (length (dos_string s) + 1) STRING_MOST
 
--- the call of that number
+-- the accesses of INT 21h by the number of the call: call 09h reads its string
 abbrev pub dos_accesses : ℕ → State → List Access
 dos_accesses number s = if number == PUTS then other_read (data_segment s) (word_in s Dx) (string_size s) ∷ [] else []
 
@@ -144,7 +144,8 @@ accesses (Ret count) s = stack_access Reading (word_in s Sp) s ∷ []
 accesses Int21 s = dos_accesses (word_in s Ax / 256) s
 accesses op s = []
 
--- those of the instruction that was found, and of a step; a state that has ended makes none
+-- The accesses of the instruction that was found, with the instruction pointer after it. `step_accesses`: the accesses
+-- of a step; a state that has ended makes none.
 abbrev pub found_accesses : Option Instr → State → List Access
 found_accesses None s = []
 found_accesses (Some instr) s = accesses instr.op (record s { ip = (s.ip + instr.len) % 65536 })
@@ -163,7 +164,7 @@ address_in access k = physical access.segment ((access.offset + k) % 65536)
 abbrev pub addresses_of : Access → List ℕ
 addresses_of access = map (address_in access) (range_with_len 0 access.size)
 
--- those of an access that reads, and of one that writes
+-- the addresses of an access, if it reads; `written_in`: if it writes
 abbrev pub read_in : Direction → List ℕ → List ℕ
 read_in Reading addresses = addresses
 read_in Writing addresses = []
@@ -187,7 +188,7 @@ abbrev pub fetched_size : Option Instr → ℕ
 fetched_size None = 6
 fetched_size (Some instr) = instr.len
 
--- the physical addresses of so many bytes of the code, from the instruction pointer on
+-- the physical addresses of `size` bytes of the code, from the instruction pointer on
 abbrev pub code_addresses : State → ℕ → List ℕ
 code_addresses s size = map (λ k. physical (code_segment s) ((s.ip + k) % 65536)) (range_with_len 0 size)
 
@@ -203,7 +204,7 @@ step_reads cpu s = if is_over s.end then [] else found_reads (instruction_at cpu
 abbrev pub with_memory : List ℕ → State → State
 with_memory memory s = record s { memory = memory }
 
--- two memories hold the same at these addresses
+-- two memories hold the same bytes at the given physical addresses
 abbrev pub AgreeAt : List ℕ → List ℕ → List ℕ → Type 0
 AgreeAt addresses memory other =
     (address : ℕ) → Contains addresses address → slice_index memory address ≡ slice_index other address
@@ -213,7 +214,7 @@ pub record Store : Type 0 where
   pub address : ℕ
   pub byte : ℕ
 
--- memory after these bytes were stored in it, one after another
+-- memory after a list of bytes was stored in it, one after another
 abbrev pub stored : List Store → List ℕ → List ℕ
 stored [] memory = memory
 stored (store ∷ rest) memory = stored rest (slice_set memory store.address store.byte)
@@ -227,6 +228,6 @@ pub record ActsBy (reads writes : List ℕ) (act : State → State) (s : State) 
       (memory : List ℕ) → AgreeAt reads memory s.memory
       → act (with_memory memory s) ≡ with_memory (stored stores memory) (act s)
 
--- it acts by a list of accesses
+-- an act reads and writes memory as a list of accesses tells
 abbrev pub ActsByAccesses : List Access → (State → State) → State → Type 0
 ActsByAccesses list act s = ActsBy (read_by list) (written_by list) act s

@@ -25,7 +25,8 @@ abbrev pub AgreeIn : Location → State → State → Type 0
 AgreeIn (half_of r half) s t = half_in s r half ≡ half_in t r half
 AgreeIn (flag_of flag) s t = flag_in s.flags flag ≡ flag_in t.flags flag
 
--- and in all that is no location
+-- two states agree in all that is no location, but for memory: segment registers, the instruction pointer, the console
+-- and the end
 pub record AgreeOutside (s t : State) : Type 0 where
   pub segs : s.segs ≡ t.segs
   pub ip : s.ip ≡ t.ip
@@ -33,7 +34,7 @@ pub record AgreeOutside (s t : State) : Type 0 where
   pub events : s.events ≡ t.events
   pub end : s.end ≡ t.end
 
--- and in the stack, in its place and in memory
+-- two states agree in all that is no location, in memory, and in where SP and BP point
 pub record AgreeBeside (s t : State) : Type 0 where
   pub outside : AgreeOutside s t
   pub memory : s.memory ≡ t.memory
@@ -79,20 +80,20 @@ is_pushed_of (Push (Word r)) half (half_of q other) = is_same_register q r && is
 is_pushed_of (Push a) half location = is_in_address_of location a
 is_pushed_of op half location = false
 
--- the physical address of a half of that word
+-- the physical address of a half of the word that a PUSH stores
 abbrev pub pushed_at : State → Half → ℕ
 pushed_at s Low = physical (stack_segment s) ((word_in s Sp + 65534) % 65536)
 pushed_at s High = physical (stack_segment s) (((word_in s Sp + 65534) % 65536 + 1) % 65536)
 
 -- Two steps from states that agree outside of locations: the first law.
 
--- what they need agree in: all that the location is made of, and itself where it may keep what it held
+-- two states agree in all that the location is made of, and in the location itself where it may keep what it held
 pub record AreAlikeFor (op : Op) (number : Option ℕ) (s t : State) (to : Location) : Type 0 where
   pub made : (from : Location) → makes op to from ≡ true → AgreeIn from s t
   pub passed : passes op number to ≡ true → AgreeIn to s t
   pub divided : (from : Location) → divides_by op from ≡ true → AgreeIn from s t
 
--- where the run goes on they agree in the location
+-- where the run goes on, two states that are alike for a location agree in it after the step
 abbrev pub WhatIsMadeAlikeIsAlike : Type 0
 WhatIsMadeAlikeIsAlike =
     (cpu : Cpu) (op : Op) (at : ℕ) (number : Option ℕ) (s t : State) (to : Location)
@@ -100,9 +101,10 @@ WhatIsMadeAlikeIsAlike =
     → IsCallNumber op number s → IsCallNumber op number t → AreAlikeFor op number s t to
     → is_over (op_step cpu op at s).end ≡ false → AgreeIn to (op_step cpu op at s) (op_step cpu op at t)
 
--- The second law: where they agree in all that the operation uses, the steps show no difference.
+-- The second law: where two states agree in all that the operation uses, the steps show no difference.
 
--- memory is the same but for the word that is pushed, and that too where it is made of what agrees
+-- After steps from two states, all that is no location is alike, and memory is the same but for the word that a PUSH
+-- stores, and that word too where what it is made of agrees.
 pub record AreAlikeOutside (op : Op) (s t after other : State) : Type 0 where
   pub outside : AgreeOutside after other
   pub memory : is_push op ≡ false → after.memory ≡ other.memory
@@ -120,13 +122,14 @@ WhatIsUsedAlikeShowsAlike =
     → ((from : Location) → uses op number from ≡ true → AgreeIn from s t)
     → AreAlikeOutside op s t (op_step cpu op at s) (op_step cpu op at t)
 
--- The same of two states that differ in one location alone.
+-- Two states that differ in one location alone.
 
 pub record AgreeBut (location : Location) (s t : State) : Type 0 where
   pub beside : AgreeBeside s t
   pub others : (other : Location) → ¬ (other ≡ location) → AgreeIn other s t
 
--- the difference goes to what is made of the location, and stays where that isn't surely written
+-- where two states differ in one location, after the step they differ in what is made of it alone, and in the location
+-- itself where that isn't surely written
 pub record OneLocationChangesWhatIsMadeOfIt : Type 0 where
   pub locations :
       (cpu : Cpu) (op : Op) (at : ℕ) (number : Option ℕ) (s t : State) (location to : Location)

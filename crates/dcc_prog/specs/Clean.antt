@@ -42,7 +42,7 @@ frame_in _ _ entry = None
 abbrev pub frame_of : Program → LiveFrame → Option Frame
 frame_of program live = frame_in program.procs.items program.cells.frames.items live.entry
 
--- the offset after its arguments
+-- the offset after a frame's arguments
 abbrev pub end_of : Program → LiveFrame → ℕ
 end_of program live = elim (frame_of program live) [ None ↦ live.base | Some frame ↦ live.base + 2 * frame.args ]
 
@@ -86,7 +86,7 @@ stack_offset layout address =
     Some (address - layout.ds * 16)
     else None
 
--- those that accesses touch, in their order
+-- the offsets of the stack bytes that accesses touch, in their order
 abbrev pub stack_bytes : Layout → List Access → List ℕ
 stack_bytes layout list = filter_map (stack_offset layout) (flat_map addresses_of list)
 
@@ -172,7 +172,7 @@ frames_after (Call target) top frames = (record { entry = target; base = top }) 
 frames_after (Ret count) top frames = drop 1 frames
 frames_after op top frames = frames
 
--- these offsets are marked, or no longer marked
+-- the marks after the offsets were marked, or after their marks were taken off
 abbrev pub with_marks : Bool → List ℕ → List Bool → List Bool
 with_marks mark [] marks = marks
 with_marks mark (offset ∷ rest) marks = with_marks mark rest (slice_set marks offset mark)
@@ -181,8 +181,9 @@ with_marks mark (offset ∷ rest) marks = with_marks mark rest (slice_set marks 
 abbrev pub stored_bytes : Layout → List Access → List ℕ
 stored_bytes layout list = stack_bytes layout (filter (λ access. not (is_reading access)) list)
 
--- Those that a step stores are written; after that those that SP rises past, from the first offset up to the second,
--- are so no longer. So a word that is popped into itself is not written afterwards.
+-- The marks of written bytes after a step: the bytes that the step stores are written; after that the bytes that SP
+-- rises past, from its offset before the step up to the one after it, are so no longer. A word that is popped into
+-- itself is not written afterwards.
 abbrev pub written_after : Layout → List Access → ℕ → ℕ → List Bool → List Bool
 written_after layout list from to written =
     with_marks false (range_with_len from (to - from)) (with_marks true (stored_bytes layout list) written)

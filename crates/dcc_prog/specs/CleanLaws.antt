@@ -34,7 +34,7 @@ use Rattle.dcc_prog.specs.Watch.{Stage, InProcedures, next_instruction, watched_
 abbrev pub machine_after : Program → Image → List ℕ → ℕ → State
 machine_after program image input n = after (step program.layout.cpu) n (start_state image input)
 
--- where its watched run stands then
+-- where the watched run of the program stands after `n` steps
 abbrev pub stage_at : Program → Image → List ℕ → ℕ → Stage
 stage_at program image input n = (state (watched_machine program) n (first_watch image input)).stage
 
@@ -59,13 +59,15 @@ pub record UsesNoStack (layout : Layout) (s : State) (instr : Instr) : Type 0 wh
   pub frames : moves_frames instr.op ≡ false
   pub bounds : is_low layout (sp_after instr.op s) ≡ false
 
--- the next step of the machine, if it makes one, is such an instruction's
+-- the next instruction of the machine, if it makes a step, touches no byte of the stack, is no CALL or RET, and would
+-- leave SP in its bounds
 abbrev pub NextUsesNoStack : Layout → State → Type 0
 NextUsesNoStack layout s =
     is_over s.end ≡ false → (instr : Instr) → next_instruction layout.cpu s ≡ Some instr → UsesNoStack layout s instr
 
--- The step is clean, and leaves the frames; it leaves the marks too where SP doesn't rise, or nothing is marked. So
--- where each step from the prelude's end on is such a one, the run is clean, and the stack is as it was there.
+-- A step that uses no stack is clean, and leaves the frames; it leaves the marks too where SP doesn't rise, or nothing
+-- is marked. Where each step from the prelude's end on uses no stack, the run is clean, and the stack is as it was
+-- there.
 pub record WhatUsesNoStackIsClean : Type 0 where
   pub clean :
       (program : Program) (stack : Stack) (s : State) (instr : Instr) → UsesNoStack program.layout s instr
@@ -113,7 +115,7 @@ tells_sp (Mov (Word Sp) (Word Bp)) = true
 tells_sp (Lea Sp ea) = is_direct ea
 tells_sp op = is_sp_move op || (not (writes_half op Sp Low) && not (writes_half op Sp High))
 
--- it is so, modulo 65,536
+-- SP after an operation is what `sp_after` tells, modulo 65,536, where `tells_sp` holds
 abbrev pub SpIsAsTold : Type 0
 SpIsAsTold =
     (cpu : Cpu) (op : Op) (at : ℕ) (s : State) → IsOperation op → IsState s → tells_sp op ≡ true
@@ -137,7 +139,8 @@ pub record IsStoredSince (layout : Layout) (run : ℕ → State) (n offset : ℕ
   pub stored : IsStoredBy layout (run at) offset
   pub kept : (k : ℕ) → at ≤ k → k < n → ¬ IsLeftBehind layout (run k) (run (suc k)) offset
 
--- in every run, as long as it isn't stopped, these bytes are marked, and no others
+-- in every run, as long as it isn't stopped, just the bytes are marked that its steps have stored since SP last left
+-- them behind
 abbrev pub StoredBytesAreMarked : Type 0
 StoredBytesAreMarked =
     (program : Program) (image : Image) (input : List ℕ) (n : ℕ) (stack : Stack) → IsLoaded image

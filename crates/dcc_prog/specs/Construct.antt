@@ -43,7 +43,7 @@ IsIndirectJump code at = HasIndirect code at 4 ⊎ HasIndirect code at 5
 abbrev pub IsIndirectCall : List ℕ → ℕ → Type 0
 IsIndirectCall code at = HasIndirect code at 2 ⊎ HasIndirect code at 3
 
--- a jump through a table ends a trail, whose last instructions tell N, or don't
+-- a jump through a table ends a trail, whose last instructions tell the greatest number N of its index, or don't
 pub record HasNumber (image : Image) (layout : Layout) (entry at : ℕ) (number : Option ℕ) : Type 0 where
   pub before : List ℕ
   pub trail : IsTrail image layout entry (at ∷ before)
@@ -88,13 +88,14 @@ is_system (Mov to from) = is_segment to || is_segment from
 is_system (PlainOp operation) = is_control operation
 is_system op = false
 
--- no instruction of the table lies in the code there, and no indirect jump or call stands there
+-- no instruction of the table of encodings lies in the code at the offset, and no indirect jump or call stands there
 pub record IsUnknown (image : Image) (layout : Layout) (at : ℕ) : Type 0 where
   pub none : instruction_in image layout at ≡ None
   pub no_jump : ¬ IsIndirectJump (code_within image layout) at
   pub no_call : ¬ IsIndirectCall (code_within image layout) at
 
--- an instruction of the prelude's kind stands there, or one that uses SP or BP in no form that is allowed at any height
+-- at the offset stands an instruction that only a prelude may have, or one that uses SP or BP in no form that is
+-- allowed at any height
 pub record IsForeign (image : Image) (layout : Layout) (entry at : ℕ) : Type 0 where
   pub op : Op
   pub stands : StandsAt image layout at op
@@ -102,7 +103,7 @@ pub record IsForeign (image : Image) (layout : Layout) (entry at : ℕ) : Type 0
 
 -- Kind 5: the number of a DOS call.
 
--- the five numbers that are known
+-- the numbers of the five DOS calls that are known
 abbrev pub is_dos_number : ℕ → Bool
 is_dos_number number =
     (number == GETCHE) || (number == PUTC) || (number == GETCH) || (number == PUTS) || (number == EXIT)
@@ -140,7 +141,7 @@ pub data ReturnsFromEntry (image : Image) (layout : Layout) (entry at : ℕ) : T
 
 -- All kinds.
 
--- a construct of this kind stands at a node of the procedure with this entry: those that trails tell
+-- a construct of this kind, one of those that trails tell, stands at a node of the procedure with this entry
 pub data IsAtNode (image : Image) (layout : Layout) (entry at : ℕ) : ℕ → Type 0 where
   unknown : IsUnknown image layout at → IsAtNode image layout entry at OUTSIDE
   foreign : IsForeign image layout entry at → IsAtNode image layout entry at OUTSIDE
@@ -151,24 +152,25 @@ pub data IsAtNode (image : Image) (layout : Layout) (entry at : ℕ) : ℕ → T
   entry_return : ReturnsFromEntry image layout entry at → IsAtNode image layout entry at ENTRY_RETURN
   division : IsUnprepared image layout entry at → IsAtNode image layout entry at DIVISION
 
--- those that heights tell there
+-- a construct of this kind, one of those that heights tell, stands at a node of the procedure with this entry
 pub data IsAtHeight (image : Image) (layout : Layout) (entry at : ℕ) : ℕ → Type 0 where
   misplaced : IsMisplaced image layout entry at → IsAtHeight image layout entry at OUTSIDE
   bad_height : HasBadHeight image layout entry at → IsAtHeight image layout entry at HEIGHTS
 
--- those that the frame tells there
+-- a construct of this kind, one of those that the frame tells, stands at a node of the procedure with this entry
 pub data IsAtFrame (image : Image) (layout : Layout) (entry at : ℕ) : ℕ → Type 0 where
   bad_access : HasBadAccess image layout entry at → IsAtFrame image layout entry at FRAME_ACCESS
   short_call : IsShortCall image layout entry at → IsAtFrame image layout entry at ARGUMENTS_SHORT
 
--- something stands at a node of some procedure that is reached
+-- the relation of entries and offsets holds at a node of some procedure that is reached
 pub record IsAtSomeNode (image : Image) (layout : Layout) (Stands : ℕ → ℕ → Type 0) (at : ℕ) : Type 0 where
   pub entry : ℕ
   pub is_entry : IsEntry image layout entry
   pub node : IsNode image layout entry at
   pub stands : Stands entry at
 
--- a construct of this kind stands at the offset: as trails tell it, as heights do, or as a frame does
+-- a construct of this kind stands at the offset, as trails tell it; `IsOfHeights`: as heights tell it; `IsOfFrames`:
+-- as a frame tells it
 abbrev pub IsOfTrails : ℕ → Image → Layout → ℕ → Type 0
 IsOfTrails kind image layout = IsAtSomeNode image layout (λ entry at. IsAtNode image layout entry at kind)
 

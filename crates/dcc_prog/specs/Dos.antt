@@ -9,7 +9,7 @@ use Rattle.dcc_num.specs.declared.dos.TheConstants.{GETCHE, PUTC, GETCH, PUTS, E
 use Rattle.dcc_prog.specs.Machine.{State, word_in, data_segment, byte_in}
 use Rattle.dcc_prog.specs.Operations.{with_end, with_al}
 
--- the bytes in a segment from an offset on, which wraps, so many of them
+-- the bytes in a segment from an offset on, which wraps, `count` of them
 unfoldable pub bytes_from : State → ℕ → ℕ → ℕ → List ℕ
 bytes_from s segment offset count =
     map (λ k. byte_in s segment ((offset + k) % 65536)) (range_with_len 0 count)
@@ -22,11 +22,11 @@ is_not_dollar byte = not (byte == STRING_END)
 unfoldable pub dos_string : State → List ℕ
 dos_string s = take_while is_not_dollar (bytes_from s (data_segment s) (word_in s Dx) STRING_MOST)
 
--- these things have happened at the console
+-- the state after these events at the console
 abbrev pub after_events : List Event → State → State
 after_events happened s = record s { events = s.events ++ happened }
 
--- the bytes are written
+-- the state after these bytes were written
 abbrev pub after_write : List ℕ → State → State
 after_write bytes s = after_events (writes bytes) s
 
@@ -34,7 +34,7 @@ after_write bytes s = after_events (writes bytes) s
 abbrev pub key_events : Bool → ℕ → List Event
 key_events echo byte = Took byte ∷ writes (if echo then byte ∷ [] else [])
 
--- AL takes the next of these input bytes; where there is none, the input's end is met, and AL takes 1Ah
+-- AL takes the next of the input bytes that are left; where there is none, the input's end is met, and AL takes 1Ah
 abbrev pub with_key : Bool → List ℕ → State → State
 with_key echo [] s = after_events (MetEnd ∷ []) (with_al END_OF_INPUT s)
 with_key echo (byte ∷ rest) s = after_events (key_events echo byte) (with_al byte (record s { input = rest }))

@@ -26,7 +26,7 @@ pub record IsNodeFound (image : Image) (layout : Layout) (entry : ℕ) (found : 
       → known_ah image layout before ≡ found.1.number
   pub no_number : ¬ (found.1.instr.op ≡ Int21) → found.1.number ≡ None
 
--- an offset is among these nodes
+-- an offset is among the nodes
 pub record IsListed (nodes : List (ℕ × Node)) (at : ℕ) : Type 0 where
   pub node : Node
   pub place : ℕ
@@ -38,7 +38,7 @@ pub record IsFound (image : Image) (layout : Layout) (proc : Proc) : Type 0 wher
   pub ascending : AllPairs (λ (a b : ℕ × Node). a.0 < b.0) proc.nodes.entries
   pub every : (at : ℕ) → IsNode image layout proc.entry at → IsListed proc.nodes.entries at
 
--- a procedure with that entry is among these
+-- a procedure with that entry is among the procedures
 pub record HasEntry (procs : List Proc) (entry : ℕ) : Type 0 where
   pub proc : Proc
   pub place : ℕ
@@ -54,7 +54,7 @@ pub record AreInOrder (layout : Layout) (procs : List Proc) : Type 0 where
   pub apart : All (λ proc. proc.entry ≢ layout.start_ip) others
   pub ascending : AllPairs (λ (a b : Proc). a.entry < b.entry) others
 
--- these are just the procedures that are reached, in order, each with just its nodes; no construct that trails tell
+-- the list has just the procedures that are reached, in order, each with just its nodes; no construct that trails tell
 -- stands anywhere, and no count is too great
 pub record AreFound (image : Image) (layout : Layout) (procs : List Proc) : Type 0 where
   pub order : AreInOrder layout procs

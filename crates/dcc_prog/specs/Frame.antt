@@ -23,7 +23,7 @@ pub record Span : Type 0 where
   pub first : ℤ
   pub end : ℤ
 
--- so many bytes from an offset on
+-- `size` bytes of a frame from an offset on
 abbrev pub span_of : ℤ → ℕ → Span
 span_of first size = record { first = first; end = first +ℤ pos size }
 
@@ -44,7 +44,7 @@ abbrev pub memory_of : Operand → Option (Width × Ea)
 memory_of (Mem width ea) = Some (width, ea)
 memory_of operand = None
 
--- that of either of two operands, of which one at most lies in memory
+-- the memory operand among two operands, of which one at most lies in memory
 abbrev pub memory_of_two : Operand → Operand → Option (Width × Ea)
 memory_of_two a b = if is_some (memory_of a) then memory_of a else memory_of b
 
@@ -76,8 +76,8 @@ pub data IsDirectAccess (image : Image) (layout : Layout) (entry at : ℕ) : Spa
       → is_direct ea ≡ true
       → IsDirectAccess image layout entry at (span_of (offset_in_frame ea) (bytes_in width))
 
--- From this byte on addresses may be computed: by LEA of another register than SP from an address with BP, by an
--- operand with BP and an index, or by `mov r,bp`, which exposes all bytes between SP and BP.
+-- From this byte on an instruction lets addresses be computed: LEA of another register than SP from an address with
+-- BP, an operand with BP and an index, or `mov r,bp`, which exposes all bytes between SP and BP.
 pub data StartsExposure (image : Image) (layout : Layout) (entry at : ℕ) : ℤ → Type 0 where
   by_lea :
       {r : _} {ea : Ea}
@@ -120,7 +120,7 @@ pub data IsMovedWord (image : Image) (layout : Layout) (entry at : ℕ) : Span �
 
 -- Arguments.
 
--- so many argument words have what every RET removes, and every byte from 4 on that a direct access or a start of
+-- `count` argument words have what every RET removes, and every byte from 4 on that a direct access or a start of
 -- exposure touches
 pub record HasRoom (image : Image) (layout : Layout) (entry count : ℕ) : Type 0 where
   pub removed : (bytes : ℕ) → ReachesRet image layout entry bytes → bytes / 2 ≤ count
@@ -131,7 +131,7 @@ pub record HasRoom (image : Image) (layout : Layout) (entry count : ℕ) : Type 
       (at : ℕ) (start : ℤ) → IsNode image layout entry at → StartsExposure image layout entry at start
       → start <ℤ pos (4 + 2 * count)
 
--- the number of a procedure's arguments: the least that has room; the entry procedure has none
+-- the number of a procedure's argument words: the least that has room; the entry procedure has none
 pub data HasArguments (image : Image) (layout : Layout) (entry : ℕ) : ℕ → Type 0 where
   of_start : entry ≡ layout.start_ip → HasArguments image layout entry 0
   of_procedure :
@@ -199,14 +199,15 @@ pub record IsCell (image : Image) (layout : Layout) (entry : ℕ) (cell : Span) 
   pub run : IsRunOfPieces image layout entry cell
   pub small : cell.end ≤ℤ (cell.first +ℤ pos 2)
 
--- a longer one isn't
+-- a run of more than two bytes, which is no cell
 pub record IsLongRun (image : Image) (layout : Layout) (entry : ℕ) (run : Span) : Type 0 where
   pub is_run : IsRunOfPieces image layout entry run
   pub long : (run.first +ℤ pos 2) <ℤ run.end
 
 -- Exposure.
 
--- the address of bytes from this one on may be computed: an instruction starts it, or a run of more than two bytes does
+-- the address of this byte and of those after it may be computed: an instruction exposes them from here on, or a run
+-- of more than two bytes begins here
 pub data IsExposureStart (image : Image) (layout : Layout) (entry : ℕ) : ℤ → Type 0 where
   by_instruction :
       {at : ℕ} {start : ℤ}
@@ -215,7 +216,7 @@ pub data IsExposureStart (image : Image) (layout : Layout) (entry : ℕ) : ℤ �
       → IsExposureStart image layout entry start
   by_run : {run : Span} → IsLongRun image layout entry run → IsExposureStart image layout entry run.first
 
--- so many bytes directly below BP are exposed: from the least start below BP on
+-- `count` bytes directly below BP are exposed: from the least start of exposure below BP on
 pub data HasExposedLocal (image : Image) (layout : Layout) (entry : ℕ) : ℕ → Type 0 where
   no_local :
       ((start : ℤ) → IsExposureStart image layout entry start → pos 0 ≤ℤ start)
@@ -282,7 +283,7 @@ pub data IsPlaced (image : Image) (layout : Layout) (entry : ℕ) (offset : ℤ)
       → offset <ℤ slot.end
       → IsPlaced image layout entry offset
 
--- Kind 7.
+-- Kind 7: bytes outside of the frame, and addresses that can't be told.
 
 -- the bytes aren't wholly in the arguments, and at a height not wholly between SP and BP
 pub record IsOutsideFrame (image : Image) (layout : Layout) (entry : ℕ) (height : ℤ) (span : Span) : Type 0 where
@@ -323,9 +324,9 @@ pub data HasBadAccess (image : Image) (layout : Layout) (entry at : ℕ) : Type 
       → span.end ≤ℤ run.end
       → HasBadAccess image layout entry at
 
--- Kind 8.
+-- Kind 8: a CALL with too few bytes of arguments.
 
--- a CALL finds fewer bytes of its own frame than the callee's arguments take: one of these has no room in it
+-- a CALL finds fewer bytes of its own frame than the callee's arguments take: one of the arguments has no room in it
 pub record IsShortCall (image : Image) (layout : Layout) (entry at : ℕ) : Type 0 where
   pub target : ℕ
   pub stands : StandsAt image layout at (Call target)

@@ -27,7 +27,7 @@ abbrev pub is_mov_bp_sp : Op → Bool
 is_mov_bp_sp (Mov (Word Bp) (Word Sp)) = true
 is_mov_bp_sp op = false
 
--- a `mov bp,sp` stands there
+-- the instruction that was found is `mov bp,sp`
 abbrev pub stands_mov_bp_sp : Option Instr → Bool
 stands_mov_bp_sp None = false
 stands_mov_bp_sp (Some instr) = is_mov_bp_sp instr.op
@@ -37,7 +37,7 @@ abbrev pub second_of : ℕ → Option Instr → ℕ
 second_of entry None = entry
 second_of entry (Some instr) = next_of entry instr
 
--- a `push bp` stands there
+-- the instruction that was found is `push bp`
 abbrev pub stands_push_bp : Option Instr → Bool
 stands_push_bp None = false
 stands_push_bp (Some instr) = is_push_bp instr.op
@@ -47,7 +47,7 @@ abbrev pub is_enter : Op → Bool
 is_enter (Enter count) = true
 is_enter op = false
 
--- an ENTER stands there
+-- the instruction that was found is ENTER
 abbrev pub stands_enter : Option Instr → Bool
 stands_enter None = false
 stands_enter (Some instr) = is_enter instr.op
@@ -58,14 +58,14 @@ begins_by_push image layout entry =
     stands_push_bp (instruction_in image layout entry)
     && stands_mov_bp_sp (instruction_in image layout (second_of entry (instruction_in image layout entry)))
 
--- or its first instruction is ENTER
+-- the procedure is framed: its first instructions are `push bp` and `mov bp,sp`, or its first instruction is ENTER
 abbrev pub is_framed : Image → Layout → ℕ → Bool
 is_framed image layout entry =
     begins_by_push image layout entry || stands_enter (instruction_in image layout entry)
 
 -- Uses of SP and BP.
 
--- the operand is SP or BP; no byte register is a half of these, and one that was would count as they do
+-- the operand is SP or BP; a half of one of them, which no byte register is, would count too
 abbrev pub is_sp_or_bp : Operand → Bool
 is_sp_or_bp (Word Sp) = true
 is_sp_or_bp (Word Bp) = true

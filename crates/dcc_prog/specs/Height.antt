@@ -45,8 +45,8 @@ pub data IsRemoved (image : Image) (layout : Layout) (entry : ℕ) : ℕ → Typ
   by_ret : {count : ℕ} → ReachesRet image layout entry count → IsRemoved image layout entry count
   without_ret : ((count : ℕ) → ¬ ReachesRet image layout entry count) → IsRemoved image layout entry 0
 
--- the height after an operation at an offset is the second one, where before it it is the first; there is none after
--- another operation than PUSH and POP that writes SP in a form that the procedure hasn't
+-- The height after an operation at an offset is the second one, where the height before it is the first. There is none
+-- after an operation other than PUSH and POP that writes SP in a form that the procedure hasn't.
 pub data MovesHeight (image : Image) (layout : Layout) (entry at : ℕ) : Op → ℤ → ℤ → Type 0 where
   push : {a : _} {height : ℤ} → MovesHeight image layout entry at (Push a) height (height +ℤ pos 2)
   pop : {a : _} {height : ℤ} → MovesHeight image layout entry at (Pop a) height (height -ℤ pos 2)
@@ -111,14 +111,14 @@ is_frame_work (Mov (Word Sp) (Word Bp)) = true
 is_frame_work (Lea Sp ea) = true
 is_frame_work op = false
 
--- the operation needs a frame that is set up: these, SUB of a constant from SP, a move of SP that lowers it,
--- `mov r,bp`, and an operand in the frame
+-- the operation needs a frame that is set up: PUSH, CALL, LEAVE, `mov sp,bp`, LEA of SP, SUB of a constant from SP, a
+-- move of SP that lowers it, `mov r,bp`, and an operand in the frame
 abbrev pub needs_frame : Op → Bool
 needs_frame op =
     is_frame_work op || is_sp_sub op || is_above_zero (lowering_of op) || copies_bp op || uses_bp_address op
 
--- In a framed procedure a form stands at a height at which it is none: one that needs the frame at height 0, or
--- `pop bp` at another height than 2. What sets the frame up, at the entry, is the one exception.
+-- In a framed procedure an operation stands at a height at which its form is none: one that needs the frame at height
+-- 0, or `pop bp` at another height than 2. What sets the frame up, at the entry, is the one exception.
 pub record IsMisplaced (image : Image) (layout : Layout) (entry at : ℕ) : Type 0 where
   pub framed : is_framed image layout entry ≡ true
   pub inner : at ≢ entry
@@ -128,9 +128,9 @@ pub record IsMisplaced (image : Image) (layout : Layout) (entry at : ℕ) : Type
   pub has : HasHeight image layout entry at height
   pub misplaced : ((height ≡ pos 0) × (needs_frame op ≡ true)) ⊎ ((op ≡ Pop (Word Bp)) × (height ≢ pos 2))
 
--- Kind 6.
+-- Kind 6: heights that no stack may have.
 
--- the greatest height
+-- the greatest height of a stack, in bytes
 abbrev pub greatest_height : ℕ
 greatest_height = 32766
 

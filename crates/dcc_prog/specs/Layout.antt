@@ -58,7 +58,8 @@ is_prelude_plain Sti = true
 is_prelude_plain Cld = true
 is_prelude_plain operation = false
 
--- the operation may stand in a prelude: these moves, sums and differences, SHL of a word register, CLI, STI, CLD, NOP
+-- the operation may stand in a prelude: MOV, ADD and SUB of the forms above, SHL of a word register, CLI, STI, CLD,
+-- NOP
 abbrev pub is_prelude_form : Op → Bool
 is_prelude_form (Mov to from) = is_prelude_move to from
 is_prelude_form (AluOp Add a b) = is_prelude_sum a b
@@ -100,7 +101,7 @@ pub record IsFormAt (cpu : Cpu) (code : List ℕ) (at : ℕ) (instr : Instr) : T
   pub found : instruction_at cpu at (drop at code) ≡ Some instr
   pub form : is_prelude_form instr.op ≡ true
 
--- such instructions stand one after another from an offset on
+-- instructions that may stand in a prelude stand one after another from an offset on
 abbrev pub IsRun : Cpu → List ℕ → ℕ → List Instr → Type 0
 IsRun cpu code at [] = Unit {0}
 IsRun cpu code at (instr ∷ rest) = IsFormAt cpu code at instr × IsRun cpu code (at + instr.len) rest
@@ -110,7 +111,7 @@ abbrev pub offset_after : ℕ → List Instr → ℕ
 offset_after at [] = at
 offset_after at (instr ∷ rest) = offset_after (at + instr.len) rest
 
--- there is no instruction, or a prelude may end after the last one
+-- the list is empty, or a prelude may end after its last instruction
 abbrev pub ends_prelude : List Instr → Bool
 ends_prelude [] = true
 ends_prelude (instr ∷ []) = may_end_prelude instr.op
@@ -123,7 +124,7 @@ pub record IsPrelude (cpu : Cpu) (code : List ℕ) (entry : ℕ) (prelude : List
   pub longest : (other : List Instr) → IsRun cpu code entry other → ends_prelude other ≡ true
       → length other ≤ length prelude
 
--- the machine after the prelude: that many steps from the start
+-- the machine's state after the prelude: as many steps from the start as the prelude has instructions
 unfoldable pub state_after : Cpu → Image → List Instr → State
 state_after cpu image prelude = after (step cpu) (length prelude) (start_state image [])
 

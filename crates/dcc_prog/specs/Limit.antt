@@ -8,20 +8,20 @@ use Rattle.dcc_prog.specs.Trail.{IsNode, IsEntry}
 use Rattle.dcc_prog.specs.Construct.{HasNumber}
 use Rattle.dcc_prog.specs.Frame.{HasArguments, IsCell}
 
--- there are at least so many different values of which the predicate holds
+-- there are at least `count` different values of which the predicate holds
 pub record HasMany {A : Type 0} (P : A → Type 0) (count : ℕ) : Type 0 where
   pub values : List A
   pub hold : All P values
   pub distinct : AllPairs (λ x y. x ≢ y) values
   pub count_is : length values ≡ count
 
--- the second number is a node of the reached procedure whose entry is the first
+-- the pair is the entry of a reached procedure and one of its nodes
 pub record IsNodeOf (image : Image) (layout : Layout) (place : ℕ × ℕ) : Type 0 where
   pub is_entry : IsEntry image layout place.0
   pub node : IsNode image layout place.0 place.1
 
--- the count of this name, as it is told, is above its greatest number; of the first three one more than that number
--- is told
+-- The count of this name is above its greatest number, and is told so: of procedures, of instructions of a procedure
+-- and of those of a program one more than the greatest number is told.
 pub data IsAbove (image : Image) (layout : Layout) : LimitName → ℕ → Type 0 where
   procedures : HasMany (IsEntry image layout) 513 → IsAbove image layout Procedures 513
   instructions :
@@ -37,7 +37,8 @@ pub data IsAbove (image : Image) (layout : Layout) : LimitName → ℕ → Type 
       → 256 ≤ number
       → IsAbove image layout Entries (number + 1)
 
--- the same of a procedure's frame: one more than 512 cells is told, or the number of its argument words
+-- a count of a procedure's frame is above its greatest number: of cells one more than 512 is told, of argument words
+-- their number
 pub data IsAboveInFrames (image : Image) (layout : Layout) : LimitName → ℕ → Type 0 where
   cells :
       {entry : ℕ}

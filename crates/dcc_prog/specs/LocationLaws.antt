@@ -26,8 +26,8 @@ flag_in flags Zf = flags.zf
 flag_in flags Sf = flags.sf
 flag_in flags Of = flags.of
 
--- What an operation doesn't write stays as it was. The table says of CALL that it may write all, for its procedure
--- does: its own step writes SP alone.
+-- What an operation doesn't write stays as it was. Of CALL the table of writes says that it may write all, since the
+-- called procedure may: the CALL's own step writes SP alone.
 pub record WhatIsNotWrittenStays : Type 0 where
   pub half :
       (cpu : Cpu) (op : Op) (at : ℕ) (s : State) (r : Reg) (half : Half) → IsOperation op → IsState s

@@ -8,7 +8,7 @@ use Rattle.dcc_prog.specs.StateForm.{HasRegisters}
 use Rattle.dcc_prog.specs.Access.{accesses, step_accesses, step_reads, read_by, written_by, with_memory, AgreeAt, ActsBy, ActsByAccesses}
 
 -- the accesses of an operation tell what its step takes from memory and does to it, and with the instruction's bytes
--- those of a step do
+-- they tell what a step of the machine does
 pub record StepsActByAccesses : Type 0 where
   pub operation :
       (cpu : Cpu) (op : Op) (at : ℕ) (s : State) → HasRegisters s → ActsByAccesses (accesses op s) (op_step cpu op at) s
@@ -16,7 +16,7 @@ pub record StepsActByAccesses : Type 0 where
       (cpu : Cpu) (s : State) → HasRegisters s
       → ActsBy (step_reads cpu s) (written_by (step_accesses cpu s)) (step cpu) s
 
--- memory changes at the writes alone: elsewhere it stays as it was
+-- an act changes memory at its writes alone: elsewhere memory stays as it was
 abbrev pub Leaves : List ℕ → (State → State) → State → Type 0
 Leaves writes act s =
     (address : ℕ) → ¬ Contains writes address → slice_index (act s).memory address ≡ slice_index s.memory address

@@ -47,7 +47,7 @@ header_cs file = word_at file 0x16
 abbrev pub relocation_table : List ℕ → ℕ
 relocation_table file = word_at file 0x18
 
--- the length of so many pages, whose last one holds so many bytes, or 512 where that number is 0
+-- the length of a number of pages, whose last one holds a number of bytes, or 512 where that is 0
 unfoldable pub pages_length : ℕ → ℕ → ℕ
 pages_length pages last = if last == 0 then pages * 512 else pages * 512 - (512 - last)
 
@@ -135,7 +135,7 @@ pub record IsImageOf (file : List ℕ) (image : Image) : Type 0 where
   pub ss : image.ss ≡ loaded_segment (header_ss file)
   pub sp : image.sp ≡ header_sp file
 
--- some file of bytes has this image
+-- the image is that of some file of bytes
 pub record IsLoaded (image : Image) : Type 0 where
   pub file : List ℕ
   pub bytes : All (λ b. b < 256) file
@@ -174,8 +174,8 @@ fault_number header_past_image = 4
 fault_number (bad_relocation i) = 5
 fault_number entry_outside = 6
 
--- the place that is told with it: the greatest length, the file's length, the offset of a word of the header,
--- or the number of the table's entry
+-- the place that is told with a fault: the greatest length, the file's length, the offset of a word of the header, or
+-- the number of the table's entry
 abbrev pub fault_place : FormatFault → ℕ
 fault_place too_large = 262144
 fault_place (short n) = n

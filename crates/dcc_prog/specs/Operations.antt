@@ -129,7 +129,7 @@ count_in cpu One s = 1
 count_in cpu Cl s = taken_count cpu (half_of_word Low (word_in s Cx))
 count_in cpu (ConstCount number) s = number % 32
 
--- RCL and RCR are by 1 alone
+-- the result of a shift or rotate by a count; RCL and RCR go by 1 alone
 abbrev pub shift_result : Shift → Width → ℕ → ℕ → Flags → ℕ × Flags
 shift_result Rol w a count was = left_rotation_of w a count was
 shift_result Ror w a count was = right_rotation_of w a count was
@@ -181,7 +181,7 @@ leave_step s = pop_step (Word Bp) (with_word_in s Sp (word_in s Bp))
 abbrev pub after_jump : ℕ → State → State
 after_jump target s = record s { ip = target }
 
--- to the target where so, else to the next instruction
+-- the state after a jump to the target where the condition holds, else to the next instruction
 abbrev pub after_jump_if : Bool → ℕ → State → State
 after_jump_if so target s = record s { ip = if so then target else s.ip }
 
@@ -208,7 +208,7 @@ loop_step also target s =
     let left = (word_in s Cx + 65535) % 65536 in
     after_jump_if (also && not (left == 0)) target (with_word_in s Cx left)
 
--- to the word in the code segment at a register plus an offset
+-- the state after a jump to the word in the code segment at a register plus an offset
 abbrev pub table_step : Reg → ℕ → State → State
 table_step r offset s = after_jump (word_at_offset s (code_segment s) ((word_in s r + offset) % 65536)) s
 
@@ -216,7 +216,7 @@ table_step r offset s = after_jump (word_at_offset s (code_segment s) ((word_in 
 abbrev pub call_step : ℕ → State → State
 call_step target s = after_jump target (after_push s.ip s)
 
--- to the word at the top of the stack; it and this many further bytes are removed
+-- the state after a return to the word at the top of the stack; that word and `count` further bytes are removed
 abbrev pub ret_step : ℕ → State → State
 ret_step count s = after_jump (top_word s) (with_sp_raised (2 + count) s)
 

@@ -51,13 +51,13 @@ abbrev pub writes_upper : Width → Op → Bool
 writes_upper byte_width op = writes_half op Ax High
 writes_upper word_width op = writes_half op Dx Low || writes_half op Dx High
 
--- the operation leaves the upper half, and for IDIV the whole that is divided, as it was
+-- the operation leaves the upper half of the dividend, and for IDIV the whole dividend, as it was
 abbrev pub keeps_dividend : Unary → Width → Op → Bool
 keeps_dividend Idiv width op = not (writes_ax op) && not (writes_upper width op)
 keeps_dividend operation width op = not (writes_upper width op)
 
--- the sole predecessor of an offset prepares the upper half, or it keeps the dividend and before it the half is
--- prepared
+-- the sole predecessor of an offset prepares the upper half for the division, or it keeps the dividend and the half is
+-- prepared before it
 pub data IsPrepared (image : Image) (layout : Layout) (entry : ℕ) (division : Unary) (width : Width) : ℕ → Type 0 where
   nearest :
       {at from : ℕ} {op : Op}

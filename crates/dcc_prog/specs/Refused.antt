@@ -35,26 +35,27 @@ pub data IsRefusedBy (Stands : ℕ → ℕ → Type 0) (Passes : LimitName → �
   limit : {what : LimitName} {count : ℕ} → Passes what count → IsRefusedBy Stands Passes (Limit what count)
   no_memory : IsRefusedBy Stands Passes Memory
 
--- it has nothing to tell that refuses the program
+-- one analysis has nothing to tell that refuses the program: no construct of those that it tells, and no count of its
+-- own above its greatest number
 pub record IsAcceptedBy (Stands : ℕ → ℕ → Type 0) (Passes : LimitName → ℕ → Type 0) : Type 0 where
   pub no_construct : (kind at : ℕ) → ¬ Stands kind at
   pub no_limit : (what : LimitName) (count : ℕ) → ¬ Passes what count
 
--- the search for procedures
+-- what the search for procedures may refuse the program for
 abbrev pub IsRefusedByTrails : Image → Layout → Refusal → Type 0
 IsRefusedByTrails image layout = IsRefusedBy (λ kind at. IsOfTrails kind image layout at) (IsAbove image layout)
 
 abbrev pub IsAcceptedByTrails : Image → Layout → Type 0
 IsAcceptedByTrails image layout = IsAcceptedBy (λ kind at. IsOfTrails kind image layout at) (IsAbove image layout)
 
--- the analysis of heights, which has no count
+-- what the analysis of heights, which has no count, may refuse the program for
 abbrev pub IsRefusedByHeights : Image → Layout → Refusal → Type 0
 IsRefusedByHeights image layout = IsRefusedBy (λ kind at. IsOfHeights kind image layout at) (λ what count. ⊥)
 
 abbrev pub IsAcceptedByHeights : Image → Layout → Type 0
 IsAcceptedByHeights image layout = IsAcceptedBy (λ kind at. IsOfHeights kind image layout at) (λ what count. ⊥)
 
--- the analysis of frames
+-- what the analysis of frames may refuse the program for
 abbrev pub IsRefusedByFrames : Image → Layout → Refusal → Type 0
 IsRefusedByFrames image layout =
     IsRefusedBy (λ kind at. IsOfFrames kind image layout at) (IsAboveInFrames image layout)
@@ -63,7 +64,7 @@ abbrev pub IsAcceptedByFrames : Image → Layout → Type 0
 IsAcceptedByFrames image layout =
     IsAcceptedBy (λ kind at. IsOfFrames kind image layout at) (IsAboveInFrames image layout)
 
--- nothing that any of the three tells refuses the program
+-- nothing that trails, heights or frames tell refuses the program
 pub record IsAcceptedByAll (image : Image) (layout : Layout) : Type 0 where
   pub trails : IsAcceptedByTrails image layout
   pub heights : IsAcceptedByHeights image layout

@@ -55,7 +55,7 @@ HasUpper Div width s = upper_in width s ≡ 0
 HasUpper Idiv width s = upper_in width s ≡ extension_of width (accumulator_in width s)
 HasUpper operation width s = Unit {0}
 
--- so it is before each division for which the half is prepared
+-- before each division for which it is prepared the upper half is 0, or repeats the sign of the lower one
 abbrev pub PreparedUpperIsHeld : Type 0
 PreparedUpperIsHeld =
     (file : List ℕ) (image : Image) (layout : Layout) (entry at : ℕ) (before : List ℕ) (s : State) (division : Unary)

@@ -115,7 +115,7 @@ row_displacement_size row bytes =
 abbrev pub head_length : Row → List ℕ → ℕ
 head_length row bytes = length row.pattern + row_displacement_size row bytes
 
--- how many bytes of a constant stand after them
+-- how many bytes of a constant stand after the first bytes and the displacement
 abbrev pub tail_size : ConstantPlace → ConstantForm → ℕ
 tail_size at_end form = constant_size form
 tail_size (at_index index) form = 0

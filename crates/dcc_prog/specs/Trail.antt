@@ -33,7 +33,7 @@ code_within image layout = take layout.code_end (code_of image)
 abbrev pub instruction_in : Image → Layout → ℕ → Option Instr
 instruction_in image layout at = instruction_at layout.cpu at (drop at (code_within image layout))
 
--- this operation stands at the offset
+-- an instruction with this operation stands at the offset, wholly in the code
 abbrev pub StandsAt : Image → Layout → ℕ → Op → Type 0
 StandsAt image layout at op = (instr : Instr) × (instruction_in image layout at ≡ Some instr) × (instr.op ≡ op)
 
@@ -109,7 +109,7 @@ abbrev pub is_test_to : Option Instr → ℕ → ℕ → Bool
 is_test_to None at to = false
 is_test_to (Some instr) at to = is_bounds_test instr.op (next_of at instr) to
 
--- N of the comparison at the end of a trail but for the bounds test, which goes on to an offset
+-- the N of the comparison with which a trail ends, but for a bounds test after it that goes on to the offset
 abbrev pub number_before_test : Image → Layout → (Option Op → Option ℕ) → ℕ → List ℕ → Option ℕ
 number_before_test image layout comparison to (test ∷ compare ∷ rest) =
     if is_test_to (instruction_in image layout test) test to then comparison (operation_in image layout compare)
@@ -124,14 +124,15 @@ greatest_in image layout r to (last ∷ before) =
     if clears_upper r (operation_in image layout last) then number_before_test image layout al_compared_with last before
     else number_before_test image layout (compared_with r) to (last ∷ before)
 
--- the same, where the last instruction of the trail is `shl r,1` after that
+-- The greatest number that r may hold before the `shl r,1` with which the trail ends: that of a comparison of r (or of
+-- AL, where r is AX) and a bounds test before it. None where the trail doesn't end with `shl r,1`.
 abbrev pub greatest_doubled : Image → Layout → Reg → List ℕ → Option ℕ
 greatest_doubled image layout r [] = None
 greatest_doubled image layout r (shift ∷ before) =
     if is_doubling r (operation_in image layout shift) then greatest_in image layout r shift before else None
 
--- N of a jump through a table by the register q, where the last instructions of the trail before it are these for q, or
--- these for another register r and then `mov q,r`
+-- N of a jump through a table by the register q: the trail before it ends with comparison, bounds test and `shl` of q,
+-- or with those of another register r and then `mov q,r`
 abbrev pub table_number : Image → Layout → Reg → List ℕ → Option ℕ
 table_number image layout q [] = None
 table_number image layout q (last ∷ before) = elim (moved_from q (operation_in image layout last)) [
@@ -209,7 +210,7 @@ pub record IsEdge (image : Image) (layout : Layout) (entry from to : ℕ) : Type
   pub before : List ℕ
   pub trail : IsTrail image layout entry (to ∷ from ∷ before)
 
--- one node alone has an edge to the other, which isn't the entry: to that one there is an edge from outside
+-- the first node alone has an edge to the second, which isn't the entry: to the entry there is an edge from outside
 pub record IsSolePredecessor (image : Image) (layout : Layout) (entry from to : ℕ) : Type 0 where
   pub edge : IsEdge image layout entry from to
   pub sole : (other : ℕ) → IsEdge image layout entry other to → other ≡ from

@@ -54,7 +54,7 @@ abbrev pub is_half_of_some : Location → Option Reg → Bool
 is_half_of_some location None = false
 is_half_of_some location (Some r) = is_half location r
 
--- it takes part in an address
+-- the location takes part in the address: it is a half of its base or of its index
 abbrev pub is_in_address : Location → Ea → Bool
 is_in_address location ea = is_half_of_some location ea.base || is_half_of_some location ea.index
 
@@ -62,7 +62,7 @@ abbrev pub is_in_address_of : Location → Operand → Bool
 is_in_address_of location (Mem width ea) = is_in_address location ea
 is_in_address_of location operand = false
 
--- both halves of a word are read, and the address of what lies in memory
+-- the location is read with the operand: it is the operand or a part of it, or takes part in its address
 abbrev pub is_read : Location → Operand → Bool
 is_read location operand = is_part location operand || is_in_address_of location operand
 
@@ -97,24 +97,25 @@ takes_carry Adc = true
 takes_carry Sbb = true
 takes_carry operation = false
 
--- the two are one general register, or one half of such a register
+-- the two operands are one general register, or one half of such a register
 abbrev pub is_same_general : Operand → Operand → Bool
 is_same_general (Word r) (Word q) = is_general r && is_same_register r q
 is_same_general (Byte r half) (Byte q other) = is_general r && (is_same_register r q && is_same_half half other)
 is_same_general a b = false
 
--- XOR and SUB of such a register with itself: the result is 0 whatever it held, and the flags are constants
+-- XOR and SUB of a general register, or of a half of one, with itself: the result is 0 whatever it held, and the flags
+-- are constants
 abbrev pub is_zeroing : Alu → Operand → Operand → Bool
 is_zeroing Xor a b = is_same_general a b
 is_zeroing Sub a b = is_same_general a b
 is_zeroing operation a b = false
 
--- the location takes a value that is no constant
+-- an operation on two operands gives the location a value that is no constant
 abbrev pub alu_makes : Alu → Operand → Location → Bool
 alu_makes operation a (half_of r half) = writes_operand operation && is_half_of r half a
 alu_makes operation a (flag_of flag) = not (is_logic operation && is_carry_or_overflow flag)
 
--- the same of operations on one operand; ZF and SF of a product are constants
+-- an operation on one operand gives the location a value that is no constant; ZF and SF of a product are constants
 abbrev pub unary_makes : Unary → Operand → Location → Bool
 unary_makes Mul a (half_of r half) = is_in_pair (operand_width a) r
 unary_makes Imul a (half_of r half) = is_in_pair (operand_width a) r
@@ -145,7 +146,7 @@ abbrev pub is_in_cl : Count → Bool
 is_in_cl Cl = true
 is_in_cl count = false
 
--- the count is in CL
+-- a shift or rotate takes its count from CL; RCL and RCR, which go by one place, don't
 abbrev pub is_by_cl : Shift → Count → Bool
 is_by_cl operation count = is_in_cl count && not (is_turn operation)
 
@@ -160,7 +161,7 @@ brings_carry operation (half_of r half) = is_turn operation
 brings_carry operation (flag_of Of) = is_turn operation
 brings_carry operation to = false
 
--- the operand is read for the location
+-- the value that a shift or rotate gives the location is made of the operand
 abbrev pub shift_reads : Shift → Location → Bool
 shift_reads operation (half_of r half) = true
 shift_reads operation (flag_of flag) = not (is_constant_flag operation flag)
@@ -176,7 +177,7 @@ shift_makes operation a count to from =
     || ((is_by_cl operation count && is_cl from)
     || (brings_carry operation to && is_flag Cf from)))
 
--- MOV goes half by half
+-- the value that MOV gives the first location is made of that of the second; between registers MOV goes half by half
 abbrev pub moves : Operand → Operand → Location → Location → Bool
 moves (Word r) (Word q) (half_of t half) (half_of s other) =
     is_same_register t r && (is_same_register s q && is_same_half half other)
@@ -192,16 +193,16 @@ plain_makes Xlat (half_of r half) from =
 plain_makes Cmc (flag_of Cf) from = is_flag Cf from
 plain_makes operation to from = false
 
--- CX is made of both its halves
+-- LOOP and its like make each half of CX of both its halves
 abbrev pub counts : Location → Location → Bool
 counts to from = is_half to Cx && is_half from Cx
 
--- the register, CF and OF are made of the operand; ZF and SF are constants
+-- the product of an operand and a constant: the register, CF and OF are made of the operand; ZF and SF are constants
 abbrev pub triple_product_makes : Reg → Operand → Location → Location → Bool
 triple_product_makes q a (half_of r half) from = is_same_register r q && is_read from a
 triple_product_makes q a (flag_of flag) from = is_carry_or_overflow flag && is_read from a
 
--- of all operations
+-- the value that the operation gives the first location is made of that of the second
 abbrev pub makes : Op → Location → Location → Bool
 makes (AluOp operation a b) to from =
     not (is_zeroing operation a b)
@@ -254,12 +255,14 @@ dos_uses (Some number) location =
     else if number == EXIT then is_al location
     else false
 
--- a division uses what it divides
+-- the location is a half of what a division divides, AX, or DX and AX. All of it changes what the step of a division
+-- does, so it counts here as used. For what is wanted before a division dcc_machine_demand counts less, the operand
+-- and the lower half of the dividend alone: of an accepted program the upper half is told by the lower one.
 abbrev pub is_dividend : Width → Location → Bool
 is_dividend byte_width location = is_half location Ax
 is_dividend word_width location = is_half location Ax || is_half location Dx
 
--- it stores its result into its operand; a product goes to AX and DX
+-- an operation on one operand stores its result into that operand; a product goes to AX and DX
 abbrev pub stores_back : Unary → Bool
 stores_back Mul = false
 stores_back Imul = false
@@ -270,7 +273,9 @@ unary_uses operation a location =
     if is_division operation then is_dividend (operand_width a) location || is_read location a
     else (is_in_memory a && stores_back operation) && is_read location a
 
--- what an operation uses for a jump, a store, a division or a DOS call, whose number is given
+-- What an operation uses for a jump, a store, a division or a DOS call, whose number is given: where two states agree
+-- in all of it, their steps show no difference. A division counts with the whole of its dividend here; `value_uses` of
+-- dcc_machine_demand, which tells what is wanted, counts the lower half alone.
 abbrev pub uses : Op → Option ℕ → Location → Bool
 uses (AluOp operation a b) number location =
     (is_in_memory a && writes_operand operation)
@@ -294,7 +299,7 @@ uses op number location = false
 
 -- What is surely written.
 
--- 01h and 08h give a byte
+-- a DOS call of this number gives a byte in AL: 01h or 08h
 abbrev pub gives_byte : Option ℕ → Bool
 gives_byte None = false
 gives_byte (Some number) = (number == GETCHE) || (number == GETCH)
@@ -303,7 +308,8 @@ abbrev pub surely_writes_half : Op → Option ℕ → Reg → Half → Bool
 surely_writes_half Int21 number r half = gives_byte number && writes_half Int21 r half
 surely_writes_half op number r half = writes_half op r half
 
--- a shift or rotate by CL leaves the flags where the count is 0, as one by a constant that is 0 modulo 32 does
+-- The flag is written whatever the operation finds: a shift or rotate by CL leaves the flags where the count is 0, as
+-- one by a constant that is 0 modulo 32 does.
 abbrev pub surely_writes_flag : Op → FlagName → Bool
 surely_writes_flag (ShiftOp operation a count) flag =
     writes_flag (ShiftOp operation a count) flag && not (is_by_cl operation count)

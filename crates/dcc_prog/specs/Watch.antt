@@ -16,13 +16,13 @@ use Rattle.dcc_prog.specs.Clean.{Stack, Foul, foul_of, stack_after, first_stack}
 
 -- where a run stands
 pub data Stage : Type 0 where
-  -- at its first instruction
+  -- the run is at its first instruction
   AtStart : Stage
-  -- after that, and not yet past the prelude
+  -- the run is past its first instruction, and not yet past the prelude
   InPrelude : Stage
-  -- in procedures, with their frames
+  -- the run is in procedures, with their frames
   InProcedures : Stack → Stage
-  -- it was stopped at a step that is foul, before it was made
+  -- the run was stopped at a step that is foul, before it was made
   Stopped : Foul → Stage
 
 -- the machine, and where its run stands
@@ -68,7 +68,7 @@ abbrev pub made : Layout → Option Foul → Watch → Watch
 made layout None w = moved layout w
 made layout (Some foul) w = record w { stage = Stopped foul }
 
--- one step; a run that has ended or was stopped stays
+-- one step of a watched run; a run that has ended or was stopped stays
 abbrev pub watch_step : Program → Watch → Watch
 watch_step program w = if is_over w.machine.end || is_foul w then w else made program.layout (next_foul program w) w
 

@@ -13,7 +13,7 @@ pub record ProgramsWatchAlike : Type 0 where
   pub steps :
       (cpu : Cpu) (image : Image) (p q : Program) → IsProgramOf cpu image p → IsProgramOf cpu image q
       → (w : Watch) → watch_step q w ≡ watch_step p w
-  -- so a run that one of them finds clean is clean
+  -- a run that one program of the image finds clean is clean
   pub runs :
       (cpu : Cpu) (image : Image) (p : Program) → IsProgramOf cpu image p
       → (input : List ℕ) (n : ℕ) → is_foul (state (watched_machine p) n (first_watch image input)) ≡ false

@@ -25,7 +25,7 @@ impl Ea {
 }
 
 impl Operand {
-    /// Whether the operand is SP or BP. A half of these, which no byte register is, would count as they do.
+    /// Whether the operand is SP or BP. A half of one of them, which no byte register is, would count too.
     pub fn is_sp_or_bp(self) -> bool
         ensures { result ≡ is_sp_or_bp self }
     {
@@ -47,14 +47,14 @@ impl Operand {
 }
 
 impl Op {
-    /// Whether it is `push bp`.
+    /// Whether the operation is `push bp`.
     pub fn is_push_bp(self) -> bool
         ensures { result ≡ is_push_bp self }
     {
         matches!(self, Op::Push(Operand::Word(Reg::Bp)))
     }
 
-    /// Whether it is `mov bp,sp`.
+    /// Whether the operation is `mov bp,sp`.
     pub fn is_mov_bp_sp(self) -> bool
         ensures { result ≡ is_mov_bp_sp self }
     {
@@ -64,7 +64,7 @@ impl Op {
         )
     }
 
-    /// Whether it is ENTER.
+    /// Whether the operation is ENTER.
     pub fn is_enter(self) -> bool
         ensures { result ≡ is_enter self }
     {
@@ -98,7 +98,7 @@ impl Op {
         }
     }
 
-    /// Whether it is a move of SP: ADD or SUB of a constant, INC or DEC.
+    /// Whether the operation is a move of SP: ADD or SUB of a constant, INC or DEC.
     pub fn is_sp_move(self) -> bool
         ensures { result ≡ is_sp_move self }
     {
@@ -112,8 +112,8 @@ impl Op {
         )
     }
 
-    /// Whether it is `mov sp,bp`, LEA of SP from BP, `pop bp` or LEAVE, with which a framed procedure gives bytes of
-    /// its frame up.
+    /// Whether the operation is `mov sp,bp`, LEA of SP from BP, `pop bp` or LEAVE, with which a framed procedure gives
+    /// bytes of its frame up.
     pub fn leaves_frame(self) -> bool
         ensures { result ≡ leaves_frame self }
     {
@@ -126,7 +126,7 @@ impl Op {
         }
     }
 
-    /// Whether it is `mov r,bp` to a general register, which takes the frame's address.
+    /// Whether the operation is `mov r,bp` to a general register, which takes the frame's address.
     pub fn copies_bp(self) -> bool
         ensures { result ≡ copies_bp self }
     {

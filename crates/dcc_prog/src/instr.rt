@@ -56,7 +56,7 @@ impl Operand {
         matches!(self, Operand::Seg(_))
     }
 
-    // Both are one general register, or one half of such a register.
+    // Whether both operands are one general register, or one half of such a register.
     fn is_same_general(self, other: Operand) -> bool
         ensures { result ≡ is_same_general self other }
     {
@@ -222,7 +222,7 @@ pub enum Op {
     Unary(Unary, Operand),
     /// The operand takes the result; RCL and RCR go by 1 alone.
     Shift(Shift, Operand, Count),
-    /// The destination, then the source.
+    /// MOV: the destination, then the source.
     Mov(Operand, Operand),
     /// Both operands take the value of the other one.
     Xchg(Operand, Operand),
@@ -231,25 +231,25 @@ pub enum Op {
     /// The register takes the lower word of the signed product of the word operand and the constant; the 80186 alone
     /// has this form.
     Imul3(Reg, Operand, u16),
-    /// A word operand.
+    /// PUSH of a word operand.
     Push(Operand),
-    /// A word operand, which takes the word at the top of the stack.
+    /// POP: a word operand takes the word at the top of the stack.
     Pop(Operand),
     /// BP is pushed and takes SP, and SP falls by this many bytes; the 80186 alone has it.
     Enter(u16),
     /// SP takes BP, and BP is popped; the 80186 alone has it.
     Leave,
-    /// Without operands.
+    /// An operation without operands.
     Plain(Plain),
     /// A jump in any case.
     Jump(u16),
     /// A jump where the condition holds.
     Branch(Cond, u16),
-    /// CX falls by 1, and the jump is made where it is not 0 then.
+    /// LOOP: CX falls by 1, and the jump is made where it is not 0 then.
     Loop(u16),
-    /// The same, where the zero flag is set too.
+    /// LOOPE: CX falls by 1, and the jump is made where it is not 0 then and the zero flag is set.
     LoopE(u16),
-    /// The same, where the zero flag is clear too.
+    /// LOOPNE: CX falls by 1, and the jump is made where it is not 0 then and the zero flag is clear.
     LoopNe(u16),
     /// A jump where CX is 0.
     Jcxz(u16),
@@ -266,7 +266,7 @@ pub enum Op {
 /// A decoded instruction.
 #[derive(Clone, Copy, PartialEq, Eq, Debug)]
 pub struct Instr {
-    /// What it does.
+    /// What the instruction does.
     pub op: Op,
     /// The length in bytes: opcode, ModRM byte, displacement and constants.
     pub len: u8,

@@ -27,9 +27,9 @@ pub struct Node {
 /// A procedure: its instructions by their offsets in the code segment, in ascending order.
 #[derive(Drop)]
 pub struct Proc {
-    /// The offset of its first instruction.
+    /// The offset of the procedure's first instruction.
     pub entry: u16,
-    /// Its instructions.
+    /// The procedure's instructions by their offsets in the code segment, in ascending order.
     pub nodes: IndexMap<u16, Node>,
 }
 

@@ -2,13 +2,15 @@
 
 use std::alloc::{AllocError, AllocFailed};
 
-/// What each number of a construct says. The first is told at the entry, the others at an instruction that is reached.
+/// What each number of a construct says. Kind 1 stands where the program begins, kind 10 at a procedure's entry, all
+/// others at an instruction that is reached.
 pub mod construct {
     /// No layout of the small memory model holds of the image.
     pub const NO_LAYOUT: u8 = 1;
 
-    /// No instruction of the table lies there wholly in the code; or it moves a segment register, or is CLI, STI or
-    /// CLD, after the prelude; or it uses SP or BP in a form that no frame has, or at a height at which the form is none.
+    /// No instruction of the table of encodings lies at the offset, wholly in the code; or the instruction there moves
+    /// a segment register, or is CLI, STI or CLD, after the prelude; or it uses SP or BP in a form that no frame has,
+    /// or at a height at which the form is none.
     pub const OUTSIDE: u8 = 2;
 
     /// A jump through a register or memory that is no jump through a table; or one through a table of which trails tell
@@ -33,16 +35,18 @@ pub mod construct {
     /// A call finds fewer bytes in its own frame than the callee's arguments take.
     pub const ARGUMENTS_SHORT: u8 = 8;
 
-    /// The callee changes or exposes an argument whose bytes the caller still wants after the call.
+    /// A CALL passes an argument that its procedure may change, and a byte of it is wanted after the CALL, or stands
+    /// in no cell of the caller.
     pub const ARGUMENT_REUSED: u8 = 9;
 
-    /// The entry of a procedure with several results.
+    /// A procedure gives several values back that its callers want: not halves of one register, one flag, or halves of
+    /// AX and DX.
     pub const SEVERAL_RESULTS: u8 = 10;
 
     /// A RET in the entry procedure, or a call of it.
     pub const ENTRY_RETURN: u8 = 11;
 
-    /// A division whose upper half is neither 0 nor the sign of the lower half.
+    /// A division whose upper half is not prepared: made 0 before DIV, or the sign of the lower half before IDIV.
     pub const DIVISION: u8 = 12;
 }
 

@@ -26,7 +26,7 @@ module _ {A : Type 0} (p : A → Bool) where
   pub any_later : (x : A) (xs : List A) → list_any p xs ≡ true → list_any p (x ∷ xs) ≡ true
   any_later x xs any = or_right (p x) (list_any p xs) any
 
-  -- where it holds of none, its opposite holds of all
+  -- where a test holds of no item, its opposite holds of each
   pub none_all : (xs : List A) → list_any p xs ≡ false → list_all (λ x. not (p x)) xs ≡ true
   none_all [] none = refl
   none_all (x ∷ xs) none =

@@ -185,7 +185,7 @@ module _ (body : Lines) (ds es : List Declared) (is_as : AreAs body ds es) where
   typed-as (Cast type a) t takes is =
       cast-lifted type (type_of ds a) (type_of es a) t (λ b has. typed-as a b (takes-later body (Cast type a) (parts_of a) takes) has) is
 
-  -- so has a variable that is a place
+  -- a variable that is a place has the type that it has by the declarations
   pub place-as : (word : Word) (t : CType) → option_and_then type_of_variable (declared_as ds word) ≡ Some t → option_and_then type_of_variable (declared_as es word) ≡ Some t
   place-as word t is =
       variable-told body word t (declared_as ds word) (declared_as es word) (all-tell body word ds es is_as) is

@@ -5,7 +5,7 @@ use Rattle.dcc_c.specs.Tree.{Stmt, If, While, DoWhile, Forever, Switch, Break, C
 use Rattle.dcc_c.specs.Grammar.{Around, IsStmt, assign, call_alone, call_into, if_alone, if_else, while, do_while, for_ever, switch, break, continue, goto, empty, return_nothing, return_value, IsBlock, block, AreLines, no_more, depth_pragma, label, statement, AreArms, no_arm, case_arm, default_arm}
 
 abbrev mutual
-  -- in these statements there is a `break` or a `continue` only where it has somewhere to go to
+  -- in the statements there is a `break` or a `continue` only where it has somewhere to go to
   pub Jumps : Bool → Bool → Lines → Type 0
   Jumps breaks continues no_lines = Unit {0}
   Jumps breaks continues (line stmt at lines) = JumpsInside breaks continues stmt × Jumps breaks continues lines

@@ -6,8 +6,8 @@ ghost use Rattle.dcc_c.specs.Tree.{Tree};
 ghost use Rattle.dcc_c.specs.Text.{StandsFor};
 ghost use Rattle.dcc_progress.specs.Stuck.{IsStuckOnlyAtEnds};
 
-/// The law that a run of a text is stuck only where `start` returns or ends, or where a function with a result ends
-/// without a `return`. It does nothing.
+/// A run of a text is stuck only where `start` returns or ends, or where a function with a result ends without a
+/// `return`. The function states this law by its contract, and does nothing.
 pub fn stuck_only_at_ends()
     ensures { (text : List ℕ) (tree : Tree) → StandsFor text tree → IsStuckOnlyAtEnds tree }
 {}

@@ -50,7 +50,7 @@ stmt-with n around r word within is =
     (sees_word (codes "continue") r) (sees_word (codes "goto") r) (sees_word (codes "return") r) (n - 1) around r)
     ∙ ap (λ k. s.read_stmt k around r) (counted n within)
 
--- the same for what was read
+-- what was read as a statement is what the word that it begins with gives
 pub read-with : {E : Type 0} (result : Result Read E) (end : Reader) (n : ℕ) (around : Around) (r : Reader) (word : Option StatementWord) →
     0 < n → word ≡ statement_word (next_token r) → IfOk result (λ stmt. got (stmt_of stmt) end ≡ stmt_with word (n - 1) around r) →
     IfOk result (λ stmt. got (stmt_of stmt) end ≡ s.read_stmt n around r)

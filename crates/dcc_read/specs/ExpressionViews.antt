@@ -15,7 +15,7 @@ inside_of i = record { start = i.start; operators = i.operators; opened = i.open
 abbrev pub measure : PartialExpr → ℕ
 measure e = min 201 (depth_of e)
 
--- the operator, if it has this strength at least
+-- the operator, if it has the given strength at least
 abbrev pub strong_enough : ℕ → Option CBin → Option CBin
 strong_enough weakest (Some operator) = if nat_le weakest (strength operator) then Some operator else None
 strong_enough weakest None = None

@@ -19,9 +19,9 @@ use std::alloc::Global;
 /// What an arm begins with.
 #[derive(Drop)]
 pub(crate) struct ArmHead {
-    /// The numbers of its cases.
+    /// The numbers of the arm's cases.
     pub(crate) numbers: Vec<CaseAt>,
-    /// The place of `default`, where the arm has that.
+    /// The place of `default`, if the arm has it.
     pub(crate) default: Option<u32>,
 }
 

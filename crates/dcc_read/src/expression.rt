@@ -24,7 +24,7 @@ const MOST: usize = 200;
 struct Measured<'a> {
     /// The part.
     expr: PartialExpr<'a>,
-    /// Its depth, or 201 where it is deeper.
+    /// The depth of the part, or 201 where it is deeper.
     depth: usize,
     ghost measured: { depth ≡ measure (expr_of expr) },
 }
@@ -34,7 +34,7 @@ struct Measured<'a> {
 pub struct Inside {
     /// The place where the whole expression begins.
     pub start: u32,
-    /// How many operators of it are around the part.
+    /// How many operators of the whole expression are around the part.
     pub operators: usize,
     /// How many parentheses are open.
     pub opened: usize,
@@ -66,7 +66,7 @@ impl Inside {
     }
 }
 
-// The depth of what stands above a part of this depth, up to 201.
+// The depth of what stands above a part of the given depth, up to 201.
 fn deeper(depth: usize) -> usize
     requires measured { depth ≤ 201 }
     ensures { result ≡ min 201 (depth + 1) }
@@ -149,7 +149,7 @@ fn conditional_of<'a>(
     })
 }
 
-// Stops where the expression that this is a part of gets too deep.
+// Stops where the whole expression of which the part is one gets too deep.
 fn stop_if_deep(r: &mut Reader<'_>, inside: Inside, part: &Measured)
     ensures { reader_of r.new ≡ reading.stop_if_deep (inside_of inside) (expr_of part.now.expr) (reader_of r.old) }
 {
@@ -340,7 +340,7 @@ fn read_binary<'a>(
     read_more(r, alloc, calls, inside, weakest, first)
 }
 
-// Reads the same after the first operand.
+// Reads operands after the first one that are joined by binary operators of the given strength at least.
 #[cycle(expression)]
 fn read_more<'a>(
     r: &mut Reader<'a>,

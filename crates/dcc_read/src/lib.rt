@@ -16,5 +16,5 @@ pub use text::{Reading, read};
 /// What is read of a text; an error where memory runs out.
 pub type Got<T> = Result<T, AllocError>;
 
-/// The same of a statement.
+/// What is read of a statement; an error where memory runs out.
 pub(crate) type GotStmt<'a> = Got<PartialStmt<'a>>;

@@ -26,8 +26,8 @@ fn skip_if(r: &mut Reader<'_>, is_allowed: bool)
     }
 }
 
-/// Reads a `break` or `continue`, the word of which stands here. Something must stand around it that it leaves or goes
-/// on with.
+/// Reads a `break` or `continue`, the word of which stands here. A loop or `switch` must stand around it that it
+/// leaves, or a loop that it goes on with.
 pub(crate) fn read_leave(r: &mut Reader<'_>, is_inside: bool)
     requires seen { is_some (reading.next_token (reader_of r.old)) ≡ true }
     ensures { (stmt : partial.PartialStmt) →

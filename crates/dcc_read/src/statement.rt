@@ -27,7 +27,7 @@ use std::alloc::Global;
 pub(crate) struct Block<'a> {
     /// The statements.
     pub(crate) lines: Vec<Row<'a>>,
-    /// Whether the last of them is a `break` that no label stands before.
+    /// Whether the last statement is a `break` that no label stands before.
     pub(crate) leaves: bool,
 }
 
@@ -36,11 +36,11 @@ pub(crate) struct Block<'a> {
 struct LineRead<'a> {
     /// The label or the statement, where there is one.
     row: Option<Row<'a>>,
-    /// Whether no statement may follow.
+    /// Whether no statement may follow what was read.
     is_last: bool,
-    /// Whether it is a label.
+    /// Whether a label was read.
     labelled: bool,
-    /// Whether it is a `break` that no label stands before.
+    /// Whether a `break` was read that no label stands before.
     leaves: bool,
 }
 
@@ -142,7 +142,7 @@ fn end_lines(r: &mut Reader<'_>, calls: usize, labelled: bool, leaves: bool) -> 
     leaves
 }
 
-// The statements of an arm, the last of which must be a `break`, without that.
+// The statements of an arm without the last, which must be a `break`.
 fn end_arm<'a>(r: &mut Reader<'_>, block: Block<'a>) -> Vec<Row<'a>>
     ensures { reading.got (lines_of result.items) (reader_of r.new)
         ≡ statements.end_arm (reading.got (block_of block.entry) (reader_of r.old)) }

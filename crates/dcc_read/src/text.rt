@@ -28,16 +28,16 @@ use std::alloc::{AllocError, Global};
 pub struct Reading<'a> {
     /// What was read.
     pub text: PartialText<'a>,
-    /// The reader after it.
+    /// The reader after what was read.
     pub following: Reader<'a>,
 }
 
 /// Global variables, and the functions after them.
 #[derive(Drop)]
 struct Declared<'a> {
-    /// The variables.
+    /// The global variables.
     globals: Vec<PartialVariable<'a>>,
-    /// The functions.
+    /// The functions after the global variables.
     functions: Vec<PartialFunction<'a>>,
 }
 

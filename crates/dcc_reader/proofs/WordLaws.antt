@@ -52,7 +52,7 @@ keyword-word token =
     (is_the_word (codes "for") token) (is_the_word (codes "switch") token) (is_the_word (codes "break") token)
     (is_the_word (codes "continue") token) (is_the_word (codes "goto") token) (is_the_word (codes "return") token)
 
--- and it holds blocks exactly where that word is one of those that do
+-- a statement holds blocks exactly where its first word is one of those that do
 pub block-keyword : (token : Option Token) → is_block_word token ≡ is_block (statement_word token)
 block-keyword token =
     block-word (is_the_word (codes "if") token) (is_the_word (codes "while") token) (is_the_word (codes "do") token)

@@ -6,7 +6,7 @@ use Rattle.dcc_c.specs.Partial.{NumberAt}
 use Rattle.dcc_c.specs.Reading.{Reader, Got, got, next_token, skip, sees_word, begins_type, take_mark, take_plain}
 use Rattle.dcc_c.specs.ReadingStatements.{list_of, more_values}
 
--- what was read before, and what is read after it
+-- a list of what was read before, and of what is read after it
 abbrev pub before_list : {A : Type 0} → List A → Got (List A) → Got (List A)
 before_list before others = got (before ++ others.value) others.following
 

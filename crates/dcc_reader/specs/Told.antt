@@ -7,6 +7,6 @@ use Rattle.dcc_reader.specs.declared.first.First.{First}
 abbrev pub told : First → Option kinds.Offence
 told first = option_map offence_of first.offence
 
--- these offences are told after what has been told
+-- the offences of the list are told after what has been told
 abbrev pub Tells : First → First → List kinds.Offence → Type 0
 Tells old new offences = told new ≡ kinds.first_after (told old) offences

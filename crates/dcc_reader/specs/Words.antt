@@ -19,7 +19,7 @@ statement_word token =
     else if is_the_word (codes "return") token then Some Return
     else None
 
--- such a statement holds blocks
+-- a statement that begins with the word holds blocks
 abbrev pub holds_blocks : StatementWord → Bool
 holds_blocks If = true
 holds_blocks While = true

@@ -13,16 +13,16 @@ use crate::reader::Reader;
 /// What stands around a statement.
 #[derive(Clone, Copy)]
 pub struct Around {
-    /// How many blocks, without the function's own braces.
+    /// How many blocks stand around it, without the function's own braces.
     pub blocks: usize,
-    /// Whether one of them belongs to a loop or a `switch`, which a `break` leaves.
+    /// Whether one of the blocks belongs to a loop or a `switch`, which a `break` leaves.
     pub breaks: bool,
-    /// Whether one of them belongs to a loop, which a `continue` goes on with.
+    /// Whether one of the blocks belongs to a loop, which a `continue` goes on with.
     pub continues: bool,
 }
 
 impl Around {
-    /// Nothing, but the function's own braces.
+    /// What stands around the statements of a function: nothing but the function's own braces.
     pub fn outermost() -> Around
         ensures { around_of result ≡ grammar.outermost }
     {

@@ -29,7 +29,7 @@ pub fn read_size(r: &mut Reader<'_>) -> Option<NumberAt>
     size
 }
 
-// Reads initial values, each after a comma, and appends them to those before.
+// Reads initial values, each after a comma, and appends them to the ones before.
 fn more_values(
     r: &mut Reader<'_>,
     calls: usize,

@@ -10,7 +10,7 @@ use crate::offence::{Offence, ParseKind};
 /// The first of the offences that have been told.
 #[derive(Clone, Copy)]
 pub struct First {
-    /// That offence.
+    /// The first offence, if any has been told.
     pub offence: Option<Offence>,
 }
 
@@ -48,7 +48,7 @@ fn earlier(first: Option<Offence>, other: Offence) -> Offence
 }
 
 impl First {
-    /// Before any offence is told.
+    /// A record of offences before any is told.
     pub fn new() -> First
         ensures { told result ≡ None }
     {

@@ -18,13 +18,13 @@ use std::alloc::{AllocError, Global};
 /// What a declaration begins with.
 #[derive(Drop)]
 pub struct Begun<'a> {
-    /// Its place.
+    /// The place of the declaration.
     pub at: u32,
     /// Whether a type stands there, and not `void`.
     pub has_result: bool,
-    /// Which type.
+    /// The type of the result, if it could be read.
     pub result: Option<CType>,
-    /// The name.
+    /// The name that is declared.
     pub name: Option<WordAt<'a>>,
 }
 

@@ -26,7 +26,7 @@ pub fn push_labels<'r, 'a>(
     Ok(())
 }
 
-// Appends the labels of a statement and of those inside it.
+// Appends the labels of a statement and of the statements inside it.
 #[cycle(labels)]
 fn push_labels_of<'r, 'a>(
     stmt: &'r PartialStmt<'a>,

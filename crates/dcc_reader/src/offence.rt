@@ -8,9 +8,9 @@ use std::fmt;
 /// Why a text is refused.
 #[derive(Clone, Copy, PartialEq, Eq, Debug)]
 pub enum ParseKind {
-    /// It has more than 67,108,864 bytes.
+    /// The text has more than 67,108,864 bytes.
     Length,
-    /// Its first line is not the version line.
+    /// The text's first line is not the version line.
     Version,
     /// Bytes that are no token.
     Token,

@@ -16,7 +16,7 @@ use dcc_lex::{Mark, Suffix, Token};
 pub struct TypedNumber {
     /// The number.
     pub value: u32,
-    /// Its type.
+    /// The type of the number.
     pub base: Base,
 }
 

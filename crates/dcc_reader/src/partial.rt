@@ -8,7 +8,7 @@ use dcc_c::{Base, CBin, CType, CUn, Class};
 pub struct NumberAt {
     /// The number.
     pub value: u32,
-    /// Its place.
+    /// The place of the number.
     pub at: u32,
 }
 
@@ -17,7 +17,7 @@ pub struct NumberAt {
 pub struct CaseAt {
     /// The number.
     pub value: u16,
-    /// Its place.
+    /// The place of the number.
     pub at: u32,
 }
 
@@ -26,7 +26,7 @@ pub struct CaseAt {
 pub struct WordAt<'a> {
     /// The name.
     pub word: &'a str,
-    /// Its place.
+    /// The place of the name.
     pub at: u32,
 }
 
@@ -34,19 +34,19 @@ pub struct WordAt<'a> {
 #[derive(Drop)]
 #[cycle(expression)]
 pub enum PartialExpr<'a> {
-    /// It has not been read.
+    /// An expression that has not been read.
     Missing,
-    /// Its place, a number and the number's type.
+    /// A number: its place, the number, and its type.
     Number(u32, u32, Base),
     /// Whether an opening parenthesis follows, its place, and a name. The truth value takes no room where it is first.
     Name(bool, u32, &'a str),
-    /// Its place, a unary operator and the operand.
+    /// A unary operator: its place, the operator, and the operand.
     Unary(u32, CUn, Box<PartialExpr<'a>>),
     /// A binary operator and its operands.
     Binary(CBin, Box<PartialExpr<'a>>, Box<PartialExpr<'a>>),
     /// `a ? b : c`.
     Conditional(Box<PartialChoice<'a>>),
-    /// Its place, a type, and what is converted to it.
+    /// A cast: its place, the type, and what is converted to it.
     Cast(u32, CType, Box<PartialExpr<'a>>),
 }
 
@@ -67,7 +67,7 @@ pub struct PartialChoice<'a> {
 pub struct PartialCall<'a> {
     /// The function that is called.
     pub function: WordAt<'a>,
-    /// Its arguments.
+    /// The arguments of the call.
     pub arguments: Vec<PartialExpr<'a>>,
     /// Whether the closing parenthesis was read.
     pub closed: bool,
@@ -114,9 +114,9 @@ pub enum PartialStmt<'a> {
 pub struct Row<'a> {
     /// The statement.
     pub stmt: PartialStmt<'a>,
-    /// Its place.
+    /// The place of the statement.
     pub at: u32,
-    /// Its line, from 1.
+    /// The line of the statement, from 1.
     pub line: u32,
 }
 
@@ -128,22 +128,22 @@ pub struct PartialArm<'a> {
     pub numbers: Vec<CaseAt>,
     /// The place of `default`, where the arm has that.
     pub default: Option<u32>,
-    /// Its statements, without the `break` that ends it.
+    /// The statements of the arm, without the `break` that ends it.
     pub body: Vec<Row<'a>>,
 }
 
 /// A variable.
 #[derive(Drop)]
 pub struct PartialVariable<'a> {
-    /// Its name.
+    /// The name of the variable.
     pub name: Option<WordAt<'a>>,
-    /// Its type, or that of an element.
+    /// The type of the variable, or of an element of an array.
     pub ty: Option<CType>,
-    /// How it is stored.
+    /// The storage class of the variable.
     pub class: Class,
     /// The number of elements of an array.
     pub size: Option<NumberAt>,
-    /// Its initial values.
+    /// The initial values of the variable.
     pub init: Vec<NumberAt>,
     /// The address of a global variable, which may be beyond memory.
     pub address: u64,
@@ -154,25 +154,25 @@ pub struct PartialVariable<'a> {
 /// A function.
 #[derive(Drop)]
 pub struct PartialFunction<'a> {
-    /// Its place.
+    /// The place of the function.
     pub at: u32,
     /// Whether its result is a type.
     pub has_result: bool,
-    /// Which type.
+    /// The type of the result, if it could be read.
     pub result: Option<CType>,
-    /// Its name.
+    /// The name of the function.
     pub name: Option<WordAt<'a>>,
     /// The place after the opening parenthesis of its head, where that was read.
     pub opened: Option<u32>,
     /// Whether `void` stands at that place.
     pub without_params: bool,
-    /// Its parameters.
+    /// The parameters of the function.
     pub params: Vec<PartialVariable<'a>>,
     /// Whether its head was read to its closing parenthesis.
     pub headed: bool,
-    /// Its local variables.
+    /// The local variables of the function.
     pub locals: Vec<PartialVariable<'a>>,
-    /// Its statements.
+    /// The statements of the function.
     pub body: Vec<Row<'a>>,
     /// The line of its closing brace.
     pub last: u32,
@@ -183,7 +183,7 @@ pub struct PartialFunction<'a> {
 pub struct PartialText<'a> {
     /// The first number of the stack line.
     pub lo: Option<NumberAt>,
-    /// Its second number.
+    /// The second number of the stack line.
     pub hi: Option<NumberAt>,
     /// The global variables.
     pub globals: Vec<PartialVariable<'a>>,

@@ -6,7 +6,7 @@ use Rattle.dcc_demand.specs.Changes.{IsWritten, IsUnsaved, Loses}
 use Rattle.dcc_refinement.specs.Steps.{later_effect, later_word_effect, effect_of, word_effect_of, CallNothing}
 use Rattle.dcc_refinement.specs.Steps.{LosesAtOnce, Spoils}
 
--- these points, the oldest first, on a list that has the newest first
+-- points, the oldest first, put onto a list that has the newest first
 abbrev pub onto : {Point : Type 0} → List Point → List Point → List Point
 onto [] passed = passed
 onto (a ∷ steps) passed = onto steps (a ∷ passed)

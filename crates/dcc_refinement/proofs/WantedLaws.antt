@@ -25,7 +25,7 @@ module _ {Point Location Word : Type 0} (g : Procedure Point Location Word) wher
   quiet_within [] a after n = n.0
   quiet_within (x ∷ before) a after n = quiet_within before a after n.1
 
-  -- these points go on to each other
+  -- each point of the list goes on to the next
   pub data Line : List Point → Type 0 where
     last : {a : Point} → Line (a ∷ [])
     goes : {a b : Point} {steps : List Point} → Contains (g.next a) b → Line (b ∷ steps) → Line (a ∷ b ∷ steps)

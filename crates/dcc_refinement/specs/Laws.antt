@@ -36,6 +36,6 @@ module _ {Point Location Word FinePoint FineLocation FineWord : Type 0} (coarse 
     pub results : (i : ℕ) (location : Location) (fine_location : FineLocation) → r.same i location fine_location
         → IsResult coarse i location ↔ IsResult fine i fine_location
 
-  -- so it is of refined procedures
+  -- refined procedures have the same relations as the coarse ones
   abbrev pub RefinedAgree : Type 0
   RefinedAgree = IsRefined coarse fine r → HaveSameRelations

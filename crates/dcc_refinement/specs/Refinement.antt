@@ -9,9 +9,9 @@ use Rattle.dcc_refinement.specs.Steps.{LosesAtOnce, Spoils}
 pub record Refinement (Point Location Word FinePoint FineLocation FineWord : Type 0) : Type 1 where
   -- the fine points of a point, in their order
   pub steps : ℕ → Point → List FinePoint
-  -- where these begin; where there are none, those of the point after it
+  -- where a point's fine points begin; where it has none, where those of the point after it do
   pub begin : ℕ → Point → FinePoint
-  -- in a procedure the two locations are one, and the two words
+  -- in a procedure the coarse and the fine location are one; `same_word`: the two words are one
   pub same : ℕ → Location → FineLocation → Type 0
   pub same_word : ℕ → Word → FineWord → Type 0
 
@@ -20,7 +20,8 @@ module _ {Point Location Word FinePoint FineLocation FineWord : Type 0} (coarse 
     (r : Refinement Point Location Word FinePoint FineLocation FineWord) where
   -- Effects.
 
-  -- the two effects are one: both leave a location, both lose what it held, or both pop it from a private word
+  -- a coarse and a fine effect are one: both leave a location, both lose what it held, or both pop it from a private
+  -- word
   pub data EffectsAgree (i : ℕ) : Effect Location Word → Effect FineLocation FineWord → Type 0 where
     both_leave : EffectsAgree i Leaves Leaves
     both_lose : {effect : Effect Location Word} {fine_effect : Effect FineLocation FineWord}
@@ -30,7 +31,8 @@ module _ {Point Location Word FinePoint FineLocation FineWord : Type 0} (coarse 
         → (fine.procedure i).is_private fine_word ≡ true → r.same_word i word fine_word
         → EffectsAgree i (Pops word) (Pops fine_word)
 
-  -- the same of words, where this location and that one are one
+  -- the effects on a coarse and a fine word are one, where the coarse and the fine location are: both leave it, both
+  -- push the location, or both spoil the word for it
   pub data WordEffectsAgree (location : Location) (fine_location : FineLocation)
       : WordEffect Location → WordEffect FineLocation → Type 0 where
     both_leave : WordEffectsAgree location fine_location LeavesWord LeavesWord
@@ -38,8 +40,8 @@ module _ {Point Location Word FinePoint FineLocation FineWord : Type 0} (coarse 
     both_spoil : {effect : WordEffect Location} {fine_effect : WordEffect FineLocation} → Spoils location effect
         → Spoils fine_location fine_effect → WordEffectsAgree location fine_location effect fine_effect
 
-  -- What a point does to what passes between procedures, and to the words where that is saved. The steps of a PUSH
-  -- write no such location that they push, and those of a POP no such word that they pop.
+  -- What a point does to what passes between procedures, and to the words where that is saved, its steps do together.
+  -- The steps of a PUSH leave the location that they push, and those of a POP leave the word that they pop.
   pub record ChangesAgree (i : ℕ) (a : Point) : Type 0 where
     pub effect : (location : Location) (fine_location : FineLocation) → r.same i location fine_location
         → coarse.passes location ≡ true
@@ -61,7 +63,8 @@ module _ {Point Location Word FinePoint FineLocation FineWord : Type 0} (coarse 
 
   -- Calls.
 
-  -- A call is the first step; what passes with it is left by the point, and passes by its other steps.
+  -- A point that calls: the call is its first step; the point leaves what passes with the call, and the other steps
+  -- pass it by.
   pub record CallsFirst (i callee : ℕ) (a : Point) : Type 0 where
     pub call : FinePoint
     pub others : List FinePoint
@@ -96,8 +99,9 @@ module _ {Point Location Word FinePoint FineLocation FineWord : Type 0} (coarse 
       × Contains ((coarse.procedure i).next a) b × (is_left (((coarse.procedure i).action a).effect to) ≡ false)
       × (((coarse.procedure i).action a).made_of to location ≡ true))
 
-  -- What a point makes of what, and what it uses. What the steps carry besides of a location that they use is no
-  -- matter; and what stands for no coarse location, as what holds a value only between steps, is not wanted before them.
+  -- What a point makes of what, and what it uses, its steps do together. It doesn't matter what the steps carry
+  -- besides of a location that they use; and what stands for no coarse location, as what holds a value only between
+  -- steps, is not wanted before them.
   pub record WantsAgree (i : ℕ) (a : Point) : Type 0 where
     pub carried : (location after : Location) (fine_location fine_after : FineLocation)
         → r.same i location fine_location → r.same i after fine_after → Carries i a location after
@@ -111,15 +115,15 @@ module _ {Point Location Word FinePoint FineLocation FineWord : Type 0} (coarse 
         × (Carries i a location after ⊎ Takes i a location)
     pub uses : (fine_location : FineLocation) → Uses (fine.procedure i) (r.steps i a) fine_location
         → (location : Location) × r.same i location fine_location × Takes i a location
-    -- what it makes stands for something, or may be read anywhere
+    -- what the point makes a value of stands for something in the fine procedure, or may be read anywhere
     pub made : (location to : Location) → is_left (((coarse.procedure i).action a).effect to) ≡ false
         → ((coarse.procedure i).action a).made_of to location ≡ true
         → ((coarse.procedure i).is_exposed to ≡ true) ⊎ ((fine_to : FineLocation) × r.same i to fine_to)
 
   -- Edges.
 
-  -- The steps of a point go on to each other alone, and the last one to where the next points begin. One that returns
-  -- is one step.
+  -- The steps of a point go on to each other alone, and the last one to where the next points begin. A point that
+  -- returns is one step.
   pub record EdgesAgree (i : ℕ) (a : Point) : Type 0 where
     pub begins : (step : FinePoint) (steps : List FinePoint) → r.steps i a ≡ step ∷ steps → r.begin i a ≡ step
     pub goes : (b : Point) → Contains ((coarse.procedure i).next a) b
@@ -134,7 +138,7 @@ module _ {Point Location Word FinePoint FineLocation FineWord : Type 0} (coarse 
         → (fine.procedure i).returns step ≡ (coarse.procedure i).returns a
     pub alone : (coarse.procedure i).returns a ≡ true → (step : FinePoint) × (r.steps i a ≡ step ∷ [])
 
-  -- from the point on there is one with steps
+  -- from the point on there is a point with steps
   pub data IsSettled (i : ℕ) : Point → Type 0 where
     by_steps : {a : Point} {step : FinePoint} {steps : List FinePoint} → r.steps i a ≡ step ∷ steps → IsSettled i a
     by_next : {a b : Point} → r.steps i a ≡ [] → Contains ((coarse.procedure i).next a) b → IsSettled i b
@@ -147,21 +151,22 @@ module _ {Point Location Word FinePoint FineLocation FineWord : Type 0} (coarse 
     pub uncalled : (caller : ℕ) (a : Point) → ¬ (((coarse.procedure caller).action a).callee ≡ Some i)
     pub fine_uncalled : (caller : ℕ) (a : FinePoint) → ¬ (((fine.procedure caller).action a).callee ≡ Some i)
 
-  -- the fine entry is where the coarse one begins, or more stands before that in a procedure apart
+  -- the fine entry is where the coarse one begins, or the procedure is apart, and more may stand before it
   abbrev pub EntriesAgree : ℕ → Type 0
   EntriesAgree i = (r.begin i (coarse.procedure i).entry ≡ (fine.procedure i).entry) ⊎ IsApart i
 
-  -- All together.
+  -- Refined procedures: all of these together.
 
   pub record IsRefined : Type 0 where
-    -- no two coarse locations of a procedure are one fine one; what passes between procedures is one in all of them
+    -- no two coarse locations of a procedure are one fine location; a location that passes between procedures is one
+    -- and the same in all of them
     pub one : (i : ℕ) (location other : Location) (fine_location : FineLocation) → r.same i location fine_location
         → r.same i other fine_location → location ≡ other
     pub passes : (i : ℕ) (location : Location) (fine_location : FineLocation) → r.same i location fine_location
         → coarse.passes location ≡ fine.passes fine_location
     pub shared : (i j : ℕ) (location : Location) (fine_location : FineLocation) → r.same i location fine_location
         → coarse.passes location ≡ true → r.same j location fine_location
-    -- what may be read anywhere stands for nothing in the fine ones
+    -- a coarse location that may be read anywhere stands for no fine one
     pub exposed : (i : ℕ) (location : Location) (fine_location : FineLocation)
         → (coarse.procedure i).is_exposed location ≡ true → ¬ r.same i location fine_location
     pub unexposed : (i : ℕ) (location : FineLocation) → (fine.procedure i).is_exposed location ≡ false

@@ -7,36 +7,36 @@ abbrev pub later_effect : {Location Word : Type 0} → Effect Location Word → 
 later_effect Leaves earlier = earlier
 later_effect later earlier = later
 
--- the same of a word
+-- the later effect on a word, or the earlier one where that leaves the word
 abbrev pub later_word_effect : {Location : Type 0} → WordEffect Location → WordEffect Location → WordEffect Location
 later_word_effect LeavesWord earlier = earlier
 later_word_effect later earlier = later
 
 module _ {Point Location Word : Type 0} (procedure : Procedure Point Location Word) where
-  -- what the last of these points that writes the location does to it
+  -- what the last of the points that writes the location does to it
   abbrev pub effect_of : List Point → Location → Effect Location Word
   effect_of [] location = Leaves
   effect_of (a ∷ steps) location = later_effect (effect_of steps location) ((procedure.action a).effect location)
 
-  -- the same of a word
+  -- what the last of the points that writes the word does to it
   abbrev pub word_effect_of : List Point → Word → WordEffect Location
   word_effect_of [] word = LeavesWord
   word_effect_of (a ∷ steps) word =
       later_word_effect (word_effect_of steps word) ((procedure.action a).word_effect word)
 
-  -- none of these points calls
+  -- none of the points calls
   abbrev pub CallNothing : List Point → Type 0
   CallNothing [] = Unit {0}
   CallNothing (a ∷ steps) = ((procedure.action a).callee ≡ None) × CallNothing steps
 
-  -- edges lead from the one point through these to the other
+  -- edges lead from the first point through the listed ones to the last
   pub data Walks : Point → List Point → Point → Type 0 where
     stands : {a : Point} → Walks a [] a
     goes : {a b c : Point} {steps : List Point} → Contains (procedure.next a) b → Walks b steps c
         → Walks a (a ∷ steps) c
 
-  -- After these points the second location holds something that is made of what the first one held before them.
-  -- Calls count as if they changed nothing.
+  -- After the points the second location holds something that is made of what the first one held before them. Calls
+  -- count as if they changed nothing.
   pub data Flows : List Point → Location → Location → Type 0 where
     stays : {location : Location} → Flows [] location location
     made : {a : Point} {steps : List Point} {location to after : Location}
@@ -46,7 +46,7 @@ module _ {Point Location Word : Type 0} (procedure : Procedure Point Location Wo
         → (procedure.action a).surely location ≡ false → Flows steps location after
         → Flows (a ∷ steps) location after
 
-  -- one of these points uses something that is made of what the location held before them
+  -- one of the points uses something that is made of what the location held before them
   pub data Uses : List Point → Location → Type 0 where
     here : {a : Point} {steps : List Point} {location : Location} → (procedure.action a).uses location ≡ true
         → Uses (a ∷ steps) location
@@ -61,7 +61,7 @@ module _ {Point Location Word : Type 0} (procedure : Procedure Point Location Wo
     pub unmade : (to : Location) → (procedure.action a).made_of to location ≡ false
     pub unwritten : (procedure.action a).surely location ≡ false
 
-  -- nor does any of these points, and none uses it
+  -- no point of the list makes anything of the location, surely writes it or uses it
   abbrev pub PassBy : Location → List Point → Type 0
   PassBy location [] = Unit {0}
   PassBy location (a ∷ steps) =

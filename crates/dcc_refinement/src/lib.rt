@@ -6,8 +6,8 @@ ghost use Rattle.dcc_demand.specs.Procedures.{Procedures};
 ghost use Rattle.dcc_refinement.specs.Refinement.{Refinement};
 ghost use Rattle.dcc_refinement.specs.Laws.{RefinedAgree};
 
-/// Some procedures, with what their points, their locations and the words of the stack are; others over finer points;
-/// and how these stand for them.
+/// Coarse procedures, with the types of their points, their locations and the words of the stack; fine procedures over
+/// finer points; and how the fine ones stand for the coarse.
 pub trait TwoProcedures {
     ghost point: { Type 0 };
 
@@ -28,8 +28,8 @@ pub trait TwoProcedures {
     ghost refinement: { Refinement point location word fine_point fine_location fine_word };
 }
 
-/// Where each point is some finer points one after another, or none, and does what these do together, both procedures
-/// change, preserve, want, take and give back the same.
+/// Where each coarse point is some finer points one after another, or none, and does what these do together, both
+/// procedures change, preserve, want, take and give back the same.
 pub fn refined_agree<P: TwoProcedures>()
     ensures { RefinedAgree P.coarse P.fine P.refinement }
 {}

@@ -129,7 +129,7 @@ module _ {S P : Type 0} (w : Watched S P) (law : IsWatchable w) where
       here false None less' = All-nil (λ v. IsPrefix v.events whole)
       here false (Some place) less' = All-cons (λ v. IsPrefix v.events whole) (record { place = place; events = w.system.events s }) [] less' (All-nil (λ v. IsPrefix v.events whole))
 
-  -- and at least as much as was out before
+  -- the events of each visit begin with what was out before
   pub visits_since : (n : ℕ) (s : S) (front : List Event) → IsPrefix front (w.system.events s) → All (λ v. IsPrefix front v.events) (visits w.system w.mark n s)
   visits_since zero s front less = All-nil (λ v. IsPrefix front v.events)
   visits_since (suc n) s front less =

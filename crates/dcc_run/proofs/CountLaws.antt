@@ -84,7 +84,7 @@ module _ {S P : Type 0} (w : Watched S P) where
       by false None e = refl
       by false (Some place) e = absurd (true≢false e)
 
-  -- so one step from there visits no place
+  -- one step from a state of which nothing is shown visits no place
   hidden_step : (m : ℕ) (s : S) → is_shown w (state w m s) ≡ false → length (visits w.system w.mark (suc m) s) ≡ length (visits w.system w.mark m s)
   hidden_step m s none =
       let e : suc m ≡ m + 1 = omega arith in

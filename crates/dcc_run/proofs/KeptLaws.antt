@@ -49,7 +49,7 @@ module _ {S P : Type 0} (w : Watched S P) where
   all_kept_seen s (has_ended over) = has_ended over
   all_kept_seen s (is_foul foul) = is_foul foul
 
-  -- and so is the pace
+  -- where all places are kept, the pace is as before
   pub pace_of_all : (s : S) (begin within : ℕ) → KeepsPace w s begin within → KeepsPace (only (λ place. true) w) s begin within
   pace_of_all s begin within pace = record {
     first = (pace.first.0, pace.first.1, all_kept_seen (state w pace.first.0 s) pace.first.2);

@@ -78,7 +78,7 @@ module _ {S T P : Type 0} (w : Watched S P) (other : System T) (law : IsWatchabl
 
   -- The other run comes to a state that is related to the start after so many steps.
   module _ (s : S) (t : T) (lead : ℕ) (begins : related s (after other.step lead t)) where
-    -- it counts the visits
+    -- the other run counts the visits
     pub leaps_count : (within : ℕ) → lead ≤ within → most ≤ within → Counts (λ place. true) w s other t within
     leaps_count within led wide m =
         let x = stands_after m s (after other.step lead t) begins in
@@ -107,7 +107,7 @@ module _ {S T P : Type 0} (w : Watched S P) (other : System T) (law : IsWatchabl
       ],
     )
 
-    -- and it visits more and more places, or ends
+    -- the run visits more and more places, or ends
     pub leaps_go_on : (k : ℕ) → (m : ℕ) × ((k ≤ length (visits_of (λ place. true) (visits w.system w.mark m s))) ⊎ (is_over (end_after w.system m s) ≡ true))
     leaps_go_on k =
         let kept = ap length (all-visits (visits w.system w.mark k s)) in

@@ -8,7 +8,7 @@ use Rattle.dcc_run.proofs.KeptLaws.{only_visits}
 use Rattle.dcc_run.proofs.ShadowLaws.{shadows_from_matches}
 
 module _ {S T P : Type 0} (first : Watched S P) (second : Watched T P) (related : S → T → Type 0) (never : (s : S) → first.foul s ≡ false) (other_never : (t : T) → second.foul t ≡ false) where
-  -- the same with the two runs exchanged
+  -- stretches that match do so with the two runs exchanged
   exchanged : (s : S) (t : T) → ComesTo first second related s t → ComesTo second first (λ u v. related v u) t s
   exchanged s t (still_related r) = still_related r
   exchanged s t (both_over over end events) = both_over (ap is_over end ∙ over) (sym end) (sym events)

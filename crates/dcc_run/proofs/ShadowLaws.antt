@@ -35,7 +35,7 @@ module _ {S P : Type 0} (w : Watched S P) where
       nothing true = refl
       nothing false = refl
 
-  -- nor do unmarked states one after another
+  -- unmarked states one after another visit nothing
   pub unmarked_visits : (n : ℕ) (s : S) → ((k : ℕ) → k < n → w.mark (state w k s) ≡ None) → visits w.system w.mark n s ≡ []
   unmarked_visits zero s none = refl
   unmarked_visits (suc n) s none =

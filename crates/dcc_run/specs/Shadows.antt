@@ -42,7 +42,7 @@ pub record AreMatched {S T P : Type 0} (first : Watched S P) (second : Watched T
   pub other_quiet : IsQuietUntil second other_steps t
   pub comes : ComesTo first second related (state first steps s) (state second other_steps t)
 
--- the same from all related states
+-- From every two related states the runs go on to where they match again.
 abbrev pub Matches : {S T P : Type 0} → Watched S P → Watched T P → (S → T → Type 0) → Type 0
 Matches first second related = (s : _) (t : _) → related s t → AreMatched first second related s t
 
@@ -55,7 +55,8 @@ pub record ShowsAt {S T P : Type 0} (first : Watched S P) (s : S) (n : ℕ) (sec
   pub ahead : (k : ℕ) → m ≤ k → is_shown second (state second k t) ≡ true
       → IsPrefix (events_after first.system n s) (events_after second.system k t)
 
--- The second run shadows the first: so it is for each number of steps after which the first isn't foul.
+-- The second run shadows the first: for each number of steps after which the first isn't foul, the second has shown
+-- what the first has within them.
 abbrev pub Shadows : {S T P : Type 0} → Watched S P → S → Watched T P → T → Type 0
 Shadows first s second t =
     (n : ℕ) → first.foul (state first n s) ≡ false → (m : ℕ) × ShowsAt first s n second t m
@@ -72,8 +73,8 @@ pub data IsSeen {S P : Type 0} (w : Watched S P) (s : S) : Type 0 where
   has_ended : is_over (w.system.end s) ≡ true → IsSeen w s
   is_foul : w.foul s ≡ true → IsSeen w s
 
--- The run keeps pace: within the first so many steps it is seen, and so it is again after each marked place, within so
--- many steps or still within the first ones.
+-- The run keeps pace: within its first `begin` steps it is seen, and after each marked place it is seen again, within
+-- `within` steps or still within the first `begin`.
 pub record KeepsPace {S P : Type 0} (w : Watched S P) (s : S) (begin within : ℕ) : Type 0 where
   pub first : (i : ℕ) × (i ≤ begin) × IsSeen w (state w i s)
   pub next : (i : ℕ) → IsMarked w (state w i s) →
@@ -84,12 +85,13 @@ abbrev pub kept_mark : {P : Type 0} → (P → Bool) → Option P → Option P
 kept_mark kept None = None
 kept_mark kept (Some place) = if kept place then Some place else None
 
--- the same run, of which the kept places alone are marked
+-- the run with marks at the kept places alone
 abbrev pub only : {S P : Type 0} → (P → Bool) → Watched S P → Watched S P
 only kept w = record w { mark = λ s. kept_mark kept (w.mark s) }
 
--- The other run counts this one's visits: for each number of steps it stands, after at least as many steps as kept
--- places were visited and at most `within` for each visit and once more, where this one stands. It needs no marks.
+-- The other run counts the visits of the watched one: after any number of steps of the watched run the other one,
+-- after some steps of its own, stands alike. These are at least as many as kept places were visited, and at most
+-- `within` for each visit and `within` more. The other run has no marks.
 pub record CountsAt {S T P : Type 0} (kept : P → Bool) (w : Watched S P) (s : S) (m : ℕ) (other : System T) (t : T)
     (within j : ℕ) : Type 0 where
   pub low : length (visits_of kept (visits w.system w.mark m s)) ≤ j

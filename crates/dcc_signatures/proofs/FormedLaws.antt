@@ -81,7 +81,7 @@ module _ (bits : List ℕ) where
 
 -- What is given back.
 
--- its widths
+-- the widths of what is given back
 abbrev pub widths_by : Packing → List Loc → List ℕ
 widths_by packing ls = elim packing [ Apart ↦ map (location_width []) ls | Word low high ↦ 16 ∷ [] | Double ↦ 32 ∷ [] ]
 

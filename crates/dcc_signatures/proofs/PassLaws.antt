@@ -248,7 +248,7 @@ module _ (p : Program) (sum_of : ℕ → Summary) (formed : IsProgram p) (just :
       outside : AgreeOutside s t
       outside = record { memory = h.outside.memory; input = h.outside.input; events = h.outside.events; base = h.outside.base }
 
-      -- so do the states that are left when a call is made
+      -- the states that are left when a call is made agree outside the locations
       paused : (rest rest' : List Stmt) → AgreeOutside (pausing rest s) (pausing rest' t)
       paused rest rest' = record { memory = outside.memory; input = outside.input; events = outside.events; base = outside.base }
 

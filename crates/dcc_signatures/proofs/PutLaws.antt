@@ -171,7 +171,7 @@ module _ (l : Loc) where
     base = o.base;
   }
 
-  -- the same words are taken
+  -- where two states hold the same at the location, and in memory, they do after the words are taken
   pub words_at : (j : ℕ) (params : List Param) (ns : List ℕ) (s t : State) → OpenAt l s t → OpenAt l (passing j params ns s) (passing j params ns t)
   words_at j [] ns s t o = o
   words_at j (q ∷ params) [] s t o = o

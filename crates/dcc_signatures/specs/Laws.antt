@@ -26,7 +26,7 @@ use Rattle.dcc_signatures.specs.Packed.{param_with, pack_graph, packed}
 abbrev pub IsInOrder : List Loc → Type 0
 IsInOrder locations = locations ≡ filter (λ location. is_among locations location) passed
 
--- so do the params and the results of each summary
+-- the params and the results of the summary stand in the order in which they pass, each once
 pub record AreInOrder (sum : Summary) : Type 0 where
   pub params : IsInOrder sum.params
   pub results : IsInOrder sum.results
@@ -41,9 +41,9 @@ pub record PassesOneValue (p : Program) (sums : List Summary) : Type 0 where
 abbrev pub PackedKeeps : Type 0
 PackedKeeps = (p : Program) (sums : List Summary) → IsProgram p → PassesOneValue p sums → IsKeptBy p (packed p)
 
--- What passes in it.
+-- What passes in a packed program.
 
--- these are at most one, of 1, 8, 16 or 32 bits
+-- the list has at most one element, of 1, 8, 16 or 32 bits
 abbrev pub AtMostOne : {A : Type 0} → (A → ℕ) → List A → Type 0
 AtMostOne {A} width xs = (xs ≡ []) ⊎ ((x : A) × (xs ≡ x ∷ []) × (is_width (width x) ≡ true))
 
@@ -55,8 +55,8 @@ abbrev pub TakesAtMostOne : List ℕ → Stmt → Type 0
 TakesAtMostOne bits (Call results entry arguments depth) = AtMostOne (location_width bits) results
 TakesAtMostOne bits stmt = Unit {0}
 
--- The graph takes words on the stack, then just these locations, each once: a register of which both halves are among
--- them is one param.
+-- The graph takes words on the stack, then just the given locations, each once: a register of which both halves are
+-- among them is one param.
 pub record TakesTogether (locations : List Loc) (graph : Graph) : Type 0 where
   pub words : List Param
   pub puts : List Put
@@ -77,11 +77,12 @@ abbrev pub PackedPassesOne : Type 0
 PackedPassesOne = (p : Program) (sums : List Summary) → IsProgram p → PassesOneValue p sums
     → PassesAtMostOne (sum_at p.graphs sums) (packed p)
 
--- no expression of a graph gets more than 3 deep that was not as deep
+-- the deepest expression of the packed graph is at most as deep as the graph's, or 3 deep
 abbrev pub PackedIsShallow : Type 0
 PackedIsShallow = (g : Graph) → deepest (graph_exprs (pack_graph g)) ≤ max (deepest (graph_exprs g)) 3
 
--- the localised program is such a program, where the summaries are its own and tell of one value
+-- the localised program passes just what its summaries say, and one value at most, where the summaries are its own and
+-- tell of one value
 abbrev pub LocalisedPassesOneValue : Type 0
 LocalisedPassesOneValue = (back : ℕ → List ℕ) (p : Program) (sums : List Summary) → IsProgram p → PassesAll back p
     → AreSums p sums → GivesOneValue sums → PassesOneValue (localised sums p) sums

@@ -18,19 +18,19 @@ use Rattle.dcc_signatures.specs.declared.packing.Fresh.{Fresh}
 use Rattle.dcc_signatures.specs.declared.packing.Packing.{Packing}
 use Rattle.dcc_signatures.specs.declared.packing.Packing.TheVariants.{Apart, Word, Double}
 
--- the two are the low and the high half of one register
+-- the two locations are the low and the high half of one register
 abbrev pub are_halves : Loc → Loc → Bool
 are_halves low (Half r High) = same_location low (Half r Low)
 are_halves low location = false
 
 -- Neighbours that are one.
 
--- two elements before a list, or the one that they are
+-- two elements before a list, or the one element that both together are
 abbrev pub two_or_one : {A : Type 0} → A → A → List A → Option A → List A
 two_or_one x y ys (Some z) = z ∷ ys
 two_or_one x y ys None = x ∷ y ∷ ys
 
--- an element before a list, or one with its first
+-- an element before a list, or one element made of it and the list's first
 abbrev pub in_front : {A : Type 0} → (A → A → Option A) → A → List A → List A
 in_front one x [] = x ∷ []
 in_front one x (y ∷ ys) = two_or_one x y ys (one x y)
@@ -40,7 +40,7 @@ abbrev pub merged : {A : Type 0} → (A → A → Option A) → List A → List 
 merged one [] = []
 merged one (x ∷ xs) = in_front one x (merged one xs)
 
--- the word that two halves are
+-- where a param goes that is the word of two halves
 abbrev pub one_put : Put → Put → Option Put
 one_put (One low) (One high) = if are_halves low high then Some (Two low high) else None
 one_put put other = None
@@ -69,7 +69,7 @@ packing_of (location ∷ []) = Apart
 packing_of (low ∷ high ∷ []) = if are_halves low high then Word low high else Double
 packing_of (a ∷ b ∷ c ∷ locations) = Double
 
--- the bit at which a half begins in its register, and in DX above AX where they are 32 bits
+-- the bit at which a half begins in its register; `bit_of`: or in 32 bits, where DX stands above AX
 abbrev pub bit_in_word : Loc → ℕ
 bit_in_word (Half r High) = 8
 bit_in_word location = 0
@@ -78,7 +78,7 @@ abbrev pub bit_of : Bool → Loc → ℕ
 bit_of true (Half Dx h) = 16 + bit_in_word (Half Dx h)
 bit_of double location = bit_in_word location
 
--- the location where it is given back, else 0
+-- the value of the location where it is given back, else 0
 abbrev pub given_or_zero : List Loc → Loc → Expr
 given_or_zero given location = if is_among given location then Get location else Const 8 0
 
@@ -88,7 +88,7 @@ given_word given r = Join (given_or_zero given (Half r High)) (given_or_zero giv
 abbrev pub double_of : List Loc → Expr
 double_of given = Join (given_word given Dx) (given_word given Ax)
 
--- the values of these locations, which are given back, as at most one
+-- the values of the locations, which are given back, as at most one
 abbrev pub one_value : List Loc → List Expr → List Expr
 one_value given values =
     elim (packing_of given) [
@@ -134,7 +134,7 @@ pack_exit exit = exit
 abbrev pub pack_block : Fresh → Block → Block
 pack_block fresh b = record b { stmts = flat_map (pack_stmt fresh) b.stmts; exit = pack_exit b.exit }
 
--- the two temporaries after these
+-- the two temporaries after those of the given widths
 abbrev pub fresh_after : List ℕ → Fresh
 fresh_after bits = record { word = length bits; double = length bits + 1 }
 

@@ -8,13 +8,13 @@ pub fn packed_keeps()
     ensures { PackedKeeps }
 {}
 
-/// In it each return gives at most one value, and each call takes at most one; a graph takes both halves of a register
-/// as one param.
+/// In the packed program each return gives at most one value, and each call takes at most one; a graph takes both
+/// halves of a register as one param.
 pub fn packed_passes_one()
     ensures { PackedPassesOne }
 {}
 
-/// No expression of a graph gets more than 3 deep that was not as deep.
+/// The deepest expression of the packed graph is at most as deep as the graph's, or 3 deep.
 pub fn packed_is_shallow()
     ensures { PackedIsShallow }
 {}

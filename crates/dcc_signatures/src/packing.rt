@@ -13,24 +13,24 @@ use std::alloc::{AllocError, Global};
 /// How some locations are given back.
 #[derive(Clone, Copy, PartialEq, Eq, Debug)]
 pub enum Packing {
-    /// There is at most one.
+    /// At most one location is given back, by itself.
     Apart,
-    /// They are the low and the high half of one register: a word.
+    /// The locations are the low and the high half of one register, and go back as a word.
     Word(Loc, Loc),
-    /// They are halves of AX and DX: 32 bits, AX below DX.
+    /// The locations are halves of AX and DX, and go back as 32 bits, AX below DX.
     Double,
 }
 
 /// The temporaries of a graph that take what its calls give where that stands for several locations.
 #[derive(Clone, Copy, PartialEq, Eq, Debug)]
 pub struct Fresh {
-    /// One of 16 bits.
+    /// The temporary of 16 bits.
     pub word: u32,
-    /// One of 32 bits.
+    /// The temporary of 32 bits.
     pub double: u32,
 }
 
-/// Whether the two are the low and the high half of one register.
+/// Whether the two locations are the low and the high half of one register.
 pub fn are_halves(low: Loc, high: Loc) -> bool
     ensures { result ≡ spec.are_halves low high }
 {
@@ -40,7 +40,7 @@ pub fn are_halves(low: Loc, high: Loc) -> bool
     }
 }
 
-/// How these locations are given back.
+/// How the locations are given back.
 pub fn packing_of(locations: &[Loc]) -> Packing
     ensures { result ≡ spec.packing_of locations.now }
 {
@@ -65,7 +65,7 @@ fn is_given(given: &[Loc], location: Loc) -> bool
     given.iter().any(|other| same_location(location, *other))
 }
 
-// The location where it is given back, else 0.
+// The value of the location where it is given back, else 0.
 fn given_or_zero(given: &[Loc], location: Loc) -> Expr
     ensures { expr_of result ≡ spec.given_or_zero given.now location }
 {
@@ -96,7 +96,7 @@ fn double(alloc: Global, given: &[Loc]) -> Result<Expr, AllocError>
     Expr::join(alloc, high, given_word(alloc, given, Reg::Ax)?)
 }
 
-/// The values of these locations, which are given back, as at most one.
+/// The values of the locations, which are given back, as at most one.
 pub fn one_value(alloc: Global, given: &[Loc], values: Vec<Expr>) -> Result<Vec<Expr>, AllocError>
     ensures { IfOk result (λ one. map expr_of one.items ≡ spec.one_value given.now (map expr_of values.items)) }
 {
@@ -109,7 +109,7 @@ pub fn one_value(alloc: Global, given: &[Loc], values: Vec<Expr>) -> Result<Vec<
     Ok(one)
 }
 
-/// The place of the one value that a call gives for these locations.
+/// The place of the one value that a call gives for the locations.
 pub fn value_places(alloc: Global, fresh: Fresh, results: &[Loc]) -> Result<Vec<Loc>, AllocError>
     ensures { IfOk result (λ places. places.items ≡ spec.value_places fresh results.now) }
 {
@@ -136,7 +136,7 @@ fn bit_in_word(location: Loc) -> u8
     }
 }
 
-// The bit at which a half begins in its register, and in DX above AX where they are 32 bits.
+// The bit at which a half begins in its register, or in 32 bits, where DX stands above AX.
 fn bit_of(double: bool, location: Loc) -> u8
     ensures { result ≡ spec.bit_of double location }
 {
@@ -146,7 +146,7 @@ fn bit_of(double: bool, location: Loc) -> u8
     }
 }
 
-// Each location takes its part of a temporary, after these statements.
+// Adds statements by which each location takes its part of a temporary.
 fn take_parts(
     alloc: Global,
     temporary: u32,
@@ -168,7 +168,7 @@ fn take_parts(
     Ok(())
 }
 
-/// The locations take their parts of the value that a call has given, after these statements.
+/// Adds statements by which the locations take their parts of the value that a call has given.
 pub fn push_parts(
     alloc: Global,
     fresh: Fresh,

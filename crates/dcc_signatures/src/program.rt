@@ -26,8 +26,8 @@ fn halves_got(low: &Expr, high: &Expr) -> Option<(Loc, Loc)>
     }
 }
 
-// Puts an argument before these, of which the last is the first; where it is the low half and that the high half of
-// one register, they become a word.
+// Puts an argument before the later ones, which stand in reverse; where it is the low half and the next one the high
+// half of one register, they become a word.
 fn put_argument(alloc: Global, argument: Expr, later: &mut Vec<Expr>) -> Result<(), AllocError>
     ensures { OnOk result (map expr_of (reverse later.new.items)
         ≡ spec.in_front spec.one_argument (expr_of argument) (map expr_of (reverse later.old.items))) }
@@ -59,8 +59,8 @@ fn pack_arguments(alloc: Global, arguments: Vec<Expr>) -> Result<Vec<Expr>, Allo
     Ok(packed)
 }
 
-// Puts a param before these, of which the last is the first; where it is the low half and that the high half of
-// one register, they become one.
+// Puts a param before the later ones, which stand in reverse; where it is the low half and the next one the high half
+// of one register, they become one.
 fn put_param(param: Param, later: &mut Vec<Param>) -> Result<(), AllocError>
     ensures { OnOk result (reverse later.new.items ≡ spec.in_front spec.one_param param (reverse later.old.items)) }
 {
@@ -104,7 +104,7 @@ fn pack_params(alloc: Global, params: Vec<Param>) -> Result<Vec<Param>, AllocErr
     Ok(packed)
 }
 
-// A statement after these; after a call that gives one value for several locations, these take their parts.
+// Adds a statement; after a call that gives one value for several locations, these take their parts.
 fn push_packed(
     alloc: Global,
     fresh: Fresh,
@@ -133,7 +133,7 @@ fn push_packed(
     push_parts(alloc, fresh, results.as_slice(), stmts)
 }
 
-// Each statement of a block so.
+// The statements of a block, of which each call passes and takes values packed.
 fn pack_stmts(alloc: Global, fresh: Fresh, stmts: Vec<Stmt>) -> Result<Vec<Stmt>, AllocError>
     ensures { IfOk result (λ packed. map stmt_of packed.items
         ≡ flat_map (spec.pack_stmt fresh) (map stmt_of stmts.items)) }
@@ -145,7 +145,7 @@ fn pack_stmts(alloc: Global, fresh: Fresh, stmts: Vec<Stmt>) -> Result<Vec<Stmt>
     Ok(packed)
 }
 
-// The locations whose values these are.
+// The locations that the values are reads of.
 fn got_by(alloc: Global, values: &[Expr]) -> Result<Vec<Loc>, AllocError>
     ensures { IfOk result (λ got. got.items ≡ flat_map got_by (map expr_of values.now)) }
 {
@@ -171,7 +171,7 @@ fn pack_end(alloc: Global, end: End) -> Result<End, AllocError>
     }
 }
 
-// Each block of a graph so.
+// The blocks of a graph, whose calls and returns pass values packed.
 fn pack_blocks(alloc: Global, fresh: Fresh, blocks: Vec<Block>) -> Result<Vec<Block>, AllocError>
     ensures { IfOk result (λ packed. map block_of packed.items
         ≡ map (spec.pack_block fresh) (map block_of blocks.items)) }
@@ -187,7 +187,7 @@ fn pack_blocks(alloc: Global, fresh: Fresh, blocks: Vec<Block>) -> Result<Vec<Bl
     Ok(packed)
 }
 
-// A fresh temporary of so many bits.
+// A fresh temporary of `width` bits.
 fn temporary(bits: &mut Vec<u8>, width: u8) -> Result<u32, AllocError>
     ensures bits { OnOk result (bits.new.items ≡ bits.old.items ++ width ∷ []) }
     ensures number { IfOk result (λ n. n ≡ length bits.old.items) }
@@ -197,7 +197,7 @@ fn temporary(bits: &mut Vec<u8>, width: u8) -> Result<u32, AllocError>
     Ok(number)
 }
 
-// A graph so, with two temporaries more.
+// A graph whose params, calls and returns pass values packed, with two temporaries more.
 fn pack_graph(alloc: Global, g: Graph) -> Result<Graph, AllocError>
     ensures { IfOk result (λ packed. graph_of packed ≡ spec.pack_graph (graph_of g)) }
 {
@@ -214,7 +214,7 @@ fn pack_graph(alloc: Global, g: Graph) -> Result<Graph, AllocError>
     })
 }
 
-// Each graph so.
+// The graphs, of which each passes values packed.
 fn pack_graphs(alloc: Global, graphs: Vec<Graph>) -> Result<Vec<Graph>, AllocError>
     ensures { IfOk result (λ packed. map graph_of packed.items ≡ map spec.pack_graph (map graph_of graphs.items)) }
 {

@@ -63,7 +63,7 @@ filtered-told test (first ∷ rest) number has passes =
 
 -- Offsets.
 
--- those of the words of these numbers, low byte first
+-- the offsets of the bytes of argument words by their numbers, low byte first
 abbrev pub word_offsets : ℕ → List ℕ → List ℕ
 word_offsets base [] = []
 word_offsets base (number ∷ numbers) =

@@ -13,7 +13,7 @@ use Rattle.dcc_simulation.specs.Places.{bytes_from, offsets_of}
 use Rattle.dcc_simulation.proofs.Coupling.{carried_laws}
 use Rattle.dcc_simulation.proofs.OperandBytes.{stack-offset}
 
--- its bytes are written then
+-- the marks after the bytes of the return address or the saved BP are written
 abbrev pub control_marks : ℕ → List Bool → List Bool
 control_marks first written = slice_set (slice_set written (first + 0) true) (first + 1) true
 

@@ -41,7 +41,7 @@ carried_laws = slots-carried in-form
 
 -- Segments.
 
--- they are held where segment registers and memory are the same
+-- a state holds the segments where segment registers and memory are the same as in one that does
 pub segments_kept : (image : Image) (layout : Layout) (s u : Machine) → u.segs ≡ s.segs → u.memory ≡ s.memory
     → IsState u → HoldsSegments image layout s → HoldsSegments image layout u
 segments_kept image layout s u segs memory state held = record {

@@ -56,7 +56,7 @@ module _ (cpu : Cpu) (image : Image) (program : Program) (of_file : IsProgramOfF
     number_is = greatest.1;
   }
 
-  -- and the table lies in the code
+  -- the table lies in the code
   inside : offset + 2 * (greatest.0 + 1) ≤ length (code_within image layout)
   inside = elim (cases_lt greatest.0 256) [
     | inr many ↦ absurd (of_file.is_program.procs.no_limit Entries (greatest.0 + 1)
@@ -110,7 +110,7 @@ module _ (cpu : Cpu) (image : Image) (program : Program) (of_file : IsProgramOfF
       (targets_of image layout op before)) op_is
       ∙ ap (table_targets image offset) greatest.1
 
-  -- so the machine goes to the successor whose number is half the register
+  -- the machine goes to the successor whose number is half the register
   pub table-goes :
       slice_get (successors image layout (at ∷ before)) (word_in s r / 2)
       ≡ Some (op_step layout.cpu (Table r offset) at (record s { ip = next_of at instr })).ip

@@ -12,7 +12,7 @@ use Rattle.dcc_simulation.specs.Nodes.{leads_to}
 use Rattle.dcc_simulation.specs.Procedures.{Procedure}
 use Rattle.dcc_simulation.specs.Passed.{exit_of}
 
--- it jumps through a table
+-- the operation jumps through a table
 abbrev pub is_table : Op → Bool
 is_table (Table r offset) = true
 is_table op = false
@@ -41,7 +41,7 @@ only-successor (Ret count) next ah targets untested other stays = absurd (true�
 only-successor Int21 next ah targets untested other stays = int-only (is_exit ah) next
 only-successor op next ah targets untested other stays = one next
 
--- so it leads there
+-- where there is one successor at most, the end of the block leads to it
 only-leads : (list : List ℕ) (to : ℕ) (u : State) → IsOnly list → Contains list to
     → leads_to (exit_to None list) u ≡ Some to
 only-leads _ to u none (k, less, is) = absurd (omega (arith, less))

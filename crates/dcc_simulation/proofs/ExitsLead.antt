@@ -76,7 +76,7 @@ tested-apart : (op : Op) (test : Expr) → op_test op ≡ Some test → is_table
 tested-apart (Table r offset) test told = cc
 tested-apart op test told = refl
 
--- Where it leads.
+-- Where the end of the block leads.
 
 module _ (e : Setting) (s : Machine) (stack : Stack) (instr : Instr) (t : State) (p : Procedure) (node : Node)
     (height : ℕ) (is : IsCleanInstruction e s stack instr) (here : IsNodeHere e s stack instr is p node height)

@@ -160,7 +160,7 @@ module _ (e : Setting) (lifting : IsLifting e) (entry : ℕ) where
         let frame = in-form.frames e.cpu e.image e.program entry lifting.of_file is_entry in
         given-in e.program.layout entry procs frames frame.0 frame.1.found
 
-    -- its frame is the one that is found for it
+    -- the frame of a procedure is the one that is found for it
     pub frame-for : (p : Procedure) → procedure_at (procedures_in e.program) entry ≡ Some p
         → IsFrameFor e.image e.program entry p.frame
     frame-for p found =

@@ -112,7 +112,7 @@ stores-apart (offset ∷ offsets) values base m address below =
     stores-apart offsets values base (slice_set m (base + offset) (values offset)) address below
     ∙ set-other m (base + offset) (values offset) address (λ same. omega (arith, same, below))
 
--- and leaves bytes
+-- a store leaves the length of memory
 stores-length : (offsets : List ℕ) (values : ℕ → ℕ) (base : ℕ) (m : List ℕ)
     → length (stored (stores_at (λ offset. base + offset) offsets values) m) ≡ length m
 stores-length [] values base m = refl

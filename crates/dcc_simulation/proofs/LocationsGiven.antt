@@ -77,7 +77,7 @@ gives-passing (location ∷ locations) values t all fits small =
       fits = rest.fits;
     }
 
--- all of them are given, each its own
+-- each half of a general register that is passed has its own value
 pub halves-given : (values : Values) (t : State) (r : Reg) (half : HalfName) → is_general r ≡ true
     → (giving passed (map values passed) t).running.values (Half r half) ≡ values (Half r half)
 halves-given values t Ax Low general = refl
@@ -108,7 +108,7 @@ abbrev pub is_temporary : Loc → Bool
 is_temporary (Temp n) = true
 is_temporary location = false
 
--- those from an index on hold these numbers
+-- the temporaries from an index on hold the numbers
 abbrev pub HoldFrom : Values → ℕ → List ℕ → Type 0
 HoldFrom values index [] = Unit {0}
 HoldFrom values index (x ∷ xs) = (values (returned_place index) ≡ x) × HoldFrom values (index + 1) xs

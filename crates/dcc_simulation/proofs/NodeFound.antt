@@ -55,7 +55,7 @@ module _ (e : Setting) (s : Machine) (stack : Stack) (instr : Instr) (p : Proced
   of-procedure : IsListed layout e.program.procs.items e.program.cells.frames.items a.frame.entry p
   of-procedure = listed e here.lifting a.frame.entry p here.procedure
 
-  -- its successors, and the number of its DOS call, are those of the trail
+  -- the successors of a node, and the number of its DOS call, are those of the trail
   pub node-found : IsNodeFound e.image layout a.frame.entry (a.at, node)
   node-found =
       let found = All-contains (IsFound e.image layout) e.program.procs.items p.proc
@@ -65,7 +65,7 @@ module _ (e : Setting) (s : Machine) (stack : Stack) (instr : Instr) (p : Proced
       (All-contains (IsNodeFound e.image layout p.proc.entry) p.proc.nodes.entries (s.ip, node) found.nodes
       here.node_is))
 
-  -- so its successors are those of its operation
+  -- the successors of a node are those of its operation
   pub successors-told :
       node.succ.items
       ≡ op_successors instr.op (next_of a.at instr) (known_ah e.image layout a.before)
@@ -73,7 +73,7 @@ module _ (e : Setting) (s : Machine) (stack : Stack) (instr : Instr) (p : Proced
   successors-told =
       node-found.succ a.before trail ∙ ap (instr_successors e.image layout a.at a.before) found-here
 
-  -- and its statements
+  -- the statements of a node are those of its operation
   pub stmts-told :
       node_stmts e.cpu (procedures_in e.program) p height node
       ≡ (if moves_frame instr.op then [] else

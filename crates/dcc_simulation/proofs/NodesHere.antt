@@ -38,11 +38,11 @@ module _ (e : Setting) (s : Machine) (stack : Stack) (instr : Instr) (p : Proced
   pub at-height : HasHeight e.image e.program.layout a.frame.entry a.at (pos height)
   at-height = has-height e.cpu e.image e.program is.of_file a.frame.entry a.at a.before (pos height) is-at
 
-  -- its procedure is found
+  -- the procedure of the instruction is found
   pub found-at : IsFoundAt e a.frame.entry p
   found-at = record { lifting = here.lifting; is_entry = is-at.is_entry; procedure = here.procedure }
 
-  -- it uses SP and BP in a form, and is none of the prelude's kind
+  -- the instruction uses SP and BP in a form, and is none of the prelude's kind
   pub form-here : FormOf e.image e.program.layout a.frame.entry a.at instr.op
   form-here =
       form-there e.cpu e.image e.program is.of_file a.frame.entry a.at a.before (pos height) is-at instr.op
@@ -53,14 +53,14 @@ module _ (e : Setting) (s : Machine) (stack : Stack) (instr : Instr) (p : Proced
       no-system e.cpu e.image e.program is.of_file a.frame.entry a.at a.before (pos height) is-at instr.op
       (there e s stack instr is)
 
-  -- its operands are of the table
+  -- the operands of the instruction are such as the table has
   pub placed-here : HavePlaces instr.op
   placed-here =
       instruction-placed e.program.layout.cpu s.ip (code_bytes s) instr (code-bytes s is.stands.segments.state)
       ((writes-apart in-form).fetched e.cpu e.image e.program s instr is.of_file is.stands.segments is.found)
       no-system-here
 
-  -- its step is the operation's
+  -- the step of the instruction is the operation's
   pub taken-here : s.end ≡ Running → IsStepOf e.image e.program.layout is.of_file.loaded s.ip instr s
   taken-here goes =
       step-of e.image e.program.layout is.of_file.loaded s.ip s instr is.stands.segments.state refl (ap is_over goes)

@@ -152,7 +152,7 @@ module _ (u : Machine) where
 
 -- Stores.
 
--- what it writes, if anything
+-- the operand that an operation writes, if any
 abbrev pub written_if : Bool → Operand → Option Operand
 written_if so x = if so then Some x else None
 

@@ -226,7 +226,7 @@ module _ (e : Setting) (s : Machine) (stack : Stack) (instr : Instr) (is : IsCle
           by byte_width own = let less = (own 0 (omega arith)).1 in omega (arith, less)
           by word_width own = let less = (own 1 (omega arith)).1 in omega (arith, less)
 
-      -- and each of its bytes lies there
+      -- each byte of an operand of the frame lies in the frame
       pub address-at : (index : ℕ) → index < bytes_in w
           → physical (segment_of s ea) ((offset_of s ea + index) % 65536) ≡ layout.ds * 16 + (start + index)
       address-at index less =
@@ -268,11 +268,11 @@ module _ (e : Setting) (s : Machine) (stack : Stack) (instr : Instr) (is : IsCle
           (address_in access index) each (address-among access w index refl less) offset
           (ap (stack_offset layout) address ∙ stack-offset layout offset low high)
 
-      -- it is written, where it is read
+      -- a byte of the operand that is read is written
       pub told : Makes is Reading w ea → is_marked stack.written offset ≡ true
       told makes = passes Reading is_reading (is_marked stack.written) clean.told makes refl
 
-      -- and exposed, where the access isn't direct
+      -- a byte of the operand is exposed, where the access isn't direct
       pub shown : (direction : Direction) → Makes is direction w ea → is_direct ea ≡ false
           → is_exposed_byte e.program top stack.frames offset ≡ true
       shown direction makes indirect =

@@ -58,7 +58,7 @@ use Rattle.dcc_simulation.proofs.OperandAccesses.{stores-are, back-same}
 
 -- Forms.
 
--- it names neither SP nor BP, or copies BP
+-- the operation names neither SP nor BP, or copies BP
 abbrev NamesNeither : Op → Type 0
 NamesNeither op = (names_sp_or_bp op ≡ false) ⊎ (copies_bp op ≡ true)
 

@@ -43,7 +43,8 @@ module _ (cpu : Cpu) (image : Image) (program : Program) (p : IsProgramOfFile cp
             absurd (no-frames cpu image program p entry at node.before (pos here.0) here.1
             (bad_access (long_without_addresses (inr e) uses long inside.0 inside.1)))
 
-    -- so does one that crosses the first byte of an argument's word or the one after it
+    -- a long run with a piece that crosses the first byte of an argument's word or the one after it stands in a framed
+    -- procedure alone
     framed-by-cross : (number : ℕ) (offset : ℤ) → offset ≡ pos (4 + 2 * number) → run.first ≤ℤ offset
         → offset <ℤ run.end
         → IsCrossed image layout entry offset
@@ -95,7 +96,7 @@ module _ (cpu : Cpu) (image : Image) (program : Program) (p : IsProgramOfFile cp
       framed : is_framed image layout entry ≡ true
       framed = long-framed piece is inside
 
-      -- it doesn't begin below the arguments and reach into them
+      -- a long run doesn't begin below the arguments and reach into them
       from-argument : pos 4 ≤ℤ piece.first → pos 4 ≤ℤ run.first
       from-argument above =
           by_lt_z run.first (pos 4)

@@ -65,7 +65,7 @@ module _ (image : Image) (layout : Layout) (entry : ℕ) where
   module _ (most : ℕ) (low : (span : Span) → IsPieceHere span → neg_ℤ (pos 32768) ≤ℤ span.first)
       (high : (span : Span) → IsPieceHere span → span.end ≤ℤ pos most)
       (piece : Span) (is : IsPieceHere piece) (some : piece.first <ℤ piece.end) where
-    -- it begins where a piece does
+    -- a run about the piece begins where a piece does
     abbrev Begins : Span → Type 0
     Begins start =
         IsPieceHere start × (start.first ≤ℤ piece.first)

@@ -121,7 +121,7 @@ module _ (e : Setting) (s : Machine) (stack : Stack) (instr : Instr) (p : Proced
       (form-here e s stack instr p node height is here))
 
   module _ (t : State) (before : Within is stack.written s t) where
-    -- and stands at its place
+    -- the divisor stands at its place
     read : IsRead R onward x (operand_place p height x)
     read =
         let target : IsTarget x = subst HavePlaces op_is (placed-here e s stack instr p node height is here) in

@@ -108,7 +108,7 @@ module _ (e : Setting) (s : Machine) (stack : Stack) (instr : Instr) (is : IsCle
     carried = c.carried;
   }
 
-  -- the same events happen
+  -- the coupling holds after the same events in both runs
   happened : (events : List Event) (u : Machine) (t : State) → R u t → R (after_events events u) (happening events t)
   happened events u t c =
       with-console u.input t.input (u.events ++ events) (t.events ++ events) u t c.input
@@ -127,7 +127,7 @@ module _ (e : Setting) (s : Machine) (stack : Stack) (instr : Instr) (is : IsCle
   al-taken byte u t small c =
       half_set R (coupled e is.stands.newest is.stands.callers stack.written) u t Ax Low byte refl small c
 
-  -- so it takes a key, or learns that there is none
+  -- AL takes a key in both runs, or both learn that there is none
   key-taken : (echo : Bool) (input : List ℕ) (u : Machine) (t : State) → u.input ≡ input → R u t
       → R (with_key echo input u) (keyed echo (Some (Half Ax Low)) input t)
   key-taken echo [] u t input c =
@@ -159,7 +159,7 @@ module _ (e : Setting) (s : Machine) (stack : Stack) (instr : Instr) (is : IsCle
         ∙ ap (λ op. op_step e.program.layout.cpu op s.ip onward) op_is
         ∙ ap (λ k. dos_step k s.ip onward) number
 
-    -- where it leaves the runs alike, they agree at the next instruction
+    -- where the call leaves the runs alike, they agree at the next instruction
     goes-on : (u : State) (n : ℕ) → word_in s Ax / 256 ≡ n → R (dos_step n s.ip onward) u
         → StepAgrees e s stack instr u
     goes-on u n number done =

@@ -48,7 +48,8 @@ passing-same test (x ∷ xs) (y ∷ ys) sizes same =
     by false so rest =
         ap (λ b. cond b (x ∷ take_while test xs) []) so ∙ sym (ap (λ b. cond b (x ∷ take_while test ys) []) so)
 
--- so it is with what two functions give
+-- lists that two functions give have what passes a test from the front on in common, where the functions agree on it
+-- and on what ends it
 given-same : (test : ℕ → Bool) (f g : ℕ → ℕ) (count : ℕ)
     → ((k : ℕ) → k < min (length (take_while test (map f (range_with_len 0 count))) + 1) count → f k ≡ g k)
     → take_while test (map f (range_with_len 0 count)) ≡ take_while test (map g (range_with_len 0 count))

@@ -89,7 +89,7 @@ offset-apart u n ea plain =
     ap₂ (λ base index. (base + index + ea.disp) % 65536) (part-apart u n ea.base plain.base)
     (part-apart u n ea.index (plain-part ea.index plain.index))
 
--- so an operand is the same wherever SP stands
+-- an operand is the same wherever SP stands
 accesses-apart : (u : Machine) (n : ℕ) (x : Operand) → IsTarget x
     → operand_accesses Writing x (with_word_in u Sp n) ≡ operand_accesses Writing x u
 accesses-apart u n (Word r) target = refl
@@ -120,7 +120,7 @@ operand-swap u n v (Mem word_width ea) target other wide =
     (offset-apart u n ea target.plain)
 operand-swap u n v (Const w number) target other wide = absurd target
 
--- and SP stays where it takes one
+-- SP stays where a word operand other than SP takes a value
 sp-stays : (u : Machine) (v : ℕ) (x : Operand) → IsTarget x → is_sp_or_bp x ≡ false
     → operand_width x ≡ word_width
     → word_in (with_operand u x v) Sp ≡ word_in u Sp

@@ -51,7 +51,7 @@ saves_bp op = is_push_bp op || is_enter op
 
 -- Forms.
 
--- they stand where a framed procedure begins
+-- operations that save BP stand where a framed procedure begins
 saved-first : (image : Image) (layout : Layout) (entry at height : ℕ) (op : Op) → saves_bp op ≡ true
     → IsForm image layout entry at height op
     → (is_framed image layout entry ≡ true) × (height ≡ 0)

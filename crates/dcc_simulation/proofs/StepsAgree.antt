@@ -100,7 +100,7 @@ waiting-on e a place (caller ∷ callers) (w ∷ waiting) are = (
   are.2,
 )
 
--- nor for itself
+-- where a procedure stands doesn't matter within an instruction, for itself
 pub on-at : (e : Setting) (a : Activation) (callers : List Activation) (written : List Bool) (s : Machine) (t : State)
     (place : ℕ) → Coupled e a callers written s t
     → Coupled e (at_next a place) callers written s t

@@ -33,13 +33,13 @@ pub record IsAddress (ea : Ea) : Type 0 where
   pub plain : IsPlainAddress ea
   pub small : ea.disp < 65536
 
--- it is read at a place
+-- the operand may be read at a place
 abbrev pub IsSource : Operand → Type 0
 IsSource (Mem width ea) = IsAddress ea
 IsSource (Seg number) = ⊥
 IsSource x = Unit {0}
 
--- it is written there
+-- the operand may be written at a place
 abbrev pub IsTarget : Operand → Type 0
 IsTarget (Mem width ea) = IsAddress ea
 IsTarget (Seg number) = ⊥

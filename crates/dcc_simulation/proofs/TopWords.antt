@@ -127,7 +127,7 @@ module _ (e : Setting) (s : Machine) (stack : Stack) (instr : Instr) (x : Operan
       (ap (stack_offset layout) (lies index less)
       ∙ stack-offset layout (top + index) (omega (arith, inside)) (high-at index less))
 
-  -- it is read at its place, whatever the flags are
+  -- the word at the top of the stack is read at its place, whatever the flags are
   pub top-read : (flags : Flags) (t : State) (place : Place) → Within is stack.written (with_flags flags here) t
       → IsFramePlace e is.stands.newest.frame.entry (pos 2 -ℤ pos stands.height) word_width place
       → value_in t (place_value place) ≡ top_word here

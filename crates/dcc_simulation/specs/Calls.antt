@@ -15,12 +15,12 @@ use Rattle.dcc_ir.specs.declared.syntax.Loc.TheVariants.{Half, Flag}
 use Rattle.dcc_ir.specs.Run.{State, Waiting}
 use Rattle.dcc_simulation.specs.Coupled.{Setting, typed_by, IsActivationOf, AreWaiting}
 
--- the activation that a CALL begins, with SP at an offset before it and this BP
+-- the activation that a CALL begins, with SP before it at an offset and with this BP
 abbrev pub begun : ℕ → ℕ → ℕ → Activation
 begun target top bp =
     record { frame = record { entry = target; base = top }; at = target; before = []; caller_bp = bp }
 
--- halves, flags and the console are as they were
+-- two inner states have the same halves, flags and console
 pub record Passes (t u : State) : Type 0 where
   pub halves :
       (r : Reg) (half : HalfName) → is_general r ≡ true
@@ -29,8 +29,8 @@ pub record Passes (t u : State) : Type 0 where
   pub input : u.input ≡ t.input
   pub events : u.events ≡ t.events
 
--- A procedure begins in the inner run, called by one with these callers, where these bytes of the stack are written:
--- its halves, flags and argument words are the caller's, and all else is as it was.
+-- A procedure begins in the inner run, called by a procedure with these callers, where these bytes of the stack are
+-- written: its halves, flags and argument words are the caller's, and all else is as it was.
 pub record Begins (e : Setting) (callee caller : Activation) (callers : List Activation) (written : List Bool)
     (s : Machine) (t u : State) : Type 0 where
   pub running : u.end ≡ Running
@@ -41,7 +41,7 @@ pub record Begins (e : Setting) (callee caller : Activation) (callers : List Act
   pub waiting : AreWaiting e callee (caller ∷ callers) (waits ∷ t.waiting)
   pub values : waits.caller.values ≡ t.running.values
   pub passes : Passes t u
-  -- each written byte of an argument is held; memory takes such bytes alone
+  -- each written byte of an argument is held by the callee; memory takes bytes of arguments alone
   pub size : length u.memory ≡ 65536
   pub bytes : (offset : ℕ) → slice_index u.memory offset < 256
   pub held :
@@ -66,7 +66,7 @@ pub record Returns (e : Setting) (callee : Activation) (callers : List Activatio
   pub waiting : t.waiting ≡ waits ∷ u.waiting
   pub newest : IsActivationOf e caller u.running
   pub passes : Passes t u
-  -- the bytes that are given back, and the caller with them
+  -- the bytes of arguments that are given back, and the caller with them
   pub offsets : List ℕ
   pub bytes : ℕ → ℕ
   pub small : (offset : ℕ) → bytes offset < 256

@@ -27,8 +27,8 @@ use Rattle.dcc_ops.specs.Temporaries.{temporary_bits}
 use Rattle.dcc_ops.specs.Coupling.{HoldFlags}
 
 -- What runs: an image, the program that the analyses find in it on a processor, and a program of the inner language
--- with a graph for each of its procedures. The procedure with an entry has these cells, in the order of their numbers
--- there.
+-- with a graph for each of its procedures. `cells` are those of the procedure with an entry, in the order of their
+-- numbers.
 pub record Setting : Type 0 where
   pub cpu : Cpu
   pub image : Image
@@ -36,7 +36,7 @@ pub record Setting : Type 0 where
   pub inner : InnerProgram
   pub cells : ℕ → List Cell
 
--- these cells are those of the procedures: no others, and all that don't stand in memory
+-- the cells of each procedure are all that don't stand in memory, and no others
 pub record AreNumbered (e : Setting) : Type 0 where
   pub cells :
       (entry : ℕ) → IsEntry e.image e.program.layout entry
@@ -48,8 +48,8 @@ pub record AreNumbered (e : Setting) : Type 0 where
 
 -- Frames.
 
--- the location of the byte at so many bytes from a frame's base less 4: a half of one of these cells, which are
--- numbered from the first number on
+-- the location of the byte at a distance from a frame's base less 4: a half of one of the cells, which are numbered
+-- from the first number on
 abbrev pub half_in : ℕ → List Cell → ℤ → Option Loc
 half_in n [] k = None
 half_in n (cell ∷ cells) k =
@@ -61,7 +61,7 @@ abbrev pub held_at : Values → Option Loc → ℕ
 held_at values None = 0
 held_at values (Some location) = values location
 
--- what these values tell of the frame's bytes, by their offsets from its base less 4
+-- what values of locations tell of the frame's bytes, by their offsets from its base less 4
 abbrev pub slots_in : List Cell → Values → ℤ → ℕ
 slots_in cells values k = held_at values (half_in 0 cells k)
 
@@ -69,21 +69,22 @@ slots_in cells values k = held_at values (half_in 0 cells k)
 abbrev pub typed_by : Setting → Activation → InnerActivation → Typed
 typed_by e a inner = record { activation = a; slots = slots_in (e.cells a.frame.entry) inner.values }
 
--- those of procedures that wait
+-- the frames of procedures that wait, as their activations in the inner run hold them
 abbrev pub typed_waiting : Setting → List Activation → List Waiting → List Typed
 typed_waiting e (a ∷ callers) (w ∷ waiting) = typed_by e a w.caller ∷ typed_waiting e callers waiting
 typed_waiting e _ _ = []
 
 -- Activations.
 
--- It is that of a procedure: it runs its graph, from its frame's base, with values that fit.
+-- An activation of the inner run is that of a procedure: it runs the procedure's graph, from its frame's base, with
+-- values that fit.
 pub record IsActivationOf (e : Setting) (a : Activation) (inner : InnerActivation) : Type 0 where
   pub graph : graph_at e.inner.graphs a.frame.entry ≡ Some inner.graph
   pub bits : inner.graph.bits ≡ temporary_bits
   pub base : inner.base ≡ a.frame.base % 65536
   pub values : (location : Loc) → inner.values location < 2 ^ location_width inner.graph.bits location
 
--- it waits in the block of a CALL, right after the Call of the procedure that was called
+-- an activation of the inner run waits in the block of a CALL, right after the Call of the procedure that was called
 pub record WaitsAfterCall (caller callee : Activation) (w : Waiting) : Type 0 where
   pub block : Contains w.caller.graph.blocks w.caller.block
   pub at : w.caller.block.at ≡ caller.at
@@ -103,11 +104,11 @@ AreWaiting e callee _ _ = ⊥
 
 -- Both runs.
 
--- They agree, anywhere within an instruction: a procedure is the newest that has begun, with these callers, and these
--- bytes of the stack are written.
+-- Both runs agree, anywhere within an instruction: a procedure is the newest that has begun, with these callers, and
+-- these bytes of the stack are written.
 pub record Coupled (e : Setting) (a : Activation) (callers : List Activation) (written : List Bool) (s : Machine)
     (t : State) : Type 0 where
-  -- both go on
+  -- both runs go on
   pub goes : s.end ≡ Running
   pub running : t.end ≡ Running
   -- the inner run's activations are those of the procedures
@@ -127,7 +128,7 @@ pub record Coupled (e : Setting) (a : Activation) (callers : List Activation) (w
       AreCarried e.cpu e.image e.program s.memory t.memory written (top_in e.program.layout s)
       (typed_by e a t.running ∷ typed_waiting e callers t.waiting)
 
--- they agree at an instruction, where the machine's stack stands
+-- both runs agree at an instruction, where the machine's stack stands
 pub record AreCoupled (e : Setting) (s : Machine) (stack : Stack) (t : State) : Type 0 where
   pub stands : StackStands e.image e.program.layout s stack
   pub coupled : Coupled e stands.newest stands.callers stack.written s t

@@ -30,7 +30,7 @@ pub record FoundPlacesStand : Type 0 where
       (e : Setting) (entry : ℕ) (p : Procedure) (piece : Span) (w : Width) (k : ℤ) → IsFoundAt e entry p
       → IsPiece e.image e.program.layout entry piece → piece.first ≤ℤ k → (k +ℤ pos (bytes_in w)) ≤ℤ piece.end
       → IsFramePlace e entry k w (frame_place p w k)
-  -- so do the words that are pushed and popped
+  -- the words that are pushed and popped stand at the places that the frame tells
   pub pushed :
       (e : Setting) (entry at height : ℕ) (p : Procedure) (x : Operand) (before : List ℕ) → IsFoundAt e entry p
       → IsAt e.image e.program.layout entry at before (pos height)

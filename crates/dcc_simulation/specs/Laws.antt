@@ -72,7 +72,8 @@ FramesAreRead =
     → value_in t (place_value place)
     ≡ number_of w (λ index. slice_index s.memory (e.program.layout.ds * 16 + (first + index)))
 
--- and takes a number there, as the machine's memory does; of an argument that is so where it may change
+-- a byte or word of the newest frame takes a number at its place, as the machine's memory does; one of an argument,
+-- where the procedure may change it
 abbrev pub FramesAreWritten : Type 0
 FramesAreWritten =
     (e : Setting) (a : Activation) (callers : List Activation) (written : List Bool) (s : Machine) (t : State)
@@ -109,7 +110,7 @@ pub record IsCleanInstruction (e : Setting) (s : Machine) (stack : Stack) (instr
   pub clean : foul_of e.program stack s (Some instr) ≡ None
 
 module _ {e : Setting} {s : Machine} {stack : Stack} {instr : Instr} (is : IsCleanInstruction e s stack instr) where
-  -- the runs agree, within it, with these bytes written
+  -- both runs agree within the instruction, with these bytes of the stack written
   abbrev pub Within : List Bool → Relation
   Within written t u = Coupled e is.stands.newest is.stands.callers written t u
 
@@ -123,11 +124,11 @@ module _ {e : Setting} {s : Machine} {stack : Stack} {instr : Instr} (is : IsCle
     size = bytes_in w;
   }
 
-  -- the instruction makes it
+  -- the instruction makes the access to its memory operand
   abbrev pub Makes : Direction → Width → Ea → Type 0
   Makes direction w ea = Contains (found_accesses (Some instr) s) (operand_access direction w ea)
 
-  -- the bytes that are written after it
+  -- the bytes of the stack that are written after an access that stores
   abbrev pub written_by : Access → List Bool
   written_by access = with_marks true (stack_bytes e.program.layout (access ∷ [])) stack.written
 
@@ -139,7 +140,7 @@ OperandsAreRead =
     → IsOperandPlace e is.stands.newest.frame.entry (Within is stack.written) (record s { ip = ip }) ea w place
     → IsRead (Within is stack.written) (record s { ip = ip }) (Mem w ea) place
 
--- and one that it writes is written there
+-- a memory operand that a clean instruction writes is written at its place
 abbrev pub OperandsAreWritten : Type 0
 OperandsAreWritten =
     (e : Setting) (s : Machine) (stack : Stack) (instr : Instr) (w : Width) (ea : Ea) (place : Place) (ip : ℕ)
@@ -160,14 +161,15 @@ pub record AddressesAreTold : Type 0 where
       → (value_in t (frame_address k)
       + wrapped_of word_width (((pos 2 -ℤ pos stands.height) -ℤ pos e.program.layout.delta) -ℤ k)) % 65536
       ≡ word_in s Sp
-  -- so is BP, where an instruction exposes bytes of the frame
+  -- BP is the address of a byte of the frame and a number, where an instruction exposes bytes of the frame
   pub bp :
       (e : Setting) (s : Machine) (stack : Stack) (instr : Instr) (ip : ℕ) (start k : ℤ) (flags : Flags) (t : State)
       (is : IsCleanInstruction e s stack instr)
       → StartsExposure e.image e.program.layout is.stands.newest.frame.entry is.stands.newest.at start
       → Within is stack.written (with_flags flags (record s { ip = ip })) t
       → (value_in t (frame_address k) + wrapped_of word_width (neg_ℤ k)) % 65536 ≡ word_in s Bp
-  -- and an expression with the sum of an address is its offset; with BP it exposes bytes of the frame
+  -- an expression with the sum of an address is its offset; with BP as its base the instruction exposes bytes of the
+  -- frame
   pub offset :
       (e : Setting) (s : Machine) (stack : Stack) (instr : Instr) (ip : ℕ) (ea : Ea) (at : Expr)
       (is : IsCleanInstruction e s stack instr) → IsPlainAddress ea
@@ -178,7 +180,7 @@ pub record AddressesAreTold : Type 0 where
 
 -- SP and BP.
 
--- they take words, and the run of the inner language stays as it is
+-- SP and BP take words, and the run of the inner language stays as it is
 pub record PointersMove : Type 0 where
   -- SP falls, down to the stack's low end at most
   pub falls :
@@ -187,7 +189,7 @@ pub record PointersMove : Type 0 where
       → e.program.layout.lo ≤ sp + e.program.layout.delta → sp ≤ word_in s Sp
       → ((offset : ℕ) → is_marked written offset ≡ true → top_in e.program.layout s ≤ offset)
       → Coupled e a callers written (with_word_in s Sp sp) t
-  -- or it rises, and some bytes are written no longer
+  -- SP rises, and some bytes are written no longer
   pub rises :
       (e : Setting) (a : Activation) (callers : List Activation) (written : List Bool) (s : Machine) (t : State)
       (sp : ℕ) (offsets : List ℕ) → Coupled e a callers written s t → sp < 65536 → word_in s Sp ≤ sp
@@ -210,7 +212,8 @@ StepsAgree =
     → AreCoupled e (step e.program.layout.cpu s)
     (stack_after e.program.layout (Some instr) s (step e.program.layout.cpu s) stack) u
 
--- So they do after the statements of an operation that leaves SP, where its operands stand at these places.
+-- After a clean step, and the statements of an operation that leaves SP and whose operands stand at these places, both
+-- runs agree at the next instruction.
 abbrev pub OperationsAgree : Type 0
 OperationsAgree =
     (e : Setting) (s : Machine) (stack : Stack) (instr : Instr) (t : State) (number : Option ℕ) (p q : Place)
@@ -225,7 +228,8 @@ OperationsAgree =
     (stack_after e.program.layout (Some instr) s (step e.program.layout.cpu s) stack)
     (execute (op_stmts e.program.layout.cpu instr.op number p q) t)
 
--- A PUSH of an operand other than SP and BP: the word of the frame below SP takes it, at its place.
+-- After a PUSH of an operand other than SP and BP both runs agree, where the word of the frame below SP takes the
+-- operand, at its place.
 abbrev pub WordsArePushed : Type 0
 WordsArePushed =
     (e : Setting) (s : Machine) (stack : Stack) (instr : Instr) (x : Operand) (t : State) (place : Place)
@@ -238,7 +242,8 @@ WordsArePushed =
     (stack_after e.program.layout (Some instr) s (step e.program.layout.cpu s) stack) (taken place (operand_value s
     x) t)
 
--- After `mov bp,sp`, `mov sp,bp`, LEA of SP from BP, `pop bp` and LEAVE they agree, and the inner run stays as it is.
+-- After `mov bp,sp`, `mov sp,bp`, LEA of SP from BP, `pop bp` and LEAVE both runs agree, and the inner run stays as it
+-- is.
 abbrev pub PointersAreSet : Type 0
 PointersAreSet =
     (e : Setting) (s : Machine) (stack : Stack) (instr : Instr) (t : State) (is : IsCleanInstruction e s stack instr)
@@ -246,7 +251,7 @@ PointersAreSet =
     → AreCoupled e (step e.program.layout.cpu s)
     (stack_after e.program.layout (Some instr) s (step e.program.layout.cpu s) stack) t
 
--- After a CALL they agree, where the inner run has begun the procedure that is called.
+-- After a CALL both runs agree, where the inner run has begun the procedure that is called.
 abbrev pub CallsBegin : Type 0
 CallsBegin =
     (e : Setting) (s : Machine) (stack : Stack) (instr : Instr) (target : ℕ) (t u : State)
@@ -256,7 +261,7 @@ CallsBegin =
     → AreCoupled e (step e.program.layout.cpu s)
     (stack_after e.program.layout (Some instr) s (step e.program.layout.cpu s) stack) u
 
--- After a RET they agree, where the inner run has returned to the procedure that waits.
+-- After a RET both runs agree, where the inner run has returned to the procedure that waits.
 abbrev pub CallsReturn : Type 0
 CallsReturn =
     (e : Setting) (s : Machine) (stack : Stack) (instr : Instr) (count : ℕ) (t u : State)

@@ -30,17 +30,17 @@ use Rattle.dcc_simulation.specs.Statements.{calling, node_stmts}
 abbrev pub procedures_in : Program → List Procedure
 procedures_in program = procedures_of program.layout program.procs.items program.cells.frames.items
 
--- the cells of the one with that entry, in the order of their numbers
+-- the cells of the procedure with that entry, in the order of their numbers
 abbrev pub cells_at : List Procedure → ℕ → List Cell
 cells_at procedures entry = elim (procedure_at procedures entry) [ None ↦ [] | Some p ↦ cells_of p ]
 
--- the graph is a procedure's, and takes what it takes; that of the entry procedure takes nothing
+-- the graph is a procedure's, and takes what the procedure takes; the graph of the entry procedure takes nothing
 pub record IsGraphFor (start : ℕ) (p : Procedure) (graph : Graph) : Type 0 where
   pub entry : graph.entry ≡ p.proc.entry
   pub params : graph.params ≡ (if p.proc.entry == start then [] else params_of p)
   pub bits : graph.bits ≡ temporary_bits
 
--- the block of a CALL in a procedure's graph has that instruction alone
+-- the block of a CALL in a procedure's graph has the CALL alone
 abbrev pub HasCall : Setting → Procedure → Graph → Block → Type 0
 HasCall e p graph block =
     (node : Node) (target : ℕ) (before : List ℕ) (height : ℕ) → Contains p.proc.nodes.entries (block.at, node)
@@ -71,7 +71,7 @@ pub record IsNodeHere (e : Setting) (s : Machine) (stack : Stack) (instr : Instr
   pub stands : StandsIn e.image e.program.layout s.memory is.stands.newest (top_in e.program.layout s) (word_in s Bp)
   pub height_is : stands.height ≡ height
 
--- After the step the runs agree, or both have ended alike.
+-- After the machine's step both runs agree, or both have ended alike.
 pub data StepAgrees (e : Setting) (s : Machine) (stack : Stack) (instr : Instr) (u : State) : Type 0 where
   agree :
       AreCoupled e (step e.program.layout.cpu s)
@@ -83,7 +83,7 @@ pub data StepAgrees (e : Setting) (s : Machine) (stack : Stack) (instr : Instr) 
       → u.events ≡ (step e.program.layout.cpu s).events
       → StepAgrees e s stack instr u
 
--- so it is after the statements of each instruction but CALL and RET
+-- after the statements of each instruction but CALL and RET both runs agree, or both have ended alike
 abbrev pub NodesAgree : Type 0
 NodesAgree =
     (e : Setting) (s : Machine) (stack : Stack) (instr : Instr) (t : State) (p : Procedure) (node : Node) (height : ℕ)
@@ -101,8 +101,8 @@ leads_to (Switch e places) u = slice_get places (value_in u e)
 leads_to (RetTo values) u = None
 leads_to Stop u = None
 
--- Where the machine goes on after the step, that of the instruction leads to the next one, if its places are those of its
--- successors.
+-- Where the machine goes on after the step, the end of the instruction's block leads to the next instruction, if the
+-- end's places are those of its successors.
 abbrev pub ExitsLead : Type 0
 ExitsLead =
     (e : Setting) (s : Machine) (stack : Stack) (instr : Instr) (t : State) (p : Procedure) (node : Node) (height : ℕ)

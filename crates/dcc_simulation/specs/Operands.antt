@@ -1,4 +1,5 @@
--- Where the operands of an instruction stand, where SP stands so many bytes below its value at the procedure's entry.
+-- Where the operands of an instruction stand, by the height: by how many bytes SP stands below its value at the
+-- procedure's entry.
 use Rattle.std.specs.Prelude.{ℕ, ℤ, pos, ◌-ℤ◌, if◌then◌else◌, Some, None}
 use Rattle.dcc_num.specs.declared.Width.{Width}
 use Rattle.dcc_num.specs.declared.Width.TheVariants.{Word as word_width}
@@ -32,11 +33,11 @@ address_of ea =
     record { frame = Some (distance_of (offset_in_frame ea)); base = None; index = ea.index; number = 0 }
     else record { frame = None; base = ea.base; index = ea.index; number = ea.disp }
 
--- SP, an offset of the stack segment. The address from which it is told is BP's, which exposes no byte.
+-- The value of SP, an offset of the stack segment. The address from which it is told is BP's, which exposes no byte.
 abbrev pub stack_pointer : Procedure → ℕ → Computed
 stack_pointer p height = from_frame (pos 0) ((pos 2 -ℤ pos height) -ℤ pos p.delta)
 
--- BP: its value exposes all bytes between SP and BP, so it is told from the address of the lowest of them
+-- the value of BP: it exposes all bytes between SP and BP, so it is told from the address of the lowest of them
 abbrev pub frame_pointer : ℕ → Computed
 frame_pointer height = from_frame (pos 2 -ℤ pos height) (pos height -ℤ pos 2)
 
@@ -54,7 +55,7 @@ operand_place p height (Word Sp) = computed (computed_expr (stack_pointer p heig
 operand_place p height (Word Bp) = computed (computed_expr (frame_pointer height))
 operand_place p height operand = register_place operand
 
--- Those of an operation's first and second operand.
+-- The places of an operation's first and second operand.
 
 abbrev pub no_place : Place
 no_place = constant word_width 0

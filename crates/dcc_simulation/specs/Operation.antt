@@ -16,7 +16,8 @@ use Rattle.dcc_simulation.specs.Procedures.{Procedure}
 use Rattle.dcc_simulation.specs.Statements.{moves_frame, node_stmts}
 use Rattle.dcc_simulation.specs.Nodes.{procedures_in, IsNodeHere, StepAgrees}
 
--- it has statements of such a kind, or a jump with none
+-- the operation is one whose statements take its operands from their places and put its result there, or a jump with
+-- no statement
 abbrev pub is_performed : Op → Bool
 is_performed (Alu operation a b) = true
 is_performed (Unary operation a) = not (is_division operation)
@@ -33,11 +34,11 @@ is_performed (LoopNe target) = true
 is_performed (Jcxz target) = true
 is_performed op = false
 
--- and leaves SP and BP
+-- the operation takes its operands from their places, puts its result there, or is a jump; and it leaves SP and BP
 abbrev pub is_plain_operation : Op → Bool
 is_plain_operation op = is_performed op && not (is_sp_move op || moves_frame op)
 
--- after the statements of such an instruction the runs agree
+-- after the statements of an operation that takes its operands from places and leaves SP and BP both runs agree
 abbrev pub OperationNodesAgree : Type 0
 OperationNodesAgree =
     (e : Setting) (s : Machine) (stack : Stack) (instr : Instr) (t : State) (p : Procedure) (node : Node) (height : ℕ)

@@ -39,7 +39,8 @@ params_of p = argument_params p ++ map param_of passed
 abbrev pub returned_values : Procedure → List Expr
 returned_values p = map Get passed ++ bytes_of (argument_params p) (given_back p)
 
--- to the blocks of the successors, by their places. A table's register holds twice the number of its target.
+-- how the block of an operation ends, by the places of its successors' blocks; a table's register holds twice the
+-- number of its target
 abbrev pub exit_of : Procedure → Op → List ℕ → Exit
 exit_of p (Table r offset) places = Switch (Binary Shr 16 (word_of r) (Const 16 1)) places
 exit_of p (RetOp count) places = Ret (returned_values p)

@@ -27,12 +27,12 @@ use Rattle.dcc_ops.specs.Place.{Place, byte, word, memory}
 use Rattle.dcc_ops.specs.Coupling.{Relation}
 use Rattle.dcc_simulation.specs.Coupled.{Setting, half_in}
 
--- the byte at so many bytes from the base less 4 of a procedure's frame is in a location, and in no memory
+-- the byte at a distance from the base less 4 of a procedure's frame is in a location, and not in memory
 pub record IsInLocation (e : Setting) (entry : ℕ) (k : ℤ) (location : Loc) : Type 0 where
   pub apart : ¬ IsPlaced e.image e.program.layout entry k
   pub is : half_in 0 (e.cells entry) k ≡ Some location
 
--- the place of a byte or a word of a frame, from so many bytes from its base less 4 on
+-- the place of a byte or a word of a frame, from a distance from its base less 4 on
 pub data IsFramePlace (e : Setting) (entry : ℕ) (k : ℤ) : Width → Place → Type 0 where
   in_half :
       {number : ℕ} {half : HalfName}
@@ -43,13 +43,13 @@ pub data IsFramePlace (e : Setting) (entry : ℕ) (k : ℤ) : Width → Place �
       → IsInLocation e entry k (CellHalf number Low)
       → IsInLocation e entry (k +ℤ pos 1) (CellHalf number High)
       → IsFramePlace e entry k word_width (word (CellHalf number Low) (CellHalf number High))
-  -- the base's address is that of offset 4
+  -- in memory: the base's address is that of offset 4
   in_memory :
       {w : Width}
       → ((index : ℕ) → index < bytes_in w → IsPlaced e.image e.program.layout entry (k +ℤ pos index))
       → IsFramePlace e entry k w (memory w (Address (wrapped_of word_width (k -ℤ pos 4))))
 
--- the expression is the operand's offset wherever the relation holds of this state, whatever its flags are
+-- the expression is the operand's offset wherever the relation holds of the machine's state, whatever its flags are
 abbrev pub IsOffset : Relation → Machine → Ea → Expr → Type 0
 IsOffset R s ea at = (flags : Flags) (t : State) → R (with_flags flags s) t → value_in t at ≡ offset_of s ea
 
@@ -67,11 +67,11 @@ abbrev pub part_value : State → Option Reg → ℕ
 part_value t None = 0
 part_value t (Some r) = value_in t (word_of r)
 
--- the address of the byte at so many bytes from the base less 4 of the running frame
+-- the address of the byte at a distance from the base less 4 of the running frame
 abbrev pub frame_address : ℤ → Expr
 frame_address k = Address (wrapped_of word_width (k -ℤ pos 4))
 
--- the sum: BP with the displacement is the address of a byte of the frame
+-- the value of an address in the inner run: BP with the displacement is the address of a byte of the frame
 abbrev pub address_value : State → Ea → ℕ
 address_value t ea =
     ((if is_bp ea.base then value_in t (frame_address (offset_in_frame ea)) else part_value t ea.base + ea.disp)
@@ -105,11 +105,11 @@ abbrev pub number_of : Width → (ℕ → ℕ) → ℕ
 number_of byte_width bytes = bytes 0
 number_of word_width bytes = bytes 0 + 256 * bytes 1
 
--- the bytes of a number, by their offsets, where that of the first one is told
+-- the bytes of a number, by their offsets, where the offset of the first one is told
 abbrev pub bytes_from : ℕ → ℕ → ℕ → ℕ
 bytes_from first v = λ offset. if offset == first then v % 256 else v / 256
 
--- the offsets of its bytes, by their indices
+-- the offsets of a number's bytes, by their indices
 abbrev pub offsets_of : Width → (ℕ → ℕ) → List ℕ
 offsets_of w offset = map offset (range_with_len 0 (bytes_in w))
 

@@ -19,51 +19,53 @@ use Rattle.dcc_ir.specs.declared.syntax.Loc.TheVariants.{Cell as cell_half}
 use Rattle.dcc_ir.specs.Tree.{Address}
 use Rattle.dcc_ops.specs.Place.{Place, constant, byte, word, memory}
 
--- a procedure with its frame, where the stack segment begins so many bytes above the data segment
+-- a procedure with its frame; `delta` is how many bytes the stack segment begins above the data segment
 pub record Procedure : Type 0 where
   pub proc : Proc
   pub frame : Frame
   pub delta : ℕ
 
--- those that are found
+-- the procedures that are found, with their frames
 abbrev pub procedures_of : Layout → List Proc → List Frame → List Procedure
 procedures_of layout (proc ∷ procs) (frame ∷ frames) =
     record { proc = proc; frame = frame; delta = layout.delta } ∷ procedures_of layout procs frames
 procedures_of layout _ _ = []
 
--- the one with that entry
+-- the procedure with that entry
 abbrev pub procedure_at : List Procedure → ℕ → Option Procedure
 procedure_at procedures entry = find (λ (p : Procedure). p.proc.entry == entry) procedures
 
 -- Cells.
 
--- a direct access of the procedure has one of these bytes
+-- a direct access of the procedure touches a byte of the span
 abbrev pub is_accessed : Proc → Frame → Span → Bool
 is_accessed proc frame span =
     frame.framed
     && list_any (λ (node : ℕ × Node). overlaps span (direct_bytes (memory_operand node.1.instr.op))) proc.nodes.entries
 
--- the cells that direct accesses have, and those that pushes, pops and calls alone use
+-- the cells that direct accesses have; `other_cells`: those that pushes, pops and calls alone use
 abbrev pub accessed_cells : Proc → Frame → List Cell
 accessed_cells proc frame = filter (λ cell. is_accessed proc frame (bytes_of cell)) frame.cells.items
 
 abbrev pub other_cells : Proc → Frame → List Cell
 other_cells proc frame = filter (λ cell. not (is_accessed proc frame (bytes_of cell))) frame.cells.items
 
--- in the order of their numbers
+-- the cells of a procedure that don't stand in memory, in the order of their numbers
 abbrev pub cells_of : Procedure → List Cell
 cells_of p = accessed_cells p.proc p.frame ++ other_cells p.proc p.frame
 
--- the number of the first of the latter
+-- the number of the first cell that pushes, pops and calls alone use
 abbrev pub pushed_of : Procedure → ℕ
 pushed_of p = length (accessed_cells p.proc p.frame)
 
--- a word is the cell of that number, and a byte one half of it: the low one where it is the cell's first
+-- where a byte or a word of a cell stands: a word is the cell, and a byte one half of it, the low one where it is the
+-- cell's first
 abbrev pub within_cell : ℕ → Cell → Width → ℤ → Place
 within_cell number cell byte_width k = byte (cell_half number (if int_eq k cell.first then Low else High))
 within_cell number cell word_width k = word (cell_half number Low) (cell_half number High)
 
--- in the cell that holds the byte at an offset, where these are numbered from one number on
+-- where a byte or a word stands in the cell that holds the byte at an offset, where cells are numbered from one number
+-- on
 abbrev pub cell_place : ℕ → List Cell → Width → ℤ → Place
 cell_place number [] width k = constant width 0
 cell_place number (cell ∷ cells) width k =

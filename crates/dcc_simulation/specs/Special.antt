@@ -17,7 +17,8 @@ use Rattle.dcc_simulation.specs.Procedures.{Procedure}
 use Rattle.dcc_simulation.specs.Statements.{node_stmts}
 use Rattle.dcc_simulation.specs.Nodes.{procedures_in, IsNodeHere, StepAgrees}
 
--- DIV and IDIV, LEA of another register than SP, XLAT, a jump through a table, INT 21h
+-- the operation does what no other does: DIV and IDIV, LEA of another register than SP, XLAT, a jump through a table,
+-- INT 21h
 abbrev pub is_special : Op → Bool
 is_special (Unary operation a) = is_division operation
 is_special (Lea Sp ea) = false
@@ -27,7 +28,7 @@ is_special (Table r offset) = true
 is_special Int21 = true
 is_special op = false
 
--- after their statements the runs agree, or both have ended alike
+-- after the statements of an instruction that does what no other does both runs agree, or both have ended alike
 abbrev pub SpecialNodesAgree : Type 0
 SpecialNodesAgree =
     (e : Setting) (s : Machine) (stack : Stack) (instr : Instr) (t : State) (p : Procedure) (node : Node) (height : ℕ)

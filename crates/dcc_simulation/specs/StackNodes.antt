@@ -15,14 +15,15 @@ use Rattle.dcc_simulation.specs.Procedures.{Procedure}
 use Rattle.dcc_simulation.specs.Statements.{moves_frame, node_stmts}
 use Rattle.dcc_simulation.specs.Nodes.{procedures_in, IsNodeHere, StepAgrees}
 
--- PUSH and POP, ENTER and LEAVE, moves and LEA of SP, `mov bp,sp` and `mov sp,bp`
+-- the operation uses the stack, or moves SP or BP alone: PUSH and POP, ENTER and LEAVE, moves and LEA of SP, `mov
+-- bp,sp` and `mov sp,bp`
 abbrev pub uses_stack : Op → Bool
 uses_stack (Push a) = true
 uses_stack (Pop a) = true
 uses_stack (Lea Sp ea) = true
 uses_stack op = is_sp_move op || moves_frame op
 
--- after the statements of such an instruction, if it has any, the runs agree
+-- after the statements of an instruction that uses the stack, if it has any, both runs agree
 abbrev pub StackNodesAgree : Type 0
 StackNodesAgree =
     (e : Setting) (s : Machine) (stack : Stack) (instr : Instr) (t : State) (p : Procedure) (node : Node) (height : ℕ)

@@ -23,7 +23,7 @@ use Rattle.dcc_simulation.specs.Operands.{address_of, operand_place, first_place
 
 -- Pushes and pops.
 
--- the word at the top of the stack, and the one below it
+-- the word at the top of the stack; `place_below_top`: the word below it
 abbrev pub top_place : Procedure → ℕ → Place
 top_place p height = frame_place p word_width (pos 2 -ℤ pos height)
 
@@ -32,7 +32,8 @@ place_below_top p height = frame_place p word_width (neg_ℤ (pos height))
 
 -- Calls.
 
--- where the caller has an argument word of its callee, at a height: a byte or a word of it, from so many bytes on
+-- where the caller has an argument word of its callee, at a height: the distance of its first byte from the frame's
+-- base less 4
 abbrev pub argument_offset : ℕ → ℕ → ℤ
 argument_offset height number = pos (2 + 2 * number) -ℤ pos height
 
@@ -47,7 +48,7 @@ taking_back caller height index number =
     ++ storing (frame_place caller byte_width (argument_offset height number +ℤ pos 1))
     (Get (returned_place (2 * index + 1)))
 
--- those of several argument words, from an index on
+-- the statements by which several argument words take what the callee gave back, from an index on
 abbrev pub taking_all_back : Procedure → ℕ → ℕ → List ℕ → List Stmt
 taking_all_back caller height index [] = []
 taking_all_back caller height index (number ∷ numbers) =
@@ -70,11 +71,12 @@ calling caller height (Some callee) =
 
 -- Instructions.
 
--- it saves BP, sets it up or gives it back, or moves SP to it
+-- the operation saves BP, sets it up or gives it back, or moves SP to it
 abbrev pub moves_frame : Op → Bool
 moves_frame op = is_push_bp op || is_mov_bp_sp op || is_enter op || leaves_frame op
 
--- an operation that isn't such, at a height, with the number of its DOS call
+-- the statements of an operation that doesn't save, set up or give back BP, at a height, with the number of its DOS
+-- call
 abbrev pub working_stmts : Cpu → List Procedure → Procedure → ℕ → Op → Option ℕ → List Stmt
 working_stmts cpu procedures p height (Push a) number =
     mov_stmts word_width (place_below_top p height) (operand_place p height a)
@@ -86,7 +88,7 @@ working_stmts cpu procedures p height (CallOp target) number = calling p height 
 working_stmts cpu procedures p height op number =
     op_stmts cpu op number (first_place p height op) (second_place p height op)
 
--- those of an instruction of a procedure, among all procedures, at a height
+-- the statements of an instruction of a procedure, among all procedures, at a height
 abbrev pub node_stmts : Cpu → List Procedure → Procedure → ℕ → Node → List Stmt
 node_stmts cpu procedures p height node =
     if moves_frame node.instr.op then [] else working_stmts cpu procedures p height node.instr.op node.number

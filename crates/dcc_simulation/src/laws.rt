@@ -17,8 +17,8 @@ pub fn runs_are_coupled()
     ensures { RunsAreCoupled }
 {}
 
-/// Where the entry procedure begins they agree, where registers, flags, the console and the memory outside the stack
-/// do.
+/// Where the entry procedure begins both runs agree, where registers, flags, the console and the memory outside the
+/// stack do.
 pub fn runs_begin()
     ensures { RunsBegin }
 {}
@@ -28,7 +28,7 @@ pub fn frames_are_read()
     ensures { FramesAreRead }
 {}
 
-/// And takes a number there, as the machine's memory does.
+/// A byte or word of the newest frame takes a number at its place, as the machine's memory does.
 pub fn frames_are_written()
     ensures { FramesAreWritten }
 {}
@@ -43,7 +43,7 @@ pub fn operands_are_read()
     ensures { OperandsAreRead }
 {}
 
-/// And one that it writes is written there.
+/// A memory operand that a clean instruction writes is written at its place.
 pub fn operands_are_written()
     ensures { OperandsAreWritten }
 {}
@@ -63,33 +63,35 @@ pub fn steps_agree()
     ensures { StepsAgree }
 {}
 
-/// So they do after the statements of an operation that leaves SP, where its operands stand at their places.
+/// After a clean step, and the statements of an operation that leaves SP and whose operands stand at their places,
+/// both runs agree.
 pub fn operations_agree()
     ensures { OperationsAgree }
 {}
 
-/// After a PUSH of an operand other than SP and BP they agree, where the word of the frame below SP takes it.
+/// After a PUSH of an operand other than SP and BP both runs agree, where the word of the frame below SP takes it.
 pub fn words_are_pushed()
     ensures { WordsArePushed }
 {}
 
-/// After `mov bp,sp`, `mov sp,bp`, LEA of SP from BP, `pop bp` and LEAVE they agree, with the inner run as it was.
+/// After `mov bp,sp`, `mov sp,bp`, LEA of SP from BP, `pop bp` and LEAVE both runs agree, with the inner run as it
+/// was.
 pub fn pointers_are_set()
     ensures { PointersAreSet }
 {}
 
-/// After a CALL they agree, where the inner run has begun the procedure with what passes to it.
+/// After a CALL both runs agree, where the inner run has begun the procedure with what passes to it.
 pub fn calls_begin()
     ensures { CallsBegin }
 {}
 
-/// After a RET they agree, where the inner run has returned to the procedure that waits.
+/// After a RET both runs agree, where the inner run has returned to the procedure that waits.
 pub fn calls_return()
     ensures { CallsReturn }
 {}
 
-/// The cells of the procedures that are found are theirs, and the places that are named for bytes of a frame are its
-/// places in both runs.
+/// The cells that are told of procedures that are found are theirs, and the places that are named for bytes of a frame
+/// are its places in both runs.
 pub fn found_places_stand()
     ensures { FoundPlacesStand }
 {}
@@ -116,17 +118,18 @@ pub fn stack_nodes_agree()
     ensures { StackNodesAgree }
 {}
 
-/// So they do after those of each instruction but CALL and RET, or both have ended alike.
+/// After the statements of each instruction but CALL and RET both runs agree, or both have ended alike.
 pub fn nodes_agree()
     ensures { NodesAgree }
 {}
 
-/// At the block of a CALL the inner run begins the callee with what passes to it, and they agree.
+/// At the block of a CALL the inner run begins the callee with what passes to it, and both runs agree.
 pub fn call_nodes_agree()
     ensures { CallNodesAgree }
 {}
 
-/// At a RET it returns to the caller that waits, which takes back what the callee may have changed, and they agree.
+/// At a RET the inner run returns to the caller that waits, which takes back what the callee may have changed, and
+/// both runs agree.
 pub fn return_nodes_agree()
     ensures { ReturnNodesAgree }
 {}

@@ -124,7 +124,7 @@ module _ (program : Program) (stack : Stack) (s : State) where
   abbrev pub IsShown : Access → Type 0
   IsShown = Pass program.layout is_other (is_exposed_byte program (top_in program.layout s) stack.frames)
 
-  -- and, where it reads, written
+  -- the stack's bytes of an access that reads are written
   abbrev pub IsTold : Access → Type 0
   IsTold = Pass program.layout is_reading (is_marked stack.written)
 
@@ -225,7 +225,7 @@ module _ (op : Op) (s : State) where
   reading (Mem width ea) t = one _ (reads refl)
   reading a t = All-nil Form
 
-  -- BP, and the segments, are as before
+  -- the operand that is written has a form, where BP and the segments are as they were
   writing : (a : Operand) (t : State) → t.segs ≡ s.segs → word_in t Bp ≡ word_in s Bp
       → ((w : Width × Ea) → memory_of a ≡ Some w → memory_operand op ≡ Some w)
       → AreForms (operand_accesses Writing a t)

@@ -82,7 +82,7 @@ module _ (image : Image) (layout : Layout) (memory : List ℕ) where
         All-cons (IsApart image layout offset) a (caller ∷ callers) (inr rest.0) rest.1,
       )
 
-  -- and lie below the stack's high end
+  -- a frame's own bytes lie below the stack's high end
   pub own-below : (offset : ℕ) {activations : List Activation} {top bp : ℕ} → Stands activations top bp
       → IsOwn image layout offset activations top → offset < layout.hi
   own-below offset (first {a = a} is stands) (inl own) =

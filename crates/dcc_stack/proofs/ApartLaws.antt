@@ -1,4 +1,4 @@
--- So the code stays, and what stands, stands after a clean step.
+-- The code stays, and what stands, stands after a clean step.
 use Rattle.std.proofs.Common.{◌≡◌, ℕ, ◌+◌, ◌-◌, ◌*◌, ◌<◌, ◌≤◌, inl, inr, Bool, true, false, List, [], ◌∷◌, Some, None, refl, sym, ap, ◌∙◌, subst, arith, leb-true, leb-false}
 use Rattle.std.proofs.lemmas.List.Elements.{All-head, All-tail}
 use Rattle.std.specs.Prelude.{slice_index, not, ◌&&◌, nat_le, if◌then◌else◌, All}
@@ -119,7 +119,7 @@ module _ (image : Image) (layout : Layout) (all : List Activation) (top : ℕ) (
       by (at_mov framed two there word) = at_mov framed two there (saved framed (omega (arith, two)) ∙ word)
       by (inside framed deep word points) = inside framed deep (saved framed deep ∙ word) points
 
-  -- All of them.
+  -- All waiting procedures still stand in the other memory.
 
   stand-kept : {some : List Activation} {here bp : ℕ} → AreAmong some → top ≤ here
       → Stand image layout memory some here bp → Stand image layout other some here bp

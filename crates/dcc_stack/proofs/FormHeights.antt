@@ -136,7 +136,7 @@ module _ (cpu : Cpu) (image : Image) (program : Program) (p : IsProgramOfFile cp
     pub instruction-there : (instr : Instr) × (instruction_in image layout at ≡ Some instr)
     instruction-there = some-instruction (instruction_in image layout at) refl
 
-    -- it has a form, and is none of the prelude
+    -- an instruction at a node has a form that is allowed, and is none of the prelude
     pub allowed-form : (op : Op) → StandsAt image layout at op → is_frame_form image layout entry at op ≡ true
     allowed-form op stands =
         true_from_ne_false (is_frame_form image layout entry at op) (λ none. no-trails (foreign (record {
@@ -178,7 +178,7 @@ module _ (cpu : Cpu) (image : Image) (program : Program) (p : IsProgramOfFile cp
               })))
         ]
 
-    -- and `pop bp` where the saved BP is at the top
+    -- `pop bp` stands where the saved BP is at the top
     pub pop-bp-at : StandsAt image layout at (Pop (Word Bp)) → is_framed image layout entry ≡ true → height ≡ pos 2
     pop-bp-at stands framed =
         int-same height (pos 2) (λ other. no-heights (misplaced (record {
@@ -219,7 +219,7 @@ module _ (cpu : Cpu) (image : Image) (program : Program) (p : IsProgramOfFile cp
           by_lt_z after (pos 0)
           (λ below. absurd (no-bad (too_far stands has-height moves less (above_entry below)))) (λ le. le)
 
-      -- nor into the saved BP, but by `pop bp` and LEAVE
+      -- SP doesn't rise into the saved BP, but by `pop bp` and LEAVE
       not-saved :
           is_framed image layout entry ≡ true → op ≢ Pop (Word Bp) → op ≢ Leave → pos 0 <ℤ height
           → after <ℤ height

@@ -60,7 +60,7 @@ lowering-needs op bytes is above =
     third-of-five (is_frame_work op) (is_sp_sub op) (is_above_zero (lowering_of op)) (copies_bp op) (uses_bp_address op)
     (ap is_above_zero is ∙ test)
 
--- it needs the frame, and isn't the `push bp` that sets it up
+-- the operation needs the frame, and isn't the `push bp` that sets it up
 pub record IsInner (op : Op) : Type 0 where
   pub needs : needs_frame op ≡ true
   pub other : is_push_bp op ≡ false

@@ -112,7 +112,7 @@ module _ (cpu : Cpu) (image : Image) (program : Program) (p : IsProgramOfFile cp
   uses-framed entry at op (form.points begins e here) uses = begins-framed image layout entry at op begins
   uses-framed entry at op (form.enters framed e here) uses = framed
 
-  -- and so does `mov r,bp`
+  -- `mov r,bp` stands in a framed procedure alone
   copies-framed :
       (entry at : ℕ) (op : Op) → FormOf image layout entry at op → copies_bp op ≡ true
       → is_framed image layout entry ≡ true

@@ -11,12 +11,12 @@ use Rattle.dcc_prog.proofs.TableLaws.{instruction-row}
 abbrev IsRowOf : (Op → Type 0) → Row → Type 0
 IsRowOf P row = (parts : Parts) → P (row.operation parts)
 
--- so it is with each row of a list, whatever its parts
+-- the predicate holds of the operation of each row of a list, whatever its parts
 abbrev pub EachRow : (Op → Type 0) → List Row → Type 0
 EachRow P [] = Unit {0}
 EachRow P (row ∷ rows) = IsRowOf P row × EachRow P rows
 
--- and with those of the table
+-- the predicate holds of the operation of each row of the table
 pub record EachOfTable (P : Op → Type 0) : Type 0 where
   pub arithmetic : EachRow P arithmetic_rows
   pub unary : EachRow P unary_rows

@@ -115,7 +115,7 @@ module _ (program : Program) (image : Image) where
   -- One byte changes.
 
   module _ (s r : Sides) (at : ℕ) (stays : (offset : ℕ) → offset ≢ at → Stays s r offset) where
-    -- that of the newest frame, and of its caller where it is the byte of an argument that may change
+    -- one byte changes below the newest frame: its own, or in its caller the byte of an argument that may change
     below-newest : (t : Typed) (callers : List Typed) → AreNested program image (activations_of (t ∷ callers))
         → at < end_of program t.activation.frame
         → (t.activation.frame.base ≤ at → ChangeableIn t.activation.frame at)

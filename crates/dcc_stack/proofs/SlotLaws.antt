@@ -97,7 +97,7 @@ module _ (image : Image) (program : Program) where
       same : u.activation.frame ≡ t.activation.frame
       same = alike.0.frame
 
-  -- the same of the whole
+  -- all frames are carried where SP stands elsewhere
 
   elsewhere-carries : (memory other : List ℕ) (written : List Bool) (top high : ℕ) (typed : List Typed)
       → ((offset : ℕ) → high ≤ offset → is_marked written offset ≡ true → top ≤ offset)

@@ -294,7 +294,7 @@ module _ (image : Image) (program : Program) (entry : ℕ) (frame : Frame)
       exposed = exposed;
     }
 
-    -- so the word of an argument of which a byte stands in memory may change
+    -- the word of an argument of which a byte stands in memory may change
     pub placed-given-back : IsPlaced image layout entry k → IsGivenBack image layout entry number
     placed-given-back (by_itself exposed) = by_exposure (exposed-word k has exposed)
     placed-given-back (by_slot {slot} is low high) =

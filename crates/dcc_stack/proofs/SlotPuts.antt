@@ -100,7 +100,7 @@ module _ (program : Program) (image : Image) where
         → (slice_index after offset ≡ slice_index other offset) ⊎ (Contains offsets offset × placed_at t offset)
     pub holds : (offset : ℕ) → Contains offsets offset → Holds image program.layout after u offset (values offset)
 
-  -- those of which nothing is put stay
+  -- bytes of memory of which nothing is put stay
   pub memory-stays : {values : ℕ → ℕ} {t u : Typed} {other offsets after : List ℕ}
       → HavePut values t other offsets u after
       → (offset : ℕ) → ¬ Contains offsets offset

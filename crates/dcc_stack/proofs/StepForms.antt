@@ -128,7 +128,7 @@ module _ (image : Image) (layout : Layout) (entry at height after : ℕ) (s : St
   abbrev Moves : Op → Type 0
   Moves op = MovesHeight image layout entry at op (pos height) (pos after)
 
-  -- it moves SP, where a height that it sets is right
+  -- an operation moves SP as it moves the height, where a height that it sets is right
   moving :
       (op : Op) → Moves op → moves_frames op ≡ false → writes_half op Sp Low ≡ true → tells_sp op ≡ true
       → (height_set_by op ≡ Some (pos after) → sp_after op s ≡ ((pos (word_in s Sp) +ℤ pos height) -ℤ pos after))

@@ -51,7 +51,7 @@ base-below (called stands waits older) = let few = stand-few older in omega (ari
 
 -- The newest procedure.
 
--- it stands in another place
+-- the newest procedure stands in another place
 pub stand-renewed :
     {image : Image} {layout : Layout} {memory : List ℕ} {a : Activation} {callers : List Activation} {top bp : ℕ}
     (next to_top to_bp : ℕ) → Stand image layout memory (a ∷ callers) top bp
@@ -86,7 +86,7 @@ module _ {image : Image} {layout : Layout} {memory : List ℕ} {a : Activation} 
   bp-begun (at_mov framed two stands saved) none = absurd (omega (arith, two, none))
   bp-begun (inside framed deep saved points) none = absurd (omega (arith, deep, none))
 
-  -- where it is set up, the caller's is saved
+  -- where the frame is set up, the caller's BP is saved
   pub bp-saved :
       HoldsBp image layout memory a height bp → IsSetUp image layout a.frame.entry height
       → word_at layout memory (a.frame.base - 4) ≡ a.caller_bp
@@ -95,7 +95,7 @@ module _ {image : Image} {layout : Layout} {memory : List ℕ} {a : Activation} 
   bp-saved (at_mov framed two stands saved) up = saved
   bp-saved (inside framed deep saved points) up = saved
 
-  -- and BP points to it, but for `mov bp,sp`
+  -- where the frame is set up, BP points to the saved BP, but at `mov bp,sp`
   pub bp-points :
       (op : Op) → HoldsBp image layout memory a height bp → StandsAt image layout a.at op
       → op ≢ Mov (Word Bp) (Word Sp) → IsSetUp image layout a.frame.entry height
@@ -142,7 +142,7 @@ pub record IsAwaited (image : Image) (layout : Layout) (memory : List ℕ) (a : 
   pub waits : WaitsFor image layout memory caller a
   pub stand : Stand image layout memory (caller ∷ older) a.frame.base a.caller_bp
 
--- so it is with each but the entry procedure
+-- a procedure waits for each but the entry procedure
 pub is-awaited :
     {image : Image} {layout : Layout} {memory : List ℕ} {a : Activation} {callers : List Activation} {top bp : ℕ}
     → Stand image layout memory (a ∷ callers) top bp → a.frame.entry ≢ layout.start_ip

@@ -49,7 +49,7 @@ pub record HeightFits (image : Image) (layout : Layout) (entry : ℕ) (height : 
 
 -- Forms.
 
--- the frame is set up
+-- at the height the procedure's frame is set up: it is framed, and the saved BP is on the stack
 pub record IsSetUp (image : Image) (layout : Layout) (entry height : ℕ) : Type 0 where
   pub framed : is_framed image layout entry ≡ true
   pub deep : 2 ≤ height
@@ -74,7 +74,7 @@ pub data IsForm (image : Image) (layout : Layout) (entry at height : ℕ) : Op �
       → height ≡ 0
       → count < 65536
       → IsForm image layout entry at height (Enter count)
-  -- `mov sp,bp`, LEA of SP from BP, `pop bp` and LEAVE give bytes of it up
+  -- `mov sp,bp`, LEA of SP from BP, `pop bp` and LEAVE give bytes of the frame up
   falls_back : IsSetUp image layout entry height → IsForm image layout entry at height (Mov (Word Sp) (Word Bp))
   falls_to :
       {ea : Ea}
@@ -91,7 +91,7 @@ pub data IsForm (image : Image) (layout : Layout) (entry at height : ℕ) : Op �
   calls : {target : ℕ} → IsForm image layout entry at height (Call target)
   returns : {count : ℕ} → height ≡ 0 → entry ≢ layout.start_ip → IsForm image layout entry at height (Ret count)
   moves : {op : Op} {bytes : ℤ} → lowering_of op ≡ Some bytes → IsForm image layout entry at height op
-  -- another operation writes neither
+  -- an operation of no other case writes neither SP nor BP
   keeps :
       {op : Op}
       → moves_frames op ≡ false
@@ -111,8 +111,8 @@ changes_frame op = false
 abbrev pub FrameStays : ℕ → ℕ → Type 0
 FrameStays height after = ((2 ≤ height) × (2 ≤ after)) ⊎ ((height ≡ 0) × (after ≡ 0))
 
--- What is known of the instruction at a node after a trail: its form; that its memory operand's address uses BP only
--- where the frame is set up; which numbers the trail tells that it needs.
+-- What is known of the instruction at a node after a trail: its form; that the address of its memory operand uses BP
+-- only where the frame is set up; and what the trail tells of the numbers that a DOS call and a table need.
 pub record IsNodeOf (image : Image) (layout : Layout) (entry at : ℕ) (before : List ℕ) (height : ℕ) : Type 0 where
   pub instr : Instr
   pub stands : instruction_in image layout at ≡ Some instr
@@ -183,19 +183,20 @@ pub record AcceptedProgramsAreInForm : Type 0 where
       (cpu : Cpu) (image : Image) (program : Program) (entry at : ℕ) (before : List ℕ) (height : ℕ)
       → IsProgramOfFile cpu image program → IsAt image program.layout entry at before (pos height)
       → IsNodeOf image program.layout entry at before height
-  -- each operation but RET moves the height to another one
+  -- each operation but RET moves the height at its node to one other height
   pub moved :
       (cpu : Cpu) (image : Image) (program : Program) (entry at : ℕ) (before : List ℕ) (height : ℕ) (op : Op)
       → IsProgramOfFile cpu image program → IsAt image program.layout entry at before (pos height)
       → StandsAt image program.layout at op → ((count : ℕ) → op ≢ Ret count)
       → (after : ℕ) × MovesHeight image program.layout entry at op (pos height) (pos after)
-  -- in a framed procedure all but four leave the frame as it is
+  -- in a framed procedure all operations but `push bp`, ENTER, `pop bp` and LEAVE leave the frame set up, or not set
+  -- up, as it is
   pub stays :
       (cpu : Cpu) (image : Image) (program : Program) (entry at : ℕ) (before : List ℕ) (height after : ℕ) (op : Op)
       → IsProgramOfFile cpu image program → IsAt image program.layout entry at before (pos height)
       → StandsAt image program.layout at op → MovesHeight image program.layout entry at op (pos height) (pos after)
       → is_framed image program.layout entry ≡ true → changes_frame op ≡ false → FrameStays height after
-  -- the trail goes on to its successors, with that height
+  -- the trail goes on to its successors, with the height after its last operation
   pub goes_on :
       (cpu : Cpu) (image : Image) (program : Program) (entry at next : ℕ) (before : List ℕ) (op : Op) (height after : ℤ)
       → IsProgramOfFile cpu image program → IsAt image program.layout entry at before height

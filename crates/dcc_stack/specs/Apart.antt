@@ -21,7 +21,7 @@ use Rattle.dcc_stack.specs.Standing.{Activation, Stand, StackStands, HoldsSegmen
 abbrev pub control_size : Image → Layout → Activation → ℕ
 control_size image layout a = if is_framed image layout a.frame.entry then 4 else 2
 
--- the offset isn't in these bytes
+-- the offset isn't that of a byte of the frame's return address or saved BP
 abbrev pub IsApart : Image → Layout → ℕ → Activation → Type 0
 IsApart image layout offset a =
     (offset + control_size image layout a < a.frame.base) ⊎ (a.frame.base ≤ offset)
@@ -58,7 +58,7 @@ pub data MayWrite (image : Image) (layout : Layout) (activations : List Activati
       → (offset + 1 ≡ top) ⊎ (offset + 2 ≡ top)
       → MayWrite image layout activations top op address
 
--- two memories differ at such addresses alone
+-- two memories differ at addresses alone that a clean step may write
 abbrev pub DifferApart : Image → Layout → List Activation → ℕ → Op → List ℕ → List ℕ → Type 0
 DifferApart image layout activations top op memory other =
     (address : ℕ)
@@ -73,7 +73,7 @@ pub record CleanStepsWriteApart : Type 0 where
       → IsProgramOfFile cpu image program → HoldsSegments image program.layout s
       → instruction_in image program.layout s.ip ≡ Some instr
       → next_instruction program.layout.cpu s ≡ Some instr
-  -- what a clean step writes lies apart
+  -- the addresses that a clean step writes are among those that it may write
   pub writes :
       (cpu : Cpu) (image : Image) (program : Program) (s : State) (stack : Stack) (instr : Instr)
       → IsProgramOfFile cpu image program → (stands : StackStands image program.layout s stack)
@@ -81,13 +81,14 @@ pub record CleanStepsWriteApart : Type 0 where
       → foul_of program stack s (Some instr) ≡ None → (address : ℕ)
       → Contains (written_by (found_accesses (Some instr) s)) address
       → MayWrite image program.layout (stands.newest ∷ stands.callers) (top_in program.layout s) instr.op address
-  -- so the code stays
+  -- the code's bytes stay, where memories differ at addresses alone that a clean step may write
   pub code :
       (cpu : Cpu) (image : Image) (program : Program) (activations : List Activation) (top : ℕ) (op : Op)
       (memory other : List ℕ) (at : ℕ) → IsProgramOfFile cpu image program → at < program.layout.code_end
       → DifferApart image program.layout activations top op memory other
       → slice_index other (image.cs * 16 + at) ≡ slice_index memory (image.cs * 16 + at)
-  -- and what stands, stands after it
+  -- the procedures that stand in memory stand in it still, where it changes at addresses alone that a clean step may
+  -- write
   pub stands :
       (image : Image) (layout : Layout) (activations : List Activation) (top bp : ℕ) (op : Op) (memory other : List ℕ)
       → layout.lo ≤ top → DifferApart image layout activations top op memory other

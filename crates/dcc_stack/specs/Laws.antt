@@ -75,7 +75,7 @@ FramesStand =
     → (watch_after program image input n).stage ≡ InProcedures stack
     → StackStands image program.layout (watch_after program image input n).machine stack
 
--- so there are no more frames than return addresses fit the stack, and one more
+-- no more frames live than return addresses fit the stack, and one more, that of the entry procedure
 abbrev pub FramesAreFew : Type 0
 FramesAreFew =
     (cpu : Cpu) (image : Image) (program : Program) (input : List ℕ) (n : ℕ) (stack : Stack)
@@ -84,7 +84,7 @@ FramesAreFew =
     → (watch_after program image input n).stage ≡ InProcedures stack
     → length stack.frames ≤ (program.layout.hi - program.layout.lo) / 2 + 1
 
--- and where a CALL is clean there is room for one more
+-- where a CALL is clean there is room for one more frame
 abbrev pub CallsHaveRoom : Type 0
 CallsHaveRoom =
     (image : Image) (program : Program) (s : State) (stack : Stack) (instr : Instr) (target : ℕ)

@@ -33,11 +33,11 @@ pub record AreCarried (cpu : Cpu) (image : Image) (program : Program) (memory ot
 abbrev pub IsArgumentByte : Program → LiveFrame → ℕ → Type 0
 IsArgumentByte program frame offset = (frame.base ≤ offset) × (offset < end_of program frame)
 
--- bytes are stored at such places of these offsets
+-- bytes by their offsets, each stored at the place of its offset
 abbrev pub stores_at : (ℕ → ℕ) → List ℕ → (ℕ → ℕ) → List Store
 stores_at place offsets values = map (λ offset. record { address = place offset; byte = values offset }) offsets
 
--- the marks after that, where the places are addresses of the data segment: bytes of the stack are written
+-- the marks after writes at places that are offsets of the data segment: bytes of the stack are written
 abbrev pub marks_at : Layout → List ℕ → List Bool → List Bool
 marks_at layout offsets written =
     with_marks true (filter_map (stack_offset layout) (map (λ offset. layout.ds * 16 + offset) offsets)) written
@@ -51,12 +51,12 @@ pub record IsWritable (image : Image) (program : Program) (t : Typed) (top offse
 
 pub record SlotsAreCarried : Type 0 where
   -- Frames.
-  -- frames that stand lie so
+  -- frames that stand in memory are nested
   pub nested :
       {cpu : Cpu} {image : Image} {program : Program} {memory : List ℕ} {activations : List Activation} {top bp : ℕ}
       → IsProgramOfFile cpu image program → Stand image program.layout memory activations top bp
       → program.layout.lo ≤ top → AreNested program image activations
-  -- so two runs that are coupled are such
+  -- two runs that are coupled have frames that are carried
   pub coupled :
       {cpu : Cpu} {image : Image} {program : Program} {s : State} {stack : Stack} {typed : List Typed} {other : List ℕ}
       → IsProgramOfFile cpu image program → Couples program image s stack typed other
@@ -71,7 +71,7 @@ pub record SlotsAreCarried : Type 0 where
       {cpu : Cpu} {image : Image} {program : Program} (entry : ℕ) (k : ℤ) → IsProgramOfFile cpu image program
       → IsEntry image program.layout entry
       → IsPlaced image program.layout entry k ⊎ (¬ IsPlaced image program.layout entry k)
-  -- and so is which arguments are given back
+  -- which arguments are given back is told by the procedure and its frame, as they are found
   pub given_back :
       {cpu : Cpu} {image : Image} {program : Program} (proc : Proc) (frame : Frame) (number : ℕ)
       → IsProgramOfFile cpu image program → Contains program.procs.items proc
@@ -85,13 +85,14 @@ pub record SlotsAreCarried : Type 0 where
       → IsInFrame image program.layout a.frame.entry stands.height span
       → span.first ≤ℤ (pos (offset + 4) -ℤ pos a.frame.base) → (pos (offset + 4) -ℤ pos a.frame.base) <ℤ span.end
       → (top ≤ offset) × (offset < end_of program a.frame) × IsApart image program.layout offset a
-  -- so are those that a frame has of its own at the top of the stack, and those below
+  -- the bytes that a frame has of its own at the top of the stack, and those below, are apart from return addresses
+  -- and saved BPs
   pub own :
       {cpu : Cpu} {image : Image} {program : Program} {memory : List ℕ} {a : Activation} {top bp : ℕ} (offset : ℕ)
       → IsProgramOfFile cpu image program → (stands : StandsIn image program.layout memory a top bp)
       → pos offset <ℤ (pos top +ℤ own_bytes image program.layout a.frame.entry (pos stands.height))
       → (offset < end_of program a.frame) × IsApart image program.layout offset a
-  -- and a byte of an argument that is written directly is one that may change
+  -- a byte of an argument that an instruction writes directly is one that may change
   pub changeable :
       {cpu : Cpu} {image : Image} {program : Program} {frame : LiveFrame} {at : ℕ} {op : Op} {span : Span} (offset : ℕ)
       → IsProgramOfFile cpu image program → IsEntry image program.layout frame.entry
@@ -113,7 +114,7 @@ pub record SlotsAreCarried : Type 0 where
       → (program.layout.lo ≤ offset → offset < program.layout.hi
       → (top ≤ offset) × IsExposedIn program top typed offset × (is_marked written offset ≡ true))
       → slice_index other offset ≡ slice_index memory (program.layout.ds * 16 + offset)
-  -- such a byte, written or not, takes a value in both memories
+  -- a byte outside the stack, or one that its frame exposes, written or not, takes a value in both memories
   pub stores_memory :
       {cpu : Cpu} {image : Image} {program : Program} {memory other : List ℕ} {written : List Bool} {top : ℕ}
       {typed : List Typed} (offset value : ℕ) (marks : List Bool)
@@ -123,7 +124,7 @@ pub record SlotsAreCarried : Type 0 where
       → MarksAt offset written marks
       → AreCarried cpu image program (slice_set memory (program.layout.ds * 16 + offset) value)
       (slice_set other offset value) marks top typed
-  -- which marks a write may add
+  -- a write may add no mark, or that of its own byte
   pub marks_stay : (offset : ℕ) (written : List Bool) → MarksAt offset written written
   pub marks_one : (offset : ℕ) (written : List Bool) → MarksAt offset written (slice_set written offset true)
   -- many such bytes do, one after another
@@ -138,6 +139,7 @@ pub record SlotsAreCarried : Type 0 where
       (stored (stores_at (λ offset. program.layout.ds * 16 + offset) offsets values) memory)
       (stored (stores_at (λ offset. offset) offsets values) other) (marks_at program.layout offsets written) top typed
   -- The newest frame.
+  -- a written byte of the newest frame's part is what the second run holds of it
   pub reads_own :
       {cpu : Cpu} {image : Image} {program : Program} {memory other : List ℕ} {written : List Bool} {top : ℕ}
       {t : Typed} {callers : List Typed} (offset : ℕ)
@@ -145,7 +147,7 @@ pub record SlotsAreCarried : Type 0 where
       → top ≤ offset → offset < end_of program t.activation.frame → is_marked written offset ≡ true
       → IsApart image program.layout offset t.activation
       → Holds image program.layout other t offset (slice_index memory (program.layout.ds * 16 + offset))
-  -- a byte of its own or of an argument that it may change takes a value, in memory and in the frame
+  -- a byte that the newest frame may write takes a value, in memory and in the frame
   pub writes_own :
       {cpu : Cpu} {image : Image} {program : Program} {memory other : List ℕ} {written : List Bool} {top : ℕ}
       {t : Typed} {callers : List Typed} (offset value : ℕ) (marks : List Bool) {u : Typed} {after : List ℕ}
@@ -164,11 +166,11 @@ pub record SlotsAreCarried : Type 0 where
       → AreCarried cpu image program
       (stored (stores_at (λ offset. program.layout.ds * 16 + offset) offsets values) memory) after
       (marks_at program.layout offsets written) top (u ∷ callers)
-  -- the frame stays where it is
+  -- a frame whose bytes take values stays where it is
   pub puts_stay :
       {image : Image} {layout : Layout} {values : ℕ → ℕ} {t u : Typed} {other offsets after : List ℕ}
       → PutsAll image layout values t other offsets u after → u.activation ≡ t.activation
-  -- a byte of its return address or saved BP takes a value in memory alone
+  -- a byte of the newest frame's return address or saved BP takes a value in the machine's memory alone
   pub writes_control :
       {cpu : Cpu} {image : Image} {program : Program} {memory other : List ℕ} {written : List Bool} {top : ℕ}
       {t : Typed} {callers : List Typed} (offset value : ℕ) (marks : List Bool)
@@ -178,13 +180,14 @@ pub record SlotsAreCarried : Type 0 where
       → AreCarried cpu image program (slice_set memory (program.layout.ds * 16 + offset) value) other marks top
       (t ∷ callers)
   -- SP.
+  -- SP falls, where no byte below its old place is marked
   pub lowers :
       {cpu : Cpu} {image : Image} {program : Program} {memory other : List ℕ} {written : List Bool} {top : ℕ}
       {typed : List Typed} (low : ℕ) → AreCarried cpu image program memory other written top typed
       → program.layout.lo ≤ low → low ≤ top
       → ((offset : ℕ) → is_marked written offset ≡ true → top ≤ offset)
       → AreCarried cpu image program memory other written low typed
-  -- whichever marks go then
+  -- SP rises, and any marks are taken off
   pub raises :
       {cpu : Cpu} {image : Image} {program : Program} {memory other : List ℕ} {written : List Bool} {top : ℕ}
       {typed : List Typed} (high : ℕ) (offsets : List ℕ) → AreCarried cpu image program memory other written top typed
@@ -212,7 +215,7 @@ pub record SlotsAreCarried : Type 0 where
       ⊎ (IsArgumentByte program callee.activation.frame offset
       × IsPlaced image program.layout callee.activation.frame.entry (place_in callee offset)))
       → AreCarried cpu image program memory after written callee.activation.frame.base (callee ∷ caller ∷ callers)
-  -- so it is where each of these bytes is read of the caller, and then put into the callee
+  -- A frame begins, and each written byte of its arguments is read of the caller and then put into the callee.
   pub passes :
       {cpu : Cpu} {image : Image} {program : Program} {memory other : List ℕ} {written : List Bool} {caller : Typed}
       {callers : List Typed} (callee : Typed) (offsets : List ℕ) (values : ℕ → ℕ) {begun : Typed} {after : List ℕ}

@@ -81,8 +81,8 @@ pub record IsChangeable (image : Image) (layout : Layout) (frame : LiveFrame) (o
   pub to : offset < frame.base + 2 * number + 2
 
 -- The written bytes of each frame's part hold what the machine's memory has there, but for return addresses and saved
--- BPs, and for those of a waiting frame that its callee may change. A part reaches from the first number up to the
--- end of the arguments.
+-- BPs, and for the bytes of a waiting frame that its callee may change. A part reaches from where SP stands, or from
+-- the base of the next newer frame, up to the end of the arguments.
 abbrev pub AreHeld : Program → Image → List ℕ → List ℕ → List Bool → (ℕ → Type 0) → ℕ → List Typed → Type 0
 AreHeld program image memory other written Changes top [] = Unit {0}
 AreHeld program image memory other written Changes top (t ∷ callers) =
@@ -126,12 +126,12 @@ AreNested program image (a ∷ callers) =
 abbrev pub activations_of : List Typed → List Activation
 activations_of typed = map (λ (t : Typed). t.activation) typed
 
--- the frame that holds the offset exposes it, where SP stands at the first number
+-- the frame that holds the offset exposes it, where SP stands at `top`
 abbrev pub IsExposedIn : Program → ℕ → List Typed → ℕ → Type 0
 IsExposedIn program top typed offset =
     is_exposed_byte program top (map (λ (a : Activation). a.frame) (activations_of typed)) offset ≡ true
 
--- the same frame with the same bytes, wherever its procedure stands
+-- two procedures that have begun have the same frame with the same bytes, wherever in their code they stand
 pub record IsAlike (t u : Typed) : Type 0 where
   pub frame : u.activation.frame ≡ t.activation.frame
   pub slots : (k : ℤ) → u.slots k ≡ t.slots k
@@ -168,7 +168,7 @@ pub data PutsAll (image : Image) (layout : Layout) (values : ℕ → ℕ) :
       → PutsAll image layout values u between offsets after others
       → PutsAll image layout values t other (offset ∷ offsets) after others
 
--- no other byte than that one is marked newly
+-- no byte is newly marked but the one at the offset
 abbrev pub MarksAt : ℕ → List Bool → List Bool → Type 0
 MarksAt offset written after =
     (o : ℕ) → is_marked after o ≡ true → (o ≡ offset) ⊎ (is_marked written o ≡ true)
@@ -178,7 +178,7 @@ MarksAt offset written after =
 abbrev pub is_within : ℤ → Span → Bool
 is_within k span = int_le span.first k && int_lt k span.end
 
--- the frame exposes a byte of these, of which there are two at most
+-- the frame exposes a byte of the span, which has two bytes at most
 abbrev pub exposes_of : Frame → Span → Bool
 exposes_of frame span =
     exposes frame span.first
@@ -188,7 +188,7 @@ exposes_of frame span =
 abbrev pub slots_of : Frame → List Span
 slots_of frame = map bytes_of frame.cells.items ++ map argument_word (range_with_len 0 frame.args)
 
--- the byte at so many bytes from the base less 4 stands in memory: the frame exposes it, or another one of its slot
+-- the byte at a distance from the base less 4 stands in memory: the frame exposes it, or another byte of its slot
 abbrev pub is_placed : Frame → ℤ → Bool
 is_placed frame k =
     exposes frame k || list_any (λ span. is_within k span && exposes_of frame span) (slots_of frame)
@@ -204,7 +204,7 @@ abbrev pub overlaps : Span → Option Span → Bool
 overlaps word None = false
 overlaps word (Some span) = int_lt span.first word.end && int_lt word.first span.end
 
--- the operation writes a byte of these by a direct access
+-- the operation writes a byte of the span by a direct access
 abbrev pub writes_directly : Op → Span → Bool
 writes_directly op word = writes_memory op && overlaps word (direct_bytes (memory_operand op))
 

@@ -36,13 +36,13 @@ word_at layout memory offset =
 -- What BP holds in a procedure at a height, and what was saved of it. Where a framed procedure stands at its `mov
 -- bp,sp`, it may have come there from its first instruction, or again by a jump.
 pub data HoldsBp (image : Image) (layout : Layout) (memory : List ℕ) (a : Activation) : ℕ → ℕ → Type 0 where
-  -- no frame is set up: that of the caller
+  -- no frame is set up: BP is the caller's
   outside :
       {height bp : ℕ}
       → ((is_framed image layout a.frame.entry ≡ false) ⊎ (height ≡ 0))
       → bp ≡ a.caller_bp
       → HoldsBp image layout memory a height bp
-  -- it is saved, and BP not set, or set already
+  -- at `mov bp,sp` the caller's BP is saved; the procedure's own may be set already or not
   at_mov :
       {height bp : ℕ}
       → is_framed image layout a.frame.entry ≡ true
@@ -50,7 +50,7 @@ pub data HoldsBp (image : Image) (layout : Layout) (memory : List ℕ) (a : Acti
       → StandsAt image layout a.at (Mov (Word Bp) (Word Sp))
       → word_at layout memory (a.frame.base - 4) ≡ a.caller_bp
       → HoldsBp image layout memory a height bp
-  -- it is saved, and BP points to it
+  -- the caller's BP is saved, and BP points to where it is
   inside :
       {height bp : ℕ}
       → is_framed image layout a.frame.entry ≡ true

@@ -33,18 +33,19 @@ pub fn frames_stand()
     ensures { FramesStand }
 {}
 
-/// So no more frames live at once than return addresses fit the stack, and that of the entry procedure.
+/// In every clean run of an accepted program no more frames live at once than return addresses fit the stack, and that
+/// of the entry procedure.
 pub fn frames_are_few()
     ensures { FramesAreFew }
 {}
 
-/// Where a CALL is clean there is room for one more.
+/// Where a CALL is clean there is room for one more frame.
 pub fn calls_have_room()
     ensures { CallsHaveRoom }
 {}
 
-/// What a second run, whose frames have variables in place of the stack's bytes, holds of the machine's stack it goes on
-/// holding: through each kind of access of memory and of frames, and where frames begin and end.
+/// A second run, whose frames have variables in place of the stack's bytes, goes on holding the machine's stack:
+/// through each kind of access of memory and of frames, and where frames begin and end.
 pub fn slots_are_carried()
     ensures { SlotsAreCarried }
 {}

@@ -68,7 +68,7 @@ no_call (Jump target) other = λ is. cc
 no_call (Branch condition target) other = λ is. cc
 no_call Other other = λ is. other refl
 
--- none of them ends the run
+-- No quick step ends the run.
 
 alu_end : (kind : Alu) (r : Reg) (a b : ℕ) (s : State) → (alu_step kind word_width (Word r) a b s).end ≡ s.end
 alu_end Add r a b s = refl

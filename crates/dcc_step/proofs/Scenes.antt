@@ -81,7 +81,8 @@ made_as f g from old left taken now kept same made = record {
       };
 }
 
--- the same where it is refused: the machine is then as it was before
+-- an operation that is refused, and does from one machine what another does from another machine, leaves the machine
+-- as it was before
 pub refused_as : (f g : Cpu → State → State) (fault : Fault) (from old new : Core) (left taken left_now taken_now : Option (List ℕ))
     → ((input : List ℕ) (events : List Event) → g from.cpu (with_console from input events) ≡ f old.cpu (with_console old input events))
     → Steps (machine_by f) (refusal_of fault) (scene old left taken) (scene new left_now taken_now)
@@ -144,7 +145,7 @@ pub refused_core : (f : Cpu → State → State) (fault : Fault) (old new : Core
 refused_core f Input old new left taken left_now taken_now refused = ap (λ (v : Scene Core). v.code) refused.unchanged
 refused_core f Output old new left taken left_now taken_now refused = refused.unchanged
 
--- the same from one machine, where the other operation left it
+-- an operation that does what another does from one machine is refused where the other is, and leaves the machine
 pub refused_here : (f g : Cpu → State → State) (fault : Fault) (old new : Core) (left taken left_now taken_now : Option (List ℕ))
     → ((input : List ℕ) (events : List Event) → g old.cpu (with_console old input events) ≡ f old.cpu (with_console old input events))
     → Steps (machine_by f) (refusal_of fault) (scene old left taken) (scene new left_now taken_now)

@@ -151,7 +151,7 @@ pub step_refused : (m new : Core) (instr : Instr) (fault : Fault) (left taken le
 step_refused m new instr fault left taken left_now taken_now runs found refused =
     refused_as (λ cpu. op_step cpu instr.op m.ip) step fault m (moved_past instr m) new left taken left_now taken_now (step_is m (Some instr) runs found) refused
 
--- the same, as the code has it: the instruction's offset, and the machine with its instruction pointer moved
+-- a step is made, as the code has it: by the instruction's offset, and the machine with its instruction pointer moved
 pub step_made_at : (m old : Core) (at : ℕ) (instr : Instr) (left taken : Option (List ℕ)) (now : Scene Core) → m.end ≡ running
     → instruction_at m.cpu m.ip (code_bytes (state_of m)) ≡ Some instr
     → Makes (machine_by (λ cpu. op_step cpu instr.op at)) (scene old left taken) now
@@ -236,7 +236,7 @@ outside_answers e answer m new left taken reads writes runs none is told end = r
   faults = no_fault answer reads reads writes writes (ap outcome_of told ∙ answer_made e) (omega arith) (omega arith);
 }
 
--- where it was refused
+-- the answer of a step that was refused
 pub refused_answers : {T : Type 0} (fault : Fault) (answer : Stepped) (m back : Core) (left taken left_now taken_now : Option (List ℕ))
     (reads reads_now writes writes_now : ℕ) → m.end ≡ running → answer ≡ fault_answer_of fault
     → Steps machine (refusal_of fault) (scene m left taken) (scene back left_now taken_now)

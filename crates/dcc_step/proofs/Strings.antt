@@ -9,7 +9,7 @@ string_is : (m : State) → string_in m.memory (data_segment m) (word_in m Dx) �
 unfolding string_in string_room dos_string bytes_from
 string_is m = refl
 
--- it is the string at DS:DX
+-- the string that call 09h writes is the one at DS:DX
 pub string_at : (m : State) (memory : List ℕ) (segment start : ℕ) → memory ≡ m.memory → segment ≡ data_segment m
     → start ≡ word_in m Dx → string_in memory segment start ≡ dos_string m
 string_at m memory segment start held in_data at =

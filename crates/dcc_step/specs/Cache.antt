@@ -9,15 +9,15 @@ use Rattle.dcc_step.specs.declared.form.Form.TheVariants.{Other}
 use Rattle.dcc_step.specs.declared.cache.Decoded.{Decoded}
 use Rattle.dcc_step.specs.Form.{op_of}
 
--- It is the instruction of the processor that its bytes are at its offset, if they are one; where its form is not Other,
--- that is one with the operation of the form.
+-- What was decoded is the instruction of the processor that its bytes are at its offset, if they are one; where its
+-- form is not Other, that is one with the operation of the form.
 pub record IsDecoded (cpu : Cpu) (decoded : Decoded) : Type 0 where
   pub is : decoded.instr ≡ instruction_at cpu decoded.at decoded.window
   pub operation : IfSome decoded.instr (λ instr. IsOperation instr.op)
   pub form :
       decoded.form ≢ Other → decoded.instr ≡ Some (record { op = op_of decoded.form; len = decoded.len })
 
--- the physical address of the byte at so many bytes past an offset, which wraps
+-- the physical address of the byte at `k` bytes past an offset, which wraps
 abbrev pub code_address : ℕ → ℕ → ℕ → ℕ
 code_address segment at k = physical segment ((at + k) % 65536)
 
@@ -40,12 +40,12 @@ is_marked marks address = get_or marks address false
 abbrev pub IsMarkedFrom : List Bool → ℕ → ℕ → Type 0
 IsMarkedFrom marks segment at = (k : ℕ) → k < 6 → is_marked marks (code_address segment at k) ≡ true
 
--- its bytes stand in memory at its offset in the segment, and are marked
+-- the bytes of what was decoded stand in memory at its offset in the segment, and are marked
 pub record IsFresh (memory : List ℕ) (segment : ℕ) (marks : List Bool) (decoded : Decoded) : Type 0 where
   pub window : decoded.window ≡ bytes_at memory segment decoded.at
   pub marked : IsMarkedFrom marks segment decoded.at
 
--- the same where it is known
+-- an entry of the cache that is known stands in memory, and its bytes are marked
 abbrev pub IsFreshIfKnown : List ℕ → ℕ → List Bool → Decoded → Type 0
 IsFreshIfKnown memory segment marks decoded =
     decoded.known ≡ true → IsFresh memory segment marks decoded

@@ -14,14 +14,14 @@ end_of (Exit code) = exited code
 end_of Divide = divided
 end_of (Outside at) = outside at
 
--- what a step answers whose run has ended so, or goes on
+-- what a step answers where the run has ended, or goes on
 abbrev pub answer_of : Ending → Stepped
 answer_of Running = still_running
 answer_of (Exit code) = exit_answered code
 answer_of Divide = divide_answered
 answer_of (Outside at) = outside_answered at
 
--- what a step answers that is refused
+-- what a step answers that a fault refused
 abbrev pub fault_answer_of : Fault → Stepped
 fault_answer_of Input = InFault
 fault_answer_of Output = OutFault

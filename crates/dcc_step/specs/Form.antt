@@ -18,7 +18,7 @@ use Rattle.dcc_step.specs.Core.{Core, with_console}
 use Rattle.dcc_step.specs.declared.form.Form.{Form}
 use Rattle.dcc_step.specs.declared.form.Form.TheVariants.{Registers, Constant, Memory, Inc, Dec, Move, Set, Load, Store, Jump, Branch, Other}
 
--- The operation of a form. Of Other nothing is said, and INT 21h stands there: it has no form.
+-- The operation of a form. Nothing is said of the form Other: INT 21h stands there, which has no form.
 abbrev pub op_of : Form → Op
 op_of (Registers kind a b) = AluOp kind (Word a) (Word b)
 op_of (Constant kind a constant) = AluOp kind (Word a) (Const word_width constant)
@@ -45,7 +45,8 @@ combined_of Xor w a b carry = exclusive_of w a b
 combined_of Cmp w a b carry = difference_of w a b false
 combined_of Test w a b carry = conjunction_of w a b
 
--- the machine's step leads from one machine to the other, both of which run, and changes nothing of a console beside it
+-- the machine's step leads from one state of the machine to another; both runs go on, and nothing changes of a console
+-- beside them
 pub record IsQuietStep (before now : Core) : Type 0 where
   pub runs : before.end ≡ Running
   pub goes_on : now.end ≡ Running

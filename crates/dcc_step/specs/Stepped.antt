@@ -12,7 +12,7 @@ use Rattle.dcc_step.specs.Core.{Core, core_of, with_console}
 use Rattle.dcc_step.specs.declared.ending.Stepped.{Stepped}
 use Rattle.dcc_step.specs.declared.ending.Stepped.TheVariants.{Running, Exit, Divide, Outside, InFault, OutFault}
 
--- the machine with its console, where its step is this operation
+-- the machine with its console, whose step is the given operation
 abbrev pub console_by : (State → State) → Console State
 console_by operation = record {
   system = record { step = operation; events = λ s. s.events; end = λ s. s.end };
@@ -20,8 +20,8 @@ console_by operation = record {
   with_left = λ input s. record s { input = input };
 }
 
--- The code that makes this operation of its processor. It keeps the processor and a state but for its console, and stands
--- for states of that processor's machine alone.
+-- The code that makes the given operation of its processor. What it keeps is the processor and a state but for its
+-- console, and stands for states of that processor's machine alone.
 abbrev pub machine_by : (Cpu → State → State) → Executor Cpu Core State
 machine_by operation = record {
   console = λ cpu. console_by (operation cpu);
@@ -32,13 +32,13 @@ machine_by operation = record {
 abbrev pub machine : Executor Cpu Core State
 machine = machine_by definition.step
 
--- beside some input of bytes the operation leads from one machine to another
+-- beside some input of bytes the operation leads from one state of the machine to another
 pub record LeadsOnBytes (operation : Cpu → State → State) (before now : Core) : Type 0 where
   pub input : List ℕ
   pub bytes : (k : ℕ) → slice_index input k < 256
   pub leads : core_of before.cpu (operation before.cpu (with_console before input [])) ≡ now
 
--- how a step or a run came out that answers so
+-- how a step or a run came out, by what it answers
 abbrev pub outcome_of : Stepped → Outcome
 outcome_of Running = made
 outcome_of (Exit code) = made
@@ -47,7 +47,7 @@ outcome_of (Outside at) = made
 outcome_of InFault = read_failed
 outcome_of OutFault = write_failed
 
--- how the run has ended where a step or a run answers so
+-- how the run has ended, by what a step or a run answers
 abbrev pub end_told : Stepped → End
 end_told Running = running
 end_told (Exit code) = exited code
@@ -65,8 +65,8 @@ pub record Counted (C : Type 0) : Type 0 where
 abbrev pub counted : {C : Type 0} → C → Option (List ℕ) → Option (List ℕ) → ℕ → ℕ → Counted C
 counted code left taken reads writes = record { scene = scene code left taken; reads = reads; writes = writes }
 
--- What a step leaves that answers so. What is taken is a byte: where the step was made, the machine's step on an input of
--- bytes leads here too. A fault is answered only where its count rose.
+-- What a step leaves, by what it answers. What is taken is a byte: where the step was made, the machine's step on an
+-- input of bytes leads here too. A fault is answered only where its count rose.
 pub record StepAnswers (answered : Stepped) (before now : Counted Core) : Type 0 where
   pub step : Steps machine (outcome_of answered) before.scene now.scene
   pub bytes : outcome_of answered ≡ made → LeadsOnBytes definition.step before.scene.code now.scene.code

@@ -121,7 +121,7 @@ impl Machine {
         self.set_reg(r, outcome.0);
     }
 
-    // AL or AX.
+    // What the accumulator of a width holds: AL or AX.
     fn accumulator(&self, w: Width) -> u16
         ensures value { result ≡ accumulator_in w (state_of self.now) }
         ensures width { result < limit_of w }
@@ -132,7 +132,7 @@ impl Machine {
         }
     }
 
-    // AH or DX, the upper half of what a division divides.
+    // What the upper half of what a division divides holds: AH or DX.
     fn upper(&self, w: Width) -> u16
         ensures value { result ≡ upper_in w (state_of self.now) }
         ensures width { result < limit_of w }

@@ -15,7 +15,7 @@ pub(crate) const CACHE_SIZE: usize = 4096;
 /// The instruction that bytes at an offset of the code segment are, if they are one.
 #[derive(Clone, Copy)]
 pub(crate) struct Decoded {
-    /// The offset.
+    /// The offset of the first byte in the code segment.
     pub(crate) at: u16,
     /// Whether the bytes stand in memory as long as the machine's marks are trusted.
     pub(crate) known: bool,
@@ -23,7 +23,7 @@ pub(crate) struct Decoded {
     pub(crate) len: u8,
     /// The instruction's form.
     pub(crate) form: Form,
-    /// The bytes there, as many as the longest instruction has.
+    /// The bytes at the offset, as many as the longest instruction has.
     pub(crate) window: [u8; 6],
     /// The instruction.
     pub(crate) instr: Option<Instr>,

@@ -10,7 +10,7 @@ use dcc_num::{Half, Reg, sign8};
 use dcc_prog::{Ea, Operand, Plain};
 
 impl Machine {
-    /// To the target where so, else to the next instruction.
+    /// Jumps to the target where `so` holds, else goes on to the next instruction.
     #[inline(always)]
     pub(crate) fn jump_if(&mut self, so: bool, target: u16)
         ensures { self.new ≡ changed_by (after_jump_if so target) self.old }

@@ -25,15 +25,15 @@ const IMAGE_ADDRESS: usize = LOAD_SEGMENT as usize * 16;
 pub struct Machine {
     /// The processor.
     pub(crate) cpu: Cpu,
-    /// By number: AX, CX, DX, BX, SP, BP, SI, DI.
+    /// The word registers by number: AX, CX, DX, BX, SP, BP, SI, DI.
     pub(crate) regs: [u16; 8],
-    /// By number: ES, CS, SS, DS.
+    /// The segment registers by number: ES, CS, SS, DS.
     pub(crate) segs: [u16; 4],
     /// The modelled flags.
     pub(crate) flags: Flags,
     /// The offset of the next instruction in the code segment.
     pub(crate) ip: u16,
-    /// By physical address, 1,048,576 bytes.
+    /// Memory by physical address, 1,048,576 bytes.
     pub(crate) memory: Vec<u8>,
     /// How the run has ended, if it has.
     pub(crate) end: Ending,
@@ -41,7 +41,7 @@ pub struct Machine {
     pub(crate) cache: Vec<Decoded>,
     /// The bytes of the instructions that are known.
     pub(crate) marks: Marks,
-    /// Whether since they were marked no marked byte was stored, and no code segment taken.
+    /// Whether since the bytes were marked no marked byte was stored, and no code segment taken.
     pub(crate) trusted: bool,
 }
 

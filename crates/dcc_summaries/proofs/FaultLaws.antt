@@ -54,7 +54,7 @@ module _ (p : IrProgram) (good : IsProgram (program_of p)) (found : Found) (are 
         several = λ one. true≢false (sym (told_one sum.results.items one) ∙ e);
       }
 
--- Those of the first graphs.
+-- The summaries of the first graphs.
 
 abbrev pub AreFirst : Program → List Sum → Type 0
 AreFirst p sums = (k : ℕ) (x : Summary) → slice_get (map summary_of sums) k ≡ Some x → IsSumOf p k x

@@ -61,7 +61,8 @@ module _ (f g : Want → Bool) (within : (x : Want) → f x ≡ true → g x ≡
       later false true e e' h = omega (arith, h)
       later false false e e' h = h
 
--- These have become known, and nothing else; what is new waits. No more is left than before, with what waits.
+-- The wants of the list have become known, and nothing else; what is new waits. No more is left than before, with what
+-- waits.
 pub record HasWanted (before after : Demand) (xs : List Want) : Type 0 where
   pub keeps : (y : Want) → before.told y ≡ true → after.told y ≡ true
   pub there : (y : Want) → Contains xs y → after.told y ≡ true

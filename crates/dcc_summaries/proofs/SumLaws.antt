@@ -39,7 +39,7 @@ use Rattle.dcc_summaries.proofs.FollowLaws.{changes_told}
 use Rattle.dcc_summaries.proofs.SoundLaws.{callee_there, entry_of, site_here, is_call}
 use Rattle.dcc_summaries.proofs.CompleteLaws.{real_call, is_real, done_there}
 
--- Those of the locations that pass which pass a test.
+-- The locations that pass which pass a test.
 
 same_filter : (f g : Loc → Bool) (xs : List Loc) → ((x : Loc) → Contains xs x → f x ≡ g x) → filter f xs ≡ filter g xs
 same_filter f g [] same = refl

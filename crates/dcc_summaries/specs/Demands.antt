@@ -1,4 +1,4 @@
--- What is known to be wanted while it is found, and what becomes known.
+-- What is known to be wanted while the search goes on, and what becomes known.
 use Rattle.std.specs.Prelude.{Bool, false, ◌||◌, not, List, [], ◌∷◌, ◌++◌, map, flat_map, filter, if◌then◌else◌}
 use Rattle.dcc_ir.specs.declared.syntax.Loc.{Loc}
 use Rattle.dcc_ir.specs.Tree.{Expr, Program}
@@ -28,7 +28,7 @@ want_at at location = record { at = at; location = location }
 abbrev pub wants_at : Point → List Loc → List Want
 wants_at at locations = map (want_at at) locations
 
--- it becomes known that this is wanted
+-- what is known after one more location is wanted before a point
 abbrev pub with_want : Demand → Want → Demand
 with_want d x =
     if d.told x then d else record { told = λ y. same_want y x || d.told y; pending = d.pending ++ x ∷ [] }
@@ -41,6 +41,6 @@ with_wants d (x ∷ xs) = with_wants (with_want d x) xs
 abbrev pub argument_reads : List Expr → List Loc
 argument_reads arguments = flat_map reads_of (filter (λ e. not (is_passing e)) arguments)
 
--- what is used at these points
+-- what is used at the points of the list
 abbrev pub seeds : Program → List Point → List Want
 seeds p points = flat_map (λ at. wants_at at (used_at (site_in p at))) points

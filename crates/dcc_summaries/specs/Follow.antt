@@ -16,14 +16,14 @@ use Rattle.dcc_summaries.specs.Points.{point_at, graph_in, site_in}
 use Rattle.dcc_summaries.specs.Ways.{ports_of}
 use Rattle.dcc_summaries.specs.Demands.{want_at, wants_at}
 
--- Which procedure changes which location, by a list for each of these.
+-- Which procedure changes which location, by a list of truth values for each location.
 
 abbrev pub changed_among : List Loc → List (List Bool) → ℕ → Loc → Bool
 changed_among (x ∷ xs) (changed ∷ lists) entry location =
     if same_location location x then list_tells changed entry else changed_among xs lists entry location
 changed_among xs lists entry location = false
 
--- by a list for each half and flag that passes
+-- whether a procedure changes a location, by a list for each half and flag that passes, in their order
 abbrev pub changed_in : List (List Bool) → ℕ → Loc → Bool
 changed_in lists = changed_among passed lists
 
@@ -32,14 +32,15 @@ abbrev pub wants_of : ℕ → List Port → Loc → List Want
 wants_of entry ports location = map (λ port. want_at port.at location) (ports_of entry ports)
 
 module _ (changed : ℕ → Loc → Bool) (returns : List Port) where
-  -- What is wanted after a call that doesn't write it: where the callee changes it, it is wanted at the callee's
-  -- returns, and else before the call.
+  -- What follows from a location that is wanted after a call that doesn't write it: where the callee changes it, it is
+  -- wanted at the callee's returns, and else before the call.
   abbrev pub before_call : Point → Option ℕ → Loc → List Want
   before_call at (Some entry) location =
       if changed entry location then wants_of entry returns location else want_at at location ∷ []
   before_call at None location = want_at at location ∷ []
 
-  -- what is wanted after a statement: where it is written, what it is made of is wanted before
+  -- what follows from a location that is wanted after a statement: where the statement writes it, what it is made of
+  -- is wanted before the statement
   abbrev pub before_stmt : Point → Stmt → Loc → List Want
   before_stmt at stmt location =
       if is_among (written_by stmt) location then wants_at at (makes_of stmt)
@@ -49,18 +50,19 @@ module _ (changed : ℕ → Loc → Bool) (returns : List Port) where
   before_site at (Executes stmt) location = before_stmt at stmt location
   before_site at site location = []
 
--- what is wanted where a block begins is wanted where those blocks end that lead there
+-- what follows from a location that is wanted where a block begins: it is wanted where those blocks end that lead
+-- there
 abbrev pub before_block : Program → List (List (List ℕ)) → ℕ → ℕ → Loc → List Want
 before_block p preds place block location =
     map (λ b. want_at (point_at place b (length (block_in (graph_in p place) b).stmts)) location)
     (get_or (get_or preds place []) block [])
 
--- what is wanted at the entry of a graph, and passes, is wanted at its calls
+-- what follows from a location that is wanted at the entry of a graph, and passes: it is wanted at the graph's calls
 abbrev pub before_entry : Program → List Port → ℕ → ℕ → Loc → List Want
 before_entry p calls place block location =
     if (block == 0) && passes location then wants_of (graph_in p place).entry calls location else []
 
--- What all of this is made of: the program, what is changed, and how control comes to its points.
+-- What the search rests on: the program, what is changed, and how control comes to the program's points.
 pub record Setting : Type 0 where
   pub program : Program
   pub changed : ℕ → Loc → Bool
@@ -69,7 +71,7 @@ pub record Setting : Type 0 where
   pub returns : List Port
 
 module _ (s : Setting) where
-  -- by how many statements are done
+  -- what follows from a location that is wanted before a point, by how many statements of the block are done
   abbrev pub before_point : ℕ → ℕ → ℕ → Loc → List Want
   before_point place block zero location =
       before_block s.program s.preds place block location ++ before_entry s.program s.calls place block location

@@ -1,4 +1,4 @@
--- What is known of a program when it is found what is wanted.
+-- What is known of a program when all that is wanted has been found.
 use Rattle.std.specs.Prelude.{◌≡◌, map}
 use Rattle.dcc_ir.specs.Tree.{Program}
 use Rattle.dcc_modref.specs.Programs.{AreChanges}

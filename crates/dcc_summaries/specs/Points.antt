@@ -31,17 +31,17 @@ graph_in p place = get_or p.graphs place no_graph
 abbrev pub site_in : Program → Point → Site
 site_in p at = site_of (graph_in p at.graph) (position_of at)
 
--- the same as code sees it
+-- what comes next at a point, as code sees it
 abbrev pub site_seen : SiteOf → Site
 site_seen (ExecutesOf stmt) = Executes (stmt_of stmt.now)
 site_seen (EndsOf end) = Ends (exit_of end.now)
 
--- the procedure that is called there
+-- the procedure that is called at a point, by what comes next there
 abbrev pub callee_at : Site → Option ℕ
 callee_at (Executes stmt) = callee_of stmt
 callee_at site = None
 
--- what is used there
+-- what is used at a point, by what comes next there
 abbrev pub used_at : Site → List Loc
 used_at (Executes stmt) = used_by stmt
 used_at (Ends exit) = used_at_end exit

@@ -1,4 +1,4 @@
--- What is known of a program before it is found what is wanted, as code keeps it.
+-- What is known of a program before the search for what is wanted, as code keeps it.
 use Rattle.std.specs.Prelude.{map}
 use Rattle.dcc_ir.specs.Views.{program_of}
 use Rattle.dcc_summaries.specs.declared.follow.Setting.{Setting as SettingOf}

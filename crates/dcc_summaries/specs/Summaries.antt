@@ -55,13 +55,13 @@ pub record IsSumOf (p : Program) (place : ℕ) (sum : Summary) : Type 0 where
   pub just : IsSum p (graph_in p place) sum
   pub one : AreOneValue sum.results
 
--- How code tells them.
+-- How code tells the summaries.
 
 abbrev pub sets_one : Loc → Put → Bool
 sets_one location (One other) = same_location location other
 sets_one location put = false
 
--- one of the params is of the location, which isn't on the stack
+-- one of the params is of the location, and isn't on the stack
 abbrev pub takes : List Param → Loc → Bool
 takes params location = list_any (λ q. not q.stack && sets_one location q.put) params
 
@@ -91,7 +91,7 @@ module _ (found : Found) where
     preserved = filter (λ location. not (changed_by graph.entry location)) passed;
   }
 
-  -- one of these, to which a call at the point gives a byte of an argument back, is wanted after it
+  -- one of the locations, to which a call at the point gives a byte of an argument back, is wanted after the call
   abbrev pub reuses_one : Point → List Loc → Bool
   reuses_one at results = list_any (λ location. not (passes location) && wanted_before (next_point at) location) results
 
@@ -107,7 +107,7 @@ is_half_of r location = same_location location (Half r Low) || same_location loc
 abbrev pub is_in_pair : Loc → Bool
 is_in_pair location = is_half_of Ax location || is_half_of Dx location
 
--- by the first of them
+-- whether the locations are one value, by the first of them
 abbrev pub is_one_value : List Loc → Bool
 is_one_value [] = true
 is_one_value (Half r h ∷ rest) = list_all (is_half_of r) rest || list_all is_in_pair (Half r h ∷ rest)

@@ -11,7 +11,8 @@ use Rattle.dcc_summaries.specs.declared.table.Want.{Want}
 abbrev pub lists_of : {A : Type 0} → List (Vec A) → List (List A)
 lists_of lists = map (λ v. v.items) lists
 
--- The locations of so many statements done, of a block and of a graph; a list that isn't there is empty.
+-- The locations of the table by the number of statements done, by block and by graph; a list that isn't there is
+-- empty.
 
 abbrev pub row_of : List (List Loc) → ℕ → List Loc
 row_of rows done = get_or rows done []
@@ -26,7 +27,7 @@ graph_rows graphs place = get_or (lists_of graphs) place []
 abbrev pub row_at : List (Vec (Vec (List Loc))) → Point → List Loc
 row_at graphs at = row_of (block_rows (graph_rows graphs at.graph) at.block) at.done
 
--- Whether a location is among them.
+-- Whether a location is in the table before a point.
 
 abbrev pub told_here : List (List Loc) → ℕ → Loc → Bool
 told_here rows done location = is_among (row_of rows done) location
@@ -40,7 +41,7 @@ told_in_graph graphs place block done location = told_in_block (graph_rows graph
 abbrev pub told_in : List (Vec (Vec (List Loc))) → Want → Bool
 told_in graphs x = told_in_graph graphs x.at.graph x.at.block x.at.done x.location
 
--- the two are one
+-- the two wants are one: the same location before the same point
 abbrev pub same_want : Want → Want → Bool
 same_want x y =
     (x.at.graph == y.at.graph)

@@ -8,7 +8,7 @@ use Rattle.dcc_summaries.specs.declared.points.Point.{Point}
 use Rattle.dcc_summaries.specs.declared.ways.Port.{Port}
 use Rattle.dcc_summaries.specs.Points.{graph_in, site_in, callee_at}
 
--- for each graph its lists
+-- for each graph the lists of blocks that code keeps
 abbrev pub lists_in : List (Vec (Vec ℕ)) → List (List (List ℕ))
 lists_in lists = map (λ v. rows v.items) lists
 
@@ -33,7 +33,7 @@ calls_at at site = ports_at at (callee_at site)
 abbrev pub returns_at : Point → ℕ → Site → List Port
 returns_at at entry site = if is_return site then port_at at entry ∷ [] else []
 
--- the calls at these points, and the returns
+-- the calls at the points of the list; `all_returns`: the returns
 module _ (p : Program) where
   abbrev pub all_calls : List Point → List Port
   all_calls points = flat_map (λ at. calls_at at (site_in p at)) points
@@ -41,6 +41,6 @@ module _ (p : Program) where
   abbrev pub all_returns : List Point → List Port
   all_returns points = flat_map (λ at. returns_at at (graph_in p at.graph).entry (site_in p at)) points
 
--- those of one procedure
+-- the calls, or the returns, of one procedure
 abbrev pub ports_of : ℕ → List Port → List Port
 ports_of entry ports = filter (λ port. port.entry == entry) ports

@@ -19,7 +19,7 @@ use std::alloc::{AllocError, Global};
 #[derive(Drop)]
 pub struct Demand {
     pub wants: Wants,
-    /// What of it hasn't been followed yet, the newest last.
+    /// What is known to be wanted and hasn't been followed yet, the newest last.
     pub pending: Vec<Want>,
 }
 
@@ -34,7 +34,7 @@ fn is_passing(e: &Expr) -> bool
 }
 
 impl Demand {
-    /// Nothing is known to be wanted.
+    /// A demand in which nothing is known to be wanted.
     pub fn new(alloc: Global) -> Demand
         ensures { demand_of result ≡ no_demand }
     {
@@ -46,7 +46,7 @@ impl Demand {
         }
     }
 
-    /// A location is wanted before a point.
+    /// Notes that a location is wanted before a point.
     pub fn want(&mut self, alloc: Global, want: Want) -> Result<(), AllocError>
         ensures { OnOk result (demand_of self.new ≡ with_want (demand_of self.old) want) }
     {
@@ -57,7 +57,7 @@ impl Demand {
         Ok(())
     }
 
-    // All that an expression reads is wanted.
+    // Notes all that an expression reads as wanted.
     #[tactic(auto, using(crate::proofs::DemandLaws::both_read))]
     fn want_reads(&mut self, alloc: Global, at: Point, e: &Expr) -> Result<(), AllocError>
         ensures { OnOk result (demand_of self.new
@@ -89,7 +89,7 @@ impl Demand {
         }
     }
 
-    // What an argument of a call reads, but for a half or a flag that passes, is wanted.
+    // Notes what an argument of a call reads, unless it is a half or a flag that passes, as wanted.
     fn want_argument(&mut self, alloc: Global, at: Point, argument: &Expr) -> Result<(), AllocError>
         ensures { OnOk result (demand_of self.new
             ≡ with_wants (demand_of self.old) (wants_at at (argument_reads (expr_of argument.now ∷ [])))) }
@@ -100,7 +100,7 @@ impl Demand {
         self.want_reads(alloc, at, argument)
     }
 
-    // What the arguments of a call read, but for halves and flags that pass, is wanted.
+    // Notes what the arguments of a call read, but for halves and flags that pass, as wanted.
     fn want_arguments(
         &mut self,
         alloc: Global,
@@ -116,7 +116,7 @@ impl Demand {
         Ok(())
     }
 
-    // What a statement uses is wanted before it.
+    // Notes what a statement uses as wanted before it.
     #[tactic(auto, using(crate::proofs::DemandLaws::both_made))]
     fn want_used(&mut self, alloc: Global, at: Point, stmt: &Stmt) -> Result<(), AllocError>
         ensures { OnOk result (demand_of self.new
@@ -137,7 +137,7 @@ impl Demand {
         }
     }
 
-    // What the test of a block's end reads is wanted before it.
+    // Notes what the test of a block's end reads as wanted before it.
     fn want_tested(&mut self, alloc: Global, at: Point, end: &End) -> Result<(), AllocError>
         ensures { OnOk result (demand_of self.new
             ≡ with_wants (demand_of self.old) (wants_at at (used_at_end (exit_of end.now)))) }
@@ -149,7 +149,7 @@ impl Demand {
         }
     }
 
-    /// What a statement makes its value of is wanted before it.
+    /// Notes what a statement makes its value of as wanted before it.
     pub fn want_made(&mut self, alloc: Global, at: Point, stmt: &Stmt) -> Result<(), AllocError>
         ensures { OnOk result (demand_of self.new
             ≡ with_wants (demand_of self.old) (wants_at at (makes_of (stmt_of stmt.now)))) }
@@ -161,7 +161,7 @@ impl Demand {
         }
     }
 
-    // What is used at a point is wanted before it.
+    // Notes what is used at a point as wanted before it.
     fn want_there(&mut self, alloc: Global, at: Point, site: &Site<'_>) -> Result<(), AllocError>
         ensures { OnOk result (demand_of self.new
             ≡ with_wants (demand_of self.old) (wants_at at (used_at (site_seen site.now)))) }
@@ -172,7 +172,7 @@ impl Demand {
         }
     }
 
-    /// What is used at some points of a program is wanted before them.
+    /// Notes what is used at some points of a program as wanted before them.
     pub fn seed(&mut self, alloc: Global, p: &IrProgram, points: &[Point]) -> Result<(), AllocError>
         requires { All (IsPoint (program_of p.now)) points.now }
         ensures { OnOk result (demand_of self.new

@@ -19,7 +19,7 @@ use dcc_ir::{IrProgram, Loc, PASSED_LOCATIONS, Stmt};
 use dcc_modref::{passes, writes};
 use std::alloc::{AllocError, Global};
 
-/// What is known of a program before it is found what is wanted.
+/// What is known of a program before the search for what is wanted.
 #[derive(Drop)]
 pub struct Setting<'a> {
     pub program: &'a IrProgram,
@@ -49,7 +49,7 @@ pub fn is_changed(changed: &[Vec<bool>], entry: u16, location: Loc) -> bool
 }
 
 impl Demand {
-    // A location is wanted at a point if the procedure that is called there or returns there has that entry.
+    // Notes a location as wanted at a point if the procedure that is called there or returns there has that entry.
     fn want_at_port(
         &mut self,
         alloc: Global,
@@ -67,7 +67,7 @@ impl Demand {
         self.want(alloc, Want { at, location })
     }
 
-    // The same of all these points.
+    // Notes a location as wanted at each of the points where the procedure of that entry is called, or returns.
     fn want_at_ports(
         &mut self,
         alloc: Global,
@@ -84,7 +84,7 @@ impl Demand {
         Ok(())
     }
 
-    // A location that is not written at a point, where this procedure is called, is wanted after it.
+    // Follows a location that is wanted after a point that does not write it, and where a procedure may be called.
     fn follow_call(
         &mut self,
         alloc: Global,
@@ -110,7 +110,7 @@ impl Demand {
         }
     }
 
-    // A location is wanted after the statement at a point.
+    // Follows a location that is wanted after the statement at a point.
     fn follow_stmt(
         &mut self,
         alloc: Global,
@@ -130,7 +130,7 @@ impl Demand {
         }
     }
 
-    // A location is wanted where a block begins, so it is wanted where those blocks end that lead there.
+    // Follows a location that is wanted where a block begins: it is wanted where those blocks end that lead there.
     fn follow_begin(
         &mut self,
         alloc: Global,
@@ -158,7 +158,8 @@ impl Demand {
         Ok(())
     }
 
-    // A location is wanted where a block begins: if that is the entry of its graph, it is wanted at its calls.
+    // Follows a location that is wanted where a block begins: if that is the entry of its graph, it is wanted at the
+    // graph's calls.
     fn follow_entry(
         &mut self,
         alloc: Global,
@@ -179,7 +180,7 @@ impl Demand {
         }
     }
 
-    /// What follows from a location that is wanted becomes known.
+    /// Notes all that follows from a location that is wanted.
     pub fn follow(
         &mut self,
         alloc: Global,

@@ -11,7 +11,7 @@ ghost use Rattle.dcc_summaries.specs.Points.{callee_at};
 use dcc_ir::{End, Graph, IrProgram, Stmt};
 use std::alloc::{AllocError, Global};
 
-/// A point of a graph of a program: after so many statements of a block.
+/// A point of a graph of a program: after a number of statements of a block.
 #[derive(Clone, Copy)]
 pub struct Point {
     /// The place of the graph in the program.
@@ -40,7 +40,7 @@ pub fn callee(stmt: &Stmt) -> Option<u16>
 }
 
 impl Site<'_> {
-    /// The entry of the procedure that is called there.
+    /// The entry of the procedure that is called at the point.
     pub fn callee(&self) -> Option<u16>
         ensures { result ≡ callee_at (site_seen self.now) }
     {
@@ -50,7 +50,7 @@ impl Site<'_> {
         }
     }
 
-    /// Whether the procedure returns there.
+    /// Whether the procedure returns at the point.
     pub fn returns(&self) -> bool
         ensures { result ≡ is_return (site_seen self.now) }
     {
@@ -76,7 +76,7 @@ pub fn site_at<'a>(p: &'a IrProgram, at: Point) -> Site<'a>
     }
 }
 
-// Puts the first points of a block, so many, at the end of a list.
+// Puts the first `count` points of a block at the end of a list.
 fn add_block(
     points: &mut Vec<Point>,
     graph: usize,

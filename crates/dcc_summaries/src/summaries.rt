@@ -27,9 +27,9 @@ use std::alloc::{AllocError, AllocFailed, Global};
 /// Why a program has no summaries that a text can have.
 #[derive(Clone, Copy, PartialEq, Eq, Debug)]
 pub enum SumsFault {
-    /// In a block at that address an argument is wanted after a call that may change it.
+    /// In a block at the address an argument is wanted after a call that may change it.
     ArgumentReused { at: u16 },
-    /// The procedure at that address gives several values back.
+    /// The procedure at the address gives several values back.
     SeveralResults { at: u16 },
     /// Memory ran out.
     Memory,
@@ -79,7 +79,7 @@ fn is_in_pair(location: Loc) -> bool
     is_half_of(Reg::Ax, location) || is_half_of(Reg::Dx, location)
 }
 
-// Whether all of these are halves of the register.
+// Whether all of the locations are halves of the register.
 fn all_halves(register: Reg, locations: &[Loc]) -> bool
     ensures { result ≡ list_all (spec.is_half_of register) locations.now }
 {
@@ -88,14 +88,14 @@ fn all_halves(register: Reg, locations: &[Loc]) -> bool
         .all(|location| is_half_of(register, *location))
 }
 
-// Whether all of these are halves of AX and DX.
+// Whether all of the locations are halves of AX and DX.
 fn all_in_pair(locations: &[Loc]) -> bool
     ensures { result ≡ list_all spec.is_in_pair locations.now }
 {
     locations.iter().all(|location| is_in_pair(*location))
 }
 
-// Whether all of these are that location.
+// Whether all of the locations are the given one.
 fn all_same(first: Loc, locations: &[Loc]) -> bool
     ensures { result ≡ list_all (same_location first) locations.now }
 {
@@ -213,7 +213,8 @@ impl Found {
         })
     }
 
-    // Whether one of these, to which a call at a point gives a byte of an argument back, is wanted after it.
+    // Whether one of the locations, to which a call at a point gives a byte of an argument back, is wanted after the
+    // call.
     fn reuses_one(&self, at: Point, results: &[Loc]) -> bool
         ensures { result ≡ reuses_one self.now at results.now }
     {

@@ -68,7 +68,7 @@ fn add_in_block(
     Ok(())
 }
 
-// The same for a point of a graph.
+// Adds a location that is wanted before a point of a graph to the graph's lists.
 fn add_in_graph(
     alloc: Global,
     blocks: &mut Vec<Vec<Locations>>,
@@ -137,7 +137,7 @@ impl Wants {
         }
     }
 
-    /// It becomes known.
+    /// The want becomes known.
     pub fn add(&mut self, alloc: Global, want: Want) -> Result<(), AllocError>
         ensures { OnOk result ((x : _) → told_in self.new.rows.items x
             ≡ (same_want x want || told_in self.old.rows.items x)) }

@@ -15,7 +15,7 @@ use std::alloc::{AllocError, Global};
 #[derive(Clone, Copy)]
 pub struct Port {
     pub at: Point,
-    /// The procedure's entry.
+    /// The entry of the procedure that is called or returns.
     pub entry: u16,
 }
 
@@ -43,7 +43,7 @@ fn all_preds(alloc: Global, p: &IrProgram) -> Result<Vec<Vec<Vec<usize>>>, Alloc
 }
 
 impl Ways {
-    // Notes whether a procedure is called there.
+    // Notes the call at a point, if a procedure is called there.
     fn note_call(&mut self, at: Point, site: &Site<'_>) -> Result<(), AllocError>
         ensures calls { OnOk result (self.new.calls.items ≡ self.old.calls.items ++ calls_at at (site_seen site.now)) }
         ensures returns { self.new.returns ≡ self.old.returns }
@@ -55,7 +55,7 @@ impl Ways {
         Ok(())
     }
 
-    // Notes whether the procedure of that entry returns there.
+    // Notes the return at a point, if the procedure of that entry returns there.
     fn note_return(&mut self, at: Point, entry: u16, site: &Site<'_>) -> Result<(), AllocError>
         ensures returns { OnOk result (self.new.returns.items
             ≡ self.old.returns.items ++ returns_at at entry (site_seen site.now)) }
@@ -68,7 +68,7 @@ impl Ways {
         Ok(())
     }
 
-    /// How control comes to the points of a program, which are these.
+    /// How control comes to the given points of a program.
     pub fn new(alloc: Global, p: &IrProgram, points: &[Point]) -> Result<Ways, AllocError>
         requires program { IsProgram (program_of p.now) }
         requires points { All (IsPoint (program_of p.now)) points.now }

@@ -66,7 +66,7 @@ words_first stays j (w ∷ ws) qs (n ∷ a) t less all =
     ∙ words_first (later stays) (j + 1) ws qs a (putting j w.put n t) (omega (arith, less)) (λ k below. all (suc k) (omega (arith, below)))
     ∙ ap (λ i. passing i (kept n' qs) (kept n' (drop (length ws) a)) (passing (j + 1) ws a (putting j w.put n t))) index
 
--- the same of all of them
+-- all words are taken first, and then what is left of the others
 all_words_first : (j : ℕ) (ws qs : List Param) (a : List ℕ) (t : State) → length ws ≤ length a → passing j (ws ++ qs) a t ≡ passing (j + length ws) qs (drop (length ws) a) (passing j ws a t)
 all_words_first j [] qs a t less = ap (λ i. passing i qs a t) (omega arith)
 all_words_first j (w ∷ ws) qs [] t less = absurd (omega (arith, less))
@@ -130,7 +130,7 @@ module _ (ws : List Param) (a : List ℕ) (enough : length a ≡ length ws + len
         ∙ sym (ap (λ (v : Values). v l) (halves_values (0 + length ws) passed (drop (length ws) a) (passing 0 ws a s)))
         ∙ sym (ap (λ (u : State). u.running.values l) (all_words_first 0 ws (map param_of passed) a s less))
 
-    -- and so does the memory
+    -- memory is the same in both graphs where they begin
     pub begin_memory : (passing 0 (kept stays whole) (kept stays a) t).memory ≡ (passing 0 whole a s).memory
     begin_memory =
         ap (λ (u : State). u.memory) taken_words ∙ halves_memory (0 + length ws) left given (passing 0 ws a t) ∙ opened.memory

@@ -232,7 +232,7 @@ dl_is_a_param = record {
       (IsWantedBy.given_back {caller = 0} {call = at 0 0} {after = at 0 1} refl al_is_changed refl (Contains-here (at 0 1) []) al_is_wanted))));
 }
 
--- so DL is wanted before the call
+-- DL is wanted before the call
 dl_is_wanted : Wanted P 0 (at 0 0) dl
 dl_is_wanted = IsWantedBy.taken {callee = 32} refl refl dl_is_a_param.wanted
 

@@ -53,7 +53,7 @@ module _ (l : Loc) where
   given-kept stays [] (n ∷ ns) v v' len all same = absurd (cc)
   given-kept stays (x ∷ xs) [] v v' len all same = absurd (cc)
 
-  -- It holds what it held where none of them stays.
+  -- A location holds what it held where none of the values that it takes stays.
   pub given-dropped : (stays : ℕ → Bool) (xs : List Loc) (ns : List ℕ) (v : Values) → length ns ≡ length xs → ((k : ℕ) → slice_get xs k ≡ Some l → stays k ≡ false) →
       with_values v (kept stays xs) (kept stays ns) l ≡ v l
   given-dropped stays [] [] v len none = refl

@@ -22,7 +22,7 @@ use Rattle.dcc_sums.proofs.TraceLaws.{written_plain}
 
 -- Statements that are left.
 
--- these are left of the statements after so many
+-- the second list is what is left of the first after a number of statements
 pub data IsAfter : ℕ → List Stmt → List Stmt → Type 0 where
   none : {stmts : List Stmt} → IsAfter 0 stmts stmts
   some : {n : ℕ} {stmt : Stmt} {stmts rest : List Stmt} → IsAfter n stmts rest → IsAfter (suc n) (stmt ∷ stmts) rest

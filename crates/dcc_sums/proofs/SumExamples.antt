@@ -418,7 +418,7 @@ of_both Q h k = All-cons Q caller (callee ∷ []) h (one Q callee k)
 of_blocks : (Q : Block → Type 0) → Q calling_block → Q last_block → All Q caller.blocks
 of_blocks Q h k = All-cons Q calling_block (last_block ∷ []) h (one Q last_block k)
 
--- the same program with a callee that does nothing
+-- the program is well formed with a callee that does nothing
 idle_formed : IsProgram (calling.program 0x4C (Get al) [] [] passed (map Get passed) halves (map Get passed))
 idle_formed = calling.formed 0x4C (Get al) [] [] passed (map Get passed) halves (map Get passed) refl refl refl refl refl refl refl refl refl
 
@@ -465,6 +465,6 @@ program_formed = record {
     one_there : (a : List ℕ) → Contains (all_ret_widths callee) a → map (location_width []) passed ≡ a
     one_there a c = Contains-cases (map (location_width []) passed) [] a (map (location_width []) passed ≡ a) (λ e. e) (λ d. absurd (Contains-none a d)) c
 
--- So DL in and AL out are all that passes, and all is kept.
+-- DL in and AL out are all that passes, and all is kept.
 all_is_kept : IsKeptBy program (localised sums program)
 all_is_kept = localised-keeps no_words program sums program_formed all_pass are_sums reuses_none

@@ -191,7 +191,7 @@ module _ (pushed : ℕ) where
       out : (x : Loc) → is_among (written_by stmt) x ≡ false → is_among (writes_of stmt) x ≡ false
       out x e = ap (λ ls. is_among ls x) (sym (written_plain stmt plain)) ∙ e
 
-  -- and so does the end of a block
+  -- the end of a block does what its action says
   pub end_does : (changed : ChangeFamily Loc) (used : List Loc) (v : Values) → Does changed pushed (only_using used) v v
   end_does changed used v = record {
     left = λ x e n. refl;

@@ -24,7 +24,7 @@ abbrev pub is_half : Loc → Bool
 is_half (Half r h) = true
 is_half location = false
 
--- a byte of a cell that stands for a pushed word, where these have numbers from that one on
+-- the location is a byte of a cell that stands for a pushed word; these cells have numbers from the given one on
 abbrev pub is_pushed : ℕ → Loc → Bool
 is_pushed pushed (Cell n h) = nat_le pushed n
 is_pushed pushed location = false
@@ -36,7 +36,7 @@ abbrev pub is_passing : Expr → Bool
 is_passing (Get location) = passes location
 is_passing e = false
 
--- What a statement uses whatever is wanted after it. A Load uses nothing so: what it sets is made of what its address
+-- What a statement uses whatever is wanted after it. A Load uses nothing: what it sets is made of what its address
 -- reads. What passes with a call counts as the call, so of the arguments only the words on the stack are used.
 abbrev pub used_by : Stmt → List Loc
 used_by (Call results entry arguments depth) = flat_map reads_of (filter (λ e. not (is_passing e)) arguments)
@@ -53,7 +53,7 @@ effect_of pushed (Set location (Get from)) =
     if is_half location && is_pushed pushed from then Pops from else Copies from
 effect_of pushed stmt = Makes
 
--- how it writes a word: by a PUSH of a half or otherwise
+-- how a statement writes a word: by a PUSH of a half or otherwise
 abbrev pub word_effect_of : Stmt → WordEffect Loc
 word_effect_of (Set location (Get from)) = if is_half from then Pushes from else Overwrites
 word_effect_of stmt = Overwrites
@@ -62,7 +62,7 @@ abbrev pub callee_of : Stmt → Option ℕ
 callee_of (Call results entry arguments depth) = Some entry
 callee_of stmt = None
 
--- what a statement does, where pushed words have the cells from that number on
+-- what a statement does, where pushed words have the cells from the given number on
 abbrev pub action_of : ℕ → Stmt → Action Loc Loc
 action_of pushed stmt = record {
   uses = λ location. is_among (used_by stmt) location;
@@ -80,7 +80,7 @@ abbrev pub used_at_end : Exit → List Loc
 used_at_end (Ret values) = []
 used_at_end exit = tests_of exit
 
--- what uses these locations and does nothing else
+-- the action that uses the locations and does nothing else
 abbrev pub only_using : List Loc → Action Loc Loc
 only_using locations = record {
   uses = λ location. is_among locations location;

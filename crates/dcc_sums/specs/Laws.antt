@@ -9,7 +9,7 @@ use Rattle.dcc_ir.specs.Trimmed.{Trim, trimmed}
 use Rattle.dcc_sums.specs.Sums.{AreSums, ReusesNone}
 use Rattle.dcc_sums.specs.Localised.{sum_at, localised, PassesJust}
 
--- a well-formed program is so still where arguments and values given back have gone
+-- a well-formed program is well formed still where arguments and values given back have gone
 abbrev pub TrimmedIsFormed : Type 0
 TrimmedIsFormed = (trim : Trim) (p : Program) → IsProgram p → IsProgram (trimmed trim p)
 
@@ -27,7 +27,7 @@ abbrev pub LocalisedKeeps : Type 0
 LocalisedKeeps = (back : ℕ → List ℕ) (p : Program) (sums : List Summary) → IsProgram p → PassesAll back p
     → AreSums p sums → ReusesNone p → IsKeptBy p (localised sums p)
 
--- in that program just what is wanted passes
+-- in the localised program just what is wanted passes
 abbrev pub LocalisedPassesJust : Type 0
 LocalisedPassesJust = (back : ℕ → List ℕ) (p : Program) (sums : List Summary) → IsProgram p → PassesAll back p
     → AreSums p sums → PassesJust (sum_at p.graphs sums) (localised sums p)

@@ -22,17 +22,17 @@ abbrev pub sum_at : List Graph → List Summary → ℕ → Summary
 sum_at (graph ∷ graphs) (sum ∷ sums) entry = if graph.entry == entry then sum else sum_at graphs sums entry
 sum_at graphs sums entry = no_sum
 
--- the param sets one of these locations
+-- the param sets one of the locations
 abbrev pub sets_one_of : List Loc → Put → Bool
 sets_one_of locations (One location) = is_among locations location
 sets_one_of locations put = false
 
--- the param stays: it is a word on the stack, or sets one of these
+-- the param stays: it is a word on the stack, or sets one of the locations
 abbrev pub is_taken : List Loc → Option Param → Bool
 is_taken params (Some param) = param.stack || sets_one_of params param.put
 is_taken params None = false
 
--- the value that is given back stays: it is that of one of these
+-- the value that is given back stays: it is that of one of the locations
 abbrev pub is_given : List Loc → Option Loc → Bool
 is_given results (Some location) = is_among results location
 is_given results None = false
@@ -45,13 +45,13 @@ trim_by graphs sums = record {
   gives = λ entry k. is_given (sum_at graphs sums entry).results (slice_get passed k);
 }
 
--- the program that is localised by these summaries
+-- the program that is localised by the summaries
 abbrev pub localised : List Summary → Program → Program
 localised sums p = trimmed (trim_by p.graphs sums) p
 
--- What passes in it.
+-- What passes in a localised program.
 
--- a Ret gives just these
+-- a Ret gives just the locations back
 abbrev pub GivesJust : List Loc → Exit → Type 0
 GivesJust results (Ret values) = values ≡ map Get results
 GivesJust results exit = Unit {0}

@@ -4,26 +4,26 @@ use Rattle.dcc_ir.specs.Tree.{Stmt, Exit, Ret, Graph}
 use Rattle.dcc_ir.specs.Flow.{targets}
 use Rattle.dcc_ir.specs.Live.{block_in}
 
--- a point of a graph: in its block at that place, after so many of the block's statements
+-- a point of a graph: in the block at a place, after a number of the block's statements
 pub record Position : Type 0 where
   pub block : ℕ
   pub done : ℕ
 
--- where a block begins
+-- the point at which a block begins
 abbrev pub begin_of : ℕ → Position
 begin_of block = record { block = block; done = 0 }
 
--- after the next statement
+-- the point after the next statement
 abbrev pub next_of : Position → Position
 next_of a = record a { done = suc a.done }
 
--- what comes next: a statement, the end of the block, or nothing, after more statements than there are
+-- what comes next at a point: a statement, the end of the block, or nothing, after more statements than there are
 pub data Site : Type 0 where
   Executes : Stmt → Site
   Ends : Exit → Site
   Nowhere : Site
 
--- after so many of these statements of a block, and before its end
+-- what comes next after a number of the statements of a block
 abbrev pub site_at : ℕ → List Stmt → Exit → Site
 site_at zero [] exit = Ends exit
 site_at zero (stmt ∷ rest) exit = Executes stmt
@@ -40,7 +40,7 @@ nexts_of (Executes stmt) a = next_of a ∷ []
 nexts_of (Ends exit) a = map begin_of (targets exit)
 nexts_of Nowhere a = []
 
--- the procedure returns there
+-- the procedure returns at what comes next: the end of a block by a Ret
 abbrev pub is_return : Site → Bool
 is_return (Ends (Ret values)) = true
 is_return site = false

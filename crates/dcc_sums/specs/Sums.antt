@@ -18,13 +18,14 @@ use Rattle.dcc_demand.specs.Wanted.{Wanted, IsParam, IsResult}
 use Rattle.dcc_sums.specs.Points.{Position, next_of, Executes, site_of}
 use Rattle.dcc_sums.specs.Instance.{passes, procedures_of}
 
--- the list has just the locations of that kind, each once, in the order in which they pass
+-- the list has just the locations of the kind, each once, in the order in which they pass
 pub record AreJust (Kind : Loc → Type 0) (locations : List Loc) : Type 0 where
   pub order : locations ≡ filter (λ location. is_among locations location) passed
   pub exact : (location : Loc) → Contains locations location ↔ Kind location
 
--- The graph takes what is wanted at its entry, if it takes halves and flags at all, as all do but the first one. It
--- gives back what it changes and what is wanted after some call of it, and preserves what it doesn't change.
+-- The summary of a graph: it takes what is wanted at its entry, if it takes halves and flags at all, as all graphs do
+-- but the first. It gives back what it changes and what is wanted after some call of it, and preserves what it doesn't
+-- change.
 pub record IsSum (p : Program) (graph : Graph) (sum : Summary) : Type 0 where
   pub params : AreJust (λ location. Contains graph.params (param_of location)
       × IsParam (procedures_of p) graph.entry location) sum.params

@@ -4,7 +4,7 @@
 
 ghost use Rattle.dcc_sums.specs.Laws.{TrimmedIsFormed, LocalisedKeeps, LocalisedPassesJust};
 
-/// A well-formed program is so still where arguments and values given back have gone.
+/// A well-formed program is well formed still where arguments and values given back have gone.
 pub fn trimmed_is_formed()
     ensures { TrimmedIsFormed }
 {}
@@ -15,8 +15,8 @@ pub fn localised_keeps_all()
     ensures { LocalisedKeeps }
 {}
 
-/// In that program each graph takes words on the stack and just the params of its summary, and gives just the results;
-/// each call passes and takes just these.
+/// In the localised program each graph takes words on the stack and just the params of its summary, and gives just the
+/// results; each call passes and takes just these.
 pub fn localised_passes_just()
     ensures { LocalisedPassesJust }
 {}

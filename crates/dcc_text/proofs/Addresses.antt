@@ -24,7 +24,7 @@ use Rattle.dcc_text.proofs.Operands.{exact-text}
 use Rattle.dcc_text.proofs.Constants.{constant-number}
 use Rattle.dcc_text.proofs.Readings.{IsValue, cast-value, as-number, declared}
 
--- both read the same bytes
+-- a load of the text and a load of the inner language read the same bytes
 pub load-is : (count : ℕ) (memory : List ℕ) (at : ℕ) → load count memory at ≡ bytes_at memory count at
 load-is zero memory at = refl
 load-is (suc count) memory at = ap (λ n. slice_index memory (at % 65536) + 256 * n) (load-is count memory (at + 1))

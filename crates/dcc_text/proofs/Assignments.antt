@@ -59,7 +59,7 @@ assigned-here (x ∷ xs) name b v is = elim (cases_Bool (same_bytes x.name name)
       ∙ assigned-here xs name b v (sym (ap (λ c. if c then Some x else variable_in xs name) apart) ∙ is)
 ]
 
--- the others stay
+-- an assignment to a variable leaves the others as they are
 assigned-other : (xs : List Binding) (name other : Word) (v : Value) → same_bytes name other ≡ false → variable_in (after_assignment xs name v) other ≡ variable_in xs other
 assigned-other [] name other v apart = refl
 assigned-other (x ∷ xs) name other v apart = elim (cases_Bool (same_bytes x.name name)) [
@@ -115,7 +115,7 @@ module _ (s : Spelling) (tree : Tree) (Before : Loc → Type 0) (AreAlike : List
     old : IsVariable s t.frame.variables location
     old = h.frame.variables location named
 
-    -- its own variable
+    -- the variable of the location that takes a number
     abbrev new-variable : IsVariable s after_it location
     new-variable = record {
       typed = old.typed;

@@ -108,7 +108,7 @@ module _ (scope : Scope) where
         ∙ ap₂ (f (reckons size)) (kept size x.base n (exact-holds size x.base x.is) x.fits) (kept size y.base m (exact-holds size y.base y.is) y.fits))
         (comparing-number scope operator f c x.base y.base n m a b (exact-number scope size n a x) (exact-number scope size m b y))
 
-    -- and by their signs
+    -- the comparison of numbers by their signs
     of-signed : (operator : CBin) (f : Base → ℕ → ℕ → Bool) → Compares operator f → Text scope Signed size n a → Text scope Signed size m b
         → IsNumber scope Int (from_bool (f (signed_reckons size) (signed_bits size n) (signed_bits size m))) (Binary operator a b)
     of-signed operator f c x y =

@@ -3,14 +3,14 @@ use Rattle.std.proofs.Common.{◌≡◌, ℕ, zero, suc, ◌-◌, ◌*◌, ◌^�
 use Rattle.std.proofs.lemmas.Bool.Decides.{leb_tells}
 use Rattle.std.proofs.Math.Pow.{pow_mono}
 
--- it is more than such a number where there are more bits
+-- the half of the numbers of more than 32 bits is above a number of 32 bits
 pub wide_half : (width n : ℕ) → 32 < width → n < 2 ^ 32 → n < 2 ^ (width - 1)
 wide_half width n wide small =
     let least : 32 ≤ width - 1 = omega arith in
     let big : 2 ^ 32 ≤ 2 ^ (width - 1) = pow_mono least in
     omega arith
 
--- so a number above it has no more bits
+-- a number of 32 bits above the half of the numbers of a width is of a width of at most 32 bits
 pub narrow : (width n : ℕ) → n < 2 ^ 32 → 2 ^ (width - 1) < n → width ≤ 32
 narrow width n small above = elim (leb_tells width 32) [
   | inl (is, few) ↦ few

@@ -93,7 +93,7 @@ as-int size wide n less few fits = elim (sign-of size n fits) [
     down word word fits high less few = absurd (omega (arith, less))
     down long word fits high less few = absurd (omega (arith, less))
 
--- the same bits as a long, for each type of such an int
+-- an int that stands for a signed number has the same bits as a long, for each type of such an int
 as-long : (size : Size) (base : Base) (k n : ℕ) → bits size < 32 → carries Signed size base ≡ true → k < 2 ^ bits_of base → n < 2 ^ bits size → convert base (signed_reckons size) k ≡ signed_bits size n
     → convert base Long k ≡ pattern_at 32 (signed_at (bits size) n)
 as-long bit Int k n less is room fits same = bits-long k n room fits (from-int k (signed_bits bit n) room same)

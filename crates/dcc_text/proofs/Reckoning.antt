@@ -17,19 +17,19 @@ use Rattle.dcc_text.proofs.Meanings.{IsNumber, unary-valued, binary-valued, bina
 pub record IsEager (operator : CBin) : Type 0 where
   pub eager : (scope : Scope) (e g : Expr) → value_of scope (Binary operator e g) ≡ and_then (λ v. and_then (both_values operator v) (value_of scope g)) (value_of scope e)
 
--- it reckons in the common type of its operands
+-- the operator reckons in the common type of its operands
 pub record Reckons (operator : CBin) (f : Base → ℕ → ℕ → ℕ) : Type 0 where
   pub eager : IsEager operator
   pub typing : (a b : Base) → numbers_type operator a b ≡ common_type a b
   pub valuing : (a b : Base) (n m : ℕ) → numbers_value operator a n b m ≡ Gives (number (common_type a b) (f (common_type a b) (convert a (common_type a b) n) (convert b (common_type a b) m)))
 
--- it compares in the common type of its operands
+-- the operator compares in the common type of its operands
 pub record Compares (operator : CBin) (f : Base → ℕ → ℕ → Bool) : Type 0 where
   pub eager : IsEager operator
   pub typing : (a b : Base) → numbers_type operator a b ≡ Int
   pub valuing : (a b : Base) (n m : ℕ) → numbers_value operator a n b m ≡ Gives (truth (f (common_type a b) (convert a (common_type a b) n) (convert b (common_type a b) m)))
 
--- it shifts in the type of its left operand
+-- the operator shifts in the type of its left operand
 pub record Shifts (operator : CBin) (f : Base → ℕ → Base → ℕ → ℕ) : Type 0 where
   pub eager : IsEager operator
   pub typing : (a b : Base) → numbers_type operator a b ≡ promoted_type a

@@ -183,7 +183,7 @@ module _ (scope : Scope) where
         (ap (λ k. shifted_left x.base k y.base m) (wide-kept way size x.base x.base n wide x.is same x.fits)
         ∙ left-by x.base y.base n m (is-positive size y.base m (exact-holds size y.base y.is) y.fits) ∙ ap (λ w. n * 2 ^ m % 2 ^ w) same) there)
 
-  -- and of bits and bytes, as ints
+  -- left shifts of bits and bytes, as ints
   int-shl : (size : Size) (n m : ℕ) (a b : Expr) → is_wide size ≡ false → (x : Text scope Low size n a) → Text scope Exact size m b → IsNumber scope Int (convert x.base Int x.k * 2 ^ m % 65536) (Binary Shl a b)
   int-shl size n m a b narrow x y =
       let is = shifting-number scope Shl shifted_left shl-shifts x.base y.base x.k m a b x.number_is (exact-number scope size m b y) in

@@ -50,19 +50,19 @@ taken-low byte x n room is low = rw is (omega (arith, low))
 taken-low word x n room is low = rw is (omega (arith, low))
 taken-low long x n room is low = rw is (omega (arith, low))
 
--- and are the number where it has more than a bit
+-- the low bits of a variable are the number where it has more than a bit
 pub taken-wide : (size : Size) (x n room : ℕ) → room ≡ (if bits size == 1 then 8 else bits size) → (bits size == 1) ≡ false → x < 2 ^ room → x % 2 ^ bits size ≡ n → x ≡ n
 taken-wide bit x n room is more small low = absurd (true≢false more)
 taken-wide byte x n room is more small low = sym (mod-eq_of_lt (subst (λ r. x < 2 ^ r) is small)) ∙ low
 taken-wide word x n room is more small low = sym (mod-eq_of_lt (subst (λ r. x < 2 ^ r) is small)) ∙ low
 taken-wide long x n room is more small low = sym (mod-eq_of_lt (subst (λ r. x < 2 ^ r) is small)) ∙ low
 
--- both write the same bytes
+-- a store of the text and a store of the inner language write the same bytes
 store-is : (count : ℕ) (memory : List ℕ) (at n : ℕ) → store count memory at n ≡ with_bytes_at memory count at n
 store-is zero memory at n = refl
 store-is (suc count) memory at n = store-is count (slice_set memory (at % 65536) (n % 256)) (at + 1) (n / 256)
 
--- both write the same strings
+-- call 09h of the inner language and `dos_puts` have the same string in memory
 pub string-is : (memory : List ℕ) (at : ℕ) → string_at memory at ≡ dos_string memory at
 unfolding string_at dos_string
 string-is memory at = refl

@@ -70,7 +70,7 @@ module _ (s : Spelling) (scope : Scope) (values : Values) (base : ℕ) (memory :
   abbrev pub IsThere : Expr → Type 0
   IsThere e = All (IsPlaced s base scope.variables) (addressed_by e)
 
-  -- and what these expressions do
+  -- the text has what the parts of an expression read
   pub record Shown (parts : List Expr) : Type 0 where
     pub reads : All IsRead parts
     pub addresses : All IsThere parts
@@ -97,7 +97,7 @@ module _ (s : Spelling) (scope : Scope) (values : Values) (base : ℕ) (memory :
     pub width : width_of s.bits e ≡ bits size
     pub gives : (way : Way) (votes : Bool) → Text scope way size (value_of scene e) (text s way votes e)
 
-  -- the same at an equal size
+  -- the text of an expression gives its value at an equal size
   at-size : (e : Expr) (x : Stands e) (size : Size) → x.size ≡ size → (way : Way) (votes : Bool) → Text scope way size (value_of scene e) (text s way votes e)
   at-size e x size same way votes = subst (λ k. Text scope way k (value_of scene e) (text s way votes e)) same (x.gives way votes)
 

@@ -19,7 +19,7 @@ is_wide size = false
 
 -- Words and longs.
 
--- such a type has the number's own bits, and operators reckon in it as it stands
+-- the type of a word or a long has the number's own bits, and operators reckon in it as it stands
 wide-type : (way : Way) (size : Size) (base : Base) → is_wide size ≡ true → carries way size base ≡ true → (bits_of base ≡ bits size) × (promoted_type base ≡ base)
 wide-type way size base wide is = at size base wide (carries-low way size base is)
   where
@@ -63,7 +63,7 @@ wide-common way bit a b wide is also = absurd (true≢false (sym wide))
 wide-common way byte a b wide is also = absurd (true≢false (sym wide))
 wide-common way size a b wide is also = absurd (true≢false (sym is))
 
--- such a number stays the same in each type of its size
+-- a word or a long stays the same number in each type of its size
 pub wide-kept : (way : Way) (size : Size) (a c : Base) (n : ℕ) → is_wide size ≡ true → carries way size a ≡ true → bits_of c ≡ bits size → n < 2 ^ bits size → convert a c n ≡ n
 wide-kept way size a c n wide is same fits = ap (λ w. extended_bits a n % 2 ^ w) same ∙ at size wide (carries-low way size a is) fits
   where

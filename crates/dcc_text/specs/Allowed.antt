@@ -47,15 +47,15 @@ pub record IsDeclaredPlace (names : List Declared) (p : Placed) : Type 0 where
   })
   pub small : p.above < 65536
 
--- So is each name of the spelling.
+-- Each name of the spelling is declared: the variables of its locations, and what its addresses go by.
 pub record AreDeclared (names : List Declared) (s : Spelling) : Type 0 where
   pub variables : (location : Loc) → s.named location ≡ true → IsDeclared names s location
   pub places : (distance : ℕ) (p : Placed) → s.place distance ≡ Some p → IsDeclaredPlace names p
 
 -- Expressions.
 
--- The expression can be written and is a number; where it stands for a word or less, it is a word when it is promoted,
--- so that a `switch` may take it.
+-- The text of an expression is allowed: it can be written and is a number; where it stands for a word or less, it is a
+-- word when it is promoted, so that a `switch` may take it.
 pub record IsAllowedExpr (names : List Declared) (width : ℕ) (e : Expr) : Type 0 where
   pub writable : is_writable_expr e ≡ true
   pub base : Base
@@ -70,8 +70,8 @@ ExpressionsAreAllowed = (names : List Declared) (s : Spelling) (e : inner.Expr) 
 
 -- Statements.
 
--- The statement can be written whatever stands around it, it has no statement inside it, no expression with more than
--- so many levels, and its types are allowed. It is no label and no jump.
+-- The statement is allowed: it can be written whatever stands around it, has no statement inside it, no expression
+-- with more than `levels` levels, and its types are allowed. It is no label and no jump.
 pub record IsAllowedStmt (tree : Tree) (f : Function) (levels : ℕ) (stmt : Stmt) : Type 0 where
   pub writable : (around : Around) → is_writable_stmt around stmt ≡ true
   pub allowed : allows_stmt tree f stmt ≡ true

@@ -15,7 +15,7 @@ use Rattle.dcc_c.specs.Run.{Continuation, Frame, Waiting, State}
 use Rattle.dcc_text.specs.Spelling.{Placed, Spelling}
 use Rattle.dcc_text.specs.Meaning.{IsVariable, IsHeld, IsPlaced}
 
--- some locations, and a relation of the calls that wait
+-- some locations; `Alike`: a relation of the calls that wait
 abbrev pub Locations : Type 1
 Locations = Loc → Type 0
 
@@ -29,7 +29,8 @@ pub record IsSpelling (s : Spelling) : Type 0 where
   pub placed_apart : (location : Loc) (distance : ℕ) (p : Placed) → s.named location ≡ true
       → s.place distance ≡ Some p → same_bytes (s.name location) p.name ≡ false
 
--- Each named location has a variable; those among these hold their values; addresses are where the base says.
+-- A call of the text holds what an activation does: each named location has a variable; those of the given locations
+-- hold their values; addresses are where the base says.
 pub record HoldsFrame (s : Spelling) (Has : Locations) (a : inner_run.Activation) (frame : Frame) : Type 0 where
   pub bits : a.graph.bits ≡ s.bits
   pub base : frame.base ≡ a.base
@@ -37,7 +38,8 @@ pub record HoldsFrame (s : Spelling) (Has : Locations) (a : inner_run.Activation
   pub values : (location : Loc) → Has location → IsHeld s a.values frame.variables location
   pub places : (distance : ℕ) → is_some (s.place distance) ≡ true → IsPlaced s a.base frame.variables distance
 
--- The running call holds these locations, the waiting calls are alike, and memory, input, events and end are equal.
+-- A state of the text stands for one of the program: the running call holds the given locations, the waiting calls are
+-- alike, and memory, input, events and end are equal.
 pub record Holds (s : Spelling) (Has : Locations) (AreAlike : Alike)
     (i : inner_run.State) (t : State) : Type 0 where
   pub frame : HoldsFrame s Has i.running t.frame
@@ -75,13 +77,13 @@ pub record IsWaiting (setting : Setting) (w : inner_run.Waiting) (v : Waiting) :
   pub target : v.target ≡ target_for (setting.spelling w.caller.graph) w.results
   pub continues : setting.Continues v.rest w.caller.graph w.caller.block w.caller.rest
 
--- and so do all, one for one
+-- the calls of the text that wait stand for those of the program, one for one
 abbrev pub AreWaiting : Setting → List inner_run.Waiting → List Waiting → Type 0
 AreWaiting setting = AllZip (IsWaiting setting)
 
 -- Steps.
 
--- what an expression reads is among these locations, and its addresses have names
+-- what an expression reads is among the given locations, and its addresses have names
 pub record IsWithin (s : Spelling) (Has : Locations) (e : inner.Expr) : Type 0 where
   pub reads : All Has (reads_of e)
   pub addresses : All (λ distance. is_some (s.place distance) ≡ true) (addresses_of e)

@@ -26,18 +26,18 @@ ExpressionsMean = (s : Spelling) (scene : Scene) (scope : Scope) (e : inner.Expr
     → Fits scene → is_expr scene.bits e ≡ true → Shows s scene scope e
     → IsText scope way (width_of scene.bits e) (value_of scene e) (text s way votes e)
 
--- the text has at most six levels for each of the expression's
+-- the text of an expression has at most six levels for each of the expression's
 abbrev pub ExpressionsAreShallow : Type 0
 ExpressionsAreShallow = (s : Spelling) (e : inner.Expr) (way : Way) (votes : Bool)
     → expr_depth (text s way votes e) ≤ 6 * depth_of e
 
--- the text reads just what the expression reads, each as often and in its place
+-- the text of an expression reads just what the expression reads, each as often and in its place
 abbrev pub ExpressionsReadTheirNames : Type 0
 ExpressionsReadTheirNames = (s : Spelling) (e : inner.Expr) (way : Way) (votes : Bool)
     → names_in (text s way votes e) ≡ read_names s e
 
--- What a statement needs so that its text does what it does: it is well formed and no call, what it reads is held
--- before it, what it writes has variables, and what is held after it is held before it or written by it.
+-- What a statement needs so that its text does what the statement does: it is well formed and no call, what it reads
+-- is held before it, what it writes has variables, and what is held after it is held before it or written by it.
 pub record IsStep (s : Spelling) (Before After : Locations) (stmt : inner.Stmt) : Type 0 where
   pub formed : is_stmt s.bits stmt ≡ true
   pub no_call : inner_run.is_call stmt ≡ false
@@ -46,8 +46,8 @@ pub record IsStep (s : Spelling) (Before After : Locations) (stmt : inner.Stmt) 
   pub named : (location : Loc) → Before location → s.named location ≡ true
   pub left : (location : Loc) → After location → Contains (writes_of stmt) location ⊎ Before location
 
--- One step of the text does what such a statement does: both runs are over alike, a divide fault by a divide fault, or
--- the text holds what matters after the statement.
+-- One step of the text of a statement does what the statement does: both runs are over alike, a divide fault by a
+-- divide fault, or the text holds what matters after the statement.
 abbrev pub StatementsStep : Locations → Locations → Alike → Type 0
 StatementsStep Before After AreAlike = (s : Spelling) (tree : Tree) (stmt : inner.Stmt) (depth at : ℕ)
     (i : inner_run.State) (t : text_run.State)

@@ -34,7 +34,8 @@ pub record IsVariable (s : Spelling) (variables : List Binding) (location : Loc)
   })
   pub room : bits < 2 ^ bits_of (number_of_type (s.type location))
 
--- Its low bits are the location's value; where it is settled, it holds no more.
+-- A location's variable holds its value: the variable's low bits are the value, and where the variable is settled, it
+-- holds no more.
 pub record IsHeld (s : Spelling) (values : Values) (variables : List Binding) (location : Loc) : Type 0 where
   pub variable : IsVariable s variables location
   pub low : variable.bits % 2 ^ location_width s.bits location ≡ values location

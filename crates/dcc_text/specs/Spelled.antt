@@ -33,12 +33,12 @@ unsigned_type width = if nat_le width 8 then Uchar else if nat_le width 16 then 
 abbrev pub signed_type : ℕ → Base
 signed_type width = if nat_le width 8 then Schar else if nat_le width 16 then Int else Long
 
--- the type in which operators reckon on such numbers, by sign
+-- the type in which operators reckon on numbers of so many bits, by sign
 abbrev pub reckoning_type : Bool → ℕ → Base
 reckoning_type signed width =
     if nat_le width 8 then Int else if signed then signed_type width else unsigned_type width
 
--- From one way to another.
+-- From one way of a number to another.
 
 -- a small number, as a bit or a count
 abbrev pub small : ℕ → Expr
@@ -54,12 +54,12 @@ cut width e =
 abbrev pub signed_reading : ℕ → Expr → Expr
 signed_reading width e = if width == 1 then Unary Minus e else Cast (plain (signed_type width)) e
 
--- any number by its low bits
+-- any number in a way, by its low bits
 abbrev pub cut_to : Way → ℕ → Expr → Expr
 cut_to Signed width e = signed_reading width (if width == 1 then cut 1 e else e)
 cut_to _ width e = cut width e
 
--- what an expression gives in the first way, in the second one
+-- what an expression gives in one way, in another
 abbrev pub taken : Way → Way → ℕ → Expr → Expr
 taken have Low width e = e
 taken Exact Exact width e = e
@@ -71,7 +71,7 @@ taken Signed Signed width e = e
 
 -- Constants.
 
--- from the half of the numbers of so many bits on, they stand for numbers below 0
+-- a constant of so many bits in a way: as a signed number it is below 0 from the half of these numbers on
 abbrev pub constant : Way → ℕ → ℕ → Expr
 constant Exact width n = Number n (reckoning_type false width)
 constant Low width n = Number n (reckoning_type (nat_lt n (2 ^ (width - 1))) width)
@@ -125,15 +125,16 @@ pointer s width address e = Cast (pointer_to (unsigned_type width)) e
 
 -- Operators.
 
--- Sums and the like of numbers in one way are in this way from 16 bits on, where the operators reckon in no wider type.
+-- The way of sums and the like: from 16 bits on, where the operators reckon in no wider type, they are in the way of
+-- their operands.
 abbrev pub carried : Way → ℕ → Way
 carried way width = if nat_le 16 width then way else Low
 
--- bit by bit, of exact numbers too
+-- the way of operators that go bit by bit, which keep exact numbers exact
 abbrev pub bitwise : Way → ℕ → Way
 bitwise way width = if nat_le 16 width then way else elim way [ Low ↦ Low | _ ↦ Exact ]
 
--- numbers are compared by their low bits where the types have no more
+-- the way in which numbers are compared: by their low bits where the types have no more
 abbrev pub compared : ℕ → Way
 compared width = if nat_le 16 width then Low else Exact
 
@@ -148,7 +149,8 @@ unary_text Neg width a = Unary Minus a
 unary_text Not width a = if width == 1 then Binary BitXor a (small 1) else Unary Complement a
 unary_text IsZero width a = Binary Equal a (small 0)
 
--- the same of the left and of the right operand
+-- the way in which the left operand of an operator is taken, where the result is wanted in a way; `right_way`: the
+-- right operand
 abbrev pub left_way : BinOp → Way → ℕ → Way
 left_way Add way width = carried way width
 left_way Sub way width = carried way width
@@ -178,7 +180,7 @@ is_shift _ = false
 abbrev pub right_way : BinOp → Way → ℕ → Way
 right_way operator way width = if is_shift operator then Exact else left_way operator way width
 
--- the operator votes on the sign of its left operand; and of its right one
+-- the operator votes on the sign of its left operand; `votes_right`: of its right one
 abbrev pub votes_left : BinOp → Bool
 votes_left Add = false
 votes_left Sub = false
@@ -214,7 +216,7 @@ symbol LtU = Lt
 symbol LeS = Le
 symbol LeU = Le
 
--- the way of a result: a truth value is exact, and else operands and results are in one way
+-- the way of an operator's result: a truth value is exact, and else operands and results are in one way
 abbrev pub unary_result : UnOp → Way → ℕ → Way
 unary_result IsZero way width = Exact
 unary_result operator way width = operand_way operator way width
@@ -222,11 +224,11 @@ unary_result operator way width = operand_way operator way width
 abbrev pub binary_result : BinOp → Way → ℕ → Way
 binary_result operator way width = if is_comparison operator then Exact else left_way operator way width
 
--- a part of a value, from that bit on
+-- a value moved down, so that the given bit is its lowest
 abbrev pub moved_down : ℕ → Expr → Expr
 moved_down first e = if first == 0 then e else Binary ShiftRight e (small first)
 
--- two halves of so many bits each, exactly; each stands in a cast to the wider type
+-- two halves of so many bits each, joined exactly; each stands in a cast to the wider type
 abbrev pub joined : ℕ → Expr → Expr → Expr
 joined width high low =
     let whole = plain (unsigned_type (width + width)) in

@@ -4,14 +4,16 @@ use Rattle.dcc_ir.specs.declared.syntax.Loc.{Loc}
 use Rattle.dcc_c.specs.declared.syntax.CType.{CType}
 use Rattle.dcc_c.specs.Tree.{Word}
 
--- an address, by the name of a variable with a place, or of an array, and how many bytes it lies above that place
+-- what an address in the frame goes by: the name of a variable with a place, or of an array, and how many bytes the
+-- address lies above that place
 pub record Placed : Type 0 where
   pub name : Word
   pub is_array : Bool
   pub above : ℕ
 
--- The variable of each location, by its name and type. It is settled where it holds the location's value itself, else
--- its low bits are the value. The addresses in the frame are by their distances from the frame's base.
+-- How a text names what a graph has. Each location has a variable, by its name and type; where the variable is settled
+-- it holds the location's value itself, else its low bits are the value. Addresses in the frame go by their distances
+-- from the frame's base.
 pub record Spelling : Type 0 where
   -- the widths of the temporaries
   pub bits : List ℕ

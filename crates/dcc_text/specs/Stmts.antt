@@ -17,7 +17,7 @@ place_of s location = Name (s.name location)
 abbrev pub assigned : Spelling → Loc → Expr → Expr
 assigned s location e = if (s.type location).pointer then Cast (s.type location) e else e
 
--- a variable takes low bits, but for a settled bit
+-- the way in which a location's variable takes values: by their low bits, unless it is a settled bit
 abbrev pub wanted_way : Spelling → Loc → Way
 wanted_way s location = if (location_width s.bits location == 1) && s.settled location then Exact else Low
 
@@ -37,7 +37,7 @@ abbrev pub first_place : Spelling → List Loc → Option Expr
 first_place s [] = None
 first_place s (location ∷ results) = Some (place_of s location)
 
--- The statement of a statement, where this depth of calls is in force. A call of another graph has its own.
+-- The text of a statement, where the given depth of calls is in force. A call of another graph has a depth of its own.
 abbrev pub stmt_text : Spelling → ℕ → inner.Stmt → Stmt
 stmt_text s depth (inner.Set location e) = setting s location e
 stmt_text s depth (inner.Fetch location width address) = setting s location (inner.Load width address)

@@ -64,7 +64,7 @@ fn extended_way(by_sign: bool) -> Way
     if by_sign { Way::Signed } else { Way::Exact }
 }
 
-// A number that is taken in that way, at a greater width.
+// A number that is taken in a way, at a greater width.
 fn widened(alloc: Global, way: Way, by_sign: bool, width: u8, a: CExpr) -> Result<CExpr, AllocError>
     ensures { IfOk result (λ r. expr_of r
         ≡ spec.taken (if by_sign then spec.Signed else spec.Exact) (way_of way) width
@@ -150,7 +150,7 @@ fn widened_expr<S: Spells>(
     widened(alloc, way, by_sign, width, a)
 }
 
-// The text of so many bits of an operand, from that one on, in a way.
+// The text of a part of an operand, `width` bits from bit `first` on, in a way.
 #[cycle(text)]
 fn part_expr<S: Spells>(
     alloc: Global,

@@ -15,7 +15,7 @@ use std::alloc::{AllocError, Global};
 pub struct Place {
     /// The name of a variable with a place, or of an array.
     pub name: String,
-    /// Whether it is an array.
+    /// Whether the name is that of an array.
     pub is_array: bool,
     /// How many bytes the address lies above the place.
     pub above: u16,
@@ -42,7 +42,7 @@ pub trait Spells {
     fn is_settled(&self, location: Loc) -> bool
         ensures { result ≡ (spelling self.now).settled location };
 
-    /// What stands for the address at that distance from the base of the frame.
+    /// What stands for the address at a distance from the base of the frame, in bytes.
     fn place(&self, alloc: Global, distance: u16) -> Result<Option<Place>, AllocError>
         ensures { IfOk result (λ place. option_map placed_of place ≡ (spelling self.now).place distance) };
 

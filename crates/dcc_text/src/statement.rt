@@ -61,7 +61,7 @@ fn setting<S: Spells>(alloc: Global, s: &S, location: Loc, e: &Expr) -> Result<C
     assignment(alloc, s, location, value)
 }
 
-// A location takes so many bits from an address.
+// The statement by which a location takes bits from an address.
 fn fetching<S: Spells>(
     alloc: Global,
     s: &S,
@@ -76,7 +76,7 @@ fn fetching<S: Spells>(
     assignment(alloc, s, location, value)
 }
 
-// So many bits of a value are stored at an address.
+// The statement by which bits of a value are stored at an address.
 fn storing<S: Spells>(
     alloc: Global,
     s: &S,
@@ -267,8 +267,9 @@ fn dos_call<S: Spells>(
     Ok(CStmt::Call(place, function, argument(alloc, s, e)?, depth))
 }
 
-/// The statement of a statement, where so many bytes are the depth of calls in force. A call of another graph has its
-/// own. Want of memory is the only error, and an expression with more bits than 32 bits can number is told as such.
+/// The text of a statement, where so many bytes are the depth of calls in force. A call of another graph has a depth
+/// of its own. Want of memory is the only error, and an expression with more bits than 32 bits can number is told as
+/// such.
 pub fn stmt_text<S: Spells>(
     alloc: Global,
     s: &S,

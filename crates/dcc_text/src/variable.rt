@@ -16,14 +16,14 @@ use dcc_c::{Base, CBin, CExpr, CType, CUn};
 use dcc_ir::{Expr, Loc};
 use std::alloc::{AllocError, Global};
 
-// Whether the two are one number type.
+// Whether the two number types are one.
 fn is_same_base(a: Base, b: Base) -> bool
     ensures { result ≡ same_base a b }
 {
     a == b
 }
 
-// Whether the two are one type.
+// Whether the two types are one.
 fn is_same_type(a: CType, b: CType) -> bool
     ensures { result ≡ same_type a b }
 {

@@ -12,11 +12,11 @@ use std::alloc::{AllocError, Global};
 /// What a text's number is to the value of an expression of so many bits.
 #[derive(Clone, Copy, PartialEq, Eq, Debug)]
 pub enum Way {
-    /// The same in its low bits.
+    /// The text's number has the value's low bits.
     Low,
-    /// The value itself.
+    /// The text's number is the value itself.
     Exact,
-    /// The signed number that the value's bits stand for.
+    /// The text's number is the signed number that the value's bits stand for.
     Signed,
 }
 
@@ -46,7 +46,7 @@ pub fn signed_type(width: u32) -> Base
     }
 }
 
-/// The type in which operators reckon on such numbers, by sign.
+/// The type in which operators reckon on numbers of so many bits, by sign.
 pub fn reckoning_type(signed: bool, width: u32) -> Base
     ensures { result ≡ spec.reckoning_type signed width }
 {

@@ -35,7 +35,7 @@ product-of_image product cpu told name image _ output f (image_made m) =
 product-of_image product cpu told name image _ _ f (image_refused refusal h) =
     unmade (refused refusal (record { file = f.file; has = f.has; holds = record { image = image; is_image = f.holds; refused = h } }))
 
--- the same for the job that asks for it, by which none of the input is read
+-- what is allowed for a file is allowed for the job that asks for its product, by which none of the input is read
 allowed-job : (product : Product) (cpu : Cpu) (told : Files) (name : List ℕ) (left : Option (List ℕ)) (reply : Reply) (output : List ℕ) → AllowsProduct product cpu told name reply output →
     Allows told left left (Some (job_to_make product name cpu)) reply output
 allowed-job Text cpu told name left reply output h = for_text h refl
@@ -69,6 +69,6 @@ cut-of_image product cpu told name left image output (Err e) f c = record {
 pub answers-nothing : (P : Reply → List ℕ → Type 0) (out : Option (List ℕ)) (reply : Reply) → P reply [] → Answers P out out reply
 answers-nothing P out reply p = record { output = []; wrote = sym (append_told-nil out); is_answer = p }
 
--- and the same where the stream is as before
+-- an answer after no output, where the stream is as before
 pub answers-unchanged : (P : Reply → List ℕ → Type 0) (out now : Option (List ℕ)) (reply : Reply) → now ≡ out → P reply [] → Answers P out now reply
 answers-unchanged P out now reply same p = subst (λ t. Answers P out t reply) (sym same) (answers-nothing P out reply p)

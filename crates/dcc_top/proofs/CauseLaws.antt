@@ -72,7 +72,7 @@ module _ (call : Call) where
   told-at : (n : ℕ) → call.status ≡ n → n ≢ 6 → n ≢ 7 → Comes → IsTold
   told-at n is not_six not_seven a = is-told a (λ e. not_six (sym is ∙ e)) (λ e. not_seven (sym is ∙ e))
 
-  -- and so at one of some statuses that has neither
+  -- at a status of a list without those of a failed write and of want of memory an answer was told whole
   told-among : (ns : List ℕ) → are_apart (6 ∷ (7 ∷ [])) ns ≡ true → IsOneOf call.status ns → Comes → IsTold
   told-among ns far is a =
       is-told a (λ six. apart call.status (6 ∷ (7 ∷ [])) ns far (inl six) is) (λ seven. apart call.status (6 ∷ (7 ∷ [])) ns far (inr (inl seven)) is)

@@ -53,7 +53,7 @@ pub no_image-of_fault : (told : Files) (name given : List ℕ) (most : ℕ) (fau
 no_image-of_fault told name given most NoMemory gave h = no_executable no_memory
 no_image-of_fault told name given most _ gave h = misshapen (of-whole told name given most _ gave h)
 
--- and why they have no unit
+-- why the bytes that were given have no unit is why the file of the name has none
 pub no_unit-of_fault : (told : Files) (name given : List ℕ) (most : ℕ) (fault : ParseFault) → GaveWhole told name most given → IsFaultOf given fault → HasNoUnit told name (parse_reply fault)
 no_unit-of_fault told name given most (At line kind) gave h = offends (of-whole told name given most _ gave h)
 no_unit-of_fault told name given most ParseMemory gave h = no_text no_memory

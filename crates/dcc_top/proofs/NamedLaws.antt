@@ -155,7 +155,7 @@ module _ (told : Files) (name : List ℕ) (files : List ℕ → Option (List ℕ
   faulty file has _ file_fault = inl refl
   faulty file has _ no_memory = inr refl
 
-  -- and a file that the shelf lacks is absent, or the same
+  -- a file that the shelf lacks is absent, or could not be had for the shelf's fault or want of memory
   missing : files name ≡ None → (reply : Reply) → HasNoFile told name reply → IsOneOf (status_of reply) (3 ∷ (4 ∷ (6 ∷ (7 ∷ []))))
   missing lacks _ (no_file h) = inl refl
   missing lacks _ file_fault = inr (inl refl)
@@ -339,7 +339,7 @@ module _ (told : Files) (before left : Option (List ℕ)) (files : List ℕ → 
   watch-refused name steps cpu file has a reply _ (watched_no_file h same) =
       unmade-refused told name files tells Listing cpu file has a reply h
 
-  -- and else made, for the faults that yield to nothing
+  -- a watched run is made where nothing refuses the program, but for the faults that yield to nothing
   watch-faulty : (name : List ℕ) (cpu : Cpu) (file : List ℕ) (first : ℕ) → files name ≡ Some file → OfImages file (IsSound cpu) → (reply : Reply) → IsUnmade Listing cpu told name reply →
       IsOneOf (status_of reply) (first ∷ (4 ∷ (5 ∷ (6 ∷ (7 ∷ [])))))
   watch-faulty name cpu file first has a reply h =

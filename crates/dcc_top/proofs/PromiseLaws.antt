@@ -74,7 +74,8 @@ module _ (call : Call) where
   asked-by A reply (inl memory) t not_six not_seven =
       absurd (not_seven (status-by reply t not_six not_seven ∙ ap status_of memory))
 
-  -- and where a write failed, it holds, or a part of the line of want of memory is there
+  -- where a write failed, what holds of every answer but want of memory holds, or a part of the line of want of memory
+  -- is there
   asked-cut : (A : Type 0) (reply : Reply) → (reply ≡ Memory) ⊎ A → IsTold reply → call.status ≡ 6 → A ⊎ AppendsPart call.errors (line_of Memory)
   asked-cut A reply (inr asks) t six = inl asks
   asked-cut A reply (inl memory) (inl (inl t)) six = absurd (status-not_six reply (sym t.0 ∙ six))

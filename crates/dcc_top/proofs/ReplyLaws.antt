@@ -70,7 +70,7 @@ err-write : (result : Result Reply Failed) {A : Type 0} → (IsErr result → A)
 err-write (Ok reply) h = tt
 err-write (Err failed) h = h refl
 
--- it was run: by the statuses of a run no answer is that of a file that is not to be had
+-- the file was run: by the statuses of a run no answer is that of a file that is not to be had
 pub replies-run : {T : Type 0} (P : Reply → List ℕ → Type 0) (ns : List ℕ)
     → ((reply : Reply) (output : List ℕ) → P reply output → IsOneOf (status_of reply) ns)
     → are_apart (status_of NoFile ∷ []) ns ≡ true → are_apart (status_of FileFault ∷ []) ns ≡ true
@@ -114,7 +114,7 @@ replies-made product name cpu shelf left read_faults output result image asks is
     (other InputFault refl (Rises (unread left read_faults).faults))
     counts write
 
--- it was not fetched, and the answer says why
+-- the file was not fetched, and the answer says why
 pub replies-unfetched : {T : Type 0} (job : Job) (shelf : ShelfChange) (left : Option (List ℕ)) (read_faults : ℕ)
     (taken : Option (List ℕ)) (write_faults : ℕ) (reply : Reply)
     → AsksOnce {T = T} (name_of job) (greatest_of job) shelf (Err reply)
@@ -133,7 +133,7 @@ replies-unfetched {T = T} job shelf left read_faults taken write_faults reply as
   write_failed = tt;
 }
 
--- the same of an executable
+-- an executable was not fetched, and the answer says why
 pub replies-no_image : {T : Type 0} (job : Job) (shelf : ShelfChange) (left : Option (List ℕ)) (read_faults : ℕ)
     (taken : Option (List ℕ)) (write_faults : ℕ) (reply : Reply)
     → AsksOnce {T = T} (name_of job) (greatest_of job) shelf (Err reply)

@@ -169,7 +169,7 @@ watched_run-status cpu image steps before left _ output (met_foul foul h) = inr 
 watched_run-status cpu image steps before left _ output (clean_to_read h) = inl refl
 watched_run-status cpu image steps before left _ _ (lacked_memory h) = inr (inl refl)
 
--- and those of one that may be refused
+-- the statuses of a watched run, which may be refused
 abbrev pub watched_statuses : List ℕ
 watched_statuses = 9 ∷ (10 ∷ run_statuses)
 

@@ -29,7 +29,7 @@ abbrev pub BeginsUnit : CRun → Tree → ℕ → Type 0
 BeginsUnit run tree fill =
     (start : Function) (others : List Function) (input : List ℕ) → tree.functions ≡ start ∷ others → start.params ≡ [] → StandsAt tree run (first_state tree start fill input)
 
--- and so at that of every text for the tree
+-- the run stands at the start of every text for the tree
 begins : (run : CRun) (tree : Tree) (fill : ℕ) → BeginsUnit run tree fill → (text : List ℕ) (stands : StandsFor text tree) → Begins texts tree (first_state tree stands.allowed.start fill) run
 begins run tree fill at text stands = record {
   stands = λ input. at stands.allowed.start stands.allowed.others input stands.allowed.first stands.allowed.no_params;

@@ -96,7 +96,7 @@ module _ (program : Program) where
   foul-at : (w : Watch) (foul : FoulStep) → w.stage ≡ Stopped foul → is_foul w ≡ true
   foul-at w foul is = foul-stopped w.machine w.stage ∙ ap is_stopped is
 
-  -- it is the next one, or one of those after it
+  -- the first foul step of a run that was stopped is the next step, or one of those after it
   next-foul : (n : ℕ) (w : Watch) (foul : FoulStep) → is_foul w ≡ false → (state_at n (watch_step program w)).stage ≡ Stopped foul → (b : Bool) → is_foul (watch_step program w) ≡ b
       → (is_foul (watch_step program w) ≡ false → IsFirstFoul (watch_step program w) n foul) → IsFirstFoul w (suc n) foul
   next-foul n w foul going is true stops later =

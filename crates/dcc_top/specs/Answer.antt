@@ -183,12 +183,12 @@ abbrev pub IsMadeOf : Product → Cpu → Image → List ℕ → Type 0
 IsMadeOf Text cpu image made = IsTextOfImage cpu image made
 IsMadeOf Listing cpu image made = IsListingOf cpu image made
 
--- on this processor the image is refused so, where this is asked for
+-- on this processor the image is refused, where this product is asked for
 abbrev pub Refuses : Product → Cpu → Image → Refusal → Type 0
 Refuses Text cpu image refusal = IsRefusedFor cpu image refusal
 Refuses Listing cpu image refusal = IsRefusedByAnalysis cpu image refusal
 
--- the answer is allowed for an image of which this is asked for on this processor, after these bytes
+-- the answer is allowed for an image of which the product is asked for on this processor, after these bytes
 pub data AllowsImage (product : Product) (cpu : Cpu) (image : Image) : Reply → List ℕ → Type 0 where
   image_made : {made : List ℕ} → IsMadeOf product cpu image made → AllowsImage product cpu image Done made
   image_refused : (refusal : Refusal)
@@ -201,7 +201,7 @@ pub record Makes (product : Product) (cpu : Cpu) (file made : List ℕ) : Type 0
   pub is_image : IsImageOf file image
   pub is_made : IsMadeOf product cpu image made
 
--- on this processor the file's image is refused so, where this is asked for
+-- on this processor the file's image is refused, where this product is asked for
 pub record IsRefusedAs (product : Product) (cpu : Cpu) (refusal : Refusal) (file : List ℕ) : Type 0 where
   pub image : Image
   pub is_image : IsImageOf file image
@@ -213,15 +213,16 @@ pub record OfImages (file : List ℕ) (P : Image → Type 0) : Type 0 where
   pub is_image : IsImageOf file image
   pub each : (other : Image) → IsImageOf file other → P other
 
--- The answer says why this isn't made of the file of this name on this processor: the program is refused, or there is
--- no image.
+-- The answer says why the product isn't made of the file of this name on this processor: the program is refused, or
+-- there is no image.
 pub data IsUnmade (product : Product) (cpu : Cpu) (told : Files) (name : List ℕ) : Reply → Type 0 where
   refused : (refusal : Refusal)
       → OfFile told name (IsRefusedAs product cpu refusal)
       → IsUnmade product cpu told name (refusal_reply refusal)
   no_image : {reply : Reply} → HasNoImage told name reply → IsUnmade product cpu told name reply
 
--- The answer is allowed for the file of this name, of which this is asked for on this processor, after these bytes.
+-- The answer is allowed for the file of this name, of which the product is asked for on this processor, after these
+-- bytes.
 pub data AllowsProduct (product : Product) (cpu : Cpu) (told : Files) (name : List ℕ) : Reply → List ℕ → Type 0 where
   made_of_file : {made : List ℕ}
       → OfFile told name (λ file. Makes product cpu file made)
@@ -273,7 +274,7 @@ pub record IsCutWatched (cpu : Cpu) (image : Image) (steps : ℕ) (input output 
   pub is_program : IsProgramOf cpu image program
   pub cut : IsCutRun (watch_of image program) steps input output due
 
--- the same of the file's image
+-- the answer is one for a watched run of the file's image on this processor; `IsCutWatchedFile`: that run was cut off
 pub record WatchesFile (cpu : Cpu) (file : List ℕ) (steps : ℕ) (before left : Option (List ℕ)) (reply : Reply)
     (output : List ℕ) : Type 0 where
   pub image : Image

@@ -51,7 +51,7 @@ abbrev pub sink_change : {S : Type 0} → (S → Option (List ℕ)) → (S → �
 sink_change taken faults before after =
     record { taken = change taken before after; faults = change faults before after }
 
--- these bytes were appended; or a part of them, and not all
+-- the bytes were appended to the output; `AppendsPart`: a part of them, and not all
 abbrev pub Appends : SinkChange → List ℕ → Type 0
 Appends output bytes = output.taken.after ≡ append_told output.taken.before bytes
 

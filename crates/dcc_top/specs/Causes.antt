@@ -128,8 +128,8 @@ pub record HasRunFile (call : Call) : Type 0 where
   pub appended : Appends call.output output
   pub line : Appends call.errors (line_of reply)
 
--- the run that the job asks for on the file and the input ends so, after the steps that are asked for; where it is
--- watched, nothing refuses the program, and all of these steps are clean
+-- the run that the job asks for on the file and the input ends with the given end, after the steps that are asked for;
+-- where it is watched, nothing refuses the program, and all of these steps are clean
 pub data EndsSo (file input : List ℕ) : Job → End → Type 0 where
   file_ends : {name : List ℕ} {steps : ℕ} {cpu : Cpu} {image : Image}
       → IsImageOf file image
@@ -161,7 +161,8 @@ pub record HasCleanRun (call : Call) (name : List ℕ) (steps : ℕ) (cpu : Cpu)
   pub appended : Appends call.output output
   pub line : Appends call.errors (line_of (end_reply steps end))
 
--- The same up to a foul step, which is the next one, and whose place, kind and first byte the line tells.
+-- The file of the words was run on the input, watched, up to a foul step, which is the next one, and whose place, kind
+-- and first byte the line tells: what the steps before it put out was appended, and they are clean.
 pub record HasFoulStep (call : Call) (name : List ℕ) (steps : ℕ) (cpu : Cpu) (input : List ℕ) : Type 0 where
   pub file : List ℕ
   pub image : Image

@@ -49,7 +49,7 @@ pub data Finishes {S : Type 0} (subject : Subject S) (steps : ℕ) (before left 
       → Finishes subject steps before left InputFault output
   not_begun : left ≡ before → Finishes subject steps before left Memory []
 
--- the same for a run whose steps take memory, of which there may be none for the next step
+-- what an answer says of a run whose steps take memory, of which there may be none for the next step
 pub data FinishesOrStops {S : Type 0} (subject : Subject S) (steps : ℕ) (before left : Option (List ℕ)) :
     Reply → List ℕ → Type 0 where
   finishes :
@@ -69,7 +69,7 @@ pub record IsCutRun {S : Type 0} (subject : Subject S) (steps : ℕ) (input outp
   pub is_due : WhenTold input.before (λ bytes. due ≡ output_after subject steps bytes)
   pub stops : WhenTold input.before (StopsAtWrite subject steps input.after output.before output.after)
 
--- on this input the other run, after so many steps, keeps up with n steps of the one
+-- on this input the other run, after some steps, keeps up with n steps of the first
 abbrev pub KeepsUpOn : {S T : Type 0} → List ℕ → Subject S → ℕ → Subject T → ℕ → Type 0
 KeepsUpOn input one n other steps =
     KeepsUp one.console.system (one.start input) n other.console.system (other.start input) steps

@@ -17,7 +17,7 @@ abbrev pub summary_of : Proc → Frame → ℕ → Summary
 summary_of proc frame removed =
     record { entry = proc.entry; nodes = length proc.nodes.entries; args = frame.args; ret = removed }
 
--- how that is written
+-- how what is told of a procedure is written, as a line
 abbrev pub summary_line : Summary → List ℕ
 summary_line summary =
     hex_offset summary.entry

@@ -104,7 +104,8 @@ pub record KeepsRefusals (call : Call) : Type 0 where
       → Names call file
       → OfImages file (IsUnsound cpu)
       → IsOneOf call.status (exit.construct ∷ (exit.limit ∷ exit.faults))
-  -- and so is `watch`
+  -- `watch` is refused wherever a construct stands that the analyses tell or a count is too great, and for nothing
+  -- else
   pub watch_refused_always : (name file : List ℕ) (steps : ℕ) (cpu : Cpu)
       → call.job ≡ Some (ExecuteWatched name steps cpu)
       → Names call file

@@ -76,12 +76,12 @@ abbrev pub without_output : List ℕ
 without_output =
     usage ∷ (no_file ∷ (file_fault ∷ (format ∷ (construct ∷ (limit ∷ (text_fault ∷ []))))))
 
--- the status is one of these
+-- the status is one of the list
 abbrev pub IsOneOf : ℕ → List ℕ → Type 0
 IsOneOf status [] = ⊥
 IsOneOf status (n ∷ ns) = (status ≡ n) ⊎ IsOneOf status ns
 
--- the status of a run that has ended so
+-- the status of a run, by how it has ended
 abbrev pub end_status : End → ℕ
 end_status Running = unfinished
 end_status (Exit code) = done

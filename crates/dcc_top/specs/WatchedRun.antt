@@ -74,7 +74,7 @@ pub record EndsClean (cpu : Cpu) (steps : ℕ) (input : List ℕ) (end : End) (i
   pub clean : IsClean cpu image input steps
   pub end_is : ending_after (machine_of cpu image) steps input ≡ end
 
--- or nothing refuses the program, and one of so many steps is foul
+-- what may be known of the image's run on an input: nothing refuses the program, and one of so many steps is foul
 pub record MeetsFoul (cpu : Cpu) (steps : ℕ) (input : List ℕ) (image : Image) : Type 0 where
   pub sound : IsSound cpu image
   pub foul : FoulStep

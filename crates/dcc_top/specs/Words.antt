@@ -22,7 +22,8 @@ pub data Job : Type 0 where
   ListProcedures : List ℕ → Cpu → Job
   -- run the executable with this name, for at most so many steps, on this processor
   Execute : List ℕ → ℕ → Cpu → Job
-  -- the same, with each step's cleanness tested before the step is made
+  -- run the executable with this name, for at most so many steps, on this processor, with each step's cleanness tested
+  -- before the step is made
   ExecuteWatched : List ℕ → ℕ → Cpu → Job
   -- run the text with this name, for at most so many steps, with this fill
   ExecuteText : List ℕ → ℕ → ℕ → Job
@@ -32,13 +33,13 @@ pub data Product : Type 0 where
   Text : Product
   Listing : Product
 
--- the job that makes it of the executable with this name, for this processor
+-- the job that makes the product of the executable with this name, for this processor
 abbrev pub job_to_make : Product → List ℕ → Cpu → Job
 job_to_make Text name cpu = Decompile name cpu
 job_to_make Listing name cpu = ListProcedures name cpu
 
--- The job analyses the executable with this name, for this processor, as far as this product needs: it makes it; or it
--- runs the executable watched, for which the analyses of the list are made.
+-- The job analyses the executable with this name, for this processor, as far as the product needs: it makes the
+-- product; or it runs the executable watched, for which the analyses of the list are made.
 pub data Analyses (name : List ℕ) (cpu : Cpu) : Product → Job → Type 0 where
   to_make : (product : Product) → Analyses name cpu product (job_to_make product name cpu)
   to_watch : (steps : ℕ) → Analyses name cpu Listing (ExecuteWatched name steps cpu)
@@ -80,7 +81,7 @@ value_in Steps parts = parts.steps
 value_in Fill parts = parts.fill
 value_in CpuOption parts = parts.cpu
 
--- the same with this value of the option
+-- the parts with this value of the option
 abbrev pub set_value : OptionName → List ℕ → Parts → Parts
 set_value Steps value parts = record parts { steps = Some value }
 set_value Fill value parts = record parts { fill = Some value }
@@ -166,7 +167,7 @@ pub data AskFor : List (List ℕ) → Job → Type 0 where
       → fill_of other ≡ Some fill
       → AskFor (command_word RunC ∷ words) (ExecuteText file steps fill)
 
--- The same as functions: the one job that the words ask for, if any.
+-- Which words name which job, as functions: the one job that the words ask for, if any.
 
 -- what a word is by itself, where it isn't an option's value and no `--` stands before it
 pub data Kind : Type 0 where
@@ -262,7 +263,7 @@ job_for Watch (file ∷ []) value None other = run_job ExecuteWatched file value
 job_for RunC (file ∷ []) value other None = text_job file value other
 job_for _ _ _ _ _ = None
 
--- the same with all parts
+-- the job of a command with all parts of the words
 abbrev pub job_with : Command → Parts → Option Job
 job_with command parts = job_for command parts.positional parts.steps parts.fill parts.cpu
 

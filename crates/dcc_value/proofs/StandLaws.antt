@@ -145,7 +145,7 @@ name_stands names word slot e = record {
       subst (λ o. LandsIn names.locals (and_then (slot_target slot) (given o))) (sym s.here) s.lands;
 }
 
--- and one that is not
+-- a name that is not declared has no meaning
 pub no_name_stands : (names : Names) (word : Word) → slot_named names word ≡ None → Stands names (Name word) Meaningless
 no_name_stands names word e = record {
   value = λ scene fits. sym (ap (λ o. and_then (variable_value scene.memory) (given o)) (unseen names scene fits word e));

@@ -18,7 +18,7 @@ abbrev pub nothing_of : {A : Type 0} → NoValue → Outcome A
 nothing_of Faults = Divides
 nothing_of Meaningless = Undefined
 
--- what an evaluation comes to, where this is how its result reads
+-- what an evaluation comes to, by how its result reads
 abbrev pub outcome_of : {A B : Type 0} → (A → B) → Result A NoValue → Outcome B
 outcome_of reads (Ok a) = Gives (reads a)
 outcome_of reads (Err why) = nothing_of why

@@ -11,11 +11,11 @@ use Rattle.dcc_c.specs.Tree.{Word}
 abbrev pub place_of : BTreeMap (Bor (List ℕ)) ℕ → Word → Option ℕ
 place_of places word = get_by (λ k. slice_cmp nat_cmp word k.now) places
 
--- the place of the first of these names that is the one
+-- the place of the first of the names that is the given one
 abbrev pub first_place : List Word → Word → Option ℕ
 first_place [] word = None
 first_place (w ∷ words) word = if same_bytes w word then Some 0 else option_map suc (first_place words word)
 
--- the map has the first place of each of these names, and no other name
+-- the map has the first place of each name of the list, and no other name
 abbrev pub AreFirst : BTreeMap (Bor (List ℕ)) ℕ → List Word → Type 0
 AreFirst places words = (word : Word) → place_of places word ≡ first_place words word

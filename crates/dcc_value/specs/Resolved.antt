@@ -99,7 +99,7 @@ scope_over names scene = record {
   memory = scene.memory;
 }
 
--- the place of the first with the name
+-- the place of the first declaration with the name
 abbrev pub index_named : List Declared → Word → Option ℕ
 index_named names word = first_place (map (λ (d : Declared). d.name) names) word
 
@@ -119,12 +119,12 @@ lent_declared d = declared_of d.now
 abbrev pub name_at : List Declared → ℕ → Word
 name_at names i = elim (slice_get names i) [ Some d ↦ d.name | None ↦ [] ]
 
--- the target over these names
+-- the target of a text that a resolved place is, over the names
 abbrev pub target_named : List Declared → Place → Target
 target_named names (ToLocal i) = ToVariable (name_at names i)
 target_named names (Into type at) = ToMemory type at
 
--- a name that is declared as kept by itself
+-- the name is declared as kept by itself
 abbrev pub IsAlone : Option Declared → Type 0
 IsAlone (Some d) = d.is_placed ≡ false
 IsAlone None = ⊥
@@ -139,8 +139,8 @@ LandsIn names (Gives target) = IsTargetIn names target
 LandsIn names Divides = Unit {0}
 LandsIn names Undefined = Unit {0}
 
--- The resolved expression stands for the expression over these names: wherever the variables are declared as the names
--- are, it has its value and its target.
+-- The resolved expression stands for the expression over the names: wherever the variables are declared as the names
+-- are, both have the same value and the same target.
 pub record Stands (names : Names) (e : Expr) (r : Resolved) : Type 0 where
   pub value : (scene : Scene) → Fits names scene → evaluated scene r ≡ value_of (scope_over names scene) e
   pub target : (scene : Scene) → Fits names scene →

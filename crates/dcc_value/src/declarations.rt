@@ -10,7 +10,7 @@ use crate::variable::Declared;
 use std::alloc::{AllocError, Global};
 use std::collections::BTreeMap;
 
-/// Declarations, the first of which with a name counts.
+/// Declarations, of which the first one with a name counts.
 #[derive(Drop)]
 pub struct Declarations<'a> {
     /// The declarations.
@@ -21,7 +21,7 @@ pub struct Declarations<'a> {
 }
 
 impl<'a> Declarations<'a> {
-    /// These declarations.
+    /// The declarations of a list, with the places of their names.
     ///
     /// # Errors
     ///
@@ -33,7 +33,7 @@ impl<'a> Declarations<'a> {
         Ok(Declarations { list, places })
     }
 
-    /// The place of the first with the name.
+    /// The place of the first declaration with the name.
     pub fn find(&self, name: &str) -> Option<usize>
         ensures { result ≡ first_place (names_declared self.now.list.now) name.now }
     {

@@ -15,9 +15,9 @@ use dcc_c::{CBin, CType, CUn};
 /// The place of a variable.
 #[derive(Clone, Copy, PartialEq, Eq, Debug)]
 pub enum Slot {
-    /// Among those of the call.
+    /// A variable of the call, by its place.
     Local(usize),
-    /// Among the global ones.
+    /// A global variable, by its place.
     Global(usize),
 }
 
@@ -51,9 +51,9 @@ pub enum Resolved {
 /// Where a value goes.
 #[derive(Clone, Copy, PartialEq, Eq, Debug)]
 pub enum Target {
-    /// To the variable of the call at this place, which is kept by itself.
+    /// The value goes to the variable of the call at the place, which is kept by itself.
     Local(usize),
-    /// Into memory, as a value of the type, from this address on.
+    /// The value goes into memory, as one of the type, from the address on.
     Memory(CType, u32),
 }
 
@@ -164,7 +164,7 @@ fn with_value(b: Binding, v: Value) -> Binding
     }
 }
 
-// The variable of the call at this place takes the value, converted to its type.
+// Gives the variable of the call at a place the value, converted to its type.
 fn assign(frame: &mut [Binding], i: usize, v: Value)
     ensures variables { (names : List Declared) (word : Word) → index_named names word ≡ Some i →
         bindings_named names frame.new ≡ after_assignment (bindings_named names frame.old) word (typed v) }
@@ -177,7 +177,7 @@ fn assign(frame: &mut [Binding], i: usize, v: Value)
     }
 }
 
-/// The target takes the value, converted to its type.
+/// Gives the target the value, converted to its type.
 pub fn take(target: Target, v: Value, frame: &mut [Binding], memory: &mut [u8])
     ensures variables { (names : List Declared) → IsTargetIn names target → bindings_named names frame.new
         ≡ variables_after (target_named names target) (typed v) (bindings_named names frame.old) }

@@ -14,7 +14,7 @@ pub fn place_of(places: &BTreeMap<&str, usize>, name: &str) -> Option<usize>
     places.get(name).copied()
 }
 
-/// One name more, behind so many.
+/// Adds a name that stands at `place` in a list of names; a name that the map has already keeps its place.
 ///
 /// # Errors
 ///

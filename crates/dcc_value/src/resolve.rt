@@ -17,7 +17,7 @@ use dcc_ctypes::names::{type_of_address, type_of_name};
 use dcc_ctypes::operators::{arms_type, binary_type, both_arms_type, unary_type};
 use std::alloc::{AllocError, Global};
 
-// The place of the first with the name.
+// The place of the first declaration with the name.
 fn index_named(names: &Declarations<'_>, name: &str) -> Option<usize>
     ensures { result ≡ index_named (map declared_of names.now.list.now) name.now }
 {

@@ -19,9 +19,9 @@ use patterns::{
 /// A number or an address with its type; `bits` is its pattern in two's complement.
 #[derive(Clone, Copy, PartialEq, Eq, Debug)]
 pub struct Value {
-    /// Its type.
+    /// The type of the value.
     pub ty: CType,
-    /// Its bits.
+    /// The bits of the value, in two's complement.
     pub bits: u32,
 }
 

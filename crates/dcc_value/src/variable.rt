@@ -13,13 +13,13 @@ use dcc_c::CType;
 /// A variable with its storage; the type is that of its elements where it is an array.
 #[derive(Clone, Copy, PartialEq, Eq, Debug)]
 pub struct Binding {
-    /// Its type.
+    /// The type of the variable, or of its elements where it is an array.
     pub ty: CType,
-    /// Whether it is an array.
+    /// Whether the variable is an array.
     pub is_array: bool,
-    /// Whether it is kept in memory.
+    /// Whether the variable is kept in memory.
     pub is_placed: bool,
-    /// Its address where it is kept in memory, and else its bits.
+    /// The address of the variable where it is kept in memory, and else its bits.
     pub bits: u32,
 }
 
@@ -28,11 +28,11 @@ pub struct Binding {
 pub struct Declared {
     /// The name.
     pub name: String,
-    /// Its type, or that of its elements where it is an array.
+    /// The type of the name, or of its elements where it is an array.
     pub ty: CType,
-    /// Whether it is an array.
+    /// Whether the name is that of an array.
     pub is_array: bool,
-    /// Whether it has an address.
+    /// Whether what is named has an address.
     pub is_placed: bool,
 }
 
@@ -52,7 +52,7 @@ impl Declared {
 /// The names that the expressions of a function may use.
 #[derive(Clone, Copy)]
 pub struct Names<'a, 'l, 'g> {
-    /// Its parameters and then its local variables.
+    /// The parameters of the function, and then its local variables.
     pub locals: &'a Declarations<'l>,
     /// The global variables.
     pub globals: &'a Declarations<'g>,

@@ -40,7 +40,7 @@ written-after at (n ∷ bytes) memory k above fit =
     written-after (at + 1) bytes _ k (omega (arith, above)) (omega (arith, fit))
     ∙ get_or-set_other memory (at % 65536) k (n % 256) 0 (λ e. omega (arith, e, above, fit))
 
--- and one of them
+-- a byte that is written stands at its place
 written-there : (at : ℕ) (bytes memory : List ℕ) (i : ℕ) → i < length bytes → All (λ byte. byte < 256) bytes → length memory ≡ 65536 → at + length bytes ≤ 65536
     → get_or (written at bytes memory) (at + i) 0 ≡ get_or bytes i 0
 written-there at [] memory i there are whole fit = absurd (omega (arith, there))
@@ -170,7 +170,7 @@ module _ (p : Program) (fill : ℕ) (hi_fits : p.hi < 65536) (are : All (λ byte
       empty : get_or stack k 0 ≡ 0
       empty = stack-at lo hi fill k (omega (arith, second, hi_fits)) ∙ below-stack lo hi k (fill % 256) 0 first
 
-  -- in it
+  -- in the stack the memory holds the fill
   within : (k : ℕ) → lo ≤ k → k < hi → get_or whole k 0 ≡ fill % 256
   within k first second =
       written-before hi (initial_values high) lower k second high-initial
@@ -178,7 +178,7 @@ module _ (p : Program) (fill : ℕ) (hi_fits : p.hi < 65536) (are : All (λ byte
       ∙ stack-at lo hi fill k (omega (arith, second, hi_fits))
       ∙ in-stack lo hi k (fill % 256) 0 first second
 
-  -- above it, by the distance from its upper end
+  -- above the stack the first memory is the image's, by the distance from the stack's upper end
   above : (i : ℕ) → hi + i < 65536 → get_or whole (hi + i) 0 ≡ get_or p.image (hi + i) 0
   above i small = elim (decided (nat_lt i (length high))) [
     | inl there ↦

@@ -108,7 +108,7 @@ names-differ hi (a ∷ low) (b ∷ high) small some =
     (or_from (same_bytes (array_name 0) (array_name hi)) (words.is_among function_names (array_name 0))
     (name_at-differ (codes "d_") 0 hi (omega arith) small (λ e. omega (arith, e, more))) refl)) refl
 
--- none of them begins with v
+-- the word does not begin with `v`
 abbrev begins_otherwise : Word → Bool
 begins_otherwise [] = true
 begins_otherwise (b ∷ bytes) = not (b == 118)

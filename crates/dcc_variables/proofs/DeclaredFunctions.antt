@@ -72,7 +72,7 @@ module _ (bits : List ℕ) where
         declared-after (declared_param (parameter bits j p)) j refl names (j + 1) params (omega arith) (omega (arith, few)) (all-declared (j + 1) params others (omega (arith, few))),
       )
 
-  -- so is that of a location that takes a whole argument
+  -- a location that takes a whole argument is declared as its parameter
   parameter-declared : (names : List Declared) (j : ℕ) (params : List Param) (l : Loc) (k : ℕ) → AreDeclaredFrom names j params → place_from j params l ≡ Some k → IsDeclaredParameter bits names l k
   parameter-declared names j [] l k are is = absurd cc
   parameter-declared names j (p ∷ params) l k are is = elim (decided (is_taken_whole p.put l)) [
@@ -90,7 +90,7 @@ module _ (bits : List ℕ) where
     | inr later ↦ parameter-declared names (j + 1) params l k are.1 (sym (ap (λ b. if b then Some j else place_from (j + 1) params l) later) ∙ is)
   ]
 
-  -- so is that of an argument in memory, and it has a place
+  -- an argument in memory is declared under its name, and has a place
   memory-declared : (names : List Declared) (j : ℕ) (params : List Param) (k : ℕ) → AreDeclaredFrom names j params → memory_from j params ≡ Some k
       → declared_as names (parameter_name k) ≡ Some (record { name = parameter_name k; type = plain Uint; is_array = false; is_placed = true })
   memory-declared names j [] k are is = absurd cc
@@ -199,7 +199,7 @@ module _ (g : Graph) (few : AreFew (shape_of g)) (few_params : length g.params <
     abbrev more : List Declared
     more = map declared_local (frame_array bytes) ++ map declared_global tree.globals
 
-    -- the same variables in a function without parameters
+    -- a function with the same variables and without parameters
     abbrev alone : Function
     alone = record f { params = []; locals = declarations shape }
 

@@ -56,7 +56,7 @@ type-for width is = let s = size-of width is in by s.0 s.1
     by word e = ap (λ w. is_type_for w (plain (unsigned_type w))) e
     by long e = ap (λ w. is_type_for w (plain (unsigned_type w))) e
 
--- its low bits are what the location holds
+-- the low bits of a variable at first are what the location holds
 low-filled : (fill width : ℕ) → is_width width ≡ true → first_bits fill width % 2 ^ width ≡ fill_at width fill
 low-filled fill width is = let s = size-of width is in by s.0 s.1
   where

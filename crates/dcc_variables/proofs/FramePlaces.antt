@@ -119,7 +119,7 @@ any-wider p q to (x ∷ xs) is = elim (or_cases (p x) (list_any p xs) is) [
   | inr later ↦ or_right (q x) (list_any q xs) (any-wider p q to xs later)
 ]
 
--- so it does where all addresses are told from the array
+-- a graph that takes an address told from no parameter takes one where all addresses are told from the array
 takes-wider : (told : Option ℕ) (g : Graph) → takes_address told g ≡ true → takes_address None g ≡ true
 takes-wider told g = any-wider (block_has_address told) (block_has_address None) block g.blocks
   where

@@ -230,7 +230,7 @@ module _ (g : Graph) where
       (λ n e. ltb-true n (length g.bits) (subst (λ x. is_location g.bits x ≡ true) e there))
       (λ n half e. cell-within (graph_mentions g) n half (subst (λ x. is_among (graph_mentions g) x ≡ true) e mentioned)))
 
-  -- and what has a variable is a location of the graph
+  -- what has a variable is a location of the graph
 
   temporary-below : (n first count : ℕ) → is_among (map Temp (range_with_len first count)) (Temp n) ≡ true → n < first + count
   temporary-below n first zero is = absurd (true≢false (sym is))

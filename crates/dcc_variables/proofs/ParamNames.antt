@@ -48,7 +48,7 @@ whole-is Memory l is = absurd (true≢false (sym is))
 whole-is (One other) l is = ap One (sym (location_same l other is))
 whole-is (Two low high) l is = absurd (true≢false (sym is))
 
--- it lies among the places of the list
+-- the place of a param lies among the places of the list
 pub place-within : (params : List Param) (j : ℕ) (l : Loc) (k : ℕ) → place_from j params l ≡ Some k → (j ≤ k) × (k < j + length params)
 place-within [] j l k is = absurd cc
 place-within (p ∷ params) j l k is = elim (decided (is_taken_whole p.put l)) [

@@ -66,7 +66,7 @@ differ-first (x ∷ xs) ys differ =
     (not_from_false (is_among xs x) (or_parts (is_among xs x) (is_among ys x) (sym (list_any-append (same_bytes x) xs ys) ∙ not-true (is_among (xs ++ ys) x) apart)).0)
     (differ-first xs ys rest)
 
--- those that a filter leaves
+-- the names that a filter leaves
 module _ {X : Type 0} (name : X → Word) (P : X → Bool) (ys : List Word) where
   fewer-there : (xs : List X) (word : Word) → is_among (map name xs ++ ys) word ≡ false → is_among (map name (filter P xs) ++ ys) word ≡ false
   fewer-there [] word none = none
@@ -102,7 +102,7 @@ is_array_name word = false
 
 -- Functions.
 
--- their offsets differ, and so do their names
+-- the offsets of functions differ, and so do their names
 functions-differ : (graphs : List Graph) → All IsGraph graphs → formed.all_differ (map (λ g. g.entry) graphs) ≡ true → all_differ (map (λ g. function_name g.entry) graphs) ≡ true
 functions-differ [] are differ = refl
 functions-differ (g ∷ graphs) are differ =
@@ -163,7 +163,7 @@ module _ (p : Program) (well : IsProgram p) where
       (arrays-begin is_array_name (λ word. refl) p.hi (bytes_below p) (bytes_above p)) (functions-begin (λ w. not (is_array_name w)) refl (λ entry. refl) refl p.graphs)
       (differ-first (map (λ (x : Global). x.name) (globals_of p)) (codes "start" ∷ dos_names) (known-differ p well.hi)) (functions-known p.graphs well.graphs well.entries)
 
-  -- they begin otherwise than parameters and variables
+  -- all known names begin otherwise than parameters and variables
   known-begin : (test : Word → Bool) → ((word : Word) → test (100 ∷ 95 ∷ word) ≡ true) → test (codes "start") ≡ true → ((entry : ℕ) → test (function_name entry) ≡ true) → Passes test dos_names → Passes test known
   known-begin test array start each dos =
       list_all-append test (map (λ (x : Global). x.name) (globals_of p)) (function_names p.graphs ++ dos_names)

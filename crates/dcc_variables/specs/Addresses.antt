@@ -15,7 +15,7 @@ use Rattle.dcc_variables.specs.Functions.{parameter_name, memory_from, function_
 abbrev pub has_address_of : Word → Expr → Bool
 has_address_of word e = list_any (is_address_of word) (parts_of e)
 
--- so does an expression of the statement, but for the statements inside it
+-- an expression of the statement, but for the statements inside it, is the address of the name or has it inside
 abbrev pub stmt_has_address_of : Word → Stmt → Bool
 stmt_has_address_of word stmt = list_any (has_address_of word) (exprs_of stmt)
 
@@ -24,7 +24,7 @@ abbrev pub BodiesTakeWhatStatementsTake : Type 0
 BodiesTakeWhatStatementsTake = (body : Lines) (word : Word)
     → takes_address body word ≡ list_any (stmt_has_address_of word) (stmts_in body)
 
--- Texts of a graph as a function take the address of no such name.
+-- The texts of a graph's statements, as those of a function, take no address of the name.
 pub record TakesNoAddress (graph : inner.Graph) (word : Word) : Type 0 where
   pub expressions : (e : inner.Expr) (way : Way) (votes : Bool)
       → has_address_of word (text (function_spelling graph) way votes e) ≡ false
@@ -34,11 +34,12 @@ pub record TakesNoAddress (graph : inner.Graph) (word : Word) : Type 0 where
       → stmt_has_address_of word (ret_text (function_spelling graph) values) ≡ false
   pub openings : (opens : Loc → Bool) → list_any (stmt_has_address_of word) (openings opens graph) ≡ false
 
--- The name is not that of the first argument in memory.
+-- The name is none of an argument in memory: not that of the first one, from which addresses are told.
 abbrev pub IsNoMemoryName : inner.Graph → Word → Type 0
 IsNoMemoryName graph word =
     (place : ℕ) → memory_from 0 graph.params ≡ Some place → same_bytes word (parameter_name place) ≡ false
 
--- Local bytes of the frame go by an array, and arguments by that parameter alone.
+-- The texts of a graph take the address of no name but that of the first argument in memory: local bytes of the frame
+-- go by an array.
 abbrev pub TextsTakeNoAddress : Type 0
 TextsTakeNoAddress = (graph : inner.Graph) (word : Word) → IsNoMemoryName graph word → TakesNoAddress graph word

@@ -17,7 +17,7 @@ pub record HasFewNames (graph : inner.Graph) : Type 0 where
   pub variables : AreFew (shape_of graph)
   pub params : length graph.params < 2 ^ 32
 
--- the locations that have variables or are parameters
+-- the locations of a graph that have variables or are parameters
 abbrev pub has_name : inner.Graph → Locations
 has_name graph location = (function_spelling graph).named location ≡ true
 
@@ -25,7 +25,7 @@ has_name graph location = (function_spelling graph).named location ≡ true
 abbrev pub FunctionNamesDiffer : Type 0
 FunctionNamesDiffer = (graph : inner.Graph) → HasFewNames graph → IsSpelling (function_spelling graph)
 
--- A function with these parameters and variables declares all that the spelling names.
+-- A function with the parameters and variables of a graph declares all that the spelling names.
 abbrev pub FunctionNamesAreDeclared : Type 0
 FunctionNamesAreDeclared = (graph : inner.Graph) (tree : Tree) (f : Function) → IsGraph graph → HasFewNames graph
     → f.params ≡ parameters graph → f.locals ≡ own_declarations graph
@@ -36,7 +36,7 @@ abbrev pub KnownNamesDiffer : Type 0
 KnownNamesDiffer = (p : inner.Program) (tree : Tree) → IsProgram p → tree.globals ≡ globals_of p
     → map (λ f. f.name) tree.functions ≡ function_names p.graphs → all_differ (known_names tree) ≡ true
 
--- So have the parameters and the variables of each function.
+-- The parameters and the variables of each function have names of their own.
 abbrev pub OwnNamesDiffer : Type 0
 OwnNamesDiffer = (p : inner.Program) (graph : inner.Graph) (tree : Tree) (f : Function) → IsProgram p → IsGraph graph
     → HasFewNames graph → tree.globals ≡ globals_of p
@@ -51,7 +51,7 @@ pub record IsServedStmt (graph : inner.Graph) (stmt : inner.Stmt) : Type 0 where
   pub within : All (IsWithin (function_spelling graph) (has_name graph)) (exprs_of stmt)
   pub written : All (has_name graph) (writes_of stmt)
 
--- so of each statement of a block, and of its end
+-- each statement of a block, and its end, is served: what they read and write has a name
 pub record IsServedByFunction (graph : inner.Graph) (block : inner.Block) : Type 0 where
   pub stmts : All (IsServedStmt graph) block.stmts
   pub exits : All (IsWithin (function_spelling graph) (has_name graph)) (exit_exprs block.exit)

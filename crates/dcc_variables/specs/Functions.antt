@@ -42,7 +42,7 @@ abbrev pub is_taken_whole : Put → Loc → Bool
 is_taken_whole (One other) location = same_location location other
 is_taken_whole _ location = false
 
--- the place of the param whose argument the location takes whole, among these params from a place on
+-- the place of the param whose argument the location takes whole, among the params from a place on
 abbrev pub place_from : ℕ → List Param → Loc → Option ℕ
 place_from place [] location = None
 place_from place (p ∷ params) location =
@@ -72,7 +72,7 @@ parameters_from bits place (p ∷ params) = parameter bits place p ∷ parameter
 abbrev pub parameters : inner.Graph → List Variable
 parameters graph = parameters_from graph.bits 0 graph.params
 
--- the place of the first argument of the stack that is kept in memory, among these params from a place on
+-- the place of the first argument of the stack that is kept in memory, among the params from a place on
 abbrev pub memory_from : ℕ → List Param → Option ℕ
 memory_from place [] = None
 memory_from place (p ∷ params) =
@@ -89,7 +89,7 @@ abbrev pub name_or : Option ℕ → Word → Word
 name_or (Some place) word = parameter_name place
 name_or None word = word
 
--- by these variables and params
+-- the name of a location, by the variables of a shape and by the params
 abbrev pub name_by : Shape → List Param → Loc → Word
 name_by shape params location = name_or (place_from 0 params location) (variable_name shape location)
 
@@ -139,7 +139,7 @@ abbrev pub type_for : List ℕ → Option CType
 type_for [] = None
 type_for (width ∷ widths) = Some (plain (unsigned_type width))
 
--- the type of the first of what these Rets give
+-- the type of the first value that the Rets give
 abbrev pub type_for_any : List (List ℕ) → Option CType
 type_for_any [] = None
 type_for_any (widths ∷ others) = type_for widths
@@ -153,7 +153,7 @@ abbrev pub ret_value : Spelling → List inner.Expr → Option Expr
 ret_value s [] = None
 ret_value s (value ∷ values) = Some (text s Low false value)
 
--- the text of a Ret with these values
+-- the text of a Ret with the values
 abbrev pub ret_text : Spelling → List inner.Expr → Stmt
 ret_text s values = Return (ret_value s values)
 
@@ -181,11 +181,11 @@ openings_from s opens place [] = []
 openings_from s opens place (p ∷ params) =
     put_openings s opens (parameter_name place) p.put ++ openings_from s opens (place + 1) params
 
--- the assignments with which the function of a graph begins, for those locations that want one
+-- the assignments with which the function of a graph begins, for the locations that want one
 abbrev pub openings : (Loc → Bool) → inner.Graph → List Stmt
 openings opens graph = openings_from (function_spelling graph) opens 0 graph.params
 
--- these lines begin with the statements, and then come the others
+-- the lines begin with the statements, and then come the others
 abbrev pub BeginsWith : List Stmt → Lines → Lines → Type 0
 BeginsWith [] lines others = lines ≡ others
 BeginsWith (stmt ∷ stmts) no_lines others = ⊥
@@ -204,6 +204,6 @@ function_of graph word body last = record {
   last = last;
 }
 
--- the function is that of the graph, with this name
+-- the function is that of the graph, with the given name
 abbrev pub IsFunctionOf : inner.Graph → Word → Function → Type 0
 IsFunctionOf graph word f = f ≡ function_of graph word f.body f.last

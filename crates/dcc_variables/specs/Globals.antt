@@ -11,11 +11,11 @@ use Rattle.dcc_text.specs.Hex.{name_at}
 abbrev pub array_name : ℕ → Word
 array_name at = name_at (codes "d_") at
 
--- the initial values of an array with these bytes: none where all of them are 0
+-- the initial values of an array with the bytes: none where all of them are 0
 abbrev pub initial_values : List ℕ → List ℕ
 initial_values bytes = if list_all (λ byte. byte == 0) bytes then [] else bytes
 
--- the array of these bytes at an address, where there are any
+-- the array of the bytes at an address, if there are any
 abbrev pub array_of : ℕ → List ℕ → List Global
 array_of at [] = []
 array_of at (byte ∷ bytes) = record {
@@ -26,7 +26,7 @@ array_of at (byte ∷ bytes) = record {
   init = initial_values (byte ∷ bytes);
 } ∷ []
 
--- the bytes below the stack, and those from its upper end on
+-- the bytes of the image below the stack; `bytes_above`: those from the stack's upper end on
 abbrev pub bytes_below : Program → List ℕ
 bytes_below p = take (min p.lo p.hi) p.image
 

@@ -21,11 +21,11 @@ pub record AreFew (shape : Shape) : Type 0 where
   pub cells : shape.cells ≤ 65536
   pub frame : shape.frame < 65536
 
--- the locations that have variables
+-- the locations of a graph that have variables
 abbrev pub named : inner.Graph → Locations
 named graph = λ location. (graph_spelling graph).named location ≡ true
 
--- they matter everywhere
+-- the family in which the locations that have variables matter everywhere
 abbrev pub mentioned : inner.Graph → Family
 mentioned graph block stmts = named graph
 
@@ -33,12 +33,12 @@ mentioned graph block stmts = named graph
 abbrev pub NamesDiffer : Type 0
 NamesDiffer = (graph : inner.Graph) → AreFew (shape_of graph) → IsSpelling (graph_spelling graph)
 
--- A function with these variables declares all that the spelling names.
+-- A function with the variables of a graph declares all that the spelling names.
 abbrev pub NamesAreDeclared : Type 0
 NamesAreDeclared = (graph : inner.Graph) (tree : Tree) (f : Function) → IsGraph graph → AreFew (shape_of graph)
     → f.params ≡ [] → f.locals ≡ declarations (shape_of graph) → AreDeclared (declared_in tree f) (graph_spelling graph)
 
--- The arrays end within memory, lie apart and off the stack.
+-- The arrays of a program's image end within memory, lie apart and off the stack.
 pub record AreArraysAllowed (p : inner.Program) : Type 0 where
   pub allowed : list_all allows_global (globals_of p) ≡ true
   pub apart : all_apart (globals_of p) ≡ true
@@ -47,7 +47,7 @@ pub record AreArraysAllowed (p : inner.Program) : Type 0 where
 abbrev pub ArraysAreAllowed : Type 0
 ArraysAreAllowed = (p : inner.Program) → p.hi < 65536 → AreArraysAllowed p
 
--- The first memory of a text with these arrays is the program's, from every fill.
+-- The first memory of a text with the arrays of a program's image is the program's, from every fill.
 abbrev pub FirstMemoriesAreEqual : Type 0
 FirstMemoriesAreEqual = (p : inner.Program) (tree : Tree) (fill : ℕ) → p.hi < 65536 → All (λ byte. byte < 256) p.image
     → tree.lo ≡ p.lo → tree.hi ≡ p.hi → tree.globals ≡ globals_of p → c.first_memory tree fill ≡ run.first_memory p fill

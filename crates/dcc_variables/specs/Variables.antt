@@ -23,7 +23,7 @@ use Rattle.dcc_text.specs.Spelled.{unsigned_type}
 
 -- Which locations have variables.
 
--- how many cells there are up to this location; and up to the last of these
+-- how many cells there are up to a location; `cells_among`: up to the last cell of a list of locations
 abbrev pub cells_to : Loc → ℕ
 cells_to (Cell n half) = suc n
 cells_to location = 0
@@ -54,7 +54,7 @@ all_locations temporaries cells =
     ++ (map Temp (range_with_len 0 temporaries)
     ++ (flat_map cell_halves (range_with_len 0 cells) ++ stack_locations))
 
--- those that have variables: the graph reads or writes them
+-- the locations that have variables: the graph reads or writes them
 abbrev pub locations : Graph → List Loc
 locations graph =
     let mentions = graph_mentions graph in
@@ -62,18 +62,19 @@ locations graph =
 
 -- The bytes of the frame.
 
--- An address of the arguments, which lie above the frame's base, is told from the parameter at a place where it lies no
--- deeper than that: parameters of the stack are words.
+-- An address of the arguments, which lie above the frame's base, is told from the parameter at a place, if it lies no
+-- deeper than that parameter: parameters of the stack are words.
 abbrev pub is_told_from : Option ℕ → ℕ → Bool
 is_told_from None distance = false
 is_told_from (Some place) distance = nat_le (2 * place) distance && nat_lt distance 32768
 
--- an address that is told from no parameter, where there may be one from which some are
+-- the expression is an address that is told from no parameter, where there may be a parameter from which some are
 abbrev pub is_address : Option ℕ → Expr → Bool
 is_address told (Address distance) = not (is_told_from told distance)
 is_address told _ = false
 
--- such an address is taken in the expression; in a statement; in a block; in the graph
+-- an address that is told from no parameter is taken in the expression; `stmt_has_address`, `block_has_address`,
+-- `takes_address`: in a statement, in a block, in the graph
 abbrev pub has_address : Option ℕ → Expr → Bool
 has_address told e = list_any (is_address told) (parts_of e)
 
@@ -174,7 +175,8 @@ frame_place bytes distance =
 abbrev pub placed_at : ℕ → ℕ → Option Placed
 placed_at bytes distance = if bytes == 0 then None else Some (frame_place bytes distance)
 
--- Each variable holds the low bits of its location, in an unsigned type. There is one function.
+-- The spelling of a graph as the one function of a text: each variable holds the low bits of its location, in an
+-- unsigned type, and the function of every entry is `start`.
 abbrev pub spelling_of : Shape → Spelling
 spelling_of shape = record {
   bits = shape.bits;

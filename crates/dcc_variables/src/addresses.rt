@@ -18,7 +18,7 @@ pub fn is_told_from(told: Option<usize>, distance: u16) -> bool
     }
 }
 
-// An address that is told from no parameter is taken in the expression.
+// Whether an address that is told from no parameter is taken in the expression.
 #[tactic(auto, using(crate::proofs::AddressLaws::any_rules))]
 fn has_address(told: Option<usize>, e: &Expr) -> bool
     ensures { result ≡ spec.has_address told (expr_of e.now) }
@@ -38,14 +38,14 @@ fn has_address(told: Option<usize>, e: &Expr) -> bool
     }
 }
 
-// Such an address is taken in one of the expressions.
+// Whether an address that is told from no parameter is taken in one of the expressions.
 fn have_address(told: Option<usize>, es: &[Expr]) -> bool
     ensures { result ≡ list_any (λ e. spec.has_address told (expr_of e)) es.now }
 {
     es.iter().any(|e| has_address(told, e))
 }
 
-// Such an address is taken in the statement.
+// Whether an address that is told from no parameter is taken in the statement.
 #[tactic(auto, using(crate::proofs::AddressLaws::any_rules))]
 fn stmt_has_address(told: Option<usize>, stmt: &Stmt) -> bool
     ensures { result ≡ spec.stmt_has_address told (stmt_of stmt.now) }
@@ -64,7 +64,7 @@ fn stmt_has_address(told: Option<usize>, stmt: &Stmt) -> bool
     }
 }
 
-// Such an address is taken at the end of a block.
+// Whether an address that is told from no parameter is taken at the end of a block.
 #[tactic(auto, using(crate::proofs::AddressLaws::any_rules))]
 fn end_has_address(told: Option<usize>, end: &End) -> bool
     ensures { result ≡ list_any (spec.has_address told) (exit_exprs (exit_of end.now)) }
@@ -77,14 +77,14 @@ fn end_has_address(told: Option<usize>, end: &End) -> bool
     }
 }
 
-// Such an address is taken in one of the statements.
+// Whether an address that is told from no parameter is taken in one of the statements.
 fn have_address_within(told: Option<usize>, stmts: &[Stmt]) -> bool
     ensures { result ≡ list_any (λ stmt. spec.stmt_has_address told (stmt_of stmt)) stmts.now }
 {
     stmts.iter().any(|stmt| stmt_has_address(told, stmt))
 }
 
-// Such an address is taken in the block.
+// Whether an address that is told from no parameter is taken in the block.
 #[tactic(auto, using(crate::proofs::AddressLaws::any_rules))]
 fn block_has_address(told: Option<usize>, block: &Block) -> bool
     ensures { result ≡ spec.block_has_address told (block_of block.now) }
@@ -92,14 +92,14 @@ fn block_has_address(told: Option<usize>, block: &Block) -> bool
     have_address_within(told, block.stmts.as_slice()) || end_has_address(told, &block.end)
 }
 
-// Such an address is taken in one of the blocks.
+// Whether an address that is told from no parameter is taken in one of the blocks.
 fn have_address_inside(told: Option<usize>, blocks: &[Block]) -> bool
     ensures { result ≡ list_any (λ b. spec.block_has_address told (block_of b)) blocks.now }
 {
     blocks.iter().any(|block| block_has_address(told, block))
 }
 
-// Such an address is taken in the graph.
+// Whether an address that is told from no parameter is taken in the graph.
 #[tactic(auto, using(crate::proofs::AddressLaws::any_rules))]
 fn takes_address(told: Option<usize>, graph: &Graph) -> bool
     ensures { result ≡ spec.takes_address told (graph_of graph.now) }
@@ -107,8 +107,9 @@ fn takes_address(told: Option<usize>, graph: &Graph) -> bool
     have_address_inside(told, graph.blocks.as_slice())
 }
 
-/// How many bytes the array of the frame has: its local bytes in memory, and where there are none, one for the addresses
-/// that are told from no parameter, if there are such. Some addresses are told from the parameter at the place.
+/// How many bytes the array of the frame has: the frame's local bytes in memory; where there are none, 1 if the graph
+/// takes an address that is told from no parameter, else 0. `told` is the place of the parameter from which addresses
+/// of arguments are told.
 pub fn frame_bytes(told: Option<usize>, graph: &Graph) -> u16
     ensures { result ≡ spec.frame_bytes told (graph_of graph.now) }
 {

@@ -16,7 +16,7 @@ use dcc_text::nodes::{binary, small};
 use dcc_text::{Spells, Way};
 use std::alloc::{AllocError, Global};
 
-// Whether a location is one of these.
+// Whether a location is one of those that want an assignment.
 fn is_wanted(wanted: &[Loc], location: Loc) -> bool
     ensures { result ≡ is_among wanted.now location }
 {
@@ -42,14 +42,14 @@ fn high_byte(alloc: Global, place: usize) -> Result<CExpr, AllocError>
     Way::Low.cut_to(alloc, 8, moved)
 }
 
-// The location takes the value of an expression.
+// The assignment by which a location takes the value of an expression.
 fn opening(alloc: Global, head: &Head, location: Loc, e: CExpr) -> Result<CStmt, AllocError>
     ensures { IfOk result (λ r. stmt_of r ≡ tree.Assign (place_of (spelling_in head.now) location) (expr_of e)) }
 {
     Ok(CStmt::Assign(CExpr::Name(head.name(alloc, location)?), e))
 }
 
-// Appends the assignments of a param's bytes, those that are wanted.
+// Appends the assignments of a param's bytes that are wanted.
 fn push_openings(
     alloc: Global,
     head: &Head,

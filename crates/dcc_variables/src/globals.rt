@@ -22,7 +22,7 @@ fn values(alloc: Global, bytes: &[u8]) -> Result<Vec<u32>, AllocError>
     Ok(list)
 }
 
-// All of the bytes are 0.
+// Whether all of the bytes are 0.
 fn are_zeros(bytes: &[u8]) -> bool
     ensures { result ≡ list_all (λ byte. byte == 0) bytes.now }
 {
@@ -40,8 +40,8 @@ fn initial_values(alloc: Global, bytes: &[u8]) -> Result<Vec<u32>, AllocError>
     }
 }
 
-// Appends the array of these bytes at an address, where there are any. That they are more than 32 bits can number is
-// told as want of memory.
+// Appends the array of the bytes at an address, if there are any. That they are more than 32 bits can number is told
+// as want of memory.
 fn push_array(
     alloc: Global,
     globals: &mut Vec<Global_>,
@@ -64,7 +64,7 @@ fn push_array(
     Ok(())
 }
 
-// So many bytes at the front, or all where there are fewer.
+// The first `count` bytes, or all where there are fewer.
 #[tactic(auto, using(std::proofs::lemmas::List::take_all))]
 fn front(bytes: &[u8], count: usize) -> &[u8]
     ensures { result.now ≡ take count bytes.now }
@@ -76,7 +76,7 @@ fn front(bytes: &[u8], count: usize) -> &[u8]
     }
 }
 
-// The bytes after so many, or none where there are fewer.
+// The bytes after the first `count`, or none where there are fewer.
 #[tactic(auto, using(std::proofs::lemmas::List::take_rest, std::proofs::lemmas::List::drop_all))]
 fn rest(bytes: &[u8], count: usize) -> &[u8]
     ensures { result.now ≡ drop count bytes.now }

@@ -125,7 +125,7 @@ pub fn result_type(graph: &Graph) -> Result<Option<CType>, AllocError>
 pub struct Head {
     /// The variables of the graph.
     pub variables: Variables,
-    /// Its params.
+    /// The params of the graph.
     pub params: Vec<Param>,
 }
 

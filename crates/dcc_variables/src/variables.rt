@@ -38,7 +38,7 @@ fn cells_to(location: Loc) -> u32
     }
 }
 
-// How many cells there are up to the last of these locations.
+// How many cells there are up to the last cell of a list of locations.
 fn cells_among(mentions: &[Loc]) -> u32
     ensures cells { result ≡ spec.cells_among mentions.now }
     ensures few { result ≤ 65536 }
@@ -50,7 +50,7 @@ fn cells_among(mentions: &[Loc]) -> u32
     cells
 }
 
-// Appends so many temporaries.
+// Appends `count` temporaries.
 fn push_temporaries(list: &mut Vec<Loc>, count: u32) -> Result<(), AllocError>
     ensures { OnOk result (list.new.items ≡ list.old.items ++ map Temp (range_with_len 0 count)) }
 {
@@ -69,7 +69,7 @@ fn push_cell(list: &mut Vec<Loc>, n: u16) -> Result<(), AllocError>
     Ok(())
 }
 
-// Appends the halves of so many cells.
+// Appends the halves of `count` cells.
 fn push_cells(list: &mut Vec<Loc>, count: u32) -> Result<(), AllocError>
     requires { count ≤ 65536 }
     ensures { OnOk result (list.new.items ≡ list.old.items ++ flat_map spec.cell_halves (range_with_len 0 count)) }

@@ -110,7 +110,7 @@ module _ (program : Program) where
   choose live older offset true has rest = exposed_by-is live offset has
   choose live older offset false has rest = rest
 
-  -- which bytes are exposed
+  -- a byte is exposed by the definition just where the code's frames expose it
   exposed-is : (lives : List Live) (low offset : ℕ) → AllHaveShapes shapes lives
       → is_exposed_byte program low (map live_frame lives) offset ≡ exposed_in low lives offset
   exposed-is [] low offset all = refl

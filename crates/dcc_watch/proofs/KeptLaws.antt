@@ -137,7 +137,7 @@ module _ (layout : Layout) (shapes : List Shape) (room : ℕ) (m : Core) (progre
       subst (λ o. Steps watched o (scene code left taken) (scene new left_now taken_now)) (sym (made_unless stepped is))
       (made_so code new found left taken left_now taken_now (going_in h) (next_in h None clean) (follows_in h now live_now written_now after) makes)
 
-  -- and a run comes there
+  -- a run comes to a foul step
   pub foul_reached : IsInside → (foul : Foul) → Some (told_foul foul) ≡ foul_in layout live written (state_of m) found → IsReached code
       → IsReached (viewed layout shapes room m (Stopped foul) live written)
   foul_reached h foul is reached = reached-foul code found (told_foul foul) (going_in h) (next_in h (Some (told_foul foul)) is) reached
@@ -151,7 +151,7 @@ module _ (layout : Layout) (shapes : List Shape) (room : ℕ) (m : Core) (progre
       reached-made code (viewed layout shapes room now progress live_now written_now) found (going_in h) (next_in h None clean)
       (follows_in h now live_now written_now after) led reached
 
-  -- so where a CALL is clean there is room for its frame
+  -- where a CALL is clean there is room for its frame
   pub call_has_room : IsInside → None ≡ foul_in layout live written (state_of m) found → room ≡ (layout.hi - layout.lo) / 2 + 1 → IsReached code
       → is_call found ≡ true → length live < room
   call_has_room h clean is reached call =

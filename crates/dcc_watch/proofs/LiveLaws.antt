@@ -18,7 +18,7 @@ module _ (low offset : ℕ) (all list : List Live) (i : ℕ) (d : Live) where
   at same lt =
       ap (drop i) (sym same) ∙ drop_more all i d lt ∙ ap (λ l. get_or all i d ∷ drop (i + 1) l) same
 
-  -- it isn't this one
+  -- the newest frame that holds the byte isn't the one at the place
   pub not_this : all ≡ list → i < length all
       → (nat_le low offset && not (nat_le (end_of (get_or all i d)) offset)) ≡ false
       → exposed_in low (drop i list) offset ≡ exposed_in (get_or all i d).base (drop (i + 1) list) offset
@@ -27,7 +27,7 @@ module _ (low offset : ℕ) (all list : List Live) (i : ℕ) (d : Live) where
       ap (λ l. exposed_in low l offset) (at same lt)
       ∙ ap (λ b. if b then exposes live.shape (pos (offset + 4) -ℤ pos live.base) else exposed_in live.base (drop (i + 1) list) offset) isnt
 
-  -- it is
+  -- the newest frame that holds the byte is the one at the place
   pub this : all ≡ list → i < length all
       → (nat_le low offset && not (nat_le (end_of (get_or all i d)) offset)) ≡ true
       → exposed_in low (drop i list) offset ≡ exposes (get_or all i d).shape (pos (offset + 4) -ℤ pos (get_or all i d).base)

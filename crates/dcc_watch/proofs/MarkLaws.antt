@@ -200,7 +200,7 @@ module _ (from to lowest : ℕ) (marks : List Bool) (count : length marks ≡ 65
           none-at (inl lt) = sym (cleared-none from end marks (omega (arith, lt)))
           none-at (inr from-le) = idle-to end from-le le
 
-  -- so the whole range is
+  -- the whole range is cleared
   pub all-cleared : cleared (max from lowest) end marks ≡ cleared from to marks
   all-cleared = sym (within-segment ∙ from-lowest)
 
@@ -229,7 +229,7 @@ kept-below lowest from to marks none n lt = by (cases_lt to from)
         is-marked (cleared from to marks) n ∙ ap (λ e. get_or (cleared from e marks) n false) (sym there)
         ∙ kept-unmarked (to - from) from marks n is
 
--- nor in the range itself, where it begins no higher
+-- none is marked below the end of the cleared range, where it begins no higher than the lowest mark
 pub raised-below : (lowest from to : ℕ) (marks now : List Bool) → now ≡ cleared from to marks → HasNoneBelow lowest now → from ≤ lowest
     → HasNoneBelow (max lowest to) now
 raised-below lowest from to marks now is none le n lt = by (cases_lt n lowest)

@@ -22,7 +22,7 @@ use Rattle.dcc_watch.proofs.FrameFacts.{end-is}
 
 -- The search.
 
--- they are in order from lower on too
+-- frames in order are in order from a lower offset on too
 pub ordered-from : (low lower : ℕ) (list : List Live) → lower ≤ low → AreOrdered low list → AreOrdered lower list
 ordered-from low lower [] le ordered = tt
 ordered-from low lower (live ∷ older) le ordered = (omega (arith, le, ordered.0), ordered.1, ordered.2)
@@ -83,7 +83,7 @@ module _ (offset : ℕ) where
       passes-below low count list below
       ∙ none-exposes (low_after low list count) offset (drop count list) (ordered-after low count list ordered) lt
 
-  -- it lies in its part
+  -- the byte lies in the part of the frame that is found
   pub in-found : (low count : ℕ) (list : List Live) (d : Live) → AreBelow list offset count → count < length list
       → low_after low list count ≤ offset
       → exposed_in low list offset ≡ exposes (get_or list count d).shape (pos (offset + 4) -ℤ pos (get_or list count d).base)
@@ -176,7 +176,7 @@ module _ (list : List Live) (offset : ℕ) where
       below : (n m : ℕ) → nat_le n m ≡ true → n ≤ m
       below n m is = grind (arith, nat_tests)
 
-  -- it ends above
+  -- the frame in the middle ends above the offset
   pub halved-above : (low high middle : ℕ) (d : Live) → IsHalved list offset low high → low ≤ middle → middle < high
       → nat_le (end_of (get_or list middle d)) offset ≡ false → IsHalved list offset low middle
   halved-above low high middle d halved le lt ends = record {

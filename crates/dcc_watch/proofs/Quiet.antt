@@ -35,7 +35,7 @@ quiet s = record s { input = []; events = [] }
 both : {a b c d : List Access} → a ≡ c → b ≡ d → a ++ b ≡ c ++ d
 both {a} {b} {c} {d} p q = ap (λ l. l ++ b) p ∙ ap (λ l. c ++ l) q
 
--- and beside another console, with another instruction pointer
+-- a state beside another console, with another instruction pointer
 abbrev pub beside : ℕ → List ℕ → List Event → State → State
 beside ip input events s = record s { ip = ip; input = input; events = events }
 

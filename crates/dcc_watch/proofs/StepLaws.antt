@@ -99,7 +99,7 @@ module _ (code now : Watching) (found : Option Instr) where
     pub shapes : now.shapes ≡ code.shapes
     pub stage : now.stage ≡ stage_after code.layout found (state_of code.machine) (state_of now.machine) code.stage
 
-  -- so from a state that the code stood for the step leads to one that it stands for, where the machine's does
+  -- from a state that the code stood for the step leads to one that it stands for, where the machine's step does
   pub stands_made : IsGoing code found → NextIs code None → Follows → (program : Program) (w : Watch) → Stands program code w
       → core_of program.layout.cpu (step program.layout.cpu w.machine) ≡ now.machine
       → Stands program now (watch_step program w)

@@ -22,7 +22,7 @@ kind_of OfStack = told.OfStack
 kind_of OfFrame = told.OfFrame
 kind_of Other = told.Other
 
--- the access that the code keeps so
+-- the access of the definitions that an access of the code stands for
 abbrev pub access_of : Access → told.Access
 access_of access = record {
   direction = direction_of access.direction;
@@ -57,7 +57,8 @@ may_access (LoopNe target) = false
 may_access (Jcxz target) = false
 may_access op = true
 
--- The access wraps neither in its segment nor in memory, and ends before the stack or begins after it.
+-- The access lies beside the stack, as its two ends tell: it wraps neither in its segment nor in memory, and ends
+-- before the stack or begins after it.
 abbrev pub is_beside : Layout → told.Access → Bool
 is_beside layout access =
     nat_le (access.offset + access.size) 65536
@@ -65,6 +66,6 @@ is_beside layout access =
     && (nat_le (access.segment * 16 + access.offset + access.size) (layout.ds * 16 + layout.lo)
     || nat_le (layout.ds * 16 + layout.hi) (access.segment * 16 + access.offset)))
 
--- those of a list that may touch the stack
+-- the accesses of a list that may touch the stack
 unfoldable pub near : Layout → List told.Access → List told.Access
 near layout list = filter (λ access. not (is_beside layout access)) list

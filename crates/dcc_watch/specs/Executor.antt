@@ -44,14 +44,14 @@ is_stopped InPrelude = false
 is_stopped (InProcedures stack) = false
 is_stopped (Stopped foul) = true
 
--- it stands before the first frame
+-- the run stands before the first frame
 abbrev pub is_at_first : Stage → Bool
 is_at_first AtStart = true
 is_at_first InPrelude = true
 is_at_first (InProcedures stack) = false
 is_at_first (Stopped foul) = false
 
--- it stands in procedures
+-- the run stands in procedures
 abbrev pub is_in_procedures : Stage → Bool
 is_in_procedures AtStart = false
 is_in_procedures InPrelude = false
@@ -62,33 +62,33 @@ is_in_procedures (Stopped foul) = false
 abbrev pub is_going : Watching → Bool
 is_going code = not (is_over code.machine.end) && not (is_stopped code.stage)
 
--- a step that answers so was made, and the run goes on
+-- by its answer a step was made, and the run goes on
 abbrev pub goes_on : Watched → Bool
 goes_on (Clean StillRunning) = true
 goes_on answer = false
 
--- a step was refused
+-- by its answer a step of the machine was refused
 abbrev pub is_refused : Stepped → Bool
 is_refused InFault = true
 is_refused OutFault = true
 is_refused stepped = false
 
--- how a step or a run came out that answers so
+-- how a step or a run came out, by its answer
 abbrev pub outcome_of : Watched → Outcome
 outcome_of (Clean stepped) = machine.outcome_of stepped
 outcome_of (Foul at address kind) = made
 
--- what a step answers that is foul
+-- what a foul step answers
 abbrev pub foul_answer : FoulStep → Watched
 foul_answer foul = Foul foul.at foul.address foul.kind
 
--- What an answer tells of where the run stands after it: how it has ended, or goes on; or that it was stopped at this
--- foul step, and only then that.
+-- What an answer tells of where the run stands after it: that it has ended, and how, or goes on; or that it was
+-- stopped at a foul step, which is told only then.
 abbrev pub Tells : Watched → Watching → Type 0
 Tells (Clean stepped) code = (code.machine.end ≡ machine.end_told stepped) × (is_stopped code.stage ≡ false)
 Tells (Foul at address kind) code = code.stage ≡ Stopped (record { at = at; kind = kind; address = address })
 
--- What a step leaves that answers so. A fault is answered only where its count rose.
+-- What a step leaves, by its answer. A fault is answered only where its count rose.
 pub record StepAnswers (answered : Watched) (before now : machine.Counted Watching) : Type 0 where
   pub step : Steps watched (outcome_of answered) before.scene now.scene
   pub tells : Tells answered now.scene.code

@@ -12,7 +12,7 @@ use Rattle.dcc_watch.specs.declared.frames.Live.{Live}
 use Rattle.dcc_watch.specs.declared.judge.Foul.{Foul}
 use Rattle.dcc_watch.specs.Shapes.{exposed_in}
 
--- the first byte of the stack, among those at physical addresses, of which this is so
+-- the first byte of the stack, among those at physical addresses, whose offset passes the test
 abbrev pub first_at : Layout → (ℕ → Bool) → List ℕ → Option ℕ
 first_at layout so addresses = find so (filter_map (stack_offset layout) addresses)
 
@@ -36,6 +36,6 @@ foul_in layout live written s (Some instr) =
     (or_else (foul_as s.ip Hidden (hidden_in layout (top_in layout s) live (found_accesses (Some instr) s)))
     (foul_as s.ip Unwritten (unwritten_in layout written (found_accesses (Some instr) s))))
 
--- the foul step that the code tells so
+-- the foul step of the definitions that the code's stands for
 abbrev pub told_foul : Foul → told.Foul
 told_foul foul = record { at = foul.at; kind = foul.kind; address = foul.address }

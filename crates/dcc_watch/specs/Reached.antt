@@ -13,9 +13,9 @@ use Rattle.dcc_watch.specs.Marks.{no_marks}
 use Rattle.dcc_watch.specs.Watching.{Watching, AllHaveShapes, stage_of}
 use Rattle.dcc_watch.specs.Executor.{Stands}
 
--- What is kept stands for the watched run of a file's image on some input of bytes after some number of steps. The
--- input need not be the one that the steps were made on: where that had ended, and a key was asked for, 1Ah may stand
--- for the end.
+-- What the watch keeps stands for the watched run of a file's image on some input of bytes after some number of steps.
+-- The input need not be the one that the steps were made on: where that had ended, and a key was asked for, 1Ah may
+-- stand for the end.
 pub record IsReached (code : Watching) : Type 0 where
   pub image : Image
   pub program : Program

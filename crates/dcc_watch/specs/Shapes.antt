@@ -14,7 +14,7 @@ shape_of frame = record { args = frame.args; exposed = frame.exposed }
 unfoldable pub no_shapes : List Shape
 no_shapes = replicate OFFSETS NO_SHAPE
 
--- for each offset the shape of the first of these frames whose procedure begins there
+-- for each offset the shape of the first of the frames whose procedure begins there
 abbrev pub shapes_of : List Proc → List Frame → List Shape
 shapes_of (proc ∷ procs) (frame ∷ frames) = slice_set (shapes_of procs frames) proc.entry (shape_of frame)
 shapes_of _ _ = no_shapes
@@ -25,19 +25,19 @@ exposes_argument shape k = elim shape.exposed.arg [
   | Some least ↦ int_le (pos least) k && int_lt k (pos (4 + 2 * shape.args))
 ]
 
--- the frame exposes the byte at so many bytes from its base less 4
+-- the frame exposes the byte at `k` bytes from its base less 4
 abbrev pub exposes : Shape → ℤ → Bool
 exposes shape k = (int_le (neg_ℤ (pos shape.exposed.local)) k && int_lt k (pos 0)) || exposes_argument shape k
 
 abbrev pub live_frame : Live → LiveFrame
 live_frame live = record { entry = live.entry; base = live.base }
 
--- the offset after the arguments
+-- the offset after a frame's arguments
 abbrev pub end_of : Live → ℕ
 end_of live = live.base + 2 * live.shape.args
 
--- The newest frame whose part holds the byte exposes it. A part reaches from the first number, where SP stands, or from
--- the base of the next newer frame, up to the end of the arguments.
+-- The newest frame whose part holds the byte exposes it. A frame's part reaches from where SP stands, or from the base
+-- of the next newer frame, up to the end of its arguments.
 abbrev pub exposed_in : ℕ → List Live → ℕ → Bool
 exposed_in low [] offset = false
 exposed_in low (live ∷ older) offset =

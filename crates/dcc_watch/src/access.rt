@@ -9,9 +9,9 @@ use dcc_prog::Layout;
 /// Whether bytes are read or written.
 #[derive(Clone, Copy, PartialEq, Eq, Debug)]
 pub(crate) enum Direction {
-    /// They are read.
+    /// The bytes are read.
     Reading,
-    /// They are written.
+    /// The bytes are written.
     Writing,
 }
 
@@ -22,16 +22,16 @@ pub(crate) enum Kind {
     OfStack,
     /// A memory operand at BP plus a displacement, without an index.
     OfFrame,
-    /// Any other.
+    /// In another way: a memory operand elsewhere, the byte of XLAT, the word of a table, the string of a DOS call.
     Other,
 }
 
-/// So many bytes from an offset in a segment on.
+/// An access: `size` bytes from an offset in a segment on.
 #[derive(Clone, Copy)]
 pub(crate) struct Access {
-    /// Whether they are read or written.
+    /// Whether the bytes are read or written.
     pub(crate) direction: Direction,
-    /// In which way.
+    /// In which way the operation comes to the bytes.
     pub(crate) kind: Kind,
     /// The segment.
     pub(crate) segment: u16,

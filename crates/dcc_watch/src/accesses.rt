@@ -27,11 +27,11 @@ const NO_ACCESS: Access = Access {
     size: 0,
 };
 
-/// At most four accesses. Of those of an operation the ones that are told to lie beside the stack are left out, since the
-/// watch judges the bytes of the stack alone.
+/// At most four accesses of an operation, but for those that are told to lie beside the stack, since the watch judges
+/// the bytes of the stack alone.
 #[derive(Drop)]
 pub(crate) struct Accesses {
-    // The first `count` of these.
+    // Room for four accesses, of which the first `count` are the list's.
     items: [Access; 4],
     count: usize,
 }
@@ -50,7 +50,7 @@ impl Model for Accesses {
 }
 
 impl Accesses {
-    /// No access.
+    /// An empty list.
     pub(crate) fn new() -> Accesses
         ensures { result ≡ [] }
     {
@@ -60,7 +60,7 @@ impl Accesses {
         }
     }
 
-    // One more access, the last, if it may touch the stack.
+    // Adds an access at the end of the list, if it may touch the stack.
     #[tactic(auto, unfolding(crate::specs::Accesses::near))]
     fn add(&mut self, layout: &Layout, access: Access)
         requires { length self.old < 4 }
@@ -80,7 +80,7 @@ impl Accesses {
         &self.items[..self.count]
     }
 
-    // That of an operand, where it lies in memory.
+    // Adds the access of an operand, where it lies in memory.
     fn add_operand(&mut self, machine: &Machine, layout: &Layout, direction: Direction, x: Operand)
         requires { length self.old < 4 }
         ensures items { self.new ≡ self.old
@@ -101,8 +101,8 @@ impl Accesses {
         }
     }
 
-    // Those of an operand that takes the value of another one, which is read before: of XCHG's second operand, which is
-    // written when the first one has taken its value.
+    // Adds the accesses of an operand that takes the value of another one, which is read before: of XCHG's second
+    // operand, which is written when the first one has taken its value.
     fn add_exchanged(&mut self, machine: &Machine, layout: &Layout, a: Operand, b: Operand)
         requires short { length self.old < 4 }
         requires operands { AreOperands a b }
@@ -134,7 +134,7 @@ impl Accesses {
         );
     }
 
-    // Those of XCHG: it reads both operands, and writes both after that.
+    // Adds the accesses of XCHG: it reads both operands, and writes both after that.
     fn add_exchange(&mut self, machine: &Machine, layout: &Layout, a: Operand, b: Operand)
         requires empty { self.old ≡ [] }
         requires operands { AreOperands a b }
@@ -146,7 +146,8 @@ impl Accesses {
         self.add_exchanged(machine, layout, a, b);
     }
 
-    // Those of POP: the word at the top of the stack is read, and the operand is written when SP has risen.
+    // Adds the accesses of POP: the word at the top of the stack is read, and the operand is written when SP has
+    // risen.
     #[tactic(auto, using(crate::proofs::Beside::near_append, crate::proofs::Beside::near_none))]
     fn add_pop(&mut self, machine: &Machine, layout: &Layout, x: Operand)
         requires { self.old ≡ [] }
@@ -159,7 +160,7 @@ impl Accesses {
         }
     }
 
-    // Those of INT 21h: call 09h reads its string.
+    // Adds the accesses of INT 21h: call 09h reads its string.
     #[tactic(auto, using(crate::proofs::Beside::near_append, crate::proofs::Beside::near_none))]
     fn add_dos(&mut self, machine: &Machine, layout: &Layout)
         requires { self.old ≡ [] }
@@ -171,7 +172,7 @@ impl Accesses {
         }
     }
 
-    // Those of an operation without operands: XLAT reads a byte.
+    // Adds the accesses of an operation without operands: XLAT reads a byte.
     #[tactic(auto, using(crate::proofs::Beside::near_append, crate::proofs::Beside::near_none))]
     fn add_plain(&mut self, machine: &Machine, layout: &Layout, kind: Plain)
         requires { self.old ≡ [] }
@@ -184,7 +185,7 @@ impl Accesses {
         }
     }
 
-    // Those of an operation that reads one operand, and then writes one where that is so.
+    // Adds the accesses of an operation that reads one operand, and then writes one where `so` holds.
     #[tactic(auto, using(crate::proofs::Beside::near_append, crate::proofs::Beside::near_none))]
     fn add_result(
         &mut self,
@@ -204,7 +205,7 @@ impl Accesses {
         }
     }
 
-    // Those of an operation on two operands.
+    // Adds the accesses of an operation on two operands.
     #[tactic(auto, using(crate::proofs::Beside::near_append, crate::proofs::Beside::near_none))]
     fn add_alu(&mut self, machine: &Machine, layout: &Layout, kind: Alu, a: Operand, b: Operand)
         requires { self.old ≡ [] }
@@ -217,7 +218,7 @@ impl Accesses {
         }
     }
 
-    // Those of PUSH: the operand is read, and the word is stored below the top of the stack.
+    // Adds the accesses of PUSH: the operand is read, and the word is stored below the top of the stack.
     #[tactic(auto, using(crate::proofs::Beside::near_append, crate::proofs::Beside::near_none))]
     fn add_push(&mut self, machine: &Machine, layout: &Layout, x: Operand)
         requires { self.old ≡ [] }
@@ -227,7 +228,7 @@ impl Accesses {
         self.add(layout, push_access(machine));
     }
 
-    // Those of an operation.
+    // Adds the accesses of an operation.
     #[tactic(auto, using(crate::proofs::Beside::near_append, crate::proofs::Beside::near_none))]
     fn add_operation(&mut self, machine: &Machine, layout: &Layout, op: Op)
         requires empty { self.old ≡ [] }
@@ -272,7 +273,7 @@ impl Accesses {
         }
     }
 
-    /// Those of the instruction that was found, but for those that are told to lie beside the stack.
+    /// Adds the accesses of the instruction that was found, but for those that are told to lie beside the stack.
     #[tactic(auto, using(crate::proofs::Beside::near_none))]
     pub(crate) fn add_found(&mut self, machine: &Machine, layout: &Layout, found: Option<Instr>)
         requires empty { self.old ≡ [] }
@@ -357,7 +358,7 @@ fn stack_access(machine: &Machine, direction: Direction, offset: u16) -> Access
     }
 }
 
-// The word that is stored below the top of the stack.
+// The access of a push: the word that is stored below the top of the stack.
 fn push_access(machine: &Machine) -> Access
     ensures { access_of result ≡ push_access (state_of machine.now) }
 {
@@ -365,7 +366,7 @@ fn push_access(machine: &Machine) -> Access
     stack_access(machine, Direction::Writing, sp.wrapping_sub(2))
 }
 
-// So many bytes that are read otherwise than from the stack or a frame.
+// The access of `size` bytes that are read otherwise than from the stack or a frame.
 fn other_read(segment: u16, offset: u16, size: u32) -> Access
     ensures { access_of result ≡ told.other_read segment offset size }
 {

@@ -13,14 +13,14 @@ use std::marker::Model;
 pub(crate) struct Live {
     /// The offset at which the procedure begins.
     pub(crate) entry: u16,
-    /// The offset of its first argument in the data segment.
+    /// The offset of the procedure's first argument in the data segment.
     pub(crate) base: u32,
-    /// The shape of its frame.
+    /// The shape of the procedure's frame.
     pub(crate) shape: Shape,
 }
 
 impl Live {
-    // Whether its arguments end at an offset or below.
+    // Whether the procedure's arguments end at an offset or below.
     fn ends_by(self, offset: u16) -> bool
         ensures { result ≡ nat_le (end_of self) offset }
     {
@@ -28,7 +28,7 @@ impl Live {
     }
 }
 
-// How many of these frames, which are in order, have arguments that end at an offset or below. They are the newest.
+// How many of the frames, which are in order, have arguments that end at an offset or below. They are the newest.
 fn count_below(lives: &[Live], offset: u16) -> usize
     requires ordered { AreOrdered 0 lives.now }
     ensures few { result ≤ length lives.now }
@@ -49,7 +49,7 @@ fn count_below(lives: &[Live], offset: u16) -> usize
 /// The frames that live, the newest first, and how many there is room for.
 #[derive(Drop)]
 pub(crate) struct Frames {
-    // Those from `newest` on live, the newest first.
+    // The frames from index `newest` on live, the newest first.
     items: Vec<Live>,
     newest: usize,
 }
@@ -66,7 +66,7 @@ impl Model for Frames {
 }
 
 impl Frames {
-    /// No frame, and room for so many.
+    /// No frame yet, and room for `room` of them.
     pub(crate) fn with_room(alloc: Global, room: usize) -> Result<Frames, AllocError>
         ensures { IfOk result (λ frames. frames ≡ record { room = room; live = [] }) }
     {
@@ -85,7 +85,7 @@ impl Frames {
         })
     }
 
-    /// Another frame begins.
+    /// Begins a frame, which is the newest now.
     pub(crate) fn begin(&mut self, live: Live)
         requires { length self.old.live < self.old.room }
         ensures { self.new ≡ record { room = self.old.room; live = live ∷ self.old.live } }
@@ -94,7 +94,7 @@ impl Frames {
         self.items[self.newest] = live;
     }
 
-    /// The newest frame ends, if there is one.
+    /// Ends the newest frame, if there is one.
     pub(crate) fn end(&mut self)
         ensures { self.new ≡ record { room = self.old.room; live = drop 1 self.old.live } }
     {

@@ -17,11 +17,11 @@ use dcc_step::Machine;
 /// A step that is not clean.
 #[derive(Clone, Copy)]
 pub(crate) struct Foul {
-    /// The offset of its instruction in the code segment.
+    /// The offset of the foul step's instruction in the code segment.
     pub(crate) at: u16,
-    /// In which way.
+    /// In which way the step is foul.
     pub(crate) kind: FoulKind,
-    /// The first byte of which this is so, by its offset in the data segment.
+    /// The first byte that makes the step foul, by its offset in the data segment.
     pub(crate) address: u16,
 }
 

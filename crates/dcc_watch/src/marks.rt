@@ -13,7 +13,7 @@ use std::marker::Model;
 #[derive(Drop)]
 pub(crate) struct Marks {
     items: Vec<bool>,
-    // No offset below this one is marked, so that a stack that falls and rises again without a store costs nothing.
+    // An offset below which none is marked, so that a stack that falls and rises again without a store costs nothing.
     lowest: usize,
 }
 
@@ -57,7 +57,7 @@ impl Marks {
         self.lowest = self.lowest.min(place);
     }
 
-    /// From the first offset up to the second, which is not one of them, none is marked any more.
+    /// Takes the marks off from the first offset up to the second, which keeps its own.
     pub(crate) fn unmark(&mut self, from: u32, to: u32)
         ensures { self.new ≡ with_marks false (range_with_len from (to - from)) self.old }
     {
@@ -68,7 +68,7 @@ impl Marks {
         }
     }
 
-    // The places from the first up to the second, which is not one of them, are marked no more.
+    // Takes the marks off at the places from the first up to the second, which keeps its own.
     fn clear(&mut self, from: usize, to: usize)
         requires { to ≤ 2 ^ 16 }
         ensures marks { self.new ≡ with_marks false (range_with_len from (to - from)) self.old }

@@ -81,7 +81,7 @@ fn unwritten_byte(layout: &Layout, written: &Marks, access: Access) -> Option<u1
     None
 }
 
-// The first byte of an access that no frame exposes, if it is none of the stack or of a frame.
+// The first byte of an access that no frame exposes, unless the access is one of the stack or of a frame.
 fn hidden_of(layout: &Layout, frames: &Frames, top: u32, access: Access) -> Option<u16>
     requires ordered { AreOrdered top frames.now.live }
     ensures { result ≡ hidden_in layout.now top frames.now.live (access_of access ∷ []) }

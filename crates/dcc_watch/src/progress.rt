@@ -5,12 +5,12 @@ use crate::judge::Foul;
 /// Where a run stands.
 #[derive(Clone, Copy)]
 pub(crate) enum Progress {
-    /// At its first instruction.
+    /// The run is at its first instruction.
     AtStart,
-    /// After that, and not yet past the prelude.
+    /// The run is past its first instruction, and not yet past the prelude.
     InPrelude,
-    /// In procedures.
+    /// The run is in procedures.
     InProcedures,
-    /// It was stopped at a step that is foul.
+    /// The run was stopped at a step that is foul.
     Stopped(Foul),
 }

@@ -28,7 +28,7 @@ pub(crate) const NO_SHAPE: Shape = Shape {
 pub(crate) const OFFSETS: usize = 0x1_0000;
 
 impl Shape {
-    /// That of a frame.
+    /// The shape of a frame.
     fn of(frame: &Frame) -> Shape
         ensures { result ≡ shape_of frame.now }
     {
@@ -47,7 +47,7 @@ impl Shape {
         below_bp || self.exposes_argument(k)
     }
 
-    // Whether the byte at so many bytes from BP is an exposed one of the arguments.
+    // Whether the byte at `k` bytes from BP is an exposed one of the arguments.
     fn exposes_argument(self, k: i64) -> bool
         ensures { result ≡ exposes_argument self k }
     {

@@ -18,23 +18,23 @@ use dcc_step::Machine;
 /// The frames that live, and the bytes of the stack that are written.
 #[derive(Drop)]
 pub(crate) struct Stack {
-    /// The frames.
+    /// The frames of procedures that live.
     pub(crate) frames: Frames,
-    /// The bytes, by their offsets in the data segment.
+    /// The bytes that are written, by their offsets in the data segment.
     pub(crate) written: Marks,
 }
 
 /// What is known of a step before it is made: its accesses, and where SP stands.
 #[derive(Drop)]
 pub(crate) struct Before {
-    /// The accesses.
+    /// The accesses of the step.
     pub(crate) list: Accesses,
     /// The offset of SP in the data segment.
     pub(crate) top: u32,
 }
 
 impl Before {
-    /// Where SP stands, and no access yet.
+    /// What is known before a step whose accesses are not told yet: where SP stands.
     pub(crate) fn at(machine: &Machine, layout: &Layout) -> Before
         ensures list { result.list ≡ [] }
         ensures top { result.top ≡ top_in layout.now (state_of machine.now) }
@@ -70,7 +70,7 @@ fn follow_frames(frames: &mut Frames, shapes: &[Shape], found: Option<Instr>, fr
     }
 }
 
-// What a step stores is written, and what SP rises past is so no longer.
+// Marks what a step stores as written, and takes the marks off what SP rises past.
 fn follow_bytes(
     written: &mut Marks,
     layout: &Layout,
@@ -86,7 +86,7 @@ fn follow_bytes(
     }
 }
 
-/// The frame of the entry procedure begins, where the machine has come to it.
+/// Begins the frame of the entry procedure, where the machine has come to it.
 pub(crate) fn begin_first(stack: &mut Stack, shapes: &[Shape], layout: &Layout, machine: &Machine)
     requires table { length shapes.now ≡ 2 ^ 16 }
     requires room { length stack.old.frames.live < stack.old.frames.room }

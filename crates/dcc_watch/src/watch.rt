@@ -29,7 +29,7 @@ use std::marker::Model;
 pub struct Watch {
     machine: Machine,
     layout: Layout,
-    // By the offset where a procedure begins.
+    // The shapes of frames, by the offset where a procedure begins.
     shapes: Vec<Shape>,
     stack: Stack,
     progress: Progress,
@@ -53,7 +53,7 @@ impl Model for Watch {
         w.stack.written w.progress };
 }
 
-// A layout with these values.
+// A copy of a layout.
 fn copied(layout: &Layout) -> Layout
     ensures { result ≡ layout.now }
 {
@@ -77,7 +77,7 @@ fn is_refused(stepped: Stepped) -> bool
     matches!(stepped, Stepped::InFault | Stepped::OutFault)
 }
 
-// Whether a step that answers so was made, and the run goes on.
+// Whether by its answer a step was made, and the run goes on.
 fn goes_on(answer: Watched) -> bool
     ensures { result ≡ goes_on answer }
 {
@@ -85,7 +85,7 @@ fn goes_on(answer: Watched) -> bool
 }
 
 impl Foul {
-    // What a step answers that is foul.
+    // What a foul step answers.
     fn answer(self) -> Watched
         ensures { result ≡ foul_answer self }
     {
@@ -194,8 +194,8 @@ impl Watch {
         }
     }
 
-    /// Makes steps until one answers something else than `Clean(Running)`, at most so many. After a fault, and where a step
-    /// is foul, the steps before it stay made.
+    /// Makes steps until one answers something else than `Clean(Running)`, at most `most`. After a fault, and where a
+    /// step is foul, the steps before it stay made.
     pub fn run<I: Source, O: Sink>(&mut self, input: &mut I, out: &mut O, most: u64) -> Watched
         ensures run { Runs watched most (outcome_of result)
             (scene self.old (I.left input.old) (O.taken out.old))
@@ -228,7 +228,7 @@ impl Watch {
         matches!(self.progress, Progress::InProcedures)
     }
 
-    // What a step answers now that makes nothing.
+    // What a step answers that makes nothing, where the run has ended or was stopped.
     fn answer(&self) -> Watched
         ensures made { outcome_of result ≡ made }
         ensures tells { Tells result self.now }

@@ -6,15 +6,15 @@ use dcc_step::Stepped;
 /// How a step or a run came out.
 #[derive(Clone, Copy, PartialEq, Eq, Debug)]
 pub enum Watched {
-    /// No step is foul; so the machine's steps came out.
+    /// No step is foul, and the machine's steps came out as told.
     Clean(Stepped),
     /// The next step is foul, and was not made.
     Foul {
-        /// The offset of its instruction in the code segment.
+        /// The offset of the foul step's instruction in the code segment.
         at: u16,
-        /// The first byte of which this is so, by its offset in the data segment.
+        /// The first byte that makes the step foul, by its offset in the data segment.
         address: u16,
-        /// In which way it is foul.
+        /// In which way the step is foul.
         kind: FoulKind,
     },
 }

@@ -39,7 +39,7 @@ pub enclosed-before : (token : Token) (opened line : ℕ) (tokens : List Placed)
 enclosed-before token opened line tokens few following =
     let same = most_open-cons token opened line tokens in omega (arith, same)
 
--- and the other way round
+-- where tokens keep to a limit of parentheses, those after the first one do
 pub enclosed-following : (token : Token) (opened line : ℕ) (tokens : List Placed) →
     most_open opened (placed line token ∷ tokens) ≤ 200 → most_open (open_after token opened) tokens ≤ 200
 enclosed-following token opened line tokens all =

@@ -82,7 +82,7 @@ operator-sound inside r operator a is read =
       shallow = omega (arith, read.shallow);
     }
 
--- so was a pair of parentheses
+-- what was read inside a pair of parentheses, which was passed, is a sound operand
 pub closed-sound : (inside : Inside) (start r : Reader) (inner : Got PartialExpr) → Took (Mark (codes "(")) start r → suc inside.opened ≤ 200 →
     IsSound 0 (in_parentheses inside) r inner → IsSound 11 inside start (closed inner)
 closed-sound inside start r inner took few sound going =
@@ -98,7 +98,7 @@ closed-sound inside start r inner took few sound going =
       shallow = read.shallow;
     }
 
--- and a cast
+-- a cast, whose type and operand were passed, is a sound operand
 pub cast_of-sound : (inside : Inside) (at : ℕ) (start r : Reader) (type : Got (Option CType)) (of : CType) (a : Got PartialExpr) →
     Took (Mark (codes "(")) start r → suc inside.opened ≤ 200 → ReadsType r type → type.value ≡ Some of →
     Took (Mark (codes ")")) type.following (take_mark (codes ")") type.following) →

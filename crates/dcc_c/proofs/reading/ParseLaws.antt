@@ -48,7 +48,7 @@ parsed-unit tokens tree parsed =
       allowed = subst IsAllowed parsed.same allowed;
     }
 
--- and a unit is parsed
+-- the pieces of a unit are parsed as it
 pub unit-parsed : (tokens : List Placed) (tree : Tree) → AreUnit tokens tree → IsParsed (pieces_with tokens) tree
 unit-parsed tokens tree unit =
     let pieces = pieces_with tokens in

@@ -29,7 +29,7 @@ pub record Passed (r following : Reader) : Type 0 where
   pub place : following.at + length following.left ≡ r.at + length r.left
   pub fewer : length following.left ≤ length r.left
 
--- It passed this token, and no other.
+-- The reader passed the given token, and no other.
 pub record Took (token : Token) (r following : Reader) : Type 0 where
   pub passed : Passed r following
   pub steady : following.depth ≡ r.depth

@@ -41,7 +41,7 @@ value-entire calls r enough going =
     let e = read_value calls r in
     expr-entire calls (whole 0 r) r enough (mark-keeps (codes ";") e.following going) (taken-no_call (codes ";") e.following refl going)
 
--- the same for a place
+-- what was read as a place is complete, where reading did not stop and no call follows
 abbrev pub EntirePlace : Got PartialExpr → Type 0
 EntirePlace g = g.following.stop ≡ None → NoCall g.following → is_complete_place g.value ≡ true
 
@@ -58,7 +58,7 @@ place-entire calls r enough =
 abbrev EntireList : Got (List PartialExpr) → Type 0
 EntireList g = list_all is_complete_expr g.value ≡ true
 
--- of those after the first one, before which no parenthesis stands either
+-- the arguments after the first one are complete, and no parenthesis stands before them
 more_arguments-entire : (calls : ℕ) (r : Reader) → IsEnough calls 0 r.left → (more_arguments calls r).following.stop ≡ None → NoCall (more_arguments calls r).following →
     NoCall r × EntireList (more_arguments calls r)
 more_arguments-entire zero r enough = λ going ends. (ends, refl)

@@ -40,7 +40,7 @@ pub record ReadsExpr (least : ℕ) (inside : Inside) (r : Reader) (g : Got Parti
 abbrev pub IsSound : ℕ → Inside → Reader → Got PartialExpr → Type 0
 IsSound least inside r g = g.following.stop ≡ None → ReadsExpr least inside r g
 
--- the same for a type
+-- reading that has not stopped has read a type
 pub record ReadsType (r : Reader) (g : Got (Option CType)) : Type 0 where
   pub passed : Passed r g.following
   pub steady : g.following.depth ≡ r.depth
@@ -50,7 +50,7 @@ pub record ReadsType (r : Reader) (g : Got (Option CType)) : Type 0 where
   pub derived : Begins (tokens_of r.left) (type_tokens type) (tokens_of g.following.left)
   pub enclosed : (opened : ℕ) → most_open opened (tokens_of g.following.left) ≤ 200 → most_open opened (tokens_of r.left) ≤ 200
 
--- The other direction.
+-- The other direction of the agreement: what the grammar allows is read so.
 
 -- a reader at the first of some tokens, which goes on
 abbrev pub on : List Placed → ℕ → ℕ → Reader

@@ -75,7 +75,7 @@ plain-sound r =
     record { number = record { value = n; at = r.at }; is = refl; took = skip-took r (Decimal n plain_number) (plain_of-is (next_token r) n is) })
     (λ _ going. absurd (fail-stops r going))
 
--- and it stands in the line
+-- a decimal number without suffix was passed, which stands in the line
 pub number-sound : (line : ℕ) (r : Reader) → (take_number_of_line line r).following.stop ≡ None →
     TookPlain r (take_number_of_line line r) × (line_of r.left ≡ line)
 number-sound line r =

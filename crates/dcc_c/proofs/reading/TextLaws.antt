@@ -37,7 +37,7 @@ pub read_is_text : (pieces : List Piece) (tree : Tree) → IsReadAs pieces tree 
 read_is_text pieces tree read =
     let found = sound_text pieces read.going in (found.0, subst (IsText (tokens_of pieces)) read.same found.1)
 
--- and the other way round
+-- what the grammar and the limits of depth say is read to its end
 pub text_is_read : (pieces : List Piece) (tree : Tree) → are_tokens pieces ≡ true → IsText (tokens_of pieces) tree → IsReadAs pieces tree
 text_is_read pieces tree all is =
     let found = complete_text (tokens_of pieces) tree is in

@@ -31,7 +31,7 @@ pub record IsScene (tree : Tree) (f : Function) (scene : Scene) : Type 0 where
   pub known : (word : Word) (k : Known) → declared_as scene.names word ≡ None → known_as scene.functions word ≡ Some k →
       (signature : Signature) × (k.signature ≡ Some signature) × (signature_in tree word ≡ Some signature)
 
--- The other way: the tree's functions are known, and no variables' names.
+-- From the tree to the scene: the tree's functions are known, and are no variables' names.
 abbrev pub Knows : Tree → Scene → Type 0
 Knows tree scene = (word : Word) (signature : Signature) → signature_in tree word ≡ Some signature → HasSignature scene word signature
 

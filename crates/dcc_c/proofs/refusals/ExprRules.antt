@@ -213,7 +213,7 @@ expr-typed scene (CastHere at type a) whole none =
     let t = expr-typed scene a whole none in
     typed scene.names (CastHere at type a) type refl (ap (option_map (λ from. type)) t.is)
 
--- The other way: nothing offends in an expression that has a type.
+-- From a type to no offence: nothing offends in an expression that has a type.
 pub record IsClean (scene : Scene) (e : PartialExpr) (type : CType) : Type 0 where
   pub none : expr_offences scene e ≡ []
   pub told : told_type scene.names e ≡ Some type

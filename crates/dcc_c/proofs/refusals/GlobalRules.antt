@@ -194,7 +194,7 @@ places-allowed lo hi earlier (v ∷ vs) whole none =
       earlier_apart = rw own.1 split.1;
     }
 
--- The other way.
+-- From the rules to no offence: nothing offends in global variables that keep the rules.
 
 to-first : (v : PartialVariable) (earlier us : List PartialVariable) → Complete v → list_all is_complete_variable us ≡ true →
     list_all (are_apart (plain_global v)) (map plain_global us) ≡ true → all_off earlier us ≡ true → all_off (v ∷ earlier) us ≡ true

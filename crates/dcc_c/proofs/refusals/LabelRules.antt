@@ -80,7 +80,7 @@ mutual
   lines-words (row EmptyOf at line rows) word = lines-words rows word
   lines-words (row (ReturnOf e done) at line rows) word = lines-words rows word
 
-  -- those inside a statement that is no label
+  -- the labels inside a statement that is no label
   inner-words : (stmt : PartialStmt) → SameWords (words_of (inner_labels stmt)) (label-words (inner_stmts (plain_stmt stmt)))
   inner-words (IfOf e done body otherwise) word = part-words (stmts_in (plain_lines body)) (stmts_in (plain_lines otherwise)) (label_list body) (label_list otherwise) (lines-words body) (lines-words otherwise) word
   inner-words (WhileOf e done body) word = lines-words body word
@@ -96,7 +96,7 @@ mutual
   inner-words EmptyOf word = refl
   inner-words (ReturnOf e done) word = refl
 
-  -- those of arms, of which the ones with `default` come last in a tree
+  -- the labels of arms, of which the ones with `default` come last in a tree
   arms-words : (arms : PartialArms) → SameWords (words_of (labels_in_arms arms)) (label-words (arm_stmts (case_arms arms)) ++ label-words (arm_stmts (default_arms arms)))
   arms-words no_cases word = refl
   arms-words (cases numbers None body arms) word =

@@ -60,7 +60,7 @@ place-placed scene (BinaryOf operator a b) whole none = absurd cc
 place-placed scene (ConditionalOf a b c) whole none = absurd cc
 place-placed scene (CastHere at type a) whole none = absurd cc
 
--- the other way: a complete place that has a type
+-- from a type to no offence: in a complete place that has a type nothing offends
 not-array : (d : Declared) (at : ℕ) (type : CType) → type_of_variable d ≡ Some type → only_if d.is_array (offence of_type at) ≡ []
 not-array d at type e = elim d.is_array as (λ a. (if a then None else Some d.type) ≡ Some type → only_if a (offence of_type at) ≡ []) [
   | true ↦ λ bad. absurd (no-some bad)
@@ -105,7 +105,7 @@ fits-of scene e to whole none own =
     ∙ not-true (converts t.type to) (none-only (not (converts t.type to)) (offence of_type (place_of e))
     (ap (λ o. conversion o (Some to) (place_of e)) (sym t.told) ∙ own))
 
--- the other way
+-- the value may become one of the type, as nothing offends in it
 pub record Becomes (scene : Scene) (e : PartialExpr) (to : CType) : Type 0 where
   pub none : expr_offences scene e ≡ []
   pub own : becomes scene e true (Some to) ≡ []

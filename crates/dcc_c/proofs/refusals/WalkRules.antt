@@ -84,7 +84,7 @@ module _ (P : Stmt → Bool) (scene : Scene)
         all-append P (stmts_in (plain_lines body)) (arm_stmts (default_arms arms))
         (lines-all blocks body others.0 both.0) (defaults-all blocks arms others.1 both.1)
 
--- The other way: where each statement has what makes its own parts clean, nothing offends in a block.
+-- From the rules to no offence: where each statement has what makes its own parts clean, nothing offends in a block.
 
 -- what offends in the cases and defaults of a statement
 abbrev pub arm_heads : PartialStmt → List Offence

@@ -123,7 +123,7 @@ pub record Before (bits : List ℕ) (Has After : Loc → Type 0) (stmt : Stmt) :
   pub made_of : (l to : Loc) → Contains (writes_of stmt) to → Contains (makes_of stmt) l → After to → Has l
   pub left : (l : Loc) → After l → Has l ⊎ (Contains (writes_of stmt) l × (is_stmt bits stmt ≡ true))
 
--- these locations, where the run goes on
+-- the locations that matter, where the run goes on
 abbrev pub StillOn : (Loc → Type 0) → State → Loc → Type 0
 StillOn After s l = (is_over s.end ≡ false) × After l
 
@@ -252,7 +252,7 @@ module _ (Has After : Loc → Type 0) where
       (sym (argument-on Has s t h argument (all_had Has (flat_map reads_of (option_to_list argument)) before.used)))
       (dos-on number place argument (argument_in s argument) s t before h)
 
--- The same locations before and after.
+-- The locations of a point are the same before and after the pass.
 
 -- what holds of all that the elements give holds of all of it
 flat_parts : {X A : Type 0} (P : A → Type 0) (f : X → List A) (xs : List X) → All (λ x. All P (f x)) xs → All P (flat_map f xs)

@@ -78,7 +78,7 @@ module _ (g g' : Graph) (is : IsGraph g) (h : GraphStays g g') where
   param_list_stays : is_param_list g'.bits g'.params ≡ is_param_list g.bits g.params
   param_list_stays = ap₂ is_param_list h.bits h.params ∙ param_list_more g.bits h.fresh g.params is.params
 
-  -- Its flow.
+  -- The flow of the changed graph.
 
   first_still : (bs bs' : List Block) → AllZip Pairs bs bs' → first_address bs' ≡ first_address bs
   first_still [] [] all = refl
@@ -113,7 +113,7 @@ module _ (g g' : Graph) (is : IsGraph g) (h : GraphStays g g') where
       let goes = fun_ext (λ a. fun_ext (goes_still a)) in
       λ i. record { start = start i; has = has i; goes = goes i }
 
-  -- its calls, by their entries and depths
+  -- the calls of a graph, by their entries and depths
   called : Signature → ℕ × ℕ
   called s = (s.entry, s.depth)
 
@@ -250,7 +250,7 @@ module _ (p : Program) (change : Graph → Graph) (formed : IsProgram p) (stays 
       let parts = both (is_location bits l) (list_all (is_location bits) results) ok in
       ap₂ (λ n l. n ∷ l) (width_more bits fresh l parts.0) (results_more bits fresh results parts.1)
 
-  -- the same call in the program with the graph in its place
+  -- a call is well formed in the program with the changed graph in its place
   placed_still : (g : Graph) (c : Contains p.graphs g) (s : Signature) → Placed g.bits s → Agrees after (change g).bits s
   placed_still g c s placed =
       let callee = placed.agrees.callee in
@@ -329,7 +329,7 @@ module _ (p : Program) (change : Graph → Graph) (formed : IsProgram p) (stays 
       ap (λ o. flat_map calls_of (block_or_none (find (λ (b : Block). b.at == at) (graph_or_none o).blocks)).stmts) (changed_at change p.graphs entry entry_stays)
       ∙ found_calls entry at (graph_at p.graphs entry) refl
 
-  -- So the changed program is kept, where its runs are.
+  -- The changed program is kept, where its runs are.
   pub kept_where : KeepsRuns p (changed p change) → KeepsInOne p (changed p change)
   kept_where runs = record {
     keeps = record {

@@ -16,7 +16,7 @@ Everywhere v v' = (l : Loc) → v' l ≡ v l
 pub with_value-same : (v v' : Values) (x : Loc) (n : ℕ) → Everywhere v v' → Everywhere (with_value v x n) (with_value v' x n)
 with_value-same v v' x n same l = ap (λ m. if same_location l x then n else m) (same l)
 
--- the same values are given back
+-- where two values of all locations are the same, they are after values are given back
 pub with_values-same : (v v' : Values) (results : List Loc) (r : List ℕ) → Everywhere v v' → Everywhere (with_values v results r) (with_values v' results r)
 with_values-same v v' [] r same = same
 with_values-same v v' (x ∷ results) [] same = same
@@ -38,7 +38,7 @@ put_same j (Two low high) n s t o = record {
   base = o.base;
 }
 
--- the same arguments are taken
+-- where two states hold the same everywhere, they do after arguments are taken
 pub taken_same : (j : ℕ) (params : List Param) (a : List ℕ) (s t : State) → Open s t → Open (passing j params a s) (passing j params a t)
 taken_same j [] a s t o = o
 taken_same j (q ∷ params) [] s t o = o

@@ -325,7 +325,7 @@ module _ (p q : Program) (pass : Pass) (is : IsPass p q pass) (fill : ℕ) (smal
         );
       })))
 
-  -- where both halt after the first run went through dropped blocks
+  -- both local runs halt alike, where the first went through dropped blocks
   halted : {Kind : Halt → Type 0} (a : List ℕ) (point : Point) (n : ℕ) (s t last : State) → IsAt q point t.running → FitIn (param_widths s.running.graph) a →
       AllAwait p q pass point.entry a s.waiting t.waiting → Comes p n Kind (point_before pass point) s last →
       (rest other_rest : List Stmt) (begins other_begins : Bool) (u u' : State) → Left (record (frame_of last) { rest = rest; begins = begins }) u →
@@ -393,7 +393,7 @@ module _ (p q : Program) (pass : Pass) (is : IsPass p q pass) (fill : ℕ) (smal
   matching s t good other_good (both_over over end events) = both_over over end events
   matching s t good other_good (first_foul foul shown less) = first_foul foul shown less
 
-  -- So both runs match.
+  -- Both runs match.
   matches : Matches (first p q is.before fill) second (AreMatching p q pass)
   matches s t m =
       let r = m.related in

@@ -435,7 +435,7 @@ nothing_goes g =
       gives = all_of (λ b. All (GivesRead nothing_trimmed reads) b.stmts) g.blocks (λ b. all_of (GivesRead nothing_trimmed reads) b.stmts (nothing_gives reads));
     }
 
--- So each well-formed program keeps its own runs.
+-- Each well-formed program keeps its own runs.
 pub runs_kept : (p : Program) → IsProgram p → KeepsRuns p p
 runs_kept p formed =
     let same : trimmed nothing_trimmed p ≡ p = ap (λ graphs. record p { graphs = graphs }) (map_same (trim_graph nothing_trimmed) p.graphs nothing-graph) in

@@ -52,7 +52,7 @@ no_stray line others tokens same good =
     no_stray_token token is allowed =
         let same : stray ≡ token = cc in let e : is_no_version stray ≡ true = ap is_no_version same ∙ allowed in absurd cc
 
--- nor is there a piece without a token
+-- no piece without a token is among the pieces of tokens
 pub no_none : (line : ℕ) (others : List Piece) (tokens : List Placed) → piece line None ∷ others ≡ pieces_with tokens → no_version tokens ≡ true → ⊥
 no_none line others tokens same good = let first = first_of_tokens line None others tokens same good in let e : None ≡ Some first.token = first.is in absurd cc
 

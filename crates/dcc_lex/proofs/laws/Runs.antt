@@ -40,7 +40,7 @@ run_of p (b ∷ bytes) = elim (cases_Bool (p b)) [
       (record { all = refl; ended = not_from_false (p b) not_so; same = refl })
 ]
 
--- the longest run is this one
+-- a run of bytes that pass the test, before a byte that doesn't or the end, is the longest one
 pub run_is : (p : ℕ → Bool) (run rest : List ℕ) → list_all p run ≡ true → ends_run p rest ≡ true → take_while p (run ++ rest) ≡ run
 run_is p [] [] all ended = refl
 run_is p [] (b ∷ rest) all ended = out_of_run p b rest (no_more_of p b ended)

@@ -30,7 +30,7 @@ parsed-stands text rest tree begins parsed =
       allowed = unit.allowed;
     }
 
--- and the pieces of a text that stands for a tree are parsed as it
+-- the pieces of a text that stands for a tree are parsed as the tree
 pub stands-parsed : (text : List ℕ) (tree : Tree) → StandsFor text tree → (rest : List ℕ) × (after_version text ≡ Some rest) × IsParsed (pieces_of rest) tree
 stands-parsed text tree stands =
     let tokens = after_first stands.tokens in
@@ -51,7 +51,7 @@ stands-parsed text tree stands =
 pub parsed-one : {pieces : List Piece} {a b : Tree} → IsParsed pieces a → IsParsed pieces b → a ≡ b
 parsed-one first second = sym first.same ∙ second.same
 
--- and a text stands for one tree at most
+-- a text stands for one tree at most
 pub stands-one : (text : List ℕ) (a b : Tree) → StandsFor text a → StandsFor text b → a ≡ b
 stands-one text a b first second =
     let (rest, begins, parsed) = stands-parsed text a first in

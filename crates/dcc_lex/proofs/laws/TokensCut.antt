@@ -19,7 +19,7 @@ use Rattle.dcc_lex.proofs.laws.LexesCut.{spot_of, with_cut, blank_first, blank_n
 abbrev spelled : List ℕ → List ℕ
 spelled numbers = flat_map (λ n. 32 ∷ decimal n) numbers
 
--- their tokens
+-- the tokens of a pragma's numbers
 abbrev number_tokens : ℕ → List ℕ → List Placed
 number_tokens line numbers = map (placed line) (map (λ n. Decimal n plain_number) numbers)
 

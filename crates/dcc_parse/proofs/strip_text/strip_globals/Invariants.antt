@@ -8,7 +8,7 @@ use Rattle.dcc_parse.specs.Stripping.{is_in_memory}
 use Rattle.dcc_parse.proofs.Moved.{IsMoved}
 use Rattle.dcc_parse.proofs.strip_text.strip_globals.Given as goal
 
--- the rest stands in memory too
+-- where all global variables are in memory, so are those that are left
 abbrev pub invariant-loop-v : goal.invariant-loop-v
 invariant-loop-v l = list_all is_in_memory (map partial.variable_of l.fn.vs.items) ≡ true →
     (list_all is_in_memory (map partial.variable_of (into_iter_items l.v-iterator)) ≡ true)

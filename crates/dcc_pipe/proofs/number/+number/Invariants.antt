@@ -23,7 +23,7 @@ invariant-number_lines-loop-i l = record {
       ≡ depth_after l.initial.place.depth (stmts_in (lines_of l.initial.lines));
 }
 
--- the same of arms
+-- while arms are numbered: the arms that are left, and the lines so far
 abbrev pub invariant-number_arms-loop-i : goal.invariant-number_arms-loop-i
 invariant-number_arms-loop-i l = record {
   unvisited : goal.unvisited-number_arms-loop-i l;

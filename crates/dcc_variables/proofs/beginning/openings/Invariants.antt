@@ -5,7 +5,7 @@ use Rattle.dcc_variables.specs.Functions.{openings_from}
 use Rattle.dcc_variables.specs.Views.{spelling_in}
 use Rattle.dcc_variables.proofs.beginning.openings.Given as goal
 
--- with those of the params that are left, all are there
+-- the assignments so far, with those of the params that are left, are all
 abbrev pub invariant-loop-place : goal.invariant-loop-place
 invariant-loop-place l =
     let s = spelling_in l.head in
