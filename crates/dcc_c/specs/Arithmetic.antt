@@ -1,7 +1,8 @@
 -- The operators on numbers (ISO/IEC 9899:1990, 6.3.3 to 6.3.14), on two's complement bit patterns. What the standard
 -- leaves open is settled here: sums wrap, a negative number keeps its sign in a right shift, and a count that is
 -- negative or not below the width shifts all bits out.
-use Rattle.std.specs.Prelude.{ℕ, ◌+◌, ◌-◌, ◌*◌, ◌/◌, ◌%◌, ◌^◌, ◌==◌, Bool, ◌&&◌, ◌||◌, not, nat_le, nat_lt, if◌then◌else◌}
+use Rattle.std.specs.Prelude.{ℕ, ◌+◌, ◌-◌, ◌*◌, ◌/◌, ◌%◌, ◌^◌, ◌==◌, Bool, ◌&&◌, ◌||◌, not, nat_le, nat_lt}
+use Rattle.std.specs.Prelude.{if◌then◌else◌}
 use Rattle.dcc_c.specs.declared.syntax.Base.{Base}
 use Rattle.dcc_c.specs.Types.{bits_of, is_signed, wrapped_bits, is_negative}
 

@@ -1,8 +1,12 @@
 -- Partial trees that have been read to their ends: nothing in them is missing.
-use Rattle.std.specs.Prelude.{ℕ, suc, nat_le, Bool, true, false, ◌&&◌, ◌==◌, not, if◌then◌else◌, length, Option, Some, None, is_some}
+use Rattle.std.specs.Prelude.{ℕ, suc, nat_le, Bool, true, false, ◌&&◌, ◌==◌, not, if◌then◌else◌, length, Option, Some}
+use Rattle.std.specs.Prelude.{None, is_some}
 use Rattle.std.specs.List.{list_all}
 use Rattle.dcc_c.specs.declared.syntax.CUn.TheVariants.{Deref}
-use Rattle.dcc_c.specs.Partial.{PartialExpr, Missing, NumberHere, NameHere, UnaryHere, BinaryOf, ConditionalOf, CastHere, PartialStmt, AssignOf, CallOf, IfOf, WhileOf, DoWhileOf, ForeverOf, SwitchOf, GotoOf, ReturnOf, PartialLines, no_rows, row, PartialArms, no_cases, cases, PartialVariable, PartialFunction, PartialText}
+use Rattle.dcc_c.specs.Partial.{PartialExpr, Missing, NumberHere, NameHere, UnaryHere, BinaryOf, ConditionalOf}
+use Rattle.dcc_c.specs.Partial.{CastHere, PartialStmt, AssignOf, CallOf, IfOf, WhileOf, DoWhileOf, ForeverOf, SwitchOf}
+use Rattle.dcc_c.specs.Partial.{GotoOf, ReturnOf, PartialLines, no_rows, row, PartialArms, no_cases, cases}
+use Rattle.dcc_c.specs.Partial.{PartialVariable, PartialFunction, PartialText}
 
 -- an expression, in which no name stands before a parenthesis
 abbrev pub is_complete_expr : PartialExpr → Bool

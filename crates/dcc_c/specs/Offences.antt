@@ -1,5 +1,6 @@
 -- What offends in expressions and statements beside the grammar, and where it stands, as far as they have been read.
-use Rattle.std.specs.Prelude.{ℕ, suc, nat_lt, ◌==◌, Bool, true, false, ◌&&◌, ◌||◌, not, if◌then◌else◌, List, [], ◌∷◌, ◌++◌, length, Option, Some, None, is_some, is_none, option_and_then}
+use Rattle.std.specs.Prelude.{ℕ, suc, nat_lt, ◌==◌, Bool, true, false, ◌&&◌, ◌||◌, not, if◌then◌else◌, List, [], ◌∷◌}
+use Rattle.std.specs.Prelude.{◌++◌, length, Option, Some, None, is_some, is_none, option_and_then}
 use Rattle.std.specs.List.{list_any}
 use Rattle.dcc_c.specs.declared.syntax.CType.{CType}
 use Rattle.dcc_c.specs.declared.syntax.CUn.{CUn}
@@ -7,12 +8,17 @@ use Rattle.dcc_c.specs.declared.syntax.CUn.TheVariants.{Deref, AddressOf}
 use Rattle.dcc_c.specs.declared.syntax.CBin.{CBin}
 use Rattle.dcc_c.specs.Types.{promoted_type, plain}
 use Rattle.dcc_c.specs.Tree.{Word}
-use Rattle.dcc_c.specs.Typing.{Declared, declared_as, type_of_name, type_of_address, unary_type, is_comparison, is_sum, both_types, both_arms_type, type_of_variable}
+use Rattle.dcc_c.specs.Typing.{Declared, declared_as, type_of_name, type_of_address, unary_type, is_comparison, is_sum}
+use Rattle.dcc_c.specs.Typing.{both_types, both_arms_type, type_of_variable}
 use Rattle.dcc_c.specs.Grammar.{is_among}
 use Rattle.dcc_c.specs.Rules.{converts, is_word_base}
 use Rattle.dcc_c.specs.Dos.{Signature}
 use Rattle.dcc_c.specs.Kinds.{of_name, of_type, of_depth, Offence, offence, only_if}
-use Rattle.dcc_c.specs.Partial.{WordAt, NumberAt, PartialExpr, Missing, NumberHere, NameHere, UnaryHere, BinaryOf, ConditionalOf, CastHere, place_of, is_missing, is_name_here, PartialCall, PartialStmt, AssignOf, CallOf, IfOf, WhileOf, DoWhileOf, ForeverOf, SwitchOf, BreakOf, ContinueOf, GotoOf, LabelOf, EmptyOf, ReturnOf, PartialLines, no_rows, row, PartialArms, no_cases, cases}
+use Rattle.dcc_c.specs.Partial.{WordAt, NumberAt, PartialExpr, Missing, NumberHere, NameHere, UnaryHere, BinaryOf}
+use Rattle.dcc_c.specs.Partial.{ConditionalOf, CastHere, place_of, is_missing, is_name_here, PartialCall, PartialStmt}
+use Rattle.dcc_c.specs.Partial.{AssignOf, CallOf, IfOf, WhileOf, DoWhileOf, ForeverOf, SwitchOf, BreakOf, ContinueOf}
+use Rattle.dcc_c.specs.Partial.{GotoOf, LabelOf, EmptyOf, ReturnOf, PartialLines, no_rows, row, PartialArms, no_cases}
+use Rattle.dcc_c.specs.Partial.{cases}
 use Rattle.dcc_c.specs.Known.{Known, known_as}
 
 -- What is known in a function's body: the variables, the functions, the labels, and the type of the result.

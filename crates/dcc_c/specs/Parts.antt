@@ -1,7 +1,8 @@
 -- The statements and the expressions that a function's body holds, at every depth, in the order of the text.
 use Rattle.std.specs.Prelude.{List, [], ◌∷◌, ◌++◌, Option, Some, None}
 use Rattle.std.specs.List.{flat_map}
-use Rattle.dcc_c.specs.Tree.{Word, Expr, Number, Name, Unary, Binary, Conditional, Cast, Stmt, Assign, Call, If, While, DoWhile, Forever, Switch, Label, Return, Lines, no_lines, line, Arms, no_arms, arm}
+use Rattle.dcc_c.specs.Tree.{Word, Expr, Number, Name, Unary, Binary, Conditional, Cast, Stmt, Assign, Call, If, While}
+use Rattle.dcc_c.specs.Tree.{DoWhile, Forever, Switch, Label, Return, Lines, no_lines, line, Arms, no_arms, arm}
 
 abbrev mutual
   -- the statements of a block, each before those inside it

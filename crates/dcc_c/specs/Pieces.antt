@@ -1,8 +1,11 @@
 -- From bytes to pieces, for every text: its tokens, and the bytes that are no token.
-use Rattle.std.specs.Prelude.{ℕ, suc, zero, ◌+◌, ◌*◌, ◌-◌, nat_le, Bool, true, false, ◌&&◌, not, ◌==◌, if◌then◌else◌, List, [], ◌∷◌, ◌++◌, length, drop, codes, Option, Some, None, option_map}
+use Rattle.std.specs.Prelude.{ℕ, suc, zero, ◌+◌, ◌*◌, ◌-◌, nat_le, Bool, true, false, ◌&&◌, not, ◌==◌, if◌then◌else◌}
+use Rattle.std.specs.Prelude.{List, [], ◌∷◌, ◌++◌, length, drop, codes, Option, Some, None, option_map}
 use Rattle.std.specs.List.{take_while}
 use Rattle.std.specs.Fmt.{decimal}
-use Rattle.dcc_c.specs.Token.{Token, WordToken, Decimal, Hex, Mark, Pragma, Suffix, plain_number, unsigned_suffix, long_suffix, unsigned_long_suffix, Head, version_line, stack_line, place_line, depth_line, head_bytes, is_digit, is_word, is_word_byte, is_mark, hex_value, hex_from, same_bytes}
+use Rattle.dcc_c.specs.Token.{Token, WordToken, Decimal, Hex, Mark, Pragma, Suffix, plain_number, unsigned_suffix}
+use Rattle.dcc_c.specs.Token.{long_suffix, unsigned_long_suffix, Head, version_line, stack_line, place_line, depth_line}
+use Rattle.dcc_c.specs.Token.{head_bytes, is_digit, is_word, is_word_byte, is_mark, hex_value, hex_from, same_bytes}
 use Rattle.dcc_c.specs.Lexing.{is_blank}
 use Rattle.dcc_c.specs.Tree.{Word}
 use Rattle.dcc_c.specs.Grammar.{is_among}

@@ -1,13 +1,20 @@
 -- Reading statements and declarations, for every text.
-use Rattle.std.specs.Prelude.{ℕ, zero, suc, nat_le, nat_lt, ◌==◌, Bool, true, false, ◌&&◌, ◌||◌, not, if◌then◌else◌, List, [], ◌∷◌, ◌++◌, codes, Option, Some, None, is_some}
+use Rattle.std.specs.Prelude.{ℕ, zero, suc, nat_le, nat_lt, ◌==◌, Bool, true, false, ◌&&◌, ◌||◌, not, if◌then◌else◌}
+use Rattle.std.specs.Prelude.{List, [], ◌∷◌, ◌++◌, codes, Option, Some, None, is_some}
 use Rattle.dcc_c.specs.declared.syntax.CUn.TheVariants.{Deref}
 use Rattle.dcc_c.specs.declared.syntax.Class.{Class}
 use Rattle.dcc_c.specs.declared.syntax.Class.TheVariants.{Plain, Auto, Register}
-use Rattle.dcc_c.specs.Token.{Token, Decimal, Hex, Pragma, Suffix, plain_number, unsigned_suffix, Head, version_line, stack_line, place_line, depth_line}
+use Rattle.dcc_c.specs.Token.{Token, Decimal, Hex, Pragma, Suffix, plain_number, unsigned_suffix, Head, version_line}
+use Rattle.dcc_c.specs.Token.{stack_line, place_line, depth_line}
 use Rattle.dcc_c.specs.Grammar.{Around, in_block, in_loop, in_switch}
 use Rattle.dcc_c.specs.Kinds.{of_depth}
-use Rattle.dcc_c.specs.Partial.{WordAt, NumberAt, PartialExpr, UnaryHere, PartialStmt, AssignOf, CallOf, IfOf, WhileOf, DoWhileOf, ForeverOf, SwitchOf, BreakOf, ContinueOf, GotoOf, LabelOf, EmptyOf, ReturnOf, PartialLines, no_rows, row, PartialArms, no_cases, cases, PartialVariable}
-use Rattle.dcc_c.specs.Reading.{Reader, Got, got, is_stopped, next_token, second_token, line_of, skip, stop_at, fail, is_the_mark, is_the_word, name_of, sees_mark, sees_word, take_mark, take_word, take_name, take_plain, take_type, begins_type, Inside, in_operator, name_here, read_unary, read_expr}
+use Rattle.dcc_c.specs.Partial.{WordAt, NumberAt, PartialExpr, UnaryHere, PartialStmt, AssignOf, CallOf, IfOf, WhileOf}
+use Rattle.dcc_c.specs.Partial.{DoWhileOf, ForeverOf, SwitchOf, BreakOf, ContinueOf, GotoOf, LabelOf, EmptyOf, ReturnOf}
+use Rattle.dcc_c.specs.Partial.{PartialLines, no_rows, row, PartialArms, no_cases, cases, PartialVariable}
+use Rattle.dcc_c.specs.Reading.{Reader, Got, got, is_stopped, next_token, second_token, line_of, skip, stop_at, fail}
+use Rattle.dcc_c.specs.Reading.{is_the_mark, is_the_word, name_of, sees_mark, sees_word, take_mark, take_word}
+use Rattle.dcc_c.specs.Reading.{take_name, take_plain, take_type, begins_type, Inside, in_operator, name_here}
+use Rattle.dcc_c.specs.Reading.{read_unary, read_expr}
 
 -- Whole expressions.
 

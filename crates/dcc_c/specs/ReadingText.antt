@@ -1,5 +1,6 @@
 -- Reading a whole text: its stack line, global variables and functions.
-use Rattle.std.specs.Prelude.{ℕ, zero, suc, ◌+◌, ◌*◌, ◌==◌, Bool, false, ◌&&◌, ◌||◌, not, if◌then◌else◌, List, [], ◌∷◌, length, codes, Option, Some, None, option_map}
+use Rattle.std.specs.Prelude.{ℕ, zero, suc, ◌+◌, ◌*◌, ◌==◌, Bool, false, ◌&&◌, ◌||◌, not, if◌then◌else◌, List, [], ◌∷◌}
+use Rattle.std.specs.Prelude.{length, codes, Option, Some, None, option_map}
 use Rattle.dcc_c.specs.declared.syntax.CType.{CType}
 use Rattle.dcc_c.specs.declared.syntax.Class.TheVariants.{Plain}
 use Rattle.dcc_c.specs.Token.{stack_line, place_line}
@@ -7,8 +8,10 @@ use Rattle.dcc_c.specs.Grammar.{outermost}
 use Rattle.dcc_c.specs.Placement.{bytes_of}
 use Rattle.dcc_c.specs.Pieces.{Piece}
 use Rattle.dcc_c.specs.Partial.{WordAt, NumberAt, no_rows, PartialVariable, PartialFunction, PartialText}
-use Rattle.dcc_c.specs.Reading.{Reader, Got, got, is_stopped, next_token, line_of, skip, sees_mark, sees_word, take_mark, take_name, begins_type, take_type}
-use Rattle.dcc_c.specs.ReadingStatements.{sees_head, take_head, take_number_of_line, read_lines, read_size, read_init, read_locals, read_params}
+use Rattle.dcc_c.specs.Reading.{Reader, Got, got, is_stopped, next_token, line_of, skip, sees_mark, sees_word}
+use Rattle.dcc_c.specs.Reading.{take_mark, take_name, begins_type, take_type}
+use Rattle.dcc_c.specs.ReadingStatements.{sees_head, take_head, take_number_of_line, read_lines, read_size, read_init}
+use Rattle.dcc_c.specs.ReadingStatements.{read_locals, read_params}
 
 -- Functions.
 

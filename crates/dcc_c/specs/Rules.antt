@@ -1,5 +1,7 @@
 -- What a text keeps to beside the grammar: names, types, places and depth.
-use Rattle.std.specs.Prelude.{◌≡◌, ℕ, suc, ◌+◌, ◌-◌, max, ◌≤◌, nat_le, nat_lt, ◌==◌, Bool, true, false, ◌&&◌, ◌||◌, not, if◌then◌else◌, List, [], ◌∷◌, ◌++◌, length, map, codes, Option, Some, None, option_map, is_some}
+use Rattle.std.specs.Prelude.{◌≡◌, ℕ, suc, ◌+◌, ◌-◌, max, ◌≤◌, nat_le, nat_lt, ◌==◌, Bool, true, false, ◌&&◌, ◌||◌, not}
+use Rattle.std.specs.Prelude.{if◌then◌else◌, List, [], ◌∷◌, ◌++◌, length, map, codes, Option, Some, None, option_map}
+use Rattle.std.specs.Prelude.{is_some}
 use Rattle.std.specs.List.{list_any, list_all, flat_map}
 use Rattle.dcc_c.specs.declared.syntax.Base.{Base}
 use Rattle.dcc_c.specs.declared.syntax.Base.TheVariants.{Int, Uint}
@@ -7,7 +9,8 @@ use Rattle.dcc_c.specs.declared.syntax.CType.{CType}
 use Rattle.dcc_c.specs.Token.{Mark, same_bytes}
 use Rattle.dcc_c.specs.Lexing.{Placed}
 use Rattle.dcc_c.specs.Types.{promoted_type, same_type}
-use Rattle.dcc_c.specs.Tree.{Word, Expr, Number, Name, Unary, Binary, Conditional, Cast, Stmt, Assign, Call, If, While, DoWhile, Switch, Goto, Return, Lines, Arms, no_arms, arm, Global, Variable, Function, Tree}
+use Rattle.dcc_c.specs.Tree.{Word, Expr, Number, Name, Unary, Binary, Conditional, Cast, Stmt, Assign, Call, If, While}
+use Rattle.dcc_c.specs.Tree.{DoWhile, Switch, Goto, Return, Lines, Arms, no_arms, arm, Global, Variable, Function, Tree}
 use Rattle.dcc_c.specs.Parts.{stmts_in, exprs_of, labels_in}
 use Rattle.dcc_c.specs.Typing.{Declared, type_of, place_type}
 use Rattle.dcc_c.specs.Placement.{elements, after_global, is_auto, is_register}

@@ -1,5 +1,6 @@
 -- The run of a text: its state, one step, and the run from the start (ISO/IEC 9899:1990, 6.6).
-use Rattle.std.specs.Prelude.{ℕ, ◌+◌, ◌%◌, Bool, true, false, ◌&&◌, ◌||◌, nat_le, nat_lt, ◌==◌, if◌then◌else◌, List, [], ◌∷◌, ◌++◌, map, codes, Option, Some, None, is_some}
+use Rattle.std.specs.Prelude.{ℕ, ◌+◌, ◌%◌, Bool, true, false, ◌&&◌, ◌||◌, nat_le, nat_lt, ◌==◌, if◌then◌else◌, List, []}
+use Rattle.std.specs.Prelude.{◌∷◌, ◌++◌, map, codes, Option, Some, None, is_some}
 use Rattle.std.specs.List.{range_with_len, list_any}
 use Rattle.dcc_run.specs.End.{End, Running, Exit, Divide, Stuck, is_over}
 use Rattle.dcc_run.specs.Event.{Event, Took, MetEnd, writes}
@@ -9,8 +10,12 @@ use Rattle.dcc_c.specs.declared.syntax.CType.{CType}
 use Rattle.dcc_c.specs.Token.{same_bytes}
 use Rattle.dcc_c.specs.Types.{plain, size_of}
 use Rattle.dcc_c.specs.Memory.{store}
-use Rattle.dcc_c.specs.Tree.{Word, Expr, Stmt, Assign, Call, If, While, DoWhile, Forever, Switch, Break, Continue, Goto, Label, Empty, Return, Lines, no_lines, line, Arms, no_arms, arm, Global, Variable, Function, Tree}
-use Rattle.dcc_c.specs.Value.{Value, number, is_zero, converted, Outcome, Gives, Divides, Undefined, and_then, given, Storage, Unplaced, PlacedAt, Binding, after_assignment, Scope, value_of, Target, ToVariable, ToMemory, target_of}
+use Rattle.dcc_c.specs.Tree.{Word, Expr, Stmt, Assign, Call, If, While, DoWhile, Forever, Switch, Break, Continue, Goto}
+use Rattle.dcc_c.specs.Tree.{Label, Empty, Return, Lines, no_lines, line, Arms, no_arms, arm, Global, Variable}
+use Rattle.dcc_c.specs.Tree.{Function, Tree}
+use Rattle.dcc_c.specs.Value.{Value, number, is_zero, converted, Outcome, Gives, Divides, Undefined, and_then, given}
+use Rattle.dcc_c.specs.Value.{Storage, Unplaced, PlacedAt, Binding, after_assignment, Scope, value_of, Target}
+use Rattle.dcc_c.specs.Value.{ToVariable, ToMemory, target_of}
 use Rattle.dcc_c.specs.Placement.{first_base, below, params_of_call, locals_of_call}
 use Rattle.dcc_c.specs.Dos.{Dos, Putc, Getche, Getch, Puts, Leave, dos_of, dos_signature, string_at}
 

@@ -1,15 +1,19 @@
 -- Variables and the values of expressions (ISO/IEC 9899:1990, 6.3), on two's complement bit patterns.
-use Rattle.std.specs.Prelude.{ℕ, ◌+◌, ◌-◌, ◌*◌, ◌%◌, ◌^◌, ◌==◌, Bool, true, false, not, if◌then◌else◌, bit_and, bit_or, bit_xor, List, [], ◌∷◌, map, Option, Some, None}
+use Rattle.std.specs.Prelude.{ℕ, ◌+◌, ◌-◌, ◌*◌, ◌%◌, ◌^◌, ◌==◌, Bool, true, false, not, if◌then◌else◌, bit_and, bit_or}
+use Rattle.std.specs.Prelude.{bit_xor, List, [], ◌∷◌, map, Option, Some, None}
 use Rattle.dcc_c.specs.declared.syntax.Base.{Base}
 use Rattle.dcc_c.specs.declared.syntax.Base.TheVariants.{Int, Uint}
 use Rattle.dcc_c.specs.declared.syntax.CType.{CType}
 use Rattle.dcc_c.specs.declared.syntax.CUn.{CUn}
 use Rattle.dcc_c.specs.declared.syntax.CUn.TheVariants.{Minus, Complement, Not, Deref, AddressOf}
 use Rattle.dcc_c.specs.declared.syntax.CBin.{CBin}
-use Rattle.dcc_c.specs.declared.syntax.CBin.TheVariants.{OrOr, AndAnd, Or, Xor, And, Eq, Ne, Lt, Le, Gt, Ge, Shl, Shr, Add, Sub, Mul, Div, Rem}
+use Rattle.dcc_c.specs.declared.syntax.CBin.TheVariants.{OrOr, AndAnd, Or, Xor, And, Eq, Ne, Lt, Le, Gt, Ge, Shl, Shr}
+use Rattle.dcc_c.specs.declared.syntax.CBin.TheVariants.{Add, Sub, Mul, Div, Rem}
 use Rattle.dcc_c.specs.Token.{same_bytes}
-use Rattle.dcc_c.specs.Types.{promoted_type, wrapped_bits, extended_bits, convert, common_type, plain, pointer_to, same_type, number_of_type, size_of}
-use Rattle.dcc_c.specs.Arithmetic.{negated, complement, difference, division_faults, quotient, remainder, is_less, shifted_left, shifted_right}
+use Rattle.dcc_c.specs.Types.{promoted_type, wrapped_bits, extended_bits, convert, common_type, plain, pointer_to}
+use Rattle.dcc_c.specs.Types.{same_type, number_of_type, size_of}
+use Rattle.dcc_c.specs.Arithmetic.{negated, complement, difference, division_faults, quotient, remainder, is_less}
+use Rattle.dcc_c.specs.Arithmetic.{shifted_left, shifted_right}
 use Rattle.dcc_c.specs.Memory.{load}
 use Rattle.dcc_c.specs.Tree.{Word, Expr, Number, Name, Unary, Binary, Conditional, Cast}
 use Rattle.dcc_c.specs.Typing.{Declared, both_arms_type, type_of}

@@ -2,14 +2,20 @@
 use Rattle.std.specs.Prelude.{List, [], ◌∷◌, Option, Some, None, map, string_bytes}
 use Rattle.std.specs.Option.{option_map}
 use Rattle.dcc_c.specs.declared.syntax.CExpr.{CExpr, Num, Name as NameOf, Un', Bin', Cond', Cast'}
-use Rattle.dcc_c.specs.declared.syntax.CStmt.{CStmt, Assign as AssignOf, Call as CallOf, If', While', DoWhile', Forever', Switch', Break as BreakOf, Continue as ContinueOf, Goto as GotoOf, Label as LabelOf, Empty as EmptyOf, Return as ReturnOf, Row_of-Line, end_of-Line, more_of-Line, Row_of-Arm, end_of-Arm, more_of-Arm, Held-CStmt-Switch-2, None', Some'}
+use Rattle.dcc_c.specs.declared.syntax.CStmt.{CStmt, Assign as AssignOf, Call as CallOf, If', While', DoWhile'}
+use Rattle.dcc_c.specs.declared.syntax.CStmt.{Forever', Switch', Break as BreakOf, Continue as ContinueOf}
+use Rattle.dcc_c.specs.declared.syntax.CStmt.{Goto as GotoOf, Label as LabelOf, Empty as EmptyOf, Return as ReturnOf}
+use Rattle.dcc_c.specs.declared.syntax.CStmt.{Row_of-Line, end_of-Line, more_of-Line, Row_of-Arm, end_of-Arm}
+use Rattle.dcc_c.specs.declared.syntax.CStmt.{more_of-Arm, Held-CStmt-Switch-2, None', Some'}
 use Rattle.dcc_c.specs.declared.syntax.Line.{Line}
 use Rattle.dcc_c.specs.declared.syntax.Arm.{Arm, Arm'}
 use Rattle.dcc_c.specs.declared.syntax.Global_.{Global_}
 use Rattle.dcc_c.specs.declared.syntax.Var.{Var}
 use Rattle.dcc_c.specs.declared.syntax.Func.{Func}
 use Rattle.dcc_c.specs.declared.syntax.Unit.{Unit as TextUnit}
-use Rattle.dcc_c.specs.Tree.{Expr, Number, Name, Unary, Binary, Conditional, Cast, Stmt, Assign, Call, If, While, DoWhile, Forever, Switch, Break, Continue, Goto, Label, Empty, Return, Lines, no_lines, line, Arms, no_arms, arm, Global, Variable, Function, Tree}
+use Rattle.dcc_c.specs.Tree.{Expr, Number, Name, Unary, Binary, Conditional, Cast, Stmt, Assign, Call, If, While}
+use Rattle.dcc_c.specs.Tree.{DoWhile, Forever, Switch, Break, Continue, Goto, Label, Empty, Return, Lines, no_lines}
+use Rattle.dcc_c.specs.Tree.{line, Arms, no_arms, arm, Global, Variable, Function, Tree}
 
 -- the tree of an expression
 abbrev pub expr_of : CExpr → Expr

@@ -1,5 +1,6 @@
 -- The written form: the one spelling in which a tree is written.
-use Rattle.std.specs.Prelude.{ℕ, ◌+◌, ◌*◌, min, Bool, true, false, ◌==◌, if◌then◌else◌, List, [], ◌∷◌, ◌++◌, replicate, codes, Option, Some, None}
+use Rattle.std.specs.Prelude.{ℕ, ◌+◌, ◌*◌, min, Bool, true, false, ◌==◌, if◌then◌else◌, List, [], ◌∷◌, ◌++◌, replicate}
+use Rattle.std.specs.Prelude.{codes, Option, Some, None}
 use Rattle.std.specs.List.{flat_map}
 use Rattle.std.specs.Fmt.{decimal}
 use Rattle.dcc_c.specs.declared.syntax.Base.{Base}
@@ -9,12 +10,15 @@ use Rattle.dcc_c.specs.declared.syntax.CUn.{CUn}
 use Rattle.dcc_c.specs.declared.syntax.CUn.TheVariants.{Minus}
 use Rattle.dcc_c.specs.declared.syntax.Class.{Class}
 use Rattle.dcc_c.specs.declared.syntax.Class.TheVariants.{Plain, Auto, Register}
-use Rattle.dcc_c.specs.Token.{Suffix, plain_number, unsigned_suffix, long_suffix, unsigned_long_suffix, suffix_bytes, decimal_type}
+use Rattle.dcc_c.specs.Token.{Suffix, plain_number, unsigned_suffix, long_suffix, unsigned_long_suffix, suffix_bytes}
+use Rattle.dcc_c.specs.Token.{decimal_type}
 use Rattle.dcc_c.specs.Types.{same_base}
 use Rattle.dcc_c.specs.Grammar.{unary_mark, binary_mark}
 use Rattle.dcc_c.specs.Placement.{after_global}
 use Rattle.dcc_c.specs.Parts.{stmts_in, inner_stmts}
-use Rattle.dcc_c.specs.Tree.{Word, Expr, Number, Name, Unary, Binary, Conditional, Cast, Stmt, Assign, Call, If, While, DoWhile, Forever, Switch, Break, Continue, Goto, Label, Empty, Return, Lines, no_lines, line, Arms, no_arms, arm, Global, Variable, Function, Tree}
+use Rattle.dcc_c.specs.Tree.{Word, Expr, Number, Name, Unary, Binary, Conditional, Cast, Stmt, Assign, Call, If, While}
+use Rattle.dcc_c.specs.Tree.{DoWhile, Forever, Switch, Break, Continue, Goto, Label, Empty, Return, Lines, no_lines}
+use Rattle.dcc_c.specs.Tree.{line, Arms, no_arms, arm, Global, Variable, Function, Tree}
 
 -- the number has the type with this suffix
 abbrev pub suffix_gives : ℕ → Base → Suffix → Bool

@@ -2,7 +2,8 @@
 //! values.
 
 ghost use Rattle.std.specs.Prelude.{◌≡◌, ◌-◌, ◌^◌, ◌<◌, ◌≤◌};
-ghost use Rattle.dcc_c.specs.Types.{bits_of, is_signed, promoted_type, common_type, wrapped_bits, is_negative, extended_bits, convert, plain, pointer_to, number_of_type, size_of};
+ghost use Rattle.dcc_c.specs.Types.{bits_of, is_signed, promoted_type, common_type, wrapped_bits, is_negative};
+ghost use Rattle.dcc_c.specs.Types.{extended_bits, convert, plain, pointer_to, number_of_type, size_of};
 
 use crate::syntax::{Base, CType};
 

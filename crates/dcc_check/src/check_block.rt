@@ -2,7 +2,8 @@
 
 ghost use Rattle.std.specs.Prelude.{◌≡◌, ℕ, ◌-◌, [], false, OnOk};
 ghost use Rattle.dcc_c.specs.Offences as offences;
-ghost use Rattle.dcc_c.specs.Offences.{case_offences, case_numbers, default_offences, lines_offences, inner_offences, arms_inner};
+ghost use Rattle.dcc_c.specs.Offences.{case_offences, case_numbers, default_offences, lines_offences, inner_offences};
+ghost use Rattle.dcc_c.specs.Offences.{arms_inner};
 ghost use Rattle.dcc_reader.specs.PartialViews.{stmt_of, lines_of, arms_of};
 ghost use Rattle.dcc_reader.specs.Told.{Tells};
 ghost use Rattle.dcc_check.specs.Scenes.{IsScene};

@@ -2,7 +2,8 @@
 
 ghost use Rattle.std.specs.Prelude.{◌≡◌, ◌+◌, ◌<◌, ◌||◌, nat_lt, Option, Some, map, option_map};
 ghost use Rattle.dcc_c.specs.Offences as offences;
-ghost use Rattle.dcc_c.specs.Offences.{arguments_inner, arguments_become, count_read, count_offends, result_offences, signature_offences, callee_offences, place_if, call_offences};
+ghost use Rattle.dcc_c.specs.Offences.{arguments_inner, arguments_become, count_read, count_offends, result_offences};
+ghost use Rattle.dcc_c.specs.Offences.{signature_offences, callee_offences, place_if, call_offences};
 ghost use Rattle.dcc_c.specs.Partial as partial;
 ghost use Rattle.dcc_reader.specs.PartialViews.{expr_of, word_of, call_of};
 ghost use Rattle.dcc_reader.specs.Told.{Tells};

@@ -2,7 +2,8 @@
 
 ghost use Rattle.std.specs.Prelude.{◌≡◌, option_map};
 ghost use Rattle.dcc_c.specs.Offences as offences;
-ghost use Rattle.dcc_c.specs.Offences.{assigned_offences, test_offences, switch_offences, return_offences, goto_offences, own_offences};
+ghost use Rattle.dcc_c.specs.Offences.{assigned_offences, test_offences, switch_offences, return_offences};
+ghost use Rattle.dcc_c.specs.Offences.{goto_offences, own_offences};
 ghost use Rattle.dcc_reader.specs.PartialViews.{expr_of, word_of, stmt_of};
 ghost use Rattle.dcc_reader.specs.Told.{Tells};
 ghost use Rattle.dcc_check.specs.Scenes.{IsScene};

@@ -3,7 +3,8 @@
 ghost use Rattle.std.specs.Prelude.{◌≡◌, is_some};
 ghost use Rattle.dcc_c.specs.Kinds.{of_type, offence, only_if};
 ghost use Rattle.dcc_c.specs.Offences as offences;
-ghost use Rattle.dcc_c.specs.Offences.{wants_number, unary_offences, binary_offences, arms_offences, conversion, becomes, switch_offences, told_type};
+ghost use Rattle.dcc_c.specs.Offences.{wants_number, unary_offences, binary_offences, arms_offences, conversion};
+ghost use Rattle.dcc_c.specs.Offences.{becomes, switch_offences, told_type};
 ghost use Rattle.dcc_c.specs.Partial as partial;
 ghost use Rattle.dcc_reader.specs.Told.{Tells};
 ghost use Rattle.dcc_check.specs.Operands.{operand, selector_offences};

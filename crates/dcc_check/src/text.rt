@@ -1,6 +1,7 @@
 //! The first offence of a whole text.
 
-ghost use Rattle.std.specs.Prelude.{◌≡◌, ◌++◌, Bool, true, List, [], map, option_map, Option, IfOk, OnOk, if◌then◌else◌};
+ghost use Rattle.std.specs.Prelude.{◌≡◌, ◌++◌, Bool, true, List, [], map, option_map, Option, IfOk, OnOk};
+ghost use Rattle.std.specs.Prelude.{if◌then◌else◌};
 ghost use Rattle.dcc_c.specs.Grammar as grammar;
 ghost use Rattle.dcc_c.specs.Dos.{dos_names};
 ghost use Rattle.dcc_c.specs.Kinds.{first_of};

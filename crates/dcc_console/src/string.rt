@@ -1,4 +1,5 @@
-//! Strings in memory, which a `$` ends: they are found and written in the longest stretches that memory has in one piece.
+//! Strings in memory, which a `$` ends: they are found and written in the longest stretches that memory has in one
+//! piece.
 
 ghost use Rattle.std.specs.Prelude.{◌≡◌, ◌+◌, ◌<◌, ◌≤◌, ℕ, length, slice_index, OnOk, OnErr};
 ghost use Rattle.dcc_io.specs.Count.{Rose};

@@ -1,9 +1,11 @@
 -- Valid plans: those whose text is always where the graph is.
-use Rattle.std.specs.Prelude.{◌≡◌, ℕ, suc, ◌<◌, ◌==◌, Bool, true, false, not, ◌||◌, if◌then◌else◌, List, [], length, slice_get, Some}
+use Rattle.std.specs.Prelude.{◌≡◌, ℕ, suc, ◌<◌, ◌==◌, Bool, true, false, not, ◌||◌, if◌then◌else◌, List, [], length}
+use Rattle.std.specs.Prelude.{slice_get, Some}
 use Rattle.dcc_ir.specs.Tree as inner
 use Rattle.dcc_ir.specs.Live.{block_in}
 use Rattle.dcc_ir.specs.WellFormed.{all_differ}
-use Rattle.dcc_control.specs.Plan.{Item, Do, Mark, Jump, If, Switch, Return, For, Break, Continue, Plan, no_items, item, Arms, no_arms, arm, marks, is_marked, is_begun, arm_with}
+use Rattle.dcc_control.specs.Plan.{Item, Do, Mark, Jump, If, Switch, Return, For, Break, Continue, Plan, no_items, item}
+use Rattle.dcc_control.specs.Plan.{Arms, no_arms, arm, marks, is_marked, is_begun, arm_with}
 
 -- a point in a graph: where a block begins, or before its statement at a place; after the last one stands its end
 pub data Point : Type 0 where

@@ -1,8 +1,12 @@
 -- The plans that the declared types stand for.
 use Rattle.std.specs.Prelude.{List, [], ◌∷◌}
-use Rattle.dcc_control.specs.declared.item.Item.{Item as TheItem, Do as DoOf, Mark as MarkOf, Jump as JumpOf, If', Switch', Return as ReturnOf, For', Break as BreakOf, Continue as ContinueOf, Row_of-Item, end_of-Item, more_of-Item, Row_of-Arm, end_of-Arm, more_of-Arm}
+use Rattle.dcc_control.specs.declared.item.Item.{Item as TheItem, Do as DoOf, Mark as MarkOf, Jump as JumpOf, If'}
+use Rattle.dcc_control.specs.declared.item.Item.{Switch', Return as ReturnOf, For', Break as BreakOf}
+use Rattle.dcc_control.specs.declared.item.Item.{Continue as ContinueOf, Row_of-Item, end_of-Item, more_of-Item}
+use Rattle.dcc_control.specs.declared.item.Item.{Row_of-Arm, end_of-Arm, more_of-Arm}
 use Rattle.dcc_control.specs.declared.item.Arm.{Arm as TheArm}
-use Rattle.dcc_control.specs.Plan.{Item, Do, Mark, Jump, If, Switch, Return, For, Break, Continue, Plan, no_items, item, Arms, no_arms, arm}
+use Rattle.dcc_control.specs.Plan.{Item, Do, Mark, Jump, If, Switch, Return, For, Break, Continue, Plan, no_items, item}
+use Rattle.dcc_control.specs.Plan.{Arms, no_arms, arm}
 
 abbrev mutual
   -- the plan's item

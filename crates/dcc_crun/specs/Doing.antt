@@ -1,5 +1,6 @@
 -- What statements do to the state of a run while they are executed.
-use Rattle.std.specs.Prelude.{◌≡◌, ℕ, Bool, List, [], ◌∷◌, ◌++◌, map, Option, Some, Result, Ok, Err, IsErrOf, Vec, option_map, is_some, false, slice_get}
+use Rattle.std.specs.Prelude.{◌≡◌, ℕ, Bool, List, [], ◌∷◌, ◌++◌, map, Option, Some, Result, Ok, Err, IsErrOf, Vec}
+use Rattle.std.specs.Prelude.{option_map, is_some, false, slice_get}
 use Rattle.std.specs.Global.{Global}
 use Rattle.dcc_run.specs.End.{End, Running as running, Divide as divided, Stuck as stuck}
 use Rattle.dcc_run.specs.Event.{Event, written_by, taken_by}
@@ -9,7 +10,8 @@ use Rattle.dcc_c.specs.Tree.{Word, Expr, Call as CallOf, Function, Tree}
 use Rattle.dcc_c.specs.Rules.{declared_global}
 use Rattle.dcc_c.specs.Value.{Value, converted, Outcome, Gives, Divides, Undefined, and_then}
 use Rattle.dcc_c.specs.Dos.{dos_signature}
-use Rattle.dcc_c.specs.Run.{Continuation, State, global_binding, on, step_at, scope_of, key_step, dos_step, arguments_of, enter_step, param_types, stmt_step}
+use Rattle.dcc_c.specs.Run.{Continuation, State, global_binding, on, step_at, scope_of, key_step, dos_step}
+use Rattle.dcc_c.specs.Run.{arguments_of, enter_step, param_types, stmt_step}
 use Rattle.dcc_value.specs.declared.value.Value.{Value as Held}
 use Rattle.dcc_value.specs.declared.value.NoValue.{NoValue}
 use Rattle.dcc_value.specs.declared.value.NoValue.TheVariants.{Divides as Faults, Undefined as Meaningless}
@@ -18,7 +20,8 @@ use Rattle.dcc_value.specs.declared.expression.Resolved.{Resolved}
 use Rattle.dcc_crun.specs.declared.ending.Refusal.{Refusal}
 use Rattle.dcc_crun.specs.declared.ending.Refusal.TheVariants.{Input, Output, Memory}
 use Rattle.dcc_crun.specs.declared.ending.Stop.{Stop}
-use Rattle.dcc_crun.specs.declared.ending.Stop.TheVariants.{Divides as HaltsDividing, Undefined as HaltsUndefined, Refused}
+use Rattle.dcc_crun.specs.declared.ending.Stop.TheVariants.{Divides as HaltsDividing, Undefined as HaltsUndefined}
+use Rattle.dcc_crun.specs.declared.ending.Stop.TheVariants.{Refused}
 use Rattle.dcc_value.specs.declared.expression.Target.{Target as Place}
 use Rattle.dcc_prepare.specs.declared.program.Dos.{Dos as DosCall}
 use Rattle.dcc_prepare.specs.declared.program.CallRow.{CallRow}

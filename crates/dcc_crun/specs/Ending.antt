@@ -7,7 +7,9 @@ use Rattle.dcc_io.specs.declared.outside.Failed.{Failed}
 use Rattle.dcc_console.specs.declared.fault.Fault.{Fault}
 use Rattle.dcc_console.specs.declared.fault.Fault.TheVariants.{Input as ReadFault, Output as WriteFault}
 use Rattle.dcc_crun.specs.declared.ending.CStepped.{CStepped}
-use Rattle.dcc_crun.specs.declared.ending.CStepped.TheVariants.{Running as still_running, Exit as exit_answered, Divide as divide_answered, Stuck as stuck_answered, InFault, OutFault, Memory as memory_answered}
+use Rattle.dcc_crun.specs.declared.ending.CStepped.TheVariants.{Running as still_running, Exit as exit_answered}
+use Rattle.dcc_crun.specs.declared.ending.CStepped.TheVariants.{Divide as divide_answered, Stuck as stuck_answered}
+use Rattle.dcc_crun.specs.declared.ending.CStepped.TheVariants.{InFault, OutFault, Memory as memory_answered}
 use Rattle.dcc_crun.specs.declared.ending.Ending.{Ending}
 use Rattle.dcc_crun.specs.declared.ending.Ending.TheVariants.{Running, Exit, Divide, Stuck}
 use Rattle.dcc_crun.specs.declared.ending.Refusal.{Refusal}

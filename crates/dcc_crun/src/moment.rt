@@ -1,6 +1,7 @@
 //! The state of a run, and what statements do to it.
 
-ghost use Rattle.std.specs.Prelude.{◌≡◌, ◌≤◌, ◌==◌, ℕ, List, [], ◌∷◌, length, map, option_map, Option, Some, None, if◌then◌else◌, IfOk, OnOk, OnErr, IfErr, IsErrOf, slice_get};
+ghost use Rattle.std.specs.Prelude.{◌≡◌, ◌≤◌, ◌==◌, ℕ, List, [], ◌∷◌, length, map, option_map, Option, Some, None};
+ghost use Rattle.std.specs.Prelude.{if◌then◌else◌, IfOk, OnOk, OnErr, IfErr, IsErrOf, slice_get};
 ghost use Rattle.std.specs.List.{list_any};
 ghost use Rattle.dcc_c.specs.declared.syntax.Base.TheVariants.{Uchar, Uint};
 ghost use Rattle.dcc_c.specs.Types.{plain};
@@ -8,15 +9,21 @@ ghost use Rattle.dcc_c.specs.Tree.{Word, Expr, Assign, Return, Function, Tree};
 ghost use Rattle.dcc_c.specs.Value.{number, is_zero, converted, given, and_then, Gives, Target as Place};
 ghost use Rattle.dcc_c.specs.Placement.{below};
 ghost use Rattle.dcc_c.specs.Dos.{dos_signature};
-ghost use Rattle.dcc_c.specs.Run.{Continuation, State, takes, result_step, back_step, close_step, enter_step, arguments_of, result_target, stmt_step};
+ghost use Rattle.dcc_c.specs.Run.{Continuation, State, takes, result_step, back_step, close_step, enter_step};
+ghost use Rattle.dcc_c.specs.Run.{arguments_of, result_target, stmt_step};
 ghost use Rattle.dcc_value.specs.Evaluation.{typed, itself, outcome_of};
-ghost use Rattle.dcc_value.specs.Resolved.{Names, Fits, Stands, IsTargetIn, scene_of, scope_over, evaluated, target_named};
-ghost use Rattle.dcc_prepare.specs.Points.{Goes, StandsIf, StandAll, case_point, label_point, locals_declared, dos_call};
+ghost use Rattle.dcc_value.specs.Resolved.{Names, Fits, Stands, IsTargetIn, scene_of, scope_over, evaluated};
+ghost use Rattle.dcc_value.specs.Resolved.{target_named};
+ghost use Rattle.dcc_prepare.specs.Points.{Goes, StandsIf, StandAll, case_point, label_point, locals_declared};
+ghost use Rattle.dcc_prepare.specs.Points.{dos_call};
 ghost use Rattle.dcc_prepare.specs.declared.program.Dos.{Dos as DosCall};
 ghost use Rattle.dcc_prepare.specs.Programs.{IsProgram, IsProcedure};
 ghost use Rattle.dcc_console.specs.Counts.{CountsFaults};
 ghost use Rattle.dcc_crun.specs.Standing.{IsTargetIf, IsRunning};
-ghost use Rattle.dcc_crun.specs.Doing.{scene_in, names_at, AreGlobals, single, ArgumentsAre, resolved_arguments, IsSame, StaysAt, StepsAside, Keeps, Led, IsLed, Kept, Stood, ComesTo, StaysIfRefused, CallsForKey, CallsDos, CallsFunction, CallsAny, IsNoCall, Stays, Performs, Steps, Does, Refuses, Counts, IsSole};
+ghost use Rattle.dcc_crun.specs.Doing.{scene_in, names_at, AreGlobals, single, ArgumentsAre, resolved_arguments};
+ghost use Rattle.dcc_crun.specs.Doing.{IsSame, StaysAt, StepsAside, Keeps, Led, IsLed, Kept, Stood, ComesTo};
+ghost use Rattle.dcc_crun.specs.Doing.{StaysIfRefused, CallsForKey, CallsDos, CallsFunction, CallsAny, IsNoCall, Stays};
+ghost use Rattle.dcc_crun.specs.Doing.{Performs, Steps, Does, Refuses, Counts, IsSole};
 ghost use Rattle.dcc_crun.specs.Ending.{write_stop};
 
 use crate::call::{Call, Waiting};

@@ -1,7 +1,8 @@
 //! The types of operators.
 
 ghost use Rattle.std.specs.Prelude.{◌≡◌, option_and_then};
-ghost use Rattle.dcc_c.specs.Typing.{unary_type, is_comparison, is_sum, numbers_type, binary_type, both_types, arms_type, both_arms_type};
+ghost use Rattle.dcc_c.specs.Typing.{unary_type, is_comparison, is_sum, numbers_type, binary_type, both_types};
+ghost use Rattle.dcc_c.specs.Typing.{arms_type, both_arms_type};
 ghost use Rattle.dcc_c.specs.Rules.{converts, is_word_base};
 ghost use Rattle.dcc_c.specs.Offences.{is_pointer, is_switch_type};
 

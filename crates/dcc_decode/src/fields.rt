@@ -2,9 +2,11 @@
 
 ghost use Rattle.std.specs.Prelude.{◌≡◌, ℕ, ◌+◌, ◌<◌, ◌≤◌, ◌%◌, ◌/◌, ◌&&◌, ◌==◌, length, IfSome, None};
 ghost use Rattle.dcc_prog.specs.Bytes.{byte_at, word_at};
-ghost use Rattle.dcc_prog.specs.Operands.{mod_field, reg_field, rm_field, register, rm_operand, address, width_of, displacement_size};
+ghost use Rattle.dcc_prog.specs.Operands.{mod_field, reg_field, rm_field, register, rm_operand, address, width_of};
+ghost use Rattle.dcc_prog.specs.Operands.{displacement_size};
 ghost use Rattle.dcc_prog.specs.Table.{word_constant, constant_size, destination, source, reg, direct, target};
-ghost use Rattle.dcc_decode.specs.Reading.{form_of, parts_of, TellsModrm, TellsConstant, modrm_read, constant_read, ReadsHead, ReadsRows, FitsAsRead, HasByteCount};
+ghost use Rattle.dcc_decode.specs.Reading.{form_of, parts_of, TellsModrm, TellsConstant, modrm_read, constant_read};
+ghost use Rattle.dcc_decode.specs.Reading.{ReadsHead, ReadsRows, FitsAsRead, HasByteCount};
 
 use crate::operand;
 use byteorder::{ByteOrder, LittleEndian};

@@ -2,7 +2,9 @@
 //! tables 4-8 to 4-10).
 
 ghost use Rattle.std.specs.Prelude.{◌≡◌, ◌<◌, length, get_or, None};
-ghost use Rattle.dcc_prog.specs.Operands.{word_register, byte_register, register, mod_field, reg_field, rm_field, has_direct_address, displacement_size, base_registers, index_registers, address, rm_operand};
+ghost use Rattle.dcc_prog.specs.Operands.{word_register, byte_register, register, mod_field, reg_field, rm_field};
+ghost use Rattle.dcc_prog.specs.Operands.{has_direct_address, displacement_size, base_registers, index_registers};
+ghost use Rattle.dcc_prog.specs.Operands.{address, rm_operand};
 
 use dcc_num::{Half, Reg, Width};
 use dcc_prog::{Ea, Operand};

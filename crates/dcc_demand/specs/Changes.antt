@@ -2,7 +2,8 @@
 -- it writes where its last writer pops the location from a private word, and the last writer of that word has pushed
 -- this location before the trail's first writer of it. A call writes what its procedure changes, and saves nothing.
 use Rattle.std.specs.Prelude.{◌≡◌, ℕ, zero, suc, true, false, List, [], ◌∷◌}
-use Rattle.dcc_demand.specs.Procedures.{Leaves, Copies, Pops, Makes, LeavesWord, Pushes, Overwrites, Procedure, Procedures, is_left, ChangeFamily, CallChanges}
+use Rattle.dcc_demand.specs.Procedures.{Leaves, Copies, Pops, Makes, LeavesWord, Pushes, Overwrites, Procedure}
+use Rattle.dcc_demand.specs.Procedures.{Procedures, is_left, ChangeFamily, CallChanges}
 use Rattle.dcc_demand.specs.Trail.{IsTrail}
 
 -- What the passed points of a trail do to a location, where calls change what is in the family.

@@ -1,7 +1,8 @@
 -- What is changed, from point to point: what some trail to a point has written, hasn't saved in a word, and has lost.
 -- Each rule asks one thing of the trail before, so it doesn't matter that trails meet.
 use Rattle.std.specs.Prelude.{◌≡◌, ℕ, true, false, List, Contains, Some}
-use Rattle.dcc_demand.specs.Procedures.{Leaves, Copies, Pops, Makes, LeavesWord, Pushes, Overwrites, Procedure, Procedures, is_left}
+use Rattle.dcc_demand.specs.Procedures.{Leaves, Copies, Pops, Makes, LeavesWord, Pushes, Overwrites, Procedure}
+use Rattle.dcc_demand.specs.Procedures.{Procedures, is_left}
 use Rattle.dcc_demand.specs.Trail.{IsTrail}
 
 module _ {Point Location Word : Type 0} (procedure : Procedure Point Location Word) where

@@ -1,6 +1,7 @@
 -- Tables of truth values that are closed from point to point: they have all that is changed and all that is wanted.
 use Rattle.std.specs.Prelude.{◌≡◌, ℕ, Bool, true, ◌||◌, not, ◌↔◌, if◌then◌else◌, Some}
-use Rattle.dcc_demand.specs.Procedures.{Effect, Leaves, Copies, Pops, Makes, WordEffect, LeavesWord, Pushes, Overwrites, Procedures, ChangeFamily}
+use Rattle.dcc_demand.specs.Procedures.{Effect, Leaves, Copies, Pops, Makes, WordEffect, LeavesWord, Pushes, Overwrites}
+use Rattle.dcc_demand.specs.Procedures.{Procedures, ChangeFamily}
 use Rattle.dcc_demand.specs.Changes.{Changes}
 use Rattle.dcc_demand.specs.Wanted.{WantedFamily}
 use Rattle.dcc_demand.specs.Spread.{IsReached, IsEdge}

@@ -1,13 +1,15 @@
 -- How flags are folded: for each flag an expression that has its value is carried along. No public contract rests on
 -- it.
-use Rattle.std.specs.Prelude.{ℕ, ◌+◌, ◌==◌, min, Bool, true, false, ◌||◌, not, if◌then◌else◌, List, [], ◌∷◌, ◌++◌, map, option_map, length, replicate, get_or, slice_set}
+use Rattle.std.specs.Prelude.{ℕ, ◌+◌, ◌==◌, min, Bool, true, false, ◌||◌, not, if◌then◌else◌, List, [], ◌∷◌, ◌++◌, map}
+use Rattle.std.specs.Prelude.{option_map, length, replicate, get_or, slice_set}
 use Rattle.dcc_num.specs.declared.FlagName.{FlagName}
 use Rattle.dcc_num.specs.declared.FlagName.TheVariants.{Cf, Zf, Sf, Of}
 use Rattle.dcc_ir.specs.declared.syntax.Loc.{Loc}
 use Rattle.dcc_ir.specs.declared.syntax.Loc.TheVariants.{Flag, Temp}
 use Rattle.dcc_ir.specs.declared.syntax.UnOp.{UnOp}
 use Rattle.dcc_ir.specs.declared.syntax.UnOp.TheVariants.{Not}
-use Rattle.dcc_ir.specs.Tree.{Expr, Const, Get, Load, Unary, Binary, Widen, Part, Join, Choose, Address, Stmt, Set, Fetch, Store, Div, Call, Dos, Exit, Goto, If, Switch, Ret, Stop, Block, Graph}
+use Rattle.dcc_ir.specs.Tree.{Expr, Const, Get, Load, Unary, Binary, Widen, Part, Join, Choose, Address, Stmt, Set}
+use Rattle.dcc_ir.specs.Tree.{Fetch, Store, Div, Call, Dos, Exit, Goto, If, Switch, Ret, Stop, Block, Graph}
 use Rattle.dcc_ir.specs.Location.{location_width}
 use Rattle.dcc_ir.specs.Value.{is_test, is_comparison}
 use Rattle.dcc_ir.specs.Flow.{targets}
@@ -237,7 +239,12 @@ pub record Folding : Type 0 where
   pub blocks : List Block
 
 abbrev pub folding_of : FoldingOf → Folding
-folding_of s = record { bits = s.bits.items; given = map choices_of s.given.items; blocks = map block_of s.blocks.items }
+folding_of s = record {
+  bits = s.bits.items;
+  given = map choices_of s.given.items;
+  blocks =
+      map block_of s.blocks.items;
+}
 
 -- nothing is folded: each block begins with these choices, and stands as if no run came there; one more temporary is
 -- never set

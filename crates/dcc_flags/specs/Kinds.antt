@@ -4,7 +4,8 @@ use Rattle.std.specs.List.{AllZip, list_all}
 use Rattle.dcc_num.specs.declared.FlagName.{FlagName}
 use Rattle.dcc_ir.specs.declared.syntax.BinOp.TheVariants.{Add}
 use Rattle.dcc_ir.specs.declared.syntax.Loc.TheVariants.{Flag, Temp}
-use Rattle.dcc_ir.specs.Tree.{Expr, Const, Get, Load, Unary, Binary, Widen, Part, Join, Choose, Address, Stmt, Set, Fetch, Store, Div, Call, Dos, Exit, Goto, If, Switch, Ret, Stop, Block, Graph}
+use Rattle.dcc_ir.specs.Tree.{Expr, Const, Get, Load, Unary, Binary, Widen, Part, Join, Choose, Address, Stmt, Set}
+use Rattle.dcc_ir.specs.Tree.{Fetch, Store, Div, Call, Dos, Exit, Goto, If, Switch, Ret, Stop, Block, Graph}
 use Rattle.dcc_ir.specs.Use.{parts_of, exprs_of, exit_exprs, graph_exprs}
 
 -- what stands in place of each operand
@@ -75,7 +76,8 @@ EndsAlike before after = exit_kind after.exit ≡ exit_kind before.exit
 -- temporaries: what the first one's pass, and these, the second one's pass too; and so where statements that set
 -- temporaries to addresses in the frame, or to the sums of these with numbers, need not pass. Blocks end as they did.
 pub record KindsStay (before after : Graph) : Type 0 where
-  pub parts : (test : Expr → Bool) → ((f : FlagName) → test (Get (Flag f)) ≡ true) → ((n : ℕ) → test (Get (Temp n)) ≡ true)
+  pub parts : (test : Expr → Bool) → ((f : FlagName) → test (Get (Flag f)) ≡ true) → ((n : ℕ) → test (Get (Temp n))
+      ≡ true)
       → all_parts test before ≡ true → all_parts test after ≡ true
   pub others : (test : Expr → Bool) → ((f : FlagName) → test (Get (Flag f)) ≡ true)
       → ((n : ℕ) → test (Get (Temp n)) ≡ true)

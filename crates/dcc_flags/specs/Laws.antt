@@ -33,8 +33,8 @@ abbrev pub FoldedGraphsKeepKinds : Type 0
 FoldedGraphsKeepKinds =
     (graph : Graph) (order : List ℕ) (kept : Kept) → KindsStay graph (folded_graph kept graph order)
 
--- where definitions of flags load from plain addresses, each truth statement of the folded graph was a flag statement at
--- the same location
+-- where definitions of flags load from plain addresses, each truth statement of the folded graph was a flag statement
+-- at the same location
 abbrev pub FoldedGraphsKeepTruths : Type 0
 FoldedGraphsKeepTruths =
     (graph : Graph) (order : List ℕ) (kept : Kept) → all_stmts loads_plainly graph ≡ true

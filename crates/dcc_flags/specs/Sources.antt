@@ -1,5 +1,6 @@
 -- How far the definitions of a flag are known while they flow from block to block. No public contract rests on it.
-use Rattle.std.specs.Prelude.{◌≡◌, ◌≢◌, ℕ, suc, ◌+◌, ◌==◌, Bool, true, false, ◌&&◌, ◌||◌, if◌then◌else◌, List, [], ◌∷◌, length, get_or, slice_set, replicate, flat_map}
+use Rattle.std.specs.Prelude.{◌≡◌, ◌≢◌, ℕ, suc, ◌+◌, ◌==◌, Bool, true, false, ◌&&◌, ◌||◌, if◌then◌else◌, List, [], ◌∷◌}
+use Rattle.std.specs.Prelude.{length, get_or, slice_set, replicate, flat_map}
 use Rattle.std.specs.List.{list_any}
 use Rattle.dcc_num.specs.declared.FlagName.{FlagName}
 use Rattle.dcc_ir.specs.declared.syntax.Loc.TheVariants.{Flag}

@@ -1,6 +1,7 @@
 //! Laws of folded graphs. Each function only states a law by its contract, and does nothing.
 
-ghost use Rattle.dcc_flags.specs.Laws.{FoldedGraphsStand, FoldedGraphsKeepKinds, FoldedGraphsKeepTruths, FoldedGraphsLackFlags, FoldedGraphsStayShallow};
+ghost use Rattle.dcc_flags.specs.Laws.{FoldedGraphsStand, FoldedGraphsKeepKinds, FoldedGraphsKeepTruths};
+ghost use Rattle.dcc_flags.specs.Laws.{FoldedGraphsLackFlags, FoldedGraphsStayShallow};
 
 /// Where no flag goes that is kept, the folded graph is well formed and may stand in the place of the graph.
 pub fn folded_graphs_stand()

@@ -1,5 +1,6 @@
 -- A depth-first search that keeps its own stack. No public contract rests on it.
-use Rattle.std.specs.Prelude.{ℕ, ◌+◌, Bool, true, false, if◌then◌else◌, nat_lt, List, [], ◌∷◌, ◌++◌, length, get_or, slice_set}
+use Rattle.std.specs.Prelude.{ℕ, ◌+◌, Bool, true, false, if◌then◌else◌, nat_lt, List, [], ◌∷◌, ◌++◌, length, get_or}
+use Rattle.std.specs.Prelude.{slice_set}
 use Rattle.dcc_flow.specs.declared.search.Search.{Search as SearchOf}
 
 -- which blocks were begun; the blocks that are not finished, each with how many of those that follow it were visited,

@@ -1,5 +1,6 @@
 -- How edges are turned round, one after another. No public contract rests on it.
-use Rattle.std.specs.Prelude.{ℕ, ◌+◌, ◌-◌, ◌==◌, Bool, false, if◌then◌else◌, List, [], ◌∷◌, ◌++◌, length, get_or, slice_get, slice_set, Option, Some, None}
+use Rattle.std.specs.Prelude.{ℕ, ◌+◌, ◌-◌, ◌==◌, Bool, false, if◌then◌else◌, List, [], ◌∷◌, ◌++◌, length, get_or}
+use Rattle.std.specs.Prelude.{slice_get, slice_set, Option, Some, None}
 
 abbrev pub is_number : Option ℕ → ℕ → Bool
 is_number (Some m) n = m == n

@@ -2,7 +2,8 @@
 
 ghost use Rattle.std.specs.Prelude.{◌≡◌, ℕ, ◌<◌, false, [], length, get_or, OnOk};
 ghost use Rattle.std.specs.List.{list_any};
-ghost use Rattle.dcc_flow.specs.Marks.{empty, members, with_one, without_one, with_all, without_all, location_number, AreNoted};
+ghost use Rattle.dcc_flow.specs.Marks.{empty, members, with_one, without_one, with_all, without_all, location_number};
+ghost use Rattle.dcc_flow.specs.Marks.{AreNoted};
 
 use dcc_ir::Loc;
 use std::alloc::{AllocError, Global};

@@ -1,6 +1,7 @@
 //! Which places are used after each block.
 
-ghost use Rattle.std.specs.Prelude.{◌≡◌, ◌≤◌, ◌<◌, ◌+◌, ◌*◌, true, false, [], length, get_or, replicate, All, IfOk, IfSome};
+ghost use Rattle.std.specs.Prelude.{◌≡◌, ◌≤◌, ◌<◌, ◌+◌, ◌*◌, true, false, [], length, get_or, replicate, All, IfOk};
+ghost use Rattle.std.specs.Prelude.{IfSome};
 ghost use Rattle.std.specs.Prelude.{MatchOption, OnOk};
 ghost use Rattle.dcc_flow.specs.Edges.{rows, AreWithin, entries};
 ghost use Rattle.dcc_flow.specs.Bits.{words_for, flowed};
@@ -119,8 +120,8 @@ impl Work {
         None
     }
 
-    // A block whose answer has to flow on, if there is one: the next one in the order of turns, which begins again at its
-    // end, and one that isn't in it where no other is left.
+    // A block whose answer has to flow on, if there is one: the next one in the order of turns, which begins again at
+    // its end, and one that isn't in it where no other is left.
     fn next_waiting(&mut self) -> Option<usize>
         ensures same { work_of self.new ≡ work_of self.old }
         ensures waits { MatchOption result (AllFlowed (work_of self.old))
@@ -193,7 +194,8 @@ impl Work {
         requires queued { length self.old.queued.items ≡ length self.old.answer.items }
         requires lists { All (λ bits. length bits ≡ length used.now) self.old.answer.items }
         requires written { length written.now ≡ length used.now }
-        ensures work { OnOk result (work_of self.new ≡ spread_from (work_of self.old) block used.now written.now sources.now) }
+        ensures work { OnOk result (work_of self.new
+            ≡ spread_from (work_of self.old) block used.now written.now sources.now) }
         ensures cost { steps.new ≤ steps.old + length sources.now * words_for (length used.now) }
     {
         let out = &self.answer[block].copy()?;
@@ -215,7 +217,8 @@ pub fn solve<L: Ledger>(
     requires next { AreWithin (rows next.now.items) }
     requires used { AreLists (length next.now.items) len used.now.items }
     requires written { AreLists (length next.now.items) len written.now.items }
-    ensures exact { IfOk result (λ answer. AreUses (rows next.now.items) used.now.items written.now.items len answer.items) }
+    ensures exact { IfOk result
+        (λ answer. AreUses (rows next.now.items) used.now.items written.now.items len answer.items) }
     ensures cost { steps.new ≤ steps.old + entries (rows next.now.items) * (len + 1) * words_for len }
 {
     let sources = sources(alloc, next)?;

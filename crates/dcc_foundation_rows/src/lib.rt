@@ -1,4 +1,5 @@
-//! Tests of the foundation: arithmetic at the corners of its widths, files and streams, keys and strings. Expected values come from references apart from this code.
+//! Tests of the foundation: arithmetic at the corners of its widths, files and streams, keys and strings. Expected
+//! values come from references apart from this code.
 #![tactic(auto)]
 
 #[cfg(test)]

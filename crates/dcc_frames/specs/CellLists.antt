@@ -1,6 +1,7 @@
 -- The cells of runs, and the runs that are too long for one, as lists. This stands between the definitions and the
 -- code; no public contract rests on it.
-use Rattle.std.specs.Prelude.{◌≡◌, ◌<◌, ℕ, pos, ◌+ℤ◌, int_le, Bool, not, ◌||◌, if◌then◌else◌, List, length, Contains, Option, Some, None}
+use Rattle.std.specs.Prelude.{◌≡◌, ◌<◌, ℕ, pos, ◌+ℤ◌, int_le, Bool, not, ◌||◌, if◌then◌else◌, List, length, Contains}
+use Rattle.std.specs.Prelude.{Option, Some, None}
 use Rattle.std.specs.List.{flat_map}
 use Rattle.std.specs.Option.{option_to_list}
 use Rattle.dcc_prog.specs.declared.frame.Cell.{Cell}

@@ -1,6 +1,7 @@
 -- The runs of pieces of a frame: pieces that overlap, joined. This stands between the definitions and the code; no
 -- public contract rests on it.
-use Rattle.std.specs.Prelude.{◌≡◌, ℕ, ℤ, ◌≤ℤ◌, ◌<ℤ◌, int_lt, if◌then◌else◌, List, [], ◌∷◌, ◌++◌, All, AllPairs, Contains, Option, Some, None}
+use Rattle.std.specs.Prelude.{◌≡◌, ℕ, ℤ, ◌≤ℤ◌, ◌<ℤ◌, int_lt, if◌then◌else◌, List, [], ◌∷◌, ◌++◌, All, AllPairs}
+use Rattle.std.specs.Prelude.{Contains, Option, Some, None}
 use Rattle.std.specs.Int.{int_max}
 use Rattle.dcc_frames.specs.declared.bytes.Bytes.{Bytes}
 use Rattle.dcc_frames.specs.declared.bytes.Piece.{Piece}

@@ -1,6 +1,7 @@
 -- From where bytes are exposed, as a list, and the exposed bytes by it. This stands between the definitions and the
 -- code; no public contract rests on it.
-use Rattle.std.specs.Prelude.{◌≤◌, ◌<◌, ℕ, ℤ, pos, neg_ℤ, ◌≤ℤ◌, ◌<ℤ◌, if◌then◌else◌, List, ◌++◌, All, Contains, Option, Some, None}
+use Rattle.std.specs.Prelude.{◌≤◌, ◌<◌, ℕ, ℤ, pos, neg_ℤ, ◌≤ℤ◌, ◌<ℤ◌, if◌then◌else◌, List, ◌++◌, All, Contains, Option}
+use Rattle.std.specs.Prelude.{Some, None}
 use Rattle.std.specs.List.{flat_map}
 use Rattle.std.specs.Option.{option_to_list}
 use Rattle.dcc_frames.specs.declared.bytes.Piece.{Piece}

@@ -2,8 +2,10 @@
 
 ghost use Rattle.std.specs.Prelude.{◌≡◌, ℕ, ◌*◌, pos, ◌≤ℤ◌, true, nat_eq, All, IfErr, OnOk};
 ghost use Rattle.indexmap.specs.IndexMap.{get};
-ghost use Rattle.dcc_prog.specs.declared.refusal.construct.TheConstants.{FRAME_ACCESS as frame_access, ARGUMENTS_SHORT as arguments_short};
-ghost use Rattle.dcc_frames.specs.Inside.{is_inside, has_access_inside, has_start_inside, is_allowed, own_of, passed_of, has_words, IsToldOf};
+ghost use Rattle.dcc_prog.specs.declared.refusal.construct.TheConstants.{FRAME_ACCESS as frame_access};
+ghost use Rattle.dcc_prog.specs.declared.refusal.construct.TheConstants.{ARGUMENTS_SHORT as arguments_short};
+ghost use Rattle.dcc_frames.specs.Inside.{is_inside, has_access_inside, has_start_inside, is_allowed, own_of};
+ghost use Rattle.dcc_frames.specs.Inside.{passed_of, has_words, IsToldOf};
 
 use crate::body::Body;
 use crate::bytes::Bytes;

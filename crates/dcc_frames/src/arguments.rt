@@ -1,7 +1,8 @@
 //! The number of a procedure's arguments.
 
 ghost use Rattle.std.specs.Prelude.{pos, neg_ℤ, ◌≤ℤ◌};
-ghost use Rattle.dcc_frames.specs.Arguments.{IsLeast, ReachTo, HasAccessRoom, HasStartRoom, HasRoomFor, HasRoomIn, IsCounted};
+ghost use Rattle.dcc_frames.specs.Arguments.{IsLeast, ReachTo, HasAccessRoom, HasStartRoom, HasRoomFor, HasRoomIn};
+ghost use Rattle.dcc_frames.specs.Arguments.{IsCounted};
 
 use crate::memory::{access, start};
 use crate::steps::Step;

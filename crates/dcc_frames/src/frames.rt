@@ -5,7 +5,8 @@ ghost use Rattle.std.specs.List.Sorted.{IsPermutation};
 ghost use Rattle.indexmap.specs.IndexMap.{get};
 ghost use Rattle.dcc_frames.specs.declared.bytes.Piece.{Piece as ThePiece};
 ghost use Rattle.dcc_frames.specs.Frames.{AreFramesOfAll, IsRefusalOfAll};
-ghost use Rattle.dcc_frames.specs.Ready.{IsFrameOfAll, IsFrameRefusal, AreFramesOfEach, IsFramesRefusal, lacks_addresses};
+ghost use Rattle.dcc_frames.specs.Ready.{IsFrameOfAll, IsFrameRefusal, AreFramesOfEach, IsFramesRefusal};
+ghost use Rattle.dcc_frames.specs.Ready.{lacks_addresses};
 
 use crate::access::{check_accesses, check_calls};
 use crate::body::{Body, bodies, counts};

@@ -1,6 +1,7 @@
 -- The search for the heights of a procedure. This stands between the definitions and the code; no public contract rests
 -- on it.
-use Rattle.std.specs.Prelude.{◌≡◌, ◌≢◌, ◌<◌, ℕ, ◌==◌, ◌&&◌, not, nat_eq, Bool, true, false, ℤ, pos, List, [], ◌∷◌, ◌++◌, slice_get, All, Contains, Option, Some, None}
+use Rattle.std.specs.Prelude.{◌≡◌, ◌≢◌, ◌<◌, ℕ, ◌==◌, ◌&&◌, not, nat_eq, Bool, true, false, ℤ, pos, List, [], ◌∷◌, ◌++◌}
+use Rattle.std.specs.Prelude.{slice_get, All, Contains, Option, Some, None}
 use Rattle.std.specs.Map.{lookup}
 use Rattle.dcc_prog.specs.declared.image.Image.{Image}
 use Rattle.dcc_prog.specs.declared.procedure.Layout.{Layout}

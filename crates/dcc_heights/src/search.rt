@@ -1,7 +1,8 @@
 //! The search for the heights of a procedure.
 
 ghost use Rattle.std.specs.Prelude.{◌≡◌, ◌<◌, IfOk, IfErr, OnOk};
-ghost use Rattle.dcc_heights.specs.Search.{scene_of, IsStep, IsStepFault, IsArrived, IsArrivalFault, IsSearched, AreReached, AreAllHeights, IsFault, Extends, IsFollowed};
+ghost use Rattle.dcc_heights.specs.Search.{scene_of, IsStep, IsStepFault, IsArrived, IsArrivalFault, IsSearched};
+ghost use Rattle.dcc_heights.specs.Search.{AreReached, AreAllHeights, IsFault, Extends, IsFollowed};
 
 use crate::form::{is_bad, is_misplaced};
 use crate::moves::height_after;

@@ -1,5 +1,6 @@
 -- How a graph is collapsed. No public contract rests on it.
-use Rattle.std.specs.Prelude.{◌≡◌, ℕ, ◌+◌, ◌==◌, false, if◌then◌else◌, List, [], ◌∷◌, length, get_or, slice_set, replicate}
+use Rattle.std.specs.Prelude.{◌≡◌, ℕ, ◌+◌, ◌==◌, false, if◌then◌else◌, List, [], ◌∷◌, length, get_or, slice_set}
+use Rattle.std.specs.Prelude.{replicate}
 use Rattle.dcc_flow.specs.Edges.{leads, AreWithin}
 use Rattle.dcc_interval.specs.Intervals.{Interval}
 use Rattle.dcc_interval.specs.Derived.{collapsed}

@@ -1,5 +1,6 @@
 -- How intervals grow, one after another. No public contract rests on it.
-use Rattle.std.specs.Prelude.{◌≡◌, ℕ, ◌<◌, ◌≤◌, Bool, true, false, ◌||◌, not, if◌then◌else◌, List, [], ◌∷◌, ◌++◌, length, get_or, slice_set, take, All}
+use Rattle.std.specs.Prelude.{◌≡◌, ℕ, ◌<◌, ◌≤◌, Bool, true, false, ◌||◌, not, if◌then◌else◌, List, [], ◌∷◌, ◌++◌}
+use Rattle.std.specs.Prelude.{length, get_or, slice_set, take, All}
 use Rattle.std.specs.List.{list_any}
 use Rattle.dcc_ir.specs.WellFormed.{all_differ}
 use Rattle.dcc_flow.specs.Edges.{is_in, leads}

@@ -1,6 +1,7 @@
 //! Graphs whose nodes are the intervals of another.
 
-ghost use Rattle.std.specs.Prelude.{◌≡◌, ◌≤◌, ◌<◌, ◌^◌, ℕ, ◌==◌, ◌&&◌, not, if◌then◌else◌, length, get_or, All, IfOk, OnOk};
+ghost use Rattle.std.specs.Prelude.{◌≡◌, ◌≤◌, ◌<◌, ◌^◌, ℕ, ◌==◌, ◌&&◌, not, if◌then◌else◌, length, get_or, All, IfOk};
+ghost use Rattle.std.specs.Prelude.{OnOk};
 ghost use Rattle.dcc_flow.specs.Edges.{rows, AreWithin, leads};
 ghost use Rattle.dcc_interval.specs.Intervals.{AreIntervals, intervals_in};
 ghost use Rattle.dcc_interval.specs.Derived.{is_single, is_still};

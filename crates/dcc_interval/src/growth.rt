@@ -5,7 +5,8 @@ ghost use Rattle.dcc_flow.specs.Edges.{rows, AreWithin, leads};
 ghost use Rattle.dcc_interval.specs.Intervals.{AreIntervals, IsInterval, intervals_in};
 ghost use Rattle.dcc_interval.specs.Noted.{noted_of};
 ghost use Rattle.dcc_interval.specs.Reaching.{AreTurned};
-ghost use Rattle.dcc_interval.specs.Growing.{is_held, joined, all_joined, IsReady, growing_of, IsGrown, entry_of, IsParted};
+ghost use Rattle.dcc_interval.specs.Growing.{is_held, joined, all_joined, IsReady, growing_of, IsGrown, entry_of};
+ghost use Rattle.dcc_interval.specs.Growing.{IsParted};
 
 use crate::interval::Interval;
 use crate::noted::Noted;

@@ -1,5 +1,6 @@
 -- What a shelf answers, and what it has been asked.
-use Rattle.std.specs.Prelude.{◌≡◌, ◌⊎◌, ℕ, ◌<◌, ◌≤◌, List, [], ◌∷◌, ◌++◌, length, take, Option, None, Some, Result, Ok, Err}
+use Rattle.std.specs.Prelude.{◌≡◌, ◌⊎◌, ℕ, ◌<◌, ◌≤◌, List, [], ◌∷◌, ◌++◌, length, take, Option, None, Some, Result, Ok}
+use Rattle.std.specs.Prelude.{Err}
 use Rattle.dcc_io.specs.declared.outside.Fetched.{Fetched}
 use Rattle.dcc_io.specs.declared.outside.Fetched.TheVariants.{Whole, Longer}
 use Rattle.dcc_io.specs.declared.outside.ShelfFault.{ShelfFault}

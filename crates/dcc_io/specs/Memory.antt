@@ -1,5 +1,6 @@
 -- The objects in memory, as their contracts see them.
-use Rattle.std.specs.Prelude.{ℕ, zero, suc, ◌+◌, ◌^◌, ◌-◌, Bool, if◌then◌else◌, nat_eq, nat_lt, ◌&&◌, min, List, map, Option, String, Vec}
+use Rattle.std.specs.Prelude.{ℕ, zero, suc, ◌+◌, ◌^◌, ◌-◌, Bool, if◌then◌else◌, nat_eq, nat_lt, ◌&&◌, min, List, map}
+use Rattle.std.specs.Prelude.{Option, String, Vec}
 use Rattle.std.specs.String.{string_bytes}
 use Rattle.std.specs.Str.{bytes_eq}
 use Rattle.std.specs.List.{list_any}

@@ -1,6 +1,7 @@
 //! What a program meets outside itself: files, input and output, each with counts of what went wrong.
 
-ghost use Rattle.std.specs.Prelude.{◌≡◌, ◌<◌, ◌≤◌, ℕ, List, [], length, take, vec_len, Option, Some, IfOk, IsOk, OnOk, OnErr, IsErrOf};
+ghost use Rattle.std.specs.Prelude.{◌≡◌, ◌<◌, ◌≤◌, ℕ, List, [], length, take, vec_len, Option, Some, IfOk, IsOk, OnOk};
+ghost use Rattle.std.specs.Prelude.{OnErr, IsErrOf};
 ghost use Rattle.dcc_io.specs.declared.outside.ShelfFault.TheVariants.{Memory};
 ghost use Rattle.dcc_io.specs.Count.{Rose};
 ghost use Rattle.dcc_io.specs.Told.{WhenTold, append_told, prepend_told, AppendsProperPrefix};

@@ -1,6 +1,7 @@
 -- Which locations are wanted before a statement: those whose value a test, a store, a division, a DOS call, an argument
 -- of a call or a value given back may come to use (liveness by demand). A call passes its arguments and results alone.
-use Rattle.std.specs.Prelude.{◌≡◌, ℕ, Bool, true, false, List, [], ◌∷◌, ◌++◌, flat_map, Contains, slice_get, option_to_list, Some}
+use Rattle.std.specs.Prelude.{◌≡◌, ℕ, Bool, true, false, List, [], ◌∷◌, ◌++◌, flat_map, Contains, slice_get}
+use Rattle.std.specs.Prelude.{option_to_list, Some}
 use Rattle.dcc_ir.specs.declared.syntax.Loc.{Loc}
 use Rattle.dcc_ir.specs.Tree.{Stmt, Set, Fetch, Store, Div, Call, Dos, Exit, If, Switch, Ret, Block, Graph}
 use Rattle.dcc_ir.specs.Use.{reads_of, writes_of}

@@ -79,5 +79,6 @@ pub record IsGraphWithout (family : Family) (before after : Graph) : Type 0 wher
 abbrev pub AllWanted : Graph → Block → List Stmt → Type 0
 AllWanted graph block [] = Unit {0}
 AllWanted graph block (stmt ∷ rest) =
-    (is_assignment stmt ≡ true → (location : Loc) × Contains (writes_of stmt) location × IsWantedIn graph block rest location)
+    (is_assignment stmt
+    ≡ true → (location : Loc) × Contains (writes_of stmt) location × IsWantedIn graph block rest location)
     × AllWanted graph block rest

@@ -1,6 +1,7 @@
 -- The flow graph of a program (F. E. Allen, Control flow analysis, 1970): blocks by their addresses, edges, paths; and
 -- one flow graph that has a part of another's blocks.
-use Rattle.std.specs.Prelude.{◌≡◌, ℕ, ◌==◌, Bool, true, false, ◌&&◌, ◌↔◌, ◌⊎◌, List, [], ◌∷◌, slice_get, Option, Some, None}
+use Rattle.std.specs.Prelude.{◌≡◌, ℕ, ◌==◌, Bool, true, false, ◌&&◌, ◌↔◌, ◌⊎◌, List, [], ◌∷◌, slice_get, Option, Some}
+use Rattle.std.specs.Prelude.{None}
 use Rattle.std.specs.List.{list_any}
 use Rattle.dcc_ir.specs.Tree.{Exit, Goto, If, Switch, Ret, Stop, Block, Graph, Program}
 use Rattle.dcc_ir.specs.Run.{graph_at, no_graph}

@@ -1,13 +1,15 @@
 -- The forms of the rewritings that are known by a number, read from the expression alone. A constant has the width of
 -- its operator; one expression at two places is the same tree.
-use Rattle.std.specs.Prelude.{ℕ, ◌+◌, ◌-◌, ◌^◌, ◌==◌, Bool, true, false, ◌&&◌, ◌||◌, if◌then◌else◌, List, [], ◌∷◌, slice_get, Option, Some, None, option_map}
+use Rattle.std.specs.Prelude.{ℕ, ◌+◌, ◌-◌, ◌^◌, ◌==◌, Bool, true, false, ◌&&◌, ◌||◌, if◌then◌else◌, List, [], ◌∷◌}
+use Rattle.std.specs.Prelude.{slice_get, Option, Some, None, option_map}
 use Rattle.std.specs.Option.{option_or}
 use Rattle.dcc_ir.specs.declared.syntax.Loc.{Loc}
 use Rattle.dcc_ir.specs.declared.syntax.Loc.TheVariants.{Temp}
 use Rattle.dcc_ir.specs.declared.syntax.UnOp.{UnOp}
 use Rattle.dcc_ir.specs.declared.syntax.UnOp.TheVariants.{Neg, Not, IsZero}
 use Rattle.dcc_ir.specs.declared.syntax.BinOp.{BinOp}
-use Rattle.dcc_ir.specs.declared.syntax.BinOp.TheVariants.{Add, Sub, Mul, DivS, DivU, RemS, RemU, And, Or, Xor, Shl, Shr, Sar, Eq, LtS, LtU, LeS, LeU}
+use Rattle.dcc_ir.specs.declared.syntax.BinOp.TheVariants.{Add, Sub, Mul, DivS, DivU, RemS, RemU, And, Or, Xor, Shl}
+use Rattle.dcc_ir.specs.declared.syntax.BinOp.TheVariants.{Shr, Sar, Eq, LtS, LtU, LeS, LeU}
 use Rattle.dcc_ir.specs.Tree.{Expr, Const, Get, Load, Unary, Binary, Widen, Part, Join, Choose, Address}
 use Rattle.dcc_ir.specs.Location.{same_location, location_width}
 use Rattle.dcc_ir.specs.Value.{is_comparison, is_test}

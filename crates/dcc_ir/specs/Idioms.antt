@@ -1,5 +1,6 @@
 -- What an idiom keeps.
-use Rattle.std.specs.Prelude.{◌≡◌, ℕ, ◌<◌, ◌≤◌, max, ◌==◌, Bool, true, false, if◌then◌else◌, ◌⊎◌, List, [], ◌∷◌, ◌++◌, map, flat_map, sum_by, All, Contains, Option, Some, option_map, Result, IfOk}
+use Rattle.std.specs.Prelude.{◌≡◌, ℕ, ◌<◌, ◌≤◌, max, ◌==◌, Bool, true, false, if◌then◌else◌, ◌⊎◌, List, [], ◌∷◌, ◌++◌}
+use Rattle.std.specs.Prelude.{map, flat_map, sum_by, All, Contains, Option, Some, option_map, Result, IfOk}
 use Rattle.std.specs.List.{list_any, list_all}
 use Rattle.dcc_run.specs.End.{Running, is_over}
 use Rattle.std.specs.declared.alloc.AllocError.{AllocError}

@@ -1,5 +1,6 @@
 -- What a pass keeps of a program.
-use Rattle.std.specs.Prelude.{◌≡◌, ◌≢◌, ℕ, ◌<◌, ◌==◌, Bool, true, List, [], ◌∷◌, map, filter, find, flat_map, All, Option, Some, None}
+use Rattle.std.specs.Prelude.{◌≡◌, ◌≢◌, ℕ, ◌<◌, ◌==◌, Bool, true, List, [], ◌∷◌, map, filter, find, flat_map, All}
+use Rattle.std.specs.Prelude.{Option, Some, None}
 use Rattle.dcc_run.specs.Place.{Place}
 use Rattle.dcc_run.specs.Visits.{VisitsKept}
 use Rattle.dcc_ir.specs.Tree.{Stmt, Call, Block, Graph, Program}

@@ -1,5 +1,6 @@
 -- What is live (A. V. Aho, R. Sethi, J. D. Ullman, Compilers, 1986, 10.5).
-use Rattle.std.specs.Prelude.{◌≡◌, ℕ, ◌<◌, ◌==◌, Bool, true, false, ◌&&◌, ◌||◌, not, ◌↔◌, List, [], ◌∷◌, length, flat_map, get_or, Contains}
+use Rattle.std.specs.Prelude.{◌≡◌, ℕ, ◌<◌, ◌==◌, Bool, true, false, ◌&&◌, ◌||◌, not, ◌↔◌, List, [], ◌∷◌, length}
+use Rattle.std.specs.Prelude.{flat_map, get_or, Contains}
 use Rattle.std.specs.List.{list_any}
 use Rattle.dcc_ir.specs.declared.syntax.Loc.{Loc}
 use Rattle.dcc_ir.specs.Tree.{Expr, Stmt, Exit, Block, Graph}

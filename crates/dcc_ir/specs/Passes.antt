@@ -9,7 +9,8 @@ use Rattle.dcc_ir.specs.Run.{Activation, State, activation, entering, passing, g
 use Rattle.dcc_ir.specs.WellFormed.{put_width, IsProgram}
 use Rattle.dcc_ir.specs.Fitting.{StateFits}
 use Rattle.dcc_ir.specs.Flow.{Flow, flow_at}
-use Rattle.dcc_ir.specs.Local.{Point, start_of, next_of, after_calls, Request, Halt, Over, Calls, Jumps, Returns, halt_of}
+use Rattle.dcc_ir.specs.Local.{Point, start_of, next_of, after_calls, Request, Halt, Over, Calls, Jumps, Returns}
+use Rattle.dcc_ir.specs.Local.{halt_of}
 
 -- The data of a pass. Graphs are named by their entries, arguments and values given back are lists in their order.
 pub record Pass : Type 1 where

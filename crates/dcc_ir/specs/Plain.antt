@@ -1,5 +1,6 @@
 -- The values and states that those of the plain run stand for.
-use Rattle.std.specs.Prelude.{◌%◌, ◌&&◌, nat_le, nat_lt, if◌then◌else◌, slice_index, ℕ, List, fold, map, reverse, drop, Option, Some, None}
+use Rattle.std.specs.Prelude.{◌%◌, ◌&&◌, nat_le, nat_lt, if◌then◌else◌, slice_index, ℕ, List, fold, map, reverse, drop}
+use Rattle.std.specs.Prelude.{Option, Some, None}
 use denote.Ref.{Bor}
 use Rattle.dcc_run.specs.End.{End, Running, Exit as ExitWith, Divide, Stuck}
 use Rattle.dcc_run.specs.Event.{Event, Wrote, Took, MetEnd}
@@ -7,7 +8,8 @@ use Rattle.dcc_ir.specs.declared.syntax.Block.{Block as BlockOf}
 use Rattle.dcc_ir.specs.declared.plain.scene.Held.{Held}
 use Rattle.dcc_ir.specs.declared.plain.scene.View.{View}
 use Rattle.dcc_ir.specs.declared.plain.state.End.{End as Ending}
-use Rattle.dcc_ir.specs.declared.plain.state.End.TheVariants.{Running as StillRunning, Exit as Exits, Divide as Divides, Stuck as IsStuck}
+use Rattle.dcc_ir.specs.declared.plain.state.End.TheVariants.{Running as StillRunning, Exit as Exits, Divide as Divides}
+use Rattle.dcc_ir.specs.declared.plain.state.End.TheVariants.{Stuck as IsStuck}
 use Rattle.dcc_ir.specs.declared.plain.state.Event.{Event as Happening}
 use Rattle.dcc_ir.specs.declared.plain.state.Event.TheVariants.{Wrote as Writes, Took as Takes, MetEnd as MeetsEnd}
 use Rattle.dcc_ir.specs.declared.plain.state.Activation.{Activation as Called}

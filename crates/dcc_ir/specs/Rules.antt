@@ -1,5 +1,6 @@
 -- What a rule keeps, and what is left where no rule has a place any more.
-use Rattle.std.specs.Prelude.{◌≡◌, ℕ, ◌<◌, ◌≤◌, Bool, true, false, not, ◌↔◌, List, All, Contains, Option, Some, None, option_map, Result, IfOk}
+use Rattle.std.specs.Prelude.{◌≡◌, ℕ, ◌<◌, ◌≤◌, Bool, true, false, not, ◌↔◌, List, All, Contains, Option, Some, None}
+use Rattle.std.specs.Prelude.{option_map, Result, IfOk}
 use Rattle.std.specs.List.{list_all}
 use Rattle.std.specs.declared.alloc.AllocError.{AllocError}
 use Rattle.dcc_ir.specs.declared.syntax.Expr.{Expr as Expression}

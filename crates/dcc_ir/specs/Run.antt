@@ -1,5 +1,6 @@
 -- The run of a program: its state, one step, and the run from the start.
-use Rattle.std.specs.Prelude.{ℕ, ◌+◌, ◌-◌, ◌*◌, ◌/◌, ◌%◌, ◌==◌, ◌&&◌, nat_le, nat_lt, Bool, true, false, if◌then◌else◌, List, [], ◌∷◌, ◌++◌, map, find, get_or, slice_get, slice_index, Option, Some, None}
+use Rattle.std.specs.Prelude.{ℕ, ◌+◌, ◌-◌, ◌*◌, ◌/◌, ◌%◌, ◌==◌, ◌&&◌, nat_le, nat_lt, Bool, true, false, if◌then◌else◌}
+use Rattle.std.specs.Prelude.{List, [], ◌∷◌, ◌++◌, map, find, get_or, slice_get, slice_index, Option, Some, None}
 use Rattle.std.specs.List.{range_with_len}
 use Rattle.dcc_run.specs.End.{End, Running, Exit as ExitWith, Divide, Stuck, is_over}
 use Rattle.dcc_run.specs.Event.{Event, Wrote, Took, MetEnd, writes}
@@ -10,7 +11,8 @@ use Rattle.dcc_ir.specs.declared.syntax.Loc.{Loc}
 use Rattle.dcc_ir.specs.declared.syntax.Put.{Put}
 use Rattle.dcc_ir.specs.declared.syntax.Put.TheVariants.{Memory, One, Two}
 use Rattle.dcc_ir.specs.declared.syntax.Param.{Param}
-use Rattle.dcc_ir.specs.Tree.{Expr, Stmt, Set, Fetch, Store, Div, Call, Dos, Exit, Goto, If, Switch, Ret, Stop, Block, Graph, Program}
+use Rattle.dcc_ir.specs.Tree.{Expr, Stmt, Set, Fetch, Store, Div, Call, Dos, Exit, Goto, If, Switch, Ret, Stop, Block}
+use Rattle.dcc_ir.specs.Tree.{Graph, Program}
 use Rattle.dcc_ir.specs.Location.{Values, with_value, filled}
 use Rattle.dcc_ir.specs.Value.{Scene, value_of, division_of, bytes_at, with_bytes_at}
 use Rattle.dcc_ir.specs.Dos.{dos_string}

@@ -1,12 +1,15 @@
 -- The values of expressions: numbers below 2 to the power of a width, in two's complement where they are signed.
-use Rattle.std.specs.Prelude.{◌≡◌, ℕ, zero, suc, ◌+◌, ◌-◌, ◌*◌, ◌/◌, ◌%◌, ◌^◌, ◌<◌, ◌==◌, nat_lt, nat_le, Bool, true, false, ◌||◌, ◌&&◌, ℤ, pos, ◌-ℤ◌, int_lt, int_le, int_div, int_rem, if◌then◌else◌, bit_and, bit_or, bit_xor, List, length, slice_index, slice_set, Option, Some, None, unwrap_or}
+use Rattle.std.specs.Prelude.{◌≡◌, ℕ, zero, suc, ◌+◌, ◌-◌, ◌*◌, ◌/◌, ◌%◌, ◌^◌, ◌<◌, ◌==◌, nat_lt, nat_le, Bool, true}
+use Rattle.std.specs.Prelude.{false, ◌||◌, ◌&&◌, ℤ, pos, ◌-ℤ◌, int_lt, int_le, int_div, int_rem, if◌then◌else◌, bit_and}
+use Rattle.std.specs.Prelude.{bit_or, bit_xor, List, length, slice_index, slice_set, Option, Some, None, unwrap_or}
 use Rattle.std.specs.Int.{from_bool}
 use Rattle.dcc_num.specs.Numbers.{residue_of, halved_of}
 use Rattle.dcc_ir.specs.declared.syntax.Loc.{Loc}
 use Rattle.dcc_ir.specs.declared.syntax.UnOp.{UnOp}
 use Rattle.dcc_ir.specs.declared.syntax.UnOp.TheVariants.{Neg, Not, IsZero}
 use Rattle.dcc_ir.specs.declared.syntax.BinOp.{BinOp}
-use Rattle.dcc_ir.specs.declared.syntax.BinOp.TheVariants.{Add, Sub, Mul, DivS, DivU, RemS, RemU, And, Or, Xor, Shl, Shr, Sar, Eq, LtS, LtU, LeS, LeU}
+use Rattle.dcc_ir.specs.declared.syntax.BinOp.TheVariants.{Add, Sub, Mul, DivS, DivU, RemS, RemU, And, Or, Xor, Shl}
+use Rattle.dcc_ir.specs.declared.syntax.BinOp.TheVariants.{Shr, Sar, Eq, LtS, LtU, LeS, LeU}
 use Rattle.dcc_ir.specs.Tree.{Expr, Const, Get, Load, Unary, Binary, Widen, Part, Join, Choose, Address}
 use Rattle.dcc_ir.specs.Location.{location_width, Values}
 

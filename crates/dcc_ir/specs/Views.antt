@@ -1,18 +1,23 @@
 -- The trees that the declared types stand for.
 use Rattle.std.specs.Prelude.{List, map, option_map}
 use Rattle.dcc_ir.specs.declared.syntax.Loc.{Loc}
-use Rattle.dcc_ir.specs.declared.syntax.Expr.{Expr as Expression, Const as ConstOf, Get as GetOf, Load', Un', Bin', Widen', Part', Join', Choose', Address as AddressOf}
+use Rattle.dcc_ir.specs.declared.syntax.Expr.{Expr as Expression, Const as ConstOf, Get as GetOf, Load', Un', Bin'}
+use Rattle.dcc_ir.specs.declared.syntax.Expr.{Widen', Part', Join', Choose', Address as AddressOf}
 use Rattle.dcc_ir.specs.declared.syntax.Stmt.{Stmt as Statement}
-use Rattle.dcc_ir.specs.declared.syntax.Stmt.TheVariants.{Set as SetOf, Load as LoadOf, Store as StoreOf, Div as DivOf, Call as CallOf, Dos as DosOf}
+use Rattle.dcc_ir.specs.declared.syntax.Stmt.TheVariants.{Set as SetOf, Load as LoadOf, Store as StoreOf, Div as DivOf}
+use Rattle.dcc_ir.specs.declared.syntax.Stmt.TheVariants.{Call as CallOf, Dos as DosOf}
 use Rattle.dcc_ir.specs.declared.syntax.End.{End as BlockEnd}
-use Rattle.dcc_ir.specs.declared.syntax.End.TheVariants.{Goto as GotoOf, If as IfOf, Switch as SwitchOf, Ret as RetOf, Stop as StopOf}
+use Rattle.dcc_ir.specs.declared.syntax.End.TheVariants.{Goto as GotoOf, If as IfOf, Switch as SwitchOf, Ret as RetOf}
+use Rattle.dcc_ir.specs.declared.syntax.End.TheVariants.{Stop as StopOf}
 use Rattle.dcc_ir.specs.declared.syntax.Block.{Block as BlockOf}
 use Rattle.dcc_ir.specs.declared.syntax.Graph.{Graph as GraphOf}
 use Rattle.dcc_ir.specs.declared.syntax.IrProgram.{IrProgram}
 use Rattle.dcc_ir.specs.declared.facts.Sum.{Sum}
 use Rattle.dcc_ir.specs.declared.facts.Sums.{Sums}
 use Rattle.dcc_ir.specs.declared.facts.Live.{Live}
-use Rattle.dcc_ir.specs.Tree.{Expr, Const, Get, Load, Unary, Binary, Widen, Part, Join, Choose, Address, Stmt, Set, Fetch, Store, Div, Call, Dos, Exit, Goto, If, Switch, Ret, Stop, Block, Graph, Program, Summary}
+use Rattle.dcc_ir.specs.Tree.{Expr, Const, Get, Load, Unary, Binary, Widen, Part, Join, Choose, Address, Stmt, Set}
+use Rattle.dcc_ir.specs.Tree.{Fetch, Store, Div, Call, Dos, Exit, Goto, If, Switch, Ret, Stop, Block, Graph, Program}
+use Rattle.dcc_ir.specs.Tree.{Summary}
 
 -- the tree of an expression
 abbrev pub expr_of : Expression → Expr

@@ -1,7 +1,8 @@
 //! Which operations may stand in a prelude, and after which it may end.
 
 ghost use Rattle.std.specs.Prelude.{◌≡◌};
-ghost use Rattle.dcc_prog.specs.Layout.{is_data_segment, is_prelude_move, is_prelude_sum, is_word_register, is_prelude_plain, is_prelude_form, is_segment_or_sp, may_end_prelude};
+ghost use Rattle.dcc_prog.specs.Layout.{is_data_segment, is_prelude_move, is_prelude_sum, is_word_register};
+ghost use Rattle.dcc_prog.specs.Layout.{is_prelude_plain, is_prelude_form, is_segment_or_sp, may_end_prelude};
 
 use dcc_num::Reg;
 use dcc_prog::{Alu, DS, ES, Op, Operand, Plain, SS, Shift};

@@ -88,11 +88,11 @@ fn layout_after(image: &Image, prelude: &Prelude, cpu: Cpu) -> Option<Layout>
     })
 }
 
-/// The layout of a loaded program for the processor: what its prelude leaves in registers and flags, and where its data,
-/// its stack and its code lie.
+/// The layout of a loaded program for the processor: what its prelude leaves in registers and flags, and where its
+/// data, its stack and its code lie.
 ///
-/// Offsets and `delta` count bytes. Where no layout for the processor holds of the program, it is refused as construct 1
-/// at the entry. Nothing else is refused, and no memory is taken.
+/// Offsets and `delta` count bytes. Where no layout for the processor holds of the program, it is refused as construct
+/// 1 at the entry. Nothing else is refused, and no memory is taken.
 pub fn layout(alloc: Global, image: &Image, cpu: Cpu) -> Result<Layout, Refusal>
     requires { IsLoaded image.now }
     ensures processor { IfOk result (λ layout. layout.cpu ≡ cpu) }

@@ -1,5 +1,6 @@
 -- The cuts of a text that the declared types stand for.
-use Rattle.std.specs.Prelude.{◌≡◌, ℕ, Bool, false, not, if◌then◌else◌, List, [], ◌∷◌, ◌++◌, map, length, Some, option_to_list}
+use Rattle.std.specs.Prelude.{◌≡◌, ℕ, Bool, false, not, if◌then◌else◌, List, [], ◌∷◌, ◌++◌, map, length, Some}
+use Rattle.std.specs.Prelude.{option_to_list}
 use Rattle.std.specs.List.{take_while}
 use Rattle.dcc_c.specs.Token.{is_word_byte}
 use Rattle.dcc_c.specs.Lexing.{is_blank}

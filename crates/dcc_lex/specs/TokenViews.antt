@@ -12,7 +12,8 @@ use Rattle.dcc_lex.specs.declared.token.Mark.TheVariants as m
 use Rattle.dcc_lex.specs.declared.token.Keyword.{Keyword}
 use Rattle.dcc_lex.specs.declared.token.Keyword.TheVariants as k
 use Rattle.dcc_lex.specs.declared.token.Token.{Token}
-use Rattle.dcc_lex.specs.declared.token.Token.TheVariants.{Keyword as KeywordToken, Name, Decimal, Hex, Mark as MarkToken, Pragma}
+use Rattle.dcc_lex.specs.declared.token.Token.TheVariants.{Keyword as KeywordToken, Name, Decimal, Hex}
+use Rattle.dcc_lex.specs.declared.token.Token.TheVariants.{Mark as MarkToken, Pragma}
 use Rattle.dcc_lex.specs.declared.token.Piece.{Piece}
 
 abbrev pub suffix_of : Suffix → tokens.Suffix

@@ -1,8 +1,9 @@
 -- The blocks of a procedure's instructions: which instructions begin one, and which stand in it. An instruction joins
--- the block of the one before it where nothing else leads to it, neither of them is a CALL and the one before is no jump
--- through a table, which always ends its block. The public contract tells besides what the blocks are by paths
+-- the block of the one before it where nothing else leads to it, neither of them is a CALL and the one before is no
+-- jump through a table, which always ends its block. The public contract tells besides what the blocks are by paths
 -- (specs/Lifted.antt).
-use Rattle.std.specs.Prelude.{◌≡◌, ℕ, suc, ◌==◌, nat_lt, Bool, true, false, not, ◌&&◌, if◌then◌else◌, List, [], ◌∷◌, ◌+◌, map, filter, flat_map, Option, Some, None}
+use Rattle.std.specs.Prelude.{◌≡◌, ℕ, suc, ◌==◌, nat_lt, Bool, true, false, not, ◌&&◌, if◌then◌else◌, List, [], ◌∷◌}
+use Rattle.std.specs.Prelude.{◌+◌, map, filter, flat_map, Option, Some, None}
 use Rattle.dcc_prog.specs.declared.cpu.Cpu.{Cpu}
 use Rattle.dcc_prog.specs.declared.instr.Op.{Op}
 use Rattle.dcc_prog.specs.declared.instr.Op.TheVariants.{Table, Call}

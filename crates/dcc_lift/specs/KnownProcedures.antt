@@ -1,6 +1,7 @@
 -- What the code knows of a procedure. This stands between the definitions and the code.
 use denote.Ref.{Bor}
-use Rattle.std.specs.Prelude.{◌≡◌, ◌≤◌, ◌+◌, ◌*◌, ◌&&◌, ℤ, pos, int_le, int_lt, Bool, false, List, All, length, Option, Some, None, IfSome}
+use Rattle.std.specs.Prelude.{◌≡◌, ◌≤◌, ◌+◌, ◌*◌, ◌&&◌, ℤ, pos, int_le, int_lt, Bool, false, List, All, length, Option}
+use Rattle.std.specs.Prelude.{Some, None, IfSome}
 use Rattle.dcc_prog.specs.declared.frame.Frame.{Frame}
 use Rattle.dcc_prog.specs.Frame.{Span, span_of}
 use Rattle.dcc_stack.specs.Slots.{is_within, exposes_of}

@@ -26,8 +26,8 @@ use Rattle.dcc_lift.specs.Translation.{data_image, IsTranslation}
 
 -- Runs.
 
--- For every fill and input the program's run shadows the machine's: for each clean number of the machine's steps there is
--- a number of the program's, in which it has come to just those of its blocks at whose places the machine stood, in
+-- For every fill and input the program's run shadows the machine's: for each clean number of the machine's steps there
+-- is a number of the program's, in which it has come to just those of its blocks at whose places the machine stood, in
 -- their order and with equal events, and has ended alike where the machine has; and wherever it begins a block or ends
 -- from then on, its events begin with the machine's.
 abbrev pub ShadowsMachine : Image → Analysed → Program → Type 0
@@ -111,8 +111,8 @@ pub record HasFrameOf (p : Procedure) (graph : Graph) : Type 0 where
   pub pushed : graph.pushed ≡ pushed_of p
 
 -- The program has a graph for each procedure, which takes the argument words where the frame has them, and passes all
--- halves and flags; its memory holds the image's data segment, and its stack is the layout's. It runs as the machine does
--- while that is clean, and no run of it is stuck.
+-- halves and flags; its memory holds the image's data segment, and its stack is the layout's. It runs as the machine
+-- does while that is clean, and no run of it is stuck.
 pub record IsLifted (image : Image) (program : Analysed) (p : Program) : Type 0 where
   pub well_formed : IsProgram p
   pub graphs : AllZip (IsGraphFor program.layout.start_ip) (procedures_in program) p.graphs

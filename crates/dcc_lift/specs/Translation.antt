@@ -1,5 +1,6 @@
 -- The program that stands for all procedures, statement by statement. What it does is told in specs/Lifted.antt.
-use Rattle.std.specs.Prelude.{◌≡◌, ℕ, ◌-◌, ◌*◌, ◌/◌, ◌%◌, ◌==◌, Bool, if◌then◌else◌, List, [], ◌∷◌, ◌++◌, map, flat_map, slice_index, take, drop}
+use Rattle.std.specs.Prelude.{◌≡◌, ℕ, ◌-◌, ◌*◌, ◌/◌, ◌%◌, ◌==◌, Bool, if◌then◌else◌, List, [], ◌∷◌, ◌++◌, map, flat_map}
+use Rattle.std.specs.Prelude.{slice_index, take, drop}
 use Rattle.std.specs.Int.{from_bool}
 use Rattle.std.specs.List.{AllZip}
 use Rattle.dcc_num.specs.declared.Reg.{Reg}
@@ -67,8 +68,8 @@ pub record IsGraphOf (image : Image) (layout : Layout) (scene : Scene) (g : Grap
   pub blocks_are : AreBlocksAt scene (leaders (nodes_in scene) (entry_in scene)) blocks
   pub graph_is : g ≡ graph_with image layout scene blocks
 
--- the scenes of procedures among all, in their order, with the heights of each; the first graph has a block before those
--- of its instructions
+-- the scenes of procedures among all, in their order, with the heights of each; the first graph has a block before
+-- those of its instructions
 abbrev pub scenes_of : Layout → List Procedure → ℕ → List Procedure → List (List (ℕ × ℕ)) → List Scene
 scenes_of layout all before (procedure ∷ procedures) (heights ∷ rest) =
     record { cpu = layout.cpu; procedures = all; procedure = procedure; heights = heights; before = before }

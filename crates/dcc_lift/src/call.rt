@@ -7,7 +7,8 @@ ghost use Rattle.dcc_ir.specs.Views.{expr_of};
 ghost use Rattle.dcc_ops.specs.Writing.{written};
 ghost use Rattle.dcc_simulation.specs.Statements as spec;
 ghost use Rattle.dcc_simulation.specs.Procedures.{procedure_at};
-ghost use Rattle.dcc_lift.specs.KnownProcedures.{procedure_of, shared_procedure_of, KnowsProcedure, KnowsShared, KnowsProcedures};
+ghost use Rattle.dcc_lift.specs.KnownProcedures.{procedure_of, shared_procedure_of, KnowsProcedure, KnowsShared};
+ghost use Rattle.dcc_lift.specs.KnownProcedures.{KnowsProcedures};
 
 use crate::passed::{passed, passed_values};
 use crate::procedure::Procedure;

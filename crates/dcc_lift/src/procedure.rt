@@ -10,7 +10,8 @@ ghost use Rattle.dcc_prog.specs.declared.procedure.Node.{Node};
 ghost use Rattle.dcc_stack.specs.Slots.{is_placed, is_within, exposes_of, slots_of, gives_back, writes_directly};
 ghost use Rattle.dcc_ops.specs.Placing.{place_of};
 ghost use Rattle.dcc_simulation.specs.Procedures as spec;
-ghost use Rattle.dcc_lift.specs.KnownProcedures.{span_of_bytes, exposes_argument, is_in_exposed_slot, procedure_of, KnowsProcedure, KnowsProcedures};
+ghost use Rattle.dcc_lift.specs.KnownProcedures.{span_of_bytes, exposes_argument, is_in_exposed_slot, procedure_of};
+ghost use Rattle.dcc_lift.specs.KnownProcedures.{KnowsProcedure, KnowsProcedures};
 
 use crate::access::{Bytes, has_access, writes_directly};
 use dcc_ir::Loc;

@@ -1,11 +1,13 @@
 -- Which points of a lifted graph stand for an instruction: those before its statements, and where it is the last one of
 -- its block that at the block's end too.
-use Rattle.std.specs.Prelude.{ℕ, zero, suc, ◌+◌, Bool, true, false, List, [], ◌∷◌, ◌++◌, length, get_or, if◌then◌else◌, Option, Some, None}
+use Rattle.std.specs.Prelude.{ℕ, zero, suc, ◌+◌, Bool, true, false, List, [], ◌∷◌, ◌++◌, length, get_or, if◌then◌else◌}
+use Rattle.std.specs.Prelude.{Option, Some, None}
 use Rattle.dcc_prog.specs.declared.procedure.Node.{Node}
 use Rattle.dcc_prog.specs.declared.instr.Op.{Op}
 use Rattle.dcc_prog.specs.declared.instr.Op.TheVariants.{Ret}
 use Rattle.dcc_sums.specs.Points.{Position, begin_of, next_of, Site, Ends}
-use Rattle.dcc_lift.specs.Blocks.{Nodes, node_in, edges_into, joins, onward, Scene, nodes_in, entry_in, block_place, stmts_at, exit_at}
+use Rattle.dcc_lift.specs.Blocks.{Nodes, node_in, edges_into, joins, onward, Scene, nodes_in, entry_in, block_place}
+use Rattle.dcc_lift.specs.Blocks.{stmts_at, exit_at}
 
 -- the offset from which the first edge to an instruction leads
 abbrev pub source_of : Nodes → ℕ → ℕ

@@ -1,5 +1,6 @@
 -- What a block reads before it writes it, and how code tells it at the places of a list.
-use Rattle.std.specs.Prelude.{◌≡◌, ℕ, ◌<◌, Bool, true, not, ◌↔◌, List, [], ◌∷◌, ◌++◌, length, get_or, filter, flat_map, Contains, slice_get, Some}
+use Rattle.std.specs.Prelude.{◌≡◌, ℕ, ◌<◌, Bool, true, not, ◌↔◌, List, [], ◌∷◌, ◌++◌, length, get_or, filter, flat_map}
+use Rattle.std.specs.Prelude.{Contains, slice_get, Some}
 use Rattle.dcc_ir.specs.declared.syntax.Loc.{Loc}
 use Rattle.dcc_ir.specs.Tree.{Graph}
 use Rattle.dcc_ir.specs.Live.{IsLiveAfter}

@@ -1,5 +1,6 @@
 -- How what is wanted flows backwards through statements and blocks, and what is left of these.
-use Rattle.std.specs.Prelude.{◌≡◌, ℕ, Bool, true, ◌&&◌, not, ◌↔◌, if◌then◌else◌, List, [], ◌∷◌, length, get_or, slice_get, Some, map}
+use Rattle.std.specs.Prelude.{◌≡◌, ℕ, Bool, true, ◌&&◌, not, ◌↔◌, if◌then◌else◌, List, [], ◌∷◌, length, get_or}
+use Rattle.std.specs.Prelude.{slice_get, Some, map}
 use Rattle.std.specs.List.{list_any}
 use Rattle.dcc_ir.specs.declared.syntax.Loc.{Loc}
 use Rattle.dcc_ir.specs.Tree.{Stmt, Block, Graph}

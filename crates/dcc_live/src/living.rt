@@ -49,7 +49,8 @@ fn table_of<L: Ledger>(
     rows: &Vec<Row>,
     steps: &mut Steps<L>,
 ) -> Result<Table, AllocError>
-    ensures { IfOk result (λ table. AreTold places.now (map row_in rows.now.items) table.used.items table.written.items) }
+    ensures { IfOk result
+        (λ table. AreTold places.now (map row_in rows.now.items) table.used.items table.written.items) }
 {
     let mut marks = Marks::new(alloc);
     let mut used = Vec::new(alloc);

@@ -21,7 +21,8 @@ pub struct Row {
 impl Row {
     // Notes what is read and was not written before.
     fn read(&mut self, written: &Marks, reads: &[Loc]) -> Result<(), AllocError>
-        ensures first { OnOk result (self.new.first.items ≡ self.old.first.items ++ others (members written.now) reads.now) }
+        ensures first { OnOk result (self.new.first.items
+            ≡ self.old.first.items ++ others (members written.now) reads.now) }
         ensures writes { self.new.writes ≡ self.old.writes }
     {
         for location in reads {

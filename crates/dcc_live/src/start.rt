@@ -17,7 +17,8 @@ use std::alloc::{AllocError, Global};
 /// them.
 pub fn live_at_start(alloc: Global, g: &Graph) -> Result<Vec<Loc>, AllocError>
     requires { IsGraph (graph_of g.now) }
-    ensures { IfOk result (λ list. (location : Location) → is_among list.items location ≡ begins_live (graph_of g.now) location) }
+    ensures { IfOk result (λ list. (location : Location) → is_among list.items location
+        ≡ begins_live (graph_of g.now) location) }
 {
     let sums = Sums {
         of: Vec::new(alloc),

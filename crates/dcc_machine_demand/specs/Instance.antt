@@ -1,12 +1,14 @@
 -- The procedures of a program of the machine, by what their instructions do. A word of the stack is a byte of what a
 -- PUSH writes, by its offset in the frame, so that each half of a register is saved by itself.
-use Rattle.std.specs.Prelude.{ℕ, ◌+◌, ◌*◌, ℤ, pos, ◌-ℤ◌, Bool, true, false, not, ◌&&◌, ◌||◌, List, [], filter, Option, Some, None, if◌then◌else◌}
+use Rattle.std.specs.Prelude.{ℕ, ◌+◌, ◌*◌, ℤ, pos, ◌-ℤ◌, Bool, true, false, not, ◌&&◌, ◌||◌, List, [], filter, Option}
+use Rattle.std.specs.Prelude.{Some, None, if◌then◌else◌}
 use Rattle.std.specs.List.{list_any, range_with_len}
 use Rattle.dcc_prog.specs.declared.instr.Op.{Op}
 use Rattle.dcc_prog.specs.declared.instr.Op.TheVariants.{Call, Ret}
 use Rattle.dcc_prog.specs.Frame.{Span, span_of}
 use Rattle.dcc_stack.specs.Slots.{is_within, writes_memory, gives_back}
-use Rattle.dcc_demand.specs.Procedures.{Effect, Leaves, Makes, LeavesWord, Overwrites, Action, Procedure, Procedures, is_left}
+use Rattle.dcc_demand.specs.Procedures.{Effect, Leaves, Makes, LeavesWord, Overwrites, Action, Procedure, Procedures}
+use Rattle.dcc_demand.specs.Procedures.{is_left}
 use Rattle.dcc_machine_demand.specs.Bodies.{Body, entry_of, body_at, Point, op_of, point_at}
 use Rattle.dcc_machine_demand.specs.Places.{Place, in_frame, passes, is_place, is_exposed_place, is_accessed_by}
 use Rattle.dcc_machine_demand.specs.Places.{is_private_byte}

@@ -6,12 +6,14 @@ use Rattle.dcc_num.specs.declared.FlagName.TheVariants.{Of}
 use Rattle.dcc_prog.specs.declared.instr.Count.TheVariants.{Const as ConstCount}
 use Rattle.dcc_prog.specs.declared.instr.Operand.{Operand}
 use Rattle.dcc_prog.specs.declared.instr.Op.{Op}
-use Rattle.dcc_prog.specs.declared.instr.Op.TheVariants.{Alu as AluOp, Unary as UnaryOp, Shift as ShiftOp, Mov, Xchg, Imul3, Push, Pop, Call}
+use Rattle.dcc_prog.specs.declared.instr.Op.TheVariants.{Alu as AluOp, Unary as UnaryOp, Shift as ShiftOp, Mov, Xchg}
+use Rattle.dcc_prog.specs.declared.instr.Op.TheVariants.{Imul3, Push, Pop, Call}
 use Rattle.dcc_prog.specs.Machine.{operand_width}
 use Rattle.dcc_prog.specs.Prepared.{is_division}
 use Rattle.dcc_prog.specs.Trail.{is_general}
 use Rattle.dcc_prog.specs.Writes.{is_same_register, is_carry_or_overflow, writes_flag}
-use Rattle.dcc_prog.specs.Wanted.{Location, half_of, flag_of, is_read, is_accumulator, alu_makes, unary_makes, shift_writes, shift_reads, makes, uses, surely_writes_half, surely_writes_flag}
+use Rattle.dcc_prog.specs.Wanted.{Location, half_of, flag_of, is_read, is_accumulator, alu_makes, unary_makes}
+use Rattle.dcc_prog.specs.Wanted.{shift_writes, shift_reads, makes, uses, surely_writes_half, surely_writes_flag}
 use Rattle.dcc_stack.specs.Slots.{writes_memory}
 use Rattle.dcc_machine_demand.specs.Bodies.{Body}
 use Rattle.dcc_machine_demand.specs.Places.{Place, held, in_frame, is_accessed_by, is_in_cells}

@@ -9,8 +9,8 @@ use dcc_prog::refusal::construct::{ARGUMENTS_SHORT, FRAME_ACCESS};
 use dcc_prog::{Cpu, LimitName, Refusal};
 use std::test::Fail;
 
-// Whether a procedure is framed, the number of its argument words, its cells by their first byte and size, the number of
-// its exposed local bytes, and its least exposed byte of an argument.
+// Whether a procedure is framed, the number of its argument words, its cells by their first byte and size, the number
+// of its exposed local bytes, and its least exposed byte of an argument.
 type FrameRow = (bool, u16, &'static [(i32, u8)], u16, Option<u16>);
 
 // The processor, the code, and its frames.

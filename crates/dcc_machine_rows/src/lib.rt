@@ -1,4 +1,6 @@
-//! Tests of what reads, analyses and runs executables: the loader, the decoder, layouts, procedures, heights of the stack, frames, the machine, and the plain run of the inner language. Expected values come from references apart from this code.
+//! Tests of what reads, analyses and runs executables: the loader, the decoder, layouts, procedures, heights of the
+//! stack, frames, the machine, and the plain run of the inner language. Expected values come from references apart from
+//! this code.
 #![tactic(auto)]
 
 #[cfg(test)]

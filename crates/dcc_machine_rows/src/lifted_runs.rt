@@ -1,5 +1,5 @@
-//! Executables, and the programs of the inner language that are lifted from them: both put out the same and end alike, from
-//! any fill, and the machine's run is clean. The values come from runs of the executables apart from this program.
+//! Executables, and the programs of the inner language that are lifted from them: both put out the same and end alike,
+//! from any fill, and the machine's run is clean. The values come from runs of the executables apart from this program.
 
 use crate::procedures::image_with;
 use dcc_io::{MemSink, MemSource};

@@ -20,8 +20,8 @@ use std::test::Fail;
 // The offset after the prelude, at which the code begins.
 const START: u16 = 5;
 
-/// The image of a file: the header of 32 bytes, whose one relocation moves the word at offset 1; 64 bytes with a prelude
-/// that sets DS to the segment above them, the code and zeros; and the rest, with which that segment begins.
+/// The image of a file: the header of 32 bytes, whose one relocation moves the word at offset 1; 64 bytes with a
+/// prelude that sets DS to the segment above them, the code and zeros; and the rest, with which that segment begins.
 pub fn image_with(rt: &impl Abort, alloc: Global, code: &[u8], rest: &[u8]) -> Result<Image, Fail>
     ensures { IfOk result IsLoaded }
 {

@@ -1,5 +1,6 @@
 -- States at the begins of the blocks of a graph: when they are sound and when they are closed.
-use Rattle.std.specs.Prelude.{◌≡◌, ℕ, ◌+◌, replicate, zero, suc, Bool, true, false, not, List, [], ◌∷◌, length, filter, flat_map, map, get_or, All, Option, Some, None, option_map}
+use Rattle.std.specs.Prelude.{◌≡◌, ℕ, ◌+◌, replicate, zero, suc, Bool, true, false, not, List, [], ◌∷◌, length, filter}
+use Rattle.std.specs.Prelude.{flat_map, map, get_or, All, Option, Some, None, option_map}
 use Rattle.dcc_ir.specs.declared.syntax.Loc.{Loc}
 use Rattle.dcc_ir.specs.Tree.{Graph}
 use Rattle.dcc_ir.specs.Flow.{targets}

@@ -1,6 +1,7 @@
 //! Places that wait for a turn.
 //!
-//! No contract speaks of them: they say where something new is likely, and what is found in the end doesn't rest on them.
+//! No contract speaks of them: they say where something new is likely, and what is found in the end doesn't rest on
+//! them.
 
 use dcc_ir::End;
 use std::alloc::{AllocError, Global};

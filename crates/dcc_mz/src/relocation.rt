@@ -2,7 +2,8 @@
 
 ghost use Rattle.std.specs.Prelude.{◌≡◌, ◌≤◌, ◌<◌, ◌+◌, length, OnOk, IfOk, IfErr, MatchOption};
 ghost use Rattle.dcc_prog.specs.Bytes.{with_word_at, word_at};
-ghost use Rattle.dcc_prog.specs.MzImage.{HasGoodHeader, RelocationFits, RelocationsFit, image_length, loaded_segment, relocated_image, relocated_place, relocation_count};
+ghost use Rattle.dcc_prog.specs.MzImage.{HasGoodHeader, RelocationFits, RelocationsFit, image_length, loaded_segment};
+ghost use Rattle.dcc_prog.specs.MzImage.{relocated_image, relocated_place, relocation_count};
 ghost use Rattle.dcc_mz.specs.Fault.{IsRefusal, IsRefusalOrMemory};
 ghost use Rattle.dcc_mz.specs.Header.{IsHeaderOf};
 

@@ -1,6 +1,7 @@
 -- Operands as numbers (8086 Family User's Manual, chapter 2): a byte or a word, read without a sign or in two's
 -- complement, and the flags of a result.
-use Rattle.std.specs.Prelude.{ℕ, ◌-◌, ◌%◌, ◌^◌, ◌==◌, nat_le, Bool, true, false, not, ◌&&◌, if◌then◌else◌, ℤ, pos, negsuc, neg_ℤ, ◌-ℤ◌, int_lt, int_le}
+use Rattle.std.specs.Prelude.{ℕ, ◌-◌, ◌%◌, ◌^◌, ◌==◌, nat_le, Bool, true, false, not, ◌&&◌, if◌then◌else◌, ℤ, pos}
+use Rattle.std.specs.Prelude.{negsuc, neg_ℤ, ◌-ℤ◌, int_lt, int_le}
 use Rattle.std.specs.Int.{bit_at, int_div_euclid}
 use Rattle.dcc_num.specs.declared.Width.{Width}
 use Rattle.dcc_num.specs.declared.Width.TheVariants.{Byte, Word}

@@ -1,6 +1,7 @@
 -- DIV and IDIV: each gives the quotient and the remainder, or None at a divide fault, where the divisor is 0 or the
 -- quotient does not fit.
-use Rattle.std.specs.Prelude.{ℕ, ◌+◌, ◌*◌, ◌/◌, ◌%◌, ◌==◌, nat_le, not, ◌||◌, ℤ, pos, ◌+ℤ◌, ◌*ℤ◌, int_div, int_rem, if◌then◌else◌, Option, Some, None}
+use Rattle.std.specs.Prelude.{ℕ, ◌+◌, ◌*◌, ◌/◌, ◌%◌, ◌==◌, nat_le, not, ◌||◌, ℤ, pos, ◌+ℤ◌, ◌*ℤ◌, int_div, int_rem}
+use Rattle.std.specs.Prelude.{if◌then◌else◌, Option, Some, None}
 use Rattle.dcc_num.specs.declared.Width.{Width}
 use Rattle.dcc_num.specs.Numbers.{limit_of, signed_of, fits_signed, wrapped_of}
 

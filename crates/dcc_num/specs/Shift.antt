@@ -4,7 +4,8 @@ use Rattle.std.specs.Prelude.{ℕ, ◌+◌, ◌-◌, ◌*◌, ◌/◌, ◌%◌, 
 use Rattle.std.specs.Int.{from_bool}
 use Rattle.dcc_num.specs.declared.Width.{Width}
 use Rattle.dcc_num.specs.declared.Flags.{Flags}
-use Rattle.dcc_num.specs.Numbers.{bits_of, limit_of, half_of, has_sign, is_set, differ, residue_of, halved_of, wrapped_of, signed_of, result_flags}
+use Rattle.dcc_num.specs.Numbers.{bits_of, limit_of, half_of, has_sign, is_set, differ, residue_of, halved_of}
+use Rattle.dcc_num.specs.Numbers.{wrapped_of, signed_of, result_flags}
 
 -- a shift by a count: for 0 the operand and the flags as they were
 abbrev pub unless_zero : ℕ → ℕ × Flags → ℕ × Flags → ℕ × Flags

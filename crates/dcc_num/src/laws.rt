@@ -2,8 +2,15 @@
 
 ghost use Rattle.dcc_num.specs.Numbers.{differ};
 ghost use Rattle.dcc_num.specs.Logic.{conjunction_of, disjunction_of, exclusive_of};
-ghost use Rattle.dcc_num.specs.Shift.{shl_of, shr_of, sar_of, left_rotation_of, right_rotation_of, left_turn_of, right_turn_of};
-ghost use Rattle.dcc_num.specs.Laws.{IsRepeated, left_step, right_step, signed_step, left_rotation_step, right_rotation_step, ComesRound, Undoes, left_turn_step, right_turn_step, SumsAreExact, DifferencesAreExact, SumsCarryOn, DifferencesCarryOn, DifferencesCompare, NegationsAreExact, IncrementsAreExact, DecrementsAreExact, IsBitByBit, both, either, LeftShiftsCarry, RightShiftsCarry, ShiftsTellResults, RotationsKeepFlags, TurnsKeepFlags, SignExtensionsAreExact, ProductsAreExact, SignedProductsAreExact, DivisionsAreExact, SignedDivisionsAreExact};
+ghost use Rattle.dcc_num.specs.Shift.{shl_of, shr_of, sar_of, left_rotation_of, right_rotation_of, left_turn_of};
+ghost use Rattle.dcc_num.specs.Shift.{right_turn_of};
+ghost use Rattle.dcc_num.specs.Laws.{IsRepeated, left_step, right_step, signed_step, left_rotation_step};
+ghost use Rattle.dcc_num.specs.Laws.{right_rotation_step, ComesRound, Undoes, left_turn_step, right_turn_step};
+ghost use Rattle.dcc_num.specs.Laws.{SumsAreExact, DifferencesAreExact, SumsCarryOn, DifferencesCarryOn};
+ghost use Rattle.dcc_num.specs.Laws.{DifferencesCompare, NegationsAreExact, IncrementsAreExact, DecrementsAreExact};
+ghost use Rattle.dcc_num.specs.Laws.{IsBitByBit, both, either, LeftShiftsCarry, RightShiftsCarry, ShiftsTellResults};
+ghost use Rattle.dcc_num.specs.Laws.{RotationsKeepFlags, TurnsKeepFlags, SignExtensionsAreExact, ProductsAreExact};
+ghost use Rattle.dcc_num.specs.Laws.{SignedProductsAreExact, DivisionsAreExact, SignedDivisionsAreExact};
 
 /// SHL by a count is a shift by one place, made count times.
 pub fn shl_is_repeated()

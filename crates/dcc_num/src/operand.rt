@@ -1,7 +1,8 @@
 //! Operands as numbers, and the flags of a result.
 
 ghost use Rattle.std.specs.Prelude.{◌≡◌, ◌<◌, ◌≤◌, pos, neg_ℤ, ◌≤ℤ◌, ◌<ℤ◌};
-ghost use Rattle.dcc_num.specs.Numbers.{bits_of, wrapped_of, sign_extension_of, limit_of, half_of, has_sign, signed_of, fits_signed, result_flags};
+ghost use Rattle.dcc_num.specs.Numbers.{bits_of, wrapped_of, sign_extension_of, limit_of, half_of, has_sign, signed_of};
+ghost use Rattle.dcc_num.specs.Numbers.{fits_signed, result_flags};
 
 use crate::{Flags, Width};
 

@@ -2,7 +2,8 @@
 
 ghost use Rattle.std.specs.Prelude.{◌==◌, ◌≡◌, ◌<◌, ◌≤◌, ◌*◌, ◌/◌, ◌%◌, ◌^◌, ◌-◌};
 ghost use Rattle.dcc_num.specs.Numbers.{limit_of, bits_of, is_set, signed_of, wrapped_of, residue_of, halved_of};
-ghost use Rattle.dcc_num.specs.Shift.{shl_of, shr_of, sar_of, left_rotation_of, right_rotation_of, left_turn_of, right_turn_of, turned_of, top_bits_differ};
+ghost use Rattle.dcc_num.specs.Shift.{shl_of, shr_of, sar_of, left_rotation_of, right_rotation_of, left_turn_of};
+ghost use Rattle.dcc_num.specs.Shift.{right_turn_of, turned_of, top_bits_differ};
 
 use crate::operand::{flags_of, half, is_negative, limit, signed, wrapped};
 use crate::{Flags, Width};

@@ -17,7 +17,8 @@ use Rattle.dcc_prog.specs.declared.instr.Cond.TheVariants.{O, No, B, Ae, Z, Nz, 
 use Rattle.dcc_ir.specs.declared.syntax.Loc.TheVariants.{Half, Flag}
 use Rattle.dcc_ir.specs.declared.syntax.UnOp.TheVariants.{Not, IsZero}
 use Rattle.dcc_ir.specs.declared.syntax.BinOp.{BinOp}
-use Rattle.dcc_ir.specs.declared.syntax.BinOp.TheVariants.{Add, Sub, Mul, And, Or, Xor, Shl, Shr, Eq, LtS, LtU, LeS, LeU}
+use Rattle.dcc_ir.specs.declared.syntax.BinOp.TheVariants.{Add, Sub, Mul, And, Or, Xor, Shl, Shr, Eq, LtS, LtU, LeS}
+use Rattle.dcc_ir.specs.declared.syntax.BinOp.TheVariants.{LeU}
 use Rattle.dcc_ir.specs.Tree.{Expr, Const, Get, Unary, Binary, Widen, Part, Join, Choose}
 use Rattle.dcc_ops.specs.Temporaries.{left_place, right_place, result_place, product_place, carry_place}
 

@@ -1,5 +1,5 @@
--- Operations whose destination stands at a place where nothing is stored, as SP does, which the frame tells: their flags
--- are set, and a temporary has their result.
+-- Operations whose destination stands at a place where nothing is stored, as SP does, which the frame tells: their
+-- flags are set, and a temporary has their result.
 use Rattle.std.specs.Prelude.{◌≡◌, ℕ, true, false, Option}
 use Rattle.dcc_num.specs.declared.Flags.{Flags}
 use Rattle.dcc_prog.specs.declared.cpu.Cpu.{Cpu}

@@ -5,7 +5,9 @@ use Rattle.dcc_prog.specs.declared.instr.Plain.{Plain}
 use Rattle.dcc_prog.specs.declared.instr.Plain.TheVariants.{Xlat}
 use Rattle.dcc_prog.specs.declared.instr.Operand.{Operand}
 use Rattle.dcc_prog.specs.declared.instr.Op.{Op}
-use Rattle.dcc_prog.specs.declared.instr.Op.TheVariants.{Alu as AluOp, Unary as UnaryOp, Shift as ShiftOp, Mov, Xchg, Imul3, Plain as PlainOp, Jump, Branch, Loop, LoopE, LoopNe, Jcxz}
+use Rattle.dcc_prog.specs.declared.instr.Op.TheVariants.{Alu as AluOp, Unary as UnaryOp, Shift as ShiftOp, Mov, Xchg}
+use Rattle.dcc_prog.specs.declared.instr.Op.TheVariants.{Imul3, Plain as PlainOp, Jump, Branch, Loop, LoopE, LoopNe}
+use Rattle.dcc_prog.specs.declared.instr.Op.TheVariants.{Jcxz}
 use Rattle.dcc_prog.specs.Machine.{State as Machine}
 use Rattle.dcc_prog.specs.Prepared.{is_division}
 use Rattle.dcc_prog.specs.Step.{op_step}

@@ -1,7 +1,8 @@
 -- The statements that stand for an instruction, and how its block ends. Each instruction takes every operand once into
 -- a temporary, makes the result and the flags of temporaries, and stores last; moves between halves go without
 -- temporaries, and so do XOR and SUB of a register with itself, which take no operand.
-use Rattle.std.specs.Prelude.{ℕ, ◌+◌, ◌/◌, ◌%◌, ◌==◌, Bool, true, false, ◌||◌, if◌then◌else◌, List, [], ◌∷◌, ◌++◌, Option, Some, None}
+use Rattle.std.specs.Prelude.{ℕ, ◌+◌, ◌/◌, ◌%◌, ◌==◌, Bool, true, false, ◌||◌, if◌then◌else◌, List, [], ◌∷◌, ◌++◌}
+use Rattle.std.specs.Prelude.{Option, Some, None}
 use Rattle.dcc_num.specs.declared.Width.{Width}
 use Rattle.dcc_num.specs.declared.Width.TheVariants.{Byte as byte_width, Word as word_width}
 use Rattle.dcc_num.specs.declared.Reg.{Reg}
@@ -23,7 +24,9 @@ use Rattle.dcc_prog.specs.declared.instr.Plain.TheVariants.{Cbw, Cwd, Xlat, Clc,
 use Rattle.dcc_prog.specs.declared.instr.Operand.{Operand}
 use Rattle.dcc_prog.specs.declared.instr.Operand.TheVariants.{Word, Byte}
 use Rattle.dcc_prog.specs.declared.instr.Op.{Op}
-use Rattle.dcc_prog.specs.declared.instr.Op.TheVariants.{Alu as AluOp, Unary as UnaryOp, Shift as ShiftOp, Mov, Xchg, Imul3, Plain as PlainOp, Branch, Loop, LoopE, LoopNe, Jcxz, Int21}
+use Rattle.dcc_prog.specs.declared.instr.Op.TheVariants.{Alu as AluOp, Unary as UnaryOp, Shift as ShiftOp, Mov, Xchg}
+use Rattle.dcc_prog.specs.declared.instr.Op.TheVariants.{Imul3, Plain as PlainOp, Branch, Loop, LoopE, LoopNe, Jcxz}
+use Rattle.dcc_prog.specs.declared.instr.Op.TheVariants.{Int21}
 use Rattle.dcc_prog.specs.Machine.{operand_width}
 use Rattle.dcc_prog.specs.Writes.{never_shifts}
 use Rattle.dcc_prog.specs.Wanted.{is_zeroing}
@@ -31,12 +34,20 @@ use Rattle.dcc_ir.specs.declared.syntax.Loc.{Loc}
 use Rattle.dcc_ir.specs.declared.syntax.Loc.TheVariants.{Half, Flag}
 use Rattle.dcc_ir.specs.declared.syntax.UnOp.TheVariants.{Not as NotOp}
 use Rattle.dcc_ir.specs.declared.syntax.BinOp.{BinOp}
-use Rattle.dcc_ir.specs.declared.syntax.BinOp.TheVariants.{Add as AddOp, Sub as SubOp, DivS, DivU, RemS, RemU, And as AndOp, Or as OrOp, Xor as XorOp, Shl as ShlOp, Shr as ShrOp, Sar as SarOp, Eq as EqOp}
-use Rattle.dcc_ir.specs.Tree.{Expr, Const, Get, Unary as UnaryExpr, Binary, Widen, Part, Stmt, Set, Div, Dos, Exit, Goto, If, Stop}
+use Rattle.dcc_ir.specs.declared.syntax.BinOp.TheVariants.{Add as AddOp, Sub as SubOp, DivS, DivU, RemS, RemU}
+use Rattle.dcc_ir.specs.declared.syntax.BinOp.TheVariants.{And as AndOp, Or as OrOp, Xor as XorOp, Shl as ShlOp}
+use Rattle.dcc_ir.specs.declared.syntax.BinOp.TheVariants.{Shr as ShrOp, Sar as SarOp, Eq as EqOp}
+use Rattle.dcc_ir.specs.Tree.{Expr, Const, Get, Unary as UnaryExpr, Binary, Widen, Part, Stmt, Set, Div, Dos, Exit}
+use Rattle.dcc_ir.specs.Tree.{Goto, If, Stop}
 use Rattle.dcc_ops.specs.Temporaries.{left_place, right_place, result_place, product_place, carry_place}
 use Rattle.dcc_ops.specs.Place.{Place, constant, byte, word, memory, taking, storing}
 use Rattle.dcc_ops.specs.Registers.{register_place}
-use Rattle.dcc_ops.specs.Expressions.{word_of, left, right, result, product, at_width, number, bit, flag, negated, is_zero, sign, below_sign, lowest, sum, sum_and_carry, carry_out, carry_out_of_both, sum_overflow, difference, difference_and_borrow, borrow_out, borrow_out_of_both, difference_overflow, difference_overflow_of_both, count_expr, unless_zero, if_one, shifted, nearly_shifted, rotated_left, rotated_right, turned_left, turned_right, multiplied, needs_upper_half, condition, goes_round}
+use Rattle.dcc_ops.specs.Expressions.{word_of, left, right, result, product, at_width, number, bit, flag, negated}
+use Rattle.dcc_ops.specs.Expressions.{is_zero, sign, below_sign, lowest, sum, sum_and_carry, carry_out}
+use Rattle.dcc_ops.specs.Expressions.{carry_out_of_both, sum_overflow, difference, difference_and_borrow, borrow_out}
+use Rattle.dcc_ops.specs.Expressions.{borrow_out_of_both, difference_overflow, difference_overflow_of_both, count_expr}
+use Rattle.dcc_ops.specs.Expressions.{unless_zero, if_one, shifted, nearly_shifted, rotated_left, rotated_right}
+use Rattle.dcc_ops.specs.Expressions.{turned_left, turned_right, multiplied, needs_upper_half, condition, goes_round}
 
 -- Pieces.
 

@@ -19,8 +19,8 @@ use Rattle.dcc_pipe.specs.Prepared.{IsPrepared}
 abbrev pub IsLocated : Param → Type 0
 IsLocated param = (param.stack ≡ false) × (is_memory param.put ≡ false)
 
--- The graph takes the argument words of the frame, and then what stands in locations. An argument word is in memory just
--- where the frame exposes a byte of it. As many local bytes are in memory as the frame exposes.
+-- The graph takes the argument words of the frame, and then what stands in locations. An argument word is in memory
+-- just where the frame exposes a byte of it. As many local bytes are in memory as the frame exposes.
 pub record StandsForProcedure (p : Procedure) (graph : Graph) : Type 0 where
   pub entry : graph.entry ≡ p.proc.entry
   pub others : List Param

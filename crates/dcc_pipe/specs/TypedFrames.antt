@@ -1,6 +1,7 @@
 -- The frames of a text's functions: which arguments and which local variables are in memory. Local variables that are
 -- not `auto` have no address by the dialect itself (`&` takes a name with a place alone).
-use Rattle.std.specs.Prelude.{◌≡◌, ℕ, Bool, true, false, ◌&&◌, ◌||◌, not, if◌then◌else◌, List, [], ◌∷◌, ◌++◌, map, filter, replicate, codes}
+use Rattle.std.specs.Prelude.{◌≡◌, ℕ, Bool, true, false, ◌&&◌, ◌||◌, not, if◌then◌else◌, List, [], ◌∷◌, ◌++◌, map}
+use Rattle.std.specs.Prelude.{filter, replicate, codes}
 use Rattle.std.specs.List.{AllZip, list_all, list_any, range_with_len}
 use Rattle.dcc_prog.specs.declared.cpu.Cpu.{Cpu}
 use Rattle.dcc_prog.specs.declared.image.Image.{Image}

@@ -29,7 +29,8 @@ use std::alloc::Global;
 fn text_of(alloc: Global, image: &Image, program: &Program) -> Result<Unit, SumsFault>
     requires loaded { IsLoaded image.now }
     requires program { IsProgramOf program.now.layout.cpu image.now program.now }
-    ensures text { IfOk result (λ unit. IsTextOf program.now.layout.cpu image.now (written_form (tree_of unit)) (tree_of unit)) }
+    ensures text { IfOk result
+        (λ unit. IsTextOf program.now.layout.cpu image.now (written_form (tree_of unit)) (tree_of unit)) }
     ensures typed { IfOk result (λ unit. AreTypedFrames (procedures_in program.now) (tree_of unit).functions) }
     ensures none { IfOk result (λ unit. (kind at : ℕ) → ¬ IsOfSummaries (bodies_of program.now) kind at) }
     ensures fault { IfErr result (IsConstructOf (bodies_of program.now)) }
@@ -52,14 +53,14 @@ fn text_of(alloc: Global, image: &Image, program: &Program) -> Result<Unit, Sums
 }
 
 /// The text of a loaded program for a processor: its image outside the stack as arrays, and a function for each
-/// procedure, with a variable for each half of a word register, each flag, each temporary and each half of a frame's cell
-/// that it needs, an array for the local bytes of the frame that are in memory, a label before each block, and jumps, with
-/// the lines where statements stand in the written form. Between the functions just what is wanted passes. What nothing
-/// wants is not computed. The written form stands for the unit's tree, whose run on every input and from every fill
-/// agrees with that of the program on the processor, as long as that is clean. A function keeps in memory just the
-/// arguments and the local bytes that its procedure's frame exposes; where it exposes no local byte, there may be one if
-/// the procedure moves SP by ADD, SUB, INC or DEC, and nothing but the address of that byte is used. There is a function
-/// for each procedure, by the name of its entry.
+/// procedure, with a variable for each half of a word register, each flag, each temporary and each half of a frame's
+/// cell that it needs, an array for the local bytes of the frame that are in memory, a label before each block, and
+/// jumps, with the lines where statements stand in the written form. Between the functions just what is wanted passes.
+/// What nothing wants is not computed. The written form stands for the unit's tree, whose run on every input and from
+/// every fill agrees with that of the program on the processor, as long as that is clean. A function keeps in memory
+/// just the arguments and the local bytes that its procedure's frame exposes; where it exposes no local byte, there may
+/// be one if the procedure moves SP by ADD, SUB, INC or DEC, and nothing but the address of that byte is used. There is
+/// a function for each procedure, by the name of its entry.
 ///
 /// A program that has a text has no construct, and passes no limit. One that is refused is told why, in this order: what
 /// `analyse` refuses; and where it refuses nothing, a construct of what procedures take and give back: a CALL that may

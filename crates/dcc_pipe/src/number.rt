@@ -5,8 +5,10 @@ ghost use Rattle.std.specs.List.{list_all};
 ghost use Rattle.dcc_c.specs.Tree.{Arms, no_arms};
 ghost use Rattle.dcc_c.specs.Parts.{stmts_in, inner_stmts, arm_stmts};
 ghost use Rattle.dcc_c.specs.Written as written;
-ghost use Rattle.dcc_c.specs.Written.{depth_after, written_depth, written_cases, written_stmt, written_lines, written_arms, written_default};
-ghost use Rattle.dcc_c.specs.Numbered.{rows, numbered_stmt, numbered_lines, numbered_arms, numbered_default, numbered_function, numbered_functions, numbered};
+ghost use Rattle.dcc_c.specs.Written.{depth_after, written_depth, written_cases, written_stmt, written_lines};
+ghost use Rattle.dcc_c.specs.Written.{written_arms, written_default};
+ghost use Rattle.dcc_c.specs.Numbered.{rows, numbered_stmt, numbered_lines, numbered_arms, numbered_default};
+ghost use Rattle.dcc_c.specs.Numbered.{numbered_function, numbered_functions, numbered};
 ghost use Rattle.dcc_c.specs.Views.{stmt_of, lines_of, arms_of, arm_before, function_of, tree_of, arms_if};
 ghost use Rattle.dcc_pipe.specs.Unbroken.{are_unbroken, is_unbroken_tree};
 

@@ -1,5 +1,6 @@
 -- When the text of a plan is allowed as the body of a function.
-use Rattle.std.specs.Prelude.{◌≡◌, ℕ, ◌+◌, ◌*◌, ◌≤◌, nat_le, true, false, Bool, ◌&&◌, not, List, [], ◌∷◌, Option, Some, None, All}
+use Rattle.std.specs.Prelude.{◌≡◌, ℕ, ◌+◌, ◌*◌, ◌≤◌, nat_le, true, false, Bool, ◌&&◌, not, List, [], ◌∷◌, Option, Some}
+use Rattle.std.specs.Prelude.{None, All}
 use Rattle.std.specs.List.{list_all}
 use Rattle.dcc_ir.specs.Measure.{depth_of}
 use Rattle.dcc_ir.specs.Run.{is_call}
@@ -17,7 +18,8 @@ use Rattle.dcc_text.specs.Spelling.{Spelling}
 use Rattle.dcc_text.specs.Stmts.{stmt_text}
 use Rattle.dcc_control.specs.Complete.{completed}
 use Rattle.dcc_control.specs.GotoPlan.{goto_plan}
-use Rattle.dcc_control.specs.Plan.{Item, Mark, If, Switch, For, Break, Continue, Plan, no_items, item, Arms, no_arms, arm, all_cases}
+use Rattle.dcc_control.specs.Plan.{Item, Mark, If, Switch, For, Break, Continue, Plan, no_items, item, Arms, no_arms}
+use Rattle.dcc_control.specs.Plan.{arm, all_cases}
 use Rattle.dcc_plan.specs.PlanText.{IsPlanText}
 use Rattle.dcc_control.specs.Valid.{IsPlanOf}
 
@@ -104,4 +106,5 @@ PlanTextsAreAllowed = (tree : Tree) (f : Function) (s : Spelling) (graph : inner
 
 -- the items of the plan of a text with jumps, completed, may stand where they do
 abbrev pub GotoPlansMayStand : Type 0
-GotoPlansMayStand = (graph : inner.Graph) → IsGraph graph → may_stand outermost false (completed (goto_plan graph)) ≡ true
+GotoPlansMayStand = (graph : inner.Graph) → IsGraph graph → may_stand outermost false (completed (goto_plan graph))
+    ≡ true

@@ -10,7 +10,8 @@ use Rattle.dcc_c.specs.Run.{function_in}
 use Rattle.dcc_c.specs.Tree.{Function, Tree}
 use Rattle.dcc_text.specs.Allowed.{AreDeclared, IsAllowedStmt}
 use Rattle.dcc_text.specs.Stmts.{stmt_text}
-use Rattle.dcc_variables.specs.Functions.{function_name, parameters, function_spelling, result_type, ret_text, openings, IsFunctionOf}
+use Rattle.dcc_variables.specs.Functions.{function_name, parameters, function_spelling, result_type, ret_text, openings}
+use Rattle.dcc_variables.specs.Functions.{IsFunctionOf}
 use Rattle.dcc_variables.specs.FunctionLaws.{HasFewNames, has_name}
 
 -- The function declares what the spelling of the graph names, and expressions of so many levels are no deeper in its

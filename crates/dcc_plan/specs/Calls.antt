@@ -1,5 +1,6 @@
 -- What makes functions of a text the functions of a program's graphs, and when the text stands for the program.
-use Rattle.std.specs.Prelude.{◌≡◌, ℕ, ◌⊎◌, Bool, true, ◌||◌, ◌&&◌, not, List, [], ◌∷◌, drop, flat_map, All, Contains, Some}
+use Rattle.std.specs.Prelude.{◌≡◌, ℕ, ◌⊎◌, Bool, true, ◌||◌, ◌&&◌, not, List, [], ◌∷◌, drop, flat_map, All, Contains}
+use Rattle.std.specs.Prelude.{Some}
 use Rattle.std.specs.List.{list_all}
 use Rattle.dcc_ir.specs.declared.syntax.Loc.{Loc}
 use Rattle.dcc_ir.specs.declared.syntax.Put.{Put}

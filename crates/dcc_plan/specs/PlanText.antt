@@ -3,7 +3,8 @@ use Rattle.std.specs.Prelude.{ℕ, false, List, slice_get, Some, None}
 use Rattle.dcc_ir.specs.Tree as inner
 use Rattle.dcc_ir.specs.Live.{block_in}
 use Rattle.dcc_c.specs.declared.syntax.Base.TheVariants.{Int}
-use Rattle.dcc_c.specs.Tree.{Expr, Number, Stmt, If, Forever, Switch, Break, Continue, Goto, Label, Empty, Lines, no_lines, line, Arms, no_arms, arm}
+use Rattle.dcc_c.specs.Tree.{Expr, Number, Stmt, If, Forever, Switch, Break, Continue, Goto, Label, Empty, Lines}
+use Rattle.dcc_c.specs.Tree.{no_lines, line, Arms, no_arms, arm}
 use Rattle.dcc_text.specs.Spelling.{Spelling}
 use Rattle.dcc_text.specs.Spelled.{Low, Exact, text}
 use Rattle.dcc_text.specs.Stmts.{stmt_text}

@@ -33,7 +33,8 @@ pub data OpensWith : ℕ → Lines → Lines → Type 0 where
   one_more : {count at : ℕ} {place e : Expr} {body lines : Lines} → OpensWith count body lines
       → OpensWith (suc count) (line (Assign place e) at body) lines
 
--- The function of the graph is some assignments and then the text of a valid plan, by what matters and how it is spelled.
+-- The function of the graph is some assignments and then the text of a valid plan, by what matters and how it is
+-- spelled.
 pub record IsGraphText (texts : Texts) (graph : inner.Graph) : Type 0 where
   pub spelling : IsSpelling (texts.spelling graph)
   pub matters : Matters (texts.spelling graph) graph (texts.matters graph)

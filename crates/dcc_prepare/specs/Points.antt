@@ -1,5 +1,6 @@
 -- What stands at the points of a function's code: how the text goes on from there.
-use Rattle.std.specs.Prelude.{◌≡◌, ℕ, Bool, false, ◌==◌, if◌then◌else◌, List, [], ◌∷◌, ◌++◌, length, map, string_bytes, Option, Some, None, is_some, slice_get}
+use Rattle.std.specs.Prelude.{◌≡◌, ℕ, Bool, false, ◌==◌, if◌then◌else◌, List, [], ◌∷◌, ◌++◌, length, map, string_bytes}
+use Rattle.std.specs.Prelude.{Option, Some, None, is_some, slice_get}
 use Rattle.std.specs.List.{list_any}
 use Rattle.dcc_c.specs.declared.syntax.Base.TheVariants.{Uint}
 use Rattle.dcc_c.specs.Token.{same_bytes}
@@ -10,17 +11,22 @@ use Rattle.dcc_c.specs.Rules.{declared_global}
 use Rattle.dcc_c.specs.Placement.{params_of_call, locals_of_call}
 use Rattle.dcc_c.specs.Value.{is_zero, converted, value_of}
 use Rattle.dcc_c.specs.Dos.{Dos, Putc, Getche, Getch, Puts, Leave, dos_of}
-use Rattle.dcc_c.specs.Run.{Continuation, State, with_end, goes_on, on, scope_of, after_goto, jump_step, close_step, function_in, stmt_step, step_at}
+use Rattle.dcc_c.specs.Run.{Continuation, State, with_end, goes_on, on, scope_of, after_goto, jump_step, close_step}
+use Rattle.dcc_c.specs.Run.{function_in, stmt_step, step_at}
 use Rattle.dcc_run.specs.End.{Stuck as stuck}
 use Rattle.dcc_value.specs.declared.expression.Resolved.{Resolved}
 use Rattle.dcc_prepare.specs.declared.program.Dos.{Dos as DosCall}
-use Rattle.dcc_prepare.specs.declared.program.Dos.TheVariants.{Putc as calls_putc, Getche as calls_getche, Getch as calls_getch, Puts as calls_puts, Leave as calls_leave}
+use Rattle.dcc_prepare.specs.declared.program.Dos.TheVariants.{Putc as calls_putc, Getche as calls_getche}
+use Rattle.dcc_prepare.specs.declared.program.Dos.TheVariants.{Getch as calls_getch, Puts as calls_puts}
+use Rattle.dcc_prepare.specs.declared.program.Dos.TheVariants.{Leave as calls_leave}
 use Rattle.dcc_prepare.specs.declared.program.Callee.{Callee}
-use Rattle.dcc_prepare.specs.declared.program.Callee.TheVariants.{Dos as CallsDos, Function as CallsFunction, Unknown as CallsNothing}
+use Rattle.dcc_prepare.specs.declared.program.Callee.TheVariants.{Dos as CallsDos, Function as CallsFunction}
+use Rattle.dcc_prepare.specs.declared.program.Callee.TheVariants.{Unknown as CallsNothing}
 use Rattle.dcc_prepare.specs.declared.program.CallRow.{CallRow}
 use Rattle.dcc_prepare.specs.declared.program.Case.{Case}
 use Rattle.dcc_prepare.specs.declared.program.Action.{Action}
-use Rattle.dcc_prepare.specs.declared.program.Action.TheVariants.{Pass, Assign as Assigns, Call as Calls, Test, Switch, Goto, Return as Returns, Close, Stuck}
+use Rattle.dcc_prepare.specs.declared.program.Action.TheVariants.{Pass, Assign as Assigns, Call as Calls, Test, Switch}
+use Rattle.dcc_prepare.specs.declared.program.Action.TheVariants.{Goto, Return as Returns, Close, Stuck}
 use Rattle.dcc_prepare.specs.declared.program.Row.{Row}
 use Rattle.dcc_prepare.specs.declared.program.Label.{Label}
 use Rattle.dcc_value.specs.Places.{first_place}

@@ -1,6 +1,7 @@
 //! The points of a function while they are made.
 
-ghost use Rattle.std.specs.Prelude.{◌≡◌, ℕ, ◌++◌, ◌∷◌, [], length, map, option_map, string_bytes, Option, Some, None, IfOk, OnOk, slice_set, if◌then◌else◌};
+ghost use Rattle.std.specs.Prelude.{◌≡◌, ℕ, ◌++◌, ◌∷◌, [], length, map, option_map, string_bytes, Option, Some, None};
+ghost use Rattle.std.specs.Prelude.{IfOk, OnOk, slice_set, if◌then◌else◌};
 ghost use Rattle.dcc_c.specs.Token.{same_bytes};
 ghost use Rattle.dcc_c.specs.Tree.{Word};
 ghost use Rattle.dcc_c.specs.Views.{expr_of};

@@ -1,14 +1,18 @@
 //! From the statements of a function to its points, the last statement first, so that the points after a statement
 //! are known.
 
-ghost use Rattle.std.specs.Prelude.{◌≡◌, ℕ, Bool, if◌then◌else◌, List, map, Option, None, Some, IfOk, MatchOption, string_bytes, slice_get, option_map};
-ghost use Rattle.dcc_c.specs.Tree.{Lines, line as before_lines, Arms, Assign, If, While, DoWhile, Switch, Goto, Label, Return, Function, Tree};
-ghost use Rattle.dcc_c.specs.Run.{Continuation, runs, tests, turns, from_label, from_label_inside, from_label_in_arms, default_body, ends_switch, State, step_at, jump_step, goes_on};
+ghost use Rattle.std.specs.Prelude.{◌≡◌, ℕ, Bool, if◌then◌else◌, List, map, Option, None, Some, IfOk, MatchOption};
+ghost use Rattle.std.specs.Prelude.{string_bytes, slice_get, option_map};
+ghost use Rattle.dcc_c.specs.Tree.{Lines, line as before_lines, Arms, Assign, If, While, DoWhile, Switch, Goto, Label};
+ghost use Rattle.dcc_c.specs.Tree.{Return, Function, Tree};
+ghost use Rattle.dcc_c.specs.Run.{Continuation, runs, tests, turns, from_label, from_label_inside, from_label_in_arms};
+ghost use Rattle.dcc_c.specs.Run.{default_body, ends_switch, State, step_at, jump_step, goes_on};
 ghost use Rattle.dcc_c.specs.Dos.{dos_of};
 ghost use Rattle.dcc_c.specs.Views.{expr_of, stmt_of, lines_of, arms_of, arms_if};
 ghost use Rattle.dcc_prepare.specs.Points.{Goes, MayGo, AreRows, IsCallee, StandsIf, StandAll, dos_call};
 ghost use Rattle.dcc_value.specs.Resolved.{names_of};
-ghost use Rattle.dcc_prepare.specs.Emission.{Emits, EmitsAlone, EmitsArms, EmitsIn, EmitsBefore, EmitsStmt, Leads, IsContext, function_names};
+ghost use Rattle.dcc_prepare.specs.Emission.{Emits, EmitsAlone, EmitsArms, EmitsIn, EmitsBefore, EmitsStmt, Leads};
+ghost use Rattle.dcc_prepare.specs.Emission.{IsContext, function_names};
 ghost use Rattle.dcc_value.specs.Places.{AreFirst};
 
 use crate::code::{Code, Context, resolve_all, resolve_option};
@@ -258,7 +262,8 @@ fn emit_label<'a>(
     next: usize,
     code: &mut Code<'a>,
 ) -> Result<usize, AllocError>
-    ensures { EmitsAlone code.old code.new result (λ tree points after. Goes tree points next after) (Label name.now) line }
+    ensures { EmitsAlone code.old code.new result
+        (λ tree points after. Goes tree points next after) (Label name.now) line }
 {
     let point = code.push(line, Action::Pass(next))?;
     code.place_label(alloc, name, point)?;

@@ -5,7 +5,8 @@ ghost use Rattle.dcc_c.specs.declared.syntax.CUn.TheVariants.{AddressOf};
 ghost use Rattle.dcc_c.specs.Tree.{Unary};
 ghost use Rattle.dcc_c.specs.Views.{expr_of, stmt_of, lines_of, arms_of, arms_if};
 ghost use Rattle.dcc_value.specs.Places.{AreFirst};
-ghost use Rattle.dcc_prepare.specs.Taken.{lent_words, address_word, expr_taken, exprs_taken, option_taken, stmt_taken, lines_taken, arms_taken};
+ghost use Rattle.dcc_prepare.specs.Taken.{lent_words, address_word, expr_taken, exprs_taken, option_taken, stmt_taken};
+ghost use Rattle.dcc_prepare.specs.Taken.{lines_taken, arms_taken};
 
 use dcc_c::{Arm, CExpr, CStmt, CUn, Line};
 use dcc_value::places::add_place;

@@ -3,7 +3,8 @@
 ghost use Rattle.std.specs.Prelude.{◌≡◌, ◌+◌, ◌++◌, ◌∷◌, OnOk, IfOk, min, codes, string_bytes};
 ghost use Rattle.dcc_c.specs.Tree.{DoWhile};
 ghost use Rattle.dcc_c.specs.Parts.{stmts_in, inner_stmts, arm_stmts};
-ghost use Rattle.dcc_c.specs.Written.{indentation, depth_after, written_stmt, written_else, written_lines, written_arms, written_default};
+ghost use Rattle.dcc_c.specs.Written.{indentation, depth_after, written_stmt, written_else, written_lines};
+ghost use Rattle.dcc_c.specs.Written.{written_arms, written_default};
 ghost use Rattle.dcc_c.specs.Views.{expr_of, stmt_of, lines_of, arms_of, arms_if};
 
 use crate::expression::push_expr;

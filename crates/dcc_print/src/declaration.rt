@@ -2,7 +2,9 @@
 
 ghost use Rattle.std.specs.Prelude.{◌≡◌, ◌++◌, ◌≤◌, OnOk, map, option_map, string_bytes};
 ghost use Rattle.dcc_c.specs.Placement.{after_global};
-ghost use Rattle.dcc_c.specs.Written.{written_variable, written_size, written_class, written_local, written_param, written_head_params, written_head, written_numbers, written_initial, written_global, written_place, written_globals};
+ghost use Rattle.dcc_c.specs.Written.{written_variable, written_size, written_class, written_local, written_param};
+ghost use Rattle.dcc_c.specs.Written.{written_head_params, written_head, written_numbers, written_initial};
+ghost use Rattle.dcc_c.specs.Written.{written_global, written_place, written_globals};
 ghost use Rattle.dcc_c.specs.Views.{global_of, variable_of};
 
 use crate::expression::base_words;

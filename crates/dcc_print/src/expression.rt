@@ -3,7 +3,8 @@
 ghost use Rattle.std.specs.Prelude.{◌≡◌, ◌++◌, OnOk, map, string_bytes};
 ghost use Rattle.dcc_c.specs.Token.{suffix_bytes};
 ghost use Rattle.dcc_c.specs.Grammar.{unary_mark, binary_mark};
-ghost use Rattle.dcc_c.specs.Written.{suffix_for, written_base, written_cast, written_expr, is_compound, in_parentheses, begins_with_minus, written_arguments};
+ghost use Rattle.dcc_c.specs.Written.{suffix_for, written_base, written_cast, written_expr, is_compound};
+ghost use Rattle.dcc_c.specs.Written.{in_parentheses, begins_with_minus, written_arguments};
 ghost use Rattle.dcc_c.specs.Views.{expr_of};
 
 use dcc_c::{Base, CBin, CExpr, CType, CUn};

@@ -2,7 +2,8 @@
 
 ghost use Rattle.std.specs.Prelude.{◌≡◌, ℕ, true, ◌++◌, OnOk, IfOk, map, option_map, codes, string_bytes};
 ghost use Rattle.dcc_c.specs.Tree.{Call};
-ghost use Rattle.dcc_c.specs.Written.{indentation, next_depth, written_depth, written_expr, written_return, written_test, written_cases, written_stmt};
+ghost use Rattle.dcc_c.specs.Written.{indentation, next_depth, written_depth, written_expr, written_return};
+ghost use Rattle.dcc_c.specs.Written.{written_test, written_cases, written_stmt};
 ghost use Rattle.dcc_c.specs.Views.{expr_of, stmt_of, lines_of};
 ghost use Rattle.dcc_print.specs.Blocks.{is_label};
 

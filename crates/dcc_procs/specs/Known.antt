@@ -1,6 +1,7 @@
--- What a trail tells of the offset to which it goes, and what all trails to an offset tell in common. This stands between
--- the trails and the code; no public contract rests on it.
-use Rattle.std.specs.Prelude.{ℕ, ◌==◌, nat_eq, Bool, false, not, ◌&&◌, if◌then◌else◌, List, [], ◌∷◌, Option, Some, None, option_map}
+-- What a trail tells of the offset to which it goes, and what all trails to an offset tell in common. This stands
+-- between the trails and the code; no public contract rests on it.
+use Rattle.std.specs.Prelude.{ℕ, ◌==◌, nat_eq, Bool, false, not, ◌&&◌, if◌then◌else◌, List, [], ◌∷◌, Option, Some, None}
+use Rattle.std.specs.Prelude.{option_map}
 use Rattle.dcc_num.specs.declared.Reg.{Reg}
 use Rattle.dcc_num.specs.declared.Reg.TheVariants.{Ax}
 use Rattle.dcc_num.specs.declared.Half.TheVariants.{Low, High}
@@ -12,7 +13,8 @@ use Rattle.dcc_prog.specs.declared.instr.Op.{Op}
 use Rattle.dcc_prog.specs.declared.instr.Op.TheVariants.{Alu as AluOp, Mov, Table}
 use Rattle.dcc_prog.specs.declared.instr.Instr.{Instr}
 use Rattle.dcc_prog.specs.Writes.{is_same_register, writes_half}
-use Rattle.dcc_prog.specs.Trail.{instruction_in, next_of, constant_to_ah, is_general, is_doubling, clears_upper, is_bounds_test, table_targets, op_successors}
+use Rattle.dcc_prog.specs.Trail.{instruction_in, next_of, constant_to_ah, is_general, is_doubling, clears_upper}
+use Rattle.dcc_prog.specs.Trail.{is_bounds_test, table_targets, op_successors}
 use Rattle.dcc_procs.specs.declared.known.Known.{Known}
 use Rattle.dcc_procs.specs.declared.table.Form.{Form}
 use Rattle.dcc_procs.specs.declared.table.Form.TheVariants.{Compared, AlCompared, InRange, AlInRange, Doubled}

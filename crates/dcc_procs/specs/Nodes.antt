@@ -1,5 +1,5 @@
--- The nodes of a procedure as they are made of what is known at offsets. This stands between the trails and the code; no
--- public contract rests on it.
+-- The nodes of a procedure as they are made of what is known at offsets. This stands between the trails and the code;
+-- no public contract rests on it.
 use Rattle.std.specs.Prelude.{◌≡◌, ℕ, Option, Some, None}
 use Rattle.dcc_prog.specs.declared.image.Image.{Image}
 use Rattle.dcc_prog.specs.declared.procedure.Layout.{Layout}

@@ -1,6 +1,7 @@
--- What is found of one procedure, and of those that were reached so far. This stands between the definitions and the code;
--- no public contract rests on it.
-use Rattle.std.specs.Prelude.{◌≡◌, ◌≢◌, ◌≤◌, ◌<◌, ℕ, List, [], ◌∷◌, ◌++◌, length, get_or, map, sum_by, take, AllPairs, All, Contains, Some}
+-- What is found of one procedure, and of those that were reached so far. This stands between the definitions and the
+-- code; no public contract rests on it.
+use Rattle.std.specs.Prelude.{◌≡◌, ◌≢◌, ◌≤◌, ◌<◌, ℕ, List, [], ◌∷◌, ◌++◌, length, get_or, map, sum_by, take, AllPairs}
+use Rattle.std.specs.Prelude.{All, Contains, Some}
 use Rattle.dcc_prog.specs.declared.image.Image.{Image}
 use Rattle.dcc_prog.specs.declared.procedure.Layout.{Layout}
 use Rattle.dcc_prog.specs.declared.procedure.Node.{Node}

@@ -1,6 +1,7 @@
--- What the search keeps of a procedure, and how it grows. This stands between the trails and the code; no public contract
--- rests on it.
-use Rattle.std.specs.Prelude.{◌≡◌, ◌≢◌, ◌≤◌, ◌<◌, ◌⊎◌, ◌↔◌, ℕ, ◌+◌, ◌*◌, true, false, not, ◌||◌, List, [], ◌∷◌, ◌++◌, length, sum_by, get_or, slice_set, AllPairs, Contains, Option, Some, None}
+-- What the search keeps of a procedure, and how it grows. This stands between the trails and the code; no public
+-- contract rests on it.
+use Rattle.std.specs.Prelude.{◌≡◌, ◌≢◌, ◌≤◌, ◌<◌, ◌⊎◌, ◌↔◌, ℕ, ◌+◌, ◌*◌, true, false, not, ◌||◌, List, [], ◌∷◌, ◌++◌}
+use Rattle.std.specs.Prelude.{length, sum_by, get_or, slice_set, AllPairs, Contains, Option, Some, None}
 use Rattle.dcc_prog.specs.declared.image.Image.{Image}
 use Rattle.dcc_prog.specs.declared.procedure.Layout.{Layout}
 use Rattle.dcc_prog.specs.declared.instr.Instr.{Instr}
@@ -225,8 +226,8 @@ pub record IsFollowed (image : Image) (layout : Layout) (entry at : ℕ) (old ne
   pub accepted : IsAccepted image layout entry at known instr
   pub onward : AreTold new at instr known (successors_by image at instr known)
 
--- trails of the procedure come to just the offsets that are seen, with what is known, and instructions that are accepted
--- stand there
+-- trails of the procedure come to just the offsets that are seen, with what is known, and instructions that are
+-- accepted stand there
 pub record AreAllSeen (image : Image) (layout : Layout) (entry : ℕ) (seen : List (Option Known)) : Type 0 where
   pub length_is : length seen ≡ 65536
   pub told :

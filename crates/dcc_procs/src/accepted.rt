@@ -7,7 +7,8 @@ ghost use Rattle.dcc_prog.specs.WellFormed.{IsOperation};
 ghost use Rattle.dcc_prog.specs.Trail.{instruction_in, StandsAt, IsEntry};
 ghost use Rattle.dcc_prog.specs.Construct.{IsAtNode};
 ghost use Rattle.dcc_prog.specs.Refused.{IsRefusedByTrails};
-ghost use Rattle.dcc_prog.specs.declared.refusal.construct.TheConstants.{OUTSIDE, INDIRECT_JUMP, INDIRECT_CALL, DOS_NUMBER};
+ghost use Rattle.dcc_prog.specs.declared.refusal.construct.TheConstants.{OUTSIDE, INDIRECT_JUMP, INDIRECT_CALL};
+ghost use Rattle.dcc_prog.specs.declared.refusal.construct.TheConstants.{DOS_NUMBER};
 ghost use Rattle.dcc_prog.specs.declared.refusal.Refusal.TheVariants.{Construct};
 ghost use Rattle.dcc_procs.specs.Search.{IsWitnessed, HasDosNumber, HasTable, IsAllowed, IsAccepted, IsTableFault};
 

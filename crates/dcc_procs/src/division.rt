@@ -7,7 +7,8 @@ ghost use Rattle.dcc_prog.specs.Trail.{IsNode, IsEntry};
 ghost use Rattle.dcc_prog.specs.Prepared.{is_upper, zeroes_upper, extends_sign, writes_ax, writes_upper, IsUnprepared};
 ghost use Rattle.dcc_prog.specs.Refused.{IsRefusedByTrails};
 ghost use Rattle.dcc_procs.specs.Search.{AreAllSeen, IsOrder};
-ghost use Rattle.dcc_procs.specs.Division.{unready, is_for, div_after, idiv_after, ready_after, ready_at, FindsReady, LacksReady};
+ghost use Rattle.dcc_procs.specs.Division.{unready, is_for, div_after, idiv_after, ready_after, ready_at, FindsReady};
+ghost use Rattle.dcc_procs.specs.Division.{LacksReady};
 
 use crate::code::instruction_in;
 use crate::form::writes_half;
@@ -184,7 +185,8 @@ pub fn check_divisions(
     requires order { IsOrder image.now layout.now entry seen.now order.now }
     requires length { length ready.old ≡ 65536 }
     ensures length { length ready.new ≡ 65536 }
-    ensures prepared { OnOk result ((at : ℕ) → IsNode image.now layout.now entry at → ¬ IsUnprepared image.now layout.now entry at) }
+    ensures prepared { OnOk result ((at : ℕ) → IsNode image.now layout.now entry at
+        → ¬ IsUnprepared image.now layout.now entry at) }
     ensures refused { IfErr result (IsRefusedByTrails image.now layout.now) }
 {
     for place in 0..order.len() {

@@ -62,9 +62,11 @@ impl Entries {
     pub fn add_all(&mut self, entries: &[u16]) -> Result<(), Refusal>
         requires length { length self.old.listed.items ≡ 65536 }
         requires few { length self.old.order.items ≤ 512 }
-        ensures added { (image : TheImage) (layout : TheLayout) → AreEntries image layout self.old → AreAllReached image layout entries.now
+        ensures added { (image : TheImage) (layout : TheLayout) → AreEntries image layout self.old
+            → AreAllReached image layout entries.now
             → OnOk result (AreAdded image layout self.old self.new entries.now) }
-        ensures refused { (image : TheImage) (layout : TheLayout) → AreEntries image layout self.old → AreAllReached image layout entries.now
+        ensures refused { (image : TheImage) (layout : TheLayout) → AreEntries image layout self.old
+            → AreAllReached image layout entries.now
             → IfErr result (IsRefusedByTrails image layout) }
     {
         for place in 0..entries.len() {

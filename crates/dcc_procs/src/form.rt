@@ -2,7 +2,8 @@
 
 ghost use Rattle.std.specs.Prelude.{◌≡◌};
 ghost use Rattle.dcc_prog.specs.WellFormed.{IsOperation};
-ghost use Rattle.dcc_prog.specs.Writes.{is_same_half, is_half_of, is_in_pair, unary_writes_half, plain_writes_half, writes_half};
+ghost use Rattle.dcc_prog.specs.Writes.{is_same_half, is_half_of, is_in_pair, unary_writes_half, plain_writes_half};
+ghost use Rattle.dcc_prog.specs.Writes.{writes_half};
 ghost use Rattle.dcc_prog.specs.Trail.{constant_to_ah};
 ghost use Rattle.dcc_prog.specs.Construct.{is_system};
 

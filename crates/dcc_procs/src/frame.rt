@@ -4,7 +4,8 @@
 ghost use Rattle.std.specs.Prelude.{◌≡◌};
 ghost use Rattle.dcc_prog.specs.MzImage.{IsLoaded};
 ghost use Rattle.dcc_prog.specs.Layout.{HasLayout};
-ghost use Rattle.dcc_prog.specs.FrameForm.{stands_push_bp, stands_mov_bp_sp, stands_enter, second_of, begins_by_push, is_framed, makes_frame, is_frame_form};
+ghost use Rattle.dcc_prog.specs.FrameForm.{stands_push_bp, stands_mov_bp_sp, stands_enter, second_of, begins_by_push};
+ghost use Rattle.dcc_prog.specs.FrameForm.{is_framed, makes_frame, is_frame_form};
 
 use crate::code::instruction_in;
 use dcc_prog::{Image, Instr, Layout, Op};

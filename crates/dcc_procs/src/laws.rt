@@ -1,7 +1,8 @@
 //! Laws of trails, for every image and layout. The functions do nothing: their contracts are proved
 //! for all.
 
-ghost use Rattle.dcc_procs.specs.Laws.{KnownAhAndWindowDecideSuccessors, EntryAndSuccessorsAreNodes, OtherNodesHavePredecessors};
+ghost use Rattle.dcc_procs.specs.Laws.{KnownAhAndWindowDecideSuccessors, EntryAndSuccessorsAreNodes};
+ghost use Rattle.dcc_procs.specs.Laws.{OtherNodesHavePredecessors};
 
 /// Trails that end at one offset, before which the same is known of AH and the last five
 /// instructions are the same, have the same successors.

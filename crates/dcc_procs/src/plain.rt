@@ -8,7 +8,9 @@ ghost use Rattle.std.specs.Prelude.{◌≡◌, IsTrue, ◌↔◌, Contains, IfOk
 ghost use Rattle.dcc_prog.specs.MzImage.{IsLoaded};
 ghost use Rattle.dcc_prog.specs.Layout.{HasLayout};
 ghost use Rattle.dcc_prog.specs.WellFormed.{IsOperation};
-ghost use Rattle.dcc_prog.specs.Trail.{ah_after, known_ah, operation_in, moved_from, is_doubling, clears_upper, compared_with, al_compared_with, is_test_to, number_before_test, greatest_in, greatest_doubled, table_number, successors, IsTrail};
+ghost use Rattle.dcc_prog.specs.Trail.{ah_after, known_ah, operation_in, moved_from, is_doubling, clears_upper};
+ghost use Rattle.dcc_prog.specs.Trail.{compared_with, al_compared_with, is_test_to, number_before_test, greatest_in};
+ghost use Rattle.dcc_prog.specs.Trail.{greatest_doubled, table_number, successors, IsTrail};
 
 use crate::code::instruction_in;
 use crate::form::{constant_to_ah, writes_ah};
@@ -132,7 +134,8 @@ fn number_before_test(
 ) -> Option<u16>
     requires loaded { IsLoaded image.now }
     requires layout { HasLayout image.now layout.now }
-    ensures { result ≡ number_before_test image.now layout.now (λ op. if of_al then al_compared_with op else compared_with r op) to trail.now }
+    ensures { result ≡ number_before_test image.now layout.now
+        (λ op. if of_al then al_compared_with op else compared_with r op) to trail.now }
 {
     let [test, compare, ..] = trail else {
         return None;

@@ -1,11 +1,13 @@
 //! The search for the nodes of a procedure.
 
-ghost use Rattle.std.specs.Prelude.{◌≡◌, ◌≢◌, ◌≤◌, ◌<◌, ◌++◌, ◌∷◌, [], length, slice_set, Some, None, IfOk, IfErr, OnOk};
+ghost use Rattle.std.specs.Prelude.{◌≡◌, ◌≢◌, ◌≤◌, ◌<◌, ◌++◌, ◌∷◌, [], length, slice_set, Some, None, IfOk, IfErr};
+ghost use Rattle.std.specs.Prelude.{OnOk};
 ghost use Rattle.dcc_prog.specs.MzImage.{IsLoaded};
 ghost use Rattle.dcc_prog.specs.Layout.{HasLayout};
 ghost use Rattle.dcc_prog.specs.Trail.{IsEntry};
 ghost use Rattle.dcc_prog.specs.Refused.{IsRefusedByTrails};
-ghost use Rattle.dcc_procs.specs.Search.{seen_at, work_of, with_known, IsFresh, IsArrived, IsFull, IsSound, IsOrder, IsFollowed, AreAllSeen, IsListing};
+ghost use Rattle.dcc_procs.specs.Search.{seen_at, work_of, with_known, IsFresh, IsArrived, IsFull, IsSound, IsOrder};
+ghost use Rattle.dcc_procs.specs.Search.{IsFollowed, AreAllSeen, IsListing};
 
 use crate::accepted::accepted;
 use crate::known::{Known, NOTHING};
@@ -46,7 +48,8 @@ impl Search {
     fn reach(&mut self, to: u16, known: Known) -> Result<(), Refusal>
         requires length { length self.old.seen.items ≡ 65536 }
         requires first { seen_at self.old.seen.items to ≡ None }
-        ensures reached { OnOk result (work_of self.new ≡ with_known (work_of self.old) (self.old.order.items ++ to ∷ []) to known) }
+        ensures reached { OnOk result (work_of self.new
+            ≡ with_known (work_of self.old) (self.old.order.items ++ to ∷ []) to known) }
         ensures room { OnOk result (length self.old.order.items ≢ 4096) }
         ensures full { IfErr result (IsFull (work_of self.old) to) }
     {

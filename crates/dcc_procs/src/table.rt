@@ -4,7 +4,8 @@ ghost use Rattle.std.specs.Prelude.{◌≡◌, Some};
 ghost use Rattle.dcc_num.specs.declared.Reg.TheVariants.{Ax};
 ghost use Rattle.dcc_prog.specs.Writes.{is_same_register};
 ghost use Rattle.dcc_prog.specs.Trail.{is_general, is_bounds_test, clears_upper, is_doubling};
-ghost use Rattle.dcc_procs.specs.Known.{is_same_form, is_same_index, number_of, form_begun, form_continued, form_after, moved_to, index_after};
+ghost use Rattle.dcc_procs.specs.Known.{is_same_form, is_same_index, number_of, form_begun, form_continued, form_after};
+ghost use Rattle.dcc_procs.specs.Known.{moved_to, index_after};
 
 use dcc_num::{Half, Reg};
 use dcc_prog::{Alu, Cond, Count, Op, Operand, Shift};

@@ -1,6 +1,7 @@
 -- The accesses of an operation to memory: the bytes that it reads and writes there, in the order of the machine. The
 -- instruction's own bytes are none of them.
-use Rattle.std.specs.Prelude.{◌≡◌, ℕ, ◌+◌, ◌/◌, ◌%◌, ◌==◌, Bool, true, false, ◌&&◌, if◌then◌else◌, List, [], ◌∷◌, ◌++◌, length, map, min, slice_index, slice_set, Contains, Option, Some, None, is_none}
+use Rattle.std.specs.Prelude.{◌≡◌, ℕ, ◌+◌, ◌/◌, ◌%◌, ◌==◌, Bool, true, false, ◌&&◌, if◌then◌else◌, List, [], ◌∷◌, ◌++◌}
+use Rattle.std.specs.Prelude.{length, map, min, slice_index, slice_set, Contains, Option, Some, None, is_none}
 use Rattle.std.specs.List.{range_with_len}
 use Rattle.dcc_run.specs.End.{is_over}
 use Rattle.dcc_num.specs.declared.Width.{Width}
@@ -17,9 +18,12 @@ use Rattle.dcc_prog.specs.declared.instr.Ea.{Ea}
 use Rattle.dcc_prog.specs.declared.instr.Operand.{Operand}
 use Rattle.dcc_prog.specs.declared.instr.Operand.TheVariants.{Mem}
 use Rattle.dcc_prog.specs.declared.instr.Op.{Op}
-use Rattle.dcc_prog.specs.declared.instr.Op.TheVariants.{Alu as AluOp, Unary as UnaryOp, Shift as ShiftOp, Mov, Xchg, Imul3, Push, Pop, Enter, Leave, Plain as PlainOp, Table, Call, Ret, Int21}
+use Rattle.dcc_prog.specs.declared.instr.Op.TheVariants.{Alu as AluOp, Unary as UnaryOp, Shift as ShiftOp, Mov, Xchg}
+use Rattle.dcc_prog.specs.declared.instr.Op.TheVariants.{Imul3, Push, Pop, Enter, Leave, Plain as PlainOp, Table, Call}
+use Rattle.dcc_prog.specs.declared.instr.Op.TheVariants.{Ret, Int21}
 use Rattle.dcc_prog.specs.declared.instr.Instr.{Instr}
-use Rattle.dcc_prog.specs.Machine.{State, word_in, half_of_word, code_segment, stack_segment, data_segment, physical, offset_of, segment_of, operand_value, with_operand, is_bp}
+use Rattle.dcc_prog.specs.Machine.{State, word_in, half_of_word, code_segment, stack_segment, data_segment, physical}
+use Rattle.dcc_prog.specs.Machine.{offset_of, segment_of, operand_value, with_operand, is_bp}
 use Rattle.dcc_prog.specs.Operations.{with_sp_raised}
 use Rattle.dcc_prog.specs.Dos.{dos_string}
 use Rattle.dcc_prog.specs.Table.{instruction_at}

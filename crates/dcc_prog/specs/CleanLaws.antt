@@ -1,7 +1,8 @@
 -- Laws on clean runs: fronts of clean runs are clean; what uses no stack is clean and leaves the stack as it is; SP is
 -- after a step what is told of it; and the marks are those of the bytes that steps have stored since SP last left them
 -- behind.
-use Rattle.std.specs.Prelude.{◌≡◌, ℕ, suc, ◌≤◌, ◌<◌, ◌↔◌, nat_lt, Bool, true, false, not, ◌&&◌, ◌||◌, List, [], length, Contains, Some, None}
+use Rattle.std.specs.Prelude.{◌≡◌, ℕ, suc, ◌≤◌, ◌<◌, ◌↔◌, nat_lt, Bool, true, false, not, ◌&&◌, ◌||◌, List, [], length}
+use Rattle.std.specs.Prelude.{Contains, Some, None}
 use Rattle.dcc_run.specs.End.{is_over}
 use Rattle.dcc_run.specs.System.{after}
 use Rattle.dcc_run.specs.Watched.{state}
@@ -27,7 +28,8 @@ use Rattle.dcc_prog.specs.FrameForm.{is_sp_move}
 use Rattle.dcc_prog.specs.StateForm.{IsState}
 use Rattle.dcc_prog.specs.Layout.{HasLayout}
 use Rattle.dcc_prog.specs.Access.{is_direct, found_accesses, step_accesses}
-use Rattle.dcc_prog.specs.Clean.{Stack, stack_bytes, stored_bytes, top_in, sp_after, is_low, is_marked, foul_of, stack_after, first_stack}
+use Rattle.dcc_prog.specs.Clean.{Stack, stack_bytes, stored_bytes, top_in, sp_after, is_low, is_marked, foul_of}
+use Rattle.dcc_prog.specs.Clean.{stack_after, first_stack}
 use Rattle.dcc_prog.specs.Watch.{Stage, InProcedures, next_instruction, watched_machine, first_watch, IsClean}
 
 -- the state of the program's machine after so many steps from the start of the image

@@ -1,9 +1,12 @@
 -- The constructs for which a program is not decompiled. Each kind has a number, and is a predicate of the processor,
 -- the image and an offset in its code segment: one file may have a construct on one processor and none on the other.
-use Rattle.std.specs.Prelude.{◌≡◌, ◌≢◌, ◌≤◌, ◌<◌, ◌⊎◌, ℕ, ◌+◌, ◌*◌, ◌==◌, Bool, true, false, not, ◌||◌, List, ◌∷◌, length, Option, Some, None}
+use Rattle.std.specs.Prelude.{◌≡◌, ◌≢◌, ◌≤◌, ◌<◌, ◌⊎◌, ℕ, ◌+◌, ◌*◌, ◌==◌, Bool, true, false, not, ◌||◌, List, ◌∷◌}
+use Rattle.std.specs.Prelude.{length, Option, Some, None}
 use Rattle.dcc_num.specs.declared.Reg.{Reg}
 use Rattle.dcc_num.specs.declared.dos.TheConstants.{GETCHE, PUTC, GETCH, PUTS, EXIT}
-use Rattle.dcc_prog.specs.declared.refusal.construct.TheConstants.{NO_LAYOUT, OUTSIDE, INDIRECT_JUMP, INDIRECT_CALL, DOS_NUMBER, HEIGHTS, FRAME_ACCESS, ARGUMENTS_SHORT, ENTRY_RETURN, DIVISION}
+use Rattle.dcc_prog.specs.declared.refusal.construct.TheConstants.{NO_LAYOUT, OUTSIDE, INDIRECT_JUMP, INDIRECT_CALL}
+use Rattle.dcc_prog.specs.declared.refusal.construct.TheConstants.{DOS_NUMBER, HEIGHTS, FRAME_ACCESS, ARGUMENTS_SHORT}
+use Rattle.dcc_prog.specs.declared.refusal.construct.TheConstants.{ENTRY_RETURN, DIVISION}
 use Rattle.dcc_prog.specs.declared.cpu.Cpu.{Cpu}
 use Rattle.dcc_prog.specs.declared.image.Image.{Image}
 use Rattle.dcc_prog.specs.declared.procedure.Layout.{Layout}
@@ -14,7 +17,8 @@ use Rattle.dcc_prog.specs.declared.instr.Op.TheVariants.{Mov, Plain as PlainOp, 
 use Rattle.dcc_prog.specs.Bytes.{byte_at}
 use Rattle.dcc_prog.specs.Operands.{reg_field}
 use Rattle.dcc_prog.specs.Layout.{HasLayout, is_control}
-use Rattle.dcc_prog.specs.Trail.{code_within, instruction_in, StandsAt, known_ah, table_number, IsTrail, IsNode, IsEntry}
+use Rattle.dcc_prog.specs.Trail.{code_within, instruction_in, StandsAt, known_ah, table_number, IsTrail, IsNode}
+use Rattle.dcc_prog.specs.Trail.{IsEntry}
 use Rattle.dcc_prog.specs.FrameForm.{is_frame_form}
 use Rattle.dcc_prog.specs.Prepared.{IsUnprepared}
 use Rattle.dcc_prog.specs.Height.{IsMisplaced, HasBadHeight}

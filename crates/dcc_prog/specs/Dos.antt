@@ -5,7 +5,8 @@ use Rattle.std.specs.List.{range_with_len, take_while}
 use Rattle.dcc_run.specs.End.{Exit, Outside}
 use Rattle.dcc_run.specs.Event.{Event, Took, MetEnd, writes}
 use Rattle.dcc_num.specs.declared.Reg.TheVariants.{Ax, Dx}
-use Rattle.dcc_num.specs.declared.dos.TheConstants.{GETCHE, PUTC, GETCH, PUTS, EXIT, END_OF_INPUT, STRING_END, STRING_MOST}
+use Rattle.dcc_num.specs.declared.dos.TheConstants.{GETCHE, PUTC, GETCH, PUTS, EXIT, END_OF_INPUT, STRING_END}
+use Rattle.dcc_num.specs.declared.dos.TheConstants.{STRING_MOST}
 use Rattle.dcc_prog.specs.Machine.{State, word_in, data_segment, byte_in}
 use Rattle.dcc_prog.specs.Operations.{with_end, with_al}
 

@@ -1,6 +1,7 @@
 -- Stack heights: by how many bytes SP lies below its value at the entry of a procedure, as trails tell it. A height
 -- below 0 says that SP lies above that value.
-use Rattle.std.specs.Prelude.{◌≡◌, ◌≢◌, ◌⊎◌, ℕ, ℤ, pos, neg_ℤ, ◌+ℤ◌, ◌-ℤ◌, ◌<ℤ◌, int_lt, Bool, true, false, ◌||◌, List, [], ◌∷◌, Option, Some, None}
+use Rattle.std.specs.Prelude.{◌≡◌, ◌≢◌, ◌⊎◌, ℕ, ℤ, pos, neg_ℤ, ◌+ℤ◌, ◌-ℤ◌, ◌<ℤ◌, int_lt, Bool, true, false, ◌||◌, List}
+use Rattle.std.specs.Prelude.{[], ◌∷◌, Option, Some, None}
 use Rattle.dcc_num.specs.declared.Width.TheVariants.{Word as word_width}
 use Rattle.dcc_num.specs.declared.Reg.TheVariants.{Sp, Bp}
 use Rattle.dcc_num.specs.declared.Half.TheVariants.{Low}
@@ -11,7 +12,8 @@ use Rattle.dcc_prog.specs.declared.instr.Alu.TheVariants.{Add, Sub}
 use Rattle.dcc_prog.specs.declared.instr.Unary.TheVariants.{Inc, Dec}
 use Rattle.dcc_prog.specs.declared.instr.Operand.TheVariants.{Word, Const}
 use Rattle.dcc_prog.specs.declared.instr.Op.{Op}
-use Rattle.dcc_prog.specs.declared.instr.Op.TheVariants.{Alu as AluOp, Unary as UnaryOp, Mov, Lea, Push, Pop, Enter, Leave, Call, Ret}
+use Rattle.dcc_prog.specs.declared.instr.Op.TheVariants.{Alu as AluOp, Unary as UnaryOp, Mov, Lea, Push, Pop, Enter}
+use Rattle.dcc_prog.specs.declared.instr.Op.TheVariants.{Leave, Call, Ret}
 use Rattle.dcc_prog.specs.Writes.{writes_half}
 use Rattle.dcc_prog.specs.Trail.{StandsAt, IsTrail, IsNode}
 use Rattle.dcc_prog.specs.FrameForm.{is_framed, copies_bp, uses_bp_address, is_frame_form}

@@ -1,6 +1,7 @@
 -- The layout of a program of the small memory model: one segment of code, and above it one segment of data in which the
 -- stack lies too. The prelude, the instructions from the entry on that load registers and segments alone, sets it up.
-use Rattle.std.specs.Prelude.{◌≡◌, ◌≤◌, ◌<◌, ℕ, ◌+◌, ◌-◌, ◌*◌, ◌==◌, nat_lt, min, Bool, true, false, ◌||◌, if◌then◌else◌, List, [], ◌∷◌, length, drop, Some}
+use Rattle.std.specs.Prelude.{◌≡◌, ◌≤◌, ◌<◌, ℕ, ◌+◌, ◌-◌, ◌*◌, ◌==◌, nat_lt, min, Bool, true, false, ◌||◌}
+use Rattle.std.specs.Prelude.{if◌then◌else◌, List, [], ◌∷◌, length, drop, Some}
 use Rattle.std.specs.List.{list_any}
 use Rattle.dcc_run.specs.System.{after}
 use Rattle.dcc_num.specs.declared.Reg.TheVariants.{Sp}

@@ -1,5 +1,6 @@
 -- The machine: its registers, flags, memory and console (8086 Family User's Manual, chapter 2).
-use Rattle.std.specs.Prelude.{ℕ, ◌+◌, ◌-◌, ◌*◌, ◌/◌, ◌%◌, Bool, true, false, ◌||◌, if◌then◌else◌, List, [], ◌∷◌, ◌++◌, length, replicate, slice_index, slice_set, Option, Some, None}
+use Rattle.std.specs.Prelude.{ℕ, ◌+◌, ◌-◌, ◌*◌, ◌/◌, ◌%◌, Bool, true, false, ◌||◌, if◌then◌else◌, List, [], ◌∷◌, ◌++◌}
+use Rattle.std.specs.Prelude.{length, replicate, slice_index, slice_set, Option, Some, None}
 use Rattle.dcc_run.specs.End.{End, Running}
 use Rattle.dcc_run.specs.Event.{Event}
 use Rattle.dcc_num.specs.declared.Width.{Width}

@@ -5,7 +5,8 @@ use Rattle.dcc_prog.specs.declared.instr.Op.{Op}
 use Rattle.dcc_prog.specs.Machine.{State}
 use Rattle.dcc_prog.specs.Step.{op_step, step}
 use Rattle.dcc_prog.specs.StateForm.{HasRegisters}
-use Rattle.dcc_prog.specs.Access.{accesses, step_accesses, step_reads, read_by, written_by, with_memory, AgreeAt, ActsBy, ActsByAccesses}
+use Rattle.dcc_prog.specs.Access.{accesses, step_accesses, step_reads, read_by, written_by, with_memory, AgreeAt}
+use Rattle.dcc_prog.specs.Access.{ActsBy, ActsByAccesses}
 
 -- the accesses of an operation tell what its step takes from memory and does to it, and with the instruction's bytes
 -- they tell what a step of the machine does

@@ -2,7 +2,8 @@
 -- file header"). A file is a list of bytes, and offsets count bytes from its start. The words of the header
 -- are little-endian. The extra paragraphs, the checksum, the overlay number and what follows the image are
 -- passed over.
-use Rattle.std.specs.Prelude.{◌≡◌, ◌≤◌, ◌<◌, ℕ, zero, suc, ◌+◌, ◌-◌, ◌*◌, ◌%◌, ◌==◌, if◌then◌else◌, min, List, length, slice_range, All}
+use Rattle.std.specs.Prelude.{◌≡◌, ◌≤◌, ◌<◌, ℕ, zero, suc, ◌+◌, ◌-◌, ◌*◌, ◌%◌, ◌==◌, if◌then◌else◌, min, List, length}
+use Rattle.std.specs.Prelude.{slice_range, All}
 use Rattle.dcc_prog.specs.declared.image.Image.{Image}
 use Rattle.dcc_prog.specs.Bytes.{byte_at, word_at, with_word_at}
 use Rattle.dcc_prog.specs.Load.{load_segment}

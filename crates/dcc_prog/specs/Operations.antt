@@ -1,7 +1,8 @@
 -- What the operations do to the state (8086 Family User's Manual, table 2-21; iAPX 86/88, 186/188 User's Manual,
 -- Programmer's Reference). The instruction pointer stands after the instruction already. Flags that the manuals leave
 -- undefined are clear.
-use Rattle.std.specs.Prelude.{ℕ, ◌+◌, ◌-◌, ◌*◌, ◌%◌, ◌==◌, Bool, true, false, not, ◌&&◌, ◌||◌, if◌then◌else◌, Option, Some, None}
+use Rattle.std.specs.Prelude.{ℕ, ◌+◌, ◌-◌, ◌*◌, ◌%◌, ◌==◌, Bool, true, false, not, ◌&&◌, ◌||◌, if◌then◌else◌, Option}
+use Rattle.std.specs.Prelude.{Some, None}
 use Rattle.dcc_run.specs.End.{End, Divide}
 use Rattle.dcc_num.specs.declared.Width.{Width}
 use Rattle.dcc_num.specs.declared.Width.TheVariants.{Byte as byte_width, Word as word_width}
@@ -12,7 +13,8 @@ use Rattle.dcc_num.specs.declared.Flags.{Flags}
 use Rattle.dcc_num.specs.Numbers.{limit_of, differ, sign_extension_of, no_flags}
 use Rattle.dcc_num.specs.Sum.{sum_of, difference_of, negation_of, increment_of, decrement_of}
 use Rattle.dcc_num.specs.Logic.{conjunction_of, disjunction_of, exclusive_of}
-use Rattle.dcc_num.specs.Shift.{shl_of, shr_of, sar_of, left_rotation_of, right_rotation_of, left_turn_of, right_turn_of}
+use Rattle.dcc_num.specs.Shift.{shl_of, shr_of, sar_of, left_rotation_of, right_rotation_of, left_turn_of}
+use Rattle.dcc_num.specs.Shift.{right_turn_of}
 use Rattle.dcc_num.specs.Product.{product_of, signed_product_of, extension_of}
 use Rattle.dcc_num.specs.Quotient.{division_of, signed_division_of}
 use Rattle.dcc_prog.specs.declared.cpu.Cpu.{Cpu}
@@ -32,7 +34,9 @@ use Rattle.dcc_prog.specs.declared.instr.Plain.TheVariants.{Nop, Cbw, Cwd, Xlat,
 use Rattle.dcc_prog.specs.declared.instr.Ea.{Ea}
 use Rattle.dcc_prog.specs.declared.instr.Operand.{Operand}
 use Rattle.dcc_prog.specs.declared.instr.Operand.TheVariants.{Word}
-use Rattle.dcc_prog.specs.Machine.{State, half_of_word, word_with_half, word_in, with_word_in, code_segment, stack_segment, data_segment, byte_in, word_at_offset, with_word_at_offset, offset_of, operand_value, with_operand, operand_width}
+use Rattle.dcc_prog.specs.Machine.{State, half_of_word, word_with_half, word_in, with_word_in, code_segment}
+use Rattle.dcc_prog.specs.Machine.{stack_segment, data_segment, byte_in, word_at_offset, with_word_at_offset, offset_of}
+use Rattle.dcc_prog.specs.Machine.{operand_value, with_operand, operand_width}
 
 -- the run ends at the instruction at this offset
 abbrev pub with_end : End → ℕ → State → State

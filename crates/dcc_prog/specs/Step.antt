@@ -5,11 +5,16 @@ use Rattle.dcc_run.specs.System.{System}
 use Rattle.dcc_num.specs.declared.Reg.TheVariants.{Cx}
 use Rattle.dcc_prog.specs.declared.cpu.Cpu.{Cpu}
 use Rattle.dcc_prog.specs.declared.instr.Op.{Op}
-use Rattle.dcc_prog.specs.declared.instr.Op.TheVariants.{Alu, Unary, Shift, Mov, Xchg, Lea, Imul3, Push, Pop, Enter, Leave, Plain, Jump, Branch, Loop, LoopE, LoopNe, Jcxz, Table, Call, Ret, Int21}
+use Rattle.dcc_prog.specs.declared.instr.Op.TheVariants.{Alu, Unary, Shift, Mov, Xchg, Lea, Imul3, Push, Pop, Enter}
+use Rattle.dcc_prog.specs.declared.instr.Op.TheVariants.{Leave, Plain, Jump, Branch, Loop, LoopE, LoopNe, Jcxz, Table}
+use Rattle.dcc_prog.specs.declared.instr.Op.TheVariants.{Call, Ret, Int21}
 use Rattle.dcc_prog.specs.declared.instr.Instr.{Instr}
 use Rattle.dcc_prog.specs.Table.{instruction_at}
 use Rattle.dcc_prog.specs.Machine.{State, word_in, code_segment, byte_in, operand_value, operand_width}
-pub use Rattle.dcc_prog.specs.Operations.{with_end, with_flags, with_result, with_al, mov_step, xchg_step, lea_step, alu_step, unary_step, shift_step, imul3_step, push_step, pop_step, enter_step, leave_step, after_jump, after_jump_if, holds, loop_step, table_step, call_step, ret_step, plain_step}
+pub use Rattle.dcc_prog.specs.Operations.{with_end, with_flags, with_result, with_al, mov_step, xchg_step, lea_step}
+pub use Rattle.dcc_prog.specs.Operations.{alu_step, unary_step, shift_step, imul3_step, push_step, pop_step, enter_step}
+pub use Rattle.dcc_prog.specs.Operations.{leave_step, after_jump, after_jump_if, holds, loop_step, table_step}
+pub use Rattle.dcc_prog.specs.Operations.{call_step, ret_step, plain_step}
 pub use Rattle.dcc_prog.specs.Dos.{dos_step, dos_call}
 
 -- the byte at so many bytes after the instruction pointer, whose offset wraps

@@ -2,7 +2,8 @@
 -- run may pass one after another, and stands here with the newest first. Where it goes on rests on the instruction
 -- at its end; for INT 21h also on the constant that was last moved to AH, and for a jump through a table on at most
 -- five instructions before.
-use Rattle.std.specs.Prelude.{◌≡◌, ℕ, ◌+◌, ◌*◌, ◌/◌, ◌%◌, ◌==◌, Bool, true, false, not, ◌&&◌, if◌then◌else◌, List, [], ◌∷◌, take, drop, map, Contains, Option, Some, None, option_map}
+use Rattle.std.specs.Prelude.{◌≡◌, ℕ, ◌+◌, ◌*◌, ◌/◌, ◌%◌, ◌==◌, Bool, true, false, not, ◌&&◌, if◌then◌else◌, List, []}
+use Rattle.std.specs.Prelude.{◌∷◌, take, drop, map, Contains, Option, Some, None, option_map}
 use Rattle.std.specs.List.{range_with_len}
 use Rattle.dcc_num.specs.declared.Reg.{Reg}
 use Rattle.dcc_num.specs.declared.Reg.TheVariants.{Ax, Sp, Bp}
@@ -16,7 +17,8 @@ use Rattle.dcc_prog.specs.declared.instr.Count.TheVariants.{One}
 use Rattle.dcc_prog.specs.declared.instr.Cond.TheVariants.{A, Be}
 use Rattle.dcc_prog.specs.declared.instr.Operand.TheVariants.{Word, Byte, Const}
 use Rattle.dcc_prog.specs.declared.instr.Op.{Op}
-use Rattle.dcc_prog.specs.declared.instr.Op.TheVariants.{Alu as AluOp, Shift as ShiftOp, Mov, Jump, Branch, Loop, LoopE, LoopNe, Jcxz, Table, Call, Ret, Int21}
+use Rattle.dcc_prog.specs.declared.instr.Op.TheVariants.{Alu as AluOp, Shift as ShiftOp, Mov, Jump, Branch, Loop, LoopE}
+use Rattle.dcc_prog.specs.declared.instr.Op.TheVariants.{LoopNe, Jcxz, Table, Call, Ret, Int21}
 use Rattle.dcc_prog.specs.declared.instr.Instr.{Instr}
 use Rattle.dcc_prog.specs.Code.{code_of}
 use Rattle.dcc_prog.specs.Bytes.{byte_at}

@@ -1,6 +1,6 @@
--- What an operation uses for a jump, a store, a division or a DOS call, what it makes of what, and what it surely writes,
--- of the halves of the word registers and the flags: by that it is told which of them are wanted before an instruction
--- (liveness by demand, after C. Cifuentes, Reverse Compilation Techniques, 1994, section 5.4).
+-- What an operation uses for a jump, a store, a division or a DOS call, what it makes of what, and what it surely
+-- writes, of the halves of the word registers and the flags: by that it is told which of them are wanted before an
+-- instruction (liveness by demand, after C. Cifuentes, Reverse Compilation Techniques, 1994, section 5.4).
 use Rattle.std.specs.Prelude.{ℕ, ◌==◌, Bool, true, false, not, ◌&&◌, ◌||◌, if◌then◌else◌, Option, Some, None}
 use Rattle.dcc_num.specs.declared.Width.{Width}
 use Rattle.dcc_num.specs.declared.Width.TheVariants.{Byte as byte_width, Word as word_width}
@@ -27,11 +27,15 @@ use Rattle.dcc_prog.specs.declared.instr.Ea.{Ea}
 use Rattle.dcc_prog.specs.declared.instr.Operand.{Operand}
 use Rattle.dcc_prog.specs.declared.instr.Operand.TheVariants.{Word, Byte, Mem}
 use Rattle.dcc_prog.specs.declared.instr.Op.{Op}
-use Rattle.dcc_prog.specs.declared.instr.Op.TheVariants.{Alu as AluOp, Unary as UnaryOp, Shift as ShiftOp, Mov, Xchg, Lea, Imul3, Pop, Plain as PlainOp, Branch, Loop, LoopE, LoopNe, Jcxz, Table, Int21}
+use Rattle.dcc_prog.specs.declared.instr.Op.TheVariants.{Alu as AluOp, Unary as UnaryOp, Shift as ShiftOp, Mov, Xchg}
+use Rattle.dcc_prog.specs.declared.instr.Op.TheVariants.{Lea, Imul3, Pop, Plain as PlainOp, Branch, Loop, LoopE, LoopNe}
+use Rattle.dcc_prog.specs.declared.instr.Op.TheVariants.{Jcxz, Table, Int21}
 use Rattle.dcc_prog.specs.Machine.{operand_width}
 use Rattle.dcc_prog.specs.Trail.{is_general}
 use Rattle.dcc_prog.specs.Prepared.{is_division}
-use Rattle.dcc_prog.specs.Writes.{is_same_register, is_same_half, is_half_of, writes_operand, is_in_pair, is_carry_or_overflow, unary_writes_flag, shift_writes_flag, never_shifts, writes_half, writes_flag}
+use Rattle.dcc_prog.specs.Writes.{is_same_register, is_same_half, is_half_of, writes_operand, is_in_pair}
+use Rattle.dcc_prog.specs.Writes.{is_carry_or_overflow, unary_writes_flag, shift_writes_flag, never_shifts, writes_half}
+use Rattle.dcc_prog.specs.Writes.{writes_flag}
 
 -- a half of a word register, or a flag
 pub data Location : Type 0 where

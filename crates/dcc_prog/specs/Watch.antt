@@ -97,8 +97,8 @@ watched_machine program = record {
 abbrev pub first_watch : Image → List ℕ → Watch
 first_watch image input = record { machine = start_state image input; stage = AtStart }
 
--- none of the first n steps of the image's run on a processor and an input is foul, or none of those before it ended; of
--- an image that is refused this says nothing
+-- none of the first n steps of the image's run on a processor and an input is foul, or none of those before it ended;
+-- of an image that is refused this says nothing
 abbrev pub IsClean : Cpu → Image → List ℕ → ℕ → Type 0
 IsClean cpu image input n =
     (program : Program) → IsProgramOf cpu image program

@@ -1,5 +1,5 @@
--- What the analyses find in an image says one thing of its runs: each of them is clean, or not, whichever program of the
--- image it is watched by.
+-- What the analyses find in an image says one thing of its runs: each of them is clean, or not, whichever program of
+-- the image it is watched by.
 use Rattle.std.specs.Prelude.{◌≡◌, ℕ, false, List}
 use Rattle.dcc_run.specs.Watched.{state}
 use Rattle.dcc_prog.specs.declared.cpu.Cpu.{Cpu}

@@ -9,7 +9,9 @@ use Rattle.dcc_prog.specs.declared.instr.Count.TheVariants.{Const as ConstCount}
 use Rattle.dcc_prog.specs.declared.instr.Operand.{Operand}
 use Rattle.dcc_prog.specs.declared.instr.Operand.TheVariants.{Word, Byte, Seg, Mem, Const}
 use Rattle.dcc_prog.specs.declared.instr.Op.{Op}
-use Rattle.dcc_prog.specs.declared.instr.Op.TheVariants.{Alu, Unary, Shift as ShiftOp, Mov, Xchg, Lea, Imul3, Push, Pop, Enter, Leave, Plain, Jump, Branch, Loop, LoopE, LoopNe, Jcxz, Table, Call, Ret, Int21}
+use Rattle.dcc_prog.specs.declared.instr.Op.TheVariants.{Alu, Unary, Shift as ShiftOp, Mov, Xchg, Lea, Imul3, Push, Pop}
+use Rattle.dcc_prog.specs.declared.instr.Op.TheVariants.{Enter, Leave, Plain, Jump, Branch, Loop, LoopE, LoopNe, Jcxz}
+use Rattle.dcc_prog.specs.declared.instr.Op.TheVariants.{Table, Call, Ret, Int21}
 use Rattle.dcc_prog.specs.Machine.{operand_width}
 
 -- a constant fits its width, and the number of a segment register is below 4

@@ -1,7 +1,9 @@
 //! The forms in which instructions use SP and BP.
 
 ghost use Rattle.std.specs.Prelude.{◌≡◌};
-ghost use Rattle.dcc_prog.specs.FrameForm.{is_push_bp, is_mov_bp_sp, is_enter, is_sp_or_bp, address_uses_bp, is_by_bp, names_sp_or_bp, uses_bp_address, is_sp_move, is_at_or_below_bp, leaves_frame, copies_bp};
+ghost use Rattle.dcc_prog.specs.FrameForm.{is_push_bp, is_mov_bp_sp, is_enter, is_sp_or_bp, address_uses_bp, is_by_bp};
+ghost use Rattle.dcc_prog.specs.FrameForm.{names_sp_or_bp, uses_bp_address, is_sp_move, is_at_or_below_bp};
+ghost use Rattle.dcc_prog.specs.FrameForm.{leaves_frame, copies_bp};
 
 use crate::instr::{Alu, Ea, Op, Operand, Unary};
 use dcc_num::Reg;

@@ -3,11 +3,14 @@
 
 ghost use Rattle.dcc_prog.specs.RunLaws.{KnownAhIsHeld, PreparedUpperIsHeld};
 ghost use Rattle.dcc_prog.specs.StateForm.{StartsAreStates, StepsKeepStates};
-ghost use Rattle.dcc_prog.specs.AlikeLaws.{WhatIsMadeAlikeIsAlike, WhatIsUsedAlikeShowsAlike, OneLocationChangesWhatIsMadeOfIt};
+ghost use Rattle.dcc_prog.specs.AlikeLaws.{WhatIsMadeAlikeIsAlike, WhatIsUsedAlikeShowsAlike};
+ghost use Rattle.dcc_prog.specs.AlikeLaws.{OneLocationChangesWhatIsMadeOfIt};
 ghost use Rattle.dcc_prog.specs.LocationLaws.{WhatIsNotWrittenStays};
-ghost use Rattle.dcc_prog.specs.CleanLaws.{FrontsOfCleanRunsAreClean, WhatUsesNoStackIsClean, SpIsAsTold, StoredBytesAreMarked};
+ghost use Rattle.dcc_prog.specs.CleanLaws.{FrontsOfCleanRunsAreClean, WhatUsesNoStackIsClean, SpIsAsTold};
+ghost use Rattle.dcc_prog.specs.CleanLaws.{StoredBytesAreMarked};
 ghost use Rattle.dcc_prog.specs.WatchedAlike.{ProgramsWatchAlike};
-ghost use Rattle.dcc_prog.specs.MemoryLaws.{StepsActByAccesses, MemoryChangesAtWritesAlone, BytesAreAlikeOrLeft, AccessesDependOnReads};
+ghost use Rattle.dcc_prog.specs.MemoryLaws.{StepsActByAccesses, MemoryChangesAtWritesAlone, BytesAreAlikeOrLeft};
+ghost use Rattle.dcc_prog.specs.MemoryLaws.{AccessesDependOnReads};
 
 /// The accesses of an operation tell what its step takes from memory and does to it, and with the instruction's bytes
 /// those of a step do.
@@ -30,8 +33,8 @@ pub fn accesses_depend_on_reads()
     ensures { AccessesDependOnReads }
 {}
 
-/// Each start of an image on bytes has eight registers, four segment registers and all bytes of memory, and in each what
-/// it has room for.
+/// Each start of an image on bytes has eight registers, four segment registers and all bytes of memory, and in each
+/// what it has room for.
 pub fn starts_are_states()
     ensures { StartsAreStates }
 {}

@@ -36,15 +36,18 @@ pub struct Proc {
 impl Proc {
     /// The instruction at an offset; none where it is no offset of the procedure.
     pub fn instruction_at(&self, at: u16) -> Option<Instr>
-        ensures { (image : Image) (layout : Layout) → IsFound image layout self.now → IsNode image layout self.now.entry at → result ≡ instruction_in image layout at }
+        ensures { (image : Image) (layout : Layout) → IsFound image layout self.now
+            → IsNode image layout self.now.entry at → result ≡ instruction_in image layout at }
     {
         let node = self.nodes.get(&at)?;
         Some(node.instr)
     }
 
-    /// Whether the procedure is framed: its first instructions are `push bp` and `mov bp,sp`, or its first one is ENTER.
+    /// Whether the procedure is framed: its first instructions are `push bp` and `mov bp,sp`, or its first one is
+    /// ENTER.
     pub fn is_framed(&self) -> bool
-        ensures { (image : Image) (layout : Layout) → IsFound image layout self.now → result ≡ is_framed image layout self.now.entry }
+        ensures { (image : Image) (layout : Layout) → IsFound image layout self.now → result
+            ≡ is_framed image layout self.now.entry }
     {
         let Some(first) = self.instruction_at(self.entry) else {
             return false;

@@ -23,9 +23,9 @@ pub mod construct {
     /// INT 21h where AH is not known, has two values, or has another number than the five.
     pub const DOS_NUMBER: u8 = 5;
 
-    /// Two trails give the stack two heights; or it is taken above the procedure's entry, or into its saved BP otherwise
-    /// than by POP BP or LEAVE, or is not empty at a RET; or two RETs of the procedure remove different sizes; or the
-    /// height is above 32,766.
+    /// Two trails give the stack two heights; or it is taken above the procedure's entry, or into its saved BP
+    /// otherwise than by POP BP or LEAVE, or is not empty at a RET; or two RETs of the procedure remove different
+    /// sizes; or the height is above 32,766.
     pub const HEIGHTS: u8 = 6;
 
     /// A frame is accessed outside of its arguments and of the bytes between SP and BP; or the address of its bytes may

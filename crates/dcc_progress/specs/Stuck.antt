@@ -2,8 +2,10 @@
 use Rattle.std.specs.Prelude.{◌≡◌, ◌<◌, ℕ, true, is_some, List, ◌∷◌, None}
 use Rattle.dcc_run.specs.End.{Running, Outside, Stuck}
 use Rattle.dcc_run.specs.System.{after, end_after}
-use Rattle.dcc_c.specs.Tree.{Expr, Stmt, If, While, DoWhile, Forever, Switch, Return, Lines, no_lines, line, Arms, arm, Function, Tree}
-use Rattle.dcc_c.specs.Run.{Continuation, ends_function, runs, ends_switch, State, is_start, step, first_state, text_system}
+use Rattle.dcc_c.specs.Tree.{Expr, Stmt, If, While, DoWhile, Forever, Switch, Return, Lines, no_lines, line, Arms, arm}
+use Rattle.dcc_c.specs.Tree.{Function, Tree}
+use Rattle.dcc_c.specs.Run.{Continuation, ends_function, runs, ends_switch, State, is_start, step, first_state}
+use Rattle.dcc_c.specs.Run.{text_system}
 
 mutual
   -- the statement stands in the given line among the statements, at some depth

@@ -1,14 +1,18 @@
 -- What is read of statements, by what was read before.
-use Rattle.std.specs.Prelude.{ℕ, codes, option_to_list, Bool, true, false, if◌then◌else◌, List, [], ◌∷◌, Option, Some, None}
+use Rattle.std.specs.Prelude.{ℕ, codes, option_to_list, Bool, true, false, if◌then◌else◌, List, [], ◌∷◌, Option, Some}
+use Rattle.std.specs.Prelude.{None}
 use Rattle.dcc_c.specs.Grammar.{Around, in_loop, in_switch}
 use Rattle.dcc_c.specs.Kinds.{of_depth}
-use Rattle.dcc_c.specs.Partial.{PartialStmt, ForeverOf, BreakOf, ContinueOf, EmptyOf, LabelOf, no_rows, PartialArms, cases}
-use Rattle.dcc_c.specs.Reading.{Reader, Got, got, line_of, skip, stop_at, fail, sees_mark, take_mark, take_word, take_name}
+use Rattle.dcc_c.specs.Partial.{PartialStmt, ForeverOf, BreakOf, ContinueOf, EmptyOf, LabelOf, no_rows, PartialArms}
+use Rattle.dcc_c.specs.Partial.{cases}
+use Rattle.dcc_c.specs.Reading.{Reader, Got, got, line_of, skip, stop_at, fail, sees_mark, take_mark, take_word}
+use Rattle.dcc_c.specs.Reading.{take_name}
 use Rattle.dcc_c.specs.ReadingStatements as statements
 use Rattle.dcc_reader.specs.PartialViews.{stmt_of, lines_of}
 use Rattle.dcc_reader.specs.declared.partial.Row.{Row}
 use Rattle.dcc_reader.specs.declared.statement_word.StatementWord.{StatementWord}
-use Rattle.dcc_reader.specs.declared.statement_word.StatementWord.TheVariants.{If, While, Do, For, Switch, Break, Continue, Goto, Return}
+use Rattle.dcc_reader.specs.declared.statement_word.StatementWord.TheVariants.{If, While, Do, For, Switch, Break}
+use Rattle.dcc_reader.specs.declared.statement_word.StatementWord.TheVariants.{Continue, Goto, Return}
 use Rattle.dcc_read.specs.declared.statement.Block.{Block}
 use Rattle.dcc_read.specs.declared.statement.LineRead.{LineRead}
 

@@ -1,12 +1,14 @@
 //! Reading statements.
 
-ghost use Rattle.std.specs.Prelude.{◌≡◌, ◌&&◌, not, ◌+◌, ◌≤◌, ◌<◌, ℕ, if◌then◌else◌, suc, IfOk, true, false, is_some, map};
+ghost use Rattle.std.specs.Prelude.{◌≡◌, ◌&&◌, not, ◌+◌, ◌≤◌, ◌<◌, ℕ, if◌then◌else◌, suc, IfOk, true, false, is_some};
+ghost use Rattle.std.specs.Prelude.{map};
 ghost use Rattle.dcc_c.specs.Grammar as grammar;
 ghost use Rattle.dcc_c.specs.Partial as partial;
 ghost use Rattle.dcc_c.specs.Reading as reading;
 ghost use Rattle.dcc_c.specs.ReadingStatements as statements;
 ghost use Rattle.dcc_reader.specs.AroundViews.{around_of};
-ghost use Rattle.dcc_read.specs.Lines.{block_of, after_line, take_forever, while_stmt, do_while_stmt, forever_stmt, wordless_stmt, switch_stmt, depth_line, label_line, arm_read};
+ghost use Rattle.dcc_read.specs.Lines.{block_of, after_line, take_forever, while_stmt, do_while_stmt, forever_stmt};
+ghost use Rattle.dcc_read.specs.Lines.{wordless_stmt, switch_stmt, depth_line, label_line, arm_read};
 ghost use Rattle.dcc_reader.specs.PartialViews.{expr_of, stmt_of, lines_of, arm_before, arms_of};
 ghost use Rattle.dcc_reader.specs.ReaderViews.{reader_of};
 

@@ -1,7 +1,8 @@
 -- The words that tell why a text is refused.
 use Rattle.std.specs.Prelude.{ℕ, List, codes}
 use Rattle.dcc_reader.specs.declared.offence.ParseKind.{ParseKind}
-use Rattle.dcc_reader.specs.declared.offence.ParseKind.TheVariants.{Length, Version, Token, Grammar, Name, Type_, Place, Depth}
+use Rattle.dcc_reader.specs.declared.offence.ParseKind.TheVariants.{Length, Version, Token, Grammar, Name, Type_, Place}
+use Rattle.dcc_reader.specs.declared.offence.ParseKind.TheVariants.{Depth}
 
 abbrev pub kind_word : ParseKind → List ℕ
 kind_word Length = codes "length"

@@ -1,7 +1,8 @@
 -- The kinds of offences and the offences that the declared types stand for.
 use Rattle.dcc_c.specs.Kinds as kinds
 use Rattle.dcc_reader.specs.declared.offence.ParseKind.{ParseKind}
-use Rattle.dcc_reader.specs.declared.offence.ParseKind.TheVariants.{Length, Version, Token, Grammar, Name, Type_, Place, Depth}
+use Rattle.dcc_reader.specs.declared.offence.ParseKind.TheVariants.{Length, Version, Token, Grammar, Name, Type_, Place}
+use Rattle.dcc_reader.specs.declared.offence.ParseKind.TheVariants.{Depth}
 use Rattle.dcc_reader.specs.declared.offence.Offence.{Offence}
 
 abbrev pub kind_of : ParseKind → kinds.Kind

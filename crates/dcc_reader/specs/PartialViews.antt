@@ -5,9 +5,13 @@ use Rattle.dcc_c.specs.Partial as partial
 use Rattle.dcc_reader.specs.declared.partial.NumberAt.{NumberAt}
 use Rattle.dcc_reader.specs.declared.partial.CaseAt.{CaseAt}
 use Rattle.dcc_reader.specs.declared.partial.WordAt.{WordAt}
-use Rattle.dcc_reader.specs.declared.partial.PartialExpr.{PartialExpr, Missing, Number, Name, Unary', Binary', Conditional', Cast'}
+use Rattle.dcc_reader.specs.declared.partial.PartialExpr.{PartialExpr, Missing, Number, Name, Unary', Binary'}
+use Rattle.dcc_reader.specs.declared.partial.PartialExpr.{Conditional', Cast'}
 use Rattle.dcc_reader.specs.declared.partial.PartialCall.{PartialCall}
-use Rattle.dcc_reader.specs.declared.partial.PartialStmt.{PartialStmt, Assign, Call, If', While', DoWhile', Forever', Switch', Break, Continue, Goto, Label, Empty, Return, Row_of-Row, end_of-Row, more_of-Row, Row_of-PartialArm, end_of-PartialArm, more_of-PartialArm}
+use Rattle.dcc_reader.specs.declared.partial.PartialStmt.{PartialStmt, Assign, Call, If', While', DoWhile', Forever'}
+use Rattle.dcc_reader.specs.declared.partial.PartialStmt.{Switch', Break, Continue, Goto, Label, Empty, Return}
+use Rattle.dcc_reader.specs.declared.partial.PartialStmt.{Row_of-Row, end_of-Row, more_of-Row, Row_of-PartialArm}
+use Rattle.dcc_reader.specs.declared.partial.PartialStmt.{end_of-PartialArm, more_of-PartialArm}
 use Rattle.dcc_reader.specs.declared.partial.Row.{Row}
 use Rattle.dcc_reader.specs.declared.partial.PartialArm.{PartialArm, PartialArm'}
 use Rattle.dcc_reader.specs.declared.partial.PartialVariable.{PartialVariable}

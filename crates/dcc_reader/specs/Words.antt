@@ -3,7 +3,8 @@ use Rattle.std.specs.Prelude.{Bool, true, false, codes, Option, Some, None, ifâ—
 use Rattle.dcc_c.specs.Token.{Token}
 use Rattle.dcc_c.specs.Reading.{is_the_word}
 use Rattle.dcc_reader.specs.declared.statement_word.StatementWord.{StatementWord}
-use Rattle.dcc_reader.specs.declared.statement_word.StatementWord.TheVariants.{If, While, Do, For, Switch, Break, Continue, Goto, Return}
+use Rattle.dcc_reader.specs.declared.statement_word.StatementWord.TheVariants.{If, While, Do, For, Switch, Break}
+use Rattle.dcc_reader.specs.declared.statement_word.StatementWord.TheVariants.{Continue, Goto, Return}
 
 -- the word of a statement that the token is
 abbrev pub statement_word : Option Token â†’ Option StatementWord

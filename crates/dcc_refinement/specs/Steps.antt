@@ -1,6 +1,7 @@
 -- What points of a procedure do one after another.
 use Rattle.std.specs.Prelude.{◌≡◌, true, false, List, [], ◌∷◌, Contains, None}
-use Rattle.dcc_demand.specs.Procedures.{Effect, Leaves, Copies, Pops, Makes, WordEffect, LeavesWord, Pushes, Overwrites, Procedure, is_left}
+use Rattle.dcc_demand.specs.Procedures.{Effect, Leaves, Copies, Pops, Makes, WordEffect, LeavesWord, Pushes, Overwrites}
+use Rattle.dcc_demand.specs.Procedures.{Procedure, is_left}
 
 -- the later effect, or the earlier one where that leaves the location
 abbrev pub later_effect : {Location Word : Type 0} → Effect Location Word → Effect Location Word → Effect Location Word

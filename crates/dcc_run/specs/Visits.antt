@@ -1,5 +1,6 @@
 -- The marked places that a run comes to.
-use Rattle.std.specs.Prelude.{◌≡◌, ℕ, zero, suc, Bool, true, List, [], ◌∷◌, ◌++◌, filter, if◌then◌else◌, Option, Some, None}
+use Rattle.std.specs.Prelude.{◌≡◌, ℕ, zero, suc, Bool, true, List, [], ◌∷◌, ◌++◌, filter, if◌then◌else◌, Option, Some}
+use Rattle.std.specs.Prelude.{None}
 use Rattle.dcc_run.specs.End.{is_over}
 use Rattle.dcc_run.specs.Event.{Event}
 use Rattle.dcc_run.specs.System.{System, events_after, end_after}

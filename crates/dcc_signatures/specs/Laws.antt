@@ -1,5 +1,6 @@
 -- Laws of programs in which what passes together is one value.
-use Rattle.std.specs.Prelude.{◌≡◌, ℕ, ◌≤◌, max, true, ◌&&◌, ◌⊎◌, List, [], ◌∷◌, ◌++◌, map, drop, flat_map, filter, All, Contains}
+use Rattle.std.specs.Prelude.{◌≡◌, ℕ, ◌≤◌, max, true, ◌&&◌, ◌⊎◌, List, [], ◌∷◌, ◌++◌, map, drop, flat_map, filter, All}
+use Rattle.std.specs.Prelude.{Contains}
 use Rattle.std.specs.List.{list_all}
 use Rattle.dcc_num.specs.declared.Reg.{Reg}
 use Rattle.dcc_num.specs.declared.Half.TheVariants.{Low, High}

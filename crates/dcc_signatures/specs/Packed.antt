@@ -1,7 +1,8 @@
 -- The program in which what passes together is one value. Where both halves of a register are params, a word is one
--- param and one argument. A procedure that gives several locations back gives one value, of which each is a part: a word
--- where they are the halves of one register, else 32 bits, AX below DX.
-use Rattle.std.specs.Prelude.{ℕ, ◌+◌, Bool, true, false, ◌||◌, if◌then◌else◌, List, [], ◌∷◌, ◌++◌, length, map, flat_map, Option, Some, None, option_map}
+-- param and one argument. A procedure that gives several locations back gives one value, of which each is a part: a
+-- word where they are the halves of one register, else 32 bits, AX below DX.
+use Rattle.std.specs.Prelude.{ℕ, ◌+◌, Bool, true, false, ◌||◌, if◌then◌else◌, List, [], ◌∷◌, ◌++◌, length, map}
+use Rattle.std.specs.Prelude.{flat_map, Option, Some, None, option_map}
 use Rattle.dcc_num.specs.declared.Reg.{Reg}
 use Rattle.dcc_num.specs.declared.Reg.TheVariants.{Ax, Dx}
 use Rattle.dcc_num.specs.declared.Half.TheVariants.{Low, High}

@@ -1,7 +1,8 @@
 -- The machine in a clean run of an accepted program, and the inner run beside it: each procedure that has begun is an
 -- activation there, whose cells hold bytes of its frame; what else of the machine's memory stands for something, the
 -- inner memory holds.
-use Rattle.std.specs.Prelude.{◌≡◌, ℕ, ◌+◌, ◌*◌, ◌%◌, ◌^◌, ◌<◌, ℤ, if◌then◌else◌, Bool, true, List, [], ◌∷◌, ◌++◌, map, All, Contains, Option, Some, None}
+use Rattle.std.specs.Prelude.{◌≡◌, ℕ, ◌+◌, ◌*◌, ◌%◌, ◌^◌, ◌<◌, ℤ, if◌then◌else◌, Bool, true, List, [], ◌∷◌, ◌++◌, map}
+use Rattle.std.specs.Prelude.{All, Contains, Option, Some, None}
 use Rattle.std.specs.Ordering.{int_eq}
 use Rattle.dcc_run.specs.End.{Running}
 use Rattle.dcc_num.specs.declared.Reg.{Reg}

@@ -1,6 +1,7 @@
 -- What the statements of one instruction do to the inner run, beside the machine's clean step. The inner program has a
 -- graph for each procedure that is found; the cells of a procedure are those that its places name.
-use Rattle.std.specs.Prelude.{◌≡◌, ◌<◌, ℕ, pos, ◌==◌, true, false, if◌then◌else◌, List, [], ◌∷◌, map, slice_get, Contains, Option, Some, None}
+use Rattle.std.specs.Prelude.{◌≡◌, ◌<◌, ℕ, pos, ◌==◌, true, false, if◌then◌else◌, List, [], ◌∷◌, map, slice_get}
+use Rattle.std.specs.Prelude.{Contains, Option, Some, None}
 use Rattle.std.specs.List.{AllZip}
 use Rattle.dcc_run.specs.End.{Running, is_over}
 use Rattle.dcc_num.specs.declared.Reg.TheVariants.{Bp}
@@ -138,8 +139,8 @@ returned p t = returning (map (value_in t) (returned_values p)) t.waiting t
 abbrev pub resumed : Procedure → State → State
 resumed p t = execute (returned p t).running.rest (returned p t)
 
--- At a RET the inner run returns to the caller that waits, which takes back what the callee may have changed, and agrees
--- with the machine.
+-- At a RET the inner run returns to the caller that waits, which takes back what the callee may have changed, and
+-- agrees with the machine.
 abbrev pub ReturnNodesAgree : Type 0
 ReturnNodesAgree =
     (e : Setting) (s : Machine) (stack : Stack) (instr : Instr) (t : State) (p : Procedure) (node : Node) (height : ℕ)

@@ -1,6 +1,7 @@
 -- Where a procedure keeps the bytes of its frame: those whose address may be computed in memory, all others in cells of
 -- its own. Offsets count from the frame's base less 4.
-use Rattle.std.specs.Prelude.{ℕ, suc, ◌==◌, ℤ, pos, ◌-ℤ◌, Bool, ◌&&◌, not, if◌then◌else◌, List, [], ◌∷◌, ◌++◌, length, find, filter, Option}
+use Rattle.std.specs.Prelude.{ℕ, suc, ◌==◌, ℤ, pos, ◌-ℤ◌, Bool, ◌&&◌, not, if◌then◌else◌, List, [], ◌∷◌, ◌++◌, length}
+use Rattle.std.specs.Prelude.{find, filter, Option}
 use Rattle.std.specs.List.{range_with_len, list_any}
 use Rattle.std.specs.Ordering.{int_eq}
 use Rattle.dcc_num.specs.declared.Width.{Width}

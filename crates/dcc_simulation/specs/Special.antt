@@ -1,5 +1,5 @@
--- Instructions that do what no other does: they divide, call DOS, take a byte of a table or jump through one, or take an
--- address.
+-- Instructions that do what no other does: they divide, call DOS, take a byte of a table or jump through one, or take
+-- an address.
 use Rattle.std.specs.Prelude.{◌≡◌, ℕ, Bool, true, false}
 use Rattle.dcc_num.specs.declared.Reg.TheVariants.{Sp}
 use Rattle.dcc_prog.specs.declared.procedure.Node.{Node}

@@ -1,7 +1,9 @@
--- The statements that stand for an instruction of a procedure. Pushes and pops move words, as MOV does. A CALL passes the
--- callee's argument words, all halves and all flags; it takes halves and flags back, and then the bytes of the argument
--- words that the callee may change, each through a temporary of its own. What only moves SP or BP has no statement.
-use Rattle.std.specs.Prelude.{ℕ, suc, ◌+◌, ◌*◌, ℤ, pos, ◌+ℤ◌, ◌-ℤ◌, neg_ℤ, Bool, ◌||◌, if◌then◌else◌, List, [], ◌∷◌, ◌++◌, length, map, Option, Some, None}
+-- The statements that stand for an instruction of a procedure. Pushes and pops move words, as MOV does. A CALL passes
+-- the callee's argument words, all halves and all flags; it takes halves and flags back, and then the bytes of the
+-- argument words that the callee may change, each through a temporary of its own. What only moves SP or BP has no
+-- statement.
+use Rattle.std.specs.Prelude.{ℕ, suc, ◌+◌, ◌*◌, ℤ, pos, ◌+ℤ◌, ◌-ℤ◌, neg_ℤ, Bool, ◌||◌, if◌then◌else◌, List, [], ◌∷◌}
+use Rattle.std.specs.Prelude.{◌++◌, length, map, Option, Some, None}
 use Rattle.std.specs.List.{range_with_len}
 use Rattle.dcc_num.specs.declared.Width.TheVariants.{Byte as byte_width, Word as word_width}
 use Rattle.dcc_prog.specs.declared.cpu.Cpu.{Cpu}

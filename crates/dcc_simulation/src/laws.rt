@@ -96,8 +96,8 @@ pub fn found_places_stand()
     ensures { FoundPlacesStand }
 {}
 
-/// After the statements of an instruction that takes operands from the places that are named, puts its result there, and
-/// leaves SP and BP, the runs agree.
+/// After the statements of an instruction that takes operands from the places that are named, puts its result there,
+/// and leaves SP and BP, the runs agree.
 pub fn operation_nodes_agree()
     ensures { OperationNodesAgree }
 {}
@@ -107,8 +107,8 @@ pub fn exits_lead()
     ensures { ExitsLead }
 {}
 
-/// After the statements of a division, of a DOS call, of XLAT, of a jump through a table, and of LEA of another register
-/// than SP the runs agree, or both have ended alike.
+/// After the statements of a division, of a DOS call, of XLAT, of a jump through a table, and of LEA of another
+/// register than SP the runs agree, or both have ended alike.
 pub fn special_nodes_agree()
     ensures { SpecialNodesAgree }
 {}

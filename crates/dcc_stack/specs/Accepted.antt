@@ -1,6 +1,7 @@
 -- What holds at each node of an accepted program: which height it has, how its instruction uses SP and BP there, and
 -- which bytes of the frame it reaches.
-use Rattle.std.specs.Prelude.{◌≡◌, ◌≢◌, ◌≤◌, ◌<◌, ◌⊎◌, ℕ, ◌+◌, ◌*◌, ℤ, pos, ◌-ℤ◌, ◌≤ℤ◌, Bool, true, false, List, ◌∷◌, map, Some, All, Contains}
+use Rattle.std.specs.Prelude.{◌≡◌, ◌≢◌, ◌≤◌, ◌<◌, ◌⊎◌, ℕ, ◌+◌, ◌*◌, ℤ, pos, ◌-ℤ◌, ◌≤ℤ◌, Bool, true, false, List, ◌∷◌}
+use Rattle.std.specs.Prelude.{map, Some, All, Contains}
 use Rattle.dcc_num.specs.declared.Width.{Width}
 use Rattle.dcc_num.specs.declared.Reg.TheVariants.{Sp, Bp}
 use Rattle.dcc_num.specs.declared.Half.{Half}
@@ -20,7 +21,8 @@ use Rattle.dcc_prog.specs.Writes.{writes_half}
 use Rattle.dcc_prog.specs.Trail.{instruction_in, StandsAt, known_ah, table_number, successors, IsTrail, IsEntry}
 use Rattle.dcc_prog.specs.FrameForm.{is_framed, is_sp_or_bp, address_uses_bp, is_by_bp}
 use Rattle.dcc_prog.specs.Height.{lowering_of, IsRemoved, MovesHeight, GivesHeight}
-use Rattle.dcc_prog.specs.Frame.{Span, span_of, memory_operand, own_bytes, IsDirectAccess, StartsExposure, HasArguments, IsCell, HasExposedLocal, HasExposedArguments}
+use Rattle.dcc_prog.specs.Frame.{Span, span_of, memory_operand, own_bytes, IsDirectAccess, StartsExposure, HasArguments}
+use Rattle.dcc_prog.specs.Frame.{IsCell, HasExposedLocal, HasExposedArguments}
 use Rattle.dcc_prog.specs.Construct.{is_system}
 use Rattle.dcc_prog.specs.MzImage.{IsLoaded}
 use Rattle.dcc_prog.specs.Clean.{frame_in}

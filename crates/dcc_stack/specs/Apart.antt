@@ -1,5 +1,6 @@
 -- Which bytes of memory a clean step may write: none of the code, of a return address or of a saved BP.
-use Rattle.std.specs.Prelude.{◌≡◌, ◌≤◌, ◌<◌, ◌⊎◌, ℕ, ◌+◌, ◌*◌, Bool, true, false, if◌then◌else◌, List, ◌∷◌, slice_index, All, Contains, Some, None}
+use Rattle.std.specs.Prelude.{◌≡◌, ◌≤◌, ◌<◌, ◌⊎◌, ℕ, ◌+◌, ◌*◌, Bool, true, false, if◌then◌else◌, List, ◌∷◌, slice_index}
+use Rattle.std.specs.Prelude.{All, Contains, Some, None}
 use Rattle.dcc_run.specs.End.{is_over}
 use Rattle.dcc_prog.specs.declared.cpu.Cpu.{Cpu}
 use Rattle.dcc_prog.specs.declared.image.Image.{Image}

@@ -1,5 +1,6 @@
 -- The laws of the machine's stack in clean runs.
-use Rattle.std.specs.Prelude.{◌≡◌, ◌≤◌, ◌<◌, ℕ, ◌+◌, ◌-◌, ◌/◌, false, List, [], ◌∷◌, drop, length, slice_index, Some, None}
+use Rattle.std.specs.Prelude.{◌≡◌, ◌≤◌, ◌<◌, ℕ, ◌+◌, ◌-◌, ◌/◌, false, List, [], ◌∷◌, drop, length, slice_index, Some}
+use Rattle.std.specs.Prelude.{None}
 use Rattle.dcc_run.specs.End.{is_over}
 use Rattle.dcc_run.specs.Watched.{state}
 use Rattle.dcc_num.specs.declared.Reg.TheVariants.{Bp}

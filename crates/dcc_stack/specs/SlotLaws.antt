@@ -1,7 +1,8 @@
 -- How a second run goes on holding the machine's stack: what each kind of access, and each beginning and end of a
 -- frame, gives and leaves. The laws speak of memories, marks and frames alone; which instruction does it doesn't
 -- matter.
-use Rattle.std.specs.Prelude.{◌≡◌, ◌≤◌, ◌<◌, ◌⊎◌, ◌↔◌, ℕ, ◌+◌, ◌*◌, ℤ, pos, ◌+ℤ◌, ◌-ℤ◌, ◌≤ℤ◌, ◌<ℤ◌, Bool, true, false, List, ◌∷◌, length, map, slice_index, slice_set, Contains, Some}
+use Rattle.std.specs.Prelude.{◌≡◌, ◌≤◌, ◌<◌, ◌⊎◌, ◌↔◌, ℕ, ◌+◌, ◌*◌, ℤ, pos, ◌+ℤ◌, ◌-ℤ◌, ◌≤ℤ◌, ◌<ℤ◌, Bool, true, false}
+use Rattle.std.specs.Prelude.{List, ◌∷◌, length, map, slice_index, slice_set, Contains, Some}
 use Rattle.std.specs.List.{AllZip, filter_map}
 use Rattle.dcc_prog.specs.declared.cpu.Cpu.{Cpu}
 use Rattle.dcc_prog.specs.declared.image.Image.{Image}
@@ -18,7 +19,9 @@ use Rattle.dcc_prog.specs.Clean.{LiveFrame, Stack, top_in, stack_offset, end_of,
 use Rattle.dcc_stack.specs.Accepted.{IsProgramOfFile, IsInFrame}
 use Rattle.dcc_stack.specs.Standing.{Activation, StandsIn, Stand}
 use Rattle.dcc_stack.specs.Apart.{IsApart}
-use Rattle.dcc_stack.specs.Slots.{writes_memory, IsGivenBack, Typed, place_in, Holds, IsChangeable, Carries, Couples, AreNested, activations_of, IsExposedIn, IsAlike, Puts, PutsAll, MarksAt, is_placed, gives_back}
+use Rattle.dcc_stack.specs.Slots.{writes_memory, IsGivenBack, Typed, place_in, Holds, IsChangeable, Carries, Couples}
+use Rattle.dcc_stack.specs.Slots.{AreNested, activations_of, IsExposedIn, IsAlike, Puts, PutsAll, MarksAt, is_placed}
+use Rattle.dcc_stack.specs.Slots.{gives_back}
 
 -- The second run holds the machine's stack, where SP stands at an offset of it and frames lie as those that stand.
 pub record AreCarried (cpu : Cpu) (image : Image) (program : Program) (memory other : List ℕ) (written : List Bool)

@@ -1,6 +1,8 @@
 -- Frames as variables: what a second run keeps of the machine's stack, whose frames have variables, and memory for
 -- exposed bytes alone. Nothing is said of bytes that no step has written.
-use Rattle.std.specs.Prelude.{◌≡◌, ◌≤◌, ◌<◌, ◌⊎◌, ℕ, ◌+◌, ◌*◌, ◌&&◌, ◌||◌, if◌then◌else◌, ℤ, pos, ◌+ℤ◌, ◌-ℤ◌, ◌<ℤ◌, int_le, int_lt, Bool, true, false, List, [], ◌∷◌, ◌++◌, length, map, slice_index, slice_set, Option, Some, None}
+use Rattle.std.specs.Prelude.{◌≡◌, ◌≤◌, ◌<◌, ◌⊎◌, ℕ, ◌+◌, ◌*◌, ◌&&◌, ◌||◌, if◌then◌else◌, ℤ, pos, ◌+ℤ◌, ◌-ℤ◌, ◌<ℤ◌}
+use Rattle.std.specs.Prelude.{int_le, int_lt, Bool, true, false, List, [], ◌∷◌, ◌++◌, length, map, slice_index}
+use Rattle.std.specs.Prelude.{slice_set, Option, Some, None}
 use Rattle.std.specs.List.{range_with_len, list_any}
 use Rattle.std.specs.Ordering.{int_eq}
 use Rattle.dcc_num.specs.declared.Width.{Width}
@@ -19,7 +21,8 @@ use Rattle.dcc_prog.specs.Machine.{State}
 use Rattle.dcc_prog.specs.Writes.{writes_operand}
 use Rattle.dcc_prog.specs.Access.{bytes_in, writes_back, is_direct}
 use Rattle.dcc_prog.specs.Trail.{StandsAt, IsNode, IsEntry}
-use Rattle.dcc_prog.specs.Frame.{Span, span_of, memory_operand, offset_in_frame, IsDirectAccess, argument_word, HasArguments, IsExposedSlot, IsPlaced}
+use Rattle.dcc_prog.specs.Frame.{Span, span_of, memory_operand, offset_in_frame, IsDirectAccess, argument_word}
+use Rattle.dcc_prog.specs.Frame.{HasArguments, IsExposedSlot, IsPlaced}
 use Rattle.dcc_prog.specs.Analysed.{bytes_of}
 use Rattle.dcc_prog.specs.Clean.{LiveFrame, Stack, end_of, exposes, is_exposed_byte, is_marked, top_in}
 use Rattle.dcc_stack.specs.Standing.{Activation, StackStands}

@@ -6,8 +6,8 @@ ghost use Rattle.dcc_stack.specs.Laws.{CallsHaveRoom, CleanStepsStand, FramesAre
 ghost use Rattle.dcc_stack.specs.SlotLaws.{SlotsAreCarried};
 ghost use Rattle.dcc_stack.specs.Tables.{RunsFollowTrails};
 
-/// At each node of an accepted program one height is told, the instruction uses SP and BP in one of the forms of frames,
-/// and it reaches bytes of its own frame alone.
+/// At each node of an accepted program one height is told, the instruction uses SP and BP in one of the forms of
+/// frames, and it reaches bytes of its own frame alone.
 pub fn accepted_programs_are_in_form()
     ensures { AcceptedProgramsAreInForm }
 {}

@@ -3,7 +3,9 @@ use Rattle.dcc_run.specs.End.{End, Running as running, Exit as exited, Divide as
 use Rattle.dcc_console.specs.declared.fault.Fault.{Fault}
 use Rattle.dcc_console.specs.declared.fault.Fault.TheVariants.{Input, Output}
 use Rattle.dcc_step.specs.declared.ending.Stepped.{Stepped}
-use Rattle.dcc_step.specs.declared.ending.Stepped.TheVariants.{Running as still_running, Exit as exit_answered, Divide as divide_answered, Outside as outside_answered, InFault, OutFault}
+use Rattle.dcc_step.specs.declared.ending.Stepped.TheVariants.{Running as still_running, Exit as exit_answered}
+use Rattle.dcc_step.specs.declared.ending.Stepped.TheVariants.{Divide as divide_answered, Outside as outside_answered}
+use Rattle.dcc_step.specs.declared.ending.Stepped.TheVariants.{InFault, OutFault}
 use Rattle.dcc_step.specs.declared.ending.Ending.{Ending}
 use Rattle.dcc_step.specs.declared.ending.Ending.TheVariants.{Running, Exit, Divide, Outside}
 

@@ -12,11 +12,13 @@ use Rattle.dcc_prog.specs.declared.instr.Alu.TheVariants.{Add, Or as OrKind, Adc
 use Rattle.dcc_prog.specs.declared.instr.Unary.TheVariants.{Inc as inc_kind, Dec as dec_kind}
 use Rattle.dcc_prog.specs.declared.instr.Operand.TheVariants.{Word, Mem, Const}
 use Rattle.dcc_prog.specs.declared.instr.Op.{Op}
-use Rattle.dcc_prog.specs.declared.instr.Op.TheVariants.{Alu as AluOp, Unary as UnaryOp, Mov, Jump as JumpOp, Branch as BranchOp, Int21}
+use Rattle.dcc_prog.specs.declared.instr.Op.TheVariants.{Alu as AluOp, Unary as UnaryOp, Mov, Jump as JumpOp}
+use Rattle.dcc_prog.specs.declared.instr.Op.TheVariants.{Branch as BranchOp, Int21}
 use Rattle.dcc_prog.specs.Step.{step}
 use Rattle.dcc_step.specs.Core.{Core, with_console}
 use Rattle.dcc_step.specs.declared.form.Form.{Form}
-use Rattle.dcc_step.specs.declared.form.Form.TheVariants.{Registers, Constant, Memory, Inc, Dec, Move, Set, Load, Store, Jump, Branch, Other}
+use Rattle.dcc_step.specs.declared.form.Form.TheVariants.{Registers, Constant, Memory, Inc, Dec, Move, Set, Load, Store}
+use Rattle.dcc_step.specs.declared.form.Form.TheVariants.{Jump, Branch, Other}
 
 -- The operation of a form. Nothing is said of the form Other: INT 21h stands there, which has no form.
 abbrev pub op_of : Form → Op

@@ -7,7 +7,9 @@ ghost use Rattle.dcc_prog.specs.declared.instr.Operand.TheVariants.{Word as word
 ghost use Rattle.dcc_prog.specs.Machine.{word_in, operand_value, operand_width};
 ghost use Rattle.dcc_prog.specs.Writes.{writes_operand};
 ghost use Rattle.dcc_step.specs.Form.{combined_of};
-ghost use Rattle.dcc_prog.specs.Operations.{with_result, accumulator_in, upper_in, with_pair, with_product, with_division, alu_step, unary_step, imul3_step, count_in, shift_result, shift_step};
+ghost use Rattle.dcc_prog.specs.Operations.{with_result, accumulator_in, upper_in, with_pair, with_product};
+ghost use Rattle.dcc_prog.specs.Operations.{with_division, alu_step, unary_step, imul3_step, count_in, shift_result};
+ghost use Rattle.dcc_prog.specs.Operations.{shift_step};
 ghost use Rattle.dcc_prog.specs.WellFormed.{IsOperand, AreOperands, IsWordOperand};
 ghost use Rattle.dcc_step.specs.Core.{state_of, changed_by};
 

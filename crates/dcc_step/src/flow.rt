@@ -1,7 +1,8 @@
 //! Jumps, and operations without operands.
 
 ghost use Rattle.std.specs.Prelude.{◌≡◌};
-ghost use Rattle.dcc_prog.specs.Operations.{after_jump, after_jump_if, loop_step, table_step, with_carry, plain_step, lea_step, mov_step, xchg_step};
+ghost use Rattle.dcc_prog.specs.Operations.{after_jump, after_jump_if, loop_step, table_step, with_carry, plain_step};
+ghost use Rattle.dcc_prog.specs.Operations.{lea_step, mov_step, xchg_step};
 ghost use Rattle.dcc_prog.specs.WellFormed.{AreOperands};
 ghost use Rattle.dcc_step.specs.Core.{changed_by};
 

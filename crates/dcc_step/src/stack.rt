@@ -1,7 +1,8 @@
 //! The stack, frames, calls and returns.
 
 ghost use Rattle.std.specs.Prelude.{◌≡◌, ◌-◌};
-ghost use Rattle.dcc_prog.specs.Operations.{top_word, with_sp_raised, after_push, push_step, pop_step, enter_step, leave_step, call_step, ret_step};
+ghost use Rattle.dcc_prog.specs.Operations.{top_word, with_sp_raised, after_push, push_step, pop_step, enter_step};
+ghost use Rattle.dcc_prog.specs.Operations.{leave_step, call_step, ret_step};
 ghost use Rattle.dcc_prog.specs.WellFormed.{IsWordOperand};
 ghost use Rattle.dcc_step.specs.Core.{state_of, changed_by};
 

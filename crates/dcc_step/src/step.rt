@@ -134,7 +134,8 @@ impl Machine {
         }
     }
 
-    // Makes the next step of a machine that runs, where the instruction is known and has a form; answers whether it did.
+    // Makes the next step of a machine that runs, where the instruction is known and has a form; answers whether it
+    // did.
     #[inline(always)]
     fn make_form(&mut self) -> bool
         ensures made { result ≡ true → IsQuietStep self.old self.new }

@@ -1,5 +1,6 @@
 -- How control comes to the points of a program: the blocks before each block, the calls and the returns.
-use Rattle.std.specs.Prelude.{◌≡◌, ℕ, ◌<◌, ◌==◌, List, [], ◌∷◌, length, map, flat_map, filter, get_or, if◌then◌else◌, Option, Some, None}
+use Rattle.std.specs.Prelude.{◌≡◌, ℕ, ◌<◌, ◌==◌, List, [], ◌∷◌, length, map, flat_map, filter, get_or, if◌then◌else◌}
+use Rattle.std.specs.Prelude.{Option, Some, None}
 use Rattle.std.specs.Global.{Vec}
 use Rattle.dcc_ir.specs.Tree.{Program}
 use Rattle.dcc_flow.specs.Edges.{rows, successors_of, ArePredecessors}

@@ -1,7 +1,8 @@
 -- The procedures of a program of the inner language, by what their points do. Words of the stack are the bytes of the
 -- cells that stand for pushed words, told by their locations. No address reaches a cell, so each such word is private,
 -- and no location is exposed.
-use Rattle.std.specs.Prelude.{ℕ, nat_le, Bool, true, false, ◌&&◌, not, List, [], flat_map, filter, Option, Some, None, if◌then◌else◌}
+use Rattle.std.specs.Prelude.{ℕ, nat_le, Bool, true, false, ◌&&◌, not, List, [], flat_map, filter, Option, Some, None}
+use Rattle.std.specs.Prelude.{if◌then◌else◌}
 use Rattle.dcc_ir.specs.declared.syntax.Loc.{Loc}
 use Rattle.dcc_ir.specs.declared.syntax.Loc.TheVariants.{Half, Cell}
 use Rattle.dcc_ir.specs.Tree.{Expr, Get, Stmt, Set, Call, Exit, Ret, Graph, Program}
@@ -11,7 +12,8 @@ use Rattle.dcc_ir.specs.Live.{is_among}
 use Rattle.dcc_ir.specs.Passing.{passed}
 use Rattle.dcc_ir.specs.Run.{graph_at}
 use Rattle.dcc_ir.specs.Flow.{graph_or_none}
-use Rattle.dcc_demand.specs.Procedures.{Effect, Leaves, Copies, Pops, Makes, WordEffect, LeavesWord, Pushes, Overwrites, Action, Procedure, Procedures}
+use Rattle.dcc_demand.specs.Procedures.{Effect, Leaves, Copies, Pops, Makes, WordEffect, LeavesWord, Pushes, Overwrites}
+use Rattle.dcc_demand.specs.Procedures.{Action, Procedure, Procedures}
 use Rattle.dcc_sums.specs.Points.{Position, begin_of, Site, Executes, Ends, Nowhere, site_of, nexts_of, is_return}
 
 -- Locations.

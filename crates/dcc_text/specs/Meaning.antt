@@ -1,5 +1,6 @@
 -- What the text of an expression is to mean: the expression's value, in one of three ways.
-use Rattle.std.specs.Prelude.{◌≡◌, ℕ, ◌+◌, ◌%◌, ◌^◌, ◌<◌, ◌==◌, true, false, Bool, if◌then◌else◌, List, map, Some, All, ℤ, pos}
+use Rattle.std.specs.Prelude.{◌≡◌, ℕ, ◌+◌, ◌%◌, ◌^◌, ◌<◌, ◌==◌, true, false, Bool, if◌then◌else◌, List, map, Some, All}
+use Rattle.std.specs.Prelude.{ℤ, pos}
 use Rattle.dcc_num.specs.Numbers.{residue_of}
 use Rattle.dcc_ir.specs.declared.syntax.Loc.{Loc}
 use Rattle.dcc_ir.specs.Location.{location_width, Values}

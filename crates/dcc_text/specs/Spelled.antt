@@ -1,9 +1,11 @@
 -- The expressions of a graph as expressions of a text, in three ways.
-use Rattle.std.specs.Prelude.{ℕ, ◌+◌, ◌-◌, ◌^◌, ◌==◌, nat_lt, nat_le, Bool, true, false, ◌&&◌, not, if◌then◌else◌, Option, Some, None}
+use Rattle.std.specs.Prelude.{ℕ, ◌+◌, ◌-◌, ◌^◌, ◌==◌, nat_lt, nat_le, Bool, true, false, ◌&&◌, not, if◌then◌else◌}
+use Rattle.std.specs.Prelude.{Option, Some, None}
 use Rattle.dcc_ir.specs.declared.syntax.UnOp.{UnOp}
 use Rattle.dcc_ir.specs.declared.syntax.UnOp.TheVariants.{Neg, Not, IsZero}
 use Rattle.dcc_ir.specs.declared.syntax.BinOp.{BinOp}
-use Rattle.dcc_ir.specs.declared.syntax.BinOp.TheVariants.{Add, Sub, Mul, DivS, DivU, RemS, RemU, And, Or, Xor, Shl, Shr, Sar, Eq, LtS, LtU, LeS, LeU}
+use Rattle.dcc_ir.specs.declared.syntax.BinOp.TheVariants.{Add, Sub, Mul, DivS, DivU, RemS, RemU, And, Or, Xor, Shl}
+use Rattle.dcc_ir.specs.declared.syntax.BinOp.TheVariants.{Shr, Sar, Eq, LtS, LtU, LeS, LeU}
 use Rattle.dcc_ir.specs.Location.{location_width}
 use Rattle.dcc_ir.specs.Value.{is_comparison, width_of}
 use Rattle.dcc_ir.specs.Tree as inner
@@ -12,7 +14,9 @@ use Rattle.dcc_c.specs.declared.syntax.Base.TheVariants.{Schar, Uchar, Int, Uint
 use Rattle.dcc_c.specs.declared.syntax.CType.{CType}
 use Rattle.dcc_c.specs.declared.syntax.CUn.TheVariants.{Minus, Complement, Deref, AddressOf}
 use Rattle.dcc_c.specs.declared.syntax.CBin.{CBin}
-use Rattle.dcc_c.specs.declared.syntax.CBin.TheVariants.{Or as BitOr, Xor as BitXor, And as BitAnd, Eq as Equal, Lt, Le, Shl as ShiftLeft, Shr as ShiftRight, Add as Plus, Sub as Less, Mul as Times, Div as Over, Rem as Rest}
+use Rattle.dcc_c.specs.declared.syntax.CBin.TheVariants.{Or as BitOr, Xor as BitXor, And as BitAnd, Eq as Equal, Lt, Le}
+use Rattle.dcc_c.specs.declared.syntax.CBin.TheVariants.{Shl as ShiftLeft, Shr as ShiftRight, Add as Plus, Sub as Less}
+use Rattle.dcc_c.specs.declared.syntax.CBin.TheVariants.{Mul as Times, Div as Over, Rem as Rest}
 use Rattle.dcc_c.specs.Types.{is_signed, plain, pointer_to, same_type}
 use Rattle.dcc_c.specs.Tree.{Expr, Number, Name, Unary, Binary, Conditional, Cast}
 use Rattle.dcc_text.specs.Spelling.{Placed, Spelling}
@@ -86,9 +90,9 @@ constant Signed width n =
 abbrev pub as_char : Base → CType → Expr → Expr
 as_char base type e = if same_type type (plain base) then e else Cast (plain base) e
 
--- The bit that a variable of a char type holds, exactly, but for the way of low bits. Where the read votes on the sign of
--- the type, it stands in a cast to a wider type or beneath `%`, or is itself the operand of the operator that votes; else
--- it stands beneath `&`.
+-- The bit that a variable of a char type holds, exactly, but for the way of low bits. Where the read votes on the sign
+-- of the type, it stands in a cast to a wider type or beneath `%`, or is itself the operand of the operator that votes;
+-- else it stands beneath `&`.
 abbrev pub bit_read : Way → Bool → Bool → CType → Expr → Expr
 bit_read Low votes settled type e = e
 bit_read Signed true settled type e =

@@ -75,7 +75,8 @@ fn widened(alloc: Global, way: Way, by_sign: bool, width: u8, a: CExpr) -> Resul
     extended_way(by_sign).taken(alloc, way, bits, e)
 }
 
-// Two halves of so many bits each, in a way. That they have more bits than 32 bits can number is told as want of memory.
+// Two halves of so many bits each, in a way. That they have more bits than 32 bits can number is told as want of
+// memory.
 fn joined(alloc: Global, way: Way, width: u32, high: CExpr, low: CExpr) -> Result<CExpr, AllocError>
     ensures { IfOk result (λ r. expr_of r
         ≡ spec.taken spec.Exact (way_of way) (width + width) (spec.joined width (expr_of high) (expr_of low))) }

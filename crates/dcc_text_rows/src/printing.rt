@@ -1,5 +1,5 @@
-//! A unit that is written where a write fails. What units are written as, the tests of parsing show: there they are read
-//! from their texts.
+//! A unit that is written where a write fails. What units are written as, the tests of parsing show: there they are
+//! read from their texts.
 
 use dcc_io::MemSink;
 use dcc_parse::parse;

@@ -68,7 +68,8 @@ pub data FinishesWatched (cpu : Cpu) (image : Image) (steps : ℕ) (before left 
       → FinishesWatched cpu image steps before left InputFault output
   lacked_memory : left ≡ before → FinishesWatched cpu image steps before left Memory []
 
--- What may be known of the image's run on an input: nothing refuses the program, and so many steps are clean and end so.
+-- What may be known of the image's run on an input: nothing refuses the program, and so many steps are clean and end
+-- so.
 pub record EndsClean (cpu : Cpu) (steps : ℕ) (input : List ℕ) (end : End) (image : Image) : Type 0 where
   pub sound : IsSound cpu image
   pub clean : IsClean cpu image input steps

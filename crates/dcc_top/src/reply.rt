@@ -1,7 +1,8 @@
 //! What the program answers: a status, and a line on the error stream.
 
 ghost use Rattle.std.specs.Prelude.{◌≡◌, Some, IfOk, IsOk, string_bytes};
-ghost use Rattle.dcc_top.specs.Answer.{status_of, line_of, limit_word, foul_word, shelf_reply, fault_reply, parse_reply};
+ghost use Rattle.dcc_top.specs.Answer.{status_of, line_of, limit_word, foul_word, shelf_reply, fault_reply};
+ghost use Rattle.dcc_top.specs.Answer.{parse_reply};
 ghost use Rattle.dcc_top.specs.Answer.{refusal_reply};
 
 use dcc_io::ShelfFault;

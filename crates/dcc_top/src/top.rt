@@ -110,8 +110,9 @@ fn reply_for<H: Shelf, I: Source, O: Sink>(
 /// Statuses: 0 where the text or the list is written or the run has ended by its exit; 2 usage, 3 no file, 4 the file
 /// could not be read, 5 the input could not, 6 a write failed, 7 memory ran out, 8 the file is no executable, 9 a
 /// construct stands in the program for which nothing is written, 10 a count of the program is too great, 11 the file is
-/// no text, 20 the run goes on after the steps that were asked for, 21 it ended by a divide fault, 22 it came to what is no
-/// instruction, 23 the next step isn't clean, 24 the text has no step there. A status other than 0 and 6 has its line on `err`, and the exit of a run too.
+/// no text, 20 the run goes on after the steps that were asked for, 21 it ended by a divide fault, 22 it came to what
+/// is no instruction, 23 the next step isn't clean, 24 the text has no step there. A status other than 0 and 6 has its
+/// line on `err`, and the exit of a run too.
 pub fn dcc<H: Shelf, I: Source, O: Sink, E: Sink>(
     alloc: Global,
     words: &Vec<String>,

@@ -34,7 +34,13 @@ storage_of false bits = Unplaced bits
 
 -- a variable of this name
 abbrev pub binding_named : Word → Bound → Binding
-binding_named word b = record { name = word; type = b.ty; is_array = b.is_array; storage = storage_of b.is_placed b.bits }
+binding_named word b = record {
+  name = word;
+  type = b.ty;
+  is_array = b.is_array;
+  storage =
+      storage_of b.is_placed b.bits;
+}
 
 -- a variable without its name, which says nothing of its value
 abbrev pub unnamed : Bound → Binding

@@ -1,5 +1,6 @@
 -- What resolved expressions come to, and the expressions of a text that they stand for.
-use Rattle.std.specs.Prelude.{◌≡◌, ℕ, true, false, if◌then◌else◌, List, [], ◌++◌, map, Option, Some, None, option_map, slice_get}
+use Rattle.std.specs.Prelude.{◌≡◌, ℕ, true, false, if◌then◌else◌, List, [], ◌++◌, map, Option, Some, None, option_map}
+use Rattle.std.specs.Prelude.{slice_get}
 use Rattle.std.specs.List.{list_all}
 use denote.Ref.{Bor}
 use Rattle.dcc_c.specs.declared.syntax.CType.{CType}
@@ -7,7 +8,10 @@ use Rattle.dcc_c.specs.Types.{plain, size_of}
 use Rattle.dcc_c.specs.Memory.{store}
 use Rattle.dcc_c.specs.Tree.{Word, Expr}
 use Rattle.dcc_c.specs.Typing.{Declared}
-use Rattle.dcc_c.specs.Value.{Value, is_zero, converted, Outcome, Gives, Divides, Undefined, and_then, given, Storage, Unplaced, PlacedAt, Binding, declared_by, after_assignment, variable_value, address_value, pointed_value, unary_value, both_values, truth_value, chosen, Scope, value_of, Target, ToVariable, ToMemory, target_of}
+use Rattle.dcc_c.specs.Value.{Value, is_zero, converted, Outcome, Gives, Divides, Undefined, and_then, given, Storage}
+use Rattle.dcc_c.specs.Value.{Unplaced, PlacedAt, Binding, declared_by, after_assignment, variable_value, address_value}
+use Rattle.dcc_c.specs.Value.{pointed_value, unary_value, both_values, truth_value, chosen, Scope, value_of, Target}
+use Rattle.dcc_c.specs.Value.{ToVariable, ToMemory, target_of}
 use Rattle.dcc_value.specs.declared.variable.Binding.{Binding as Bound}
 use Rattle.dcc_value.specs.declared.variable.Scene.{Scene as Seen}
 use Rattle.dcc_value.specs.declared.variable.Names.{Names as Given}
@@ -16,7 +20,8 @@ use Rattle.dcc_value.specs.declared.expression.Slot.{Slot}
 use Rattle.dcc_value.specs.declared.expression.Slot.TheVariants.{Local as InFrame, Global as InGlobals}
 use Rattle.dcc_value.specs.declared.expression.Target.{Target as Place}
 use Rattle.dcc_value.specs.declared.expression.Target.TheVariants.{Local as ToLocal, Memory as Into}
-use Rattle.dcc_value.specs.declared.expression.Resolved.{Resolved, Constant, Variable, AddressOf, Load', Unary', Either', Both', Binary', Choose', Cast', Meaningless}
+use Rattle.dcc_value.specs.declared.expression.Resolved.{Resolved, Constant, Variable, AddressOf, Load', Unary'}
+use Rattle.dcc_value.specs.declared.expression.Resolved.{Either', Both', Binary', Choose', Cast', Meaningless}
 use Rattle.dcc_value.specs.Evaluation.{typed, unnamed, bindings_named, declared_of}
 use Rattle.dcc_value.specs.Places.{first_place}
 

@@ -5,7 +5,9 @@ ghost use Rattle.dcc_c.specs.Tree.{Word};
 ghost use Rattle.dcc_c.specs.Typing.{Declared};
 ghost use Rattle.dcc_c.specs.Value.{given, declared_by, Unplaced, converted, after_assignment};
 ghost use Rattle.dcc_value.specs.Evaluation.{typed, outcome_of, itself, unnamed, binding_named, bindings_named};
-ghost use Rattle.dcc_value.specs.Resolved.{scene_of, slot_in, evaluated, slot_target, address_target, targeted, target_named, index_named, IsAlone, IsTargetIn, variables_after, memory_after};
+ghost use Rattle.dcc_value.specs.Resolved.{scene_of, slot_in, evaluated, slot_target, address_target, targeted};
+ghost use Rattle.dcc_value.specs.Resolved.{target_named, index_named, IsAlone, IsTargetIn, variables_after};
+ghost use Rattle.dcc_value.specs.Resolved.{memory_after};
 
 use crate::value::memory::store;
 use crate::value::{NoValue, Value, both_values, converted, is_zero, truth_value, unary_value};

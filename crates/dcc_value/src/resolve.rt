@@ -6,7 +6,8 @@ ghost use Rattle.dcc_c.specs.Tree.{Expr, Name, Unary, Binary};
 ghost use Rattle.dcc_c.specs.Typing.{both_arms_type, type_of, declared_as};
 ghost use Rattle.dcc_c.specs.Views.{expr_of};
 ghost use Rattle.dcc_value.specs.Evaluation.{declared_of};
-ghost use Rattle.dcc_value.specs.Resolved.{Names as NamesOf, names_of, all_names, index_named, slot_named, lent_declared, Stands};
+ghost use Rattle.dcc_value.specs.Resolved.{Names as NamesOf, names_of, all_names, index_named, slot_named};
+ghost use Rattle.dcc_value.specs.Resolved.{lent_declared, Stands};
 
 use crate::declarations::Declarations;
 use crate::expression::{Resolved, Slot};

@@ -2,7 +2,8 @@
 
 ghost use Rattle.std.specs.Prelude.{◌≡◌, ◌^◌, ◌<◌};
 ghost use Rattle.dcc_c.specs.Types.{bits_of};
-ghost use Rattle.dcc_c.specs.Value.{number, truth, is_zero, converted, unary_number, unary_value, compared, binary_value, numbers_value, moved, both_values, truth_value};
+ghost use Rattle.dcc_c.specs.Value.{number, truth, is_zero, converted, unary_number, unary_value, compared};
+ghost use Rattle.dcc_c.specs.Value.{binary_value, numbers_value, moved, both_values, truth_value};
 ghost use Rattle.dcc_value.specs.Evaluation.{typed, outcome_of};
 
 use dcc_c::{Base, CBin, CType, CUn};

@@ -1,6 +1,7 @@
 -- The functions of a text: one for each graph of a program. Their names, parameters, variables and results; how a body
 -- begins; and the text of a Ret.
-use Rattle.std.specs.Prelude.{◌≡◌, ℕ, ◌+◌, ◌-◌, ◌*◌, Bool, false, ◌&&◌, not, if◌then◌else◌, List, [], ◌∷◌, ◌++◌, filter, map, codes, Option, Some, None, is_some}
+use Rattle.std.specs.Prelude.{◌≡◌, ℕ, ◌+◌, ◌-◌, ◌*◌, Bool, false, ◌&&◌, not, if◌then◌else◌, List, [], ◌∷◌, ◌++◌, filter}
+use Rattle.std.specs.Prelude.{map, codes, Option, Some, None, is_some}
 use Rattle.std.specs.Fmt.{decimal}
 use Rattle.dcc_ir.specs.declared.syntax.Loc.{Loc}
 use Rattle.dcc_ir.specs.declared.syntax.Put.{Put}
@@ -18,7 +19,8 @@ use Rattle.dcc_text.specs.Hex.{name_at}
 use Rattle.dcc_text.specs.Spelling.{Placed, Spelling}
 use Rattle.dcc_text.specs.Spelled.{Low, unsigned_type, cut, moved_down, text}
 use Rattle.dcc_text.specs.Stmts.{place_of}
-use Rattle.dcc_variables.specs.Variables.{Shape, is_told_from, frame_bytes, shape_of, variable_name, variable, frame_array, placed_at, spelling_of}
+use Rattle.dcc_variables.specs.Variables.{Shape, is_told_from, frame_bytes, shape_of, variable_name, variable}
+use Rattle.dcc_variables.specs.Variables.{frame_array, placed_at, spelling_of}
 
 -- Names.
 

@@ -1,6 +1,8 @@
--- The variables of a graph's text: one for each location that the graph reads or writes, and an array for the local bytes
--- of its frame that are in memory.
-use Rattle.std.specs.Prelude.{ℕ, suc, ◌+◌, ◌*◌, ◌%◌, ◌==◌, nat_le, nat_lt, max, Bool, true, false, not, ◌&&◌, ◌||◌, if◌then◌else◌, List, [], ◌∷◌, ◌++◌, filter, flat_map, length, map, codes, Option, Some, None}
+-- The variables of a graph's text: one for each location that the graph reads or writes, and an array for the local
+-- bytes of its frame that are in memory.
+use Rattle.std.specs.Prelude.{ℕ, suc, ◌+◌, ◌*◌, ◌%◌, ◌==◌, nat_le, nat_lt, max, Bool, true, false, not, ◌&&◌, ◌||◌}
+use Rattle.std.specs.Prelude.{if◌then◌else◌, List, [], ◌∷◌, ◌++◌, filter, flat_map, length, map, codes, Option, Some}
+use Rattle.std.specs.Prelude.{None}
 use Rattle.std.specs.List.{list_any, range_with_len}
 use Rattle.std.specs.Fmt.{decimal}
 use Rattle.dcc_num.specs.declared.Reg.{Reg}
@@ -95,8 +97,8 @@ frame_bytes told graph = if graph.local == 0 then (if takes_address told graph t
 
 -- Names.
 
--- What names depend on: the widths of the temporaries, the locations that have variables, how many cells there are up to
--- the last that has one, and how many bytes the array of the frame has.
+-- What names depend on: the widths of the temporaries, the locations that have variables, how many cells there are up
+-- to the last that has one, and how many bytes the array of the frame has.
 pub record Shape : Type 0 where
   pub bits : List ℕ
   pub locations : List Loc

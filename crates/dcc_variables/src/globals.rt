@@ -48,7 +48,8 @@ fn push_array(
     at: u16,
     bytes: &[u8],
 ) -> Result<(), AllocError>
-    ensures { OnOk result (map global_of globals.new.items ≡ map global_of globals.old.items ++ spec.array_of at bytes.now) }
+    ensures { OnOk result (map global_of globals.new.items
+        ≡ map global_of globals.old.items ++ spec.array_of at bytes.now) }
 {
     if bytes.is_empty() {
         return Ok(());

@@ -1,6 +1,7 @@
 //! The head of a graph's function: its name, parameters, variables and result.
 
-ghost use Rattle.std.specs.Prelude.{◌≡◌, ℕ, ◌+◌, ◌^◌, ◌<◌, ◌++◌, true, IfOk, OnOk, IfSome, filter, length, map, option_map, string_bytes};
+ghost use Rattle.std.specs.Prelude.{◌≡◌, ℕ, ◌+◌, ◌^◌, ◌<◌, ◌++◌, true, IfOk, OnOk, IfSome, filter, length, map};
+ghost use Rattle.std.specs.Prelude.{option_map, string_bytes};
 ghost use Rattle.dcc_ir.specs.Value.{width_of};
 ghost use Rattle.dcc_ir.specs.Views.{expr_of, graph_of};
 ghost use Rattle.dcc_ir.specs.WellFormed as formed;

@@ -4,7 +4,8 @@ use Rattle.std.specs.List.{filter}
 use Rattle.dcc_prog.specs.declared.instr.Operand.{Operand}
 use Rattle.dcc_prog.specs.declared.instr.Operand.TheVariants.{Mem}
 use Rattle.dcc_prog.specs.declared.instr.Op.{Op}
-use Rattle.dcc_prog.specs.declared.instr.Op.TheVariants.{Alu, Unary, Shift, Mov, Xchg, Lea, Imul3, Jump, Branch, Loop, LoopE, LoopNe, Jcxz}
+use Rattle.dcc_prog.specs.declared.instr.Op.TheVariants.{Alu, Unary, Shift, Mov, Xchg, Lea, Imul3, Jump, Branch, Loop}
+use Rattle.dcc_prog.specs.declared.instr.Op.TheVariants.{LoopE, LoopNe, Jcxz}
 use Rattle.dcc_prog.specs.declared.procedure.Layout.{Layout}
 use Rattle.dcc_prog.specs.Access as told
 use Rattle.dcc_watch.specs.declared.access.Direction.{Direction}

@@ -92,10 +92,11 @@ Tells (Foul at address kind) code = code.stage ≡ Stopped (record { at = at; ki
 pub record StepAnswers (answered : Watched) (before now : machine.Counted Watching) : Type 0 where
   pub step : Steps watched (outcome_of answered) before.scene now.scene
   pub tells : Tells answered now.scene.code
-  pub faults : CountsFaults (answered ≡ Clean InFault) (answered ≡ Clean OutFault) before.reads now.reads before.writes now.writes
+  pub faults : CountsFaults (answered ≡ Clean InFault) (answered
+      ≡ Clean OutFault) before.reads now.reads before.writes now.writes
 
--- the watch at the start of an image's run on a program's processor: there is room for as many frames as return addresses
--- fit the stack, and for that of the entry procedure
+-- the watch at the start of an image's run on a program's processor: there is room for as many frames as return
+-- addresses fit the stack, and for that of the entry procedure
 abbrev pub first_watching : Image → Program → Watching
 first_watching image program = record {
   layout = program.layout;

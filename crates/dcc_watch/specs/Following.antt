@@ -14,7 +14,12 @@ use Rattle.dcc_watch.specs.declared.frames.Live.{Live}
 -- the frame of the entry procedure, which begins in the given state
 abbrev pub first_live : List Shape → Layout → State → Live
 first_live shapes layout s =
-    record { entry = layout.start_ip; base = top_in layout s + 2; shape = slice_index_or shapes layout.start_ip NO_SHAPE }
+    record {
+      entry = layout.start_ip;
+      base = top_in layout s + 2;
+      shape =
+          slice_index_or shapes layout.start_ip NO_SHAPE;
+    }
 
 abbrev pub is_call_op : Op → Bool
 is_call_op (Call target) = true

@@ -7,7 +7,8 @@ use Rattle.dcc_prog.specs.declared.watch.FoulKind.TheVariants.{Low, Hidden, Unwr
 use Rattle.dcc_prog.specs.Machine.{State}
 use Rattle.dcc_prog.specs.Access.{Access, addresses_of, found_accesses}
 use Rattle.dcc_prog.specs.Clean as told
-use Rattle.dcc_prog.specs.Clean.{stack_offset, is_other, is_reading, is_marked, top_in, sp_after, low_of, foul_as, or_else}
+use Rattle.dcc_prog.specs.Clean.{stack_offset, is_other, is_reading, is_marked, top_in, sp_after, low_of, foul_as}
+use Rattle.dcc_prog.specs.Clean.{or_else}
 use Rattle.dcc_watch.specs.declared.frames.Live.{Live}
 use Rattle.dcc_watch.specs.declared.judge.Foul.{Foul}
 use Rattle.dcc_watch.specs.Shapes.{exposed_in}

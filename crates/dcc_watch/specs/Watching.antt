@@ -10,8 +10,8 @@ use Rattle.dcc_watch.specs.declared.progress.Progress.TheVariants.{AtStart, InPr
 use Rattle.dcc_watch.specs.Foul.{told_foul}
 use Rattle.dcc_watch.specs.Shapes.{live_frame}
 
--- The layout and the shapes of a program's frames, by the offset where a procedure begins; how many frames there is room
--- for; the machine; and where its run stands.
+-- The layout and the shapes of a program's frames, by the offset where a procedure begins; how many frames there is
+-- room for; the machine; and where its run stands.
 pub record Watching : Type 0 where
   pub layout : Layout
   pub shapes : List Shape

@@ -7,7 +7,9 @@ ghost use Rattle.dcc_prog.specs.Writes.{writes_operand};
 ghost use Rattle.dcc_prog.specs.Machine.{with_operand, operand_value};
 ghost use Rattle.dcc_prog.specs.Operations.{with_sp_raised};
 ghost use Rattle.dcc_prog.specs.Access as told;
-ghost use Rattle.dcc_prog.specs.Access.{is_direct, writes_back, operand_accesses, exchange_accesses, stack_access, push_access, dos_accesses, plain_accesses, string_size, accesses, found_accesses};
+ghost use Rattle.dcc_prog.specs.Access.{is_direct, writes_back, operand_accesses, exchange_accesses, stack_access};
+ghost use Rattle.dcc_prog.specs.Access.{push_access, dos_accesses, plain_accesses, string_size, accesses};
+ghost use Rattle.dcc_prog.specs.Access.{found_accesses};
 ghost use Rattle.dcc_prog.specs.WellFormed.{IsOperand, AreOperands, IsOperation};
 ghost use Rattle.dcc_step.specs.Core.{state_of};
 ghost use Rattle.dcc_watch.specs.Accesses.{direction_of, kind_of, access_of, accesses_of, near, is_memory, may_access};
@@ -333,7 +335,8 @@ fn kind_of(ea: Ea) -> Kind
 
 // The bytes at an address that a word is popped into, when SP has risen.
 fn popped_access(machine: &Machine, width: Width, ea: Ea) -> Access
-    ensures { access_of result ∷ [] ≡ operand_accesses told.Writing (in_memory width ea) (with_sp_raised 2 (state_of machine.now)) }
+    ensures { access_of result ∷ []
+        ≡ operand_accesses told.Writing (in_memory width ea) (with_sp_raised 2 (state_of machine.now)) }
 {
     let sp = machine.reg(Reg::Sp);
     Access {

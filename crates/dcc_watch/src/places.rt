@@ -102,8 +102,8 @@ fn unwritten_of(layout: &Layout, written: &Marks, access: Access) -> Option<u16>
     }
 }
 
-/// The first byte that no frame exposes, of accesses other than those of the stack and of frames; SP stands at the first
-/// offset.
+/// The first byte that no frame exposes, of accesses other than those of the stack and of frames; SP stands at the
+/// first offset.
 pub(crate) fn hidden(layout: &Layout, frames: &Frames, top: u32, list: &Accesses) -> Option<u16>
     requires ordered { AreOrdered top frames.now.live }
     ensures { result ≡ hidden_in layout.now top frames.now.live list.now }
@@ -141,7 +141,8 @@ fn mark_at(layout: &Layout, address: u32, written: &mut Marks)
 
 // Marks the bytes of an access.
 fn mark_bytes(layout: &Layout, access: Access, written: &mut Marks)
-    ensures { written.new ≡ with_marks true (filter_map (stack_offset layout.now) (addresses_of (access_of access))) written.old }
+    ensures { written.new
+        ≡ with_marks true (filter_map (stack_offset layout.now) (addresses_of (access_of access))) written.old }
 {
     for k in 0..access.size {
         mark_at(layout, access.address(k), written);

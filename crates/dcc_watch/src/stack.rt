@@ -50,7 +50,8 @@ impl Before {
 fn follow_frames(frames: &mut Frames, shapes: &[Shape], found: Option<Instr>, from: u32)
     requires table { length shapes.now ≡ 2 ^ 16 }
     requires room { is_call found ≡ true → length frames.old.live < frames.old.room }
-    ensures follows { frames.new ≡ record { room = frames.old.room; live = live_after shapes.now found from frames.old.live } }
+    ensures follows { frames.new
+        ≡ record { room = frames.old.room; live = live_after shapes.now found from frames.old.live } }
     ensures known { AllHaveShapes shapes.now frames.old.live → AllHaveShapes shapes.now frames.new.live }
 {
     let Some(instr) = found else {

@@ -8,7 +8,8 @@ ghost use Rattle.dcc_console.specs.Counts.{CountsFaults};
 ghost use Rattle.dcc_console.specs.Scene.{scene};
 ghost use Rattle.dcc_console.specs.Steps.{Runs, made};
 ghost use Rattle.dcc_step.specs.Stepped.{counted};
-ghost use Rattle.dcc_watch.specs.Executor.{watched, outcome_of, is_refused, foul_answer, Tells, StepAnswers, first_watching, is_at_first, is_in_procedures, is_going, goes_on};
+ghost use Rattle.dcc_watch.specs.Executor.{watched, outcome_of, is_refused, foul_answer, Tells, StepAnswers};
+ghost use Rattle.dcc_watch.specs.Executor.{first_watching, is_at_first, is_in_procedures, is_going, goes_on};
 
 use crate::frames::Frames;
 use crate::judge::{Foul, next_foul};
@@ -98,8 +99,8 @@ impl Foul {
 }
 
 impl Watch {
-    /// The watch at the start of a program's run. The program is the one that the analyses find in the image. All memory
-    /// that steps need is taken here.
+    /// The watch at the start of a program's run. The program is the one that the analyses find in the image. All
+    /// memory that steps need is taken here.
     pub fn new(alloc: Global, image: &Image, program: &Program) -> Result<Watch, AllocError>
         requires loaded { IsLoaded image.now }
         requires program { IsProgramOf program.now.layout.cpu image.now program.now }
@@ -171,10 +172,10 @@ impl Watch {
         Watched::Clean(stepped)
     }
 
-    /// Makes the next step of the machine, unless it is foul. It is foul where SP would go below 0 or below the stack's low
-    /// end; else where a byte of the stack is touched that no frame exposes, otherwise than by a push, a pop, a call, a
-    /// return or a direct access to the frame; else where a byte of the stack is read that no step has stored since SP
-    /// last left it behind. A foul step is not made, and is answered again by each later step.
+    /// Makes the next step of the machine, unless it is foul. It is foul where SP would go below 0 or below the stack's
+    /// low end; else where a byte of the stack is touched that no frame exposes, otherwise than by a push, a pop, a
+    /// call, a return or a direct access to the frame; else where a byte of the stack is read that no step has stored
+    /// since SP last left it behind. A foul step is not made, and is answered again by each later step.
     ///
     /// `Clean` is what the machine's step answers: Exit, Divide and Outside where the run has ended, and InFault and
     /// OutFault where a read or a write failed, after which nothing has changed. No step takes memory: at a clean CALL fewer

@@ -1,6 +1,7 @@
 //! Files in memory.
 
-ghost use Rattle.std.specs.Prelude.{◌≡◌, ◌⊎◌, ◌≤◌, [], vec_len, None, Some, Ok, Err, IsErrOf, OnErr, IsTrue, MatchOption, AllPairs, ◌≢◌, string_bytes};
+ghost use Rattle.std.specs.Prelude.{◌≡◌, ◌⊎◌, ◌≤◌, [], vec_len, None, Some, Ok, Err, IsErrOf, OnErr, IsTrue};
+ghost use Rattle.std.specs.Prelude.{MatchOption, AllPairs, ◌≢◌, string_bytes};
 ghost use Rattle.dcc_io.specs.Count.{Rose};
 ghost use Rattle.dcc_io.specs.Told.{WhenTold};
 ghost use Rattle.dcc_io.specs.Fetch.{Fetches, KeepsWithin, Records};

@@ -1,6 +1,7 @@
 //! Output in memory.
 
-ghost use Rattle.std.specs.Prelude.{◌≡◌, ◌<◌, ◌≤◌, ◌||◌, [], length, take, min, Some, IfOk, IsErr, OnErr, IsTrue, is_ok, if◌then◌else◌};
+ghost use Rattle.std.specs.Prelude.{◌≡◌, ◌<◌, ◌≤◌, ◌||◌, [], length, take, min, Some, IfOk, IsErr, OnErr, IsTrue};
+ghost use Rattle.std.specs.Prelude.{is_ok, if◌then◌else◌};
 ghost use Rattle.dcc_io.specs.Count.{Rose};
 ghost use Rattle.dcc_io.specs.Told.{append_told};
 ghost use Rattle.dcc_io.specs.Memory.{next_count, fails_next, sink_faults};

@@ -1,8 +1,10 @@
 //! Numbers of a width, and the operators on them.
 
-ghost use Rattle.std.specs.Prelude.{if◌then◌else◌, ◌≡◌, ℕ, ◌-◌, ◌*◌, ◌/◌, ◌%◌, ◌^◌, ◌<◌, ◌≤◌, ◌<ℤ◌, ◌≤ℤ◌, pos, neg_ℤ, int_div, int_rem, IfSome};
+ghost use Rattle.std.specs.Prelude.{if◌then◌else◌, ◌≡◌, ℕ, ◌-◌, ◌*◌, ◌/◌, ◌%◌, ◌^◌, ◌<◌, ◌≤◌, ◌<ℤ◌, ◌≤ℤ◌, pos, neg_ℤ};
+ghost use Rattle.std.specs.Prelude.{int_div, int_rem, IfSome};
 ghost use Rattle.dcc_num.specs.Numbers.{residue_of, halved_of};
-ghost use Rattle.dcc_ir.specs.Value.{signed_at, pattern_at, faults_signed, divided_signed, division_at, unary_value, binary_value};
+ghost use Rattle.dcc_ir.specs.Value.{signed_at, pattern_at, faults_signed, divided_signed, division_at, unary_value};
+ghost use Rattle.dcc_ir.specs.Value.{binary_value};
 
 use crate::syntax::{BinOp, UnOp};
 

@@ -3,8 +3,8 @@
 use super::files::{Faults, NO_FAULTS, PRINTS_A, answered, answered_on, program};
 use std::test::Fail;
 
-// A program after the instructions that set DS, and what its watched run does: the processor, the most steps, the input,
-// the output, the status and the line.
+// A program after the instructions that set DS, and what its watched run does: the processor, the most steps, the
+// input, the output, the status and the line.
 #[derive(Clone, Copy)]
 struct Watched {
     code: &'static [u8],

@@ -2,7 +2,9 @@
 
 ghost use Rattle.std.specs.Prelude.{◌≡◌, ◌-◌, ◌/◌, ◌^◌, ◌<◌, ◌≤◌, false, if◌then◌else◌};
 ghost use Rattle.dcc_c.specs.Types.{bits_of};
-ghost use Rattle.dcc_c.specs.Arithmetic.{negated, complement, difference, magnitude, with_sign, same_sign, division_faults, quotient, remainder, rank, is_less, is_past, shifted_left, shifted_right};
+ghost use Rattle.dcc_c.specs.Arithmetic.{negated, complement, difference, magnitude, with_sign, same_sign};
+ghost use Rattle.dcc_c.specs.Arithmetic.{division_faults, quotient, remainder, rank, is_less, is_past, shifted_left};
+ghost use Rattle.dcc_c.specs.Arithmetic.{shifted_right};
 
 use dcc_c::Base;
 
