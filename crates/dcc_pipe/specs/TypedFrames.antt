@@ -39,7 +39,7 @@ param_classes frame others = map (argument_class frame) (range_with_len 0 frame.
 abbrev pub moves_sp : Proc → Bool
 moves_sp proc = list_any (λ (found : ℕ × Node). is_sp_move found.1.instr.op) proc.nodes.entries
 
--- Of an array nothing but the address is used.
+-- An array is named for its address alone.
 
 -- the name stands in the expression
 abbrev pub stands_in : Word → Expr → Bool
@@ -67,7 +67,7 @@ is_only_addressed word body = list_all (tells_address word) (stmts_in body)
 -- Arrays.
 
 -- The array of a frame has the local bytes that the frame exposes. Where it exposes none, there may be one byte, if the
--- procedure moves SP by ADD, SUB, INC or DEC; it stands for no cell, and nothing but its address is used.
+-- procedure moves SP by ADD, SUB, INC or DEC; the body names its array for the address alone.
 pub data HasArrayOf (p : Procedure) (body : Lines) : ℕ → Type 0 where
   exposed : HasArrayOf p body p.frame.exposed.local
   for_moves : p.frame.exposed.local ≡ 0 → moves_sp p.proc ≡ true → is_only_addressed frame_name body ≡ true

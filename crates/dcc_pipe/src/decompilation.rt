@@ -59,8 +59,8 @@ fn text_of(alloc: Global, image: &Image, program: &Program) -> Result<Unit, Sums
 /// What nothing wants is not computed. The written form stands for the unit's tree, whose run on every input and from
 /// every fill agrees with that of the program on the processor, as long as that is clean. A function keeps in memory
 /// just the arguments and the local bytes that its procedure's frame exposes; where it exposes no local byte, there may
-/// be one if the procedure moves SP by ADD, SUB, INC or DEC, and nothing but the address of that byte is used. There is
-/// a function for each procedure, by the name of its entry.
+/// be one if the procedure moves SP by ADD, SUB, INC or DEC, and the array of that byte is named for its address alone.
+/// There is a function for each procedure, by the name of its entry.
 ///
 /// A program that has a text has no construct, and passes no limit. One that is refused is told why, in this order: what
 /// `analyse` refuses; and where it refuses nothing, a construct of what procedures take and give back: a CALL that may

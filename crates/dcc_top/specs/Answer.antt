@@ -169,8 +169,8 @@ pub data HasNoUnit (told : Files) (name : List ℕ) : Reply → Type 0 where
 
 -- What is made of an executable.
 
--- on this processor the image is accepted, and these bytes are the written form of a tree that is its text, in which
--- memory has just what the frames expose, and one byte where a frame exposes no local one and SP is moved by a sum
+-- on this processor the image is accepted, and these bytes are the written form of a tree that is its text, in which of
+-- each frame just what it exposes is in memory, and one byte where it exposes no local one and SP is moved by a sum
 pub record IsTextOfImage (cpu : Cpu) (image : Image) (text : List ℕ) : Type 0 where
   pub accepted : IsAcceptedProgram cpu image
   pub tree : Tree

@@ -30,8 +30,9 @@ pub record RunsAgree {T : Type 0} (cpu : Cpu) (image : Image) (text : Subject T)
     pub never_stuck : (k line : ℕ) → ending_after text k input ≢ Stuck line
 
 -- THE THEOREM. A text was appended to the output that does what the executable of this name does on this processor, on
--- every input, as long as the executable's run is clean. In memory it has just the arguments and the local bytes that
--- the procedures' frames expose, and one byte where a frame exposes no local one and its procedure moves SP by a sum.
+-- every input, as long as the executable's run is clean. Of each procedure's frame it has in memory just the arguments
+-- and the local bytes that the frame exposes, and one byte where the frame exposes no local one and the procedure moves
+-- SP by a sum; the array of that byte is named for its address alone.
 pub record HasText (cpu : Cpu) (told : Files) (name : List ℕ) (before after : Option (List ℕ)) : Type 0 where
   pub file : List ℕ
   pub text : List ℕ
