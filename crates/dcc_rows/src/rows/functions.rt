@@ -1,6 +1,8 @@
 //! The functions of texts: their parameters and results, and the bytes that they place.
 
+use super::both::text_of;
 use super::calls::{FACTORIAL, FILLS_A_BUFFER, PRINTS_AN_ADDRESS};
+use super::files::program;
 use super::lifted::decompiled;
 use dcc_c::{Base, CStmt, Class, Func, Line, Unit};
 use std::alloc::{AllocError, Global};
@@ -120,5 +122,19 @@ fn a_recursive_procedure_has_no_loop(rt: HostRuntime) -> Result<(), Fail> {
     let factorial = &unit.funcs[1];
     assert_eq!(&rt; factorial.name.as_str(), "f_0011");
     assert!(&rt; !factorial.body.iter().any(is_loop));
+    Ok(())
+}
+
+#[test]
+fn a_recursive_procedure_takes_no_address(rt: HostRuntime) -> Result<(), Fail> {
+    let alloc = rt.alloc();
+    let file = program(&rt, alloc, FACTORIAL)?;
+    let text = text_of(&rt, alloc, &file, "8086")?;
+    // The operator between two operands alone has a space behind it.
+    let mut follows = false;
+    for byte in &text {
+        assert!(rt; !follows || *byte == b' ');
+        follows = *byte == b'&';
+    }
     Ok(())
 }
