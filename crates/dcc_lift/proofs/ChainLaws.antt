@@ -1,9 +1,8 @@
 -- Laws of the instructions that join the block of the one before them, and of the chains that they make.
-use Rattle.std.proofs.Common.{◌≡◌, ◌≢◌, ◌<◌, ℕ, Bool, true, false, not, ◌&&◌, ◌||◌, ◌==◌, nat_lt, filter, if◌then◌else◌, inl, inr, List, [], ◌∷◌, map, Some, None, All, AllPairs, refl, sym, ap, ◌∙◌, subst, true≢false, eqb-true, eq-eqb, ne_eqb, ltb-true, arith}
+use Rattle.std.proofs.Common.{◌≡◌, ◌≢◌, ◌<◌, ℕ, Bool, true, false, not, ◌&&◌, ◌||◌, ◌==◌, nat_lt, filter, if◌then◌else◌, inl, inr, List, [], ◌∷◌, map, Some, None, All, refl, sym, ap, ◌∙◌, subst, true≢false, eqb-true, eq-eqb, ne_eqb, ltb-true}
 use Rattle.std.specs.List.{list_any}
 use Rattle.std.proofs.lemmas.Bool.{eqb-false}
-use Rattle.std.proofs.lemmas.List.Elements.{All-nil, All-cons, All-weaker}
-use Rattle.std.proofs.lemmas.List.Kept.{AllPairs-cons}
+use Rattle.std.proofs.lemmas.List.Elements.{All-nil, All-cons}
 use Rattle.dcc_prog.specs.declared.procedure.Node.{Node}
 use Rattle.dcc_ir.proofs.PathLaws.{decided, clash}
 use Rattle.dcc_lift.specs.Blocks.{Nodes, node_in, successors_in, edges_into, is_one, calls_in, jumps_by_table_in, comes_from_below, joins, if_joins, onward, IsChain, leaders, last_of}
@@ -230,21 +229,6 @@ module _ (nodes : Nodes) (entry prelude : ℕ) (sound : AreSound nodes entry pre
             node_in_has nodes next on.node.0 on.node.1;
       })
       (chain_inner rest next chain.1)
-
-  chain_above : (rest : List ℕ) (at : ℕ) → IsChain nodes entry at rest → All (λ c. at < c) rest
-  chain_above [] at chain = All-nil (λ c. at < c)
-  chain_above (next ∷ rest) at chain =
-      let on = onward_tells at next chain.0 in
-      All-cons (λ c. at < c) next rest on.below
-      (All-weaker (λ c. next < c) (λ c. at < c) (λ c less. omega (arith, on.below)) rest
-      (chain_above rest next chain.1))
-
-  -- offsets ascend along a chain
-  pub chain_ascends : (rest : List ℕ) (at : ℕ) → IsChain nodes entry at rest → AllPairs (λ a b. a < b) (at ∷ rest)
-  chain_ascends [] at chain = λ i j d less inside. absurd (omega arith)
-  chain_ascends (next ∷ rest) at chain =
-      AllPairs-cons (λ a b. a < b) at (next ∷ rest) (chain_above (next ∷ rest) at chain)
-      (chain_ascends rest next chain.1)
 
   -- the last instruction of a chain is one of the procedure
   pub last_node : (rest : List ℕ) (at : ℕ) → IsChain nodes entry at rest → is_node nodes at ≡ true

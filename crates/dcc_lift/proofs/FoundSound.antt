@@ -1,6 +1,6 @@
 -- What is found of a procedure is what its blocks rest on: its instructions are sound, none of them stands where the
 -- program begins, and there are at most 4,096.
-use Rattle.std.proofs.Common.{◌≡◌, inl, inr, ℕ, ◌+◌, ◌<◌, ◌≤◌, Bool, true, false, not, ◌||◌, if◌then◌else◌, List, [], ◌∷◌, length, take, Option, Some, None, All, AllPairs, Contains, refl, sym, ap, ◌∙◌, subst, true≢false, arith}
+use Rattle.std.proofs.Common.{◌≡◌, ◌≢◌, inl, inr, ℕ, ◌+◌, ◌<◌, ◌≤◌, Bool, true, false, not, ◌||◌, if◌then◌else◌, List, [], ◌∷◌, length, take, Option, Some, None, All, AllPairs, Contains, refl, sym, ap, ◌∙◌, subst, true≢false, arith}
 use Rattle.std.specs.List.{list_any}
 use Rattle.std.proofs.lemmas.List.Elements.{All-weaker, All-take, All-contains_itself}
 use Rattle.std.proofs.lemmas.List.{length-take-le, get_or-take}
@@ -119,9 +119,9 @@ module _ (image : Image) (layout : Layout) (procs : List Proc) (are : AreFound i
       by false is writes later = later writes
 
   -- by the limit no more than 4,096 nodes differ
-  pub few-nodes : (places : List ℕ) → All (IsNode image layout entry) places → AllPairs (λ a b. a < b) places
+  pub few-nodes : (places : List ℕ) → All (IsNode image layout entry) places → AllPairs (λ a b. a ≢ b) places
       → length places ≤ 4096
-  few-nodes places nodes ascend = elim (cases_lt 4096 (length places)) [
+  few-nodes places nodes differ = elim (cases_lt 4096 (length places)) [
     | inr few ↦ few
     | inl many ↦
         let first : List ℕ = take 4097 places in
@@ -132,9 +132,8 @@ module _ (image : Image) (layout : Layout) (procs : List Proc) (are : AreFound i
           distinct = λ i j d less inside same.
               let low : j < 4097 = omega (arith, inside, count) in
               let less' : i < 4097 = omega (arith, less, low) in
-              let up = ascend i j d less (omega (arith, low, many)) in
-              let e = sym (get_or-take 4097 places i d less') ∙ same ∙ get_or-take 4097 places j d low in
-              omega (arith, up, e);
+              differ i j d less (omega (arith, low, many))
+              (sym (get_or-take 4097 places i d less') ∙ same ∙ get_or-take 4097 places j d low);
           count_is = count;
         })))
   ]

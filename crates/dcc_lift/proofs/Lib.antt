@@ -60,6 +60,9 @@ pub mod FormPassing
 pub mod FormFlagReads
 pub mod FormContraction
 pub mod FormHasBlocks
+pub mod KeptWays
+pub mod KeptSteps
+pub mod KeptPaces
 pub mod FlagCounts
 pub mod FlagOperations
 pub mod FlagNodes

@@ -5,7 +5,8 @@ use Rattle.dcc_ir.specs.Tree.{Program}
 use Rattle.dcc_lift.specs.Lifted.{IsLifted, IsLiftOf}
 use Rattle.dcc_lift.specs.Translated.{IsTranslated}
 use Rattle.dcc_lift.proofs.Lifting.{lifting}
-use Rattle.dcc_lift.proofs.RunLaws.{shadows, paced}
+use Rattle.dcc_lift.proofs.RunLaws.{shadows}
+use Rattle.dcc_lift.proofs.KeptPaces.{paced}
 use Rattle.dcc_lift.proofs.FormProgram.{well-formed, shallow}
 use Rattle.dcc_lift.proofs.FormDrawn.{have-frames}
 use Rattle.dcc_lift.proofs.FormPassing.{passes-all}

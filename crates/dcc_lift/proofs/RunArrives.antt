@@ -2,8 +2,6 @@
 use Rattle.std.proofs.Common.{◌≡◌, ℕ, pos, true, false, if◌then◌else◌, List, [], ◌∷◌, ◌++◌, slice_get, Contains, Option, Some, None, refl, sym, ap, ap₂, ◌∙◌, subst}
 use Rattle.std.specs.List.{list_any}
 use Rattle.std.proofs.lemmas.List.Folds.{list_any-append}
-use Rattle.dcc_run.specs.End.{is_over}
-use Rattle.dcc_run.specs.Shadows.{IsMarked}
 use Rattle.dcc_prog.specs.declared.procedure.Node.{Node}
 use Rattle.dcc_prog.specs.declared.instr.Instr.{Instr}
 use Rattle.dcc_prog.specs.declared.instr.Op.TheVariants.{Call as CallOp}
@@ -251,12 +249,3 @@ module _ (c : Runs) where
       ∙ ap₂ (λ entry at. Some (record { entry = entry; at = at }))
       (ap (λ (g : Graph). g.entry) graph ∙ ap (λ (g : Graph). g.entry) x.is_graph.graph_is ∙ x.entry_is)
       b.is_block.at_is
-
-  pub block-marked : (w : Watch) (t : Inner) → InBlock w t → IsMarked (machine c) w
-  block-marked w t b = record {
-    place = record { entry = b.entry; at = b.state_of.ip };
-    mark = block-mark w t b;
-    running =
-        ap (λ (v : Watch). is_over v.machine.end) b.same
-        ∙ goes c b.entry b.is_entry b.state_of b.stack t b.at_node;
-  }

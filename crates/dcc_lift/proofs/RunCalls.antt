@@ -221,16 +221,16 @@ module _ (c : Runs) (entry : ℕ) (is_entry : IsEntry c.image (layout c) entry) 
             rest_is = (agreed).2 ∙ ap (λ (b : Block). b.stmts) (sym (agreed).1);
           }
 
-    pub call-through : Through c 1 s stack (block_step c.p.graphs c.fill t.running.rest t)
+    pub call-through : Through c s stack (block_step c.p.graphs c.fill t.running.rest t)
     call-through =
-        subst (λ l. Through c 1 s stack (block_step c.p.graphs c.fill l t)) (sym stmts_are)
+        subst (λ l. Through c s stack (block_step c.p.graphs c.fill l t)) (sym stmts_are)
         (by (foul c entry is_entry s stack t a) refl)
       where
-        by : (o : Option Foul) → foul c entry is_entry s stack t a ≡ o → Through c 1 s stack begun
+        by : (o : Option Foul) → foul c entry is_entry s stack t a ≡ o → Through c s stack begun
         by (Some found) fouled =
-            foul-through c entry is_entry 1 s stack t begun a found (omega arith) fouled
+            foul-through c entry is_entry s stack t begun a found fouled
             (call-soon c.p c.fill (results_of callee) (callee).proc.entry (arguments_of p height callee) (height + 2)
             (taking_all_back p height 0 (given_back callee)) t (inner_goes c entry is_entry s stack t a))
         by None clean =
-            one-step c 1 s stack begun (within c after after_stack) (omega arith)
+            one-step c s stack begun (within c after after_stack)
             (clean_step c entry is_entry s stack t a clean) (still_related (in-callee clean))

@@ -1,6 +1,6 @@
 -- Both runs through the instructions of a block, but for a RET: each does what its statements do, up to the end of the
 -- block.
-use Rattle.std.proofs.Common.{◌≡◌, ℕ, suc, ◌<◌, Bool, true, false, ◌==◌, if◌then◌else◌, List, [], ◌∷◌, ◌++◌, length, map, flat_map, Contains, Option, Some, None, option_map, refl, sym, ap, ◌∙◌, subst, arith}
+use Rattle.std.proofs.Common.{◌≡◌, ℕ, suc, Bool, true, false, ◌==◌, if◌then◌else◌, List, [], ◌∷◌, ◌++◌, map, flat_map, Contains, Option, Some, None, option_map, refl, sym, ap, ◌∙◌, subst, arith}
 use Rattle.std.specs.List.{list_any}
 use Rattle.dcc_run.specs.End.{is_over}
 use Rattle.dcc_run.specs.Watched.{state, IsQuiet, IsQuietUntil}
@@ -164,14 +164,14 @@ module _ (c : Runs) (entry : ℕ) (is_entry : IsEntry c.image (layout c) entry) 
         (inner_goes c entry is_entry s stack t a)
 
     -- both have ended
-    pub ended : (count : ℕ) (rest : List Stmt) → 0 < count → calls_in (node_in nodes s.ip) ≡ false → foul ≡ None
+    pub ended : (rest : List Stmt) → calls_in (node_in nodes s.ip) ≡ false → foul ≡ None
         → is_over next.end ≡ true → (done).end ≡ next.end → (done).events ≡ next.events
-        → Through c count s stack (block_step c.p.graphs c.fill (stmts_at scene s.ip ++ rest) t)
-    ended count rest some none clean ends end events =
-        subst (Through c count s stack)
+        → Through c s stack (block_step c.p.graphs c.fill (stmts_at scene s.ip ++ rest) t)
+    ended rest none clean ends end events =
+        subst (Through c s stack)
         (sym (block-on rest none ∙ ap (λ b. if b then done else block_step c.p.graphs c.fill rest done)
         (ap is_over end ∙ ends)))
-        (one-step c count s stack done (within c next next_stack) some (clean_step c entry is_entry s stack t a clean)
+        (one-step c s stack done (within c next next_stack) (clean_step c entry is_entry s stack t a clean)
         (both_over ends end events))
 
   -- The last instruction.
@@ -181,8 +181,8 @@ module _ (c : Runs) (entry : ℕ) (is_entry : IsEntry c.image (layout c) entry) 
       (exit_is : t.running.block.exit ≡ exit_at scene s.ip) where
     last-agrees : foul s stack t a ≡ None → moves_frames (node s stack t a).instr.op ≡ false
         → StepAgrees (e c) s stack (node s stack t a).instr (done s stack t a)
-        → Through c 1 s stack (block_step c.p.graphs c.fill (stmts_at scene s.ip ++ []) t)
-    last-agrees clean apart (over ends end events) = ended s stack t a 1 [] (omega arith) none clean ends end events
+        → Through c s stack (block_step c.p.graphs c.fill (stmts_at scene s.ip ++ []) t)
+    last-agrees clean apart (over ends end events) = ended s stack t a [] none clean ends end events
     last-agrees clean apart (agree after) =
         let on : is_over (next s stack t a).end ≡ false = ap is_over after.coupled.goes in
         let here = next-node s stack t a apart after in
@@ -198,22 +198,22 @@ module _ (c : Runs) (entry : ℕ) (is_entry : IsEntry c.image (layout c) entry) 
         ∙ ap (λ b. if b then done s stack t a else exit_step (done s stack t a).running.block.exit (done s stack t a))
         (ap is_over after.coupled.running)
         ∙ exit-leads s stack t a clean apart on exit_is in
-        subst (Through c 1 s stack) (sym run)
-        (one-step c 1 s stack (going_to (block_place scene (next s stack t a).ip) (done s stack t a))
-        (within c (next s stack t a) (next_stack s stack t a)) (omega arith)
+        subst (Through c s stack) (sym run)
+        (one-step c s stack (going_to (block_place scene (next s stack t a).ip) (done s stack t a))
+        (within c (next s stack t a) (next_stack s stack t a))
         (clean_step c entry is_entry s stack t a clean)
         (still_related (arrived c entry is_entry (next s stack t a) (next_stack s stack t a) (done s stack t a) here
         leader)))
 
     pub last-through :
         ((count : ℕ) → foul s stack t a ≡ None → (node s stack t a).instr.op ≡ Ret count
-        → Through c 1 s stack (block_step c.p.graphs c.fill (stmts_at scene s.ip ++ []) t))
-        → Through c 1 s stack (block_step c.p.graphs c.fill (stmts_at scene s.ip ++ []) t)
+        → Through c s stack (block_step c.p.graphs c.fill (stmts_at scene s.ip ++ []) t))
+        → Through c s stack (block_step c.p.graphs c.fill (stmts_at scene s.ip ++ []) t)
     last-through returns = by (outcome s stack t a none)
       where
-        by : Outcome s stack t a → Through c 1 s stack (block_step c.p.graphs c.fill (stmts_at scene s.ip ++ []) t)
+        by : Outcome s stack t a → Through c s stack (block_step c.p.graphs c.fill (stmts_at scene s.ip ++ []) t)
         by (fouled found is) =
-            foul-through c entry is_entry 1 s stack t _ a found (omega arith) is
+            foul-through c entry is_entry s stack t _ a found is
             (soon-shown c.p c.fill (stmts_at scene s.ip ++ []) t (chain-free c entry is_entry [] s.ip none chain)
             (inner_goes c entry is_entry s stack t a) (resumes c s stack t a.agree))
         by (returning count clean is) = returns count clean is
@@ -239,7 +239,7 @@ module _ (c : Runs) (entry : ℕ) (is_entry : IsEntry c.image (layout c) entry) 
         (s' : Machine) (stack' : Stack) (t' : Inner) → AtNode c entry s' stack' t'
         → calls_in (node_in nodes s'.ip) ≡ false → IsChain nodes begin s'.ip rest
         → t'.running.block.exit ≡ exit_at scene (last_of s'.ip rest)
-        → Through c (suc (length rest)) s' stack'
+        → Through c s' stack'
         (block_step c.p.graphs c.fill (flat_map (stmts_at scene) (s'.ip ∷ rest)) t')
 
     inner-quiet : (here : AtNode c entry (next s stack t a) (next_stack s stack t a) (done s stack t a))
@@ -259,10 +259,10 @@ module _ (c : Runs) (entry : ℕ) (is_entry : IsEntry c.image (layout c) entry) 
     on-through : (clean : foul s stack t a ≡ None)
         → AtNode c entry (next s stack t a) (next_stack s stack t a) (done s stack t a)
         → (next s stack t a).ip ≡ to
-        → Through c (suc (length rest)) (next s stack t a) (next_stack s stack t a)
+        → Through c (next s stack t a) (next_stack s stack t a)
         (block_step c.p.graphs c.fill (flat_map (stmts_at scene) ((next s stack t a).ip ∷ rest)) (done s stack t a))
         → is_over (done s stack t a).end ≡ false
-        → Through c (suc (suc (length rest))) s stack
+        → Through c s stack
         (block_step c.p.graphs c.fill (stmts_at scene s.ip ++ later) t)
     on-through clean here at y on =
         let step = sym (clean_step c entry is_entry s stack t a clean) in
@@ -273,10 +273,9 @@ module _ (c : Runs) (entry : ℕ) (is_entry : IsEntry c.image (layout c) entry) 
         block-on s stack t a later none
         ∙ ap (λ b. if b then done s stack t a else block_step c.p.graphs c.fill later (done s stack t a)) on
         ∙ ap (λ n. block_step c.p.graphs c.fill (flat_map (stmts_at scene) (n ∷ rest)) (done s stack t a)) (sym at) in
-        subst (Through c (suc (suc (length rest))) s stack) (sym run) (record {
+        subst (Through c s stack) (sym run) (record {
           steps = suc y.steps;
           some = omega arith;
-          few = let few = y.few in omega (arith, few);
           quiet =
               quiet_before (machine c) y.steps (within c s stack)
               (subst (IsQuiet (machine c)) step (inner-quiet here at))
@@ -290,10 +289,10 @@ module _ (c : Runs) (entry : ℕ) (is_entry : IsEntry c.image (layout c) entry) 
 
     mid-agrees : Later → foul s stack t a ≡ None → moves_frames (node s stack t a).instr.op ≡ false
         → StepAgrees (e c) s stack (node s stack t a).instr (done s stack t a)
-        → Through c (suc (suc (length rest))) s stack
+        → Through c s stack
         (block_step c.p.graphs c.fill (stmts_at scene s.ip ++ later) t)
     mid-agrees go clean apart (over ends end events) =
-        ended s stack t a (suc (suc (length rest))) later (omega arith) none clean ends end events
+        ended s stack t a later none clean ends end events
     mid-agrees go clean apart (agree after) =
         let on : is_over (next s stack t a).end ≡ false = ap is_over after.coupled.goes in
         let here = next-node s stack t a apart after in
@@ -321,15 +320,15 @@ module _ (c : Runs) (entry : ℕ) (is_entry : IsEntry c.image (layout c) entry) 
         none-of-one e f = cc
 
     pub mid-through : Later
-        → Through c (suc (suc (length rest))) s stack
+        → Through c s stack
         (block_step c.p.graphs c.fill (stmts_at scene s.ip ++ later) t)
     mid-through go = by (outcome s stack t a none)
       where
         by : Outcome s stack t a
-            → Through c (suc (suc (length rest))) s stack
+            → Through c s stack
             (block_step c.p.graphs c.fill (stmts_at scene s.ip ++ later) t)
         by (fouled found is) =
-            foul-through c entry is_entry (suc (suc (length rest))) s stack t _ a found (omega arith) is
+            foul-through c entry is_entry s stack t _ a found is
             (soon-shown c.p c.fill (stmts_at scene s.ip ++ later) t
             (chain-free c entry is_entry (to ∷ rest) s.ip none chain) (inner_goes c entry is_entry s stack t a)
             (resumes c s stack t a.agree))

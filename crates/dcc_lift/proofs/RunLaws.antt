@@ -1,51 +1,49 @@
--- The translated program's run shadows the machine's, which keeps pace.
-use Rattle.std.proofs.Common.{◌≡◌, inl, inr, ℕ, ◌≤◌, ◌<◌, true, false, ◌||◌, ◌==◌, List, [], ◌∷◌, length, All, Some, None, refl, sym, ap, ap₂, ◌∙◌, subst, lit<, arith}
+-- The translated program's run shadows the machine's.
+use Rattle.std.proofs.Common.{◌≡◌, inl, inr, ℕ, ◌<◌, true, false, ◌||◌, ◌==◌, List, [], ◌∷◌, length, All, Some, None, refl, sym, ap, ap₂, ◌∙◌, subst, lit<, arith}
 use Rattle.std.specs.Prelude.{if◌then◌else◌, slice_index}
 use Rattle.std.specs.List.{list_any}
 use Rattle.std.proofs.lemmas.Bool.{cases_lt}
 use Rattle.std.proofs.lemmas.List.{get_or_past}
 use Rattle.dcc_run.specs.Watched.{IsWatchable}
-use Rattle.dcc_run.specs.Shadows.{ComesTo, still_related, AreMatched, Shadows, KeepsPace, kept_mark}
-use Rattle.dcc_run.proofs.PaceLaws.{quiet_once, pace_from_matched}
+use Rattle.dcc_run.specs.Shadows.{ComesTo, still_related, AreMatched, Shadows, kept_mark}
+use Rattle.dcc_run.proofs.PaceLaws.{quiet_once}
 use Rattle.dcc_run.proofs.KeptLaws.{only_watchable}
 use Rattle.dcc_run.proofs.ShadowLaws.{shadows_from_matched}
 use Rattle.dcc_prog.specs.declared.image.Image.{Image}
 use Rattle.dcc_prog.specs.declared.frame.Program.{Program as Analysed}
-use Rattle.dcc_prog.specs.Code.{code_of}
 use Rattle.dcc_prog.specs.Watch.{Watch, place_of, watched_machine, first_watch}
-use Rattle.dcc_prog.proofs.PreludeOffsets.{offset-far, offset-end, prelude-short, prelude-some}
+use Rattle.dcc_prog.proofs.PreludeOffsets.{prelude-some}
 use Rattle.dcc_prog.proofs.WatchLaws.{machine_watchable, watch_at, machine_at, prelude_clean, prelude_running, in_the_prelude, past_the_prelude}
 use Rattle.dcc_ir.specs.Tree.{Block, Graph, Program}
 use Rattle.dcc_ir.specs.Run.{going_to, first_state, step}
 use Rattle.dcc_ir.specs.Keeps.{has_block}
 use Rattle.dcc_ir.proofs.RunLaws.{inner_watchable}
 use Rattle.dcc_lift.specs.Blocks.{nodes_in, entry_in, block_place}
-use Rattle.dcc_lift.specs.Lifted.{steps_between, steps_at_start}
-use Rattle.dcc_lift.specs.Lifted.{ShadowsMachine, MachineKeepsPace}
+use Rattle.dcc_lift.specs.Lifted.{ShadowsMachine}
 use Rattle.dcc_lift.specs.Translated.{IsTranslated}
 use Rattle.dcc_lift.proofs.ListTests.{same_number}
 use Rattle.dcc_lift.proofs.ChainLaws.{is_leader, entry_is_leader}
 use Rattle.dcc_lift.proofs.RunScenes.{Runs, layout, machine, inner, within, located_at, before-is, sound-at, block-there}
-use Rattle.dcc_lift.proofs.RunArrives.{InBlock, arrived, block-marked}
-use Rattle.dcc_lift.proofs.RunMatched.{block-matched, block-short}
+use Rattle.dcc_lift.proofs.RunArrives.{InBlock, arrived}
+use Rattle.dcc_lift.proofs.RunMatched.{block-matched}
 use Rattle.dcc_lift.proofs.RunStart.{is_entry, scene, prelude, begin, first-is, set_up, begin-step}
 use Rattle.dcc_lift.proofs.RunBegun.{entered, entered_stack, entered-ip, begun-node}
 
 module _ (c : Runs) (input : List ℕ) (bytes : All (λ byte. byte < 256) input) where
-  abbrev far : ℕ
+  abbrev pub far : ℕ
   far = length c.is.of_file.is_program.layout.prelude
 
-  abbrev at : ℕ → Watch
+  abbrev pub at : ℕ → Watch
   at k = watch_at c.image c.program c.is.of_file.loaded c.is.of_file.is_program.layout input k
 
-  numbers : (k : ℕ) → slice_index input k < 256
+  pub numbers : (k : ℕ) → slice_index input k < 256
   numbers k = elim (cases_lt k (length input)) [
     | inl less ↦ bytes k 0 less
     | inr past ↦ subst (λ b. b < 256) (sym (get_or_past input k 0 past)) (lit< tt)
   ]
 
   -- after the prelude the machine is in the entry procedure
-  past : at far ≡ within c (entered c input bytes numbers) (entered_stack c input bytes numbers)
+  pub past : at far ≡ within c (entered c input bytes numbers) (entered_stack c input bytes numbers)
   past =
       ap₂ (λ m stage. record { machine = m; stage = stage })
       (machine_at c.image c.program c.is.of_file.loaded c.is.of_file.is_program.layout input far (omega arith))
@@ -125,27 +123,9 @@ module _ (c : Runs) (input : List ℕ) (bytes : All (λ byte. byte < 256) input)
       (shadows_from_matched (machine c) (inner c) law (inner_watchable c.p c.fill) (InBlock c) (block-matched c)
       (first_watch c.image input) (begin c input) start-matched)
 
-  -- the machine keeps pace: each instruction of the prelude takes a byte at least
-  pub machine-paced : KeepsPace (machine c) (first_watch c.image input) steps_at_start steps_between
-  unfolding start-matched
-  machine-paced =
-      let has = c.is.of_file.is_program.layout in
-      let up = offset-far (layout c).cpu (code_of c.image) far has.prelude c.image.ip has.is_prelude.run
-      (omega arith) in
-      let end = offset-end has.prelude c.image.ip in
-      let short = prelude-short c.image (layout c) c.is.of_file.loaded has in
-      let le : far ≤ steps_at_start = omega (arith, up, end, short) in
-      pace_from_matched (machine c) (inner c) law (InBlock c) (block-matched c) (block-marked c) steps_between
-      (block-short c) steps_at_start (first_watch c.image input) (begin c input) start-matched le
-
--- The laws.
+-- The law.
 
 pub shadows : (image : Image) (program : Analysed) (p : Program) → IsTranslated image program p
     → ShadowsMachine image program p
 shadows image program p is fill input small bytes =
     run-shadows (record { image = image; program = program; p = p; is = is; fill = fill; small = small }) input bytes
-
-pub paced : (image : Image) (program : Analysed) (p : Program) → IsTranslated image program p
-    → MachineKeepsPace image program p
-paced image program p is input bytes =
-    machine-paced (record { image = image; program = program; p = p; is = is; fill = 0; small = lit< tt }) input bytes

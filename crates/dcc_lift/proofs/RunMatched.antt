@@ -1,23 +1,17 @@
--- From each block that both runs are about to begin they go on to where they match again, and the machine's steps
--- there are few.
-use Rattle.std.proofs.Common.{◌≡◌, ℕ, zero, suc, ◌≤◌, ◌<◌, Bool, true, false, if◌then◌else◌, List, [], ◌∷◌, length, flat_map, All, refl, sym, ap, ◌∙◌, subst, arith}
-use Rattle.std.proofs.lemmas.List.Elements.{All-cons, All-weaker}
+-- From each block that both runs are about to begin they go on to where they match again.
+use Rattle.std.proofs.Common.{◌≡◌, ℕ, zero, suc, ◌<◌, Bool, true, false, if◌then◌else◌, List, [], ◌∷◌, flat_map, refl, sym, ap, ◌∙◌, subst, arith}
 use Rattle.dcc_run.specs.End.{is_over}
 use Rattle.dcc_run.specs.Watched.{state, IsQuiet, IsQuietUntil}
 use Rattle.dcc_run.specs.Shadows.{ComesTo, Matches}
 use Rattle.dcc_prog.specs.declared.instr.Op.{Op}
 use Rattle.dcc_prog.specs.declared.instr.Op.TheVariants.{Call as CallOp}
 use Rattle.dcc_prog.specs.Machine.{State as Machine}
-use Rattle.dcc_prog.specs.Trail.{IsEntry, IsNode}
+use Rattle.dcc_prog.specs.Trail.{IsEntry}
 use Rattle.dcc_prog.specs.Clean.{Stack}
 use Rattle.dcc_prog.specs.Watch.{Watch}
 use Rattle.dcc_ir.specs.Run.{State as Inner, block_step, step}
 use Rattle.dcc_lift.specs.Blocks.{node_in, is_call, calls_in, IsChain, Scene, nodes_in, entry_in, stmts_at, exit_at, last_of}
-use Rattle.dcc_lift.specs.Lifted.{steps_between}
-use Rattle.dcc_lift.proofs.NodeLaws.{is_node}
-use Rattle.dcc_lift.proofs.ChainLaws.{IsInner, leader_node, chain_inner, chain_ascends}
-use Rattle.dcc_lift.proofs.FoundSound.{few-nodes, contained-node}
-use Rattle.dcc_lift.proofs.RunScenes.{Runs, layout, machine, inner, within, located_at, scene_at, sound-at, AtNode, node_here, goes, inner_goes}
+use Rattle.dcc_lift.proofs.RunScenes.{Runs, layout, machine, inner, within, scene_at, AtNode, node_here, goes, inner_goes}
 use Rattle.dcc_lift.proofs.RunArrives.{InBlock, block-mark, inner-mark}
 use Rattle.dcc_lift.proofs.RunNodes.{Through}
 use Rattle.dcc_lift.proofs.RunChains.{last-through, mid-through}
@@ -35,7 +29,7 @@ module _ (c : Runs) where
       (t : Inner) → AtNode c entry s stack t → calls_in (node_in (nodes_in (scene_at c entry is_entry)) s.ip) ≡ false
       → IsChain (nodes_in (scene_at c entry is_entry)) (entry_in (scene_at c entry is_entry)) s.ip rest
       → t.running.block.exit ≡ exit_at (scene_at c entry is_entry) (last_of s.ip rest)
-      → Through c (suc (length rest)) s stack
+      → Through c s stack
       (block_step c.p.graphs c.fill (flat_map (stmts_at (scene_at c entry is_entry)) (s.ip ∷ rest)) t)
   chain-through [] entry is_entry s stack t a none chain exit_is =
       last-through c entry is_entry s stack t a none chain exit_is
@@ -46,34 +40,22 @@ module _ (c : Runs) where
 
   -- the steps through a block
   block-through : (w : Watch) (t : Inner) (b : InBlock c w t)
-      → Through c (suc (length b.is_block.rest)) b.state_of b.stack (block_step c.p.graphs c.fill t.running.rest t)
+      → Through c b.state_of b.stack (block_step c.p.graphs c.fill t.running.rest t)
   block-through w t b = by (calls_in (node_in (nodes_in scene) b.state_of.ip)) refl
     where
       scene : Scene
       scene = scene_at c b.entry b.is_entry
 
-      few-more : {v : Inner} → Through c 1 b.state_of b.stack v
-          → Through c (suc (length b.is_block.rest)) b.state_of b.stack v
-      few-more y = record {
-        steps = y.steps;
-        some = y.some;
-        few = let few = y.few in omega (arith, few);
-        quiet = y.quiet;
-        more = y.more;
-        more_quiet = y.more_quiet;
-        comes = y.comes;
-      }
-
       by : (call : Bool) → calls_in (node_in (nodes_in (scene_at c b.entry b.is_entry)) b.state_of.ip) ≡ call
-          → Through c (suc (length b.is_block.rest)) b.state_of b.stack
+          → Through c b.state_of b.stack
           (block_step c.p.graphs c.fill t.running.rest t)
       by true e =
           let node = node_here c b.entry b.is_entry b.state_of b.stack t b.at_node in
           let call = call-of node.0.instr.op (sym (ap calls_in node.1) ∙ e) in
-          few-more (call-through c b.entry b.is_entry b.state_of b.stack t b.at_node call.0 call.1 b.among
-          b.is_block.at_is b.rest_is)
+          call-through c b.entry b.is_entry b.state_of b.stack t b.at_node call.0 call.1 b.among
+          b.is_block.at_is b.rest_is
       by false e =
-          subst (λ l. Through c (suc (length b.is_block.rest)) b.state_of b.stack (block_step c.p.graphs c.fill l t))
+          subst (λ l. Through c b.state_of b.stack (block_step c.p.graphs c.fill l t))
           (sym (b.rest_is ∙ b.is_block.stmts_are))
           (chain-through b.is_block.rest b.entry b.is_entry b.state_of b.stack t b.at_node e b.is_block.chain
           b.is_block.exit_is)
@@ -122,31 +104,3 @@ module _ (c : Runs) where
       quiet-later more quiet (suc k) some less =
           let inside : k < more = omega (arith, less) in
           subst (λ u. IsQuiet (inner c) (state (inner c) k u)) (sym (step-is w t b)) (quiet k inside)
-
-  -- a block has at most 4,096 instructions, for offsets ascend in it
-  pub block-short : (w : Watch) (t : Inner) (b : InBlock c w t) → (block-matched w t b).steps ≤ steps_between
-  unfolding block-matched
-  block-short w t b =
-      let x = located_at c b.entry b.is_entry in
-      let scene = scene_at c b.entry b.is_entry in
-      let nodes = nodes_in scene in
-      let sound = sound-at c b.entry b.is_entry in
-      let rest = b.is_block.rest in
-      let chain = b.is_block.chain in
-      let at = b.state_of.ip in
-      let procs = c.is.of_file.is_program.procs in
-      let is_entry = subst (IsEntry c.image (layout c)) (sym x.entry_is) b.is_entry in
-      let node : (n : ℕ) → is_node nodes n ≡ true → IsNode c.image (layout c) x.proc.entry n =
-      contained-node c.image (layout c) c.program.procs.items procs c.is.of_file.loaded c.is.of_file.is_program.layout
-      x.proc is_entry x.found in
-      let inside : All (IsNode c.image (layout c) x.proc.entry) (at ∷ rest) =
-      All-cons (IsNode c.image (layout c) x.proc.entry) at rest
-      (node at (leader_node nodes (entry_in scene) c.image.ip sound at b.leader))
-      (All-weaker (IsInner nodes (entry_in scene)) (IsNode c.image (layout c) x.proc.entry) (λ n i. node n i.node)
-      rest
-      (chain_inner nodes (entry_in scene) c.image.ip sound rest at chain)) in
-      let few =
-      few-nodes c.image (layout c) c.program.procs.items procs x.proc.entry is_entry (at ∷ rest) inside
-      (chain_ascends nodes (entry_in scene) c.image.ip sound rest at chain) in
-      let steps = (block-through w t b).few in
-      omega (arith, few, steps)

@@ -1,5 +1,5 @@
 -- Where the ends of blocks lead, and both runs through what is left of a block whose first step is foul.
-use Rattle.std.proofs.Common.{◌≡◌, ℕ, zero, suc, ◌≤◌, ◌<◌, Bool, true, false, ◌==◌, if◌then◌else◌, List, [], ◌∷◌, map, flat_map, slice_get, get_or, Contains, Option, Some, None, option_map, refl, sym, ap, subst, arith}
+use Rattle.std.proofs.Common.{◌≡◌, ℕ, zero, suc, ◌<◌, Bool, true, false, ◌==◌, if◌then◌else◌, List, [], ◌∷◌, map, flat_map, slice_get, get_or, Contains, Option, Some, None, option_map, refl, sym, ap, subst, arith}
 use Rattle.dcc_run.specs.Prefix.{IsPrefix}
 use Rattle.dcc_run.specs.Watched.{state, IsQuiet, IsQuietUntil}
 use Rattle.dcc_run.specs.Shadows.{ComesTo, first_foul}
@@ -97,11 +97,10 @@ only-one xs x to e has =
     sym (subst (λ k. get_or (x ∷ []) k to ≡ to) first among.2)
 
 module _ (c : Runs) where
-  -- the machine's steps through what is left of a block, of so many instructions at most, and where both runs then are
-  pub record Through (count : ℕ) (s : Machine) (stack : Stack) (v : Inner) : Type 0 where
+  -- the machine's steps through what is left of a block, and where both runs then are
+  pub record Through (s : Machine) (stack : Stack) (v : Inner) : Type 0 where
     pub steps : ℕ
     pub some : 0 < steps
-    pub few : steps ≤ count
     pub quiet : IsQuietUntil (machine c) steps (within c s stack)
     pub more : ℕ
     pub more_quiet : (k : ℕ) → k < more → IsQuiet (inner c) (state (inner c) k v)
@@ -110,13 +109,12 @@ module _ (c : Runs) where
         (state (inner c) more v)
 
   -- one step, and none more of the inner run
-  pub one-step : (count : ℕ) (s : Machine) (stack : Stack) (v : Inner) (w : Watch) → 0 < count
+  pub one-step : (s : Machine) (stack : Stack) (v : Inner) (w : Watch)
       → (machine c).system.step (within c s stack) ≡ w
-      → ComesTo (machine c) (inner c) (InBlock c) w v → Through count s stack v
-  one-step count s stack v w some step comes = record {
+      → ComesTo (machine c) (inner c) (InBlock c) w v → Through s stack v
+  one-step s stack v w step comes = record {
     steps = 1;
     some = omega arith;
-    few = omega (arith, some);
     quiet = quiet_once (machine c) (within c s stack);
     more = 0;
     more_quiet = λ k less. absurd (omega (arith, less));
@@ -136,14 +134,13 @@ module _ (c : Runs) where
         scene-chain-free (scene_at c entry is_entry) c.image.ip (sound-at c entry is_entry) rest at none chain
 
     -- where the machine's step is foul, the inner run goes on to where it is shown
-    pub foul-through : (count : ℕ) (s : Machine) (stack : Stack) (t v : Inner) (a : AtNode c entry s stack t)
+    pub foul-through : (s : Machine) (stack : Stack) (t v : Inner) (a : AtNode c entry s stack t)
         (foul : Foul)
-        → 0 < count → foul_of c.program stack s (Some (node_here c entry is_entry s stack t a).0.instr) ≡ Some foul
-        → IsSoonShown c.p c.fill t.events v → Through count s stack v
-    foul-through count s stack t v a foul some found soon = record {
+        → foul_of c.program stack s (Some (node_here c entry is_entry s stack t a).0.instr) ≡ Some foul
+        → IsSoonShown c.p c.fill t.events v → Through s stack v
+    foul-through s stack t v a foul found soon = record {
       steps = 1;
       some = omega arith;
-      few = omega (arith, some);
       quiet = quiet_once (machine c) (within c s stack);
       more = soon.more;
       more_quiet = soon.quiet;

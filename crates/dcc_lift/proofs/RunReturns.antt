@@ -45,7 +45,7 @@ call-onward nodes entry prelude sound at calls = by (onward nodes entry at) refl
     by None e = e
     by (Some to) e = absurd (true≢false (sym calls ∙ (onward_tells nodes entry prelude sound at to e).calls))
 
-first-of : {X : Type 0} (x y : X) (xs ys : List X) → x ∷ xs ≡ y ∷ ys → x ≡ y
+pub first-of : {X : Type 0} (x y : X) (xs ys : List X) → x ∷ xs ≡ y ∷ ys → x ≡ y
 first-of x y xs ys e = cc
 
 module _ (c : Runs) (entry : ℕ) (is_entry : IsEntry c.image (layout c) entry) (s : Machine) (stack : Stack)
@@ -227,12 +227,11 @@ module _ (c : Runs) (entry : ℕ) (is_entry : IsEntry c.image (layout c) entry) 
       ∙ ap (λ op. exit_of p op (map (block_place scene) (node c entry is_entry s stack t a).succ.items)) is)
 
   pub return-through : t.running.block.exit ≡ exit_at scene s.ip
-      → Through c 1 s stack (block_step c.p.graphs c.fill (stmts_at scene s.ip ++ []) t)
+      → Through c s stack (block_step c.p.graphs c.fill (stmts_at scene s.ip ++ []) t)
   return-through exit_is =
-      subst (Through c 1 s stack) (sym (block-ends exit_is)) (record {
+      subst (Through c s stack) (sym (block-ends exit_is)) (record {
         steps = 1;
         some = omega arith;
-        few = omega arith;
         quiet = quiet_once (machine c) (within c s stack);
         more = 1;
         more_quiet = λ k less.

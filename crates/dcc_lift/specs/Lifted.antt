@@ -1,6 +1,7 @@
 -- What the lifted program is to the executable.
-use Rattle.std.specs.Prelude.{◌≡◌, ◌≤◌, ◌<◌, ℕ, ◌+◌, ◌==◌, true, ◌&&◌, ◌||◌, List, [], ◌∷◌, All, Some, None}
+use Rattle.std.specs.Prelude.{◌≡◌, ◌≤◌, ◌<◌, ℕ, ◌+◌, ◌==◌, Bool, true, ◌&&◌, ◌||◌, List, [], ◌∷◌, All, Some, None}
 use Rattle.std.specs.List.{AllZip, list_any}
+use Rattle.dcc_run.specs.Place.{Place}
 use Rattle.dcc_run.specs.Shadows.{Shadows, KeepsPace, only}
 use Rattle.dcc_prog.specs.declared.image.Image.{Image}
 use Rattle.dcc_prog.specs.declared.procedure.Node.{Node}
@@ -9,14 +10,14 @@ use Rattle.dcc_prog.specs.declared.frame.Program.{Program as Analysed}
 use Rattle.dcc_prog.specs.declared.instr.Op.TheVariants.{Call}
 use Rattle.dcc_prog.specs.Trail.{next_of}
 use Rattle.dcc_prog.specs.Watch.{watched_machine, first_watch}
-use Rattle.dcc_ir.specs.Tree.{Graph, Program}
+use Rattle.dcc_ir.specs.Tree.{Expr, Ret, Graph, Program}
 use Rattle.dcc_ir.specs.Use.{graph_exprs}
 use Rattle.dcc_ir.specs.Measure.{depth_of}
 use Rattle.dcc_ir.specs.FlagReads.{FlagsReadPlainly}
 use Rattle.dcc_ir.specs.WellFormed.{IsProgram}
 use Rattle.dcc_ir.specs.Passing.{PassesAll}
-use Rattle.dcc_ir.specs.Run.{watched_inner, first_state}
-use Rattle.dcc_ir.specs.Flow.{Flow, flow_at, IsContraction, HaveOneEdge}
+use Rattle.dcc_ir.specs.Run.{graph_at, watched_inner, first_state}
+use Rattle.dcc_ir.specs.Flow.{Flow, graph_or_none, flow_at, IsPath, Any, Reached, IsContraction, HaveOneEdge}
 use Rattle.dcc_ir.specs.Keeps.{has_block}
 use Rattle.dcc_ir.specs.Ends.{IsNeverStuck}
 use Rattle.dcc_simulation.specs.Procedures.{Procedure, procedure_at, given_back, pushed_of}
@@ -36,8 +37,9 @@ ShadowsMachine image program p =
     → Shadows (only (has_block p) (watched_machine program)) (first_watch image input)
     (watched_inner p fill) (first_state p fill input)
 
--- The most steps of the machine from one place of a block to the next: between two of them the machine runs no
--- instruction of a procedure twice, and passes at most one call or return; a procedure has at most 4,096 instructions.
+-- Between two kept places that hold the paths of procedures, as those of blocks do, the machine runs no instruction of
+-- a procedure twice, and passes at most one call or return; a procedure has at most 4,096 instructions. So these are
+-- the most steps from the one place to the next.
 abbrev pub steps_between : ℕ
 steps_between = 8192
 
@@ -46,12 +48,15 @@ steps_between = 8192
 abbrev pub steps_at_start : ℕ
 steps_at_start = 65535 + steps_between
 
--- for every input the machine comes to places of blocks, to its end or to where it is foul, within `steps_at_start`
--- and `steps_between` steps
-abbrev pub MachineKeepsPace : Image → Analysed → Program → Type 0
-MachineKeepsPace image program p =
+-- for every input the machine comes to kept places, to its end or to where it is foul, within such numbers of steps
+abbrev pub PacedAt : Image → Analysed → (Place → Bool) → Type 0
+PacedAt image program kept =
     (input : List ℕ) → All (λ byte. byte < 256) input
-    → KeepsPace (only (has_block p) (watched_machine program)) (first_watch image input) steps_at_start steps_between
+    → KeepsPace (only kept (watched_machine program)) (first_watch image input) steps_at_start steps_between
+
+-- the machine comes to places of blocks within such numbers of steps
+abbrev pub MachineKeepsPace : Image → Analysed → Program → Type 0
+MachineKeepsPace image program p = PacedAt image program (has_block p)
 
 -- Blocks.
 
@@ -94,6 +99,25 @@ AllHaveBlocks image p [] = Unit {0}
 AllHaveBlocks image p (start ∷ procs) =
     HasBlocksOf (after_prelude image.ip (procedure_flow start)) p start
     × All (λ proc. HasBlocksOf (procedure_flow proc) p proc) procs
+
+-- Kept offsets hold the paths of a procedure: each closed path of its instructions holds one, and each call, and each
+-- block that ends in a return, begins at one.
+pub record HoldsPathsOf (p : Program) (kept : ℕ → Bool) (proc : Proc) : Type 0 where
+  pub cycles :
+      (a : ℕ) (between : List ℕ)
+      → Reached (procedure_flow proc) a
+      → IsPath (procedure_flow proc).goes Any a between a
+      → list_any kept (a ∷ between) ≡ true
+  pub calls :
+      All (λ (found : ℕ × Node). (target : ℕ) → found.1.instr.op ≡ Call target → kept found.0 ≡ true) proc.nodes.entries
+  pub returns :
+      All (λ block. (values : List Expr) → block.exit ≡ Ret values → kept block.at ≡ true)
+      (graph_or_none (graph_at p.graphs proc.entry)).blocks
+
+-- kept places hold those of each procedure
+abbrev pub HoldsPaths : Analysed → Program → (Place → Bool) → Type 0
+HoldsPaths program p kept =
+    All (λ proc. HoldsPathsOf p (λ at. kept (record { entry = proc.entry; at = at })) proc) program.procs.items
 
 -- Graphs.
 

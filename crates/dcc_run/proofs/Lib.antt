@@ -8,4 +8,5 @@ pub mod KeptLaws
 pub mod CountLaws
 pub mod LeapLaws
 pub mod MatchLaws
+pub mod WayLaws
 pub mod PaceLaws
