@@ -18,6 +18,7 @@ use Rattle.dcc_flags.specs.declared.kept.Kept.{Kept}
 use Rattle.dcc_flags.specs.Folding.{is_kept, Choices, choice, with_choices, stmt_with_choices, exit_with_choices, Taken, taken, has_truth, goes_with, stmt_folded, stmts_folded, bare_stmts, first_choice, first_choices, folded_graph}
 use Rattle.dcc_flags.specs.Kinds.{kind_of, stmt_kind, exit_kind, no_operand, all_parts, parts_pass, is_frame_sum, takes_frame_sum, other_parts, all_kinds, EndsAlike, KindsStay}
 use Rattle.dcc_flow.proofs.FormedExprs.{and_both}
+use Rattle.dcc_flags.proofs.AccessLaws.{accesses_stay}
 use Rattle.dcc_flags.proofs.MeetLaws.{by_kept}
 use Rattle.dcc_flags.proofs.PartLaws.{or_none, neither, none_of, none_in, has_part, OfKind, in_chosen, chosen_lacks, none_has, copies_lack, value_if}
 use Rattle.dcc_flags.proofs.EachLaws.{Each, each_at, ValuesHave, each_past, each_end, each_block}
@@ -585,5 +586,6 @@ kinds_stay kept graph order = record {
   parts = λ test flags temps. parts_still test flags temps kept graph order;
   others = λ test flags temps. others_still test flags temps kept graph order;
   stmts = λ test temps all. passes_still test temps kept graph order all;
+  accesses = accesses_stay kept graph order;
   exits = ends_alike kept graph order;
 }

@@ -12,6 +12,7 @@ pub mod PartLaws
 pub mod EachLaws
 pub mod TruthLaws
 pub mod FlagLaws
+pub mod AccessLaws
 pub mod KindLaws
 pub mod DepthLaws
 pub mod FlatLaws

@@ -7,6 +7,7 @@ use Rattle.dcc_ir.specs.declared.syntax.Loc.TheVariants.{Flag, Temp}
 use Rattle.dcc_ir.specs.Tree.{Expr, Const, Get, Load, Unary, Binary, Widen, Part, Join, Choose, Address, Stmt, Set}
 use Rattle.dcc_ir.specs.Tree.{Fetch, Store, Div, Call, Dos, Exit, Goto, If, Switch, Ret, Stop, Block, Graph}
 use Rattle.dcc_ir.specs.Use.{parts_of, exprs_of, exit_exprs, graph_exprs}
+use Rattle.dcc_flags.specs.Accesses.{block_by_halves}
 
 -- what stands in place of each operand
 abbrev pub no_operand : Expr
@@ -74,7 +75,8 @@ EndsAlike before after = exit_kind after.exit ≡ exit_kind before.exit
 
 -- The second graph has only kinds that the first has, beside reads of flags and of temporaries, and statements that set
 -- temporaries: what the first one's pass, and these, the second one's pass too; and so where statements that set
--- temporaries to addresses in the frame, or to the sums of these with numbers, need not pass. Blocks end as they did.
+-- temporaries to addresses in the frame, or to the sums of these with numbers, need not pass. Where the addresses of the
+-- first one's accesses read halves of registers and of cells alone, so do the second one's. Blocks end as they did.
 pub record KindsStay (before after : Graph) : Type 0 where
   pub parts : (test : Expr → Bool) → ((f : FlagName) → test (Get (Flag f)) ≡ true) → ((n : ℕ) → test (Get (Temp n))
       ≡ true)
@@ -84,4 +86,5 @@ pub record KindsStay (before after : Graph) : Type 0 where
       → list_all (other_parts test) before.blocks ≡ true → list_all (other_parts test) after.blocks ≡ true
   pub stmts : (test : Stmt → Bool) → ((n : ℕ) → test (Set (Temp n) no_operand) ≡ true)
       → all_kinds test before ≡ true → all_kinds test after ≡ true
+  pub accesses : list_all block_by_halves before.blocks ≡ true → list_all block_by_halves after.blocks ≡ true
   pub exits : AllZip EndsAlike before.blocks after.blocks

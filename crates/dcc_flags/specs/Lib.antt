@@ -2,6 +2,7 @@ pub mod Reaching
 pub mod Sources
 pub mod Folding
 pub mod Kinds
+pub mod Accesses
 pub mod Fresh
 pub mod Laws
 pub mod Folded

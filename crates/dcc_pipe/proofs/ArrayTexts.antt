@@ -1,5 +1,5 @@
 -- Of the array of a frame that exposes no local byte the text uses nothing but the address: it stands only where temporaries
--- are set to sums of the frame.
+-- are set to sums of the frame, by which the body loads and stores nothing.
 use Rattle.std.proofs.Common.{◌≡◌, ℕ, ◌+◌, ◌*◌, ◌<◌, ◌≤◌, Bool, true, false, ◌==◌, inl, inr, List, [], ◌∷◌, ◌++◌, map, flat_map, Option, Some, None, slice_get, refl, sym, ap, ◌∙◌, subst, true≢false, get_or, length, arith}
 use Rattle.std.specs.Prelude.{◌&&◌, ◌||◌, not, nat_le, if◌then◌else◌, All, Contains, option_to_list, option_map}
 use Rattle.std.specs.List.{list_all, list_any}
@@ -19,13 +19,13 @@ use Rattle.dcc_ir.specs.declared.syntax.Put.{Put}
 use Rattle.dcc_ir.specs.declared.syntax.Put.TheVariants.{Memory, One, Two}
 use Rattle.dcc_ir.specs.Live.{block_in}
 use Rattle.dcc_ir.specs.Location.{location_width}
-use Rattle.dcc_ir.specs.Measure.{depth_of}
 use Rattle.dcc_ir.specs.Run.{no_block}
 use Rattle.dcc_ir.specs.Tree as inner
 use Rattle.dcc_ir.specs.Use.{parts_of, got_by, addressed_by, reads_of, addresses_of, exprs_of, writes_of, exit_exprs}
 use Rattle.dcc_ir.specs.Value.{width_of}
 use Rattle.dcc_ir.specs.WellFormed.{IsGraph}
 use Rattle.dcc_ir.proofs.ListLaws.{left_part}
+use Rattle.dcc_flags.specs.Accesses.{accessed}
 use Rattle.dcc_flags.specs.Kinds.{is_frame_sum, takes_frame_sum}
 use Rattle.dcc_live.specs.Start.{begins_live}
 use Rattle.dcc_c.specs.declared.syntax.Base.TheVariants.{Int, Uint}
@@ -34,7 +34,8 @@ use Rattle.dcc_c.specs.declared.syntax.CBin.TheVariants.{Add as Plus, Sub as Les
 use Rattle.dcc_c.specs.declared.syntax.CUn.TheVariants.{AddressOf}
 use Rattle.dcc_c.specs.Token.{same_bytes}
 use Rattle.dcc_c.specs.Numbered.{numbered_lines}
-use Rattle.dcc_c.specs.Tree.{Word, Expr, Number, Name, Unary, Binary, Cast, Stmt, Assign, Function}
+use Rattle.dcc_c.specs.Parts.{stmts_in}
+use Rattle.dcc_c.specs.Tree.{Word, Expr, Number, Name, Unary, Binary, Cast, Stmt, Assign, Lines, Function}
 use Rattle.dcc_c.specs.Types.{plain}
 use Rattle.dcc_c.proofs.NameLaws.{same_bytes-equal, same_bytes-refl}
 use Rattle.dcc_text.specs.Holding.{IsWithin}
@@ -42,7 +43,7 @@ use Rattle.dcc_text.specs.Names.{names_in, place_name, read_names}
 use Rattle.dcc_text.specs.Spelled.{Way, Low, Exact, Signed, small, constant, placed, pointer, taken, left_way, symbol, text, byte_quotient, byte_remainder, division_text, text_division}
 use Rattle.dcc_text.specs.Spelling.{Placed, Spelling}
 use Rattle.dcc_text.specs.Stmts.{place_of, wanted_way, first_place, stmt_text}
-use Rattle.dcc_text.proofs.Depths.{pointer-has, text-has, depth-some, read-alike}
+use Rattle.dcc_text.proofs.Depths.{read-alike}
 use Rattle.dcc_variables.specs.FunctionLaws.{HasFewNames, has_name, IsServedStmt, IsServedByFunction}
 use Rattle.dcc_variables.specs.Functions.{parameter_name, memory_from, name_or, place_from, place_by, argument_place, function_shape, function_spelling, opening, put_openings, openings_from, openings, low_byte, high_byte}
 use Rattle.dcc_variables.specs.Variables.{shape_of, is_told_from, variable_name, frame_name, frame_place}
@@ -51,13 +52,14 @@ use Rattle.dcc_variables.proofs.Names.{frame-apart}
 use Rattle.dcc_variables.proofs.Served.{functions-served}
 use Rattle.dcc_plan.specs.PlanText.{text_of_test, text_of_choice, text_of_return, plan_text}
 use Rattle.dcc_plan.proofs.TextLaws.{numbered-text}
-use Rattle.dcc_pipe.specs.TypedFrames.{stands_in, is_sum_from, tells_address, is_only_addressed}
+use Rattle.dcc_pipe.specs.TypedFrames.{stands_in, is_sum_from, is_accessed_by, tells_address, is_only_addressed}
 use Rattle.dcc_pipe.specs.WholeText.{control, opened}
+use Rattle.dcc_pipe.proofs.AccessTexts.{pointer-names}
 use Rattle.dcc_pipe.proofs.BodyStatements.{TextsPass, plan-passes, opened-passes}
 use Rattle.dcc_pipe.proofs.FunctionTables.{IsOne}
-use Rattle.dcc_pipe.proofs.LeftAddresses.{Told, IsTold, AllTold, each-passes}
+use Rattle.dcc_pipe.proofs.LeftAddresses.{Told, IsTold, AllTold, Addressed, all-addressed, stmt-addressed, each-passes}
 use Rattle.dcc_pipe.proofs.MatteringLaws.{opened-named}
-use Rattle.dcc_pipe.proofs.OperationAddresses.{passes, stmt_passes, stmt_told}
+use Rattle.dcc_pipe.proofs.OperationAddresses.{stmt_passes, stmt_told}
 use Rattle.dcc_pipe.proofs.OpeningLines.{openings-assign}
 use Rattle.dcc_pipe.proofs.WholeTexts.{body-goes}
 
@@ -66,7 +68,9 @@ flipped a b none =
     false_from_ne_true (same_bytes b a) (λ same.
     true≢false (sym (same_bytes-refl b) ∙ ap (λ w. same_bytes w b) (same_bytes-equal b a same) ∙ none))
 
-module _ (g : inner.Graph) (formed : IsGraph g) (few : HasFewNames g) where
+-- by no temporary the body loads or stores
+module _ (g : inner.Graph) (formed : IsGraph g) (few : HasFewNames g) (body : Lines)
+    (unused : (n : ℕ) → has_name g (Temp n) → is_accessed_by body ((function_spelling g).name (Temp n)) ≡ false) where
   abbrev s : Spelling
   s = function_spelling g
 
@@ -154,10 +158,7 @@ module _ (g : inner.Graph) (formed : IsGraph g) (few : HasFewNames g) where
 
   pointer-free : (width : ℕ) (a : inner.Expr) → AreGood a → Free (pointer s width a (text s Low false a))
   pointer-free width a good =
-      let some = depth-some s a in
-      ap (list_any (same_bytes frame_name))
-      (pointer-has s width (6 * depth_of a) a (text s Low false a) (omega (arith, some)) (text-has s a Low false)).reads
-      ∙ good-lacks a good
+      ap (list_any (same_bytes frame_name)) (pointer-names s width a) ∙ good-lacks a good
 
   -- Divisions.
 
@@ -205,19 +206,29 @@ module _ (g : inner.Graph) (formed : IsGraph g) (few : HasFewNames g) where
   -- Statements.
 
   abbrev Tells : Stmt → Type 0
-  Tells stmt = tells_address frame_name stmt ≡ true
+  Tells stmt = tells_address frame_name body stmt ≡ true
 
   -- a sum from the array, or no name of it
   abbrev sum_or_none : Expr → Bool
   sum_or_none e = is_sum_from frame_name e || not (stands_in frame_name e)
 
-  assigned-tells : (l : Loc) (e : Expr) → has_name g l → sum_or_none e ≡ true → Tells (Assign (place_of s l) e)
-  assigned-tells l e named is =
-      and_from (not (same_bytes frame_name (s.name l))) (sum_or_none e) (ap not (other-name l named)) is
+  temporary-tells : (n : ℕ) (e : Expr) → has_name g (Temp n) → sum_or_none e ≡ true → Tells (Assign (place_of s (Temp n)) e)
+  temporary-tells n e named is =
+      let away = not (is_accessed_by body (s.name (Temp n))) in
+      let sum = is_sum_from frame_name e in
+      let none = not (stands_in frame_name e) in
+      and_from (not (same_bytes frame_name (s.name (Temp n)))) ((sum && away) || none) (ap not (other-name (Temp n) named))
+      (elim (or_cases sum none is) [
+        | inl told ↦ or_left (sum && away) none (and_from sum away told (ap not (unused n named)))
+        | inr free ↦ or_right (sum && away) none free
+      ])
 
   free-assigned : (l : Loc) (e : Expr) → has_name g l → Free e → Tells (Assign (place_of s l) e)
   free-assigned l e named free =
-      assigned-tells l e named (or_right (is_sum_from frame_name e) (not (stands_in frame_name e)) (ap not free))
+      let sum = is_sum_from frame_name e && not (is_accessed_by body (s.name l)) in
+      let none = not (stands_in frame_name e) in
+      and_from (not (same_bytes frame_name (s.name l))) (sum || none) (ap not (other-name l named))
+      (or_right sum none (ap not free))
 
   none-stand : (es : List inner.Expr) → All AreGood es → list_any (stands_in frame_name) (map (text s Low false) es) ≡ false
   none-stand [] good = refl
@@ -348,7 +359,7 @@ module _ (g : inner.Graph) (formed : IsGraph g) (few : HasFewNames g) where
   takes-tells : (stmt : inner.Stmt) → takes_frame_sum stmt ≡ true → All (has_name g) (writes_of stmt)
       → Tells (stmt_text s 2 stmt)
   takes-tells (inner.Set (Temp n) e) is named =
-      assigned-tells (Temp n) (text s (wanted_way s (Temp n)) false e) (All-head (has_name g) (Temp n) [] named)
+      temporary-tells n (text s (wanted_way s (Temp n)) false e) (All-head (has_name g) (Temp n) [] named)
       (subst (λ way. sum_or_none (text s way false e) ≡ true) (sym (way-low (location_width s.bits (Temp n) == 1)))
       (sum-tells e is))
     where
@@ -359,16 +370,16 @@ module _ (g : inner.Graph) (formed : IsGraph g) (few : HasFewNames g) where
 
   -- Expressions of the graph.
 
-  all-good : (es : List inner.Expr) → All (λ e. All (has_name g) (reads_of e)) es → All (λ e. passes told e ≡ true) es
+  all-good : (es : List inner.Expr) → All (λ e. All (has_name g) (reads_of e)) es → All (Addressed told) es
       → All AreGood es
   all-good [] reads pass = All-nil AreGood
   all-good (e ∷ es) reads pass =
       All-cons AreGood e es
       (each-good (parts_of e) (All-head (λ e. All (has_name g) (reads_of e)) e es reads)
-      (All-head (λ e. passes told e ≡ true) e es pass))
-      (all-good es (All-tail (λ e. All (has_name g) (reads_of e)) e es reads) (All-tail (λ e. passes told e ≡ true) e es pass))
+      (All-head (Addressed told) e es pass))
+      (all-good es (All-tail (λ e. All (has_name g) (reads_of e)) e es reads) (All-tail (Addressed told) e es pass))
 
-  within-good : (es : List inner.Expr) → All (IsWithin s (has_name g)) es → All (λ e. passes told e ≡ true) es → All AreGood es
+  within-good : (es : List inner.Expr) → All (IsWithin s (has_name g)) es → All (Addressed told) es → All AreGood es
   within-good es within =
       all-good es
       (All-weaker (IsWithin s (has_name g)) (λ e. All (has_name g) (reads_of e)) (λ e is. is.reads) es within)
@@ -376,7 +387,9 @@ module _ (g : inner.Graph) (formed : IsGraph g) (few : HasFewNames g) where
   stmt-tells : (stmt : inner.Stmt) → IsServedStmt g stmt → Told told true stmt → Tells (stmt_text s 2 stmt)
   stmt-tells stmt served is = elim (or_cases (stmt_passes told stmt) (takes_frame_sum stmt) is) [
     | inl pass ↦
-        strict-tells stmt (within-good (exprs_of stmt) served.within (each-passes told (exprs_of stmt) pass)) served.written
+        strict-tells stmt
+        (within-good (exprs_of stmt) served.within (stmt-addressed told stmt (each-passes told (accessed stmt) pass)))
+        served.written
     | inr takes ↦ takes-tells stmt takes served.written
   ]
 
@@ -388,7 +401,7 @@ module _ (g : inner.Graph) (formed : IsGraph g) (few : HasFewNames g) where
   block-fine : (b : inner.Block) → IsServedByFunction g b → IsTold told true b → IsFine b
   block-fine b served is = record {
     stmts = each b.stmts served.stmts is.stmts;
-    exit = within-good (exit_exprs b.exit) served.exits is.exit;
+    exit = within-good (exit_exprs b.exit) served.exits (all-addressed told (exit_exprs b.exit) is.exit);
   }
     where
       each : (stmts : List inner.Stmt) → All (IsServedStmt g) stmts → All (Told told true) stmts
@@ -434,7 +447,7 @@ module _ (g : inner.Graph) (formed : IsGraph g) (few : HasFewNames g) where
     return-tells (inner.Switch e places) good = refl
     return-tells inner.Stop good = refl
 
-    texts-pass : TextsPass s g (tells_address frame_name)
+    texts-pass : TextsPass s g (tells_address frame_name body)
     texts-pass = record {
       done = λ b m stmt is.
           let stmts = (block_in g b).stmts in
@@ -454,36 +467,38 @@ module _ (g : inner.Graph) (formed : IsGraph g) (few : HasFewNames g) where
 
     -- Openings.
 
-    opens-tells : (l : Loc) (e : Expr) → Free e → list_all (tells_address frame_name) (opening (opened g l) s l e) ≡ true
+    opens-tells : (l : Loc) (e : Expr) → Free e → list_all (tells_address frame_name body) (opening (opened g l) s l e) ≡ true
     opens-tells l e free = by (opened g l) refl
       where
-        by : (b : Bool) → opened g l ≡ b → list_all (tells_address frame_name) (opening b s l e) ≡ true
+        by : (b : Bool) → opened g l ≡ b → list_all (tells_address frame_name body) (opening b s l e) ≡ true
         by true is =
-            and_from (tells_address frame_name (Assign (place_of s l) e)) true
+            and_from (tells_address frame_name body (Assign (place_of s l) e)) true
             (free-assigned l e (opened-named g formed l is) free) refl
         by false is = refl
 
-    put-tells : (j : ℕ) (put : Put) → list_all (tells_address frame_name) (put_openings s (opened g) (parameter_name j) put) ≡ true
+    put-tells : (j : ℕ) (put : Put) → list_all (tells_address frame_name body) (put_openings s (opened g) (parameter_name j) put) ≡ true
     put-tells j Memory = refl
     put-tells j (One l) = refl
     put-tells j (Two low high) =
-        list_all-append (tells_address frame_name) (opening (opened g low) s low (low_byte (Name (parameter_name j))))
+        list_all-append (tells_address frame_name body) (opening (opened g low) s low (low_byte (Name (parameter_name j))))
         (opening (opened g high) s high (high_byte (Name (parameter_name j))))
         ∙ and_from _ _ (opens-tells low (low_byte (Name (parameter_name j))) refl)
         (opens-tells high (high_byte (Name (parameter_name j))) refl)
 
     openings-tell : (j : ℕ) (params : List Param)
-        → list_all (tells_address frame_name) (openings_from s (opened g) j params) ≡ true
+        → list_all (tells_address frame_name body) (openings_from s (opened g) j params) ≡ true
     openings-tell j [] = refl
     openings-tell j (p ∷ params) =
-        list_all-append (tells_address frame_name) (put_openings s (opened g) (parameter_name j) p.put)
+        list_all-append (tells_address frame_name body) (put_openings s (opened g) (parameter_name j) p.put)
         (openings_from s (opened g) (j + 1) params)
         ∙ and_from _ _ (put-tells j p.put) (openings-tell (j + 1) params)
 
     -- the body of the graph's function
-    pub only-addressed : (f : Function) → IsOne g f → is_only_addressed frame_name f.body ≡ true
-    only-addressed f is =
+    pub only-addressed : (f : Function) → IsOne g f → f.body ≡ body → is_only_addressed frame_name f.body ≡ true
+    only-addressed f is same =
         let goes = body-goes g f is in
-        opened-passes s g (tells_address frame_name) texts-pass (openings (opened g) g) (openings-tell 0 g.params)
+        let test = tells_address frame_name body in
+        subst (λ lines. list_all (tells_address frame_name lines) (stmts_in f.body) ≡ true) (sym same)
+        (opened-passes s g test texts-pass (openings (opened g) g) (openings-tell 0 g.params)
         (openings-assign s (opened g) 0 g.params) f.body (numbered_lines goes.depth goes.at (plan_text s g (control g)))
-        goes.begins (plan-passes s g (tells_address frame_name) texts-pass (numbered-text s g (control g) _ _))
+        goes.begins (plan-passes s g test texts-pass (numbered-text s g (control g) _ _)))

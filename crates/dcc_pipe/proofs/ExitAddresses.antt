@@ -91,11 +91,14 @@ module _ (q : Procedure) (few : q.frame.args ≤ 32)
             ∙ ap (argument_param q) (get_or-range_with_len 0 q.frame.args j 0 inside ∙ zero-plus j),
       )
 
+  loaded : (d : ℕ) → test d ≡ true → ((test d && true) && true) ≡ true
+  loaded d is = both (test d && true) true (both (test d) true is refl) refl
+
   put-passes : (j : ℕ) (put : Put) → (is_memory put ≡ true → (d : ℕ) → 2 * j ≤ d → d ≤ 2 * j + 1 → test d ≡ true)
       → list_all (passes test) (bytes_at_put j put) ≡ true
   put-passes j Memory is =
-      both (test (2 * j) && true) _ (both (test (2 * j)) true (is refl (2 * j) (omega arith) (omega arith)) refl)
-      (both (test (2 * j + 1) && true) true (both (test (2 * j + 1)) true (is refl (2 * j + 1) (omega arith) (omega arith)) refl) refl)
+      both ((test (2 * j) && true) && true) _ (loaded (2 * j) (is refl (2 * j) (omega arith) (omega arith)))
+      (both ((test (2 * j + 1) && true) && true) true (loaded (2 * j + 1) (is refl (2 * j + 1) (omega arith) (omega arith))) refl)
   put-passes j (One location) is = refl
   put-passes j (Two low high) is = refl
 

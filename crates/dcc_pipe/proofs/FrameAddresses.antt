@@ -3,6 +3,7 @@
 use Rattle.std.proofs.Common.{◌≡◌, ◌≢◌, ℕ, suc, ◌+◌, ◌-◌, ◌*◌, ◌/◌, ◌%◌, ◌<◌, ◌≤◌, Bool, true, false, ◌==◌, ◌&&◌, ◌||◌, not, inl, inr, List, [], ◌∷◌, ◌++◌, Option, Some, None, refl, sym, ap, ◌∙◌, subst, true≢false, arith, mod-eq_of_lt}
 use Rattle.std.specs.Prelude.{ℤ, pos, negsuc, ◌+ℤ◌, ◌-ℤ◌, neg_ℤ, ◌≤ℤ◌, ◌<ℤ◌, if◌then◌else◌, flat_map, option_map}
 use Rattle.std.specs.List.{list_all}
+use Rattle.std.proofs.lemmas.Bool.{and_parts}
 use Rattle.std.proofs.lemmas.Int.{ints, by_lt_z}
 use Rattle.std.proofs.lemmas.List.Concat.{flat_map-append}
 use Rattle.std.proofs.lemmas.List.Folds.{list_all-append}
@@ -25,6 +26,7 @@ use Rattle.dcc_stack.proofs.SlotPlaces.{exposed-slot-told, placed-tells}
 use Rattle.dcc_ir.specs.declared.syntax.BinOp.TheVariants.{Add}
 use Rattle.dcc_ir.specs.Tree.{Expr, Const, Binary, Address}
 use Rattle.dcc_ir.specs.Use.{parts_of, addressed_by, addresses_of}
+use Rattle.dcc_flags.specs.Accesses.{reads_halves, loads_by_halves}
 use Rattle.dcc_ops.specs.declared.place.Computed.{Computed}
 use Rattle.dcc_ops.specs.Computed.{plus, adding, ending, computed_expr}
 use Rattle.dcc_ops.specs.Expressions.{word_of}
@@ -45,8 +47,13 @@ module _ (test : ℕ → Bool) where
 
   plus-passes : (a b : Expr) → passes test a ≡ true → passes test b ≡ true → passes test (Binary Add 16 a b) ≡ true
   plus-passes a b one other =
-      ap (list_all test) (flat_map-append addressed_by (parts_of a) (parts_of b))
-      ∙ list_all-append test (addresses_of a) (addresses_of b) ∙ both (passes test a) (passes test b) one other
+      let p = and_parts (list_all test (addresses_of a)) (loads_by_halves a) one in
+      let q = and_parts (list_all test (addresses_of b)) (loads_by_halves b) other in
+      both (list_all test (flat_map addressed_by (parts_of a ++ parts_of b))) (loads_by_halves a && loads_by_halves b)
+      (ap (list_all test) (flat_map-append addressed_by (parts_of a) (parts_of b))
+      ∙ list_all-append test (addresses_of a) (addresses_of b)
+      ∙ both (list_all test (addresses_of a)) (list_all test (addresses_of b)) p.0 q.0)
+      (both (loads_by_halves a) (loads_by_halves b) p.1 q.1)
 
   adding-passes : (r : Option Reg) (sum : Option Expr) → sum_passes sum ≡ true → sum_passes (adding r sum) ≡ true
   adding-passes None sum is = is
@@ -67,6 +74,34 @@ module _ (test : ℕ → Bool) where
       ending-passes c.number (adding c.index (adding c.base (option_map Address c.frame)))
       (adding-passes c.index (adding c.base (option_map Address c.frame))
       (adding-passes c.base (option_map Address c.frame) is))
+
+-- an address that is computed reads registers alone
+abbrev sum_halves : Option Expr → Bool
+sum_halves None = true
+sum_halves (Some e) = reads_halves e
+
+pub computed-halves : (c : Computed) → reads_halves (computed_expr c) ≡ true
+computed-halves c =
+    ended c.number (adding c.index (adding c.base (option_map Address c.frame)))
+    (added c.index (adding c.base (option_map Address c.frame))
+    (added c.base (option_map Address c.frame) (framed c.frame)))
+  where
+    framed : (frame : Option ℕ) → sum_halves (option_map Address frame) ≡ true
+    framed None = refl
+    framed (Some distance) = refl
+
+    added : (r : Option Reg) (sum : Option Expr) → sum_halves sum ≡ true → sum_halves (adding r sum) ≡ true
+    added None sum is = is
+    added (Some r) None is = refl
+    added (Some r) (Some e) is = ap (λ b. b && true) is
+
+    ended : (n : ℕ) (sum : Option Expr) → sum_halves sum ≡ true → reads_halves (ending n sum) ≡ true
+    ended n None is = refl
+    ended n (Some e) is = by (n == 0)
+      where
+        by : (b : Bool) → reads_halves (if b then e else Binary Add 16 e (Const 16 n)) ≡ true
+        by true = is
+        by false = ap (λ b. b && true) is
 
 -- The frame of a procedure that exposes no local byte.
 
@@ -209,7 +244,9 @@ module _ (image : Image) (program : Analysed) (entry : ℕ) (q : Procedure) (f :
         by : (b : Bool) → is_placed q.frame k ≡ b
             → place_passes test (if b then memory w (Address (distance_of k)) else cell_place 0 (cells_of q) w k) ≡ true
         by true is =
-            both test (test (distance_of k)) true (from-passes k (placed-from k (placed-tells image program entry q.frame f k is))) refl
+            both test (test (distance_of k) && true) true
+            (both test (test (distance_of k)) true
+            (from-passes k (placed-from k (placed-tells image program entry q.frame f k is))) refl) refl
         by false is = cell-passes 0 (cells_of q) w k
 
     -- Where addresses are computed.

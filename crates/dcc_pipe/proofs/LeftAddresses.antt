@@ -1,17 +1,18 @@
 -- What is prepared takes only addresses that pass a test, where what is lifted does, but for statements that set
--- temporaries to sums of the frame.
+-- temporaries to sums of the frame; and it loads, fetches and stores by halves of registers and of cells alone.
 use Rattle.std.proofs.Common.{◌≡◌, ℕ, ◌+◌, Bool, true, false, ◌&&◌, ◌||◌, inl, inr, List, [], ◌∷◌, ◌++◌, map, flat_map, Option, Some, None, refl, sym, ap, ◌∙◌, subst, true≢false}
 use Rattle.std.specs.Prelude.{All, not, if◌then◌else◌}
 use Rattle.std.specs.List.{AllZip, list_all, list_any}
 use Rattle.std.proofs.lemmas.Bool.{and_parts, or_cases, or_left, or_right, or_from}
 use Rattle.std.proofs.lemmas.List.Concat.{flat_map-append}
-use Rattle.std.proofs.lemmas.List.Elements.{All-nil, All-cons, All-head, All-tail, All-append}
+use Rattle.std.proofs.lemmas.List.Elements.{All-nil, All-cons, All-head, All-tail, All-append, All-weaker}
 use Rattle.std.proofs.lemmas.List.Folds.{list_all-append}
 use Rattle.dcc_run.proofs.KeptLaws.{right_part}
 use Rattle.dcc_num.specs.declared.FlagName.{FlagName}
 use Rattle.dcc_num.specs.declared.Reg.{Reg}
 use Rattle.dcc_num.specs.declared.Reg.TheVariants.{Ax, Dx}
 use Rattle.dcc_num.specs.declared.Half.TheVariants.{Low, High}
+use Rattle.dcc_ir.specs.declared.syntax.BinOp.TheVariants.{Add}
 use Rattle.dcc_ir.specs.declared.syntax.Loc.{Loc}
 use Rattle.dcc_ir.specs.declared.syntax.Loc.TheVariants.{Half, Flag, Temp}
 use Rattle.dcc_ir.specs.Families.{Family, IsWithout, done, stays, goes, IsBlockWithout, IsGraphWithout}
@@ -20,7 +21,8 @@ use Rattle.dcc_ir.specs.Tree.{Expr, Const, Get, Load, Unary, Binary, Widen, Part
 use Rattle.dcc_ir.specs.Use.{parts_of, addressed_by, addresses_of, got_by, exprs_of, exit_exprs, block_exprs, graph_exprs}
 use Rattle.dcc_ir.proofs.ListLaws.{left_part}
 use Rattle.dcc_ir.specs.Trimmed.{Trim, trim_stmt, trim_block, trim_graph}
-use Rattle.dcc_flags.specs.Kinds.{kind_of, takes_frame_sum, parts_pass, other_parts, KindsStay}
+use Rattle.dcc_flags.specs.Accesses.{loads_by_halves, accessed, accesses_by_halves, block_by_halves}
+use Rattle.dcc_flags.specs.Kinds.{kind_of, is_frame_sum, takes_frame_sum, parts_pass, other_parts, KindsStay}
 use Rattle.dcc_signatures.specs.declared.packing.Fresh.{Fresh}
 use Rattle.dcc_signatures.specs.declared.packing.Packing.TheVariants.{Apart, Word, Double}
 use Rattle.dcc_signatures.specs.Packed.{are_halves, in_front, two_or_one, merged, word_of, one_argument, packing_of}
@@ -50,8 +52,13 @@ module _ (test : ℕ → Bool) where
 
   join-passes : (high low : Expr) → Passes high → Passes low → Passes (Join high low)
   join-passes high low one other =
-      ap (list_all test) (flat_map-append addressed_by (parts_of high) (parts_of low))
-      ∙ list_all-append test (addresses_of high) (addresses_of low) ∙ both (passes test high) (passes test low) one other
+      let p = and_parts (list_all test (addresses_of high)) (loads_by_halves high) one in
+      let q = and_parts (list_all test (addresses_of low)) (loads_by_halves low) other in
+      both (list_all test (flat_map addressed_by (parts_of high ++ parts_of low))) (loads_by_halves high && loads_by_halves low)
+      (ap (list_all test) (flat_map-append addressed_by (parts_of high) (parts_of low))
+      ∙ list_all-append test (addresses_of high) (addresses_of low)
+      ∙ both (list_all test (addresses_of high)) (list_all test (addresses_of low)) p.0 q.0)
+      (both (loads_by_halves high) (loads_by_halves low) p.1 q.1)
 
   argument-passes : (a b : Expr) (es : List Expr) → Passes a → Passes b → All Passes es
       → All Passes (two_or_one a b es (one_argument a b))
@@ -98,13 +105,13 @@ module _ (test : ℕ → Bool) where
       ]
 
   each-taken : (temporary : ℕ) (double : Bool) (ls : List Loc)
-      → All Passes (flat_map exprs_of (map (taking_part temporary double) ls))
+      → All Passes (flat_map accessed (map (taking_part temporary double) ls))
   each-taken temporary double [] = All-nil Passes
   each-taken temporary double (l ∷ ls) = All-cons Passes _ _ refl (each-taken temporary double ls)
 
-  parts-taken : (fresh : Fresh) (results : List Loc) → All Passes (flat_map exprs_of (taking_parts fresh results))
+  parts-taken : (fresh : Fresh) (results : List Loc) → All Passes (flat_map accessed (taking_parts fresh results))
   parts-taken fresh results =
-      elim (packing_of results) as (λ packing. All Passes (flat_map exprs_of (elim packing [
+      elim (packing_of results) as (λ packing. All Passes (flat_map accessed (elim packing [
         | Apart ↦ []
         | Word low high ↦ map (taking_part fresh.word false) results
         | Double ↦ map (taking_part fresh.double true) results
@@ -141,21 +148,21 @@ module _ (test : ℕ → Bool) where
     AllTold g = All IsTold g.blocks
 
     -- statements that take no sum pass
-    told-passes : (stmt : Stmt) → (sums && takes_frame_sum stmt) ≡ false → Told stmt → All Passes (exprs_of stmt)
+    told-passes : (stmt : Stmt) → (sums && takes_frame_sum stmt) ≡ false → Told stmt → All Passes (accessed stmt)
     told-passes stmt none told = elim (or_cases (stmt_passes test stmt) (sums && takes_frame_sum stmt) told) [
-      | inl pass ↦ each-passes (exprs_of stmt) pass
+      | inl pass ↦ each-passes (accessed stmt) pass
       | inr takes ↦ absurd (true≢false (sym takes ∙ none))
     ]
 
-    passes-told : (stmt : Stmt) → All Passes (exprs_of stmt) → Told stmt
+    passes-told : (stmt : Stmt) → All Passes (accessed stmt) → Told stmt
     passes-told stmt all =
-        or_left (stmt_passes test stmt) (sums && takes_frame_sum stmt) (all-passes (exprs_of stmt) all)
+        or_left (stmt_passes test stmt) (sums && takes_frame_sum stmt) (all-passes (accessed stmt) all)
 
-    each-told : (stmts : List Stmt) → All Passes (flat_map exprs_of stmts) → All Told stmts
+    each-told : (stmts : List Stmt) → All Passes (flat_map accessed stmts) → All Told stmts
     each-told [] all = All-nil Told
     each-told (stmt ∷ stmts) all =
-        All-cons Told stmt stmts (passes-told stmt (left_part Passes (exprs_of stmt) (flat_map exprs_of stmts) all))
-        (each-told stmts (right_part Passes (exprs_of stmt) (flat_map exprs_of stmts) all))
+        All-cons Told stmt stmts (passes-told stmt (left_part Passes (accessed stmt) (flat_map accessed stmts) all))
+        (each-told stmts (right_part Passes (accessed stmt) (flat_map accessed stmts) all))
 
     no-sum : (b : Bool) → (b && false) ≡ false
     no-sum true = refl
@@ -221,7 +228,7 @@ module _ (test : ℕ → Bool) where
     stmt-packed : (fresh : Fresh) (stmt : Stmt) → Told stmt → All Told (pack_stmt fresh stmt)
     stmt-packed fresh (Call results entry arguments depth) told =
         each-told (pack_stmt fresh (Call results entry arguments depth))
-        (All-append Passes (merged one_argument arguments) (flat_map exprs_of (taking_parts fresh results))
+        (All-append Passes (merged one_argument arguments) (flat_map accessed (taking_parts fresh results))
         (merged-pass arguments (told-passes (Call results entry arguments depth) (no-sum sums) told))
         (parts-taken fresh results))
     stmt-packed fresh (Set location e) told = one-told (Set location e) told
@@ -266,6 +273,88 @@ module _ (test : ℕ → Bool) where
         })
         (blocks-without family before after zip.1 (All-tail IsTold a before all))
 
+  -- Of what passes, the addresses that are taken pass the test, and loads are by halves.
+
+  abbrev pub Addressed : Expr → Type 0
+  Addressed e = list_all test (addresses_of e) ≡ true
+
+  addressed : (e : Expr) → Passes e → Addressed e
+  addressed e is = (and_parts (list_all test (addresses_of e)) (loads_by_halves e) is).0
+
+  pub all-addressed : (es : List Expr) → All Passes es → All Addressed es
+  all-addressed = All-weaker Passes Addressed addressed
+
+  all-loads : (es : List Expr) → All Passes es → list_all loads_by_halves es ≡ true
+  all-loads [] all = refl
+  all-loads (e ∷ es) all =
+      both (loads_by_halves e) (list_all loads_by_halves es)
+      (and_parts (list_all test (addresses_of e)) (loads_by_halves e) (All-head Passes e es all)).1
+      (all-loads es (All-tail Passes e es all))
+
+  both-pass : (es : List Expr) → All Addressed es → list_all loads_by_halves es ≡ true → All Passes es
+  both-pass [] all is = All-nil Passes
+  both-pass (e ∷ es) all is =
+      let parts = and_parts (loads_by_halves e) (list_all loads_by_halves es) is in
+      All-cons Passes e es (both (list_all test (addresses_of e)) (loads_by_halves e) (All-head Addressed e es all) parts.0)
+      (both-pass es (All-tail Addressed e es all) parts.1)
+
+  -- a load takes the addresses that its own address takes
+  of-accessed : (stmt : Stmt) → All Addressed (accessed stmt) → All Addressed (exprs_of stmt)
+  of-accessed (Fetch l width a) all = All-cons Addressed a [] (All-head Addressed (Load width a) [] all) (All-nil Addressed)
+  of-accessed (Store width a e) all =
+      All-cons Addressed a (e ∷ []) (All-head Addressed (Load width a) (e ∷ []) all)
+      (All-tail Addressed (Load width a) (e ∷ []) all)
+  of-accessed (Set l e) all = all
+  of-accessed (Div l e) all = all
+  of-accessed (Call results entry arguments depth) all = all
+  of-accessed (Dos number place argument) all = all
+
+  to-accessed : (stmt : Stmt) → All Addressed (exprs_of stmt) → All Addressed (accessed stmt)
+  to-accessed (Fetch l width a) all = All-cons Addressed (Load width a) [] (All-head Addressed a [] all) (All-nil Addressed)
+  to-accessed (Store width a e) all =
+      All-cons Addressed (Load width a) (e ∷ []) (All-head Addressed a (e ∷ []) all) (All-tail Addressed a (e ∷ []) all)
+  to-accessed (Set l e) all = all
+  to-accessed (Div l e) all = all
+  to-accessed (Call results entry arguments depth) all = all
+  to-accessed (Dos number place argument) all = all
+
+  pub stmt-addressed : (stmt : Stmt) → All Passes (accessed stmt) → All Addressed (exprs_of stmt)
+  stmt-addressed stmt all = of-accessed stmt (all-addressed (accessed stmt) all)
+
+  stmt-passes : (stmt : Stmt) → All Addressed (exprs_of stmt) → accesses_by_halves stmt ≡ true → All Passes (accessed stmt)
+  stmt-passes stmt all is = both-pass (accessed stmt) (to-accessed stmt all) is
+
+  -- sums of the frame load nothing
+  sum-loads : (e : Expr) → is_frame_sum e ≡ true → loads_by_halves e ≡ true
+  sum-loads (Address d) is = refl
+  sum-loads (Binary Add width (Address d) (Const other n)) is = refl
+  sum-loads e is = absurd (true≢false (sym is))
+
+  takes-loads : (stmt : Stmt) → takes_frame_sum stmt ≡ true → accesses_by_halves stmt ≡ true
+  takes-loads (Set (Temp n) e) is = both (loads_by_halves e) true (sum-loads e is) refl
+  takes-loads stmt is = absurd (true≢false (sym is))
+
+  pub by-halves : (sums : Bool) (blocks : List Block) → All (IsTold sums) blocks → list_all block_by_halves blocks ≡ true
+  by-halves sums [] all = refl
+  by-halves sums (b ∷ blocks) all =
+      let here = All-head (IsTold sums) b blocks all in
+      both (block_by_halves b) (list_all block_by_halves blocks)
+      (both (list_all accesses_by_halves b.stmts) (list_all loads_by_halves (exit_exprs b.exit)) (each b.stmts here.stmts)
+      (all-loads (exit_exprs b.exit) here.exit))
+      (by-halves sums blocks (All-tail (IsTold sums) b blocks all))
+    where
+      one : (stmt : Stmt) → Told sums stmt → accesses_by_halves stmt ≡ true
+      one stmt told = elim (or_cases (stmt_passes test stmt) (sums && takes_frame_sum stmt) told) [
+        | inl pass ↦ all-loads (accessed stmt) (each-passes (accessed stmt) pass)
+        | inr takes ↦ takes-loads stmt (and_parts sums (takes_frame_sum stmt) takes).1
+      ]
+
+      each : (stmts : List Stmt) → All (Told sums) stmts → list_all accesses_by_halves stmts ≡ true
+      each [] all = refl
+      each (stmt ∷ stmts) all =
+          both (accesses_by_halves stmt) (list_all accesses_by_halves stmts) (one stmt (All-head (Told sums) stmt stmts all))
+          (each stmts (All-tail (Told sums) stmt stmts all))
+
   -- Flags.
 
   abbrev kind_passes : Expr → Bool
@@ -285,46 +374,60 @@ module _ (test : ℕ → Bool) where
   kinds-are (Choose choice a b ∷ es) = kinds-are es
   kinds-are (Address distance ∷ es) = ap (λ b. test distance && b) (kinds-are es)
 
-  to-kinds : (es : List Expr) → All Passes es
+  to-kinds : (es : List Expr) → All Addressed es
       → list_all (λ e. list_all (λ part. kind_passes (kind_of part)) (parts_of e)) es ≡ true
   to-kinds [] all = refl
   to-kinds (e ∷ es) all =
       both (list_all (λ part. kind_passes (kind_of part)) (parts_of e)) _
-      (kinds-are (parts_of e) ∙ All-head Passes e es all) (to-kinds es (All-tail Passes e es all))
+      (kinds-are (parts_of e) ∙ All-head Addressed e es all) (to-kinds es (All-tail Addressed e es all))
 
   from-kinds : (es : List Expr) → list_all (λ e. list_all (λ part. kind_passes (kind_of part)) (parts_of e)) es ≡ true
-      → All Passes es
-  from-kinds [] is = All-nil Passes
+      → All Addressed es
+  from-kinds [] is = All-nil Addressed
   from-kinds (e ∷ es) is =
       let parts = and_parts (list_all (λ part. kind_passes (kind_of part)) (parts_of e)) _ is in
-      All-cons Passes e es (sym (kinds-are (parts_of e)) ∙ parts.0) (from-kinds es parts.1)
+      All-cons Addressed e es (sym (kinds-are (parts_of e)) ∙ parts.0) (from-kinds es parts.1)
 
-  -- all expressions of a graph without sums pass
-  graph-passes : (blocks : List Block) → All (IsTold false) blocks → All Passes (flat_map block_exprs blocks)
-  graph-passes [] all = All-nil Passes
-  graph-passes (b ∷ blocks) all =
+  -- the addresses of all expressions of a graph without sums pass
+  graph-addressed : (blocks : List Block) → All (IsTold false) blocks → All Addressed (flat_map block_exprs blocks)
+  graph-addressed [] all = All-nil Addressed
+  graph-addressed (b ∷ blocks) all =
       let here = All-head (IsTold false) b blocks all in
-      All-append Passes (block_exprs b) (flat_map block_exprs blocks)
-      (All-append Passes (flat_map exprs_of b.stmts) (exit_exprs b.exit) (each b.stmts here.stmts) here.exit)
-      (graph-passes blocks (All-tail (IsTold false) b blocks all))
+      All-append Addressed (block_exprs b) (flat_map block_exprs blocks)
+      (All-append Addressed (flat_map exprs_of b.stmts) (exit_exprs b.exit) (each b.stmts here.stmts)
+      (all-addressed (exit_exprs b.exit) here.exit))
+      (graph-addressed blocks (All-tail (IsTold false) b blocks all))
     where
-      each : (stmts : List Stmt) → All (Told false) stmts → All Passes (flat_map exprs_of stmts)
-      each [] all = All-nil Passes
+      each : (stmts : List Stmt) → All (Told false) stmts → All Addressed (flat_map exprs_of stmts)
+      each [] all = All-nil Addressed
       each (stmt ∷ stmts) all =
-          All-append Passes (exprs_of stmt) (flat_map exprs_of stmts)
-          (told-passes false stmt refl (All-head (Told false) stmt stmts all))
+          All-append Addressed (exprs_of stmt) (flat_map exprs_of stmts)
+          (stmt-addressed stmt (told-passes false stmt refl (All-head (Told false) stmt stmts all)))
           (each stmts (All-tail (Told false) stmt stmts all))
 
-  passes-graph : (blocks : List Block) → All Passes (flat_map block_exprs blocks) → All (IsTold false) blocks
-  passes-graph [] all = All-nil (IsTold false)
-  passes-graph (b ∷ blocks) all =
-      let here = left_part Passes (block_exprs b) (flat_map block_exprs blocks) all in
+  addressed-graph : (blocks : List Block) → All Addressed (flat_map block_exprs blocks)
+      → list_all block_by_halves blocks ≡ true → All (IsTold false) blocks
+  addressed-graph [] all is = All-nil (IsTold false)
+  addressed-graph (b ∷ blocks) all is =
+      let here = left_part Addressed (block_exprs b) (flat_map block_exprs blocks) all in
+      let parts = and_parts (block_by_halves b) (list_all block_by_halves blocks) is in
+      let own = and_parts (list_all accesses_by_halves b.stmts) (list_all loads_by_halves (exit_exprs b.exit)) parts.0 in
       All-cons (IsTold false) b blocks
       (record {
-        stmts = each-told false b.stmts (left_part Passes (flat_map exprs_of b.stmts) (exit_exprs b.exit) here);
-        exit = right_part Passes (flat_map exprs_of b.stmts) (exit_exprs b.exit) here;
+        stmts = each b.stmts (left_part Addressed (flat_map exprs_of b.stmts) (exit_exprs b.exit) here) own.0;
+        exit = both-pass (exit_exprs b.exit) (right_part Addressed (flat_map exprs_of b.stmts) (exit_exprs b.exit) here) own.1;
       })
-      (passes-graph blocks (right_part Passes (block_exprs b) (flat_map block_exprs blocks) all))
+      (addressed-graph blocks (right_part Addressed (block_exprs b) (flat_map block_exprs blocks) all) parts.1)
+    where
+      each : (stmts : List Stmt) → All Addressed (flat_map exprs_of stmts) → list_all accesses_by_halves stmts ≡ true
+          → All (Told false) stmts
+      each [] all is = All-nil (Told false)
+      each (stmt ∷ stmts) all is =
+          let parts = and_parts (accesses_by_halves stmt) (list_all accesses_by_halves stmts) is in
+          All-cons (Told false) stmt stmts
+          (passes-told false stmt
+          (stmt-passes stmt (left_part Addressed (exprs_of stmt) (flat_map exprs_of stmts) all) parts.0))
+          (each stmts (right_part Addressed (exprs_of stmt) (flat_map exprs_of stmts) all) parts.1)
 
   -- statements with sums, as they are told of graphs whose flags are folded
   abbrev is_other : Stmt → Bool
@@ -335,19 +438,23 @@ module _ (test : ℕ → Bool) where
   to-others (stmt ∷ stmts) all =
       both (is_other stmt) (list_all is_other stmts)
       (elim (or_cases (stmt_passes test stmt) (takes_frame_sum stmt) (All-head (Told true) stmt stmts all)) [
-        | inl pass ↦ or_right (takes_frame_sum stmt) _ (to-kinds (exprs_of stmt) (each-passes (exprs_of stmt) pass))
+        | inl pass ↦
+            or_right (takes_frame_sum stmt) _
+            (to-kinds (exprs_of stmt) (stmt-addressed stmt (each-passes (accessed stmt) pass)))
         | inr takes ↦ or_left (takes_frame_sum stmt) _ takes
       ]) (to-others stmts (All-tail (Told true) stmt stmts all))
 
-  from-others : (stmts : List Stmt) → list_all is_other stmts ≡ true → All (Told true) stmts
-  from-others [] is = All-nil (Told true)
-  from-others (stmt ∷ stmts) is =
+  from-others : (stmts : List Stmt) → list_all is_other stmts ≡ true → list_all accesses_by_halves stmts ≡ true
+      → All (Told true) stmts
+  from-others [] is loads = All-nil (Told true)
+  from-others (stmt ∷ stmts) is loads =
       let parts = and_parts (is_other stmt) (list_all is_other stmts) is in
+      let here = and_parts (accesses_by_halves stmt) (list_all accesses_by_halves stmts) loads in
       All-cons (Told true) stmt stmts
       (elim (or_cases (takes_frame_sum stmt) (parts_pass kind_passes (exprs_of stmt)) parts.0) [
         | inl takes ↦ or_right (stmt_passes test stmt) (takes_frame_sum stmt) takes
-        | inr pass ↦ passes-told true stmt (from-kinds (exprs_of stmt) pass)
-      ]) (from-others stmts parts.1)
+        | inr pass ↦ passes-told true stmt (stmt-passes stmt (from-kinds (exprs_of stmt) pass) here.0)
+      ]) (from-others stmts parts.1 here.1)
 
   to-other-blocks : (blocks : List Block) → All (IsTold true) blocks → list_all (other_parts kind_passes) blocks ≡ true
   to-other-blocks [] all = refl
@@ -355,25 +462,33 @@ module _ (test : ℕ → Bool) where
       let here = All-head (IsTold true) b blocks all in
       both (other_parts kind_passes b) (list_all (other_parts kind_passes) blocks)
       (both (list_all is_other b.stmts) (parts_pass kind_passes (exit_exprs b.exit)) (to-others b.stmts here.stmts)
-      (to-kinds (exit_exprs b.exit) here.exit))
+      (to-kinds (exit_exprs b.exit) (all-addressed (exit_exprs b.exit) here.exit)))
       (to-other-blocks blocks (All-tail (IsTold true) b blocks all))
 
-  from-other-blocks : (blocks : List Block) → list_all (other_parts kind_passes) blocks ≡ true → All (IsTold true) blocks
-  from-other-blocks [] is = All-nil (IsTold true)
-  from-other-blocks (b ∷ blocks) is =
+  from-other-blocks : (blocks : List Block) → list_all (other_parts kind_passes) blocks ≡ true
+      → list_all block_by_halves blocks ≡ true → All (IsTold true) blocks
+  from-other-blocks [] is loads = All-nil (IsTold true)
+  from-other-blocks (b ∷ blocks) is loads =
       let parts = and_parts (other_parts kind_passes b) (list_all (other_parts kind_passes) blocks) is in
       let here = and_parts (list_all is_other b.stmts) (parts_pass kind_passes (exit_exprs b.exit)) parts.0 in
+      let later = and_parts (block_by_halves b) (list_all block_by_halves blocks) loads in
+      let own = and_parts (list_all accesses_by_halves b.stmts) (list_all loads_by_halves (exit_exprs b.exit)) later.0 in
       All-cons (IsTold true) b blocks
-      (record { stmts = from-others b.stmts here.0; exit = from-kinds (exit_exprs b.exit) here.1 })
-      (from-other-blocks blocks parts.1)
+      (record {
+        stmts = from-others b.stmts here.0 own.0;
+        exit = both-pass (exit_exprs b.exit) (from-kinds (exit_exprs b.exit) here.1) own.1;
+      })
+      (from-other-blocks blocks parts.1 later.1)
 
   folded-told : (sums : Bool) (before after : Graph) → KindsStay before after → AllTold sums before → AllTold sums after
   folded-told true before after kinds all =
       from-other-blocks after.blocks
       (kinds.others kind_passes (λ f. refl) (λ n. refl) (to-other-blocks before.blocks all))
+      (kinds.accesses (by-halves true before.blocks all))
   folded-told false before after kinds all =
-      passes-graph after.blocks (from-kinds (graph_exprs after)
-      (kinds.parts kind_passes (λ f. refl) (λ n. refl) (to-kinds (graph_exprs before) (graph-passes before.blocks all))))
+      addressed-graph after.blocks (from-kinds (graph_exprs after)
+      (kinds.parts kind_passes (λ f. refl) (λ n. refl) (to-kinds (graph_exprs before) (graph-addressed before.blocks all))))
+      (kinds.accesses (by-halves false before.blocks all))
 
   pub simplified-told : (sums : Bool) (before after : Graph) → IsSimplifiedGraph before after → AllTold sums before
       → AllTold sums after
@@ -386,7 +501,7 @@ module _ (test : ℕ → Bool) where
 
 module _ (told : Option ℕ) where
   abbrev FromParameter : Expr → Type 0
-  FromParameter = Passes (is_told_from told)
+  FromParameter = Addressed (is_told_from told)
 
   none-untold : (es : List Expr) → list_all (is_told_from told) (flat_map addressed_by es) ≡ true
       → list_any (is_address told) es ≡ false
@@ -429,4 +544,4 @@ module _ (told : Option ℕ) where
       (blocks-untold blocks (right_part FromParameter (block_exprs b) (flat_map block_exprs blocks) all))
 
   pub takes-none : (g : Graph) → AllTold (is_told_from told) false g → takes_address told g ≡ false
-  takes-none g all = blocks-untold g.blocks (graph-passes (is_told_from told) g.blocks all)
+  takes-none g all = blocks-untold g.blocks (graph-addressed (is_told_from told) g.blocks all)

@@ -30,6 +30,7 @@ pub mod ExitAddresses
 pub mod GraphAddresses
 pub mod LeftAddresses
 pub mod MovesLaws
+pub mod AccessTexts
 pub mod ArrayTexts
 pub mod TypedLaws
 mod CallExample

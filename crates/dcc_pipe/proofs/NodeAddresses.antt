@@ -3,7 +3,7 @@
 use Rattle.std.proofs.Common.{◌≡◌, ◌≢◌, ℕ, zero, suc, ◌+◌, ◌*◌, ◌<◌, ◌≤◌, Bool, true, false, ◌==◌, ◌&&◌, ◌||◌, inl, inr, List, [], ◌∷◌, ◌++◌, length, map, slice_get, Option, Some, None, refl, sym, ap, ◌∙◌, subst, true≢false, arith}
 use Rattle.std.specs.Prelude.{ℤ, pos, ◌+ℤ◌, ◌-ℤ◌, ◌⊎◌, if◌then◌else◌}
 use Rattle.std.specs.List.{list_all, range_with_len, flat_map}
-use Rattle.std.proofs.lemmas.Bool.{or_parts, or_right}
+use Rattle.std.proofs.lemmas.Bool.{or_parts, or_right, and_parts}
 use Rattle.std.proofs.lemmas.List.Folds.{list_all-append}
 use Rattle.dcc_num.specs.declared.Width.{Width}
 use Rattle.dcc_num.specs.declared.Width.TheVariants.{Byte as byte_width, Word as word_width}
@@ -33,6 +33,8 @@ use Rattle.dcc_stack.proofs.FormOps.{FormOf, moves, unnamed, leaves, copies, sav
 use Rattle.dcc_ir.specs.declared.syntax.BinOp.TheVariants.{Add as AddOp}
 use Rattle.dcc_ir.specs.Tree.{Expr, Const, Get, Binary, Address, Stmt, Set}
 use Rattle.dcc_ir.specs.Passing.{passed}
+use Rattle.dcc_ir.specs.Use.{addresses_of}
+use Rattle.dcc_flags.specs.Accesses.{reads_halves, loads_by_halves}
 use Rattle.dcc_flags.specs.Kinds.{is_frame_sum}
 use Rattle.dcc_ops.specs.declared.place.Computed.{Computed}
 use Rattle.dcc_ops.specs.Computed.{computed_expr}
@@ -49,7 +51,7 @@ use Rattle.dcc_simulation.specs.Statements.{calling, moves_frame, working_stmts,
 use Rattle.dcc_simulation.proofs.FoundOperands.{register-named}
 use Rattle.dcc_simulation.proofs.TabledOperands.{IsRegister, HavePlaces}
 use Rattle.dcc_pipe.proofs.OperationAddresses.{passes, stmt_passes, all_pass, stmt_told, all_told, pass-told, place_passes, appended, stored, mov_passes, op_passes}
-use Rattle.dcc_pipe.proofs.FrameAddresses.{computed-passes, frame-passes, start-passes}
+use Rattle.dcc_pipe.proofs.FrameAddresses.{computed-passes, computed-halves, frame-passes, start-passes}
 
 both : (a b : Bool) → a ≡ true → b ≡ true → (a && b) ≡ true
 both true b e f = f
@@ -206,7 +208,9 @@ module _ (image : Image) (program : Analysed) (entry : ℕ) (q : Procedure) (f :
         by : (b : Bool) → is_bp ea.base ≡ b
             → passes test (computed_expr (if b then sum_in_frame ea else sum_of_registers ea)) ≡ true
         by true is =
-            computed-passes test (sum_in_frame ea) (both (test (distance_of (offset_in_frame ea))) true (told is) refl)
+            computed-passes test (sum_in_frame ea)
+            (both (test (distance_of (offset_in_frame ea)) && true) true
+            (both (test (distance_of (offset_in_frame ea))) true (told is) refl) refl)
         by false is = computed-passes test (sum_of_registers ea) refl
 
     started : (k : ℤ) → StartsExposure image program.layout entry at k → test (distance_of k) ≡ true
@@ -219,8 +223,12 @@ module _ (image : Image) (program : Analysed) (entry : ℕ) (q : Procedure) (f :
             if b then frame_place q w (offset_in_frame ea) else memory w (computed_expr (address_of ea))) ≡ true
         by true is = framed w (offset_in_frame ea)
         by false indirect =
-            address-passes ea (λ base. started (offset_in_frame ea)
-            (by_index stands operand (ap (λ b. b || is_bp ea.index) base) indirect))
+            let e = computed_expr (address_of ea) in
+            both (list_all test (addresses_of e)) (reads_halves e)
+            (and_parts (list_all test (addresses_of e)) (loads_by_halves e)
+            (address-passes ea (λ base. started (offset_in_frame ea)
+            (by_index stands operand (ap (λ b. b || is_bp ea.index) base) indirect)))).0
+            (computed-halves (address_of ea))
 
     operand-passes : (a : Operand) → is_sp_or_bp a ≡ false
         → ((w : Width) (ea : Ea) → memory_of a ≡ Some (w, ea) → memory_operand op ≡ Some (w, ea))
@@ -311,8 +319,9 @@ module _ (image : Image) (program : Analysed) (entry : ℕ) (q : Procedure) (f :
         (operand_place q height (Word Bp))
         (ap (place_passes test) (sym (register-named q height is.to is.general)))
         (computed-passes test (from_frame (pos 2 -ℤ pos height) (pos height -ℤ pos 2))
-        (both _ true (started (pos 2 -ℤ pos height)
-        (by_copy stands copied (has-height program.layout.cpu image program file entry at before (pos height) here))) refl)))
+        (both (test (distance_of (pos 2 -ℤ pos height)) && true) true
+        (both (test (distance_of (pos 2 -ℤ pos height))) true (started (pos 2 -ℤ pos height)
+        (by_copy stands copied (has-height program.layout.cpu image program file entry at before (pos height) here))) refl) refl)))
 
     still-passes : (cpu : Cpu) (procedures : List Procedure) (node : Node) → node.instr.op ≡ op → is_sp_move op ≡ false
         → HavePlaces op → all_pass test (node_stmts cpu procedures q height node) ≡ true

@@ -1,4 +1,5 @@
--- The statements of an operation take no address but those of its operands' places.
+-- The statements of an operation take no address but those of its operands' places, and load, fetch and store by no
+-- temporary and by no flag.
 use Rattle.std.proofs.Common.{◌≡◌, ◌∙◌, ℕ, Bool, true, false, ◌&&◌, ◌||◌, if◌then◌else◌, List, [], ◌∷◌, ◌++◌, Option, refl}
 use Rattle.std.specs.Prelude.{◌/◌, ◌%◌}
 use Rattle.std.specs.List.{list_all}
@@ -27,8 +28,9 @@ use Rattle.dcc_prog.specs.Wanted.{is_zeroing}
 use Rattle.dcc_ir.specs.declared.syntax.Loc.{Loc}
 use Rattle.dcc_ir.specs.declared.syntax.BinOp.{BinOp}
 use Rattle.dcc_ir.specs.declared.syntax.BinOp.TheVariants.{DivU, DivS, RemU, RemS}
-use Rattle.dcc_ir.specs.Tree.{Expr, Const, Get, Part, Stmt, Set}
-use Rattle.dcc_ir.specs.Use.{addresses_of, exprs_of}
+use Rattle.dcc_ir.specs.Tree.{Expr, Const, Get, Load, Part, Address, Stmt, Set}
+use Rattle.dcc_ir.specs.Use.{addresses_of}
+use Rattle.dcc_flags.specs.Accesses.{loads_by_halves, accessed}
 use Rattle.dcc_flags.specs.Kinds.{takes_frame_sum}
 use Rattle.dcc_ops.proofs.DosStatements.{dos_all}
 use Rattle.dcc_ops.proofs.ShiftCounts.{HoldsByEach, holds_by_count}
@@ -42,13 +44,13 @@ both : (a b : Bool) → a ≡ true → b ≡ true → (a && b) ≡ true
 both true b e f = f
 both false b e f = e
 
--- The addresses that are taken pass a test.
+-- The addresses that are taken pass a test, and what is loaded or stored at is told from halves of registers and cells.
 module _ (test : ℕ → Bool) where
   abbrev pub passes : Expr → Bool
-  passes e = list_all test (addresses_of e)
+  passes e = list_all test (addresses_of e) && loads_by_halves e
 
   abbrev pub stmt_passes : Stmt → Bool
-  stmt_passes stmt = list_all passes (exprs_of stmt)
+  stmt_passes stmt = list_all passes (accessed stmt)
 
   abbrev pub all_pass : List Stmt → Bool
   all_pass stmts = list_all stmt_passes stmts
@@ -72,10 +74,10 @@ module _ (test : ℕ → Bool) where
   told-appended sums stmts others p q =
       list_all-append (stmt_told sums) stmts others ∙ both (all_told sums stmts) (all_told sums others) p q
 
-  -- the addresses that a place has pass
+  -- the addresses that a place has pass, and memory is accessed by halves
   abbrev pub place_passes : Place → Bool
-  place_passes (memory w at) = passes at
-  place_passes (address distance) = test distance && true
+  place_passes (memory w at) = passes (Load (bits_of w) at)
+  place_passes (address distance) = passes (Address distance)
   place_passes (computed e) = passes e
   place_passes place = true
 
@@ -90,8 +92,8 @@ module _ (test : ℕ → Bool) where
   taken to (constant w n) is = refl
   taken to (byte location) is = refl
   taken to (word low high) is = refl
-  taken to (memory w at) is = both (passes at) true is refl
-  taken to (address distance) is = both (test distance && true) true is refl
+  taken to (memory w at) is = both (passes (Load (bits_of w) at)) true is refl
+  taken to (address distance) is = both (passes (Address distance)) true is refl
   taken to (computed e) is = both (passes e) true is refl
 
   pub stored : (p : Place) (e : Expr) → place_passes p ≡ true → passes e ≡ true → all_pass (storing p e) ≡ true
@@ -101,7 +103,8 @@ module _ (test : ℕ → Bool) where
       both (passes e && true) ((passes e && true) && true) (both (passes e) true made refl)
       (both (passes e && true) true (both (passes e) true made refl) refl)
   stored (memory w at) e is made =
-      both (passes at && (passes e && true)) true (both (passes at) (passes e && true) is (both (passes e) true made refl)) refl
+      let load = Load (bits_of w) at in
+      both (passes load && (passes e && true)) true (both (passes load) (passes e && true) is (both (passes e) true made refl)) refl
   stored (address distance) e is made = refl
   stored (computed sum) e is made = refl
 

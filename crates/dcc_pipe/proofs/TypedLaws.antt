@@ -32,6 +32,7 @@ use Rattle.dcc_pipe.specs.Prepared.{IsPrepared}
 use Rattle.dcc_pipe.specs.WholeText.{whole_text}
 use Rattle.dcc_pipe.specs.Standing.{IsLocated, StandsForProcedure}
 use Rattle.dcc_pipe.specs.TypedFrames.{argument_class, param_classes, moves_sp, procedure_names, is_only_addressed, HasArrayOf, exposed, for_moves, HasTypedFrame, AreTypedFrames}
+use Rattle.dcc_pipe.proofs.AccessTexts.{never-accessed}
 use Rattle.dcc_pipe.proofs.ArrayTexts.{only-addressed}
 use Rattle.dcc_pipe.proofs.FunctionTables.{IsOne, all-numbered}
 use Rattle.dcc_pipe.proofs.LeftAddresses.{AllTold, takes-none}
@@ -119,7 +120,8 @@ module _ (p : Procedure) (g : Graph) (stands : StandsForProcedure p g) where
         others = length stands.others;
         params = ap (λ (h : Function). map (λ (v : Variable). v.class) h.params) number.is ∙ params-classes;
         bytes = bytes;
-        array = array-of f.body moves (λ all. only-addressed g formed few all f is);
+        array = array-of f.body moves (λ all.
+            only-addressed g formed few f.body (λ n named. never-accessed g formed few n named all f is) all f is refl);
         locals = ap (λ (h : Function). autos h.locals) number.is
             ∙ locals-auto (function_shape g) (filter (is_own g) (function_shape g).locations) bytes;
         addresses = one-unplaced g f is few;

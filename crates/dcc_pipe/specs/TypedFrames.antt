@@ -18,11 +18,13 @@ use Rattle.dcc_simulation.specs.Nodes.{procedures_in}
 use Rattle.dcc_c.specs.declared.syntax.Class.{Class}
 use Rattle.dcc_c.specs.declared.syntax.Class.TheVariants.{Plain, Auto, Register}
 use Rattle.dcc_c.specs.declared.syntax.CBin.TheVariants.{Add}
+use Rattle.dcc_c.specs.declared.syntax.CUn.TheVariants.{Deref}
 use Rattle.dcc_c.specs.Grammar.{is_among}
 use Rattle.dcc_c.specs.Parts.{exprs_of, stmts_in}
 use Rattle.dcc_c.specs.Placement.{is_auto, takes_address}
 use Rattle.dcc_c.specs.Token.{same_bytes}
-use Rattle.dcc_c.specs.Tree.{Word, Expr, Number, Name, Binary, Cast, Stmt, Assign, Lines, Variable, Function, Tree}
+use Rattle.dcc_c.specs.Tree.{Word, Expr, Number, Name, Unary, Binary, Conditional, Cast, Stmt, Assign, Lines}
+use Rattle.dcc_c.specs.Tree.{Variable, Function, Tree}
 use Rattle.dcc_text.specs.Names.{names_in}
 use Rattle.dcc_variables.specs.Functions.{function_name}
 use Rattle.dcc_variables.specs.Variables.{frame_name, frame_array}
@@ -52,17 +54,33 @@ is_sum_from word (Cast type e) = is_sum_from word e
 is_sum_from word (Binary Add e (Number n base)) = is_sum_from word e
 is_sum_from word e = false
 
--- The statement has the name of an array nowhere but where the array's address, or a sum of that with numbers, is
--- assigned to another variable.
-abbrev pub tells_address : Word → Stmt → Bool
-tells_address word (Assign (Name variable) e) =
-    not (same_bytes word variable) && (is_sum_from word e || not (stands_in word e))
-tells_address word stmt = not (list_any (stands_in word) (exprs_of stmt))
+-- the name stands beneath a `*` of the expression
+abbrev pub stands_beneath : Word → Expr → Bool
+stands_beneath word (Number n base) = false
+stands_beneath word (Name other) = false
+stands_beneath word (Unary Deref e) = stands_in word e
+stands_beneath word (Unary operator e) = stands_beneath word e
+stands_beneath word (Binary operator a b) = stands_beneath word a || stands_beneath word b
+stands_beneath word (Conditional a b c) = stands_beneath word a || (stands_beneath word b || stands_beneath word c)
+stands_beneath word (Cast type e) = stands_beneath word e
+
+-- a statement of the body loads or stores by the name: the name stands beneath a `*`
+abbrev pub is_accessed_by : Lines → Word → Bool
+is_accessed_by body word = list_any (λ stmt. list_any (stands_beneath word) (exprs_of stmt)) (stmts_in body)
+
+-- The statement of the body has the name of an array nowhere but where the array's address, or a sum of that with
+-- numbers, is assigned to another variable, by which the body loads and stores nothing.
+abbrev pub tells_address : Word → Lines → Stmt → Bool
+tells_address word body (Assign (Name variable) e) =
+    not (same_bytes word variable)
+    && ((is_sum_from word e && not (is_accessed_by body variable)) || not (stands_in word e))
+tells_address word body stmt = not (list_any (stands_in word) (exprs_of stmt))
 
 -- All that the body does with the array of a name is to assign its address, and sums of that with numbers, to other
--- variables: the name stands beneath no `*`, in no place that is assigned to, and in no call, test or return.
+-- variables, which stand beneath no `*`: the name itself stands beneath no `*` either, in no place that is assigned to,
+-- and in no call, test or return.
 abbrev pub is_only_addressed : Word → Lines → Bool
-is_only_addressed word body = list_all (tells_address word) (stmts_in body)
+is_only_addressed word body = list_all (tells_address word body) (stmts_in body)
 
 -- Arrays.
 
