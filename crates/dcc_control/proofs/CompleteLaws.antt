@@ -1,15 +1,16 @@
 -- A completed plan is a plan of the same graph.
-use Rattle.std.proofs.Common.{◌≡◌, ℕ, suc, Bool, true, false, ◌==◌, [], ◌∷◌, ◌++◌, refl, sym, ap, ap₂, ◌∙◌, subst, true≢false}
+use Rattle.std.proofs.Common.{◌≡◌, ℕ, Bool, true, false, ◌==◌, [], ◌∷◌, ◌++◌, refl, sym, ap, ap₂, ◌∙◌, subst, true≢false}
 use Rattle.std.specs.Prelude.{max, ◌||◌, if◌then◌else◌}
 use Rattle.std.proofs.lemmas.Bool.{or_left, or_right, eq-eqb}
 use Rattle.std.proofs.lemmas.List.Folds.{list_any-append}
 use Rattle.dcc_ir.specs.Tree as inner
 use Rattle.dcc_ir.specs.WellFormed.{all_differ}
 use Rattle.dcc_control.specs.Complete.{completed_item, after_last, completed, CompletePlansAreValid}
-use Rattle.dcc_control.specs.Plan.{Item, Do, Mark, Jump, If, Switch, Return, For, Break, Continue, Plan, no_items, item, no_arms, arm, marks, item_marks, turns, item_turns, is_in, is_marked, is_begun, arm_with, nests, item_nests}
+use Rattle.dcc_control.specs.Plan.{Item, Do, Mark, Jump, If, Switch, Return, For, While, DoWhile, Break, Continue, Plan, no_items, item, no_arms, arm, marks, item_marks, turns, item_turns, is_in, is_marked, is_begun, nests, item_nests}
 use Rattle.dcc_control.specs.Laws.{CompletePlansNestAlike}
 use Rattle.dcc_control.proofs.WeakerLaws.{follows-still}
-use Rattle.dcc_control.specs.Valid.{Point, Begin, Before, Nowhere, Leads, is_there, begins, goes, stops, Context, outside, item_entry, entry, turn, IsValid, IsValidItem, AreValidArms}
+use Rattle.dcc_control.proofs.MovedLaws.{moved}
+use Rattle.dcc_control.specs.Valid.{Point, Begin, Nowhere, Leads, is_there, begins, goes, stops, Context, outside, item_entry, entry, IsValid, IsValidItem}
 
 -- A completed plan has the labels and the turns of the plan.
 
@@ -22,6 +23,8 @@ item-marks-same (Switch b no_arms) = refl
 item-marks-same (Switch b (arm cases body arms)) = refl
 item-marks-same (Return b) = refl
 item-marks-same (For b body) = refl
+item-marks-same (While on b body) = refl
+item-marks-same (DoWhile on b head body) = refl
 item-marks-same Break = refl
 item-marks-same Continue = refl
 
@@ -34,6 +37,8 @@ item-turns-same (Switch b no_arms) = refl
 item-turns-same (Switch b (arm cases body arms)) = refl
 item-turns-same (Return b) = refl
 item-turns-same (For b body) = refl
+item-turns-same (While on b body) = refl
+item-turns-same (DoWhile on b head body) = refl
 item-turns-same Break = refl
 item-turns-same Continue = refl
 
@@ -46,6 +51,8 @@ after-marks (If b one other) = refl
 after-marks (Switch b arms) = refl
 after-marks (Return b) = refl
 after-marks (For b body) = refl
+after-marks (While on b body) = refl
+after-marks (DoWhile on b head body) = refl
 after-marks Break = refl
 after-marks Continue = refl
 
@@ -57,6 +64,8 @@ after-turns (If b one other) = refl
 after-turns (Switch b arms) = refl
 after-turns (Return b) = refl
 after-turns (For b body) = refl
+after-turns (While on b body) = refl
+after-turns (DoWhile on b head body) = refl
 after-turns Break = refl
 after-turns Continue = refl
 
@@ -84,6 +93,8 @@ item-nests-same (Switch b no_arms) = refl
 item-nests-same (Switch b (arm cases body arms)) = refl
 item-nests-same (Return b) = refl
 item-nests-same (For b body) = refl
+item-nests-same (While on b body) = refl
+item-nests-same (DoWhile on b head body) = refl
 item-nests-same Break = refl
 item-nests-same Continue = refl
 
@@ -95,6 +106,8 @@ after-nests (If b one other) = refl
 after-nests (Switch b arms) = refl
 after-nests (Return b) = refl
 after-nests (For b body) = refl
+after-nests (While on b body) = refl
+after-nests (DoWhile on b head body) = refl
 after-nests Break = refl
 after-nests Continue = refl
 
@@ -126,6 +139,8 @@ module _ (graph : inner.Graph) where
   item-entry-same (Switch b (arm cases body arms)) c = refl
   item-entry-same (Return b) c = refl
   item-entry-same (For b body) c = refl
+  item-entry-same (While on b body) c = refl
+  item-entry-same (DoWhile on b head body) c = refl
   item-entry-same Break c = refl
   item-entry-same Continue c = refl
 
@@ -133,43 +148,6 @@ module _ (graph : inner.Graph) where
   entry-same no_items c = refl
   entry-same (item i no_items) c = item-entry-same i c
   entry-same (item i (item next plan)) c = item-entry-same i c
-
-  -- Valid items stay valid before what has the same entry.
-  module _ (whole : Plan) (plan after : Plan) (c : Context) (same : entry graph plan c ≡ entry graph after c) where
-    abbrev begun : ℕ → Bool
-    begun = is_begun whole
-
-    moved : (i : Item) → IsValidItem graph whole i plan c → IsValidItem graph whole i after c
-    moved (Do b m) (inside, there, l) = (inside, there, subst (Leads graph begun (Before b (suc m))) same l)
-    moved (Mark b) (inside, l) = (inside, subst (Leads graph begun (Before b 0)) same l)
-    moved (Jump b) v = v
-    moved (If b one two) (test, yes_place, no_place, exit, inside, first, first_valid, second, second_valid) = (
-      test,
-      yes_place,
-      no_place,
-      exit,
-      inside,
-      subst (λ p. Leads graph begun (Begin yes_place) (entry graph one (record c { next = p }))) same first,
-      subst (λ p. IsValid graph whole one (record c { next = p })) same first_valid,
-      subst (λ p. Leads graph begun (Begin no_place) (entry graph two (record c { next = p }))) same second,
-      subst (λ p. IsValid graph whole two (record c { next = p })) same second_valid,
-    )
-    moved (Switch b arms) (e, places, exit, inside, lead, valid) = (
-      e,
-      places,
-      exit,
-      inside,
-      λ n place at. subst (λ p. Leads graph begun (Begin place) (entry graph (arm_with n arms) (record { next = p; at_break = p; at_continue = c.at_continue }))) same (lead n place at),
-      subst (λ p. AreValidArms graph whole arms (record { next = p; at_break = p; at_continue = c.at_continue })) same valid,
-    )
-    moved (Return b) v = v
-    moved (For b body) (inside, l, valid) = (
-      inside,
-      subst (λ p. Leads graph begun (turn b body) (entry graph body (record { next = Begin b; at_break = p; at_continue = Begin b }))) same l,
-      subst (λ p. IsValid graph whole body (record { next = Begin b; at_break = p; at_continue = Begin b })) same valid,
-    )
-    moved Break v = tt
-    moved Continue v = tt
 
   -- an empty arm is valid
   item-completed : (whole : Plan) (i : Item) (plan : Plan) (c : Context) → IsValidItem graph whole i plan c → IsValidItem graph whole (completed_item i) plan c
@@ -187,6 +165,8 @@ module _ (graph : inner.Graph) where
   item-completed whole (Switch b (arm cases body arms)) plan c v = v
   item-completed whole (Return b) plan c v = v
   item-completed whole (For b body) plan c v = v
+  item-completed whole (While on b body) plan c v = v
+  item-completed whole (DoWhile on b head body) plan c v = v
   item-completed whole Break plan c v = v
   item-completed whole Continue plan c v = v
 
@@ -201,6 +181,8 @@ module _ (graph : inner.Graph) where
     last-valid (Switch b arms) among v = (item-completed whole (Switch b arms) no_items outside v, tt)
     last-valid (Return b) among v = (v, tt)
     last-valid (For b body) among v = (v, tt)
+    last-valid (While on b body) among v = (v, tt)
+    last-valid (DoWhile on b head body) among v = (v, tt)
     last-valid Break among v = (v, tt)
     last-valid Continue among v = (v, tt)
 
@@ -208,7 +190,7 @@ module _ (graph : inner.Graph) where
     all-valid no_items among v = tt
     all-valid (item i no_items) among v = last-valid i (λ b is. among b (list_any-append (λ a. a == b) (item_marks i) [] ∙ or_left (is_in b (item_marks i)) false is)) v.0
     all-valid (item i (item next plan)) among v = (
-      moved whole (item next plan) (completed (item next plan)) outside (sym (entry-same (item next plan) outside)) (completed_item i)
+      moved graph (is_begun whole) (is_marked whole) (item next plan) (completed (item next plan)) outside Nowhere Nowhere (sym (entry-same (item next plan) outside)) (completed_item i)
           (item-completed whole i (item next plan) outside v.0),
       all-valid (item next plan) (λ b is. among b (list_any-append (λ a. a == b) (item_marks i) (marks (item next plan)) ∙ or_right (is_in b (item_marks i)) (is_in b (marks (item next plan))) is)) v.1,
     )

@@ -9,7 +9,7 @@ use Rattle.dcc_ir.specs.Run.{no_block}
 use Rattle.dcc_ir.specs.Tree as inner
 use Rattle.dcc_ir.specs.WellFormed.{is_stmt, is_expr_of, is_exit, is_block, all_differ, IsGraph}
 use Rattle.dcc_ir.proofs.ReachedLaws.{contained, all_at}
-use Rattle.dcc_control.specs.Plan.{Plan, marks, arm_marks, is_in, is_marked, is_begun, arm_with}
+use Rattle.dcc_control.specs.Plan.{Plan, marks, arm_marks, turns, is_in, is_marked, is_begun, arm_with}
 use Rattle.dcc_control.specs.Valid.{Point, Begin, Before, Leads, is_there, goes, stops, Context, outside, entry, end_of, in_sides, in_arms, IsValid, AreValidArms, Follows, IsPlanOf, BeginsAll}
 use Rattle.dcc_control.specs.GotoPlan.{jump, do_all, distinct, places_from, target_arms, goto_exit, goto_blocks, goto_plan}
 use Rattle.dcc_control.specs.Laws.{GotoPlanIsValid}
@@ -127,6 +127,8 @@ unfolding range
 goto-marks b [] = refl
 goto-marks b (block ∷ blocks) =
     ap (λ ms. b ∷ ms) (do-marks b 0 block.stmts (goto_exit b block.exit (goto_blocks (suc b) blocks)) ∙ exit-marks b block.exit (goto_blocks (suc b) blocks) ∙ goto-marks (suc b) blocks)
+
+-- Their numbers.
 
 in-range : (blocks : List inner.Block) (b a : ℕ) → b ≤ a → a < b + length blocks → is_in a (range b blocks) ≡ true
 unfolding range
@@ -251,7 +253,7 @@ module _ (graph : inner.Graph) (well : IsGraph graph) where
   }
 
   begins-all : BeginsAll graph whole
-  begins-all b less = or_left (is_in b (marks whole)) _ (marked b less)
+  begins-all b less = or_left (is_marked whole b) (is_in b (turns whole)) (marked b less)
 
 pub goto-valid : GotoPlanIsValid
 goto-valid graph well = (goto-is graph well, begins-all graph well)

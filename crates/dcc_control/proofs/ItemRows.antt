@@ -1,9 +1,9 @@
 -- The plans of items with others inside, as the lists of these give them.
-use Rattle.std.proofs.Common.{◌≡◌, ℕ, List, [], ◌∷◌, ◌++◌, Vec, Global, refl, sym, ap, ap₂, ◌∙◌}
+use Rattle.std.proofs.Common.{◌≡◌, ℕ, Bool, List, [], ◌∷◌, ◌++◌, Vec, Global, refl, sym, ap, ap₂, ◌∙◌}
 use mathlib.Core.Former.{Count}
-use Rattle.dcc_control.specs.declared.item.Item.{Item as TheItem, If as IfOf, If', Switch as SwitchOf, Switch', For as ForOf, For', Row_of-Item, end_of-Item, more_of-Item, Row_of-Arm, end_of-Arm, more_of-Arm, items-the_row-Item, items-the_row-Arm, items_hidden-the_row-Item-0, items_hidden-the_row-Arm-1, items_shown-the_row-Item-0}
+use Rattle.dcc_control.specs.declared.item.Item.{Item as TheItem, If as IfOf, If', Switch as SwitchOf, Switch', For as ForOf, For', While as WhileOf, While', DoWhile as DoWhileOf, DoWhile', Row_of-Item, end_of-Item, more_of-Item, Row_of-Arm, end_of-Arm, more_of-Arm, items-the_row-Item, items-the_row-Arm, items_hidden-the_row-Item-0, items_hidden-the_row-Arm-1, items_shown-the_row-Item-0}
 use Rattle.dcc_control.specs.declared.item.Arm.{Arm as TheArm}
-use Rattle.dcc_control.specs.Plan.{If, Switch, For, Plan, item, Arms, no_arms, arm}
+use Rattle.dcc_control.specs.Plan.{If, Switch, For, While, DoWhile, Plan, item, Arms, no_arms, arm}
 use Rattle.dcc_control.specs.Views.{item_of, plan_before, plan_of, plan_of_row, arms_of, arms_of_row}
 
 row-items : {n : _} (row : Row_of-Item n) → plan_of (items-the_row-Item n row) ≡ plan_of_row row
@@ -19,6 +19,8 @@ row-arms (more_of-Arm cases k body rest) =
 abbrev first_row : TheItem → (n : Count) × Row_of-Item n
 first_row (If' b _ one _ other) = (_, one)
 first_row (For' b _ body) = (_, body)
+first_row (While' on b _ body) = (_, body)
+first_row (DoWhile' on b head _ body) = (_, body)
 first_row _ = (_, end_of-Item)
 
 abbrev second_row : TheItem → (n : Count) × Row_of-Item n
@@ -47,6 +49,12 @@ switch-item b arms = ap (Switch b) (hidden-arms (arm_row (SwitchOf b arms)).1 ar
 
 pub for-item : (b : ℕ) (body : Vec TheItem Global) → item_of (ForOf b body) ≡ For b (plan_of body.items)
 for-item b body = ap (For b) (hidden-items (first_row (ForOf b body)).1 body.items (items_hidden-the_row-Item-0 body))
+
+pub while-item : (on : Bool) (b : ℕ) (body : Vec TheItem Global) → item_of (WhileOf on b body) ≡ While on b (plan_of body.items)
+while-item on b body = ap (While on b) (hidden-items (first_row (WhileOf on b body)).1 body.items (items_hidden-the_row-Item-0 body))
+
+pub do-item : (on : Bool) (b head : ℕ) (body : Vec TheItem Global) → item_of (DoWhileOf on b head body) ≡ DoWhile on b head (plan_of body.items)
+do-item on b head body = ap (DoWhile on b head) (hidden-items (first_row (DoWhileOf on b head body)).1 body.items (items_hidden-the_row-Item-0 body))
 
 -- Lists of items.
 

@@ -1,5 +1,11 @@
 pub mod ListLaws
 pub mod WeakerLaws
+pub mod MovedLaws
+pub mod CalmLaws
+pub mod StartLaws
+pub mod ToldShapes
+pub mod ToldLaws
+pub mod ToldSteps
 pub mod GotoLaws
 pub mod CompleteLaws
 pub mod Examples

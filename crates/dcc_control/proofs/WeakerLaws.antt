@@ -1,15 +1,25 @@
 -- Plans stay valid where fewer blocks are begun and more are marked.
-use Rattle.std.proofs.Common.{ℕ, Bool, true, false, sym, ◌∙◌, true≢false}
-use Rattle.std.proofs.lemmas.Bool.{false_from_ne_true}
+use Rattle.std.proofs.Common.{◌≡◌, ℕ, inl, inr, Bool, false, sym, ap, ◌∙◌}
+use Rattle.std.specs.Prelude.{◌&&◌}
+use Rattle.std.proofs.lemmas.Bool.{cases_Bool}
+use Rattle.dcc_ir.specs.Live.{block_in}
 use Rattle.dcc_ir.specs.Tree as inner
 use Rattle.dcc_control.specs.Laws.{LiesIn, WeakerBegun}
-use Rattle.dcc_control.specs.Plan.{Item, Do, Mark, Jump, If, Switch, Return, For, Break, Continue, Plan, no_items, item, Arms, no_arms, arm}
-use Rattle.dcc_control.specs.Valid.{Point, Leads, is_there, begins, goes, stops, Context, IsValidBy, IsValidItemBy, AreValidArmsBy}
+use Rattle.dcc_control.specs.Plan.{Item, Do, Mark, Jump, If, Switch, Return, For, While, DoWhile, Break, Continue, Plan, no_items, item, Arms, no_arms, arm}
+use Rattle.dcc_control.specs.Valid.{Point, Leads, is_there, begins, goes, stops, Context, only_goes, only_begins, IsValidBy, IsValidItemBy, AreValidArmsBy}
 
 module _ (graph : inner.Graph) (begun fewer marked more : ℕ → Bool) (less : LiesIn fewer begun) (greater : LiesIn marked more) where
+  silent-still : (b : ℕ) → only_begins graph begun b ≡ false → only_begins graph fewer b ≡ false
+  silent-still b silent =
+      let passes : Bool = only_goes (block_in graph b).stmts (block_in graph b).exit in
+      elim (cases_Bool (fewer b)) [
+        | inl is ↦ ap (λ x. x && passes) is ∙ sym (ap (λ x. x && passes) (less b is)) ∙ silent
+        | inr none ↦ ap (λ x. x && passes) none
+      ]
+
   pub leads-still : {p q : Point} → Leads graph begun p q → Leads graph fewer p q
   leads-still is_there = is_there
-  leads-still (begins {b = b} apart l) = begins (false_from_ne_true (fewer b) (λ is. true≢false (sym (less b is) ∙ apart))) (leads-still l)
+  leads-still (begins {b = b} apart l) = begins (silent-still b apart) (leads-still l)
   leads-still (goes at is l) = goes at is (leads-still l)
   leads-still (stops at is) = stops at is
 
@@ -28,6 +38,10 @@ module _ (graph : inner.Graph) (begun fewer marked more : ℕ → Bool) (less : 
         (e, places, exit, inside, λ n place at. leads-still (lead n place at), arms-still arms _ valid)
     item-still (Return b) plan c v = v
     item-still (For b body) plan c (inside, l, valid) = (inside, leads-still l, still body _ valid)
+    item-still (While on b body) plan c (test, yes_place, no_place, exit, inside, none, l, valid, leaves) =
+        (test, yes_place, no_place, exit, inside, none, leads-still l, still body _ valid, leads-still leaves)
+    item-still (DoWhile on b head body) plan c (test, yes_place, no_place, exit, inside, head_inside, starts, first, again, valid, leaves) =
+        (test, yes_place, no_place, exit, inside, head_inside, starts, leads-still first, leads-still again, still body _ valid, leads-still leaves)
     item-still Break plan c v = tt
     item-still Continue plan c v = tt
 

@@ -1,6 +1,6 @@
 -- The control of a text: where the statements and the ends of a graph's blocks stand in it, and where it jumps. Blocks
 -- are named by their places in the graph, statements by their places in the block.
-use Rattle.std.specs.Prelude.{ℕ, suc, max, ◌==◌, Bool, ◌||◌, if◌then◌else◌, List, [], ◌∷◌, ◌++◌}
+use Rattle.std.specs.Prelude.{ℕ, suc, max, ◌==◌, Bool, false, ◌||◌, if◌then◌else◌, List, [], ◌∷◌, ◌++◌}
 use Rattle.std.specs.List.{list_any}
 
 mutual
@@ -18,6 +18,10 @@ mutual
     Return : ℕ → Item
     -- a loop without a test, each turn of which begins a block
     For : ℕ → Plan → Item
+    -- a loop that tests first, at the end of the block: it goes on where the test comes to that truth value
+    While : Bool → ℕ → Plan → Item
+    -- a loop that tests last, at the end of the first block; each turn begins the second one
+    DoWhile : Bool → ℕ → ℕ → Plan → Item
     Break : Item
     Continue : Item
 
@@ -42,6 +46,8 @@ abbrev mutual
   item_marks (If b one other) = marks one ++ marks other
   item_marks (Switch b arms) = arm_marks arms
   item_marks (For b body) = marks body
+  item_marks (While on b body) = marks body
+  item_marks (DoWhile on b head body) = marks body
   item_marks _ = []
 
   pub arm_marks : Arms → List ℕ
@@ -49,7 +55,7 @@ abbrev mutual
   arm_marks (arm cases body arms) = marks body ++ arm_marks arms
 
 abbrev mutual
-  -- the blocks that turns of loops begin
+  -- the blocks that turns of loops without a test begin
   pub turns : Plan → List ℕ
   turns no_items = []
   turns (item i plan) = item_turns i ++ turns plan
@@ -58,6 +64,8 @@ abbrev mutual
   item_turns (If b one other) = turns one ++ turns other
   item_turns (Switch b arms) = arm_turns arms
   item_turns (For b body) = b ∷ turns body
+  item_turns (While on b body) = turns body
+  item_turns (DoWhile on b head body) = turns body
   item_turns _ = []
 
   pub arm_turns : Arms → List ℕ
@@ -72,9 +80,26 @@ is_in b bs = list_any (λ a. a == b) bs
 abbrev pub is_marked : Plan → ℕ → Bool
 is_marked plan b = is_in b (marks plan)
 
--- the text has a step where the block begins: its label, or a turn of a loop
+-- the text has a step where the block begins: its label, or a turn of a loop without a test
 abbrev pub is_begun : Plan → ℕ → Bool
 is_begun plan b = is_marked plan b || is_in b (turns plan)
+
+-- the item is a statement, a test or a choice of the block
+abbrev pub is_of : ℕ → Item → Bool
+is_of b (Do a m) = a == b
+is_of b (If a one other) = a == b
+is_of b (Switch a arms) = a == b
+is_of b _ = false
+
+-- the first of these items is a statement, a test or a choice of the block
+abbrev pub starts_with : ℕ → Plan → Bool
+starts_with b no_items = false
+starts_with b (item i plan) = is_of b i
+
+-- the items of one plan, and then those of another
+abbrev pub joined : Plan → Plan → Plan
+joined no_items after = after
+joined (item i plan) after = item i (joined plan after)
 
 -- what the arm with this case holds; nothing where there is none
 abbrev pub arm_with : ℕ → Arms → Plan
@@ -96,6 +121,8 @@ abbrev mutual
   item_nests (If b one other) = suc (max (nests one) (nests other))
   item_nests (Switch b arms) = suc (arms_nest arms)
   item_nests (For b body) = suc (nests body)
+  item_nests (While on b body) = suc (nests body)
+  item_nests (DoWhile on b head body) = suc (nests body)
   item_nests _ = 0
 
   pub arms_nest : Arms → ℕ

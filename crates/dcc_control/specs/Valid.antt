@@ -1,11 +1,12 @@
 -- Valid plans: those whose text is always where the graph is.
-use Rattle.std.specs.Prelude.{◌≡◌, ℕ, suc, ◌<◌, ◌==◌, Bool, true, false, not, ◌||◌, if◌then◌else◌, List, [], length}
+use Rattle.std.specs.Prelude.{◌≡◌, ℕ, suc, ◌<◌, Bool, true, false, not, ◌||◌, ◌&&◌, if◌then◌else◌, List, [], length}
 use Rattle.std.specs.Prelude.{slice_get, Some}
 use Rattle.dcc_ir.specs.Tree as inner
 use Rattle.dcc_ir.specs.Live.{block_in}
 use Rattle.dcc_ir.specs.WellFormed.{all_differ}
-use Rattle.dcc_control.specs.Plan.{Item, Do, Mark, Jump, If, Switch, Return, For, Break, Continue, Plan, no_items, item}
-use Rattle.dcc_control.specs.Plan.{Arms, no_arms, arm, marks, is_marked, is_begun, arm_with}
+use Rattle.dcc_control.specs.Plan.{Item, Do, Mark, Jump, If, Switch, Return, For, While, DoWhile, Break, Continue}
+use Rattle.dcc_control.specs.Plan.{Plan, no_items, item, Arms, no_arms, arm, marks, is_marked, is_begun, starts_with}
+use Rattle.dcc_control.specs.Plan.{arm_with}
 
 -- a point in a graph: where a block begins, or before its statement at a place; after the last one stands its end
 pub data Point : Type 0 where
@@ -18,11 +19,20 @@ pub data Point : Type 0 where
 abbrev pub end_of : inner.Graph → ℕ → Point
 end_of graph b = Before b (length (block_in graph b).stmts)
 
+-- a block of these statements and this end does nothing but go to another
+abbrev pub only_goes : List inner.Stmt → inner.Exit → Bool
+only_goes [] (inner.Goto next) = true
+only_goes _ _ = false
+
+-- The step where the block begins is the only one that the text has for it.
+abbrev pub only_begins : inner.Graph → (ℕ → Bool) → ℕ → Bool
+only_begins graph begun b = begun b && only_goes (block_in graph b).stmts (block_in graph b).exit
+
 -- The run of the graph comes from the first point to the second without a statement, a test or a choice, and without
--- the begin of a block that the text has a step for. No run comes past a Stop, so it may lead anywhere.
+-- the begin of a block for which the text has a step there alone. No run comes past a Stop, so it may lead anywhere.
 pub data Leads (graph : inner.Graph) (begun : ℕ → Bool) : Point → Point → Type 0 where
   is_there : {point : Point} → Leads graph begun point point
-  begins : {b : ℕ} {point : Point} → begun b ≡ false → Leads graph begun (Before b 0) point
+  begins : {b : ℕ} {point : Point} → only_begins graph begun b ≡ false → Leads graph begun (Before b 0) point
       → Leads graph begun (Begin b) point
   goes : {b m next : ℕ} {point : Point} → m ≡ length (block_in graph b).stmts
       → (block_in graph b).exit ≡ inner.Goto next → Leads graph begun (Begin next) point
@@ -40,7 +50,7 @@ pub record Context : Type 0 where
 abbrev pub outside : Context
 outside = record { next = Nowhere; at_break = Nowhere; at_continue = Nowhere }
 
--- the point that an item and a list of items stand for
+-- the point that an item and a list of items stand for; a loop stands after the label of the block that its turns begin
 abbrev pub item_entry : inner.Graph → Item → Context → Point
 item_entry graph (Do b m) c = Before b m
 item_entry graph (Mark b) c = Begin b
@@ -48,7 +58,9 @@ item_entry graph (Jump b) c = Begin b
 item_entry graph (If b one other) c = end_of graph b
 item_entry graph (Switch b arms) c = end_of graph b
 item_entry graph (Return b) c = end_of graph b
-item_entry graph (For b body) c = Begin b
+item_entry graph (For b body) c = Before b 0
+item_entry graph (While on b body) c = Before b 0
+item_entry graph (DoWhile on b head body) c = Before head 0
 item_entry graph Break c = c.at_break
 item_entry graph Continue c = c.at_continue
 
@@ -67,10 +79,13 @@ in_arms graph plan c =
 abbrev pub in_loop : inner.Graph → ℕ → Plan → Context → Context
 in_loop graph b plan c = record { next = Begin b; at_break = entry graph plan c; at_continue = Begin b }
 
--- where the graph is when a turn of the loop begins: past the begin of the block, where its label doesn't come first
-abbrev pub turn : ℕ → Plan → Point
-turn b (item (Mark a) plan) = if a == b then Begin b else Before b 0
-turn b _ = Before b 0
+-- inside a loop that tests last, at the end of the block; `continue` would lead to a test, and stands there nowhere
+abbrev pub in_do : inner.Graph → ℕ → Plan → Context → Context
+in_do graph b plan c = record { next = end_of graph b; at_break = entry graph plan c; at_continue = Nowhere }
+
+-- which way a test goes for a truth value, of its two ways
+abbrev pub way : Bool → ℕ → ℕ → ℕ
+way on if_true if_false = if on then if_true else if_false
 
 -- From each item of a plan the graph leads to what follows the item, and each jump has its label: `begun` tells for
 -- which blocks the text has a step where they begin, `marked` which blocks have a label.
@@ -103,7 +118,22 @@ module _ (graph : inner.Graph) (begun marked : ℕ → Bool) where
         (values : List inner.Expr) × ((block_in graph b).exit ≡ inner.Ret values) × (b < length graph.blocks)
     IsValidItemBy (For b body) plan c =
         let inside = in_loop graph b plan c in
-        (b < length graph.blocks) × Leads graph begun (turn b body) (entry graph body inside) × IsValidBy body inside
+        (b < length graph.blocks) × Leads graph begun (Before b 0) (entry graph body inside) × IsValidBy body inside
+    IsValidItemBy (While on b body) plan c =
+        let inside = in_loop graph b plan c in
+        (test : inner.Expr) × (if_true : ℕ) × (if_false : ℕ)
+        × ((block_in graph b).exit ≡ inner.If test if_true if_false) × (b < length graph.blocks)
+        × ((block_in graph b).stmts ≡ [])
+        × Leads graph begun (Begin (way on if_true if_false)) (entry graph body inside) × IsValidBy body inside
+        × Leads graph begun (Begin (way (not on) if_true if_false)) (entry graph plan c)
+    IsValidItemBy (DoWhile on b head body) plan c =
+        let inside = in_do graph b plan c in
+        (test : inner.Expr) × (if_true : ℕ) × (if_false : ℕ)
+        × ((block_in graph b).exit ≡ inner.If test if_true if_false) × (b < length graph.blocks)
+        × (head < length graph.blocks) × (starts_with head body ≡ true)
+        × Leads graph begun (Before head 0) (entry graph body inside)
+        × Leads graph begun (Begin (way on if_true if_false)) (entry graph body inside) × IsValidBy body inside
+        × Leads graph begun (Begin (way (not on) if_true if_false)) (entry graph plan c)
     IsValidItemBy Break plan c = Unit {0}
     IsValidItemBy Continue plan c = Unit {0}
 
@@ -131,11 +161,6 @@ pub record IsPlanOf (graph : inner.Graph) (plan : Plan) : Type 0 where
   pub starts : Leads graph (is_begun plan) (Begin 0) (entry graph plan outside)
   pub valid : IsValid graph plan plan outside
   pub labels : all_differ (marks plan) ≡ true
-
--- a block of these statements and this end does nothing but go to another
-abbrev pub only_goes : List inner.Stmt → inner.Exit → Bool
-only_goes [] (inner.Goto next) = true
-only_goes _ _ = false
 
 -- the text has a step for the block: where it begins, or else for a statement, a test or a choice
 abbrev pub has_step : inner.Graph → Plan → ℕ → Bool

@@ -1,12 +1,12 @@
 -- The plans that the declared types stand for.
 use Rattle.std.specs.Prelude.{List, [], ◌∷◌}
 use Rattle.dcc_control.specs.declared.item.Item.{Item as TheItem, Do as DoOf, Mark as MarkOf, Jump as JumpOf, If'}
-use Rattle.dcc_control.specs.declared.item.Item.{Switch', Return as ReturnOf, For', Break as BreakOf}
+use Rattle.dcc_control.specs.declared.item.Item.{Switch', Return as ReturnOf, For', While', DoWhile', Break as BreakOf}
 use Rattle.dcc_control.specs.declared.item.Item.{Continue as ContinueOf, Row_of-Item, end_of-Item, more_of-Item}
 use Rattle.dcc_control.specs.declared.item.Item.{Row_of-Arm, end_of-Arm, more_of-Arm}
 use Rattle.dcc_control.specs.declared.item.Arm.{Arm as TheArm}
-use Rattle.dcc_control.specs.Plan.{Item, Do, Mark, Jump, If, Switch, Return, For, Break, Continue, Plan, no_items, item}
-use Rattle.dcc_control.specs.Plan.{Arms, no_arms, arm}
+use Rattle.dcc_control.specs.Plan.{Item, Do, Mark, Jump, If, Switch, Return, For, While, DoWhile, Break, Continue}
+use Rattle.dcc_control.specs.Plan.{Plan, no_items, item, Arms, no_arms, arm}
 
 abbrev mutual
   -- the plan's item
@@ -18,6 +18,8 @@ abbrev mutual
   item_of (Switch' b _ arms) = Switch b (arms_of_row arms)
   item_of (ReturnOf b) = Return b
   item_of (For' b _ body) = For b (plan_of_row body)
+  item_of (While' on b _ body) = While on b (plan_of_row body)
+  item_of (DoWhile' on b head _ body) = DoWhile on b head (plan_of_row body)
   item_of BreakOf = Break
   item_of ContinueOf = Continue
 

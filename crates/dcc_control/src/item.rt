@@ -19,6 +19,10 @@ pub enum Item {
     Return(u32),
     /// A loop without a test, each turn of which begins a block.
     For(u32, Vec<Item>),
+    /// A loop that tests first, at the end of the block, and goes on where the test comes to that truth value.
+    While(bool, u32, Vec<Item>),
+    /// A loop that tests last, at the end of the first block; each turn begins the second one.
+    DoWhile(bool, u32, u32, Vec<Item>),
     /// `break`.
     Break,
     /// `continue`.

@@ -51,7 +51,7 @@ use Rattle.dcc_variables.specs.Functions.{parameter_name, memory_from, function_
 use Rattle.dcc_variables.specs.Variables.{is_told_from}
 use Rattle.dcc_variables.proofs.ParamNames.{spelling-is}
 use Rattle.dcc_variables.proofs.Served.{functions-served}
-use Rattle.dcc_plan.specs.PlanText.{text_of_test, text_of_choice, text_of_return, plan_text}
+use Rattle.dcc_plan.specs.PlanText.{text_of_test, text_of_way, text_of_choice, text_of_return, plan_text}
 use Rattle.dcc_plan.proofs.TextLaws.{numbered-text}
 use Rattle.dcc_pipe.specs.TypedFrames.{stands_in, stands_beneath, is_accessed_by}
 use Rattle.dcc_pipe.specs.WholeText.{control, opened}
@@ -420,6 +420,11 @@ module _ (g : inner.Graph) (formed : IsGraph g) (few : HasFewNames g) (n : ℕ) 
   test-away (inner.Ret values) is named = refl
   test-away inner.Stop is named = refl
 
+  way-away : (on : Bool) (exit : inner.Exit) → list_all loads_by_halves (exit_exprs exit) ≡ true
+      → All Named (exit_exprs exit) → Away (text_of_way s on exit)
+  way-away true exit is named = test-away exit is named
+  way-away false exit is named = test-away exit is named
+
   choice-away : (exit : inner.Exit) → list_all loads_by_halves (exit_exprs exit) ≡ true → All Named (exit_exprs exit)
       → Away (text_of_choice s exit)
   choice-away (inner.Switch e places) is named =
@@ -494,6 +499,10 @@ module _ (g : inner.Graph) (formed : IsGraph g) (few : HasFewNames g) (n : ℕ) 
           (subst (Contains stmts) (get_or_from_slice_get stmts m stmt stmt is)
           (Contains-get_or stmts m stmt (slice_get_within stmts m stmt is)));
       tested = λ b body otherwise. ap (λ c. not (c || false)) (test-away (block_in g b).exit (exit-loads b) (fine b).exit);
+      tested_first = λ b on body.
+          ap (λ c. not (c || false)) (way-away on (block_in g b).exit (exit-loads b) (fine b).exit);
+      tested_last = λ b on body.
+          ap (λ c. not (c || false)) (way-away on (block_in g b).exit (exit-loads b) (fine b).exit);
       chosen = λ b bodies. ap (λ c. not (c || false)) (choice-away (block_in g b).exit (exit-loads b) (fine b).exit);
       returned = λ b. return-clear (block_in g b).exit (exit-loads b) (fine b).exit;
       repeated = λ body. refl;

@@ -50,7 +50,7 @@ use Rattle.dcc_variables.specs.Variables.{shape_of, is_told_from, variable_name,
 use Rattle.dcc_variables.proofs.FramePlaces.{IsToldBy, by_parameter, by_array, place-told, place-then}
 use Rattle.dcc_variables.proofs.Names.{frame-apart}
 use Rattle.dcc_variables.proofs.Served.{functions-served}
-use Rattle.dcc_plan.specs.PlanText.{text_of_test, text_of_choice, text_of_return, plan_text}
+use Rattle.dcc_plan.specs.PlanText.{text_of_test, text_of_way, text_of_choice, text_of_return, plan_text}
 use Rattle.dcc_plan.proofs.TextLaws.{numbered-text}
 use Rattle.dcc_pipe.specs.TypedFrames.{stands_in, is_sum_from, is_accessed_by, tells_address, is_only_addressed}
 use Rattle.dcc_pipe.specs.WholeText.{control, opened}
@@ -431,6 +431,10 @@ module _ (g : inner.Graph) (formed : IsGraph g) (few : HasFewNames g) (body : Li
     test-free (inner.Ret values) good = refl
     test-free inner.Stop good = refl
 
+    way-free : (on : Bool) (exit : inner.Exit) → All AreGood (exit_exprs exit) → Free (text_of_way s on exit)
+    way-free true exit good = test-free exit good
+    way-free false exit good = test-free exit good
+
     choice-free : (exit : inner.Exit) → All AreGood (exit_exprs exit) → Free (text_of_choice s exit)
     choice-free (inner.Switch e places) good = text-free e Low false (All-head AreGood e [] good)
     choice-free (inner.Goto next) good = refl
@@ -455,6 +459,8 @@ module _ (g : inner.Graph) (formed : IsGraph g) (few : HasFewNames g) (body : Li
           (subst (Contains stmts) (get_or_from_slice_get stmts m stmt stmt is)
           (Contains-get_or stmts m stmt (slice_get_within stmts m stmt is)));
       tested = λ b body otherwise. ap (λ c. not (c || false)) (test-free (block_in g b).exit (fine b).exit);
+      tested_first = λ b on body. ap (λ c. not (c || false)) (way-free on (block_in g b).exit (fine b).exit);
+      tested_last = λ b on body. ap (λ c. not (c || false)) (way-free on (block_in g b).exit (fine b).exit);
       chosen = λ b bodies. ap (λ c. not (c || false)) (choice-free (block_in g b).exit (fine b).exit);
       returned = λ b. return-tells (block_in g b).exit (fine b).exit;
       repeated = λ body. refl;

@@ -7,13 +7,13 @@ use Rattle.std.proofs.lemmas.List.Folds.{list_all-append}
 use Rattle.dcc_ir.specs.Tree as inner
 use Rattle.dcc_ir.specs.Live.{block_in}
 use Rattle.dcc_c.specs.Parts.{stmts_in, inner_stmts, arm_stmts}
-use Rattle.dcc_c.specs.Tree.{Word, Stmt, Assign, If, Forever, Switch, Break, Continue, Goto, Label, Empty, Lines, no_lines, line, Arms, no_arms}
+use Rattle.dcc_c.specs.Tree.{Word, Stmt, Assign, If, While, DoWhile, Forever, Switch, Break, Continue, Goto, Label, Empty, Lines, no_lines, line, Arms, no_arms}
 use Rattle.dcc_text.specs.Spelling.{Spelling}
 use Rattle.dcc_text.specs.Stmts.{stmt_text}
 use Rattle.dcc_variables.specs.Functions.{BeginsWith}
 use Rattle.dcc_control.specs.Plan as plan
 use Rattle.dcc_control.specs.Plan.{Plan, Item}
-use Rattle.dcc_plan.specs.PlanText.{text_of_test, text_of_choice, text_of_return, IsPlanText, nothing, one_more, IsItemText, does, marks, jumps, tests, chooses, returns, repeats, breaks, continues, AreArmsText, no_more, next_arm}
+use Rattle.dcc_plan.specs.PlanText.{text_of_test, text_of_way, text_of_choice, text_of_return, IsPlanText, nothing, one_more, IsItemText, does, marks, jumps, tests, chooses, returns, repeats, tests_first, tests_last, breaks, continues, AreArmsText, no_more, next_arm}
 use Rattle.dcc_pipe.proofs.OpeningLines.{is_assignment}
 
 -- statements of blocks have no statements inside
@@ -32,6 +32,8 @@ pub record TextsPass (s : Spelling) (graph : inner.Graph) (test : Stmt → Bool)
   pub done : (b m : ℕ) (stmt : inner.Stmt) → slice_get (block_in graph b).stmts m ≡ Some stmt
       → test (stmt_text s 2 stmt) ≡ true
   pub tested : (b : ℕ) (body otherwise : Lines) → test (If (text_of_test s (block_in graph b).exit) body otherwise) ≡ true
+  pub tested_first : (b : ℕ) (on : Bool) (body : Lines) → test (While (text_of_way s on (block_in graph b).exit) body) ≡ true
+  pub tested_last : (b : ℕ) (on : Bool) (body : Lines) → test (DoWhile body (text_of_way s on (block_in graph b).exit)) ≡ true
   pub chosen : (b : ℕ) (bodies : Arms) → test (Switch (text_of_choice s (block_in graph b).exit) bodies no_arms) ≡ true
   pub returned : (b : ℕ) → test (text_of_return s (block_in graph b).exit) ≡ true
   pub repeated : (body : Lines) → test (Forever body) ≡ true
@@ -81,6 +83,8 @@ module _ (s : Spelling) (graph : inner.Graph) (test : Stmt → Bool) (pass : Tex
         (pass.chosen b bodies, joined (arm_stmts bodies) [] (arms-pass arms) refl)
     item-passes (returns {b = b}) = (pass.returned b, return-inside (block_in graph b).exit)
     item-passes (repeats {lines = lines} p) = (pass.repeated lines, plan-passes p)
+    item-passes (tests_first {on = on} {b = b} {lines = lines} p) = (pass.tested_first b on lines, plan-passes p)
+    item-passes (tests_last {on = on} {b = b} {lines = lines} p) = (pass.tested_last b on lines, plan-passes p)
     item-passes breaks = (pass.broken, refl)
     item-passes continues = (pass.continued, refl)
 

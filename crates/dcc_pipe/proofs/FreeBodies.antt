@@ -22,7 +22,7 @@ use Rattle.dcc_variables.proofs.FramePlaces.{memory-within}
 use Rattle.dcc_variables.proofs.NoAddresses.{body-takes, texts-take-none}
 use Rattle.dcc_variables.proofs.ParamNames.{places-same}
 use Rattle.dcc_control.specs.Plan.{Plan}
-use Rattle.dcc_plan.specs.PlanText.{text_of_test, text_of_choice, text_of_return, IsPlanText}
+use Rattle.dcc_plan.specs.PlanText.{text_of_test, text_of_way, text_of_choice, text_of_return, IsPlanText}
 use Rattle.dcc_pipe.proofs.BodyStatements.{TextsPass, plan-passes, opened-passes}
 use Rattle.dcc_pipe.proofs.OpeningLines.{is_assignment}
 
@@ -44,6 +44,10 @@ module _ (graph : inner.Graph) (word : Word) (apart : IsNoMemoryName graph word)
   test-free (inner.Ret values) = refl
   test-free inner.Stop = refl
 
+  way-free : (on : Bool) (exit : inner.Exit) → has_address_of word (text_of_way s on exit) ≡ false
+  way-free true exit = test-free exit
+  way-free false exit = test-free exit
+
   choice-free : (exit : inner.Exit) → has_address_of word (text_of_choice s exit) ≡ false
   choice-free (inner.Switch e places) = none.expressions e Low false
   choice-free (inner.Goto next) = refl
@@ -62,6 +66,8 @@ module _ (graph : inner.Graph) (word : Word) (apart : IsNoMemoryName graph word)
   texts-free = record {
     done = λ b m stmt is. ap not (none.statements stmt 2);
     tested = λ b body otherwise. ap (λ c. not (c || false)) (test-free (block_in graph b).exit);
+    tested_first = λ b on body. ap (λ c. not (c || false)) (way-free on (block_in graph b).exit);
+    tested_last = λ b on body. ap (λ c. not (c || false)) (way-free on (block_in graph b).exit);
     chosen = λ b bodies. ap (λ c. not (c || false)) (choice-free (block_in graph b).exit);
     returned = λ b. ap not (return-free (block_in graph b).exit);
     repeated = λ body. refl;

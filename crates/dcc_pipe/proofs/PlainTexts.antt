@@ -1,8 +1,8 @@
 -- The text of a plan is its text, whatever the numbers of its lines.
 use Rattle.dcc_ir.specs.Tree as inner
 use Rattle.dcc_text.specs.Spelling.{Spelling}
-use Rattle.dcc_control.specs.Plan.{Item, Do, Mark, Jump, If, Switch, Return, For, Break, Continue, Plan, no_items, item, Arms, no_arms, arm}
-use Rattle.dcc_plan.specs.PlanText.{plan_text, item_text, arms_text, IsPlanText, nothing, one_more, IsItemText, does, marks, jumps, tests, chooses, returns, repeats, breaks, continues, AreArmsText, no_more, next_arm}
+use Rattle.dcc_control.specs.Plan.{Item, Do, Mark, Jump, If, Switch, Return, For, While, DoWhile, Break, Continue, Plan, no_items, item, Arms, no_arms, arm}
+use Rattle.dcc_plan.specs.PlanText.{plan_text, item_text, arms_text, IsPlanText, nothing, one_more, IsItemText, does, marks, jumps, tests, chooses, returns, repeats, tests_first, tests_last, breaks, continues, AreArmsText, no_more, next_arm}
 
 -- The lines of a plan's text are its text.
 mutual
@@ -18,6 +18,8 @@ mutual
   plain-item s graph (Switch b arms) = chooses (plain-arms s graph arms)
   plain-item s graph (Return b) = returns
   plain-item s graph (For b body) = repeats (plain-text s graph body)
+  plain-item s graph (While on b body) = tests_first (plain-text s graph body)
+  plain-item s graph (DoWhile on b head body) = tests_last (plain-text s graph body)
   plain-item s graph Break = breaks
   plain-item s graph Continue = continues
 

@@ -1,15 +1,13 @@
--- A text has at least as many tokens as its functions have statements, those inside others too, with one for each
--- function.
+-- A text has at least as many tokens as its functions have steps, with one for each function.
 use Rattle.std.proofs.Common.{ℕ, suc, ◌+◌, ◌<◌, ◌≤◌, Bool, List, length, Option, ap, arith}
-use Rattle.std.proofs.lemmas.List.{length-append}
 use Rattle.dcc_c.specs.declared.syntax.Class.{Class}
 use Rattle.dcc_c.specs.declared.syntax.CType.{CType}
 use Rattle.dcc_c.specs.Token.{Token}
 use Rattle.dcc_c.specs.Lexing.{Placed}
 use Rattle.dcc_c.specs.Tree.{Word, Expr, Stmt, Lines, Arms, Global, Variable, Function, Tree}
-use Rattle.dcc_c.specs.Parts.{stmts_in, inner_stmts, arm_stmts}
 use Rattle.dcc_c.specs.Grammar.{Begins, none, one, IsExpr, number, name, parentheses, unary, cast, binary, conditional, stronger, IsPlace, name_place, deref_place, AreArguments, no_argument, last_argument, more_arguments, IsCall, call, Around, AreCases, last_case, more_cases, IsStmt, assign, call_alone, call_into, if_alone, if_else, while, do_while, for_ever, switch, break, continue, goto, empty, return_nothing, return_value, IsBlock, block, AreLines, no_more, depth_pragma, label, statement, AreArms, no_arm, case_arm, default_arm, HasSize, no_size, size, AreNumbers, last_number, more_numbers, AreInitial, no_value, one_value, values, IsGlobal, AreGlobals, no_global, placed_at, one_global, HasClass, no_class, auto_class, register_class, IsParam, AreSomeParams, last_param, more_params, AreParams, no_param, some_params, IsLocal, AreLocals, no_local, one_local, HasResult, no_result, result, IsFunction, AreFunctions, last_function, more_functions, IsUnit}
 use Rattle.dcc_plan.specs.Programs.{text_size}
+use Rattle.dcc_plan.specs.Steps.{steps_in, stmt_steps, arm_steps}
 
 -- Expressions.
 
@@ -47,16 +45,16 @@ cases-short (more_cases is others) = omega (arith, cases-short others)
 
 mutual
   stmt-count : {limit : ℕ} {around : Around} {depth after : ℕ} {tokens rest : List Placed} {stmt : Stmt}
-      → IsStmt limit around depth tokens stmt after rest → length (inner_stmts stmt) + length rest < length tokens
+      → IsStmt limit around depth tokens stmt after rest → stmt_steps stmt + length rest ≤ length tokens
   stmt-count (assign p e) = omega (arith, place-short p, expr-short e)
   stmt-count (call_alone c) = omega (arith, call-short c)
   stmt-count (call_into p c) = omega (arith, place-short p, call-short c)
-  stmt-count (if_alone e b) = omega (arith, length-append {A = Stmt}, expr-short e, block-count b)
-  stmt-count (if_else e b c) = omega (arith, length-append {A = Stmt}, expr-short e, block-count b, block-count c)
+  stmt-count (if_alone e b) = omega (arith, expr-short e, block-count b)
+  stmt-count (if_else e b c) = omega (arith, expr-short e, block-count b, block-count c)
   stmt-count (while e b) = omega (arith, expr-short e, block-count b)
   stmt-count (do_while b e) = omega (arith, block-count b, expr-short e)
   stmt-count (for_ever h b) = omega (arith, begins-short h, block-count b)
-  stmt-count (switch e arms some) = omega (arith, length-append {A = Stmt}, expr-short e, arms-count arms)
+  stmt-count (switch e arms some) = omega (arith, expr-short e, arms-count arms)
   stmt-count (break is) = omega arith
   stmt-count (continue is) = omega arith
   stmt-count (goto to is) = omega arith
@@ -65,21 +63,21 @@ mutual
   stmt-count (return_value e) = omega (arith, expr-short e)
 
   block-count : {limit : ℕ} {around : Around} {depth after : ℕ} {tokens rest : List Placed} {lines : Lines}
-      → IsBlock limit around depth tokens lines after rest → length (stmts_in lines) + length rest < length tokens
+      → IsBlock limit around depth tokens lines after rest → steps_in lines + length rest < length tokens
   block-count (block lines) = omega (arith, lines-count lines)
 
   lines-count : {limit : ℕ} {around : Around} {labelled : Bool} {depth after : ℕ} {tokens rest : List Placed} {lines : Lines}
-      → AreLines limit around labelled depth tokens lines after rest → length (stmts_in lines) + length rest ≤ length tokens
+      → AreLines limit around labelled depth tokens lines after rest → steps_in lines + length rest ≤ length tokens
   lines-count no_more = omega arith
   lines-count (depth_pragma few lines) = omega (arith, lines-count lines)
   lines-count (label word is few lines) = omega (arith, lines-count lines)
-  lines-count (statement few first lines) = omega (arith, length-append {A = Stmt}, stmt-count first, lines-count lines)
+  lines-count (statement few first lines) = omega (arith, stmt-count first, lines-count lines)
 
   arms-count : {limit : ℕ} {around : Around} {depth after : ℕ} {tokens rest : List Placed} {arms last : Arms}
-      → AreArms limit around depth tokens arms last after rest → (length (arm_stmts arms) + length (arm_stmts last)) + length rest ≤ length tokens
+      → AreArms limit around depth tokens arms last after rest → (arm_steps arms + arm_steps last) + length rest ≤ length tokens
   arms-count no_arm = omega arith
-  arms-count (case_arm cases few lines arms) = omega (arith, length-append {A = Stmt}, cases-short cases, lines-count lines, arms-count arms)
-  arms-count (default_arm few lines arms) = omega (arith, length-append {A = Stmt}, lines-count lines, arms-count arms)
+  arms-count (case_arm cases few lines arms) = omega (arith, cases-short cases, lines-count lines, arms-count arms)
+  arms-count (default_arm few lines arms) = omega (arith, lines-count lines, arms-count arms)
 
 -- Declarations.
 
@@ -132,7 +130,7 @@ result-short no_result = omega arith
 result-short (result type b) = begins-short b
 
 function-count : {limit : ℕ} {tokens rest : List Placed} {f : Function} → IsFunction limit tokens f rest
-    → suc (length (stmts_in f.body)) + length rest ≤ length tokens
+    → suc (steps_in f.body) + length rest ≤ length tokens
 function-count x = omega (arith, result-short x.result_is, params-short x.params_are, locals-short x.locals_are, lines-count x.body_is)
 
 functions-count : {limit : ℕ} {tokens : List Placed} {functions : List Function} → AreFunctions limit tokens functions

@@ -1,6 +1,6 @@
 -- The text of a valid plan is allowed.
-use Rattle.std.proofs.Common.{◌≡◌, ℕ, ◌+◌, ◌*◌, ◌<◌, ◌≤◌, inl, inr, Bool, true, false, ◌==◌, List, [], ◌∷◌, ◌++◌, length, map, Option, Some, None, refl, sym, ap, ap₂, ◌∙◌, subst, true≢false, arith}
-use Rattle.std.specs.Prelude.{◌&&◌, ◌||◌, not, nat_le, nat_lt, if◌then◌else◌, is_some, get_or, slice_get, All}
+use Rattle.std.proofs.Common.{◌≡◌, ℕ, suc, ◌+◌, ◌*◌, ◌<◌, ◌≤◌, inl, inr, Bool, true, false, ◌==◌, List, [], ◌∷◌, ◌++◌, length, map, Option, Some, None, refl, sym, ap, ap₂, ◌∙◌, subst, true≢false, arith}
+use Rattle.std.specs.Prelude.{◌&&◌, ◌||◌, not, option_and_then, nat_le, nat_lt, if◌then◌else◌, is_some, get_or, slice_get, All}
 use Rattle.std.specs.List.{list_all, flat_map}
 use Rattle.std.proofs.lemmas.Bool.{cases_Bool, and_parts, and_from, or_left, not-true, eqb-true, le-leb, lt-ltb}
 use Rattle.std.proofs.lemmas.List.{append-nil, map-append}
@@ -20,7 +20,9 @@ use Rattle.dcc_ir.proofs.ReachedLaws.{contained}
 use Rattle.dcc_c.specs.declared.syntax.CType.{CType}
 use Rattle.dcc_c.specs.Grammar.{Around, outermost, in_block, in_loop, in_switch, has_arm, is_among}
 use Rattle.dcc_c.specs.Parts.{stmts_in, inner_stmts, arm_stmts, label_of, labels_in}
-use Rattle.dcc_c.specs.Rules.{all_differ, declared_in, goto_of, is_switch_value, is_word_base, converts, fits, allows_stmt, shallow_stmt, expr_depth, cases_of, differ}
+use Rattle.dcc_c.specs.Rules.{all_differ, declared_in, goto_of, is_switch_value, is_number, is_word_base, converts, fits, allows_stmt, shallow_stmt, expr_depth, cases_of, differ}
+use Rattle.dcc_c.specs.declared.syntax.CUn.TheVariants.{Not}
+use Rattle.dcc_c.specs.Typing.{unary_type}
 use Rattle.dcc_c.specs.Tree as tree
 use Rattle.dcc_c.specs.Tree.{Word, Stmt, Function, Tree, Lines, no_lines, line}
 use Rattle.dcc_c.specs.Types.{plain, promoted_type, same_type}
@@ -37,7 +39,7 @@ use Rattle.dcc_plan.specs.Allowed.{is_mark, has_an_arm, may_stand, item_may_stan
 use Rattle.dcc_control.specs.Plan as plan
 use Rattle.dcc_control.specs.Plan.{Item, Plan, no_items, item, Arms, marks, item_marks, arm_marks, is_in, all_cases}
 use Rattle.dcc_plan.specs.PlanText as planned
-use Rattle.dcc_plan.specs.PlanText.{text_of_stmt, text_of_test, text_of_choice, text_of_return, IsPlanText, nothing, one_more, IsItemText, AreArmsText, no_more, next_arm}
+use Rattle.dcc_plan.specs.PlanText.{text_of_stmt, text_of_test, text_of_way, text_of_choice, text_of_return, IsPlanText, nothing, one_more, IsItemText, AreArmsText, no_more, next_arm}
 use Rattle.dcc_control.specs.Valid.{Context, outside, IsValid, IsValidItem, AreValidArms}
 use Rattle.dcc_plan.proofs.LabelWords.{label, label-word, label-among, labels-apart}
 
@@ -82,6 +84,8 @@ module _ (graph : inner.Graph) (whole : Plan) where
     item-inside (plan.Switch b arms) rest c (e, places, exit, less, lead, valid) = arms-inside arms _ valid
     item-inside (plan.Return b) rest c v = refl
     item-inside (plan.For b body) rest c (less, l, valid) = marks-inside body _ valid
+    item-inside (plan.While on b body) rest c (test, yes_place, no_place, exit, less, none, l, valid, leaves) = marks-inside body _ valid
+    item-inside (plan.DoWhile on b head body) rest c (test, yes_place, no_place, exit, less, known, starts, first, l, valid, leaves) = marks-inside body _ valid
     item-inside plan.Break rest c v = refl
     item-inside plan.Continue rest c v = refl
 
@@ -224,6 +228,49 @@ module _ (whole : Tree) (f : Function) (s : Spelling) (graph : inner.Graph) (lev
           labels = both-labels (stmts_in body) (stmts_in otherwise) (marks one) (marks two) x.labels y.labels;
         })
 
+    -- a test, or its opposite, that may stand in the text
+    record IsFineTest (e : tree.Expr) : Type 0 where
+      writable : is_writable_expr e ≡ true
+      number : is_number (declared_in whole f) e ≡ true
+      low : (nat_le (expr_depth e) limit && true) ≡ true
+
+    way-fine : (on : Bool) (test : inner.Expr) (yes_place no_place : ℕ) → block.exit ≡ inner.If test yes_place no_place → IsFineTest (text_of_way s on block.exit)
+    way-fine on test yes_place no_place is =
+        let (tested, second) = and_parts (is_expr_of s.bits 1 test && nat_lt yes_place (length graph.blocks)) (nat_lt no_place (length graph.blocks)) (exit-formed (inner.If test yes_place no_place) is) in
+        let z = end-expr test Exact 1 (and_parts (is_expr_of s.bits 1 test) (nat_lt yes_place (length graph.blocks)) tested).0 (only-of (AreNamed s) spelled.reads (inner.If test yes_place no_place) test is refl) in
+        subst (λ exit. IsFineTest (text_of_way s on exit)) (sym is) (by on z (only-of (IsLow levels) spelled.shallow (inner.If test yes_place no_place) test is refl))
+      where
+        by : (on : Bool) → IsAllowedExpr (declared_in whole f) 1 (text s Exact false test) → IsLow levels test → IsFineTest (text_of_way s on (inner.If test yes_place no_place))
+        by true z low = record { writable = z.writable; number = ap (λ t. elim t [ Some type ↦ not type.pointer | None ↦ false ]) z.typed; low = end-shallow test Exact low }
+        by false z low = record {
+          writable = z.writable;
+          number = ap (λ t. elim (option_and_then (unary_type Not) t) [ Some type ↦ not type.pointer | None ↦ false ]) z.typed;
+          low = and_from (nat_le (suc (expr_depth (text s Exact false test))) limit) true
+              (le-leb (suc (expr_depth (text s Exact false test))) limit (omega (arith, enough, low, shallow s test Exact false))) refl;
+        }
+
+    while-fine : (around : Around) (on : Bool) (inner_plan : Plan) (body : Lines) (test : inner.Expr) (yes_place no_place : ℕ) → block.exit ≡ inner.If test yes_place no_place
+        → IsFine (in_loop around) false inner_plan body → IsFineItem around (plan.While on b inner_plan) (tree.While (text_of_way s on block.exit) body)
+    while-fine around on inner_plan body test yes_place no_place is x =
+        let z = way-fine on test yes_place no_place is in
+        let e = text_of_way s on block.exit in record {
+          writable = and_from (is_writable_expr e) (are_writable_lines (in_loop around) false body) z.writable x.writable;
+          marked = refl;
+          pass = and_from (passes (tree.While e body)) (list_all passes (stmts_in body)) (passes-from (tree.While e body) z.number z.low refl) x.pass;
+          labels = x.labels;
+        }
+
+    do-while-fine : (around : Around) (on : Bool) (head : ℕ) (inner_plan : Plan) (body : Lines) (test : inner.Expr) (yes_place no_place : ℕ) → block.exit ≡ inner.If test yes_place no_place
+        → IsFine (in_loop around) false inner_plan body → IsFineItem around (plan.DoWhile on b head inner_plan) (tree.DoWhile body (text_of_way s on block.exit))
+    do-while-fine around on head inner_plan body test yes_place no_place is x =
+        let z = way-fine on test yes_place no_place is in
+        let e = text_of_way s on block.exit in record {
+          writable = and_from (is_writable_expr e) (are_writable_lines (in_loop around) false body) z.writable x.writable;
+          marked = refl;
+          pass = and_from (passes (tree.DoWhile body e)) (list_all passes (stmts_in body)) (passes-from (tree.DoWhile body e) z.number z.low refl) x.pass;
+          labels = x.labels;
+        }
+
     choice-fine : (around : Around) (arms : Arms) (bodies : tree.Arms) (e : inner.Expr) (places : List ℕ) → block.exit ≡ inner.Switch e places → has_an_arm arms ≡ true → differ (all_cases arms) ≡ true
         → AreFineArms (in_switch around) arms bodies → IsFineItem around (plan.Switch b arms) (tree.Switch (text_of_choice s block.exit) bodies tree.no_arms)
     choice-fine around arms bodies e places is some apart x =
@@ -313,6 +360,10 @@ module _ (whole : Tree) (f : Function) (s : Spelling) (graph : inner.Graph) (lev
     item-fine around c rest (planned.repeats {b = b} {body = body} {lines = lines} is) (inside, l, valid) stands =
         let x = fine (in_loop around) false _ is valid stands in
         record { writable = x.writable; marked = refl; pass = x.pass; labels = x.labels }
+    item-fine around c rest (planned.tests_first {on = on} {b = b} {body = body} {lines = lines} is) (test, yes_place, no_place, exit, inside, none, l, valid, leaves) stands =
+        while-fine b inside around on body lines test yes_place no_place exit (fine (in_loop around) false _ is valid stands)
+    item-fine around c rest (planned.tests_last {on = on} {b = b} {head = head} {body = body} {lines = lines} is) (test, yes_place, no_place, exit, inside, _, starts, first, l, valid, leaves) stands =
+        do-while-fine b inside around on head body lines test yes_place no_place exit (fine (in_loop around) false _ is valid stands)
     item-fine around c rest planned.breaks valid stands = record { writable = stands; marked = refl; pass = refl; labels = refl }
     item-fine around c rest planned.continues valid stands = record { writable = stands; marked = refl; pass = refl; labels = refl }
 

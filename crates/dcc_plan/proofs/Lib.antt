@@ -19,6 +19,8 @@ pub mod StepsKept
 pub mod TestLaws
 pub mod Points
 pub mod Stages
+pub mod Midways
+pub mod EndRuns
 pub mod BlockRuns
 pub mod PlanRuns
 pub mod TextLaws

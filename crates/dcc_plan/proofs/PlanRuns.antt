@@ -1,8 +1,8 @@
 -- The text of valid plans counts the visits of its program.
-use Rattle.std.proofs.Common.{◌≡◌, ℕ, zero, suc, ◌+◌, ◌-◌, ◌<◌, ◌≤◌, inl, inr, Bool, true, false, ◌==◌, List, [], ◌∷◌, length, map, Some, None, refl, sym, ap, ap₂, ◌∙◌, subst, true≢false, arith}
-use Rattle.std.specs.Prelude.{◌⊎◌, ◌||◌, ◌&&◌, not, if◌then◌else◌, is_some, Contains, drop, slice_get, get_or}
+use Rattle.std.proofs.Common.{◌≡◌, ℕ, zero, suc, ◌+◌, ◌-◌, ◌<◌, ◌≤◌, inl, inr, Bool, true, false, List, [], ◌∷◌, map, Some, None, refl, sym, ap, ap₂, ◌∙◌, subst, true≢false, arith}
+use Rattle.std.specs.Prelude.{◌||◌, ◌&&◌, not, if◌then◌else◌, is_some, Contains, drop, slice_get, get_or}
 use Rattle.std.specs.List.{list_any, AllZip}
-use Rattle.std.proofs.lemmas.Bool.{or_left, or_parts, not-true, cases_Bool, eqb-true}
+use Rattle.std.proofs.lemmas.Bool.{or_left, or_right, or_parts, not-true}
 use Rattle.std.proofs.lemmas.List.Elements.{All-contains}
 use Rattle.dcc_run.specs.End.{is_over}
 use Rattle.dcc_run.specs.System.{after}
@@ -17,11 +17,11 @@ use Rattle.dcc_ir.specs.WellFormed.{is_jump, jumps_after_call, IsGraph}
 use Rattle.dcc_ir.proofs.LocationLaws.{Contains-here, Contains-later}
 use Rattle.dcc_ir.proofs.ReachedLaws.{contained, graph_of, IsWithinAt, within-of, IsGood, step-good, first-good}
 use Rattle.dcc_ir.proofs.RunLaws.{inner_watchable}
-use Rattle.dcc_c.specs.Parts.{stmts_in}
 use Rattle.dcc_c.specs.Run as c
-use Rattle.dcc_c.specs.Run.{Continuation, ends_function, runs, turns, goes_on, stmt_step, step_at, text_system}
-use Rattle.dcc_c.specs.Tree as tree
+use Rattle.dcc_c.specs.Run.{Continuation, ends_function, runs, tests, turns, goes_on, stmt_step, step_at, text_system}
 use Rattle.dcc_c.specs.Tree.{Stmt, Lines, line, Function, Tree}
+use Rattle.dcc_c.specs.Value as text_value
+use Rattle.dcc_c.specs.Value.{is_zero}
 use Rattle.dcc_text.specs.Spelling.{Spelling}
 use Rattle.dcc_text.specs.Holding.{Locations, Alike, Holds, IsWaiting, AreWaiting}
 use Rattle.dcc_text.proofs.FirstRuns.{opening}
@@ -29,57 +29,43 @@ use Rattle.dcc_plan.specs.Calls.{Opens}
 use Rattle.dcc_plan.proofs.FirstStates.{first-states-stand}
 use Rattle.dcc_plan.proofs.Returns.{later-contained}
 use Rattle.dcc_control.specs.Plan as plan
-use Rattle.dcc_control.specs.Plan.{Item, Plan, no_items, item, is_begun}
+use Rattle.dcc_control.specs.Plan.{Item, Plan, is_begun}
 use Rattle.dcc_plan.specs.PlanText as planned
-use Rattle.dcc_plan.specs.PlanText.{IsPlanText, IsItemText}
+use Rattle.dcc_plan.specs.PlanText.{IsPlanText, IsItemText, text_of_way}
+use Rattle.dcc_plan.specs.Steps.{steps_in}
 use Rattle.dcc_plan.specs.Programs.{Texts, OpensWith, at_once, one_more, IsGraphText, open_setting, IsProgramText, AreAllKept, text_size, ProgramsCount}
 use Rattle.dcc_control.specs.Valid as valid
-use Rattle.dcc_control.specs.Valid.{Point, Begin, Before, Nowhere, Leads, Context, outside, item_entry, entry, turn, only_goes, has_step, IsValid, IsValidItem}
+use Rattle.dcc_control.specs.Valid.{Point, Begin, Before, Leads, Context, outside, item_entry, entry, only_goes, has_step}
 use Rattle.dcc_plan.specs.Laws.{AreSteps, IsTextOf, NeverStuck, AreKept, IsCountedBy, TextsCount, PlansCount}
 use Rattle.dcc_plan.proofs.CallStates.{jump-shown}
 use Rattle.dcc_plan.proofs.KeptLeaps.{keeps, paid, IsKeptLeap, leaps_count, leaps_show, leaps_go_on}
-use Rattle.dcc_control.proofs.ListLaws.{block-at}
-use Rattle.dcc_control.proofs.ListLaws.{drop-none}
-use Rattle.dcc_plan.proofs.Rests.{Sound, SoundItem, lines_count, inside_count, count-is, left, is_jumping, is_jump_stmt, loop_context, Stands, loops, AtItem, AtTurn, Head, at_item, at_turn, at_end, head}
+use Rattle.dcc_control.proofs.ListLaws.{block-at, drop-none}
+use Rattle.dcc_plan.proofs.Rests.{Sound, SoundItem, lines_count, inside_count, count-is, left, is_jumping, is_jump_stmt, loop_context, test_point, Stands, loops, IsTesting, AtItem, AtTest, at_item, at_turn, at_test, at_end, head}
 use Rattle.dcc_plan.proofs.Rests as rests
 use Rattle.dcc_plan.proofs.CallPremises.{held-there, functions-of, opens-nothing}
 use Rattle.dcc_plan.proofs.Settings.{limit_of, setting_of, Premises}
 use Rattle.dcc_plan.proofs.Settles.{Settles, settle-start}
 use Rattle.dcc_plan.proofs.Points.{block_of, moves}
 use Rattle.dcc_plan.proofs.Stages.{debts_of, owed, owed-begun, owed-within, AreCalled, CallsAlike, Matter, IsUnstuck, Meets, GoesOn, Stage, at_begin, after_call, Related, measure, Outcome}
-use Rattle.dcc_plan.proofs.BlockRuns.{well, sound, steps-from, stands-for, elsewhere, Comes, one-before, block-runs}
+use Rattle.dcc_plan.proofs.BlockRuns.{block-runs}
+use Rattle.dcc_plan.proofs.EndRuns.{loop-runs}
+use Rattle.dcc_plan.proofs.Midways.{well, sound, steps-from, stands-for, elsewhere, Comes, Ending}
 
 abbrev is_begin : Point → Bool
 is_begin (Begin b) = true
 is_begin _ = false
 
--- where a turn begins: before the block's first statement, or before its label
-turn-cases : (b : ℕ) (body : Plan) → (turn b body ≡ Before b 0) ⊎ ((later : Plan) × (body ≡ item (plan.Mark b) later))
-turn-cases b no_items = inl refl
-turn-cases b (item (plan.Mark a) later) = elim (cases_Bool (a == b)) [
-  | inl same ↦ inr (later, ap (λ k. item (plan.Mark k) later) (eqb-true a b same))
-  | inr apart ↦ inl (ap (λ x. if x then Begin b else Before b 0) apart)
-]
-turn-cases b (item (plan.Do a m) later) = inl refl
-turn-cases b (item (plan.Jump a) later) = inl refl
-turn-cases b (item (plan.If a one other) later) = inl refl
-turn-cases b (item (plan.Switch a arms) later) = inl refl
-turn-cases b (item (plan.Return a) later) = inl refl
-turn-cases b (item (plan.For a body) later) = inl refl
-turn-cases b (item plan.Break later) = inl refl
-turn-cases b (item plan.Continue later) = inl refl
+or-second : (begun passes : Bool) → (begun && passes) ≡ false → (begun || not passes) ≡ true → passes ≡ false
+or-second true true silent step = absurd (true≢false silent)
+or-second false true silent step = absurd (true≢false (sym step))
+or-second begun false silent step = refl
 
-or-second : (begun passes : Bool) → begun ≡ false → (begun || not passes) ≡ true → passes ≡ false
-or-second true passes none step = absurd (true≢false none)
-or-second false true none step = absurd (true≢false (sym step))
-or-second false false none step = refl
-
-or-neither : (begun passes : Bool) → (begun || not passes) ≡ false → passes ≡ true
+or-neither : (begun passes : Bool) → (begun || not passes) ≡ false → (passes && not begun) ≡ true
 or-neither true passes none = absurd (true≢false none)
 or-neither false true none = refl
 or-neither false false none = absurd (true≢false none)
 
--- the statements of a body that opens with assignments
+-- the steps of a body that opens with assignments
 opens-count : (count : ℕ) (body lines : Lines) → OpensWith count body lines → lines_count body ≡ count + lines_count lines
 opens-count count body lines at_once = omega arith
 opens-count (suc count) (line stmt at body) lines (one_more opens) = let later = opens-count count body lines opens in omega (arith, later)
@@ -153,7 +139,8 @@ module _ (G : Premises) where
           subst (λ j. is_shown (run.watched_inner G.p G.fill) j ≡ true) (goes-from i.running.rest refl g.running)
           (jump-shown G.p G.fill i.running.rest i g.continues.no_calls (ap (λ (b : inner.Block). is_jump b.exit) g.continues.block_is ∙ g.continues.jumps))
 
-      after-comes : Comes G graph inside 0 next (next-good g.good) (λ n at. g.unstuck (suc n) at) (only_goes i.running.rest (block_in graph g.continues.b).exit) (moves g.continues.stand.leads) t
+      after-comes : Comes G graph inside 0 next (next-good g.good) (λ n at. g.unstuck (suc n) at) (only_goes i.running.rest (block_in graph g.continues.b).exit)
+          (only_goes i.running.rest (block_in graph g.continues.b).exit && not (goes_to g.continues.b)) (moves g.continues.stand.leads) (left t.rest) t
       after-comes =
           let x = g.continues in
           let within : IsWithinAt G.p i.running.rest i = within-of G.p G.well i (g.good.active g.running) g.good.safe in
@@ -188,7 +175,7 @@ module _ (G : Premises) where
       passes = only_goes (block_in graph m.b).stmts (block_in graph m.b).exit
 
       abbrev Arrives : ℕ → c.State → Type 0
-      Arrives fewer u = Comes G graph inside extra next (next-good m.good) unstuck-next passes fewer u
+      Arrives fewer u = Comes G graph inside extra next (next-good m.good) unstuck-next passes (passes && not (goes_to m.b)) fewer (left u.rest) u
 
       -- past the begin of the block
       past : (k : Continuation) (context : Context) (point : Point) (leads : Leads graph goes_to (Before m.b 0) point) → Stands s graph whole most k context → context.next ≡ point → left k ≤ most
@@ -235,21 +222,9 @@ module _ (G : Premises) where
 
       -- a turn of a loop
       at-turn : (body : Plan) (lines : Lines) (k : Continuation) (context : Context) → IsPlanText s graph body lines → Sound s graph whole body context → Stands s graph whole most k context
-          → Leads graph goes_to (turn m.b body) (entry graph body context) → lines_count lines + left k ≤ most → Later (goes_on (runs lines k) t)
-      at-turn body lines k context body_text body_valid stands leads low = elim (turn-cases m.b body) [
-        | inl first ↦
-            later (past (runs lines k) (record context { next = entry graph body context }) (entry graph body context) (subst (λ q. Leads graph goes_to q (entry graph body context)) first leads)
-            (rests.goes body_text body_valid stands) refl low)
-        | inr label ↦ labelled label.0 lines (subst (λ x. IsPlanText s graph x lines) label.1 body_text) (subst (λ x. Sound s graph whole x context) label.1 body_valid) low
-      ]
-        where
-          labelled : (later_items : Plan) (lines : Lines) → IsPlanText s graph (item (plan.Mark m.b) later_items) lines → Sound s graph whole (item (plan.Mark m.b) later_items) context
-              → lines_count lines + left k ≤ most → Later (goes_on (runs lines k) t)
-          labelled later_items tree.no_lines body_text good low = elim body_text [ ]
-          labelled later_items (line stmt at lines) (planned.one_more planned.marks others) good low =
-              let x = past (runs lines k) (record context { next = entry graph later_items context }) (entry graph later_items context) good.0.0.1 (rests.goes others (good.0.1, good.1.1) stands) refl (omega (arith, low)) in
-              later (one-before G graph inside extra next (next-good m.good) unstuck-next passes (moves good.0.0.1) passes (moves good.0.0.1) (goes_on (runs (line stmt at lines) k) t) (goes_on (runs lines k) t)
-              (λ e. (e, omega arith)) (stepping (runs (line stmt at lines) k)) (omega (arith, low)) refl x)
+          → Leads graph goes_to (Before m.b 0) (entry graph body context) → lines_count lines + left k ≤ most → Later (goes_on (runs lines k) t)
+      at-turn body lines k context body_text body_valid stands leads low =
+          later (past (runs lines k) (record context { next = entry graph body context }) (entry graph body context) leads (rests.goes body_text body_valid stands) refl low)
 
       has-step : goes_to m.b ≡ true → has_step graph whole m.b ≡ true
       has-step begun = or_left (goes_to m.b) (not passes) begun
@@ -283,13 +258,6 @@ module _ (G : Premises) where
             one-more (runs x.lines x.rest) (begun-here a same good.1) (stepped stmt steps) (omega (arith, m.stand.low, count))
             (later (past (runs x.lines x.rest) (record x.context { next = entry graph x.later x.context }) (entry graph x.later x.context)
             (subst (λ b. Leads graph goes_to (Before b 0) (entry graph x.later x.context)) (sym (ap block_of (there ∙ same))) good.0.1) (rests.goes x.later_text x.later_valid x.stands) refl (omega (arith, m.stand.low, count))))
-        by-item (plan.For a body) stmt (planned.repeats {lines = lines} body_text) same good steps count jumps =
-            let following = runs x.lines x.rest in
-            one-more (runs lines (turns lines following)) (begun-here a same good.1.0) (stepped stmt steps) (omega (arith, m.stand.low, count))
-            (at-turn body lines (turns lines following) _ body_text (good.0.2, good.1.1)
-            (loops body_text good.0.0 good.1.0 good.0.1 (good.0.2, good.1.1) (rests.goes x.later_text x.later_valid x.stands) (omega (arith, m.stand.low, count)))
-            (subst (λ b. Leads graph goes_to (turn b body) (entry graph body (loop_context a (record x.context { next = entry graph x.later x.context })))) (sym (ap block_of (there ∙ same))) good.0.1)
-            (omega (arith, m.stand.low, count)))
         by-item (plan.Jump a) stmt planned.jumps same good steps count jumps = absurd (no-jump there jumps)
         by-item plan.Break stmt planned.breaks same good steps count jumps = absurd (no-jump there jumps)
         by-item plan.Continue stmt planned.continues same good steps count jumps = absurd (no-jump there jumps)
@@ -297,16 +265,80 @@ module _ (G : Premises) where
         by-item (plan.If a one other) stmt item_text same good steps count jumps = absurd (true≢false (ap is_begin (there ∙ same)))
         by-item (plan.Switch a arms) stmt item_text same good steps count jumps = absurd (true≢false (ap is_begin (there ∙ same)))
         by-item (plan.Return a) stmt item_text same good steps count jumps = absurd (true≢false (ap is_begin (there ∙ same)))
+        by-item (plan.For a body) stmt item_text same good steps count jumps = absurd (true≢false (ap is_begin (there ∙ same)))
+        by-item (plan.While turning a body) stmt item_text same good steps count jumps = absurd (true≢false (ap is_begin (there ∙ same)))
+        by-item (plan.DoWhile turning a top body) stmt item_text same good steps count jumps = absurd (true≢false (ap is_begin (there ∙ same)))
+
+      -- the test of a loop that tests first
+      module _ (there : Begin m.b ≡ m.stand.context.next) (x : AtTest s graph whole most t.rest m.stand.context.next) where
+        tests-first : x.first ≡ true
+        tests-first = by x.first refl (there ∙ x.is)
+          where
+            by : (first : Bool) → x.first ≡ first → Begin m.b ≡ test_point graph x.first x.b → x.first ≡ true
+            by true same is = same
+            by false same is = absurd (true≢false (ap is_begin (is ∙ ap (λ first. test_point graph first x.b) same)))
+
+        here : m.b ≡ x.b
+        here = ap block_of (there ∙ x.is ∙ ap (λ first. test_point graph first x.b) tests-first)
+
+        testing : IsTesting s graph whole x.first x.on m.b x.body x.context
+        testing = subst (λ d. IsTesting s graph whole x.first x.on d x.body x.context) (sym here) x.testing
+
+        no-stmts : (block_in graph m.b).stmts ≡ []
+        no-stmts = testing.alone tests-first
+
+        end : Ending G graph inside m.b i t
+        end =
+            let within : IsWithinAt G.p i.running.rest i = within-of G.p G.well i (m.good.active m.running) m.good.safe in record {
+              known = m.known;
+              graph_is = m.graph_is;
+              block_is = m.block_is;
+              called = called;
+              filled = m.filled;
+              running = m.running;
+              placed = subst (λ rest. IsWithinAt G.p rest i) (m.rest_is ∙ no-stmts) within;
+              fit = m.good.safe.fit;
+              function = m.function;
+              holds = subst (λ stmts. Holds s (G.texts.matters graph (block_in graph m.b) stmts) (CallsAlike G) i t) no-stmts m.holds;
+            }
+
+        exit-goes : run.exit_step (block_in graph m.b).exit i ≡ next
+        exit-goes = ap (λ (block : inner.Block). run.exit_step block.exit i) (sym m.block_is) ∙ goes-from [] (m.rest_is ∙ no-stmts) m.running
+
+        to : c_step t ≡ c.on (text_value.value_of (c.scope_of G.tree t) (text_of_way s x.on (block_in graph m.b).exit)) x.at t
+            (λ v. goes_on (if is_zero v then x.rest else runs x.lines (tests (text_of_way s x.on (block_in graph m.b).exit) x.lines x.at x.rest)) t)
+        to =
+            stepping t.rest ∙ x.steps G.tree t
+            ∙ ap (λ d. c.on (text_value.value_of (c.scope_of G.tree t) (text_of_way s x.on (block_in graph d).exit)) x.at t
+            (λ v. goes_on (if is_zero v then x.rest else runs x.lines (tests (text_of_way s x.on (block_in graph d).exit) x.lines x.at x.rest)) t)) (sym here)
+
+        tests-step : has_step graph whole m.b ≡ true
+        tests-step =
+            or_right (goes_to m.b) (not passes)
+            (ap not (ap₂ only_goes no-stmts testing.exit))
+
+        test-leaps : Leaps
+        test-leaps =
+            let few = x.few in
+            let y = loop-runs G graph inside extra next (next-good m.good) unstuck-next m.b i t end exit-goes x.first x.on x.body x.lines x.at x.rest x.context x.text testing x.stands x.few x.at t to most
+            (omega (arith, few)) (inl few) in record {
+              steps = y.steps;
+              some = λ step. y.some refl;
+              leads = elim y.leads [
+                | inl leads ↦ inl (leads.0, λ none. absurd (true≢false (sym none ∙ ap not tests-step)), leads.2)
+                | inr ends ↦ inr ends
+              ];
+            }
 
       leaps : Leaps
       leaps = by m.stand.point m.stand.leads m.stand.same refl
         where
           by : (point : Point) (leads : Leads graph goes_to (Begin m.b) point) → m.stand.context.next ≡ point → moves leads ≡ moves m.stand.leads → Leaps
-          by point (valid.begins none leads) same count =
+          by point (valid.begins silent leads) same count =
               let x = past t.rest m.stand.context point leads m.stand.stands same m.stand.low in
               record {
                 steps = x.steps;
-                some = λ step. x.some (or-second (goes_to m.b) passes none step);
+                some = λ step. x.some (or-second (goes_to m.b) passes silent step);
                 leads = elim x.leads [
                   | inl there ↦ inl (
                     there.0,
@@ -323,7 +355,8 @@ module _ (G : Premises) where
                 (stepping t.rest ∙ x.steps G.tree t)
                 (omega (arith, x.few))
                 (at-turn x.body x.lines (turns x.lines x.rest) (loop_context x.b x.context) x.text x.valid (loops x.text x.within x.begun_is x.leads x.valid x.stands x.few)
-                (subst (λ b. Leads graph goes_to (turn b x.body) (entry graph x.body (loop_context x.b x.context))) (sym (ap block_of (sym same ∙ x.is))) x.leads) (omega (arith, x.few)))
+                (subst (λ b. Leads graph goes_to (Before b 0) (entry graph x.body (loop_context x.b x.context))) (sym (ap block_of (sym same ∙ x.is))) x.leads) (omega (arith, x.few)))
+            | at_test x ↦ test-leaps (sym same) x
             | at_end none ↦ absurd (true≢false (ap is_begin (sym same ∙ none)))
           ]
 
@@ -554,7 +587,7 @@ module _ (texts : Texts) where
 
   -- the body is some assignments and then the text of the plan
   abbrev Sized : inner.Graph → Type 0
-  Sized g = length (stmts_in (texts.function g).body) ≡ texts.openings g + limit_of texts g
+  Sized g = steps_in (texts.function g).body ≡ texts.openings g + limit_of texts g
 
   one-within : (graphs : List inner.Graph) → ((g : inner.Graph) → Contains graphs g → Sized g) → (a : inner.Graph) → Contains graphs a → limit_of texts a + texts.openings a + 1 ≤ size_of graphs
   one-within [] sized a (k, less, same) = absurd (omega (arith, less))
@@ -583,7 +616,7 @@ module _ (texts : Texts) where
       omega (arith, later)
 
 module _ (p : inner.Program) (opens : Opens) (texts : Texts) (tree : Tree) (fill : ℕ) (is : IsProgramText p opens texts tree) where
-  sized : (g : inner.Graph) → Contains p.graphs g → length (stmts_in (texts.function g).body) ≡ texts.openings g + limit_of texts g
+  sized : (g : inner.Graph) → Contains p.graphs g → steps_in (texts.function g).body ≡ texts.openings g + limit_of texts g
   sized g c = sym (count-is (texts.function g).body) ∙ opens-count (texts.openings g) (texts.function g).body (texts.lines g) (is.graphs g c).opens
 
   program-premises : Premises

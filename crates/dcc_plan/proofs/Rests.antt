@@ -1,13 +1,11 @@
 -- What is still to be executed of a text stands for a point of the graph.
 use Rattle.std.proofs.Common.{◌≡◌, ℕ, suc, ◌+◌, ◌<◌, ◌≤◌, inl, inr, Bool, true, false, ◌==◌, List, [], ◌∷◌, ◌++◌, length, Option, Some, None, refl, sym, ap, ap₂, ◌∙◌, subst, true≢false, arith}
-use Rattle.std.specs.Prelude.{◌⊎◌, ◌||◌, if◌then◌else◌, slice_get}
+use Rattle.std.specs.Prelude.{◌⊎◌, ◌||◌, not, if◌then◌else◌, slice_get}
 use Rattle.std.proofs.lemmas.Bool.{or_left, or_right, eq-eqb, eqb-true}
-use Rattle.std.proofs.lemmas.List.{length-append}
 use Rattle.std.proofs.lemmas.List.Folds.{list_any-append}
 use Rattle.dcc_ir.specs.Tree as inner
 use Rattle.dcc_ir.specs.Live.{block_in}
 use Rattle.dcc_ir.specs.WellFormed.{IsGraph}
-use Rattle.dcc_c.specs.Parts.{stmts_in, inner_stmts, arm_stmts}
 use Rattle.dcc_c.specs.Tree as tree
 use Rattle.dcc_c.specs.Tree.{Word, Expr, Stmt, Lines, no_lines, line, Tree}
 use Rattle.dcc_c.specs.Run.{Continuation, ends_function, runs, tests, turns, ends_switch, State, goes_on, stmt_step, step_at, after_break, after_continue, first_of, from_label, from_label_inside, from_label_in_arms}
@@ -15,13 +13,14 @@ use Rattle.dcc_text.specs.Spelling.{Spelling}
 use Rattle.dcc_text.specs.Stmts.{stmt_text}
 use Rattle.dcc_plan.specs.Labels.{label_at}
 use Rattle.dcc_control.specs.Plan as plan
-use Rattle.dcc_control.specs.Plan.{Item, Plan, no_items, item, Arms, marks, item_marks, arm_marks, turns as turns_of, item_turns, arm_turns, is_in, is_begun}
+use Rattle.dcc_control.specs.Plan.{Item, Plan, no_items, item, Arms, marks, item_marks, arm_marks, turns as turns_of, item_turns, arm_turns, is_in, is_begun, starts_with}
 use Rattle.dcc_plan.specs.PlanText as planned
-use Rattle.dcc_plan.specs.PlanText.{text_of_stmt, text_of_return, IsPlanText, nothing, one_more, IsItemText, AreArmsText}
-use Rattle.dcc_control.specs.Valid.{Point, Begin, Nowhere, Leads, Context, outside, item_entry, entry, turn, IsValid, IsValidItem, AreValidArms}
+use Rattle.dcc_plan.specs.Steps.{steps_in, stmt_steps, arm_steps}
+use Rattle.dcc_plan.specs.PlanText.{text_of_stmt, text_of_return, text_of_way, IsPlanText, nothing, one_more, IsItemText, AreArmsText}
+use Rattle.dcc_control.specs.Valid.{Point, Begin, Before, Nowhere, Leads, Context, outside, way, end_of, item_entry, entry, IsValid, IsValidItem, AreValidArms}
 use Rattle.dcc_plan.proofs.LabelLaws.{label-tested}
 
--- How many statements lines hold, those inside others too.
+-- How many steps lines have, those inside others too, and how many a statement has after its first one.
 abbrev mutual
   pub lines_count : Lines → ℕ
   lines_count no_lines = 0
@@ -29,8 +28,8 @@ abbrev mutual
 
   pub inside_count : Stmt → ℕ
   inside_count (tree.If e body otherwise) = lines_count body + lines_count otherwise
-  inside_count (tree.While e body) = lines_count body
-  inside_count (tree.DoWhile body e) = lines_count body
+  inside_count (tree.While e body) = suc (lines_count body)
+  inside_count (tree.DoWhile body e) = suc (lines_count body)
   inside_count (tree.Forever body) = lines_count body
   inside_count (tree.Switch e arms last) = arms_count arms + arms_count last
   inside_count _ = 0
@@ -40,18 +39,16 @@ abbrev mutual
   arms_count (tree.arm cases body arms) = lines_count body + arms_count arms
 
 mutual
-  pub count-is : (lines : Lines) → lines_count lines ≡ length (stmts_in lines)
+  pub count-is : (lines : Lines) → lines_count lines ≡ steps_in lines
   count-is no_lines = refl
-  count-is (line stmt at lines) =
-      let whole = length-append (inner_stmts stmt) (stmts_in lines) in
-      ap suc (ap₂ (λ a b. a + b) (inside-is stmt) (count-is lines) ∙ sym whole)
+  count-is (line stmt at lines) = let first = inside-is stmt in let others = count-is lines in omega (arith, first, others)
 
-  inside-is : (stmt : Stmt) → inside_count stmt ≡ length (inner_stmts stmt)
-  inside-is (tree.If e body otherwise) = ap₂ (λ a b. a + b) (count-is body) (count-is otherwise) ∙ sym (length-append (stmts_in body) (stmts_in otherwise))
-  inside-is (tree.While e body) = count-is body
-  inside-is (tree.DoWhile body e) = count-is body
-  inside-is (tree.Forever body) = count-is body
-  inside-is (tree.Switch e arms last) = ap₂ (λ a b. a + b) (arms-is arms) (arms-is last) ∙ sym (length-append (arm_stmts arms) (arm_stmts last))
+  inside-is : (stmt : Stmt) → suc (inside_count stmt) ≡ stmt_steps stmt
+  inside-is (tree.If e body otherwise) = ap₂ (λ a b. suc (a + b)) (count-is body) (count-is otherwise)
+  inside-is (tree.While e body) = ap (λ a. suc (suc a)) (count-is body)
+  inside-is (tree.DoWhile body e) = ap (λ a. suc (suc a)) (count-is body)
+  inside-is (tree.Forever body) = ap suc (count-is body)
+  inside-is (tree.Switch e arms last) = ap₂ (λ a b. suc (a + b)) (arms-are arms) (arms-are last)
   inside-is (tree.Assign place e) = refl
   inside-is (tree.Call place function arguments depth) = refl
   inside-is tree.Break = refl
@@ -61,15 +58,15 @@ mutual
   inside-is tree.Empty = refl
   inside-is (tree.Return e) = refl
 
-  arms-is : (arms : tree.Arms) → arms_count arms ≡ length (arm_stmts arms)
-  arms-is tree.no_arms = refl
-  arms-is (tree.arm cases body arms) = ap₂ (λ a b. a + b) (count-is body) (arms-is arms) ∙ sym (length-append (stmts_in body) (arm_stmts arms))
+  arms-are : (arms : tree.Arms) → arms_count arms ≡ arm_steps arms
+  arms-are tree.no_arms = refl
+  arms-are (tree.arm cases body arms) = ap₂ (λ a b. a + b) (count-is body) (arms-are arms)
 
--- how many statements are left, without those of turns to come
+-- how many steps are left, without those of turns to come
 abbrev pub left : Continuation → ℕ
 left (ends_function at) = 0
 left (runs lines rest) = lines_count lines + left rest
-left (tests e body at rest) = left rest
+left (tests e body at rest) = suc (left rest)
 left (turns body rest) = left rest
 left (ends_switch rest) = left rest
 
@@ -86,9 +83,23 @@ is_jumping (runs (line stmt at lines) rest) = is_jump_stmt stmt
 is_jumping (ends_switch rest) = is_jumping rest
 is_jumping _ = false
 
--- the contexts inside a loop and inside a choice that stand in this one
+-- the contexts inside loops and inside a choice that stand in this one
 abbrev pub loop_context : ℕ → Context → Context
 loop_context b c = record { next = Begin b; at_break = c.next; at_continue = Begin b }
+
+-- where a loop that tests first and one that tests last stand before the test, which is at the end of the block
+abbrev pub test_point : inner.Graph → Bool → ℕ → Point
+test_point graph true b = Begin b
+test_point graph false b = end_of graph b
+
+-- where `continue` leads in them
+abbrev pub continue_point : Bool → ℕ → Point
+continue_point true b = Begin b
+continue_point false b = Nowhere
+
+abbrev pub test_context : inner.Graph → Bool → ℕ → Context → Context
+test_context graph first b c =
+    record { next = test_point graph first b; at_break = c.next; at_continue = continue_point first b }
 
 abbrev pub choice_context : Context → Context
 choice_context c = record { next = c.next; at_break = c.next; at_continue = c.at_continue }
@@ -102,7 +113,7 @@ module _ (s : Spelling) (graph : inner.Graph) (whole : Plan) where
   abbrev begun : ℕ → Bool
   begun b = is_begun whole b
 
-  -- each label and each loop stands where a block begins
+  -- the text has a step where the blocks of these labels and loops begin
   abbrev mutual
     pub AreBegun : Plan → Type 0
     AreBegun no_items = Unit {0}
@@ -113,6 +124,8 @@ module _ (s : Spelling) (graph : inner.Graph) (whole : Plan) where
     IsBegun (plan.If b one other) = AreBegun one × AreBegun other
     IsBegun (plan.Switch b arms) = ArmsBegun arms
     IsBegun (plan.For b body) = (begun b ≡ true) × AreBegun body
+    IsBegun (plan.While on b body) = AreBegun body
+    IsBegun (plan.DoWhile on b head body) = AreBegun body
     IsBegun _ = Unit {0}
 
     pub ArmsBegun : Arms → Type 0
@@ -129,14 +142,60 @@ module _ (s : Spelling) (graph : inner.Graph) (whole : Plan) where
   abbrev pub SoundArms : Arms → Context → Type 0
   SoundArms arms c = AreValidArms graph whole arms c × ArmsBegun arms
 
-  -- What is left is the text of valid plans, in a context; a turn has no more statements than the limit.
+  -- A loop with a test at the end of a block: where the test leads, and a turn that is valid. One that tests first has no
+  -- statements in that block, and one that tests last starts with an item of a block.
+  pub record IsTesting (first on : Bool) (b : ℕ) (body : Plan) (c : Context) : Type 0 where
+    pub test : inner.Expr
+    pub if_true : ℕ
+    pub if_false : ℕ
+    pub exit : (block_in graph b).exit ≡ inner.If test if_true if_false
+    pub within : b < length graph.blocks
+    pub alone : first ≡ true → (block_in graph b).stmts ≡ []
+    pub starts : first ≡ false → (head : ℕ) × (starts_with head body ≡ true)
+    pub leads : Leads graph begun (Begin (way on if_true if_false)) (entry graph body (test_context graph first b c))
+    pub valid : Sound body (test_context graph first b c)
+    pub ends : Leads graph begun (Begin (way (not on) if_true if_false)) c.next
+
+  pub while-testing : (on : Bool) (b : ℕ) (body later : Plan) (c : Context) → SoundItem (plan.While on b body) later c
+      → IsTesting true on b body (record c { next = entry graph later c })
+  while-testing on b body later c ((test, if_true, if_false, exit, within, none, leads, valid, ends), begins) = record {
+    test = test;
+    if_true = if_true;
+    if_false = if_false;
+    exit = exit;
+    within = within;
+    alone = λ is. none;
+    starts = λ is. absurd (true≢false is);
+    leads = leads;
+    valid = (valid, begins);
+    ends = ends;
+  }
+
+  pub do-testing : (on : Bool) (b head : ℕ) (body later : Plan) (c : Context) → SoundItem (plan.DoWhile on b head body) later c
+      → IsTesting false on b body (record c { next = entry graph later c })
+  do-testing on b head body later c ((test, if_true, if_false, exit, within, known, starts, first, leads, valid, ends), begins) = record {
+    test = test;
+    if_true = if_true;
+    if_false = if_false;
+    exit = exit;
+    within = within;
+    alone = λ is. absurd (true≢false (sym is));
+    starts = λ is. (head, starts);
+    leads = leads;
+    valid = (valid, begins);
+    ends = ends;
+  }
+
+  -- What is left is the text of valid plans, in a context; a turn has no more steps than the limit.
   pub data Stands (limit : ℕ) : Continuation → Context → Type 0 where
     closes : {at : ℕ} → Stands limit (ends_function at) outside
     goes : {plan : Plan} {lines : Lines} {rest : Continuation} {c : Context} → IsPlanText s graph plan lines → Sound plan c → Stands limit rest c
         → Stands limit (runs lines rest) (record c { next = entry graph plan c })
     loops : {b : ℕ} {body : Plan} {lines : Lines} {rest : Continuation} {c : Context} → IsPlanText s graph body lines → b < length graph.blocks → begun b ≡ true
-        → Leads graph begun (turn b body) (entry graph body (loop_context b c)) → Sound body (loop_context b c) → Stands limit rest c
+        → Leads graph begun (Before b 0) (entry graph body (loop_context b c)) → Sound body (loop_context b c) → Stands limit rest c
         → suc (lines_count lines + left rest) ≤ limit → Stands limit (turns lines rest) (loop_context b c)
+    retests : {first on : Bool} {b at : ℕ} {body : Plan} {lines : Lines} {rest : Continuation} {c : Context} → IsPlanText s graph body lines → IsTesting first on b body c → Stands limit rest c
+        → suc (suc (lines_count lines + left rest)) ≤ limit → Stands limit (tests (text_of_way s on (block_in graph b).exit) lines at rest) (test_context graph first b c)
     leaves : {rest : Continuation} {c : Context} → Stands limit rest c → Stands limit (ends_switch rest) (choice_context c)
 
   -- The next statement, with its item.
@@ -168,7 +227,7 @@ module _ (s : Spelling) (graph : inner.Graph) (whole : Plan) where
     pub text : IsPlanText s graph body lines
     pub within : b < length graph.blocks
     pub begun_is : begun b ≡ true
-    pub leads : Leads graph begun (turn b body) (entry graph body (loop_context b context))
+    pub leads : Leads graph begun (Before b 0) (entry graph body (loop_context b context))
     pub valid : Sound body (loop_context b context)
     pub stands : Stands limit rest context
     pub few : suc (lines_count lines + left rest) ≤ limit
@@ -176,9 +235,29 @@ module _ (s : Spelling) (graph : inner.Graph) (whole : Plan) where
     pub steps : (t : Tree) (u : State) → step_at t k u ≡ goes_on (runs lines (turns lines rest)) u
     pub jumps : is_jumping k ≡ false
 
+  -- The test of a loop.
+  pub record AtTest (limit : ℕ) (k : Continuation) (next : Point) : Type 0 where
+    pub first : Bool
+    pub on : Bool
+    pub b : ℕ
+    pub at : ℕ
+    pub body : Plan
+    pub context : Context
+    pub lines : Lines
+    pub rest : Continuation
+    pub text : IsPlanText s graph body lines
+    pub testing : IsTesting first on b body context
+    pub stands : Stands limit rest context
+    pub few : suc (suc (lines_count lines + left rest)) ≤ limit
+    pub is : next ≡ test_point graph first b
+    pub steps : (t : Tree) (u : State) → step_at t k u ≡ step_at t (tests (text_of_way s on (block_in graph b).exit) lines at rest) u
+    pub count : left k ≡ suc (left rest)
+    pub jumps : is_jumping k ≡ false
+
   pub data Head (limit : ℕ) (k : Continuation) (next : Point) : Type 0 where
     at_item : AtItem limit k next → Head limit k next
     at_turn : AtTurn limit k next → Head limit k next
+    at_test : AtTest limit k next → Head limit k next
     at_end : next ≡ Nowhere → Head limit k next
 
   -- a rest of the text before an end that is no step stands as that rest does
@@ -217,6 +296,24 @@ module _ (s : Spelling) (graph : inner.Graph) (whole : Plan) where
     few = x.few;
     is = x.is;
     steps = λ t u. same t u ∙ x.steps t u;
+    jumps = jumps ∙ x.jumps;
+  })
+  past-end limit k k' next same count jumps (at_test x) = at_test (record {
+    first = x.first;
+    on = x.on;
+    b = x.b;
+    at = x.at;
+    body = x.body;
+    context = x.context;
+    lines = x.lines;
+    rest = x.rest;
+    text = x.text;
+    testing = x.testing;
+    stands = x.stands;
+    few = x.few;
+    is = x.is;
+    steps = λ t u. same t u ∙ x.steps t u;
+    count = count ∙ x.count;
     jumps = jumps ∙ x.jumps;
   })
   past-end limit k k' next same count jumps (at_end e) = at_end e
@@ -259,6 +356,24 @@ module _ (s : Spelling) (graph : inner.Graph) (whole : Plan) where
     steps = λ t u. refl;
     jumps = refl;
   })
+  head (retests {first = first} {on = on} {b = b} {at = at} {body = body} {lines = lines} {rest = rest} {c = c} text testing stands few) = at_test (record {
+    first = first;
+    on = on;
+    b = b;
+    at = at;
+    body = body;
+    context = c;
+    lines = lines;
+    rest = rest;
+    text = text;
+    testing = testing;
+    stands = stands;
+    few = few;
+    is = refl;
+    steps = λ t u. refl;
+    count = refl;
+    jumps = refl;
+  })
   head (leaves {rest = rest} {c = c} stands) = past-end _ rest (ends_switch rest) c.next (λ t u. refl) refl refl (head stands)
 
   -- Jumps.
@@ -282,19 +397,43 @@ module _ (s : Spelling) (graph : inner.Graph) (whole : Plan) where
   break-lands (goes {lines = lines} {rest = rest} text valid stands) = elim (break-lands stands) [ inl none ↦ inl none | inr x ↦ inr (more (lines_count lines + left rest) (omega arith) x) ]
   break-lands (loops {rest = rest} {c = c} text within begins leads valid stands few) =
       inr (record { to = rest; context = c; found = refl; stands = stands; is = refl; quiet = λ e. absurd (true≢false (sym e)); few = omega arith })
+  break-lands (retests {rest = rest} {c = c} text testing stands few) =
+      inr (record { to = rest; context = c; found = refl; stands = stands; is = refl; quiet = λ e. absurd (true≢false (sym e)); few = omega arith })
   break-lands (leaves {rest = rest} {c = c} stands) = inr (record { to = rest; context = c; found = refl; stands = stands; is = refl; quiet = λ e. absurd (true≢false (sym e)); few = omega arith })
+
+  -- `continue` in a loop that tests first leads to the test
+  test-continues : {limit : ℕ} (first on : Bool) (b at : ℕ) (lines : Lines) (rest : Continuation) (c : Context)
+      → Stands limit (tests (text_of_way s on (block_in graph b).exit) lines at rest) (test_context graph first b c)
+      → (continue_point first b ≡ Nowhere) ⊎ Lands limit (suc (left rest)) true (continue_point first b) (Some (tests (text_of_way s on (block_in graph b).exit) lines at rest))
+  test-continues true on b at lines rest c stands = inr (record {
+    to = tests (text_of_way s on (block_in graph b).exit) lines at rest;
+    context = test_context graph true b c;
+    found = refl;
+    stands = stands;
+    is = refl;
+    quiet = λ e. refl;
+    few = omega arith;
+  })
+  test-continues false on b at lines rest c stands = inl refl
+
+  test-starts : (first : Bool) (b : ℕ) → IsStart (continue_point first b)
+  test-starts true b = is_begin
+  test-starts false b = is_nowhere
 
   pub continue-lands : {limit : ℕ} {k : Continuation} {c : Context} → Stands limit k c → (c.at_continue ≡ Nowhere) ⊎ Lands limit (left k) true c.at_continue (after_continue k)
   continue-lands closes = inl refl
   continue-lands (goes {lines = lines} {rest = rest} text valid stands) = elim (continue-lands stands) [ inl none ↦ inl none | inr x ↦ inr (more (lines_count lines + left rest) (omega arith) x) ]
   continue-lands (loops {b = b} {lines = lines} {rest = rest} {c = c} text within begins leads valid stands few) =
       inr (record { to = turns lines rest; context = loop_context b c; found = refl; stands = loops text within begins leads valid stands few; is = refl; quiet = λ e. refl; few = omega arith })
+  continue-lands (retests {first = first} {on = on} {b = b} {at = at} {lines = lines} {rest = rest} {c = c} text testing stands few) =
+      test-continues first on b at lines rest c (retests text testing stands few)
   continue-lands (leaves stands) = continue-lands stands
 
   pub continue-starts : {limit : ℕ} {k : Continuation} {c : Context} → Stands limit k c → IsStart c.at_continue
   continue-starts closes = is_nowhere
   continue-starts (goes text valid stands) = continue-starts stands
   continue-starts (loops text within begins leads valid stands few) = is_begin
+  continue-starts (retests {first = first} {b = b} text testing stands few) = test-starts first b
   continue-starts (leaves stands) = continue-starts stands
 
   -- Labels.
@@ -353,6 +492,25 @@ module _ (s : Spelling) (graph : inner.Graph) (whole : Plan) where
   return-plain (inner.Ret values) = record { no_label = λ word at lines rest. refl; no_jump = refl; no_inside = refl }
   return-plain inner.Stop = record { no_label = λ word at lines rest. refl; no_jump = refl; no_inside = refl }
 
+  -- what starts with an item of a block starts with no jump
+  pub starts-quiet : (head : ℕ) (p : Plan) (lines : Lines) (rest : Continuation) → IsPlanText s graph p lines → starts_with head p ≡ true → is_jumping (runs lines rest) ≡ false
+  starts-quiet head no_items lines rest text is = absurd (true≢false (sym is))
+  starts-quiet head (item i p) no_lines rest text is = elim text [ ]
+  starts-quiet head (item i p) (line stmt at lines) rest (one_more text others) is = by i stmt text is
+    where
+      by : (i : Item) (stmt : Stmt) → IsItemText s graph i stmt → plan.is_of head i ≡ true → is_jump_stmt stmt ≡ false
+      by (plan.Do a m) stmt planned.does is = (do-plain a m).no_jump
+      by (plan.If a one other) stmt (planned.tests x y) is = refl
+      by (plan.Switch a arms) stmt (planned.chooses x) is = refl
+      by (plan.Mark a) stmt x is = absurd (true≢false (sym is))
+      by (plan.Jump a) stmt x is = absurd (true≢false (sym is))
+      by (plan.Return a) stmt x is = absurd (true≢false (sym is))
+      by (plan.For a body) stmt x is = absurd (true≢false (sym is))
+      by (plan.While on a body) stmt x is = absurd (true≢false (sym is))
+      by (plan.DoWhile on a head body) stmt x is = absurd (true≢false (sym is))
+      by plan.Break stmt x is = absurd (true≢false (sym is))
+      by plan.Continue stmt x is = absurd (true≢false (sym is))
+
   module _ (limit : ℕ) (well : IsGraph graph) (b : ℕ) (known : b < length graph.blocks) where
     abbrev word : Word
     word = label_at graph.blocks b
@@ -406,6 +564,16 @@ module _ (s : Spelling) (graph : inner.Graph) (whole : Plan) where
       search-item (plan.For a body) stmt at later lines rest c (planned.repeats {lines = inner_lines} text) valid others later_valid stands few =
           wider (suc (lines_count inner_lines + lines_count lines + left rest)) (omega arith)
           (search-plan body inner_lines (turns inner_lines (runs lines rest)) _ text (valid.0.2, valid.1.1) (loops text valid.0.0 valid.1.0 valid.0.1 (valid.0.2, valid.1.1) (goes others later_valid stands) (omega (arith, few))) (omega (arith, few)))
+      search-item (plan.While on a body) stmt at later lines rest c (planned.tests_first {lines = inner_lines} text) valid others later_valid stands few =
+          let testing = while-testing on a body later c valid in
+          wider (suc (suc (lines_count inner_lines) + lines_count lines + left rest)) (omega arith)
+          (search-plan body inner_lines (tests (text_of_way s on (block_in graph a).exit) inner_lines at (runs lines rest)) _ text testing.valid
+          (retests text testing (goes others later_valid stands) (omega (arith, few))) (omega (arith, few)))
+      search-item (plan.DoWhile on a top body) stmt at later lines rest c (planned.tests_last {lines = inner_lines} text) valid others later_valid stands few =
+          let testing = do-testing on a top body later c valid in
+          wider (suc (suc (lines_count inner_lines) + lines_count lines + left rest)) (omega arith)
+          (search-plan body inner_lines (tests (text_of_way s on (block_in graph a).exit) inner_lines at (runs lines rest)) _ text testing.valid
+          (retests text testing (goes others later_valid stands) (omega (arith, few))) (omega (arith, few)))
       search-item plan.Break stmt at later lines rest c planned.breaks valid others later_valid stands few = absent refl refl
       search-item plan.Continue stmt at later lines rest c planned.continues valid others later_valid stands few = absent refl refl
 
@@ -453,6 +621,8 @@ module _ (s : Spelling) (graph : inner.Graph) (whole : Plan) where
     is-begun (plan.Switch b arms) ms ts = arms-begun arms ms ts
     is-begun (plan.Return b) ms ts = tt
     is-begun (plan.For b body) ms ts = (one-among b (turns_of body) ts, are-begun body ms (λ a found. ts a (or_right (b == a) (is_in a (turns_of body)) found)))
+    is-begun (plan.While on b body) ms ts = are-begun body ms ts
+    is-begun (plan.DoWhile on b top body) ms ts = are-begun body ms ts
     is-begun plan.Break ms ts = tt
     is-begun plan.Continue ms ts = tt
 

@@ -16,7 +16,7 @@ use Rattle.dcc_plan.specs.PlanText as planned
 use Rattle.dcc_plan.specs.PlanText.{IsPlanText, IsItemText}
 use Rattle.dcc_plan.specs.Programs.{OpensWith, at_once, one_more}
 use Rattle.dcc_control.specs.Valid.{Point, Begin, Nowhere, Context, outside, item_entry, entry}
-use Rattle.dcc_plan.proofs.Rests.{Sound, SoundItem, lines_count, inside_count, left, is_jump_stmt, is_jumping, Stands, closes, goes, Lands, AtItem, at_item, at_turn, at_end, head, break-lands, continue-lands, absent, lands, do-plain, return-plain, search-plan}
+use Rattle.dcc_plan.proofs.Rests.{Sound, SoundItem, lines_count, inside_count, left, is_jump_stmt, is_jumping, Stands, closes, goes, Lands, AtItem, at_item, at_turn, at_test, at_end, head, break-lands, continue-lands, absent, lands, do-plain, return-plain, search-plan}
 
 -- assignments have no labels
 opened-label : (word : Word) (count : ℕ) (body lines : Lines) (rest : Continuation) → OpensWith count body lines → from_label word body rest ≡ from_label word lines rest
@@ -118,6 +118,8 @@ module _ (s : Spelling) (graph : inner.Graph) (whole : Plan) (limit : ℕ) (text
       by (plan.Switch a arms) stmt (planned.chooses text') good stands few = quiet (plan.Switch a arms) stmt (inl refl) stands few
       by (plan.Return a) stmt planned.returns good stands few = quiet (plan.Return a) stmt (inl (return-plain s graph whole (block_in graph a).exit).no_jump) stands few
       by (plan.For a body) stmt (planned.repeats text') good stands few = quiet (plan.For a body) stmt (inl refl) stands few
+      by (plan.While on a body) stmt (planned.tests_first text') good stands few = quiet (plan.While on a body) stmt (inl refl) stands few
+      by (plan.DoWhile on a top body) stmt (planned.tests_last text') good stands few = quiet (plan.DoWhile on a top body) stmt (inl refl) stands few
       by plan.Break stmt planned.breaks good stands few = quiet plan.Break stmt (inr refl) stands few
       by plan.Continue stmt planned.continues good stands few = quiet plan.Continue stmt (inr refl) stands few
 
@@ -130,6 +132,7 @@ module _ (s : Spelling) (graph : inner.Graph) (whole : Plan) (limit : ℕ) (text
   settle (suc n) k point c small within stands same = elim (head s graph whole stands) [
     | at_item x ↦ by (λ k' c' small' within' stands' same'. settle n k' point c' small' within' stands' same') x x.first x.stmt x.text x.is x.valid x.steps x.count x.jumps
     | at_turn x ↦ stays k point c within stands same (inl x.jumps)
+    | at_test x ↦ stays k point c within stands same (inl x.jumps)
     | at_end none ↦ stays k point c within stands same (inr none)
   ]
     where
@@ -143,6 +146,8 @@ module _ (s : Spelling) (graph : inner.Graph) (whole : Plan) (limit : ℕ) (text
       by again x (plan.Switch a arms) stmt (planned.chooses text') is good steps count jumps = stays k point c within stands same (inl jumps)
       by again x (plan.Return a) stmt planned.returns is good steps count jumps = stays k point c within stands same (inl (jumps ∙ (return-plain s graph whole (block_in graph a).exit).no_jump))
       by again x (plan.For a p) stmt (planned.repeats text') is good steps count jumps = stays k point c within stands same (inl jumps)
+      by again x (plan.While on a p) stmt (planned.tests_first text') is good steps count jumps = stays k point c within stands same (inl jumps)
+      by again x (plan.DoWhile on a top p) stmt (planned.tests_last text') is good steps count jumps = stays k point c within stands same (inl jumps)
       by again x plan.Break stmt planned.breaks is good steps count jumps = elim (break-lands s graph whole x.stands) [
         | inl none ↦ stays k point c within stands same (inr (is ∙ none))
         | inr l ↦

@@ -1,25 +1,42 @@
 -- What tests and choices at ends of blocks give in the text.
-use Rattle.std.proofs.Common.{◌≡◌, ℕ, zero, suc, ◌<◌, inl, inr, true, false, ◌==◌, refl, sym, ap, ◌∙◌, subst, arith}
-use Rattle.std.specs.Prelude.{◌⊎◌}
+use Rattle.std.proofs.Common.{◌≡◌, ℕ, zero, suc, ◌<◌, inl, inr, Bool, true, false, ◌==◌, refl, sym, ap, ◌∙◌, subst, true≢false, arith}
+use Rattle.std.specs.Prelude.{◌⊎◌, not}
 use Rattle.std.proofs.lemmas.Bool.{and_parts, eqb-true}
 use Rattle.dcc_ir.specs.Run as inner_run
 use Rattle.dcc_ir.specs.Tree as inner
 use Rattle.dcc_ir.specs.Value.{width_of, value_of, Fits}
 use Rattle.dcc_ir.specs.WellFormed.{is_expr, is_expr_of}
 use Rattle.dcc_c.specs.declared.syntax.Base.{Base}
-use Rattle.dcc_c.specs.declared.syntax.Base.TheVariants.{Uint}
+use Rattle.dcc_c.specs.declared.syntax.Base.TheVariants.{Uchar, Int, Uint}
+use Rattle.dcc_c.specs.declared.syntax.CUn.TheVariants.{Not}
 use Rattle.dcc_c.specs.Run as text_run
 use Rattle.dcc_c.specs.Tree.{Tree}
-use Rattle.dcc_c.specs.Types.{plain}
+use Rattle.dcc_c.specs.Types.{plain, convert, promoted_type}
 use Rattle.dcc_c.specs.Value as text_value
-use Rattle.dcc_c.specs.Value.{number, converted, Gives}
+use Rattle.dcc_c.specs.Value.{Value, number, converted, truth, is_zero, and_then, unary_value, Gives}
 use Rattle.dcc_text.specs.Spelling.{Spelling}
 use Rattle.dcc_text.specs.Spelled.{Way, Low, Exact, text}
 use Rattle.dcc_text.specs.Holding.{Locations, Alike, IsWithin, Holds}
-use Rattle.dcc_text.proofs.Sizes.{Size, bit, word, bits}
-use Rattle.dcc_text.proofs.Ways.{Text, word-cast}
+use Rattle.dcc_text.proofs.Sizes.{Size, bit, word, bits, kept}
+use Rattle.dcc_text.proofs.Ways.{Text, carries, word-cast}
 use Rattle.dcc_text.proofs.Texts.{stands, same-size}
 use Rattle.dcc_text.proofs.Assignments.{shown-within}
+use Rattle.dcc_plan.specs.PlanText.{text_of_way}
+
+-- a bit keeps its number where an operator promotes it
+promoted-bit : (base : Base) (k n : ℕ) → carries Exact bit base ≡ true → k ≡ n → n < 2 → convert base (promoted_type base) k ≡ n
+promoted-bit Uchar k n is same small = ap (convert Uchar Int) same ∙ kept bit Uchar n is small
+promoted-bit Int k n is same small = ap (convert Int Int) same ∙ kept bit Int n is small
+promoted-bit base k n is same small = absurd (true≢false (sym is))
+
+truth-opposite : (c : Bool) → is_zero (truth c) ≡ not c
+truth-opposite true = refl
+truth-opposite false = refl
+
+-- whether the test, or else its opposite, comes to 0
+abbrev pub comes_to_zero : Bool → ℕ → Bool
+comes_to_zero true n = n == 0
+comes_to_zero false n = not (n == 0)
 
 module _ (s : Spelling) (tree : Tree) (Has : Locations) (AreAlike : Alike) (i : inner_run.State) (t : text_run.State) (h : Holds s Has AreAlike i t) (fits : Fits (inner_run.scene_of i)) where
   -- the text of an expression of a size, in each way
@@ -41,6 +58,23 @@ module _ (s : Spelling) (tree : Tree) (Has : Locations) (AreAlike : Alike) (i : 
 
   pub test-gives : (e : inner.Expr) → is_expr_of s.bits 1 e ≡ true → IsWithin s Has e → Tests e
   test-gives e formed within = let x = text-of e bit Exact formed within in record { base = x.base; k = x.k; gives = x.number_is.valued; is = x.means; small = x.fits }
+
+  -- a test, or its opposite, comes to a value
+  pub record Turns (on : Bool) (e : inner.Expr) (one other : ℕ) : Type 0 where
+    pub value : Value
+    pub gives : text_value.value_of (text_run.scope_of tree t) (text_of_way s on (inner.If e one other)) ≡ Gives value
+    pub zero : is_zero value ≡ comes_to_zero on (inner_run.value_in i e)
+
+  pub way-gives : (on : Bool) (e : inner.Expr) (one other : ℕ) → is_expr_of s.bits 1 e ≡ true → IsWithin s Has e → Turns on e one other
+  way-gives true e one other formed within =
+      let x = test-gives e formed within in record { value = number x.base x.k; gives = x.gives; zero = ap (λ k. k == 0) x.is }
+  way-gives false e one other formed within =
+      let x = text-of e bit Exact formed within in
+      let same = promoted-bit x.base x.k (inner_run.value_in i e) x.is x.means x.fits in record {
+        value = truth (convert x.base (promoted_type x.base) x.k == 0);
+        gives = ap (and_then (unary_value Not)) x.number_is.valued;
+        zero = truth-opposite (convert x.base (promoted_type x.base) x.k == 0) ∙ ap (λ k. not (k == 0)) same;
+      }
 
   -- a choice is by the value
   pub record Chooses (e : inner.Expr) : Type 0 where

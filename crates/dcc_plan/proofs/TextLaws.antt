@@ -7,8 +7,8 @@ use Rattle.dcc_c.specs.Numbered.{numbered_stmt, numbered_lines, numbered_arms}
 use Rattle.dcc_c.specs.Tree.{Empty}
 use Rattle.dcc_text.specs.Spelling.{Spelling}
 use Rattle.dcc_text.specs.Stmts.{stmt_text}
-use Rattle.dcc_control.specs.Plan.{Item, Do, Mark, Jump, If, Switch, Return, For, Break, Continue, Plan, no_items, item, Arms, no_arms, arm}
-use Rattle.dcc_plan.specs.PlanText.{text_of_stmt, text_of_return, plan_text, item_text, arms_text, IsPlanText, nothing, one_more, IsItemText, does, marks, jumps, tests, chooses, returns, repeats, breaks, continues, AreArmsText, no_more, next_arm}
+use Rattle.dcc_control.specs.Plan.{Item, Do, Mark, Jump, If, Switch, Return, For, While, DoWhile, Break, Continue, Plan, no_items, item, Arms, no_arms, arm}
+use Rattle.dcc_plan.specs.PlanText.{text_of_stmt, text_of_return, plan_text, item_text, arms_text, IsPlanText, nothing, one_more, IsItemText, does, marks, jumps, tests, chooses, returns, repeats, tests_first, tests_last, breaks, continues, AreArmsText, no_more, next_arm}
 
 module _ (s : Spelling) (graph : inner.Graph) where
   -- a statement has no lines inside
@@ -47,6 +47,8 @@ module _ (s : Spelling) (graph : inner.Graph) where
     numbered-item (Switch b arms) depth at = chooses (numbered-arms arms _ _)
     numbered-item (Return b) depth at = subst (IsItemText s graph (Return b)) (sym (return-kept (block_in graph b).exit depth at)) returns
     numbered-item (For b body) depth at = repeats (numbered-plan body _ _)
+    numbered-item (While on b body) depth at = tests_first (numbered-plan body _ _)
+    numbered-item (DoWhile on b head body) depth at = tests_last (numbered-plan body _ _)
     numbered-item Break depth at = breaks
     numbered-item Continue depth at = continues
 

@@ -1,21 +1,21 @@
 -- The text of an item with others inside, from the texts of these.
-use Rattle.std.proofs.Common.{◌≡◌, ℕ, List, ◌∷◌, ◌++◌, [], drop, get_or, length, ◌+◌, ◌<◌, Vec, Global, None, sym, ap, ap₂, ◌∙◌}
+use Rattle.std.proofs.Common.{◌≡◌, ℕ, Bool, List, ◌∷◌, ◌++◌, [], drop, get_or, length, ◌+◌, ◌<◌, Vec, Global, None, sym, ap, ap₂, ◌∙◌}
 use Rattle.std.proofs.lemmas.List.{at_drop_more}
 use Rattle.dcc_ir.specs.Live.{block_in}
 use Rattle.dcc_ir.specs.Tree as inner
 use Rattle.dcc_c.specs.declared.syntax.CExpr.{CExpr}
-use Rattle.dcc_c.specs.declared.syntax.CStmt.{If as CIf, Switch as CSwitch, Forever as CForever}
+use Rattle.dcc_c.specs.declared.syntax.CStmt.{If as CIf, Switch as CSwitch, Forever as CForever, While as CWhile, DoWhile as CDoWhile}
 use Rattle.dcc_c.specs.declared.syntax.Line.{Line}
 use Rattle.dcc_c.specs.declared.syntax.Arm.{Arm as CArm}
 use Rattle.dcc_c.specs.Tree as tree
 use Rattle.dcc_c.specs.Views.{expr_of, stmt_of, lines_of, arms_of as c_arms_of, arm_before}
-use Rattle.dcc_c.proofs.RowLaws.{if-tree, switch-tree, forever-tree}
+use Rattle.dcc_c.proofs.RowLaws.{if-tree, switch-tree, forever-tree, while-tree, do_while-tree}
 use Rattle.dcc_text.specs.Spelling.{Spelling}
-use Rattle.dcc_control.specs.declared.item.Item.{Item as TheItem, If as IfOf, Switch as SwitchOf, For as ForOf}
+use Rattle.dcc_control.specs.declared.item.Item.{Item as TheItem, If as IfOf, Switch as SwitchOf, For as ForOf, While as WhileOf, DoWhile as DoWhileOf}
 use Rattle.dcc_control.specs.declared.item.Arm.{Arm as TheArm}
-use Rattle.dcc_plan.specs.PlanText.{text_of_test, text_of_choice, plan_text, item_text, arms_text}
+use Rattle.dcc_plan.specs.PlanText.{text_of_test, text_of_way, text_of_choice, plan_text, item_text, arms_text}
 use Rattle.dcc_control.specs.Views.{item_of, plan_of, arms_of}
-use Rattle.dcc_control.proofs.ItemRows.{if-item, switch-item, for-item}
+use Rattle.dcc_control.proofs.ItemRows.{if-item, switch-item, for-item, while-item, do-item}
 use Rattle.dcc_plan.proofs.TextRows.{lines_before, lines_before-append, bodies_before, bodies_before-append}
 
 module _ (s : Spelling) (graph : inner.Graph) where
@@ -51,6 +51,24 @@ module _ (s : Spelling) (graph : inner.Graph) where
       forever-tree body
       ∙ ap tree.Forever (body_is ∙ ap (λ items. plan_text s graph (plan_of items)) of_inside)
       ∙ ap (item_text s graph) (sym (for-item b inside))
+      ∙ ap (λ x. item_text s graph (item_of x)) (sym is)
+
+  pub while-text : (i : TheItem) (on : Bool) (b : ℕ) (inside : Vec TheItem Global) (given : List TheItem) (test : CExpr) (body : Vec Line Global)
+      → i ≡ WhileOf on b inside → given ≡ inside.items → expr_of test ≡ text_of_way s on (block_in graph b).exit
+      → lines_of body.items ≡ plan_text s graph (plan_of given) → stmt_of (CWhile test body) ≡ item_text s graph (item_of i)
+  while-text i on b inside given test body is of_inside test_is body_is =
+      while-tree test body
+      ∙ ap₂ tree.While test_is (body_is ∙ ap (λ items. plan_text s graph (plan_of items)) of_inside)
+      ∙ ap (item_text s graph) (sym (while-item on b inside))
+      ∙ ap (λ x. item_text s graph (item_of x)) (sym is)
+
+  pub do-text : (i : TheItem) (on : Bool) (b head : ℕ) (inside : Vec TheItem Global) (given : List TheItem) (test : CExpr) (body : Vec Line Global)
+      → i ≡ DoWhileOf on b head inside → given ≡ inside.items → expr_of test ≡ text_of_way s on (block_in graph b).exit
+      → lines_of body.items ≡ plan_text s graph (plan_of given) → stmt_of (CDoWhile body test) ≡ item_text s graph (item_of i)
+  do-text i on b head inside given test body is of_inside test_is body_is =
+      do_while-tree test body
+      ∙ ap₂ tree.DoWhile (body_is ∙ ap (λ items. plan_text s graph (plan_of items)) of_inside) test_is
+      ∙ ap (item_text s graph) (sym (do-item on b head inside))
       ∙ ap (λ x. item_text s graph (item_of x)) (sym is)
 
   -- the text of the items that are left, one further on

@@ -18,8 +18,8 @@ use Rattle.dcc_text.specs.Spelling.{Spelling}
 use Rattle.dcc_text.specs.Stmts.{stmt_text}
 use Rattle.dcc_control.specs.Complete.{completed}
 use Rattle.dcc_control.specs.GotoPlan.{goto_plan}
-use Rattle.dcc_control.specs.Plan.{Item, Mark, If, Switch, For, Break, Continue, Plan, no_items, item, Arms, no_arms}
-use Rattle.dcc_control.specs.Plan.{arm, all_cases}
+use Rattle.dcc_control.specs.Plan.{Item, Mark, If, Switch, For, While, DoWhile, Break, Continue, Plan, no_items, item}
+use Rattle.dcc_control.specs.Plan.{Arms, no_arms, arm, all_cases}
 use Rattle.dcc_plan.specs.PlanText.{IsPlanText}
 use Rattle.dcc_control.specs.Valid.{IsPlanOf}
 
@@ -48,6 +48,8 @@ abbrev mutual
   item_may_stand around (Switch b arms) =
       has_an_arm arms && (differ (all_cases arms) && arms_may_stand (in_switch around) arms)
   item_may_stand around (For b body) = may_stand (in_loop around) false body
+  item_may_stand around (While on b body) = may_stand (in_loop around) false body
+  item_may_stand around (DoWhile on b head body) = may_stand (in_loop around) false body
   item_may_stand around Break = around.breaks
   item_may_stand around Continue = around.continues
   item_may_stand around _ = true

@@ -16,7 +16,6 @@ use Rattle.dcc_ir.specs.Tree as inner
 use Rattle.dcc_ir.specs.Use.{exprs_of, writes_of, exit_exprs}
 use Rattle.dcc_ir.specs.WellFormed.{is_stmt, IsProgram}
 use Rattle.dcc_c.specs.Numbered.{numbered_lines}
-use Rattle.dcc_c.specs.Parts.{stmts_in}
 use Rattle.dcc_c.specs.Run as text_run
 use Rattle.dcc_c.specs.Run.{text_system}
 use Rattle.dcc_c.specs.Tree.{Function, Tree}
@@ -24,6 +23,7 @@ use Rattle.dcc_text.specs.Spelling.{Spelling}
 use Rattle.dcc_text.specs.Holding.{Locations, Alike, IsSpelling, IsWithin, Holds}
 use Rattle.dcc_text.specs.Laws.{IsStep}
 use Rattle.dcc_control.specs.Plan.{Plan}
+use Rattle.dcc_plan.specs.Steps.{steps_in}
 use Rattle.dcc_plan.specs.PlanText.{plan_text, IsPlanText}
 use Rattle.dcc_control.specs.Valid.{IsPlanOf, BeginsAll, has_step}
 
@@ -114,15 +114,14 @@ abbrev pub IsCounted : inner.Program → Tree → Function → ℕ → List ℕ 
 IsCounted p tree f fill input within = IsCountedBy (λ place. true) p tree f fill input within
 
 -- Where the first states hold what matters, the text of a valid plan counts the visits of a program that is never
--- stuck: it makes a step at least for each kept block, and at most as many for each block as the text has statements,
--- those inside others too.
+-- stuck: it makes a step at least for each kept block, and at most as many for each block as there are in the text.
 abbrev pub TextsCount : Family → Alike → Type 0
 TextsCount family AreAlike = (p : inner.Program) (graph : inner.Graph) (s : Spelling) (plan : Plan)
     (tree : Tree) (f : Function) (fill : ℕ) (input : List ℕ) (kept : Place → Bool)
     → IsTextOf p graph s family plan f → AreKept graph plan kept → AreBytes input → NeverStuck p fill input
     → Holds s (family (block_in graph 0) (block_in graph 0).stmts) AreAlike (inner_run.first_state p fill input)
     (text_run.first_state tree f fill input)
-    → (within : ℕ) → length (stmts_in f.body) ≤ within → IsCountedBy kept p tree f fill input within
+    → (within : ℕ) → steps_in f.body ≤ within → IsCountedBy kept p tree f fill input within
 
 -- the text of a plan counts each visit, where it has a step where each block begins
 abbrev pub PlansCount : Family → Alike → Type 0
@@ -131,4 +130,4 @@ PlansCount family AreAlike = (p : inner.Program) (graph : inner.Graph) (s : Spel
     → IsPlanned p graph s family plan f → AreBytes input → NeverStuck p fill input
     → Holds s (family (block_in graph 0) (block_in graph 0).stmts) AreAlike (inner_run.first_state p fill input)
     (text_run.first_state tree f fill input)
-    → (within : ℕ) → length (stmts_in f.body) ≤ within → IsCounted p tree f fill input within
+    → (within : ℕ) → steps_in f.body ≤ within → IsCounted p tree f fill input within

@@ -1,6 +1,7 @@
 pub mod Labels
 pub mod PlanText
 pub mod Allowed
+pub mod Steps
 pub mod Laws
 pub mod Calls
 pub mod CallLaws

@@ -1,10 +1,11 @@
 -- The text of a plan.
-use Rattle.std.specs.Prelude.{ℕ, false, List, slice_get, Some, None}
+use Rattle.std.specs.Prelude.{ℕ, Bool, true, false, List, slice_get, Some, None}
 use Rattle.dcc_ir.specs.Tree as inner
 use Rattle.dcc_ir.specs.Live.{block_in}
 use Rattle.dcc_c.specs.declared.syntax.Base.TheVariants.{Int}
-use Rattle.dcc_c.specs.Tree.{Expr, Number, Stmt, If, Forever, Switch, Break, Continue, Goto, Label, Empty, Lines}
-use Rattle.dcc_c.specs.Tree.{no_lines, line, Arms, no_arms, arm}
+use Rattle.dcc_c.specs.declared.syntax.CUn.TheVariants.{Not}
+use Rattle.dcc_c.specs.Tree.{Expr, Number, Unary, Stmt, If, While, DoWhile, Forever, Switch, Break, Continue, Goto}
+use Rattle.dcc_c.specs.Tree.{Label, Empty, Lines, no_lines, line, Arms, no_arms, arm}
 use Rattle.dcc_text.specs.Spelling.{Spelling}
 use Rattle.dcc_text.specs.Spelled.{Low, Exact, text}
 use Rattle.dcc_text.specs.Stmts.{stmt_text}
@@ -25,6 +26,11 @@ text_of_stmt s graph b m = elim (slice_get (block_in graph b).stmts m) [
 abbrev pub text_of_test : Spelling → inner.Exit → Expr
 text_of_test s (inner.If test one other) = text s Exact false test
 text_of_test s _ = Number 0 Int
+
+-- the test, or its opposite, that comes to a truth value where the test comes to this one
+abbrev pub text_of_way : Spelling → Bool → inner.Exit → Expr
+text_of_way s true exit = text_of_test s exit
+text_of_way s false exit = Unary Not (text_of_test s exit)
 
 -- the value that a block's end chooses by: a `switch` takes it modulo 65536
 abbrev pub text_of_choice : Spelling → inner.Exit → Expr
@@ -52,6 +58,10 @@ abbrev mutual
       Switch (text_of_choice s (block_in graph b).exit) (arms_text s graph arms) no_arms
   item_text s graph (plan.Return b) = text_of_return s (block_in graph b).exit
   item_text s graph (plan.For b body) = Forever (plan_text s graph body)
+  item_text s graph (plan.While on b body) =
+      While (text_of_way s on (block_in graph b).exit) (plan_text s graph body)
+  item_text s graph (plan.DoWhile on b head body) =
+      DoWhile (plan_text s graph body) (text_of_way s on (block_in graph b).exit)
   item_text s graph plan.Break = Break
   item_text s graph plan.Continue = Continue
 
@@ -80,6 +90,10 @@ mutual
     returns : {b : ℕ} → IsItemText s graph (plan.Return b) (text_of_return s (block_in graph b).exit)
     repeats : {b : ℕ} {body : Plan} {lines : Lines} → IsPlanText s graph body lines
         → IsItemText s graph (plan.For b body) (Forever lines)
+    tests_first : {on : Bool} {b : ℕ} {body : Plan} {lines : Lines} → IsPlanText s graph body lines
+        → IsItemText s graph (plan.While on b body) (While (text_of_way s on (block_in graph b).exit) lines)
+    tests_last : {on : Bool} {b head : ℕ} {body : Plan} {lines : Lines} → IsPlanText s graph body lines
+        → IsItemText s graph (plan.DoWhile on b head body) (DoWhile lines (text_of_way s on (block_in graph b).exit))
     breaks : IsItemText s graph plan.Break Break
     continues : IsItemText s graph plan.Continue Continue
 

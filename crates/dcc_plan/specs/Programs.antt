@@ -5,7 +5,6 @@ use Rattle.dcc_ir.specs.Families.{Family}
 use Rattle.dcc_ir.specs.Fitting.{AreBytes}
 use Rattle.dcc_ir.specs.Tree as inner
 use Rattle.dcc_ir.specs.WellFormed.{IsProgram}
-use Rattle.dcc_c.specs.Parts.{stmts_in}
 use Rattle.dcc_c.specs.Tree.{Expr, Assign, Lines, line, Function, Tree}
 use Rattle.dcc_text.specs.Spelling.{Spelling}
 use Rattle.dcc_text.specs.Holding.{IsSpelling, Setting}
@@ -15,6 +14,7 @@ use Rattle.dcc_plan.specs.Calls.{Opens, AreFunctions}
 use Rattle.dcc_plan.specs.Laws.{Matters, NeverStuck, AreKept, IsCountedBy}
 use Rattle.dcc_control.specs.Plan.{Plan}
 use Rattle.dcc_plan.specs.PlanText.{IsPlanText}
+use Rattle.dcc_plan.specs.Steps.{steps_in}
 use Rattle.dcc_control.specs.Valid.{IsPlanOf}
 
 -- What stands for each graph: a spelling, a function, the locations that matter, and a plan; and of the function's body
@@ -73,14 +73,14 @@ pub record IsProgramText (p : inner.Program) (opens : Opens) (texts : Texts) (tr
 abbrev pub AreAllKept : inner.Program → Texts → (Place → Bool) → Type 0
 AreAllKept p texts kept = (graph : inner.Graph) → Contains p.graphs graph → AreKept graph (texts.plan graph) kept
 
--- the statements of the functions, those inside others too, and one for each function
+-- the steps of the functions, and one for each function
 abbrev pub text_size : List Function → ℕ
 text_size [] = 0
-text_size (f ∷ functions) = suc (length (stmts_in f.body)) + text_size functions
+text_size (f ∷ functions) = suc (steps_in f.body) + text_size functions
 
 -- The text counts the visits of a program that is never stuck: it makes a step at least for each kept block, and at
--- most as many for each block as the text has statements and functions. What comes of a block after its call's return
--- is paid for with the block.
+-- most as many for each block as there are in the functions, and one for each function. What comes of a block after
+-- its call's return is paid for with the block.
 abbrev pub ProgramsCount : Opens → Texts → Type 0
 ProgramsCount opens texts = (p : inner.Program) (tree : Tree) (graph : inner.Graph) (others : List inner.Graph)
     (fill : ℕ) (input : List ℕ) (kept : Place → Bool) → IsProgramText p opens texts tree

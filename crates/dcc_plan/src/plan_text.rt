@@ -10,7 +10,7 @@ ghost use Rattle.dcc_plan.specs.Labels as labels;
 ghost use Rattle.dcc_plan.specs.PlanText as spec;
 ghost use Rattle.dcc_control.specs.Views.{item_of, plan_of, arms_of};
 
-use dcc_c::{Arm as CArm, Base, CExpr, CStmt, Line};
+use dcc_c::{Arm as CArm, Base, CExpr, CStmt, CUn, Line};
 use dcc_control::{Arm, Item};
 use dcc_ir::{Block, End, Expr, Graph};
 use dcc_text::expression::expr_text;
@@ -79,6 +79,25 @@ fn test_at<S: Spells>(alloc: Global, s: &S, graph: &Graph, b: u32) -> Result<CEx
     match graph.blocks.get(b as usize) {
         Some(block) => test_of(alloc, s, &block.end),
         None => Ok(CExpr::Num(0, Base::Int)),
+    }
+}
+
+// The test at the end of the block at a place in the graph, or its opposite, true where the test comes to this truth.
+fn way_at<S: Spells>(
+    alloc: Global,
+    s: &S,
+    graph: &Graph,
+    on: bool,
+    b: u32,
+) -> Result<CExpr, AllocError>
+    ensures { IfOk result (λ r. expr_of r
+        ≡ spec.text_of_way (S.spelling s.now) on (block_in (graph_of graph.now) b).exit) }
+{
+    let test = test_at(alloc, s, graph, b)?;
+    if on {
+        Ok(test)
+    } else {
+        Ok(CExpr::Un(CUn::Not, Box::new(alloc, test)?))
     }
 }
 
@@ -154,6 +173,16 @@ fn item_text<S: Spells>(
         Item::For(_, inner) => {
             let body = plan_text(alloc, s, graph, inner)?;
             Ok(CStmt::Forever(body))
+        }
+        Item::While(on, b, inner) => {
+            let body = plan_text(alloc, s, graph, inner)?;
+            let test = way_at(alloc, s, graph, *on, *b)?;
+            Ok(CStmt::While(test, body))
+        }
+        Item::DoWhile(on, b, _, inner) => {
+            let body = plan_text(alloc, s, graph, inner)?;
+            let test = way_at(alloc, s, graph, *on, *b)?;
+            Ok(CStmt::DoWhile(body, test))
         }
         Item::Break => Ok(CStmt::Break),
         Item::Continue => Ok(CStmt::Continue),

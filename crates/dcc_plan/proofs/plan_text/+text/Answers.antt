@@ -9,7 +9,7 @@ use Rattle.dcc_control.specs.declared.item.Item.{Item}
 use Rattle.dcc_control.specs.declared.item.Item.TheViews.{If, the_lemmas}
 use Rattle.dcc_control.proofs.item.Item.TheLaws.{the_size}
 use Rattle.dcc_plan.proofs.TextRows.{lines_before, bodies_before, lines_before-none, bodies_before-none, rolled-body}
-use Rattle.dcc_plan.proofs.WrittenItems.{if-text, switch-text, for-text, item-step, arm-step}
+use Rattle.dcc_plan.proofs.WrittenItems.{if-text, switch-text, for-text, while-text, do-text, item-step, arm-step}
 use Rattle.dcc_plan.proofs.plan_text.+text.Goals as goal
 
 pub arms_text-loop-arm-preserved : goal.arms_text-loop-arm-preserved
@@ -52,6 +52,16 @@ pub item_text-returns-in_ok-body-in-For : goal.item_text-returns-in_ok-body-in-F
 item_text-returns-in_ok-body-in-For g t c =
     for-text (g.S.Spells.spelling c.args.s.now) (graph_of c.args.graph.now) _ _ c.in-For.inner _ c.in_ok-body-in-For.body
     c.in-For.is c.deref-in-For.ensures.value c.in_ok-body-in-For.ensures
+
+pub item_text-returns-in_ok-test-in-While : goal.item_text-returns-in_ok-test-in-While
+item_text-returns-in_ok-test-in-While g t c =
+    while-text (g.S.Spells.spelling c.args.s.now) (graph_of c.args.graph.now) _ c.in-While.on c.in-While.b c.in-While.inner _ c.in_ok-test-in-While.test
+    c.in_ok-body-in-While.body c.in-While.is c.deref-in-While.ensures.value c.in_ok-test-in-While.ensures c.in_ok-body-in-While.ensures
+
+pub item_text-returns-in_ok-test-in-DoWhile : goal.item_text-returns-in_ok-test-in-DoWhile
+item_text-returns-in_ok-test-in-DoWhile g t c =
+    do-text (g.S.Spells.spelling c.args.s.now) (graph_of c.args.graph.now) _ c.in-DoWhile.on c.in-DoWhile.b _ c.in-DoWhile.inner _ c.in_ok-test-in-DoWhile.test
+    c.in_ok-body-in-DoWhile.body c.in-DoWhile.is c.deref-in-DoWhile.ensures.value c.in_ok-test-in-DoWhile.ensures c.in_ok-body-in-DoWhile.ensures
 
 pub plan_text-loop-item-preserved : goal.plan_text-loop-item-preserved
 plan_text-loop-item-preserved g t c =
