@@ -156,7 +156,8 @@ def page():
     return "\n".join([
         "# What must be believed",
         "",
-        "The theorem is the record `HasText`, and all that the program promises is `KeepsPromises`, the clause `promises` of"
+        "The theorem is the record `IsDecompiled`, which `HasText` says of a call; all that the program promises is"
+        " `KeepsPromises`, the clause `promises` of"
         " the call `dcc` (`crates/dcc_top/src/top.rt`). Whoever believes it believes the definitions that these rest on, the"
         " Rattle toolchain with its logic, and the C library; all other definitions, laws and code are proved, and no error in"
         " them can make it false.",

@@ -308,14 +308,7 @@ pub(crate) fn lifted(alloc: Global, code: &[u8]) -> Result<IrProgram, Fail>
     file.resize(96, 0)?;
     let image = load(alloc, &file)?;
     let program = analyse(alloc, &image, Cpu::I8086)?;
-    let lifted = lift(
-        alloc,
-        &image,
-        &program.layout,
-        &program.procs,
-        &program.heights,
-        &program.cells,
-    )?;
+    let lifted = lift(alloc, &image, &program)?;
     lifted_has_the_form();
     Ok(lifted)
 }

@@ -20,7 +20,7 @@ use crate::procedure::procedures_of;
 use dcc_ir::{Block, End, Graph, IrProgram, Loc, Param};
 use dcc_num::{FlagName, Flags, Half, Reg};
 use dcc_ops::{Writer, bit, byte, temporary_bits};
-use dcc_prog::{Cells, Heights, Image, LOAD_SEGMENT, Layout, Proc};
+use dcc_prog::{Image, LOAD_SEGMENT, Layout, Program};
 use std::alloc::{AllocError, Global};
 
 // A word register begins with what the prelude leaves in it.
@@ -156,41 +156,31 @@ fn data_image(alloc: Global, image: &Image, layout: &Layout) -> Result<Vec<u8>, 
 /// machine comes to their places, with the same events at the console and the same end, as long as the machine's run
 /// is clean.
 ///
-/// The procedures, heights and frames are those that the analyses give for the image and its layout. Want of memory
-/// alone is an error, and leaves nothing.
-pub fn lift(
-    alloc: Global,
-    image: &Image,
-    layout: &Layout,
-    procs: &Vec<Proc>,
-    heights: &Heights,
-    cells: &Cells,
-) -> Result<IrProgram, AllocError>
+/// The program is what the analyses give for the image. Want of memory alone is an error, and leaves nothing.
+pub fn lift(alloc: Global, image: &Image, program: &Program) -> Result<IrProgram, AllocError>
     requires loaded { IsLoaded image.now }
-    requires layout { HasLayout image.now layout.now }
-    requires found { AreFound image.now layout.now procs.now.items }
-    requires heights { AreHeights image.now layout.now procs.now.items heights.now }
-    requires cells { AreFrames image.now layout.now procs.now.items cells.now }
-    ensures lifted { IfOk result (λ program. IsLiftOf image.now
-        (record { layout = layout.now; procs = procs.now; heights = heights.now; cells = cells.now })
-        (program_of program)) }
+    requires layout { HasLayout image.now program.now.layout }
+    requires found { AreFound image.now program.now.layout program.now.procs.items }
+    requires heights { AreHeights image.now program.now.layout program.now.procs.items program.now.heights }
+    requires cells { AreFrames image.now program.now.layout program.now.procs.items program.now.cells }
+    ensures lifted { IfOk result (λ lifted. IsLiftOf image.now program.now (program_of lifted)) }
 {
-    let procedures = procedures_of(alloc, layout, procs, cells)?;
+    let procedures = procedures_of(alloc, &program.layout, &program.procs, &program.cells)?;
     let mut graphs = Vec::new(alloc);
-    for number in 0..procedures.len().min(heights.at.len()) {
+    for number in 0..procedures.len().min(program.heights.at.len()) {
         let scene = Scene {
-            cpu: layout.cpu,
+            cpu: program.layout.cpu,
             procedures: procedures.as_slice(),
             procedure: &procedures[number],
-            heights: &heights.at[number],
+            heights: &program.heights.at[number],
             before: before_of(number),
         };
-        graphs.push(graph(alloc, image, layout, scene)?)?;
+        graphs.push(graph(alloc, image, &program.layout, scene)?)?;
     }
     Ok(IrProgram {
         graphs,
-        image: data_image(alloc, image, layout)?,
-        lo: layout.lo,
-        hi: layout.hi,
+        image: data_image(alloc, image, &program.layout)?,
+        lo: program.layout.lo,
+        hi: program.layout.hi,
     })
 }

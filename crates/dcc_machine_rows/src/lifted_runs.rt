@@ -213,14 +213,7 @@ fn lifted_programs_run_as_their_executables_do(rt: HostRuntime) -> Result<(), Fa
         let ended = watch.run(&mut input, &mut out, 1_000);
         assert_eq!(rt; ended, Watched::Clean(row.end));
         assert_eq!(rt; out.taken().as_slice(), row.output);
-        let lifted = lift(
-            alloc,
-            &image,
-            &program.layout,
-            &program.procs,
-            &program.heights,
-            &program.cells,
-        )?;
+        let lifted = lift(alloc, &image, &program)?;
         for fill in [0, 65_535] {
             let outcome = run(alloc, &lifted, b"", fill, 1_000)?;
             assert_eq!(rt; Some(outcome.end), inner_end(row.end));

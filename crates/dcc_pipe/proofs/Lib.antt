@@ -35,8 +35,4 @@ pub mod ArrayTexts
 pub mod TypedLaws
 mod CallExample
 pub mod PipeLaws
-pub mod CountedRows
-pub mod CountedTrees
-pub mod UnbrokenText
-pub mod CountedSimple
 pub mod RefusedLaws

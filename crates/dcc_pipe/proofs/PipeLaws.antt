@@ -12,12 +12,12 @@ use Rattle.dcc_c.specs.Tree.{Tree}
 use Rattle.dcc_c.proofs.NumberedForm.{written_numbered}
 use Rattle.dcc_c.proofs.PrintLaws.{writable_stands}
 use Rattle.dcc_c.proofs.Writable.{IsWritable}
-use Rattle.dcc_pipe.specs.Unbroken.{is_unbroken_tree}
+use Rattle.dcc_print.specs.Unbroken.{is_unbroken_tree}
 use Rattle.dcc_pipe.specs.WholeText.{whole_text, FitsText}
 use Rattle.dcc_pipe.specs.Agreement.{IsTextOf}
 use Rattle.dcc_pipe.specs.Following.{IsFollowing}
 use Rattle.dcc_pipe.proofs.TextRuns.{text-agrees}
-use Rattle.dcc_pipe.proofs.UnbrokenText.{tree-unbroken}
+use Rattle.dcc_print.proofs.UnbrokenText.{tree-unbroken}
 use Rattle.dcc_pipe.proofs.WholeTexts.{program as inner_program}
 use Rattle.dcc_pipe.proofs.WritableWholes.{whole-writable}
 

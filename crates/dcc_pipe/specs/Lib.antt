@@ -7,7 +7,7 @@ pub mod WholeText
 pub mod TypedFrames
 pub mod Lines
 pub mod Agreement
-pub mod Unbroken
+pub mod Decompiled
 pub use Rattle.dcc_prog.specs.MzImage
 pub use Rattle.dcc_prog.specs.Refused
 pub use Rattle.dcc_machine_demand.specs.Asked

@@ -14,13 +14,13 @@ ghost use Rattle.dcc_pipe.specs.Agreement.{IsTextOf};
 ghost use Rattle.dcc_pipe.specs.TypedFrames.{AreTypedFrames, HasTypedFrames};
 
 use crate::analysis::analyse;
-use crate::number::number;
 use crate::preparation::prepared;
 use crate::unit::unit_of;
 use dcc_c::Unit;
 use dcc_instruction_demand::lifted_relations_are_the_machines;
 use dcc_kinds::{faults_are_constructs, summed_programs_have_none};
 use dcc_lift::lift;
+use dcc_print::number;
 use dcc_prog::{Cpu, Image, Program, Refusal, construct};
 use dcc_summaries::SumsFault;
 use std::alloc::Global;
@@ -35,14 +35,7 @@ fn text_of(alloc: Global, image: &Image, program: &Program) -> Result<Unit, Sums
     ensures none { IfOk result (λ unit. (kind at : ℕ) → ¬ IsOfSummaries (bodies_of program.now) kind at) }
     ensures fault { IfErr result (IsConstructOf (bodies_of program.now)) }
 {
-    let lifted = lift(
-        alloc,
-        image,
-        &program.layout,
-        &program.procs,
-        &program.heights,
-        &program.cells,
-    )?;
+    let lifted = lift(alloc, image, program)?;
     // What is at fault in the lifted program is a construct of the image, by the three laws that are called here.
     lifted_relations_are_the_machines();
     faults_are_constructs();

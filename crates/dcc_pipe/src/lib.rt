@@ -4,7 +4,6 @@
 mod analysis;
 mod decompilation;
 pub mod laws;
-mod number;
 mod passes;
 mod preparation;
 mod unit;

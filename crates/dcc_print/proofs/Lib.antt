@@ -4,3 +4,7 @@ pub mod IndentLaws
 pub mod JoinedLaws
 pub mod MinusLaws
 pub mod EndLaws
+pub mod CountedRows
+pub mod CountedTrees
+pub mod CountedSimple
+pub mod UnbrokenText

@@ -1,4 +1,5 @@
 pub mod Blocks
+pub mod Unbroken
 pub use Rattle.dcc_c.specs.Numbered
 pub use Rattle.dcc_c.specs.Views
 pub use Rattle.dcc_c.specs.Written

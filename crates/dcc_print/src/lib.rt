@@ -4,10 +4,10 @@
 mod block;
 mod declaration;
 mod expression;
-pub mod rows;
+mod numbering;
+mod rows;
 mod statement;
 pub mod unit;
 
-pub use rows::globals_rows;
-pub use statement::next_depth;
+pub use numbering::number;
 pub use unit::{PrintFault, print};

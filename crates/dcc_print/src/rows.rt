@@ -30,8 +30,8 @@ fn text_rows(text: &String) -> usize
     line_ends(text.as_bytes())
 }
 
-/// The lines of global variables.
-pub fn globals_rows(alloc: Global, globals: &[Global_]) -> Result<usize, AllocError>
+// The lines of global variables.
+pub(crate) fn globals_rows(alloc: Global, globals: &[Global_]) -> Result<usize, AllocError>
     ensures { IfOk result (λ n. n ≡ rows (written_globals None (map global_of globals.now))) }
 {
     let mut text = String::new(alloc);

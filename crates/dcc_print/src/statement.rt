@@ -30,7 +30,7 @@ pub(crate) fn push_line(text: &mut String, braces: usize, line: &str) -> Result<
 }
 
 /// The depth of the call that comes next, where one does: statements begin with it, or with its labels.
-pub fn next_depth(depth: u32, lines: &[Line]) -> u32
+pub(crate) fn next_depth(depth: u32, lines: &[Line]) -> u32
     ensures { result ≡ next_depth depth (lines_of lines.now) }
 {
     for line in lines {

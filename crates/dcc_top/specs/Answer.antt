@@ -22,17 +22,15 @@ use Rattle.dcc_prog.specs.declared.refusal.Refusal.TheVariants.{Memory as Memory
 use Rattle.dcc_prog.specs.Analysed.{IsProgramOf}
 use Rattle.dcc_prog.specs.MzImage.{IsImageOf}
 use Rattle.dcc_prog.specs.Refused.{IsRefusedByAnalysis, IsSound}
-use Rattle.dcc_machine_demand.specs.Refused.{IsRefusedFor, IsAcceptedProgram}
+use Rattle.dcc_machine_demand.specs.Refused.{IsRefusedFor}
 use Rattle.dcc_c.specs.Text.{StandsFor}
 use Rattle.dcc_c.specs.Tree.{Tree}
-use Rattle.dcc_c.specs.Written.{written_form}
 use Rattle.dcc_reader.specs.declared.offence.ParseKind.{ParseKind}
 use Rattle.dcc_reader.specs.KindWords.{kind_word}
 use Rattle.dcc_parse.specs.declared.fault.ParseFault.{ParseFault}
 use Rattle.dcc_parse.specs.declared.fault.ParseFault.TheVariants.{At, Memory as ParseMemory}
 use Rattle.dcc_parse.specs.Fault.{IsRefusal as IsTextRefusal}
-use Rattle.dcc_pipe.specs.Agreement.{IsTextOf}
-use Rattle.dcc_pipe.specs.TypedFrames.{HasTypedFrames}
+use Rattle.dcc_pipe.specs.Decompiled.{IsTextOfImage}
 use Rattle.dcc_top.specs.declared.reply.Reply.{Reply}
 use Rattle.dcc_top.specs.declared.reply.Reply.TheVariants.{Done, Exited, Usage, NoFile, FileFault, InputFault, Memory}
 use Rattle.dcc_top.specs.declared.reply.Reply.TheVariants.{Format, Construct, Limit, TextFault, Unfinished}
@@ -168,15 +166,6 @@ pub data HasNoUnit (told : Files) (name : List ℕ) : Reply → Type 0 where
       → HasNoUnit told name (TextFault line kind)
 
 -- What is made of an executable.
-
--- on this processor the image is accepted, and these bytes are the written form of a tree that is its text, in which of
--- each frame just what it exposes is in memory, and one byte where it exposes no local one and SP is moved by a sum
-pub record IsTextOfImage (cpu : Cpu) (image : Image) (text : List ℕ) : Type 0 where
-  pub accepted : IsAcceptedProgram cpu image
-  pub tree : Tree
-  pub is_text : IsTextOf cpu image text tree
-  pub typed : HasTypedFrames cpu image tree
-  pub written_is : text ≡ written_form tree
 
 -- on this processor these bytes are what is asked for of the image: its text, or the lines of its procedures
 abbrev pub IsMadeOf : Product → Cpu → Image → List ℕ → Type 0

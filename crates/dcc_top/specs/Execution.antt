@@ -1,7 +1,6 @@
 -- Runs: what they put out and take, how they end, and where a failed write cuts them off.
 use Rattle.std.specs.Prelude.{◌≡◌, ℕ, List, [], Option}
 use Rattle.dcc_io.specs.Told.{WhenTold}
-use Rattle.dcc_run.specs.Agreement.{KeepsUp}
 use Rattle.dcc_run.specs.End.{End, Running as running, Exit as exited, Divide as divided}
 use Rattle.dcc_run.specs.End.{Outside as outside, Stuck as stuck}
 use Rattle.dcc_prog.specs.declared.cpu.Cpu.{Cpu}
@@ -68,8 +67,3 @@ pub record IsCutRun {S : Type 0} (subject : Subject S) (steps : ℕ) (input outp
     (due : List ℕ) : Type 0 where
   pub is_due : WhenTold input.before (λ bytes. due ≡ output_after subject steps bytes)
   pub stops : WhenTold input.before (StopsAtWrite subject steps input.after output.before output.after)
-
--- on this input the other run, after some steps, keeps up with n steps of the first
-abbrev pub KeepsUpOn : {S T : Type 0} → List ℕ → Subject S → ℕ → Subject T → ℕ → Type 0
-KeepsUpOn input one n other steps =
-    KeepsUp one.console.system (one.start input) n other.console.system (other.start input) steps

@@ -3,7 +3,8 @@
 ghost use Rattle.std.specs.Prelude.{◌≤◌, ℕ, List, Option, Some, IfOk, OnErr};
 ghost use Rattle.dcc_io.specs.Count.{Rose};
 ghost use Rattle.dcc_prog.specs.MzImage.{IsLoaded};
-ghost use Rattle.dcc_top.specs.Answer.{AllowsImage, IsTextOfImage};
+ghost use Rattle.dcc_pipe.specs.Decompiled.{IsTextOfImage};
+ghost use Rattle.dcc_top.specs.Answer.{AllowsImage};
 ghost use Rattle.dcc_top.specs.Call.{shelf_change, sink_change, unread};
 ghost use Rattle.dcc_top.specs.Causes.{Replies};
 ghost use Rattle.dcc_top.specs.Delivery.{Answers, CutsShort};

@@ -10,38 +10,36 @@ use Rattle.dcc_lift.specs.Translation.{IsGraphOf, scenes_of}
 use Rattle.dcc_lift.proofs.FewLaws.{few_in_frames}
 use Rattle.dcc_lift.proofs.LowLaws.{Table, HasLow, low_heights}
 use Rattle.dcc_lift.proofs.SceneLaws.{AreGraphsOfFirst, Ascends, before_small, scene_made, all_ascend, one_ascends, no_graphs, graph_more, all_graphs}
-use Rattle.dcc_prog.specs.declared.frame.Program.{Program}
-use Rattle.dcc_stack.specs.Accepted.{IsProgramOfFile}
 use Rattle.dcc_lift.proofs.LiftLaws.{lift-of}
 use Rattle.dcc_lift.proofs.program.lift.Goals as goal
 
 pub procedures_of-requires : goal.procedures_of-requires
 procedures_of-requires c = record {
-  few = few_in_frames c.args.image.now c.args.layout.now c.args.procs.now.items c.args.cells.now.frames.items
+  few = few_in_frames c.args.image.now c.args.program.now.layout c.args.program.now.procs.items c.args.program.now.cells.frames.items
       c.requires.found.reached c.requires.cells.accepted c.requires.cells.frames;
 }
 
 pub loop-number-init : goal.loop-number-init
 loop-number-init c =
     let all = map procedure_of c.in_ok-procedures.procedures.items in
-    let heights = map (λ (table : Table). table.entries) c.args.heights.now.at.items in
-    subst (λ gs. AreGraphsOfFirst c.args.image.now c.args.layout.now all heights 0 (map graph_of gs))
+    let heights = map (λ (table : Table). table.entries) c.args.program.now.heights.at.items in
+    subst (λ gs. AreGraphsOfFirst c.args.image.now c.args.program.now.layout all heights 0 (map graph_of gs))
     (sym c.new-graphs.ensures.items)
-    (no_graphs c.args.image.now c.args.layout.now all heights)
+    (no_graphs c.args.image.now c.args.program.now.layout all heights)
 
 pub graph-requires : goal.graph-requires
 graph-requires c =
     let image = c.args.image.now in
-    let layout = c.args.layout.now in
-    let procs = c.args.procs.now.items in
+    let layout = c.args.program.now.layout in
+    let procs = c.args.program.now.procs.items in
     let known = c.in_ok-procedures.procedures.items in
-    let tables = c.args.heights.now.at.items in
+    let tables = c.args.program.now.heights.at.items in
     let n = c.loop-number.number in
     let one = c.index.result.now in
     let table = c.index-in-loop-number.result.now in
     let inside : n < length known = omega arith in
     let ascend = subst (All Ascends) (sym c.in_ok-procedures.ensures.procedures)
-    (all_ascend image layout procs c.args.cells.now.frames.items c.requires.found.found) in
+    (all_ascend image layout procs c.args.program.now.cells.frames.items c.requires.found.found) in
     let low = low_heights image layout c.requires.heights.accepted procs tables c.requires.found.reached
     c.requires.found.found c.requires.heights.at in
     let small = before_small n in
@@ -57,9 +55,9 @@ graph-requires c =
 pub loop-number-preserved : goal.loop-number-preserved
 loop-number-preserved c =
     let image = c.args.image.now in
-    let layout = c.args.layout.now in
+    let layout = c.args.program.now.layout in
     let known = c.in_ok-procedures.procedures.items in
-    let tables = c.args.heights.now.at.items in
+    let tables = c.args.program.now.heights.at.items in
     let all = map procedure_of known in
     let heights = map (λ (table : Table). table.entries) tables in
     let n = c.loop-number.number in
@@ -86,34 +84,27 @@ loop-number-preserved c =
 
 pub returns : goal.returns
 returns c =
-    let program : Program = record {
-      layout = c.args.layout.now;
-      procs = c.args.procs.now;
-      heights = c.args.heights.now;
-      cells = c.args.cells.now;
-    } in
-    let is : IsProgramOfFile c.args.layout.now.cpu c.args.image.now program = record {
-      loaded = c.requires.loaded;
-      is_program = record {
-        runs_on = refl;
-        layout = c.requires.layout;
-        procs = c.requires.found;
-        heights = c.requires.heights;
-        cells = c.requires.cells;
-      };
-    } in
     let image = c.args.image.now in
-    let layout = c.args.layout.now in
+    let layout = c.args.program.now.layout in
     let all = map procedure_of c.in_ok-procedures.procedures.items in
-    let heights = map (λ (table : Table). table.entries) c.args.heights.now.at.items in
+    let heights = map (λ (table : Table). table.entries) c.args.program.now.heights.at.items in
     let n = c.loop-number.number in
     let graphs = map graph_of c.loop-number.graphs.items in
     let past : min (length all) (length heights) ≤ n =
-    omega (arith, length-map c.in_ok-procedures.procedures.items procedure_of, length-map c.args.heights.now.at.items (λ (t : Table). t.entries)) in
+    omega (arith, length-map c.in_ok-procedures.procedures.items procedure_of, length-map c.args.program.now.heights.at.items (λ (t : Table). t.entries)) in
     let are = all_graphs image layout all heights n graphs c.loop-number.invariant past in
     record {
-      lifted = lift-of image program _ (record {
-        of_file = is;
+      lifted = lift-of image c.args.program.now _ (record {
+        of_file = record {
+          loaded = c.requires.loaded;
+          is_program = record {
+            runs_on = refl;
+            layout = c.requires.layout;
+            procs = c.requires.found;
+            heights = c.requires.heights;
+            cells = c.requires.cells;
+          };
+        };
         translation = record {
           graphs = subst (λ (ps : List Procedure). AllZip (IsGraphOf image layout) (scenes_of layout ps 1 ps heights)
               graphs) c.in_ok-procedures.ensures.procedures are;

@@ -7,5 +7,5 @@ use Rattle.dcc_lift.proofs.program.lift.Given as goal
 
 abbrev pub invariant-loop-number : goal.invariant-loop-number
 invariant-loop-number l =
-    AreGraphsOfFirst l.image l.layout (map procedure_of l.procedures.items)
-    (map (λ found. found.entries) l.heights.at.items) l.number (map graph_of l.graphs.items)
+    AreGraphsOfFirst l.image l.program.layout (map procedure_of l.procedures.items)
+    (map (λ found. found.entries) l.program.heights.at.items) l.number (map graph_of l.graphs.items)

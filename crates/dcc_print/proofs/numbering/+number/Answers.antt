@@ -9,11 +9,11 @@ use Rattle.dcc_c.specs.Written.{depth_after, written_cases, written_stmt, writte
 use Rattle.dcc_c.specs.Numbered.{rows, numbered_stmt, numbered_lines, numbered_arms, numbered_default}
 use Rattle.dcc_c.specs.Views.{expr_of, stmt_of, lines_of, arm_before, arms_of, arms_if}
 use Rattle.dcc_c.proofs.RowLaws.{arm-parts, if-tree, while-tree, do_while-tree, forever-tree, switch-tree}
-use Rattle.dcc_pipe.specs.Unbroken.{are_unbroken}
-use Rattle.dcc_pipe.proofs.CountedRows.{while-count, do_while-count, forever-count, default-count}
-use Rattle.dcc_pipe.proofs.CountedTrees.{lines_before, arms_before, both-unbroken, arm-unbroken, arms-unbroken, counted-arm, counted-if, counted-while, counted-do_while, counted-forever, counted-switch, else-lines, if-numbered, if-line, if-depth, switch-numbered, switch-line, switch-depth, line-numbered, line-line, line-depth, line-unbroken, one-line, one-arm, lines-left, arms-left, first_line, first_arm, whole_lines, whole_arms, arm-numbered, arm-line, arm-depth, test-unbroken, inner-unbroken, own-line, simple-same, simple-inner, if-both, on-ok}
-use Rattle.dcc_pipe.proofs.CountedSimple.{no-block}
-use Rattle.dcc_pipe.proofs.number.+number.Goals as goal
+use Rattle.dcc_print.specs.Unbroken.{are_unbroken}
+use Rattle.dcc_print.proofs.CountedRows.{while-count, do_while-count, forever-count, default-count}
+use Rattle.dcc_print.proofs.CountedTrees.{lines_before, arms_before, both-unbroken, arm-unbroken, arms-unbroken, counted-arm, counted-if, counted-while, counted-do_while, counted-forever, counted-switch, else-lines, if-numbered, if-line, if-depth, switch-numbered, switch-line, switch-depth, line-numbered, line-line, line-depth, line-unbroken, one-line, one-arm, lines-left, arms-left, first_line, first_arm, whole_lines, whole_arms, arm-numbered, arm-line, arm-depth, test-unbroken, inner-unbroken, own-line, simple-same, simple-inner, if-both, on-ok}
+use Rattle.dcc_print.proofs.CountedSimple.{no-block}
+use Rattle.dcc_print.proofs.numbering.+number.Goals as goal
 
 -- An arm.
 

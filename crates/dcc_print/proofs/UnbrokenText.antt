@@ -13,7 +13,7 @@ use Rattle.dcc_c.proofs.Writable.{is_writable_expr, is_place, is_writable_place,
 use Rattle.dcc_c.proofs.WrittenLaws.{is_word-name}
 use Rattle.dcc_c.proofs.WrittenRows.{word_flat}
 use Rattle.dcc_c.proofs.WrittenExprs.{expr_reads}
-use Rattle.dcc_pipe.specs.Unbroken.{is_unbroken, is_unbroken_stmt, are_unbroken, is_unbroken_tree}
+use Rattle.dcc_print.specs.Unbroken.{is_unbroken, is_unbroken_stmt, are_unbroken, is_unbroken_tree}
 
 expr-unbroken : (e : Expr) → is_writable_expr e ≡ true → is_unbroken (written_expr e) ≡ true
 expr-unbroken e good = eq-eqb (rows (written_expr e)) 0 (expr_reads e good 1 false).counted

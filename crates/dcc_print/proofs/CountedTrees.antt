@@ -15,11 +15,11 @@ use Rattle.dcc_c.specs.Parts.{stmts_in, inner_stmts, arm_stmts, exprs_of}
 use Rattle.dcc_c.specs.Written.{depth_after, next_depth, written_depth, written_expr, written_else, written_cases, written_stmt, written_lines, written_arms, written_default}
 use Rattle.dcc_c.specs.Numbered.{rows, numbered_stmt, numbered_lines, numbered_arms, numbered_default}
 use Rattle.dcc_c.specs.Views.{expr_of, stmt_of, lines_of, arm_before, arms_of, arms_if}
-use Rattle.dcc_pipe.specs.Unbroken.{is_unbroken_stmt, are_unbroken}
+use Rattle.dcc_print.specs.Unbroken.{is_unbroken_stmt, are_unbroken}
 use Rattle.dcc_print.proofs.BlockLaws.{depth-step}
 use Rattle.dcc_print.proofs.DepthLaws.{depth_after-append}
 use Rattle.dcc_c.proofs.RowLaws.{arm-parts, if-tree, while-tree, do_while-tree, forever-tree, switch-tree}
-use Rattle.dcc_pipe.proofs.CountedRows.{else-count, if-count, switch-count, arm-count, lines-count, has_block, test-flat, own-count}
+use Rattle.dcc_print.proofs.CountedRows.{else-count, if-count, switch-count, arm-count, lines-count, has_block, test-flat, own-count}
 
 -- lines before others
 abbrev pub lines_before : List Line → Lines → Lines

@@ -2,8 +2,8 @@ use Rattle.std.proofs.Common.{◌≡◌, ◌+◌, sym, ap, ◌∙◌, arith}
 use Rattle.std.proofs.lemmas.Result.{IfOk-weaker}
 use Rattle.dcc_c.specs.Written.{written_depth}
 use Rattle.dcc_c.specs.Numbered.{rows}
-use Rattle.dcc_pipe.proofs.CountedRows.{pragma-none, pragma-one}
-use Rattle.dcc_pipe.proofs.number.after_pragma.Goals as goal
+use Rattle.dcc_print.proofs.CountedRows.{pragma-none, pragma-one}
+use Rattle.dcc_print.proofs.numbering.after_pragma.Goals as goal
 
 pub returns-then-depth-next : goal.returns-then-depth-next
 returns-then-depth-next c =

@@ -10,10 +10,11 @@ ghost use Rattle.dcc_c.specs.Written.{written_arms, written_default};
 ghost use Rattle.dcc_c.specs.Numbered.{rows, numbered_stmt, numbered_lines, numbered_arms, numbered_default};
 ghost use Rattle.dcc_c.specs.Numbered.{numbered_function, numbered_functions, numbered};
 ghost use Rattle.dcc_c.specs.Views.{stmt_of, lines_of, arms_of, arm_before, function_of, tree_of, arms_if};
-ghost use Rattle.dcc_pipe.specs.Unbroken.{are_unbroken, is_unbroken_tree};
+ghost use Rattle.dcc_print.specs.Unbroken.{are_unbroken, is_unbroken_tree};
 
+use crate::rows::globals_rows;
+use crate::statement::next_depth;
 use dcc_c::{Arm, CStmt, Func, Line, Unit};
-use dcc_print::{globals_rows, next_depth};
 use std::alloc::{AllocError, Global};
 use std::mem;
 
@@ -249,7 +250,7 @@ fn number_functions(line: u32, functions: &mut [Func]) -> Result<(), AllocError>
 
 /// The unit with its lines counted as they stand in its written form, where no name has a line feed. A line whose
 /// number has more than 32 bits is told as want of memory.
-pub(crate) fn number(alloc: Global, unit: Unit) -> Result<Unit, AllocError>
+pub fn number(alloc: Global, unit: Unit) -> Result<Unit, AllocError>
     ensures { is_unbroken_tree (tree_of unit) ≡ true → IfOk result (λ r. tree_of r ≡ numbered (tree_of unit)) }
 {
     let mut unit = unit;

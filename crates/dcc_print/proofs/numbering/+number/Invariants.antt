@@ -4,9 +4,9 @@ use Rattle.dcc_c.specs.Parts.{stmts_in, arm_stmts}
 use Rattle.dcc_c.specs.Written.{depth_after, written_lines, written_arms}
 use Rattle.dcc_c.specs.Numbered.{rows, numbered_lines, numbered_arms}
 use Rattle.dcc_c.specs.Views.{lines_of, arms_of}
-use Rattle.dcc_pipe.specs.Unbroken.{are_unbroken}
-use Rattle.dcc_pipe.proofs.CountedTrees.{lines_before, arms_before}
-use Rattle.dcc_pipe.proofs.number.+number.Given as goal
+use Rattle.dcc_print.specs.Unbroken.{are_unbroken}
+use Rattle.dcc_print.proofs.CountedTrees.{lines_before, arms_before}
+use Rattle.dcc_print.proofs.numbering.+number.Given as goal
 
 -- the lines so far are counted, and with those that are left the count is whole
 abbrev pub invariant-number_lines-loop-i : goal.invariant-number_lines-loop-i

@@ -5,9 +5,9 @@ use Rattle.dcc_c.specs.Parts.{stmts_in}
 use Rattle.dcc_c.specs.Written.{written_lines}
 use Rattle.dcc_c.specs.Numbered.{rows, numbered_lines}
 use Rattle.dcc_c.specs.Views.{lines_of, variable_of, function_of}
-use Rattle.dcc_pipe.specs.Unbroken.{are_unbroken}
-use Rattle.dcc_pipe.proofs.CountedTrees.{with-items, on-ok}
-use Rattle.dcc_pipe.proofs.number.number_function.Goals as goal
+use Rattle.dcc_print.specs.Unbroken.{are_unbroken}
+use Rattle.dcc_print.proofs.CountedTrees.{with-items, on-ok}
+use Rattle.dcc_print.proofs.numbering.number_function.Goals as goal
 
 pub returns-clause-numbered : goal.returns-clause-numbered
 returns-clause-numbered c u =

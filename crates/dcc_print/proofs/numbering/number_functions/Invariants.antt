@@ -3,8 +3,8 @@ use Rattle.std.specs.List.{list_all}
 use Rattle.dcc_c.specs.Parts.{stmts_in}
 use Rattle.dcc_c.specs.Numbered.{numbered_functions}
 use Rattle.dcc_c.specs.Views.{function_of}
-use Rattle.dcc_pipe.specs.Unbroken.{are_unbroken}
-use Rattle.dcc_pipe.proofs.number.number_functions.Given as goal
+use Rattle.dcc_print.specs.Unbroken.{are_unbroken}
+use Rattle.dcc_print.proofs.numbering.number_functions.Given as goal
 
 -- the functions so far are counted, and with those that are left the count is whole
 abbrev pub invariant-loop-i : goal.invariant-loop-i

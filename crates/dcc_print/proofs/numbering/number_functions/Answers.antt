@@ -6,8 +6,8 @@ use Rattle.dcc_c.specs.Tree.{Function}
 use Rattle.dcc_c.specs.Parts.{stmts_in}
 use Rattle.dcc_c.specs.Numbered.{numbered_function, numbered_functions}
 use Rattle.dcc_c.specs.Views.{function_of}
-use Rattle.dcc_pipe.specs.Unbroken.{are_unbroken}
-use Rattle.dcc_pipe.proofs.number.number_functions.Goals as goal
+use Rattle.dcc_print.specs.Unbroken.{are_unbroken}
+use Rattle.dcc_print.proofs.numbering.number_functions.Goals as goal
 
 pub loop-i-preserved : goal.loop-i-preserved
 loop-i-preserved c =

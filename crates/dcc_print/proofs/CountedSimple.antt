@@ -7,7 +7,7 @@ use Rattle.dcc_c.specs.declared.syntax.CStmt.TheOpen.{CStmt-F}
 use Rattle.dcc_c.specs.declared.syntax.Line.{Line}
 use Rattle.dcc_c.specs.declared.syntax.Arm.{Arm}
 use Rattle.dcc_c.specs.Views.{stmt_of}
-use Rattle.dcc_pipe.proofs.CountedRows.{has_block}
+use Rattle.dcc_print.proofs.CountedRows.{has_block}
 
 -- what the statement is not
 pub record IsNoBlock (s : CStmt) : Type 0 where

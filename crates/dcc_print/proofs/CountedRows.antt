@@ -9,7 +9,7 @@ use Rattle.dcc_c.specs.Parts.{stmts_in, inner_stmts, exprs_of}
 use Rattle.dcc_c.specs.Written.{indented, depth_after, next_depth, written_depth, written_expr, written_arguments, written_test, written_else, written_call, written_cases, written_stmt, written_lines, written_arms, written_default}
 use Rattle.dcc_c.specs.Numbered.{rows}
 use Rattle.dcc_c.proofs.WrittenRows.{rows-append, decimal_flat, indentation_flat, lines_rows, arms_rows, default_rows}
-use Rattle.dcc_pipe.specs.Unbroken.{is_unbroken, words_of, is_unbroken_stmt}
+use Rattle.dcc_print.specs.Unbroken.{is_unbroken, words_of, is_unbroken_stmt}
 
 -- a part without a line feed before another
 flat-then : (a b : Word) → rows a ≡ 0 → rows (a ++ b) ≡ rows b
