@@ -1,8 +1,8 @@
 -- Laws of sets of locations, and of how code keeps one.
-use Rattle.std.proofs.Common.{◌≡◌, ◌≢◌, ℕ, zero, suc, ◌+◌, ◌<◌, ◌≤◌, Bool, true, false, ◌&&◌, ◌||◌, not, inl, inr, List, [], ◌∷◌, ◌++◌, length, get_or, slice_set, map, drop, refl, sym, ap, ◌∙◌, subst, true≢false, arith, Contains}
+use Rattle.std.proofs.Common.{◌≡◌, ◌≢◌, ℕ, zero, suc, ◌+◌, ◌*◌, ◌/◌, ◌%◌, ◌^◌, ◌<◌, ◌≤◌, Bool, true, false, ◌&&◌, ◌||◌, not, inl, inr, List, [], ◌∷◌, ◌++◌, length, get_or, slice_set, map, drop, refl, sym, ap, ◌∙◌, subst, true≢false, arith, bit_or, Contains}
 use Rattle.std.specs.Prelude.{if◌then◌else◌}
 use Rattle.std.proofs.lemmas.Bool.{cases_eq, cases_lt}
-use Rattle.std.proofs.lemmas.List.{length-set, get_or-set_same, get_or-set_other, get_or_past, map-append, drop_more}
+use Rattle.std.proofs.lemmas.List.{length-set, get_or_read, get_or-set_same, get_or-set_other, get_or_past, map-append, drop_more}
 use Rattle.std.proofs.Common.{drop_of_length-le as drop_past}
 use Rattle.std.proofs.lemmas.List.Folds.{list_any-append}
 use Rattle.std.proofs.lemmas.List.Elements.{Contains-append_left, Contains-push, Contains-push_cases}
@@ -18,6 +18,8 @@ use Rattle.dcc_ir.specs.Location.{register_number, half_number, flag_number, sam
 use Rattle.dcc_ir.specs.Live.{is_among}
 use Rattle.dcc_ir.proofs.PathLaws.{decided}
 use Rattle.dcc_ir.proofs.LocationLaws.{register_same, half_same, flag_same, location_same, location_itself, Contains-none}
+use Rattle.dcc_flow.specs.Words.{bit_in}
+use Rattle.dcc_flow.proofs.WordLaws.{with_bit, set_here, set_there}
 use Rattle.dcc_flow.specs.Marks.{empty, with_one, without_one, with_all, without_all, location_number, members, AreNoted, AreThoseOf}
 use mathlib.Core.Path.{fun_ext}
 
@@ -228,18 +230,31 @@ pub not_true : (b : Bool) → not b ≡ true → b ≡ false
 not_true true e = absurd (true≢false (sym e))
 not_true false e = refl
 
--- Lists whose locations are marked.
+-- Lists whose locations have their bits set.
 
-pub those_still : (list : List Loc) (has more : List Bool) → ((n : ℕ) → get_or more n false ≡ get_or has n false) → AreThoseOf list has → AreThoseOf list more
-those_still list has more same are l = same (location_number l) ∙ are l
+pub those_still : (list : List Loc) (words more : List ℕ) → ((n : ℕ) → bit_in more n ≡ bit_in words n) → AreThoseOf list words → AreThoseOf list more
+those_still list words more same are l = same (location_number l) ∙ are l
 
-pub those_more : (list : List Loc) (has : List Bool) (x : Loc) → location_number x < length has → AreThoseOf list has → AreThoseOf (list ++ x ∷ []) (slice_set has (location_number x) true)
-those_more list has x inside are l =
-    ap (λ m. m l) (marked has x inside) ∙ ap (λ b. same_location l x || b) (are l)
-    ∙ sym (list_any-append (same_location l) list (x ∷ []) ∙ turned (is_among list l) (same_location l x))
+pub those_more : (list : List Loc) (words : List ℕ) (x : Loc) (n word : ℕ) → n ≡ location_number x → n / 64 < length words → word ≡ get_or words (n / 64) word → AreThoseOf list words
+    → AreThoseOf (list ++ x ∷ []) (slice_set words (n / 64) (bit_or word (1 * 2 ^ (n % 64) % 2 ^ 64)))
+those_more list words x n word is within read are =
+    subst (λ w. AreThoseOf (list ++ x ∷ []) (slice_set words (n / 64) (bit_or w (1 * 2 ^ (n % 64) % 2 ^ 64)))) (sym (get_or_read words (n / 64) word within read 0))
+    (λ l. here l ∙ sym (list_any-append (same_location l) list (x ∷ [])))
   where
-    turned : (a s : Bool) → (a || (s || false)) ≡ (s || a)
-    turned true true = refl
-    turned true false = refl
-    turned false true = refl
-    turned false false = refl
+    last : (a : Bool) → (a || true) ≡ true
+    last true = refl
+    last false = refl
+
+    none : (a : Bool) → (a || false) ≡ a
+    none true = refl
+    none false = refl
+
+    here : (l : Loc) → bit_in (with_bit words n within) (location_number l) ≡ (is_among list l || (same_location l x || false))
+    here l = elim (decided (same_location l x)) [
+      | inl t ↦
+          ap (λ y. bit_in (with_bit words n within) (location_number y)) (location_same l x t) ∙ ap (bit_in (with_bit words n within)) (sym is) ∙ set_here words n within
+          ∙ sym (ap (λ s. is_among list l || (s || false)) t ∙ last (is_among list l))
+      | inr f ↦
+          set_there words n within (location_number l) (λ e. true≢false (sym (subst (λ y. same_location l y ≡ true) (number_same l x (e ∙ is)) (location_itself l)) ∙ f)) ∙ are l
+          ∙ sym (ap (λ s. is_among list l || (s || false)) f ∙ none (is_among list l))
+    ]

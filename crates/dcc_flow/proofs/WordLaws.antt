@@ -1,5 +1,5 @@
 -- Laws of words of bits.
-use Rattle.std.proofs.Common.{◌≡◌, ◌≢◌, ℕ, ◌+◌, ◌-◌, ◌*◌, ◌/◌, ◌%◌, ◌^◌, ◌<◌, ◌≤◌, min, max, Bool, true, false, ◌&&◌, ◌||◌, not, ◌⊎◌, inl, inr, MatchBool, List, [], ◌∷◌, length, get_or, replicate, slice_set, refl, sym, ap, ◌∙◌, subst, arith, w64, bit_and, bit_or}
+use Rattle.std.proofs.Common.{◌≡◌, ◌≢◌, ℕ, zero, suc, ◌+◌, ◌-◌, ◌*◌, ◌/◌, ◌%◌, ◌^◌, ◌<◌, ◌≤◌, min, max, Bool, true, false, ◌&&◌, ◌||◌, not, ◌⊎◌, inl, inr, MatchBool, List, [], ◌∷◌, ◌++◌, length, get_or, replicate, slice_set, refl, sym, ap, ◌∙◌, subst, arith, w64, bit_and, bit_or}
 use Rattle.std.specs.Prelude.{◌==◌}
 use Rattle.std.specs.Int.{bit_at, bit_not}
 use Rattle.std.proofs.lemmas.Bool.{false≢true, cases_Bool, cases_eq, cases_lt, eqb-true, eq-eqb, or_parts, not-false}
@@ -91,22 +91,29 @@ no_bits n len = ext_get_or false (bits_in (replicate n 0) len) (replicate len fa
     let inside : i < len = omega (arith, length_bits (replicate n 0) len) in
     bit_at_place (replicate n 0) len i inside ∙ clear_word n i ∙ sym (get_or-replicate len i false false inside))
 
+-- a further word without bits is as one that isn't there
+pub word_more : (words : List ℕ) (place : ℕ) → bit_in (words ++ 0 ∷ []) place ≡ bit_in words place
+word_more words place = ap (λ w. bit_at w (place % 64) == 1) (same words (place / 64))
+  where
+    same : (xs : List ℕ) (n : ℕ) → get_or (xs ++ 0 ∷ []) n 0 ≡ get_or xs n 0
+    same [] zero = refl
+    same [] (suc n) = refl
+    same (x ∷ xs) zero = refl
+    same (x ∷ xs) (suc n) = same xs n
+
 -- One bit is set.
-module _ (words : List ℕ) (len i : ℕ) (are : AreWords words len) (inside : i < len) where
+module _ (words : List ℕ) (i : ℕ) (within : i / 64 < length words) where
   abbrev pub with_bit : List ℕ
   with_bit = slice_set words (i / 64) (bit_or (get_or words (i / 64) 0) (1 * 2 ^ (i % 64) % 2 ^ 64))
 
-  within : i / 64 < length words
-  within = word_within words len i are.count inside
-
-  set_here : bit_in with_bit i ≡ true
+  pub set_here : bit_in with_bit i ≡ true
   set_here =
       let word = get_or words (i / 64) 0 in
       let new = bit_or word (1 * 2 ^ (i % 64) % 2 ^ 64) in
       ap (λ x. bit_at x (i % 64) == 1) (get_or-set_same words (i / 64) new 0 within)
       ∙ ap (λ x. x == 1) (bit_at_set_same w64 word (i % 64) (omega arith))
 
-  set_there : (place : ℕ) → place ≢ i → bit_in with_bit place ≡ bit_in words place
+  pub set_there : (place : ℕ) → place ≢ i → bit_in with_bit place ≡ bit_in words place
   set_there place off =
       let word = get_or words (i / 64) 0 in
       let new = bit_or word (1 * 2 ^ (i % 64) % 2 ^ 64) in
@@ -120,24 +127,31 @@ module _ (words : List ℕ) (len i : ℕ) (are : AreWords words len) (inside : i
         | inr o ↦ ap (λ x. bit_at x (place % 64) == 1) (get_or-set_other words (i / 64) (place / 64) new 0 o)
       ]
 
-  pub set_words : AreWords with_bit len
+module _ (words : List ℕ) (len i : ℕ) (are : AreWords words len) (inside : i < len) where
+  abbrev pub within : i / 64 < length words
+  within = word_within words len i are.count inside
+
+  abbrev pub set_one : List ℕ
+  set_one = with_bit words i within
+
+  pub set_words : AreWords set_one len
   set_words =
       let word = get_or words (i / 64) 0 in
       record {
         count = length-set words (i / 64) (bit_or word (1 * 2 ^ (i % 64) % 2 ^ 64)) ∙ are.count;
         fits = All-set (λ x. x < 2 ^ 64) words (i / 64) (bit_or word (1 * 2 ^ (i % 64) % 2 ^ 64))
             (or_lt 64 word (1 * 2 ^ (i % 64) % 2 ^ 64) (All-get_or (λ x. x < 2 ^ 64) words (i / 64) 0 within are.fits) (omega arith)) are.fits;
-        clear = λ place h. set_there place (λ e. omega arith) ∙ are.clear place h;
+        clear = λ place h. set_there words i within place (λ e. omega arith) ∙ are.clear place h;
       }
 
-  pub set_bits : bits_in with_bit len ≡ slice_set (bits_in words len) i true
+  pub set_bits : bits_in set_one len ≡ slice_set (bits_in words len) i true
   set_bits =
       let same_len = length_bits words len in
-      ext_get_or false (bits_in with_bit len) (slice_set (bits_in words len) i true) (length_bits with_bit len ∙ sym (length-set (bits_in words len) i true ∙ same_len)) (λ k h.
-      let below : k < len = omega (arith, length_bits with_bit len) in
-      bit_at_place with_bit len k below ∙ elim (cases_eq k i) [
-        | inl e ↦ ap (bit_in with_bit) e ∙ set_here ∙ sym (ap (λ j. bit (slice_set (bits_in words len) i true) j) e ∙ get_or-set_same (bits_in words len) i true false (omega arith))
-        | inr o ↦ set_there k o ∙ sym (get_or-set_other (bits_in words len) i k true false o ∙ bit_at_place words len k below)
+      ext_get_or false (bits_in set_one len) (slice_set (bits_in words len) i true) (length_bits set_one len ∙ sym (length-set (bits_in words len) i true ∙ same_len)) (λ k h.
+      let below : k < len = omega (arith, length_bits set_one len) in
+      bit_at_place set_one len k below ∙ elim (cases_eq k i) [
+        | inl e ↦ ap (bit_in set_one) e ∙ set_here words i within ∙ sym (ap (λ j. bit (slice_set (bits_in words len) i true) j) e ∙ get_or-set_same (bits_in words len) i true false (omega arith))
+        | inr o ↦ set_there words i within k o ∙ sym (get_or-set_other (bits_in words len) i k true false o ∙ bit_at_place words len k below)
       ])
 
 -- Lists that differ.

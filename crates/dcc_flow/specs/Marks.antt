@@ -5,6 +5,7 @@ use Rattle.dcc_ir.specs.declared.syntax.Loc.{Loc}
 use Rattle.dcc_ir.specs.declared.syntax.Loc.TheVariants.{Half, Flag, Cell, Temp}
 use Rattle.dcc_ir.specs.Location.{register_number, half_number, flag_number, same_location}
 use Rattle.dcc_ir.specs.Live.{is_among}
+use Rattle.dcc_flow.specs.Words.{bit_in}
 
 -- no location
 abbrev pub empty : Loc → Bool
@@ -44,6 +45,6 @@ members has location = get_or has (location_number location) false
 abbrev pub AreNoted : List Bool → List Loc → Type 0
 AreNoted has noted = (n : ℕ) → get_or has n false ≡ true → Contains (map location_number noted) n
 
--- the places that hold true are the numbers of the locations in the list
-abbrev pub AreThoseOf : List Loc → List Bool → Type 0
-AreThoseOf list has = (location : Loc) → members has location ≡ is_among list location
+-- the bits that are set are at the numbers of the locations in the list
+abbrev pub AreThoseOf : List Loc → List ℕ → Type 0
+AreThoseOf list words = (location : Loc) → bit_in words (location_number location) ≡ is_among list location

@@ -1,9 +1,10 @@
 //! Lists of locations.
 
-ghost use Rattle.std.specs.Prelude.{◌≡◌, [], ◌∷◌, ◌++◌, OnOk};
+ghost use Rattle.std.specs.Prelude.{◌≡◌, ℕ, ◌<◌, [], ◌∷◌, ◌++◌, length, IfOk, OnOk};
 ghost use Rattle.dcc_ir.specs.Live.{is_among};
+ghost use Rattle.dcc_flow.specs.Words.{bit_in};
 
-use crate::marks::{make_room, number};
+use crate::marks::number;
 use dcc_ir::Loc;
 use std::alloc::{AllocError, Global};
 use std::marker::Model;
@@ -12,8 +13,20 @@ use std::marker::Model;
 #[derive(Drop)]
 pub struct Locations {
     list: Vec<Loc>,
-    /// Whether the location of a number is in the list; those of further numbers are not.
-    has: Vec<bool>,
+    /// A bit for each number of a location, the lowest of a word first, set where that location is in the list; those of
+    /// further numbers are not.
+    has: Vec<u64>,
+}
+
+// The list has the word of that place; what is added has no bit set.
+fn make_room(has: &mut Vec<u64>, word: usize) -> Result<(), AllocError>
+    ensures same { (n : ℕ) → bit_in has.new.items n ≡ bit_in has.old.items n }
+    ensures room { OnOk result (word < length has.new.items) }
+{
+    while has.len() <= word {
+        has.push(0)?;
+    }
+    Ok(())
 }
 
 impl Model for Locations {
@@ -44,7 +57,10 @@ impl Locations {
         ensures { result ≡ is_among self.now location }
     {
         let n = number(location);
-        n < self.has.len() && self.has[n]
+        match self.has.get(n / 64) {
+            Some(word) => *word >> (n % 64) & 1 == 1,
+            None => false,
+        }
     }
 
     /// The location is put at the end of the list.
@@ -52,10 +68,19 @@ impl Locations {
         ensures { OnOk result (self.new ≡ self.old ++ location ∷ []) }
     {
         let n = number(location);
-        make_room(&mut self.has, n)?;
+        make_room(&mut self.has, n / 64)?;
         self.list.push(location)?;
-        self.has[n] = true;
+        self.has[n / 64] |= 1 << (n % 64);
         Ok(())
+    }
+
+    /// A list of its own with the same locations.
+    pub fn copy(&self) -> Result<Locations, AllocError>
+        ensures { IfOk result (λ copy. copy ≡ self.now) }
+    {
+        let list = self.list.clone()?;
+        let has = self.has.clone()?;
+        Ok(Locations { list, has })
     }
 
     /// The locations.

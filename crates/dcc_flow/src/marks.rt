@@ -21,8 +21,8 @@ pub(crate) fn number(location: Loc) -> usize
     }
 }
 
-/// The list has the place; what is added holds false.
-pub(crate) fn make_room(has: &mut Vec<bool>, place: usize) -> Result<(), AllocError>
+// The list has the place; what is added holds false.
+fn make_room(has: &mut Vec<bool>, place: usize) -> Result<(), AllocError>
     ensures same { (n : ℕ) → get_or has.new.items n false ≡ get_or has.old.items n false }
     ensures room { OnOk result (place < length has.new.items) }
 {
