@@ -1,5 +1,5 @@
--- By no temporary the text of a graph loads or stores, where the addresses of the graph's accesses read halves of registers
--- and of cells alone.
+-- By no names but those of halves the text of a graph loads or stores, where the addresses of the graph's accesses read
+-- halves of registers and of cells alone.
 use Rattle.std.proofs.Common.{◌≡◌, ℕ, ◌+◌, ◌-◌, ◌*◌, ◌^◌, ◌<◌, Bool, true, false, ◌==◌, inl, inr, List, [], ◌∷◌, ◌++◌, map, flat_map, length, Option, Some, None, slice_get, refl, sym, ap, ap₂, ◌∙◌, subst, true≢false, get_or, arith}
 use Rattle.std.specs.Prelude.{◌&&◌, ◌||◌, not, nat_lt, if◌then◌else◌, All, Contains, option_to_list}
 use Rattle.std.specs.List.{list_all, list_any}
@@ -13,7 +13,6 @@ use Rattle.dcc_run.proofs.KeptLaws.{right_part}
 use Rattle.dcc_ir.specs.declared.syntax.BinOp.{BinOp}
 use Rattle.dcc_ir.specs.declared.syntax.BinOp.TheVariants.{DivS, RemS}
 use Rattle.dcc_ir.specs.declared.syntax.Loc.{Loc}
-use Rattle.dcc_ir.specs.declared.syntax.Loc.TheVariants.{Half, Flag, Cell, Temp}
 use Rattle.dcc_ir.specs.declared.syntax.Param.{Param}
 use Rattle.dcc_ir.specs.declared.syntax.Put.{Put}
 use Rattle.dcc_ir.specs.declared.syntax.Put.TheVariants.{Memory, One, Two}
@@ -28,6 +27,7 @@ use Rattle.dcc_ir.specs.Use.{parts_of, got_by, reads_of, exprs_of, exit_exprs}
 use Rattle.dcc_ir.specs.Value.{width_of}
 use Rattle.dcc_ir.specs.WellFormed.{IsGraph}
 use Rattle.dcc_ir.proofs.ListLaws.{left_part}
+use Rattle.dcc_ir.proofs.LocationLaws.{location_same}
 use Rattle.dcc_flags.specs.Accesses.{is_half_place, reads_halves, loads_by_halves, accessed, accesses_by_halves, block_by_halves}
 use Rattle.dcc_c.specs.declared.syntax.Base.{Base}
 use Rattle.dcc_c.specs.declared.syntax.Base.TheVariants.{Schar, Uchar, Int, Uint}
@@ -75,13 +75,26 @@ none-any test (x ∷ xs) is =
     let parts = and_parts (not (test x)) (list_all (λ x. not (test x)) xs) is in
     or_from (test x) (list_any test xs) (not-true (test x) parts.0) (none-any test xs parts.1)
 
-module _ (g : inner.Graph) (formed : IsGraph g) (few : HasFewNames g) (n : ℕ) (here : has_name g (Temp n)) where
+-- The word is no name by which a graph's function loads or stores: it names no half of a register or of a cell, and no
+-- place from which addresses are told.
+pub record IsApart (g : inner.Graph) (word : Word) : Type 0 where
+  pub locations : (l : Loc) → is_half_place l ≡ true → has_name g l → same_bytes word ((function_spelling g).name l) ≡ false
+  pub places : (d : ℕ) (p : Placed) → (function_spelling g).place d ≡ Some p → same_bytes word p.name ≡ false
+
+-- of no flag and of no temporary is the name such a word
+pub other-apart : (g : inner.Graph) → HasFewNames g → (l : Loc) → is_half_place l ≡ false → has_name g l
+    → IsApart g ((function_spelling g).name l)
+other-apart g few l away here =
+    let spelled = spelling-is g few.variables few.params in record {
+      locations = λ m half named.
+          false_from_ne_true _ (λ same.
+          true≢false (sym half ∙ ap is_half_place (sym (location_same l m (spelled.apart l m here named same))) ∙ away));
+      places = λ d p is. spelled.placed_apart l d p here is;
+    }
+
+module _ (g : inner.Graph) (formed : IsGraph g) (word : Word) (apart : IsApart g word) where
   abbrev s : Spelling
   s = function_spelling g
-
-  -- the temporary's name
-  abbrev word : Word
-  word = s.name (Temp n)
 
   abbrev Lacks : List Word → Type 0
   Lacks words = list_any (same_bytes word) words ≡ false
@@ -92,20 +105,12 @@ module _ (g : inner.Graph) (formed : IsGraph g) (few : HasFewNames g) (n : ℕ) 
 
   -- Addresses.
 
-  other-name : (l : Loc) → is_half_place l ≡ true → has_name g l → same_bytes word (s.name l) ≡ false
-  other-name (Half r half) is named =
-      false_from_ne_true _ (λ same. true≢false (sym ((spelling-is g few.variables few.params).apart (Temp n) (Half r half) here named same)))
-  other-name (Cell k half) is named =
-      false_from_ne_true _ (λ same. true≢false (sym ((spelling-is g few.variables few.params).apart (Temp n) (Cell k half) here named same)))
-  other-name (Flag f) is named = absurd (true≢false (sym is))
-  other-name (Temp m) is named = absurd (true≢false (sym is))
-
   place-lacks : (d : ℕ) → Lacks (place_name (s.place d))
   place-lacks d = by (s.place d) refl
     where
       by : (o : Option Placed) → s.place d ≡ o → Lacks (place_name o)
       by None is = refl
-      by (Some p) is = or_from (same_bytes word p.name) false ((spelling-is g few.variables few.params).placed_apart (Temp n) d p here is) refl
+      by (Some p) is = or_from (same_bytes word p.name) false (apart.places d p is) refl
 
   abbrev AreNamed : List inner.Expr → Type 0
   AreNamed parts = All (has_name g) (flat_map got_by parts)
@@ -123,7 +128,7 @@ module _ (g : inner.Graph) (formed : IsGraph g) (few : HasFewNames g) (n : ℕ) 
   address-lacks : (e : inner.Expr) → reads_halves e ≡ true → AreNamed (parts_of e) → Lacks (read_names s e)
   address-lacks (inner.Const width k) is named = refl
   address-lacks (inner.Get l) is named =
-      or_from (same_bytes word (s.name l)) false (other-name l is (All-head (has_name g) l [] named)) refl
+      or_from (same_bytes word (s.name l)) false (apart.locations l is (All-head (has_name g) l [] named)) refl
   address-lacks (inner.Load width a) is named = address-lacks a is named
   address-lacks (inner.Unary operator width a) is named = address-lacks a is named
   address-lacks (inner.Binary operator width a b) is named =

@@ -31,6 +31,7 @@ pub mod GraphAddresses
 pub mod LeftAddresses
 pub mod MovesLaws
 pub mod AccessTexts
+pub mod ByteTexts
 pub mod ArrayTexts
 pub mod TypedLaws
 mod CallExample

@@ -10,6 +10,7 @@ use Rattle.dcc_prog.specs.Frame.{argument_word}
 use Rattle.dcc_stack.specs.Accepted.{IsProgramOfFile}
 use Rattle.dcc_stack.specs.Slots.{exposes_of}
 use Rattle.dcc_ir.specs.declared.syntax.Loc.{Loc}
+use Rattle.dcc_ir.specs.declared.syntax.Loc.TheVariants.{Temp}
 use Rattle.dcc_ir.specs.declared.syntax.Param.{Param}
 use Rattle.dcc_ir.specs.Tree.{Graph, Program}
 use Rattle.dcc_ir.specs.WellFormed.{is_memory, IsGraph}
@@ -24,16 +25,17 @@ use Rattle.dcc_c.specs.declared.syntax.Class.TheVariants.{Plain, Auto, Register}
 use Rattle.dcc_c.specs.Placement.{is_auto}
 use Rattle.dcc_c.specs.Types.{plain}
 use Rattle.dcc_c.specs.Numbered.{numbered}
-use Rattle.dcc_c.specs.Tree.{Lines, Variable, Function, Tree}
-use Rattle.dcc_variables.specs.FunctionLaws.{HasFewNames}
-use Rattle.dcc_variables.specs.Functions.{function_name, function_names, parameter_class, parameters_from, parameters, memory_from, function_shape, is_own, own_declarations}
+use Rattle.dcc_c.specs.Tree.{Word, Variable, Function, Tree}
+use Rattle.dcc_variables.specs.FunctionLaws.{HasFewNames, has_name}
+use Rattle.dcc_variables.specs.Functions.{function_name, function_names, parameter_class, parameters_from, parameters, memory_from, function_shape, function_spelling, is_own, own_declarations}
 use Rattle.dcc_variables.specs.Variables.{Shape, is_told_from, takes_address, variable, frame_name, frame_array}
 use Rattle.dcc_pipe.specs.Prepared.{IsPrepared}
 use Rattle.dcc_pipe.specs.WholeText.{whole_text}
 use Rattle.dcc_pipe.specs.Standing.{IsLocated, StandsForProcedure}
-use Rattle.dcc_pipe.specs.TypedFrames.{argument_class, param_classes, moves_sp, procedure_names, is_only_addressed, HasArrayOf, exposed, for_moves, HasTypedFrame, AreTypedFrames}
-use Rattle.dcc_pipe.proofs.AccessTexts.{never-accessed}
+use Rattle.dcc_pipe.specs.TypedFrames.{argument_class, param_classes, moves_sp, procedure_names, is_only_addressed, accesses_by_bytes, HasArrayOf, exposed, for_moves, HasTypedFrame, AreTypedFrames}
+use Rattle.dcc_pipe.proofs.AccessTexts.{IsApart, other-apart, never-accessed}
 use Rattle.dcc_pipe.proofs.ArrayTexts.{only-addressed}
+use Rattle.dcc_pipe.proofs.ByteTexts.{by-bytes}
 use Rattle.dcc_pipe.proofs.FunctionTables.{IsOne, all-numbered}
 use Rattle.dcc_pipe.proofs.LeftAddresses.{AllTold, takes-none}
 use Rattle.dcc_pipe.proofs.MovesLaws.{MovesWhere, lifted-pass, graphs-move}
@@ -94,23 +96,24 @@ module _ (p : Procedure) (g : Graph) (stands : StandsForProcedure p g) where
   abbrev told : Option ℕ
   told = memory_from 0 g.params
 
-  array-of : (body : Lines) → MovesWhere p g
-      → (AllTold (is_told_from told) true g → is_only_addressed frame_name body ≡ true) → HasArrayOf p body bytes
-  array-of body moves addressed = by (g.local == 0) refl (takes_address told g) refl
+  array-of : (f : Function) → MovesWhere p g
+      → (AllTold (is_told_from told) true g → (is_only_addressed frame_name f.body ≡ true) × (accesses_by_bytes f ≡ true))
+      → HasArrayOf p f bytes
+  array-of f moves addressed = by (g.local == 0) refl (takes_address told g) refl
     where
-      where-taken : (b : Bool) → moves_sp p.proc ≡ b → takes_address told g ≡ true → g.local ≡ 0 → HasArrayOf p body 1
+      where-taken : (b : Bool) → moves_sp p.proc ≡ b → takes_address told g ≡ true → g.local ≡ 0 → HasArrayOf p f 1
       where-taken true is taken none =
-          for_moves (sym stands.local ∙ none) is
-          (addressed (subst (λ sums. AllTold (is_told_from told) sums g) is (moves none)))
+          let (only, bytes) = addressed (subst (λ sums. AllTold (is_told_from told) sums g) is (moves none)) in
+          for_moves (sym stands.local ∙ none) is only bytes
       where-taken false is taken none =
           absurd (true≢false (sym taken
           ∙ takes-none told g (subst (λ sums. AllTold (is_told_from told) sums g) is (moves none))))
 
       by : (none : Bool) → (g.local == 0) ≡ none → (takes : Bool) → takes_address told g ≡ takes
-          → HasArrayOf p body (if none then (if takes then 1 else 0) else g.local)
-      by false is takes taken = subst (HasArrayOf p body) (sym stands.local) exposed
+          → HasArrayOf p f (if none then (if takes then 1 else 0) else g.local)
+      by false is takes taken = subst (HasArrayOf p f) (sym stands.local) exposed
       by true is true taken = where-taken (moves_sp p.proc) refl taken (eqb-true g.local 0 is)
-      by true is false taken = subst (HasArrayOf p body) (sym stands.local ∙ eqb-true g.local 0 is) exposed
+      by true is false taken = subst (HasArrayOf p f) (sym stands.local ∙ eqb-true g.local 0 is) exposed
 
   -- The function.
 
@@ -120,8 +123,11 @@ module _ (p : Procedure) (g : Graph) (stands : StandsForProcedure p g) where
         others = length stands.others;
         params = ap (λ (h : Function). map (λ (v : Variable). v.class) h.params) number.is ∙ params-classes;
         bytes = bytes;
-        array = array-of f.body moves (λ all.
-            only-addressed g formed few f.body (λ n named. never-accessed g formed few n named all f is) all f is refl);
+        array = array-of f moves (λ all.
+            let away = λ (word : Word) (apart : IsApart g word). never-accessed g formed word apart all f is in
+            let unused = λ (n : ℕ) (named : has_name g (Temp n)).
+            away ((function_spelling g).name (Temp n)) (other-apart g few (Temp n) refl named) in
+            (only-addressed g formed few f.body unused all f is refl, by-bytes g few f away is));
         locals = ap (λ (h : Function). autos h.locals) number.is
             ∙ locals-auto (function_shape g) (filter (is_own g) (function_shape g).locations) bytes;
         addresses = one-unplaced g f is few;

@@ -12,7 +12,7 @@ use Rattle.dcc_pipe.specs.TypedFrames.{HasTypedFrames}
 -- On this processor nothing refuses the image, and these bytes are the written form of a tree of the dialect, whose run
 -- agrees with that of the image on every input and from every fill. Of each procedure's frame it has in memory just the
 -- arguments and the local bytes that the frame exposes, and one byte where the frame exposes no local one and the
--- procedure moves SP by a sum; the array of that byte is named for its address alone.
+-- procedure moves SP by a sum; of that byte nothing but the address is used.
 pub record IsTextOfImage (cpu : Cpu) (image : Image) (text : List ℕ) : Type 0 where
   pub accepted : IsAcceptedProgram cpu image
   pub tree : Tree

@@ -15,6 +15,7 @@ use Rattle.dcc_prog.specs.FrameForm.{is_sp_move}
 use Rattle.dcc_stack.specs.Slots.{exposes_of}
 use Rattle.dcc_simulation.specs.Procedures.{Procedure}
 use Rattle.dcc_simulation.specs.Nodes.{procedures_in}
+use Rattle.dcc_c.specs.declared.syntax.Base.TheVariants.{Uchar}
 use Rattle.dcc_c.specs.declared.syntax.Class.{Class}
 use Rattle.dcc_c.specs.declared.syntax.Class.TheVariants.{Plain, Auto, Register}
 use Rattle.dcc_c.specs.declared.syntax.CBin.TheVariants.{Add}
@@ -25,6 +26,7 @@ use Rattle.dcc_c.specs.Placement.{is_auto, takes_address}
 use Rattle.dcc_c.specs.Token.{same_bytes}
 use Rattle.dcc_c.specs.Tree.{Word, Expr, Number, Name, Unary, Binary, Conditional, Cast, Stmt, Assign, Lines}
 use Rattle.dcc_c.specs.Tree.{Variable, Function, Tree}
+use Rattle.dcc_c.specs.Types.{plain, same_type}
 use Rattle.dcc_text.specs.Names.{names_in}
 use Rattle.dcc_variables.specs.Functions.{function_name}
 use Rattle.dcc_variables.specs.Variables.{frame_name, frame_array}
@@ -82,14 +84,25 @@ tells_address word body stmt = not (list_any (stands_in word) (exprs_of stmt))
 abbrev pub is_only_addressed : Word → Lines → Bool
 is_only_addressed word body = list_all (tells_address word body) (stmts_in body)
 
+-- the variable holds one byte
+abbrev pub is_byte : Variable → Bool
+is_byte v = same_type v.type (plain Uchar)
+
+-- Each variable by which the function loads or stores holds one byte, but for those with a place. An address is a word:
+-- no variable without a place that holds one stands beneath a `*`.
+abbrev pub accesses_by_bytes : Function → Bool
+accesses_by_bytes f =
+    list_all (λ v. is_auto v.class || (is_byte v || not (is_accessed_by f.body v.name))) (f.params ++ f.locals)
+
 -- Arrays.
 
 -- The array of a frame has the local bytes that the frame exposes. Where it exposes none, there may be one byte, if the
--- procedure moves SP by ADD, SUB, INC or DEC; the body names its array for the address alone.
-pub data HasArrayOf (p : Procedure) (body : Lines) : ℕ → Type 0 where
-  exposed : HasArrayOf p body p.frame.exposed.local
-  for_moves : p.frame.exposed.local ≡ 0 → moves_sp p.proc ≡ true → is_only_addressed frame_name body ≡ true
-      → HasArrayOf p body 1
+-- procedure moves SP by ADD, SUB, INC or DEC; the function names its array for the address alone, and loads and stores
+-- by bytes, which hold no address.
+pub data HasArrayOf (p : Procedure) (f : Function) : ℕ → Type 0 where
+  exposed : HasArrayOf p f p.frame.exposed.local
+  for_moves : p.frame.exposed.local ≡ 0 → moves_sp p.proc ≡ true → is_only_addressed frame_name f.body ≡ true
+      → accesses_by_bytes f ≡ true → HasArrayOf p f 1
 
 -- Frames.
 
@@ -99,7 +112,7 @@ pub record HasTypedFrame (p : Procedure) (f : Function) : Type 0 where
   pub others : ℕ
   pub params : map (λ (v : Variable). v.class) f.params ≡ param_classes p.frame others
   pub bytes : ℕ
-  pub array : HasArrayOf p f.body bytes
+  pub array : HasArrayOf p f bytes
   pub locals : filter (λ (v : Variable). is_auto v.class) f.locals ≡ frame_array bytes
   pub addresses : list_all (λ v. is_auto v.class || not (takes_address f.body v.name)) f.params ≡ true
 

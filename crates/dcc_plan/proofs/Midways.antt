@@ -15,7 +15,7 @@ use Rattle.dcc_ir.proofs.FitStates.{IsFit}
 use Rattle.dcc_ir.proofs.ReachedLaws.{contained, all_at, graph_of, IsWithinAt, IsGood}
 use Rattle.dcc_c.specs.Run as c
 use Rattle.dcc_c.specs.Run.{Continuation, runs, goes_on, step_at, on}
-use Rattle.dcc_c.specs.Tree.{Stmt, Function, Tree}
+use Rattle.dcc_c.specs.Tree.{Function, Tree}
 use Rattle.dcc_text.specs.Spelling.{Spelling}
 use Rattle.dcc_text.specs.Holding.{Locations, HoldsFrame, Holds}
 use Rattle.dcc_control.specs.Plan.{Plan, is_begun}
@@ -27,7 +27,7 @@ use Rattle.dcc_control.proofs.ListLaws.{block-at}
 use Rattle.dcc_plan.proofs.Rests.{Sound, whole-begun, left, is_jumping, Stands}
 use Rattle.dcc_plan.proofs.Settings.{limit_of, StandsAt, Premises}
 use Rattle.dcc_plan.proofs.Points.{moves}
-use Rattle.dcc_plan.proofs.Stages.{debts_of, owed, AreCalled, CallsAlike, IsUnstuck, Meets, at_begin, Outcome}
+use Rattle.dcc_plan.proofs.Stages.{debts_of, AreCalled, CallsAlike, IsUnstuck, Meets, at_begin, Outcome}
 use Rattle.dcc_plan.proofs.Settles.{one-step, settle}
 
 module _ (G : Premises) (graph : inner.Graph) (inside : Contains G.p.graphs graph) where
