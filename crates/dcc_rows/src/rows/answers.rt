@@ -1,7 +1,6 @@
 //! The status and the line of each answer.
 
-use super::calls::FACTORIAL;
-use super::files::{Answer, Faults, NO_FAULTS, PRINTS_A, answered, program};
+use dcc_samples::files::{Answer, FACTORIAL, Faults, NO_FAULTS, PRINTS_A, answered, program};
 use std::alloc::{AllocError, Global};
 use std::process::Abort;
 use std::test::Fail;
@@ -219,7 +218,7 @@ fn refusals() -> &'static [RefusalRow] {
 fn programs_are_refused(rt: HostRuntime) -> Result<(), Fail> {
     let alloc = rt.alloc();
     for (code, status, line) in refusals() {
-        let file = program(&rt, alloc, code)?;
+        let file = program(alloc, code)?;
         let given = answered(alloc, &["c", "ROW1.EXE"], &file, NO_FAULTS)?;
         check_refused(&rt, &given, *status, line);
     }
@@ -245,11 +244,11 @@ fn a_procedure_of_too_many_instructions_is_refused(rt: HostRuntime) -> Result<()
     let mut code = Vec::new(alloc);
     code.resize(4094, 0x43)?;
     code.extend_from_slice(b"\xB4\x4C\xCD\x21")?;
-    let file = program(&rt, alloc, &code)?;
+    let file = program(alloc, &code)?;
     let given = answered(alloc, &["c", "ROW1.EXE"], &file, NO_FAULTS)?;
     assert_eq!(rt; given.status, 0);
     code.insert(0, 0x43)?;
-    let file = program(&rt, alloc, &code)?;
+    let file = program(alloc, &code)?;
     let given = answered(alloc, &["c", "ROW1.EXE"], &file, NO_FAULTS)?;
     check_refused(&rt, &given, 10, "dcc: limit instructions 4097\n");
     Ok(())
@@ -263,7 +262,7 @@ fn a_write_that_fails_leaves_a_part_of_the_answer(rt: HostRuntime) -> Result<(),
         out: 2,
         err: 0,
     };
-    let recursive = program(&rt, rt.alloc(), FACTORIAL)?;
+    let recursive = program(rt.alloc(), FACTORIAL)?;
     for file in [PRINTS_A.as_slice(), recursive.as_slice()] {
         let given = answered(rt.alloc(), &["c", "ROW1.EXE"], file, second_of_text)?;
         assert_eq!(rt; given.status, 6);

@@ -1,7 +1,7 @@
 //! What `procs` lists of programs, and what refuses them there and for `c`. The lines come from a reference of the
 //! analyses apart from this one.
 
-use super::files::{Faults, NO_FAULTS, answered, program};
+use dcc_samples::files::{Faults, NO_FAULTS, answered, program};
 use std::alloc::{AllocError, Global};
 use std::test::Fail;
 
@@ -102,7 +102,7 @@ fn lists() -> &'static [ListRow] {
 fn procedures_are_listed_and_have_a_text(rt: HostRuntime) -> Result<(), Fail> {
     let alloc = rt.alloc();
     for row in lists() {
-        let file = program(&rt, alloc, row.code)?;
+        let file = program(alloc, row.code)?;
         let given = answered(
             alloc,
             &["procs", "ROW1.EXE", "--cpu", row.cpu],
@@ -201,7 +201,7 @@ fn refusals() -> &'static [RefusalRow] {
 fn what_refuses_the_list_refuses_the_text(rt: HostRuntime) -> Result<(), Fail> {
     let alloc = rt.alloc();
     for (code, status, line) in refusals() {
-        let file = program(&rt, alloc, code)?;
+        let file = program(alloc, code)?;
         for command in ["procs", "c"] {
             let given = answered(alloc, &[command, "ROW1.EXE"], &file, NO_FAULTS)?;
             assert_eq!(rt; given.err.as_slice(), line.as_bytes(), "{command}: {line}");
@@ -226,10 +226,10 @@ fn stores_below_bp(alloc: Global, count: u16) -> Result<Vec<u8>, AllocError> {
 #[test]
 fn a_frame_of_too_many_cells_is_told(rt: HostRuntime) -> Result<(), Fail> {
     let alloc = rt.alloc();
-    let most = program(&rt, alloc, &stores_below_bp(alloc, 512)?)?;
+    let most = program(alloc, &stores_below_bp(alloc, 512)?)?;
     let given = answered(alloc, &["procs", "ROW1.EXE"], &most, NO_FAULTS)?;
     assert_eq!(rt; given.status, 0);
-    let more = program(&rt, alloc, &stores_below_bp(alloc, 513)?)?;
+    let more = program(alloc, &stores_below_bp(alloc, 513)?)?;
     let given = answered(alloc, &["procs", "ROW1.EXE"], &more, NO_FAULTS)?;
     assert_eq!(rt; given.err.as_slice(), b"dcc: limit cells 513\n".as_slice());
     assert_eq!(rt; given.status, 10);
@@ -254,7 +254,7 @@ fn a_program_without_a_layout_has_no_list(rt: HostRuntime) -> Result<(), Fail> {
 #[test]
 fn a_write_that_fails_leaves_a_part_of_the_list(rt: HostRuntime) -> Result<(), Fail> {
     let alloc = rt.alloc();
-    let file = program(&rt, alloc, b"\xB8\x00\x4C\xCD\x21")?;
+    let file = program(alloc, b"\xB8\x00\x4C\xCD\x21")?;
     let second_write = Faults {
         out: 2,
         ..NO_FAULTS

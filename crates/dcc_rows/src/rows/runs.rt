@@ -1,6 +1,6 @@
 //! Runs of executables by the command.
 
-use super::files::{
+use dcc_samples::files::{
     Answer, Faults, NO_FAULTS, PRINTS_A, TWO_ENTRIES, answered, answered_on, program,
     program_with_data,
 };
@@ -229,7 +229,7 @@ fn programs_put_out_and_end_as_the_machine_does(rt: HostRuntime) -> Result<(), F
     for run in runs() {
         let mut code = run.start.to_vec(alloc)?;
         code.extend_from_slice(run.code)?;
-        let file = program_with_data(&rt, alloc, &code, run.data)?;
+        let file = program_with_data(alloc, &code, run.data)?;
         let words = ["run", "ROW1.EXE"];
         let given = answered_on(alloc, &words, &file, run.input, NO_FAULTS)?;
         check(&rt, &given, run.status, run.output, run.line);
@@ -240,7 +240,7 @@ fn programs_put_out_and_end_as_the_machine_does(rt: HostRuntime) -> Result<(), F
 #[test]
 fn a_run_stops_after_the_steps_that_were_asked_for(rt: HostRuntime) -> Result<(), Fail> {
     let alloc = rt.alloc();
-    let jumps_to_itself = program(&rt, alloc, b"\xEB\xFE")?;
+    let jumps_to_itself = program(alloc, b"\xEB\xFE")?;
     let words = ["run", "ROW1.EXE", "--steps", "1000"];
     let given = answered(alloc, &words, &jumps_to_itself, NO_FAULTS)?;
     check(&rt, &given, 20, b"", "running after 1000 steps\n");
@@ -262,7 +262,7 @@ fn a_run_stops_after_the_steps_that_were_asked_for(rt: HostRuntime) -> Result<()
 fn a_fault_of_the_streams_ends_a_run(rt: HostRuntime) -> Result<(), Fail> {
     let alloc = rt.alloc();
     let words = ["run", "ROW1.EXE"];
-    let reads = program(&rt, alloc, TWO_KEYS)?;
+    let reads = program(alloc, TWO_KEYS)?;
     let first_read = Faults {
         read: 1,
         ..NO_FAULTS
@@ -283,7 +283,7 @@ fn a_fault_of_the_streams_ends_a_run(rt: HostRuntime) -> Result<(), Fail> {
     check(&rt, &given, 6, b"a", "");
     // A string of call 09h, which the second write breaks off.
     let code = b"\xBA\x00\x00\xB4\x09\xCD\x21\xB4\x4C\xCD\x21";
-    let says = program_with_data(&rt, alloc, code, b"hello, world$")?;
+    let says = program_with_data(alloc, code, b"hello, world$")?;
     let given = answered(alloc, &words, &says, second_write)?;
     assert_eq!(rt; given.status, 6);
     assert!(rt; given.err.is_empty() && !given.out.is_empty() && given.out.len() < 12);

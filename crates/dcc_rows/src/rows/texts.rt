@@ -1,6 +1,6 @@
 //! Texts and their runs.
 
-use super::files::{Answer, Faults, NO_FAULTS, answered, answered_on};
+use dcc_samples::files::{Answer, Faults, NO_FAULTS, answered, answered_on};
 use std::alloc::{AllocError, Global};
 use std::process::Abort;
 use std::test::Fail;

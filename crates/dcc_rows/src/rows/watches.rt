@@ -1,6 +1,6 @@
 //! Watched runs of executables by the command. The values come from a reference of the watch apart from this one.
 
-use super::files::{Faults, NO_FAULTS, PRINTS_A, answered, answered_on, program};
+use dcc_samples::files::{Faults, NO_FAULTS, PRINTS_A, answered, answered_on, program};
 use std::test::Fail;
 
 // A program after the instructions that set DS, and what its watched run does: the processor, the most steps, the
@@ -192,7 +192,7 @@ fn watched_runs() -> &'static [Watched] {
 fn watched_runs_are_the_machines_up_to_a_foul_step(rt: HostRuntime) -> Result<(), Fail> {
     let alloc = rt.alloc();
     for row in watched_runs() {
-        let file = program(&rt, alloc, row.code)?;
+        let file = program(alloc, row.code)?;
         let words = ["watch", "ROW1.EXE", "--cpu", row.cpu, "--steps", row.steps];
         let given = answered_on(alloc, &words, &file, row.input, row.faults)?;
         assert_eq!(rt; given.err.as_slice(), row.line.as_bytes());

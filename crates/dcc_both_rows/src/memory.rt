@@ -1,7 +1,7 @@
 //! Both sides of programs that use memory, frames, divisions and jump tables.
 
-use super::both::{Program, check_both, text_of};
-use super::files::{NO_FAULTS, answered, program, program_with_data};
+use crate::both::{Program, check_both, text_of};
+use dcc_samples::files::{NO_FAULTS, answered, program, program_with_data};
 use std::test::Fail;
 
 // The bytes of the data after the code's paragraphs, the code after the instructions that set DS, the input, the output
@@ -151,7 +151,7 @@ fn texts_with_memory_put_out_and_end_as_their_programs_do(rt: HostRuntime) -> Re
             output,
             line,
         };
-        let file = program_with_data(&rt, alloc, code, data)?;
+        let file = program_with_data(alloc, code, data)?;
         for fill in ["0", "43690"] {
             check_both(&rt, alloc, &file, &program, "8086", fill)?;
         }
@@ -166,7 +166,7 @@ const UNWRITTEN: &[u8] =
 #[test]
 fn the_text_of_a_foul_run_goes_on_and_ends(rt: HostRuntime) -> Result<(), Fail> {
     let alloc = rt.alloc();
-    let file = program(&rt, alloc, UNWRITTEN)?;
+    let file = program(alloc, UNWRITTEN)?;
     let watched = answered(alloc, &["watch", "ROW1.EXE"], &file, NO_FAULTS)?;
     assert_eq!(rt; watched.status, 23);
     let text = text_of(&rt, alloc, &file, "8086")?;

@@ -1,17 +1,17 @@
 //! Both sides of a program: the run of an executable, and that of its text.
 
-use super::files::{Answer, Faults, NO_FAULTS, PRINTS_A, answered, answered_on, program};
+use dcc_samples::files::{Answer, Faults, NO_FAULTS, PRINTS_A, answered, answered_on, program};
 use std::alloc::Global;
 use std::process::Abort;
 use std::test::Fail;
 
 /// A program: the code after the instructions that set DS, the input, the output and the line at its end.
 #[derive(Drop)]
-pub(super) struct Program {
-    pub(super) code: &'static [u8],
-    pub(super) input: &'static [u8],
-    pub(super) output: &'static [u8],
-    pub(super) line: &'static str,
+pub(crate) struct Program {
+    pub(crate) code: &'static [u8],
+    pub(crate) input: &'static [u8],
+    pub(crate) output: &'static [u8],
+    pub(crate) line: &'static str,
 }
 
 static PROGRAMS: [Program; 18] = [
@@ -220,7 +220,7 @@ fn check(rt: &impl Abort, given: &Answer, output: &[u8], line: &str) {
 }
 
 /// The text of the program of this file for a processor.
-pub(super) fn text_of(
+pub(crate) fn text_of(
     rt: &impl Abort,
     alloc: Global,
     file: &[u8],
@@ -239,7 +239,7 @@ pub(super) fn text_of(
 }
 
 /// The file on a processor and its text put out the same and end alike, the text with this fill.
-pub(super) fn check_both(
+pub(crate) fn check_both(
     rt: &impl Abort,
     alloc: Global,
     file: &[u8],
@@ -258,14 +258,14 @@ pub(super) fn check_both(
 }
 
 /// Each of these programs on a processor and its text put out the same and end alike, from two fills.
-pub(super) fn check_all(
+pub(crate) fn check_all(
     rt: &impl Abort,
     alloc: Global,
     programs: &[Program],
     cpu: &str,
 ) -> Result<(), Fail> {
     for program_row in programs {
-        let file = program(rt, alloc, program_row.code)?;
+        let file = program(alloc, program_row.code)?;
         check_both(rt, alloc, &file, program_row, cpu, "0")?;
         check_both(rt, alloc, &file, program_row, cpu, "43690")?;
     }
@@ -293,7 +293,7 @@ fn texts_for_the_80186_put_out_and_end_as_their_programs_do(rt: HostRuntime) -> 
 #[test]
 fn a_text_runs_on_as_its_program_does(rt: HostRuntime) -> Result<(), Fail> {
     let alloc = rt.alloc();
-    let file = program(&rt, alloc, b"\xEB\xFE")?;
+    let file = program(alloc, b"\xEB\xFE")?;
     let text = text_of(&rt, alloc, &file, "8086")?;
     for (command, bytes) in [("run", &file), ("runc", &text)] {
         let words = [command, "ROW1.EXE", "--steps", "1000"];
@@ -313,7 +313,7 @@ fn a_failing_read_ends_both_sides(rt: HostRuntime) -> Result<(), Fail> {
     let alloc = rt.alloc();
     // Takes two keys, and leaves with the last one.
     let code = b"\xB4\x01\xCD\x21\xB4\x01\xCD\x21\xB4\x4C\xCD\x21";
-    let file = program(&rt, alloc, code)?;
+    let file = program(alloc, code)?;
     let text = text_of(&rt, alloc, &file, "8086")?;
     let first_read = Faults {
         read: 1,

@@ -1,24 +1,19 @@
 //! Both sides of programs with several procedures: arguments, results, recursion, frames whose addresses are passed on,
 //! and code that two procedures share.
 
-use super::both::{Program, check_all, text_of};
-use super::files::{NO_FAULTS, answered, program};
+use crate::both::{Program, check_all, text_of};
+use dcc_samples::files::{FACTORIAL, NO_FAULTS, answered, program};
 use std::alloc::Global;
 use std::process::Abort;
 use std::test::Fail;
 
-/// The factorial of 7, modulo 65536, by recursion.
-pub(super) const FACTORIAL: &[u8] =
-    b"\xB8\x07\x00\x50\xE8\x05\x00\x59\xB4\x4C\xCD\x21\x55\x8B\xEC\x8B\x46\x04\x3D\x01\x00\x7E\x09\x48\
-        \x50\xE8\xF0\xFF\x59\xF7\x66\x04\x5D\xC3";
-
 /// The address of a local at two depths of calls.
-pub(super) const PRINTS_AN_ADDRESS: &[u8] =
+pub(crate) const PRINTS_AN_ADDRESS: &[u8] =
     b"\xE8\x0A\x00\x50\xE8\x06\x00\x58\xB8\x00\x4C\xCD\x21\x55\x8B\xEC\x83\xEC\x02\x8D\x46\xFE\x8B\xD0\
         \xB4\x02\xCD\x21\x8A\xD6\xB4\x02\xCD\x21\x8B\xE5\x5D\xC3";
 
 /// A buffer of the caller is filled by the callee, and written as a string.
-pub(super) const FILLS_A_BUFFER: &[u8] =
+pub(crate) const FILLS_A_BUFFER: &[u8] =
     b"\xE8\x05\x00\xB8\x00\x4C\xCD\x21\x55\x8B\xEC\x83\xEC\x16\xC7\x46\xFE\x00\x00\x8D\x7E\xEA\xE8\x0B\
         \x00\x8D\x56\xEA\xB4\x09\xCD\x21\x8B\xE5\x5D\xC3\xB9\x04\x00\xC6\x05\x78\x47\xE2\xFA\xC6\x05\x24\
         \xC3";
@@ -172,7 +167,7 @@ fn check_foul(
     fill: &str,
     output: &[u8],
 ) -> Result<(), Fail> {
-    let file = program(rt, alloc, code)?;
+    let file = program(alloc, code)?;
     let watched = answered(alloc, &["watch", "ROW1.EXE"], &file, NO_FAULTS)?;
     assert_eq!(rt; watched.status, 23);
     let text = text_of(rt, alloc, &file, "8086")?;

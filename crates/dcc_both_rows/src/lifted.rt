@@ -1,22 +1,21 @@
 //! The texts of lifted programs: where their blocks begin, and the lines of their statements.
 
-use super::files::{TWO_ENTRIES, program};
 use dcc_c::{CStmt, Line, Unit};
 use dcc_io::MemSink;
 use dcc_mz::load;
 use dcc_pipe::decompile;
 use dcc_print::print;
 use dcc_prog::Cpu;
+use dcc_samples::files::{TWO_ENTRIES, program};
 use std::alloc::{AllocError, Global};
-use std::process::Abort;
 use std::test::Fail;
 
 // Adds 1 to 255, and ends with 1 where that carries, else with 0.
 const CARRIES: &[u8] = b"\xB0\xFF\x04\x01\x72\x05\xB8\x00\x4C\xCD\x21\xB8\x01\x4C\xCD\x21";
 
 /// The unit of the program of some code.
-pub(super) fn decompiled(rt: &impl Abort, alloc: Global, code: &[u8]) -> Result<Unit, Fail> {
-    let image = load(alloc, &program(rt, alloc, code)?)?;
+pub(crate) fn decompiled(alloc: Global, code: &[u8]) -> Result<Unit, Fail> {
+    let image = load(alloc, &program(alloc, code)?)?;
     Ok(decompile(alloc, &image, Cpu::I8086)?)
 }
 
@@ -34,7 +33,7 @@ fn labels(alloc: Global, lines: &[Line]) -> Result<Vec<(u32, &str)>, AllocError>
 #[test]
 fn blocks_begin_where_edges_meet_or_part(rt: HostRuntime) -> Result<(), Fail> {
     let alloc = rt.alloc();
-    let unit = decompiled(&rt, alloc, TWO_ENTRIES)?;
+    let unit = decompiled(alloc, TWO_ENTRIES)?;
     assert_eq!(&rt; unit.funcs.len(), 1);
     let labels = labels(alloc, &unit.funcs[0].body)?;
     let names = ["L_0000", "L_0005", "L_000d", "L_000e", "L_0014"];
@@ -48,7 +47,7 @@ fn blocks_begin_where_edges_meet_or_part(rt: HostRuntime) -> Result<(), Fail> {
 #[test]
 fn lines_are_those_of_the_printed_text(rt: HostRuntime) -> Result<(), Fail> {
     let alloc = rt.alloc();
-    let unit = decompiled(&rt, alloc, TWO_ENTRIES)?;
+    let unit = decompiled(alloc, TWO_ENTRIES)?;
     let mut sink = MemSink::new(alloc, Vec::new(alloc), 1_000_000);
     assert_eq!(&rt; print(alloc, &mut sink, &unit), Ok(()));
     let text = String::from_utf8_lossy(alloc, sink.taken())?;
@@ -72,7 +71,7 @@ fn lines_are_those_of_the_printed_text(rt: HostRuntime) -> Result<(), Fail> {
 #[test]
 fn a_flag_that_one_definition_gives_has_no_variable(rt: HostRuntime) -> Result<(), Fail> {
     let alloc = rt.alloc();
-    let unit = decompiled(&rt, alloc, CARRIES)?;
+    let unit = decompiled(alloc, CARRIES)?;
     assert_eq!(&rt; unit.globals.len(), 0);
     assert_eq!(&rt; unit.funcs.len(), 1);
     let variables = &unit.funcs[0].locals;

@@ -1,6 +1,6 @@
 //! One program on two processors.
 
-use super::files::{NO_FAULTS, answered, program};
+use dcc_samples::files::{NO_FAULTS, answered, program};
 use std::test::Fail;
 
 // Sets up a frame by ENTER in a procedure that it calls, which prints a star from a variable in it.
@@ -80,7 +80,7 @@ fn answers() -> &'static [Answered] {
 fn a_processor_runs_and_refuses_by_its_own_instructions(rt: HostRuntime) -> Result<(), Fail> {
     let alloc = rt.alloc();
     for row in answers() {
-        let file = program(&rt, alloc, row.code)?;
+        let file = program(alloc, row.code)?;
         let words = [row.command, "ROW1.EXE", "--cpu", row.cpu];
         let given = answered(alloc, &words, &file, NO_FAULTS)?;
         assert_eq!(rt; given.err.as_slice(), row.line.as_bytes());

@@ -1,10 +1,10 @@
 //! The functions of texts: their parameters and results, and the bytes that they place.
 
-use super::both::text_of;
-use super::calls::{FACTORIAL, FILLS_A_BUFFER, PRINTS_AN_ADDRESS};
-use super::files::program;
-use super::lifted::decompiled;
+use crate::both::text_of;
+use crate::calls::{FILLS_A_BUFFER, PRINTS_AN_ADDRESS};
+use crate::lifted::decompiled;
 use dcc_c::{Base, CStmt, Class, Func, Line, Unit};
+use dcc_samples::files::{FACTORIAL, program};
 use std::alloc::{AllocError, Global};
 use std::test::Fail;
 
@@ -67,7 +67,7 @@ fn in_registers(alloc: Global, function: &Func) -> Result<Vec<Base>, AllocError>
 fn just_what_is_wanted_passes_between_functions(rt: HostRuntime) -> Result<(), Fail> {
     let alloc = rt.alloc();
     for (code, stack, registers, result) in functions() {
-        let unit = decompiled(&rt, alloc, code)?;
+        let unit = decompiled(alloc, code)?;
         assert!(&rt; unit.funcs.len() >= 2);
         let function = &unit.funcs[1];
         let types = in_registers(alloc, function)?;
@@ -109,7 +109,7 @@ fn only_bytes_whose_address_is_taken_are_placed(rt: HostRuntime) -> Result<(), F
         (FILLS_A_BUFFER, &[Some(22)]),
     ];
     for (code, lengths) in rows {
-        let unit = decompiled(&rt, alloc, code)?;
+        let unit = decompiled(alloc, code)?;
         assert_eq!(&rt; placed(alloc, &unit)?.as_slice(), lengths);
     }
     Ok(())
@@ -117,7 +117,7 @@ fn only_bytes_whose_address_is_taken_are_placed(rt: HostRuntime) -> Result<(), F
 
 #[test]
 fn a_recursive_procedure_has_no_loop(rt: HostRuntime) -> Result<(), Fail> {
-    let unit = decompiled(&rt, rt.alloc(), FACTORIAL)?;
+    let unit = decompiled(rt.alloc(), FACTORIAL)?;
     assert_eq!(&rt; unit.funcs.len(), 2);
     let factorial = &unit.funcs[1];
     assert_eq!(&rt; factorial.name.as_str(), "f_0011");
@@ -128,7 +128,7 @@ fn a_recursive_procedure_has_no_loop(rt: HostRuntime) -> Result<(), Fail> {
 #[test]
 fn a_recursive_procedure_takes_no_address(rt: HostRuntime) -> Result<(), Fail> {
     let alloc = rt.alloc();
-    let file = program(&rt, alloc, FACTORIAL)?;
+    let file = program(alloc, FACTORIAL)?;
     let text = text_of(&rt, alloc, &file, "8086")?;
     // The operator between two operands alone has a space behind it.
     let mut follows = false;
