@@ -17,7 +17,7 @@ pub record State : Type 0 where
   pub saved : List Loc
 
 abbrev pub state_of : StateOf → State
-state_of s = record { written = s.written; lost = s.lost; saved = s.saved.items }
+state_of s = record { written = s.written; lost = s.lost; saved = s.saved }
 
 -- at the entry of a procedure
 abbrev pub at_entry : State

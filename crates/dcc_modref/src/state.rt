@@ -1,6 +1,7 @@
 //! What trails to a point have done to a location.
 
-ghost use Rattle.std.specs.Prelude.{◌≡◌, not, map, filter, IfOk, OnOk};
+ghost use Rattle.std.specs.Prelude.{◌≡◌, ◌&&◌, not, map, filter, IfOk, OnOk};
+ghost use Rattle.std.specs.List.{list_any};
 ghost use Rattle.std.specs.Option.{option_to_list};
 ghost use Rattle.dcc_ir.specs.Views.{stmt_of};
 ghost use Rattle.dcc_ir.specs.Live.{is_among};
@@ -9,6 +10,7 @@ ghost use Rattle.dcc_sums.specs.Instance.{passes, is_half, is_pushed, written_by
 ghost use Rattle.dcc_modref.specs.States.{state_of, at_entry, is_unsaved, joined, is_news, is_told, told_in};
 ghost use Rattle.dcc_modref.specs.States.{pushed_by, after, after_all};
 
+use dcc_flow::Locations;
 use dcc_ir::plain::scene::same_location;
 use dcc_ir::{Expr, Graph, Loc, PASSED_LOCATIONS, Stmt};
 use std::alloc::{AllocError, Global};
@@ -114,7 +116,7 @@ pub struct State {
     /// Some trail has lost it.
     pub lost: bool,
     /// All trails have saved it in these words.
-    pub saved: Vec<Loc>,
+    pub saved: Locations,
 }
 
 impl State {
@@ -125,7 +127,7 @@ impl State {
         State {
             written: false,
             lost: false,
-            saved: Vec::new(alloc),
+            saved: Locations::new(alloc),
         }
     }
 
@@ -133,7 +135,7 @@ impl State {
     pub fn copy(&self) -> Result<State, AllocError>
         ensures { IfOk result (λ s. state_of s ≡ state_of self.now) }
     {
-        let saved = self.saved.clone()?;
+        let saved = self.saved.copy()?;
         Ok(State {
             written: self.written,
             lost: self.lost,
@@ -155,21 +157,60 @@ impl State {
         let Expr::Get(from) = value else {
             return true;
         };
-        !(is_half(*place) && is_pushed(pushed, *from) && is_among(self.saved.as_slice(), *from))
+        !(is_half(*place) && is_pushed(pushed, *from) && self.saved.contains(*from))
+    }
+
+    // Whether one of these places of a call's results is of a byte of an argument that holds the location saved.
+    fn any_saves(&self, results: &[Loc]) -> bool
+        ensures { result ≡ list_any (λ place. not (passes place) && is_among self.now.saved place) results.now }
+    {
+        results
+            .iter()
+            .any(|place| !passes(*place) && self.saved.contains(*place))
+    }
+
+    // Whether a statement writes one of the words that hold the location saved.
+    fn is_overwritten(&self, stmt: &Stmt) -> bool
+        ensures { result ≡ list_any (is_among self.now.saved) (written_by (stmt_of stmt.now)) }
+    {
+        match stmt {
+            Stmt::Set { place, .. } | Stmt::Load { place, .. } | Stmt::Div { place, .. } => {
+                self.saved.contains(*place)
+            }
+            Stmt::Store { .. } => false,
+            Stmt::Call { results, .. } => self.any_saves(results.as_slice()),
+            Stmt::Dos { place, .. } => match place {
+                Some(place) => self.saved.contains(*place),
+                None => false,
+            },
+        }
     }
 
     // The words that hold the location saved and that a statement doesn't write.
-    fn unwritten(&self, alloc: Global, stmt: &Stmt) -> Result<Vec<Loc>, AllocError>
-        ensures { IfOk result (λ words. words.items
-            ≡ filter (λ word. not (is_among (written_by (stmt_of stmt.now)) word)) self.now.saved.items) }
+    fn unwritten(&self, alloc: Global, stmt: &Stmt) -> Result<Locations, AllocError>
+        ensures { IfOk result (λ words. words
+            ≡ filter (λ word. not (is_among (written_by (stmt_of stmt.now)) word)) self.now.saved) }
     {
-        let mut words = Vec::new(alloc);
-        for word in &self.saved {
+        let mut words = Locations::new(alloc);
+        for word in self.saved.as_slice() {
             if !writes(stmt, *word) {
                 words.push(*word)?;
             }
         }
         Ok(words)
+    }
+
+    // The words that a statement writes hold the location saved no more. Most statements write none of them.
+    fn forget(&mut self, alloc: Global, stmt: &Stmt) -> Result<(), AllocError>
+        ensures saved { OnOk result (self.new.saved
+            ≡ filter (λ word. not (is_among (written_by (stmt_of stmt.now)) word)) self.old.saved) }
+        ensures written { self.new.written ≡ self.old.written }
+        ensures lost { self.new.lost ≡ self.old.lost }
+    {
+        if self.is_overwritten(stmt) {
+            self.saved = self.unwritten(alloc, stmt)?;
+        }
+        Ok(())
     }
 
     /// From before a statement to after it.
@@ -185,15 +226,14 @@ impl State {
     {
         let called = calls_one(stmt, subject.changed);
         let lost = called || self.loses(stmt, subject.graph.pushed, subject.location);
-        let mut saved = self.unwritten(alloc, stmt)?;
+        self.forget(alloc, stmt)?;
         if !self.written {
             if let Some(word) = pushed_by(stmt, subject.location) {
-                saved.push(word)?;
+                self.saved.push(word)?;
             }
         }
         self.written = writes(stmt, subject.location) || called || self.written;
         self.lost = lost;
-        self.saved = saved;
         Ok(())
     }
 
@@ -214,12 +254,12 @@ impl State {
     }
 
     // The words that hold the location saved in both states.
-    fn common(&self, alloc: Global, other: &State) -> Result<Vec<Loc>, AllocError>
-        ensures { IfOk result (λ words. words.items ≡ filter (is_among other.now.saved.items) self.now.saved.items) }
+    fn common(&self, alloc: Global, other: &State) -> Result<Locations, AllocError>
+        ensures { IfOk result (λ words. words ≡ filter (is_among other.now.saved) self.now.saved) }
     {
-        let mut words = Vec::new(alloc);
-        for word in &self.saved {
-            if is_among(other.saved.as_slice(), *word) {
+        let mut words = Locations::new(alloc);
+        for word in self.saved.as_slice() {
+            if other.saved.contains(*word) {
                 words.push(*word)?;
             }
         }
@@ -235,11 +275,12 @@ impl State {
         self.written |= other.written;
         self.lost |= other.lost;
         // Most states have saved nothing.
-        if self.saved.is_empty() {
+        let before = self.saved.as_slice().len();
+        if before == 0 {
             return Ok(new);
         }
         let saved = self.common(alloc, other)?;
-        let fewer = saved.len() < self.saved.len();
+        let fewer = saved.as_slice().len() < before;
         self.saved = saved;
         Ok(new || fewer)
     }

@@ -23,7 +23,7 @@ flow_on-requires c =
     (subst (λ (b : Block). All (λ k. k < length graph.blocks) (targets b.exit)) (sym here) (targets_below graph c.requires.graph c.args.at inside))
 
 -- what the turn keeps and tells
-turns : (c : goal.After-drop-state-in-Some) →
+turns : (c : goal.After-drop-state-in-Some-2) →
     AreFlowing (told_in c.args.subject.now.changed.now) (graph_of c.args.subject.now.graph.now) c.args.subject.now.location (states_of c.flow_on.new.begins.items)
     × HasTurned (told_in c.args.subject.now.changed.now) (graph_of c.args.subject.now.graph.now) c.args.subject.now.location (states_of c.args.begins.now.items) (states_of c.flow_on.new.begins.items)
     c.in_ok-new-in-Some.new (λ k. k ≡ c.args.at)

@@ -3,4 +3,4 @@ use Rattle.dcc_ir.specs.Live.{is_among}
 use Rattle.dcc_modref.proofs.state.State.common.Given as goal
 
 abbrev pub invariant-loop-word : goal.invariant-loop-word
-invariant-loop-word l = l.words.items ≡ filter (is_among l.other.saved.items) (take l.word-index l.self.saved.items)
+invariant-loop-word l = l.words ≡ filter (is_among l.other.saved) (take l.word-index l.self.saved)
