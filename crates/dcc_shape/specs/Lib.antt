@@ -1,3 +1,5 @@
 pub mod Procedures
 pub mod Spots
 pub mod Shape
+pub mod Seen
+pub mod Asked

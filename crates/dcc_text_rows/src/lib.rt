@@ -1,4 +1,5 @@
-//! Tests of what reads, writes and runs texts. Expected values come from references apart from this code.
+//! Tests of what reads, writes and runs texts, and of what tells their shape. Expected values come from references
+//! apart from this code.
 #![tactic(auto)]
 
 #[cfg(test)]
@@ -7,5 +8,7 @@ mod lexing;
 mod parsing;
 #[cfg(test)]
 mod printing;
+#[cfg(test)]
+mod shapes;
 #[cfg(test)]
 mod text_runs;

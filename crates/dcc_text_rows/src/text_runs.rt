@@ -7,8 +7,8 @@ use dcc_parse::parse;
 use std::alloc::Global;
 use std::test::Fail;
 
-// The lines before the statements of `start`, which begin in line 6.
-const BEFORE: &str = "#pragma dcc text 1
+/// The lines before the statements of `start`, which begin in line 6.
+pub(crate) const BEFORE: &str = "#pragma dcc text 1
 #pragma dcc stack 8192 12288
 void start(void)
 {
