@@ -16,7 +16,7 @@ use Rattle.dcc_c.specs.Text.{StandsFor}
 
 -- How many steps of a text with so many tokens have the events of n steps of the machine. In n steps the machine begins
 -- no more than n + 1 blocks, its first one counted; and from one block to the next a text makes no more steps than it
--- has tokens, since none of its statements comes twice, and each statement and each function has a token of its own.
+-- has tokens, since none of its steps comes twice, and each step and each function has a token of its own.
 abbrev pub text_steps : ℕ → ℕ → ℕ
 text_steps tokens n = (n + 1) * tokens
 

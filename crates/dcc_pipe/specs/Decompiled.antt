@@ -10,9 +10,9 @@ use Rattle.dcc_pipe.specs.Agreement.{IsTextOf}
 use Rattle.dcc_pipe.specs.TypedFrames.{HasTypedFrames}
 
 -- On this processor nothing refuses the image, and these bytes are the written form of a tree of the dialect, whose run
--- agrees with that of the image on every input and from every fill. Of each procedure's frame it has in memory just the
--- arguments and the local bytes that the frame exposes, and one byte where the frame exposes no local one and the
--- procedure moves SP by a sum; of that byte nothing but the address is used.
+-- agrees with that of the image on every input and from every fill. Its `auto` parameters and variables are just the
+-- arguments and the local bytes that the frames expose, and one byte where a frame exposes no local one and the
+-- procedure moves SP by a sum, whose name stands in no load and no store.
 pub record IsTextOfImage (cpu : Cpu) (image : Image) (text : List ℕ) : Type 0 where
   pub accepted : IsAcceptedProgram cpu image
   pub tree : Tree

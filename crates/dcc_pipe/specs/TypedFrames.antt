@@ -88,8 +88,8 @@ is_only_addressed word body = list_all (tells_address word body) (stmts_in body)
 abbrev pub is_byte : Variable → Bool
 is_byte v = same_type v.type (plain Uchar)
 
--- Each variable by which the function loads or stores holds one byte, but for those with a place. An address is a word:
--- no variable without a place that holds one stands beneath a `*`.
+-- Each variable by which the function loads or stores holds one byte, but for those with a place: no variable without a
+-- place that holds a whole address, which is a word, stands beneath a `*`.
 abbrev pub accesses_by_bytes : Function → Bool
 accesses_by_bytes f =
     list_all (λ v. is_auto v.class || (is_byte v || not (is_accessed_by f.body v.name))) (f.params ++ f.locals)
@@ -97,8 +97,9 @@ accesses_by_bytes f =
 -- Arrays.
 
 -- The array of a frame has the local bytes that the frame exposes. Where it exposes none, there may be one byte, if the
--- procedure moves SP by ADD, SUB, INC or DEC; the function names its array for the address alone, and loads and stores
--- by bytes, which hold no address.
+-- procedure moves SP by ADD, SUB, INC or DEC. The function names its array in no load and no store, for the address
+-- alone, and loads and stores by no variable that holds more than a byte. Where the parts of that address go, and which
+-- numbers happen to be that address, is not followed.
 pub data HasArrayOf (p : Procedure) (f : Function) : ℕ → Type 0 where
   exposed : HasArrayOf p f p.frame.exposed.local
   for_moves : p.frame.exposed.local ≡ 0 → moves_sp p.proc ≡ true → is_only_addressed frame_name f.body ≡ true

@@ -48,12 +48,12 @@ fn text_of(alloc: Global, image: &Image, program: &Program) -> Result<Unit, Sums
 /// The text of a loaded program for a processor: its image outside the stack as arrays, and a function for each
 /// procedure, with a variable for each half of a word register, each flag, each temporary and each half of a frame's
 /// cell that it needs, an array for the local bytes of the frame that are in memory, a label before each block, and
-/// jumps, with the lines where statements stand in the written form. Between the functions just what is wanted passes.
-/// What nothing wants is not computed. The written form stands for the unit's tree, whose run on every input and from
-/// every fill agrees with that of the program on the processor, as long as that is clean. A function keeps in memory
-/// just the arguments and the local bytes that its procedure's frame exposes; where it exposes no local byte, there may
-/// be one if the procedure moves SP by ADD, SUB, INC or DEC, and the array of that byte is named for its address alone.
-/// There is a function for each procedure, by the name of its entry.
+/// jumps, with the lines where statements stand in the written form. The written form stands for the unit's tree, whose
+/// run on every input and from every fill agrees with that of the program on the processor, as long as that is clean.
+/// The `auto` parameters and variables of a function are just the arguments and the local bytes that its procedure's
+/// frame exposes; where it exposes no local byte, there may be one if the procedure moves SP by ADD, SUB, INC or DEC,
+/// and the array of that byte is named in no load and no store, for its address alone. There is a function for each
+/// procedure, by the name of its entry.
 ///
 /// A program that has a text has no construct, and passes no limit. One that is refused is told why, in this order: what
 /// `analyse` refuses; and where it refuses nothing, a construct of what procedures take and give back: a CALL that may
