@@ -18,7 +18,12 @@ pub(crate) const FILLS_A_BUFFER: &[u8] =
         \x00\x8D\x56\xEA\xB4\x09\xCD\x21\x8B\xE5\x5D\xC3\xB9\x04\x00\xC6\x05\x78\x47\xE2\xFA\xC6\x05\x24\
         \xC3";
 
-static PROGRAMS: [Program; 17] = [
+/// A jump by the flags of the sum that lowers SP, in a procedure that exposes no local byte.
+pub(crate) const JUMPS_BY_SP: &[u8] =
+    b"\xE8\x05\x00\xB8\x00\x4C\xCD\x21\x55\x8B\xEC\x83\xEC\x02\x74\x06\xC6\x46\xFE\x41\xEB\x04\xC6\x46\
+        \xFE\x42\x8A\x56\xFE\xB4\x02\xCD\x21\x8B\xE5\x5D\xC3";
+
+static PROGRAMS: [Program; 18] = [
     Program {
         code: FACTORIAL,
         input: b"",
@@ -43,6 +48,12 @@ static PROGRAMS: [Program; 17] = [
         code: FILLS_A_BUFFER,
         input: b"",
         output: b"xxxx",
+        line: "exit 0\n",
+    },
+    Program {
+        code: JUMPS_BY_SP,
+        input: b"",
+        output: b"A",
         line: "exit 0\n",
     },
     // The callee doubles its argument, which the caller drops.

@@ -1,7 +1,7 @@
 //! The functions of texts: their parameters and results, and the bytes that they place.
 
 use crate::both::text_of;
-use crate::calls::{FILLS_A_BUFFER, PRINTS_AN_ADDRESS};
+use crate::calls::{FILLS_A_BUFFER, JUMPS_BY_SP, PRINTS_AN_ADDRESS};
 use crate::lifted::decompiled;
 use dcc_c::{Base, CStmt, Class, Func, Line, Unit};
 use dcc_samples::files::{FACTORIAL, program};
@@ -103,10 +103,12 @@ fn placed(alloc: Global, unit: &Unit) -> Result<Vec<Option<u32>>, AllocError> {
 #[test]
 fn only_bytes_whose_address_is_taken_are_placed(rt: HostRuntime) -> Result<(), Fail> {
     let alloc = rt.alloc();
-    let rows: [(&[u8], &[Option<u32>]); 3] = [
+    let rows: [(&[u8], &[Option<u32>]); 4] = [
         (FACTORIAL, &[]),
         (PRINTS_AN_ADDRESS, &[Some(2)]),
         (FILLS_A_BUFFER, &[Some(22)]),
+        // One byte stands for SP's address.
+        (JUMPS_BY_SP, &[Some(1)]),
     ];
     for (code, lengths) in rows {
         let unit = decompiled(alloc, code)?;
