@@ -13,3 +13,5 @@ mod graphs;
 mod intervals;
 #[cfg(test)]
 mod living;
+#[cfg(test)]
+mod plans;

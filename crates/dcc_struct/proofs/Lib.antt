@@ -1,0 +1,4 @@
+mod BlockLaws
+mod LabelLaws
+mod PointLaws
+mod ValidLaws
