@@ -2,7 +2,7 @@
 
 use crate::graphs::bare_graph;
 use dcc_control::Item;
-use dcc_struct::is_structured;
+use dcc_plan_check::is_structured;
 use std::alloc::{AllocError, Global};
 use std::test::Fail;
 

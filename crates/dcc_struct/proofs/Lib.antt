@@ -1,4 +1,2 @@
-mod BlockLaws
-mod LabelLaws
-mod PointLaws
-mod ValidLaws
+mod GotoStructured
+mod NestLaws

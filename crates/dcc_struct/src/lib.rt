@@ -1,8 +1,13 @@
-//! Whether a plan is one of a graph.
+//! The structured plan of a graph: loops, tests, choices and jumps in place of jumps alone.
 #![tactic(auto)]
 
-pub mod labels;
-pub mod point;
-pub mod valid;
+mod builder;
+mod edges;
+mod exits;
+mod layout;
+mod loops;
+mod table;
+mod tree;
+mod walk;
 
-pub use valid::is_structured;
+pub use builder::structured;

@@ -1,0 +1,5 @@
+mod BlockLaws
+mod LabelLaws
+mod PointLaws
+mod ReturnLaws
+mod ValidLaws
