@@ -11,3 +11,4 @@ pub mod GreatestLaws
 pub mod JoinLaws
 pub mod PartingLaws
 pub mod LoopLaws
+pub mod AgreeLaws

@@ -22,7 +22,7 @@ use Rattle.dcc_interval.proofs.SequenceLaws.{header_inside, same_edges}
 
 -- Lists.
 
-in_map : (f : ℕ → ℕ) (ns : List ℕ) (n : ℕ) → is_in (map f ns) n ≡ true → (m : ℕ) × (is_in ns m ≡ true) × (f m ≡ n)
+pub in_map : (f : ℕ → ℕ) (ns : List ℕ) (n : ℕ) → is_in (map f ns) n ≡ true → (m : ℕ) × (is_in ns m ≡ true) × (f m ≡ n)
 in_map f [] n h = absurd (false≢true h)
 in_map f (m ∷ ns) n h = elim (in_cases (f m) n (map f ns) h) [
   | inl e ↦ (m, in_here m ns, e)
@@ -51,14 +51,18 @@ back_is_header edge level n h = kept (λ i. list_any (λ m. edge m i.header) i.m
         ])
         (λ f k. in_there i.header n (headers_of is) (kept test is k)) h
 
--- the nodes of a collapsed graph are places of the level
-place_inside : (edge : ℕ → ℕ → Bool) (entry : ℕ) (level : List Interval) → AreIntervals edge entry level → {p : ℕ} → IsReached (collapsed edge level) 0 p → p < length level
-place_inside edge entry level are at_entry = omega (arith, ap length are.first.1, length-map level (λ (i : Interval). i.header))
-place_inside edge entry level are (along {m = m} {n = p} r e) =
+-- what follows a place is a place of the level
+pub follower_inside : (edge : ℕ → ℕ → Bool) (level : List Interval) (m p : ℕ) → collapsed edge level m p ≡ true → p < length level
+follower_inside edge level m p e =
     let parts = and_parts (not (m == p)) (leads_between edge (members_at level m) (members_at level p)) e in
     let from = some_passes (λ x. list_any (edge x) (members_at level p)) (members_at level m) parts.1 in
     let to = some_passes (edge from.0) (members_at level p) from.2 in
     members_within level p to.0 to.1
+
+-- the nodes of a collapsed graph are places of the level
+place_inside : (edge : ℕ → ℕ → Bool) (entry : ℕ) (level : List Interval) → AreIntervals edge entry level → {p : ℕ} → IsReached (collapsed edge level) 0 p → p < length level
+place_inside edge entry level are at_entry = omega (arith, ap length are.first.1, length-map level (λ (i : Interval). i.header))
+place_inside edge entry level are (along {m = m} {n = p} r e) = follower_inside edge level m p e
 
 back_reached : (edge : ℕ → ℕ → Bool) (entry : ℕ) (level : List Interval) → AreIntervals edge entry level → (n : ℕ) → is_in (back_headers edge level) n ≡ true → IsReached edge entry n
 back_reached edge entry level are n h = header_reached edge entry ((are.headers n).0 (back_is_header edge level n h))

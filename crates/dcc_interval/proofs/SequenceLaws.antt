@@ -33,14 +33,14 @@ declared_members level k d less =
 
 -- Single nodes.
 
-some_fails : (f : Interval → Bool) (level : List Interval) → list_all f level ≡ false → (k : ℕ) × (k < length level) × (f (get_or level k no_interval) ≡ false)
+pub some_fails : (f : Interval → Bool) (level : List Interval) → list_all f level ≡ false → (k : ℕ) × (k < length level) × (f (get_or level k no_interval) ≡ false)
 some_fails f [] h = absurd (false≢true (sym h))
 some_fails f (i ∷ level) h = elim (and_cases (f i) (list_all f level) h) [
   | inl e ↦ (0, omega arith, e)
   | inr r ↦ let there = some_fails f level r in (suc there.0, omega (arith, there.1), there.2)
 ]
 
-another : (ns : List ℕ) (n : ℕ) → is_in ns n ≡ true → is_single ns ≡ false → all_differ ns ≡ true → (m : ℕ) × (is_in ns m ≡ true) × ¬ (m ≡ n)
+pub another : (ns : List ℕ) (n : ℕ) → is_in ns n ≡ true → is_single ns ≡ false → all_differ ns ≡ true → (m : ℕ) × (is_in ns m ≡ true) × ¬ (m ≡ n)
 another [] n h single differ = absurd (false≢true h)
 another (x ∷ []) n h single differ = absurd (false≢true (sym single))
 another (x ∷ y ∷ ns) n h single differ = elim (cases_eq x n) [

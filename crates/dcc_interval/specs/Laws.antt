@@ -1,10 +1,10 @@
 -- Laws of intervals.
-use Rattle.std.specs.Prelude.{◌≡◌, ℕ, ◌<◌, Bool, true, ◌⊎◌, List, ◌∷◌, length}
+use Rattle.std.specs.Prelude.{◌≡◌, ℕ, ◌<◌, Bool, true, ◌⊎◌, List, ◌∷◌, length, map}
 use Rattle.dcc_ir.specs.Flow.{IsPath}
 use Rattle.dcc_flow.specs.Edges.{is_in, leads, AreWithin}
 use Rattle.dcc_interval.specs.Graphs.{IsReached}
 use Rattle.dcc_interval.specs.Intervals.{InInterval, Interval, AreIntervals}
-use Rattle.dcc_interval.specs.Derived.{members_at}
+use Rattle.dcc_interval.specs.Derived.{members_at, IsDerived, loop_headers}
 
 -- the node is in just one of the intervals
 pub record IsInOne (intervals : List Interval) (n : ℕ) : Type 0 where
@@ -38,3 +38,16 @@ pub record IsGreatest (edge : ℕ → ℕ → Bool) (entry header : ℕ) : Type 
 abbrev pub IntervalsAreGreatest : Type 0
 IntervalsAreGreatest = (next : List (List ℕ)) (entry header : ℕ) → AreWithin next → entry < length next
     → IsReached (leads next) entry header → IsGreatest (leads next) entry header
+
+-- Derived sequences of a graph.
+
+-- two sequences of levels have the same loop headers, and as many intervals at each level
+pub record AreAlike (edge : ℕ → ℕ → Bool) (levels others : List (List Interval)) : Type 0 where
+  pub headers : (n : ℕ) → is_in (loop_headers edge levels) n ≡ is_in (loop_headers edge others) n
+  pub counts : map (λ (level : List Interval). length level) levels
+      ≡ map (λ (level : List Interval). length level) others
+
+-- the derived sequences of a graph are alike
+abbrev pub DerivedSequencesAgree : Type 0
+DerivedSequencesAgree = (edge : ℕ → ℕ → Bool) (entry : ℕ) (levels others : List (List Interval))
+    → IsDerived edge entry levels → IsDerived edge entry others → AreAlike edge levels others

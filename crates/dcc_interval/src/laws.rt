@@ -1,6 +1,6 @@
 //! Laws of intervals. The functions do nothing: their contracts are proved for all graphs.
 
-ghost use Rattle.dcc_interval.specs.Laws.{IntervalsPartGraphs, IntervalsAreGreatest};
+ghost use Rattle.dcc_interval.specs.Laws.{IntervalsPartGraphs, IntervalsAreGreatest, DerivedSequencesAgree};
 
 /// Each node that is reached is in just one of the intervals that part a graph.
 pub fn intervals_part_graphs()
@@ -11,4 +11,9 @@ pub fn intervals_part_graphs()
 /// holds it.
 pub fn intervals_are_greatest()
     ensures { IntervalsAreGreatest }
+{}
+
+/// The derived sequences of a graph have the same loop headers, and as many intervals at each level.
+pub fn derived_sequences_agree()
+    ensures { DerivedSequencesAgree }
 {}

@@ -1,74 +1,66 @@
 -- The graph of a procedure, from the instructions as the code has them.
-use Rattle.std.proofs.Common.{◌≡◌, ℕ, ◌+◌, ◌-◌, ◌<◌, Bool, true, false, cond, List, [], ◌∷◌, ◌++◌, Option, Some, None, map, take, length, get_or, suc, zero, inl, inr, refl, sym, ap, subst, ◌∙◌, arith}
-use Rattle.std.specs.Prelude.{◌==◌, if◌then◌else◌, nat_le, nat_lt, slice_get}
+use Rattle.std.proofs.Common.{◌≡◌, ℕ, ◌+◌, ◌-◌, ◌<◌, ◌≤◌, All, Bool, true, false, cond, List, [], ◌∷◌, ◌++◌, Option, Some, None, map, take, length, get_or, suc, zero, inl, inr, refl, sym, ap, subst, ◌∙◌, arith}
+use Rattle.std.specs.Prelude.{◌==◌, if◌then◌else◌, not, nat_lt, slice_get}
 use Rattle.std.specs.Global.{Vec}
-use Rattle.std.specs.List.{list_any, filter, count_by, position, position_or_len}
-use Rattle.std.proofs.lemmas.Bool.{cases_Bool, or_cases, eqb-true}
-use Rattle.std.proofs.lemmas.Bool.Decides.{nat_tests}
+use Rattle.std.specs.List.{filter, sum_by, count_by, position, position_or_len}
+use Rattle.std.proofs.lemmas.Bool.{cases_Bool, ltb-false}
 use Rattle.std.proofs.lemmas.Simd.{map-map}
-use Rattle.std.proofs.lemmas.List.{take_more, map-append, length-map}
-use Rattle.std.proofs.lemmas.List.Elements.{filter-append}
+use Rattle.std.proofs.lemmas.List.{take_more, length-map, length-append}
+use Rattle.std.proofs.lemmas.List.Elements.{filter-append, All-push, All-nil}
+use Rattle.std.proofs.lemmas.List.Sums.{prefix_len-le-length}
 use Rattle.dcc_prog.specs.declared.procedure.Node.{Node}
-use Rattle.dcc_flow.specs.Edges.{is_in, leads}
-use Rattle.dcc_flow.proofs.Members.{in_here, in_there}
+use Rattle.dcc_flow.specs.Edges.{is_in, leads, AreWithin}
 use Rattle.dcc_interval.specs.declared.interval.Interval.{Interval as IntervalOf}
 use Rattle.dcc_interval.specs.Intervals.{Interval, intervals_in}
 use Rattle.dcc_interval.specs.Derived.{IsDerived, loop_headers, levels_in}
 use Rattle.dcc_shape.specs.declared.points.Point.{Point}
 use Rattle.dcc_shape.specs.declared.asked.Asked.{Asked}
-use Rattle.dcc_shape.specs.Procedures.{Flow, is_branching, addresses, place_among, place_at, next_of, edges_to, ends_in_one}
-use Rattle.dcc_shape.specs.Asked.{point_in, point_of, flow_in, IsAsked}
-use Rattle.dcc_shape.proofs.ListLaws.{count_by-map}
-
--- Numbers of edges.
-
-pub meets : (count : ℕ) → nat_le 1 count ≡ nat_le 2 (count + 1)
-meets count = grind (arith, nat_tests)
-
-pub stays : (count : ℕ) → nat_le 2 count ≡ nat_le 2 (count + 0)
-stays count = grind (arith, nat_tests)
-
-pub edges-in : (a : Asked) (at : ℕ) →
-    edges_to (flow_in a) at ≡ count_by (λ p. is_in p.next.items at) a.points.items + (if at == a.entry then 1 else 0)
-edges-in a at =
-    ap (λ n. n + (if at == a.entry then 1 else 0)) (count_by-map (λ (n : ℕ × List ℕ). is_in n.1 at) (λ (p : Point). (p.at, p.next.items)) a.points.items)
-
-pub one-at : (points : List Point) (at : ℕ) → list_any (λ p. p.at == at) points ≡ true →
-    is_in (map (λ (n : ℕ × List ℕ). n.0) (map (λ (p : Point). (p.at, p.next.items)) points)) at ≡ true
-one-at [] at h = h
-one-at (p ∷ points) at h =
-    let rest : List ℕ = map (λ (n : ℕ × List ℕ). n.0) (map (λ (q : Point). (q.at, q.next.items)) points) in
-    elim (or_cases (p.at == at) (list_any (λ q. q.at == at) points) h) [
-      | inl e ↦ subst (λ n. is_in (p.at ∷ rest) n ≡ true) (eqb-true p.at at e) (in_here p.at rest)
-      | inr t ↦ in_there p.at at rest (one-at points at t)
-    ]
-
--- how the count of different numbers goes on
-pub counted-on : (count new before after extra total : ℕ) → count + before ≡ total → before ≡ after + extra → new ≡ count + extra → new + after ≡ total
-counted-on count new before after extra total had split is = omega arith
+use Rattle.dcc_shape.specs.Procedures.{Flow, is_branching, addresses, place_among, place_at, next_of, different, ends_in_one}
+use Rattle.dcc_shape.specs.Asked.{point_in, point_of, IsAsked}
+use Rattle.dcc_shape.proofs.ListLaws.{flip, sum_by-map, count_by-map}
 
 -- Places.
-
-flip : (at other : ℕ) → (at == other) ≡ (other == at)
-flip at other = grind (arith, nat_tests)
 
 pub place-is : (others : List ℕ) (at place : ℕ) → Some place ≡ position (λ other. at == other) others → place ≡ place_among others at
 place-is others at place is =
     let test : ℕ → Bool = λ other. at == other in
     let n = position_or_len test others in
-    let same : n ≡ place_among others at = ap (λ (t : ℕ → Bool). position_or_len t others) (λ i other. flip at other i) in
+    let same : n ≡ place_among others at = ap (λ (t : ℕ → Bool). position_or_len t others) (λ i other. flip other at i) in
     elim (cases_Bool (nat_lt n (length others))) [
       | inl inside ↦ let told : Some place ≡ Some n = is ∙ ap (λ b. cond b (Some n) None) inside in ap (λ o. elim o [ Some m ↦ m | None ↦ 0 ]) told ∙ same
       | inr past ↦ let told : Some place ≡ None = is ∙ ap (λ b. cond b (Some n) None) past in absurd cc
     ]
 
-pub filter-more : {X Y : Type 0} (test : Y → Bool) (h : X → Y) (xs : List X) (i : ℕ) (x : X) → i < length xs → x ≡ get_or xs i x →
-    filter test (map h (take (i + 1) xs)) ≡ filter test (map h (take i xs)) ++ cond (test (h x)) (h x ∷ []) []
-filter-more test h xs i x within is =
-    ap (λ l. filter test (map h l)) (take_more xs i x within)
-    ∙ ap (filter test) (map-append h (take i xs) (get_or xs i x ∷ []))
-    ∙ filter-append test (map h (take i xs)) (h (get_or xs i x) ∷ [])
-    ∙ ap (λ y. filter test (map h (take i xs)) ++ filter test (h y ∷ [])) (sym is)
+-- an address that is none of these has the place after all others
+pub place-past : (others : List ℕ) (at : ℕ) → None ≡ position (λ other. at == other) others → length others ≡ place_among others at
+place-past others at is =
+    let test : ℕ → Bool = λ other. at == other in
+    let n = position_or_len test others in
+    let same : n ≡ place_among others at = ap (λ (t : ℕ → Bool). position_or_len t others) (λ i other. flip other at i) in
+    elim (cases_Bool (nat_lt n (length others))) [
+      | inl inside ↦ let told : None ≡ Some n = is ∙ ap (λ b. cond b (Some n) None) inside in absurd cc
+      | inr past ↦ let long : length others ≡ n = omega (arith, ltb-false n (length others) past, prefix_len-le-length (λ x. not (test x)) others) in long ∙ same
+    ]
+
+pub filter-more : (test : ℕ → Bool) (xs : List ℕ) (i : ℕ) → i < length xs →
+    filter test (take (i + 1) xs) ≡ filter test (take i xs) ++ cond (test (get_or xs i 0)) (get_or xs i 0 ∷ []) []
+filter-more test xs i within =
+    ap (filter test) (take_more xs i 0 within) ∙ filter-append test (take i xs) (get_or xs i 0 ∷ [])
+
+-- a list behind all others that has nothing leads nowhere
+trailing : (rows : List (List ℕ)) (a : ℕ) → get_or (rows ++ [] ∷ []) a [] ≡ get_or rows a []
+trailing [] zero = refl
+trailing [] (suc a) = refl
+trailing (row ∷ rows) zero = refl
+trailing (row ∷ rows) (suc a) = trailing rows a
+
+-- with it the places are within
+pub within-next : (rows : List (List ℕ)) (count : ℕ) → length rows ≡ count → All (λ row. All (λ place. place ≤ count) row) rows → AreWithin (rows ++ [] ∷ [])
+within-next rows count long h =
+    let size = length-append rows ([] ∷ []) in
+    All-push (λ row. All (λ place. place < length (rows ++ [] ∷ [])) row) rows []
+    (λ k d less j e inner. let small = h k d less j e inner in omega (arith, small, size, long))
+    (All-nil (λ place. place < length (rows ++ [] ∷ [])))
 
 -- The end of a derived sequence.
 
@@ -89,6 +81,13 @@ last-is (x ∷ levels) level is = last-one (x ∷ levels) level (length (x ∷ l
 
 -- The whole graph.
 
+abbrev flow_in : ℕ → List Point → Flow
+flow_in entry points = record {
+  nodes = map (λ p. (p.at, p.next.items)) points;
+  entry = entry;
+  branches = count_by (λ p. p.branches) points;
+}
+
 abbrev flow_told : ℕ → List ((ℕ × List ℕ) × Bool) → Flow
 flow_told entry rows = record {
   nodes = map (λ x. x.0) rows;
@@ -103,45 +102,63 @@ flow-told f entry xs =
     ap (λ nodes. made nodes (count_by (λ x. x.1) (map f xs))) (map-map (λ x. x.0) f xs)
     ∙ ap (made (map (λ x. (f x).0) xs)) (count_by-map (λ x. x.1) f xs)
 
-module _ (a : Asked) (keys : List ℕ) (next : List (List ℕ)) (start : ℕ) (levels : List (List Interval)) (places : List ℕ) where
-  ats : addresses (flow_in a) ≡ map (λ (p : Point). p.at) a.points.items
-  ats = map-map (λ (n : ℕ × List ℕ). n.0) (λ (p : Point). (p.at, p.next.items)) a.points.items
+ats-of : (entry : ℕ) (points : List Point) → addresses (flow_in entry points) ≡ map (λ (p : Point). p.at) points
+ats-of entry points = map-map (λ (n : ℕ × List ℕ). n.0) (λ (p : Point). (p.at, p.next.items)) points
 
-  follow : keys ≡ addresses (flow_in a) → next ≡ map (λ p. map (place_among keys) p.next.items) a.points.items → next ≡ next_of (flow_in a)
-  follow same is =
-      is ∙ ap (λ k. map (λ (p : Point). map (place_among k) p.next.items) a.points.items) same
-      ∙ sym (map-map (λ (n : ℕ × List ℕ). map (place_at (flow_in a)) n.1) (λ (p : Point). (p.at, p.next.items)) a.points.items)
+-- the addresses by which the code looks up places
+pub keys-are : (points : List Point) (entries : List (ℕ × Node)) → map point_in points ≡ map point_of entries →
+    map (λ (p : Point). p.at) points ≡ map (λ (e : ℕ × Node). e.0) entries
+keys-are points entries same =
+    sym (map-map (λ (x : (ℕ × List ℕ) × Bool). x.0.0) point_in points)
+    ∙ ap (map (λ (x : (ℕ × List ℕ) × Bool). x.0.0)) same
+    ∙ map-map (λ (x : (ℕ × List ℕ) × Bool). x.0.0) point_of entries
 
-  module _
-      (is : next ≡ map (λ p. map (place_among keys) p.next.items) a.points.items)
-      (start_is : start ≡ place_among keys a.entry)
-      (derived : IsDerived (leads next) start levels)
-      (places_are : places ≡ loop_headers (leads next) levels)
-      (heads : a.heads.items ≡ filter (λ at. is_in places (place_among keys at)) (map (λ p. p.at) a.points.items))
-      (one : a.ends_in_one ≡ ends_in_one levels)
-    where
-      own-asked : keys ≡ addresses (flow_in a) → IsAsked (flow_in a) a
-      own-asked same =
-          let rows_are = follow same is in
-          let told : places ≡ loop_headers (leads (next_of (flow_in a))) levels = places_are ∙ ap (λ l. loop_headers (leads l) levels) rows_are in
-          record {
-            flow_is = refl;
-            levels = levels;
-            derived = subst (λ l. IsDerived (leads l) (place_at (flow_in a) a.entry) levels) rows_are
-                (subst (λ n. IsDerived (leads next) n levels) (start_is ∙ ap (λ k. place_among k a.entry) same) derived);
-            heads = heads
-                ∙ ap (λ k. filter (λ at. is_in places (place_among k at)) (map (λ (p : Point). p.at) a.points.items)) same
-                ∙ ap (λ l. filter (λ at. is_in places (place_at (flow_in a) at)) l) (sym ats)
-                ∙ ap (λ l. filter (λ at. is_in l (place_at (flow_in a) at)) (addresses (flow_in a))) told;
-            one = one;
-          }
+-- what the code finds, by its instructions
+pub record IsFound (points : List Point) (keys : List ℕ) (next : List (List ℕ)) (start : ℕ) (levels : List (List Interval)) (places : List ℕ) (a : Asked) : Type 0 where
+  pub ats : a.ats.items ≡ map (λ p. p.at) points
+  pub branches : a.branches ≡ count_by (λ p. p.branches) points
+  pub edges_count : length a.edges.items ≡ sum_by (λ p. different p.next.items) points
+  pub edges_each : (n : ℕ) → count_by (λ m. m == n) a.edges.items ≡ count_by (λ p. is_in p.next.items n) points
+  pub next_are : next ≡ map (λ p. map (place_among keys) p.next.items) points ++ [] ∷ []
+  pub start_is : start ≡ place_among keys a.entry
+  pub derived : IsDerived (leads next) start levels
+  pub places_are : places ≡ loop_headers (leads next) levels
+  pub heads : a.heads.items ≡ filter (λ at. is_in places (place_among keys at)) a.ats.items
+  pub one : a.ends_in_one ≡ ends_in_one levels
 
-      pub is-asked : (entries : List (ℕ × Node)) (flow : Flow) →
-          ◌≡◌ {A = Flow} flow (record { nodes = map (λ n. (n.0, n.1.succ.items)) entries; entry = a.entry; branches = count_by (λ n. is_branching n.1.instr.op) entries }) →
-          keys ≡ map (λ (e : ℕ × Node). e.0) entries → map point_in a.points.items ≡ map point_of entries → IsAsked flow a
-      is-asked entries flow flow_is keys_are same =
-          let flows : flow_in a ≡ flow =
-          sym (flow-told point_in a.entry a.points.items) ∙ ap (flow_told a.entry) same ∙ flow-told point_of a.entry entries ∙ sym flow_is in
-          let known : keys ≡ addresses (flow_in a) =
-          keys_are ∙ sym (map-map (λ (n : ℕ × List ℕ). n.0) (λ (n : ℕ × Node). (n.0, n.1.succ.items)) entries) ∙ ap addresses (sym (flows ∙ flow_is)) in
-          subst (λ f. IsAsked f a) flows (own-asked known)
+module _ (points : List Point) (keys : List ℕ) (next : List (List ℕ)) (start : ℕ) (levels : List (List Interval)) (places : List ℕ) (a : Asked)
+    (is : IsFound points keys next start levels places a) where
+  own-asked : keys ≡ addresses (flow_in a.entry points) → IsAsked (flow_in a.entry points) a
+  own-asked same =
+      let flow = flow_in a.entry points in
+      let plain : List ℕ → List (List ℕ) = λ k. map (λ (p : Point). map (place_among k) p.next.items) points in
+      let edges_are : leads next ≡ leads (next_of flow) =
+      ap leads is.next_are
+      ∙ (let ends : leads (plain keys ++ [] ∷ []) ≡ leads (plain keys) = λ i m n. is_in (trailing (plain keys) m i) n in ends)
+      ∙ ap leads (ap plain same ∙ sym (map-map (λ (n : ℕ × List ℕ). map (place_at flow) n.1) (λ (p : Point). (p.at, p.next.items)) points)) in
+      let ats_are : a.ats.items ≡ addresses flow = is.ats ∙ sym (ats-of a.entry points) in
+      record {
+        ats = ats_are;
+        branches = is.branches;
+        edges_count = is.edges_count ∙ sym (sum_by-map (λ (n : ℕ × List ℕ). different n.1) (λ (p : Point). (p.at, p.next.items)) points);
+        edges_lead = λ at.
+            ap (λ n. n + (if a.entry == at then 1 else 0)) (is.edges_each at ∙ sym (count_by-map (λ (n : ℕ × List ℕ). is_in n.1 at) (λ (p : Point). (p.at, p.next.items)) points))
+            ∙ ap (λ b. count_by (λ n. is_in n.1 at) flow.nodes + (if b then 1 else 0)) (flip at a.entry);
+        levels = levels;
+        derived = subst (λ l. IsDerived l (place_at flow a.entry) levels) edges_are
+            (subst (λ n. IsDerived (leads next) n levels) (is.start_is ∙ ap (λ k. place_among k a.entry) same) is.derived);
+        heads = is.heads
+            ∙ ap (λ l. filter (λ at. is_in places (place_among keys at)) l) ats_are
+            ∙ ap (λ k. filter (λ at. is_in places (place_among k at)) (addresses flow)) same
+            ∙ ap (λ l. filter (λ at. is_in l (place_at flow at)) (addresses flow)) (is.places_are ∙ ap (λ l. loop_headers l levels) edges_are);
+        one = is.one;
+      }
+
+  pub is-asked : (entries : List (ℕ × Node)) (flow : Flow) →
+      ◌≡◌ {A = Flow} flow (record { nodes = map (λ n. (n.0, n.1.succ.items)) entries; entry = a.entry; branches = count_by (λ n. is_branching n.1.instr.op) entries }) →
+      keys ≡ map (λ (e : ℕ × Node). e.0) entries → map point_in points ≡ map point_of entries → IsAsked flow a
+  is-asked entries flow flow_is keys_are same =
+      let flows : flow_in a.entry points ≡ flow =
+      sym (flow-told point_in a.entry points) ∙ ap (flow_told a.entry) same ∙ flow-told point_of a.entry entries ∙ sym flow_is in
+      let known : keys ≡ addresses (flow_in a.entry points) = keys_are ∙ sym (keys-are points entries same) ∙ sym (ats-of a.entry points) in
+      subst (λ f. IsAsked f a) flows (own-asked known)

@@ -1,8 +1,8 @@
 -- The label of an offset, by its digits.
-use Rattle.std.proofs.Common.{◌≡◌, ℕ, ◌+◌, ◌*◌, ◌/◌, ◌%◌, ◌<◌, false, List, [], ◌∷◌, length, get_or, inl, inr, refl, sym, ap, ◌∙◌, arith}
-use Rattle.std.specs.Prelude.{◌==◌}
+use Rattle.std.proofs.Common.{◌≡◌, ℕ, ◌+◌, ◌*◌, ◌/◌, ◌%◌, ◌<◌, ◌≤◌, ◌⊎◌, false, List, [], ◌∷◌, length, get_or, inl, inr, refl, sym, ap, ◌∙◌, arith}
+use Rattle.std.specs.Prelude.{◌==◌, nat_lt}
 use Rattle.std.specs.Fmt.{digit_glyph}
-use Rattle.std.proofs.lemmas.Bool.{cases_eq, eq-eqb, ne_eqb}
+use Rattle.std.proofs.lemmas.Bool.{cases_eq, cases_lt, eq-eqb, ne_eqb, lt-ltb, le-ltb, cond-true, cond-false}
 use Rattle.dcc_c.specs.Token.{same_bytes}
 use Rattle.dcc_c.proofs.NameLaws.{same_bytes-refl}
 use Rattle.dcc_text.specs.Hex.{four_digits}
@@ -55,3 +55,23 @@ labels-tell a b fa fb = elim (cases_eq b a) [
   | inl e ↦ ap (λ n. same_bytes (label_of a) (label_of n)) e ∙ same_bytes-refl (label_of a) ∙ sym (eq-eqb b a e)
   | inr o ↦ name_at-differ (76 ∷ 95 ∷ []) a b fa fb (λ e. o (sym e)) ∙ sym (ne_eqb b a o)
 ]
+
+-- the digits of a byte that is one
+pub digit-range : (n : ℕ) → n < 16 → ((48 ≤ digit_glyph false n) × (digit_glyph false n ≤ 57)) ⊎ ((97 ≤ digit_glyph false n) × (digit_glyph false n ≤ 102))
+digit-range n fits = elim (cases_lt n 10) [
+  | inl low ↦ let is : digit_glyph false n ≡ 48 + n = cond-true (nat_lt n 10) (48 + n) (87 + n) (lt-ltb n 10 low) in inl (omega (arith, is), omega (arith, is, low))
+  | inr high ↦ let is : digit_glyph false n ≡ 87 + n = cond-false (nat_lt n 10) (48 + n) (87 + n) (le-ltb n 10 high) in inr (omega (arith, is, high), omega (arith, is, fits))
+]
+
+-- the bytes of a label, from the third on
+pub third : (l : List ℕ) (at : ℕ) → l ≡ label_of at → digit_glyph false (at / 4096 % 16) ≡ get_or l 2 0
+third l at e = sym (ap (λ k. get_or k 2 0) e)
+
+pub fourth : (l : List ℕ) (at : ℕ) → l ≡ label_of at → digit_glyph false (at / 256 % 16) ≡ get_or l 3 0
+fourth l at e = sym (ap (λ k. get_or k 3 0) e)
+
+pub fifth : (l : List ℕ) (at : ℕ) → l ≡ label_of at → digit_glyph false (at / 16 % 16) ≡ get_or l 4 0
+fifth l at e = sym (ap (λ k. get_or k 4 0) e)
+
+pub sixth : (l : List ℕ) (at : ℕ) → l ≡ label_of at → digit_glyph false (at % 16) ≡ get_or l 5 0
+sixth l at e = sym (ap (λ k. get_or k 5 0) e)

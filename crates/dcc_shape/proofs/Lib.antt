@@ -2,7 +2,10 @@ mod ShapeExamples
 mod ListLaws
 mod SeenLaws
 mod ShapeLaws
+mod SameLaws
 mod SpotLaws
 mod LabelLaws
 mod LoopLaws
+mod KnownLaws
+mod EdgeLaws
 mod GraphLaws

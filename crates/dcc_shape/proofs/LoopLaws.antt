@@ -1,8 +1,8 @@
 -- Loops and the offsets that their labels name.
-use Rattle.std.proofs.Common.{◌≡◌, ℕ, suc, ◌+◌, ◌<◌, Bool, true, false, cond, List, [], ◌∷◌, ◌++◌, Option, Some, take, length, get_or, inl, inr, refl, sym, ap, ◌∙◌, arith}
+use Rattle.std.proofs.Common.{◌≡◌, ℕ, suc, ◌+◌, ◌<◌, Bool, true, false, cond, List, [], ◌∷◌, ◌++◌, Option, Some, None, take, length, get_or, inl, inr, refl, sym, ap, ◌∙◌, arith}
 use Rattle.std.specs.Prelude.{◌==◌, ◌&&◌, not}
 use Rattle.std.specs.List.{list_all, count_by}
-use Rattle.std.proofs.lemmas.Bool.{cases_Bool, or_left, or_right, and_from}
+use Rattle.std.proofs.lemmas.Bool.{cases_Bool, or_left, or_right, or_from, and_from}
 use Rattle.std.proofs.lemmas.List.Folds.{list_all_more}
 use Rattle.std.proofs.lemmas.List.Sums.{sum_by-append, count_by_more_yes, count_by_more_no}
 use Rattle.dcc_c.specs.Tree.{Word, Stmt}
@@ -31,12 +31,6 @@ fits-in (m ∷ ns) n fits h = elim (in_cases m n ns h) [
   | inr t ↦ fits-in ns n (λ i. fits (suc i)) t
 ]
 
--- two tests of numbers of 16 bits
-pub all-fit : (p q : ℕ → Bool) (ns : List ℕ) → ((i : ℕ) → get_or ns i 0 < 65536) → ((n : ℕ) → n < 65536 → p n ≡ q n) → list_all p ns ≡ list_all q ns
-all-fit p q [] fits same = refl
-all-fit p q (n ∷ ns) fits same =
-    ap (λ a. a && list_all p ns) (same n (fits 0)) ∙ ap (λ b. q n && b) (all-fit p q ns (λ i. fits (suc i)) same)
-
 module _ (stmt : Stmt) (label : Option Word) where
   pub loop-at : (at named : ℕ) → at < 65536 → named < 65536 → is_loop stmt ≡ true → label ≡ Some (label_of named) → is_loop_at at stmt label ≡ (named == at)
   loop-at at named fits named_fits loop is =
@@ -52,6 +46,21 @@ module _ (stmt : Stmt) (label : Option Word) where
 
   pub no-loop-labelled : (heads : List ℕ) → is_loop stmt ≡ false → is_labelled heads stmt label ≡ true
   no-loop-labelled heads none = or_left (not (is_loop stmt)) (names_one (λ at. true) heads label) (ap not none)
+
+  -- a loop whose label is none of these
+  pub loop-unlabelled : (heads : List ℕ) → is_loop stmt ≡ true → names_one (λ at. true) heads label ≡ false → is_labelled heads stmt label ≡ false
+  loop-unlabelled heads loop none = or_from (not (is_loop stmt)) (names_one (λ at. true) heads label) (ap not loop) none
+
+-- the label that names none of the addresses where there is none
+pub no-name : (test : ℕ → Bool) (ats : List ℕ) → names_one test ats None ≡ false
+no-name test [] = refl
+no-name test (p ∷ ats) = no-name test ats
+
+-- two tests of numbers that answer the same at the numbers of 16 bits
+pub all-fit : (p q : ℕ → Bool) (ns : List ℕ) → ((i : ℕ) → get_or ns i 0 < 65536) → ((n : ℕ) → n < 65536 → p n ≡ q n) → list_all p ns ≡ list_all q ns
+all-fit p q [] fits same = refl
+all-fit p q (n ∷ ns) fits same =
+    ap (λ a. a && list_all p ns) (same n (fits 0)) ∙ ap (λ b. q n && b) (all-fit p q ns (λ i. fits (suc i)) same)
 
 module _ {X : Type 0} (test : X → Bool) (xs : List X) (i : ℕ) (x : X) (within : i < length xs) (is : x ≡ get_or xs i x) where
   pub all-more : list_all test (take i xs) ≡ true → test x ≡ true → list_all test (take (i + 1) xs) ≡ true

@@ -24,13 +24,15 @@ levels =
     ∷ (of 0 (0 ∷ []) ∷ [])
     ∷ []
 
+-- the loop headers
 heads : headers flow levels ≡ 5 ∷ 7 ∷ []
 heads = refl
 
+-- the derived sequence ends in one node
 one_node : ends_in_one levels ≡ true
 one_node = refl
 
--- two edges lead to 5, 7 and 9, and one to 10
+-- Two edges lead to 9 and one to 10. The way into the procedure alone leads to 0. There are eight edges in all.
 meetings : edges_to flow 9 ∷ edges_to flow 10 ∷ edges_to flow 0 ∷ edges flow ∷ [] ≡ 2 ∷ 1 ∷ 1 ∷ 8 ∷ []
 meetings = refl
 
@@ -51,25 +53,27 @@ module _ (zero_set not_zero : Expr) where
   counted : IsCounted flow (headers flow levels) (spots body)
   counted = record { blocks = omega arith; labels = omega arith; jumps = omega arith; empty = omega arith }
 
-  -- a jump back to the outer loop from the inner one goes round; one to the inner loop from there does not leave it
+  -- L_0005: for (;;) { L_0007: do { goto ..; } while (not_zero); }
   abbrev jumping : ℕ → Lines
   jumping to =
       line (Label (label_of 5)) 0 (line (Forever (line (Label (label_of 7)) 0 (line (DoWhile (line (Goto (label_of to)) 0 no_lines) not_zero) 0 no_lines))) 0 no_lines)
 
+  -- a jump from the inner loop to the label of the outer one
   round : goes_on_or_round (spots (jumping 5)) ≡ true
   round = refl
 
   outer : leaves_innermost_alone (spots (jumping 5)) ≡ true
   outer = refl
 
+  -- a jump from the inner loop to the label of the inner loop
   own : leaves_innermost_alone (spots (jumping 7)) ≡ false
   own = refl
 
-  -- a jump to an instruction with one edge in
+  -- a jump to an instruction to which one edge leads
   lone : goes_where_edges_meet flow (spots (jumping 10)) ≡ false
   lone = refl
 
-  -- a loop without its label
+  -- a loop without a label
   unlabelled : loops_are_labelled (headers flow levels) (spots (line (Forever no_lines) 0 no_lines)) ≡ false
   unlabelled = refl
 

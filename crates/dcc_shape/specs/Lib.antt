@@ -2,4 +2,5 @@ pub mod Procedures
 pub mod Spots
 pub mod Shape
 pub mod Seen
+pub mod Known
 pub mod Asked

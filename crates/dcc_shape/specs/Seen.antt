@@ -1,5 +1,5 @@
 -- What the code keeps of each statement of a function. No public contract rests on it.
-use Rattle.std.specs.Prelude.{◌≡◌, ℕ, ◌-◌, nat_le, Bool, true, false, ◌&&◌, ◌||◌, not, List, [], ◌∷◌}
+use Rattle.std.specs.Prelude.{◌≡◌, ℕ, ◌-◌, ◌<◌, Bool, true, false, ◌&&◌, ◌||◌, not, List, [], ◌∷◌}
 use Rattle.std.specs.Prelude.{Option, Some, None, option_map}
 use Rattle.std.specs.List.{list_any}
 use Rattle.std.specs.BTreeSet.{BTreeSet, contains}
@@ -8,9 +8,8 @@ use denote.Ref.{Bor}
 use Rattle.dcc_c.specs.Tree.{Word, Stmt}
 use Rattle.dcc_c.specs.Views.{stmt_of}
 use Rattle.dcc_shape.specs.declared.seen.Seen.{Seen as SeenOf}
-use Rattle.dcc_shape.specs.Procedures.{Flow, addresses, edges_to}
 use Rattle.dcc_shape.specs.Spots.{Spot, is_the, label_in, goal_in, goal_passes}
-use Rattle.dcc_shape.specs.Shape.{label_of, names_one, is_of_first}
+use Rattle.dcc_shape.specs.Shape.{label_of, is_of_first}
 
 -- A statement; the label before it; whether it does not go to the label of its innermost loop; whether it goes to that
 -- of a loop around it; and how many blocks more may stand around it.
@@ -52,10 +51,6 @@ seen s = record {
   room = 199 - s.depth;
 }
 
--- the label is that of an instruction to which at least two edges lead
-abbrev pub is_of_meeting : Flow → Word → Bool
-is_of_meeting flow word = names_one (λ at. nat_le 2 (edges_to flow at)) (addresses flow) (Some word)
-
 -- one of the statements is this label
 abbrev pub has_label : List Seen → Word → Bool
 has_label list word = list_any (λ s. is_the word (label_in s.stmt)) list
@@ -69,6 +64,10 @@ abbrev pub may_all_go : List Seen → Bool
 may_all_go [] = true
 may_all_go (s ∷ later) = may_go later s && may_all_go later
 
--- each number of the set is the offset that a label among the statements names
+-- the statement goes to the label of an offset, if it is a `goto`
+abbrev pub GoesToOffset : Stmt → Type 0
+GoesToOffset stmt = (word : Word) → goal_in stmt ≡ Some word → (at : ℕ) × (at < 65536) × (word ≡ label_of at)
+
+-- the set has just the offsets that the labels among the statements name
 abbrev pub AreLabels : BTreeSet ℕ → List Seen → Type 0
-AreLabels known list = (at : ℕ) → contains nat_cmp known at ≡ true → has_label list (label_of at) ≡ true
+AreLabels known list = (at : ℕ) → at < 65536 → has_label list (label_of at) ≡ contains nat_cmp known at

@@ -1,6 +1,6 @@
 -- The shape that a procedure asks of its function's text: which labels jumps and loops have, and how many statements
 -- of each kind there are at most.
-use Rattle.std.specs.Prelude.{◌≡◌, ℕ, ◌+◌, ◌≤◌, ◌==◌, nat_lt, nat_le, Bool, true, false, ◌&&◌, ◌||◌, not, List, []}
+use Rattle.std.specs.Prelude.{◌≡◌, ℕ, suc, ◌+◌, ◌≤◌, ◌==◌, nat_lt, nat_le, Bool, true, false, ◌&&◌, ◌||◌, not, List, []}
 use Rattle.std.specs.Prelude.{◌∷◌, length, count_by, codes, Option, Some}
 use Rattle.std.specs.List.{list_any, list_all}
 use Rattle.dcc_prog.specs.declared.procedure.Proc.{Proc}
@@ -124,3 +124,18 @@ pub data HaveShape : List Proc → List Function → Type 0 where
       → HasShapeOf (flow_of proc) function.body
       → HaveShape procs functions
       → HaveShape (proc ∷ procs) (function ∷ functions)
+
+-- The number of the first procedure without a function that has the shape which the procedure asks for, or of the first
+-- function without a procedure.
+pub data LacksShape : ℕ → List Proc → List Function → Type 0 where
+  no_function : {proc : Proc} {procs : List Proc} → LacksShape 0 (proc ∷ procs) []
+  no_procedure : {function : Function} {functions : List Function} → LacksShape 0 [] (function ∷ functions)
+  here :
+      {proc : Proc} {function : Function} {procs : List Proc} {functions : List Function}
+      → ¬ (HasShapeOf (flow_of proc) function.body)
+      → LacksShape 0 (proc ∷ procs) (function ∷ functions)
+  later :
+      {proc : Proc} {function : Function} {procs : List Proc} {functions : List Function} {i : ℕ}
+      → HasShapeOf (flow_of proc) function.body
+      → LacksShape i procs functions
+      → LacksShape (suc i) (proc ∷ procs) (function ∷ functions)

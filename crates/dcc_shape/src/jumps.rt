@@ -1,70 +1,78 @@
 //! Where each `goto` goes.
 
-ghost use Rattle.std.specs.Prelude.{◌≡◌, true, List, ◌∷◌, map, ◌==◌, nat_le, count_by, IfOk, OnOk};
-ghost use Rattle.std.specs.List.{list_any, list_all};
+ghost use Rattle.std.specs.Prelude.{◌≡◌, ◌<◌, ◌&&◌, ℕ, Bool, true, List, ◌∷◌, map, get_or, All, IfOk, OnOk};
+ghost use Rattle.std.specs.List.{list_all};
+ghost use Rattle.std.specs.BTreeSet.{contains};
+ghost use Rattle.std.specs.Ordering.{nat_cmp};
 ghost use Rattle.dcc_flow.specs.Edges.{is_in};
+ghost use Rattle.dcc_c.specs.Tree.{Word};
 ghost use Rattle.dcc_c.specs.Views.{stmt_of};
-ghost use Rattle.dcc_shape.specs.Procedures.{edges_to};
 ghost use Rattle.dcc_shape.specs.Spots.{goal_passes};
 ghost use Rattle.dcc_shape.specs.Seen as spec;
-ghost use Rattle.dcc_shape.specs.Seen.{seen_in, is_of_meeting, may_go, may_all_go, AreLabels};
-ghost use Rattle.dcc_shape.specs.Asked.{flow_in};
+ghost use Rattle.dcc_shape.specs.Seen.{seen_in, may_go, may_all_go, GoesToOffset, AreLabels};
+ghost use Rattle.dcc_shape.specs.Known.{AreNamed};
+ghost use Rattle.dcc_shape.specs.Asked.{goes_where_edges_meet};
 
 use crate::asked::Asked;
-use crate::labels::offset_named;
-use crate::points::Point;
+use crate::labels::{is_named, offset_named};
 use crate::seen::Seen;
 use crate::stmts::{goal_in, label_in};
+use crate::tally::{Tally, add, tally_of};
 use dcc_c::CStmt;
 use std::alloc::{AllocError, Global};
 use std::collections::BTreeSet;
 
-// How many of these instructions may go on to an address.
-fn count_from(points: &[Point], at: u16) -> usize
-    ensures { result ≡ count_by (λ p. is_in p.next.items at) points.now }
+// Those of the addresses to which at least two edges lead.
+fn meetings(alloc: Global, ats: &[u16], edges: &Tally) -> Result<BTreeSet<u16>, AllocError>
+    ensures fit { (n : ℕ) → get_or ats.now n 0 < 65536 }
+    ensures are { IfOk result (λ known. (n : ℕ) → contains nat_cmp known n
+        ≡ (is_in ats.now n && contains nat_cmp edges.now.twice n)) }
 {
-    points.iter().filter(|p| p.next.contains(&at)).count()
+    let mut known = BTreeSet::new(alloc);
+    for at in ats {
+        if edges.twice.contains(at) {
+            known.insert(*at)?;
+        }
+    }
+    Ok(known)
 }
 
-// Whether one of these instructions is at an address.
-fn is_any_at(points: &[Point], at: u16) -> bool
-    ensures { result ≡ list_any (λ p. p.at == at) points.now }
+// Whether a statement goes to the label of one of these offsets, if it is a `goto`.
+fn goes_to_named(known: &BTreeSet<u16>, stmt: &CStmt) -> bool
+    ensures { (test : Word → Bool) → AreNamed known.now test → result ≡ goal_passes test (stmt_of stmt.now) }
 {
-    points.iter().any(|p| p.at == at)
+    match goal_in(stmt) {
+        Some(word) => is_named(known, word),
+        None => true,
+    }
 }
 
-// Whether at least two edges lead to an address.
-fn do_edges_meet(asked: &Asked, at: u16) -> bool
-    ensures { result ≡ nat_le 2 (edges_to (flow_in asked.now) at) }
-{
-    let from = count_from(asked.points.as_slice(), at);
-    let others = if at == asked.entry { 1 } else { 2 };
-    from >= others
-}
-
-// Whether a label is that of an instruction to which at least two edges lead.
-fn is_of_meeting(asked: &Asked, word: &str) -> bool
-    ensures { result ≡ true → is_of_meeting (flow_in asked.now) word.now ≡ true }
-{
-    let Some(at) = offset_named(word) else {
-        return false;
-    };
-    is_any_at(asked.points.as_slice(), at) && do_edges_meet(asked, at)
-}
-
-/// Whether each `goto` goes to an instruction to which at least two edges lead.
-pub(crate) fn go_where_edges_meet(asked: &Asked, list: &[Seen]) -> bool
-    ensures { result ≡ true → list_all (λ s. goal_passes (is_of_meeting (flow_in asked.now)) (stmt_of s.stmt.now))
-        list.now ≡ true }
+// Whether each `goto` goes to the label of one of these offsets.
+fn all_go_to_named(known: &BTreeSet<u16>, list: &[Seen]) -> bool
+    ensures { (test : Word → Bool) → AreNamed known.now test
+        → result ≡ list_all (λ s. goal_passes test (stmt_of s.stmt.now)) list.now }
 {
     for seen in list {
-        if let Some(word) = goal_in(seen.stmt) {
-            if !is_of_meeting(asked, word) {
-                return false;
-            }
+        if !goes_to_named(known, seen.stmt) {
+            return false;
         }
     }
     true
+}
+
+/// Whether each `goto` goes to an instruction to which at least two edges lead.
+pub(crate) fn go_where_edges_meet(
+    alloc: Global,
+    asked: &Asked,
+    list: &[Seen],
+) -> Result<bool, AllocError>
+    ensures are { IfOk result (λ yes. yes ≡ goes_where_edges_meet asked.now list.now) }
+    ensures named { IfOk result (λ yes. yes ≡ true → All (λ s. GoesToOffset (stmt_of s.stmt.now)) list.now) }
+{
+    let mut edges = tally_of(alloc, asked.edges.as_slice())?;
+    add(&mut edges, asked.entry)?;
+    let known = meetings(alloc, asked.ats.as_slice(), &edges)?;
+    Ok(all_go_to_named(&known, list))
 }
 
 /// Whether no `goto` goes to the label of its innermost loop.
@@ -76,8 +84,8 @@ pub(crate) fn leave_innermost_alone(list: &[Seen]) -> bool
 
 // Whether a statement, if it is a `goto`, goes to a label further on in the text or to that of a loop around it.
 fn may_go(seen: &Seen, later: &BTreeSet<u16>) -> bool
-    ensures { (rest : List spec.Seen) → AreLabels later.now rest → result ≡ true
-        → may_go rest (seen_in seen.now) ≡ true }
+    requires { GoesToOffset (stmt_of seen.now.stmt.now) }
+    ensures { (rest : List spec.Seen) → AreLabels later.now rest → result ≡ may_go rest (seen_in seen.now) }
 {
     let Some(word) = goal_in(seen.stmt) else {
         return true;
@@ -104,9 +112,11 @@ fn note_label(stmt: &CStmt, later: &mut BTreeSet<u16>) -> Result<(), AllocError>
     Ok(())
 }
 
-/// Whether each `goto` goes to a label further on in the text or to that of a loop around it.
+/// Whether each `goto`, all of which go to labels of offsets, goes to a label further on in the text or to that of a
+/// loop around it.
 pub(crate) fn go_on_or_round(alloc: Global, list: &[Seen]) -> Result<bool, AllocError>
-    ensures { IfOk result (λ yes. yes ≡ true → may_all_go (map seen_in list.now) ≡ true) }
+    requires { All (λ s. GoesToOffset (stmt_of s.stmt.now)) list.now }
+    ensures { IfOk result (λ yes. yes ≡ may_all_go (map seen_in list.now)) }
 {
     let mut later = BTreeSet::new(alloc);
     let mut i = list.len();

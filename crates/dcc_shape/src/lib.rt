@@ -3,6 +3,7 @@
 
 mod asked;
 mod counts;
+mod edges;
 mod jumps;
 mod labels;
 mod loops;
@@ -11,5 +12,6 @@ mod points;
 mod seen;
 mod shape;
 mod stmts;
+mod tally;
 
 pub use shape::has_shape;

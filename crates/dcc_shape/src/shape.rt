@@ -1,13 +1,15 @@
 //! Whether a text has the shape that its program's procedures ask for.
 
-ghost use Rattle.std.specs.Prelude.{◌≡◌, true, None, map, IfOk};
-ghost use Rattle.dcc_c.specs.Views.{lines_of, function_of};
+ghost use Rattle.std.specs.Prelude.{◌≡◌, ◌↔◌, ℕ, ◌||◌, not, nat_lt, true, Some, None, map, IfOk};
+ghost use Rattle.std.specs.List.{list_all};
+ghost use Rattle.dcc_c.specs.Views.{stmt_of, lines_of, function_of};
 ghost use Rattle.dcc_shape.specs.Procedures.{flow_of};
-ghost use Rattle.dcc_shape.specs.Shape.{HasShapeOf, HaveShape};
-ghost use Rattle.dcc_shape.specs.Asked.{is_shallow, AreLooped};
+ghost use Rattle.dcc_shape.specs.Spots.{has_blocks};
+ghost use Rattle.dcc_shape.specs.Shape.{HasShapeOf, HaveShape, LacksShape};
+ghost use Rattle.dcc_shape.specs.Asked.{is_shallow, are_looped, is_as_asked};
 
 use crate::asked::{Asked, asked_by};
-use crate::counts::{branches_and_heads, is_counted};
+use crate::counts::{is_at_most, is_counted};
 use crate::jumps::{go_on_or_round, go_where_edges_meet, leave_innermost_alone};
 use crate::loops::are_labelled;
 use crate::seen::{Seen, statements};
@@ -19,21 +21,27 @@ use std::alloc::{AllocError, Global};
 // From so many branches and loop headers on a text may be too deep for what is asked of jumps and loops.
 const MANY: usize = 190;
 
+// Whether no statement has so many blocks around it that one more would be too deep.
+fn have_room(list: &[Seen]) -> bool
+    ensures { result ≡ list_all (λ s. not (has_blocks (stmt_of s.stmt.now)) || nat_lt 0 s.room) list.now }
+{
+    list.iter()
+        .all(|seen| !has_blocks(seen.stmt) || seen.room > 0)
+}
+
 // Whether something is asked of jumps and loops.
 fn is_shallow(asked: &Asked, list: &[Seen]) -> bool
-    ensures { is_shallow asked.now list.now ≡ true → result ≡ true }
+    ensures { result ≡ is_shallow asked.now list.now }
 {
-    branches_and_heads(asked) < MANY
-        || list
-            .iter()
-            .all(|seen| !has_blocks(seen.stmt) || seen.room > 0)
+    !is_at_most(MANY, asked.branches, asked.heads.len()) || have_room(list)
 }
 
 // Whether jumps and loops are as they are asked.
 fn has_loops(alloc: Global, asked: &Asked, list: &[Seen]) -> Result<bool, AllocError>
-    ensures { IfOk result (λ yes. yes ≡ true → AreLooped asked.now list.now) }
+    ensures { IfOk result (λ yes. yes ≡ are_looped asked.now list.now) }
 {
-    if !go_where_edges_meet(asked, list) || !leave_innermost_alone(list) {
+    let meet = go_where_edges_meet(alloc, asked, list)?;
+    if !meet || !leave_innermost_alone(list) {
         return Ok(false);
     }
     if asked.ends_in_one {
@@ -44,21 +52,26 @@ fn has_loops(alloc: Global, asked: &Asked, list: &[Seen]) -> Result<bool, AllocE
     are_labelled(alloc, asked.heads.as_slice(), list)
 }
 
-// Whether the body of a function has the shape that a procedure asks for.
-fn has_shape_of(alloc: Global, proc: &Proc, body: &[Line]) -> Result<bool, AllocError>
-    ensures { IfOk result (λ yes. yes ≡ true → HasShapeOf (flow_of proc.now) (lines_of body.now)) }
+// Whether all is as it is asked.
+fn is_as_asked(alloc: Global, asked: &Asked, list: &[Seen]) -> Result<bool, AllocError>
+    ensures { IfOk result (λ yes. yes ≡ is_as_asked asked.now list.now) }
 {
-    let Some(asked) = asked_by(alloc, proc)? else {
-        return Ok(false);
-    };
-    let list = statements(alloc, body)?;
-    if !is_counted(&asked, list.as_slice()) {
+    if !is_counted(asked, list) {
         return Ok(false);
     }
-    if !is_shallow(&asked, list.as_slice()) {
+    if !is_shallow(asked, list) {
         return Ok(true);
     }
-    has_loops(alloc, &asked, list.as_slice())
+    has_loops(alloc, asked, list)
+}
+
+// Whether the body of a function has the shape that a procedure asks for.
+fn has_shape_of(alloc: Global, proc: &Proc, body: &[Line]) -> Result<bool, AllocError>
+    ensures { IfOk result (λ yes. (yes ≡ true) ↔ HasShapeOf (flow_of proc.now) (lines_of body.now)) }
+{
+    let asked = asked_by(alloc, proc)?;
+    let list = statements(alloc, body)?;
+    is_as_asked(alloc, &asked, list.as_slice())
 }
 
 /// Of how many procedures, from the first on, the functions have the shape that is asked for, where not all have it or
@@ -71,7 +84,9 @@ pub fn has_shape(
     procs: &[Proc],
     functions: &[Func],
 ) -> Result<Option<usize>, AllocError>
-    ensures { IfOk result (λ lacks. lacks ≡ None → HaveShape procs.now (map function_of functions.now)) }
+    ensures has { IfOk result (λ lacks. lacks ≡ None → HaveShape procs.now (map function_of functions.now)) }
+    ensures lacks { IfOk result (λ lacks. (i : ℕ) → lacks ≡ Some i
+        → LacksShape i procs.now (map function_of functions.now)) }
 {
     let count = procs.len().min(functions.len());
     for i in 0..count {

@@ -1,5 +1,5 @@
 -- the places so far
-use Rattle.std.proofs.Common.{◌≡◌, ◌<◌, map, take, length, All}
+use Rattle.std.proofs.Common.{◌≡◌, ◌≤◌, map, take, All}
 use Rattle.indexmap.specs.IndexMap.{keys}
 use Rattle.dcc_shape.specs.Procedures.{place_among}
 use Rattle.dcc_shape.proofs.places.row.Given as goal
@@ -7,5 +7,5 @@ use Rattle.dcc_shape.proofs.places.row.Given as goal
 abbrev pub invariant-loop-at : goal.invariant-loop-at
 invariant-loop-at l = record {
   are : l.row.items ≡ map (place_among (keys l.nodes)) (take l.at-index l.ats);
-  within : All (λ place. place < length l.nodes.entries) l.row.items;
+  within : All (λ place. place ≤ l.count) l.row.items;
 }
