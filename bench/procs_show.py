@@ -5,10 +5,10 @@ import subprocess
 import sys
 
 ROOT = pathlib.Path(__file__).resolve().parent.parent
-CRATES = ["dcc_run", "dcc_num", "dcc_prog", "dcc_mz", "dcc_decode", "dcc_layout", "dcc_procs", "dcc_heights",
+CRATES = ["dcc_run", "dcc_num", "dcc_machine", "dcc_prog", "dcc_mz", "dcc_decode", "dcc_layout", "dcc_procs", "dcc_heights",
           "dcc_frames"]
 NAME = "procs_show"
-DEPENDENCIES = "dcc_num dcc_prog dcc_mz dcc_layout dcc_procs dcc_heights dcc_frames indexmap anyhow"
+DEPENDENCIES = "dcc_num dcc_machine dcc_prog dcc_mz dcc_layout dcc_procs dcc_heights dcc_frames indexmap anyhow"
 
 # Prints a line for each program: its nodes with their heights and its frames, or their number, or why it is refused.
 SHOW = """\
@@ -19,8 +19,9 @@ use anyhow::Error;
 use dcc_frames::cells;
 use dcc_heights::heights;
 use dcc_layout::layout;
+use dcc_machine::{Cpu, Image};
 use dcc_mz::load;
-use dcc_prog::{Cells, Cpu, Frame, Heights, Image, Proc, Refusal};
+use dcc_prog::{Cells, Frame, Heights, Proc, Refusal};
 use dcc_procs::find;
 use indexmap::IndexMap;
 use std::alloc::Global;
@@ -57,7 +58,10 @@ fn frame_of(alloc: Global, line: &mut String, frame: &Frame) -> Result<(), Error
 
 fn refusal_of(alloc: Global, refusal: Refusal) -> Result<String, Error> {
     Ok(match refusal {
-        Refusal::Construct { kind, at } => format!(in alloc; "construct {kind} {at}")?,
+        Refusal::Construct { kind, at } => {
+            let number = kind.number();
+            format!(in alloc; "construct {number} {at}")?
+        }
         Refusal::Limit { what, count } => format!(in alloc; "limit {what:?} {count}")?,
         Refusal::Memory => format!(in alloc; "memory")?,
     })

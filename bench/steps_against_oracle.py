@@ -21,7 +21,7 @@ import zlib
 
 from tried import tried
 
-DEPENDENCIES = "dcc_num dcc_prog dcc_step dcc_io anyhow"
+DEPENDENCIES = "dcc_num dcc_machine dcc_step dcc_io anyhow"
 PROCESSORS = ["8086", "186"]
 MOST_STEPS = 2_000
 STEPS_TO_WHOLE = 1_000
@@ -83,8 +83,8 @@ SHOW = """\
 
 use anyhow::Error;
 use dcc_io::{MemSink, MemSource, Source};
+use dcc_machine::{Cpu, Image};
 use dcc_num::Flags;
-use dcc_prog::{Cpu, Image};
 use dcc_step::{Machine, Probe, Stepped};
 use std::alloc::{AllocError, Global};
 use std::{env, fs};

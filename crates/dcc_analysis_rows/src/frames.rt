@@ -4,9 +4,9 @@ use crate::procedures::image_of;
 use dcc_frames::cells;
 use dcc_heights::heights;
 use dcc_layout::layout;
+use dcc_machine::Cpu;
 use dcc_procs::find;
-use dcc_prog::refusal::construct::{ARGUMENTS_SHORT, FRAME_ACCESS};
-use dcc_prog::{Cpu, LimitName, Refusal};
+use dcc_prog::{ConstructKind, FrameFault, LimitName, Refusal};
 use std::test::Fail;
 
 // Whether a procedure is framed, the number of its argument words, its cells by their first byte and size, the number
@@ -125,7 +125,7 @@ static REFUSED: [RefusedRow; 9] = [
         b"\x50\xE8\x05\x00\xB8\x00\x4C\xCD\x21\x55\x8B\xEC\x8B\x46\x06\x5D\xC3",
         0,
         Refusal::Construct {
-            kind: ARGUMENTS_SHORT,
+            kind: ConstructKind::ArgumentsShort,
             at: 0x0006,
         },
     ),
@@ -134,7 +134,7 @@ static REFUSED: [RefusedRow; 9] = [
         b"\xE8\x05\x00\xB8\x00\x4C\xCD\x21\x55\x8B\xEC\x8B\x46\x02\x5D\xC3",
         0,
         Refusal::Construct {
-            kind: FRAME_ACCESS,
+            kind: ConstructKind::FrameAccess(FrameFault::AccessOutside),
             at: 0x0010,
         },
     ),
@@ -142,7 +142,7 @@ static REFUSED: [RefusedRow; 9] = [
         b"\xE8\x04\x00\xB4\x4C\xCD\x21\x55\x8B\xEC\x50\x8B\x46\xFD\x8B\xE5\x5D\xC3",
         0,
         Refusal::Construct {
-            kind: FRAME_ACCESS,
+            kind: ConstructKind::FrameAccess(FrameFault::AccessOutside),
             at: 0x0010,
         },
     ),
@@ -150,7 +150,7 @@ static REFUSED: [RefusedRow; 9] = [
         b"\x55\x8B\xEC\x8B\x46\x04\xEB\xFE",
         0,
         Refusal::Construct {
-            kind: FRAME_ACCESS,
+            kind: ConstructKind::FrameAccess(FrameFault::AccessOutside),
             at: 0x0008,
         },
     ),
@@ -159,7 +159,7 @@ static REFUSED: [RefusedRow; 9] = [
         b"\x55\x8B\xEC\x8B\xDD\xEB\xFE",
         0,
         Refusal::Construct {
-            kind: FRAME_ACCESS,
+            kind: ConstructKind::FrameAccess(FrameFault::AddressOutside),
             at: 0x0008,
         },
     ),
@@ -168,7 +168,7 @@ static REFUSED: [RefusedRow; 9] = [
         b"\x55\x8B\xEC\x83\xEC\x02\x8D\x5E\xFE\xEB\xFE",
         16,
         Refusal::Construct {
-            kind: FRAME_ACCESS,
+            kind: ConstructKind::FrameAccess(FrameFault::NoAddress),
             at: 0x000B,
         },
     ),
@@ -176,7 +176,7 @@ static REFUSED: [RefusedRow; 9] = [
         b"\x55\x8B\xEC\x83\xEC\x04\x89\x46\xFC\x89\x46\xFD\xEB\xFE",
         16,
         Refusal::Construct {
-            kind: FRAME_ACCESS,
+            kind: ConstructKind::FrameAccess(FrameFault::LongExtent),
             at: 0x000B,
         },
     ),
@@ -185,7 +185,7 @@ static REFUSED: [RefusedRow; 9] = [
         b"\x50\x44\x50\x44\x44\x44\xB4\x4C\xCD\x21",
         0,
         Refusal::Construct {
-            kind: FRAME_ACCESS,
+            kind: ConstructKind::FrameAccess(FrameFault::LongExtent),
             at: 0x0007,
         },
     ),

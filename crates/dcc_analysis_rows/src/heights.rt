@@ -3,9 +3,9 @@
 use crate::procedures::image_of;
 use dcc_heights::heights;
 use dcc_layout::layout;
+use dcc_machine::Cpu;
 use dcc_procs::find;
-use dcc_prog::refusal::construct::{HEIGHTS, OUTSIDE};
-use dcc_prog::{Cpu, Refusal};
+use dcc_prog::{ConstructKind, Refusal};
 use std::process::Abort;
 use std::test::Fail;
 
@@ -116,69 +116,104 @@ fn each_instruction_has_its_height(rt: HostRuntime) -> Result<(), Fail> {
     Ok(())
 }
 
-// The processor, the code, the number of the construct that is told, and its offset.
-type RefusedRow = (Cpu, &'static [u8], u8, u16);
+// The processor, the code, the construct that is told, and its offset.
+type RefusedRow = (Cpu, &'static [u8], ConstructKind, u16);
 
 static REFUSED: [RefusedRow; 14] = [
     // A program that takes its own address: the return address is popped.
     (
         Cpu::I8086,
         b"\xE8\x00\x00\x58\xB8\x00\x4C\xCD\x21",
-        HEIGHTS,
+        ConstructKind::StackHeight,
         0x0008,
     ),
     // A push on one arm.
     (
         Cpu::I8086,
         b"\x3D\x00\x00\x74\x01\x50\xEB\xFE",
-        HEIGHTS,
+        ConstructKind::StackHeight,
         0x000B,
     ),
     // SUB of a negative number, and INC, raise SP above its value at the entry.
-    (Cpu::I8086, b"\x50\x83\xEC\xFC\xEB\xFE", HEIGHTS, 0x0006),
-    (Cpu::I8086, b"\x44\xEB\xFE", HEIGHTS, 0x0005),
+    (
+        Cpu::I8086,
+        b"\x50\x83\xEC\xFC\xEB\xFE",
+        ConstructKind::StackHeight,
+        0x0006,
+    ),
+    (
+        Cpu::I8086,
+        b"\x44\xEB\xFE",
+        ConstructKind::StackHeight,
+        0x0005,
+    ),
     // INC, and a POP, raise SP into the saved BP.
-    (Cpu::I8086, b"\x55\x8B\xEC\x44\xEB\xFE", HEIGHTS, 0x0008),
-    (Cpu::I8086, b"\x55\x8B\xEC\x58\xEB\xFE", HEIGHTS, 0x0008),
+    (
+        Cpu::I8086,
+        b"\x55\x8B\xEC\x44\xEB\xFE",
+        ConstructKind::StackHeight,
+        0x0008,
+    ),
+    (
+        Cpu::I8086,
+        b"\x55\x8B\xEC\x58\xEB\xFE",
+        ConstructKind::StackHeight,
+        0x0008,
+    ),
     // A CALL of a procedure that removes an argument raises SP into the saved BP.
     (
         Cpu::I8086,
         b"\x55\x8B\xEC\xE8\x02\x00\xEB\xFE\xC2\x02\x00",
-        HEIGHTS,
+        ConstructKind::StackHeight,
         0x0008,
     ),
     // A RET with a word on the stack, and with a byte.
     (
         Cpu::I8086,
         b"\xE8\x04\x00\xB4\x4C\xCD\x21\x50\xC3",
-        HEIGHTS,
+        ConstructKind::StackHeight,
         0x000D,
     ),
     (
         Cpu::I8086,
         b"\xE8\x04\x00\xB4\x4C\xCD\x21\x4C\xC3",
-        HEIGHTS,
+        ConstructKind::StackHeight,
         0x000D,
     ),
     // Two RETs that remove different sizes.
     (
         Cpu::I8086,
         b"\xE8\x04\x00\xB4\x4C\xCD\x21\x74\x01\xC3\xC2\x02\x00",
-        HEIGHTS,
+        ConstructKind::StackHeight,
         0x000F,
     ),
     // A height above 32,766 bytes.
-    (Cpu::I8086, b"\x50\x81\xEC\xFD\x7F\xEB\xFE", HEIGHTS, 0x0006),
+    (
+        Cpu::I8086,
+        b"\x50\x81\xEC\xFD\x7F\xEB\xFE",
+        ConstructKind::StackHeight,
+        0x0006,
+    ),
     // A push, and LEAVE, where the frame is given up already.
-    (Cpu::I8086, b"\x55\x8B\xEC\x5D\x50\xEB\xFE", OUTSIDE, 0x0009),
+    (
+        Cpu::I8086,
+        b"\x55\x8B\xEC\x5D\x50\xEB\xFE",
+        ConstructKind::OutsideProfile,
+        0x0009,
+    ),
     (
         Cpu::I186,
         b"\xC8\x00\x00\x00\xC9\xC9\xEB\xFE",
-        OUTSIDE,
+        ConstructKind::OutsideProfile,
         0x000A,
     ),
     // `pop bp` above its word.
-    (Cpu::I8086, b"\x55\x8B\xEC\x50\x5D\xEB\xFE", OUTSIDE, 0x0009),
+    (
+        Cpu::I8086,
+        b"\x55\x8B\xEC\x50\x5D\xEB\xFE",
+        ConstructKind::OutsideProfile,
+        0x0009,
+    ),
 ];
 
 fn refused() -> &'static [RefusedRow] {

@@ -3,16 +3,14 @@
 
 ghost use Rattle.std.specs.Prelude.{IfOk};
 ghost use Rattle.dcc_prog.specs.Layout.{HasLayout};
-ghost use Rattle.dcc_prog.specs.MzImage.{IsLoaded};
+ghost use Rattle.dcc_machine.specs.MzImage.{IsLoaded};
 
 use dcc_layout::layout;
+use dcc_machine::{Cpu, Image};
 use dcc_mz::load;
 use dcc_procs::find;
 use dcc_procs::plain::{is_trail, known_ah, successors};
-use dcc_prog::refusal::construct::{
-    DIVISION, DOS_NUMBER, ENTRY_RETURN, INDIRECT_CALL, INDIRECT_JUMP, OUTSIDE,
-};
-use dcc_prog::{Cpu, Image, Layout, LimitName, Proc, Refusal};
+use dcc_prog::{ConstructKind, Layout, LimitName, Proc, Refusal};
 use std::alloc::{AllocError, Global};
 use std::process::Abort;
 use std::test::Fail;
@@ -246,63 +244,75 @@ fn all_procedures_are_found_in_order(rt: HostRuntime) -> Result<(), Fail> {
     Ok(())
 }
 
-// The code, the number of the construct that is told, and its offset.
-type RefusedRow = (&'static [u8], u8, u16);
+// The code, the construct that is told, and its offset.
+type RefusedRow = (&'static [u8], ConstructKind, u16);
 
 static REFUSED: [RefusedRow; 20] = [
     // FF with a reg field that no instruction has.
-    (b"\xFF\xF8", OUTSIDE, 0x0005),
+    (b"\xFF\xF8", ConstructKind::OutsideProfile, 0x0005),
     // A jump and a call through a register, near and far.
-    (b"\xFF\xE0", INDIRECT_JUMP, 0x0005),
-    (b"\xFF\xE8", INDIRECT_JUMP, 0x0005),
-    (b"\xFF\xD0", INDIRECT_CALL, 0x0005),
-    (b"\xFF\xD8", INDIRECT_CALL, 0x0005),
+    (b"\xFF\xE0", ConstructKind::IndirectJump, 0x0005),
+    (b"\xFF\xE8", ConstructKind::IndirectJump, 0x0005),
+    (b"\xFF\xD0", ConstructKind::IndirectCall, 0x0005),
+    (b"\xFF\xD8", ConstructKind::IndirectCall, 0x0005),
     // A jump past the end, and to the last byte, where an instruction begins that goes on past the end.
-    (b"\xEB\x39", OUTSIDE, 0x0040),
-    (b"\xEB\x38", OUTSIDE, 0x003F),
+    (b"\xEB\x39", ConstructKind::OutsideProfile, 0x0040),
+    (b"\xEB\x38", ConstructKind::OutsideProfile, 0x003F),
     // A jump into the first instruction of the prelude, and below offset 0.
-    (b"\xEB\xFA", OUTSIDE, 0x0003),
-    (b"\xEB\xF8", OUTSIDE, 0xFFFF),
+    (b"\xEB\xFA", ConstructKind::OutsideProfile, 0x0003),
+    (b"\xEB\xF8", ConstructKind::OutsideProfile, 0xFFFF),
     // CBW between MOV AH and INT 21h.
-    (b"\xB4\x02\x98\xCD\x21\xB4\x4C\xCD\x21", DOS_NUMBER, 0x0008),
+    (
+        b"\xB4\x02\x98\xCD\x21\xB4\x4C\xCD\x21",
+        ConstructKind::DosNumber,
+        0x0008,
+    ),
     // BP is moved to without a frame, and a frame is left above BP.
-    (b"\xBD\x05\x00\xB8\x00\x4C\xCD\x21", OUTSIDE, 0x0005),
+    (
+        b"\xBD\x05\x00\xB8\x00\x4C\xCD\x21",
+        ConstructKind::OutsideProfile,
+        0x0005,
+    ),
     (
         b"\xE8\x05\x00\xB8\x00\x4C\xCD\x21\x55\x8B\xEC\x8D\x66\x02\x5D\xC3",
-        OUTSIDE,
+        ConstructKind::OutsideProfile,
         0x0010,
     ),
     // ENTER, which the 8086 has not.
     (
         b"\xE8\x05\x00\xB8\x00\x4C\xCD\x21\xC8\x02\x00\x00\xC6\x46\xFE\x2A\x8A\x56\xFE\xB4\x02\xCD\x21\xC9\xC3",
-        OUTSIDE,
+        ConstructKind::OutsideProfile,
         0x000D,
     ),
     // AH comes from memory, and is not known after a call.
     (
         b"\x8A\x26\x00\x00\xCD\x21\xB8\x00\x4C\xCD\x21",
-        DOS_NUMBER,
+        ConstructKind::DosNumber,
         0x0009,
     ),
-    (b"\xB4\x02\xE8\x02\x00\xCD\x21\xC3", DOS_NUMBER, 0x000A),
+    (
+        b"\xB4\x02\xE8\x02\x00\xCD\x21\xC3",
+        ConstructKind::DosNumber,
+        0x000A,
+    ),
     // A return from the entry procedure, and a call of it.
-    (b"\xC3", ENTRY_RETURN, 0x0005),
-    (b"\xE8\xFD\xFF", ENTRY_RETURN, 0x0005),
+    (b"\xC3", ConstructKind::EntryReturn, 0x0005),
+    (b"\xE8\xFD\xFF", ConstructKind::EntryReturn, 0x0005),
     // A second way to the doubling before a jump through a table, and another register that is moved to BX.
     (
         b"\x74\x06\x90\x83\xFB\x03\x77\x19\xD1\xE3\x2E\xFF\xA7\x2A\x00\xB0\x01\xEB\x0A\xB0\x02\xEB\x06\xB0\x03\xEB\x02\xB0\x04\xB4\x4C\xCD\x21\xB0\x09\xEB\xF8\x14\x00\x18\x00\x1C\x00\x20\x00",
-        INDIRECT_JUMP,
+        ConstructKind::IndirectJump,
         0x000F,
     ),
     (
         b"\xB8\x02\x00\x3D\x03\x00\x77\x1B\xD1\xE0\x8B\xD9\x2E\xFF\xA7\x2C\x00\xB0\x01\xEB\x0A\xB0\x02\xEB\x06\xB0\x03\xEB\x02\xB0\x04\xB4\x4C\xCD\x21\xB0\x09\xEB\xF8\x16\x00\x1A\x00\x1E\x00\x22\x00",
-        INDIRECT_JUMP,
+        ConstructKind::IndirectJump,
         0x0011,
     ),
     // IDIV of a word without CWD.
     (
         b"\xB8\x01\x00\xBB\x00\x00\xF7\xFB\xB8\x00\x4C\xCD\x21",
-        DIVISION,
+        ConstructKind::Division,
         0x000B,
     ),
 ];

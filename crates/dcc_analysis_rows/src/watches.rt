@@ -2,8 +2,8 @@
 
 use crate::procedures::image_of;
 use dcc_io::{MemSink, MemSource};
+use dcc_machine::Cpu;
 use dcc_pipe::analyse;
-use dcc_prog::Cpu;
 use dcc_step::Stepped;
 use dcc_watch::{FoulKind, Watch, Watched};
 use std::test::Fail;

@@ -14,3 +14,5 @@ mod lifted;
 mod memory;
 #[cfg(test)]
 mod processors;
+#[cfg(test)]
+mod structure;

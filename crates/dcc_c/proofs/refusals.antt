@@ -9,7 +9,7 @@ pub mod TimesRules
 pub mod KnownRules
 pub mod GlobalRules
 pub mod FunctionRules
-pub mod SceneRules
+pub mod ContextRules
 pub mod AllowedRules
 pub mod TextRules
 pub mod FirstRules

@@ -22,7 +22,7 @@ use Rattle.dcc_c.specs.Partial.{cases}
 use Rattle.dcc_c.specs.Known.{Known, known_as}
 
 -- What is known in a function's body: the variables, the functions, the labels, and the type of the result.
-pub record Scene : Type 0 where
+pub record BodyContext : Type 0 where
   pub names : List Declared
   pub functions : List Known
   pub labels : List Word
@@ -59,13 +59,13 @@ told_place names e = told_type names e
 -- Names.
 
 -- A name that is no variable: a function's offends as an operand, but not before a parenthesis.
-abbrev pub no_variable : Scene → ℕ → Word → Bool → List Offence
+abbrev pub no_variable : BodyContext → ℕ → Word → Bool → List Offence
 no_variable scene at word called =
     if is_some (known_as scene.functions word) then only_if (not called) (offence of_type at)
     else offence of_name at ∷ []
 
 -- a name as a value: that of an array of pointers has no type
-abbrev pub value_offences : Scene → ℕ → Word → Bool → List Offence
+abbrev pub value_offences : BodyContext → ℕ → Word → Bool → List Offence
 value_offences scene at word called = elim (declared_as scene.names word) [
   | Some d ↦ only_if (is_none (type_of_name d)) (offence of_type at)
   | None ↦ no_variable scene at word called
@@ -74,23 +74,23 @@ value_offences scene at word called = elim (declared_as scene.names word) [
 -- Expressions.
 
 -- A number is wanted: an operand that is known to be none offends.
-abbrev pub wants_number : Scene → PartialExpr → List Offence
+abbrev pub wants_number : BodyContext → PartialExpr → List Offence
 wants_number scene e = only_if (is_pointer (told_type scene.names e)) (offence of_type (place_of e))
 
 -- a pointer is wanted: an operand that is known to be none offends
-abbrev pub wants_pointer : Scene → PartialExpr → List Offence
+abbrev pub wants_pointer : BodyContext → PartialExpr → List Offence
 wants_pointer scene e = elim (told_type scene.names e) [
   | Some type ↦ only_if (not type.pointer) (offence of_type (place_of e))
   | None ↦ []
 ]
 
 -- the operand of a unary operator but `&`
-abbrev pub unary_offences : Scene → CUn → PartialExpr → List Offence
+abbrev pub unary_offences : BodyContext → CUn → PartialExpr → List Offence
 unary_offences scene Deref a = wants_pointer scene a
 unary_offences scene operator a = wants_number scene a
 
 -- both operands have types, and the operator none: the second one offends
-abbrev pub second_offends : Scene → CBin → PartialExpr → PartialExpr → List Offence
+abbrev pub second_offends : BodyContext → CBin → PartialExpr → PartialExpr → List Offence
 second_offends scene operator a b =
     let first = told_type scene.names a in
     let second = told_type scene.names b in
@@ -99,26 +99,26 @@ second_offends scene operator a b =
 
 -- The operands of a binary operator: of a comparison, a sum and a difference the second one does not fit the first, of
 -- any other each is a number.
-abbrev pub binary_offences : Scene → CBin → PartialExpr → PartialExpr → List Offence
+abbrev pub binary_offences : BodyContext → CBin → PartialExpr → PartialExpr → List Offence
 binary_offences scene operator a b =
     if is_comparison operator || is_sum operator then second_offends scene operator a b
     else wants_number scene a ++ wants_number scene b
 
 -- the last two operands of `?:` have types that do not go together
-abbrev pub arms_offences : Scene → PartialExpr → PartialExpr → List Offence
+abbrev pub arms_offences : BodyContext → PartialExpr → PartialExpr → List Offence
 arms_offences scene b c =
     let first = told_type scene.names b in
     let second = told_type scene.names c in
     only_if ((is_some first && is_some second) && is_none (both_arms_type first second)) (offence of_type (place_of c))
 
 -- The operand of `&`, with what offends in it: a variable that has an address, and is no array and no pointer.
-abbrev pub address_offences : Scene → PartialExpr → List Offence → List Offence
+abbrev pub address_offences : BodyContext → PartialExpr → List Offence → List Offence
 address_offences scene a inner = elim (operand_of_address scene.names a) [
   | Some d ↦ only_if (is_none (type_of_address d)) (offence of_type (place_of a))
   | None ↦ inner ++ only_if (is_some (told_type scene.names a)) (offence of_type (place_of a))
 ]
 
-abbrev pub expr_offences : Scene → PartialExpr → List Offence
+abbrev pub expr_offences : BodyContext → PartialExpr → List Offence
 expr_offences scene Missing = []
 expr_offences scene (NumberHere at n base) = []
 expr_offences scene (NameHere at word called) = value_offences scene at word called
@@ -134,7 +134,7 @@ expr_offences scene (CastHere at type a) = expr_offences scene a
 -- Assignments.
 
 -- the place of an assignment: an array's name is none
-abbrev pub place_offences : Scene → PartialExpr → List Offence
+abbrev pub place_offences : BodyContext → PartialExpr → List Offence
 place_offences scene (NameHere at word called) = elim (declared_as scene.names word) [
   | Some d ↦ only_if d.is_array (offence of_type at)
   | None ↦ no_variable scene at word called
@@ -148,11 +148,11 @@ conversion (Some from) (Some to) at = only_if (not (converts from to)) (offence 
 conversion from to at = []
 
 -- the value goes where one of the type is wanted, if it has been read to its end
-abbrev pub becomes : Scene → PartialExpr → Bool → Option CType → List Offence
+abbrev pub becomes : BodyContext → PartialExpr → Bool → Option CType → List Offence
 becomes scene e done to = if done then conversion (told_type scene.names e) to (place_of e) else []
 
 -- the value of an assignment: a name alone that is not read to its end may be called
-abbrev pub assigned_offences : Scene → PartialExpr → Option PartialExpr → Bool → List Offence
+abbrev pub assigned_offences : BodyContext → PartialExpr → Option PartialExpr → Bool → List Offence
 assigned_offences scene place None done = if is_name_here place then [] else place_offences scene place
 assigned_offences scene place (Some e) done =
     place_offences scene place
@@ -161,13 +161,13 @@ assigned_offences scene place (Some e) done =
 
 -- Calls.
 
-abbrev pub arguments_inner : Scene → List PartialExpr → List Offence
+abbrev pub arguments_inner : BodyContext → List PartialExpr → List Offence
 arguments_inner scene [] = []
 arguments_inner scene (e ∷ es) = expr_offences scene e ++ arguments_inner scene es
 
 -- The arguments become values of the parameters' types. The last one has been read to its end where the closing
 -- parenthesis has.
-abbrev pub arguments_become : Scene → Bool → List CType → List PartialExpr → List Offence
+abbrev pub arguments_become : BodyContext → Bool → List CType → List PartialExpr → List Offence
 arguments_become scene closed (type ∷ types) (e ∷ []) = becomes scene e closed (Some type)
 arguments_become scene closed (type ∷ types) (e ∷ f ∷ es) =
     becomes scene e true (Some type) ++ arguments_become scene closed types (f ∷ es)
@@ -185,14 +185,14 @@ count_offends call params =
     || (call.closed && nat_lt (count_read call.arguments) (length params))
 
 -- what offends where the result of a call goes to a place
-abbrev pub result_offences : Scene → ℕ → Option PartialExpr → WordAt → Option CType → List Offence
+abbrev pub result_offences : BodyContext → ℕ → Option PartialExpr → WordAt → Option CType → List Offence
 result_offences scene at None function result = []
 result_offences scene at (Some place) function None = offence of_type at ∷ []
 result_offences scene at (Some place) function (Some from) =
     conversion (Some from) (told_place scene.names place) function.at
 
 -- a call of a known function, which begins at a place
-abbrev pub signature_offences : Scene → ℕ → Option PartialExpr → PartialCall → Option Signature → List Offence
+abbrev pub signature_offences : BodyContext → ℕ → Option PartialExpr → PartialCall → Option Signature → List Offence
 signature_offences scene at place call None = []
 signature_offences scene at place call (Some of) =
     result_offences scene at place call.function of.result
@@ -200,7 +200,7 @@ signature_offences scene at place call (Some of) =
     ++ arguments_become scene call.closed of.params call.arguments)
 
 -- the function that is called: no variable, and known
-abbrev pub callee_offences : Scene → ℕ → Option PartialExpr → PartialCall → List Offence
+abbrev pub callee_offences : BodyContext → ℕ → Option PartialExpr → PartialCall → List Offence
 callee_offences scene at place call =
     if is_some (declared_as scene.names call.function.word) then offence of_type call.function.at ∷ []
     else elim (known_as scene.functions call.function.word) [
@@ -208,32 +208,32 @@ callee_offences scene at place call =
       | None ↦ offence of_name call.function.at ∷ []
     ]
 
-abbrev pub place_if : Scene → Option PartialExpr → List Offence
+abbrev pub place_if : BodyContext → Option PartialExpr → List Offence
 place_if scene (Some place) = place_offences scene place
 place_if scene None = []
 
-abbrev pub call_offences : Scene → ℕ → Option PartialExpr → PartialCall → List Offence
+abbrev pub call_offences : BodyContext → ℕ → Option PartialExpr → PartialCall → List Offence
 call_offences scene at place call =
     place_if scene place ++ (arguments_inner scene call.arguments ++ callee_offences scene at place call)
 
 -- Other statements.
 
 -- what offends in a test, whether read to its parenthesis or not
-abbrev pub test_offences : Scene → PartialExpr → Bool → List Offence
+abbrev pub test_offences : BodyContext → PartialExpr → Bool → List Offence
 test_offences scene e done = expr_offences scene e ++ (if done then wants_number scene e else [])
 
 -- the value of a `switch` is an int or an unsigned int after promotion
 abbrev pub is_switch_type : CType → Bool
 is_switch_type type = not type.pointer && is_word_base (promoted_type type.base)
 
-abbrev pub switch_offences : Scene → PartialExpr → Bool → List Offence
+abbrev pub switch_offences : BodyContext → PartialExpr → Bool → List Offence
 switch_offences scene e done = expr_offences scene e ++ (elim (told_type scene.names e) [
   | Some type ↦ only_if (done && not (is_switch_type type)) (offence of_type (place_of e))
   | None ↦ []
 ])
 
 -- a `return`: a value stands where the function has a result, and there alone
-abbrev pub return_offences : Scene → ℕ → Option PartialExpr → Bool → List Offence
+abbrev pub return_offences : BodyContext → ℕ → Option PartialExpr → Bool → List Offence
 return_offences scene at None done = only_if (done && scene.has_result) (offence of_type at)
 return_offences scene at (Some e) done =
     expr_offences scene e
@@ -241,12 +241,12 @@ return_offences scene at (Some e) done =
     else only_if (not (is_missing e)) (offence of_type at))
 
 -- a `goto` names a label of the function
-abbrev pub goto_offences : Scene → Option WordAt → List Offence
+abbrev pub goto_offences : BodyContext → Option WordAt → List Offence
 goto_offences scene (Some name) = only_if (not (is_among scene.labels name.word)) (offence of_name name.at)
 goto_offences scene None = []
 
 -- the statement's own parts, without the statements inside it
-abbrev pub own_offences : Scene → ℕ → PartialStmt → List Offence
+abbrev pub own_offences : BodyContext → ℕ → PartialStmt → List Offence
 own_offences scene at (AssignOf place e done) = assigned_offences scene place e done
 own_offences scene at (CallOf place call) = call_offences scene at place call
 own_offences scene at (IfOf e done body otherwise) = test_offences scene e done
@@ -282,14 +282,14 @@ default_offences known (cases numbers (Some at) body arms) =
 
 abbrev mutual
   -- what offends in statements, at every depth, with a number of blocks around them
-  pub lines_offences : Scene → ℕ → PartialLines → List Offence
+  pub lines_offences : BodyContext → ℕ → PartialLines → List Offence
   lines_offences scene blocks no_rows = []
   lines_offences scene blocks (row stmt at line rows) =
       only_if (nat_lt 200 blocks) (offence of_depth at)
       ++ (own_offences scene at stmt ++ (inner_offences scene (suc blocks) stmt ++ lines_offences scene blocks rows))
 
   -- what offends in the statements inside a statement, with a number of blocks around them, and in its arms
-  pub inner_offences : Scene → ℕ → PartialStmt → List Offence
+  pub inner_offences : BodyContext → ℕ → PartialStmt → List Offence
   inner_offences scene blocks (IfOf e done body otherwise) =
       lines_offences scene blocks body ++ lines_offences scene blocks otherwise
   inner_offences scene blocks (WhileOf e done body) = lines_offences scene blocks body
@@ -299,7 +299,7 @@ abbrev mutual
       case_offences [] (case_numbers arms) ++ (default_offences false arms ++ arms_inner scene blocks arms)
   inner_offences scene blocks stmt = []
 
-  pub arms_inner : Scene → ℕ → PartialArms → List Offence
+  pub arms_inner : BodyContext → ℕ → PartialArms → List Offence
   arms_inner scene blocks no_cases = []
   arms_inner scene blocks (cases numbers default body arms) =
       lines_offences scene blocks body ++ arms_inner scene blocks arms
@@ -331,5 +331,5 @@ repeated known [] = []
 repeated known (n ∷ names) = only_if (is_among known n.word) (offence of_name n.at) ++ repeated (n.word ∷ known) names
 
 -- what offends in the statements of a function: each label stands once, and the rest
-abbrev pub body_offences : Scene → PartialLines → List Offence
+abbrev pub body_offences : BodyContext → PartialLines → List Offence
 body_offences scene body = repeated [] (label_list body) ++ lines_offences scene 0 body

@@ -13,7 +13,7 @@ use Rattle.dcc_c.specs.Partial.{WordAt, NumberAt, PartialVariable, PartialFuncti
 use Rattle.dcc_c.specs.Reading.{Reader, is_stopped}
 use Rattle.dcc_c.specs.ReadingText.{size_in_bytes, reading_of}
 use Rattle.dcc_c.specs.Known.{Known, known_dos, known_functions, heads_in, labels_before_head}
-use Rattle.dcc_c.specs.Offences.{Scene, repeated, label_list, body_offences}
+use Rattle.dcc_c.specs.Offences.{BodyContext, repeated, label_list, body_offences}
 
 -- Names.
 
@@ -133,7 +133,7 @@ pub record Whole : Type 0 where
   pub labels : List Word
 
 -- a function; labels may stand after what has been read where it is the last one
-abbrev pub scene_of : Whole → List Word → PartialFunction → Scene
+abbrev pub scene_of : Whole → List Word → PartialFunction → BodyContext
 scene_of whole labels f = record {
   names = declared_of (λ v. not (is_register v.class)) f.params
       ++ (declared_of (λ v. is_auto v.class) f.locals ++ whole.globals);

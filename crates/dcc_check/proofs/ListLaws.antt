@@ -5,7 +5,7 @@ use Rattle.std.proofs.lemmas.Bool.{lt-ltb, le-ltb, ltb-true, ltb-false, eq-eqb, 
 use Rattle.std.proofs.lemmas.List.{append-nil, length-drop, length-map}
 use Rattle.dcc_c.specs.declared.syntax.CType.{CType}
 use Rattle.dcc_c.specs.Partial.{PartialExpr}
-use Rattle.dcc_c.specs.Offences.{Scene, becomes, arguments_become}
+use Rattle.dcc_c.specs.Offences.{BodyContext, becomes, arguments_become}
 
 or-false : (a : Bool) → (a || false) ≡ a
 or-false true = refl
@@ -15,12 +15,12 @@ or-true : (a : Bool) → (a || true) ≡ true
 or-true true = refl
 or-true false = refl
 
-become-none : (scene : Scene) (closed : Bool) (types : List CType) → arguments_become scene closed types [] ≡ []
+become-none : (scene : BodyContext) (closed : Bool) (types : List CType) → arguments_become scene closed types [] ≡ []
 become-none scene closed [] = refl
 become-none scene closed (type ∷ types) = refl
 
 -- one argument and the rest
-pub become-more : (scene : Scene) (closed : Bool) (type : CType) (types : List CType) (e : PartialExpr) (es : List PartialExpr) →
+pub become-more : (scene : BodyContext) (closed : Bool) (type : CType) (types : List CType) (e : PartialExpr) (es : List PartialExpr) →
     arguments_become scene closed (type ∷ types) (e ∷ es) ≡ becomes scene e (closed || nat_lt 0 (length es)) (Some type) ++ arguments_become scene closed types es
 become-more scene closed type types e [] =
     ap (λ done. becomes scene e done (Some type)) (sym (or-false closed))
@@ -31,7 +31,7 @@ become-more scene closed type types e (f ∷ es) =
     ap (λ done. becomes scene e done (Some type) ++ arguments_become scene closed types (f ∷ es)) (sym (ap (λ m. closed || m) more ∙ or-true closed))
 
 -- no parameter or no argument is left
-pub become-empty : (scene : Scene) (closed : Bool) (types : List CType) (es : List PartialExpr) → (0 < length types → 0 < length es → ⊥) → arguments_become scene closed types es ≡ []
+pub become-empty : (scene : BodyContext) (closed : Bool) (types : List CType) (es : List PartialExpr) → (0 < length types → 0 < length es → ⊥) → arguments_become scene closed types es ≡ []
 become-empty scene closed [] es over = refl
 become-empty scene closed (type ∷ types) [] over = refl
 become-empty scene closed (type ∷ types) (e ∷ es) over = absurd (over (omega arith) (omega arith))

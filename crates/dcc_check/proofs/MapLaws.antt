@@ -14,9 +14,9 @@ use Rattle.dcc_c.specs.Dos as dos
 use Rattle.dcc_c.specs.Typing.{Declared, declared_as}
 use Rattle.dcc_c.specs.Known.{Known, known, known_as}
 use Rattle.dcc_c.proofs.NameLaws.{same_bytes-equal}
-use Rattle.dcc_check.specs.declared.scene.Signature.{Signature}
+use Rattle.dcc_check.specs.declared.context.Signature.{Signature}
 use Rattle.dcc_check.specs.Declarations.{first_found}
-use Rattle.dcc_check.specs.Scenes.{held, head_of, signature_of}
+use Rattle.dcc_check.specs.Contexts.{held, head_of, signature_of}
 use Rattle.dcc_reader.proofs.SetLaws.{same_bytes-bytes_eq}
 
 pub first-none : {X : Type 0} (o : Option X) → first_found o None ≡ o

@@ -6,7 +6,7 @@ use Rattle.dcc_c.specs.declared.syntax.CUn.TheVariants.{Minus, Complement, Not, 
 use Rattle.dcc_c.specs.Kinds.{of_type, Offence, offence, only_if, first_after}
 use Rattle.dcc_c.specs.Partial.{PartialExpr, UnaryHere, place_of}
 use Rattle.dcc_c.specs.Typing.{Declared, type_of_address}
-use Rattle.dcc_c.specs.Offences.{Scene, told_type, operand_of_address, expr_offences, unary_offences, address_offences, place_offences}
+use Rattle.dcc_c.specs.Offences.{BodyContext, told_type, operand_of_address, expr_offences, unary_offences, address_offences, place_offences}
 use Rattle.dcc_reader.specs.declared.partial.PartialExpr.{PartialExpr as Read, Missing, Number, Name, Unary', Binary', Conditional', Cast'}
 use Rattle.dcc_reader.specs.PartialViews.{expr_of}
 use Rattle.dcc_check.specs.Operands.{operand, target}
@@ -22,7 +22,7 @@ no-image f None e = refl
 no-image f (Some x) e = absurd cc
 
 -- an operator but `&`
-pub operator-told : (scene : Scene) (at : _) (operator : CUn) (a : PartialExpr) → (operator ≡ AddressOf → ⊥) →
+pub operator-told : (scene : BodyContext) (at : _) (operator : CUn) (a : PartialExpr) → (operator ≡ AddressOf → ⊥) →
     expr_offences scene (UnaryHere at operator a) ≡ expr_offences scene a ++ unary_offences scene operator a
 operator-told scene at Minus a other = refl
 operator-told scene at Complement a other = refl
@@ -31,7 +31,7 @@ operator-told scene at Deref a other = refl
 operator-told scene at AddressOf a other = absurd (other refl)
 
 -- `&` before what is no variable
-pub address-told : (scene : Scene) (a : PartialExpr) → operand_of_address scene.names a ≡ None →
+pub address-told : (scene : BodyContext) (a : PartialExpr) → operand_of_address scene.names a ≡ None →
     address_offences scene a (expr_offences scene a) ≡ expr_offences scene a ++ only_if (is_some (told_type scene.names a)) (offence of_type (place_of a))
 address-told scene a none =
     ap (λ (d : Option Declared). elim d [
@@ -40,7 +40,7 @@ address-told scene a none =
     ]) none
 
 -- the place of an assignment that is no name
-pub place-other : (scene : Scene) (e : Read) → ((called : Bool) (at : ℕ) (word : Bor (List ℕ)) → e ≡ Name called at word → ⊥) →
+pub place-other : (scene : BodyContext) (e : Read) → ((called : Bool) (at : ℕ) (word : Bor (List ℕ)) → e ≡ Name called at word → ⊥) →
     (target scene (expr_of e) ≡ operand scene (expr_of e)) × (place_offences scene (expr_of e) ≡ expr_offences scene (expr_of e))
 place-other scene Missing other = (refl, refl)
 place-other scene (Number at n base) other = (refl, refl)

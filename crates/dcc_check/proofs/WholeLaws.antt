@@ -8,7 +8,7 @@ use Rattle.dcc_c.specs.Typing as typing
 use Rattle.dcc_ctypes.specs.declared.names.Declared.{Declared}
 use Rattle.dcc_check.specs.Declarations.{first_found}
 use Rattle.dcc_ctypes.specs.NameViews.{unnamed}
-use Rattle.dcc_check.specs.Scenes.{head_of}
+use Rattle.dcc_check.specs.Contexts.{head_of}
 use Rattle.dcc_check.proofs.MapLaws.{known-append, declared-append, map-found, found-group}
 
 -- the functions of three lists

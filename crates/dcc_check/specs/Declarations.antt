@@ -8,10 +8,10 @@ use Rattle.dcc_c.specs.Tree.{Word}
 use Rattle.dcc_c.specs.Dos as dos
 use Rattle.dcc_c.specs.Partial.{PartialVariable}
 use Rattle.dcc_c.specs.Placement.{is_auto, is_register}
-use Rattle.dcc_check.specs.declared.scene.Scope.{Scope}
-use Rattle.dcc_check.specs.declared.scene.Scope.TheVariants.{Text, Head, Body}
-use Rattle.dcc_check.specs.declared.scene.Signature.{Signature}
-use Rattle.dcc_check.specs.Scenes.{held, signature_of}
+use Rattle.dcc_check.specs.declared.context.Scope.{Scope}
+use Rattle.dcc_check.specs.declared.context.Scope.TheVariants.{Text, Head, Body}
+use Rattle.dcc_check.specs.declared.context.Signature.{Signature}
+use Rattle.dcc_check.specs.Contexts.{held, signature_of}
 
 -- the variable has an address
 abbrev pub placed_in : Scope → PartialVariable → Bool

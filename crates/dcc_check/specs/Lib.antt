@@ -1,4 +1,4 @@
-pub mod Scenes
+pub mod Contexts
 pub mod Operands
 pub mod Names
 pub mod Declarations

@@ -12,7 +12,7 @@ use Rattle.dcc_check.specs.declared.text.Whole.{Whole}
 use Rattle.dcc_check.specs.Declarations.{held_head}
 use Rattle.dcc_ctypes.specs.NameViews.{unnamed}
 use Rattle.dcc_reader.specs.WordViews.{holds}
-use Rattle.dcc_check.specs.Scenes.{held, head_of}
+use Rattle.dcc_check.specs.Contexts.{held, head_of}
 
 -- the declared knowledge is what the whole text knows, but for the labels
 pub record IsWhole (whole : Whole) (w : offences.Whole) : Type 0 where

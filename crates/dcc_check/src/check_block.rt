@@ -6,10 +6,10 @@ ghost use Rattle.dcc_c.specs.Offences.{case_offences, case_numbers, default_offe
 ghost use Rattle.dcc_c.specs.Offences.{arms_inner};
 ghost use Rattle.dcc_reader.specs.PartialViews.{stmt_of, lines_of, arms_of};
 ghost use Rattle.dcc_reader.specs.Told.{Tells};
-ghost use Rattle.dcc_check.specs.Scenes.{IsScene};
+ghost use Rattle.dcc_check.specs.Contexts.{IsContext};
 
 use crate::check_statement::check_own;
-use crate::scene::Scene;
+use crate::context::BodyContext;
 use dcc_reader::{First, ParseKind, PartialArm, PartialStmt, Row};
 use std::alloc::{AllocError, Global};
 use std::collections::BTreeSet;
@@ -50,11 +50,11 @@ fn check_defaults(arms: &[PartialArm], first: &mut First)
 /// Where memory runs out.
 pub(crate) fn check_body(
     alloc: Global,
-    scene: &Scene<'_, '_>,
+    scene: &BodyContext<'_, '_>,
     body: &[Row],
     first: &mut First,
 ) -> Result<(), AllocError>
-    ensures { (s : offences.Scene) → IsScene scene.now s →
+    ensures { (s : offences.BodyContext) → IsContext scene.now s →
         OnOk result (Tells first.old first.new (lines_offences s 0 (lines_of body.now))) }
 {
     check_lines(alloc, scene, MOST_BLOCKS, body, first)
@@ -64,12 +64,12 @@ pub(crate) fn check_body(
 #[cycle(block)]
 fn check_lines(
     alloc: Global,
-    scene: &Scene<'_, '_>,
+    scene: &BodyContext<'_, '_>,
     room: usize,
     rows: &[Row],
     first: &mut First,
 ) -> Result<(), AllocError>
-    ensures { (s : offences.Scene) (blocks : ℕ) → IsScene scene.now s → room ≡ 201 - blocks →
+    ensures { (s : offences.BodyContext) (blocks : ℕ) → IsContext scene.now s → room ≡ 201 - blocks →
         OnOk result (Tells first.old first.new (lines_offences s blocks (lines_of rows.now))) }
 {
     for row in rows {
@@ -84,12 +84,12 @@ fn check_lines(
 #[cycle(block)]
 fn check_inner(
     alloc: Global,
-    scene: &Scene<'_, '_>,
+    scene: &BodyContext<'_, '_>,
     room: usize,
     stmt: &PartialStmt,
     first: &mut First,
 ) -> Result<(), AllocError>
-    ensures { (s : offences.Scene) (blocks : ℕ) → IsScene scene.now s → room ≡ 201 - blocks →
+    ensures { (s : offences.BodyContext) (blocks : ℕ) → IsContext scene.now s → room ≡ 201 - blocks →
         OnOk result (Tells first.old first.new (inner_offences s blocks (stmt_of stmt.now))) }
 {
     match stmt {
@@ -120,12 +120,12 @@ fn check_inner(
 #[cycle(block)]
 fn check_arms(
     alloc: Global,
-    scene: &Scene<'_, '_>,
+    scene: &BodyContext<'_, '_>,
     room: usize,
     arms: &[PartialArm],
     first: &mut First,
 ) -> Result<(), AllocError>
-    ensures { (s : offences.Scene) (blocks : ℕ) → IsScene scene.now s → room ≡ 201 - blocks →
+    ensures { (s : offences.BodyContext) (blocks : ℕ) → IsContext scene.now s → room ≡ 201 - blocks →
         OnOk result (Tells first.old first.new (arms_inner s blocks (arms_of arms.now))) }
 {
     for arm in arms {

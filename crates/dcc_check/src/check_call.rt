@@ -7,18 +7,18 @@ ghost use Rattle.dcc_c.specs.Offences.{signature_offences, callee_offences, plac
 ghost use Rattle.dcc_c.specs.Partial as partial;
 ghost use Rattle.dcc_reader.specs.PartialViews.{expr_of, word_of, call_of};
 ghost use Rattle.dcc_reader.specs.Told.{Tells};
-ghost use Rattle.dcc_check.specs.Scenes.{signature_of, IsScene};
+ghost use Rattle.dcc_check.specs.Contexts.{signature_of, IsContext};
 ghost use Rattle.dcc_check.specs.Operands.{target};
 
 use crate::check_expression::{check_expr, check_place, is_missing, operand_of};
+use crate::context::{BodyContext, Signature};
 use crate::operand::{Operand, check_becomes, check_conversion};
-use crate::scene::{Scene, Signature};
 use dcc_c::CType;
 use dcc_reader::{First, ParseKind, PartialCall, PartialExpr, WordAt};
 
 // Tells what offends in the arguments, each by itself.
-fn check_arguments(scene: &Scene<'_, '_>, arguments: &[PartialExpr], first: &mut First)
-    ensures { (s : offences.Scene) → IsScene scene.now s →
+fn check_arguments(scene: &BodyContext<'_, '_>, arguments: &[PartialExpr], first: &mut First)
+    ensures { (s : offences.BodyContext) → IsContext scene.now s →
         Tells first.old first.new (arguments_inner s (map expr_of arguments.now)) }
 {
     for e in arguments {
@@ -50,13 +50,13 @@ fn is_done(closed: bool, i: usize, count: usize) -> bool
 // Tells which arguments do not become values of the parameters' types. The last one has been read to its end where the
 // closing parenthesis has.
 fn check_arguments_become(
-    scene: &Scene<'_, '_>,
+    scene: &BodyContext<'_, '_>,
     closed: bool,
     params: &[CType],
     arguments: &[PartialExpr],
     first: &mut First,
 )
-    ensures { (s : offences.Scene) → IsScene scene.now s →
+    ensures { (s : offences.BodyContext) → IsContext scene.now s →
         Tells first.old first.new (arguments_become s closed params.now (map expr_of arguments.now)) }
 {
     for i in 0..params.len().min(arguments.len()) {
@@ -82,7 +82,7 @@ fn check_result(
     result_type: Option<CType>,
     first: &mut First,
 )
-    ensures { (s : offences.Scene) (e : Option partial.PartialExpr) → place ≡ option_map (target s) e →
+    ensures { (s : offences.BodyContext) (e : Option partial.PartialExpr) → place ≡ option_map (target s) e →
         Tells first.old first.new (result_offences s at e (word_of function.now) result_type) }
 {
     match (place, result_type) {
@@ -94,14 +94,14 @@ fn check_result(
 
 // Tells what offends in the call of a function with the signature, which begins at a place.
 fn check_signature(
-    scene: &Scene<'_, '_>,
+    scene: &BodyContext<'_, '_>,
     at: u32,
     place: Option<Operand>,
     call: &PartialCall,
     signature: &Signature,
     first: &mut First,
 )
-    ensures { (s : offences.Scene) (e : Option partial.PartialExpr) → IsScene scene.now s →
+    ensures { (s : offences.BodyContext) (e : Option partial.PartialExpr) → IsContext scene.now s →
         place ≡ option_map (target s) e →
         Tells first.old first.new (signature_offences s at e (call_of call.now) (Some (signature_of signature.now))) }
 {
@@ -119,13 +119,13 @@ fn check_signature(
 
 // Tells what offends in the function that is called: it is no variable, and known.
 fn check_callee(
-    scene: &Scene<'_, '_>,
+    scene: &BodyContext<'_, '_>,
     at: u32,
     place: Option<Operand>,
     call: &PartialCall,
     first: &mut First,
 )
-    ensures { (s : offences.Scene) (e : Option partial.PartialExpr) → IsScene scene.now s →
+    ensures { (s : offences.BodyContext) (e : Option partial.PartialExpr) → IsContext scene.now s →
         place ≡ option_map (target s) e → Tells first.old first.new (callee_offences s at e (call_of call.now)) }
 {
     let word = call.function.word;
@@ -142,13 +142,13 @@ fn check_callee(
 
 // Tells what offends in the place of a result, where there is one.
 fn check_place_if(
-    scene: &Scene<'_, '_>,
+    scene: &BodyContext<'_, '_>,
     place: &Option<PartialExpr>,
     first: &mut First,
 ) -> Option<Operand>
-    ensures place { (s : offences.Scene) → IsScene scene.now s →
+    ensures place { (s : offences.BodyContext) → IsContext scene.now s →
         result ≡ option_map (target s) (option_map expr_of place.now) }
-    ensures told { (s : offences.Scene) → IsScene scene.now s →
+    ensures told { (s : offences.BodyContext) → IsContext scene.now s →
         Tells first.old first.new (place_if s (option_map expr_of place.now)) }
 {
     match place {
@@ -159,13 +159,13 @@ fn check_place_if(
 
 /// Tells what offends in a call, which begins at a place.
 pub(crate) fn check_call(
-    scene: &Scene<'_, '_>,
+    scene: &BodyContext<'_, '_>,
     at: u32,
     place: &Option<PartialExpr>,
     call: &PartialCall,
     first: &mut First,
 )
-    ensures { (s : offences.Scene) → IsScene scene.now s →
+    ensures { (s : offences.BodyContext) → IsContext scene.now s →
         Tells first.old first.new (call_offences s at (option_map expr_of place.now) (call_of call.now)) }
 {
     let place = check_place_if(scene, place, first);

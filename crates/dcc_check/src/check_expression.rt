@@ -9,11 +9,11 @@ ghost use Rattle.dcc_c.specs.Partial.{is_missing, is_name_here};
 ghost use Rattle.dcc_reader.specs.PartialViews.{expr_of};
 ghost use Rattle.dcc_reader.specs.Told.{Tells};
 ghost use Rattle.dcc_ctypes.specs.NameViews.{unnamed};
-ghost use Rattle.dcc_check.specs.Scenes.{IsScene};
+ghost use Rattle.dcc_check.specs.Contexts.{IsContext};
 ghost use Rattle.dcc_check.specs.Operands.{operand, target};
 
+use crate::context::BodyContext;
 use crate::operand::{Operand, check_binary, check_choice, check_unary, tell_typed, want_number};
-use crate::scene::Scene;
 use dcc_c::{CType, CUn};
 use dcc_ctypes::Declared;
 use dcc_ctypes::names::{type_of_address, type_of_name, type_of_variable};
@@ -35,8 +35,14 @@ pub(crate) fn is_name(e: &PartialExpr) -> bool
 }
 
 // A name that is no variable: a function's offends as an operand, but not before a parenthesis.
-fn tell_no_variable(scene: &Scene<'_, '_>, at: u32, word: &str, called: bool, first: &mut First)
-    ensures { (s : offences.Scene) → IsScene scene.now s →
+fn tell_no_variable(
+    scene: &BodyContext<'_, '_>,
+    at: u32,
+    word: &str,
+    called: bool,
+    first: &mut First,
+)
+    ensures { (s : offences.BodyContext) → IsContext scene.now s →
         Tells first.old first.new (no_variable s at word.now called) }
 {
     match scene.function(word) {
@@ -47,15 +53,15 @@ fn tell_no_variable(scene: &Scene<'_, '_>, at: u32, word: &str, called: bool, fi
 
 // A name as a value: that of an array of pointers has no type.
 fn check_name(
-    scene: &Scene<'_, '_>,
+    scene: &BodyContext<'_, '_>,
     at: u32,
     word: &str,
     called: bool,
     first: &mut First,
 ) -> Operand
-    ensures operand { (s : offences.Scene) → IsScene scene.now s →
+    ensures operand { (s : offences.BodyContext) → IsContext scene.now s →
         result ≡ operand s (partial.NameHere at word.now called) }
-    ensures told { (s : offences.Scene) → IsScene scene.now s →
+    ensures told { (s : offences.BodyContext) → IsContext scene.now s →
         Tells first.old first.new (expr_offences s (partial.NameHere at word.now called)) }
 {
     match scene.variable(word) {
@@ -72,8 +78,8 @@ fn check_name(
 }
 
 // The operand of `&`, where it is the name of a variable.
-fn operand_of_address(scene: &Scene<'_, '_>, a: &PartialExpr) -> Option<Declared>
-    ensures { (s : offences.Scene) → IsScene scene.now s →
+fn operand_of_address(scene: &BodyContext<'_, '_>, a: &PartialExpr) -> Option<Declared>
+    ensures { (s : offences.BodyContext) → IsContext scene.now s →
         result ≡ option_map unnamed (operand_of_address s.names (expr_of a.now)) }
 {
     match a {
@@ -94,9 +100,9 @@ fn place_of_name(a: &PartialExpr) -> u32
 
 /// Tells what offends in an expression.
 #[cycle(expression)]
-pub(crate) fn check_expr(scene: &Scene<'_, '_>, e: &PartialExpr, first: &mut First) -> Operand
-    ensures operand { (s : offences.Scene) → IsScene scene.now s → result ≡ operand s (expr_of e.now) }
-    ensures told { (s : offences.Scene) → IsScene scene.now s →
+pub(crate) fn check_expr(scene: &BodyContext<'_, '_>, e: &PartialExpr, first: &mut First) -> Operand
+    ensures operand { (s : offences.BodyContext) → IsContext scene.now s → result ≡ operand s (expr_of e.now) }
+    ensures told { (s : offences.BodyContext) → IsContext scene.now s →
         Tells first.old first.new (expr_offences s (expr_of e.now)) }
 {
     match e {
@@ -140,15 +146,15 @@ pub(crate) fn check_expr(scene: &Scene<'_, '_>, e: &PartialExpr, first: &mut Fir
 // Tells what offends in a unary operator and its operand.
 #[cycle(expression)]
 fn check_operator(
-    scene: &Scene<'_, '_>,
+    scene: &BodyContext<'_, '_>,
     at: u32,
     operator: CUn,
     a: &PartialExpr,
     first: &mut First,
 ) -> Operand
-    ensures operand { (s : offences.Scene) → IsScene scene.now s →
+    ensures operand { (s : offences.BodyContext) → IsContext scene.now s →
         result ≡ operand s (partial.UnaryHere at operator (expr_of a.now)) }
-    ensures told { (s : offences.Scene) → IsScene scene.now s →
+    ensures told { (s : offences.BodyContext) → IsContext scene.now s →
         Tells first.old first.new (expr_offences s (partial.UnaryHere at operator (expr_of a.now))) }
 {
     if operator == CUn::AddressOf {
@@ -164,10 +170,15 @@ fn check_operator(
 
 // Tells what offends in `&` and its operand: a variable that has an address, and is no array and no pointer.
 #[cycle(expression)]
-fn check_address(scene: &Scene<'_, '_>, at: u32, a: &PartialExpr, first: &mut First) -> Operand
-    ensures operand { (s : offences.Scene) → IsScene scene.now s →
+fn check_address(
+    scene: &BodyContext<'_, '_>,
+    at: u32,
+    a: &PartialExpr,
+    first: &mut First,
+) -> Operand
+    ensures operand { (s : offences.BodyContext) → IsContext scene.now s →
         result ≡ operand s (partial.UnaryHere at AddressOf (expr_of a.now)) }
-    ensures told { (s : offences.Scene) → IsScene scene.now s →
+    ensures told { (s : offences.BodyContext) → IsContext scene.now s →
         Tells first.old first.new (expr_offences s (partial.UnaryHere at AddressOf (expr_of a.now))) }
 {
     match operand_of_address(scene, a) {
@@ -185,17 +196,21 @@ fn check_address(scene: &Scene<'_, '_>, at: u32, a: &PartialExpr, first: &mut Fi
 }
 
 /// The expression as an operand.
-pub(crate) fn operand_of(scene: &Scene<'_, '_>, e: &PartialExpr) -> Operand
-    ensures { (s : offences.Scene) → IsScene scene.now s → result ≡ operand s (expr_of e.now) }
+pub(crate) fn operand_of(scene: &BodyContext<'_, '_>, e: &PartialExpr) -> Operand
+    ensures { (s : offences.BodyContext) → IsContext scene.now s → result ≡ operand s (expr_of e.now) }
 {
     let mut unheard = First::new();
     check_expr(scene, e, &mut unheard)
 }
 
 /// Tells what offends in the place of an assignment: an array's name is none.
-pub(crate) fn check_place(scene: &Scene<'_, '_>, e: &PartialExpr, first: &mut First) -> Operand
-    ensures place { (s : offences.Scene) → IsScene scene.now s → result ≡ target s (expr_of e.now) }
-    ensures told { (s : offences.Scene) → IsScene scene.now s →
+pub(crate) fn check_place(
+    scene: &BodyContext<'_, '_>,
+    e: &PartialExpr,
+    first: &mut First,
+) -> Operand
+    ensures place { (s : offences.BodyContext) → IsContext scene.now s → result ≡ target s (expr_of e.now) }
+    ensures told { (s : offences.BodyContext) → IsContext scene.now s →
         Tells first.old first.new (place_offences s (expr_of e.now)) }
 {
     match e {

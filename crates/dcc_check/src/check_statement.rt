@@ -6,23 +6,23 @@ ghost use Rattle.dcc_c.specs.Offences.{assigned_offences, test_offences, switch_
 ghost use Rattle.dcc_c.specs.Offences.{goto_offences, own_offences};
 ghost use Rattle.dcc_reader.specs.PartialViews.{expr_of, word_of, stmt_of};
 ghost use Rattle.dcc_reader.specs.Told.{Tells};
-ghost use Rattle.dcc_check.specs.Scenes.{IsScene};
+ghost use Rattle.dcc_check.specs.Contexts.{IsContext};
 
 use crate::check_call::check_call;
 use crate::check_expression::{check_expr, check_place, is_missing, is_name};
+use crate::context::BodyContext;
 use crate::operand::{check_becomes, check_selector, want_number};
-use crate::scene::Scene;
 use dcc_reader::{First, ParseKind, PartialExpr, PartialStmt, WordAt};
 
 // Tells what offends in an assignment: a name alone that is not read to its end may be called.
 fn check_assign(
-    scene: &Scene<'_, '_>,
+    scene: &BodyContext<'_, '_>,
     place: &PartialExpr,
     e: &Option<PartialExpr>,
     done: bool,
     first: &mut First,
 )
-    ensures { (s : offences.Scene) → IsScene scene.now s →
+    ensures { (s : offences.BodyContext) → IsContext scene.now s →
         Tells first.old first.new (assigned_offences s (expr_of place.now) (option_map expr_of e.now) done) }
 {
     match e {
@@ -42,8 +42,8 @@ fn check_assign(
 }
 
 // Tells what offends in a test, read to its parenthesis or not.
-fn check_test(scene: &Scene<'_, '_>, e: &PartialExpr, done: bool, first: &mut First)
-    ensures { (s : offences.Scene) → IsScene scene.now s →
+fn check_test(scene: &BodyContext<'_, '_>, e: &PartialExpr, done: bool, first: &mut First)
+    ensures { (s : offences.BodyContext) → IsContext scene.now s →
         Tells first.old first.new (test_offences s (expr_of e.now) done) }
 {
     let a = check_expr(scene, e, first);
@@ -53,8 +53,8 @@ fn check_test(scene: &Scene<'_, '_>, e: &PartialExpr, done: bool, first: &mut Fi
 }
 
 // Tells what offends in the value of a `switch`: it is an int or an unsigned int after promotion.
-fn check_switch(scene: &Scene<'_, '_>, e: &PartialExpr, done: bool, first: &mut First)
-    ensures { (s : offences.Scene) → IsScene scene.now s →
+fn check_switch(scene: &BodyContext<'_, '_>, e: &PartialExpr, done: bool, first: &mut First)
+    ensures { (s : offences.BodyContext) → IsContext scene.now s →
         Tells first.old first.new (switch_offences s (expr_of e.now) done) }
 {
     let a = check_expr(scene, e, first);
@@ -63,13 +63,13 @@ fn check_switch(scene: &Scene<'_, '_>, e: &PartialExpr, done: bool, first: &mut 
 
 // Tells what offends in a `return`: a value stands where the function has a result, and there alone.
 fn check_return(
-    scene: &Scene<'_, '_>,
+    scene: &BodyContext<'_, '_>,
     at: u32,
     e: &Option<PartialExpr>,
     done: bool,
     first: &mut First,
 )
-    ensures { (s : offences.Scene) → IsScene scene.now s →
+    ensures { (s : offences.BodyContext) → IsContext scene.now s →
         Tells first.old first.new (return_offences s at (option_map expr_of e.now) done) }
 {
     match e {
@@ -86,8 +86,8 @@ fn check_return(
 }
 
 // Tells whether a `goto` names no label of the function.
-fn check_goto(scene: &Scene<'_, '_>, name: &Option<WordAt>, first: &mut First)
-    ensures { (s : offences.Scene) → IsScene scene.now s →
+fn check_goto(scene: &BodyContext<'_, '_>, name: &Option<WordAt>, first: &mut First)
+    ensures { (s : offences.BodyContext) → IsContext scene.now s →
         Tells first.old first.new (goto_offences s (option_map word_of name.now)) }
 {
     if let Some(name) = name {
@@ -96,8 +96,8 @@ fn check_goto(scene: &Scene<'_, '_>, name: &Option<WordAt>, first: &mut First)
 }
 
 /// Tells what offends in a statement that begins at a place, without the statements inside it.
-pub(crate) fn check_own(scene: &Scene<'_, '_>, at: u32, stmt: &PartialStmt, first: &mut First)
-    ensures { (s : offences.Scene) → IsScene scene.now s →
+pub(crate) fn check_own(scene: &BodyContext<'_, '_>, at: u32, stmt: &PartialStmt, first: &mut First)
+    ensures { (s : offences.BodyContext) → IsContext scene.now s →
         Tells first.old first.new (own_offences s at (stmt_of stmt.now)) }
 {
     match stmt {

@@ -5,10 +5,10 @@ mod check_block;
 mod check_call;
 mod check_expression;
 mod check_statement;
+mod context;
 mod names;
 mod operand;
 mod places;
-mod scene;
 mod text;
 
 pub use text::first_offence;

@@ -19,7 +19,7 @@ use std::alloc::{AllocError, Global};
 use std::collections::BTreeSet;
 
 /// Adds the names of variables to the list.
-pub fn variable_names<'r, 'a>(
+pub(crate) fn variable_names<'r, 'a>(
     variables: &'r [PartialVariable<'a>],
     names: &mut Vec<&'r WordAt<'a>>,
 ) -> Result<(), AllocError>
@@ -51,7 +51,7 @@ pub fn function_names<'r, 'a>(
 }
 
 /// Adds the names of those functions to the list whose opening parenthesis was read.
-pub fn known_names<'r, 'a>(
+pub(crate) fn known_names<'r, 'a>(
     functions: &'r [PartialFunction<'a>],
     names: &mut Vec<&'r WordAt<'a>>,
 ) -> Result<(), AllocError>
@@ -82,7 +82,7 @@ pub fn add_words<'a>(words: &mut BTreeSet<&'a str>, names: &[&WordAt<'a>]) -> Re
 }
 
 /// Tells each name of the list that is taken, or that stands twice in it.
-pub fn tell_repeated(
+pub(crate) fn tell_repeated(
     alloc: Global,
     taken: &BTreeSet<&str>,
     names: &[&WordAt],
@@ -117,7 +117,7 @@ fn is_repeated(taken: &BTreeSet<&str>, is_new: bool, word: &str) -> bool
 }
 
 /// The names of the DOS calls.
-pub fn dos_words<'a>(alloc: Global) -> Result<BTreeSet<&'a str>, AllocError>
+pub(crate) fn dos_words<'a>(alloc: Global) -> Result<BTreeSet<&'a str>, AllocError>
     ensures { IfOk result (λ words. (word : Word) → holds words word ≡ grammar.is_among dos_names word) }
 {
     let mut words = BTreeSet::new(alloc);

@@ -26,7 +26,7 @@ pub(crate) struct Operand {
 
 /// Tells that the operand offends where a number is wanted and it is known to be none.
 pub(crate) fn want_number(a: Operand, first: &mut First)
-    ensures { (s : offences.Scene) (e : partial.PartialExpr) → a ≡ operand s e →
+    ensures { (s : offences.BodyContext) (e : partial.PartialExpr) → a ≡ operand s e →
         Tells first.old first.new (wants_number s e) }
 {
     first.tell_if(is_pointer(a.ty), ParseKind::Type_, a.at);
@@ -34,7 +34,7 @@ pub(crate) fn want_number(a: Operand, first: &mut First)
 
 // Tells that the operand offends where a pointer is wanted and it is known to be none.
 fn want_pointer(a: Operand, first: &mut First)
-    ensures { (s : offences.Scene) (e : partial.PartialExpr) → a ≡ operand s e →
+    ensures { (s : offences.BodyContext) (e : partial.PartialExpr) → a ≡ operand s e →
         Tells first.old first.new (offences.wants_pointer s e) }
 {
     if let Some(ty) = a.ty {
@@ -44,7 +44,7 @@ fn want_pointer(a: Operand, first: &mut First)
 
 /// Tells that the operand of `&`, which is no variable, offends if it has a type.
 pub(crate) fn tell_typed(a: Operand, first: &mut First)
-    ensures { (s : offences.Scene) (e : partial.PartialExpr) → a ≡ operand s e →
+    ensures { (s : offences.BodyContext) (e : partial.PartialExpr) → a ≡ operand s e →
         Tells first.old first.new (only_if (is_some (told_type s.names e)) (offence of_type (partial.place_of e))) }
 {
     first.tell_if(a.ty.is_some(), ParseKind::Type_, a.at);
@@ -52,7 +52,7 @@ pub(crate) fn tell_typed(a: Operand, first: &mut First)
 
 /// Tells what offends in the operand of a unary operator but `&`.
 pub(crate) fn check_unary(operator: CUn, a: Operand, first: &mut First)
-    ensures { (s : offences.Scene) (e : partial.PartialExpr) → a ≡ operand s e →
+    ensures { (s : offences.BodyContext) (e : partial.PartialExpr) → a ≡ operand s e →
         Tells first.old first.new (unary_offences s operator e) }
 {
     match operator {
@@ -64,7 +64,7 @@ pub(crate) fn check_unary(operator: CUn, a: Operand, first: &mut First)
 /// Tells what offends in the operands of a binary operator, by its type: of a comparison, a sum and a difference the
 /// second one does not fit the first, of any other each is a number.
 pub(crate) fn check_binary(operator: CBin, a: Operand, b: Operand, first: &mut First)
-    ensures { (s : offences.Scene) (d e : partial.PartialExpr) → a ≡ operand s d → b ≡ operand s e →
+    ensures { (s : offences.BodyContext) (d e : partial.PartialExpr) → a ≡ operand s d → b ≡ operand s e →
         Tells first.old first.new (binary_offences s operator d e) }
 {
     if is_comparison(operator) || is_sum(operator) {
@@ -82,7 +82,7 @@ pub(crate) fn check_binary(operator: CBin, a: Operand, b: Operand, first: &mut F
 
 /// Tells what offends in the last two operands of `?:`.
 pub(crate) fn check_choice(b: Operand, c: Operand, first: &mut First)
-    ensures { (s : offences.Scene) (d e : partial.PartialExpr) → b ≡ operand s d → c ≡ operand s e →
+    ensures { (s : offences.BodyContext) (d e : partial.PartialExpr) → b ≡ operand s d → c ≡ operand s e →
         Tells first.old first.new (arms_offences s d e) }
 {
     let ty = both_arms_type(b.ty, c.ty);
@@ -96,7 +96,7 @@ pub(crate) fn check_choice(b: Operand, c: Operand, first: &mut First)
 /// Tells what offends in the value of a `switch`, whether read to its parenthesis or not: it is an int or an unsigned
 /// int after promotion.
 pub(crate) fn check_selector(a: Operand, done: bool, first: &mut First)
-    ensures { (s : offences.Scene) (e : partial.PartialExpr) → a ≡ operand s e →
+    ensures { (s : offences.BodyContext) (e : partial.PartialExpr) → a ≡ operand s e →
         Tells first.old first.new (selector_offences s e done) }
 {
     if let Some(ty) = a.ty {
@@ -117,7 +117,7 @@ pub(crate) fn check_conversion(from: Option<CType>, to: Option<CType>, at: u32, 
 
 /// Tells whether the value, which goes where one of the type is wanted, offends, if it has been read to its end.
 pub(crate) fn check_becomes(a: Operand, done: bool, to: Option<CType>, first: &mut First)
-    ensures { (s : offences.Scene) (e : partial.PartialExpr) → a ≡ operand s e →
+    ensures { (s : offences.BodyContext) (e : partial.PartialExpr) → a ≡ operand s e →
         Tells first.old first.new (becomes s e done to) }
 {
     if done {

@@ -50,7 +50,7 @@ fn tell_size(size: Option<NumberAt>, first: &mut First)
 }
 
 /// Tells the sizes of no element.
-pub fn tell_sizes(variables: &[PartialVariable], first: &mut First)
+pub(crate) fn tell_sizes(variables: &[PartialVariable], first: &mut First)
     ensures { Tells first.old first.new (offences.sizes_of (map variable_of variables.now)) }
 {
     for variable in variables {
@@ -269,7 +269,7 @@ fn unmarked(alloc: Global, count: usize) -> Result<Vec<bool>, AllocError>
 }
 
 /// Tells the sizes, the surplus initial values and the places of global variables.
-pub fn tell_globals(
+pub(crate) fn tell_globals(
     alloc: Global,
     stack: Stack,
     globals: &[PartialVariable],

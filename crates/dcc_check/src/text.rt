@@ -20,16 +20,16 @@ ghost use Rattle.dcc_check.specs.Declarations.{held_head};
 ghost use Rattle.dcc_check.specs.Names.{lent_names};
 ghost use Rattle.dcc_ctypes.specs.NameViews.{unnamed};
 ghost use Rattle.dcc_reader.specs.WordViews.{holds};
-ghost use Rattle.dcc_check.specs.Scenes.{held, head_of};
+ghost use Rattle.dcc_check.specs.Contexts.{held, head_of};
 ghost use Rattle.dcc_check.specs.Wholes.{IsWhole, labels_if, own_names};
 ghost use Rattle.dcc_reader.specs.Told.{Tells};
 
 use crate::check_block::check_body;
+use crate::context::{BodyContext, Scope, Signature, add_dos, add_functions, declare};
 use crate::names::{
     add_words, dos_words, function_names, known_names, tell_repeated, variable_names,
 };
 use crate::places::{Stack, tell_globals, tell_sizes};
-use crate::scene::{Scene, Scope, Signature, add_dos, add_functions, declare};
 use dcc_ctypes::Declared;
 use dcc_lex::{Pieces, same_text};
 use dcc_reader::labels::push_labels;
@@ -234,7 +234,7 @@ fn check_statements<'a>(
         (lines_offences (offences.scene_of w more (function_of function.now)) 0 (lines_of function.now.body.items))) }
 {
     let locals = locals_of(alloc, function)?;
-    let scene = Scene {
+    let scene = BodyContext {
         locals: &locals,
         globals: &whole.globals,
         functions: &whole.functions,

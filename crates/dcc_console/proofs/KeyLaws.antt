@@ -5,7 +5,7 @@ use Rattle.dcc_run.specs.Event.{written_by, taken_by}
 use Rattle.dcc_run.proofs.EventLaws.{written-writes, taken-writes}
 use Rattle.dcc_io.specs.Told.{prepend_told, WhenTold}
 use Rattle.dcc_console.specs.Key.{echoed, key_events}
-use Rattle.dcc_console.specs.Scene.{told_bytes}
+use Rattle.dcc_console.specs.WithConsole.{told_bytes}
 
 -- a key's events take its byte, and write what is written of it
 pub key-taken : (echo : Bool) (byte : ℕ) → taken_by (key_events echo byte) ≡ byte ∷ []

@@ -10,17 +10,17 @@ use Rattle.dcc_io.specs.Told.{append_told, prepend_told}
 use Rattle.dcc_io.proofs.ToldLemmas.{append_told-nil, append_told-append, prepend_told-nil, prepend_told-append, prepend_told-some}
 use Rattle.dcc_console.specs.Console.{Executor, step_in, left_in, events_in}
 use Rattle.dcc_console.specs.Laws.{IsLawfulExecutor}
-use Rattle.dcc_console.specs.Scene.{Scene, told_bytes}
+use Rattle.dcc_console.specs.WithConsole.{WithConsole, told_bytes}
 use Rattle.dcc_console.specs.Steps.{Comes, HasEnded, Makes, MakesEach, MakesSteps, Outcome, made, read_failed, write_failed, no_memory, Steps, Runs}
 
 module _ {W C S : Type 0} (executor : Executor W C S) where
   -- no step, each by itself
-  each_none : (now : Scene C) → MakesEach executor 0 now now
+  each_none : (now : WithConsole C) → MakesEach executor 0 now now
   unfolding MakesEach
   each_none now = refl
 
   -- one step more, each by itself
-  each_more : (count : ℕ) (before mid now : Scene C) → MakesEach executor count before mid → Makes executor mid now → MakesEach executor (count + 1) before now
+  each_more : (count : ℕ) (before mid now : WithConsole C) → MakesEach executor count before mid → Makes executor mid now → MakesEach executor (count + 1) before now
   unfolding MakesEach
   each_more count before mid now first last =
       let all : MakesEach executor (suc count) before now = record { before = mid; reached = first; made = last } in
@@ -28,7 +28,7 @@ module _ {W C S : Type 0} (executor : Executor W C S) where
       subst (λ n. MakesEach executor n before now) next all
 
   -- no step
-  pub no_steps : (now : Scene C) → MakesSteps executor 0 now now
+  pub no_steps : (now : WithConsole C) → MakesSteps executor 0 now now
   no_steps now = record {
     each = each_none now;
     happened = [];
@@ -38,7 +38,7 @@ module _ {W C S : Type 0} (executor : Executor W C S) where
   }
 
   -- one step more
-  pub one_more : (count : ℕ) (before mid now : Scene C) → MakesSteps executor count before mid → Makes executor mid now → MakesSteps executor (count + 1) before now
+  pub one_more : (count : ℕ) (before mid now : WithConsole C) → MakesSteps executor count before mid → Makes executor mid now → MakesSteps executor (count + 1) before now
   one_more count before mid now first last = record {
     each = each_more count before mid now first.each last;
     happened = first.happened ++ last.happened;
@@ -68,7 +68,7 @@ module _ {W C S : Type 0} (executor : Executor W C S) where
 
   module _ (laws : IsLawfulExecutor executor) where
     -- what has ended makes a step without a change
-    pub ended_step : (now : Scene C) (end : End) → HasEnded executor now.code end → is_over end ≡ true → Makes executor now now
+    pub ended_step : (now : WithConsole C) (end : End) → HasEnded executor now.code end → is_over end ≡ true → Makes executor now now
     ended_step now end ended over = record {
       happened = [];
       took = sym (prepend_told-nil now.left);
@@ -80,7 +80,7 @@ module _ {W C S : Type 0} (executor : Executor W C S) where
     }
 
     -- what has ended makes any number of steps without a change
-    ended_each : (more count : ℕ) (before now : Scene C) (end : End) → HasEnded executor now.code end → is_over end ≡ true
+    ended_each : (more count : ℕ) (before now : WithConsole C) (end : End) → HasEnded executor now.code end → is_over end ≡ true
         → MakesEach executor count before now → MakesEach executor (count + more) before now
     ended_each zero count before now end ended over each =
         let all : count ≡ count + 0 = omega arith in
@@ -91,7 +91,8 @@ module _ {W C S : Type 0} (executor : Executor W C S) where
         (each_more (count + more) before now now (ended_each more count before now end ended over each) (ended_step now end ended over))
 
     -- a run that has ended makes any further steps without a change
-    pub ended_run : (count most : ℕ) (before now : Scene C) (end : End) → count ≤ most → HasEnded executor now.code end
+    pub ended_run : (count most : ℕ) (before now : WithConsole C) (end : End) → count ≤ most
+        → HasEnded executor now.code end
         → is_over end ≡ true → MakesSteps executor count before now → MakesSteps executor most before now
     ended_run count most before now end le ended over run = record {
       each =
@@ -112,7 +113,7 @@ module _ {W C S : Type 0} (executor : Executor W C S) where
     }
 
     -- a step that was the last one: the run has ended, or the step was refused
-    pub last_step : (outcome : Outcome) (count most : ℕ) (before mid now : Scene C) (end : End) → count < most
+    pub last_step : (outcome : Outcome) (count most : ℕ) (before mid now : WithConsole C) (end : End) → count < most
         → (outcome ≡ made → is_over end ≡ true) → MakesSteps executor count before mid → Steps executor outcome mid now
         → HasEnded executor now.code end → Runs executor most outcome before now
     last_step made count most before mid now end lt over run last ended =

@@ -3,7 +3,7 @@ use Rattle.std.specs.Prelude.{◌≡◌, ℕ, Bool, List, [], ◌∷◌, if◌th
 use Rattle.dcc_run.specs.Event.{Event, Took, MetEnd, written_by, taken_by, writes}
 use Rattle.dcc_num.specs.declared.dos.TheConstants.{END_OF_INPUT}
 use Rattle.dcc_io.specs.Told.{append_told, prepend_told, AppendsProperPrefix}
-use Rattle.dcc_console.specs.Scene.{told_bytes}
+use Rattle.dcc_console.specs.WithConsole.{told_bytes}
 use Rattle.dcc_console.specs.declared.fault.Fault.{Fault}
 use Rattle.dcc_console.specs.declared.fault.Fault.TheVariants.{Input, Output}
 

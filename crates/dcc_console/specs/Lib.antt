@@ -3,6 +3,6 @@ pub mod Counts
 pub mod Key
 pub mod Laws
 pub mod Ran
-pub mod Scene
+pub mod WithConsole
 pub mod Steps
 pub mod Strings

@@ -5,7 +5,7 @@ ghost use Rattle.std.specs.Option.{option_to_list};
 ghost use Rattle.dcc_io.specs.Count.{Rose};
 ghost use Rattle.dcc_io.specs.Told.{append_told, prepend_told, AppendsProperPrefix};
 ghost use Rattle.dcc_console.specs.Key.{echoed, TakesKey, IsRefusedKey};
-ghost use Rattle.dcc_console.specs.Scene.{told_bytes};
+ghost use Rattle.dcc_console.specs.WithConsole.{told_bytes};
 
 use crate::fault::Fault;
 use dcc_io::{Failed, Sink, Source, put_all};

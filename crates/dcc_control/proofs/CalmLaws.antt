@@ -1,9 +1,9 @@
 -- Items without a `continue` of their own are valid wherever a `continue` leads.
-use Rattle.std.proofs.Common.{◌≡◌, ℕ, suc, Bool, true, false, refl, subst, true≢false}
+use Rattle.std.proofs.Common.{◌≡◌, ℕ, suc, Bool, true, false, refl, ap, ◌∙◌, subst, true≢false}
 use Rattle.std.specs.Prelude.{not, if◌then◌else◌}
 use Rattle.std.proofs.lemmas.Bool.{or_parts}
 use Rattle.dcc_ir.specs.Tree as inner
-use Rattle.dcc_control.specs.Plan.{Item, Do, Mark, Jump, If, Switch, Return, For, While, DoWhile, Break, Continue, Plan, no_items, item, Arms, no_arms, arm, arm_with, is_in}
+use Rattle.dcc_control.specs.Plan.{Item, Do, Mark, Jump, If, Switch, Return, For, While, DoWhile, Break, Continue, Empty, Plan, no_items, item, Arms, no_arms, arm, arm_with, is_in}
 use Rattle.dcc_control.specs.Told.{continues, item_continues, arms_continue}
 use Rattle.dcc_control.specs.Valid.{Point, Begin, Before, Nowhere, Leads, Context, end_of, way, item_entry, entry, IsValidBy, IsValidItemBy, AreValidArmsBy}
 
@@ -30,7 +30,9 @@ module _ (graph : inner.Graph) (begun marked : ℕ → Bool) (to : Point) where
 
   pub entry-calm : (plan : Plan) (c : Context) → continues plan ≡ false → entry graph plan c ≡ entry graph plan (record c { at_continue = to })
   entry-calm no_items c calm = refl
-  entry-calm (item i plan) c calm = item-entry-calm i c (or_parts (item_continues i) (continues plan) calm).0
+  entry-calm (item i plan) c calm =
+      let (here, later) = or_parts (item_continues i) (continues plan) calm in
+      item-entry-calm i (record c { next = entry graph plan c }) here ∙ ap (λ next. item_entry graph i (record c { next = next; at_continue = to })) (entry-calm plan c later)
 
   goes-calm : (b : ℕ) (plan : Plan) (c : Context) → continues plan ≡ false → Goes b plan c → Goes b plan (record c { at_continue = to })
   goes-calm b plan c calm l = subst (Leads graph begun (Begin b)) (entry-calm plan c calm) l
@@ -100,6 +102,7 @@ module _ (graph : inner.Graph) (begun marked : ℕ → Bool) (to : Point) where
     )
     item-calm Break plan c calm same v = tt
     item-calm Continue plan c calm same v = tt
+    item-calm Empty plan c calm same v = tt
 
     arms-valid-calm : (arms : Arms) (c : Context) → arms_continue arms ≡ false → AreValidArmsBy graph begun marked arms c → AreValidArmsBy graph begun marked arms (record c { at_continue = to })
     arms-valid-calm no_arms c calm v = tt

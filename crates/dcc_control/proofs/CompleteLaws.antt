@@ -1,199 +1,197 @@
 -- A completed plan is a plan of the same graph.
-use Rattle.std.proofs.Common.{◌≡◌, ℕ, Bool, true, false, ◌==◌, [], ◌∷◌, ◌++◌, refl, sym, ap, ap₂, ◌∙◌, subst, true≢false}
-use Rattle.std.specs.Prelude.{max, ◌||◌, if◌then◌else◌}
-use Rattle.std.proofs.lemmas.Bool.{or_left, or_right, eq-eqb}
-use Rattle.std.proofs.lemmas.List.Folds.{list_any-append}
+use Rattle.std.proofs.Common.{◌≡◌, ℕ, Bool, true, false, [], ◌∷◌, ◌++◌, refl, sym, ap, ap₂, ◌∙◌, subst}
+use Rattle.std.specs.Prelude.{max, suc, not, ◌||◌, if◌then◌else◌}
+use Rattle.dcc_ir.specs.Live.{block_in}
 use Rattle.dcc_ir.specs.Tree as inner
 use Rattle.dcc_ir.specs.WellFormed.{all_differ}
-use Rattle.dcc_control.specs.Complete.{completed_item, after_last, completed, CompletePlansAreValid}
-use Rattle.dcc_control.specs.Plan.{Item, Do, Mark, Jump, If, Switch, Return, For, While, DoWhile, Break, Continue, Plan, no_items, item, no_arms, arm, marks, item_marks, turns, item_turns, is_in, is_marked, is_begun, nests, item_nests}
+use Rattle.dcc_control.specs.Complete.{followed, some_arms, completed, completed_item, completed_arms, CompletePlansAreValid, CompletePlansKeepSteps}
 use Rattle.dcc_control.specs.Laws.{CompletePlansNestAlike}
+use Rattle.dcc_control.specs.Plan.{Item, If, Switch, For, While, DoWhile, Plan, no_items, item, Arms, no_arms, arm, arm_with, marks, item_marks, arm_marks, turns, item_turns, arm_turns, is_in, is_marked, is_begun, is_of, starts_with, is_mark, is_empty_statement, starts_empty, nests, item_nests, arms_nest}
+use Rattle.dcc_control.specs.Valid.{Begin, Leads, Context, outside, item_entry, entry, only_goes, IsValidBy, IsValidItemBy, AreValidArmsBy}
 use Rattle.dcc_control.proofs.WeakerLaws.{follows-still}
 use Rattle.dcc_control.proofs.MovedLaws.{moved}
-use Rattle.dcc_control.specs.Valid.{Point, Begin, Nowhere, Leads, is_there, begins, goes, stops, Context, outside, item_entry, entry, IsValid, IsValidItem}
+use Rattle.dcc_control.proofs.InsideLaws.{sides-valid, choice-valid, turns-valid, while-valid, do-valid}
 
 -- A completed plan has the labels and the turns of the plan.
 
-item-marks-same : (i : Item) → item_marks (completed_item i) ≡ item_marks i
-item-marks-same (Do b m) = refl
-item-marks-same (Mark b) = refl
-item-marks-same (Jump b) = refl
-item-marks-same (If b one other) = refl
-item-marks-same (Switch b no_arms) = refl
-item-marks-same (Switch b (arm cases body arms)) = refl
-item-marks-same (Return b) = refl
-item-marks-same (For b body) = refl
-item-marks-same (While on b body) = refl
-item-marks-same (DoWhile on b head body) = refl
-item-marks-same Break = refl
-item-marks-same Continue = refl
+followed-marks : (labelled : Bool) (plan : Plan) → marks (followed labelled plan) ≡ marks plan
+followed-marks true no_items = refl
+followed-marks true (item i plan) = refl
+followed-marks false plan = refl
 
-item-turns-same : (i : Item) → item_turns (completed_item i) ≡ item_turns i
-item-turns-same (Do b m) = refl
-item-turns-same (Mark b) = refl
-item-turns-same (Jump b) = refl
-item-turns-same (If b one other) = refl
-item-turns-same (Switch b no_arms) = refl
-item-turns-same (Switch b (arm cases body arms)) = refl
-item-turns-same (Return b) = refl
-item-turns-same (For b body) = refl
-item-turns-same (While on b body) = refl
-item-turns-same (DoWhile on b head body) = refl
-item-turns-same Break = refl
-item-turns-same Continue = refl
+some-marks : (arms : Arms) → arm_marks (some_arms arms) ≡ arm_marks arms
+some-marks no_arms = refl
+some-marks (arm cases body arms) = refl
 
--- what follows the last item has no label and no loop
-after-marks : (i : Item) → marks (after_last i) ≡ []
-after-marks (Do b m) = refl
-after-marks (Mark b) = refl
-after-marks (Jump b) = refl
-after-marks (If b one other) = refl
-after-marks (Switch b arms) = refl
-after-marks (Return b) = refl
-after-marks (For b body) = refl
-after-marks (While on b body) = refl
-after-marks (DoWhile on b head body) = refl
-after-marks Break = refl
-after-marks Continue = refl
+mutual
+  marks-same : (plan : Plan) → marks (completed plan) ≡ marks plan
+  marks-same no_items = refl
+  marks-same (item i plan) = ap₂ (λ xs ys. xs ++ ys) (item-marks-same i) (followed-marks (is_mark i) (completed plan) ∙ marks-same plan)
 
-after-turns : (i : Item) → turns (after_last i) ≡ []
-after-turns (Do b m) = refl
-after-turns (Mark b) = refl
-after-turns (Jump b) = refl
-after-turns (If b one other) = refl
-after-turns (Switch b arms) = refl
-after-turns (Return b) = refl
-after-turns (For b body) = refl
-after-turns (While on b body) = refl
-after-turns (DoWhile on b head body) = refl
-after-turns Break = refl
-after-turns Continue = refl
+  item-marks-same : (i : Item) → item_marks (completed_item i) ≡ item_marks i
+  item-marks-same (If b one other) = ap₂ (λ xs ys. xs ++ ys) (marks-same one) (marks-same other)
+  item-marks-same (Switch b arms) = some-marks (completed_arms arms) ∙ arm-marks-same arms
+  item-marks-same (For b body) = marks-same body
+  item-marks-same (While on b body) = marks-same body
+  item-marks-same (DoWhile on b head body) = marks-same body
+  item-marks-same _ = refl
 
-marks-same : (plan : Plan) → marks (completed plan) ≡ marks plan
-marks-same no_items = refl
-marks-same (item i no_items) = ap₂ (λ xs ys. xs ++ ys) (item-marks-same i) (after-marks i)
-marks-same (item i (item next plan)) = ap₂ (λ xs ys. xs ++ ys) (item-marks-same i) (marks-same (item next plan))
+  arm-marks-same : (arms : Arms) → arm_marks (completed_arms arms) ≡ arm_marks arms
+  arm-marks-same no_arms = refl
+  arm-marks-same (arm cases body arms) = ap₂ (λ xs ys. xs ++ ys) (marks-same body) (arm-marks-same arms)
 
-turns-same : (plan : Plan) → turns (completed plan) ≡ turns plan
-turns-same no_items = refl
-turns-same (item i no_items) = ap₂ (λ xs ys. xs ++ ys) (item-turns-same i) (after-turns i)
-turns-same (item i (item next plan)) = ap₂ (λ xs ys. xs ++ ys) (item-turns-same i) (turns-same (item next plan))
+followed-turns : (labelled : Bool) (plan : Plan) → turns (followed labelled plan) ≡ turns plan
+followed-turns true no_items = refl
+followed-turns true (item i plan) = refl
+followed-turns false plan = refl
 
-begun-same : (plan : Plan) (b : ℕ) → is_begun (completed plan) b ≡ is_begun plan b
+some-turns : (arms : Arms) → arm_turns (some_arms arms) ≡ arm_turns arms
+some-turns no_arms = refl
+some-turns (arm cases body arms) = refl
+
+mutual
+  turns-same : (plan : Plan) → turns (completed plan) ≡ turns plan
+  turns-same no_items = refl
+  turns-same (item i plan) = ap₂ (λ xs ys. xs ++ ys) (item-turns-same i) (followed-turns (is_mark i) (completed plan) ∙ turns-same plan)
+
+  item-turns-same : (i : Item) → item_turns (completed_item i) ≡ item_turns i
+  item-turns-same (If b one other) = ap₂ (λ xs ys. xs ++ ys) (turns-same one) (turns-same other)
+  item-turns-same (Switch b arms) = some-turns (completed_arms arms) ∙ arm-turns-same arms
+  item-turns-same (For b body) = ap (λ ts. b ∷ ts) (turns-same body)
+  item-turns-same (While on b body) = turns-same body
+  item-turns-same (DoWhile on b head body) = turns-same body
+  item-turns-same _ = refl
+
+  arm-turns-same : (arms : Arms) → arm_turns (completed_arms arms) ≡ arm_turns arms
+  arm-turns-same no_arms = refl
+  arm-turns-same (arm cases body arms) = ap₂ (λ xs ys. xs ++ ys) (turns-same body) (arm-turns-same arms)
+
+pub begun-same : (plan : Plan) (b : ℕ) → is_begun (completed plan) b ≡ is_begun plan b
 begun-same plan b = ap₂ (λ ms ts. is_in b ms || is_in b ts) (marks-same plan) (turns-same plan)
+
+pub steps-same : CompletePlansKeepSteps
+steps-same graph plan b = ap (λ begun. begun || not (only_goes (block_in graph b).stmts (block_in graph b).exit)) (begun-same plan b)
 
 -- A completed plan nests as deep as the plan.
 
-item-nests-same : (i : Item) → item_nests (completed_item i) ≡ item_nests i
-item-nests-same (Do b m) = refl
-item-nests-same (Mark b) = refl
-item-nests-same (Jump b) = refl
-item-nests-same (If b one other) = refl
-item-nests-same (Switch b no_arms) = refl
-item-nests-same (Switch b (arm cases body arms)) = refl
-item-nests-same (Return b) = refl
-item-nests-same (For b body) = refl
-item-nests-same (While on b body) = refl
-item-nests-same (DoWhile on b head body) = refl
-item-nests-same Break = refl
-item-nests-same Continue = refl
+followed-nests : (labelled : Bool) (plan : Plan) → nests (followed labelled plan) ≡ nests plan
+followed-nests true no_items = refl
+followed-nests true (item i plan) = refl
+followed-nests false plan = refl
 
-after-nests : (i : Item) → nests (after_last i) ≡ 0
-after-nests (Do b m) = refl
-after-nests (Mark b) = refl
-after-nests (Jump b) = refl
-after-nests (If b one other) = refl
-after-nests (Switch b arms) = refl
-after-nests (Return b) = refl
-after-nests (For b body) = refl
-after-nests (While on b body) = refl
-after-nests (DoWhile on b head body) = refl
-after-nests Break = refl
-after-nests Continue = refl
+some-nests : (arms : Arms) → arms_nest (some_arms arms) ≡ arms_nest arms
+some-nests no_arms = refl
+some-nests (arm cases body arms) = refl
 
-pub nests-same : CompletePlansNestAlike
-nests-same no_items = refl
-nests-same (item i no_items) = ap₂ max (item-nests-same i) (after-nests i)
-nests-same (item i (item next plan)) = ap₂ max (item-nests-same i) (nests-same (item next plan))
+mutual
+  pub nests-same : CompletePlansNestAlike
+  nests-same no_items = refl
+  nests-same (item i plan) = ap₂ max (item-nests-same i) (followed-nests (is_mark i) (completed plan) ∙ nests-same plan)
 
--- Points.
+  item-nests-same : (i : Item) → item_nests (completed_item i) ≡ item_nests i
+  item-nests-same (If b one other) = ap₂ (λ n m. suc (max n m)) (nests-same one) (nests-same other)
+  item-nests-same (Switch b arms) = ap suc (some-nests (completed_arms arms) ∙ arms-nest-same arms)
+  item-nests-same (For b body) = ap suc (nests-same body)
+  item-nests-same (While on b body) = ap suc (nests-same body)
+  item-nests-same (DoWhile on b head body) = ap suc (nests-same body)
+  item-nests-same _ = refl
 
-abbrev is_somewhere : Point → Bool
-is_somewhere Nowhere = false
-is_somewhere _ = true
+  arms-nest-same : (arms : Arms) → arms_nest (completed_arms arms) ≡ arms_nest arms
+  arms-nest-same no_arms = refl
+  arms-nest-same (arm cases body arms) = ap₂ max (nests-same body) (arms-nest-same arms)
+
+-- It starts as the plan does.
+
+of-same : (b : ℕ) (i : Item) → is_of b (completed_item i) ≡ is_of b i
+of-same b (If a one other) = refl
+of-same b _ = refl
+
+starts-same : (b : ℕ) (plan : Plan) → starts_with b (completed plan) ≡ starts_with b plan
+starts-same b no_items = refl
+starts-same b (item i plan) = of-same b i
+
+empty-same : (i : Item) → is_empty_statement (completed_item i) ≡ is_empty_statement i
+empty-same (If a one other) = refl
+empty-same _ = refl
+
+first-same : (plan : Plan) → starts_empty (completed plan) ≡ starts_empty plan
+first-same no_items = refl
+first-same (item i plan) = empty-same i
 
 module _ (graph : inner.Graph) where
-  -- what leads nowhere leads anywhere: it comes past a Stop
-  leads-anywhere : {begun : ℕ → Bool} {from to : Point} (other : Point) → Leads graph begun from to → to ≡ Nowhere → is_somewhere from ≡ true → Leads graph begun from other
-  leads-anywhere other is_there none some = absurd (true≢false (sym some ∙ ap is_somewhere none))
-  leads-anywhere other (begins apart rest) none some = begins apart (leads-anywhere other rest none refl)
-  leads-anywhere other (goes at is rest) none some = goes at is (leads-anywhere other rest none refl)
-  leads-anywhere other (stops at is) none some = stops at is
+  followed-entry : (labelled : Bool) (plan : Plan) (c : Context) → entry graph (followed labelled plan) c ≡ entry graph plan c
+  followed-entry true no_items c = refl
+  followed-entry true (item i plan) c = refl
+  followed-entry false plan c = refl
 
   item-entry-same : (i : Item) (c : Context) → item_entry graph (completed_item i) c ≡ item_entry graph i c
-  item-entry-same (Do b m) c = refl
-  item-entry-same (Mark b) c = refl
-  item-entry-same (Jump b) c = refl
   item-entry-same (If b one other) c = refl
-  item-entry-same (Switch b no_arms) c = refl
-  item-entry-same (Switch b (arm cases body arms)) c = refl
-  item-entry-same (Return b) c = refl
-  item-entry-same (For b body) c = refl
-  item-entry-same (While on b body) c = refl
-  item-entry-same (DoWhile on b head body) c = refl
-  item-entry-same Break c = refl
-  item-entry-same Continue c = refl
+  item-entry-same _ c = refl
 
   entry-same : (plan : Plan) (c : Context) → entry graph (completed plan) c ≡ entry graph plan c
   entry-same no_items c = refl
-  entry-same (item i no_items) c = item-entry-same i c
-  entry-same (item i (item next plan)) c = item-entry-same i c
+  entry-same (item i plan) c =
+      ap (λ next. item_entry graph (completed_item i) (record c { next = next })) (followed-entry (is_mark i) (completed plan) c ∙ entry-same plan c)
+      ∙ item-entry-same i (record c { next = entry graph plan c })
 
-  -- an empty arm is valid
-  item-completed : (whole : Plan) (i : Item) (plan : Plan) (c : Context) → IsValidItem graph whole i plan c → IsValidItem graph whole (completed_item i) plan c
-  item-completed whole (Do b m) plan c v = v
-  item-completed whole (Mark b) plan c v = v
-  item-completed whole (Jump b) plan c v = v
-  item-completed whole (If b one other) plan c v = v
-  item-completed whole (Switch b no_arms) plan c (e, places, exit, inside, lead, valid) =
-      (e, places, exit, inside, λ n place at. empty (is_in n (0 ∷ [])) place (lead n place at), (tt, tt))
+  some-entry : (n : ℕ) (arms : Arms) (c : Context) → entry graph (arm_with n (some_arms arms)) c ≡ entry graph (arm_with n arms) c
+  some-entry n no_arms c = by (is_in n (0 ∷ []))
     where
-      empty : (is : Bool) (place : ℕ) → Leads graph (is_begun whole) (Begin place) (entry graph plan c)
-          → Leads graph (is_begun whole) (Begin place) (entry graph (if is then no_items else no_items) (record { next = entry graph plan c; at_break = entry graph plan c; at_continue = c.at_continue }))
-      empty true place l = l
-      empty false place l = l
-  item-completed whole (Switch b (arm cases body arms)) plan c v = v
-  item-completed whole (Return b) plan c v = v
-  item-completed whole (For b body) plan c v = v
-  item-completed whole (While on b body) plan c v = v
-  item-completed whole (DoWhile on b head body) plan c v = v
-  item-completed whole Break plan c v = v
-  item-completed whole Continue plan c v = v
+      by : (x : Bool) → entry graph (if x then no_items else no_items) c ≡ c.next
+      by true = refl
+      by false = refl
+  some-entry n (arm cases body arms) c = refl
 
-  -- The items outside of all others.
-  module _ (whole : Plan) where
-    last-valid : (i : Item) → ((b : ℕ) → is_in b (item_marks i) ≡ true → is_in b (marks whole) ≡ true) → IsValidItem graph whole i no_items outside
-        → IsValid graph whole (item (completed_item i) (after_last i)) outside
-    last-valid (Mark b) among (inside, l) = ((inside, leads-anywhere (Begin b) l refl refl), ((inside, among b (or_left (b == b) false (eq-eqb b b refl))), tt))
-    last-valid (Do b m) among v = (v, tt)
-    last-valid (Jump b) among v = (v, tt)
-    last-valid (If b one other) among v = (v, tt)
-    last-valid (Switch b arms) among v = (item-completed whole (Switch b arms) no_items outside v, tt)
-    last-valid (Return b) among v = (v, tt)
-    last-valid (For b body) among v = (v, tt)
-    last-valid (While on b body) among v = (v, tt)
-    last-valid (DoWhile on b head body) among v = (v, tt)
-    last-valid Break among v = (v, tt)
-    last-valid Continue among v = (v, tt)
+arm-completed : (n : ℕ) (arms : Arms) → arm_with n (completed_arms arms) ≡ completed (arm_with n arms)
+arm-completed n no_arms = refl
+arm-completed n (arm cases body arms) = by (is_in n cases) (arm-completed n arms)
+  where
+    by : (x : Bool) → arm_with n (completed_arms arms) ≡ completed (arm_with n arms)
+        → (if x then completed body else arm_with n (completed_arms arms)) ≡ completed (if x then body else arm_with n arms)
+    by true later = refl
+    by false later = later
 
-    all-valid : (plan : Plan) → ((b : ℕ) → is_in b (marks plan) ≡ true → is_in b (marks whole) ≡ true) → IsValid graph whole plan outside → IsValid graph whole (completed plan) outside
-    all-valid no_items among v = tt
-    all-valid (item i no_items) among v = last-valid i (λ b is. among b (list_any-append (λ a. a == b) (item_marks i) [] ∙ or_left (is_in b (item_marks i)) false is)) v.0
-    all-valid (item i (item next plan)) among v = (
-      moved graph (is_begun whole) (is_marked whole) (item next plan) (completed (item next plan)) outside Nowhere Nowhere (sym (entry-same (item next plan) outside)) (completed_item i)
-          (item-completed whole i (item next plan) outside v.0),
-      all-valid (item next plan) (λ b is. among b (list_any-append (λ a. a == b) (item_marks i) (marks (item next plan)) ∙ or_right (is_in b (item_marks i)) (is_in b (marks (item next plan))) is)) v.1,
+module _ (graph : inner.Graph) (begun marked : ℕ → Bool) where
+  abbrev Valid : Plan → Context → Type 0
+  Valid = IsValidBy graph begun marked
+
+  abbrev ValidItem : Item → Plan → Context → Type 0
+  ValidItem = IsValidItemBy graph begun marked
+
+  followed-valid : (labelled : Bool) (plan : Plan) (c : Context) → Valid plan c → Valid (followed labelled plan) c
+  followed-valid true no_items c v = (tt, tt)
+  followed-valid true (item i plan) c v = v
+  followed-valid false plan c v = v
+
+  some-valid : (arms : Arms) (c : Context) → AreValidArmsBy graph begun marked arms c → AreValidArmsBy graph begun marked (some_arms arms) c
+  some-valid no_arms c v = (tt, tt)
+  some-valid (arm cases body arms) c v = v
+
+  mutual
+    valid-same : (plan : Plan) (c : Context) → Valid plan c → Valid (completed plan) c
+    valid-same no_items c v = tt
+    valid-same (item i plan) c v = (
+      moved graph begun marked plan (followed (is_mark i) (completed plan)) c c.next c.next (sym (followed-entry graph (is_mark i) (completed plan) c ∙ entry-same graph plan c)) (completed_item i)
+          (item-valid i plan c v.0),
+      followed-valid (is_mark i) (completed plan) c (valid-same plan c v.1),
     )
+
+    item-valid : (i : Item) (plan : Plan) (c : Context) → ValidItem i plan c → ValidItem (completed_item i) plan c
+    item-valid (If b one other) plan c v =
+        sides-valid graph begun marked plan c b one other (completed one) (completed other) (entry-same graph one) (entry-same graph other) (valid-same one _ v.6) (valid-same other _ v.8) v
+    item-valid (Switch b arms) plan c v =
+        choice-valid graph begun marked plan c b arms (some_arms (completed_arms arms))
+        (λ n x. some-entry graph n (completed_arms arms) x ∙ ap (λ p. entry graph p x) (arm-completed n arms) ∙ entry-same graph (arm_with n arms) x)
+        (some-valid (completed_arms arms) _ (arms-valid arms _ v.5)) v
+    item-valid (For b body) plan c v = turns-valid graph begun marked plan c b body (completed body) (entry-same graph body) (valid-same body _ v.2) v
+    item-valid (While on b body) plan c v = while-valid graph begun marked plan c on b body (completed body) (entry-same graph body) (valid-same body _ v.7) v
+    item-valid (DoWhile on b head body) plan c v =
+        do-valid graph begun marked plan c on b head body (completed body) (entry-same graph body) (λ is. starts-same head body ∙ is) (valid-same body _ v.9) v
+    item-valid _ plan c v = v
+
+    arms-valid : (arms : Arms) (c : Context) → AreValidArmsBy graph begun marked arms c → AreValidArmsBy graph begun marked (completed_arms arms) c
+    arms-valid no_arms c v = tt
+    arms-valid (arm cases body arms) c v = (valid-same body c v.0, arms-valid arms c v.1)
 
 pub completed-valid : CompletePlansAreValid
 completed-valid graph plan is =
@@ -202,8 +200,9 @@ completed-valid graph plan is =
     (Begin 0) plan outside (record { valid = is.valid; leads = is.starts }) in (
       record {
         starts = subst (Leads graph (is_begun whole) (Begin 0)) (sym (entry-same graph plan outside)) x.leads;
-        valid = all-valid graph whole plan (λ b there. ap (is_in b) (marks-same plan) ∙ there) x.valid;
+        valid = valid-same graph (is_begun whole) (is_marked whole) plan outside x.valid;
         labels = ap all_differ (marks-same plan) ∙ is.labels;
+        first = first-same plan ∙ is.first;
       },
       λ all b inside. begun-same plan b ∙ all b inside,
     )

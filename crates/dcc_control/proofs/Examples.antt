@@ -53,6 +53,7 @@ loops-valid = record {
     ),
   );
   labels = refl;
+  first = refl;
 }
 
 -- its loop ends with a test that may leave it: so it tests last

@@ -9,7 +9,7 @@ use Rattle.dcc_ir.specs.Run.{no_block}
 use Rattle.dcc_ir.specs.Tree as inner
 use Rattle.dcc_ir.specs.WellFormed.{is_stmt, is_expr_of, is_exit, is_block, all_differ, IsGraph}
 use Rattle.dcc_ir.proofs.ReachedLaws.{contained, all_at}
-use Rattle.dcc_control.specs.Plan.{Plan, marks, arm_marks, turns, is_in, is_marked, is_begun, arm_with}
+use Rattle.dcc_control.specs.Plan.{Plan, marks, arm_marks, turns, is_in, is_marked, is_begun, arm_with, starts_empty}
 use Rattle.dcc_control.specs.Valid.{Point, Begin, Before, Leads, is_there, goes, stops, Context, outside, entry, end_of, in_sides, in_arms, IsValid, AreValidArms, Follows, IsPlanOf, BeginsAll}
 use Rattle.dcc_control.specs.GotoPlan.{jump, do_all, distinct, places_from, target_arms, goto_exit, goto_blocks, goto_plan}
 use Rattle.dcc_control.specs.Laws.{GotoPlanIsValid}
@@ -245,11 +245,16 @@ module _ (graph : inner.Graph) (well : IsGraph graph) where
   starts [] some = absurd (omega (arith, some))
   starts (block ∷ blocks) some = is_there
 
+  no-empty : (blocks : List inner.Block) → starts_empty (goto_blocks 0 blocks) ≡ false
+  no-empty [] = refl
+  no-empty (block ∷ blocks) = refl
+
   goto-is : IsPlanOf graph whole
   goto-is = record {
     starts = starts graph.blocks well.begins;
     valid = blocks-valid 0 graph.blocks (drop-none graph.blocks);
     labels = ap all_differ (goto-marks 0 graph.blocks) ∙ range-differs graph.blocks 0;
+    first = no-empty graph.blocks;
   }
 
   begins-all : BeginsAll graph whole

@@ -1,6 +1,7 @@
 pub mod ListLaws
 pub mod WeakerLaws
 pub mod MovedLaws
+pub mod InsideLaws
 pub mod CalmLaws
 pub mod StartLaws
 pub mod ToldShapes
@@ -13,3 +14,5 @@ pub mod ItemRows
 pub mod GotoSteps
 pub mod TargetLaws
 pub mod CompletedItems
+pub mod ToldItems
+pub mod ToldTests

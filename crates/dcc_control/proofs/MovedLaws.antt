@@ -2,7 +2,7 @@
 use Rattle.std.proofs.Common.{◌≡◌, ℕ, suc, Bool, refl, sym, subst}
 use Rattle.std.specs.Prelude.{not}
 use Rattle.dcc_ir.specs.Tree as inner
-use Rattle.dcc_control.specs.Plan.{Item, Do, Mark, Jump, If, Switch, Return, For, While, DoWhile, Break, Continue, Plan, no_items, item, arm_with, joined}
+use Rattle.dcc_control.specs.Plan.{Item, Do, Mark, Jump, If, Switch, Return, For, While, DoWhile, Break, Continue, Empty, Plan, no_items, item, arm_with, joined}
 use Rattle.dcc_control.specs.Valid.{Point, Begin, Before, Nowhere, Leads, Context, end_of, way, entry, IsValidBy, IsValidItemBy, AreValidArmsBy}
 
 module _ (graph : inner.Graph) (begun marked : ℕ → Bool) where
@@ -67,6 +67,7 @@ module _ (graph : inner.Graph) (begun marked : ℕ → Bool) where
     )
     moved Break v = tt
     moved Continue v = tt
+    moved Empty v = tt
 
   pub joined-entry : (plan after : Plan) (c : Context) → entry graph (joined plan after) c ≡ entry graph plan (record c { next = entry graph after c })
   joined-entry no_items after c = refl
@@ -81,6 +82,7 @@ module _ (graph : inner.Graph) (begun marked : ℕ → Bool) where
   joined-entry (item (DoWhile on b head body) plan) after c = refl
   joined-entry (item Break plan) after c = refl
   joined-entry (item Continue plan) after c = refl
+  joined-entry (item Empty plan) after c = joined-entry plan after c
 
   -- items before others are valid where they are so before the others' entry
   pub joined-valid : (plan after : Plan) (c : Context) → Valid plan (record c { next = entry graph after c }) → Valid after c → Valid (joined plan after) c

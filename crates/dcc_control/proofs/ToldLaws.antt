@@ -6,11 +6,12 @@ use Rattle.dcc_ir.specs.Live.{block_in}
 use Rattle.dcc_ir.specs.Tree as inner
 use Rattle.dcc_ir.specs.WellFormed.{all_differ}
 use Rattle.dcc_control.specs.Laws.{LiesIn}
-use Rattle.dcc_control.specs.Plan.{Item, Do, Mark, Jump, If, Switch, Return, For, While, DoWhile, Break, Continue, Plan, no_items, item, Arms, no_arms, arm, arm_with, joined, turns, is_in, is_marked, is_begun, is_of, starts_with}
+use Rattle.dcc_control.specs.Plan.{Item, If, Switch, For, While, DoWhile, Plan, no_items, item, Arms, no_arms, arm, arm_with, joined, turns, is_in, is_marked, is_begun, is_of, starts_with, is_empty_statement, starts_empty}
 use Rattle.dcc_control.specs.Told.{continues, told_loops, told_item, told_arms, ToldLoopsAreValid}
 use Rattle.dcc_control.specs.Valid.{Point, Begin, Before, Nowhere, Leads, is_there, begins, goes, stops, Context, outside, end_of, way, only_begins, in_arms, in_loop, in_do, item_entry, entry, IsValidBy, IsValidItemBy, AreValidArmsBy}
 use Rattle.dcc_control.proofs.WeakerLaws.{follows-still}
 use Rattle.dcc_control.proofs.MovedLaws.{moved, joined-entry, joined-valid, front-valid, back-valid}
+use Rattle.dcc_control.proofs.InsideLaws.{sides-valid, choice-valid, turns-valid, while-valid, do-valid}
 use Rattle.dcc_control.proofs.CalmLaws.{entry-calm, valid-calm}
 use Rattle.dcc_control.proofs.StartLaws.{does-more}
 use Rattle.dcc_control.proofs.ToldShapes.{leaving, IsTold, stays, first, lasts, told-is, marks-told, turns-told}
@@ -48,7 +49,8 @@ item-entry-told graph _ c = refl
 
 entry-told : (graph : inner.Graph) (plan : Plan) (c : Context) → entry graph (told_loops plan) c ≡ entry graph plan c
 entry-told graph no_items c = refl
-entry-told graph (item i plan) c = item-entry-told graph i c
+entry-told graph (item i plan) c =
+    ap (λ next. item_entry graph (told_item i) (record c { next = next })) (entry-told graph plan c) ∙ item-entry-told graph i (record c { next = entry graph plan c })
 
 -- what starts with an item of a block still does
 of-loop : {h : ℕ} {body : Plan} {i : Item} (b : ℕ) → IsTold h body i → is_of b i ≡ false
@@ -63,6 +65,20 @@ of-told b _ = refl
 starts-told : (b : ℕ) (plan : Plan) → starts_with b plan ≡ true → starts_with b (told_loops plan) ≡ true
 starts-told b no_items is = is
 starts-told b (item i plan) is = of-told b i ∙ is
+
+-- what starts with no empty statement still does
+full-loop : {h : ℕ} {body : Plan} {i : Item} → IsTold h body i → is_empty_statement i ≡ false
+full-loop stays = refl
+full-loop (first on goes_on plan) = refl
+full-loop (lasts on a plan calm starts) = refl
+
+empty-told : (i : Item) → is_empty_statement (told_item i) ≡ is_empty_statement i
+empty-told (For h body) = full-loop (told-is h (told_loops body))
+empty-told _ = refl
+
+first-told : (plan : Plan) → starts_empty (told_loops plan) ≡ starts_empty plan
+first-told no_items = refl
+first-told (item i plan) = empty-told i
 
 -- nothing is both
 and_no : (x : Bool) {y : Bool} → y ≡ false → (x && y) ≡ false
@@ -159,63 +175,16 @@ module _ (graph : inner.Graph) (begun marked : ℕ → Bool) where
     )
 
     item-told : (i : Item) (plan : Plan) (c : Context) → ValidItem i plan c → ValidItem (told_item i) plan c
-    item-told (If b one other) plan c (test, yes_place, no_place, exit, inside, first_leads, first_valid, second_leads, second_valid) = (
-      test,
-      yes_place,
-      no_place,
-      exit,
-      inside,
-      subst (Leads graph begun (Begin yes_place)) (sym (entry-told graph one _)) first_leads,
-      told-valid one _ first_valid,
-      subst (Leads graph begun (Begin no_place)) (sym (entry-told graph other _)) second_leads,
-      told-valid other _ second_valid,
-    )
-    item-told (Switch b arms) plan c (e, places, exit, inside, lead, valid) = (
-      e,
-      places,
-      exit,
-      inside,
-      λ n place at. subst (λ p. Leads graph begun (Begin place) (entry graph p (in_arms graph plan c))) (sym (arm-told n arms))
-          (subst (Leads graph begun (Begin place)) (sym (entry-told graph (arm_with n arms) (in_arms graph plan c))) (lead n place at)),
-      arms-told arms _ valid,
-    )
-    item-told (For b body) plan c (inside, lead, valid) =
-        let is = told-is b (told_loops body) in
-        loop-valid is plan c (
-          inside,
-          subst (Leads graph begun (Before b 0)) (sym (entry-told graph body _)) lead,
-          told-valid body _ valid,
-        )
-    item-told (While on b body) plan c (test, yes_place, no_place, exit, inside, empty, l, valid, leaves) = (
-      test,
-      yes_place,
-      no_place,
-      exit,
-      inside,
-      empty,
-      subst (Leads graph begun (Begin (way on yes_place no_place))) (sym (entry-told graph body _)) l,
-      told-valid body _ valid,
-      leaves,
-    )
-    item-told (DoWhile on b head body) plan c (test, yes_place, no_place, exit, inside, head_inside, starts, start, again, valid, leaves) = (
-      test,
-      yes_place,
-      no_place,
-      exit,
-      inside,
-      head_inside,
-      starts-told head body starts,
-      subst (Leads graph begun (Before head 0)) (sym (entry-told graph body _)) start,
-      subst (Leads graph begun (Begin (way on yes_place no_place))) (sym (entry-told graph body _)) again,
-      told-valid body _ valid,
-      leaves,
-    )
-    item-told (Do b m) plan c v = v
-    item-told (Mark b) plan c v = v
-    item-told (Jump b) plan c v = v
-    item-told (Return b) plan c v = v
-    item-told Break plan c v = tt
-    item-told Continue plan c v = tt
+    item-told (If b one other) plan c v =
+        sides-valid graph begun marked plan c b one other (told_loops one) (told_loops other) (entry-told graph one) (entry-told graph other) (told-valid one _ v.6) (told-valid other _ v.8) v
+    item-told (Switch b arms) plan c v =
+        choice-valid graph begun marked plan c b arms (told_arms arms) (λ n x. ap (λ p. entry graph p x) (arm-told n arms) ∙ entry-told graph (arm_with n arms) x) (arms-told arms _ v.5) v
+    item-told (For b body) plan c v =
+        loop-valid (told-is b (told_loops body)) plan c (turns-valid graph begun marked plan c b body (told_loops body) (entry-told graph body) (told-valid body _ v.2) v)
+    item-told (While on b body) plan c v = while-valid graph begun marked plan c on b body (told_loops body) (entry-told graph body) (told-valid body _ v.7) v
+    item-told (DoWhile on b head body) plan c v =
+        do-valid graph begun marked plan c on b head body (told_loops body) (entry-told graph body) (starts-told head body) (told-valid body _ v.9) v
+    item-told _ plan c v = v
 
     arms-told : (arms : Arms) (c : Context) → AreValidArmsBy graph begun marked arms c → AreValidArmsBy graph begun marked (told_arms arms) c
     arms-told no_arms c v = tt
@@ -241,4 +210,5 @@ loops-valid graph plan is =
       starts = subst (Leads graph (is_begun told) (Begin 0)) (sym (entry-told graph plan outside)) x.leads;
       valid = told-valid graph (is_begun told) (is_marked told) plan outside x.valid;
       labels = ap all_differ (marks-told plan) ∙ is.labels;
+      first = first-told plan ∙ is.first;
     }

@@ -5,9 +5,9 @@ use Rattle.std.proofs.lemmas.Bool.{and_parts, or_left, or_right, or_cases, not-t
 use Rattle.std.proofs.lemmas.List.{append_assoc, append-nil}
 use Rattle.std.proofs.lemmas.List.Folds.{list_any-append}
 use Rattle.dcc_control.specs.Plan.{Item, If, Switch, For, While, DoWhile, Break, Plan, no_items, item, Arms, no_arms, arm, joined, marks, item_marks, arm_marks, turns, item_turns, arm_turns, is_in, is_of, starts_with}
-use Rattle.dcc_control.specs.Told.{is_empty, only_breaks, Leaving, leaving_of, continues, last, front, tests_first, tests_last, told_loop, told_loops, told_item, told_arms}
+use Rattle.dcc_control.specs.Told.{is_empty, only_breaks, Leaving, leaving_of, continues, last, front, tests_first, tests_last, told_last, told_loop, told_loops, told_item, told_arms}
 
-some-same : {A : Type 0} {a b : A} → Some a ≡ Some b → a ≡ b
+pub some-same : {A : Type 0} {a b : A} → Some a ≡ Some b → a ≡ b
 some-same e = cc
 
 -- Tests that leave a loop.
@@ -16,7 +16,7 @@ breaks-is : (plan : Plan) → only_breaks plan ≡ true → plan ≡ item Break 
 breaks-is (item Break no_items) is = refl
 breaks-is _ is = absurd (true≢false (sym is))
 
-empty-is : (plan : Plan) → is_empty plan ≡ true → plan ≡ no_items
+pub empty-is : (plan : Plan) → is_empty plan ≡ true → plan ≡ no_items
 empty-is no_items is = refl
 empty-is (item i plan) is = absurd (true≢false (sym is))
 
@@ -102,23 +102,20 @@ pub told-is : (b : ℕ) (body : Plan) → IsTold b body (told_loop b body)
 told-is b no_items = stays
 told-is b (item i plan) = by (tests_first b i plan) refl
   where
-    at-end : Option Item
-    at-end = if is_of b i then tests_last b (front i plan) (last i plan) else None
-
-    end-is : (x : Bool) (loop : Item) → tests_first b i plan ≡ None → is_of b i ≡ x → (if x then tests_last b (front i plan) (last i plan) else None) ≡ Some loop → IsTold b (item i plan) loop
-    end-is true loop none of is =
-        subst (λ body. IsTold b body loop) (front-last i plan) (lasts-is b (front i plan) (last i plan) loop (front-starts b i plan loop none of is) is)
-    end-is false loop none of is = absurd cc
-
-    by-end : (o : Option Item) → tests_first b i plan ≡ None → (if is_of b i then tests_last b (front i plan) (last i plan) else None) ≡ o
+    by-last : (o : Option Item) → tests_first b i plan ≡ None → is_of b i ≡ true → tests_last b (front i plan) (last i plan) ≡ o
         → IsTold b (item i plan) (elim o [ Some loop ↦ loop | None ↦ For b (item i plan) ])
-    by-end (Some loop) none e = end-is (is_of b i) loop none refl e
-    by-end None none e = stays
+    by-last (Some loop) none of e =
+        subst (λ body. IsTold b body loop) (front-last i plan) (lasts-is b (front i plan) (last i plan) loop (front-starts b i plan loop none of e) e)
+    by-last None none of e = stays
+
+    by-kind : (x : Bool) → tests_first b i plan ≡ None → is_of b i ≡ x → IsTold b (item i plan) (if x then told_last b i plan else For b (item i plan))
+    by-kind true none of = by-last (tests_last b (front i plan) (last i plan)) none of refl
+    by-kind false none of = stays
 
     by : (o : Option Item) → tests_first b i plan ≡ o
-        → IsTold b (item i plan) (elim o [ Some loop ↦ loop | None ↦ elim (if is_of b i then tests_last b (front i plan) (last i plan) else None) [ Some loop ↦ loop | None ↦ For b (item i plan) ] ])
+        → IsTold b (item i plan) (elim o [ Some loop ↦ loop | None ↦ if is_of b i then told_last b i plan else For b (item i plan) ])
     by (Some loop) e = first-is b i plan loop e
-    by None e = by-end (if is_of b i then tests_last b (front i plan) (last i plan) else None) e refl
+    by None e = by-kind (is_of b i) e refl
 
 -- Numbers of blocks, gathered from items in their order.
 

@@ -6,7 +6,7 @@ use Rattle.std.proofs.lemmas.List.Folds.{list_any-append}
 use Rattle.dcc_ir.specs.Live.{block_in}
 use Rattle.dcc_ir.specs.Tree as inner
 use Rattle.dcc_control.specs.Plan.{Item, If, Switch, For, While, DoWhile, Plan, no_items, item, Arms, no_arms, arm, joined, turns, item_turns, arm_turns, is_in, is_marked, is_begun, is_of, starts_with}
-use Rattle.dcc_control.specs.Told.{Leaving, leaving_of, last, front, tests_first, tests_last, told_loops, told_item, told_arms, told_loop, ToldLoopsKeepSteps}
+use Rattle.dcc_control.specs.Told.{Leaving, leaving_of, last, front, tests_first, tests_last, told_loops, told_item, told_arms, told_last, told_loop, ToldLoopsKeepSteps}
 use Rattle.dcc_control.specs.Valid.{Context, outside, only_goes, IsValidBy, IsValidItemBy, AreValidArmsBy}
 use Rattle.dcc_control.proofs.StartLaws.{not-started}
 use Rattle.dcc_control.proofs.ToldLaws.{of-told}
@@ -35,9 +35,9 @@ told-kind b (item i plan) = elim (cases_Bool (is_of b i)) [
 ]
   where
     by : (o : Option Item) → tests_first b i plan ≡ o → is_of b i ≡ false
-        → (elim o [ Some loop ↦ loop | None ↦ elim (if is_of b i then tests_last b (front i plan) (last i plan) else None) [ Some loop ↦ loop | None ↦ For b (item i plan) ] ]) ≡ For b (item i plan)
+        → (elim o [ Some loop ↦ loop | None ↦ if is_of b i then told_last b i plan else For b (item i plan) ]) ≡ For b (item i plan)
     by (Some loop) e apart = absurd (true≢false (sym (first-of b i plan loop e) ∙ apart))
-    by None e apart = ap (λ x. elim (if x then tests_last b (front i plan) (last i plan) else None) [ Some loop ↦ loop | None ↦ For b (item i plan) ]) apart
+    by None e apart = ap (λ x. if x then told_last b i plan else For b (item i plan)) apart
 
 starts-told : (b : ℕ) (plan : Plan) → starts_with b (told_loops plan) ≡ true → starts_with b plan ≡ true
 starts-told b no_items is = is

@@ -5,7 +5,7 @@ use Rattle.std.proofs.lemmas.Bool.{cases_Bool}
 use Rattle.dcc_ir.specs.Live.{block_in}
 use Rattle.dcc_ir.specs.Tree as inner
 use Rattle.dcc_control.specs.Laws.{LiesIn, WeakerBegun}
-use Rattle.dcc_control.specs.Plan.{Item, Do, Mark, Jump, If, Switch, Return, For, While, DoWhile, Break, Continue, Plan, no_items, item, Arms, no_arms, arm}
+use Rattle.dcc_control.specs.Plan.{Item, Do, Mark, Jump, If, Switch, Return, For, While, DoWhile, Break, Continue, Empty, Plan, no_items, item, Arms, no_arms, arm}
 use Rattle.dcc_control.specs.Valid.{Point, Leads, is_there, begins, goes, stops, Context, only_goes, only_begins, IsValidBy, IsValidItemBy, AreValidArmsBy}
 
 module _ (graph : inner.Graph) (begun fewer marked more : ℕ → Bool) (less : LiesIn fewer begun) (greater : LiesIn marked more) where
@@ -44,6 +44,7 @@ module _ (graph : inner.Graph) (begun fewer marked more : ℕ → Bool) (less : 
         (test, yes_place, no_place, exit, inside, head_inside, starts, leads-still first, leads-still again, still body _ valid, leads-still leaves)
     item-still Break plan c v = tt
     item-still Continue plan c v = tt
+    item-still Empty plan c v = tt
 
     arms-still : (arms : Arms) (c : Context) → AreValidArmsBy graph begun marked arms c → AreValidArmsBy graph fewer more arms c
     arms-still no_arms c v = tt

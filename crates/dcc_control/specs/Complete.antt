@@ -1,31 +1,44 @@
--- The plan with something after a label that stands last, and with an arm in each choice that has none, as a text must
--- have. No run comes there.
-use Rattle.std.specs.Prelude.{ℕ, [], ◌∷◌, Option, Some, None}
+-- The plan with an empty statement after each label that stands last among its items, and with an arm in each choice
+-- that has none, as a text must have.
+use Rattle.std.specs.Prelude.{◌≡◌, ℕ, Bool, true, [], ◌∷◌}
 use Rattle.dcc_ir.specs.Tree as inner
-use Rattle.dcc_control.specs.Plan.{Item, Mark, Jump, Switch, Plan, no_items, item, no_arms, arm}
-use Rattle.dcc_control.specs.Valid.{IsPlanOf, BeginsAll}
+use Rattle.dcc_control.specs.Plan.{Item, If, Switch, For, While, DoWhile, Empty, Plan, no_items, item}
+use Rattle.dcc_control.specs.Plan.{Arms, no_arms, arm, is_mark}
+use Rattle.dcc_control.specs.Valid.{IsPlanOf, BeginsAll, has_step}
 
--- a choice without an arm has an empty one
-abbrev pub completed_item : Item → Item
-completed_item (Switch b no_arms) = Switch b (arm (0 ∷ []) no_items no_arms)
-completed_item i = i
+-- what follows an item: where that is a label and no item follows, an empty statement
+abbrev pub followed : Bool → Plan → Plan
+followed true no_items = item Empty no_items
+followed _ plan = plan
 
--- what follows an item that is last: after a label a jump to it
-abbrev pub after_last : Item → Plan
-after_last (Mark b) = item (Jump b) no_items
-after_last _ = no_items
+-- the arms of a choice, or an empty one where there is none
+abbrev pub some_arms : Arms → Arms
+some_arms no_arms = arm (0 ∷ []) no_items no_arms
+some_arms arms = arms
 
--- a jump to a block, where there is one
-abbrev pub jump_to : Option ℕ → Plan
-jump_to (Some b) = item (Jump b) no_items
-jump_to None = no_items
+abbrev mutual
+  pub completed : Plan → Plan
+  completed no_items = no_items
+  completed (item i plan) = item (completed_item i) (followed (is_mark i) (completed plan))
 
-abbrev pub completed : Plan → Plan
-completed no_items = no_items
-completed (item i no_items) = item (completed_item i) (after_last i)
-completed (item i (item next plan)) = item (completed_item i) (completed (item next plan))
+  pub completed_item : Item → Item
+  completed_item (If b one other) = If b (completed one) (completed other)
+  completed_item (Switch b arms) = Switch b (some_arms (completed_arms arms))
+  completed_item (For b body) = For b (completed body)
+  completed_item (While on b body) = While on b (completed body)
+  completed_item (DoWhile on b head body) = DoWhile on b head (completed body)
+  completed_item i = i
+
+  pub completed_arms : Arms → Arms
+  completed_arms no_arms = no_arms
+  completed_arms (arm cases body arms) = arm cases (completed body) (completed_arms arms)
 
 -- a completed plan is a plan of the same graphs, and its text has a step where the plan's text has one
 abbrev pub CompletePlansAreValid : Type 0
 CompletePlansAreValid = (graph : inner.Graph) (plan : Plan) → IsPlanOf graph plan
     → IsPlanOf graph (completed plan) × (BeginsAll graph plan → BeginsAll graph (completed plan))
+
+-- the text of a completed plan has a step for the blocks that the plan's text has one for
+abbrev pub CompletePlansKeepSteps : Type 0
+CompletePlansKeepSteps = (graph : inner.Graph) (plan : Plan) (b : ℕ)
+    → has_step graph (completed plan) b ≡ has_step graph plan b

@@ -1,6 +1,6 @@
 -- The control of a text: where the statements and the ends of a graph's blocks stand in it, and where it jumps. Blocks
 -- are named by their places in the graph, statements by their places in the block.
-use Rattle.std.specs.Prelude.{ℕ, suc, max, ◌==◌, Bool, false, ◌||◌, if◌then◌else◌, List, [], ◌∷◌, ◌++◌}
+use Rattle.std.specs.Prelude.{ℕ, suc, max, ◌==◌, Bool, true, false, ◌||◌, if◌then◌else◌, List, [], ◌∷◌, ◌++◌}
 use Rattle.std.specs.List.{list_any}
 
 mutual
@@ -24,6 +24,8 @@ mutual
     DoWhile : Bool → ℕ → ℕ → Plan → Item
     Break : Item
     Continue : Item
+    -- an empty statement
+    Empty : Item
 
   -- items in the order of the text
   pub data Plan : Type 0 where
@@ -95,6 +97,21 @@ is_of b _ = false
 abbrev pub starts_with : ℕ → Plan → Bool
 starts_with b no_items = false
 starts_with b (item i plan) = is_of b i
+
+-- the item is a label
+abbrev pub is_mark : Item → Bool
+is_mark (Mark b) = true
+is_mark _ = false
+
+-- the item is an empty statement
+abbrev pub is_empty_statement : Item → Bool
+is_empty_statement Empty = true
+is_empty_statement _ = false
+
+-- the first of these items is an empty statement
+abbrev pub starts_empty : Plan → Bool
+starts_empty no_items = false
+starts_empty (item i plan) = is_empty_statement i
 
 -- the items of one plan, and then those of another
 abbrev pub joined : Plan → Plan → Plan

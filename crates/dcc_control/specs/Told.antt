@@ -2,7 +2,8 @@
 -- is such a test tests last.
 use Rattle.std.specs.Prelude.{◌≡◌, ℕ, ◌==◌, Bool, true, false, ◌||◌, ◌&&◌, not, if◌then◌else◌, Option, Some, None}
 use Rattle.dcc_ir.specs.Tree as inner
-use Rattle.dcc_control.specs.Plan.{Item, If, Switch, For, While, DoWhile, Break, Continue, Plan, no_items, item, Arms, no_arms, arm, is_of, joined}
+use Rattle.dcc_control.specs.Plan.{Item, If, Switch, For, While, DoWhile, Break, Continue, Plan, no_items, item}
+use Rattle.dcc_control.specs.Plan.{Arms, no_arms, arm, is_of, joined}
 use Rattle.dcc_control.specs.Valid.{IsPlanOf, has_step}
 
 -- nothing
@@ -68,15 +69,16 @@ tests_last b plan i = elim (leaving_of i) [
   | None ↦ None
 ]
 
+-- the loop of a block whose first item is that one and whose others follow it, told by its last item
+abbrev pub told_last : ℕ → Item → Plan → Item
+told_last b i plan = elim (tests_last b (front i plan) (last i plan)) [ Some loop ↦ loop | None ↦ For b (item i plan) ]
+
 -- The loop of a block, told by its test. Where it tests last, its first item is one of the block.
 abbrev pub told_loop : ℕ → Plan → Item
 told_loop b no_items = For b no_items
 told_loop b (item i plan) = elim (tests_first b i plan) [
   | Some loop ↦ loop
-  | None ↦ elim (if is_of b i then tests_last b (front i plan) (last i plan) else None) [
-    | Some loop ↦ loop
-    | None ↦ For b (item i plan)
-  ]
+  | None ↦ if is_of b i then told_last b i plan else For b (item i plan)
 ]
 
 abbrev mutual
@@ -97,11 +99,11 @@ abbrev mutual
   told_arms no_arms = no_arms
   told_arms (arm cases body arms) = arm cases (told_loops body) (told_arms arms)
 
--- it is a plan of the same graphs
+-- a plan whose loops are told by their tests is a plan of the same graph
 abbrev pub ToldLoopsAreValid : Type 0
 ToldLoopsAreValid = (graph : inner.Graph) (plan : Plan) → IsPlanOf graph plan → IsPlanOf graph (told_loops plan)
 
--- and its text has a step for the same blocks
+-- the text of a plan whose loops are told by their tests has a step for the blocks that the plan's text has one for
 abbrev pub ToldLoopsKeepSteps : Type 0
 ToldLoopsKeepSteps = (graph : inner.Graph) (plan : Plan) → IsPlanOf graph plan → (b : ℕ)
     → has_step graph (told_loops plan) b ≡ has_step graph plan b

@@ -6,7 +6,7 @@ use Rattle.dcc_ir.specs.Live.{block_in}
 use Rattle.dcc_ir.specs.WellFormed.{all_differ}
 use Rattle.dcc_control.specs.Plan.{Item, Do, Mark, Jump, If, Switch, Return, For, While, DoWhile, Break, Continue}
 use Rattle.dcc_control.specs.Plan.{Plan, no_items, item, Arms, no_arms, arm, marks, is_marked, is_begun, starts_with}
-use Rattle.dcc_control.specs.Plan.{arm_with}
+use Rattle.dcc_control.specs.Plan.{Empty, arm_with, starts_empty}
 
 -- a point in a graph: where a block begins, or before its statement at a place; after the last one stands its end
 pub data Point : Type 0 where
@@ -40,7 +40,7 @@ pub data Leads (graph : inner.Graph) (begun : ℕ → Bool) : Point → Point �
   stops : {b m : ℕ} {point : Point} → m ≡ length (block_in graph b).stmts → (block_in graph b).exit ≡ inner.Stop
       → Leads graph begun (Before b m) point
 
--- where the graph is after a list of items, and where `break` and `continue` in it lead
+-- where the graph is after an item or a list of items, and where `break` and `continue` in it lead
 pub record Context : Type 0 where
   pub next : Point
   pub at_break : Point
@@ -50,7 +50,8 @@ pub record Context : Type 0 where
 abbrev pub outside : Context
 outside = record { next = Nowhere; at_break = Nowhere; at_continue = Nowhere }
 
--- the point that an item and a list of items stand for; a loop stands after the label of the block that its turns begin
+-- The point that an item stands for, in the context where the graph is after it. A loop stands after the label of the
+-- block that its turns begin, and an empty statement stands for what follows.
 abbrev pub item_entry : inner.Graph → Item → Context → Point
 item_entry graph (Do b m) c = Before b m
 item_entry graph (Mark b) c = Begin b
@@ -63,10 +64,12 @@ item_entry graph (While on b body) c = Before b 0
 item_entry graph (DoWhile on b head body) c = Before head 0
 item_entry graph Break c = c.at_break
 item_entry graph Continue c = c.at_continue
+item_entry graph Empty c = c.next
 
+-- the point that a list of items stands for
 abbrev pub entry : inner.Graph → Plan → Context → Point
 entry graph no_items c = c.next
-entry graph (item i plan) c = item_entry graph i c
+entry graph (item i plan) c = item_entry graph i (record c { next = entry graph plan c })
 
 -- the context of what stands inside an item that these items follow: of the sides of a test, of arms, of a loop
 abbrev pub in_sides : inner.Graph → Plan → Context → Context
@@ -136,6 +139,7 @@ module _ (graph : inner.Graph) (begun marked : ℕ → Bool) where
         × Leads graph begun (Begin (way (not on) if_true if_false)) (entry graph plan c)
     IsValidItemBy Break plan c = Unit {0}
     IsValidItemBy Continue plan c = Unit {0}
+    IsValidItemBy Empty plan c = Unit {0}
 
     pub AreValidArmsBy : Arms → Context → Type 0
     AreValidArmsBy no_arms c = Unit {0}
@@ -156,11 +160,12 @@ IsValidItem graph whole i plan c = IsValidItemBy graph (is_begun whole) (is_mark
 abbrev pub AreValidArms : inner.Graph → Plan → Arms → Context → Type 0
 AreValidArms graph whole arms c = AreValidArmsBy graph (is_begun whole) (is_marked whole) arms c
 
--- The plan is one of the graph: it starts where the graph does, and no label stands in it twice.
+-- The plan is one of the graph: it starts where the graph does, with no empty statement, and no label stands in it twice.
 pub record IsPlanOf (graph : inner.Graph) (plan : Plan) : Type 0 where
   pub starts : Leads graph (is_begun plan) (Begin 0) (entry graph plan outside)
   pub valid : IsValid graph plan plan outside
   pub labels : all_differ (marks plan) ≡ true
+  pub first : starts_empty plan ≡ false
 
 -- the text has a step for the block: where it begins, or else for a statement, a test or a choice
 abbrev pub has_step : inner.Graph → Plan → ℕ → Bool

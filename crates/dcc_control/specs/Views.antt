@@ -2,11 +2,14 @@
 use Rattle.std.specs.Prelude.{List, [], ◌∷◌}
 use Rattle.dcc_control.specs.declared.item.Item.{Item as TheItem, Do as DoOf, Mark as MarkOf, Jump as JumpOf, If'}
 use Rattle.dcc_control.specs.declared.item.Item.{Switch', Return as ReturnOf, For', While', DoWhile', Break as BreakOf}
-use Rattle.dcc_control.specs.declared.item.Item.{Continue as ContinueOf, Row_of-Item, end_of-Item, more_of-Item}
+use Rattle.dcc_control.specs.declared.item.Item.{Continue as ContinueOf, Empty as EmptyOf}
+use Rattle.dcc_control.specs.declared.item.Item.{Row_of-Item, end_of-Item, more_of-Item}
 use Rattle.dcc_control.specs.declared.item.Item.{Row_of-Arm, end_of-Arm, more_of-Arm}
 use Rattle.dcc_control.specs.declared.item.Arm.{Arm as TheArm}
+use Rattle.dcc_control.specs.declared.told.Leaving.{Leaving as TheLeaving}
 use Rattle.dcc_control.specs.Plan.{Item, Do, Mark, Jump, If, Switch, Return, For, While, DoWhile, Break, Continue}
-use Rattle.dcc_control.specs.Plan.{Plan, no_items, item, Arms, no_arms, arm}
+use Rattle.dcc_control.specs.Plan.{Empty, Plan, no_items, item, Arms, no_arms, arm}
+use Rattle.dcc_control.specs.Told.{Leaving}
 
 abbrev mutual
   -- the plan's item
@@ -22,6 +25,7 @@ abbrev mutual
   item_of (DoWhile' on b head _ body) = DoWhile on b head (plan_of_row body)
   item_of BreakOf = Break
   item_of ContinueOf = Continue
+  item_of EmptyOf = Empty
 
   -- the plan inside an item
   pub plan_of_row : {n : _} → Row_of-Item n → Plan
@@ -46,3 +50,7 @@ plan_of items = plan_before items no_items
 abbrev pub arms_of : List TheArm → Arms
 arms_of [] = no_arms
 arms_of (a ∷ arms) = arm a.cases.items (plan_of a.body.items) (arms_of arms)
+
+-- the test that leaves a loop
+abbrev pub leaving_in : TheLeaving → Leaving
+leaving_in test = record { on = test.on; block = test.block; goes_on = plan_of test.goes_on.now }

@@ -1,14 +1,15 @@
-//! Completed plans: with something after a label that stands last, and with an arm in each choice that has none.
+//! Completed plans: with an empty statement after each label that stands last, and with an arm in each choice that has
+//! none.
 
-ghost use Rattle.std.specs.Prelude.{◌≡◌, ℕ, ◌∷◌, [], IfOk, OnOk};
+ghost use Rattle.std.specs.Prelude.{◌≡◌, ◌∷◌, [], IfOk};
 ghost use Rattle.dcc_control.specs.Complete as spec;
 ghost use Rattle.dcc_control.specs.Plan as plan;
-ghost use Rattle.dcc_control.specs.Views.{item_of, plan_before, plan_of, arms_of};
+ghost use Rattle.dcc_control.specs.Views.{item_of, plan_of, arms_of};
 
 use crate::item::{Arm, Item};
 use std::alloc::{AllocError, Global};
 
-// An arm without statements; no run comes to it.
+// An arm without statements.
 fn empty_arm(alloc: Global) -> Result<Arm, AllocError>
     ensures { IfOk result (λ a. arms_of (a ∷ []) ≡ plan.arm (0 ∷ []) plan.no_items plan.no_arms) }
 {
@@ -22,8 +23,7 @@ fn empty_arm(alloc: Global) -> Result<Arm, AllocError>
 
 // The arms of a choice, or an empty one where it has none.
 fn some_arms(alloc: Global, arms: Vec<Arm>) -> Result<Vec<Arm>, AllocError>
-    ensures { (b : ℕ) → IfOk result (λ r. plan.Switch b (arms_of r.items)
-        ≡ spec.completed_item (plan.Switch b (arms_of arms.items))) }
+    ensures { IfOk result (λ r. arms_of r.items ≡ spec.some_arms (arms_of arms.items)) }
 {
     if !arms.is_empty() {
         return Ok(arms);
@@ -33,47 +33,74 @@ fn some_arms(alloc: Global, arms: Vec<Arm>) -> Result<Vec<Arm>, AllocError>
     Ok(arms)
 }
 
-// The item, with an arm where it is a choice without one.
+/// Whether the item is a label.
+pub fn is_mark(item: &Item) -> bool
+    ensures { result ≡ plan.is_mark (item_of item.now) }
+{
+    matches!(item, Item::Mark(_))
+}
+
+// The item with what stands inside it completed.
+#[cycle(complete)]
 fn completed_item(alloc: Global, item: Item) -> Result<Item, AllocError>
     ensures { IfOk result (λ r. item_of r ≡ spec.completed_item (item_of item)) }
 {
     match item {
-        Item::Switch(b, arms) => Ok(Item::Switch(b, some_arms(alloc, arms)?)),
+        Item::If(b, one, other) => {
+            let one = completed(alloc, one)?;
+            let other = completed(alloc, other)?;
+            Ok(Item::If(b, one, other))
+        }
+        Item::Switch(b, arms) => {
+            let arms = completed_arms(alloc, arms)?;
+            let arms = some_arms(alloc, arms)?;
+            Ok(Item::Switch(b, arms))
+        }
+        Item::For(b, body) => {
+            let body = completed(alloc, body)?;
+            Ok(Item::For(b, body))
+        }
+        Item::While(on, b, body) => {
+            let body = completed(alloc, body)?;
+            Ok(Item::While(on, b, body))
+        }
+        Item::DoWhile(on, b, head, body) => {
+            let body = completed(alloc, body)?;
+            Ok(Item::DoWhile(on, b, head, body))
+        }
         other => Ok(other),
     }
 }
 
-// The block whose label the item is.
-fn marked(item: &Item) -> Option<u32>
-    ensures { spec.jump_to result ≡ spec.after_last (item_of item.now) }
+// The arms of a choice with what stands in them completed.
+#[cycle(complete)]
+fn completed_arms(alloc: Global, arms: Vec<Arm>) -> Result<Vec<Arm>, AllocError>
+    ensures { IfOk result (λ r. arms_of r.items ≡ spec.completed_arms (arms_of arms.items)) }
 {
-    match item {
-        Item::Mark(b) => Some(*b),
-        _ => None,
+    let mut done = Vec::with_capacity(alloc, arms.len())?;
+    for arm in arms {
+        let Arm { cases, body } = arm;
+        let body = completed(alloc, body)?;
+        done.push(Arm { cases, body })?;
     }
+    Ok(done)
 }
 
-// Appends a jump to the block, where there is one.
-fn push_jump(items: &mut Vec<Item>, label: Option<u32>) -> Result<(), AllocError>
-    ensures { OnOk result (plan_of items.new.items ≡ plan_before items.old.items (spec.jump_to label)) }
-{
-    if let Some(b) = label {
-        items.push(Item::Jump(b))?;
-    }
-    Ok(())
-}
-
-/// The plan completed, as a text must be: a jump to the label that stands last, and an empty arm in each choice that
-/// has none.
+/// The plan completed, as a text must be: with an empty statement after each label that stands last among its items, and
+/// with an empty arm in each choice that has none. Want of memory is the only error.
+#[cycle(complete)]
 pub fn completed(alloc: Global, items: Vec<Item>) -> Result<Vec<Item>, AllocError>
     ensures { IfOk result (λ r. plan_of r.items ≡ spec.completed (plan_of items.items)) }
 {
-    let mut done = Vec::new(alloc);
-    let mut label = None;
+    let mut done = Vec::with_capacity(alloc, items.len())?;
+    let mut labelled = false;
     for item in items {
-        label = marked(&item);
-        done.push(completed_item(alloc, item)?)?;
+        labelled = is_mark(&item);
+        let item = completed_item(alloc, item)?;
+        done.push(item)?;
     }
-    push_jump(&mut done, label)?;
+    if labelled {
+        done.push(Item::Empty)?;
+    }
     Ok(done)
 }

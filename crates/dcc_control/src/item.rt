@@ -27,6 +27,8 @@ pub enum Item {
     Break,
     /// `continue`.
     Continue,
+    /// An empty statement.
+    Empty,
 }
 
 /// An arm of a choice.

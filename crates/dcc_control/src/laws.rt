@@ -1,6 +1,6 @@
 //! Laws of plans. Each function only states a law by its contract, and does nothing.
 
-ghost use Rattle.dcc_control.specs.Complete.{CompletePlansAreValid};
+ghost use Rattle.dcc_control.specs.Complete.{CompletePlansAreValid, CompletePlansKeepSteps};
 ghost use Rattle.dcc_control.specs.Told.{ToldLoopsAreValid, ToldLoopsKeepSteps};
 ghost use Rattle.dcc_control.specs.Laws.{CompletePlansNestAlike, GotoPlanIsValid, WeakerBegun};
 
@@ -12,6 +12,11 @@ pub fn goto_plan_is_valid()
 /// A completed plan is a plan of the same graph.
 pub fn complete_plans_are_valid()
     ensures { CompletePlansAreValid }
+{}
+
+/// The text of a completed plan has a step for the same blocks.
+pub fn complete_plans_keep_steps()
+    ensures { CompletePlansKeepSteps }
 {}
 
 /// A completed plan nests as deep as the plan.

@@ -5,5 +5,6 @@ pub mod complete;
 pub mod goto_plan;
 pub mod item;
 pub mod laws;
+pub mod told;
 
 pub use item::{Arm, Item};

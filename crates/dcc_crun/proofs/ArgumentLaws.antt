@@ -16,12 +16,12 @@ use Rattle.dcc_value.specs.declared.expression.Resolved.{Resolved}
 use Rattle.dcc_prepare.specs.declared.program.Variable.{Variable}
 use Rattle.dcc_value.specs.Evaluation.{nothing_of}
 use Rattle.dcc_crun.specs.Ending.{stop_of}
-use Rattle.dcc_value.specs.Resolved.{Names, Scene, Fits, scope_over, evaluated}
+use Rattle.dcc_value.specs.Resolved.{Names, Contents, Fits, scope_over, evaluated}
 use Rattle.dcc_prepare.specs.Points.{StandAll}
 use Rattle.dcc_crun.specs.Doing.{resolved_arguments, ArgumentsAre}
 
 -- what the resolved arguments come to is what the arguments do
-pub arguments_are : (names : Names) (scene : Scene) (types : List CType) (es : List Expr) (rs : List Resolved) → StandAll names es rs → Fits names scene →
+pub arguments_are : (names : Names) (scene : Contents) (types : List CType) (es : List Expr) (rs : List Resolved) → StandAll names es rs → Fits names scene →
     resolved_arguments scene types rs ≡ arguments_of (scope_over names scene) types es
 arguments_are names scene [] [] [] stand fits = refl
 arguments_are names scene (t ∷ types) [] [] stand fits = refl
@@ -41,7 +41,7 @@ gather Divides had v = refl
 gather Undefined had v = refl
 
 -- the argument that comes next has this outcome
-argument_next : (scene : Scene) (types : List CType) (rs : List Resolved) (i : ℕ) (type d : CType) (r : Resolved) (had : List Value) (o : Outcome Value) →
+argument_next : (scene : Contents) (types : List CType) (rs : List Resolved) (i : ℕ) (type d : CType) (r : Resolved) (had : List Value) (o : Outcome Value) →
     i < length types → i < length rs → type ≡ get_or types i d → r ≡ get_or rs i r → evaluated scene r ≡ o →
     and_then (λ vs. Gives (had ++ vs)) (resolved_arguments scene (drop i types) (drop i rs))
     ≡ and_then (λ vs. Gives (had ++ vs)) (and_then (λ v. and_then (λ vs. Gives (converted type v ∷ vs)) (resolved_arguments scene (drop (i + 1) types) (drop (i + 1) rs))) o)
@@ -53,7 +53,7 @@ argument_next scene types rs i type d r had o within inside is has value =
     ∙ ap (λ x. all (resolved_arguments scene (type ∷ drop (i + 1) types) (x ∷ drop (i + 1) rs))) (sym has)
     ∙ ap (λ o. all (and_then (λ v. and_then (λ vs. Gives (converted type v ∷ vs)) (resolved_arguments scene (drop (i + 1) types) (drop (i + 1) rs))) o)) value
 
-pub argument_step : (scene : Scene) (types : List CType) (rs : List Resolved) (i : ℕ) (type d : CType) (r : Resolved) (had : List Value) (v : Value) →
+pub argument_step : (scene : Contents) (types : List CType) (rs : List Resolved) (i : ℕ) (type d : CType) (r : Resolved) (had : List Value) (v : Value) →
     i < length types → i < length rs → type ≡ get_or types i d → r ≡ get_or rs i r → evaluated scene r ≡ Gives v →
     and_then (λ vs. Gives (had ++ vs)) (resolved_arguments scene (drop i types) (drop i rs))
     ≡ and_then (λ vs. Gives ((had ++ converted type v ∷ []) ++ vs)) (resolved_arguments scene (drop (i + 1) types) (drop (i + 1) rs))
@@ -62,7 +62,7 @@ argument_step scene types rs i type d r had v within inside is has value =
     ∙ gather (resolved_arguments scene (drop (i + 1) types) (drop (i + 1) rs)) had (converted type v)
 
 -- an argument that gives nothing
-pub argument_fails : (scene : Scene) (types : List CType) (rs : List Resolved) (i : ℕ) (type d : CType) (r : Resolved) (had : List Value) (why : NoValue) →
+pub argument_fails : (scene : Contents) (types : List CType) (rs : List Resolved) (i : ℕ) (type d : CType) (r : Resolved) (had : List Value) (why : NoValue) →
     i < length types → i < length rs → type ≡ get_or types i d → r ≡ get_or rs i r → evaluated scene r ≡ nothing_of why →
     and_then (λ vs. Gives (had ++ vs)) (resolved_arguments scene (drop i types) (drop i rs)) ≡ nothing_of why
 argument_fails scene types rs i type d r had why within inside is has value =
@@ -73,7 +73,7 @@ argument_fails scene types rs i type d r had why within inside is has value =
     fails Meaningless = refl
 
 -- parameters are left
-pub arguments_wanting : (scene : Scene) (types : List CType) (rs : List Resolved) (i : ℕ) (had : List Value) → length rs ≤ i → i < length types →
+pub arguments_wanting : (scene : Contents) (types : List CType) (rs : List Resolved) (i : ℕ) (had : List Value) → length rs ≤ i → i < length types →
     and_then (λ vs. Gives (had ++ vs)) (resolved_arguments scene (drop i types) (drop i rs)) ≡ Undefined
 arguments_wanting scene types rs i had past within =
     ap (λ l. and_then (λ vs. Gives (had ++ vs)) (resolved_arguments scene (drop i types) l)) (drop_all i rs past)
@@ -84,14 +84,14 @@ arguments_wanting scene types rs i had past within =
     no_arguments (t ∷ left) some = refl
 
 -- all arguments have their values
-pub arguments_all : (scene : Scene) (types : List CType) (rs : List Resolved) (i : ℕ) (had : List Value) → length rs ≤ i → length types ≤ i →
+pub arguments_all : (scene : Contents) (types : List CType) (rs : List Resolved) (i : ℕ) (had : List Value) → length rs ≤ i → length types ≤ i →
     and_then (λ vs. Gives (had ++ vs)) (resolved_arguments scene (drop i types) (drop i rs)) ≡ Gives (had ++ [])
 arguments_all scene types rs i had past all =
     ap (λ l. and_then (λ vs. Gives (had ++ vs)) (resolved_arguments scene (drop i types) l)) (drop_all i rs past)
     ∙ ap (λ l. and_then (λ vs. Gives (had ++ vs)) (resolved_arguments scene l [])) (drop_all i types all)
 
 -- an argument is left
-pub arguments_more : (scene : Scene) (types : List CType) (rs : List Resolved) (i : ℕ) (had : List Value) → length types ≤ i → i < length rs →
+pub arguments_more : (scene : Contents) (types : List CType) (rs : List Resolved) (i : ℕ) (had : List Value) → length types ≤ i → i < length rs →
     and_then (λ vs. Gives (had ++ vs)) (resolved_arguments scene (drop i types) (drop i rs)) ≡ Undefined
 arguments_more scene types rs i had all within =
     ap (λ l. and_then (λ vs. Gives (had ++ vs)) (resolved_arguments scene l (drop i rs))) (drop_all i types all)

@@ -22,7 +22,7 @@ use Rattle.dcc_prepare.specs.declared.program.Action.TheVariants.{Pass, Assign, 
 use Rattle.dcc_prepare.specs.declared.program.Program.{Program}
 use Rattle.dcc_crun.specs.declared.moment.Moment.{Moment}
 use Rattle.dcc_value.specs.Evaluation.{nothing_of, outcome_of}
-use Rattle.dcc_value.specs.Resolved.{Names, Scene, Fits, scope_over, target_named}
+use Rattle.dcc_value.specs.Resolved.{Names, Contents, Fits, scope_over, target_named}
 use Rattle.dcc_prepare.specs.Points.{Goes, locals_declared, StandsIf, StandAll, IsCallee, dos_call}
 use Rattle.dcc_crun.specs.Standing.{IsTargetIf}
 use Rattle.dcc_crun.specs.Doing.{Operation, AreGlobals, scene_in, names_at, end_at, IsEnded, StepsAside, Halts, ComesTo, Kept, Stood, CallsDos, CallsFunction, CallsAny, IsNoCall}
@@ -46,7 +46,7 @@ comes_on line (Err y) op first done left taken left_now taken_now stop is comes 
 
 -- the target of a call
 pub target_place : (m : Moment) (program : Program) (row : CallRow) (line : ℕ) (tree : Tree) (points : ℕ → List Continuation) (s now : State)
-    (call : CallsAny m program row line tree points s now) (scene : Scene) (r : Result (Option Place) NoValue) → scene ≡ scene_in m program.globals.items →
+    (call : CallsAny m program row line tree points s now) (scene : Contents) (r : Result (Option Place) NoValue) → scene ≡ scene_in m program.globals.items →
     ((names : Names) (e : Option Expr) → StandsIf names e row.place → Fits names scene →
     outcome_of (option_map (target_named names.locals)) r ≡ result_target (scope_over names scene) e) →
     result_target (scope_of tree s) call.place ≡ outcome_of (option_map (target_named (locals_declared s.frame.function))) r
@@ -57,7 +57,7 @@ target_place m program row line tree points s now call scene r same is =
     ∙ ap (λ sc. result_target sc call.place) (scope_here tree points program.globals.items m s call.at.program_is.globals call.at.state))
 
 pub target_lands : (m : Moment) (program : Program) (row : CallRow) (line : ℕ) (tree : Tree) (points : ℕ → List Continuation) (s now : State)
-    (call : CallsAny m program row line tree points s now) (scene : Scene) (target : Option Place) → scene ≡ scene_in m program.globals.items →
+    (call : CallsAny m program row line tree points s now) (scene : Contents) (target : Option Place) → scene ≡ scene_in m program.globals.items →
     ((names : Names) (e : Option Expr) → StandsIf names e row.place → Fits names scene → IsTargetIf names.locals target) →
     IsTargetIf (locals_declared s.frame.function) target
 target_lands m program row line tree points s now call scene target same is =

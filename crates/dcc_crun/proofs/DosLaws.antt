@@ -30,14 +30,14 @@ use Rattle.dcc_crun.specs.declared.moment.Moment.{Moment}
 use Rattle.dcc_console.specs.Strings.{string_in}
 use Rattle.dcc_crun.proofs.StringLaws.{string_is}
 use Rattle.dcc_value.specs.Evaluation.{outcome_of, typed}
-use Rattle.dcc_value.specs.Resolved.{Names, Scene, Fits, scope_over, target_named}
+use Rattle.dcc_value.specs.Resolved.{Names, Contents, Fits, scope_over, target_named}
 use Rattle.dcc_prepare.specs.Points.{locals_declared, StandAll, dos_call}
 use Rattle.dcc_crun.specs.Ending.{refusal_of, write_stop}
 use Rattle.dcc_crun.specs.Standing.{IsTargetIf, IsRunning}
 use Rattle.dcc_console.specs.declared.fault.Fault.{Fault}
 use Rattle.dcc_console.specs.declared.fault.Fault.TheVariants.{Input as ReadFault, Output as WriteFault}
 use Rattle.dcc_console.specs.Key.{key_events, TakesKey, next_byte, no_byte, IsUntaken, IsCutKey, IsRefusedKey}
-use Rattle.dcc_console.specs.Scene.{told_bytes}
+use Rattle.dcc_console.specs.WithConsole.{told_bytes}
 use Rattle.dcc_console.proofs.KeyLaws.{key-taken}
 use Rattle.dcc_crun.specs.Doing.{scene_in, names_at, IsKept, IsEnded, end_at, single, Kept, CallsForKey, CallsDos, IsArgument, IsSole, Does, CannotRead, CannotWrite, ComesTo, StaysIfRefused, Counts}
 use Rattle.dcc_crun.proofs.StepLaws.{made_faults, write_faults}
@@ -72,7 +72,7 @@ byte_argument scope (e ∷ f ∷ es) w is = absurd (none_given (λ v. Undefined)
 -- The argument of a call.
 
 -- the arguments of a call come to what they come to in each scene
-pub argument_is : (globals : List Bound) (m : Moment) (dos : DosCall) (arguments : List Resolved) (r : Result Held NoValue) (type : CType) (scene : Scene) → scene ≡ scene_in m globals →
+pub argument_is : (globals : List Bound) (m : Moment) (dos : DosCall) (arguments : List Resolved) (r : Result Held NoValue) (type : CType) (scene : Contents) → scene ≡ scene_in m globals →
     type ∷ [] ≡ (dos_signature (dos_call dos)).params →
     ((names : Names) (es : List Expr) → StandAll names es arguments → Fits names scene → outcome_of single r ≡ arguments_of (scope_over names scene) (type ∷ []) es) →
     IsArgument globals m dos arguments r

@@ -3,7 +3,7 @@ use Rattle.std.proofs.Common.{◌≡◌, ◌≢◌, ℕ, true, refl, sym, ap, �
 use Rattle.dcc_run.specs.End.{is_over}
 use Rattle.dcc_c.proofs.RunLaws.{text_lawful}
 use Rattle.dcc_console.specs.Laws.{IsLawfulExecutor}
-use Rattle.dcc_console.specs.Scene.{Scene}
+use Rattle.dcc_console.specs.WithConsole.{WithConsole}
 use Rattle.dcc_console.specs.Steps.{HasEnded, Makes, MakesSteps, made, Steps, Runs}
 use Rattle.dcc_crun.specs.declared.ending.Ending.{Ending}
 use Rattle.dcc_crun.specs.declared.ending.Ending.TheVariants.{Running as going, Exit as left_with, Divide as faulted, Stuck as stuck_at}
@@ -36,12 +36,12 @@ answer_tells (left_with code) = refl
 answer_tells faulted = refl
 answer_tells (stuck_at line) = refl
 
-pub answered : (e : Ending) (answer : CStepped) (before now : Scene CRun) → answer ≡ answer_of e → Makes texts before now
+pub answered : (e : Ending) (answer : CStepped) (before now : WithConsole CRun) → answer ≡ answer_of e → Makes texts before now
     → Steps texts (outcome_of answer) before now
 answered e answer before now is done =
     subst (λ o. Steps texts o before now) (sym (ap outcome_of is ∙ answer_made e)) done
 
-pub answered_run : (e : Ending) (answer : CStepped) (most : ℕ) (before now : Scene CRun) → answer ≡ answer_of e
+pub answered_run : (e : Ending) (answer : CStepped) (most : ℕ) (before now : WithConsole CRun) → answer ≡ answer_of e
     → MakesSteps texts most before now → Runs texts most (outcome_of answer) before now
 answered_run e answer most before now is run =
     subst (λ o. Runs texts most o before now) (sym (ap outcome_of is ∙ answer_made e)) run

@@ -11,7 +11,7 @@ use Rattle.dcc_crun.specs.declared.run.CRun.{CRun}
 use Rattle.dcc_crun.specs.Ending.{end_of, fault_answer_of}
 use Rattle.dcc_crun.specs.Standing.{IsCallOf, AreWaiting, IsMoment, StandsAt}
 use Rattle.dcc_prepare.specs.Points.{Goes}
-use Rattle.dcc_console.specs.Scene.{Scene, scene}
+use Rattle.dcc_console.specs.WithConsole.{WithConsole, beside_console}
 use Rattle.dcc_console.specs.Steps.{HasEnded, Makes}
 use Rattle.dcc_console.specs.Steps.{Steps as StepsTo}
 use Rattle.dcc_crun.specs.declared.ending.CStepped.{CStepped}
@@ -33,7 +33,8 @@ steps_of run tree s stands runs =
 -- a step that was made
 pub step_made : (run : CRun) (now : Moment) (left taken left_now taken_now : Option (List ℕ)) → end_of run.moment.end ≡ running →
     Does (Steps run.program run.moment) (Stood now) left taken left_now taken_now →
-    Makes texts (scene run left taken) (scene (record { program = run.program; moment = now }) left_now taken_now)
+    Makes texts (beside_console run left taken) (beside_console (record { program = run.program; moment = now })
+    left_now taken_now)
 step_made run now left taken left_now taken_now runs does = record {
   happened = does.happened;
   took = does.took;
@@ -84,13 +85,13 @@ same_moment tree points m now s same is = record {
 -- a step that was refused
 pub step_refused : (fault : Refusal) (run : CRun) (now : Moment) (left taken left_now taken_now : Option (List ℕ)) → end_of run.moment.end ≡ running →
     Refuses fault (Steps run.program run.moment) left taken left_now taken_now → StaysAt fault run.moment now →
-    StepsTo texts (outcome_of (fault_answer_of fault)) (scene run left taken) (scene (record { program = run.program; moment = now }) left_now taken_now)
+    StepsTo texts (outcome_of (fault_answer_of fault)) (beside_console run left taken) (beside_console (record { program = run.program; moment = now }) left_now taken_now)
 step_refused Input run now left taken left_now taken_now runs refused stays = record {
   takes = λ tree s byte rest stands has. refused.takes tree stands.points s (step tree s) byte rest (steps_of run tree s stands runs) has;
   unchanged =
-      ap (λ (m : Moment). scene (record { program = run.program; moment = m }) left_now taken_now) stays
-      ∙ ap (λ l. scene run l taken_now) refused.same_left
-      ∙ ap (λ t. scene run left t) refused.same_taken;
+      ap (λ (m : Moment). beside_console (record { program = run.program; moment = m }) left_now taken_now) stays
+      ∙ ap (λ l. beside_console run l taken_now) refused.same_left
+      ∙ ap (λ t. beside_console run left t) refused.same_taken;
 }
 step_refused Output run now left taken left_now taken_now runs refused stays = record {
   happened = refused.happened;
@@ -107,7 +108,7 @@ step_refused Memory run now left taken left_now taken_now runs refused stays = r
 }
 
 -- what is answered to it
-pub refused : (fault : Refusal) (answer : CStepped) (before now : Scene CRun) → answer ≡ fault_answer_of fault →
+pub refused : (fault : Refusal) (answer : CStepped) (before now : WithConsole CRun) → answer ≡ fault_answer_of fault →
     StepsTo texts (outcome_of (fault_answer_of fault)) before now → StepsTo texts (outcome_of answer) before now
 refused fault answer before now is was_refused =
     subst (λ a. StepsTo texts (outcome_of a) before now) (sym is) was_refused

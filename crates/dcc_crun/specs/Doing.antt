@@ -31,15 +31,15 @@ use Rattle.dcc_prepare.specs.declared.program.Procedure.{Procedure}
 use Rattle.dcc_prepare.specs.declared.program.Program.{Program}
 use Rattle.dcc_crun.specs.declared.moment.Moment.{Moment}
 use Rattle.dcc_value.specs.Evaluation.{typed, bindings_named, outcome_of}
-use Rattle.dcc_value.specs.Resolved.{Names, Scene, evaluated, target_named}
+use Rattle.dcc_value.specs.Resolved.{Names, Contents, evaluated, target_named}
 use Rattle.dcc_prepare.specs.Points.{names_in, locals_declared, Goes, Acts, StandsIf, StandAll, IsCallee, dos_call}
 use Rattle.dcc_prepare.specs.Programs.{IsProgram, IsProcedure}
 use Rattle.dcc_crun.specs.Standing.{IsTargetIf, IsRunning, IsGoing, IsMoment}
 use Rattle.dcc_console.specs.Counts.{CountsFaults}
-use Rattle.dcc_console.specs.Scene.{told_bytes}
+use Rattle.dcc_console.specs.WithConsole.{told_bytes}
 
 -- what the expressions of the call are evaluated over
-abbrev pub scene_in : Moment → List Bound → Scene
+abbrev pub scene_in : Moment → List Bound → Contents
 scene_in m globals = record { frame = m.call.variables.items; globals = globals; memory = m.memory.items }
 
 -- the bound variables are the global variables of the text
@@ -105,7 +105,7 @@ abbrev pub single : Held → List Value
 single v = typed v ∷ []
 
 -- the values of resolved arguments, each converted to the type of its parameter
-abbrev pub resolved_arguments : Scene → List CType → List Resolved → Outcome (List Value)
+abbrev pub resolved_arguments : Contents → List CType → List Resolved → Outcome (List Value)
 resolved_arguments scene [] [] = Gives []
 resolved_arguments scene (type ∷ types) (e ∷ es) =
     and_then (λ v. and_then (λ vs. Gives (converted type v ∷ vs)) (resolved_arguments scene types es))

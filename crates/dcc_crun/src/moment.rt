@@ -12,7 +12,7 @@ ghost use Rattle.dcc_c.specs.Dos.{dos_signature};
 ghost use Rattle.dcc_c.specs.Run.{Continuation, State, takes, result_step, back_step, close_step, enter_step};
 ghost use Rattle.dcc_c.specs.Run.{arguments_of, result_target, stmt_step};
 ghost use Rattle.dcc_value.specs.Evaluation.{typed, itself, outcome_of};
-ghost use Rattle.dcc_value.specs.Resolved.{Names, Fits, Stands, IsTargetIn, scene_of, scope_over, evaluated};
+ghost use Rattle.dcc_value.specs.Resolved.{Names, Fits, Stands, IsTargetIn, contents_of, scope_over, evaluated};
 ghost use Rattle.dcc_value.specs.Resolved.{target_named};
 ghost use Rattle.dcc_prepare.specs.Points.{Goes, StandsIf, StandAll, case_point, label_point, locals_declared};
 ghost use Rattle.dcc_prepare.specs.Points.{dos_call};
@@ -34,7 +34,7 @@ use dcc_io::{Failed, Sink, Source, put_all};
 use dcc_prepare::program::{Action, CallRow, Callee, Case, Dos, Label, Procedure, Program, Row};
 use dcc_value::expression::{Resolved, Target, take};
 use dcc_value::value::{NoValue, Value, converted, is_zero, number};
-use dcc_value::variable::{Binding, Scene};
+use dcc_value::variable::{Binding, Contents};
 use std::alloc::{AllocError, Global};
 use std::mem;
 
@@ -100,10 +100,10 @@ fn label_point(labels: &[Label], number: usize) -> Result<usize, NoValue>
 }
 
 // The value of the only argument, converted to the type.
-fn only_argument(scene: &Scene<'_>, ty: CType, arguments: &[Resolved]) -> Result<Value, NoValue>
+fn only_argument(scene: &Contents<'_>, ty: CType, arguments: &[Resolved]) -> Result<Value, NoValue>
     ensures value { (names : Names) (es : List Expr) → StandAll names es arguments.now →
-        Fits names (scene_of scene.now) →
-        outcome_of single result ≡ arguments_of (scope_over names (scene_of scene.now)) (ty ∷ []) es }
+        Fits names (contents_of scene.now) →
+        outcome_of single result ≡ arguments_of (scope_over names (contents_of scene.now)) (ty ∷ []) es }
     ensures kind { IfOk result (λ v. v.ty ≡ ty) }
 {
     match arguments {
@@ -119,12 +119,12 @@ fn only_argument(scene: &Scene<'_>, ty: CType, arguments: &[Resolved]) -> Result
 // The values of arguments, from left to right, each converted to the type of its parameter.
 fn argument_values(
     alloc: Global,
-    scene: &Scene<'_>,
+    scene: &Contents<'_>,
     procedure: &Procedure,
     arguments: &[Resolved],
 ) -> Result<Vec<Value>, Stop>
     ensures { ArgumentsAre result
-        (resolved_arguments (scene_of scene.now) (map (λ p. p.ty) procedure.now.params.items) arguments.now) }
+        (resolved_arguments (contents_of scene.now) (map (λ p. p.ty) procedure.now.params.items) arguments.now) }
 {
     let mut values = Vec::new(alloc);
     for (i, e) in arguments.iter().enumerate() {
@@ -152,11 +152,13 @@ fn write_stop(written: Result<(), Failed>) -> Result<(), Stop>
 }
 
 // Where the result of a call goes, if it goes anywhere.
-fn result_target(scene: &Scene<'_>, place: &Option<Resolved>) -> Result<Option<Target>, NoValue>
-    ensures value { (names : Names) (e : Option Expr) → StandsIf names e place.now → Fits names (scene_of scene.now) →
+fn result_target(scene: &Contents<'_>, place: &Option<Resolved>) -> Result<Option<Target>, NoValue>
+    ensures value { (names : Names) (e : Option Expr) → StandsIf names e place.now → Fits names (contents_of scene.now)
+        →
         outcome_of (option_map (target_named names.locals)) result
-        ≡ result_target (scope_over names (scene_of scene.now)) e }
-    ensures lands { (names : Names) (e : Option Expr) → StandsIf names e place.now → Fits names (scene_of scene.now) →
+        ≡ result_target (scope_over names (contents_of scene.now)) e }
+    ensures lands { (names : Names) (e : Option Expr) → StandsIf names e place.now → Fits names (contents_of scene.now)
+        →
         IfOk result (IsTargetIf names.locals) }
 {
     match place {
@@ -167,10 +169,10 @@ fn result_target(scene: &Scene<'_>, place: &Option<Resolved>) -> Result<Option<T
 
 impl Moment {
     // What expressions are evaluated over.
-    fn scene<'a>(&'a self, globals: &'a [Binding]) -> Scene<'a>
-        ensures { scene_of result ≡ scene_in self.now globals.now }
+    fn scene<'a>(&'a self, globals: &'a [Binding]) -> Contents<'a>
+        ensures { contents_of result ≡ scene_in self.now globals.now }
     {
-        Scene {
+        Contents {
             frame: self.call.variables.as_slice(),
             globals,
             memory: self.memory.as_slice(),

@@ -5,7 +5,7 @@ ghost use Rattle.dcc_io.specs.Count.{Rose};
 ghost use Rattle.dcc_c.specs.Tree.{Function};
 ghost use Rattle.dcc_c.specs.Run.{first_state};
 ghost use Rattle.dcc_c.specs.Views.{tree_of};
-ghost use Rattle.dcc_console.specs.Scene.{scene};
+ghost use Rattle.dcc_console.specs.WithConsole.{beside_console};
 ghost use Rattle.dcc_console.specs.Steps.{Steps, HasEnded, Runs};
 ghost use Rattle.dcc_crun.specs.Standing.{StandsAt};
 ghost use Rattle.dcc_crun.specs.Stepped.{texts, outcome_of, end_told};
@@ -71,8 +71,8 @@ impl CRun {
         out: &mut O,
     ) -> CStepped
         ensures step { Steps texts (outcome_of result)
-            (scene self.old (I.left input.old) (O.taken out.old))
-            (scene self.new (I.left input.new) (O.taken out.new)) }
+            (beside_console self.old (I.left input.old) (O.taken out.old))
+            (beside_console self.new (I.left input.new) (O.taken out.new)) }
         ensures answer { HasEnded texts self.new (end_told result) }
 
         // The counts never fall, and a fault comes only where its count rose.
@@ -100,8 +100,8 @@ impl CRun {
         most: u64,
     ) -> CStepped
         ensures run { Runs texts most (outcome_of result)
-            (scene self.old (I.left input.old) (O.taken out.old))
-            (scene self.new (I.left input.new) (O.taken out.new)) }
+            (beside_console self.old (I.left input.old) (O.taken out.old))
+            (beside_console self.new (I.left input.new) (O.taken out.new)) }
         ensures answer { HasEnded texts self.new (end_told result) }
 
         // The counts never fall, and a fault comes only where its count rose.

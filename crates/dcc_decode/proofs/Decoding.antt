@@ -5,14 +5,14 @@ use Rattle.std.proofs.lemmas.Bool.{cases_lt}
 use Rattle.std.proofs.lemmas.Bool.Decides.{nat_tests}
 use Rattle.dcc_num.specs.declared.Reg.{Reg}
 use Rattle.dcc_num.specs.declared.Reg.TheVariants.{Bx, Si, Di}
-use Rattle.dcc_prog.specs.declared.cpu.Cpu.{Cpu}
-use Rattle.dcc_prog.specs.declared.cpu.Cpu.TheVariants.{I8086, I186}
-use Rattle.dcc_prog.specs.declared.instr.Op.{Op}
-use Rattle.dcc_prog.specs.declared.instr.Op.TheVariants.{Int21, Table, Enter}
-use Rattle.dcc_prog.specs.declared.instr.Instr.{Instr}
-use Rattle.dcc_prog.specs.Bytes.{word_at}
-use Rattle.dcc_prog.specs.Table.{Row, Parts, fits_byte, fits, matches, row_length, this_byte, any_byte, bytes_between, table, IsRow, instruction_at}
-use Rattle.dcc_prog.proofs.TableLaws.{and_left, and_right, and_both, has_bytes-le, has_bytes-of_le, instruction-row, instruction-of_row}
+use Rattle.dcc_machine.specs.declared.cpu.Cpu.{Cpu}
+use Rattle.dcc_machine.specs.declared.cpu.Cpu.TheVariants.{I8086, I186}
+use Rattle.dcc_machine.specs.declared.instr.Op.{Op}
+use Rattle.dcc_machine.specs.declared.instr.Op.TheVariants.{Int21, Table, Enter}
+use Rattle.dcc_machine.specs.declared.instr.Instr.{Instr}
+use Rattle.dcc_machine.specs.Bytes.{word_at}
+use Rattle.dcc_machine.specs.Table.{Row, Parts, fits_byte, fits, matches, row_length, this_byte, any_byte, bytes_between, table, IsRow, instruction_at}
+use Rattle.dcc_machine.proofs.TableLaws.{and_left, and_right, and_both, has_bytes-le, has_bytes-of_le, instruction-row, instruction-of_row}
 use Rattle.dcc_decode.specs.declared.fields.Fields.{Fields}
 use Rattle.dcc_decode.specs.Reading.{parts_of, operation_of, is_opcode_row, IsOpcodeRow, ReadsRows, FitsAsRead}
 use Rattle.dcc_decode.proofs.Forms.{told, fits-between, fits-one}

@@ -5,10 +5,10 @@ use Rattle.std.specs.List.{list_all}
 use Rattle.std.proofs.lemmas.Nat.{and_mask}
 use Rattle.std.proofs.lemmas.Bool.{cases_lt}
 use Rattle.std.proofs.lemmas.Bool.Decides.{nat_tests}
-use Rattle.dcc_prog.specs.declared.cpu.Cpu.TheVariants.{I186}
-use Rattle.dcc_prog.specs.Operands.{mod_field, reg_field, rm_field}
-use Rattle.dcc_prog.specs.Table.{Range, BytePattern, Row, ConstantForm, no_constant, byte_constant, word_constant, signed_constant, in_range, fits_byte, fits, table, IsRow, bytes_between, this_byte, each_eight, any_operand, modrm_bytes, between}
-use Rattle.dcc_prog.proofs.TableLaws.{and_left, and_right, and_both, patterns_apart, fits-apart, rows_within}
+use Rattle.dcc_machine.specs.declared.cpu.Cpu.TheVariants.{I186}
+use Rattle.dcc_machine.specs.Operands.{mod_field, reg_field, rm_field}
+use Rattle.dcc_machine.specs.Table.{Range, BytePattern, Row, ConstantForm, no_constant, byte_constant, word_constant, signed_constant, in_range, fits_byte, fits, table, IsRow, bytes_between, this_byte, each_eight, any_operand, modrm_bytes, between}
+use Rattle.dcc_machine.proofs.TableLaws.{and_left, and_right, and_both, patterns_apart, fits-apart, rows_within}
 use Rattle.dcc_decode.specs.declared.fields.Constant.{Constant}
 use Rattle.dcc_decode.specs.declared.fields.Constant.TheVariants.{Absent, Byte, Word, SignedByte}
 use Rattle.dcc_decode.specs.Reading.{form_of, is_opcode_row, TellsModrm, TellsConstant}

@@ -2,13 +2,13 @@
 use Rattle.std.proofs.Common.{◌≡◌, ℕ, zero, suc, ◌<◌, ◌≤◌, Bool, true, false, cond, List, [], ◌∷◌, ◌++◌, refl, sym, ◌∙◌, ap, inl, inr, arith}
 use Rattle.std.specs.Prelude.{◌≢◌, ◌⊎◌, find, slice_get, Option, Some, None, option_map}
 use Rattle.std.proofs.lemmas.Bool.{cases_lt}
-use Rattle.dcc_prog.specs.declared.cpu.Cpu.{Cpu}
-use Rattle.dcc_prog.specs.declared.cpu.Cpu.TheVariants.{I8086, I186}
-use Rattle.dcc_prog.specs.declared.instr.Op.{Op}
-use Rattle.dcc_prog.specs.declared.instr.Op.TheVariants.{Push, Leave}
-use Rattle.dcc_prog.specs.Operands.{reg_field}
-use Rattle.dcc_prog.specs.Table.{BytePattern, Row, Parts, fits, table, later_rows, IsRow, between, bytes_between, modrm_bytes, imm16, constant_shift, triple_product}
-use Rattle.dcc_prog.proofs.TableLaws.{both_tables, and_both, find-get, find-passes}
+use Rattle.dcc_machine.specs.declared.cpu.Cpu.{Cpu}
+use Rattle.dcc_machine.specs.declared.cpu.Cpu.TheVariants.{I8086, I186}
+use Rattle.dcc_machine.specs.declared.instr.Op.{Op}
+use Rattle.dcc_machine.specs.declared.instr.Op.TheVariants.{Push, Leave}
+use Rattle.dcc_machine.specs.Operands.{reg_field}
+use Rattle.dcc_machine.specs.Table.{BytePattern, Row, Parts, fits, table, later_rows, IsRow, between, bytes_between, modrm_bytes, imm16, constant_shift, triple_product}
+use Rattle.dcc_machine.proofs.TableLaws.{both_tables, and_both, find-get, find-passes}
 use Rattle.dcc_decode.specs.Reading.{operation_of}
 use Rattle.dcc_decode.proofs.Forms.{fits-this, fits-any_operand, fits-one}
 use Rattle.dcc_decode.proofs.LowerRows.{of_row_for, none_for, no_row_fits, empty, one, two, any, this}

@@ -5,14 +5,14 @@ use Rattle.std.specs.Prelude.{◌≢◌, bit_and, find, slice_get, Some, None, �
 use Rattle.std.specs.List.{list_all}
 use Rattle.std.proofs.lemmas.Bool.{cases_lt}
 use Rattle.std.proofs.lemmas.Bool.Decides.{nat_tests}
-use Rattle.dcc_prog.specs.declared.cpu.Cpu.{Cpu}
-use Rattle.dcc_prog.specs.declared.cpu.Cpu.TheVariants.{I8086}
-use Rattle.dcc_prog.specs.declared.instr.Alu.TheVariants.{Test}
-use Rattle.dcc_prog.specs.declared.instr.Unary.TheVariants.{Inc, Dec}
-use Rattle.dcc_prog.specs.declared.instr.Op.TheVariants.{Alu as AluOp, Unary as UnaryOp, Mov, Xchg, Push, Pop}
-use Rattle.dcc_prog.specs.Operands.{mod_field, reg_field, rm_field}
-use Rattle.dcc_prog.specs.Table.{Range, BytePattern, Row, Parts, fits_byte, fits, table, between, bytes_between, this_byte, each_eight, modrm_bytes, rm8, rm16, rm, reg, segment, r16, al, ax, imm8, imm16, destination, source, alu_by_opcode, alu_by_reg, load_address, condition_of, signed_condition_of, branch}
-use Rattle.dcc_prog.proofs.TableLaws.{and_left, and_right, and_both, find-fits, find-within, rows_within}
+use Rattle.dcc_machine.specs.declared.cpu.Cpu.{Cpu}
+use Rattle.dcc_machine.specs.declared.cpu.Cpu.TheVariants.{I8086}
+use Rattle.dcc_machine.specs.declared.instr.Alu.TheVariants.{Test}
+use Rattle.dcc_machine.specs.declared.instr.Unary.TheVariants.{Inc, Dec}
+use Rattle.dcc_machine.specs.declared.instr.Op.TheVariants.{Alu as AluOp, Unary as UnaryOp, Mov, Xchg, Push, Pop}
+use Rattle.dcc_machine.specs.Operands.{mod_field, reg_field, rm_field}
+use Rattle.dcc_machine.specs.Table.{Range, BytePattern, Row, Parts, fits_byte, fits, table, between, bytes_between, this_byte, each_eight, modrm_bytes, rm8, rm16, rm, reg, segment, r16, al, ax, imm8, imm16, destination, source, alu_by_opcode, alu_by_reg, load_address, condition_of, signed_condition_of, branch}
+use Rattle.dcc_machine.proofs.TableLaws.{and_left, and_right, and_both, find-fits, find-within, rows_within}
 use Rattle.dcc_decode.specs.Reading.{operation_of}
 use Rattle.dcc_decode.proofs.Forms.{fits-between, fits-this, fits-each_eight, fits-modrm, fits-any_operand, fits-one, low_bits}
 

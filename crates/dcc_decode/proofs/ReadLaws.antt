@@ -2,10 +2,10 @@
 use Rattle.std.proofs.Common.{◌≡◌, ℕ, ◌+◌, ◌<◌, ◌≤◌, Bool, true, false, nat_le, List, [], ◌∷◌, ◌++◌, length, refl, sym, ◌∙◌, ap, arith}
 use Rattle.std.specs.Prelude.{◌↔◌, ◌==◌, Option, Some, None, if◌then◌else◌}
 use Rattle.std.proofs.lemmas.Bool.Decides.{nat_tests}
-use Rattle.dcc_prog.specs.Bytes.{byte_at}
-use Rattle.dcc_prog.specs.Operands.{displacement_size, displacement_at}
-use Rattle.dcc_prog.specs.Table.{BytePattern, Row, Parts, ConstantForm, fits_byte, fits, constant_size, constant_at, ConstantPlace, at_end, at_index, constant_index, head_length, row_length}
-use Rattle.dcc_prog.proofs.TableLaws.{and_left, and_right, and_both}
+use Rattle.dcc_machine.specs.Bytes.{byte_at}
+use Rattle.dcc_machine.specs.Operands.{displacement_size, displacement_at}
+use Rattle.dcc_machine.specs.Table.{BytePattern, Row, Parts, ConstantForm, fits_byte, fits, constant_size, constant_at, ConstantPlace, at_end, at_index, constant_index, head_length, row_length}
+use Rattle.dcc_machine.proofs.TableLaws.{and_left, and_right, and_both}
 use Rattle.dcc_decode.specs.declared.fields.Constant.{Constant}
 use Rattle.dcc_decode.specs.declared.fields.Fields.{Fields}
 use Rattle.dcc_decode.specs.Reading.{form_of, IsOpcodeRow, TellsModrm, TellsConstant, modrm_read, constant_read, is_at_end, head_of, ReadsHead, ReadsRows, FitsAsRead}

@@ -4,16 +4,16 @@ use Rattle.std.proofs.Common.{◌≡◌, ◌/◌, ◌%◌, ◌<◌, ◌≤◌, B
 use Rattle.std.specs.Prelude.{◌≢◌, Some, None, ◌==◌, if◌then◌else◌}
 use Rattle.std.proofs.lemmas.Bool.{cases_lt}
 use Rattle.std.proofs.lemmas.Bool.Decides.{nat_tests}
-use Rattle.dcc_prog.specs.declared.cpu.Cpu.TheVariants.{I8086}
-use Rattle.dcc_prog.specs.declared.instr.Count.{Count}
-use Rattle.dcc_prog.specs.declared.instr.Count.TheVariants.{One, Cl}
-use Rattle.dcc_prog.specs.declared.instr.Alu.TheVariants.{Test}
-use Rattle.dcc_prog.specs.declared.instr.Unary.TheVariants.{Inc, Dec}
-use Rattle.dcc_prog.specs.declared.instr.Plain.TheVariants.{Nop, Cbw, Cwd, Xlat, Clc, Stc, Cmc, Cli, Sti, Cld}
-use Rattle.dcc_prog.specs.declared.instr.Op.TheVariants.{Alu as AluOp, Unary as UnaryOp, Shift as ShiftOp, Mov, Xchg, Push, Plain as PlainOp, Jump, Loop, LoopE, LoopNe, Jcxz, Call, Ret}
-use Rattle.dcc_prog.specs.Operands.{mod_field, reg_field, rm_field}
-use Rattle.dcc_prog.specs.Table.{Parts, table, between, bytes_between, modrm_bytes, rm16, rm, r8, r16, ax, accumulator, imm8, imm16, imm, direct, target, shift_of, shift, unary_by_reg}
-use Rattle.dcc_prog.proofs.TableLaws.{and_both}
+use Rattle.dcc_machine.specs.declared.cpu.Cpu.TheVariants.{I8086}
+use Rattle.dcc_machine.specs.declared.instr.Count.{Count}
+use Rattle.dcc_machine.specs.declared.instr.Count.TheVariants.{One, Cl}
+use Rattle.dcc_machine.specs.declared.instr.Alu.TheVariants.{Test}
+use Rattle.dcc_machine.specs.declared.instr.Unary.TheVariants.{Inc, Dec}
+use Rattle.dcc_machine.specs.declared.instr.Plain.TheVariants.{Nop, Cbw, Cwd, Xlat, Clc, Stc, Cmc, Cli, Sti, Cld}
+use Rattle.dcc_machine.specs.declared.instr.Op.TheVariants.{Alu as AluOp, Unary as UnaryOp, Shift as ShiftOp, Mov, Xchg, Push, Plain as PlainOp, Jump, Loop, LoopE, LoopNe, Jcxz, Call, Ret}
+use Rattle.dcc_machine.specs.Operands.{mod_field, reg_field, rm_field}
+use Rattle.dcc_machine.specs.Table.{Parts, table, between, bytes_between, modrm_bytes, rm16, rm, r8, r16, ax, accumulator, imm8, imm16, imm, direct, target, shift_of, shift, unary_by_reg}
+use Rattle.dcc_machine.proofs.TableLaws.{and_both}
 use Rattle.dcc_decode.specs.Reading.{operation_of}
 use Rattle.dcc_decode.proofs.Forms.{fits-between, fits-this, fits-modrm, fits-any_operand, fits-one}
 use Rattle.dcc_decode.proofs.LowerRows.{of_row, none, one, eight, two, any, this, alu_two, alu_al, alu_ax, none-eight, inc_register, dec_register, push_low, push_high, pop_low, pop_high, none-54_54, none-5c_5c, none-60_6f, branch_unsigned, branch_signed, none-7a_7b, alu_byte, alu_constant_word, none-82_82, test_two, xchg_two, mov_two, mov_from_segment, mov_to_es, mov_to_segment, none-8c_memory, none-8c_high, none-8e_memory, none-8e_cs, none-8e_high, lea, none-8d, none-8f_group, pop_not_sp, pop_sp}

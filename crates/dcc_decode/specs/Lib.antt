@@ -1,3 +1,3 @@
 pub mod Reading
-pub use Rattle.dcc_prog.specs.Table
-pub use Rattle.dcc_prog.specs.WellFormed
+pub use Rattle.dcc_machine.specs.Table
+pub use Rattle.dcc_machine.specs.WellFormed

@@ -2,14 +2,14 @@
 -- processors' fields are read alike, by the rows of the 80186, which has those of the 8086.
 use Rattle.std.specs.Prelude.{◌≡◌, ◌≤◌, ◌<◌, ℕ, ◌+◌, IsSomeAnd, ◌↔◌, Bool, if◌then◌else◌, ◌==◌, ◌&&◌, true, false}
 use Rattle.std.specs.Prelude.{nat_le, IsTrue, List, [], ◌∷◌, length, find, Option, Some, None, option_map}
-use Rattle.dcc_prog.specs.declared.cpu.Cpu.{Cpu}
-use Rattle.dcc_prog.specs.declared.cpu.Cpu.TheVariants.{I186}
-use Rattle.dcc_prog.specs.declared.instr.Op.{Op}
-use Rattle.dcc_prog.specs.Bytes.{byte_at}
-use Rattle.dcc_prog.specs.Operands.{displacement_size, displacement_at}
-use Rattle.dcc_prog.specs.Table.{Parts, Row, ConstantForm, ConstantPlace, at_end, at_index, no_constant, byte_constant}
-use Rattle.dcc_prog.specs.Table.{word_constant, signed_constant, fits, constant_size, constant_at, head_length}
-use Rattle.dcc_prog.specs.Table.{row_length, row_parts, table, IsRow}
+use Rattle.dcc_machine.specs.declared.cpu.Cpu.{Cpu}
+use Rattle.dcc_machine.specs.declared.cpu.Cpu.TheVariants.{I186}
+use Rattle.dcc_machine.specs.declared.instr.Op.{Op}
+use Rattle.dcc_machine.specs.Bytes.{byte_at}
+use Rattle.dcc_machine.specs.Operands.{displacement_size, displacement_at}
+use Rattle.dcc_machine.specs.Table.{Parts, Row, ConstantForm, ConstantPlace, at_end, at_index, no_constant}
+use Rattle.dcc_machine.specs.Table.{byte_constant, word_constant, signed_constant, fits, constant_size, constant_at}
+use Rattle.dcc_machine.specs.Table.{head_length, row_length, row_parts, table, IsRow}
 use Rattle.dcc_decode.specs.declared.fields.Constant.{Constant}
 use Rattle.dcc_decode.specs.declared.fields.Constant.TheVariants.{Absent, Byte, Word, SignedByte}
 use Rattle.dcc_decode.specs.declared.fields.Fields.{Fields}

@@ -1,17 +1,17 @@
 //! The fields of an instruction: opcode, ModRM byte, displacement and constant.
 
 ghost use Rattle.std.specs.Prelude.{◌≡◌, ℕ, ◌+◌, ◌<◌, ◌≤◌, ◌%◌, ◌/◌, ◌&&◌, ◌==◌, length, IfSome, None};
-ghost use Rattle.dcc_prog.specs.Bytes.{byte_at, word_at};
-ghost use Rattle.dcc_prog.specs.Operands.{mod_field, reg_field, rm_field, register, rm_operand, address, width_of};
-ghost use Rattle.dcc_prog.specs.Operands.{displacement_size};
-ghost use Rattle.dcc_prog.specs.Table.{word_constant, constant_size, destination, source, reg, direct, target};
+ghost use Rattle.dcc_machine.specs.Bytes.{byte_at, word_at};
+ghost use Rattle.dcc_machine.specs.Operands.{mod_field, reg_field, rm_field, register, rm_operand, address, width_of};
+ghost use Rattle.dcc_machine.specs.Operands.{displacement_size};
+ghost use Rattle.dcc_machine.specs.Table.{word_constant, constant_size, destination, source, reg, direct, target};
 ghost use Rattle.dcc_decode.specs.Reading.{form_of, parts_of, TellsModrm, TellsConstant, modrm_read, constant_read};
 ghost use Rattle.dcc_decode.specs.Reading.{ReadsHead, ReadsRows, FitsAsRead, HasByteCount};
 
 use crate::operand;
 use byteorder::{ByteOrder, LittleEndian};
+use dcc_machine::{Ea, Operand};
 use dcc_num::{Width, sign8};
-use dcc_prog::{Ea, Operand};
 
 /// Which constant ends an instruction.
 #[derive(Clone, Copy, PartialEq, Eq, Debug)]
@@ -391,7 +391,7 @@ fn read_word(bytes: &[u8], index: usize) -> Option<u16>
 }
 
 /// The word at an index, low byte first.
-#[tactic(auto, unfolding(dcc_prog::specs::Bytes::word_at))]
+#[tactic(auto, unfolding(dcc_machine::specs::Bytes::word_at))]
 pub fn word(bytes: &[u8], index: usize) -> u16
     requires { index + 2 ≤ length bytes.now }
     ensures { result ≡ word_at bytes.now index }

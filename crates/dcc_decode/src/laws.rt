@@ -1,8 +1,8 @@
 //! Laws of the table of encodings. The functions do nothing: their contracts are proved for both processors and every
 //! list of bytes.
 
-ghost use Rattle.dcc_prog.specs.Table.{AtMostOneRowMatches, InstructionIsThatOfItsRow, InstructionHasOneToSixBytes};
-ghost use Rattle.dcc_prog.specs.Table.{InstructionDependsOnItsBytes, LaterProcessorHasEachInstruction};
+ghost use Rattle.dcc_machine.specs.Table.{AtMostOneRowMatches, InstructionIsThatOfItsRow, InstructionHasOneToSixBytes};
+ghost use Rattle.dcc_machine.specs.Table.{InstructionDependsOnItsBytes, LaterProcessorHasEachInstruction};
 
 /// At most one row of the table matches any bytes.
 pub fn one_row_at_most()

@@ -8,12 +8,12 @@ mod operand;
 mod operation;
 
 ghost use Rattle.std.specs.Prelude.{◌≡◌, ◌≢◌, ◌<◌, ◌∷◌, ℕ, drop, length, slice_index, IfSome};
-ghost use Rattle.dcc_prog.specs.declared.cpu.Cpu.{Cpu};
-ghost use Rattle.dcc_prog.specs.Table.{instruction_at};
-ghost use Rattle.dcc_prog.specs.WellFormed.{IsOperation};
+ghost use Rattle.dcc_machine.specs.declared.cpu.Cpu.{Cpu};
+ghost use Rattle.dcc_machine.specs.Table.{instruction_at};
+ghost use Rattle.dcc_machine.specs.WellFormed.{IsOperation};
 
+use dcc_machine::{Cpu, Instr, Op};
 use dcc_num::Reg;
-use dcc_prog::{Cpu, Instr, Op};
 use fields::Fields;
 
 /// The instruction of the processor that begins at the index `at` of `code` and lies wholly within it. It is None
@@ -85,7 +85,7 @@ fn interrupt(rest: &[u8]) -> Option<Instr>
 }
 
 // A jump to the word at CS:[SI+iw], CS:[DI+iw] or CS:[BX+iw], by the bytes after its CS prefix.
-#[tactic(auto, using(crate::proofs::Decoding::table_jump_rules), unfolding(dcc_prog::specs::Bytes::word_at))]
+#[tactic(auto, using(crate::proofs::Decoding::table_jump_rules), unfolding(dcc_machine::specs::Bytes::word_at))]
 fn table_jump(rest: &[u8]) -> Option<Instr>
     ensures { (cpu : Cpu) (at : ℕ) → result ≡ instruction_at cpu at (0x2e ∷ rest.now) }
 {
@@ -105,7 +105,7 @@ fn table_jump(rest: &[u8]) -> Option<Instr>
 }
 
 // ENTER at level 0, which the 80186 alone has, by the bytes after its opcode: the word, then the level.
-#[tactic(auto, using(crate::proofs::Decoding::enter_rules), unfolding(dcc_prog::specs::Bytes::word_at))]
+#[tactic(auto, using(crate::proofs::Decoding::enter_rules), unfolding(dcc_machine::specs::Bytes::word_at))]
 fn enter(rest: &[u8], cpu: Cpu) -> Option<Instr>
     ensures { (at : ℕ) → result ≡ instruction_at cpu at (0xc8 ∷ rest.now) }
 {

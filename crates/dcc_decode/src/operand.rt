@@ -2,15 +2,15 @@
 //! tables 4-8 to 4-10).
 
 ghost use Rattle.std.specs.Prelude.{◌≡◌, ◌<◌, length, get_or, None};
-ghost use Rattle.dcc_prog.specs.Operands.{word_register, byte_register, register, mod_field, reg_field, rm_field};
-ghost use Rattle.dcc_prog.specs.Operands.{has_direct_address, displacement_size, base_registers, index_registers};
-ghost use Rattle.dcc_prog.specs.Operands.{address, rm_operand};
+ghost use Rattle.dcc_machine.specs.Operands.{word_register, byte_register, register, mod_field, reg_field, rm_field};
+ghost use Rattle.dcc_machine.specs.Operands.{has_direct_address, displacement_size, base_registers, index_registers};
+ghost use Rattle.dcc_machine.specs.Operands.{address, rm_operand};
 
+use dcc_machine::{Ea, Operand};
 use dcc_num::{Half, Reg, Width};
-use dcc_prog::{Ea, Operand};
 
 /// The word register of a number.
-pub fn word_register(number: u8) -> Reg
+pub(crate) fn word_register(number: u8) -> Reg
     requires { number < 8 }
     ensures { result ≡ word_register number }
 {
@@ -27,7 +27,7 @@ pub fn word_register(number: u8) -> Reg
 }
 
 /// The byte register of a number: AL, CL, DL, BL, AH, CH, DH, BH.
-pub fn byte_register(number: u8) -> Operand
+pub(crate) fn byte_register(number: u8) -> Operand
     requires { number < 8 }
     ensures { result ≡ byte_register number }
 {
@@ -47,7 +47,7 @@ pub fn register(width: Width, number: u8) -> Operand
 }
 
 /// The field mod of a ModRM byte, bits 7 and 6; 3 names a register.
-pub fn mod_field(modrm: u8) -> u8
+pub(crate) fn mod_field(modrm: u8) -> u8
     ensures value { result ≡ mod_field modrm }
     ensures range { result < 4 }
 {
@@ -55,7 +55,7 @@ pub fn mod_field(modrm: u8) -> u8
 }
 
 /// The field reg of a ModRM byte, bits 5 to 3.
-pub fn reg_field(modrm: u8) -> u8
+pub(crate) fn reg_field(modrm: u8) -> u8
     ensures value { result ≡ reg_field modrm }
     ensures range { result < 8 }
 {
@@ -63,7 +63,7 @@ pub fn reg_field(modrm: u8) -> u8
 }
 
 /// The field rm of a ModRM byte, bits 2 to 0.
-pub fn rm_field(modrm: u8) -> u8
+pub(crate) fn rm_field(modrm: u8) -> u8
     ensures value { result ≡ rm_field modrm }
     ensures range { result < 8 }
 {
@@ -71,14 +71,14 @@ pub fn rm_field(modrm: u8) -> u8
 }
 
 /// Whether the ModRM byte names a memory operand by a word displacement alone.
-pub fn has_direct_address(modrm: u8) -> bool
+pub(crate) fn has_direct_address(modrm: u8) -> bool
     ensures { result ≡ has_direct_address modrm }
 {
     mod_field(modrm) == 0 && rm_field(modrm) == 6
 }
 
 /// The number of bytes of displacement after a ModRM byte.
-pub fn displacement_size(modrm: u8) -> u8
+pub(crate) fn displacement_size(modrm: u8) -> u8
     ensures { result ≡ displacement_size modrm }
 {
     match mod_field(modrm) {
@@ -124,7 +124,7 @@ pub fn address(modrm: u8, displacement: u16) -> Ea
 }
 
 /// The operand that the fields mod and rm name.
-pub fn rm_operand(width: Width, modrm: u8, displacement: u16) -> Operand
+pub(crate) fn rm_operand(width: Width, modrm: u8, displacement: u16) -> Operand
     ensures { result ≡ rm_operand width modrm displacement }
 {
     if mod_field(modrm) == 3 {

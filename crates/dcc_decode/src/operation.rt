@@ -2,14 +2,14 @@
 //! Programmer's Reference).
 
 ghost use Rattle.std.specs.Prelude.{◌≡◌, ◌≢◌, ◌≤◌, ◌<◌, ◌⊎◌, Some, None};
-ghost use Rattle.dcc_prog.specs.Table.{alu_of, condition_of, signed_condition_of, shift_of, unary_of};
-ghost use Rattle.dcc_prog.specs.declared.cpu.Cpu.TheVariants.{I8086, I186};
+ghost use Rattle.dcc_machine.specs.Table.{alu_of, condition_of, signed_condition_of, shift_of, unary_of};
+ghost use Rattle.dcc_machine.specs.declared.cpu.Cpu.TheVariants.{I8086, I186};
 ghost use Rattle.dcc_decode.specs.Reading.{operation_of, parts_of, HasByteCount};
 
 use crate::fields::Fields;
 use crate::operand;
+use dcc_machine::{Alu, Cond, Count, Cpu, Op, Operand, Plain, Shift, Unary};
 use dcc_num::Width;
-use dcc_prog::{Alu, Cond, Count, Cpu, Op, Operand, Plain, Shift, Unary};
 
 /// The operation of an instruction with these fields, if it is one that the processor has and this project knows.
 #[tactic(auto, using(crate::proofs::LaterRows::processor_rules))]

@@ -10,7 +10,7 @@ use Rattle.dcc_ir.specs.declared.syntax.UnOp.{UnOp}
 use Rattle.dcc_ir.specs.declared.syntax.UnOp.TheVariants.{Neg, Not, IsZero}
 use Rattle.dcc_ir.specs.declared.syntax.BinOp.{BinOp}
 use Rattle.dcc_ir.specs.Tree.{Expr, Const, Get, Load, Unary, Binary, Widen, Part, Join, Choose, Address}
-use Rattle.dcc_ir.specs.Value.{width_of, Scene, value_of, unary_value, binary_value, bytes_at, pattern_at, signed_at, Fits}
+use Rattle.dcc_ir.specs.Value.{width_of, Environment, value_of, unary_value, binary_value, bytes_at, pattern_at, signed_at, Fits}
 use Rattle.dcc_ir.specs.WellFormed.{is_location, is_division, divides_safely, is_expr}
 use Rattle.dcc_ir.specs.Use.{parts_of, got_by, reads_of}
 use Rattle.dcc_ir.proofs.FitLaws.{value_fits}
@@ -203,7 +203,7 @@ module _ (old fresh : List ℕ) (c : Choices) (are : AreBits (old ++ fresh) c) w
 
   -- Values.
 
-  module _ (s t : Scene) (s_bits : s.bits ≡ old) (t_bits : t.bits ≡ all) (base : t.base ≡ s.base) (memory : t.memory ≡ s.memory) (fits : Fits t) where
+  module _ (s t : Environment) (s_bits : s.bits ≡ old) (t_bits : t.bits ≡ all) (base : t.base ≡ s.base) (memory : t.memory ≡ s.memory) (fits : Fits t) where
     abbrev Reads : Loc → Type 0
     Reads l = value_of t (chosen c l) ≡ s.values l
 

@@ -10,7 +10,7 @@ use Rattle.dcc_ir.specs.declared.syntax.Loc.{Loc}
 use Rattle.dcc_ir.specs.declared.syntax.Loc.TheVariants.{Half, Flag, Cell, Temp}
 use Rattle.dcc_ir.specs.Tree.{Expr, Stmt, Set, Graph}
 use Rattle.dcc_ir.specs.Location.{flag_number, same_location, Values, with_value}
-use Rattle.dcc_ir.specs.Value.{Scene, value_of, width_of, Fits}
+use Rattle.dcc_ir.specs.Value.{Environment, value_of, width_of, Fits}
 use Rattle.dcc_ir.specs.WellFormed.{is_location, is_expr, is_stmt, is_exit, is_block, IsGraph}
 use Rattle.dcc_ir.specs.Use.{reads_of}
 use Rattle.dcc_ir.specs.Live.{is_among, reads, block_in}
@@ -189,7 +189,7 @@ module _ (graph after : Graph) (kept : Kept) (is : IsGraph graph) (exact : (f : 
   plain (Temp n) = nat_lt n (length old)
   plain l = true
 
-  abbrev pub told : Values → Scene
+  abbrev pub told : Values → Environment
   told v' = record { bits = after.bits; values = v'; base = 0; memory = [] }
 
   pub record Held (f : FlagName) (b k : ℕ) (v v' : Values) : Type 0 where
@@ -210,7 +210,7 @@ module _ (graph after : Graph) (kept : Kept) (is : IsGraph graph) (exact : (f : 
 
   -- Reads.
 
-  read_choice : (f : FlagName) → is_kept kept f ≡ false → (b k : ℕ) (v v' : Values) → Holding b k v v' → reads_at graph f b k ≡ true → (t : Scene) → t.bits ≡ after.bits → ((n : ℕ) → t.values (Temp n) ≡ v' (Temp n)) →
+  read_choice : (f : FlagName) → is_kept kept f ≡ false → (b k : ℕ) (v v' : Values) → Holding b k v v' → reads_at graph f b k ≡ true → (t : Environment) → t.bits ≡ after.bits → ((n : ℕ) → t.values (Temp n) ≡ v' (Temp n)) →
       value_of t (choice (spot b k).choices f) ≡ v (Flag f)
   read_choice f none b k v v' h read t bits same =
       let held = h.flags f none in
@@ -226,7 +226,7 @@ module _ (graph after : Graph) (kept : Kept) (is : IsGraph graph) (exact : (f : 
       ]
 
   pub read_location : (b k : ℕ) (v v' : Values) → Holding b k v v' → (es : List Expr) → ((f : FlagName) → reads es (Flag f) ≡ true → reads_at graph f b k ≡ true) →
-      (t : Scene) → t.bits ≡ after.bits → ((l : Loc) → t.values l ≡ v' l) → (l : Loc) → is_location old l ≡ true → is_among (flat_map reads_of es) l ≡ true → value_of t (chosen (spot b k).choices l) ≡ v l
+      (t : Environment) → t.bits ≡ after.bits → ((l : Loc) → t.values l ≡ v' l) → (l : Loc) → is_location old l ≡ true → is_among (flat_map reads_of es) l ≡ true → value_of t (chosen (spot b k).choices l) ≡ v l
   read_location b k v v' h es at t bits values (Half r x) ok among = values (Half r x) ∙ h.same (Half r x) refl
   read_location b k v v' h es at t bits values (Cell n x) ok among = values (Cell n x) ∙ h.same (Cell n x) refl
   read_location b k v v' h es at t bits values (Temp n) ok among = values (Temp n) ∙ h.same (Temp n) ok
@@ -239,7 +239,7 @@ module _ (graph after : Graph) (kept : Kept) (is : IsGraph graph) (exact : (f : 
 
   -- all reads of some expressions have the values of before
   pub reads_hold : (b k : ℕ) (v v' : Values) → Holding b k v v' → (es : List Expr) → ((f : FlagName) → reads es (Flag f) ≡ true → reads_at graph f b k ≡ true) →
-      (t : Scene) → t.bits ≡ after.bits → ((l : Loc) → t.values l ≡ v' l) → (e : Expr) → Contains es e → is_expr old e ≡ true → All (λ l. value_of t (chosen (spot b k).choices l) ≡ v l) (reads_of e)
+      (t : Environment) → t.bits ≡ after.bits → ((l : Loc) → t.values l ≡ v' l) → (e : Expr) → Contains es e → is_expr old e ≡ true → All (λ l. value_of t (chosen (spot b k).choices l) ≡ v l) (reads_of e)
   reads_hold b k v v' h es at t bits values e c ok =
       all_had (λ l. value_of t (chosen (spot b k).choices l) ≡ v l) (reads_of e)
       (λ l d. read_location b k v v' h es at t bits values l (All-contains (λ l. is_location old l ≡ true) (reads_of e) l (reads_placed old e ok) d)
@@ -247,7 +247,7 @@ module _ (graph after : Graph) (kept : Kept) (is : IsGraph graph) (exact : (f : 
 
   -- an expression has the value that it had before
   pub value_holds : (b k : ℕ) (v v' : Values) → Holding b k v v' → (es : List Expr) → ((f : FlagName) → reads es (Flag f) ≡ true → reads_at graph f b k ≡ true) →
-      (s t : Scene) → s.bits ≡ old → t.bits ≡ after.bits → t.base ≡ s.base → t.memory ≡ s.memory → Fits t → ((l : Loc) → s.values l ≡ v l) → ((l : Loc) → t.values l ≡ v' l) →
+      (s t : Environment) → s.bits ≡ old → t.bits ≡ after.bits → t.base ≡ s.base → t.memory ≡ s.memory → Fits t → ((l : Loc) → s.values l ≡ v l) → ((l : Loc) → t.values l ≡ v' l) →
       (e : Expr) → Contains es e → is_expr old e ≡ true → value_of t (with_choices (spot b k).choices e) ≡ value_of s e
   value_holds b k v v' h es at s t s_bits t_bits base memory fits s_values t_values e c ok =
       let w = spot b k in
@@ -371,7 +371,7 @@ module _ (graph after : Graph) (kept : Kept) (is : IsGraph graph) (exact : (f : 
 
   -- the temporaries that some definition has left, none of which is made at another place
   left_apart : (f g : FlagName) → is_kept kept f ≡ false → is_kept kept g ≡ false → (flag_number f == flag_number g) ≡ false → (d : Definition) → Defined f d → (b k : ℕ) (e : Expr) → plan.known b ≡ true → rest_at graph b k ≡ Set (Flag g) e ∷ drop (suc k) (stmts b) →
-      (s t : Scene) → t.bits ≡ s.bits → ((n : ℕ) → is_between (length (spot b k).bits) (length (spot b (suc k)).bits) (Temp n) ≡ false → t.values (Temp n) ≡ s.values (Temp n)) → value_of t (left f d) ≡ value_of s (left f d)
+      (s t : Environment) → t.bits ≡ s.bits → ((n : ℕ) → is_between (length (spot b k).bits) (length (spot b (suc k)).bits) (Temp n) ≡ false → t.values (Temp n) ≡ s.values (Temp n)) → value_of t (left f d) ≡ value_of s (left f d)
   left_apart f g none none' other Start h b k e known at s t bits same =
       same (length old) (temp_outside (length (spot b k).bits) (length (spot b (suc k)).bits) (length old) (let p = plan.above b known in let q = start_length b k in omega arith))
   left_apart f g none none' other (At x j) h b k e known at s t bits same =
@@ -409,11 +409,11 @@ module _ (graph after : Graph) (kept : Kept) (is : IsGraph graph) (exact : (f : 
           beyond n low high le = and_false (nat_le low n) (nat_lt n high) (not_lt n high le)
 
   module _ (b k : ℕ) (g : FlagName) (e : Expr) (none : is_kept kept g ≡ false) (known : plan.known b ≡ true) (at : rest_at graph b k ≡ Set (Flag g) e ∷ drop (suc k) (stmts b))
-      (v : Values) (t : Scene) (n : ℕ) (bits : t.bits ≡ after.bits) (h : Holding b k v t.values) (value : value_of t (with_choices (spot b k).choices e) ≡ n) where
+      (v : Values) (t : Environment) (n : ℕ) (bits : t.bits ≡ after.bits) (h : Holding b k v t.values) (value : value_of t (with_choices (spot b k).choices e) ≡ n) where
     abbrev here : Taken
     here = taken (spot b k).bits (with_choices (spot b k).choices e)
 
-    abbrev t' : Scene
+    abbrev t' : Environment
     t' = after_sets here.copies t
 
     o : Own g b k

@@ -8,7 +8,7 @@ use Rattle.dcc_ir.specs.declared.syntax.Loc.TheVariants.{Half, Flag, Cell, Temp}
 use Rattle.dcc_ir.specs.declared.syntax.BinOp.{BinOp}
 use Rattle.dcc_ir.specs.Tree.{Expr, Const, Get, Load, Unary, Binary, Widen, Part, Join, Choose, Address, Stmt, Set, Fetch, Store, Div, Call, Dos}
 use Rattle.dcc_ir.specs.Location.{same_location, location_width, with_value}
-use Rattle.dcc_ir.specs.Value.{is_test, is_comparison, width_of, Scene, value_of, unary_value, binary_value, bytes_at, pattern_at, signed_at}
+use Rattle.dcc_ir.specs.Value.{is_test, is_comparison, width_of, Environment, value_of, unary_value, binary_value, bytes_at, pattern_at, signed_at}
 use Rattle.dcc_ir.specs.WellFormed.{is_width, is_location, divides_safely, is_expr, is_expr_of, is_stmt}
 use Rattle.dcc_ir.proofs.FitLaws.{both}
 use Rattle.dcc_ir.proofs.PathLaws.{decided}
@@ -417,7 +417,7 @@ abbrev pub is_old : ℕ → Loc → Bool
 is_old high (Temp n) = nat_lt n high
 is_old high l = true
 
-module _ (low : ℕ) (s t : Scene) (bits : t.bits ≡ s.bits) where
+module _ (low : ℕ) (s t : Environment) (bits : t.bits ≡ s.bits) where
   -- an expression over temporaries has one value where these have
   pub over_value : (high : ℕ) → ((n : ℕ) → low ≤ n → n < high → t.values (Temp n) ≡ s.values (Temp n)) → (e : Expr) → is_over low high e ≡ true → value_of t e ≡ value_of s e
   over_value high same (Const w n) ok = refl
@@ -447,7 +447,7 @@ module _ (low : ℕ) (s t : Scene) (bits : t.bits ≡ s.bits) where
   over_value high same (Address d) ok = absurd (true≢false (sym ok))
 
 -- a well-formed expression has one value where the temporaries that it may read, and all else, have
-old_value : (old : List ℕ) (s t : Scene) → t.bits ≡ s.bits → t.base ≡ s.base → t.memory ≡ s.memory → ((l : Loc) → is_location old l ≡ true → t.values l ≡ s.values l) →
+old_value : (old : List ℕ) (s t : Environment) → t.bits ≡ s.bits → t.base ≡ s.base → t.memory ≡ s.memory → ((l : Loc) → is_location old l ≡ true → t.values l ≡ s.values l) →
     (e : Expr) → is_expr old e ≡ true → value_of t e ≡ value_of s e
 old_value old s t bits base memory same (Const w n) ok = refl
 old_value old s t bits base memory same (Get l) ok = same l ok
@@ -472,12 +472,12 @@ old_value old s t bits base memory same (Choose x a b) ok =
 old_value old s t bits base memory same (Address d) ok = ap (λ n. (n + d) % 65536) base
 
 -- the scene after statements that set locations
-abbrev pub after_sets : List Stmt → Scene → Scene
+abbrev pub after_sets : List Stmt → Environment → Environment
 after_sets [] s = s
 after_sets (Set l e ∷ rest) s = after_sets rest (record s { values = with_value s.values l (value_of s e) })
 after_sets (stmt ∷ rest) s = after_sets rest s
 
-pub after_bits : (cs : List Stmt) (s : Scene) → (after_sets cs s).bits ≡ s.bits
+pub after_bits : (cs : List Stmt) (s : Environment) → (after_sets cs s).bits ≡ s.bits
 after_bits [] s = refl
 after_bits (Set l e ∷ rest) s = after_bits rest (record s { values = with_value s.values l (value_of s e) })
 after_bits (Fetch l w a ∷ rest) s = after_bits rest s
@@ -486,7 +486,7 @@ after_bits (Div l e ∷ rest) s = after_bits rest s
 after_bits (Call r n a d ∷ rest) s = after_bits rest s
 after_bits (Dos n p a ∷ rest) s = after_bits rest s
 
-pub after_base : (cs : List Stmt) (s : Scene) → (after_sets cs s).base ≡ s.base
+pub after_base : (cs : List Stmt) (s : Environment) → (after_sets cs s).base ≡ s.base
 after_base [] s = refl
 after_base (Set l e ∷ rest) s = after_base rest (record s { values = with_value s.values l (value_of s e) })
 after_base (Fetch l w a ∷ rest) s = after_base rest s
@@ -495,7 +495,7 @@ after_base (Div l e ∷ rest) s = after_base rest s
 after_base (Call r n a d ∷ rest) s = after_base rest s
 after_base (Dos n p a ∷ rest) s = after_base rest s
 
-pub after_memory : (cs : List Stmt) (s : Scene) → (after_sets cs s).memory ≡ s.memory
+pub after_memory : (cs : List Stmt) (s : Environment) → (after_sets cs s).memory ≡ s.memory
 after_memory [] s = refl
 after_memory (Set l e ∷ rest) s = after_memory rest (record s { values = with_value s.values l (value_of s e) })
 after_memory (Fetch l w a ∷ rest) s = after_memory rest s
@@ -504,7 +504,7 @@ after_memory (Div l e ∷ rest) s = after_memory rest s
 after_memory (Call r n a d ∷ rest) s = after_memory rest s
 after_memory (Dos n p a ∷ rest) s = after_memory rest s
 
-after_append : (xs ys : List Stmt) (s : Scene) → after_sets (xs ++ ys) s ≡ after_sets ys (after_sets xs s)
+after_append : (xs ys : List Stmt) (s : Environment) → after_sets (xs ++ ys) s ≡ after_sets ys (after_sets xs s)
 after_append [] ys s = refl
 after_append (Set l e ∷ rest) ys s = after_append rest ys (record s { values = with_value s.values l (value_of s e) })
 after_append (Fetch l w a ∷ rest) ys s = after_append rest ys s
@@ -524,7 +524,7 @@ module _ (low : ℕ) (bits : List ℕ) where
   not_written n (Flag f) there none = refl
   not_written n (Cell k h) there none = refl
 
-  pub sets_same : (cs : List Stmt) → list_all (is_copy low bits) cs ≡ true → (s : Scene) (l : Loc) → is_between low (length bits) l ≡ false → (after_sets cs s).values l ≡ s.values l
+  pub sets_same : (cs : List Stmt) → list_all (is_copy low bits) cs ≡ true → (s : Environment) (l : Loc) → is_between low (length bits) l ≡ false → (after_sets cs s).values l ≡ s.values l
   sets_same [] ok s l none = refl
   sets_same (Set (Temp n) e ∷ cs) ok s l none =
       let parts = both (is_copy low bits (Set (Temp n) e)) (list_all (is_copy low bits) cs) ok in
@@ -543,7 +543,7 @@ module _ (low : ℕ) (bits : List ℕ) where
 
 -- the value after the copies is that of the expression before
 abbrev pub HasValue : List ℕ → Expr → Taken → Type 0
-HasValue bits e t = (s : Scene) (more : List ℕ) → s.bits ≡ (bits ++ t.widths) ++ more → value_of (after_sets t.copies s) t.value ≡ value_of s e
+HasValue bits e t = (s : Environment) (more : List ℕ) → s.bits ≡ (bits ++ t.widths) ++ more → value_of (after_sets t.copies s) t.value ≡ value_of s e
 
 copied_value : (bits : List ℕ) (e : Expr) → HasValue bits e (copied bits e)
 copied_value bits e s more is = ap (λ b. if b then value_of s e else s.values (Temp (length bits))) (eq-eqb (length bits) (length bits) refl)
@@ -572,7 +572,7 @@ temp_outside low high n less = ap (λ b. b && nat_lt n high) (not_le low n less)
     not_le a b less = grind arith
 
 -- the widths in the scene
-scene_width : (bits : List ℕ) (e : Expr) (t : Taken) (s : Scene) (more : List ℕ) → is_expr bits e ≡ true → IsTaken bits e t → s.bits ≡ (bits ++ t.widths) ++ more → width_of s.bits t.value ≡ width_of s.bits e
+scene_width : (bits : List ℕ) (e : Expr) (t : Taken) (s : Environment) (more : List ℕ) → is_expr bits e ≡ true → IsTaken bits e t → s.bits ≡ (bits ++ t.widths) ++ more → width_of s.bits t.value ≡ width_of s.bits e
 scene_width bits e t s more ok h is =
     let a = expr_more (bits ++ t.widths) more t.value h.value.formed in
     let assoc : (bits ++ t.widths) ++ more ≡ bits ++ (t.widths ++ more) = append_assoc bits t.widths more in
@@ -580,14 +580,14 @@ scene_width bits e t s more ok h is =
     ap (λ l. width_of l t.value) is ∙ a.width ∙ h.value.width ∙ sym b.width ∙ ap (λ l. width_of l e) (sym assoc) ∙ ap (λ l. width_of l e) (sym is)
 
 -- two expressions, one copied after the other
-record TwoValues (bits : List ℕ) (a b : Expr) (t u : Taken) (s : Scene) : Type 0 where
+record TwoValues (bits : List ℕ) (a b : Expr) (t u : Taken) (s : Environment) : Type 0 where
   first : value_of (after_sets (t.copies ++ u.copies) s) t.value ≡ value_of s a
   second : value_of (after_sets (t.copies ++ u.copies) s) u.value ≡ value_of s b
   first_width : width_of s.bits t.value ≡ width_of s.bits a
   second_width : width_of s.bits u.value ≡ width_of s.bits b
 
 two_values : (bits : List ℕ) (a b : Expr) (t u : Taken) → is_expr bits a ≡ true → is_expr bits b ≡ true → IsTaken bits a t → IsTaken (bits ++ t.widths) b u → HasValue bits a t → HasValue (bits ++ t.widths) b u →
-    (s : Scene) (more : List ℕ) → s.bits ≡ (bits ++ (t.widths ++ u.widths)) ++ more → TwoValues bits a b t u s
+    (s : Environment) (more : List ℕ) → s.bits ≡ (bits ++ (t.widths ++ u.widths)) ++ more → TwoValues bits a b t u s
 two_values bits a b t u ok_a ok_b h k first second s more is =
     let assoc : (bits ++ t.widths) ++ u.widths ≡ bits ++ (t.widths ++ u.widths) = append_assoc bits t.widths u.widths in
     let s_all : s.bits ≡ ((bits ++ t.widths) ++ u.widths) ++ more = is ∙ ap (λ l. l ++ more) (sym assoc) in
@@ -597,12 +597,12 @@ two_values bits a b t u ok_a ok_b h k first second s more is =
     let mid_bits : mid.bits ≡ ((bits ++ t.widths) ++ u.widths) ++ more = after_bits t.copies s ∙ s_all in
     let b_more = expr_more bits t.widths b ok_b in
     record {
-      first = ap (λ (x : Scene). value_of x t.value) end
+      first = ap (λ (x : Environment). value_of x t.value) end
           ∙ over_value (length bits) mid (after_sets u.copies mid) (after_bits u.copies mid) (length (bits ++ t.widths))
           (λ n low high. sets_same (length (bits ++ t.widths)) ((bits ++ t.widths) ++ u.widths) u.copies k.copies mid (Temp n) (temp_outside (length (bits ++ t.widths)) (length ((bits ++ t.widths) ++ u.widths)) n high))
           t.value h.over
           ∙ first s (u.widths ++ more) s_first;
-      second = ap (λ (x : Scene). value_of x u.value) end ∙ second mid more mid_bits
+      second = ap (λ (x : Environment). value_of x u.value) end ∙ second mid more mid_bits
           ∙ old_value bits s mid (after_bits t.copies s) (after_base t.copies s) (after_memory t.copies s)
           (λ l there. sets_same (length bits) (bits ++ t.widths) t.copies h.copies s l (old_outside bits (bits ++ t.widths) l there)) b ok_b;
       first_width = scene_width bits a t s (u.widths ++ more) ok_a h s_first;
@@ -674,11 +674,11 @@ taken_value bits (Choose x a b) all ok = λ s more is.
     let still = λ (n : ℕ) (high : n < top). sets_same top ((bits ++ t.widths ++ u.widths) ++ v.widths) v.copies c.third.copies mid (Temp n) (temp_outside top (length ((bits ++ t.widths ++ u.widths) ++ v.widths)) n high) in
     let x_over = over_wider (length bits) (length (bits ++ t.widths)) 0 top (omega arith) (omega arith) t.value c.first.over in
     let a_over = over_wider (length (bits ++ t.widths)) top 0 top (omega arith) (omega arith) u.value c.second.over in
-    let vx = ap (λ (z : Scene). value_of z t.value) end ∙ over_value 0 mid (after_sets v.copies mid) (after_bits v.copies mid) top (λ n low high. still n high) t.value x_over ∙ first.first in
-    let va = ap (λ (z : Scene). value_of z u.value) end ∙ over_value 0 mid (after_sets v.copies mid) (after_bits v.copies mid) top (λ n low high. still n high) u.value a_over ∙ first.second in
+    let vx = ap (λ (z : Environment). value_of z t.value) end ∙ over_value 0 mid (after_sets v.copies mid) (after_bits v.copies mid) top (λ n low high. still n high) t.value x_over ∙ first.first in
+    let va = ap (λ (z : Environment). value_of z u.value) end ∙ over_value 0 mid (after_sets v.copies mid) (after_bits v.copies mid) top (λ n low high. still n high) u.value a_over ∙ first.second in
     let copies_all = all_append (is_copy (length bits) (bits ++ t.widths ++ u.widths)) t.copies u.copies (copies_more (length bits) (bits ++ t.widths) u.widths t.copies c.first.copies)
     (copies_lower (length (bits ++ t.widths)) (length bits) (bits ++ t.widths ++ u.widths) u.copies (omega arith) c.second.copies) in
-    let vb = ap (λ (z : Scene). value_of z v.value) end ∙ taken_value (bits ++ t.widths ++ u.widths) b c.second_widths c.other mid more mid_bits
+    let vb = ap (λ (z : Environment). value_of z v.value) end ∙ taken_value (bits ++ t.widths ++ u.widths) b c.second_widths c.other mid more mid_bits
     ∙ old_value bits s mid (after_bits (t.copies ++ u.copies) s) (after_base (t.copies ++ u.copies) s) (after_memory (t.copies ++ u.copies) s)
     (λ y there. sets_same (length bits) (bits ++ t.widths ++ u.widths) (t.copies ++ u.copies) copies_all s y (old_outside bits (bits ++ t.widths ++ u.widths) y there)) b c.parts.other in
     let last = after_sets (t.copies ++ u.copies ++ v.copies) s in

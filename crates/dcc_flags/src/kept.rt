@@ -105,7 +105,7 @@ fn is_kept(alloc: Global, f: FlagName, walk: &Walk<'_>) -> Result<bool, AllocErr
 }
 
 /// Which flags are kept.
-pub fn kept_flags(alloc: Global, walk: &Walk<'_>) -> Result<Kept, AllocError>
+pub(crate) fn kept_flags(alloc: Global, walk: &Walk<'_>) -> Result<Kept, AllocError>
     requires graph { IsGraph (graph_of walk.now.graph.now) }
     requires next { rows walk.now.next.now.items ≡ successors_of (graph_of walk.now.graph.now) }
     requires order { IsReversePostOrder (graph_of walk.now.graph.now) walk.now.order.now }

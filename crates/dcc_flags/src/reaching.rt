@@ -14,7 +14,7 @@ use dcc_num::FlagName;
 use std::alloc::{AllocError, Global};
 
 // What reaches past the statements of a block.
-pub fn moved_past(f: FlagName, source: Source, block: usize, stmts: &[Stmt]) -> Source
+pub(crate) fn moved_past(f: FlagName, source: Source, block: usize, stmts: &[Stmt]) -> Source
     ensures { result ≡ spec.moved_past f source block 0 (map stmt_of stmts.now) }
 {
     let mut source = source;

@@ -13,7 +13,7 @@ use dcc_ir::{End, Expr, Loc, Stmt};
 use dcc_num::FlagName;
 
 // Whether a location is the flag.
-pub fn is_flag(f: FlagName, location: Loc) -> bool
+pub(crate) fn is_flag(f: FlagName, location: Loc) -> bool
     ensures { result ≡ same_location (Flag f) location }
 {
     match location {
@@ -30,7 +30,7 @@ pub fn is_among(f: FlagName, locations: &[Loc]) -> bool
 }
 
 // Whether a statement is a definition of the flag.
-pub fn defines(f: FlagName, stmt: &Stmt) -> bool
+pub(crate) fn defines(f: FlagName, stmt: &Stmt) -> bool
     ensures { result ≡ spec.defines f (stmt_of stmt.now) }
 {
     match stmt {

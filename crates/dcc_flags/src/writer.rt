@@ -49,7 +49,7 @@ fn bits_in(bits: &[u8], e: &Expr) -> u8
 /// # Errors
 ///
 /// Where there are 2^32.
-pub fn next_temporary(bits: &[u8]) -> Result<u32, AllocError>
+pub(crate) fn next_temporary(bits: &[u8]) -> Result<u32, AllocError>
     ensures { IfOk result (λ n. n ≡ length bits.now) }
 {
     u32::try_from(bits.len()).map_err(|_| AllocError)

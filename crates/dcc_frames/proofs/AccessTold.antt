@@ -1,13 +1,14 @@
 -- The instructions that are refused for what they access or pass, and that no others are.
 use Rattle.std.proofs.Common.{◌≡◌, ◌⊎◌, inl, inr, ◌<◌, ℕ, ◌+◌, ◌-◌, ◌*◌, ◌==◌, ℤ, pos, ◌-ℤ◌, ◌≤ℤ◌, ◌<ℤ◌, Bool, true, false, not, cond, ◌&&◌, ◌||◌, All, Contains, Option, Some, None, refl, sym, ap, ◌∙◌, subst, true≢false, arith}
-use Rattle.std.specs.Prelude.{int_le}
+use Rattle.std.specs.Prelude.{int_le, if◌then◌else◌}
 use Rattle.std.proofs.lemmas.Int.{ints}
 use Rattle.std.proofs.lemmas.Bool.{cases_lt}
 use Rattle.std.proofs.lemmas.Bool.Decides.{Decides-eqb}
 use Rattle.std.proofs.lemmas.List.Elements.{All-contains}
-use Rattle.dcc_prog.specs.declared.image.Image.{Image}
+use Rattle.dcc_machine.specs.declared.image.Image.{Image}
 use Rattle.dcc_prog.specs.declared.procedure.Layout.{Layout}
-use Rattle.dcc_prog.specs.declared.instr.Op.TheVariants.{Call}
+use Rattle.dcc_machine.specs.declared.instr.Op.TheVariants.{Call}
+use Rattle.dcc_prog.specs.declared.refusal.FrameFault.TheVariants.{AccessOutside, AddressOutside, NoAddress}
 use Rattle.dcc_prog.specs.Trail.{StandsAt, IsNode, called}
 use Rattle.dcc_prog.specs.FrameForm.{is_framed}
 use Rattle.dcc_prog.specs.Height.{HasHeight}
@@ -18,7 +19,7 @@ use Rattle.dcc_frames.specs.declared.steps.Step.{Step}
 use Rattle.dcc_frames.specs.declared.body.Body.{Body}
 use Rattle.dcc_frames.specs.Bytes.{as_span, as_bytes, is_between}
 use Rattle.dcc_frames.specs.Used.{access_of, start_of}
-use Rattle.dcc_frames.specs.Inside.{passes, is_inside, byte_from, has_access_inside, has_start_inside, is_allowed, own_of, passed_of, has_words}
+use Rattle.dcc_frames.specs.Inside.{passes, is_inside, byte_from, has_access_inside, has_start_inside, is_allowed, fault_in, own_of, passed_of, has_words}
 use Rattle.dcc_frames.specs.Ready.{lacks_addresses}
 use Rattle.dcc_frames.specs.Body.{IsStep, IsBody, HasCounts}
 use Rattle.dcc_frames.proofs.Told.{access-told, access-tells, start-told, start-tells}
@@ -129,7 +130,7 @@ module _ (image : Image) (layout : Layout) (body : Body) (is : IsBody image layo
 
   access-bad :
       (step : Step) → IsStep image layout body.entry step → has_access_inside body.framed body.args step ≡ false
-      → HasBadAccess image layout body.entry step.at
+      → HasBadAccess image layout body.entry step.at AccessOutside
   access-bad step s e =
       let f = failing (λ (bytes : Bytes). is_inside body.args step.height bytes) (access_of body.framed step.op) e in
       access_outside (access-tells image layout body.entry step s f.0
@@ -140,16 +141,27 @@ module _ (image : Image) (layout : Layout) (body : Body) (is : IsBody image layo
       (step : Step) → IsStep image layout body.entry step
       → has_start_inside body.args (lacks_addresses delta body.framed) step ≡ false
       → HasBadAccess image layout body.entry step.at
+      (if lacks_addresses delta body.framed then NoAddress else AddressOutside)
   start-bad step s e =
       let lacks = lacks_addresses delta body.framed in
       let f = failing (λ (start : ℤ). not lacks && is_inside body.args step.height (byte_from start))
       (start_of step.op step.height) e in
       let starts = start-tells image layout body.entry step s f.0 f.1 in
       elim (and-cases (not lacks) (is_inside body.args step.height (byte_from f.0)) f.2) [
-        | inl without ↦ no_addresses (lacks-told (by lacks without)) starts
-        | inr out ↦ start_outside starts s.has (outside step.height (byte_from f.0) out.1)
+        | inl without ↦
+            let l = by lacks without in
+            subst (λ b. HasBadAccess image layout body.entry step.at (if b then NoAddress else AddressOutside)) (sym l)
+            (no_addresses (lacks-told l) starts)
+        | inr out ↦
+            subst (λ b. HasBadAccess image layout body.entry step.at (if b then NoAddress else AddressOutside))
+            (sym (has lacks out.0))
+            (start_outside starts s.has (outside step.height (byte_from f.0) out.1))
       ]
     where
+      has : (b : Bool) → not b ≡ true → b ≡ false
+      has true e = absurd (true≢false (sym e))
+      has false e = refl
+
       by : (b : Bool) → not b ≡ false → b ≡ true
       by true e = refl
       by false e = absurd (true≢false e)
@@ -158,11 +170,14 @@ module _ (image : Image) (layout : Layout) (body : Body) (is : IsBody image layo
       (step : Step) → IsStep image layout body.entry step
       → is_allowed body.framed body.args (lacks_addresses delta body.framed) step ≡ false
       → HasBadAccess image layout body.entry step.at
+      (fault_in body.framed body.args (lacks_addresses delta body.framed) step)
   access-refused step s e =
+      let At : Bool → Type 0 = λ inside. HasBadAccess image layout body.entry step.at
+      (if inside then (if lacks_addresses delta body.framed then NoAddress else AddressOutside) else AccessOutside) in
       elim (and-cases (has_access_inside body.framed body.args step)
       (has_start_inside body.args (lacks_addresses delta body.framed) step) e) [
-        | inl access ↦ access-bad step s access
-        | inr rest ↦ start-bad step s rest.1
+        | inl access ↦ subst At (sym access) (access-bad step s access)
+        | inr rest ↦ subst At (sym rest.0) (start-bad step s rest.1)
       ]
 
   module _

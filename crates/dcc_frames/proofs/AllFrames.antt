@@ -3,12 +3,13 @@ use Rattle.std.proofs.Common.{◌≡◌, ◌<◌, ℕ, zero, suc, ◌+◌, List,
 use Rattle.std.specs.List.{AllZip}
 use Rattle.std.proofs.lemmas.List.{take_more}
 use Rattle.std.proofs.lemmas.List.Elements.{All-contains}
-use Rattle.dcc_prog.specs.declared.image.Image.{Image}
+use Rattle.dcc_machine.specs.declared.image.Image.{Image}
 use Rattle.dcc_prog.specs.declared.procedure.Layout.{Layout}
 use Rattle.dcc_prog.specs.declared.procedure.Proc.{Proc}
 use Rattle.dcc_prog.specs.declared.frame.Heights.{Heights}
 use Rattle.dcc_prog.specs.declared.frame.Frame.{Frame}
 use Rattle.dcc_prog.specs.declared.frame.Cells.{Cells}
+use Rattle.dcc_prog.specs.declared.refusal.ConstructKind.{ConstructKind}
 use Rattle.dcc_prog.specs.declared.refusal.LimitName.{LimitName}
 use Rattle.dcc_prog.specs.Trail.{IsEntry}
 use Rattle.dcc_prog.specs.Construct.{IsOfFrames}
@@ -148,7 +149,7 @@ module _ (image : Image) (layout : Layout) (procs : List Proc) (heights : Height
           let e = element frames h.place (let less = h.inside in let long = lengths in omega (arith, less, long)) in
           (e.0, subst (λ n. IsFrameAt image layout n e.0) h.entry_is (frame-at h.place e.0 h.inside e.1 h.proc h.read))
 
-      no-construct : (kind at : ℕ) → ¬ IsOfFrames kind image layout at
+      no-construct : (kind : ConstructKind) (at : ℕ) → ¬ IsOfFrames kind image layout at
       no-construct kind at h = (of-entry h.entry h.is_entry).1.clean kind at h.node h.stands
 
       no-limit : (what : LimitName) (count : ℕ) → ¬ IsAboveInFrames image layout what count

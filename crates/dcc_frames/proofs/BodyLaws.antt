@@ -1,6 +1,6 @@
 -- One procedure with its heights.
 use Rattle.std.proofs.Common.{◌≡◌, ◌≤◌, ◌<◌, ℕ, Bool, List, sym, ap, ◌∙◌, subst}
-use Rattle.dcc_prog.specs.declared.image.Image.{Image}
+use Rattle.dcc_machine.specs.declared.image.Image.{Image}
 use Rattle.dcc_prog.specs.declared.procedure.Layout.{Layout}
 use Rattle.dcc_prog.specs.declared.procedure.Proc.{Proc}
 use Rattle.dcc_prog.specs.declared.refusal.LimitName.TheVariants.{Arguments}

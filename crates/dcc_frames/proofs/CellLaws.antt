@@ -25,25 +25,25 @@ overfull-longer few more Memory le h = tt
 overfull-longer few more (Construct kind at) le h = absurd h
 
 overfull-all :
-    (runs : List Piece) (i : ℕ) (d : Piece) (refusal : Refusal) → i < length runs
-    → IsOverfull (cells_from (take i runs) ++ option_to_list (small_cell (get_or runs i d))) refusal
-    → IsOverfull (cells_from runs) refusal
-overfull-all runs i d refusal inside h =
-    let f : Piece → List Cell = λ run. option_to_list (small_cell run) in
-    let one : flat_map f (get_or runs i d ∷ []) ≡ f (get_or runs i d) = append-nil (f (get_or runs i d)) in
-    let is : cells_from (take (i + 1) runs) ≡ cells_from (take i runs) ++ f (get_or runs i d) =
-    ap (flat_map f) (take_more runs i d inside)
-    ∙ flat_map-append f (take i runs) (get_or runs i d ∷ [])
-    ∙ ap (λ l. flat_map f (take i runs) ++ l) one in
-    overfull-longer (cells_from (take (i + 1) runs)) (cells_from runs) refusal (flat-shorter f (i + 1) runs)
+    (extents : List Piece) (i : ℕ) (d : Piece) (refusal : Refusal) → i < length extents
+    → IsOverfull (cells_from (take i extents) ++ option_to_list (small_cell (get_or extents i d))) refusal
+    → IsOverfull (cells_from extents) refusal
+overfull-all extents i d refusal inside h =
+    let f : Piece → List Cell = λ extent. option_to_list (small_cell extent) in
+    let one : flat_map f (get_or extents i d ∷ []) ≡ f (get_or extents i d) = append-nil (f (get_or extents i d)) in
+    let is : cells_from (take (i + 1) extents) ≡ cells_from (take i extents) ++ f (get_or extents i d) =
+    ap (flat_map f) (take_more extents i d inside)
+    ∙ flat_map-append f (take i extents) (get_or extents i d ∷ [])
+    ∙ ap (λ l. flat_map f (take i extents) ++ l) one in
+    overfull-longer (cells_from (take (i + 1) extents)) (cells_from extents) refusal (flat-shorter f (i + 1) extents)
     (subst (λ l. IsOverfull l refusal) (sym is) h)
 
 pub overfull-read :
-    (runs : List Piece) (i : ℕ) (d : Piece) (cells : List Cell) (cell : Option Cell) (refusal : Refusal)
-    → i < length runs
-    → cells ≡ cells_from (take i runs) → cell ≡ small_cell (get_or runs i d)
-    → IsOverfull (cells ++ option_to_list cell) refusal → IsOverfull (cells_from runs) refusal
-overfull-read runs i d cells cell refusal inside first second h =
-    overfull-all runs i d refusal inside
-    (subst (λ l. IsOverfull (l ++ option_to_list (small_cell (get_or runs i d))) refusal) first
+    (extents : List Piece) (i : ℕ) (d : Piece) (cells : List Cell) (cell : Option Cell) (refusal : Refusal)
+    → i < length extents
+    → cells ≡ cells_from (take i extents) → cell ≡ small_cell (get_or extents i d)
+    → IsOverfull (cells ++ option_to_list cell) refusal → IsOverfull (cells_from extents) refusal
+overfull-read extents i d cells cell refusal inside first second h =
+    overfull-all extents i d refusal inside
+    (subst (λ l. IsOverfull (l ++ option_to_list (small_cell (get_or extents i d))) refusal) first
     (subst (λ o. IsOverfull (cells ++ option_to_list o) refusal) second h))

@@ -2,6 +2,7 @@
 use Rattle.std.proofs.Common.{◌≡◌, ◌<◌, ◌≤◌, ℕ, ◌+◌, Bool, true, false, List, take, length, get_or, All, Contains, subst}
 use Rattle.std.proofs.lemmas.List.{take_all}
 use Rattle.std.proofs.lemmas.List.Elements.{All-more, Contains-get_or}
+use Rattle.dcc_prog.specs.declared.refusal.ConstructKind.{ConstructKind}
 use Rattle.dcc_prog.specs.declared.refusal.Refusal.TheVariants.{Construct}
 use Rattle.dcc_frames.specs.declared.steps.Step.{Step}
 use Rattle.dcc_frames.specs.Inside.{IsToldOf, told}
@@ -15,8 +16,8 @@ module _ (allowed : Step → Bool) (steps list : List Step) (same : list ≡ ste
       All-more (λ (step : Step). allowed step ≡ true) steps i d (subst (λ l. i < length l) same inside) before
       (subst (λ l. allowed (get_or l i d) ≡ true) same here)
 
-  pub told-at : (kind : ℕ) → allowed (get_or list i d) ≡ false
-      → IsToldOf steps allowed kind (Construct kind (get_or list i d).at)
+  pub told-at : (kind : Step → ConstructKind) → allowed (get_or list i d) ≡ false
+      → IsToldOf steps allowed kind (Construct (kind (get_or list i d)) (get_or list i d).at)
   told-at kind bad = told (subst (λ l. Contains l (get_or list i d)) same (Contains-get_or list i d inside)) bad
 
 pub allowed-all :

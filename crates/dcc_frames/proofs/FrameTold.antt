@@ -59,31 +59,32 @@ cell-bytes bytes some small = by (int_le bytes.end (bytes.first +ℤ pos 1)) ref
         let le = small-told bytes small in omega (arith, ints, le, lt))
 
 small-case :
-    (run : Piece) (cell : Cell) (b : Bool) → is_small run.bytes ≡ b → cond b (Some (cell_of run.bytes)) None ≡ Some cell
-    → (is_small run.bytes ≡ true) × (cell_of run.bytes ≡ cell)
-small-case run cell true is e = (is, cc)
-small-case run cell false is e = absurd (cc)
+    (extent : Piece) (cell : Cell) (b : Bool) → is_small extent.bytes ≡ b → cond b (Some (cell_of extent.bytes)) None
+    ≡ Some cell
+    → (is_small extent.bytes ≡ true) × (cell_of extent.bytes ≡ cell)
+small-case extent cell true is e = (is, cc)
+small-case extent cell false is e = absurd (cc)
 
--- the run of a cell
-pub record HasRun (runs : List Piece) (cell : Cell) : Type 0 where
-  pub run : Piece
-  pub among : Contains runs run
-  pub small : is_small run.bytes ≡ true
-  pub cell_is : cell_of run.bytes ≡ cell
+-- the extent of a cell
+pub record HasExtent (extents : List Piece) (cell : Cell) : Type 0 where
+  pub extent : Piece
+  pub among : Contains extents extent
+  pub small : is_small extent.bytes ≡ true
+  pub cell_is : cell_of extent.bytes ≡ cell
 
-pub cell-run : (runs : List Piece) (cell : Cell) → Contains (cells_from runs) cell → HasRun runs cell
-cell-run runs cell among =
-    let f = from-flat (λ run. option_to_list (small_cell run)) runs cell among in
+pub cell-extent : (extents : List Piece) (cell : Cell) → Contains (cells_from extents) cell → HasExtent extents cell
+cell-extent extents cell among =
+    let f = from-flat (λ extent. option_to_list (small_cell extent)) extents cell among in
     let s = small-case f.source cell (is_small f.source.bytes) refl (in-some (small_cell f.source) cell f.is_in) in
-    record { run = f.source; among = f.among; small = s.0; cell_is = s.1 }
+    record { extent = f.source; among = f.among; small = s.0; cell_is = s.1 }
 
-pub run-cell : (runs : List Piece) (run : Piece) → Contains runs run → is_small run.bytes ≡ true
-    → Contains (cells_from runs) (cell_of run.bytes)
-run-cell runs run among small =
-    to-flat (λ run. option_to_list (small_cell run)) runs run (cell_of run.bytes) among
-    (some-in (small_cell run) (cell_of run.bytes) (ap (λ b. cond b (Some (cell_of run.bytes)) None) small))
+pub extent-cell : (extents : List Piece) (extent : Piece) → Contains extents extent → is_small extent.bytes ≡ true
+    → Contains (cells_from extents) (cell_of extent.bytes)
+extent-cell extents extent among small =
+    to-flat (λ extent. option_to_list (small_cell extent)) extents extent (cell_of extent.bytes) among
+    (some-in (small_cell extent) (cell_of extent.bytes) (ap (λ b. cond b (Some (cell_of extent.bytes)) None) small))
 
--- the cells ascend where the runs do
+-- the cells ascend where the extents do
 pairs-head : {A : Type 0} (R : A → A → Type 0) (x : A) (xs : List A) → AllPairs R (x ∷ xs) → (y : A)
     → Contains xs y → R x y
 pairs-head R x xs pairs y (k, inside, is) = subst (R x) is (pairs 0 (suc k) y (omega arith) (omega (arith, inside)))
@@ -92,72 +93,76 @@ pairs-tail : {A : Type 0} (R : A → A → Type 0) (x : A) (xs : List A) → All
 pairs-tail R x xs pairs i j d less inside = pairs (suc i) (suc j) d (omega (arith, less)) (omega (arith, inside))
 
 pub cells-ascend :
-    (runs : List Piece) → AllPairs (λ (a b : Piece). a.bytes.first <ℤ b.bytes.first) runs
-    → AllPairs (λ (a b : Cell). a.first <ℤ b.first) (cells_from runs)
+    (extents : List Piece) → AllPairs (λ (a b : Piece). a.bytes.first <ℤ b.bytes.first) extents
+    → AllPairs (λ (a b : Cell). a.first <ℤ b.first) (cells_from extents)
 cells-ascend [] pairs = λ i j d less inside. absurd (omega (arith, inside))
-cells-ascend (run ∷ runs) pairs =
-    by (cells-ascend runs (pairs-tail (λ (a b : Piece). a.bytes.first <ℤ b.bytes.first) run runs pairs))
-    (is_small run.bytes) refl
+cells-ascend (extent ∷ extents) pairs =
+    by (cells-ascend extents (pairs-tail (λ (a b : Piece). a.bytes.first <ℤ b.bytes.first) extent extents pairs))
+    (is_small extent.bytes) refl
   where
-    first-of : (cell : Cell) → Contains (cells_from runs) cell → run.bytes.first <ℤ cell.first
+    first-of : (cell : Cell) → Contains (cells_from extents) cell → extent.bytes.first <ℤ cell.first
     first-of cell among =
-        let h = cell-run runs cell among in
-        subst (λ (c : Cell). run.bytes.first <ℤ c.first) h.cell_is
-        (pairs-head (λ (a b : Piece). a.bytes.first <ℤ b.bytes.first) run runs pairs h.run h.among)
+        let h = cell-extent extents cell among in
+        subst (λ (c : Cell). extent.bytes.first <ℤ c.first) h.cell_is
+        (pairs-head (λ (a b : Piece). a.bytes.first <ℤ b.bytes.first) extent extents pairs h.extent h.among)
 
     by :
-        AllPairs (λ (a b : Cell). a.first <ℤ b.first) (cells_from runs) → (b : Bool) → is_small run.bytes ≡ b
-        → AllPairs (λ (a b : Cell). a.first <ℤ b.first) (cells_from (run ∷ runs))
+        AllPairs (λ (a b : Cell). a.first <ℤ b.first) (cells_from extents) → (b : Bool) → is_small extent.bytes ≡ b
+        → AllPairs (λ (a b : Cell). a.first <ℤ b.first) (cells_from (extent ∷ extents))
     by rest true e =
         subst (λ b. AllPairs (λ (a b : Cell). a.first <ℤ b.first)
-        (option_to_list (cond b (Some (cell_of run.bytes)) None) ++ cells_from runs)) (sym e)
-        (AllPairs-cons (λ (a b : Cell). a.first <ℤ b.first) (cell_of run.bytes) (cells_from runs)
-        (λ k d inside. first-of (get_or (cells_from runs) k d) (Contains-get_or (cells_from runs) k d inside)) rest)
+        (option_to_list (cond b (Some (cell_of extent.bytes)) None) ++ cells_from extents)) (sym e)
+        (AllPairs-cons (λ (a b : Cell). a.first <ℤ b.first) (cell_of extent.bytes) (cells_from extents)
+        (λ k d inside. first-of (get_or (cells_from extents) k d) (Contains-get_or (cells_from extents) k d inside))
+        rest)
     by rest false e =
         subst (λ b. AllPairs (λ (a b : Cell). a.first <ℤ b.first)
-        (option_to_list (cond b (Some (cell_of run.bytes)) None) ++ cells_from runs)) (sym e) rest
+        (option_to_list (cond b (Some (cell_of extent.bytes)) None) ++ cells_from extents)) (sym e) rest
 
 -- Starts.
 
 long-case :
-    (run : Piece) (start : ℤ) (b : Bool) → is_small run.bytes ≡ b → cond b None (Some run.bytes.first) ≡ Some start
-    → (is_small run.bytes ≡ false) × (run.bytes.first ≡ start)
-long-case run start true is e = absurd (cc)
-long-case run start false is e = (is, cc)
+    (extent : Piece) (start : ℤ) (b : Bool) → is_small extent.bytes ≡ b → cond b None (Some extent.bytes.first)
+    ≡ Some start
+    → (is_small extent.bytes ≡ false) × (extent.bytes.first ≡ start)
+long-case extent start true is e = absurd (cc)
+long-case extent start false is e = (is, cc)
 
-pub data IsStart (steps : List Step) (runs : List Piece) (start : ℤ) : Type 0 where
-  of_step : {step : Step} → Contains steps step → start_of step.op step.height ≡ Some start → IsStart steps runs start
-  of_run : {run : Piece} → Contains runs run → is_small run.bytes ≡ false → run.bytes.first ≡ start
-      → IsStart steps runs start
+pub data IsStart (steps : List Step) (extents : List Piece) (start : ℤ) : Type 0 where
+  of_step : {step : Step} → Contains steps step → start_of step.op step.height ≡ Some start
+      → IsStart steps extents start
+  of_extent : {extent : Piece} → Contains extents extent → is_small extent.bytes ≡ false → extent.bytes.first ≡ start
+      → IsStart steps extents start
 
-pub start-told : (steps : List Step) (runs : List Piece) (start : ℤ) → Contains (starts_of steps runs) start
-    → IsStart steps runs start
-start-told steps runs start among =
+pub start-told : (steps : List Step) (extents : List Piece) (start : ℤ) → Contains (starts_of steps extents) start
+    → IsStart steps extents start
+start-told steps extents start among =
     elim (Contains-append_cases (flat_map (λ (step : Step). option_to_list (start_of step.op step.height)) steps) _
     start among) [
       | inl here ↦
           (let f = from-flat (λ (step : Step). option_to_list (start_of step.op step.height)) steps start here in
           of_step f.among (in-some (start_of f.source.op f.source.height) start f.is_in))
       | inr there ↦
-          (let f = from-flat (λ run. option_to_list (long_first run)) runs start there in
+          (let f = from-flat (λ extent. option_to_list (long_first extent)) extents start there in
           let l = long-case f.source start (is_small f.source.bytes) refl
           (in-some (long_first f.source) start f.is_in) in
-          of_run f.among l.0 l.1)
+          of_extent f.among l.0 l.1)
     ]
 
 pub start-of-step :
-    (steps : List Step) (runs : List Piece) (start : ℤ) (step : Step) → Contains steps step
-    → start_of step.op step.height ≡ Some start → Contains (starts_of steps runs) start
-start-of-step steps runs start step among is =
-    Contains-append_left _ (flat_map (λ run. option_to_list (long_first run)) runs) start
+    (steps : List Step) (extents : List Piece) (start : ℤ) (step : Step) → Contains steps step
+    → start_of step.op step.height ≡ Some start → Contains (starts_of steps extents) start
+start-of-step steps extents start step among is =
+    Contains-append_left _ (flat_map (λ extent. option_to_list (long_first extent)) extents) start
     (to-flat (λ (step : Step). option_to_list (start_of step.op step.height)) steps step start among
     (some-in (start_of step.op step.height) start is))
 
-pub start-of-run :
-    (steps : List Step) (runs : List Piece) (run : Piece) → Contains runs run → is_small run.bytes ≡ false
-    → Contains (starts_of steps runs) run.bytes.first
-start-of-run steps runs run among long =
+pub start-of-extent :
+    (steps : List Step) (extents : List Piece) (extent : Piece) → Contains extents extent → is_small extent.bytes
+    ≡ false
+    → Contains (starts_of steps extents) extent.bytes.first
+start-of-extent steps extents extent among long =
     Contains-append_right (flat_map (λ (step : Step). option_to_list (start_of step.op step.height)) steps) _
-    run.bytes.first
-    (to-flat (λ run. option_to_list (long_first run)) runs run run.bytes.first among
-    (some-in (long_first run) run.bytes.first (ap (λ b. cond b None (Some run.bytes.first)) long)))
+    extent.bytes.first
+    (to-flat (λ extent. option_to_list (long_first extent)) extents extent extent.bytes.first among
+    (some-in (long_first extent) extent.bytes.first (ap (λ b. cond b None (Some extent.bytes.first)) long)))

@@ -6,13 +6,13 @@ pub mod BodyLaws
 pub mod Zipped
 pub mod BodyLists
 pub mod Checks
-pub mod RunLaws
+pub mod ExtentLaws
 pub mod StartLaws
 pub mod Flat
 pub mod CellLaws
 pub mod PieceLaws
 pub mod Sorting
-pub mod RunsTold
+pub mod ExtentsTold
 pub mod FrameTold
 pub mod AccessTold
 pub mod FrameLaws

@@ -7,10 +7,10 @@ use Rattle.std.proofs.lemmas.Int.{ints}
 use Rattle.std.proofs.lemmas.Bool.{cases_lt, cases_eq, false≢true}
 use Rattle.std.proofs.lemmas.Bool.Decides.{Decides-int_eq}
 use Rattle.std.proofs.lemmas.List.Elements.{All-nil, All-cons, All-head, All-tail, All-contains, Contains-append_right, All-weaker}
-use Rattle.dcc_prog.specs.declared.image.Image.{Image}
+use Rattle.dcc_machine.specs.declared.image.Image.{Image}
 use Rattle.dcc_prog.specs.declared.procedure.Layout.{Layout}
 use Rattle.dcc_prog.specs.declared.procedure.Node.{Node}
-use Rattle.dcc_prog.specs.declared.refusal.construct.TheConstants.{HEIGHTS}
+use Rattle.dcc_prog.specs.declared.refusal.ConstructKind.TheVariants.{StackHeight}
 use Rattle.dcc_prog.specs.Trail.{IsNode, IsEntry}
 use Rattle.dcc_prog.specs.FrameForm.{is_framed}
 use Rattle.dcc_prog.specs.Height.{ReachesRet, IsRemoved, by_ret, without_ret, HasHeight, IsHeight, HasBadHeight, two_heights, two_sizes, too_great}
@@ -52,7 +52,7 @@ module _ (image : Image) (layout : Layout) (entry : ℕ) (is_entry : IsEntry ima
     (accepted : IsAcceptedByHeights image layout) where
   no-bad-height : (at : ℕ) → IsNode image layout entry at → ¬ HasBadHeight image layout entry at
   no-bad-height at node bad =
-      accepted.no_construct HEIGHTS at
+      accepted.no_construct StackHeight at
       (record { entry = entry; is_entry = is_entry; node = node; stands = bad_height bad })
 
   -- a node has one height

@@ -1,7 +1,7 @@
 -- The instructions with their heights, one after another, and the one at a node.
 use Rattle.std.proofs.Common.{Contains, subst, ◌≡◌, ◌≤◌, ℕ, zero, suc, ◌+◌, min, List, [], ◌∷◌, ◌++◌, take, length, Some, slice_get, refl, ap, ◌∙◌, add-one, arith}
 use Rattle.std.proofs.lemmas.List.Elements.{All-contains}
-use Rattle.dcc_prog.specs.declared.image.Image.{Image}
+use Rattle.dcc_machine.specs.declared.image.Image.{Image}
 use Rattle.dcc_prog.specs.declared.procedure.Layout.{Layout}
 use Rattle.dcc_prog.specs.declared.procedure.Node.{Node}
 use Rattle.dcc_prog.specs.Trail.{IsNode}

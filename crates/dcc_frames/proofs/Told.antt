@@ -3,17 +3,18 @@ use Rattle.std.proofs.Common.{◌≡◌, ◌≢◌, ℕ, ℤ, pos, neg_ℤ, ◌-
 use Rattle.dcc_num.specs.declared.Width.{Width}
 use Rattle.dcc_num.specs.declared.Reg.{Reg}
 use Rattle.dcc_num.specs.declared.Reg.TheVariants.{Sp, Bp}
-use Rattle.dcc_prog.specs.declared.image.Image.{Image}
+use Rattle.dcc_machine.specs.declared.image.Image.{Image}
 use Rattle.dcc_prog.specs.declared.procedure.Layout.{Layout}
-use Rattle.dcc_prog.specs.declared.instr.Instr.{Instr}
-use Rattle.dcc_prog.specs.declared.instr.Ea.{Ea}
-use Rattle.dcc_prog.specs.declared.instr.Operand.{Operand}
-use Rattle.dcc_prog.specs.declared.instr.Operand.TheVariants.{Word}
-use Rattle.dcc_prog.specs.declared.instr.Op.{Op}
-use Rattle.dcc_prog.specs.declared.instr.Op.TheVariants.{Mov, Lea, Push, Pop}
-use Rattle.dcc_prog.specs.Access.{is_direct}
+use Rattle.dcc_machine.specs.declared.instr.Instr.{Instr}
+use Rattle.dcc_machine.specs.declared.instr.Ea.{Ea}
+use Rattle.dcc_machine.specs.declared.instr.Operand.{Operand}
+use Rattle.dcc_machine.specs.declared.instr.Operand.TheVariants.{Word}
+use Rattle.dcc_machine.specs.declared.instr.Op.{Op}
+use Rattle.dcc_machine.specs.declared.instr.Op.TheVariants.{Mov, Lea, Push, Pop}
+use Rattle.dcc_machine.specs.Access.{is_direct}
 use Rattle.dcc_prog.specs.Trail.{StandsAt}
-use Rattle.dcc_prog.specs.FrameForm.{is_framed, copies_bp, address_uses_bp}
+use Rattle.dcc_machine.specs.SpAndBp.{copies_bp, address_uses_bp}
+use Rattle.dcc_prog.specs.FrameForm.{is_framed}
 use Rattle.dcc_prog.specs.Height.{HasHeight}
 use Rattle.dcc_prog.specs.Frame.{Span, memory_operand, offset_in_frame, is_saved_bp, IsDirectAccess, direct, StartsExposure, by_lea, by_index, by_copy, IsMovedWord, pushed, popped}
 use Rattle.dcc_frames.specs.declared.bytes.Bytes.{Bytes}

@@ -1,7 +1,7 @@
 -- What `cells` tells: frames that are those of every program with these procedures, these heights, and a stack segment
 -- that begins `delta` bytes above the data segment; or a refusal of every such program.
 use Rattle.std.specs.Prelude.{◌≡◌, ℕ, List}
-use Rattle.dcc_prog.specs.declared.image.Image.{Image}
+use Rattle.dcc_machine.specs.declared.image.Image.{Image}
 use Rattle.dcc_prog.specs.declared.procedure.Layout.{Layout}
 use Rattle.dcc_prog.specs.declared.procedure.Proc.{Proc}
 use Rattle.dcc_prog.specs.declared.frame.Heights.{Heights}

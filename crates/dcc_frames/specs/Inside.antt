@@ -2,8 +2,11 @@
 -- public contract rests on it.
 use Rattle.std.specs.Prelude.{◌≡◌, ℕ, ◌+◌, ◌*◌, ◌==◌, ℤ, pos, ◌+ℤ◌, ◌-ℤ◌, int_le, Bool, true, false, not, ◌&&◌, ◌||◌}
 use Rattle.std.specs.Prelude.{if◌then◌else◌, List, Contains, Option, Some, None, unwrap_or}
-use Rattle.dcc_prog.specs.declared.instr.Op.{Op}
-use Rattle.dcc_prog.specs.declared.instr.Op.TheVariants.{Call}
+use Rattle.dcc_machine.specs.declared.instr.Op.{Op}
+use Rattle.dcc_machine.specs.declared.instr.Op.TheVariants.{Call}
+use Rattle.dcc_prog.specs.declared.refusal.ConstructKind.{ConstructKind}
+use Rattle.dcc_prog.specs.declared.refusal.FrameFault.{FrameFault}
+use Rattle.dcc_prog.specs.declared.refusal.FrameFault.TheVariants.{AccessOutside, AddressOutside, NoAddress}
 use Rattle.dcc_prog.specs.declared.refusal.Refusal.{Refusal}
 use Rattle.dcc_prog.specs.declared.refusal.Refusal.TheVariants.{Construct}
 use Rattle.dcc_frames.specs.declared.bytes.Bytes.{Bytes}
@@ -39,6 +42,12 @@ abbrev pub is_allowed : Bool → ℕ → Bool → Step → Bool
 is_allowed framed args lacks_addresses step =
     has_access_inside framed args step && has_start_inside args lacks_addresses step
 
+-- what is at fault with an instruction that the frame doesn't allow
+abbrev pub fault_in : Bool → ℕ → Bool → Step → FrameFault
+fault_in framed args lacks_addresses step =
+    if has_access_inside framed args step then (if lacks_addresses then NoAddress else AddressOutside)
+    else AccessOutside
+
 -- how many bytes of its own a frame has at a height: the saved BP isn't counted
 abbrev pub own_of : Bool → ℕ → ℤ
 own_of framed height = if framed then pos height -ℤ pos 2 else pos height
@@ -53,7 +62,10 @@ abbrev pub has_words : (ℕ → Option ℕ) → Bool → Step → Bool
 has_words counts framed step =
     (passed_of counts step.op == 0) || int_le (pos (2 * passed_of counts step.op)) (own_of framed step.height)
 
--- a construct of the kind is told at an instruction that isn't allowed
-pub data IsToldOf (steps : List Step) (allowed : Step → Bool) (kind : ℕ) : Refusal → Type 0 where
+-- a construct is told at an instruction that isn't allowed, of the kind that is at fault there
+pub data IsToldOf (steps : List Step) (allowed : Step → Bool) (kind : Step → ConstructKind) : Refusal → Type 0 where
   told :
-      {step : Step} → Contains steps step → allowed step ≡ false → IsToldOf steps allowed kind (Construct kind step.at)
+      {step : Step}
+      → Contains steps step
+      → allowed step ≡ false
+      → IsToldOf steps allowed kind (Construct (kind step) step.at)

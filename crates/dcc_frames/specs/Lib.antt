@@ -5,7 +5,7 @@ pub mod Arguments
 pub mod Body
 pub mod Inside
 pub mod Pieces
-pub mod Runs
+pub mod Extents
 pub mod CellLists
 pub mod Starts
 pub mod Ready

@@ -2,10 +2,11 @@
 -- on it.
 use Rattle.std.specs.Prelude.{◌≡◌, ◌≤◌, ℕ, ◌<ℤ◌, Bool, not, ◌==◌, ◌||◌, List, map, All, AllPairs, Contains, Option}
 use Rattle.std.specs.List.{AllZip}
-use Rattle.dcc_prog.specs.declared.image.Image.{Image}
+use Rattle.dcc_machine.specs.declared.image.Image.{Image}
 use Rattle.dcc_prog.specs.declared.procedure.Layout.{Layout}
 use Rattle.dcc_prog.specs.declared.frame.Cell.{Cell}
 use Rattle.dcc_prog.specs.declared.frame.Frame.{Frame}
+use Rattle.dcc_prog.specs.declared.refusal.ConstructKind.{ConstructKind}
 use Rattle.dcc_prog.specs.declared.refusal.Refusal.{Refusal}
 use Rattle.dcc_prog.specs.Trail.{IsNode}
 use Rattle.dcc_prog.specs.FrameForm.{is_framed}
@@ -33,7 +34,7 @@ pub record IsFrameAt (image : Image) (layout : Layout) (entry : ℕ) (frame : Fr
   pub every : (cell : Span) → IsCell image layout entry cell → Contains (map bytes_of frame.cells.items) cell
   pub local : HasExposedLocal image layout entry frame.exposed.local
   pub argument : HasExposedArguments image layout entry frame.exposed.arg
-  pub clean : (kind at : ℕ) → IsNode image layout entry at → ¬ IsAtFrame image layout entry at kind
+  pub clean : (kind : ConstructKind) (at : ℕ) → IsNode image layout entry at → ¬ IsAtFrame image layout entry at kind
   pub few_cells : ¬ HasMany (IsCell image layout entry) 513
   pub few_arguments : (count : ℕ) → HasArguments image layout entry count → count ≤ 32
 

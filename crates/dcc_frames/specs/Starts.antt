@@ -9,17 +9,17 @@ use Rattle.dcc_frames.specs.declared.steps.Step.{Step}
 use Rattle.dcc_frames.specs.Bytes.{is_small}
 use Rattle.dcc_frames.specs.Used.{start_of}
 
--- the first byte of a run that is too long for a cell
+-- the first byte of an extent that is too long for a cell
 abbrev pub long_first : Piece → Option ℤ
-long_first run = if is_small run.bytes then None else Some run.bytes.first
+long_first extent = if is_small extent.bytes then None else Some extent.bytes.first
 
 -- from where instructions expose bytes
 abbrev pub starts_by : List Step → List ℤ
 starts_by steps = flat_map (λ step. option_to_list (start_of step.op step.height)) steps
 
--- from where instructions expose bytes, and from where runs that are too long for a cell do
+-- from where instructions expose bytes, and from where extents that are too long for a cell do
 abbrev pub starts_of : List Step → List Piece → List ℤ
-starts_of steps runs = starts_by steps ++ flat_map (λ run. option_to_list (long_first run)) runs
+starts_of steps extents = starts_by steps ++ flat_map (λ extent. option_to_list (long_first extent)) extents
 
 -- an offset whose distance from BP a word has room for
 pub record IsNear (start : ℤ) : Type 0 where

@@ -5,13 +5,13 @@ use Rattle.std.specs.Prelude.{None}
 use Rattle.dcc_num.specs.declared.Width.{Width}
 use Rattle.dcc_num.specs.declared.Reg.{Reg}
 use Rattle.dcc_num.specs.declared.Reg.TheVariants.{Sp, Bp}
-use Rattle.dcc_prog.specs.declared.instr.Ea.{Ea}
-use Rattle.dcc_prog.specs.declared.instr.Operand.{Operand}
-use Rattle.dcc_prog.specs.declared.instr.Operand.TheVariants.{Word}
-use Rattle.dcc_prog.specs.declared.instr.Op.{Op}
-use Rattle.dcc_prog.specs.declared.instr.Op.TheVariants.{Lea, Push, Pop}
-use Rattle.dcc_prog.specs.Access.{bytes_in, is_direct}
-use Rattle.dcc_prog.specs.FrameForm.{copies_bp, address_uses_bp}
+use Rattle.dcc_machine.specs.declared.instr.Ea.{Ea}
+use Rattle.dcc_machine.specs.declared.instr.Operand.{Operand}
+use Rattle.dcc_machine.specs.declared.instr.Operand.TheVariants.{Word}
+use Rattle.dcc_machine.specs.declared.instr.Op.{Op}
+use Rattle.dcc_machine.specs.declared.instr.Op.TheVariants.{Lea, Push, Pop}
+use Rattle.dcc_machine.specs.Access.{bytes_in, is_direct}
+use Rattle.dcc_machine.specs.SpAndBp.{copies_bp, address_uses_bp}
 use Rattle.dcc_prog.specs.Frame.{memory_operand, offset_in_frame}
 use Rattle.dcc_frames.specs.declared.bytes.Bytes.{Bytes}
 

@@ -2,16 +2,15 @@
 
 ghost use Rattle.std.specs.Prelude.{◌≡◌, ℕ, ◌*◌, pos, ◌≤ℤ◌, true, nat_eq, All, IfErr, OnOk};
 ghost use Rattle.indexmap.specs.IndexMap.{get};
-ghost use Rattle.dcc_prog.specs.declared.refusal.construct.TheConstants.{FRAME_ACCESS as frame_access};
-ghost use Rattle.dcc_prog.specs.declared.refusal.construct.TheConstants.{ARGUMENTS_SHORT as arguments_short};
 ghost use Rattle.dcc_frames.specs.Inside.{is_inside, has_access_inside, has_start_inside, is_allowed, own_of};
-ghost use Rattle.dcc_frames.specs.Inside.{passed_of, has_words, IsToldOf};
+ghost use Rattle.dcc_frames.specs.Inside.{fault_in, passed_of, has_words, IsToldOf};
 
 use crate::body::Body;
 use crate::bytes::Bytes;
 use crate::memory::{access, start};
 use crate::steps::Step;
-use dcc_prog::{Op, Refusal, construct};
+use dcc_machine::Op;
+use dcc_prog::{ConstructKind, FrameFault, Refusal};
 use indexmap::IndexMap;
 
 // Whether bytes lie wholly in the arguments, or wholly between SP and BP.
@@ -52,17 +51,34 @@ fn is_allowed(framed: bool, args: u16, lacks_addresses: bool, step: Step) -> boo
     has_access_inside(framed, args, step) && has_start_inside(args, lacks_addresses, step)
 }
 
+// What is at fault with an instruction that the frame doesn't allow.
+fn fault_in(framed: bool, args: u16, lacks_addresses: bool, step: Step) -> FrameFault
+    ensures { result ≡ fault_in framed args lacks_addresses step }
+{
+    if has_access_inside(framed, args, step) {
+        if lacks_addresses {
+            FrameFault::NoAddress
+        } else {
+            FrameFault::AddressOutside
+        }
+    } else {
+        FrameFault::AccessOutside
+    }
+}
+
 /// Refuses a procedure of which an instruction accesses or exposes bytes that its frame doesn't have.
-pub fn check_accesses(body: &Body, lacks_addresses: bool) -> Result<(), Refusal>
+pub(crate) fn check_accesses(body: &Body, lacks_addresses: bool) -> Result<(), Refusal>
     ensures allowed { OnOk result
         (All (λ step. is_allowed body.now.framed body.now.args lacks_addresses step ≡ true) body.now.steps.items) }
     ensures refused { IfErr result (IsToldOf body.now.steps.items
-        (λ step. is_allowed body.now.framed body.now.args lacks_addresses step) frame_access) }
+        (λ step. is_allowed body.now.framed body.now.args lacks_addresses step)
+        (λ step. ConstructKind.FrameAccess (fault_in body.now.framed body.now.args lacks_addresses step))) }
 {
     for step in &body.steps {
         if !is_allowed(body.framed, body.args, lacks_addresses, *step) {
+            let fault = fault_in(body.framed, body.args, lacks_addresses, *step);
             return Err(Refusal::Construct {
-                kind: construct::FRAME_ACCESS,
+                kind: ConstructKind::FrameAccess(fault),
                 at: step.at,
             });
         }
@@ -100,16 +116,17 @@ fn has_words(counts: &IndexMap<u16, u16>, framed: bool, step: Step) -> bool
 }
 
 /// Refuses a procedure of which a call finds fewer bytes of its own frame than the callee's arguments take.
-pub fn check_calls(body: &Body, counts: &IndexMap<u16, u16>) -> Result<(), Refusal>
+pub(crate) fn check_calls(body: &Body, counts: &IndexMap<u16, u16>) -> Result<(), Refusal>
     ensures enough { let counted = λ (entry : ℕ). get nat_eq counts.now entry in
         OnOk result (All (λ step. has_words counted body.now.framed step ≡ true) body.now.steps.items) }
     ensures refused { let counted = λ (entry : ℕ). get nat_eq counts.now entry in
-        IfErr result (IsToldOf body.now.steps.items (λ step. has_words counted body.now.framed step) arguments_short) }
+        IfErr result (IsToldOf body.now.steps.items (λ step. has_words counted body.now.framed step)
+        (λ step. ConstructKind.ArgumentsShort)) }
 {
     for step in &body.steps {
         if !has_words(counts, body.framed, *step) {
             return Err(Refusal::Construct {
-                kind: construct::ARGUMENTS_SHORT,
+                kind: ConstructKind::ArgumentsShort,
                 at: step.at,
             });
         }

@@ -1,11 +1,11 @@
-//! Cells, and the runs that are too long for one.
+//! Cells, and the extents that are too long for one.
 
 ghost use Rattle.std.specs.Prelude.{◌≡◌, ◌≤◌, ◌++◌, length, All, None, IfOk, IfErr, OnOk};
 ghost use Rattle.std.specs.Option.{option_to_list};
-ghost use Rattle.dcc_frames.specs.CellLists.{cell_of, small_cell, cells_from, long_user, IsOverfull, IsToldOfRuns};
+ghost use Rattle.dcc_frames.specs.CellLists.{cell_of, small_cell, cells_from, long_user, IsOverfull, IsToldOfExtents};
 
 use crate::bytes::{Bytes, Piece};
-use dcc_prog::{Cell, LimitName, Refusal, construct};
+use dcc_prog::{Cell, ConstructKind, FrameFault, LimitName, Refusal};
 use std::alloc::Global;
 
 // The greatest number of cells of a frame.
@@ -26,12 +26,12 @@ fn cell_of(bytes: Bytes) -> Cell
     }
 }
 
-// The cell of a run, if it has at most two bytes.
-fn small_cell(run: Piece) -> Option<Cell>
-    ensures { result ≡ small_cell run }
+// The cell of an extent, if it has at most two bytes.
+fn small_cell(extent: Piece) -> Option<Cell>
+    ensures { result ≡ small_cell extent }
 {
-    if run.bytes.is_small() {
-        Some(cell_of(run.bytes))
+    if extent.bytes.is_small() {
+        Some(cell_of(extent.bytes))
     } else {
         None
     }
@@ -57,39 +57,39 @@ fn add(cells: &mut Vec<Cell>, cell: Option<Cell>) -> Result<(), Refusal>
     Ok(())
 }
 
-/// The cells: the runs of at most two bytes. More than 512 are refused.
-pub fn cells_of(alloc: Global, runs: &[Piece]) -> Result<Vec<Cell>, Refusal>
-    ensures cells { IfOk result (λ cells. cells.items ≡ cells_from runs.now) }
+/// The cells: the extents of at most two bytes. More than 512 are refused.
+pub fn cells_of(alloc: Global, extents: &[Piece]) -> Result<Vec<Cell>, Refusal>
+    ensures cells { IfOk result (λ cells. cells.items ≡ cells_from extents.now) }
     ensures few { IfOk result (λ cells. length cells.items ≤ 512) }
-    ensures refused { IfErr result (IsOverfull (cells_from runs.now)) }
+    ensures refused { IfErr result (IsOverfull (cells_from extents.now)) }
 {
     let mut cells = Vec::new(alloc);
-    for run in runs {
-        add(&mut cells, small_cell(*run))?;
+    for extent in extents {
+        add(&mut cells, small_cell(*extent))?;
     }
     Ok(cells)
 }
 
-// The user of a run that is too long for a cell, where the frame's addresses can't be told.
-fn long_user(lacks_addresses: bool, run: Piece) -> Option<u16>
-    ensures { result ≡ long_user lacks_addresses run }
+// The user of an extent that is too long for a cell, where the frame's addresses can't be told.
+fn long_user(lacks_addresses: bool, extent: Piece) -> Option<u16>
+    ensures { result ≡ long_user lacks_addresses extent }
 {
-    if !lacks_addresses || run.bytes.is_small() {
+    if !lacks_addresses || extent.bytes.is_small() {
         None
     } else {
-        run.user
+        extent.user
     }
 }
 
-/// Refuses a frame whose addresses can't be told, where an instruction uses a run of more than two bytes.
-pub fn check_runs(lacks_addresses: bool, runs: &[Piece]) -> Result<(), Refusal>
-    ensures none { OnOk result (All (λ run. long_user lacks_addresses run ≡ None) runs.now) }
-    ensures refused { IfErr result (IsToldOfRuns lacks_addresses runs.now) }
+/// Refuses a frame whose addresses can't be told, where an instruction uses an extent of more than two bytes.
+pub(crate) fn check_extents(lacks_addresses: bool, extents: &[Piece]) -> Result<(), Refusal>
+    ensures none { OnOk result (All (λ extent. long_user lacks_addresses extent ≡ None) extents.now) }
+    ensures refused { IfErr result (IsToldOfExtents lacks_addresses extents.now) }
 {
-    for run in runs {
-        if let Some(at) = long_user(lacks_addresses, *run) {
+    for extent in extents {
+        if let Some(at) = long_user(lacks_addresses, *extent) {
             return Err(Refusal::Construct {
-                kind: construct::FRAME_ACCESS,
+                kind: ConstructKind::FrameAccess(FrameFault::LongExtent),
                 at,
             });
         }

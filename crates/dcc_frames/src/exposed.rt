@@ -20,14 +20,14 @@ fn add(starts: &mut Vec<i32>, start: Option<i32>) -> Result<(), AllocError>
     Ok(())
 }
 
-// The first byte of a run that is too long for a cell.
-fn long_first(run: Piece) -> Option<i32>
-    ensures { result ≡ long_first run }
+// The first byte of an extent that is too long for a cell.
+fn long_first(extent: Piece) -> Option<i32>
+    ensures { result ≡ long_first extent }
 {
-    if run.bytes.is_small() {
+    if extent.bytes.is_small() {
         None
     } else {
-        Some(run.bytes.first)
+        Some(extent.bytes.first)
     }
 }
 
@@ -42,13 +42,17 @@ fn starts_of_steps(alloc: Global, steps: &[Step]) -> Result<Vec<i32>, AllocError
     Ok(starts)
 }
 
-/// From where bytes are exposed: by instructions, and by runs of more than two bytes.
-pub fn starts(alloc: Global, steps: &[Step], runs: &[Piece]) -> Result<Vec<i32>, AllocError>
-    ensures { IfOk result (λ starts. starts.items ≡ starts_of steps.now runs.now) }
+/// From where bytes are exposed: by instructions, and by extents of more than two bytes.
+pub(crate) fn starts(
+    alloc: Global,
+    steps: &[Step],
+    extents: &[Piece],
+) -> Result<Vec<i32>, AllocError>
+    ensures { IfOk result (λ starts. starts.items ≡ starts_of steps.now extents.now) }
 {
     let mut starts = starts_of_steps(alloc, steps)?;
-    for run in runs {
-        add(&mut starts, long_first(*run))?;
+    for extent in extents {
+        add(&mut starts, long_first(*extent))?;
     }
     Ok(starts)
 }

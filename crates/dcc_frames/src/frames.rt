@@ -11,9 +11,9 @@ ghost use Rattle.dcc_frames.specs.Ready.{lacks_addresses};
 use crate::access::{check_accesses, check_calls};
 use crate::body::{Body, bodies, counts};
 use crate::bytes::Piece;
-use crate::cell::{cells_of, check_runs};
+use crate::cell::{cells_of, check_extents};
 use crate::exposed::{exposed, starts};
-use crate::joined::runs;
+use crate::joined::extents;
 use crate::pieces::pieces;
 use dcc_prog::{Cells, Frame, Heights, Proc, Refusal};
 use indexmap::IndexMap;
@@ -51,13 +51,13 @@ fn frame(
     check_calls(body, counts)?;
     let mut pieces = pieces(alloc, body, counts)?;
     sort(&mut pieces)?;
-    let runs = runs(alloc, &pieces)?;
-    check_runs(lacks, &runs)?;
-    let starts = starts(alloc, &body.steps, &runs)?;
+    let extents = extents(alloc, &pieces)?;
+    check_extents(lacks, &extents)?;
+    let starts = starts(alloc, &body.steps, &extents)?;
     Ok(Frame {
         framed: body.framed,
         args: body.args,
-        cells: cells_of(alloc, &runs)?,
+        cells: cells_of(alloc, &extents)?,
         exposed: exposed(&starts),
     })
 }

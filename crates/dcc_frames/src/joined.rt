@@ -1,12 +1,12 @@
-//! Pieces that overlap, joined to runs.
+//! Pieces that overlap, joined to extents.
 
 ghost use Rattle.std.specs.Prelude.{◌≡◌, [], ◌∷◌, ◌++◌, IfOk, OnOk};
-ghost use Rattle.dcc_frames.specs.Runs.{AreRuns, AreAscending, user_of, run_with, with_last, joined_to};
+ghost use Rattle.dcc_frames.specs.Extents.{AreExtents, AreAscending, user_of, extent_with, with_last, joined_to};
 
 use crate::bytes::{Bytes, Piece};
 use std::alloc::{AllocError, Global};
 
-// The first instruction that uses a run, if there is one, else the second.
+// The first instruction that uses an extent, if there is one, else the second.
 fn user_of(first: Option<u16>, second: Option<u16>) -> Option<u16>
     ensures { result ≡ user_of first second }
 {
@@ -16,52 +16,52 @@ fn user_of(first: Option<u16>, second: Option<u16>) -> Option<u16>
     }
 }
 
-// A run with a piece that overlaps it and begins no earlier.
-fn run_with(run: Piece, piece: Piece) -> Piece
-    ensures { result ≡ run_with run piece }
+// An extent with a piece that overlaps it and begins no earlier.
+fn extent_with(extent: Piece, piece: Piece) -> Piece
+    ensures { result ≡ extent_with extent piece }
 {
-    let first = run.bytes.first;
-    let end = run.bytes.end.max(piece.bytes.end);
+    let first = extent.bytes.first;
+    let end = extent.bytes.end.max(piece.bytes.end);
     Piece {
         bytes: Bytes { first, end },
-        user: user_of(run.user, piece.user),
+        user: user_of(extent.user, piece.user),
     }
 }
 
-// Joins a piece that begins no earlier than the pieces that are joined already. The last run is handed in and out
+// Joins a piece that begins no earlier than the pieces that are joined already. The last extent is handed in and out
 // apart.
-fn join(runs: &mut Vec<Piece>, last: Option<Piece>, piece: Piece) -> Result<Piece, AllocError>
-    ensures { IfOk result (λ run. (runs.new.items ++ run ∷ []) ≡ joined_to runs.old.items last piece) }
+fn join(extents: &mut Vec<Piece>, last: Option<Piece>, piece: Piece) -> Result<Piece, AllocError>
+    ensures { IfOk result (λ extent. (extents.new.items ++ extent ∷ []) ≡ joined_to extents.old.items last piece) }
 {
-    let Some(run) = last else {
+    let Some(extent) = last else {
         return Ok(piece);
     };
-    if piece.bytes.first < run.bytes.end {
-        return Ok(run_with(run, piece));
+    if piece.bytes.first < extent.bytes.end {
+        return Ok(extent_with(extent, piece));
     }
-    runs.push(run)?;
+    extents.push(extent)?;
     Ok(piece)
 }
 
-// Adds the last run, if there is one.
-fn close(runs: &mut Vec<Piece>, last: Option<Piece>) -> Result<(), AllocError>
-    ensures { OnOk result (runs.new.items ≡ with_last runs.old.items last) }
+// Adds the last extent, if there is one.
+fn close(extents: &mut Vec<Piece>, last: Option<Piece>) -> Result<(), AllocError>
+    ensures { OnOk result (extents.new.items ≡ with_last extents.old.items last) }
 {
-    if let Some(run) = last {
-        runs.push(run)?;
+    if let Some(extent) = last {
+        extents.push(extent)?;
     }
     Ok(())
 }
 
-/// The runs of pieces that ascend by their first bytes.
-pub fn runs(alloc: Global, pieces: &[Piece]) -> Result<Vec<Piece>, AllocError>
-    ensures { AreAscending pieces.now → IfOk result (λ runs. AreRuns pieces.now runs.items) }
+/// The extents of pieces that ascend by their first bytes.
+pub(crate) fn extents(alloc: Global, pieces: &[Piece]) -> Result<Vec<Piece>, AllocError>
+    ensures { AreAscending pieces.now → IfOk result (λ extents. AreExtents pieces.now extents.items) }
 {
-    let mut runs = Vec::new(alloc);
+    let mut extents = Vec::new(alloc);
     let mut last = None;
     for piece in pieces {
-        last = Some(join(&mut runs, last, *piece)?);
+        last = Some(join(&mut extents, last, *piece)?);
     }
-    close(&mut runs, last)?;
-    Ok(runs)
+    close(&mut extents, last)?;
+    Ok(extents)
 }

@@ -2,14 +2,14 @@
 
 ghost use Rattle.std.specs.Prelude.{◌≡◌, ◌≤◌, ◌<◌, ℤ, pos, neg_ℤ, ◌≤ℤ◌, ◌<ℤ◌, IfSome};
 ghost use Rattle.dcc_num.specs.Numbers.{signed_of};
-ghost use Rattle.dcc_prog.specs.Access.{bytes_in, is_direct};
+ghost use Rattle.dcc_machine.specs.Access.{bytes_in, is_direct};
 ghost use Rattle.dcc_prog.specs.Frame.{memory_of, memory_of_two, memory_operand, offset_in_frame};
 ghost use Rattle.dcc_frames.specs.Bytes.{IsReached};
 ghost use Rattle.dcc_frames.specs.Used.{access_at, access_of, start_at, start_of, is_bp_word, word_at, moved_of};
 
 use crate::bytes::Bytes;
+use dcc_machine::{Ea, Op, Operand};
 use dcc_num::{Reg, Width};
-use dcc_prog::{Ea, Op, Operand};
 
 // The operand, if it lies in memory.
 fn memory_of(operand: Operand) -> Option<(Width, Ea)>

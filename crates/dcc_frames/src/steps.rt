@@ -3,7 +3,8 @@
 ghost use Rattle.std.specs.Prelude.{◌≡◌, IfOk};
 ghost use Rattle.dcc_frames.specs.Steps.{steps_of};
 
-use dcc_prog::{Op, Proc};
+use dcc_machine::Op;
+use dcc_prog::Proc;
 use indexmap::IndexMap;
 use std::alloc::{AllocError, Global};
 

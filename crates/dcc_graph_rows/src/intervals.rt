@@ -1,23 +1,24 @@
-//! The derived sequences of small graphs, and their loop headers.
+//! The derived sequences of small graphs, their loop headers, and how the graphs are reduced.
 
 ghost use Rattle.dcc_ir.specs.Views.{graph_of};
 ghost use Rattle.dcc_ir.specs.WellFormed.{IsGraph};
 
 use crate::graphs::bare_graph;
 use dcc_flow::successors;
-use dcc_interval::{Interval, derived, loop_headers};
+use dcc_interval::{Interval, Reduction, derived, loop_headers, reduced};
 use dcc_ir::Graph;
 use std::alloc::{AllocError, Global};
 use std::process::Abort;
 use std::test::Fail;
 
 // A row is the blocks that follow a block. Then the levels of the derived sequence, with the header and the members of
-// each interval, and the loop headers.
+// each interval, and the loop headers; then the joinings of regions, each with the region that it was joined into.
 struct Case {
     next: &'static [&'static [u32]],
     entry: u32,
     levels: &'static str,
     headers: &'static str,
+    joinings: &'static str,
 }
 
 const ONE_BLOCK: Case = Case {
@@ -25,6 +26,7 @@ const ONE_BLOCK: Case = Case {
     entry: 0,
     levels: "[[(0, [0])]]",
     headers: "[]",
+    joinings: "[]",
 };
 
 const SELF_LOOP: Case = Case {
@@ -32,6 +34,7 @@ const SELF_LOOP: Case = Case {
     entry: 0,
     levels: "[[(0, [0])], [(0, [0])]]",
     headers: "[0]",
+    joinings: "[]",
 };
 
 const DIAMOND: Case = Case {
@@ -39,6 +42,7 @@ const DIAMOND: Case = Case {
     entry: 0,
     levels: "[[(0, [0, 1, 2, 3])], [(0, [0])]]",
     headers: "[]",
+    joinings: "[(2, 0), (1, 0), (3, 0)]",
 };
 
 const LOOP: Case = Case {
@@ -46,6 +50,7 @@ const LOOP: Case = Case {
     entry: 0,
     levels: "[[(0, [0]), (1, [1, 2, 3])], [(0, [0, 1])], [(0, [0])]]",
     headers: "[1]",
+    joinings: "[(3, 1), (2, 1), (1, 0)]",
 };
 
 const NESTED_LOOPS: Case = Case {
@@ -53,6 +58,7 @@ const NESTED_LOOPS: Case = Case {
     entry: 0,
     levels: "[[(0, [0]), (1, [1]), (2, [2, 3, 4])], [(0, [0]), (1, [1, 2])], [(0, [0, 1])], [(0, [0])]]",
     headers: "[2, 1]",
+    joinings: "[(4, 3), (3, 2), (2, 1), (1, 0)]",
 };
 
 const TWO_ENTRY_LOOP: Case = Case {
@@ -60,6 +66,7 @@ const TWO_ENTRY_LOOP: Case = Case {
     entry: 0,
     levels: "[[(0, [0]), (1, [1]), (2, [2, 3])], [(0, [0]), (1, [1]), (2, [2])]]",
     headers: "[]",
+    joinings: "[(3, 2)]",
 };
 
 const TWO_ENTRY_LOOP_IN_A_LOOP: Case = Case {
@@ -67,6 +74,7 @@ const TWO_ENTRY_LOOP_IN_A_LOOP: Case = Case {
     entry: 0,
     levels: "[[(0, [0]), (1, [1]), (2, [2]), (3, [3])]]",
     headers: "[]",
+    joinings: "[]",
 };
 
 const LOOP_THROUGH_ENTRY: Case = Case {
@@ -74,6 +82,7 @@ const LOOP_THROUGH_ENTRY: Case = Case {
     entry: 0,
     levels: "[[(0, [0, 2, 1])], [(0, [0])]]",
     headers: "[0]",
+    joinings: "[(2, 0), (1, 0)]",
 };
 
 const ENTERED_IN_THE_MIDDLE: Case = Case {
@@ -81,6 +90,7 @@ const ENTERED_IN_THE_MIDDLE: Case = Case {
     entry: 1,
     levels: "[[(1, [1, 0, 2])], [(0, [0])]]",
     headers: "[1]",
+    joinings: "[(2, 1), (0, 1)]",
 };
 
 const SWITCH_WITH_REPEATS: Case = Case {
@@ -88,6 +98,7 @@ const SWITCH_WITH_REPEATS: Case = Case {
     entry: 0,
     levels: "[[(0, [0, 2, 1, 3])], [(0, [0])]]",
     headers: "[]",
+    joinings: "[(1, 0), (2, 0), (3, 0)]",
 };
 
 const CASES: [(&str, Case); 10] = [
@@ -143,6 +154,41 @@ fn derived_sequences(rt: HostRuntime) -> Result<(), Fail> {
         let (levels, headers) = found(&rt, alloc, &graph, case.entry)?;
         assert_eq!(rt; levels.as_str(), case.levels, "{name}");
         assert_eq!(rt; headers.as_str(), case.headers, "{name}");
+    }
+    Ok(())
+}
+
+// The joinings of a graph that is reduced, each with the region that it was joined into.
+fn joinings(alloc: Global, reduction: &Reduction) -> Result<String, AllocError> {
+    let mut pairs = Vec::new(alloc);
+    for joining in &reduction.joinings {
+        pairs.push((joining.region, joining.into))?;
+    }
+    format!(in alloc; "{pairs:?}")
+}
+
+// How a graph is reduced.
+fn reduction(
+    rt: &impl Abort,
+    alloc: Global,
+    graph: &Graph,
+    entry: u32,
+) -> Result<Reduction, AllocError>
+    requires { IsGraph (graph_of graph.now) }
+{
+    let next = successors(alloc, graph)?;
+    assert!(rt; (entry as usize) < next.len());
+    reduced(alloc, &next, entry)
+}
+
+#[test]
+fn reductions(rt: HostRuntime) -> Result<(), Fail> {
+    let alloc = rt.alloc();
+    for (name, case) in &CASES {
+        let graph = bare_graph(&rt, alloc, case.next)?;
+        let reduction = reduction(&rt, alloc, &graph, case.entry)?;
+        let found = joinings(alloc, &reduction)?;
+        assert_eq!(rt; found.as_str(), case.joinings, "{name}");
     }
     Ok(())
 }

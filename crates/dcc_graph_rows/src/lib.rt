@@ -15,3 +15,5 @@ mod intervals;
 mod living;
 #[cfg(test)]
 mod plans;
+#[cfg(test)]
+mod structures;

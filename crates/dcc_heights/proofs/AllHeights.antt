@@ -4,10 +4,11 @@ use Rattle.std.specs.List.{AllZip}
 use Rattle.std.proofs.lemmas.List.{take_more}
 use Rattle.std.proofs.lemmas.Slice.Zip.{all_zipped_more}
 use Rattle.std.proofs.lemmas.List.Elements.{All-contains, All-cons}
-use Rattle.dcc_prog.specs.declared.image.Image.{Image}
+use Rattle.dcc_machine.specs.declared.image.Image.{Image}
 use Rattle.dcc_prog.specs.declared.procedure.Layout.{Layout}
 use Rattle.dcc_prog.specs.declared.procedure.Node.{Node}
 use Rattle.dcc_prog.specs.declared.procedure.Proc.{Proc}
+use Rattle.dcc_prog.specs.declared.refusal.ConstructKind.{ConstructKind}
 use Rattle.dcc_prog.specs.declared.refusal.Refusal.{Refusal}
 use Rattle.dcc_prog.specs.declared.frame.Heights.{Heights}
 use Rattle.dcc_prog.specs.Trail.{IsEntry}
@@ -19,7 +20,8 @@ use Rattle.dcc_prog.specs.Found.{IsNodeFound, IsFound, AreFound}
 use Rattle.dcc_prog.specs.Analysed.{AreHeightsOf, AreHeights}
 use Rattle.dcc_heights.specs.Removed.{HasRet, IsSize, HasTwoSizes, AreByEntry, IsSizeFault}
 use Rattle.dcc_heights.specs.Removed as removing
-use Rattle.dcc_heights.specs.Search.{scene_of, height_in, entry_of, ordered_by, AreAllHeights, AreHeightsBy, HasFault}
+use Rattle.dcc_heights.specs.Search.{searched_procedure, height_in, entry_of, ordered_by, AreAllHeights, AreHeightsBy}
+use Rattle.dcc_heights.specs.Search.{HasFault}
 use Rattle.dcc_heights.proofs.Removing.{contains-listed, size-removed, ret-node, ret-stands, ret-reached}
 use Rattle.dcc_heights.proofs.Giving.{is-found, given}
 use Rattle.dcc_heights.proofs.Fine.{no-construct}
@@ -88,7 +90,8 @@ ordered-all heights (node ∷ nodes) all =
 
 module _ (image : Image) (layout : Layout) (procs : List Proc) (found : AreFound image layout procs)
     (removed : List (ℕ × ℕ)) (by_entry : AreByEntry procs removed) (proc : Proc) (among : Contains procs proc) where
-  module _ (framed : Bool) (heights : List (ℕ × ℕ)) (all : AreAllHeights (scene_of proc framed removed) heights) where
+  module _ (framed : Bool) (heights : List (ℕ × ℕ)) (all : AreAllHeights (searched_procedure proc framed removed)
+      heights) where
     has-height : (at : ℕ) (node : Node) → Contains proc.nodes.entries (at, node) → is_some (height_in heights at) ≡ true
     has-height at node c =
         let f = All-contains (IsNodeFound image layout proc.entry) proc.nodes.entries (at, node)
@@ -116,7 +119,7 @@ module _ (image : Image) (layout : Layout) (procs : List Proc) (found : AreFound
       })
 
   no-construct-by :
-      (answer : List (ℕ × ℕ)) → AreHeightsBy removed proc answer → (kind at : ℕ)
+      (answer : List (ℕ × ℕ)) → AreHeightsBy removed proc answer → (kind : ConstructKind) (at : ℕ)
       → ¬ IsAtHeight image layout proc.entry at kind
   no-construct-by answer by kind at stands =
       no-construct image layout procs found removed by_entry proc among by.framed

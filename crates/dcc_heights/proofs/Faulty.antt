@@ -6,14 +6,15 @@ use Rattle.std.proofs.lemmas.Int.{ints}
 use Rattle.std.proofs.lemmas.Map.Views.{exact_unsigned_eq}
 use Rattle.std.specs.Prelude.{int_lt}
 use Rattle.dcc_num.specs.declared.Reg.TheVariants.{Bp}
-use Rattle.dcc_prog.specs.declared.image.Image.{Image}
+use Rattle.dcc_machine.specs.declared.image.Image.{Image}
 use Rattle.dcc_prog.specs.declared.procedure.Layout.{Layout}
 use Rattle.dcc_prog.specs.declared.procedure.Node.{Node}
 use Rattle.dcc_prog.specs.declared.procedure.Proc.{Proc}
-use Rattle.dcc_prog.specs.declared.instr.Operand.TheVariants.{Word}
-use Rattle.dcc_prog.specs.declared.instr.Op.{Op}
-use Rattle.dcc_prog.specs.declared.instr.Op.TheVariants.{Pop, Ret}
-use Rattle.dcc_prog.specs.declared.refusal.construct.TheConstants.{OUTSIDE, HEIGHTS}
+use Rattle.dcc_machine.specs.declared.instr.Operand.TheVariants.{Word}
+use Rattle.dcc_machine.specs.declared.instr.Op.{Op}
+use Rattle.dcc_machine.specs.declared.instr.Op.TheVariants.{Pop, Ret}
+use Rattle.dcc_prog.specs.declared.refusal.ConstructKind.{ConstructKind}
+use Rattle.dcc_prog.specs.declared.refusal.ConstructKind.TheVariants.{OutsideProfile, StackHeight}
 use Rattle.dcc_prog.specs.declared.refusal.Refusal.{Refusal}
 use Rattle.dcc_prog.specs.declared.refusal.Refusal.TheVariants.{Construct}
 use Rattle.dcc_prog.specs.Trail.{StandsAt, IsNode, called}
@@ -26,7 +27,7 @@ use Rattle.dcc_prog.specs.Found.{AreFound}
 use Rattle.dcc_heights.specs.Moves.{removed_in}
 use Rattle.dcc_heights.specs.Form.{is_pop_bp, is_leave, is_ret, is_misplaced, is_into_saved_bp, is_too_far, is_bad}
 use Rattle.dcc_heights.specs.Removed.{AreByEntry}
-use Rattle.dcc_heights.specs.Search.{Scene, scene_of, node_in, after_in, is_misplaced_in, IsStepFault, IsReachedAt, IsFault}
+use Rattle.dcc_heights.specs.Search.{SearchedProcedure, searched_procedure, node_in, after_in, is_misplaced_in, IsStepFault, IsReachedAt, IsFault}
 use Rattle.dcc_heights.specs.Search as search
 use Rattle.dcc_heights.proofs.Moving.{or-true, and-left, and-right, not-true, moves-so}
 use Rattle.dcc_heights.proofs.Removing.{call-removes}
@@ -56,12 +57,12 @@ not-same a b e same = true≢false (sym (eq-eqb a b same) ∙ not-true (a == b) 
 module _ (image : Image) (layout : Layout) (procs : List Proc) (found : AreFound image layout procs)
     (removed : List (ℕ × ℕ)) (by_entry : AreByEntry procs removed) (proc : Proc) (among : Contains procs proc)
     (framed : Bool) (framed_is : framed ≡ is_framed image layout proc.entry) where
-  abbrev scene : Scene
-  scene = scene_of proc framed removed
+  abbrev scene : SearchedProcedure
+  scene = searched_procedure proc framed removed
 
   -- a construct at an offset that is reached
   refused-at :
-      (kind at height : ℕ) → IsReachedAt scene at height → IsAtHeight image layout proc.entry at kind
+      (kind : ConstructKind) (at height : ℕ) → IsReachedAt scene at height → IsAtHeight image layout proc.entry at kind
       → IsRefusedByHeights image layout (Construct kind at)
   refused-at kind at height reached stands =
       let has = reached-has image layout procs found removed by_entry proc among framed at height reached in
@@ -205,15 +206,15 @@ module _ (image : Image) (layout : Layout) (procs : List Proc) (found : AreFound
         (refusal : Refusal) → IsStepFault scene at node.instr.op height refusal
         → IsRefusedByHeights image layout refusal
     step-refused _ (search.IsStepFault.misplaced e) =
-        refused-at OUTSIDE at height reached (misplaced (placed-wrong e))
+        refused-at OutsideProfile at height reached (misplaced (placed-wrong e))
     step-refused _ (search.IsStepFault.bad e) =
-        refused-at HEIGHTS at height reached (bad_height (bad-height e))
+        refused-at StackHeight at height reached (bad_height (bad-height e))
 
   pub fault-refused : (refusal : Refusal) → IsFault scene refusal → IsRefusedByHeights image layout refusal
   fault-refused refusal (search.IsFault.of_step {at} {height} {node} reached is fault) =
       step-refused at height node reached is refusal fault
   fault-refused _ (search.IsFault.two_heights {at} {height} {other} reached reached_other apart) =
-      refused-at HEIGHTS at height reached
+      refused-at StackHeight at height reached
       (bad_height (two_heights (reached-has image layout procs found removed by_entry proc among framed at height
       reached) (reached-has image layout procs found removed by_entry proc among framed at other reached_other)
       (λ same. apart (same-level height other same))))

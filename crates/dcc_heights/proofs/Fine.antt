@@ -5,12 +5,13 @@ use Rattle.std.proofs.lemmas.Bool.Decides.{nat_tests}
 use Rattle.std.proofs.lemmas.Int.{ints}
 use Rattle.std.specs.Prelude.{int_lt}
 use Rattle.dcc_num.specs.declared.Reg.TheVariants.{Bp}
-use Rattle.dcc_prog.specs.declared.image.Image.{Image}
+use Rattle.dcc_machine.specs.declared.image.Image.{Image}
 use Rattle.dcc_prog.specs.declared.procedure.Layout.{Layout}
 use Rattle.dcc_prog.specs.declared.procedure.Proc.{Proc}
-use Rattle.dcc_prog.specs.declared.instr.Operand.TheVariants.{Word}
-use Rattle.dcc_prog.specs.declared.instr.Op.{Op}
-use Rattle.dcc_prog.specs.declared.instr.Op.TheVariants.{Pop, Leave, Ret}
+use Rattle.dcc_prog.specs.declared.refusal.ConstructKind.{ConstructKind}
+use Rattle.dcc_machine.specs.declared.instr.Operand.TheVariants.{Word}
+use Rattle.dcc_machine.specs.declared.instr.Op.{Op}
+use Rattle.dcc_machine.specs.declared.instr.Op.TheVariants.{Pop, Leave, Ret}
 use Rattle.dcc_prog.specs.Trail.{StandsAt, IsNode}
 use Rattle.dcc_prog.specs.FrameForm.{is_framed}
 use Rattle.dcc_prog.specs.Height.{needs_frame, by_ret, MovesHeight, HasHeight, IsMisplaced, HasBadHeight, two_heights, too_far, returns_early, two_sizes, too_great, grows_too_great, above_entry, into_saved_bp}
@@ -19,7 +20,7 @@ use Rattle.dcc_prog.specs.Found.{AreFound}
 use Rattle.dcc_heights.specs.Moves.{removed_in, height_after}
 use Rattle.dcc_heights.specs.Form.{is_pop_bp, is_leave, is_ret, is_misplaced, is_into_saved_bp, is_too_far}
 use Rattle.dcc_heights.specs.Removed.{AreByEntry}
-use Rattle.dcc_heights.specs.Search.{Scene, scene_of, after_in, IsStep, AreAllHeights}
+use Rattle.dcc_heights.specs.Search.{SearchedProcedure, searched_procedure, after_in, IsStep, AreAllHeights}
 use Rattle.dcc_heights.proofs.Moving.{or-false-left, or-false-right}
 use Rattle.dcc_heights.proofs.Removing.{call-removes-only}
 use Rattle.dcc_heights.proofs.Giving.{gives-trail, is-entry, moves-only, step-small, stands-at, Only, only}
@@ -75,28 +76,29 @@ saved-so framed op level after is_so no_pop no_leave above less low =
 
 -- What an operation that may stand at its height is not.
 
-module _ (scene : Scene) (at : ℕ) (op : Op) (height after : ℕ) (step : IsStep scene at op height after) where
-  not-far : is_too_far scene.framed op height (pos after) ≡ false
-  not-far =
-      ap (is_too_far scene.framed op height) (sym step.after_is)
-      ∙ or-false-left (is_too_far scene.framed op height (after_in scene op height)) (is_ret op && not (height == 0))
-      (or-false-left (is_too_far scene.framed op height (after_in scene op height) || (is_ret op && not (height == 0)))
-      (int_lt (pos 32766) (after_in scene op height)) step.fine)
+module _ (scene : SearchedProcedure) (at : ℕ) (op : Op) (height after : ℕ) (step : IsStep scene at op height after)
+  where
+    not-far : is_too_far scene.framed op height (pos after) ≡ false
+    not-far =
+        ap (is_too_far scene.framed op height) (sym step.after_is)
+        ∙ or-false-left (is_too_far scene.framed op height (after_in scene op height)) (is_ret op && not (height == 0))
+        (or-false-left (is_too_far scene.framed op height (after_in scene op height) || (is_ret op && not (height == 0)))
+        (int_lt (pos 32766) (after_in scene op height)) step.fine)
 
-  not-saved : is_into_saved_bp scene.framed op height (pos after) ≡ false
-  not-saved =
-      or-false-right (int_lt (pos after) (pos 0)) (is_into_saved_bp scene.framed op height (pos after)) not-far
+    not-saved : is_into_saved_bp scene.framed op height (pos after) ≡ false
+    not-saved =
+        or-false-right (int_lt (pos after) (pos 0)) (is_into_saved_bp scene.framed op height (pos after)) not-far
 
-  not-early : (is_ret op && not (height == 0)) ≡ false
-  not-early =
-      or-false-right (is_too_far scene.framed op height (after_in scene op height)) (is_ret op && not (height == 0))
-      (or-false-left (is_too_far scene.framed op height (after_in scene op height) || (is_ret op && not (height == 0)))
-      (int_lt (pos 32766) (after_in scene op height)) step.fine)
+    not-early : (is_ret op && not (height == 0)) ≡ false
+    not-early =
+        or-false-right (is_too_far scene.framed op height (after_in scene op height)) (is_ret op && not (height == 0))
+        (or-false-left (is_too_far scene.framed op height (after_in scene op height) || (is_ret op && not (height == 0)))
+        (int_lt (pos 32766) (after_in scene op height)) step.fine)
 
 module _ (image : Image) (layout : Layout) (procs : List Proc) (found : AreFound image layout procs)
     (removed : List (ℕ × ℕ)) (by_entry : AreByEntry procs removed) (proc : Proc) (among : Contains procs proc)
     (framed : Bool) (framed_is : framed ≡ is_framed image layout proc.entry) (heights : List (ℕ × ℕ))
-    (all : AreAllHeights (scene_of proc framed removed) heights) where
+    (all : AreAllHeights (searched_procedure proc framed removed) heights) where
   level-of : (at : ℕ) (height : ℤ) → HasHeight image layout proc.entry at height
       → Only image layout procs found removed by_entry proc among framed heights all at height
   level-of at height has = only image layout procs found removed by_entry proc among framed heights all at has.before
@@ -113,7 +115,7 @@ module _ (image : Image) (layout : Layout) (procs : List Proc) (found : AreFound
     same : height ≡ pos level
     small : level ≤ 32766
     after : ℕ
-    step : IsStep (scene_of proc framed removed) at op level after
+    step : IsStep (searched_procedure proc framed removed) at op level after
     leads : (next : ℤ) → MovesHeight image layout proc.entry at op height next → next ≡ pos after
 
   standing :
@@ -163,11 +165,11 @@ module _ (image : Image) (layout : Layout) (procs : List Proc) (found : AreFound
       let saved =
       saved-so framed op s.level s.after (framed_is ∙ framed_so) (not-pop op other) (not-leave op stays)
       (omega (arith, ints, above, same)) (omega (arith, ints, less, to, same)) (omega (arith, ints, below, to)) in
-      true≢false (sym saved ∙ not-saved (scene_of proc framed removed) at op s.level s.after s.step)
+      true≢false (sym saved ∙ not-saved (searched_procedure proc framed removed) at op s.level s.after s.step)
   no-bad at (returns_early {count} {height} stands has other) =
       let s = standing at (Ret count) height has stands in
       let inner : not (s.level == 0) ≡ true = ap not (ne_eqb s.level 0 (λ e. other (s.same ∙ ap pos e))) in
-      true≢false (sym inner ∙ not-early (scene_of proc framed removed) at (Ret count) s.level s.after s.step)
+      true≢false (sym inner ∙ not-early (searched_procedure proc framed removed) at (Ret count) s.level s.after s.step)
   no-bad at (two_sizes {count} {other} node stands reached apart) =
       let entry = is-entry image layout procs found removed by_entry proc among framed in
       let here = call-removes-only image layout procs found removed by_entry proc.entry count entry
@@ -185,6 +187,6 @@ module _ (image : Image) (layout : Layout) (procs : List Proc) (found : AreFound
       let small = step-small image layout procs found removed by_entry proc among framed at op s.level s.after s.step in
       omega (arith, ints, to, small, great)
 
-  pub no-construct : (kind at : ℕ) → ¬ IsAtHeight image layout proc.entry at kind
+  pub no-construct : (kind : ConstructKind) (at : ℕ) → ¬ IsAtHeight image layout proc.entry at kind
   no-construct _ at (misplaced m) = no-misplaced at m
   no-construct _ at (bad_height b) = no-bad at b

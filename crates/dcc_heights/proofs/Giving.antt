@@ -4,14 +4,15 @@ use Rattle.std.proofs.lemmas.List.Elements.{All-contains}
 use Rattle.std.proofs.lemmas.Int.{ints}
 use Rattle.std.proofs.lemmas.Bool.Decides.{nat_tests}
 use Rattle.std.specs.Prelude.{int_lt}
-use Rattle.dcc_prog.specs.declared.image.Image.{Image}
+use Rattle.dcc_machine.specs.declared.image.Image.{Image}
 use Rattle.dcc_prog.specs.declared.procedure.Layout.{Layout}
 use Rattle.dcc_prog.specs.declared.procedure.Node.{Node}
 use Rattle.dcc_prog.specs.declared.procedure.Proc.{Proc}
-use Rattle.dcc_prog.specs.declared.instr.Op.{Op}
-use Rattle.dcc_prog.specs.declared.instr.Op.TheVariants.{Call, Ret}
-use Rattle.dcc_prog.specs.declared.refusal.construct.TheConstants.{OUTSIDE}
-use Rattle.dcc_prog.specs.Trail.{next_of, known_ah, targets_of, op_successors, instr_successors, successors, StandsAt, IsTrail, IsNode, IsEntry, called}
+use Rattle.dcc_machine.specs.declared.instr.Op.{Op}
+use Rattle.dcc_machine.specs.declared.instr.Op.TheVariants.{Call, Ret}
+use Rattle.dcc_prog.specs.declared.refusal.ConstructKind.TheVariants.{OutsideProfile}
+use Rattle.dcc_machine.specs.Successors.{next_of, op_successors}
+use Rattle.dcc_prog.specs.Trail.{known_ah, targets_of, instr_successors, successors, StandsAt, IsTrail, IsNode, IsEntry, called}
 use Rattle.dcc_prog.specs.FrameForm.{is_frame_form}
 use Rattle.dcc_prog.specs.Height.{MovesHeight, GivesHeight, entered, gone_on, HasHeight}
 use Rattle.dcc_prog.specs.Construct.{is_system, foreign}
@@ -20,7 +21,7 @@ use Rattle.dcc_prog.proofs.FoundNodes.{found-by, node-listed}
 use Rattle.dcc_heights.specs.Moves.{removed_in, height_after}
 use Rattle.dcc_heights.specs.Form.{is_ret, is_too_far}
 use Rattle.dcc_heights.specs.Removed.{AreByEntry}
-use Rattle.dcc_heights.specs.Search.{Scene, scene_of, node_in, height_in, after_in, IsStep, IsReachedAt, IsClosedAt, AreAllHeights}
+use Rattle.dcc_heights.specs.Search.{SearchedProcedure, searched_procedure, node_in, height_in, after_in, IsStep, IsReachedAt, IsClosedAt, AreAllHeights}
 use Rattle.dcc_heights.specs.Search as search
 use Rattle.dcc_heights.proofs.Moving.{moves-so, moves-once, or-false-right}
 use Rattle.dcc_heights.proofs.Removing.{one-op, call-removes, call-removes-only}
@@ -58,8 +59,8 @@ no-ret image layout entry to from before op count trail stands is =
 module _ (image : Image) (layout : Layout) (procs : List Proc) (found : AreFound image layout procs)
     (removed : List (ℕ × ℕ)) (by_entry : AreByEntry procs removed) (proc : Proc) (among : Contains procs proc)
     (framed : Bool) where
-  abbrev scene : Scene
-  scene = scene_of proc framed removed
+  abbrev scene : SearchedProcedure
+  scene = searched_procedure proc framed removed
 
   pub is-found : IsFound image layout proc
   is-found = All-contains (IsFound image layout) procs proc found.found among
@@ -83,7 +84,7 @@ module _ (image : Image) (layout : Layout) (procs : List Proc) (found : AreFound
       by true e = e
       by false e =
           absurd
-          (found.no_construct OUTSIDE at (record {
+          (found.no_construct OutsideProfile at (record {
             entry = proc.entry;
             is_entry = is-entry;
             node = node;

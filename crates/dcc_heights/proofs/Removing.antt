@@ -3,12 +3,12 @@ use Rattle.std.proofs.Common.{◌≡◌, inl, inr, ℕ, nat_eq, true, true≢fal
 use Rattle.std.specs.Map.{lookup}
 use Rattle.std.proofs.lemmas.Option.{slice_get_within, get_or_from_slice_get}
 use Rattle.std.proofs.lemmas.List.Elements.{All-contains}
-use Rattle.dcc_prog.specs.declared.image.Image.{Image}
+use Rattle.dcc_machine.specs.declared.image.Image.{Image}
 use Rattle.dcc_prog.specs.declared.procedure.Layout.{Layout}
 use Rattle.dcc_prog.specs.declared.procedure.Proc.{Proc}
-use Rattle.dcc_prog.specs.declared.instr.Instr.{Instr}
-use Rattle.dcc_prog.specs.declared.instr.Op.{Op}
-use Rattle.dcc_prog.specs.declared.instr.Op.TheVariants.{Ret}
+use Rattle.dcc_machine.specs.declared.instr.Instr.{Instr}
+use Rattle.dcc_machine.specs.declared.instr.Op.{Op}
+use Rattle.dcc_machine.specs.declared.instr.Op.TheVariants.{Ret}
 use Rattle.dcc_prog.specs.Trail.{instruction_in, StandsAt, IsNode, IsEntry}
 use Rattle.dcc_prog.specs.Height.{ReachesRet, IsRemoved, by_ret, without_ret}
 use Rattle.dcc_prog.specs.Found.{IsNodeFound, IsFound, AreFound}

@@ -13,12 +13,13 @@ use Rattle.std.proofs.lemmas.Map.Views.{IsSome-lookup_from_Contains}
 use Rattle.indexmap.proofs.IndexTableLemmas.Probe.{pigeonhole}
 use Rattle.dcc_prog.specs.declared.procedure.Node.{Node}
 use Rattle.dcc_prog.specs.declared.refusal.Refusal.{Refusal}
-use Rattle.dcc_heights.specs.Search.{Scene, node_in, height_in, IsStep, IsArrived, known, first, IsArrivalFault, other, IsReachedAt, entered, gone_on, IsFault, of_step, two_heights, no_memory, Extends, IsClosedAt, AreReached, IsFollowed, IsGoing, IsSearched, AreAllHeights}
+use Rattle.dcc_heights.specs.Search.{SearchedProcedure, node_in, height_in, IsStep, IsArrived, known, first, IsArrivalFault, other, IsReachedAt, entered, gone_on, IsFault, of_step, two_heights, no_memory, Extends, IsClosedAt, AreReached, IsFollowed, IsGoing, IsSearched, AreAllHeights}
 use Rattle.dcc_heights.specs.Search as search
 use Rattle.dcc_heights.proofs.Entries.{lookup-left, lookup-push, lookup-pushed, get-left, place-of}
 
 same-reached :
-    (scene : Scene) (at to height after : ℕ) → IsReachedAt scene to after → at ≡ to → Some after ≡ Some height
+    (scene : SearchedProcedure) (at to height after : ℕ) → IsReachedAt scene to after → at ≡ to → Some after
+    ≡ Some height
     → IsReachedAt scene at height
 same-reached scene at to height after reached here is =
     let same : after ≡ height = cc in
@@ -26,7 +27,7 @@ same-reached scene at to height after reached here is =
 
 -- nothing is reached but the entry
 pub reached-start :
-    (scene : Scene) (heights : List (ℕ × ℕ)) → scene.entry < 65536 → IsArrived [] heights scene.entry 0
+    (scene : SearchedProcedure) (heights : List (ℕ × ℕ)) → scene.entry < 65536 → IsArrived [] heights scene.entry 0
     → AreReached scene heights
 reached-start scene heights small (known is same) = let clash = is in cc
 reached-start scene heights small (first none same) =
@@ -43,13 +44,14 @@ reached-start scene heights small (first none same) =
     })
 
 pub start-fault :
-    (scene : Scene) (refusal : Refusal) → IsArrivalFault [] scene.entry 0 refusal → IsFault scene refusal
+    (scene : SearchedProcedure) (refusal : Refusal) → IsArrivalFault [] scene.entry 0 refusal → IsFault scene refusal
 start-fault scene _ (other is apart) = let clash = is in cc
 start-fault scene _ search.IsArrivalFault.no_memory = no_memory
 
 -- one more offset is reached
 reached-more :
-    (scene : Scene) (heights : List (ℕ × ℕ)) (to after : ℕ) → AreReached scene heights → IsReachedAt scene to after
+    (scene : SearchedProcedure) (heights : List (ℕ × ℕ)) (to after : ℕ) → AreReached scene heights
+    → IsReachedAt scene to after
     → to < 65536
     → AreReached scene (heights ++ (to, after) ∷ [])
 reached-more scene heights to after are reached small = record {
@@ -66,7 +68,7 @@ reached-more scene heights to after are reached small = record {
 
 -- a successor of an offset that is reached is reached
 pub successor-reached :
-    (scene : Scene) (heights : List (ℕ × ℕ)) (at height after place : ℕ) (node : Node) (items : List ℕ)
+    (scene : SearchedProcedure) (heights : List (ℕ × ℕ)) (at height after place : ℕ) (node : Node) (items : List ℕ)
     → AreReached scene heights → height_in heights at ≡ Some height → node_in scene at ≡ Some node
     → IsStep scene at node.instr.op height after → items ≡ node.succ.items → place < length items
     → IsReachedAt scene (get_or items place 0) after
@@ -81,7 +83,7 @@ extends-more old heights more extends = record {
   places = λ k entry is. get-left heights more k entry (extends.places k entry is);
 }
 
-module _ (scene : Scene) (old : List (ℕ × ℕ)) (after : ℕ) where
+module _ (scene : SearchedProcedure) (old : List (ℕ × ℕ)) (after : ℕ) where
   pub going-none : AreReached scene old → IsGoing scene old old after []
   going-none are = record {
     are = are;
@@ -146,11 +148,12 @@ module _ (scene : Scene) (old : List (ℕ × ℕ)) (after : ℕ) where
 
 -- One offset after another.
 
-pub searched-none : (scene : Scene) (heights : List (ℕ × ℕ)) → AreReached scene heights → IsSearched scene heights 0
+pub searched-none : (scene : SearchedProcedure) (heights : List (ℕ × ℕ)) → AreReached scene heights
+    → IsSearched scene heights 0
 searched-none scene heights are = record { are = are; closed = λ k at height node less. absurd (omega (arith, less)) }
 
 closed-on :
-    (scene : Scene) (old new : List (ℕ × ℕ)) (at height : ℕ) (node : Node) → Extends old new
+    (scene : SearchedProcedure) (old new : List (ℕ × ℕ)) (at height : ℕ) (node : Node) → Extends old new
     → IsClosedAt scene old at height node
     → IsClosedAt scene new at height node
 closed-on scene old new at height node extends closed = record {
@@ -160,7 +163,7 @@ closed-on scene old new at height node extends closed = record {
 }
 
 pub searched-more :
-    (scene : Scene) (old new : List (ℕ × ℕ)) (next : ℕ) → IsSearched scene old next → next < length old
+    (scene : SearchedProcedure) (old new : List (ℕ × ℕ)) (next : ℕ) → IsSearched scene old next → next < length old
     → IsFollowed scene old new next
     → IsSearched scene new (next + 1)
 searched-more scene old new next searched inside followed = record {
@@ -179,7 +182,8 @@ searched-more scene old new next searched inside followed = record {
 }
 
 pub searched-all :
-    (scene : Scene) (heights : List (ℕ × ℕ)) (next : ℕ) → IsSearched scene heights next → length heights ≤ next
+    (scene : SearchedProcedure) (heights : List (ℕ × ℕ)) (next : ℕ) → IsSearched scene heights next
+    → length heights ≤ next
     → AreAllHeights scene heights
 searched-all scene heights next searched past = record {
   start = searched.are.start;
@@ -190,7 +194,7 @@ searched-all scene heights next searched past = record {
 
 -- There are no more than offsets of a segment.
 
-module _ (scene : Scene) (heights : List (ℕ × ℕ)) (are : AreReached scene heights) where
+module _ (scene : SearchedProcedure) (heights : List (ℕ × ℕ)) (are : AreReached scene heights) where
   small-found :
       (key : ℕ) (found : Option ℕ) → height_in heights key ≡ found → is_some found ≡ true → key < 65536
   small-found key None is some = absurd (true≢false (sym some))

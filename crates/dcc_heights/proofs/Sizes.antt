@@ -7,9 +7,9 @@ use Rattle.std.proofs.lemmas.Map.Views.{exact_unsigned_eq}
 use Rattle.std.proofs.lemmas.Slice.Zip.{all_zipped_more}
 use Rattle.dcc_prog.specs.declared.procedure.Node.{Node}
 use Rattle.dcc_prog.specs.declared.procedure.Proc.{Proc}
-use Rattle.dcc_prog.specs.declared.instr.Op.{Op}
-use Rattle.dcc_prog.specs.declared.instr.Op.TheVariants.{Ret}
-use Rattle.dcc_prog.specs.declared.refusal.construct.TheConstants.{HEIGHTS}
+use Rattle.dcc_machine.specs.declared.instr.Op.{Op}
+use Rattle.dcc_machine.specs.declared.instr.Op.TheVariants.{Ret}
+use Rattle.dcc_prog.specs.declared.refusal.ConstructKind.TheVariants.{StackHeight}
 use Rattle.dcc_prog.specs.declared.refusal.Refusal.TheVariants.{Construct}
 use Rattle.dcc_heights.specs.Removed.{HasRet, IsSize, IsSizeSoFar, HasTwoSizes, two_sizes, AreByEntry, AreSizes}
 
@@ -80,7 +80,7 @@ module _ (nodes : List (ℕ × Node)) (at : ℕ) (node : Node) where
   pub size-fault :
       (all rest : List (ℕ × Node)) (known bytes : ℕ) → all ≡ nodes ++ (at, node) ∷ rest → node.instr.op ≡ Ret bytes
       → known ≢ bytes → IsSizeSoFar nodes (Some known)
-      → HasTwoSizes all (Construct HEIGHTS at)
+      → HasTwoSizes all (Construct StackHeight at)
   size-fault all rest known bytes is is_ret apart so_far =
       let earlier = so_far.1 in
       let here : HasRet (nodes ++ (at, node) ∷ rest) at bytes = record {
@@ -88,7 +88,7 @@ module _ (nodes : List (ℕ × Node)) (at : ℕ) (node : Node) where
         among = Contains-append_right nodes ((at, node) ∷ rest) (at, node) (0, omega arith, refl);
         is_ret = is_ret;
       } in
-      subst (λ (l : List (ℕ × Node)). HasTwoSizes l (Construct HEIGHTS at)) (sym is)
+      subst (λ (l : List (ℕ × Node)). HasTwoSizes l (Construct StackHeight at)) (sym is)
       (two_sizes here (ret-left nodes ((at, node) ∷ rest) earlier.0 known earlier.1) (λ same. apart (sym same)))
 
 pub same-size : (a b : ℕ) → Some a ≡ Some b → a ≡ b

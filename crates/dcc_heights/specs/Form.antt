@@ -2,9 +2,9 @@
 -- contract rests on it.
 use Rattle.std.specs.Prelude.{ℕ, ◌==◌, nat_lt, Bool, true, false, not, ◌&&◌, ◌||◌, ℤ, pos, int_lt}
 use Rattle.dcc_num.specs.declared.Reg.TheVariants.{Bp}
-use Rattle.dcc_prog.specs.declared.instr.Operand.TheVariants.{Word}
-use Rattle.dcc_prog.specs.declared.instr.Op.{Op}
-use Rattle.dcc_prog.specs.declared.instr.Op.TheVariants.{Pop, Leave, Ret}
+use Rattle.dcc_machine.specs.declared.instr.Operand.TheVariants.{Word}
+use Rattle.dcc_machine.specs.declared.instr.Op.{Op}
+use Rattle.dcc_machine.specs.declared.instr.Op.TheVariants.{Pop, Leave, Ret}
 use Rattle.dcc_prog.specs.Height.{needs_frame, greatest_height}
 
 -- `pop bp`

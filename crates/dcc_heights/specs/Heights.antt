@@ -1,7 +1,7 @@
 -- What `heights` tells. The heights are those of every program of which these are the procedures that are found, and a
 -- refusal is one of each such program.
 use Rattle.std.specs.Prelude.{List}
-use Rattle.dcc_prog.specs.declared.image.Image.{Image}
+use Rattle.dcc_machine.specs.declared.image.Image.{Image}
 use Rattle.dcc_prog.specs.declared.procedure.Layout.{Layout}
 use Rattle.dcc_prog.specs.declared.procedure.Proc.{Proc}
 use Rattle.dcc_prog.specs.declared.frame.Heights.{Heights}

@@ -2,8 +2,8 @@
 -- contract rests on it.
 use Rattle.std.specs.Prelude.{ℕ, ℤ, pos, ◌+ℤ◌, ◌-ℤ◌, nat_eq, List, Option, Some, None, unwrap_or}
 use Rattle.std.specs.Map.{lookup}
-use Rattle.dcc_prog.specs.declared.instr.Op.{Op}
-use Rattle.dcc_prog.specs.declared.instr.Op.TheVariants.{Push, Pop, Call}
+use Rattle.dcc_machine.specs.declared.instr.Op.{Op}
+use Rattle.dcc_machine.specs.declared.instr.Op.TheVariants.{Push, Pop, Call}
 use Rattle.dcc_prog.specs.Height.{lowering_of, height_set_by}
 
 -- how many bytes a CALL of the procedure with this entry removes, by a list of entries

@@ -5,8 +5,8 @@ use Rattle.std.specs.List.{AllZip}
 use Rattle.std.specs.Map.{lookup}
 use Rattle.dcc_prog.specs.declared.procedure.Node.{Node}
 use Rattle.dcc_prog.specs.declared.procedure.Proc.{Proc}
-use Rattle.dcc_prog.specs.declared.instr.Op.TheVariants.{Ret}
-use Rattle.dcc_prog.specs.declared.refusal.construct.TheConstants.{HEIGHTS}
+use Rattle.dcc_machine.specs.declared.instr.Op.TheVariants.{Ret}
+use Rattle.dcc_prog.specs.declared.refusal.ConstructKind.TheVariants.{StackHeight}
 use Rattle.dcc_prog.specs.declared.refusal.Refusal.{Refusal}
 use Rattle.dcc_prog.specs.declared.refusal.Refusal.TheVariants.{Construct, Memory}
 
@@ -34,7 +34,7 @@ pub data HasTwoSizes (nodes : List (ℕ × Node)) : Refusal → Type 0 where
       → HasRet nodes at bytes
       → HasRet nodes from other
       → bytes ≢ other
-      → HasTwoSizes nodes (Construct HEIGHTS at)
+      → HasTwoSizes nodes (Construct StackHeight at)
 
 -- each number is what the RETs of a procedure with the entry remove, and each procedure's entry has one
 pub record AreByEntry (procs : List Proc) (removed : List (ℕ × ℕ)) : Type 0 where

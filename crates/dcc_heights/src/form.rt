@@ -5,8 +5,8 @@ ghost use Rattle.dcc_prog.specs.Height.{is_sp_sub, is_frame_work, needs_frame};
 ghost use Rattle.dcc_heights.specs.Form.{is_pop_bp, is_ret, is_misplaced, is_too_far, is_bad};
 
 use crate::moves::lowers;
+use dcc_machine::{Alu, Op, Operand, Unary};
 use dcc_num::Reg;
-use dcc_prog::{Alu, Op, Operand, Unary};
 
 // The greatest height of a stack, in bytes.
 const GREATEST: i32 = 32766;
@@ -73,7 +73,7 @@ fn is_too_far(framed: bool, op: Op, height: u16, after: i32) -> bool
 
 /// Whether the heights before and after an operation are none that a stack may have: SP rises too far, the stack is
 /// not empty at a RET, or the height is too great.
-pub fn is_bad(framed: bool, op: Op, height: u16, after: i32) -> bool
+pub(crate) fn is_bad(framed: bool, op: Op, height: u16, after: i32) -> bool
     ensures { result ≡ is_bad framed op height after }
 {
     is_too_far(framed, op, height, after)

@@ -6,8 +6,8 @@ ghost use Rattle.dcc_num.specs.Numbers.{signed_of};
 ghost use Rattle.dcc_prog.specs.Height.{lowering_of, height_set_by, is_above_zero};
 ghost use Rattle.dcc_heights.specs.Moves.{removed_in, height_after};
 
+use dcc_machine::{Alu, Op, Operand, Unary};
 use dcc_num::Reg;
-use dcc_prog::{Alu, Op, Operand, Unary};
 use indexmap::IndexMap;
 
 // A word, taken as signed.
@@ -64,7 +64,7 @@ fn removed_in(removed: &IndexMap<u16, u16>, target: u16) -> u16
 
 /// The height after an operation that is no RET. `removed` tells how many bytes a CALL removes, by the entry of the
 /// procedure that it calls. A number below 0 says that SP lies above its value at the procedure's entry.
-pub fn height_after(removed: &IndexMap<u16, u16>, op: Op, height: u16) -> i32
+pub(crate) fn height_after(removed: &IndexMap<u16, u16>, op: Op, height: u16) -> i32
     ensures { result ≡ height_after (removed_in removed.now.entries) op (pos height) }
 {
     let height = i32::from(height);
@@ -81,7 +81,7 @@ pub fn height_after(removed: &IndexMap<u16, u16>, op: Op, height: u16) -> i32
 }
 
 /// Whether a move of SP lowers it.
-pub fn lowers(op: Op) -> bool
+pub(crate) fn lowers(op: Op) -> bool
     ensures { result ≡ is_above_zero (lowering_of op) }
 {
     lowering_of(op).is_some_and(|bytes| bytes > 0)

@@ -3,8 +3,8 @@
 ghost use Rattle.std.specs.Prelude.{IfOk, IfErr};
 ghost use Rattle.dcc_heights.specs.Removed.{IsSize, HasTwoSizes, AreSizes, IsSizeFault};
 
-use dcc_prog::construct::HEIGHTS;
-use dcc_prog::{Op, Proc, Refusal};
+use dcc_machine::Op;
+use dcc_prog::{ConstructKind, Proc, Refusal};
 use indexmap::IndexMap;
 use std::alloc::Global;
 
@@ -30,7 +30,7 @@ fn size_of(proc: &Proc) -> Result<u16, Refusal>
         match size {
             Some(known) if known != bytes => {
                 return Err(Refusal::Construct {
-                    kind: HEIGHTS,
+                    kind: ConstructKind::StackHeight,
                     at: *at,
                 });
             }

@@ -1,13 +1,14 @@
 //! The search for the heights of a procedure.
 
 ghost use Rattle.std.specs.Prelude.{◌≡◌, ◌<◌, IfOk, IfErr, OnOk};
-ghost use Rattle.dcc_heights.specs.Search.{scene_of, IsStep, IsStepFault, IsArrived, IsArrivalFault, IsSearched};
+ghost use Rattle.dcc_heights.specs.Search.{searched_procedure, IsStep, IsStepFault, IsArrived, IsArrivalFault};
+ghost use Rattle.dcc_heights.specs.Search.{IsSearched};
 ghost use Rattle.dcc_heights.specs.Search.{AreReached, AreAllHeights, IsFault, Extends, IsFollowed};
 
 use crate::form::{is_bad, is_misplaced};
 use crate::moves::height_after;
-use dcc_prog::construct::{HEIGHTS, OUTSIDE};
-use dcc_prog::{Op, Proc, Refusal};
+use dcc_machine::Op;
+use dcc_prog::{ConstructKind, Proc, Refusal};
 use indexmap::IndexMap;
 use std::alloc::Global;
 
@@ -20,15 +21,21 @@ fn step(
     op: Op,
     height: u16,
 ) -> Result<u16, Refusal>
-    ensures step { IfOk result (IsStep (scene_of proc.now framed removed.now.entries) at op height) }
-    ensures refused { IfErr result (IsStepFault (scene_of proc.now framed removed.now.entries) at op height) }
+    ensures step { IfOk result (IsStep (searched_procedure proc.now framed removed.now.entries) at op height) }
+    ensures refused { IfErr result (IsStepFault (searched_procedure proc.now framed removed.now.entries) at op height) }
 {
     if framed && at != proc.entry && is_misplaced(op, height) {
-        return Err(Refusal::Construct { kind: OUTSIDE, at });
+        return Err(Refusal::Construct {
+            kind: ConstructKind::OutsideProfile,
+            at,
+        });
     }
     let after = height_after(removed, op, height);
     if is_bad(framed, op, height, after) {
-        return Err(Refusal::Construct { kind: HEIGHTS, at });
+        return Err(Refusal::Construct {
+            kind: ConstructKind::StackHeight,
+            at,
+        });
     }
     Ok(after as u16)
 }
@@ -42,7 +49,7 @@ fn arrive(heights: &mut IndexMap<u16, u16>, to: u16, height: u16) -> Result<(), 
     match heights.get(&to) {
         Some(known) if *known == height => Ok(()),
         Some(_) => Err(Refusal::Construct {
-            kind: HEIGHTS,
+            kind: ConstructKind::StackHeight,
             at: to,
         }),
         None => {
@@ -60,10 +67,11 @@ fn follow(
     heights: &mut IndexMap<u16, u16>,
     place: usize,
 ) -> Result<(), Refusal>
-    requires { AreReached (scene_of proc.now framed removed.now.entries) heights.old.entries }
+    requires { AreReached (searched_procedure proc.now framed removed.now.entries) heights.old.entries }
     ensures followed { OnOk result
-        (IsFollowed (scene_of proc.now framed removed.now.entries) heights.old.entries heights.new.entries place) }
-    ensures refused { IfErr result (IsFault (scene_of proc.now framed removed.now.entries)) }
+        (IsFollowed (searched_procedure proc.now framed removed.now.entries) heights.old.entries heights.new.entries
+        place) }
+    ensures refused { IfErr result (IsFault (searched_procedure proc.now framed removed.now.entries)) }
 {
     let Some((at, height)) = heights.get_index(place) else {
         return Ok(());
@@ -87,8 +95,8 @@ pub fn search(
     removed: &IndexMap<u16, u16>,
 ) -> Result<IndexMap<u16, u16>, Refusal>
     ensures found { IfOk result
-        (λ heights. AreAllHeights (scene_of proc.now framed removed.now.entries) heights.entries) }
-    ensures refused { IfErr result (IsFault (scene_of proc.now framed removed.now.entries)) }
+        (λ heights. AreAllHeights (searched_procedure proc.now framed removed.now.entries) heights.entries) }
+    ensures refused { IfErr result (IsFault (searched_procedure proc.now framed removed.now.entries)) }
 {
     let mut heights = IndexMap::new(alloc);
     arrive(&mut heights, proc.entry, 0)?;

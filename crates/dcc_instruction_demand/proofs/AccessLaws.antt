@@ -10,23 +10,24 @@ use Rattle.dcc_num.specs.declared.Width.{Width}
 use Rattle.dcc_num.specs.declared.Width.TheVariants.{Byte as byte_width, Word as word_width}
 use Rattle.dcc_num.specs.declared.Half.TheVariants.{Low, High}
 use Rattle.dcc_num.specs.declared.Reg.TheVariants.{Sp}
-use Rattle.dcc_prog.specs.declared.image.Image.{Image}
+use Rattle.dcc_machine.specs.declared.image.Image.{Image}
 use Rattle.dcc_prog.specs.declared.procedure.Layout.{Layout}
 use Rattle.dcc_prog.specs.declared.procedure.Node.{Node}
-use Rattle.dcc_prog.specs.declared.refusal.construct.TheConstants.{OUTSIDE}
+use Rattle.dcc_prog.specs.declared.refusal.ConstructKind.TheVariants.{OutsideProfile}
 use Rattle.dcc_prog.specs.declared.frame.Cell.{Cell as FrameCell}
 use Rattle.dcc_prog.specs.declared.frame.Program.{Program as Analysed}
-use Rattle.dcc_prog.specs.declared.instr.Alu.TheVariants.{Add, Sub}
-use Rattle.dcc_prog.specs.declared.instr.Unary.TheVariants.{Inc, Dec}
-use Rattle.dcc_prog.specs.declared.instr.Ea.{Ea}
-use Rattle.dcc_prog.specs.declared.instr.Operand.TheVariants.{Word, Const}
-use Rattle.dcc_prog.specs.declared.instr.Op.{Op}
-use Rattle.dcc_prog.specs.declared.instr.Op.TheVariants.{Alu as AluOp, Unary as UnaryOp}
+use Rattle.dcc_machine.specs.declared.instr.Alu.TheVariants.{Add, Sub}
+use Rattle.dcc_machine.specs.declared.instr.Unary.TheVariants.{Inc, Dec}
+use Rattle.dcc_machine.specs.declared.instr.Ea.{Ea}
+use Rattle.dcc_machine.specs.declared.instr.Operand.TheVariants.{Word, Const}
+use Rattle.dcc_machine.specs.declared.instr.Op.{Op}
+use Rattle.dcc_machine.specs.declared.instr.Op.TheVariants.{Alu as AluOp, Unary as UnaryOp}
 use Rattle.dcc_prog.specs.Construct.{foreign, is_system}
 use Rattle.dcc_prog.specs.Found.{IsNodeFound}
-use Rattle.dcc_prog.specs.Access.{is_direct, bytes_in}
+use Rattle.dcc_machine.specs.Access.{is_direct, bytes_in}
 use Rattle.dcc_prog.specs.Frame.{memory_operand, offset_in_frame, span_of, IsPiece, IsUsed, IsDirectAccess, IsCell, IsPlaced}
-use Rattle.dcc_prog.specs.FrameForm.{is_framed, is_frame_form, is_sp_move, names_sp_or_bp, uses_bp_address, leaves_frame, copies_bp, makes_frame}
+use Rattle.dcc_machine.specs.SpAndBp.{is_sp_move, names_sp_or_bp, uses_bp_address, leaves_frame, copies_bp}
+use Rattle.dcc_prog.specs.FrameForm.{is_framed, is_frame_form, makes_frame}
 use Rattle.dcc_prog.specs.Analysed.{bytes_of}
 use Rattle.dcc_prog.specs.Trail.{IsEntry}
 use Rattle.dcc_stack.specs.Accepted.{IsFrameFor}
@@ -36,7 +37,7 @@ use Rattle.dcc_ir.specs.declared.syntax.Loc.{Loc}
 use Rattle.dcc_ir.specs.declared.syntax.Loc.TheVariants.{Cell}
 use Rattle.dcc_ir.specs.Tree.{Program}
 use Rattle.dcc_ir.proofs.PathLaws.{decided}
-use Rattle.dcc_ops.specs.Place.{Place as InnerPlace, byte}
+use Rattle.dcc_ops.specs.OperandPlace.{OperandPlace, byte}
 use Rattle.dcc_lift.specs.Blocks.{node_in}
 use Rattle.dcc_lift.specs.Translated.{IsTranslated, setting}
 use Rattle.dcc_lift.proofs.Lifting.{lifting}
@@ -50,7 +51,7 @@ use Rattle.dcc_machine_demand.specs.Bodies.{Body}
 use Rattle.dcc_simulation.proofs.FoundPlaces.{found-places}
 use Rattle.dcc_simulation.proofs.FoundProcedures.{frame-for}
 use Rattle.dcc_simulation.proofs.PieceCells.{placed-cell}
-use Rattle.dcc_machine_demand.specs.Places.{in_frame, is_in_cell, is_exposed_place}
+use Rattle.dcc_machine_demand.specs.Holders.{in_frame, is_in_cell, is_exposed_holder}
 use Rattle.dcc_lifted_demand.proofs.SameLaws.{kept_in}
 use Rattle.dcc_lifted_demand.proofs.RefinedLaws as refined
 use Rattle.dcc_instruction_demand.proofs.FrameLaws.{frame_body, AccessAt}
@@ -140,7 +141,7 @@ module _ (image : Image) (program : Analysed) (p : Program) (is : IsTranslated i
       ]
 
   -- a byte in memory that belongs to a cell may be read anywhere
-  opened : (k : ℤ) → IsPlaced image layout entry k → has_byte k ≡ true → is_exposed_place body_here (in_frame k) ≡ true
+  opened : (k : ℤ) → IsPlaced image layout entry k → has_byte k ≡ true → is_exposed_holder body_here (in_frame k) ≡ true
   opened k placed t =
       let cells = q.frame.cells.items in
       let c = any-tells (λ (cell : FrameCell). is_within k (bytes_of cell)) cells t in
@@ -153,7 +154,7 @@ module _ (image : Image) (program : Analysed) (p : Program) (is : IsTranslated i
   placed_at k placed = placed-told image program entry q.frame frame_is k placed
 
   -- the byte of a half of a cell
-  byte_of_half : (k : ℤ) (l : Loc) (Q : InnerPlace) → frame_place q byte_width k ≡ Q → IsFramePlace e entry k byte_width Q → (IsPlaced image layout entry k → ⊥) → half_in 0 (e.cells entry) k ≡ Some l
+  byte_of_half : (k : ℤ) (l : Loc) (Q : OperandPlace) → frame_place q byte_width k ≡ Q → IsFramePlace e entry k byte_width Q → (IsPlaced image layout entry k → ⊥) → half_in 0 (e.cells entry) k ≡ Some l
       → frame_place q byte_width k ≡ byte l
   byte_of_half k l Q place (in_half {number = number} {half = half} there) apart half_is =
       let same : Cell number half ≡ l = cc (there.is, half_is) in place ∙ ap byte same
@@ -182,7 +183,7 @@ module _ (image : Image) (program : Analysed) (p : Program) (is : IsTranslated i
     part_at : (v : Width) (j : ℤ) → k ≤ℤ j → (j +ℤ pos (bytes_in v)) ≤ℤ (k +ℤ pos (bytes_in w)) → IsFramePlace e entry j v (frame_place q v j)
     part_at v j low high = found-places.frame e entry q (span_of k (bytes_in w)) v j found piece low high
 
-    access_by : (v : Width) (Q : InnerPlace) → frame_place q v k ≡ Q → IsFramePlace e entry k v Q → ((v ≡ word_width) → (w ≡ word_width)) → AccessAt found_here q x.procedure_found x.own v k
+    access_by : (v : Width) (Q : OperandPlace) → frame_place q v k ≡ Q → IsFramePlace e entry k v Q → ((v ≡ word_width) → (w ≡ word_width)) → AccessAt found_here q x.procedure_found x.own v k
     access_by byte_width Q place (in_half {number = number} {half = half} there) same =
         AccessAt.byte_access number half refl place (in_some_cell k (Cell number half) place)
     access_by word_width Q place (in_cell {number = number} low high) same =
@@ -205,7 +206,7 @@ module _ (image : Image) (program : Analysed) (p : Program) (is : IsTranslated i
     form : is_frame_form image layout x.proc.entry at node.instr.op ≡ true
     form = elim (decided (is_frame_form image layout x.proc.entry at node.instr.op)) [
       | inl t ↦ t
-      | inr n ↦ absurd (is.of_file.is_program.procs.no_construct OUTSIDE at (record {
+      | inr n ↦ absurd (is.of_file.is_program.procs.no_construct OutsideProfile at (record {
         entry = x.proc.entry;
         is_entry = x.reached;
         node = node_found.node;

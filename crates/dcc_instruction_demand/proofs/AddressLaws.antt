@@ -9,30 +9,29 @@ use Rattle.dcc_num.specs.declared.Width.TheVariants.{Byte as byte_width, Word as
 use Rattle.dcc_num.specs.declared.Reg.{Reg}
 use Rattle.dcc_num.specs.declared.Reg.TheVariants.{Ax, Cx, Dx, Bx, Sp, Bp, Si, Di}
 use Rattle.dcc_num.specs.declared.Half.TheVariants.{Low, High}
-use Rattle.dcc_prog.specs.declared.instr.Ea.{Ea}
-use Rattle.dcc_prog.specs.declared.instr.Operand.TheVariants.{Word, Mem}
-use Rattle.dcc_prog.specs.Machine.{is_bp}
-use Rattle.dcc_prog.specs.Access.{is_direct}
+use Rattle.dcc_machine.specs.declared.instr.Ea.{Ea}
+use Rattle.dcc_machine.specs.declared.instr.Operand.TheVariants.{Word, Mem}
+use Rattle.dcc_machine.specs.Machine.{is_bp, is_general}
+use Rattle.dcc_machine.specs.Access.{is_direct}
 use Rattle.dcc_prog.specs.Frame.{offset_in_frame}
-use Rattle.dcc_prog.specs.Trail.{is_general}
-use Rattle.dcc_prog.specs.Writes.{is_same_register}
-use Rattle.dcc_prog.specs.Wanted.{Location, half_of, flag_of, is_half, is_half_of_some, is_in_address, is_read}
+use Rattle.dcc_machine.specs.Writes.{is_same_register}
+use Rattle.dcc_machine.specs.Wanted.{Location, half_of, flag_of, is_half, is_half_of_some, is_in_address, is_read}
 use Rattle.dcc_ir.specs.declared.syntax.Loc.{Loc}
 use Rattle.dcc_ir.specs.declared.syntax.Loc.TheVariants.{Half}
 use Rattle.dcc_ir.specs.declared.syntax.BinOp.TheVariants.{Add}
 use Rattle.dcc_ir.specs.Tree.{Expr, Const, Binary, Address}
 use Rattle.dcc_ir.specs.Use.{parts_of, got_by, reads_of}
-use Rattle.dcc_ops.specs.declared.place.Computed.{Computed}
+use Rattle.dcc_ops.specs.declared.operand_place.Computed.{Computed}
 use Rattle.dcc_ops.specs.Computed.{plus, adding, ending, computed_expr}
 use Rattle.dcc_ops.specs.Expressions.{word_of}
-use Rattle.dcc_ops.specs.Place.{memory}
+use Rattle.dcc_ops.specs.OperandPlace.{memory}
 use Rattle.dcc_simulation.specs.Procedures.{Procedure, distance_of}
 use Rattle.dcc_simulation.specs.Operands.{address_of}
 use Rattle.dcc_simulation.specs.Places.{is_plain, IsPlainAddress}
 use Rattle.dcc_lift.proofs.ListTests.{or_none, or_here, or_there, or_cases, and_false}
 use Rattle.dcc_machine_demand.specs.Bodies.{Body}
-use Rattle.dcc_machine_demand.specs.Places.{Place, held, in_frame, passes, is_at, is_placed, is_place, frame_spot}
-use Rattle.dcc_machine_demand.specs.Places.{for_bytes, in_memory, spots_of_memory}
+use Rattle.dcc_machine_demand.specs.Holders.{Holder, held, in_frame, passes, is_at, is_placed, is_holder, frame_spot}
+use Rattle.dcc_machine_demand.specs.Holders.{for_bytes, in_memory, spots_of_memory}
 use Rattle.dcc_machine_demand.proofs.LeftLaws.{not-bp}
 use Rattle.dcc_lifted_demand.specs.LiftedRefinement.{IsSame}
 use Rattle.dcc_instruction_demand.proofs.ShownLaws.{Shows, shows_none, shows_both, shows_alike}
@@ -102,9 +101,9 @@ address_kept ea =
 
 -- The places that an address reads: halves of its base and of its index.
 
-module _ (o : Option Procedure) (body : Body) (exposed : Place → Bool) where
-  abbrev Halves : Option Reg → Place → Type 0
-  Halves r (held location) = (is_place body (held location) ≡ true) × (is_half_of_some location r ≡ true)
+module _ (o : Option Procedure) (body : Body) (exposed : Holder → Bool) where
+  abbrev Halves : Option Reg → Holder → Type 0
+  Halves r (held location) = (is_holder body (held location) ≡ true) × (is_half_of_some location r ≡ true)
   Halves r (in_frame k) = ⊥
 
   as_word : (r : Reg) (location : Location) → is_read location (Word r) ≡ is_half location r
@@ -114,18 +113,18 @@ module _ (o : Option Procedure) (body : Body) (exposed : Place → Bool) where
   register_shown : (r : Option Reg) → is_plain r ≡ true → Shows (IsSame o) (Halves r) (register_reads r)
   register_shown None t = shows_alike (IsSame o) (λ L. ⊥) (Halves None) [] [] (shows_none (IsSame o)) (λ L l s p. absurd p) none (λ l c. c) (λ l c. c)
     where
-      none : (L : Place) (l : Loc) → IsSame o L l → Halves None L → ⊥
+      none : (L : Holder) (l : Loc) → IsSame o L l → Halves None L → ⊥
       none (held location) l s t = true≢false (sym t.1)
       none (in_frame k) l s t = t
   register_shown (Some r) t =
-      shows_alike (IsSame o) (λ L. (is_place body L ≡ true) × (reads_by body (Word r) L ≡ true)) (Halves (Some r)) (Half r High ∷ Half r Low ∷ []) (Half r High ∷ Half r Low ∷ [])
+      shows_alike (IsSame o) (λ L. (is_holder body L ≡ true) × (reads_by body (Word r) L ≡ true)) (Halves (Some r)) (Half r High ∷ Half r Low ∷ []) (Half r High ∷ Half r Low ∷ [])
       (word_at o body exposed r t).reads to from (λ l c. c) (λ l c. c)
     where
-      to : (L : Place) (l : Loc) → IsSame o L l → (is_place body L ≡ true) × (reads_by body (Word r) L ≡ true) → Halves (Some r) L
+      to : (L : Holder) (l : Loc) → IsSame o L l → (is_holder body L ≡ true) × (reads_by body (Word r) L ≡ true) → Halves (Some r) L
       to (held location) l s p = (p.0, sym (as_word r location) ∙ p.1)
       to (in_frame k) l s p = true≢false (sym p.1)
 
-      from : (L : Place) (l : Loc) → IsSame o L l → Halves (Some r) L → (is_place body L ≡ true) × (reads_by body (Word r) L ≡ true)
+      from : (L : Holder) (l : Loc) → IsSame o L l → Halves (Some r) L → (is_holder body L ≡ true) × (reads_by body (Word r) L ≡ true)
       from (held location) l s p = (p.0, as_word r location ∙ p.1)
       from (in_frame k) l s p = absurd p
 
@@ -146,8 +145,8 @@ module _ (o : Option Procedure) (body : Body) (exposed : Place → Bool) where
   same_base true base location e p = sym (bp_apart base location e p)
   same_base false base location e p = refl
 
-  abbrev pub Addressed : Ea → Place → Type 0
-  Addressed ea (held location) = (is_place body (held location) ≡ true) × (is_in_address location ea ≡ true)
+  abbrev pub Addressed : Ea → Holder → Type 0
+  Addressed ea (held location) = (is_holder body (held location) ≡ true) × (is_in_address location ea ≡ true)
   Addressed ea (in_frame k) = ⊥
 
   pub address_shown : (ea : Ea) → IsPlainAddress ea → Shows (IsSame o) (Addressed ea) (reads_of (computed_expr (address_of ea)))
@@ -161,13 +160,13 @@ module _ (o : Option Procedure) (body : Body) (exposed : Place → Bool) where
       base_plain true e = refl
       base_plain false e = sym (ap (λ b. b || is_plain ea.base) e) ∙ plain.base
 
-      to : (L : Place) (l : Loc) → IsSame o L l → Halves (plain_base ea) L ⊎ Halves ea.index L → Addressed ea L
+      to : (L : Holder) (l : Loc) → IsSame o L l → Halves (plain_base ea) L ⊎ Halves ea.index L → Addressed ea L
       to (held location) l s (inl t) = (t.0, or_here (is_half_of_some location ea.base) (is_half_of_some location ea.index) (sym (same_base (is_bp ea.base) ea.base location refl t.0) ∙ t.1))
       to (held location) l s (inr t) = (t.0, or_there (is_half_of_some location ea.base) (is_half_of_some location ea.index) t.1)
       to (in_frame k) l s (inl t) = t
       to (in_frame k) l s (inr t) = t
 
-      from : (L : Place) (l : Loc) → IsSame o L l → Addressed ea L → Halves (plain_base ea) L ⊎ Halves ea.index L
+      from : (L : Holder) (l : Loc) → IsSame o L l → Addressed ea L → Halves (plain_base ea) L ⊎ Halves ea.index L
       from (held location) l s t = elim (or_cases (is_half_of_some location ea.base) (is_half_of_some location ea.index) t.1) [
         | inl e ↦ inl (t.0, same_base (is_bp ea.base) ea.base location refl t.0 ∙ e)
         | inr e ↦ inr (t.0, e)
@@ -202,7 +201,7 @@ module _ (o : Option Procedure) (body : Body) (exposed : Place → Bool) where
 
     pub elsewhere_at : IsPlainAddress ea → IsOperandAt o body exposed (Mem w ea) (memory w (computed_expr (address_of ea)))
     elsewhere_at plain = record {
-      reads = shows_alike (IsSame o) (Addressed ea) (λ L. (is_place body L ≡ true) × (reads_by body (Mem w ea) L ≡ true)) (reads_of (computed_expr (address_of ea))) (reads_of (computed_expr (address_of ea)))
+      reads = shows_alike (IsSame o) (Addressed ea) (λ L. (is_holder body L ≡ true) × (reads_by body (Mem w ea) L ≡ true)) (reads_of (computed_expr (address_of ea))) (reads_of (computed_expr (address_of ea)))
           (address_shown ea plain) to from (λ l c. c) (λ l c. c);
       reads_kept = address_kept ea;
       kept = refl;
@@ -212,15 +211,15 @@ module _ (o : Option Procedure) (body : Body) (exposed : Place → Bool) where
       reached = λ k t. absurd (true≢false (sym t ∙ none_read k));
     }
       where
-        to : (L : Place) (l : Loc) → IsSame o L l → Addressed ea L → (is_place body L ≡ true) × (reads_by body (Mem w ea) L ≡ true)
+        to : (L : Holder) (l : Loc) → IsSame o L l → Addressed ea L → (is_holder body L ≡ true) × (reads_by body (Mem w ea) L ≡ true)
         to (held location) l s t = (t.0, memory_read w ea location ∙ t.1)
         to (in_frame k) l s t = absurd t
 
-        from : (L : Place) (l : Loc) → IsSame o L l → (is_place body L ≡ true) × (reads_by body (Mem w ea) L ≡ true) → Addressed ea L
+        from : (L : Holder) (l : Loc) → IsSame o L l → (is_holder body L ≡ true) × (reads_by body (Mem w ea) L ≡ true) → Addressed ea L
         from (held location) l s t = (t.0, sym (memory_read w ea location) ∙ t.1)
         from (in_frame k) l s t = true≢false (sym t.1 ∙ none_read k)
 
-        stores : (A : Place) (l : Loc) → IsSame o A l → is_kept_place l ≡ true → writes_by body (Mem w ea) A ≡ false
+        stores : (A : Holder) (l : Loc) → IsSame o A l → is_kept_place l ≡ true → writes_by body (Mem w ea) A ≡ false
         stores (held (half_of q h)) l s t = and_false (is_general q)
         stores (held (flag_of f)) l s t = refl
         stores (in_frame k) l s t = none_read k

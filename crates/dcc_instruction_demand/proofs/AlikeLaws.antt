@@ -6,20 +6,20 @@ use Rattle.std.proofs.lemmas.List.{append-nil}
 use Rattle.std.proofs.lemmas.Grind.{flat_map-append}
 use Rattle.dcc_num.specs.declared.Width.{Width}
 use Rattle.dcc_num.specs.declared.Width.TheVariants.{Byte as byte_width, Word as word_width}
-use Rattle.dcc_prog.specs.Wanted.{Location, half_of, flag_of}
+use Rattle.dcc_machine.specs.Wanted.{Location, half_of, flag_of}
 use Rattle.dcc_ir.specs.declared.syntax.Loc.{Loc}
 use Rattle.dcc_ir.specs.declared.syntax.Loc.TheVariants.{Half, Flag, Cell, Temp}
 use Rattle.dcc_ir.specs.Location.{same_location}
 use Rattle.dcc_ir.specs.Tree.{Expr, Stmt, Set}
 use Rattle.dcc_ir.specs.Use.{reads_of}
 use Rattle.dcc_ir.specs.Live.{is_among}
-use Rattle.dcc_ops.specs.Place.{Place as InnerPlace, memory, taking, storing}
+use Rattle.dcc_ops.specs.OperandPlace.{OperandPlace, memory, taking, storing}
 use Rattle.dcc_ops.specs.Expressions.{result}
 use Rattle.dcc_ops.specs.Temporaries.{left_place, right_place, result_place}
 use Rattle.dcc_lift.proofs.ListTests.{and_both, or_none}
 use Rattle.dcc_simulation.specs.Procedures.{Procedure, pushed_of}
 use Rattle.dcc_demand.specs.Procedures.{Effect, Leaves, Copies, Pops, Makes, WordEffect, LeavesWord, Pushes, Overwrites, Procedures}
-use Rattle.dcc_machine_demand.specs.Places.{Place}
+use Rattle.dcc_machine_demand.specs.Holders.{Holder}
 use Rattle.dcc_sums.specs.Points.{Position}
 use Rattle.dcc_sums.specs.Instance as sums
 use Rattle.dcc_sums.specs.Instance.{written_by, action_of}
@@ -43,7 +43,7 @@ have_back : (xs ys : List Loc) → HaveSame xs ys → HaveSame ys xs
 have_back xs ys a = record { grow = a.shrink; shrink = a.grow }
 
 -- what stands for a place is no temporary
-pub same_lasts : (o : Option Procedure) (L : Place) (l : Loc) → IsSame o L l → is_lasting l ≡ true
+pub same_lasts : (o : Option Procedure) (L : Holder) (l : Loc) → IsSame o L l → is_lasting l ≡ true
 same_lasts o L l s = by (same_cases o s)
   where
     inner : (location : Location) → is_lasting (inner_of location) ≡ true
@@ -58,9 +58,9 @@ pub word_lasts : (o : Option Procedure) (k : ℤ) (l : Loc) → IsSameWord o k l
 word_lasts o k l is = ap is_lasting (pushed_cell (pushed_of is.found) l is.pushed).2
 
 -- What is done to places, told of other statements that do the same to these.
-module _ (coarse : Procedures ℕ Place ℤ) (fine : Procedures Position Loc Loc) (r : Refinement ℕ Place ℤ Position Loc Loc) (entry at pushed : ℕ) (xs ys : List Stmt) (after : List Loc) where
+module _ (coarse : Procedures ℕ Holder ℤ) (fine : Procedures Position Loc Loc) (r : Refinement ℕ Holder ℤ Position Loc Loc) (entry at pushed : ℕ) (xs ys : List Stmt) (after : List Loc) where
   pub record DoAlike : Type 0 where
-    pub lasts : (L : Place) (l : Loc) → r.same entry L l → is_lasting l ≡ true
+    pub lasts : (L : Holder) (l : Loc) → r.same entry L l → is_lasting l ≡ true
     pub words_last : (k : ℤ) (l : Loc) → r.same_word entry k l → is_lasting l ≡ true
     pub effects : (l : Loc) → is_lasting l ≡ true → effect_after pushed xs l ≡ effect_after pushed ys l
     pub word_effects : (l : Loc) → is_lasting l ≡ true → word_effect_after pushed xs l ≡ word_effect_after pushed ys l
@@ -153,7 +153,7 @@ module _ (w : Width) (e : Expr) where
       by byte_width = refl
       by word_width = refl
 
-module _ (w : Width) (P : InnerPlace) where
+module _ (w : Width) (P : OperandPlace) where
   -- the statements make the result of what is read of the place, and write no other place
   pub record IsPreparing (xs : List Stmt) : Type 0 where
     pub values : list_all is_value xs ≡ true
@@ -196,8 +196,8 @@ module _ (w : Width) (P : InnerPlace) where
   -- The two ways.
 
   module _ (kept : has_kept P ≡ true) (address_kept : list_all is_kept_place (reads_at P) ≡ true) (xs ys : List Stmt) (x : IsPreparing xs) (y : IsPreparing ys)
-      (coarse : Procedures ℕ Place ℤ) (fine : Procedures Position Loc Loc) (r : Refinement ℕ Place ℤ Position Loc Loc) (entry at pushed : ℕ)
-      (lasts : (L : Place) (l : Loc) → r.same entry L l → is_lasting l ≡ true) (words_last : (k : ℤ) (l : Loc) → r.same_word entry k l → is_lasting l ≡ true)
+      (coarse : Procedures ℕ Holder ℤ) (fine : Procedures Position Loc Loc) (r : Refinement ℕ Holder ℤ Position Loc Loc) (entry at pushed : ℕ)
+      (lasts : (L : Holder) (l : Loc) → r.same entry L l → is_lasting l ≡ true) (words_last : (k : ℤ) (l : Loc) → r.same_word entry k l → is_lasting l ≡ true)
       (callee : ((coarse.procedure entry).action at).callee ≡ None) where
     pub prepared_agrees : Agrees coarse fine r entry at pushed (xs ++ st) [] → Agrees coarse fine r entry at pushed (ys ++ st) []
     prepared_agrees = alike_agrees coarse fine r entry at pushed (xs ++ st) (ys ++ st) [] (record {
@@ -227,7 +227,7 @@ module _ (w : Width) (P : InnerPlace) where
       makes = ap (flat_map (before (taking to P))) makes ∙ append-nil (before (taking to P) to) ∙ before_taking to P to ∙ ap (λ b. if b then reads_at P else to ∷ []) itself;
     }
 
-  module _ (G : InnerPlace) (silent : reads_at G ≡ []) (e : Expr) (makes : sources (Set (result_place w) e ∷ []) (result_place w) ≡ left_place w ∷ right_place w ∷ []) where
+  module _ (G : OperandPlace) (silent : reads_at G ≡ []) (e : Expr) (makes : sources (Set (result_place w) e ∷ []) (result_place w) ≡ left_place w ∷ right_place w ∷ []) where
     second_lasts : list_all is_lasting (reads_at G) ≡ true
     second_lasts = ap (list_all is_lasting) silent
 
@@ -251,15 +251,15 @@ result_itself : (w : Width) → same_location (result_place w) (result_place w) 
 result_itself byte_width = refl
 result_itself word_width = refl
 
-result_value : (w : Width) (P : InnerPlace) → is_value (taking (result_place w) P) ≡ true
+result_value : (w : Width) (P : OperandPlace) → is_value (taking (result_place w) P) ≡ true
 result_value byte_width (memory u e) = refl
 result_value word_width (memory u e) = refl
 result_value byte_width P = refl
 result_value word_width P = refl
 
-pub result_prepares : (w : Width) (P : InnerPlace) → IsPreparing w P (taking (result_place w) P ∷ [])
+pub result_prepares : (w : Width) (P : OperandPlace) → IsPreparing w P (taking (result_place w) P ∷ [])
 result_prepares w P = one_prepares w P (result_place w) [] (lasts_result w) (result_itself w) (result_value w P) refl refl (λ l t. refl) (λ l t. refl) refl
 
-pub left_prepares : (w : Width) (P : InnerPlace) (e : Expr) → sources (Set (result_place w) e ∷ []) (result_place w) ≡ left_place w ∷ [] → IsPreparing w P (taking (left_place w) P ∷ Set (result_place w) e ∷ [])
+pub left_prepares : (w : Width) (P : OperandPlace) (e : Expr) → sources (Set (result_place w) e ∷ []) (result_place w) ≡ left_place w ∷ [] → IsPreparing w P (taking (left_place w) P ∷ Set (result_place w) e ∷ [])
 left_prepares w P e makes =
     one_prepares w P (left_place w) (Set (result_place w) e ∷ []) (lasts_left w) (left_itself w) (taking_value w P).0 (set_value w e) refl (set_unwritten w e) (set_stays w e) makes

@@ -9,21 +9,21 @@ use Rattle.dcc_num.specs.declared.Half.{Half as HalfName}
 use Rattle.dcc_num.specs.declared.FlagName.{FlagName}
 use Rattle.dcc_num.specs.declared.FlagName.TheVariants.{Cf}
 use Rattle.dcc_prog.specs.declared.procedure.Node.{Node}
-use Rattle.dcc_prog.specs.declared.instr.Alu.{Alu}
-use Rattle.dcc_prog.specs.declared.instr.Alu.TheVariants.{Add, Or, Adc, Sbb, And, Sub, Xor, Cmp, Test}
-use Rattle.dcc_prog.specs.declared.instr.Operand.{Operand}
-use Rattle.dcc_prog.specs.declared.instr.Operand.TheVariants.{Mem}
-use Rattle.dcc_prog.specs.declared.instr.Op.{Op}
-use Rattle.dcc_prog.specs.declared.instr.Op.TheVariants.{Alu as AluOp}
-use Rattle.dcc_prog.specs.Machine.{operand_width}
+use Rattle.dcc_machine.specs.declared.instr.Alu.{Alu}
+use Rattle.dcc_machine.specs.declared.instr.Alu.TheVariants.{Add, Or, Adc, Sbb, And, Sub, Xor, Cmp, Test}
+use Rattle.dcc_machine.specs.declared.instr.Operand.{Operand}
+use Rattle.dcc_machine.specs.declared.instr.Operand.TheVariants.{Mem}
+use Rattle.dcc_machine.specs.declared.instr.Op.{Op}
+use Rattle.dcc_machine.specs.declared.instr.Op.TheVariants.{Alu as AluOp}
+use Rattle.dcc_machine.specs.Machine.{operand_width}
 use Rattle.dcc_prog.specs.Frame.{memory_of_two}
-use Rattle.dcc_prog.specs.Writes.{writes_operand, is_half_of, is_carry_or_overflow}
-use Rattle.dcc_prog.specs.Wanted.{Location, half_of, flag_of, is_flag, is_read, is_in_memory, is_logic, is_zeroing, takes_carry}
+use Rattle.dcc_machine.specs.Writes.{writes_operand, is_half_of, is_carry_or_overflow}
+use Rattle.dcc_machine.specs.Wanted.{Location, half_of, flag_of, is_flag, is_read, is_in_memory, is_logic, is_zeroing, takes_carry}
 use Rattle.dcc_stack.specs.Slots.{is_memory}
 use Rattle.dcc_ir.specs.declared.syntax.Loc.{Loc}
 use Rattle.dcc_ir.specs.declared.syntax.Loc.TheVariants.{Flag}
 use Rattle.dcc_ir.proofs.LocationLaws.{Contains-here}
-use Rattle.dcc_ops.specs.Place.{Place as InnerPlace, taking, storing}
+use Rattle.dcc_ops.specs.OperandPlace.{OperandPlace, taking, storing}
 use Rattle.dcc_ops.specs.Expressions.{result}
 use Rattle.dcc_ops.specs.Temporaries.{left_place, right_place, result_place}
 use Rattle.dcc_ops.specs.Statements.{alu_working, alu_storing, alu_stmts}
@@ -31,7 +31,7 @@ use Rattle.dcc_lift.proofs.ListTests.{and_left, and_right, and_false, or_here, o
 use Rattle.dcc_simulation.specs.Procedures.{Procedure}
 use Rattle.dcc_demand.specs.Procedures.{Procedures}
 use Rattle.dcc_machine_demand.specs.Bodies.{Body, Point}
-use Rattle.dcc_machine_demand.specs.Places.{Place, held, in_frame, is_placed, spots_of_memory}
+use Rattle.dcc_machine_demand.specs.Holders.{Holder, held, in_frame, is_placed, spots_of_memory}
 use Rattle.dcc_machine_demand.specs.Values.{value_made_of, value_uses}
 use Rattle.dcc_sums.specs.Points.{Position}
 use Rattle.dcc_refinement.specs.Refinement.{Refinement}
@@ -99,7 +99,7 @@ alu_writes Cmp word_width = refl
 alu_writes Test byte_width = refl
 alu_writes Test word_width = refl
 
-storing_is : (operation : Alu) (w : Width) (P : InnerPlace) → alu_storing operation w P ≡ (if writes_operand operation then storing P (result w) else [])
+storing_is : (operation : Alu) (w : Width) (P : OperandPlace) → alu_storing operation w P ≡ (if writes_operand operation then storing P (result w) else [])
 storing_is Add w P = refl
 storing_is Or w P = refl
 storing_is Adc w P = refl
@@ -115,7 +115,7 @@ none_itself true carried = refl
 none_itself false true = refl
 none_itself false false = refl
 
-module _ (coarse : Procedures ℕ Place ℤ) (fine : Procedures Position Loc Loc) (r : Refinement ℕ Place ℤ Position Loc Loc) (entry at pushed : ℕ)
+module _ (coarse : Procedures ℕ Holder ℤ) (fine : Procedures Position Loc Loc) (r : Refinement ℕ Holder ℤ Position Loc Loc) (entry at pushed : ℕ)
     (o : Option Procedure) (bodies : List Body) (body : Body) (node : Node) (height : ℕ) (operation : Alu) (a b : Operand) where
   abbrev op : Op
   op = AluOp operation a b
@@ -126,19 +126,19 @@ module _ (coarse : Procedures ℕ Place ℤ) (fine : Procedures Position Loc Loc
   abbrev w : Width
   w = operand_width a
 
-  abbrev ra : Place → Bool
+  abbrev ra : Holder → Bool
   ra L = reads_by body a L
 
-  abbrev rb : Place → Bool
+  abbrev rb : Holder → Bool
   rb L = reads_by body b L
 
-  abbrev made_so : List Input → Place → Bool
+  abbrev made_so : List Input → Holder → Bool
   made_so inputs L = made_by ra rb inputs L
 
   abbrev all_read : Location → Bool
   all_read l = is_read l a || (is_read l b || (takes_carry operation && is_flag Cf l))
 
-  module _ (v : IsValueOperation coarse fine r entry at o bodies body alu_point) (P G : InnerPlace) (x : IsOperandAt o body (coarse.procedure entry).is_exposed a P) (y : IsOperandAt o body (coarse.procedure entry).is_exposed b G)
+  module _ (v : IsValueOperation coarse fine r entry at o bodies body alu_point) (P G : OperandPlace) (x : IsOperandAt o body (coarse.procedure entry).is_exposed a P) (y : IsOperandAt o body (coarse.procedure entry).is_exposed b G)
       (one : (is_in_memory a && is_in_memory b) ≡ false) (next : (b : ℕ) × Contains ((coarse.procedure entry).next at) b) (other : is_zeroing operation a b ≡ false) where
     all_made : (l : Location) → all_read l ≡ made_so (alu_inputs operation) (held l)
     all_made l = ap (λ c. is_read l a || (is_read l b || c)) (carry_held ra rb (takes_carry operation) l)
@@ -148,17 +148,17 @@ module _ (coarse : Procedures ℕ Place ℤ) (fine : Procedures Position Loc Loc
         two_are_read body a b k one
         ∙ ap (λ c. frame_read body a k || c) (sym (or_none (frame_read body b k)) ∙ ap (λ c. frame_read body b k || c) (sym (carry_framed ra rb (takes_carry operation) k)))
 
-    makes_half : (q : Reg) (h : HalfName) → (writes_operand operation && is_half_of q h a) ≡ true → (L : Place) → value_made_of body op (held (half_of q h)) L ≡ made_so (alu_inputs operation) L
+    makes_half : (q : Reg) (h : HalfName) → (writes_operand operation && is_half_of q h a) ≡ true → (L : Holder) → value_made_of body op (held (half_of q h)) L ≡ made_so (alu_inputs operation) L
     makes_half q h t (held l) =
         ap (λ z. (not z && ((writes_operand operation && is_half_of q h a) && all_read l)) && true) other
         ∙ ap (λ c. (c && all_read l) && true) t ∙ and_true (all_read l) ∙ all_made l
     makes_half q h t (in_frame k) = ap (λ c. (c && true) && two_read body a b k) t ∙ frame_made k
 
-    makes_unless : (cleared : Bool) (L : Place) → (made_at : Bool) → made_at ≡ made_so (alu_inputs operation) L → (not cleared && made_at) ≡ made_so (inputs_unless cleared operation) L
+    makes_unless : (cleared : Bool) (L : Holder) → (made_at : Bool) → made_at ≡ made_so (alu_inputs operation) L → (not cleared && made_at) ≡ made_so (inputs_unless cleared operation) L
     makes_unless true L made_at e = refl
     makes_unless false L made_at e = e
 
-    makes_flag : (f : FlagName) (L : Place) → value_made_of body op (held (flag_of f)) L ≡ made_so (alu_flags operation f) L
+    makes_flag : (f : FlagName) (L : Holder) → value_made_of body op (held (flag_of f)) L ≡ made_so (alu_flags operation f) L
     makes_flag f (held l) =
         ap (λ z. (not z && (not (is_logic operation && is_carry_or_overflow f) && all_read l)) && true) other
         ∙ and_true (not (is_logic operation && is_carry_or_overflow f) && all_read l)
@@ -172,7 +172,7 @@ module _ (coarse : Procedures ℕ Place ℤ) (fine : Procedures Position Loc Loc
     written_read k t =
         two_are_read body a b k one ∙ or_here (frame_read body a k) (frame_read body b k) (and_right (writes_operand operation) (frame_read body a k) t)
 
-    makes_frame : (k : ℤ) → (writes_operand operation && frame_read body a k) ≡ true → (L : Place) → value_made_of body op (in_frame k) L ≡ made_so (alu_inputs operation) L
+    makes_frame : (k : ℤ) → (writes_operand operation && frame_read body a k) ≡ true → (L : Holder) → value_made_of body op (in_frame k) L ≡ made_so (alu_inputs operation) L
     makes_frame k t (held l) =
         ap (λ c. c && ((is_in_memory a && writes_operand operation) && all_read l)) (written_read k t)
         ∙ ap (λ c. (c && writes_operand operation) && all_read l) (read_in_memory body a k (and_right (writes_operand operation) (frame_read body a k) t))

@@ -19,7 +19,7 @@ use Rattle.dcc_ir.specs.Use.{reads_of}
 use Rattle.dcc_ir.specs.Live.{is_among}
 use Rattle.dcc_ir.proofs.LocationLaws.{Contains-here, Contains-later, Contains-none, among_contains, contains_among}
 use Rattle.dcc_ir.proofs.PathLaws.{decided}
-use Rattle.dcc_ops.specs.Place.{Place as InnerPlace, constant, byte, memory, place_value, storing}
+use Rattle.dcc_ops.specs.OperandPlace.{OperandPlace, constant, byte, memory, place_value, storing}
 use Rattle.dcc_ops.specs.Temporaries.{returned_place}
 use Rattle.dcc_lift.proofs.ListTests.{and_right, and_both, or_here, or_there, or_cases, or_none, same_test}
 use Rattle.dcc_simulation.specs.Procedures.{Procedure, pushed_of, frame_place, cells_of, cell_place, distance_of}
@@ -28,8 +28,8 @@ use Rattle.dcc_simulation.specs.Statements.{argument_offset, argument_value, tak
 use Rattle.dcc_simulation.specs.Statements.{arguments_of, calling}
 use Rattle.dcc_demand.specs.Procedures.{Leaves, Makes, LeavesWord, Overwrites, Action, Procedures}
 use Rattle.dcc_machine_demand.specs.Bodies.{Body}
-use Rattle.dcc_machine_demand.specs.Places.{Place, held, in_frame, is_place}
-use Rattle.dcc_machine_demand.specs.Places as asks
+use Rattle.dcc_machine_demand.specs.Holders.{Holder, held, in_frame, is_holder}
+use Rattle.dcc_machine_demand.specs.Holders as asks
 use Rattle.dcc_machine_demand.specs.Instance.{passed_word, is_passed}
 use Rattle.dcc_sums.specs.Points.{Position}
 use Rattle.dcc_sums.specs.Instance.{passes, used_by, written_by}
@@ -56,7 +56,7 @@ use Rattle.dcc_instruction_demand.proofs.CallStatements.{Holding, back_holding, 
 -- Words of the frame.
 
 -- the byte belongs to one of the words of these numbers
-abbrev pub is_of_words : ℕ → List ℕ → Place → Bool
+abbrev pub is_of_words : ℕ → List ℕ → Holder → Bool
 is_of_words height numbers (held location) = false
 is_of_words height numbers (in_frame k) = is_passed height numbers k
 
@@ -100,10 +100,10 @@ or_turned true false = refl
 or_turned false true = refl
 or_turned false false = refl
 
-module _ (o : Option Procedure) (q : Procedure) (found : o ≡ Some q) (heights : List (ℕ × ℕ)) (height : ℕ) (one : (L M : Place) (l : Loc) → IsSame o L l → IsSame o M l → L ≡ M) where
+module _ (o : Option Procedure) (q : Procedure) (found : o ≡ Some q) (heights : List (ℕ × ℕ)) (height : ℕ) (one : (L M : Holder) (l : Loc) → IsSame o L l → IsSame o M l → L ≡ M) where
   -- Bytes.
 
-  once : (L : Place) (l m : Loc) → IsSame o L l → IsSame o L m → l ≡ m
+  once : (L : Holder) (l m : Loc) → IsSame o L l → IsSame o L m → l ≡ m
   once L l m s t = same_once s t
 
   -- where a byte of the frame stands, if it is in no memory
@@ -117,7 +117,7 @@ module _ (o : Option Procedure) (q : Procedure) (found : o ≡ Some q) (heights 
           let byte_is : k ≡ j = cc e in
           subst (λ i. frame_place q byte_width i ≡ byte l) (sym byte_is) (subst (λ x. frame_place x byte_width j ≡ byte l) same f)
 
-  out_there : (k : ℤ) (l : Loc) (Q : InnerPlace) → frame_place q byte_width k ≡ Q → Contains (outs Q) l → is_frame_byte Q ≡ true → IsSame o (in_frame k) l
+  out_there : (k : ℤ) (l : Loc) (Q : OperandPlace) → frame_place q byte_width k ≡ Q → Contains (outs Q) l → is_frame_byte Q ≡ true → IsSame o (in_frame k) l
   out_there k l (constant v n) e c t = absurd (Contains-none l c)
   out_there k l (memory v at) e c t = absurd (Contains-none l c)
   out_there k l (byte (Cell n h)) e c t = subst (λ m. IsSame o (in_frame k) m) (only (Cell n h) l c) (IsSame.is_kept found e)
@@ -164,7 +164,7 @@ module _ (o : Option Procedure) (q : Procedure) (found : o ≡ Some q) (heights 
   abbrev Accessed : ℕ → Type 0
   Accessed number = AccessAt o q found heights word_width (argument_offset height number)
 
-  abbrev InWord : ℤ → Place → Type 0
+  abbrev InWord : ℤ → Holder → Type 0
   InWord i L = (L ≡ in_frame i) ⊎ (L ≡ in_frame (i +ℤ pos 1))
 
   two_shown : (i : ℤ) (xs ys zs : List Loc) → outs (frame_place q byte_width i) ≡ xs → outs (frame_place q byte_width (i +ℤ pos 1)) ≡ ys → ((l : Loc) → Contains zs l → Contains (xs ++ ys) l) → ((l : Loc) → Contains (xs ++ ys) l → Contains zs l)
@@ -187,7 +187,7 @@ module _ (o : Option Procedure) (q : Procedure) (found : o ≡ Some q) (heights 
       subst (λ Q. Shows (IsSame o) (InWord i) (reads_of (place_value Q))) (sym place)
       (two_shown i [] [] [] (placed_out i opens.0) (placed_out (i +ℤ pos 1) (opens_next refl).0) (λ l c. c) (λ l c. c))
 
-  in_words : (number : ℕ) (numbers : List ℕ) (L : Place) → InWord (argument_offset height number) L ⊎ (is_of_words height numbers L ≡ true) → is_of_words height (number ∷ numbers) L ≡ true
+  in_words : (number : ℕ) (numbers : List ℕ) (L : Holder) → InWord (argument_offset height number) L ⊎ (is_of_words height numbers L ≡ true) → is_of_words height (number ∷ numbers) L ≡ true
   in_words number numbers L (inl (inl e)) =
       subst (λ M. is_of_words height (number ∷ numbers) M ≡ true) (sym e)
       (or_here (is_within (argument_offset height number) (passed_word height number)) (is_passed height numbers (argument_offset height number))
@@ -199,7 +199,7 @@ module _ (o : Option Procedure) (q : Procedure) (found : o ≡ Some q) (heights 
   in_words number numbers (held location) (inr t) = absurd (true≢false (sym t))
   in_words number numbers (in_frame k) (inr t) = or_there (is_within k (passed_word height number)) (is_passed height numbers k) t
 
-  of_words : (number : ℕ) (numbers : List ℕ) (L : Place) → is_of_words height (number ∷ numbers) L ≡ true → InWord (argument_offset height number) L ⊎ (is_of_words height numbers L ≡ true)
+  of_words : (number : ℕ) (numbers : List ℕ) (L : Holder) → is_of_words height (number ∷ numbers) L ≡ true → InWord (argument_offset height number) L ⊎ (is_of_words height numbers L ≡ true)
   of_words number numbers (held location) t = absurd (true≢false (sym t))
   of_words number numbers (in_frame k) t = elim (or_cases (is_within k (passed_word height number)) (is_passed height numbers k) t) [
     | inl e ↦ elim (word_only k (argument_offset height number) e) [
@@ -209,7 +209,7 @@ module _ (o : Option Procedure) (q : Procedure) (found : o ≡ Some q) (heights 
     | inr e ↦ inr e
   ]
 
-  no_word : (L : Place) → is_of_words height [] L ≡ true → ⊥
+  no_word : (L : Holder) → is_of_words height [] L ≡ true → ⊥
   no_word (held location) t = true≢false (sym t)
   no_word (in_frame k) t = true≢false (sym t)
 
@@ -224,30 +224,30 @@ module _ (o : Option Procedure) (q : Procedure) (found : o ≡ Some q) (heights 
 
 -- The call.
 
-module _ (coarse : Procedures ℕ Place ℤ) (fine : Procedures Position Loc Loc) (r : Refinement ℕ Place ℤ Position Loc Loc) (entry at pushed : ℕ) (o : Option Procedure) (body : Body) (height target : ℕ) (numbers back : List ℕ) where
-  abbrev x : Action Place ℤ
+module _ (coarse : Procedures ℕ Holder ℤ) (fine : Procedures Position Loc Loc) (r : Refinement ℕ Holder ℤ Position Loc Loc) (entry at pushed : ℕ) (o : Option Procedure) (body : Body) (height target : ℕ) (numbers back : List ℕ) where
+  abbrev x : Action Holder ℤ
   x = (coarse.procedure entry).action at
 
-  abbrev touched : Place → Bool
+  abbrev touched : Holder → Bool
   touched L = is_of_words height back L
 
   -- the instruction at the offset is a CALL, which passes the words of the former numbers and may change those of the latter
   pub record IsCallOperation : Type 0 where
-    pub same : (L : Place) (l : Loc) → r.same entry L l → IsSame o L l
-    pub as_same : (L : Place) (l : Loc) → IsSame o L l → r.same entry L l
+    pub same : (L : Holder) (l : Loc) → r.same entry L l → IsSame o L l
+    pub as_same : (L : Holder) (l : Loc) → IsSame o L l → r.same entry L l
     pub same_word : (k : ℤ) (l : Loc) → r.same_word entry k l → IsSameWord o k l
-    pub coarse_passes : (L : Place) → coarse.passes L ≡ asks.passes L
+    pub coarse_passes : (L : Holder) → coarse.passes L ≡ asks.passes L
     pub fine_passes : (l : Loc) → fine.passes l ≡ passes l
-    pub stands : (L : Place) (l : Loc) → IsSame o L l → is_place body L ≡ true
-    pub effect_is : (L : Place) → x.effect L ≡ (if touched L then Makes else Leaves)
-    pub made_is : (to from : Place) → x.made_of to from ≡ false
-    pub uses_is : (L : Place) → x.uses L ≡ (is_place body L && is_of_words height numbers L)
-    pub unsure : (L : Place) → x.surely L ≡ false
+    pub stands : (L : Holder) (l : Loc) → IsSame o L l → is_holder body L ≡ true
+    pub effect_is : (L : Holder) → x.effect L ≡ (if touched L then Makes else Leaves)
+    pub made_is : (to from : Holder) → x.made_of to from ≡ false
+    pub uses_is : (L : Holder) → x.uses L ≡ (is_holder body L && is_of_words height numbers L)
+    pub unsure : (L : Holder) → x.surely L ≡ false
     pub word_is : (k : ℤ) → x.word_effect k ≡ (if touched (in_frame k) then Overwrites else LeavesWord)
     pub callee_is : x.callee ≡ Some target
 
-  module _ (v : IsCallOperation) (q callee : Procedure) (found : o ≡ Some q) (heights : List (ℕ × ℕ)) (one : (L M : Place) (l : Loc) → IsSame o L l → IsSame o M l → L ≡ M)
-      (entry_is : callee.proc.entry ≡ target) (numbers_are : numbers ≡ range_with_len 0 callee.frame.args) (back_are : back ≡ given_back callee) (within : (L : Place) → is_of_words height back L ≡ true → is_of_words height numbers L ≡ true)
+  module _ (v : IsCallOperation) (q callee : Procedure) (found : o ≡ Some q) (heights : List (ℕ × ℕ)) (one : (L M : Holder) (l : Loc) → IsSame o L l → IsSame o M l → L ≡ M)
+      (entry_is : callee.proc.entry ≡ target) (numbers_are : numbers ≡ range_with_len 0 callee.frame.args) (back_are : back ≡ given_back callee) (within : (L : Holder) → is_of_words height back L ≡ true → is_of_words height numbers L ≡ true)
       (access : (number : ℕ) → Contains (range_with_len 0 callee.frame.args) number → AccessAt o q found heights word_width (argument_offset height number)) where
     abbrev call : Stmt
     call = Call (results_of callee) callee.proc.entry (arguments_of q height callee) (height + 2)
@@ -279,12 +279,12 @@ module _ (coarse : Procedures ℕ Place ℤ) (fine : Procedures Position Loc Loc
     before_returned : (t : ℕ) → returned (Temp t) ≡ true → before call (Temp t) ≡ []
     before_returned t e = ap (λ b. if b then [] else Temp t ∷ []) (ap (λ ls. is_among ls (Temp t)) written_are ∙ e)
 
-    lasting : (L : Place) (l : Loc) → r.same entry L l → is_lasting l ≡ true
+    lasting : (L : Holder) (l : Loc) → r.same entry L l → is_lasting l ≡ true
     lasting L l s = same_lasts o L l (v.same L l s)
 
     -- What is written.
 
-    passing : (L : Place) (l : Loc) → r.same entry L l → coarse.passes L ≡ true → passes l ≡ true
+    passing : (L : Holder) (l : Loc) → r.same entry L l → coarse.passes L ≡ true → passes l ≡ true
     passing L l s p = sym (passes_alike o (v.same L l s)) ∙ sym (v.coarse_passes L) ∙ p
 
     half_lasts : (l : Loc) → passes l ≡ true → is_lasting l ≡ true
@@ -299,17 +299,17 @@ module _ (coarse : Procedures ℕ Place ℤ) (fine : Procedures Position Loc Loc
     unwritten : (l : Loc) → passes l ≡ true → is_written stmts l ≡ false
     unwritten l p = written_is l (half_lasts l p) ∙ back_unwritten returned are_back l p
 
-    untouched : (L : Place) → coarse.passes L ≡ true → touched L ≡ false
+    untouched : (L : Holder) → coarse.passes L ≡ true → touched L ≡ false
     untouched (held location) p = refl
     untouched (in_frame k) p = absurd (true≢false (sym p ∙ v.coarse_passes (in_frame k)))
 
-    leaves : (L : Place) → coarse.passes L ≡ true → x.effect L ≡ Leaves
+    leaves : (L : Holder) → coarse.passes L ≡ true → x.effect L ≡ Leaves
     leaves L p = v.effect_is L ∙ ap (λ b. if b then Makes else Leaves) (untouched L p)
 
-    fine_leaves : (L : Place) (l : Loc) → r.same entry L l → coarse.passes L ≡ true → effect_after pushed stmts l ≡ Leaves
+    fine_leaves : (L : Holder) (l : Loc) → r.same entry L l → coarse.passes L ≡ true → effect_after pushed stmts l ≡ Leaves
     fine_leaves L l s p = effect_left (fine.procedure entry) pushed stmts l (unwritten l (passing L l s p))
 
-    effect_agrees : (L : Place) (l : Loc) → r.same entry L l → coarse.passes L ≡ true → EffectsAgree coarse fine r entry (x.effect L) (effect_after pushed stmts l)
+    effect_agrees : (L : Holder) (l : Loc) → r.same entry L l → coarse.passes L ≡ true → EffectsAgree coarse fine r entry (x.effect L) (effect_after pushed stmts l)
     effect_agrees L l s p =
         subst (λ e. EffectsAgree coarse fine r entry e (effect_after pushed stmts l)) (sym (leaves L p))
         (subst (λ e. EffectsAgree coarse fine r entry Leaves e) (sym (fine_leaves L l s p)) EffectsAgree.both_leave)
@@ -318,7 +318,7 @@ module _ (coarse : Procedures ℕ Place ℤ) (fine : Procedures Position Loc Loc
     taken_back : (k : ℤ) (l : Loc) → IsSame o (in_frame k) l → is_written others l ≡ touched (in_frame k)
     taken_back k l s = words_written o q found heights height one k l s 0 (given_back callee) ∙ ap (λ ns. is_passed height ns k) (sym back_are)
 
-    word_agrees : (L : Place) (l : Loc) (k : ℤ) (w : Loc) → r.same_word entry k w → WordEffectsAgree coarse fine r L l (x.word_effect k) (word_effect_after pushed stmts w)
+    word_agrees : (L : Holder) (l : Loc) (k : ℤ) (w : Loc) → r.same_word entry k w → WordEffectsAgree coarse fine r L l (x.word_effect k) (word_effect_after pushed stmts w)
     word_agrees L l k w u =
         let is = v.same_word k w u in
         let cell = pushed_cell (pushed_of is.found) w is.pushed in
@@ -364,20 +364,20 @@ module _ (coarse : Procedures ℕ Place ℤ) (fine : Procedures Position Loc Loc
         (subst (λ ns. Shows (IsSame o) (λ L. is_of_words height ns L ≡ true) (flat_map (λ number. reads_of (argument_value q height number)) (range_with_len 0 callee.frame.args))) (sym numbers_are)
         (words_shown o q found heights height one (range_with_len 0 callee.frame.args) access))
 
-    takes_words : (L : Place) → Takes coarse fine r entry at L → is_of_words height numbers L ≡ true
-    takes_words L (inl u) = and_right (is_place body L) (is_of_words height numbers L) (sym (v.uses_is L) ∙ u)
+    takes_words : (L : Holder) → Takes coarse fine r entry at L → is_of_words height numbers L ≡ true
+    takes_words L (inl u) = and_right (is_holder body L) (is_of_words height numbers L) (sym (v.uses_is L) ∙ u)
     takes_words L (inr (to, b, e, c, w, m)) = absurd (true≢false (sym m ∙ v.made_is to L))
 
-    words_taken : (L : Place) (l : Loc) → IsSame o L l → is_of_words height numbers L ≡ true → Takes coarse fine r entry at L
-    words_taken L l s t = inl (v.uses_is L ∙ and_both (is_place body L) (is_of_words height numbers L) (v.stands L l s) t)
+    words_taken : (L : Holder) (l : Loc) → IsSame o L l → is_of_words height numbers L ≡ true → Takes coarse fine r entry at L
+    words_taken L l s t = inl (v.uses_is L ∙ and_both (is_holder body L) (is_of_words height numbers L) (v.stands L l s) t)
 
     -- What is kept.
 
-    carries_itself : (L A : Place) → Carries coarse fine r entry at L A → L ≡ A
+    carries_itself : (L A : Holder) → Carries coarse fine r entry at L A → L ≡ A
     carries_itself L A (inl made) = absurd (true≢false (sym made.1 ∙ v.made_is A L))
     carries_itself L A (inr kept) = kept.0
 
-    touched_where : (A : Place) (a : Loc) → r.same entry A a → is_written others a ≡ true → touched A ≡ true
+    touched_where : (A : Holder) (a : Loc) → r.same entry A a → is_written others a ≡ true → touched A ≡ true
     touched_where (held location) a s w =
         absurd (true≢false (sym w ∙ back_unwritten returned are_back a (sym (passes_alike o (v.same (held location) a s)) ∙ held_passes (same_cases o (v.same (held location) a s)))))
       where
@@ -386,7 +386,7 @@ module _ (coarse : Procedures ℕ Place ℤ) (fine : Procedures Position Loc Loc
         held_passes (SameCases.by_kept other k p e kept f) = absurd (cc e)
     touched_where (in_frame k) a s w = sym (taken_back k a (v.same (in_frame k) a s)) ∙ w
 
-    carried : (L A : Place) (l a : Loc) → r.same entry L l → r.same entry A a → Carries coarse fine r entry at L A → Contains (sources stmts a) l ⊎ Contains (used stmts []) l
+    carried : (L A : Holder) (l a : Loc) → r.same entry L l → r.same entry A a → Carries coarse fine r entry at L A → Contains (sources stmts a) l ⊎ Contains (used stmts []) l
     carried L A l a s t c = by (back_holding returned are_back a (lasting A a t))
       where
         same : l ≡ a
@@ -399,11 +399,11 @@ module _ (coarse : Procedures ℕ Place ℤ) (fine : Procedures Position Loc Loc
         by (Holding.given u w g from) =
             inr (subst (λ m. Contains (used stmts []) m) (sym same) (using.has A a (v.same A a t) (within A (touched_where A a t w))))
 
-    flows : (A : Place) (l a : Loc) → r.same entry A a → Contains (sources stmts a) l
-        → (L : Place) × r.same entry L l × (Carries coarse fine r entry at L A ⊎ Takes coarse fine r entry at L)
+    flows : (A : Holder) (l a : Loc) → r.same entry A a → Contains (sources stmts a) l
+        → (L : Holder) × r.same entry L l × (Carries coarse fine r entry at L A ⊎ Takes coarse fine r entry at L)
     flows A l a t c = by (back_holding returned are_back a (lasting A a t))
       where
-        by : Holding returned others a → (L : Place) × r.same entry L l × (Carries coarse fine r entry at L A ⊎ Takes coarse fine r entry at L)
+        by : Holding returned others a → (L : Holder) × r.same entry L l × (Carries coarse fine r entry at L A ⊎ Takes coarse fine r entry at L)
         by (Holding.kept w from) =
             let there = subst (λ ls. Contains ls l) (ap (flat_map (before call)) from ∙ append-nil (before call a) ∙ before_lasting a (lasting A a t)) c in
             (A, subst (λ m. r.same entry A m) (only a l there) t, inl (inr (refl, v.unsure A)))

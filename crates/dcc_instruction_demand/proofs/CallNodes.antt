@@ -5,12 +5,12 @@ use Rattle.std.specs.List.{range_with_len}
 use Rattle.std.proofs.lemmas.Int.{ints}
 use Rattle.std.proofs.lemmas.List.Elements.{All-head, All-tail}
 use Rattle.dcc_num.specs.declared.Width.TheVariants.{Byte as byte_width, Word as word_width}
-use Rattle.dcc_prog.specs.declared.image.Image.{Image}
+use Rattle.dcc_machine.specs.declared.image.Image.{Image}
 use Rattle.dcc_prog.specs.declared.frame.Program.{Program as Analysed}
 use Rattle.dcc_prog.specs.declared.procedure.Layout.{Layout}
 use Rattle.dcc_prog.specs.declared.procedure.Node.{Node}
-use Rattle.dcc_prog.specs.declared.instr.Op.TheVariants.{Call}
-use Rattle.dcc_prog.specs.Access.{bytes_in}
+use Rattle.dcc_machine.specs.declared.instr.Op.TheVariants.{Call}
+use Rattle.dcc_machine.specs.Access.{bytes_in}
 use Rattle.dcc_prog.specs.Found.{IsNodeFound}
 use Rattle.dcc_prog.specs.Frame.{span_of, own_bytes, HasArguments, IsUsed, IsPiece, passed}
 use Rattle.dcc_prog.specs.Height.{IsHeight, HasHeight}
@@ -20,7 +20,7 @@ use Rattle.dcc_stack.specs.Slots.{is_within, gives_back}
 use Rattle.dcc_stack.proofs.FormLaws.{in-form}
 use Rattle.dcc_ir.specs.declared.syntax.Loc.{Loc}
 use Rattle.dcc_ir.specs.Tree.{Program}
-use Rattle.dcc_ops.specs.Place.{byte}
+use Rattle.dcc_ops.specs.OperandPlace.{byte}
 use Rattle.dcc_lift.specs.Blocks.{node_in, height_in}
 use Rattle.dcc_lift.specs.Translated.{IsTranslated, setting}
 use Rattle.dcc_lift.proofs.Lifting.{lifting}
@@ -32,7 +32,7 @@ use Rattle.dcc_simulation.proofs.ArgumentWords.{range-tells}
 use Rattle.dcc_simulation.proofs.FoundProcedures.{procedure-there}
 use Rattle.dcc_demand.specs.Procedures.{Leaves, Makes, LeavesWord, Overwrites, Action, Procedures, is_left}
 use Rattle.dcc_machine_demand.specs.Bodies.{Body, bodies_of, body_at, Point}
-use Rattle.dcc_machine_demand.specs.Places.{Place, held, in_frame, is_place}
+use Rattle.dcc_machine_demand.specs.Holders.{Holder, held, in_frame, is_holder}
 use Rattle.dcc_machine_demand.specs.Instance as asks
 use Rattle.dcc_machine_demand.specs.Instance.{passed_word, is_passed}
 use Rattle.dcc_sums.specs.Points.{Position}
@@ -67,7 +67,7 @@ module _ (image : Image) (program : Analysed) (p : Program) (is : IsTranslated i
   abbrev here : Node
   here = (point_with_op node height (Call target)).node
 
-  abbrev coarse : Procedures ℕ Place ℤ
+  abbrev coarse : Procedures ℕ Holder ℤ
   coarse = settings.coarse image program p is entry x
 
   abbrev fine : Procedures Position Loc Loc
@@ -85,7 +85,7 @@ module _ (image : Image) (program : Analysed) (p : Program) (is : IsTranslated i
   abbrev bodies : List Body
   bodies = bodies_of program
 
-  one : (L M : Place) (l : Loc) → IsSame o L l → IsSame o M l → L ≡ M
+  one : (L M : Holder) (l : Loc) → IsSame o L l → IsSame o M l → L ≡ M
   one L M l s t = one_place o (refined.small_linked image program p is entry x) s t
 
   -- The trail.
@@ -106,14 +106,14 @@ module _ (image : Image) (program : Analysed) (p : Program) (is : IsTranslated i
   called_entry : IsEntry image layout target
   called_entry = IsEntry.called x.reached there.node (here.instr, there.instr, refl)
 
-  stands_at : (L : Place) (l : Loc) → IsSame o L l → is_place body L ≡ true
+  stands_at : (L : Holder) (l : Loc) → IsSame o L l → is_holder body L ≡ true
   stands_at L l s = by (same_cases o s)
     where
-      by : SameCases o L l → is_place body L ≡ true
-      by (SameCases.by_held location t e f) = ap (is_place body) e ∙ t
+      by : SameCases o L l → is_holder body L ≡ true
+      by (SameCases.by_held location t e f) = ap (is_holder body) e ∙ t
       by (SameCases.by_kept other k t e kept f) =
           let same : other ≡ q = cc (t, x.procedure_found) in
-          ap (is_place body) e ∙ in_some_cell image program p is entry x k l (subst (λ (r : Procedure). frame_place r byte_width k ≡ byte l) same f)
+          ap (is_holder body) e ∙ in_some_cell image program p is entry x k l (subst (λ (r : Procedure). frame_place r byte_width k ≡ byte l) same f)
 
   module _ (y : refined.Link image program p is target) where
     abbrev callee : Procedure
@@ -153,25 +153,25 @@ module _ (image : Image) (program : Analysed) (p : Program) (is : IsTranslated i
     abbrev point : Point
     point = point_with_op node height (Call target)
 
-    abbrev does : Action Place ℤ
+    abbrev does : Action Holder ℤ
     does = asks.action_of bodies body point
 
     action_is : (coarse.procedure entry).action at ≡ does
     action_is = settings.action_is image program p is entry x at here height found high
 
-    touches_words : (L : Place) → asks.touches_byte (body_at bodies target) height L ≡ is_of_words height back L
+    touches_words : (L : Holder) → asks.touches_byte (body_at bodies target) height L ≡ is_of_words height back L
     touches_words (held location) = refl
     touches_words (in_frame k) = ap (λ c. is_passed height (asks.touched_of c) k) y.body_found
 
-    passes_words : (L : Place) → asks.passes_byte (body_at bodies target) height L ≡ is_of_words height numbers L
+    passes_words : (L : Holder) → asks.passes_byte (body_at bodies target) height L ≡ is_of_words height numbers L
     passes_words (held location) = refl
     passes_words (in_frame k) = ap (λ c. is_passed height (asks.arguments_of c) k) y.body_found
 
-    within_numbers : (L : Place) → is_of_words height back L ≡ true → is_of_words height numbers L ≡ true
+    within_numbers : (L : Holder) → is_of_words height back L ≡ true → is_of_words height numbers L ≡ true
     within_numbers (held location) t = t
     within_numbers (in_frame k) t = any_kept (λ number. is_within k (passed_word height number)) (gives_back callee.proc callee.frame) numbers t
 
-    unsure : (L : Place) → does.surely L ≡ false
+    unsure : (L : Holder) → does.surely L ≡ false
     unsure L = and_false (not (is_left (asks.effect_at bodies body point L)))
 
     operation : (pushed : ℕ) → IsCallOperation coarse fine (lifted_refinement program) entry at pushed o body height target numbers back
@@ -182,13 +182,14 @@ module _ (image : Image) (program : Analysed) (p : Program) (is : IsTranslated i
       coarse_passes = λ L. refl;
       fine_passes = λ l. refl;
       stands = stands_at;
-      effect_is = λ L. ap (λ (z : Action Place ℤ). z.effect L) action_is ∙ ap (λ b. if b then Makes else Leaves) (touches_words L);
-      made_is = λ to from. ap (λ (z : Action Place ℤ). z.made_of to from) action_is ∙ and_false (is_place body from);
-      uses_is = λ L. ap (λ (z : Action Place ℤ). z.uses L) action_is ∙ ap (λ b. is_place body L && b) (passes_words L);
-      unsure = λ L. ap (λ (z : Action Place ℤ). z.surely L) action_is ∙ unsure L;
-      word_is = λ k. ap (λ (z : Action Place ℤ). z.word_effect k) action_is
+      effect_is = λ L. ap (λ (z : Action Holder ℤ). z.effect L) action_is ∙ ap (λ b. if b then Makes else Leaves) (touches_words L);
+      made_is = λ to from. ap (λ (z : Action Holder ℤ). z.made_of to from) action_is ∙ and_false (is_holder body from);
+      uses_is = λ L. ap (λ (z : Action Holder ℤ). z.uses L) action_is
+          ∙ ap (λ b. is_holder body L && b) (passes_words L);
+      unsure = λ L. ap (λ (z : Action Holder ℤ). z.surely L) action_is ∙ unsure L;
+      word_is = λ k. ap (λ (z : Action Holder ℤ). z.word_effect k) action_is
           ∙ ap (λ b. if b then Overwrites else LeavesWord) (or_none (asks.touches_byte (body_at bodies target) height (in_frame k)) ∙ touches_words (in_frame k));
-      callee_is = ap (λ (z : Action Place ℤ). z.callee) action_is;
+      callee_is = ap (λ (z : Action Holder ℤ). z.callee) action_is;
     }
 
     linked_agrees : (pushed : ℕ) → Agrees coarse fine (lifted_refinement program) entry at pushed (calling q height (Some callee)) []

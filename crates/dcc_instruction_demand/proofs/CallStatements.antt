@@ -17,7 +17,7 @@ use Rattle.dcc_ir.specs.Use.{reads_of}
 use Rattle.dcc_ir.specs.Live.{is_among}
 use Rattle.dcc_ir.specs.Passing.{passed}
 use Rattle.dcc_ir.proofs.LocationLaws.{Contains-none, Contains-cases, location_itself}
-use Rattle.dcc_ops.specs.Place.{Place as InnerPlace, constant, byte, word, memory, place_value, storing}
+use Rattle.dcc_ops.specs.OperandPlace.{OperandPlace, constant, byte, word, memory, place_value, storing}
 use Rattle.dcc_ops.specs.Temporaries.{returned_place}
 use Rattle.dcc_lift.proofs.ListTests.{or_here, or_there, or_none}
 use Rattle.dcc_simulation.specs.Procedures.{Procedure, frame_place, cell_place, cells_of, distance_of}
@@ -31,7 +31,7 @@ use Rattle.dcc_instruction_demand.proofs.StageLaws.{flat_twice, is_lasting, outs
 
 -- Where a byte and a word of a frame stand.
 
-abbrev pub is_frame_byte : InnerPlace → Bool
+abbrev pub is_frame_byte : OperandPlace → Bool
 is_frame_byte (constant v n) = true
 is_frame_byte (byte (Cell n h)) = true
 is_frame_byte (memory v (Address distance)) = true
@@ -118,7 +118,7 @@ module _ (returned : Loc → Bool) where
   back_append (to_cell r rest) more = to_cell r (back_append rest more)
   back_append (to_memory r rest) more = to_memory r (back_append rest more)
 
-  back_storing : (P : InnerPlace) (t : ℕ) → is_frame_byte P ≡ true → returned (Temp t) ≡ true → AreBack (storing P (Get (Temp t)))
+  back_storing : (P : OperandPlace) (t : ℕ) → is_frame_byte P ≡ true → returned (Temp t) ≡ true → AreBack (storing P (Get (Temp t)))
   back_storing (constant v n) t e r = no_more
   back_storing (byte (Cell n h)) t e r = to_cell r no_more
   back_storing (memory v (Address distance)) t e r = to_memory r no_more
@@ -205,7 +205,7 @@ module _ (returned : Loc → Bool) where
 
 -- Which locations stores and what puts arguments back write.
 
-pub storing_written : (P : InnerPlace) (e : Expr) (l : Loc) → is_frame_byte P ≡ true → is_written (storing P e) l ≡ is_among (outs P) l
+pub storing_written : (P : OperandPlace) (e : Expr) (l : Loc) → is_frame_byte P ≡ true → is_written (storing P e) l ≡ is_among (outs P) l
 storing_written (constant v n) e l t = refl
 storing_written (byte (Cell n h)) e l t = refl
 storing_written (memory v (Address distance)) e l t = refl

@@ -7,9 +7,9 @@ use Rattle.dcc_num.specs.declared.Reg.TheVariants.{Ax, Cx, Dx, Bx, Sp, Bp, Si, D
 use Rattle.dcc_num.specs.declared.Half.{Half as HalfName}
 use Rattle.dcc_num.specs.declared.Half.TheVariants.{Low, High}
 use Rattle.dcc_num.specs.declared.FlagName.TheVariants.{Cf, Zf, Sf, Of}
-use Rattle.dcc_prog.specs.declared.instr.Op.{Op}
-use Rattle.dcc_prog.specs.Trail.{is_general}
-use Rattle.dcc_prog.specs.Wanted.{Location, half_of, flag_of, surely_writes_half}
+use Rattle.dcc_machine.specs.declared.instr.Op.{Op}
+use Rattle.dcc_machine.specs.Machine.{is_general}
+use Rattle.dcc_machine.specs.Wanted.{Location, half_of, flag_of, surely_writes_half}
 use Rattle.dcc_ir.specs.declared.syntax.Loc.{Loc}
 use Rattle.dcc_ir.specs.declared.syntax.Loc.TheVariants.{Half, Flag, Cell, Temp}
 use Rattle.dcc_ir.specs.Location.{same_location}
@@ -20,7 +20,7 @@ use Rattle.dcc_lift.proofs.ListTests.{and_left, and_right, and_both, or_here, or
 use Rattle.dcc_simulation.specs.Procedures.{Procedure}
 use Rattle.dcc_demand.specs.Procedures.{Procedures}
 use Rattle.dcc_machine_demand.specs.Bodies.{Body, Point, op_of}
-use Rattle.dcc_machine_demand.specs.Places.{Place, held, in_frame, passes, passed}
+use Rattle.dcc_machine_demand.specs.Holders.{Holder, held, in_frame, passes, passed}
 use Rattle.dcc_machine_demand.specs.Values.{value_written, is_sure, value_made_of, value_uses}
 use Rattle.dcc_sums.specs.Points.{Position}
 use Rattle.dcc_sums.specs.Instance as sums
@@ -119,7 +119,7 @@ module _ (body : Body) (op : Op) (number : Option ℕ) (stmts : List Stmt) (afte
     pub not_made : (location : Location) (k : ℤ) → value_made_of body op (held location) (in_frame k) ≡ false
 
 -- all locations that pass are places of the other ones
-module _ (coarse : Procedures ℕ Place ℤ) (fine : Procedures Position Loc Loc) (r : Refinement ℕ Place ℤ Position Loc Loc) (entry at pushed : ℕ) (stmts : List Stmt) (after : List Loc)
+module _ (coarse : Procedures ℕ Holder ℤ) (fine : Procedures Position Loc Loc) (r : Refinement ℕ Holder ℤ Position Loc Loc) (entry at pushed : ℕ) (stmts : List Stmt) (after : List Loc)
     (o : Option Procedure) (bodies : List Body) (body : Body) (point : Point) (v : IsValueOperation coarse fine r entry at o bodies body point)
     (closed : IsClosed body (op_of point) point.node.number stmts after) where
   abbrev op : Op
@@ -182,18 +182,18 @@ module _ (coarse : Procedures ℕ Place ℤ) (fine : Procedures Position Loc Loc
 
   -- What is used.
 
-  unwritten_exposed : (L : Place) → (coarse.procedure entry).is_exposed L ≡ true → value_written body op number L ≡ true → ⊥
+  unwritten_exposed : (L : Holder) → (coarse.procedure entry).is_exposed L ≡ true → value_written body op number L ≡ true → ⊥
   unwritten_exposed (held location) e w = true≢false (sym e ∙ v.exposed (held location))
   unwritten_exposed (in_frame k) e w = true≢false (sym w ∙ closed.no_write k)
 
-  takes_half : (L : Place) → Takes coarse fine r entry at L → (location : Location) × (L ≡ held location) × (passes (held location) ≡ true) × (uses_one location ≡ true)
+  takes_half : (L : Holder) → Takes coarse fine r entry at L → (location : Location) × (L ≡ held location) × (passes (held location) ≡ true) × (uses_one location ≡ true)
   takes_half (held location) (inl u) =
       let both = uses_if coarse fine r entry at o bodies body point v (held location) u in
       (location, refl, both.0, both.1)
   takes_half (in_frame k) (inl u) = absurd (true≢false (sym (uses_if coarse fine r entry at o bodies body point v (in_frame k) u).1 ∙ closed.no_use k))
   takes_half L (inr (to, b, e, c, w, m)) = absurd (unwritten_exposed to e (writes_if coarse fine r entry at o bodies body point v to w))
 
-  in_inner : (L : Place) (l : Loc) (location : Location) → r.same entry L l → L ≡ held location → inner_of location ≡ l
+  in_inner : (L : Holder) (l : Loc) (location : Location) → r.same entry L l → L ≡ held location → inner_of location ≡ l
   in_inner L l location s e = by (same_cases o (v.same L l s))
     where
       by : SameCases o L l → inner_of location ≡ l
@@ -224,7 +224,7 @@ module _ (coarse : Procedures ℕ Place ℤ) (fine : Procedures Position Loc Loc
   -- What is made.
 
   -- what the operation carries to a half or a flag comes from a half or a flag
-  carries_half : (to : Location) (L : Place) → CarriesOn coarse fine r entry at o bodies body point v L (held to) → passes (held to) ≡ true
+  carries_half : (to : Location) (L : Holder) → CarriesOn coarse fine r entry at o bodies body point v L (held to) → passes (held to) ≡ true
       → (from : Location) × (L ≡ held from) × (passes (held from) ≡ true) × (carries_one to from ≡ true)
   carries_half to (held from) (CarriesOn.made w q m) p = (
     from,
@@ -292,11 +292,11 @@ module _ (coarse : Procedures ℕ Place ℤ) (fine : Procedures Position Loc Loc
         | inr u ↦ inr u
       ]) (λ l c. c) (λ l c. c))
     where
-      stays : (L : Place) → CarriesOn coarse fine r entry at o bodies body point v L (in_frame k) → L ≡ in_frame k
+      stays : (L : Holder) → CarriesOn coarse fine r entry at o bodies body point v L (in_frame k) → L ≡ in_frame k
       stays L (CarriesOn.made w q m) = absurd (true≢false (sym w ∙ closed.no_write k))
       stays L (CarriesOn.stays e s) = e
 
-  making : (A : Place) (a : Loc) → r.same entry A a → Shows (r.same entry) (λ L. Carries coarse fine r entry at L A ⊎ Takes coarse fine r entry at L) (sources stmts a ++ users)
+  making : (A : Holder) (a : Loc) → r.same entry A a → Shows (r.same entry) (λ L. Carries coarse fine r entry at L A ⊎ Takes coarse fine r entry at L) (sources stmts a ++ users)
   making A a t = by (same_cases o (v.same A a t))
     where
       by : SameCases o A a → Shows (r.same entry) (λ L. Carries coarse fine r entry at L A ⊎ Takes coarse fine r entry at L) (sources stmts a ++ users)
@@ -308,7 +308,7 @@ module _ (coarse : Procedures ℕ Place ℤ) (fine : Procedures Position Loc Loc
           subst (λ B. Shows (r.same entry) (λ L. Carries coarse fine r entry at L B ⊎ Takes coarse fine r entry at L) (sources stmts a ++ users)) (sym e)
           (making_cell k a (subst (λ B. r.same entry B a) e t) alone)
 
-  writes : (L : Place) (l : Loc) → r.same entry L l → value_written body op number L ≡ is_written stmts l
+  writes : (L : Holder) (l : Loc) → r.same entry L l → value_written body op number L ≡ is_written stmts l
   writes L l t = by (same_cases o (v.same L l t))
     where
       by : SameCases o L l → value_written body op number L ≡ is_written stmts l
@@ -316,7 +316,7 @@ module _ (coarse : Procedures ℕ Place ℤ) (fine : Procedures Position Loc Loc
       by (SameCases.by_kept found k p e kept g) =
           ap (value_written body op number) e ∙ closed.no_write k ∙ sym (ap (is_written stmts) kept.is ∙ closed.unwritten kept.number kept.half)
 
-  written_somewhere : (L : Place) → value_written body op number L ≡ true → (l : Loc) × r.same entry L l
+  written_somewhere : (L : Holder) → value_written body op number L ≡ true → (l : Loc) × r.same entry L l
   written_somewhere (held location) w = (inner_of location, v.as_same (held location) (inner_of location) (IsSame.is_held (general location w)))
     where
       general : (location : Location) → value_written body op number (held location) ≡ true → passes (held location) ≡ true

@@ -4,25 +4,24 @@ use Rattle.std.proofs.Common.{◌≡◌, ◌<◌, ℕ, zero, suc, ◌/◌, ◌%�
 use Rattle.std.specs.Prelude.{◌==◌, not, if◌then◌else◌}
 use Rattle.dcc_num.specs.declared.Width.{Width}
 use Rattle.dcc_num.specs.declared.Width.TheVariants.{Byte as byte_width, Word as word_width}
-use Rattle.dcc_prog.specs.declared.cpu.Cpu.{Cpu}
-use Rattle.dcc_prog.specs.declared.cpu.Cpu.TheVariants.{I8086, I186}
-use Rattle.dcc_prog.specs.declared.instr.Operand.{Operand}
-use Rattle.dcc_prog.specs.declared.instr.Operand.TheVariants.{Byte, Seg, Mem}
-use Rattle.dcc_prog.specs.declared.instr.Shift.{Shift}
-use Rattle.dcc_prog.specs.declared.instr.Count.{Count}
-use Rattle.dcc_prog.specs.declared.instr.Count.TheVariants.{One, Cl, Const as ConstCount}
-use Rattle.dcc_prog.specs.declared.instr.Op.{Op}
-use Rattle.dcc_prog.specs.declared.instr.Op.TheVariants.{Alu as AluOp, Unary as UnaryOp, Shift as ShiftOp, Mov, Xchg, Imul3, Push, Pop, Table as TableOp}
-use Rattle.dcc_prog.specs.declared.instr.Instr.{Instr}
-use Rattle.dcc_prog.specs.Machine.{operand_width}
-use Rattle.dcc_prog.specs.Bytes.{byte_at}
-use Rattle.dcc_prog.specs.Operands.{word_register, register, rm_operand, mod_field, reg_field, rm_field, address, width_of}
-use Rattle.dcc_prog.specs.Table.{Row, Parts, row_parts, in_range, fits, fits_byte, has_bytes, row_length, between, bytes_between, any_operand, shift_of, table, arithmetic_rows, unary_rows, stack_rows, move_rows, control_rows, plain_rows, later_rows, rows_besides, instruction_at, rm, rm8, rm16, reg, r8, imm, imm8, direct, accumulator, destination, source}
-use Rattle.dcc_prog.specs.Construct.{is_segment, is_system}
-use Rattle.dcc_prog.specs.Trail.{is_general}
-use Rattle.dcc_prog.specs.Wanted.{is_turn}
-use Rattle.dcc_prog.proofs.TableLaws.{instruction-row}
-use Rattle.dcc_prog.proofs.LocationKept.{or-none}
+use Rattle.dcc_machine.specs.declared.cpu.Cpu.{Cpu}
+use Rattle.dcc_machine.specs.declared.cpu.Cpu.TheVariants.{I8086, I186}
+use Rattle.dcc_machine.specs.declared.instr.Operand.{Operand}
+use Rattle.dcc_machine.specs.declared.instr.Operand.TheVariants.{Byte, Seg, Mem}
+use Rattle.dcc_machine.specs.declared.instr.Shift.{Shift}
+use Rattle.dcc_machine.specs.declared.instr.Count.{Count}
+use Rattle.dcc_machine.specs.declared.instr.Count.TheVariants.{One, Cl, Const as ConstCount}
+use Rattle.dcc_machine.specs.declared.instr.Op.{Op}
+use Rattle.dcc_machine.specs.declared.instr.Op.TheVariants.{Alu as AluOp, Unary as UnaryOp, Shift as ShiftOp, Mov, Xchg, Imul3, Push, Pop, Table as TableOp}
+use Rattle.dcc_machine.specs.declared.instr.Instr.{Instr}
+use Rattle.dcc_machine.specs.Machine.{operand_width, is_segment, is_general}
+use Rattle.dcc_machine.specs.Bytes.{byte_at}
+use Rattle.dcc_machine.specs.Operands.{word_register, register, rm_operand, mod_field, reg_field, rm_field, address, width_of}
+use Rattle.dcc_machine.specs.Table.{Row, Parts, row_parts, in_range, fits, fits_byte, has_bytes, row_length, between, bytes_between, any_operand, shift_of, table, arithmetic_rows, unary_rows, stack_rows, move_rows, control_rows, plain_rows, later_rows, rows_besides, instruction_at, rm, rm8, rm16, reg, r8, imm, imm8, direct, accumulator, destination, source}
+use Rattle.dcc_prog.specs.Construct.{is_system}
+use Rattle.dcc_machine.specs.Wanted.{is_through_carry}
+use Rattle.dcc_machine.proofs.TableLaws.{instruction-row}
+use Rattle.dcc_machine.proofs.LocationKept.{or-none}
 use Rattle.dcc_ir.proofs.PathLaws.{decided}
 use Rattle.dcc_lift.proofs.ListTests.{and_left, and_right, and_both}
 
@@ -34,7 +33,7 @@ is_named operand = true
 
 -- RCL and RCR don't go by a constant
 abbrev pub is_shiftable : Shift → Count → Bool
-is_shiftable operation (ConstCount number) = not (is_turn operation)
+is_shiftable operation (ConstCount number) = not (is_through_carry operation)
 is_shiftable operation count = true
 
 -- two widths are one
@@ -157,7 +156,7 @@ shifted p = and_both (is_named (rm p)) (is_shiftable (shift_of (reg_field p.modr
       | false ↦ refl
     ])
 
-turn_number : (n : ℕ) → is_turn (shift_of n) ≡ true → (n ≡ 2) ⊎ (n ≡ 3)
+turn_number : (n : ℕ) → is_through_carry (shift_of n) ≡ true → (n ≡ 2) ⊎ (n ≡ 3)
 turn_number zero t = absurd (true≢false (sym t))
 turn_number (suc zero) t = absurd (true≢false (sym t))
 turn_number (suc (suc zero)) t = inl refl
@@ -168,8 +167,8 @@ turn_number (suc (suc (suc (suc (suc (suc zero)))))) t = absurd (true≢false (s
 turn_number (suc (suc (suc (suc (suc (suc (suc zero))))))) t = absurd (true≢false (sym t))
 turn_number (suc (suc (suc (suc (suc (suc (suc (suc n)))))))) t = absurd (true≢false (sym t))
 
-turnless : (first last n : ℕ) → in_range (between first last) n ≡ true → in_range (between first last) 2 ≡ false → in_range (between first last) 3 ≡ false → is_turn (shift_of n) ≡ false
-turnless first last n t two three = elim (decided (is_turn (shift_of n))) [
+turnless : (first last n : ℕ) → in_range (between first last) n ≡ true → in_range (between first last) 2 ≡ false → in_range (between first last) 3 ≡ false → is_through_carry (shift_of n) ≡ false
+turnless first last n t two three = elim (decided (is_through_carry (shift_of n))) [
   | inr f ↦ f
   | inl turn ↦ elim (turn_number n turn) [
     | inl e ↦ absurd (true≢false (sym t ∙ ap (in_range (between first last)) e ∙ two))
@@ -290,10 +289,10 @@ plain-named =
 
 -- a shift by a constant, whose number is one of these
 constantly : (first last : ℕ) (bytes : List ℕ) (p : Parts) → fits (bytes_between 0xc0 0xc1 ∷ any_operand first last ∷ []) bytes ≡ true → p.modrm ≡ byte_at bytes 1
-    → in_range (between first last) 2 ≡ false → in_range (between first last) 3 ≡ false → (is_named (rm p) && not (is_turn (shift_of (reg_field p.modrm)))) ≡ true
+    → in_range (between first last) 2 ≡ false → in_range (between first last) 3 ≡ false → (is_named (rm p) && not (is_through_carry (shift_of (reg_field p.modrm)))) ≡ true
 constantly first last bytes p fit is two three =
-    and_both (is_named (rm p)) (not (is_turn (shift_of (reg_field p.modrm)))) (of_rm p)
-    (ap (λ n. not (is_turn (shift_of (reg_field n)))) is ∙ ap not (turnless first last (reg_field (byte_at bytes 1)) (field_within first last bytes fit) two three))
+    and_both (is_named (rm p)) (not (is_through_carry (shift_of (reg_field p.modrm)))) (of_rm p)
+    (ap (λ n. not (is_through_carry (shift_of (reg_field n)))) is ∙ ap not (turnless first last (reg_field (byte_at bytes 1)) (field_within first last bytes fit) two three))
 
 later-named : AreNamed later_rows
 later-named =

@@ -1,14 +1,14 @@
 -- Where all instructions of a program do what their statements do together, so do the points of its lifted form.
 use Rattle.std.proofs.Common.{◌≡◌, ℕ, ℤ, true, false, not, ◌&&◌, ◌==◌, List, [], ◌∷◌, map, Option, Some, None, refl, sym, ap, ◌∙◌, subst}
 use Rattle.std.specs.Prelude.{nat_lt}
-use Rattle.dcc_prog.specs.declared.image.Image.{Image}
+use Rattle.dcc_machine.specs.declared.image.Image.{Image}
 use Rattle.dcc_prog.specs.declared.frame.Program.{Program as Analysed}
 use Rattle.dcc_prog.specs.declared.procedure.Node.{Node}
 use Rattle.dcc_ir.specs.declared.syntax.Loc.{Loc}
 use Rattle.dcc_ir.specs.Tree.{Stmt, Program, Graph}
 use Rattle.dcc_ir.specs.Flow.{graph_or_none}
 use Rattle.dcc_simulation.specs.Procedures.{pushed_of}
-use Rattle.dcc_lift.specs.Blocks.{Nodes, node_in, successors_in, edges_into, is_one, calls_in, is_table, jumps_by_table_in, comes_from_below, joins, onward, Scene, nodes_in, entry_in, height_in, node_stmts, stmts_at, node_exit, block_place}
+use Rattle.dcc_lift.specs.Blocks.{Nodes, node_in, successors_in, edges_into, is_one, calls_in, is_table, jumps_by_table_in, comes_from_below, joins, onward, BlockSource, nodes_in, entry_in, height_in, node_stmts, stmts_at, node_exit, block_place}
 use Rattle.dcc_lift.specs.Sound.{AreSound, GoesOnAt}
 use Rattle.dcc_lift.specs.Translated.{IsTranslated}
 use Rattle.dcc_lift.proofs.ListTests.{and_left, and_right, not_true}
@@ -16,7 +16,7 @@ use Rattle.dcc_lift.proofs.NodeLaws.{node_in_holds}
 use Rattle.dcc_lift.proofs.ChainLaws.{onward_tells}
 use Rattle.dcc_demand.specs.Procedures.{Procedures}
 use Rattle.dcc_machine_demand.specs.Bodies.{Body, bodies_of, find_at, point_with}
-use Rattle.dcc_machine_demand.specs.Places.{Place}
+use Rattle.dcc_machine_demand.specs.Holders.{Holder}
 use Rattle.dcc_machine_demand.specs.Instance as asks
 use Rattle.dcc_sums.specs.Points.{Position}
 use Rattle.dcc_sums.specs.Instance as sums
@@ -48,7 +48,7 @@ no_table nodes entry at next t e =
 
 -- The last of an instruction's points.
 
-module _ (scene : Scene) (prelude : ℕ) (sound : AreSound (nodes_in scene) (entry_in scene) prelude) (at : ℕ) (node : Node) (found : node_in (nodes_in scene) at ≡ Some node) where
+module _ (scene : BlockSource) (prelude : ℕ) (sound : AreSound (nodes_in scene) (entry_in scene) prelude) (at : ℕ) (node : Node) (found : node_in (nodes_in scene) at ≡ Some node) where
   goes_on : GoesOnAt node.instr.op node.succ.items
   goes_on = node_in_holds (λ (found : ℕ × Node). GoesOnAt found.1.instr.op found.1.succ.items) (nodes_in scene) at node sound.agree found
 
@@ -74,8 +74,8 @@ module _ (scene : Scene) (prelude : ℕ) (sound : AreSound (nodes_in scene) (ent
       by (Some next) on = unused_within next on
 
 module _ (image : Image) (program : Analysed) (p : Program) (is : IsTranslated image program p)
-    (agree : (entry at : ℕ) (scene : Scene) (node : Node) (height : ℕ) → IsInstruction image program p entry at scene node height → AgreesWithItsStatements image program p entry at scene node height) where
-  abbrev coarse : Procedures ℕ Place ℤ
+    (agree : (entry at : ℕ) (scene : BlockSource) (node : Node) (height : ℕ) → IsInstruction image program p entry at scene node height → AgreesWithItsStatements image program p entry at scene node height) where
+  abbrev coarse : Procedures ℕ Holder ℤ
   coarse = machine image program p
 
   abbrev fine : Procedures Position Loc Loc
@@ -93,7 +93,7 @@ module _ (image : Image) (program : Analysed) (p : Program) (is : IsTranslated i
   idle_there entry at pushed idle = idle_agrees coarse fine (lifted_refinement program) entry at pushed (λ L l m s t. same_once s t) (idle_is ((coarse.procedure entry).action at) idle)
 
   module _ (entry : ℕ) (x : refined.Link image program p is entry) where
-    abbrev scene : Scene
+    abbrev scene : BlockSource
     scene = refined.scene image program p is entry x
 
     abbrev body : Body

@@ -7,7 +7,7 @@ use Rattle.std.proofs.lemmas.Grind.{flat_map-append}
 use Rattle.dcc_num.specs.declared.Width.{Width}
 use Rattle.dcc_num.specs.declared.Width.TheVariants.{Byte as byte_width, Word as word_width}
 use Rattle.dcc_num.specs.Numbers.{bits_of}
-use Rattle.dcc_prog.proofs.LocationKept.{or-none}
+use Rattle.dcc_machine.proofs.LocationKept.{or-none}
 use Rattle.dcc_ir.specs.declared.syntax.Loc.{Loc}
 use Rattle.dcc_ir.specs.Location.{same_location}
 use Rattle.dcc_ir.specs.Tree.{Expr, Get, Part, Stmt, Set, Store}
@@ -15,7 +15,7 @@ use Rattle.dcc_ir.specs.Use.{reads_of}
 use Rattle.dcc_ir.specs.Live.{is_among}
 use Rattle.dcc_ir.proofs.LocationLaws.{location_itself, location_same, among_contains}
 use Rattle.dcc_ir.proofs.PathLaws.{decided}
-use Rattle.dcc_ops.specs.Place.{Place as InnerPlace, byte, word, memory, is_low, is_high, taking}
+use Rattle.dcc_ops.specs.OperandPlace.{OperandPlace, byte, word, memory, is_low, is_high, taking}
 use Rattle.dcc_ops.specs.Temporaries.{left_place, right_place}
 use Rattle.dcc_ops.specs.Expressions.{left, right}
 use Rattle.dcc_ops.specs.Statements.{exchanging, xchg_stmts}
@@ -23,7 +23,7 @@ use Rattle.dcc_lift.proofs.ListTests.{and_both, and_false, or_here, or_there, or
 use Rattle.dcc_simulation.specs.Procedures.{Procedure}
 use Rattle.dcc_demand.specs.Procedures.{Procedures}
 use Rattle.dcc_machine_demand.specs.Bodies.{Body, Point}
-use Rattle.dcc_machine_demand.specs.Places.{Place, Spot, placed, is_place, is_at}
+use Rattle.dcc_machine_demand.specs.Holders.{Holder, Spot, placed, is_holder, is_at}
 use Rattle.dcc_machine_demand.specs.Moves.{Move, copying}
 use Rattle.dcc_sums.specs.Points.{Position}
 use Rattle.dcc_sums.specs.Instance.{is_half, is_pushed}
@@ -129,8 +129,8 @@ module _ (l h m k : Loc) (l_low : is_low l ≡ true) (h_high : is_high h ≡ tru
 
 -- With memory.
 
-module _ (w : Width) (v : Width) (a : Expr) (Q : InnerPlace) (ss : List Stmt) (lasts : list_all is_lasting (reads_of a) ≡ true) where
-  abbrev P : InnerPlace
+module _ (w : Width) (v : Width) (a : Expr) (Q : OperandPlace) (ss : List Stmt) (lasts : list_all is_lasting (reads_of a) ≡ true) where
+  abbrev P : OperandPlace
   P = memory v a
 
   abbrev storing_both : List Stmt
@@ -163,46 +163,46 @@ module _ (w : Width) (v : Width) (a : Expr) (Q : InnerPlace) (ss : List Stmt) (l
 
 -- In the procedure.
 
-module _ (coarse : Procedures ℕ Place ℤ) (fine : Procedures Position Loc Loc) (r : Refinement ℕ Place ℤ Position Loc Loc) (entry at pushed : ℕ) (o : Option Procedure) (bodies : List Body) (body : Body) (point : Point)
-    (v : IsMovingOperation coarse fine r entry at pushed o bodies body point) (addresses : Place → Bool) where
-  abbrev exposed : Place → Bool
+module _ (coarse : Procedures ℕ Holder ℤ) (fine : Procedures Position Loc Loc) (r : Refinement ℕ Holder ℤ Position Loc Loc) (entry at pushed : ℕ) (o : Option Procedure) (bodies : List Body) (body : Body) (point : Point)
+    (v : IsMovingOperation coarse fine r entry at pushed o bodies body point) (addresses : Holder → Bool) where
+  abbrev exposed : Holder → Bool
   exposed = (coarse.procedure entry).is_exposed
 
-  abbrev Half : Place → Loc → Type 0
+  abbrev Half : Holder → Loc → Type 0
   Half L l = IsHalf o body exposed L l
 
-  abbrev Stored : List Move → Place → Type 0
-  Stored moves L = (is_place body L ≡ true) × IsStored coarse fine r entry at pushed o bodies body point moves L
+  abbrev Stored : List Move → Holder → Type 0
+  Stored moves L = (is_holder body L ≡ true) × IsStored coarse fine r entry at pushed o bodies body point moves L
 
   abbrev Addressing : List Loc → Type 0
-  Addressing ls = Shows (IsSame o) (λ M. (is_place body M ≡ true) × (addresses M ≡ true)) ls
+  Addressing ls = Shows (IsSame o) (λ M. (is_holder body M ≡ true) × (addresses M ≡ true)) ls
 
   -- a half is made of the byte at a spot
   abbrev MadeOf : List Stmt → Spot → Loc → Type 0
-  MadeOf stmts f l = Shows (IsSame o) (λ M. (is_place body M ≡ true) × ((is_at f M || addresses M) ≡ true)) (sources stmts l)
+  MadeOf stmts f l = Shows (IsSame o) (λ M. (is_holder body M ≡ true) × ((is_at f M || addresses M) ≡ true)) (sources stmts l)
 
   -- to a half the byte at a spot is copied
-  abbrev copy_to : Place → Spot → Move
+  abbrev copy_to : Holder → Spot → Move
   copy_to L f = record { to = placed L; effect = copying f; made_of = λ place. is_at f place || addresses place }
 
-  half_copied : (stmts : List Stmt) (moves : List Move) (ls : List Loc) → none_pops pushed stmts ≡ true → (f : Spot) (L : Place) (l : Loc) → Half L l → MadeOf stmts f l → is_written stmts l ≡ true
+  half_copied : (stmts : List Stmt) (moves : List Move) (ls : List Loc) → none_pops pushed stmts ≡ true → (f : Spot) (L : Holder) (l : Loc) → Half L l → MadeOf stmts f l → is_written stmts l ≡ true
       → ArePaired coarse fine r entry at pushed o bodies body point stmts moves ls → ArePaired coarse fine r entry at pushed o bodies body point stmts (copy_to L f ∷ moves) (l ∷ ls)
   half_copied stmts moves ls unpopped f L l h made w rest =
       ArePaired.one_more refl h.same made (λ p. copy_lost coarse fine r entry at pushed o bodies body point v addresses stmts unpopped f l w) rest
 
   -- of a half, with no address
-  made_half : (stmts : List Stmt) (M : Place) (m l : Loc) → Half M m → Addressing [] → sources stmts l ≡ m ∷ [] → MadeOf stmts (placed M) l
+  made_half : (stmts : List Stmt) (M : Holder) (m l : Loc) → Half M m → Addressing [] → sources stmts l ≡ m ∷ [] → MadeOf stmts (placed M) l
   made_half stmts M m l h none e =
-      subst (λ ls. Shows (IsSame o) (λ N. (is_place body N ≡ true) × ((is_at (placed M) N || addresses N) ≡ true)) ls) (sym e)
+      subst (λ ls. Shows (IsSame o) (λ N. (is_holder body N ≡ true) × ((is_at (placed M) N || addresses N) ≡ true)) ls) (sym e)
       (either_shown o body exposed v.one v.unexposed (placed M) addresses (m ∷ []) [] (byte_shown o body exposed v.one v.unexposed (placed M) (byte m) (HasByte.one_half h)) none)
 
   -- of a byte that no location stands for: of what its address reads
   made_open : (stmts : List Stmt) (t : Spot) (ls : List Loc) (l : Loc) → IsOpenSpot o body exposed t → Addressing ls → sources stmts l ≡ ls → MadeOf stmts t l
   made_open stmts t ls l opens shown e =
-      subst (λ ms. Shows (IsSame o) (λ N. (is_place body N ≡ true) × ((is_at t N || addresses N) ≡ true)) ms) (sym e)
+      subst (λ ms. Shows (IsSame o) (λ N. (is_holder body N ≡ true) × ((is_at t N || addresses N) ≡ true)) ms) (sym e)
       (either_shown o body exposed v.one v.unexposed t addresses [] ls (shown_open o body exposed v.one v.unexposed t opens) shown)
 
-  closed : (L : Place) (l : Loc) → Half L l → IsOpenSpot o body exposed (placed L) → ⊥
+  closed : (L : Holder) (l : Loc) → Half L l → IsOpenSpot o body exposed (placed L) → ⊥
   closed = half_closed coarse fine r entry at pushed o bodies body point v addresses
 
   -- one that is among kept ones lasts
@@ -214,7 +214,7 @@ module _ (coarse : Procedures ℕ Place ℤ) (fine : Procedures Position Loc Loc
 
   -- Halves.
 
-  module _ (L M : Place) (l m : Loc) (a : Half L l) (b : Half M m) (none : Addressing []) (m_unpushed : is_pushed pushed m ≡ false) where
+  module _ (L M : Holder) (l m : Loc) (a : Half L l) (b : Half M m) (none : Addressing []) (m_unpushed : is_pushed pushed m ≡ false) where
     abbrev both : List Stmt
     both = exchanging l m
 
@@ -244,7 +244,7 @@ module _ (coarse : Procedures ℕ Place ℤ) (fine : Procedures Position Loc Loc
       quiet = (refl, (refl, (refl, tt)));
     }
 
-  module _ (L H M K : Place) (l h m k : Loc) (a : Half L l) (b : Half H h) (c : Half M m) (d : Half K k) (l_low : is_low l ≡ true) (h_high : is_high h ≡ true) (m_low : is_low m ≡ true) (k_high : is_high k ≡ true)
+  module _ (L H M K : Holder) (l h m k : Loc) (a : Half L l) (b : Half H h) (c : Half M m) (d : Half K k) (l_low : is_low l ≡ true) (h_high : is_high h ≡ true) (m_low : is_low m ≡ true) (k_high : is_high k ≡ true)
       (none : Addressing []) (m_unpushed : is_pushed pushed m ≡ false) (k_unpushed : is_pushed pushed k ≡ false) where
     abbrev all_four : List Stmt
     all_four = xchg_stmts word_width (word l h) (word m k)
@@ -278,7 +278,7 @@ module _ (coarse : Procedures ℕ Place ℤ) (fine : Procedures Position Loc Loc
       quiet = (refl, (refl, (refl, (refl, (refl, (refl, tt))))));
     }
       where
-        never : (N : Place) → IsStored coarse fine r entry at pushed o bodies body point (copy_to L (placed M) ∷ copy_to H (placed K) ∷ copy_to M (placed L) ∷ copy_to K (placed H) ∷ []) N → ⊥
+        never : (N : Holder) → IsStored coarse fine r entry at pushed o bodies body point (copy_to L (placed M) ∷ copy_to H (placed K) ∷ copy_to M (placed L) ∷ copy_to K (placed H) ∷ []) N → ⊥
         never N (inl here) = closed L l a here.0
         never N (inr (inl here)) = closed H h b here.0
         never N (inr (inr (inl here))) = closed M m c here.0
@@ -287,22 +287,22 @@ module _ (coarse : Procedures ℕ Place ℤ) (fine : Procedures Position Loc Loc
 
   -- Memory and a register.
 
-  abbrev AtSpot : Spot → Place → Type 0
-  AtSpot f M = (is_place body M ≡ true) × (is_at f M ≡ true)
+  abbrev AtSpot : Spot → Holder → Type 0
+  AtSpot f M = (is_holder body M ≡ true) × (is_at f M ≡ true)
 
-  abbrev AddressingAt : Place → Type 0
-  AddressingAt M = (is_place body M ≡ true) × (addresses M ≡ true)
+  abbrev AddressingAt : Holder → Type 0
+  AddressingAt M = (is_holder body M ≡ true) × (addresses M ≡ true)
 
-  at_half : (M : Place) (m : Loc) → Half M m → Shows (IsSame o) (AtSpot (placed M)) (m ∷ [])
+  at_half : (M : Holder) (m : Loc) → Half M m → Shows (IsSame o) (AtSpot (placed M)) (m ∷ [])
   at_half M m h = byte_shown o body exposed v.one v.unexposed (placed M) (byte m) (HasByte.one_half h)
 
-  of_spot : (f : Spot) (N : Place) → (is_place body N ≡ true) × ((is_at f N || addresses N) ≡ true) → AtSpot f N ⊎ AddressingAt N
+  of_spot : (f : Spot) (N : Holder) → (is_holder body N ≡ true) × ((is_at f N || addresses N) ≡ true) → AtSpot f N ⊎ AddressingAt N
   of_spot f N p = elim (or_cases (is_at f N) (addresses N) p.1) [
     | inl x ↦ inl (p.0, x)
     | inr x ↦ inr (p.0, x)
   ]
 
-  module _ (t : Spot) (a : Expr) (M : Place) (m : Loc) (opens : IsOpenSpot o body exposed t) (kept : list_all is_kept_place (reads_of a) ≡ true) (b : Half M m) (shown : Addressing (reads_of a)) where
+  module _ (t : Spot) (a : Expr) (M : Holder) (m : Loc) (opens : IsOpenSpot o body exposed t) (kept : list_all is_kept_place (reads_of a) ≡ true) (b : Half M m) (shown : Addressing (reads_of a)) where
     abbrev set_one : List Stmt
     set_one = Set m (left byte_width) ∷ []
 
@@ -333,11 +333,11 @@ module _ (coarse : Procedures ℕ Place ℤ) (fine : Procedures Position Loc Loc
       quiet = (refl, (refl, (refl, (refl, tt))));
     }
       where
-        to : (N : Place) (n : Loc) → IsSame o N n → AddressingAt N ⊎ AtSpot (placed M) N → Stored byte_moves N
+        to : (N : Holder) (n : Loc) → IsSame o N n → AddressingAt N ⊎ AtSpot (placed M) N → Stored byte_moves N
         to N n s (inl x) = (x.0, inl (opens, or_there (is_at (placed M) N) (addresses N) x.1))
         to N n s (inr x) = (x.0, inl (opens, or_here (is_at (placed M) N) (addresses N) x.1))
 
-        back : (N : Place) (n : Loc) → IsSame o N n → Stored byte_moves N → AddressingAt N ⊎ AtSpot (placed M) N
+        back : (N : Holder) (n : Loc) → IsSame o N n → Stored byte_moves N → AddressingAt N ⊎ AtSpot (placed M) N
         back N n s (p, inl here) = elim (of_spot (placed M) N (p, here.1)) [
           | inl x ↦ inr x
           | inr x ↦ inl x
@@ -345,7 +345,7 @@ module _ (coarse : Procedures ℕ Place ℤ) (fine : Procedures Position Loc Loc
         back N n s (p, inr (inl here)) = absurd (closed M m b here.0)
         back N n s (p, inr (inr none)) = absurd none
 
-  module _ (t u : Spot) (a : Expr) (M K : Place) (m k : Loc) (opens : IsOpenSpot o body exposed t) (next : IsOpenSpot o body exposed u) (kept : list_all is_kept_place (reads_of a) ≡ true)
+  module _ (t u : Spot) (a : Expr) (M K : Holder) (m k : Loc) (opens : IsOpenSpot o body exposed t) (next : IsOpenSpot o body exposed u) (kept : list_all is_kept_place (reads_of a) ≡ true)
       (c : Half M m) (d : Half K k) (m_low : is_low m ≡ true) (k_high : is_high k ≡ true) (shown : Addressing (reads_of a)) where
     abbrev set_two : List Stmt
     set_two = Set m (Part 8 0 (left word_width)) ∷ Set k (Part 8 8 (left word_width)) ∷ []
@@ -386,12 +386,12 @@ module _ (coarse : Procedures ℕ Place ℤ) (fine : Procedures Position Loc Loc
       quiet = (refl, (refl, (refl, (refl, (refl, tt)))));
     }
       where
-        to : (N : Place) (n : Loc) → IsSame o N n → AddressingAt N ⊎ (AtSpot (placed K) N ⊎ AtSpot (placed M) N) → Stored word_moves N
+        to : (N : Holder) (n : Loc) → IsSame o N n → AddressingAt N ⊎ (AtSpot (placed K) N ⊎ AtSpot (placed M) N) → Stored word_moves N
         to N n s (inl x) = (x.0, inl (opens, or_there (is_at (placed M) N) (addresses N) x.1))
         to N n s (inr (inl x)) = (x.0, inr (inl (next, or_here (is_at (placed K) N) (addresses N) x.1)))
         to N n s (inr (inr x)) = (x.0, inl (opens, or_here (is_at (placed M) N) (addresses N) x.1))
 
-        back : (N : Place) (n : Loc) → IsSame o N n → Stored word_moves N → AddressingAt N ⊎ (AtSpot (placed K) N ⊎ AtSpot (placed M) N)
+        back : (N : Holder) (n : Loc) → IsSame o N n → Stored word_moves N → AddressingAt N ⊎ (AtSpot (placed K) N ⊎ AtSpot (placed M) N)
         back N n s (p, inl here) = elim (of_spot (placed M) N (p, here.1)) [
           | inl x ↦ inr (inr x)
           | inr x ↦ inl x

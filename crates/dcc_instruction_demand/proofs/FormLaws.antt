@@ -11,20 +11,20 @@ use Rattle.dcc_num.specs.declared.Half.{Half as HalfName}
 use Rattle.dcc_num.specs.declared.Reg.{Reg}
 use Rattle.dcc_num.specs.declared.FlagName.{FlagName}
 use Rattle.dcc_num.specs.declared.FlagName.TheVariants.{Cf, Zf, Sf, Of}
-use Rattle.dcc_prog.specs.Wanted.{Location, half_of, flag_of, is_flag}
+use Rattle.dcc_machine.specs.Wanted.{Location, half_of, flag_of, is_flag}
 use Rattle.dcc_ir.specs.declared.syntax.Loc.{Loc}
 use Rattle.dcc_ir.specs.declared.syntax.Loc.TheVariants.{Half, Flag, Cell, Temp}
 use Rattle.dcc_ir.specs.Location.{same_location}
 use Rattle.dcc_ir.specs.Tree.{Stmt}
 use Rattle.dcc_ir.specs.Live.{is_among}
-use Rattle.dcc_ops.specs.Place.{Place as InnerPlace, constant, byte, word, memory, address, computed, taking, storing}
+use Rattle.dcc_ops.specs.OperandPlace.{OperandPlace, constant, byte, word, memory, address, computed, taking, storing}
 use Rattle.dcc_ops.specs.Expressions.{result}
 use Rattle.dcc_ops.specs.Temporaries.{left_place, right_place, result_place}
 use Rattle.dcc_lift.proofs.ListTests.{and_left, and_right, and_both, or_here, or_there, or_cases, or_none}
 use Rattle.dcc_simulation.specs.Procedures.{Procedure}
 use Rattle.dcc_demand.specs.Procedures.{Procedures}
 use Rattle.dcc_machine_demand.specs.Bodies.{Body, Point, op_of}
-use Rattle.dcc_machine_demand.specs.Places.{Place, held, in_frame, is_place}
+use Rattle.dcc_machine_demand.specs.Holders.{Holder, held, in_frame, is_holder}
 use Rattle.dcc_machine_demand.specs.Values.{value_written, is_sure, value_made_of}
 use Rattle.dcc_sums.specs.Points.{Position}
 use Rattle.dcc_sums.specs.Instance.{written_by}
@@ -111,59 +111,59 @@ is_cf (flag_of Of) e = absurd (true≢false (sym e))
 is_cf (half_of r h) e = absurd (true≢false (sym e))
 
 -- The places that are read for an input, where these are read for the operands.
-module _ (first_reads second_reads : Place → Bool) where
-  abbrev pub input_reads : Input → Place → Bool
+module _ (first_reads second_reads : Holder → Bool) where
+  abbrev pub input_reads : Input → Holder → Bool
   input_reads first L = first_reads L
   input_reads second L = second_reads L
   input_reads carry (held location) = is_flag Cf location
   input_reads carry (in_frame k) = false
   input_reads itself L = false
 
-  abbrev pub made_by : List Input → Place → Bool
+  abbrev pub made_by : List Input → Holder → Bool
   made_by inputs L = list_any (λ input. input_reads input L) inputs
 
   -- what is made of them
-  abbrev MadeOf : (Place → Bool) → Place → Input → Place → Type 0
+  abbrev MadeOf : (Holder → Bool) → Holder → Input → Holder → Type 0
   MadeOf is A first L = (is L ≡ true) × (first_reads L ≡ true)
   MadeOf is A second L = (is L ≡ true) × (second_reads L ≡ true)
   MadeOf is A carry L = L ≡ held (flag_of Cf)
   MadeOf is A itself L = L ≡ A
 
-  abbrev pub MadeOfAny : (Place → Bool) → Place → List Input → Place → Type 0
+  abbrev pub MadeOfAny : (Holder → Bool) → Holder → List Input → Holder → Type 0
   MadeOfAny is A [] L = ⊥
   MadeOfAny is A (input ∷ inputs) L = MadeOf is A input L ⊎ MadeOfAny is A inputs L
 
   -- what is made of inputs, as tests tell it
-  abbrev pub IsMade : (Place → Bool) → Place → List Input → Place → Type 0
+  abbrev pub IsMade : (Holder → Bool) → Holder → List Input → Holder → Type 0
   IsMade is A inputs L = ((is L ≡ true) × (made_by inputs L ≡ true)) ⊎ ((has_itself inputs ≡ true) × (L ≡ A))
 
-  module _ (body : Body) (A : Place) where
-    made_later : (input : Input) (inputs : List Input) (L : Place) → IsMade (is_place body) A inputs L → IsMade (is_place body) A (input ∷ inputs) L
+  module _ (body : Body) (A : Holder) where
+    made_later : (input : Input) (inputs : List Input) (L : Holder) → IsMade (is_holder body) A inputs L → IsMade (is_holder body) A (input ∷ inputs) L
     made_later input inputs L (inl m) = inl (m.0, or_there (input_reads input L) (made_by inputs L) m.1)
     made_later input inputs L (inr i) = inr (or_there (is_itself input) (has_itself inputs) i.0, i.1)
 
-    pub is_made : (inputs : List Input) (L : Place) → MadeOfAny (is_place body) A inputs L → IsMade (is_place body) A inputs L
+    pub is_made : (inputs : List Input) (L : Holder) → MadeOfAny (is_holder body) A inputs L → IsMade (is_holder body) A inputs L
     is_made [] L m = absurd m
     is_made (first ∷ inputs) L (inl m) = inl (m.0, or_here (first_reads L) (made_by inputs L) m.1)
     is_made (second ∷ inputs) L (inl m) = inl (m.0, or_here (second_reads L) (made_by inputs L) m.1)
-    is_made (carry ∷ inputs) L (inl m) = inl (ap (is_place body) m, or_here (input_reads carry L) (made_by inputs L) (ap (input_reads carry) m))
+    is_made (carry ∷ inputs) L (inl m) = inl (ap (is_holder body) m, or_here (input_reads carry L) (made_by inputs L) (ap (input_reads carry) m))
     is_made (itself ∷ inputs) L (inl m) = inr (refl, m)
     is_made (input ∷ inputs) L (inr m) = made_later input inputs L (is_made inputs L m)
 
-    one_made : (input : Input) (L : Place) → is_place body L ≡ true → input_reads input L ≡ true → MadeOf (is_place body) A input L
+    one_made : (input : Input) (L : Holder) → is_holder body L ≡ true → input_reads input L ≡ true → MadeOf (is_holder body) A input L
     one_made first L p t = (p, t)
     one_made second L p t = (p, t)
     one_made carry (held location) p t = ap held (is_cf location t)
     one_made carry (in_frame k) p t = absurd (true≢false (sym t))
     one_made itself L p t = absurd (true≢false (sym t))
 
-    made_itself : (input : Input) (L : Place) → is_itself input ≡ true → L ≡ A → MadeOf (is_place body) A input L
+    made_itself : (input : Input) (L : Holder) → is_itself input ≡ true → L ≡ A → MadeOf (is_holder body) A input L
     made_itself first L t e = absurd (true≢false (sym t))
     made_itself second L t e = absurd (true≢false (sym t))
     made_itself carry L t e = absurd (true≢false (sym t))
     made_itself itself L t e = e
 
-    pub any_made : (inputs : List Input) (L : Place) → IsMade (is_place body) A inputs L → MadeOfAny (is_place body) A inputs L
+    pub any_made : (inputs : List Input) (L : Holder) → IsMade (is_holder body) A inputs L → MadeOfAny (is_holder body) A inputs L
     any_made [] L (inl m) = absurd (true≢false (sym m.1))
     any_made [] L (inr i) = absurd (true≢false (sym i.0))
     any_made (input ∷ inputs) L (inl m) = elim (or_cases (input_reads input L) (made_by inputs L) m.1) [
@@ -195,7 +195,7 @@ half_no_flag (Cell n h) f t = refl
 half_no_flag (Flag g) f t = absurd (true≢false (sym t))
 half_no_flag (Temp n) f t = absurd (true≢false (sym t))
 
-outs_no_flag : (P : InnerPlace) (f : FlagName) → has_kept P ≡ true → is_among (outs P) (Flag f) ≡ false
+outs_no_flag : (P : OperandPlace) (f : FlagName) → has_kept P ≡ true → is_among (outs P) (Flag f) ≡ false
 outs_no_flag (byte l) f t = ap (λ b. b || false) (half_no_flag l f t)
 outs_no_flag (word low high) f t =
     ap (λ b. b || (same_location (Flag f) high || false)) (half_no_flag low f (and_left (is_kept_place low) (is_kept_place high) t))
@@ -206,41 +206,41 @@ outs_no_flag (address n) f t = refl
 outs_no_flag (computed e) f t = refl
 
 -- Where two operands are taken: what of their places is read for inputs, and what statements make of them.
-module _ (coarse : Procedures ℕ Place ℤ) (fine : Procedures Position Loc Loc) (r : Refinement ℕ Place ℤ Position Loc Loc) (entry at : ℕ)
+module _ (coarse : Procedures ℕ Holder ℤ) (fine : Procedures Position Loc Loc) (r : Refinement ℕ Holder ℤ Position Loc Loc) (entry at : ℕ)
     (o : Option Procedure) (bodies : List Body) (body : Body) (point : Point) (v : IsValueOperation coarse fine r entry at o bodies body point)
-    (w : Width) (F G : InnerPlace) (first_reads second_reads : Place → Bool) (second_kept : list_all is_lasting (reads_at G) ≡ true)
-    (firsts : Shows (r.same entry) (λ L. (is_place body L ≡ true) × (first_reads L ≡ true)) (reads_at F))
-    (seconds : Shows (r.same entry) (λ L. (is_place body L ≡ true) × (second_reads L ≡ true)) (reads_at G)) where
-  abbrev AnyMade : Place → List Input → Place → Type 0
-  AnyMade A inputs L = MadeOfAny first_reads second_reads (is_place body) A inputs L
+    (w : Width) (F G : OperandPlace) (first_reads second_reads : Holder → Bool) (second_kept : list_all is_lasting (reads_at G) ≡ true)
+    (firsts : Shows (r.same entry) (λ L. (is_holder body L ≡ true) × (first_reads L ≡ true)) (reads_at F))
+    (seconds : Shows (r.same entry) (λ L. (is_holder body L ≡ true) × (second_reads L ≡ true)) (reads_at G)) where
+  abbrev AnyMade : Holder → List Input → Holder → Type 0
+  AnyMade A inputs L = MadeOfAny first_reads second_reads (is_holder body) A inputs L
 
-  one_shown : (A : Place) (m : Loc) → r.same entry A m → is_lasting m ≡ true → (input : Input)
-      → Shows (r.same entry) (MadeOf first_reads second_reads (is_place body) A input) (before_both w F G (input_location w m input))
-  one_shown A m s t first = subst (λ ls. Shows (r.same entry) (MadeOf first_reads second_reads (is_place body) A first) ls) (sym (both_left w F G)) firsts
-  one_shown A m s t second = subst (λ ls. Shows (r.same entry) (MadeOf first_reads second_reads (is_place body) A second) ls) (sym (both_right w F G second_kept)) seconds
+  one_shown : (A : Holder) (m : Loc) → r.same entry A m → is_lasting m ≡ true → (input : Input)
+      → Shows (r.same entry) (MadeOf first_reads second_reads (is_holder body) A input) (before_both w F G (input_location w m input))
+  one_shown A m s t first = subst (λ ls. Shows (r.same entry) (MadeOf first_reads second_reads (is_holder body) A first) ls) (sym (both_left w F G)) firsts
+  one_shown A m s t second = subst (λ ls. Shows (r.same entry) (MadeOf first_reads second_reads (is_holder body) A second) ls) (sym (both_right w F G second_kept)) seconds
   one_shown A m s t carry =
-      subst (λ ls. Shows (r.same entry) (MadeOf first_reads second_reads (is_place body) A carry) ls) (sym (both_lasting w F G (Flag Cf) refl))
+      subst (λ ls. Shows (r.same entry) (MadeOf first_reads second_reads (is_holder body) A carry) ls) (sym (both_lasting w F G (Flag Cf) refl))
       (shows_one (r.same entry) (λ L l n a b. same_once (v.same L l a) (v.same L n b)) (held (flag_of Cf)) (Flag Cf) (v.as_same (held (flag_of Cf)) (Flag Cf) (IsSame.is_held refl)))
   one_shown A m s t itself =
-      subst (λ ls. Shows (r.same entry) (MadeOf first_reads second_reads (is_place body) A itself) ls) (sym (both_lasting w F G m t))
+      subst (λ ls. Shows (r.same entry) (MadeOf first_reads second_reads (is_holder body) A itself) ls) (sym (both_lasting w F G m t))
       (shows_one (r.same entry) (λ L l n a b. same_once (v.same L l a) (v.same L n b)) A m s)
 
-  pub inputs_shown : (A : Place) (m : Loc) → r.same entry A m → is_lasting m ≡ true → (inputs : List Input) → Shows (r.same entry) (AnyMade A inputs) (flat_map (before_both w F G) (map (input_location w m) inputs))
+  pub inputs_shown : (A : Holder) (m : Loc) → r.same entry A m → is_lasting m ≡ true → (inputs : List Input) → Shows (r.same entry) (AnyMade A inputs) (flat_map (before_both w F G) (map (input_location w m) inputs))
   inputs_shown A m s t [] = shows_none (r.same entry)
   inputs_shown A m s t (input ∷ inputs) =
-      shows_both (r.same entry) (MadeOf first_reads second_reads (is_place body) A input) (AnyMade A inputs) (before_both w F G (input_location w m input)) (flat_map (before_both w F G) (map (input_location w m) inputs))
+      shows_both (r.same entry) (MadeOf first_reads second_reads (is_holder body) A input) (AnyMade A inputs) (before_both w F G (input_location w m input)) (flat_map (before_both w F G) (map (input_location w m) inputs))
       (one_shown A m s t input) (inputs_shown A m s t inputs)
 
   module _ (stmts : List Stmt) (using : Shows (r.same entry) (Takes coarse fine r entry at) (used stmts [])) where
-    abbrev MakesAt : Place → Place → Type 0
+    abbrev MakesAt : Holder → Holder → Type 0
     MakesAt A L = Carries coarse fine r entry at L A ⊎ Takes coarse fine r entry at L
 
-    abbrev CarriesAt : Place → Place → Type 0
+    abbrev CarriesAt : Holder → Holder → Type 0
     CarriesAt L A = CarriesOn coarse fine r entry at o bodies body point v L A
 
     -- where what it carries is made of inputs
-    pub making_of : (A : Place) (a : Loc) (inputs : List Input) → r.same entry A a → is_lasting a ≡ true → HaveSame (sources stmts a) (flat_map (before_both w F G) (map (input_location w a) inputs))
-        → ((L : Place) → CarriesAt L A → IsMade first_reads second_reads (is_place body) A inputs L) → ((L : Place) → IsMade first_reads second_reads (is_place body) A inputs L → CarriesAt L A)
+    pub making_of : (A : Holder) (a : Loc) (inputs : List Input) → r.same entry A a → is_lasting a ≡ true → HaveSame (sources stmts a) (flat_map (before_both w F G) (map (input_location w a) inputs))
+        → ((L : Holder) → CarriesAt L A → IsMade first_reads second_reads (is_holder body) A inputs L) → ((L : Holder) → IsMade first_reads second_reads (is_holder body) A inputs L → CarriesAt L A)
         → Shows (r.same entry) (MakesAt A) (sources stmts a ++ used stmts [])
     making_of A a inputs s t same to from =
         let more = have_more (sources stmts a) (flat_map (before_both w F G) (map (input_location w a) inputs)) (used stmts []) same in
@@ -256,27 +256,27 @@ module _ (coarse : Procedures ℕ Place ℤ) (fine : Procedures Position Loc Loc
         ]) more.shrink more.grow
 
 -- what is taken is a temporary
-pub taking_written : (to : Loc) (Q : InnerPlace) (a : Loc) → same_location a to ≡ false → (ss : List Stmt) → is_written (taking to Q ∷ ss) a ≡ is_written ss a
+pub taking_written : (to : Loc) (Q : OperandPlace) (a : Loc) → same_location a to ≡ false → (ss : List Stmt) → is_written (taking to Q ∷ ss) a ≡ is_written ss a
 taking_written to Q a e ss =
     ap (λ b. is_written ss a || b) (ap (λ ls. is_among ls a) (taking_writes to Q) ∙ or_none (same_location a to) ∙ e) ∙ or_none (is_written ss a)
 
-pub both_written : (w : Width) (F G : InnerPlace) (ss : List Stmt) (a : Loc) → is_lasting a ≡ true → is_written (taking (left_place w) F ∷ taking (right_place w) G ∷ ss) a ≡ is_written ss a
+pub both_written : (w : Width) (F G : OperandPlace) (ss : List Stmt) (a : Loc) → is_lasting a ≡ true → is_written (taking (left_place w) F ∷ taking (right_place w) G ∷ ss) a ≡ is_written ss a
 both_written w F G ss a t = taking_written (left_place w) F a (lasts_left w a t) (taking (right_place w) G ∷ ss) ∙ taking_written (right_place w) G a (lasts_right w a t) ss
 
-pub taking_value : (w : Width) (Q : InnerPlace) → (is_value (taking (left_place w) Q) ≡ true) × (is_value (taking (right_place w) Q) ≡ true)
+pub taking_value : (w : Width) (Q : OperandPlace) → (is_value (taking (left_place w) Q) ≡ true) × (is_value (taking (right_place w) Q) ≡ true)
 taking_value byte_width (memory u e) = (refl, refl)
 taking_value word_width (memory u e) = (refl, refl)
 taking_value byte_width Q = (refl, refl)
 taking_value word_width Q = (refl, refl)
 
-pub both_values : (w : Width) (F G : InnerPlace) (ss : List Stmt) → list_all is_value ss ≡ true → list_all is_value (taking (left_place w) F ∷ taking (right_place w) G ∷ ss) ≡ true
+pub both_values : (w : Width) (F G : OperandPlace) (ss : List Stmt) → list_all is_value ss ≡ true → list_all is_value (taking (left_place w) F ∷ taking (right_place w) G ∷ ss) ≡ true
 both_values w F G ss t =
     and_both (is_value (taking (left_place w) F)) (list_all is_value (taking (right_place w) G ∷ ss)) (taking_value w F).0
     (and_both (is_value (taking (right_place w) G)) (list_all is_value ss) (taking_value w G).1 t)
 
-module _ (coarse : Procedures ℕ Place ℤ) (fine : Procedures Position Loc Loc) (r : Refinement ℕ Place ℤ Position Loc Loc) (entry at pushed : ℕ)
+module _ (coarse : Procedures ℕ Holder ℤ) (fine : Procedures Position Loc Loc) (r : Refinement ℕ Holder ℤ Position Loc Loc) (entry at pushed : ℕ)
     (o : Option Procedure) (bodies : List Body) (body : Body) (point : Point) (v : IsValueOperation coarse fine r entry at o bodies body point)
-    (w : Width) (P F G : InnerPlace) (first_reads second_reads : Place → Bool) (working : List Stmt) (stored : Bool) (result_inputs : List Input) (flag_inputs : FlagName → List Input) where
+    (w : Width) (P F G : OperandPlace) (first_reads second_reads : Holder → Bool) (working : List Stmt) (stored : Bool) (result_inputs : List Input) (flag_inputs : FlagName → List Input) where
   abbrev pub keeping : List Stmt
   keeping = if stored then storing P (result w) else []
 
@@ -286,10 +286,10 @@ module _ (coarse : Procedures ℕ Place ℤ) (fine : Procedures Position Loc Loc
   abbrev pub form_outs : List Loc
   form_outs = if stored then outs P else []
 
-  abbrev writes_at : Place → Bool
+  abbrev writes_at : Holder → Bool
   writes_at A = value_written body (op_of point) point.node.number A
 
-  abbrev made_so : List Input → Place → Bool
+  abbrev made_so : List Input → Holder → Bool
   made_so inputs L = made_by first_reads second_reads inputs L
 
   abbrev bb : Loc → List Loc
@@ -303,24 +303,24 @@ module _ (coarse : Procedures ℕ Place ℤ) (fine : Procedures Position Loc Loc
     pub work : IsWork w working result_inputs flag_inputs
     pub kept : has_kept P ≡ true
     pub second_kept : list_all is_lasting (reads_at G) ≡ true
-    pub firsts : Shows (r.same entry) (λ L. (is_place body L ≡ true) × (first_reads L ≡ true)) (reads_at F)
-    pub seconds : Shows (r.same entry) (λ L. (is_place body L ≡ true) × (second_reads L ≡ true)) (reads_at G)
-    pub writes_place : (A : Place) (a : Loc) → r.same entry A a → is_kept_place a ≡ true → writes_at A ≡ is_among form_outs a
+    pub firsts : Shows (r.same entry) (λ L. (is_holder body L ≡ true) × (first_reads L ≡ true)) (reads_at F)
+    pub seconds : Shows (r.same entry) (λ L. (is_holder body L ≡ true) × (second_reads L ≡ true)) (reads_at G)
+    pub writes_place : (A : Holder) (a : Loc) → r.same entry A a → is_kept_place a ≡ true → writes_at A ≡ is_among form_outs a
     pub writes_flag : (f : FlagName) → writes_at (held (flag_of f)) ≡ is_written working (Flag f)
-    pub makes_place : (A : Place) (a : Loc) → r.same entry A a → is_kept_place a ≡ true → writes_at A ≡ true → (L : Place) → value_made_of body (op_of point) A L ≡ made_so result_inputs L
-    pub makes_flag : (f : FlagName) → writes_at (held (flag_of f)) ≡ true → (L : Place) → value_made_of body (op_of point) (held (flag_of f)) L ≡ made_so (flag_inputs f) L
-    pub sure_place : (A : Place) (a : Loc) → r.same entry A a → is_kept_place a ≡ true → is_sure (op_of point) A ≡ true
+    pub makes_place : (A : Holder) (a : Loc) → r.same entry A a → is_kept_place a ≡ true → writes_at A ≡ true → (L : Holder) → value_made_of body (op_of point) A L ≡ made_so result_inputs L
+    pub makes_flag : (f : FlagName) → writes_at (held (flag_of f)) ≡ true → (L : Holder) → value_made_of body (op_of point) (held (flag_of f)) L ≡ made_so (flag_inputs f) L
+    pub sure_place : (A : Holder) (a : Loc) → r.same entry A a → is_kept_place a ≡ true → is_sure (op_of point) A ≡ true
     pub sure_flag : (f : FlagName) → (writes_at (held (flag_of f)) && is_sure (op_of point) (held (flag_of f))) ≡ not (has_itself (flag_inputs f))
-    pub left_flag : (f : FlagName) → writes_at (held (flag_of f)) ≡ false → (L : Place) → made_so (flag_inputs f) L ≡ false
-    pub takes : (L : Place) (l : Loc) → r.same entry L l → Takes coarse fine r entry at L → ((stored && is_stored P) ≡ true) × (is_place body L ≡ true) × (made_so result_inputs L ≡ true)
-    pub taken : (stored && is_stored P) ≡ true → (L : Place) → is_place body L ≡ true → made_so result_inputs L ≡ true → Takes coarse fine r entry at L
+    pub left_flag : (f : FlagName) → writes_at (held (flag_of f)) ≡ false → (L : Holder) → made_so (flag_inputs f) L ≡ false
+    pub takes : (L : Holder) (l : Loc) → r.same entry L l → Takes coarse fine r entry at L → ((stored && is_stored P) ≡ true) × (is_holder body L ≡ true) × (made_so result_inputs L ≡ true)
+    pub taken : (stored && is_stored P) ≡ true → (L : Holder) → is_holder body L ≡ true → made_so result_inputs L ≡ true → Takes coarse fine r entry at L
     pub address_made : (stored && is_stored P) ≡ true → (l : Loc) → Contains (reads_at P) l → Contains (flat_map bb results) l
     pub address_kept : list_all is_kept_place (reads_at P) ≡ true
-    pub made : (A : Place) → writes_at A ≡ true → ((coarse.procedure entry).is_exposed A ≡ true) ⊎ ((l : Loc) × r.same entry A l)
+    pub made : (A : Holder) → writes_at A ≡ true → ((coarse.procedure entry).is_exposed A ≡ true) ⊎ ((l : Loc) × r.same entry A l)
 
   module _ (f : IsForm) where
-    abbrev MadeAt : Place → List Input → Place → Type 0
-    MadeAt A inputs L = MadeOfAny first_reads second_reads (is_place body) A inputs L
+    abbrev MadeAt : Holder → List Input → Holder → Type 0
+    MadeAt A inputs L = MadeOfAny first_reads second_reads (is_holder body) A inputs L
 
     lasting : (a : Loc) → is_kept_place a ≡ true → is_lasting a ≡ true
     lasting (Half q h) t = refl
@@ -406,7 +406,7 @@ module _ (coarse : Procedures ℕ Place ℤ) (fine : Procedures Position Loc Loc
         used_taken w F G (working ++ keeping) [] ∙ ap (flat_map bb) (used_append working keeping [] ∙ used_useless working (used keeping []) f.work.useless
         ∙ ap (flat_map (sources working)) (keeping_used ∙ ap (λ c. if c then reads_at P ++ (result_place w ∷ []) else []) e))
 
-    abbrev Taking : Place → Type 0
+    abbrev Taking : Holder → Type 0
     Taking = Takes coarse fine r entry at
 
     results_shown : Shows (r.same entry) (MadeAt (held (flag_of Cf)) result_inputs) (flat_map bb results)
@@ -449,28 +449,28 @@ module _ (coarse : Procedures ℕ Place ℤ) (fine : Procedures Position Loc Loc
 
     -- What is made.
 
-    abbrev Making : Place → Place → Type 0
+    abbrev Making : Holder → Holder → Type 0
     Making A L = Carries coarse fine r entry at L A ⊎ Taking L
 
-    abbrev CarriesTo : Place → Place → Type 0
+    abbrev CarriesTo : Holder → Holder → Type 0
     CarriesTo L A = CarriesOn coarse fine r entry at o bodies body point v L A
 
-    shows_made : (A : Place) (a : Loc) (inputs : List Input) → r.same entry A a → is_lasting a ≡ true → HaveSame (sources form_stmts a) (flat_map bb (map (input_location w a) inputs))
-        → ((L : Place) → CarriesTo L A → IsMade first_reads second_reads (is_place body) A inputs L) → ((L : Place) → IsMade first_reads second_reads (is_place body) A inputs L → CarriesTo L A)
+    shows_made : (A : Holder) (a : Loc) (inputs : List Input) → r.same entry A a → is_lasting a ≡ true → HaveSame (sources form_stmts a) (flat_map bb (map (input_location w a) inputs))
+        → ((L : Holder) → CarriesTo L A → IsMade first_reads second_reads (is_holder body) A inputs L) → ((L : Holder) → IsMade first_reads second_reads (is_holder body) A inputs L → CarriesTo L A)
         → Shows (r.same entry) (Making A) (sources form_stmts a ++ used form_stmts [])
     shows_made = making_of coarse fine r entry at o bodies body point v w F G first_reads second_reads f.second_kept f.firsts f.seconds form_stmts using
 
-    module _ (A : Place) (a : Loc) (s : r.same entry A a) (t : is_kept_place a ≡ true) where
+    module _ (A : Holder) (a : Loc) (s : r.same entry A a) (t : is_kept_place a ≡ true) where
       sure : is_sure (op_of point) A ≡ true
       sure = f.sure_place A a s t
 
-      place_made : (b : Bool) → writes_at A ≡ b → (L : Place) → CarriesTo L A → IsMade first_reads second_reads (is_place body) A (inputs_of b) L
+      place_made : (b : Bool) → writes_at A ≡ b → (L : Holder) → CarriesTo L A → IsMade first_reads second_reads (is_holder body) A (inputs_of b) L
       place_made true e L (CarriesOn.made k p m) = inl (p, sym (f.makes_place A a s t e L) ∙ m)
       place_made true e L (CarriesOn.stays same k) = absurd (true≢false (sym (and_both (writes_at A) (is_sure (op_of point) A) e sure) ∙ k))
       place_made false e L (CarriesOn.made k p m) = absurd (true≢false (sym k ∙ e))
       place_made false e L (CarriesOn.stays same k) = inr (refl, same)
 
-      place_carried : (b : Bool) → writes_at A ≡ b → (L : Place) → IsMade first_reads second_reads (is_place body) A (inputs_of b) L → CarriesTo L A
+      place_carried : (b : Bool) → writes_at A ≡ b → (L : Holder) → IsMade first_reads second_reads (is_holder body) A (inputs_of b) L → CarriesTo L A
       place_carried true e L (inl m) = CarriesOn.made e m.0 (f.makes_place A a s t e L ∙ m.1)
       place_carried true e L (inr i) = absurd (true≢false (sym i.0 ∙ f.work.new))
       place_carried false e L (inl m) = absurd (true≢false (sym m.1))
@@ -482,7 +482,7 @@ module _ (coarse : Procedures ℕ Place ℤ) (fine : Procedures Position Loc Loc
           (place_made (is_among form_outs a) (f.writes_place A a s t)) (place_carried (is_among form_outs a) (f.writes_place A a s t))
 
     module _ (g : FlagName) where
-      flag_made : (L : Place) → CarriesTo L (held (flag_of g)) → IsMade first_reads second_reads (is_place body) (held (flag_of g)) (flag_inputs g) L
+      flag_made : (L : Holder) → CarriesTo L (held (flag_of g)) → IsMade first_reads second_reads (is_holder body) (held (flag_of g)) (flag_inputs g) L
       flag_made L (CarriesOn.made k p m) = inl (p, sym (f.makes_flag g k L) ∙ m)
       flag_made L (CarriesOn.stays same k) = inr (flip (has_itself (flag_inputs g)) (sym (f.sure_flag g) ∙ k), same)
         where
@@ -490,7 +490,7 @@ module _ (coarse : Procedures ℕ Place ℤ) (fine : Procedures Position Loc Loc
           flip true e = refl
           flip false e = absurd (true≢false e)
 
-      flag_carried : (b : Bool) → writes_at (held (flag_of g)) ≡ b → (L : Place) → IsMade first_reads second_reads (is_place body) (held (flag_of g)) (flag_inputs g) L → CarriesTo L (held (flag_of g))
+      flag_carried : (b : Bool) → writes_at (held (flag_of g)) ≡ b → (L : Holder) → IsMade first_reads second_reads (is_holder body) (held (flag_of g)) (flag_inputs g) L → CarriesTo L (held (flag_of g))
       flag_carried true e L (inl m) = CarriesOn.made e m.0 (f.makes_flag g e L ∙ m.1)
       flag_carried false e L (inl m) = absurd (true≢false (sym m.1 ∙ f.left_flag g e L))
       flag_carried b e L (inr i) = CarriesOn.stays i.1 (f.sure_flag g ∙ ap not i.0)
@@ -503,11 +503,11 @@ module _ (coarse : Procedures ℕ Place ℤ) (fine : Procedures Position Loc Loc
     -- Together.
 
     -- a place is a flag, or is kept
-    data Kind (A : Place) (a : Loc) : Type 0 where
+    data Kind (A : Holder) (a : Loc) : Type 0 where
       is_flag_of : (g : FlagName) → A ≡ held (flag_of g) → a ≡ Flag g → Kind A a
       is_kept_at : is_kept_place a ≡ true → Kind A a
 
-    kind : (A : Place) (a : Loc) → r.same entry A a → Kind A a
+    kind : (A : Holder) (a : Loc) → r.same entry A a → Kind A a
     kind A a s = by (same_cases o (v.same A a s))
       where
         held_kind : (location : Location) → A ≡ held location → a ≡ inner_of location → Kind A a
@@ -518,7 +518,7 @@ module _ (coarse : Procedures ℕ Place ℤ) (fine : Procedures Position Loc Loc
         by (SameCases.by_held location p e f) = held_kind location e f
         by (SameCases.by_kept found k p e kept g) = Kind.is_kept_at (ap is_kept_place kept.is)
 
-    making : (A : Place) (a : Loc) → r.same entry A a → Shows (r.same entry) (Making A) (sources form_stmts a ++ used form_stmts [])
+    making : (A : Holder) (a : Loc) → r.same entry A a → Shows (r.same entry) (Making A) (sources form_stmts a ++ used form_stmts [])
     making A a s = elim (kind A a s) [
       | Kind.is_flag_of g e k ↦
           subst (λ B. Shows (r.same entry) (Making B) (sources form_stmts a ++ used form_stmts [])) (sym e)
@@ -539,11 +539,11 @@ module _ (coarse : Procedures ℕ Place ℤ) (fine : Procedures Position Loc Loc
     work_writes (Flag g) t = absurd (true≢false (sym t))
     work_writes (Temp n) t = absurd (true≢false (sym t))
 
-    writes_kept : (A : Place) (a : Loc) → r.same entry A a → is_kept_place a ≡ true → writes_at A ≡ is_written form_stmts a
+    writes_kept : (A : Holder) (a : Loc) → r.same entry A a → is_kept_place a ≡ true → writes_at A ≡ is_written form_stmts a
     writes_kept A a s t =
         f.writes_place A a s t ∙ sym (both_written w F G (working ++ keeping) a (lasting a t) ∙ written_append working keeping a (work_writes a t) ∙ keeping_written a)
 
-    writes : (A : Place) (a : Loc) → r.same entry A a → writes_at A ≡ is_written form_stmts a
+    writes : (A : Holder) (a : Loc) → r.same entry A a → writes_at A ≡ is_written form_stmts a
     writes A a s = elim (kind A a s) [
       | Kind.is_flag_of g e k ↦
           ap writes_at e ∙ f.writes_flag g

@@ -9,13 +9,12 @@ use Rattle.dcc_num.specs.declared.Width.TheVariants.{Byte as byte_width, Word as
 use Rattle.dcc_num.specs.declared.Reg.{Reg}
 use Rattle.dcc_num.specs.declared.Half.{Half as HalfName}
 use Rattle.dcc_num.specs.declared.Half.TheVariants.{Low, High}
-use Rattle.dcc_prog.specs.declared.instr.Ea.{Ea}
-use Rattle.dcc_prog.specs.declared.instr.Operand.TheVariants.{Mem}
-use Rattle.dcc_prog.specs.Machine.{is_bp}
-use Rattle.dcc_prog.specs.Access.{is_direct}
+use Rattle.dcc_machine.specs.declared.instr.Ea.{Ea}
+use Rattle.dcc_machine.specs.declared.instr.Operand.TheVariants.{Mem}
+use Rattle.dcc_machine.specs.Machine.{is_bp, is_general}
+use Rattle.dcc_machine.specs.Access.{is_direct}
 use Rattle.dcc_prog.specs.Frame.{offset_in_frame}
-use Rattle.dcc_prog.specs.Trail.{is_general}
-use Rattle.dcc_prog.specs.Wanted.{Location, half_of, flag_of, is_half_of_some, is_read}
+use Rattle.dcc_machine.specs.Wanted.{Location, half_of, flag_of, is_half_of_some, is_read}
 use Rattle.dcc_stack.specs.Slots.{is_placed as is_placed_byte}
 use Rattle.dcc_ir.specs.declared.syntax.Loc.{Loc}
 use Rattle.dcc_ir.specs.declared.syntax.Loc.TheVariants.{Cell}
@@ -23,13 +22,13 @@ use Rattle.dcc_ir.specs.Tree.{Address}
 use Rattle.dcc_ir.specs.Live.{is_among}
 use Rattle.dcc_ir.proofs.LocationLaws.{Contains-here, Contains-later, Contains-none, Contains-cases, among_contains, contains_among}
 use Rattle.dcc_ir.proofs.PathLaws.{decided}
-use Rattle.dcc_ops.specs.Place.{Place as InnerPlace, byte, word, memory}
+use Rattle.dcc_ops.specs.OperandPlace.{OperandPlace, byte, word, memory}
 use Rattle.dcc_lift.proofs.ListTests.{and_left, and_right, and_both, and_false, or_here, or_there, or_cases, or_none, same_test}
 use Rattle.dcc_simulation.specs.Procedures.{Procedure, frame_place, cell_place, cells_of, distance_of}
 use Rattle.dcc_machine_demand.specs.Bodies.{Body}
-use Rattle.dcc_machine_demand.specs.Places.{Place, placed, in_memory, held, in_frame, passes, is_at, is_placed}
-use Rattle.dcc_machine_demand.specs.Places.{is_place, is_in_cell, is_exposed_place, frame_spot, for_bytes}
-use Rattle.dcc_machine_demand.specs.Places.{spots_of_memory}
+use Rattle.dcc_machine_demand.specs.Holders.{Holder, placed, in_memory, held, in_frame, passes, is_at, is_placed}
+use Rattle.dcc_machine_demand.specs.Holders.{is_holder, is_in_cell, is_exposed_holder, frame_spot, for_bytes}
+use Rattle.dcc_machine_demand.specs.Holders.{spots_of_memory}
 use Rattle.dcc_lifted_demand.specs.LiftedRefinement.{inner_of, IsSame}
 use Rattle.dcc_lifted_demand.proofs.SameLaws.{SameCases, same_cases, exposed_unkept}
 use Rattle.dcc_instruction_demand.proofs.IdleLaws.{same_once}
@@ -55,7 +54,7 @@ module _ (o : Option Procedure) (q : Procedure) (found : o ≡ Some q) (heights 
 
   -- the byte is in memory, and may be read anywhere where it belongs to a cell
   abbrev pub IsOpen : ℤ → Type 0
-  IsOpen k = (is_placed_byte q.frame k ≡ true) × (has_byte k ≡ true → is_exposed_place frame_body (in_frame k) ≡ true)
+  IsOpen k = (is_placed_byte q.frame k ≡ true) × (has_byte k ≡ true → is_exposed_holder frame_body (in_frame k) ≡ true)
 
   -- what is open stands in no location
   pub open_nowhere : (j : ℤ) (l : Loc) → IsOpen j → IsSame o (in_frame j) l → ⊥
@@ -80,13 +79,13 @@ module _ (o : Option Procedure) (q : Procedure) (found : o ≡ Some q) (heights 
         → has_byte k ≡ true → has_byte (k +ℤ pos 1) ≡ true → AccessAt w k
     open_access : frame_place q w k ≡ memory w (Address (distance_of k)) → IsOpen k → (w ≡ word_width → IsOpen (k +ℤ pos 1)) → AccessAt w k
 
-  module _ (exposed : Place → Bool) (exposed_is : (k : ℤ) → exposed (in_frame k) ≡ is_exposed_place frame_body (in_frame k))
-      (one : (L M : Place) (l : Loc) → IsSame o L l → IsSame o M l → L ≡ M) (ea : Ea) (framed : q.frame.framed ≡ true) (direct : is_direct ea ≡ true) where
+  module _ (exposed : Holder → Bool) (exposed_is : (k : ℤ) → exposed (in_frame k) ≡ is_exposed_holder frame_body (in_frame k))
+      (one : (L M : Holder) (l : Loc) → IsSame o L l → IsSame o M l → L ≡ M) (ea : Ea) (framed : q.frame.framed ≡ true) (direct : is_direct ea ≡ true) where
     abbrev k : ℤ
     k = offset_in_frame ea
 
-    abbrev Reads : Width → Place → Type 0
-    Reads w L = (is_place frame_body L ≡ true) × (reads_by frame_body (Mem w ea) L ≡ true)
+    abbrev Reads : Width → Holder → Type 0
+    Reads w L = (is_holder frame_body L ≡ true) × (reads_by frame_body (Mem w ea) L ≡ true)
 
     -- What is read.
 
@@ -162,7 +161,7 @@ module _ (o : Option Procedure) (q : Procedure) (found : o ≡ Some q) (heights 
     -- In cells.
 
     -- where what is read is where it is stored
-    module _ (w : Width) (Q : InnerPlace) (reads : Shows (IsSame o) (Reads w) (reads_at Q)) (kept : list_all is_kept_place (reads_at Q) ≡ true) (has : has_kept Q ≡ true) (unstored : is_stored Q ≡ false)
+    module _ (w : Width) (Q : OperandPlace) (reads : Shows (IsSame o) (Reads w) (reads_at Q)) (kept : list_all is_kept_place (reads_at Q) ≡ true) (has : has_kept Q ≡ true) (unstored : is_stored Q ≡ false)
         (grow : (l : Loc) → Contains (reads_at Q) l → Contains (outs Q) l) (shrink : (l : Loc) → Contains (outs Q) l → Contains (reads_at Q) l)
         (cells : in_cells frame_body (Mem w ea) ≡ true) (stands : (j : ℤ) → frame_read frame_body (Mem w ea) j ≡ true → (l : Loc) × IsSame o (in_frame j) l) where
       half_apart : (r : Reg) (h : HalfName) (l : Loc) → IsSame o (held (half_of r h)) l → is_among (outs Q) l ≡ false
@@ -174,7 +173,7 @@ module _ (o : Option Procedure) (q : Procedure) (found : o ≡ Some q) (heights 
             absurd (held_unread w (half_of r h) (subst (λ L. Reads w L) same found.2))
       ]
 
-      stores : (A : Place) (l : Loc) → IsSame o A l → is_kept_place l ≡ true → writes_by frame_body (Mem w ea) A ≡ is_among (outs Q) l
+      stores : (A : Holder) (l : Loc) → IsSame o A l → is_kept_place l ≡ true → writes_by frame_body (Mem w ea) A ≡ is_among (outs Q) l
       stores (held (half_of r h)) l s t = and_false (is_general r) ∙ sym (half_apart r h l s)
       stores (held (flag_of f)) l s t = absurd (no_flag (same_cases o s))
         where
@@ -213,7 +212,7 @@ module _ (o : Option Procedure) (q : Procedure) (found : o ≡ Some q) (heights 
         reached = λ j t. inr (stands j t);
       }
 
-    once : (L : Place) (l m : Loc) → IsSame o L l → IsSame o L m → l ≡ m
+    once : (L : Holder) (l m : Loc) → IsSame o L l → IsSame o L m → l ≡ m
     once L l m s t = same_once s t
 
     one_byte_at : (n : ℕ) (h : HalfName) → frame_place q byte_width k ≡ byte (Cell n h) → has_byte k ≡ true → IsOperandAt o frame_body exposed (Mem byte_width ea) (byte (Cell n h))
@@ -228,10 +227,10 @@ module _ (o : Option Procedure) (q : Procedure) (found : o ≡ Some q) (heights 
         at_first j (IsByte.is_first h e) = e
         at_first j (IsByte.is_second v h e) = absurd (cc v)
 
-        to : (L : Place) (l : Loc) → IsSame o L l → L ≡ in_frame k → Reads byte_width L
+        to : (L : Holder) (l : Loc) → IsSame o L l → L ≡ in_frame k → Reads byte_width L
         to L l s e = subst (λ M. Reads byte_width M) (sym e) (inside, first_read byte_width inside)
 
-        from : (L : Place) (l : Loc) → IsSame o L l → Reads byte_width L → L ≡ in_frame k
+        from : (L : Holder) (l : Loc) → IsSame o L l → Reads byte_width L → L ≡ in_frame k
         from (held location) l s t = absurd (held_unread byte_width location t)
         from (in_frame j) l s t = ap in_frame (at_first j (which byte_width j t.1))
 
@@ -253,7 +252,7 @@ module _ (o : Option Procedure) (q : Procedure) (found : o ≡ Some q) (heights 
         there_next : IsSame o (in_frame (k +ℤ pos 1)) (Cell n High)
         there_next = IsSame.is_kept found high
 
-        to : (L : Place) (l : Loc) → IsSame o L l → (L ≡ in_frame (k +ℤ pos 1)) ⊎ (L ≡ in_frame k) → Reads word_width L
+        to : (L : Holder) (l : Loc) → IsSame o L l → (L ≡ in_frame (k +ℤ pos 1)) ⊎ (L ≡ in_frame k) → Reads word_width L
         to L l s (inl e) = subst (λ M. Reads word_width M) (sym e) (inside_next, second_read inside_next)
         to L l s (inr e) = subst (λ M. Reads word_width M) (sym e) (inside, first_read word_width inside)
 
@@ -261,7 +260,7 @@ module _ (o : Option Procedure) (q : Procedure) (found : o ≡ Some q) (heights 
         of_byte j (IsByte.is_first h e) = inr (ap in_frame e)
         of_byte j (IsByte.is_second v h e) = inl (ap in_frame e)
 
-        from : (L : Place) (l : Loc) → IsSame o L l → Reads word_width L → (L ≡ in_frame (k +ℤ pos 1)) ⊎ (L ≡ in_frame k)
+        from : (L : Holder) (l : Loc) → IsSame o L l → Reads word_width L → (L ≡ in_frame (k +ℤ pos 1)) ⊎ (L ≡ in_frame k)
         from (held location) l s t = absurd (held_unread word_width location t)
         from (in_frame j) l s t = of_byte j (which word_width j t.1)
 
@@ -279,14 +278,14 @@ module _ (o : Option Procedure) (q : Procedure) (found : o ≡ Some q) (heights 
       open_byte j (IsByte.is_first h e) = subst IsOpen (sym e) opens
       open_byte j (IsByte.is_second v h e) = subst IsOpen (sym e) (opens_next v)
 
-      unread_open : (L : Place) (l : Loc) → IsSame o L l → Reads w L → ⊥
+      unread_open : (L : Holder) (l : Loc) → IsSame o L l → Reads w L → ⊥
       unread_open (held location) l s t = held_unread w location t
       unread_open (in_frame j) l s t = open_nowhere j l (open_byte j (which w j t.1)) s
 
       exposed_open : (j : ℤ) → frame_read frame_body (Mem w ea) j ≡ true → exposed (in_frame j) ≡ true
       exposed_open j t = exposed_is j ∙ (open_byte j (which w j t)).1 (in_place w j t)
 
-      stores_open : (A : Place) (l : Loc) → IsSame o A l → is_kept_place l ≡ true → writes_by frame_body (Mem w ea) A ≡ false
+      stores_open : (A : Holder) (l : Loc) → IsSame o A l → is_kept_place l ≡ true → writes_by frame_body (Mem w ea) A ≡ false
       stores_open (held (half_of r h)) l s t = and_false (is_general r)
       stores_open (held (flag_of f)) l s t = refl
       stores_open (in_frame j) l s t = elim (decided (frame_read frame_body (Mem w ea) j)) [

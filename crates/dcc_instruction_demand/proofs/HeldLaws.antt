@@ -5,18 +5,18 @@ use Rattle.std.specs.List.{list_all}
 use Rattle.dcc_num.specs.declared.Width.{Width}
 use Rattle.dcc_num.specs.declared.Half.{Half as HalfName}
 use Rattle.dcc_num.specs.declared.FlagName.TheVariants.{Cf}
-use Rattle.dcc_prog.specs.Trail.{is_general}
-use Rattle.dcc_prog.specs.Wanted.{Location, half_of, flag_of, surely_writes_half}
+use Rattle.dcc_machine.specs.Machine.{is_general}
+use Rattle.dcc_machine.specs.Wanted.{Location, half_of, flag_of, surely_writes_half}
 use Rattle.dcc_ir.specs.declared.syntax.Loc.{Loc}
 use Rattle.dcc_ir.specs.declared.syntax.Loc.TheVariants.{Half, Flag, Cell}
 use Rattle.dcc_ir.specs.Tree.{Stmt}
-use Rattle.dcc_ops.specs.Place.{Place as InnerPlace, taking}
+use Rattle.dcc_ops.specs.OperandPlace.{OperandPlace, taking}
 use Rattle.dcc_ops.specs.Temporaries.{left_place, right_place}
 use Rattle.dcc_lift.proofs.ListTests.{and_left, and_right, and_both, not_true}
 use Rattle.dcc_simulation.specs.Procedures.{Procedure}
 use Rattle.dcc_demand.specs.Procedures.{Procedures}
 use Rattle.dcc_machine_demand.specs.Bodies.{Body, Point, op_of}
-use Rattle.dcc_machine_demand.specs.Places.{Place, held, in_frame, passes, passed, is_place}
+use Rattle.dcc_machine_demand.specs.Holders.{Holder, held, in_frame, passes, passed, is_holder}
 use Rattle.dcc_machine_demand.specs.Values.{value_written, is_sure, value_made_of, value_uses}
 use Rattle.dcc_sums.specs.Points.{Position}
 use Rattle.dcc_refinement.specs.Refinement.{Refinement, Carries, Takes}
@@ -54,16 +54,16 @@ module _ (w : Width) (working : List Stmt) (writes : Location → Bool) (made : 
     pub cell_is : (n : ℕ) (h : HalfName) → sources working (Cell n h) ≡ Cell n h ∷ []
     pub cell_left : (n : ℕ) (h : HalfName) → is_written working (Cell n h) ≡ false
 
-module _ (coarse : Procedures ℕ Place ℤ) (fine : Procedures Position Loc Loc) (r : Refinement ℕ Place ℤ Position Loc Loc) (entry at pushed : ℕ)
+module _ (coarse : Procedures ℕ Holder ℤ) (fine : Procedures Position Loc Loc) (r : Refinement ℕ Holder ℤ Position Loc Loc) (entry at pushed : ℕ)
     (o : Option Procedure) (bodies : List Body) (body : Body) (point : Point) (v : IsValueOperation coarse fine r entry at o bodies body point)
-    (w : Width) (F G : InnerPlace) (first_reads second_reads : Place → Bool) (working : List Stmt) (writes : Location → Bool) (made : Location → List Input) (used_inputs : List Input) where
+    (w : Width) (F G : OperandPlace) (first_reads second_reads : Holder → Bool) (working : List Stmt) (writes : Location → Bool) (made : Location → List Input) (used_inputs : List Input) where
   abbrev pub held_stmts : List Stmt
   held_stmts = taking (left_place w) F ∷ taking (right_place w) G ∷ working
 
-  abbrev writes_at : Place → Bool
+  abbrev writes_at : Holder → Bool
   writes_at A = value_written body (op_of point) point.node.number A
 
-  abbrev made_so : List Input → Place → Bool
+  abbrev made_so : List Input → Holder → Bool
   made_so inputs L = made_by first_reads second_reads inputs L
 
   abbrev inputs_of : Location → List Input
@@ -73,13 +73,13 @@ module _ (coarse : Procedures ℕ Place ℤ) (fine : Procedures Position Loc Loc
   pub record IsHeldForm : Type 0 where
     pub work : IsHeldWork w working writes made used_inputs
     pub second_kept : list_all is_lasting (reads_at G) ≡ true
-    pub firsts : Shows (r.same entry) (λ L. (is_place body L ≡ true) × (first_reads L ≡ true)) (reads_at F)
-    pub seconds : Shows (r.same entry) (λ L. (is_place body L ≡ true) × (second_reads L ≡ true)) (reads_at G)
+    pub firsts : Shows (r.same entry) (λ L. (is_holder body L ≡ true) × (first_reads L ≡ true)) (reads_at F)
+    pub seconds : Shows (r.same entry) (λ L. (is_holder body L ≡ true) × (second_reads L ≡ true)) (reads_at G)
     pub writes_held : (l : Location) → passes (held l) ≡ true → writes_at (held l) ≡ writes l
     pub writes_frame : (k : ℤ) → writes_at (in_frame k) ≡ false
-    pub makes : (l : Location) → writes l ≡ true → (L : Place) → value_made_of body (op_of point) (held l) L ≡ made_so (made l) L
+    pub makes : (l : Location) → writes l ≡ true → (L : Holder) → value_made_of body (op_of point) (held l) L ≡ made_so (made l) L
     pub sure : (l : Location) → writes l ≡ true → is_sure (op_of point) (held l) ≡ true
-    pub uses : (L : Place) → value_uses body (op_of point) point.node.number L ≡ made_so used_inputs L
+    pub uses : (L : Holder) → value_uses body (op_of point) point.node.number L ≡ made_so used_inputs L
 
   module _ (f : IsHeldForm) where
     abbrev bb : Loc → List Loc
@@ -88,12 +88,12 @@ module _ (coarse : Procedures ℕ Place ℤ) (fine : Procedures Position Loc Loc
     abbrev stmts : List Stmt
     stmts = taking (left_place w) F ∷ taking (right_place w) G ∷ working
 
-    abbrev Taking : Place → Type 0
+    abbrev Taking : Holder → Type 0
     Taking = Takes coarse fine r entry at
 
     -- What is used.
 
-    takes : (L : Place) → Taking L → (is_place body L ≡ true) × (made_so used_inputs L ≡ true)
+    takes : (L : Holder) → Taking L → (is_holder body L ≡ true) × (made_so used_inputs L ≡ true)
     takes L (inl u) = let both = uses_if coarse fine r entry at o bodies body point v L u in (both.0, sym (f.uses L) ∙ both.1)
     takes L (inr (held l, b, e, c, n, m)) = absurd (true≢false (sym e ∙ v.exposed (held l)))
     takes L (inr (in_frame k, b, e, c, n, m)) = absurd (true≢false (sym (writes_if coarse fine r entry at o bodies body point v (in_frame k) n) ∙ f.writes_frame k))
@@ -109,7 +109,7 @@ module _ (coarse : Procedures ℕ Place ℤ) (fine : Procedures Position Loc Loc
 
     using : Shows (r.same entry) Taking (used stmts [])
     using =
-        shows_alike (r.same entry) (MadeOfAny first_reads second_reads (is_place body) (held (flag_of Cf)) used_inputs) Taking (flat_map bb (map (input_location w (Flag Cf)) used_inputs)) (used stmts [])
+        shows_alike (r.same entry) (MadeOfAny first_reads second_reads (is_holder body) (held (flag_of Cf)) used_inputs) Taking (flat_map bb (map (input_location w (Flag Cf)) used_inputs)) (used stmts [])
         (inputs_shown coarse fine r entry at o bodies body point v w F G first_reads second_reads f.second_kept f.firsts f.seconds (held (flag_of Cf)) (Flag Cf) carry_there refl used_inputs)
         (λ L l s m. elim (is_made first_reads second_reads body (held (flag_of Cf)) used_inputs L m) [
           | inl t ↦ if_uses coarse fine r entry at o bodies body point v L t.0 (f.uses L ∙ t.1)
@@ -120,28 +120,28 @@ module _ (coarse : Procedures ℕ Place ℤ) (fine : Procedures Position Loc Loc
 
     -- What is made.
 
-    abbrev Making : Place → Place → Type 0
+    abbrev Making : Holder → Holder → Type 0
     Making A L = Carries coarse fine r entry at L A ⊎ Taking L
 
-    abbrev CarriesTo : Place → Place → Type 0
+    abbrev CarriesTo : Holder → Holder → Type 0
     CarriesTo L A = CarriesOn coarse fine r entry at o bodies body point v L A
 
-    abbrev MadeAt : Place → List Input → Place → Type 0
-    MadeAt A inputs L = IsMade first_reads second_reads (is_place body) A inputs L
+    abbrev MadeAt : Holder → List Input → Holder → Type 0
+    MadeAt A inputs L = IsMade first_reads second_reads (is_holder body) A inputs L
 
-    made_where : (A : Place) (a : Loc) (inputs : List Input) → r.same entry A a → is_lasting a ≡ true → HaveSame (sources working a) (map (input_location w a) inputs)
-        → ((L : Place) → CarriesTo L A → MadeAt A inputs L) → ((L : Place) → MadeAt A inputs L → CarriesTo L A) → Shows (r.same entry) (Making A) (sources stmts a ++ used stmts [])
+    made_where : (A : Holder) (a : Loc) (inputs : List Input) → r.same entry A a → is_lasting a ≡ true → HaveSame (sources working a) (map (input_location w a) inputs)
+        → ((L : Holder) → CarriesTo L A → MadeAt A inputs L) → ((L : Holder) → MadeAt A inputs L → CarriesTo L A) → Shows (r.same entry) (Making A) (sources stmts a ++ used stmts [])
     made_where A a inputs s t same to from =
         making_of coarse fine r entry at o bodies body point v w F G first_reads second_reads f.second_kept f.firsts f.seconds stmts using A a inputs s t
         (have_then (sources stmts a) (flat_map bb (sources working a)) (flat_map bb (map (input_location w a) inputs))
         (have_equal (sources stmts a) (flat_map bb (sources working a)) (sources_taken w F G working a)) (have_mapped bb (sources working a) (map (input_location w a) inputs) same)) to from
 
     -- what is left
-    stays_made : (A : Place) → writes_at A ≡ false → (L : Place) → CarriesTo L A → MadeAt A (itself ∷ []) L
+    stays_made : (A : Holder) → writes_at A ≡ false → (L : Holder) → CarriesTo L A → MadeAt A (itself ∷ []) L
     stays_made A e L (CarriesOn.made n p m) = absurd (true≢false (sym n ∙ e))
     stays_made A e L (CarriesOn.stays same n) = inr (refl, same)
 
-    stays_carried : (A : Place) → writes_at A ≡ false → (L : Place) → MadeAt A (itself ∷ []) L → CarriesTo L A
+    stays_carried : (A : Holder) → writes_at A ≡ false → (L : Holder) → MadeAt A (itself ∷ []) L → CarriesTo L A
     stays_carried A e L (inl m) = absurd (true≢false (sym m.1))
     stays_carried A e L (inr i) = CarriesOn.stays i.1 (ap (λ b. b && is_sure (op_of point) A) e)
 
@@ -161,12 +161,12 @@ module _ (coarse : Procedures ℕ Place ℤ) (fine : Procedures Position Loc Loc
       new : has_itself (made l) ≡ false
       new = not_true (has_itself (made l)) (and_right same_writes (not (has_itself (made l))) later)
 
-      held_made : (b : Bool) → writes l ≡ b → (L : Place) → CarriesTo L (held l) → MadeAt (held l) (if b then made l else itself ∷ []) L
+      held_made : (b : Bool) → writes l ≡ b → (L : Holder) → CarriesTo L (held l) → MadeAt (held l) (if b then made l else itself ∷ []) L
       held_made true e L (CarriesOn.made n q m) = inl (q, sym (f.makes l e L) ∙ m)
       held_made true e L (CarriesOn.stays same n) = absurd (true≢false (sym (and_both (writes_at (held l)) (is_sure (op_of point) (held l)) (f.writes_held l p ∙ e) (f.sure l e)) ∙ n))
       held_made false e L c = stays_made (held l) (f.writes_held l p ∙ e) L c
 
-      held_carried : (b : Bool) → writes l ≡ b → (L : Place) → MadeAt (held l) (if b then made l else itself ∷ []) L → CarriesTo L (held l)
+      held_carried : (b : Bool) → writes l ≡ b → (L : Holder) → MadeAt (held l) (if b then made l else itself ∷ []) L → CarriesTo L (held l)
       held_carried true e L (inl m) = CarriesOn.made (f.writes_held l p ∙ e) m.0 (f.makes l e L ∙ m.1)
       held_carried true e L (inr i) = absurd (true≢false (sym i.0 ∙ new))
       held_carried false e L m = stays_carried (held l) (f.writes_held l p ∙ e) L m
@@ -193,7 +193,7 @@ module _ (coarse : Procedures ℕ Place ℤ) (fine : Procedures Position Loc Loc
 
     -- Together.
 
-    making : (A : Place) (a : Loc) → r.same entry A a → Shows (r.same entry) (Making A) (sources stmts a ++ used stmts [])
+    making : (A : Holder) (a : Loc) → r.same entry A a → Shows (r.same entry) (Making A) (sources stmts a ++ used stmts [])
     making A a s = by (same_cases o (v.same A a s))
       where
         by : SameCases o A a → Shows (r.same entry) (Making A) (sources stmts a ++ used stmts [])
@@ -209,14 +209,14 @@ module _ (coarse : Procedures ℕ Place ℤ) (fine : Procedures Position Loc Loc
     cell_written : (k : ℤ) (n : ℕ) (h : HalfName) → writes_at (in_frame k) ≡ is_written stmts (Cell n h)
     cell_written k n h = f.writes_frame k ∙ sym (both_written w F G working (Cell n h) refl ∙ f.work.cell_left n h)
 
-    written : (A : Place) (a : Loc) → r.same entry A a → writes_at A ≡ is_written stmts a
+    written : (A : Holder) (a : Loc) → r.same entry A a → writes_at A ≡ is_written stmts a
     written A a s = by (same_cases o (v.same A a s))
       where
         by : SameCases o A a → writes_at A ≡ is_written stmts a
         by (SameCases.by_held l p e g) = ap writes_at e ∙ held_written l p ∙ sym (ap (is_written stmts) g)
         by (SameCases.by_kept found k p e kept g) = ap writes_at e ∙ cell_written k kept.number kept.half ∙ sym (ap (is_written stmts) kept.is)
 
-    made_there : (A : Place) → writes_at A ≡ true → ((coarse.procedure entry).is_exposed A ≡ true) ⊎ ((l : Loc) × r.same entry A l)
+    made_there : (A : Holder) → writes_at A ≡ true → ((coarse.procedure entry).is_exposed A ≡ true) ⊎ ((l : Loc) × r.same entry A l)
     made_there (held (half_of q h)) n =
         inr (Half q h, v.as_same (held (half_of q h)) (Half q h) (IsSame.is_held (and_left (is_general q) (surely_writes_half (op_of point) point.node.number q h) n)))
     made_there (held (flag_of g)) n = inr (Flag g, v.as_same (held (flag_of g)) (Flag g) (IsSame.is_held refl))

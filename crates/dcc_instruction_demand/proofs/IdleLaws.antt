@@ -3,11 +3,11 @@ use Rattle.std.proofs.Common.{◌≡◌, ℕ, ℤ, false, inl, inr, [], ◌∷�
 use Rattle.std.specs.Prelude.{Contains, Option}
 use Rattle.dcc_ir.specs.declared.syntax.Loc.{Loc}
 use Rattle.dcc_ir.proofs.LocationLaws.{Contains-here, Contains-none}
-use Rattle.dcc_ops.specs.Place.{byte}
+use Rattle.dcc_ops.specs.OperandPlace.{byte}
 use Rattle.dcc_num.specs.declared.Width.TheVariants.{Byte as byte_width}
 use Rattle.dcc_simulation.specs.Procedures.{Procedure, frame_place}
 use Rattle.dcc_demand.specs.Procedures.{Action, Leaves, LeavesWord, Procedures, is_left}
-use Rattle.dcc_machine_demand.specs.Places.{Place}
+use Rattle.dcc_machine_demand.specs.Holders.{Holder}
 use Rattle.dcc_machine_demand.specs.Instance as asks
 use Rattle.dcc_sums.specs.Points.{Position}
 use Rattle.dcc_lifted_demand.proofs.ListLaws.{only}
@@ -16,10 +16,10 @@ use Rattle.dcc_lifted_demand.specs.LiftedRefinement.{inner_of, IsSame}
 use Rattle.dcc_instruction_demand.specs.Agreement.{Agrees}
 
 -- a place is one location
-pub same_once : {p : Option Procedure} {L : Place} {l m : Loc} → IsSame p L l → IsSame p L m → l ≡ m
+pub same_once : {p : Option Procedure} {L : Holder} {l m : Loc} → IsSame p L l → IsSame p L m → l ≡ m
 same_once s t = by s t refl
   where
-    by : {p : Option Procedure} {L M : Place} {l m : Loc} → IsSame p L l → IsSame p M m → L ≡ M → l ≡ m
+    by : {p : Option Procedure} {L M : Holder} {l m : Loc} → IsSame p L l → IsSame p M m → L ≡ M → l ≡ m
     by (IsSame.is_held {location = a} e) (IsSame.is_held {location = b} f) same =
         let one : a ≡ b = cc same in ap inner_of one
     by (IsSame.is_held e) (IsSame.is_kept f g) same = absurd (cc same)
@@ -31,36 +31,36 @@ same_once s t = by s t refl
         cc places
 
 -- nothing is done
-pub record IsIdle (x : Action Place ℤ) : Type 0 where
-  pub leaves : (L : Place) → x.effect L ≡ Leaves
+pub record IsIdle (x : Action Holder ℤ) : Type 0 where
+  pub leaves : (L : Holder) → x.effect L ≡ Leaves
   pub leaves_word : (k : ℤ) → x.word_effect k ≡ LeavesWord
-  pub unused : (L : Place) → x.uses L ≡ false
-  pub unsure : (L : Place) → x.surely L ≡ false
+  pub unused : (L : Holder) → x.uses L ≡ false
+  pub unsure : (L : Holder) → x.surely L ≡ false
   pub quiet : x.callee ≡ None
 
-pub idle_is : (x : Action Place ℤ) → x ≡ asks.idle → IsIdle x
+pub idle_is : (x : Action Holder ℤ) → x ≡ asks.idle → IsIdle x
 idle_is x is = record {
-  leaves = λ L. ap (λ (y : Action Place ℤ). y.effect L) is;
-  leaves_word = λ k. ap (λ (y : Action Place ℤ). y.word_effect k) is;
-  unused = λ L. ap (λ (y : Action Place ℤ). y.uses L) is;
-  unsure = λ L. ap (λ (y : Action Place ℤ). y.surely L) is;
-  quiet = ap (λ (y : Action Place ℤ). y.callee) is;
+  leaves = λ L. ap (λ (y : Action Holder ℤ). y.effect L) is;
+  leaves_word = λ k. ap (λ (y : Action Holder ℤ). y.word_effect k) is;
+  unused = λ L. ap (λ (y : Action Holder ℤ). y.uses L) is;
+  unsure = λ L. ap (λ (y : Action Holder ℤ). y.surely L) is;
+  quiet = ap (λ (y : Action Holder ℤ). y.callee) is;
 }
 
-module _ (coarse : Procedures ℕ Place ℤ) (fine : Procedures Position Loc Loc) (r : Refinement ℕ Place ℤ Position Loc Loc) (entry at pushed : ℕ)
-    (once : (L : Place) (l m : Loc) → r.same entry L l → r.same entry L m → l ≡ m)
+module _ (coarse : Procedures ℕ Holder ℤ) (fine : Procedures Position Loc Loc) (r : Refinement ℕ Holder ℤ Position Loc Loc) (entry at pushed : ℕ)
+    (once : (L : Holder) (l m : Loc) → r.same entry L l → r.same entry L m → l ≡ m)
     (idle : IsIdle ((coarse.procedure entry).action at)) where
-  abbrev x : Action Place ℤ
+  abbrev x : Action Holder ℤ
   x = (coarse.procedure entry).action at
 
-  unwritten : (L : Place) → is_left (x.effect L) ≡ false → ⊥
+  unwritten : (L : Holder) → is_left (x.effect L) ≡ false → ⊥
   unwritten L e = true≢false (sym (ap is_left (idle.leaves L)) ∙ e)
 
-  no_takes : (L : Place) → Takes coarse fine r entry at L → ⊥
+  no_takes : (L : Holder) → Takes coarse fine r entry at L → ⊥
   no_takes L (inl u) = true≢false (sym u ∙ idle.unused L)
   no_takes L (inr (to, b, e, c, w, m)) = unwritten to w
 
-  carries_itself : (L A : Place) → Carries coarse fine r entry at L A → L ≡ A
+  carries_itself : (L A : Holder) → Carries coarse fine r entry at L A → L ≡ A
   carries_itself L A (inl made) = absurd (unwritten A made.0)
   carries_itself L A (inr kept) = kept.0
 

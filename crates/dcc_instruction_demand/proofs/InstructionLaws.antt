@@ -1,32 +1,33 @@
 -- Instructions that do what their statements do together.
 use Rattle.std.proofs.Common.{◌≡◌, ℕ, ℤ, Bool, true, false, ◌&&◌, inl, inr, if◌then◌else◌, List, [], ◌∷◌, Option, Some, None, refl, sym, ap, ◌∙◌, subst, true≢false}
 use Rattle.std.specs.Prelude.{Contains}
-use Rattle.dcc_prog.specs.declared.image.Image.{Image}
+use Rattle.dcc_machine.specs.declared.image.Image.{Image}
 use Rattle.dcc_prog.specs.declared.frame.Program.{Program as Analysed}
 use Rattle.dcc_prog.specs.declared.procedure.Node.{Node}
-use Rattle.dcc_prog.specs.declared.instr.Op.{Op}
-use Rattle.dcc_prog.specs.declared.instr.Op.TheVariants.{Alu as AluOp, Unary as UnaryOp, Shift as ShiftOp, Mov, Lea, Imul3, Xchg, Push, Pop, Call, Int21}
-use Rattle.dcc_prog.specs.declared.instr.Alu.{Alu}
-use Rattle.dcc_prog.specs.declared.instr.Shift.{Shift}
-use Rattle.dcc_prog.specs.declared.instr.Count.{Count}
-use Rattle.dcc_prog.specs.declared.instr.Unary.{Unary}
-use Rattle.dcc_prog.specs.declared.instr.Unary.TheVariants.{Inc, Dec, Neg, Not, Mul, Imul, Div as DivOf, Idiv}
-use Rattle.dcc_prog.specs.declared.instr.Operand.{Operand}
-use Rattle.dcc_prog.specs.declared.instr.Operand.TheVariants.{Word, Byte, Seg, Mem, Const}
+use Rattle.dcc_machine.specs.declared.instr.Op.{Op}
+use Rattle.dcc_machine.specs.declared.instr.Op.TheVariants.{Alu as AluOp, Unary as UnaryOp, Shift as ShiftOp, Mov, Lea, Imul3, Xchg, Push, Pop, Call, Int21}
+use Rattle.dcc_machine.specs.declared.instr.Alu.{Alu}
+use Rattle.dcc_machine.specs.declared.instr.Shift.{Shift}
+use Rattle.dcc_machine.specs.declared.instr.Count.{Count}
+use Rattle.dcc_machine.specs.declared.instr.Unary.{Unary}
+use Rattle.dcc_machine.specs.declared.instr.Unary.TheVariants.{Inc, Dec, Neg, Not, Mul, Imul, Div as DivOf, Idiv}
+use Rattle.dcc_machine.specs.declared.instr.Operand.{Operand}
+use Rattle.dcc_machine.specs.declared.instr.Operand.TheVariants.{Word, Byte, Seg, Mem, Const}
 use Rattle.dcc_num.specs.declared.Width.{Width}
-use Rattle.dcc_prog.specs.declared.instr.Ea.{Ea}
-use Rattle.dcc_prog.specs.Machine.{operand_width}
-use Rattle.dcc_prog.specs.FrameForm.{is_by_bp}
+use Rattle.dcc_machine.specs.declared.instr.Ea.{Ea}
+use Rattle.dcc_machine.specs.Machine.{operand_width, is_general}
+use Rattle.dcc_machine.specs.SpAndBp.{is_by_bp}
 use Rattle.dcc_stack.specs.Slots.{is_memory}
 use Rattle.dcc_simulation.proofs.TabledOperands.{HavePlaces, source-of}
-use Rattle.dcc_prog.specs.Trail.{op_successors, instr_successors, next_of, known_ah, targets_of}
-use Rattle.dcc_prog.specs.Wanted.{is_in_memory, is_zeroing}
+use Rattle.dcc_machine.specs.Successors.{op_successors, next_of}
+use Rattle.dcc_prog.specs.Trail.{instr_successors, known_ah, targets_of}
+use Rattle.dcc_machine.specs.Wanted.{is_in_memory, is_zeroing}
 use Rattle.dcc_ir.specs.declared.syntax.Loc.{Loc}
 use Rattle.dcc_ir.proofs.LocationLaws.{Contains-here}
 use Rattle.dcc_simulation.specs.Operands.{operand_place}
 use Rattle.dcc_lift.proofs.ListTests.{and_left, and_right, or_here, or_there}
 use Rattle.dcc_demand.specs.Procedures.{Procedures}
-use Rattle.dcc_machine_demand.specs.Places.{Place}
+use Rattle.dcc_machine_demand.specs.Holders.{Holder}
 use Rattle.dcc_sums.specs.Points.{Position}
 use Rattle.dcc_lifted_demand.proofs.EdgeLaws.{next_is}
 use Rattle.dcc_instruction_demand.proofs.NodeOperands.{first_named, second_named, have_places, operand_there}
@@ -38,8 +39,7 @@ use Rattle.dcc_instruction_demand.proofs.OperationLaws.{IsValueOperation}
 use Rattle.dcc_num.specs.declared.Width.TheVariants.{Word as word_width}
 use Rattle.dcc_num.specs.declared.Reg.{Reg}
 use Rattle.dcc_num.specs.declared.Reg.TheVariants.{Ax, Cx, Dx, Bx, Sp, Bp, Si, Di}
-use Rattle.dcc_prog.specs.Trail.{is_general}
-use Rattle.dcc_ops.specs.Place.{computed}
+use Rattle.dcc_ops.specs.OperandPlace.{computed}
 use Rattle.dcc_ops.specs.Computed.{computed_expr}
 use Rattle.dcc_ops.specs.Registers.{register_place}
 use Rattle.dcc_ops.specs.Statements.{alu_stmts, zeroing, mov_stmts}
@@ -54,7 +54,7 @@ use Rattle.dcc_instruction_demand.proofs.ProductLaws.{mul_agrees, imul_agrees, d
 use Rattle.dcc_ir.specs.Tree.{Program}
 use Rattle.dcc_simulation.specs.Procedures.{Procedure, pushed_of}
 use Rattle.dcc_simulation.specs.Statements.{node_stmts}
-use Rattle.dcc_lift.specs.Blocks.{node_in, successors_in, Scene, nodes_in, height_in}
+use Rattle.dcc_lift.specs.Blocks.{node_in, successors_in, BlockSource, nodes_in, height_in}
 use Rattle.dcc_lift.specs.Translated.{IsTranslated}
 use Rattle.dcc_machine_demand.specs.Bodies.{Body, bodies_of}
 use Rattle.dcc_machine_demand.specs.Values.{moves_or_calls}
@@ -65,8 +65,8 @@ use Rattle.dcc_instruction_demand.specs.Agreement.{ending, Agrees}
 use Rattle.dcc_instruction_demand.specs.Laws.{AgreesWithItsStatements, InstructionsAgreeWithTheirStatements}
 use Rattle.dcc_instruction_demand.proofs.ClosedLaws.{closed_agrees}
 use Rattle.dcc_instruction_demand.proofs.TableLaws.{is_table_told, closed_op, closed_lea, ClosedCall, closed_call}
-use Rattle.dcc_prog.specs.declared.instr.Instr.{Instr}
-use Rattle.dcc_prog.specs.declared.refusal.construct.TheConstants.{DOS_NUMBER}
+use Rattle.dcc_machine.specs.declared.instr.Instr.{Instr}
+use Rattle.dcc_prog.specs.declared.refusal.ConstructKind.TheVariants.{DosNumber}
 use Rattle.dcc_prog.specs.Construct.{is_dos_number, HasAh, HasNoNumber, dos_number}
 use Rattle.dcc_prog.specs.Found.{IsNodeFound}
 use Rattle.dcc_ir.proofs.PathLaws.{decided}
@@ -115,7 +115,7 @@ abbrev GoesOn : Op → Type 0
 GoesOn op = (next : ℕ) (ah : Option ℕ) (targets : List ℕ) → op_successors op next ah targets ≡ next ∷ []
 
 module _ (image : Image) (program : Analysed) (p : Program) (is : IsTranslated image program p) (entry : ℕ) (x : refined.Link image program p is entry) (at height : ℕ) (high : height_in x.own at ≡ Some height) where
-  abbrev scene : Scene
+  abbrev scene : BlockSource
   scene = refined.scene image program p is entry x
 
   abbrev Shown : Node → Type 0
@@ -127,7 +127,7 @@ module _ (image : Image) (program : Analysed) (p : Program) (is : IsTranslated i
   abbrev fine : Procedures Position Loc Loc
   fine = setting.fine image program p is entry x
 
-  abbrev coarse : Procedures ℕ Place ℤ
+  abbrev coarse : Procedures ℕ Holder ℤ
   coarse = setting.coarse image program p is entry x
 
   abbrev found_procedure : Option Procedure
@@ -243,7 +243,7 @@ module _ (image : Image) (program : Analysed) (p : Program) (is : IsTranslated i
       ah = record { before = there.node.before; trail = there.node.trail; stands = (node_instr node, there.instr, refl); ah_is = there.number refl there.node.before there.node.trail }
 
       no_number : ¬ HasNoNumber image program.layout x.proc.entry at
-      no_number none = is.of_file.is_program.procs.no_construct DOS_NUMBER at (record { entry = x.proc.entry; is_entry = x.reached; node = there.node; stands = dos_number none })
+      no_number none = is.of_file.is_program.procs.no_construct DosNumber at (record { entry = x.proc.entry; is_entry = x.reached; node = there.node; stands = dos_number none })
 
       by : (number : Option ℕ) → node.number ≡ number → (n : ℕ) × (node.number ≡ Some n) × (is_dos_number n ≡ true)
       by None e = absurd (no_number (HasNoNumber.not_known (subst (HasAh image program.layout x.proc.entry at) e ah)))
@@ -326,7 +326,7 @@ instructions-agree_with_their_statements image program p is entry at scene node 
   | Standing.linked x ↦
       let same : refined.scene image program p is entry x ≡ scene = cc (x.scene_found, there.scene_is) in
       subst (λ s. AgreesWithItsStatements image program p entry at s node height) same
-      (by_operation image program p is entry x at height (subst (λ (s : Scene). height_in s.heights at ≡ Some height) (sym same) there.height_is) node.instr.op node
+      (by_operation image program p is entry x at height (subst (λ (s : BlockSource). height_in s.heights at ≡ Some height) (sym same) there.height_is) node.instr.op node
       (subst (λ s. node_in (nodes_in s) at ≡ Some node) (sym same) there.node_is))
   | Standing.missing x ↦ absurd (cc (x.scene_none, there.scene_is))
 ]

@@ -8,13 +8,13 @@ use Rattle.dcc_num.specs.declared.Reg.{Reg}
 use Rattle.dcc_num.specs.declared.Half.{Half as HalfName}
 use Rattle.dcc_num.specs.declared.Half.TheVariants.{Low, High}
 use Rattle.dcc_prog.specs.declared.procedure.Node.{Node}
-use Rattle.dcc_prog.specs.declared.instr.Ea.{Ea}
-use Rattle.dcc_prog.specs.declared.instr.Operand.TheVariants.{Word}
-use Rattle.dcc_prog.specs.declared.instr.Op.{Op}
-use Rattle.dcc_prog.specs.declared.instr.Op.TheVariants.{Lea}
-use Rattle.dcc_prog.specs.Trail.{is_general}
-use Rattle.dcc_prog.specs.Writes.{is_same_register}
-use Rattle.dcc_prog.specs.Wanted.{Location, half_of, flag_of, is_in_address}
+use Rattle.dcc_machine.specs.declared.instr.Ea.{Ea}
+use Rattle.dcc_machine.specs.declared.instr.Operand.TheVariants.{Word}
+use Rattle.dcc_machine.specs.declared.instr.Op.{Op}
+use Rattle.dcc_machine.specs.declared.instr.Op.TheVariants.{Lea}
+use Rattle.dcc_machine.specs.Machine.{is_general}
+use Rattle.dcc_machine.specs.Writes.{is_same_register}
+use Rattle.dcc_machine.specs.Wanted.{Location, half_of, flag_of, is_in_address}
 use Rattle.dcc_ir.specs.declared.syntax.Loc.{Loc}
 use Rattle.dcc_ir.specs.declared.syntax.Loc.TheVariants.{Half, Flag, Temp}
 use Rattle.dcc_ir.specs.Location.{same_location}
@@ -22,7 +22,7 @@ use Rattle.dcc_ir.specs.Tree.{Part, Stmt, Set}
 use Rattle.dcc_ir.specs.Use.{reads_of}
 use Rattle.dcc_ir.specs.Live.{is_among}
 use Rattle.dcc_ops.specs.Expressions.{left}
-use Rattle.dcc_ops.specs.Place.{computed}
+use Rattle.dcc_ops.specs.OperandPlace.{computed}
 use Rattle.dcc_ops.specs.Computed.{computed_expr}
 use Rattle.dcc_ops.specs.Registers.{register_place}
 use Rattle.dcc_ops.specs.Statements.{mov_stmts}
@@ -32,7 +32,7 @@ use Rattle.dcc_simulation.specs.Operands.{address_of}
 use Rattle.dcc_simulation.specs.Places.{IsPlainAddress}
 use Rattle.dcc_demand.specs.Procedures.{Procedures}
 use Rattle.dcc_machine_demand.specs.Bodies.{Body, Point}
-use Rattle.dcc_machine_demand.specs.Places.{Place, held, in_frame, passes}
+use Rattle.dcc_machine_demand.specs.Holders.{Holder, held, in_frame, passes}
 use Rattle.dcc_machine_demand.specs.Values.{value_written, is_sure}
 use Rattle.dcc_sums.specs.Points.{Position}
 use Rattle.dcc_refinement.specs.Refinement.{Refinement, Carries, Takes}
@@ -50,7 +50,7 @@ use Rattle.dcc_instruction_demand.proofs.AddressLaws.{address_shown, Addressed}
 use Rattle.dcc_instruction_demand.proofs.StoredLaws.{shows_so}
 use Rattle.dcc_instruction_demand.proofs.WorkLaws.{point_with_op, and_true}
 
-module _ (coarse : Procedures ℕ Place ℤ) (fine : Procedures Position Loc Loc) (r : Refinement ℕ Place ℤ Position Loc Loc) (entry at pushed : ℕ)
+module _ (coarse : Procedures ℕ Holder ℤ) (fine : Procedures Position Loc Loc) (r : Refinement ℕ Holder ℤ Position Loc Loc) (entry at pushed : ℕ)
     (o : Option Procedure) (bodies : List Body) (body : Body) (node : Node) (height : ℕ) (to : Reg) (ea : Ea) where
   abbrev op : Op
   op = Lea to ea
@@ -67,7 +67,7 @@ module _ (coarse : Procedures ℕ Place ℤ) (fine : Procedures Position Loc Loc
   abbrev reads : List Loc
   reads = reads_of (computed_expr (address_of ea))
 
-  abbrev written : Place → Bool
+  abbrev written : Holder → Bool
   written A = value_written body (Lea to ea) node.number A
 
   module _ (v : IsValueOperation coarse fine r entry at o bodies body lea_point) (general : is_general to ≡ true) (plain : IsPlainAddress ea) where
@@ -105,23 +105,23 @@ module _ (coarse : Procedures ℕ Place ℤ) (fine : Procedures Position Loc Loc
     unwritten_frame : (k : ℤ) → written (in_frame k) ≡ false
     unwritten_frame k = refl
 
-    no_takes : (L : Place) → Takes coarse fine r entry at L → ⊥
+    no_takes : (L : Holder) → Takes coarse fine r entry at L → ⊥
     no_takes (held l) (inl u) = true≢false (sym (uses_if coarse fine r entry at o bodies body lea_point v (held l) u).1)
     no_takes (in_frame k) (inl u) = true≢false (sym (uses_if coarse fine r entry at o bodies body lea_point v (in_frame k) u).1)
     no_takes L (inr (held l, b, e, c, w, m)) = true≢false (sym e ∙ v.exposed (held l))
     no_takes L (inr (in_frame k, b, e, c, w, m)) = true≢false (sym (writes_if coarse fine r entry at o bodies body lea_point v (in_frame k) w))
 
-    abbrev Taking : Place → Type 0
+    abbrev Taking : Holder → Type 0
     Taking = Takes coarse fine r entry at
 
-    abbrev Making : Place → Place → Type 0
+    abbrev Making : Holder → Holder → Type 0
     Making A L = Carries coarse fine r entry at L A ⊎ Taking L
 
-    abbrev CarriesTo : Place → Place → Type 0
+    abbrev CarriesTo : Holder → Holder → Type 0
     CarriesTo L A = CarriesOn coarse fine r entry at o bodies body lea_point v L A
 
     -- LEA leaves a place that it doesn't write
-    stays_shown : (A : Place) (a : Loc) → r.same entry A a → written A ≡ false → Shows (r.same entry) (Making A) ((a ∷ []) ++ [])
+    stays_shown : (A : Holder) (a : Loc) → r.same entry A a → written A ≡ false → Shows (r.same entry) (Making A) ((a ∷ []) ++ [])
     stays_shown A a s e =
         shows_alike (r.same entry) (λ L. L ≡ A) (Making A) (a ∷ []) ((a ∷ []) ++ []) (shows_one (r.same entry) (λ L l m t u. same_once (v.same L l t) (v.same L m u)) A a s)
         (λ L l t same. inl (on_carries coarse fine r entry at o bodies body lea_point v L A (CarriesOn.stays same (ap (λ b. b && is_sure (Lea to ea) A) e))))
@@ -130,7 +130,7 @@ module _ (coarse : Procedures ℕ Place ℤ) (fine : Procedures Position Loc Loc
           | inr u ↦ absurd (no_takes L u)
         ]) (λ l c. c) (λ l c. c)
       where
-        same_by : (L : Place) → CarriesTo L A → L ≡ A
+        same_by : (L : Holder) → CarriesTo L A → L ≡ A
         same_by L (CarriesOn.made w p m) = absurd (true≢false (sym w ∙ e))
         same_by L (CarriesOn.stays same k) = same
 
@@ -145,17 +145,17 @@ module _ (coarse : Procedures ℕ Place ℤ) (fine : Procedures Position Loc Loc
           | inr u ↦ absurd (no_takes L u)
         ]) (λ l c. Contains-append_left reads [] l c) (λ l c. subst (λ ls. Contains ls l) (append-nil reads) c)
       where
-        exposed_so : Place → Bool
+        exposed_so : Holder → Bool
         exposed_so = (coarse.procedure entry).is_exposed
 
         writes : written (held (half_of q h)) ≡ true
         writes = and_both (is_general q) (is_same_register q to) g e
 
-        made_of : (L : Place) → Addressed o body exposed_so ea L → CarriesTo L (held (half_of q h))
+        made_of : (L : Holder) → Addressed o body exposed_so ea L → CarriesTo L (held (half_of q h))
         made_of (held l) t = CarriesOn.made writes t.0 (ap (λ b. (b && is_in_address l ea) && true) e ∙ and_true (is_in_address l ea) ∙ t.1)
         made_of (in_frame k) t = absurd t
 
-        addressed : (L : Place) → CarriesTo L (held (half_of q h)) → Addressed o body exposed_so ea L
+        addressed : (L : Holder) → CarriesTo L (held (half_of q h)) → Addressed o body exposed_so ea L
         addressed (held l) (CarriesOn.made w p m) = (p, sym (ap (λ b. (b && is_in_address l ea) && true) e ∙ and_true (is_in_address l ea)) ∙ m)
         addressed (in_frame k) (CarriesOn.made w p m) = absurd (true≢false (sym m))
         addressed L (CarriesOn.stays same k) = absurd (true≢false (sym (and_both (written (held (half_of q h))) true writes refl) ∙ k))
@@ -176,7 +176,7 @@ module _ (coarse : Procedures ℕ Place ℤ) (fine : Procedures Position Loc Loc
         (half_making (is_among halves (Half q h)) q h p s (writes_half q h p s))
     making_held (flag_of f) p s = stays_shown (held (flag_of f)) (Flag f) s refl
 
-    making : (A : Place) (a : Loc) → r.same entry A a → Shows (r.same entry) (Making A) (sources lea_stmts a ++ used lea_stmts [])
+    making : (A : Holder) (a : Loc) → r.same entry A a → Shows (r.same entry) (Making A) (sources lea_stmts a ++ used lea_stmts [])
     making A a s = by (same_cases o (v.same A a s))
       where
         by : SameCases o A a → Shows (r.same entry) (Making A) (sources lea_stmts a ++ [])
@@ -198,7 +198,7 @@ module _ (coarse : Procedures ℕ Place ℤ) (fine : Procedures Position Loc Loc
         by false true = refl
         by false false = refl
 
-    writes : (A : Place) (a : Loc) → r.same entry A a → written A ≡ is_written lea_stmts a
+    writes : (A : Holder) (a : Loc) → r.same entry A a → written A ≡ is_written lea_stmts a
     writes A a s = by (same_cases o (v.same A a s))
       where
         at_held : (location : Location) → passes (held location) ≡ true → written (held location) ≡ is_written lea_stmts (inner_of location)
@@ -209,7 +209,7 @@ module _ (coarse : Procedures ℕ Place ℤ) (fine : Procedures Position Loc Loc
         by (SameCases.by_held location p e f) = ap written e ∙ at_held location p ∙ sym (ap (is_written lea_stmts) f)
         by (SameCases.by_kept found k p e kept g) = ap written e ∙ sym (ap (is_written lea_stmts) kept.is)
 
-    made_where : (A : Place) → written A ≡ true → (l : Loc) × r.same entry A l
+    made_where : (A : Holder) → written A ≡ true → (l : Loc) × r.same entry A l
     made_where (held (half_of q h)) w = (Half q h, v.as_same (held (half_of q h)) (Half q h) (IsSame.is_held (and_left (is_general q) (is_same_register q to) w)))
     made_where (held (flag_of f)) w = (Flag f, v.as_same (held (flag_of f)) (Flag f) (IsSame.is_held refl))
     made_where (in_frame k) w = absurd (true≢false (sym w))

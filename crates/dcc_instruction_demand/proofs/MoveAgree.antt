@@ -3,22 +3,22 @@ use Rattle.std.proofs.Common.{◌≡◌, ℕ, ℤ, Bool, true, false, ◌&&◌, 
 use Rattle.std.proofs.lemmas.List.{append-nil}
 use Rattle.dcc_num.specs.declared.Width.{Width}
 use Rattle.dcc_prog.specs.declared.procedure.Node.{Node}
-use Rattle.dcc_prog.specs.declared.instr.Operand.{Operand}
-use Rattle.dcc_prog.specs.declared.instr.Op.TheVariants.{Mov, Xchg}
+use Rattle.dcc_machine.specs.declared.instr.Operand.{Operand}
+use Rattle.dcc_machine.specs.declared.instr.Op.TheVariants.{Mov, Xchg}
 use Rattle.dcc_ir.specs.declared.syntax.Loc.{Loc}
 use Rattle.dcc_ir.specs.Location.{same_location}
 use Rattle.dcc_ir.specs.Tree.{Stmt}
 use Rattle.dcc_ir.specs.Use.{reads_of}
 use Rattle.dcc_ir.specs.Live.{is_among}
 use Rattle.dcc_ir.proofs.LocationLaws.{location_itself}
-use Rattle.dcc_ops.specs.Place.{Place as InnerPlace, byte, word, memory}
+use Rattle.dcc_ops.specs.OperandPlace.{OperandPlace, byte, word, memory}
 use Rattle.dcc_ops.specs.Statements.{mov_stmts, xchg_stmts}
 use Rattle.dcc_lift.proofs.ListTests.{and_false, or_here, or_there, or_cases}
 use Rattle.dcc_simulation.specs.Procedures.{Procedure}
 use Rattle.dcc_stack.specs.Slots.{writes_memory}
 use Rattle.dcc_demand.specs.Procedures.{LeavesWord, Overwrites, WordEffect, Procedures}
 use Rattle.dcc_machine_demand.specs.Bodies.{Body, Point, op_of}
-use Rattle.dcc_machine_demand.specs.Places.{Place, in_frame, Spot, is_place, is_accessed_by, spots_of, is_of_address}
+use Rattle.dcc_machine_demand.specs.Holders.{Holder, in_frame, Spot, is_holder, is_accessed_by, spots_of, is_of_address}
 use Rattle.dcc_machine_demand.specs.Moves.{moves_between, moves_of, of_either, pushed_from, pushed_offset, pushed_spots}
 use Rattle.dcc_sums.specs.Points.{Position}
 use Rattle.dcc_sums.specs.Instance.{is_pushed}
@@ -40,19 +40,19 @@ use Rattle.dcc_instruction_demand.proofs.ExchangeLaws.{memory_word_exchanged}
 use Rattle.dcc_instruction_demand.proofs.OperandBytes.{AreBytesAt}
 
 -- halves, and what may be exchanged with them
-abbrev pub is_halves : InnerPlace → Bool
+abbrev pub is_halves : OperandPlace → Bool
 is_halves (byte l) = true
 is_halves (word l m) = true
 is_halves Q = false
 
-abbrev pub is_exchangeable : InnerPlace → Bool
+abbrev pub is_exchangeable : OperandPlace → Bool
 is_exchangeable (memory w e) = true
 is_exchangeable P = is_halves P
 
 here_in : (l : Loc) (ls : List Loc) → is_among (l ∷ ls) l ≡ true
 here_in l ls = or_here (same_location l l) (is_among ls l) (location_itself l)
 
-module _ (coarse : Procedures ℕ Place ℤ) (fine : Procedures Position Loc Loc) (r : Refinement ℕ Place ℤ Position Loc Loc) (entry at pushed : ℕ) (o : Option Procedure) (bodies : List Body) (body : Body) where
+module _ (coarse : Procedures ℕ Holder ℤ) (fine : Procedures Position Loc Loc) (r : Refinement ℕ Holder ℤ Position Loc Loc) (entry at pushed : ℕ) (o : Option Procedure) (bodies : List Body) (body : Body) where
   -- What pushes nothing, and reaches bytes of the frame by its operand alone, does nothing to words.
   module _ (point : Point) (v : IsMovingOperation coarse fine r entry at pushed o bodies body point) where
     pub record IsCalm : Type 0 where
@@ -61,7 +61,7 @@ module _ (coarse : Procedures ℕ Place ℤ) (fine : Procedures Position Loc Loc
       pub pushes_none : pushed_spots body (op_of point) ≡ []
 
     module _ (calm : IsCalm) (stmts : List Stmt) (outs : List Loc) (pairs : Pairing coarse fine r entry at pushed o bodies body point v stmts (moves_of body point.height (op_of point)) outs) where
-      abbrev written_by_access : Bool → WordEffect Place
+      abbrev written_by_access : Bool → WordEffect Holder
       written_by_access b = if b then Overwrites else LeavesWord
 
       word_is : (k : ℤ) → ((coarse.procedure entry).action at).word_effect k ≡ (if writes_memory (op_of point) && is_accessed_by body (op_of point) k then Overwrites else LeavesWord)
@@ -98,12 +98,13 @@ module _ (coarse : Procedures ℕ Place ℤ) (fine : Procedures Position Loc Loc
       })
 
   -- The addresses of two operands.
-  pub either_addresses : (exposed : Place → Bool) (w : Width) (a b : Operand) (P Q : InnerPlace) → AreBytesAt o body exposed w a P → AreBytesAt o body exposed w b Q
-      → Shows (IsSame o) (λ M. (is_place body M ≡ true) × (of_either a b M ≡ true)) (address_reads P ++ address_reads Q)
+  pub either_addresses : (exposed : Holder → Bool) (w : Width) (a b : Operand) (P Q : OperandPlace) → AreBytesAt o body exposed w a P → AreBytesAt o body exposed w b Q
+      → Shows (IsSame o) (λ M. (is_holder body M ≡ true) × (of_either a b M ≡ true)) (address_reads P
+      ++ address_reads Q)
   either_addresses exposed w a b P Q p q =
-      shows_alike (IsSame o) (λ M. ((is_place body M ≡ true) × (is_of_address a M ≡ true)) ⊎ ((is_place body M ≡ true) × (is_of_address b M ≡ true))) (λ M. (is_place body M ≡ true) × (of_either a b M ≡ true))
+      shows_alike (IsSame o) (λ M. ((is_holder body M ≡ true) × (is_of_address a M ≡ true)) ⊎ ((is_holder body M ≡ true) × (is_of_address b M ≡ true))) (λ M. (is_holder body M ≡ true) × (of_either a b M ≡ true))
       (address_reads P ++ address_reads Q) (address_reads P ++ address_reads Q)
-      (shows_both (IsSame o) (λ M. (is_place body M ≡ true) × (is_of_address a M ≡ true)) (λ M. (is_place body M ≡ true) × (is_of_address b M ≡ true)) (address_reads P) (address_reads Q) p.addresses q.addresses)
+      (shows_both (IsSame o) (λ M. (is_holder body M ≡ true) × (is_of_address a M ≡ true)) (λ M. (is_holder body M ≡ true) × (is_of_address b M ≡ true)) (address_reads P) (address_reads Q) p.addresses q.addresses)
       (λ M m s t. elim t [
         | inl x ↦ (x.0, or_here (is_of_address a M) (is_of_address b M) x.1)
         | inr x ↦ (x.0, or_there (is_of_address a M) (is_of_address b M) x.1)
@@ -114,10 +115,10 @@ module _ (coarse : Procedures ℕ Place ℤ) (fine : Procedures Position Loc Loc
       ]) (λ l c. c) (λ l c. c)
 
   module _ (node : Node) (height : ℕ) where
-    abbrev exposed : Place → Bool
+    abbrev exposed : Holder → Bool
     exposed = (coarse.procedure entry).is_exposed
 
-    pub mov_agrees : (to from : Operand) (v : IsMovingOperation coarse fine r entry at pushed o bodies body (point_with_op node height (Mov to from))) (w : Width) (P Q : InnerPlace)
+    pub mov_agrees : (to from : Operand) (v : IsMovingOperation coarse fine r entry at pushed o bodies body (point_with_op node height (Mov to from))) (w : Width) (P Q : OperandPlace)
         → AreBytesAt o body (coarse.procedure entry).is_exposed w to P → AreBytesAt o body (coarse.procedure entry).is_exposed w from Q
         → ((m : Loc) → is_among (low_of Q ++ high_of Q) m ≡ true → is_pushed pushed m ≡ false) → IsCalm (point_with_op node height (Mov to from)) v → Agrees coarse fine r entry at pushed (mov_stmts w P Q) []
     mov_agrees to from v w P Q p q unpushed calm =
@@ -127,21 +128,21 @@ module _ (coarse : Procedures ℕ Place ℤ) (fine : Procedures Position Loc Loc
 
     -- XCHG.
 
-    module _ (point : Point) (v : IsMovingOperation coarse fine r entry at pushed o bodies body point) (addresses : Place → Bool) where
-      abbrev Bytes : Width → List Spot → InnerPlace → Type 0
+    module _ (point : Point) (v : IsMovingOperation coarse fine r entry at pushed o bodies body point) (addresses : Holder → Bool) where
+      abbrev Bytes : Width → List Spot → OperandPlace → Type 0
       Bytes = HasBytes o body exposed
 
-      abbrev Both : Width → List Spot → List Spot → InnerPlace → InnerPlace → Type 0
+      abbrev Both : Width → List Spot → List Spot → OperandPlace → OperandPlace → Type 0
       Both w to from P Q = Pairing coarse fine r entry at pushed o bodies body point v (xchg_stmts w P Q) (moves_between addresses to from ++ moves_between addresses from to) (outs P ++ outs Q)
 
       abbrev Shown : List Loc → Type 0
-      Shown ls = Shows (IsSame o) (λ M. (is_place body M ≡ true) × (addresses M ≡ true)) ls
+      Shown ls = Shows (IsSame o) (λ M. (is_holder body M ≡ true) × (addresses M ≡ true)) ls
 
       alone : (ls : List Loc) → Shown (ls ++ []) → Shown ls
       alone ls shown = subst (λ ms. Shown ms) (append-nil ls) shown
 
-      pub exchange_pairing : (w : Width) (to from : List Spot) (P Q : InnerPlace) → HasBytes o body (coarse.procedure entry).is_exposed w to P → HasBytes o body (coarse.procedure entry).is_exposed w from Q
-          → is_exchangeable P ≡ true → is_halves Q ≡ true → Shows (IsSame o) (λ M. (is_place body M ≡ true) × (addresses M ≡ true)) (address_reads P ++ address_reads Q)
+      pub exchange_pairing : (w : Width) (to from : List Spot) (P Q : OperandPlace) → HasBytes o body (coarse.procedure entry).is_exposed w to P → HasBytes o body (coarse.procedure entry).is_exposed w from Q
+          → is_exchangeable P ≡ true → is_halves Q ≡ true → Shows (IsSame o) (λ M. (is_holder body M ≡ true) × (addresses M ≡ true)) (address_reads P ++ address_reads Q)
           → ((m : Loc) → is_among (low_of Q ++ high_of Q) m ≡ true → is_pushed pushed m ≡ false)
           → Pairing coarse fine r entry at pushed o bodies body point v (xchg_stmts w P Q) (moves_between addresses to from ++ moves_between addresses from to) (outs P ++ outs Q)
       exchange_pairing _ _ _ _ _ (HasBytes.as_byte (HasByte.one_half {L = L} {l = l} a)) (HasBytes.as_byte (HasByte.one_half {L = M} {l = m} b)) s t shown unpushed =
@@ -162,7 +163,7 @@ module _ (coarse : Procedures ℕ Place ℤ) (fine : Procedures Position Loc Loc
       exchange_pairing _ _ _ _ _ (HasBytes.as_word p) (HasBytes.as_word (HasWord.of_pointer none)) s t shown unpushed = absurd (true≢false (sym t))
       exchange_pairing _ _ _ _ _ (HasBytes.as_word p) (HasBytes.as_word (HasWord.open_word opens next kept)) s t shown unpushed = absurd (true≢false (sym t))
 
-    pub xchg_agrees : (a b : Operand) (v : IsMovingOperation coarse fine r entry at pushed o bodies body (point_with_op node height (Xchg a b))) (w : Width) (P Q : InnerPlace)
+    pub xchg_agrees : (a b : Operand) (v : IsMovingOperation coarse fine r entry at pushed o bodies body (point_with_op node height (Xchg a b))) (w : Width) (P Q : OperandPlace)
         → AreBytesAt o body (coarse.procedure entry).is_exposed w a P → AreBytesAt o body (coarse.procedure entry).is_exposed w b Q → is_exchangeable P ≡ true → is_halves Q ≡ true
         → ((m : Loc) → is_among (low_of Q ++ high_of Q) m ≡ true → is_pushed pushed m ≡ false) → IsCalm (point_with_op node height (Xchg a b)) v → Agrees coarse fine r entry at pushed (xchg_stmts w P Q) []
     xchg_agrees a b v w P Q p q s t unpushed calm =

@@ -10,7 +10,7 @@ use Rattle.dcc_ir.specs.Tree.{Expr, Stmt}
 use Rattle.dcc_ir.specs.Use.{reads_of}
 use Rattle.dcc_ir.specs.Live.{is_among}
 use Rattle.dcc_ir.proofs.LocationLaws.{location_itself}
-use Rattle.dcc_ops.specs.Place.{Place as InnerPlace, constant, byte, word, memory, computed, taking, storing}
+use Rattle.dcc_ops.specs.OperandPlace.{OperandPlace, constant, byte, word, memory, computed, taking, storing}
 use Rattle.dcc_ops.specs.Temporaries.{left_place}
 use Rattle.dcc_ops.specs.Expressions.{left}
 use Rattle.dcc_ops.specs.Statements.{mov_stmts}
@@ -18,7 +18,7 @@ use Rattle.dcc_lift.proofs.ListTests.{and_both, or_here, or_there, or_cases, or_
 use Rattle.dcc_simulation.specs.Procedures.{Procedure}
 use Rattle.dcc_demand.specs.Procedures.{Effect, Procedures}
 use Rattle.dcc_machine_demand.specs.Bodies.{Body, Point}
-use Rattle.dcc_machine_demand.specs.Places.{Place, Spot, placed, in_memory, nowhere, is_place, is_at}
+use Rattle.dcc_machine_demand.specs.Holders.{Holder, Spot, placed, in_memory, nowhere, is_holder, is_at}
 use Rattle.dcc_machine_demand.specs.Moves.{Move, copying, moves_between}
 use Rattle.dcc_sums.specs.Points.{Position}
 use Rattle.dcc_sums.specs.Instance.{is_pushed}
@@ -43,36 +43,36 @@ use Rattle.dcc_instruction_demand.proofs.MoveForms.{word_quiet}
 use Rattle.dcc_instruction_demand.proofs.PairedLaws.{ArePaired, IsStored, Pairing}
 
 -- to each of these bytes from that of the others in such a way, where the addresses take these
-abbrev pub zipped : (Place → Bool) → List (Effect Place ℤ) → List Spot → List Spot → List Move
+abbrev pub zipped : (Holder → Bool) → List (Effect Holder ℤ) → List Spot → List Spot → List Move
 zipped addresses (e ∷ es) (t ∷ to) (f ∷ from) = record { to = t; effect = e; made_of = λ place. is_at f place || addresses place } ∷ zipped addresses es to from
 zipped addresses es to from = []
 
-module _ (coarse : Procedures ℕ Place ℤ) (fine : Procedures Position Loc Loc) (r : Refinement ℕ Place ℤ Position Loc Loc) (entry at pushed : ℕ) (o : Option Procedure) (bodies : List Body) (body : Body) (point : Point)
-    (v : IsMovingOperation coarse fine r entry at pushed o bodies body point) (addresses : Place → Bool) where
-  abbrev exposed : Place → Bool
+module _ (coarse : Procedures ℕ Holder ℤ) (fine : Procedures Position Loc Loc) (r : Refinement ℕ Holder ℤ Position Loc Loc) (entry at pushed : ℕ) (o : Option Procedure) (bodies : List Body) (body : Body) (point : Point)
+    (v : IsMovingOperation coarse fine r entry at pushed o bodies body point) (addresses : Holder → Bool) where
+  abbrev exposed : Holder → Bool
   exposed = (coarse.procedure entry).is_exposed
 
-  abbrev pub ByteAt : Spot → InnerPlace → Type 0
+  abbrev pub ByteAt : Spot → OperandPlace → Type 0
   ByteAt = HasByte o body (coarse.procedure entry).is_exposed
 
-  abbrev pub WordAt : Spot → Spot → InnerPlace → Type 0
+  abbrev pub WordAt : Spot → Spot → OperandPlace → Type 0
   WordAt = HasWord o body (coarse.procedure entry).is_exposed
 
-  abbrev Addressing : Place → Type 0
-  Addressing M = (is_place body M ≡ true) × (addresses M ≡ true)
+  abbrev Addressing : Holder → Type 0
+  Addressing M = (is_holder body M ≡ true) × (addresses M ≡ true)
 
-  abbrev From : Spot → Place → Type 0
-  From f M = (is_place body M ≡ true) × ((is_at f M || addresses M) ≡ true)
+  abbrev From : Spot → Holder → Type 0
+  From f M = (is_holder body M ≡ true) × ((is_at f M || addresses M) ≡ true)
 
   -- a move in such a way does to those of these locations that pass between procedures what the statements do
-  abbrev pub FitsEffect : List Stmt → List Loc → Effect Place ℤ → Type 0
-  FitsEffect stmts ls e = (L : Place) (l : Loc) → is_among ls l ≡ true → IsSame o L l → coarse.passes L ≡ true → EffectsAgree coarse fine r entry e (effect_after pushed stmts l)
+  abbrev pub FitsEffect : List Stmt → List Loc → Effect Holder ℤ → Type 0
+  FitsEffect stmts ls e = (L : Holder) (l : Loc) → is_among ls l ≡ true → IsSame o L l → coarse.passes L ≡ true → EffectsAgree coarse fine r entry e (effect_after pushed stmts l)
 
   itself_in : (l : Loc) → is_among (l ∷ []) l ≡ true
   itself_in l = or_here (same_location l l) false (location_itself l)
 
   -- a half is no memory
-  pub half_closed : (L : Place) (l : Loc) → IsHalf o body exposed L l → IsOpenSpot o body exposed (placed L) → ⊥
+  pub half_closed : (L : Holder) (l : Loc) → IsHalf o body exposed L l → IsOpenSpot o body exposed (placed L) → ⊥
   half_closed L l h opens = true≢false (sym (place_itself L) ∙ open_apart o body exposed v.one v.unexposed (placed L) opens L l h.same)
 
   nowhere_closed : (s : Spot) → IsOpenSpot o body exposed s → s ≡ nowhere → ⊥
@@ -81,7 +81,7 @@ module _ (coarse : Procedures ℕ Place ℤ) (fine : Procedures Position Loc Loc
 
   -- Bytes.
 
-  pub byte_paired : (t f : Spot) (P Q : InnerPlace) (e : Effect Place ℤ) → ByteAt t P → ByteAt f Q → Shows (IsSame o) (λ M. (is_place body M ≡ true) × (addresses M ≡ true)) (address_reads P ++ address_reads Q)
+  pub byte_paired : (t f : Spot) (P Q : OperandPlace) (e : Effect Holder ℤ) → ByteAt t P → ByteAt f Q → Shows (IsSame o) (λ M. (is_holder body M ≡ true) × (addresses M ≡ true)) (address_reads P ++ address_reads Q)
       → FitsEffect (mov_stmts byte_width P Q) (low_of P) e
       → ArePaired coarse fine r entry at pushed o bodies body point (mov_stmts byte_width P Q) (zipped addresses (e ∷ []) (t ∷ []) (f ∷ [])) (outs P)
   byte_paired _ f _ Q e (HasByte.one_half {L = L} {l = l} h) q shown agree =
@@ -92,30 +92,30 @@ module _ (coarse : Procedures ℕ Place ℤ) (fine : Procedures Position Loc Loc
   byte_paired _ f _ Q e HasByte.constant_byte q shown agree = ArePaired.nowhere_more refl ArePaired.no_more
   byte_paired _ f _ Q e (HasByte.open_byte opens k) q shown agree = ArePaired.open_more opens ArePaired.no_more
 
-  abbrev Stored : List Move → Place → Type 0
-  Stored moves L = (is_place body L ≡ true) × IsStored coarse fine r entry at pushed o bodies body point moves L
+  abbrev Stored : List Move → Holder → Type 0
+  Stored moves L = (is_holder body L ≡ true) × IsStored coarse fine r entry at pushed o bodies body point moves L
 
-  abbrev AtSpot : Spot → Place → Type 0
-  AtSpot f M = (is_place body M ≡ true) × (is_at f M ≡ true)
+  abbrev AtSpot : Spot → Holder → Type 0
+  AtSpot f M = (is_holder body M ≡ true) × (is_at f M ≡ true)
 
   -- all that is read for a store
-  address_first : (a : Expr) (Q : InnerPlace) → address_reads Q ++ (high_of Q ++ low_of Q) ≡ reads_at Q → (reads_of a ++ address_reads Q) ++ (high_of Q ++ low_of Q) ≡ reads_of a ++ reads_at Q
+  address_first : (a : Expr) (Q : OperandPlace) → address_reads Q ++ (high_of Q ++ low_of Q) ≡ reads_at Q → (reads_of a ++ address_reads Q) ++ (high_of Q ++ low_of Q) ≡ reads_of a ++ reads_at Q
   address_first a Q e = append_assoc (reads_of a) (address_reads Q) (high_of Q ++ low_of Q) ∙ ap (λ ls. reads_of a ++ ls) e
 
-  byte_rest : (f : Spot) (Q : InnerPlace) → ByteAt f Q → Shows (IsSame o) (AtSpot f) (high_of Q ++ low_of Q)
+  byte_rest : (f : Spot) (Q : OperandPlace) → ByteAt f Q → Shows (IsSame o) (AtSpot f) (high_of Q ++ low_of Q)
   byte_rest f Q q = subst (λ ls. Shows (IsSame o) (AtSpot f) ls) (sym (same f Q q)) (byte_shown o body exposed v.one v.unexposed f Q q)
     where
-      same : (f : Spot) (Q : InnerPlace) → ByteAt f Q → high_of Q ++ low_of Q ≡ low_of Q
+      same : (f : Spot) (Q : OperandPlace) → ByteAt f Q → high_of Q ++ low_of Q ≡ low_of Q
       same _ _ (HasByte.one_half h) = refl
       same _ _ HasByte.constant_byte = refl
       same _ _ (HasByte.open_byte opens k) = refl
 
   -- none is stored
-  none_stored : (moves : List Move) (ls : List Loc) → ls ≡ [] → ((L : Place) → IsStored coarse fine r entry at pushed o bodies body point moves L → ⊥) → Shows (IsSame o) (Stored moves) ls
+  none_stored : (moves : List Move) (ls : List Loc) → ls ≡ [] → ((L : Holder) → IsStored coarse fine r entry at pushed o bodies body point moves L → ⊥) → Shows (IsSame o) (Stored moves) ls
   none_stored moves ls e never = subst (λ ms. Shows (IsSame o) (Stored moves) ms) (sym e) (shows_never (IsSame o) (Stored moves) (λ L t. never L t.1))
 
-  pub byte_stored : (t f : Spot) (P Q : InnerPlace) (e : Effect Place ℤ) → ByteAt t P → ByteAt f Q → Shows (IsSame o) (λ M. (is_place body M ≡ true) × (addresses M ≡ true)) (address_reads P ++ address_reads Q)
-      → Shows (IsSame o) (λ L. (is_place body L ≡ true) × IsStored coarse fine r entry at pushed o bodies body point (zipped addresses (e ∷ []) (t ∷ []) (f ∷ [])) L) (used (mov_stmts byte_width P Q) [])
+  pub byte_stored : (t f : Spot) (P Q : OperandPlace) (e : Effect Holder ℤ) → ByteAt t P → ByteAt f Q → Shows (IsSame o) (λ M. (is_holder body M ≡ true) × (addresses M ≡ true)) (address_reads P ++ address_reads Q)
+      → Shows (IsSame o) (λ L. (is_holder body L ≡ true) × IsStored coarse fine r entry at pushed o bodies body point (zipped addresses (e ∷ []) (t ∷ []) (f ∷ [])) L) (used (mov_stmts byte_width P Q) [])
   byte_stored _ f _ Q e (HasByte.one_half {L = L} {l = l} h) q shown =
       none_stored (zipped addresses (e ∷ []) (placed L ∷ []) (f ∷ [])) (used (mov_stmts byte_width (byte l) Q) []) (byte_useless o body exposed l f Q q) (λ M m. elim m [
         | inl here ↦ half_closed L l h here.0
@@ -143,22 +143,22 @@ module _ (coarse : Procedures ℕ Place ℤ) (fine : Procedures Position Loc Loc
         | inr none ↦ absurd none
       ]) (λ l c. c) (λ l c. c))
 
-  pub byte_left : (t f : Spot) (P Q : InnerPlace) → ByteAt t P → ByteAt f Q → (m : Loc) → is_lasting m ≡ true → is_among (outs P) m ≡ false → is_written (mov_stmts byte_width P Q) m ≡ false
+  pub byte_left : (t f : Spot) (P Q : OperandPlace) → ByteAt t P → ByteAt f Q → (m : Loc) → is_lasting m ≡ true → is_among (outs P) m ≡ false → is_written (mov_stmts byte_width P Q) m ≡ false
   byte_left _ f _ Q (HasByte.one_half {l = l} h) q m t e = byte_unwritten o body exposed l f Q q m t ∙ e
   byte_left _ f _ Q HasByte.constant_byte q m t e = moved_unwritten byte_width Q [] m t
   byte_left _ f _ Q (HasByte.open_byte {e = a} opens k) q m t e = moved_unwritten byte_width Q (storing (memory byte_width a) (left byte_width)) m t
 
-  taking_quiet : (w : Width) (Q : InnerPlace) (ss : List Stmt) → list_all is_value ss ≡ true → Quiet (taking (left_place w) Q ∷ ss)
+  taking_quiet : (w : Width) (Q : OperandPlace) (ss : List Stmt) → list_all is_value ss ≡ true → Quiet (taking (left_place w) Q ∷ ss)
   taking_quiet w Q ss t = quiet (taking (left_place w) Q ∷ ss) (and_both (is_value (taking (left_place w) Q)) (list_all is_value ss) (taking_value w Q).0 t)
 
-  pub bytes_quiet : (t f : Spot) (P Q : InnerPlace) → ByteAt t P → ByteAt f Q → Quiet (mov_stmts byte_width P Q)
+  pub bytes_quiet : (t f : Spot) (P Q : OperandPlace) → ByteAt t P → ByteAt f Q → Quiet (mov_stmts byte_width P Q)
   bytes_quiet _ f _ Q (HasByte.one_half {l = l} h) q = byte_quiet o body exposed l f Q q
   bytes_quiet _ f _ Q HasByte.constant_byte q = taking_quiet byte_width Q [] refl
   bytes_quiet _ f _ Q (HasByte.open_byte {e = a} opens k) q = taking_quiet byte_width Q (storing (memory byte_width a) (left byte_width)) refl
 
   -- Words.
 
-  pub word_paired : (t u f g : Spot) (P Q : InnerPlace) (d e : Effect Place ℤ) → WordAt t u P → WordAt f g Q → Shows (IsSame o) (λ M. (is_place body M ≡ true) × (addresses M ≡ true)) (address_reads P ++ address_reads Q)
+  pub word_paired : (t u f g : Spot) (P Q : OperandPlace) (d e : Effect Holder ℤ) → WordAt t u P → WordAt f g Q → Shows (IsSame o) (λ M. (is_holder body M ≡ true) × (addresses M ≡ true)) (address_reads P ++ address_reads Q)
       → FitsEffect (mov_stmts word_width P Q) (low_of P) d → FitsEffect (mov_stmts word_width P Q) (high_of P) e
       → ArePaired coarse fine r entry at pushed o bodies body point (mov_stmts word_width P Q) (zipped addresses (d ∷ e ∷ []) (t ∷ u ∷ []) (f ∷ g ∷ [])) (outs P)
   word_paired _ _ f g _ Q d e (HasWord.two_halves {L = L} {M = M} {l = l} {m = m} a b low high) q shown agree next =
@@ -174,20 +174,20 @@ module _ (coarse : Procedures ℕ Place ℤ) (fine : Procedures Position Loc Loc
   word_paired _ _ f g _ Q d e (HasWord.of_pointer none) q shown agree next = ArePaired.nowhere_more refl (ArePaired.nowhere_more refl ArePaired.no_more)
   word_paired _ _ f g _ Q d e (HasWord.open_word opens second k) q shown agree next = ArePaired.open_more opens (ArePaired.open_more second ArePaired.no_more)
 
-  word_rest : (f g : Spot) (Q : InnerPlace) → WordAt f g Q → Shows (IsSame o) (λ M. AtSpot g M ⊎ AtSpot f M) (high_of Q ++ low_of Q)
+  word_rest : (f g : Spot) (Q : OperandPlace) → WordAt f g Q → Shows (IsSame o) (λ M. AtSpot g M ⊎ AtSpot f M) (high_of Q ++ low_of Q)
   word_rest f g Q q = shows_both (IsSame o) (AtSpot g) (AtSpot f) (high_of Q) (low_of Q) (high_shown o body exposed v.one v.unexposed f g Q q) (low_shown o body exposed v.one v.unexposed f g Q q)
 
-  nowhere_stored : (d e : Effect Place ℤ) (f g : Spot) (L : Place) → IsStored coarse fine r entry at pushed o bodies body point (zipped addresses (d ∷ e ∷ []) (nowhere ∷ nowhere ∷ []) (f ∷ g ∷ [])) L → ⊥
+  nowhere_stored : (d e : Effect Holder ℤ) (f g : Spot) (L : Holder) → IsStored coarse fine r entry at pushed o bodies body point (zipped addresses (d ∷ e ∷ []) (nowhere ∷ nowhere ∷ []) (f ∷ g ∷ [])) L → ⊥
   nowhere_stored d e f g L (inl here) = nowhere_closed nowhere here.0 refl
   nowhere_stored d e f g L (inr (inl here)) = nowhere_closed nowhere here.0 refl
   nowhere_stored d e f g L (inr (inr none)) = none
 
-  pub word_stored : (t u f g : Spot) (P Q : InnerPlace) (d e : Effect Place ℤ) → WordAt t u P → WordAt f g Q → Shows (IsSame o) (λ M. (is_place body M ≡ true) × (addresses M ≡ true)) (address_reads P ++ address_reads Q)
-      → Shows (IsSame o) (λ L. (is_place body L ≡ true) × IsStored coarse fine r entry at pushed o bodies body point (zipped addresses (d ∷ e ∷ []) (t ∷ u ∷ []) (f ∷ g ∷ [])) L) (used (mov_stmts word_width P Q) [])
+  pub word_stored : (t u f g : Spot) (P Q : OperandPlace) (d e : Effect Holder ℤ) → WordAt t u P → WordAt f g Q → Shows (IsSame o) (λ M. (is_holder body M ≡ true) × (addresses M ≡ true)) (address_reads P ++ address_reads Q)
+      → Shows (IsSame o) (λ L. (is_holder body L ≡ true) × IsStored coarse fine r entry at pushed o bodies body point (zipped addresses (d ∷ e ∷ []) (t ∷ u ∷ []) (f ∷ g ∷ [])) L) (used (mov_stmts word_width P Q) [])
   word_stored _ _ f g _ Q d e (HasWord.two_halves {L = L} {M = M} {l = l} {m = m} a b low high) q shown =
       none_stored (zipped addresses (d ∷ e ∷ []) (placed L ∷ placed M ∷ []) (f ∷ g ∷ [])) (used (mov_stmts word_width (word l m) Q) []) (word_useless o body exposed l m low high f g Q q) never
     where
-      never : (N : Place) → IsStored coarse fine r entry at pushed o bodies body point (zipped addresses (d ∷ e ∷ []) (placed L ∷ placed M ∷ []) (f ∷ g ∷ [])) N → ⊥
+      never : (N : Holder) → IsStored coarse fine r entry at pushed o bodies body point (zipped addresses (d ∷ e ∷ []) (placed L ∷ placed M ∷ []) (f ∷ g ∷ [])) N → ⊥
       never N (inl here) = half_closed L l a here.0
       never N (inr (inl here)) = half_closed M m b here.0
       never N (inr (inr none)) = none
@@ -202,18 +202,18 @@ module _ (coarse : Procedures ℕ Place ℤ) (fine : Procedures Position Loc Loc
       (shows_both (IsSame o) Addressing (λ M. AtSpot g M ⊎ AtSpot f M) (reads_of a ++ address_reads Q) (high_of Q ++ low_of Q) shown (word_rest f g Q q))
       (λ M m s p. to M p) (λ M m s p. back M p) (λ l c. c) (λ l c. c))
     where
-      to : (M : Place) → Addressing M ⊎ (AtSpot g M ⊎ AtSpot f M) → Stored (zipped addresses (d ∷ e ∷ []) (t ∷ u ∷ []) (f ∷ g ∷ [])) M
+      to : (M : Holder) → Addressing M ⊎ (AtSpot g M ⊎ AtSpot f M) → Stored (zipped addresses (d ∷ e ∷ []) (t ∷ u ∷ []) (f ∷ g ∷ [])) M
       to M (inl x) = (x.0, inl (opens, or_there (is_at f M) (addresses M) x.1))
       to M (inr (inl x)) = (x.0, inr (inl (next, or_here (is_at g M) (addresses M) x.1)))
       to M (inr (inr x)) = (x.0, inl (opens, or_here (is_at f M) (addresses M) x.1))
 
-      of_spot : (s : Spot) (M : Place) → From s M → AtSpot s M ⊎ Addressing M
+      of_spot : (s : Spot) (M : Holder) → From s M → AtSpot s M ⊎ Addressing M
       of_spot s M p = elim (or_cases (is_at s M) (addresses M) p.1) [
         | inl x ↦ inl (p.0, x)
         | inr x ↦ inr (p.0, x)
       ]
 
-      back : (M : Place) → Stored (zipped addresses (d ∷ e ∷ []) (t ∷ u ∷ []) (f ∷ g ∷ [])) M → Addressing M ⊎ (AtSpot g M ⊎ AtSpot f M)
+      back : (M : Holder) → Stored (zipped addresses (d ∷ e ∷ []) (t ∷ u ∷ []) (f ∷ g ∷ [])) M → Addressing M ⊎ (AtSpot g M ⊎ AtSpot f M)
       back M (p, inl here) = elim (of_spot f M (p, here.1)) [
         | inl x ↦ inr (inr x)
         | inr x ↦ inl x
@@ -224,13 +224,14 @@ module _ (coarse : Procedures ℕ Place ℤ) (fine : Procedures Position Loc Loc
       ]
       back M (p, inr (inr none)) = absurd none
 
-  pub word_left : (t u f g : Spot) (P Q : InnerPlace) → WordAt t u P → WordAt f g Q → (m : Loc) → is_lasting m ≡ true → is_among (outs P) m ≡ false → is_written (mov_stmts word_width P Q) m ≡ false
+  pub word_left : (t u f g : Spot) (P Q : OperandPlace) → WordAt t u P → WordAt f g Q → (m : Loc) → is_lasting m ≡ true → is_among (outs P) m ≡ false → is_written (mov_stmts word_width P Q) m ≡ false
   word_left _ _ f g _ Q (HasWord.two_halves {l = l} {m = h} a b low high) q m t e = word_unwritten o body exposed l h low high f g Q q m t ∙ e
   word_left _ _ f g _ Q HasWord.constant_word q m t e = moved_unwritten word_width Q [] m t
   word_left _ _ f g _ Q (HasWord.of_pointer none) q m t e = moved_unwritten word_width Q [] m t
   word_left _ _ f g _ Q (HasWord.open_word {e = a} opens next k) q m t e = moved_unwritten word_width Q (storing (memory word_width a) (left word_width)) m t
 
-  pub words_quiet : (t u f g : Spot) (P Q : InnerPlace) → WordAt t u P → WordAt f g Q → Quiet (mov_stmts word_width P Q)
+  pub words_quiet : (t u f g : Spot) (P Q : OperandPlace) → WordAt t u P → WordAt f g Q
+      → Quiet (mov_stmts word_width P Q)
   words_quiet _ _ f g _ Q (HasWord.two_halves {l = l} {m = h} a b low high) q = word_quiet o body exposed l h low high f g Q q
   words_quiet _ _ f g _ Q HasWord.constant_word q = taking_quiet word_width Q [] refl
   words_quiet _ _ f g _ Q (HasWord.of_pointer none) q = taking_quiet word_width Q [] refl
@@ -246,23 +247,23 @@ module _ (coarse : Procedures ℕ Place ℤ) (fine : Procedures Position Loc Loc
   pub copy_lost : (stmts : List Stmt) → none_pops pushed stmts ≡ true → (f : Spot) (l : Loc) → is_written stmts l ≡ true → EffectsAgree coarse fine r entry (copying f) (effect_after pushed stmts l)
   copy_lost stmts t f l w = EffectsAgree.both_lose (copying_loses f) (effect_lost (fine.procedure entry) pushed stmts l t w)
 
-  abbrev pub Unpushed : InnerPlace → Type 0
+  abbrev pub Unpushed : OperandPlace → Type 0
   Unpushed Q = (m : Loc) → is_among (low_of Q ++ high_of Q) m ≡ true → is_pushed pushed m ≡ false
 
-  pub byte_copied : (t f g : Spot) (P Q : InnerPlace) → ByteAt t P → ByteAt f Q → Unpushed Q → FitsEffect (mov_stmts byte_width P Q) (low_of P) (copying g)
+  pub byte_copied : (t f g : Spot) (P Q : OperandPlace) → ByteAt t P → ByteAt f Q → Unpushed Q → FitsEffect (mov_stmts byte_width P Q) (low_of P) (copying g)
   byte_copied _ f g _ Q (HasByte.one_half {l = l} h) q unpushed L m t s p =
       copy_lost (mov_stmts byte_width (byte l) Q) (byte_unpopped o body exposed l f Q pushed unpushed q) g m (byte_unwritten o body exposed l f Q q m (same_lasts o L m s) ∙ t)
   byte_copied _ f g _ Q HasByte.constant_byte q unpushed L m t s p = absurd (true≢false (sym t))
   byte_copied _ f g _ Q (HasByte.open_byte opens k) q unpushed L m t s p = absurd (true≢false (sym t))
 
   -- of the low half and of the high one
-  abbrev pub BothFit : InnerPlace → List Stmt → Effect Place ℤ → Effect Place ℤ → Type 0
+  abbrev pub BothFit : OperandPlace → List Stmt → Effect Holder ℤ → Effect Holder ℤ → Type 0
   BothFit P stmts d e = FitsEffect stmts (low_of P) d × FitsEffect stmts (high_of P) e
 
-  pub none_fit : (stmts : List Stmt) (e : Effect Place ℤ) → FitsEffect stmts [] e
+  pub none_fit : (stmts : List Stmt) (e : Effect Holder ℤ) → FitsEffect stmts [] e
   none_fit stmts e L m t s p = absurd (true≢false (sym t))
 
-  pub word_copied : (t u f g d e : Spot) (P Q : InnerPlace) → WordAt t u P → WordAt f g Q → Unpushed Q → BothFit P (mov_stmts word_width P Q) (copying d) (copying e)
+  pub word_copied : (t u f g d e : Spot) (P Q : OperandPlace) → WordAt t u P → WordAt f g Q → Unpushed Q → BothFit P (mov_stmts word_width P Q) (copying d) (copying e)
   word_copied _ _ f g d e _ Q (HasWord.two_halves {l = l} {m = h} a b low high) q unpushed = (
     λ L m t s p.
         copy_lost (mov_stmts word_width (word l h) Q) none d m
@@ -280,7 +281,7 @@ module _ (coarse : Procedures ℕ Place ℤ) (fine : Procedures Position Loc Loc
 
   -- All together.
 
-  pub word_pairing : (t u f g : Spot) (P Q : InnerPlace) (d e : Effect Place ℤ) → WordAt t u P → WordAt f g Q → Shows (IsSame o) (λ M. (is_place body M ≡ true) × (addresses M ≡ true)) (address_reads P ++ address_reads Q)
+  pub word_pairing : (t u f g : Spot) (P Q : OperandPlace) (d e : Effect Holder ℤ) → WordAt t u P → WordAt f g Q → Shows (IsSame o) (λ M. (is_holder body M ≡ true) × (addresses M ≡ true)) (address_reads P ++ address_reads Q)
       → BothFit P (mov_stmts word_width P Q) d e
       → Pairing coarse fine r entry at pushed o bodies body point v (mov_stmts word_width P Q) (zipped addresses (d ∷ e ∷ []) (t ∷ u ∷ []) (f ∷ g ∷ [])) (outs P)
   word_pairing t u f g P Q d e p q shown fit = record {
@@ -291,8 +292,8 @@ module _ (coarse : Procedures ℕ Place ℤ) (fine : Procedures Position Loc Loc
   }
 
   -- bytes that are copied
-  pub copied_pairing : (w : Width) (to from : List Spot) (P Q : InnerPlace) → HasBytes o body (coarse.procedure entry).is_exposed w to P → HasBytes o body (coarse.procedure entry).is_exposed w from Q
-      → Shows (IsSame o) (λ M. (is_place body M ≡ true) × (addresses M ≡ true)) (address_reads P ++ address_reads Q) → Unpushed Q
+  pub copied_pairing : (w : Width) (to from : List Spot) (P Q : OperandPlace) → HasBytes o body (coarse.procedure entry).is_exposed w to P → HasBytes o body (coarse.procedure entry).is_exposed w from Q
+      → Shows (IsSame o) (λ M. (is_holder body M ≡ true) × (addresses M ≡ true)) (address_reads P ++ address_reads Q) → Unpushed Q
       → Pairing coarse fine r entry at pushed o bodies body point v (mov_stmts w P Q) (moves_between addresses to from) (outs P)
   copied_pairing _ _ _ P Q (HasBytes.as_byte {f = t} p) (HasBytes.as_byte {f = f} q) shown unpushed = record {
     paired = byte_paired t f P Q (copying f) p q shown (byte_copied t f f P Q p q unpushed);

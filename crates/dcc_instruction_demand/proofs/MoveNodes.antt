@@ -9,25 +9,26 @@ use Rattle.dcc_num.specs.declared.Width.TheVariants.{Byte as byte_width, Word as
 use Rattle.dcc_num.specs.declared.Reg.TheVariants.{Ax, Cx, Dx, Bx, Sp, Bp, Si, Di}
 use Rattle.dcc_num.specs.declared.Half.{Half as HalfName}
 use Rattle.dcc_num.specs.declared.Half.TheVariants.{Low}
-use Rattle.dcc_prog.specs.declared.image.Image.{Image}
+use Rattle.dcc_machine.specs.declared.image.Image.{Image}
 use Rattle.dcc_prog.specs.declared.procedure.Layout.{Layout}
 use Rattle.dcc_prog.specs.declared.procedure.Node.{Node}
 use Rattle.dcc_prog.specs.declared.frame.Program.{Program as Analysed}
-use Rattle.dcc_prog.specs.declared.instr.Ea.{Ea}
-use Rattle.dcc_prog.specs.declared.instr.Instr.{Instr}
-use Rattle.dcc_prog.specs.declared.instr.Operand.{Operand}
-use Rattle.dcc_prog.specs.declared.instr.Operand.TheVariants.{Word, Byte, Seg, Mem, Const}
-use Rattle.dcc_prog.specs.declared.instr.Op.{Op}
-use Rattle.dcc_prog.specs.declared.instr.Op.TheVariants.{Mov, Xchg, Push, Pop}
-use Rattle.dcc_prog.specs.Machine.{is_bp, operand_width}
-use Rattle.dcc_prog.specs.Access.{is_direct, bytes_in}
+use Rattle.dcc_machine.specs.declared.instr.Ea.{Ea}
+use Rattle.dcc_machine.specs.declared.instr.Instr.{Instr}
+use Rattle.dcc_machine.specs.declared.instr.Operand.{Operand}
+use Rattle.dcc_machine.specs.declared.instr.Operand.TheVariants.{Word, Byte, Seg, Mem, Const}
+use Rattle.dcc_machine.specs.declared.instr.Op.{Op}
+use Rattle.dcc_machine.specs.declared.instr.Op.TheVariants.{Mov, Xchg, Push, Pop}
+use Rattle.dcc_machine.specs.Machine.{is_bp, operand_width}
+use Rattle.dcc_machine.specs.Access.{is_direct, bytes_in}
 use Rattle.dcc_prog.specs.Frame.{memory_of, memory_operand, offset_in_frame, span_of, IsPiece, used, IsUsed, IsMovedWord, pushed, popped}
-use Rattle.dcc_prog.specs.FrameForm.{is_framed, is_by_bp, is_sp_or_bp, uses_bp_address}
+use Rattle.dcc_machine.specs.SpAndBp.{is_by_bp, is_sp_or_bp, uses_bp_address}
+use Rattle.dcc_prog.specs.FrameForm.{is_framed}
 use Rattle.dcc_prog.specs.Found.{IsNodeFound}
 use Rattle.dcc_prog.specs.Height.{IsHeight, HasHeight}
-use Rattle.dcc_prog.specs.Wanted.{Location, half_of, flag_of}
-use Rattle.dcc_prog.specs.Writes.{is_half_of, writes_half}
-use Rattle.dcc_prog.proofs.LocationKept.{or-none}
+use Rattle.dcc_machine.specs.Wanted.{Location, half_of, flag_of}
+use Rattle.dcc_machine.specs.Writes.{is_half_of, writes_half}
+use Rattle.dcc_machine.proofs.LocationKept.{or-none}
 use Rattle.dcc_stack.specs.Accepted.{IsAt, IsForm}
 use Rattle.dcc_stack.specs.Slots.{is_memory}
 use Rattle.dcc_stack.proofs.FormLaws.{in-form}
@@ -37,7 +38,7 @@ use Rattle.dcc_ir.specs.Tree.{Program}
 use Rattle.dcc_ir.specs.Live.{is_among}
 use Rattle.dcc_ir.proofs.LocationLaws.{location_same}
 use Rattle.dcc_ir.proofs.PathLaws.{decided}
-use Rattle.dcc_ops.specs.Place.{Place as InnerPlace, byte, memory}
+use Rattle.dcc_ops.specs.OperandPlace.{OperandPlace, byte, memory}
 use Rattle.dcc_ops.specs.Computed.{computed_expr}
 use Rattle.dcc_ops.specs.Statements.{mov_stmts}
 use Rattle.dcc_lift.specs.Blocks.{node_in, height_in}
@@ -50,8 +51,8 @@ use Rattle.dcc_simulation.specs.Statements.{moves_frame}
 use Rattle.dcc_simulation.proofs.TabledOperands.{IsSource, IsTarget, IsRegister, source-of}
 use Rattle.dcc_demand.specs.Procedures.{Procedures}
 use Rattle.dcc_machine_demand.specs.Bodies.{Body, bodies_of}
-use Rattle.dcc_machine_demand.specs.Places.{Place, in_frame, is_at, is_same_place, is_exposed_place, is_in_cell}
-use Rattle.dcc_machine_demand.specs.Places.{is_accessed_by, spots_of, spots_of_memory, Spot}
+use Rattle.dcc_machine_demand.specs.Holders.{Holder, in_frame, is_at, is_same_holder, is_exposed_holder, is_in_cell}
+use Rattle.dcc_machine_demand.specs.Holders.{is_accessed_by, spots_of, spots_of_memory, Spot}
 use Rattle.dcc_machine_demand.specs.Moves.{Move, moves_of, moves_between, of_either, pushed_offset, popped_offset}
 use Rattle.dcc_sums.specs.Points.{Position}
 use Rattle.dcc_sums.specs.Instance.{is_pushed}
@@ -163,18 +164,18 @@ module _ (image : Image) (layout : Layout) (entry at height : ℕ) where
 -- Bytes of operands.
 
 -- a half of these bytes stands for one of them
-half_spot : (o : Option Procedure) (body : Body) (exposed : Place → Bool) (w : Width) (spots : List Spot) (Q : InnerPlace) → HasBytes o body exposed w spots Q → (m : Loc) → is_among (low_of Q ++ high_of Q) m ≡ true
-    → (L : Place) × IsSame o L m × (any_at spots L ≡ true)
+half_spot : (o : Option Procedure) (body : Body) (exposed : Holder → Bool) (w : Width) (spots : List Spot) (Q : OperandPlace) → HasBytes o body exposed w spots Q → (m : Loc) → is_among (low_of Q ++ high_of Q) m ≡ true
+    → (L : Holder) × IsSame o L m × (any_at spots L ≡ true)
 half_spot o body exposed _ _ _ (HasBytes.as_byte (HasByte.one_half {L = L} {l = l} h)) m t =
-    (L, subst (λ y. IsSame o L y) (sym (location_same m l (sym (or_none (same_location m l)) ∙ t))) h.same, or_here (is_same_place L L) false (place_itself L))
+    (L, subst (λ y. IsSame o L y) (sym (location_same m l (sym (or_none (same_location m l)) ∙ t))) h.same, or_here (is_same_holder L L) false (place_itself L))
 half_spot o body exposed _ _ _ (HasBytes.as_byte HasByte.constant_byte) m t = absurd (true≢false (sym t))
 half_spot o body exposed _ _ _ (HasBytes.as_byte (HasByte.open_byte opens kept)) m t = absurd (true≢false (sym t))
 half_spot o body exposed _ _ _ (HasBytes.as_word (HasWord.two_halves {L = L} {M = M} {l = l} {m = h} a b low high)) m t = elim (or_cases (same_location m l) (same_location m h || false) t) [
-  | inl e ↦ (L, subst (λ y. IsSame o L y) (sym (location_same m l e)) a.same, or_here (is_same_place L L) (is_same_place L M || false) (place_itself L))
+  | inl e ↦ (L, subst (λ y. IsSame o L y) (sym (location_same m l e)) a.same, or_here (is_same_holder L L) (is_same_holder L M || false) (place_itself L))
   | inr e ↦ (
     M,
     subst (λ y. IsSame o M y) (sym (location_same m h (sym (or_none (same_location m h)) ∙ e))) b.same,
-    or_there (is_same_place M L) (is_same_place M M || false) (or_here (is_same_place M M) false (place_itself M)),
+    or_there (is_same_holder M L) (is_same_holder M M || false) (or_here (is_same_holder M M) false (place_itself M)),
   )
 ]
 half_spot o body exposed _ _ _ (HasBytes.as_word HasWord.constant_word) m t = absurd (true≢false (sym t))
@@ -194,7 +195,7 @@ module _ (image : Image) (program : Analysed) (p : Program) (is : IsTranslated i
   abbrev layout : Layout
   layout = program.layout
 
-  abbrev coarse : Procedures ℕ Place ℤ
+  abbrev coarse : Procedures ℕ Holder ℤ
   coarse = setting.coarse image program p is entry x
 
   abbrev fine : Procedures Position Loc Loc
@@ -209,10 +210,10 @@ module _ (image : Image) (program : Analysed) (p : Program) (is : IsTranslated i
   abbrev q : Procedure
   q = refined.procedure image program p is entry x
 
-  abbrev exposed : Place → Bool
+  abbrev exposed : Holder → Bool
   exposed = (coarse.procedure entry).is_exposed
 
-  exposed_is : (k : ℤ) → (coarse.procedure entry).is_exposed (in_frame k) ≡ is_exposed_place body (in_frame k)
+  exposed_is : (k : ℤ) → (coarse.procedure entry).is_exposed (in_frame k) ≡ is_exposed_holder body (in_frame k)
   exposed_is k = ap (λ g. g.is_exposed (in_frame k)) (refined.coarse_is image program p is entry x)
 
   module _ (node : Node) (op : Op) (stands : node_in x.proc.nodes.entries at ≡ Some (point_with_op node height op).node) where
@@ -240,7 +241,7 @@ module _ (image : Image) (program : Analysed) (p : Program) (is : IsTranslated i
     -- Operands.
 
     module _ (a : Operand) (named : (w : Width) (ea : Ea) → memory_of a ≡ Some (w, ea) → memory_operand op ≡ Some (w, ea)) (uses : is_by_bp a ≡ true → uses_bp_address op ≡ true) where
-      abbrev Bytes : Operand → InnerPlace → Type 0
+      abbrev Bytes : Operand → OperandPlace → Type 0
       Bytes b Q = AreBytesAt o body exposed (operand_width b) b Q
 
       module _ (w : Width) (ea : Ea) (e : a ≡ Mem w ea) where
@@ -306,10 +307,10 @@ module _ (image : Image) (program : Analysed) (p : Program) (is : IsTranslated i
       exchangeable_by (Mem w ea) e t s = memory_exchangeable w ea e
 
       -- a byte of the operand is none of a pushed word
-      unpushed : (w : Width) (Q : InnerPlace) → AreBytesAt o body exposed w a Q → (m : Loc) → is_among (low_of Q ++ high_of Q) m ≡ true → is_pushed (pushed_of q) m ≡ false
+      unpushed : (w : Width) (Q : OperandPlace) → AreBytesAt o body exposed w a Q → (m : Loc) → is_among (low_of Q ++ high_of Q) m ≡ true → is_pushed (pushed_of q) m ≡ false
       unpushed w Q bytes m t = by (half_spot o body exposed w (spots_of body a) Q bytes.bytes m t)
         where
-          at_place : (L : Place) → IsSame o L m → any_at (spots_of body a) L ≡ true → SameCases o L m → is_pushed (pushed_of q) m ≡ false
+          at_place : (L : Holder) → IsSame o L m → any_at (spots_of body a) L ≡ true → SameCases o L m → is_pushed (pushed_of q) m ≡ false
           at_place L s i (SameCases.by_held location c e f) = ap (is_pushed (pushed_of q)) f ∙ inner location
             where
               inner : (l : Location) → is_pushed (pushed_of q) (inner_of l) ≡ false
@@ -323,7 +324,7 @@ module _ (image : Image) (program : Analysed) (p : Program) (is : IsTranslated i
                 absurd (true≢false (sym (accessed_spots body op a named k (ap (any_at (spots_of body a)) (sym e) ∙ i)) ∙ unreached o q x.procedure_found x.own at here stands k m saved))
           ]
 
-          by : (L : Place) × IsSame o L m × (any_at (spots_of body a) L ≡ true) → is_pushed (pushed_of q) m ≡ false
+          by : (L : Holder) × IsSame o L m × (any_at (spots_of body a) L ≡ true) → is_pushed (pushed_of q) m ≡ false
           by found = at_place found.0 found.1 found.2 (same_cases o found.1)
 
     -- Words of the stack.

@@ -1,13 +1,13 @@
 -- MOV, XCHG, PUSH and POP of a procedure that is found, in their setting.
 use Rattle.std.proofs.Common.{◌≡◌, ℕ, ℤ, true, false, Option, ◌&&◌, ◌||◌, if◌then◌else◌, None, Some, refl, sym, ap, ◌∙◌, subst, true≢false}
 use Rattle.std.specs.Prelude.{Contains}
-use Rattle.dcc_prog.specs.declared.image.Image.{Image}
+use Rattle.dcc_machine.specs.declared.image.Image.{Image}
 use Rattle.dcc_prog.specs.declared.frame.Program.{Program as Analysed}
 use Rattle.dcc_prog.specs.declared.procedure.Node.{Node}
-use Rattle.dcc_prog.specs.Wanted.{half_of, flag_of}
+use Rattle.dcc_machine.specs.Wanted.{half_of, flag_of}
 use Rattle.dcc_num.specs.declared.Width.TheVariants.{Byte as byte_width}
 use Rattle.dcc_ir.specs.declared.syntax.Loc.{Loc}
-use Rattle.dcc_ops.specs.Place.{byte}
+use Rattle.dcc_ops.specs.OperandPlace.{byte}
 use Rattle.dcc_stack.specs.Slots.{writes_memory}
 use Rattle.dcc_ir.specs.Tree.{Graph, Program}
 use Rattle.dcc_simulation.specs.Procedures.{Procedure, frame_place, pushed_of}
@@ -16,7 +16,7 @@ use Rattle.dcc_lift.specs.Translated.{IsTranslated}
 use Rattle.dcc_lift.proofs.ListTests.{or_none}
 use Rattle.dcc_demand.specs.Procedures.{Leaves, Makes, Overwrites, Procedures}
 use Rattle.dcc_machine_demand.specs.Bodies.{Body, Point, bodies_of}
-use Rattle.dcc_machine_demand.specs.Places.{Place, held, in_frame, is_accessed_by}
+use Rattle.dcc_machine_demand.specs.Holders.{Holder, held, in_frame, is_accessed_by}
 use Rattle.dcc_machine_demand.specs.Moves.{moves_of, moved_effect, moved_made_of, moved_uses, pushed_from}
 use Rattle.dcc_machine_demand.specs.Moves.{pushed_offset, pushed_spots}
 use Rattle.dcc_machine_demand.specs.Values.{value_written, is_sure, value_made_of, value_uses}
@@ -31,7 +31,7 @@ use Rattle.dcc_instruction_demand.proofs.SettingLaws as setting
 
 module _ (image : Image) (program : Analysed) (p : Program) (is : IsTranslated image program p) (entry : ℕ) (x : refined.Link image program p is entry) (at : ℕ) (node : Node) (height : ℕ)
     (found : node_in x.proc.nodes.entries at ≡ Some node) (high : height_in x.own at ≡ Some height) where
-  abbrev coarse : Procedures ℕ Place ℤ
+  abbrev coarse : Procedures ℕ Holder ℤ
   coarse = setting.coarse image program p is entry x
 
   abbrev fine : Procedures Position Loc Loc
@@ -46,16 +46,16 @@ module _ (image : Image) (program : Analysed) (p : Program) (is : IsTranslated i
   abbrev point : Point
   point = setting.point image program p is entry x at node height found high
 
-  untouched : (L : Place) → asks.touches_byte None height L ≡ false
+  untouched : (L : Holder) → asks.touches_byte None height L ≡ false
   untouched (held l) = refl
   untouched (in_frame k) = refl
 
-  unpassed : (L : Place) → asks.passes_byte None height L ≡ false
+  unpassed : (L : Holder) → asks.passes_byte None height L ≡ false
   unpassed (held l) = refl
   unpassed (in_frame k) = refl
 
   -- no location stands for what may be read anywhere
-  hidden : (L : Place) (l : Loc) → (coarse.procedure entry).is_exposed L ≡ true → SameCases found_procedure L l → ⊥
+  hidden : (L : Holder) (l : Loc) → (coarse.procedure entry).is_exposed L ≡ true → SameCases found_procedure L l → ⊥
   hidden L l e (SameCases.by_held location t f g) = true≢false (sym e ∙ ap (coarse.procedure entry).is_exposed f ∙ ap (λ g. g.is_exposed (held location)) (refined.coarse_is image program p is entry x))
   hidden L l e (SameCases.by_kept other k t f kept g) =
       let same : other ≡ refined.procedure image program p is entry x = cc (t, x.procedure_found) in
@@ -96,7 +96,7 @@ module _ (image : Image) (program : Analysed) (p : Program) (is : IsTranslated i
         else pushed_from (pushed_offset height) (pushed_spots body node.instr.op) k) m.callee;
   }
     where
-      sure_by : IsMover (bodies_of program) body height node.instr.op → (L : Place) → moved_to (moves_of body height node.instr.op) L ≡ true → is_sure node.instr.op L ≡ true
+      sure_by : IsMover (bodies_of program) body height node.instr.op → (L : Holder) → moved_to (moves_of body height node.instr.op) L ≡ true → is_sure node.instr.op L ≡ true
       sure_by m (held (half_of q h)) t = m.sure_half q h
       sure_by m (held (flag_of f)) t = absurd (true≢false (sym t ∙ m.no_flag f))
       sure_by m (in_frame k) t = m.sure_frame k

@@ -6,7 +6,7 @@ use Rattle.std.proofs.lemmas.List.{append-nil}
 use Rattle.std.proofs.lemmas.Grind.{flat_map-append}
 use Rattle.dcc_num.specs.declared.Width.{Width}
 use Rattle.dcc_num.specs.declared.Half.TheVariants.{Low, High}
-use Rattle.dcc_prog.proofs.LocationKept.{or-none}
+use Rattle.dcc_machine.proofs.LocationKept.{or-none}
 use Rattle.dcc_ir.specs.declared.syntax.Loc.{Loc}
 use Rattle.dcc_ir.specs.declared.syntax.Loc.TheVariants.{Half, Flag, Cell, Temp}
 use Rattle.dcc_ir.specs.Location.{same_location, register_number}
@@ -16,7 +16,7 @@ use Rattle.dcc_ir.specs.Demand.{makes_of}
 use Rattle.dcc_ir.specs.Live.{is_among}
 use Rattle.dcc_ir.proofs.LocationLaws.{location_itself, location_same}
 use Rattle.dcc_ir.proofs.PathLaws.{decided}
-use Rattle.dcc_ops.specs.Place.{Place, memory, is_low, is_high, taking, storing}
+use Rattle.dcc_ops.specs.OperandPlace.{OperandPlace, memory, is_low, is_high, taking, storing}
 use Rattle.dcc_ops.specs.Temporaries.{left_place}
 use Rattle.dcc_ops.specs.Expressions.{left}
 use Rattle.dcc_ops.specs.Statements.{mov_stmts}
@@ -114,7 +114,7 @@ still_one l m e apart = append-nil (before (Set l e) m) ∙ ap (λ b. if b || fa
 pub set_second : (l h m : Loc) (e f : Expr) → reads_of f ≡ m ∷ [] → same_location m l ≡ false → sources (Set l e ∷ Set h f ∷ []) h ≡ m ∷ []
 set_second l h m e f reads apart = ap (flat_map (before (Set l e))) (set_alone h f ∙ reads) ∙ still_one l m e apart
 
-pub taken : (t : Loc) (Q : Place) → flat_map (before (taking t Q)) (t ∷ []) ≡ reads_at Q
+pub taken : (t : Loc) (Q : OperandPlace) → flat_map (before (taking t Q)) (t ∷ []) ≡ reads_at Q
 taken t Q = append-nil (before (taking t Q) t) ∙ before_taking t Q t ∙ ap (λ b. if b then reads_at Q else t ∷ []) (location_itself t)
 
 -- Two statements after each other.
@@ -137,7 +137,7 @@ written_two l h m e f = by (same_location m l) (same_location m h)
 
 -- Through a temporary.
 
-module _ (w : Width) (Q : Place) where
+module _ (w : Width) (Q : OperandPlace) where
   pub moved_unwritten : (ss : List Stmt) (m : Loc) → is_lasting m ≡ true → is_written (taking (left_place w) Q ∷ ss) m ≡ is_written ss m
   moved_unwritten ss m t = taking_written (left_place w) Q m (lasts_left w m t) ss
 

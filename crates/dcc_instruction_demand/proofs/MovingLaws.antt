@@ -9,13 +9,13 @@ use Rattle.dcc_num.specs.declared.Reg.{Reg}
 use Rattle.dcc_num.specs.declared.Half.{Half as HalfName}
 use Rattle.dcc_num.specs.declared.Half.TheVariants.{Low, High}
 use Rattle.dcc_num.specs.declared.FlagName.{FlagName}
-use Rattle.dcc_prog.specs.declared.instr.Operand.{Operand}
-use Rattle.dcc_prog.specs.declared.instr.Operand.TheVariants.{Word, Byte, Seg, Mem, Const}
-use Rattle.dcc_prog.specs.declared.instr.Op.{Op}
-use Rattle.dcc_prog.specs.declared.instr.Op.TheVariants.{Mov, Xchg, Push, Pop}
+use Rattle.dcc_machine.specs.declared.instr.Operand.{Operand}
+use Rattle.dcc_machine.specs.declared.instr.Operand.TheVariants.{Word, Byte, Seg, Mem, Const}
+use Rattle.dcc_machine.specs.declared.instr.Op.{Op}
+use Rattle.dcc_machine.specs.declared.instr.Op.TheVariants.{Mov, Xchg, Push, Pop}
 use Rattle.dcc_prog.specs.Frame.{offset_in_frame}
-use Rattle.dcc_prog.specs.Trail.{is_general}
-use Rattle.dcc_prog.specs.Wanted.{Location, half_of, flag_of}
+use Rattle.dcc_machine.specs.Machine.{is_general}
+use Rattle.dcc_machine.specs.Wanted.{Location, half_of, flag_of}
 use Rattle.dcc_ir.specs.declared.syntax.Loc.{Loc}
 use Rattle.dcc_ir.proofs.PathLaws.{decided}
 use Rattle.dcc_lift.proofs.ListTests.{and_left, and_right, and_both, not_true}
@@ -23,9 +23,10 @@ use Rattle.dcc_simulation.specs.Procedures.{Procedure}
 use Rattle.dcc_stack.specs.Slots.{writes_memory}
 use Rattle.dcc_demand.specs.Procedures.{Leaves, Overwrites, Action, Procedures, is_left}
 use Rattle.dcc_machine_demand.specs.Bodies.{Body, Point, op_of}
-use Rattle.dcc_machine_demand.specs.Places.{Place, held, in_frame, Spot, placed, in_memory, nowhere, passes, is_place}
-use Rattle.dcc_machine_demand.specs.Places.{is_at, is_in_cell, is_exposed_place, is_private_byte, is_accessed_by}
-use Rattle.dcc_machine_demand.specs.Places.{frame_spot, is_of_frame, spots_of, is_of_address}
+use Rattle.dcc_machine_demand.specs.Holders.{Holder, held, in_frame, Spot, placed, in_memory, nowhere, passes}
+use Rattle.dcc_machine_demand.specs.Holders.{is_holder}
+use Rattle.dcc_machine_demand.specs.Holders.{is_at, is_in_cell, is_exposed_holder, is_private_byte, is_accessed_by}
+use Rattle.dcc_machine_demand.specs.Holders.{frame_spot, is_of_frame, spots_of, is_of_address}
 use Rattle.dcc_machine_demand.specs.Moves.{Move, copying, moves_between, popping, word_spots, pushed_offset}
 use Rattle.dcc_machine_demand.specs.Moves.{popped_offset, of_either, moves_of, moved_effect, moved_made_of, moved_uses}
 use Rattle.dcc_machine_demand.specs.Moves.{pushed_from, pushed_spots}
@@ -38,14 +39,14 @@ use Rattle.dcc_lifted_demand.specs.LiftedRefinement.{IsSame, IsSameWord}
 use Rattle.dcc_instruction_demand.proofs.FormLaws.{all_append}
 
 -- a byte is moved there
-abbrev pub moved_to : List Move → Place → Bool
+abbrev pub moved_to : List Move → Holder → Bool
 moved_to moves L = list_any (λ (move : Move). is_at move.to L) moves
 
 -- each move of the list moves something
 abbrev pub all_move : List Move → Bool
 all_move moves = list_all (λ (move : Move). not (is_left move.effect)) moves
 
-pub moved_left : (moves : List Move) (L : Place) → moved_to moves L ≡ false → moved_effect moves L ≡ Leaves
+pub moved_left : (moves : List Move) (L : Holder) → moved_to moves L ≡ false → moved_effect moves L ≡ Leaves
 moved_left [] L e = refl
 moved_left (move ∷ moves) L e = by (is_at move.to L) e (λ f. moved_left moves L f)
   where
@@ -53,7 +54,7 @@ moved_left (move ∷ moves) L e = by (is_at move.to L) e (λ f. moved_left moves
     by true e rest = absurd (true≢false e)
     by false e rest = rest e
 
-pub moved_written : (moves : List Move) (L : Place) → all_move moves ≡ true → is_left (moved_effect moves L) ≡ not (moved_to moves L)
+pub moved_written : (moves : List Move) (L : Holder) → all_move moves ≡ true → is_left (moved_effect moves L) ≡ not (moved_to moves L)
 moved_written [] L t = refl
 moved_written (move ∷ moves) L t = by (is_at move.to L) (moved_written moves L (and_right (not (is_left move.effect)) (all_move moves) t))
   where
@@ -68,7 +69,7 @@ copied (placed place) = refl
 copied in_memory = refl
 copied nowhere = refl
 
-between_move : (addresses : Place → Bool) (to from : List Spot) → all_move (moves_between addresses to from) ≡ true
+between_move : (addresses : Holder → Bool) (to from : List Spot) → all_move (moves_between addresses to from) ≡ true
 between_move addresses [] from = refl
 between_move addresses (spot ∷ to) [] = between_move addresses to []
 between_move addresses (spot ∷ to) (other ∷ from) = and_both (not (is_left (copying other))) (all_move (moves_between addresses to from)) (copied other) (between_move addresses to from)
@@ -78,19 +79,19 @@ popping_move body a [] k = refl
 popping_move body a (spot ∷ to) k = popping_move body a to (k +ℤ pos 1)
 
 -- a byte of these is the place
-abbrev pub any_at : List Spot → Place → Bool
+abbrev pub any_at : List Spot → Holder → Bool
 any_at spots L = list_any (λ spot. is_at spot L) spots
 
-pub between_to : (addresses : Place → Bool) (to from : List Spot) (L : Place) → moved_to (moves_between addresses to from) L ≡ any_at to L
+pub between_to : (addresses : Holder → Bool) (to from : List Spot) (L : Holder) → moved_to (moves_between addresses to from) L ≡ any_at to L
 between_to addresses [] from L = refl
 between_to addresses (spot ∷ to) [] L = ap (λ b. is_at spot L || b) (between_to addresses to [] L)
 between_to addresses (spot ∷ to) (other ∷ from) L = ap (λ b. is_at spot L || b) (between_to addresses to from L)
 
-pub popping_to : (body : Body) (a : Operand) (to : List Spot) (k : ℤ) (L : Place) → moved_to (popping body a to k) L ≡ any_at to L
+pub popping_to : (body : Body) (a : Operand) (to : List Spot) (k : ℤ) (L : Holder) → moved_to (popping body a to k) L ≡ any_at to L
 popping_to body a [] k L = refl
 popping_to body a (spot ∷ to) k L = ap (λ b. is_at spot L || b) (popping_to body a to (k +ℤ pos 1) L)
 
-moved_append : (xs ys : List Move) (L : Place) → moved_to xs L ≡ false → moved_to ys L ≡ false → moved_to (xs ++ ys) L ≡ false
+moved_append : (xs ys : List Move) (L : Holder) → moved_to xs L ≡ false → moved_to ys L ≡ false → moved_to (xs ++ ys) L ≡ false
 moved_append xs ys L e f = list_any-append (λ (move : Move). is_at move.to L) xs ys ∙ ap (λ b. b || moved_to ys L) e ∙ f
 
 -- No half and no flag is a byte of the frame, and no flag is moved.
@@ -185,8 +186,8 @@ mover bodies body height (Pop a) t = record {
 }
 mover bodies body height op t = absurd (true≢false (sym t))
 
-module _ (coarse : Procedures ℕ Place ℤ) (fine : Procedures Position Loc Loc) (r : Refinement ℕ Place ℤ Position Loc Loc) (entry at pushed : ℕ) (o : Option Procedure) (bodies : List Body) (body : Body) (point : Point) where
-  abbrev x : Action Place ℤ
+module _ (coarse : Procedures ℕ Holder ℤ) (fine : Procedures Position Loc Loc) (r : Refinement ℕ Holder ℤ Position Loc Loc) (entry at pushed : ℕ) (o : Option Procedure) (bodies : List Body) (body : Body) (point : Point) where
+  abbrev x : Action Holder ℤ
   x = (coarse.procedure entry).action at
 
   abbrev moves : List Move
@@ -194,24 +195,24 @@ module _ (coarse : Procedures ℕ Place ℤ) (fine : Procedures Position Loc Loc
 
   -- the instruction at the offset is one
   pub record IsMovingOperation : Type 0 where
-    pub same : (L : Place) (l : Loc) → r.same entry L l → IsSame o L l
-    pub as_same : (L : Place) (l : Loc) → IsSame o L l → r.same entry L l
+    pub same : (L : Holder) (l : Loc) → r.same entry L l → IsSame o L l
+    pub as_same : (L : Holder) (l : Loc) → IsSame o L l → r.same entry L l
     pub same_word : (k : ℤ) (l : Loc) → r.same_word entry k l → IsSameWord o k l
-    pub exposed : (L : Place) → (coarse.procedure entry).is_exposed L ≡ is_exposed_place body L
+    pub exposed : (L : Holder) → (coarse.procedure entry).is_exposed L ≡ is_exposed_holder body L
     pub private : (k : ℤ) → (coarse.procedure entry).is_private k ≡ is_private_byte body k
     pub fine_private : (l : Loc) → (fine.procedure entry).is_private l ≡ is_pushed pushed l
-    pub passes_is : (L : Place) → coarse.passes L ≡ passes L
+    pub passes_is : (L : Holder) → coarse.passes L ≡ passes L
     -- no two places are one location, and none stands for what may be read anywhere
-    pub one : (L M : Place) (l : Loc) → IsSame o L l → IsSame o M l → L ≡ M
-    pub unexposed : (L : Place) (l : Loc) → IsSame o L l → (coarse.procedure entry).is_exposed L ≡ true → ⊥
+    pub one : (L M : Holder) (l : Loc) → IsSame o L l → IsSame o M l → L ≡ M
+    pub unexposed : (L : Holder) (l : Loc) → IsSame o L l → (coarse.procedure entry).is_exposed L ≡ true → ⊥
     -- the instruction goes on
     pub goes : (b : ℕ) × Contains ((coarse.procedure entry).next at) b
     pub is : (coarse.procedure entry).action at ≡ asks.action_of bodies body point
-    pub effect_is : (L : Place) → asks.effect_at bodies body point L ≡ moved_effect (moves_of body point.height (op_of point)) L
-    pub made_is : (to from : Place) → asks.made_at bodies body point to from ≡ moved_made_of (moves_of body point.height (op_of point)) to from
-    pub uses_is : (L : Place) → asks.uses_at bodies body point L ≡ moved_uses (moves_of body point.height (op_of point)) L
+    pub effect_is : (L : Holder) → asks.effect_at bodies body point L ≡ moved_effect (moves_of body point.height (op_of point)) L
+    pub made_is : (to from : Holder) → asks.made_at bodies body point to from ≡ moved_made_of (moves_of body point.height (op_of point)) to from
+    pub uses_is : (L : Holder) → asks.uses_at bodies body point L ≡ moved_uses (moves_of body point.height (op_of point)) L
     pub all : all_move (moves_of body point.height (op_of point)) ≡ true
-    pub sure : (L : Place) → moved_to (moves_of body point.height (op_of point)) L ≡ true → is_sure (op_of point) L ≡ true
+    pub sure : (L : Holder) → moved_to (moves_of body point.height (op_of point)) L ≡ true → is_sure (op_of point) L ≡ true
     pub callee_is : asks.callee_of (op_of point) ≡ None
     pub word_is : (k : ℤ) → (asks.action_of bodies body point).word_effect k
         ≡ (if writes_memory (op_of point) && is_accessed_by body (op_of point) k then Overwrites
@@ -221,52 +222,52 @@ module _ (coarse : Procedures ℕ Place ℤ) (fine : Procedures Position Loc Loc
     pub word_there : (k : ℤ) → x.word_effect k
         ≡ (if writes_memory (op_of point) && is_accessed_by body (op_of point) k then Overwrites
         else pushed_from (pushed_offset point.height) (pushed_spots body (op_of point)) k)
-    word_there k = ap (λ (y : Action Place ℤ). y.word_effect k) v.is ∙ v.word_is k
+    word_there k = ap (λ (y : Action Holder ℤ). y.word_effect k) v.is ∙ v.word_is k
 
-    pub effect_there : (L : Place) → x.effect L ≡ moved_effect (moves_of body point.height (op_of point)) L
-    effect_there L = ap (λ (y : Action Place ℤ). y.effect L) v.is ∙ v.effect_is L
+    pub effect_there : (L : Holder) → x.effect L ≡ moved_effect (moves_of body point.height (op_of point)) L
+    effect_there L = ap (λ (y : Action Holder ℤ). y.effect L) v.is ∙ v.effect_is L
 
-    pub made_there : (to from : Place) → x.made_of to from ≡ (is_place body from && moved_made_of (moves_of body point.height (op_of point)) to from)
-    made_there to from = ap (λ (y : Action Place ℤ). y.made_of to from) v.is ∙ ap (λ b. is_place body from && b) (v.made_is to from)
+    pub made_there : (to from : Holder) → x.made_of to from ≡ (is_holder body from && moved_made_of (moves_of body point.height (op_of point)) to from)
+    made_there to from = ap (λ (y : Action Holder ℤ). y.made_of to from) v.is ∙ ap (λ b. is_holder body from && b) (v.made_is to from)
 
-    pub uses_there : (L : Place) → x.uses L ≡ (is_place body L && moved_uses (moves_of body point.height (op_of point)) L)
-    uses_there L = ap (λ (y : Action Place ℤ). y.uses L) v.is ∙ ap (λ b. is_place body L && b) (v.uses_is L)
+    pub uses_there : (L : Holder) → x.uses L ≡ (is_holder body L && moved_uses (moves_of body point.height (op_of point)) L)
+    uses_there L = ap (λ (y : Action Holder ℤ). y.uses L) v.is ∙ ap (λ b. is_holder body L && b) (v.uses_is L)
 
     pub callee_there : x.callee ≡ None
-    callee_there = ap (λ (y : Action Place ℤ). y.callee) v.is ∙ v.callee_is
+    callee_there = ap (λ (y : Action Holder ℤ). y.callee) v.is ∙ v.callee_is
 
-    pub left_there : (L : Place) → is_left (x.effect L) ≡ not (moved_to moves L)
+    pub left_there : (L : Holder) → is_left (x.effect L) ≡ not (moved_to moves L)
     left_there L = ap is_left (effect_there L) ∙ moved_written moves L v.all
 
-    surely_there : (L : Place) → x.surely L ≡ moved_to moves L
+    surely_there : (L : Holder) → x.surely L ≡ moved_to moves L
     surely_there L =
-        ap (λ (y : Action Place ℤ). y.surely L) v.is
+        ap (λ (y : Action Holder ℤ). y.surely L) v.is
         ∙ ap (λ b. not b && is_sure (op_of point) L) (ap is_left (v.effect_is L) ∙ moved_written moves L v.all) ∙ by (moved_to moves L) refl
       where
         by : (b : Bool) → moved_to moves L ≡ b → (not (not b) && is_sure (op_of point) L) ≡ b
         by true e = v.sure L e
         by false e = refl
 
-    pub writes_if : (L : Place) → is_left (x.effect L) ≡ false → moved_to moves L ≡ true
+    pub writes_if : (L : Holder) → is_left (x.effect L) ≡ false → moved_to moves L ≡ true
     writes_if L w = elim (decided (moved_to moves L)) [
       | inl t ↦ t
       | inr e ↦ absurd (true≢false (sym (left_there L ∙ ap not e) ∙ w))
     ]
 
-    pub if_writes : (L : Place) → moved_to moves L ≡ true → is_left (x.effect L) ≡ false
+    pub if_writes : (L : Holder) → moved_to moves L ≡ true → is_left (x.effect L) ≡ false
     if_writes L w = left_there L ∙ ap not w
 
     -- What the moves of an instruction carry on: what is moved, or what stays.
-    pub data CarriesOn (L A : Place) : Type 0 where
-      made : moved_to (moves_of body point.height (op_of point)) A ≡ true → is_place body L ≡ true → moved_made_of (moves_of body point.height (op_of point)) A L ≡ true → CarriesOn L A
+    pub data CarriesOn (L A : Holder) : Type 0 where
+      made : moved_to (moves_of body point.height (op_of point)) A ≡ true → is_holder body L ≡ true → moved_made_of (moves_of body point.height (op_of point)) A L ≡ true → CarriesOn L A
       stays : L ≡ A → moved_to (moves_of body point.height (op_of point)) A ≡ false → CarriesOn L A
 
-    pub carries_on : (L A : Place) → Carries coarse fine r entry at L A → CarriesOn L A
+    pub carries_on : (L A : Holder) → Carries coarse fine r entry at L A → CarriesOn L A
     carries_on L A (inl m) =
         let both = sym (made_there A L) ∙ m.1 in
-        CarriesOn.made (writes_if A m.0) (and_left (is_place body L) (moved_made_of moves A L) both) (and_right (is_place body L) (moved_made_of moves A L) both)
+        CarriesOn.made (writes_if A m.0) (and_left (is_holder body L) (moved_made_of moves A L) both) (and_right (is_holder body L) (moved_made_of moves A L) both)
     carries_on L A (inr k) = CarriesOn.stays k.0 (sym (surely_there A) ∙ subst (λ M. x.surely M ≡ false) k.0 k.1)
 
-    pub on_carries : (L A : Place) → CarriesOn L A → Carries coarse fine r entry at L A
-    on_carries L A (CarriesOn.made w p m) = inl (if_writes A w, made_there A L ∙ and_both (is_place body L) (moved_made_of moves A L) p m)
+    pub on_carries : (L A : Holder) → CarriesOn L A → Carries coarse fine r entry at L A
+    on_carries L A (CarriesOn.made w p m) = inl (if_writes A w, made_there A L ∙ and_both (is_holder body L) (moved_made_of moves A L) p m)
     on_carries L A (CarriesOn.stays e s) = inr (e, subst (λ M. x.surely M ≡ false) (sym e) (surely_there A ∙ s))

@@ -5,22 +5,22 @@ use Rattle.dcc_num.specs.declared.Width.{Width}
 use Rattle.dcc_num.specs.declared.Reg.{Reg}
 use Rattle.dcc_num.specs.declared.Reg.TheVariants.{Ax, Cx, Dx, Bx, Sp, Bp, Si, Di}
 use Rattle.dcc_num.specs.declared.Half.{Half as HalfName}
-use Rattle.dcc_prog.specs.declared.image.Image.{Image}
+use Rattle.dcc_machine.specs.declared.image.Image.{Image}
 use Rattle.dcc_prog.specs.declared.procedure.Node.{Node}
 use Rattle.dcc_prog.specs.declared.frame.Program.{Program as Analysed}
-use Rattle.dcc_prog.specs.declared.instr.Ea.{Ea}
-use Rattle.dcc_prog.specs.declared.instr.Operand.{Operand}
-use Rattle.dcc_prog.specs.declared.instr.Operand.TheVariants.{Word, Byte, Seg, Mem, Const}
-use Rattle.dcc_prog.specs.Machine.{is_bp}
-use Rattle.dcc_prog.specs.Access.{is_direct}
+use Rattle.dcc_machine.specs.declared.instr.Ea.{Ea}
+use Rattle.dcc_machine.specs.declared.instr.Operand.{Operand}
+use Rattle.dcc_machine.specs.declared.instr.Operand.TheVariants.{Word, Byte, Seg, Mem, Const}
+use Rattle.dcc_machine.specs.Machine.{is_bp, is_general}
+use Rattle.dcc_machine.specs.Access.{is_direct}
 use Rattle.dcc_prog.specs.Frame.{memory_of, memory_of_two, memory_operand, offset_in_frame}
-use Rattle.dcc_prog.specs.FrameForm.{is_by_bp, uses_bp_address}
-use Rattle.dcc_prog.specs.Trail.{is_general, code_within}
-use Rattle.dcc_prog.specs.Writes.{is_same_register}
-use Rattle.dcc_prog.specs.Wanted.{half_of, flag_of}
+use Rattle.dcc_machine.specs.SpAndBp.{is_by_bp, uses_bp_address}
+use Rattle.dcc_prog.specs.Trail.{code_within}
+use Rattle.dcc_machine.specs.Writes.{is_same_register}
+use Rattle.dcc_machine.specs.Wanted.{half_of, flag_of}
 use Rattle.dcc_ir.specs.declared.syntax.Loc.{Loc}
 use Rattle.dcc_ir.specs.Tree.{Program}
-use Rattle.dcc_ops.specs.Place.{Place as InnerPlace, memory, computed}
+use Rattle.dcc_ops.specs.OperandPlace.{OperandPlace, memory, computed}
 use Rattle.dcc_ops.specs.Computed.{computed_expr}
 use Rattle.dcc_lift.specs.Blocks.{node_in}
 use Rattle.dcc_lift.specs.Translated.{IsTranslated}
@@ -34,7 +34,7 @@ use Rattle.dcc_simulation.specs.Operands.{address_of, stack_pointer, frame_point
 use Rattle.dcc_simulation.proofs.TabledOperands.{IsSource, HavePlaces, instruction-placed}
 use Rattle.dcc_demand.specs.Procedures.{Procedures}
 use Rattle.dcc_machine_demand.specs.Bodies.{Body}
-use Rattle.dcc_machine_demand.specs.Places.{Place, held, in_frame, passes, is_exposed_place}
+use Rattle.dcc_machine_demand.specs.Holders.{Holder, held, in_frame, passes, is_exposed_holder}
 use Rattle.dcc_machine_demand.proofs.LeftLaws.{not-sp, not-bp}
 use Rattle.dcc_lifted_demand.specs.LiftedRefinement.{IsSame}
 use Rattle.dcc_lifted_demand.specs.LiftedIsRefined.{machine}
@@ -69,7 +69,7 @@ second_named (Const u n) b one v ea t = t
 
 -- SP and BP are no places.
 
-module _ (o : Option Procedure) (body : Body) (exposed : Place → Bool) (r : Reg) (apart : (q : Reg) → is_general q ≡ true → is_same_register q r ≡ false) where
+module _ (o : Option Procedure) (body : Body) (exposed : Holder → Bool) (r : Reg) (apart : (q : Reg) → is_general q ≡ true → is_same_register q r ≡ false) where
   general_of : (q : Reg) (h : HalfName) (l : Loc) → IsSame o (held (half_of q h)) l → is_general q ≡ true
   general_of q h l s = by (same_cases o s)
     where
@@ -77,17 +77,17 @@ module _ (o : Option Procedure) (body : Body) (exposed : Place → Bool) (r : Re
       by (SameCases.by_held location p e f) = ap passes e ∙ p
       by (SameCases.by_kept found k p e kept g) = absurd (cc e)
 
-  unread : (L : Place) (l : Loc) → IsSame o L l → reads_by body (Word r) L ≡ false
+  unread : (L : Holder) (l : Loc) → IsSame o L l → reads_by body (Word r) L ≡ false
   unread (held (half_of q h)) l s = or_none (is_same_register q r) ∙ apart q (general_of q h l s)
   unread (held (flag_of f)) l s = refl
   unread (in_frame k) l s = refl
 
-  unwritten : (A : Place) (l : Loc) → IsSame o A l → writes_by body (Word r) A ≡ false
+  unwritten : (A : Holder) (l : Loc) → IsSame o A l → writes_by body (Word r) A ≡ false
   unwritten (held (half_of q h)) l s = let g = general_of q h l s in ap (λ b. b && is_same_register q r) g ∙ apart q g
   unwritten (held (flag_of f)) l s = refl
   unwritten (in_frame k) l s = refl
 
-  pub pointer_at : (Q : InnerPlace) → reads_at Q ≡ [] → outs Q ≡ [] → has_kept Q ≡ true → is_stored Q ≡ false → IsOperandAt o body exposed (Word r) Q
+  pub pointer_at : (Q : OperandPlace) → reads_at Q ≡ [] → outs Q ≡ [] → has_kept Q ≡ true → is_stored Q ≡ false → IsOperandAt o body exposed (Word r) Q
   pointer_at Q reads out kept unstored = nothing_at o body exposed (Word r) Q refl refl unread unwritten reads out kept unstored
 
 module _ (image : Image) (program : Analysed) (p : Program) (is : IsTranslated image program p) (entry : ℕ) (x : refined.Link image program p is entry) (at : ℕ) (node : Node) (stands : node_in x.proc.nodes.entries at ≡ Some node) where
@@ -100,16 +100,16 @@ module _ (image : Image) (program : Analysed) (p : Program) (is : IsTranslated i
   abbrev body : Body
   body = refined.body image program p is entry x
 
-  abbrev coarse : Procedures ℕ Place ℤ
+  abbrev coarse : Procedures ℕ Holder ℤ
   coarse = machine image program p
 
-  abbrev exposed : Place → Bool
+  abbrev exposed : Holder → Bool
   exposed = (coarse.procedure entry).is_exposed
 
-  exposed_is : (k : ℤ) → exposed (in_frame k) ≡ is_exposed_place body (in_frame k)
+  exposed_is : (k : ℤ) → exposed (in_frame k) ≡ is_exposed_holder body (in_frame k)
   exposed_is k = ap (λ g. g.is_exposed (in_frame k)) (refined.coarse_is image program p is entry x)
 
-  one : (L M : Place) (l : Loc) → IsSame o L l → IsSame o M l → L ≡ M
+  one : (L M : Holder) (l : Loc) → IsSame o L l → IsSame o M l → L ≡ M
   one L M l s t = one_place o (refined.small_linked image program p is entry x) s t
 
   -- the operands of the operation are such as the table has

@@ -7,19 +7,18 @@ use Rattle.dcc_num.specs.declared.Width.TheVariants.{Byte as byte_width, Word as
 use Rattle.dcc_num.specs.declared.Reg.{Reg}
 use Rattle.dcc_num.specs.declared.Half.{Half as HalfName}
 use Rattle.dcc_num.specs.declared.Half.TheVariants.{Low, High}
-use Rattle.dcc_prog.specs.declared.instr.Ea.{Ea}
-use Rattle.dcc_prog.specs.declared.instr.Operand.{Operand}
-use Rattle.dcc_prog.specs.declared.instr.Operand.TheVariants.{Word, Byte, Seg, Mem, Const}
-use Rattle.dcc_prog.specs.Machine.{is_bp}
-use Rattle.dcc_prog.specs.Access.{is_direct}
+use Rattle.dcc_machine.specs.declared.instr.Ea.{Ea}
+use Rattle.dcc_machine.specs.declared.instr.Operand.{Operand}
+use Rattle.dcc_machine.specs.declared.instr.Operand.TheVariants.{Word, Byte, Seg, Mem, Const}
+use Rattle.dcc_machine.specs.Machine.{is_bp, is_general}
+use Rattle.dcc_machine.specs.Access.{is_direct}
 use Rattle.dcc_prog.specs.Frame.{memory_of, offset_in_frame}
-use Rattle.dcc_prog.specs.Trail.{is_general}
-use Rattle.dcc_prog.specs.Wanted.{Location, half_of, is_half_of_some, is_in_memory}
+use Rattle.dcc_machine.specs.Wanted.{Location, half_of, is_half_of_some, is_in_memory}
 use Rattle.dcc_ir.specs.declared.syntax.Loc.{Loc}
 use Rattle.dcc_ir.specs.declared.syntax.Loc.TheVariants.{Half, Cell}
 use Rattle.dcc_ir.specs.Tree.{Expr, Address}
 use Rattle.dcc_ir.specs.Use.{reads_of}
-use Rattle.dcc_ops.specs.Place.{Place as InnerPlace, byte, word, memory, computed}
+use Rattle.dcc_ops.specs.OperandPlace.{OperandPlace, byte, word, memory, computed}
 use Rattle.dcc_instruction_demand.proofs.StageLaws.{is_kept_place}
 use Rattle.dcc_ops.specs.Registers.{register_place}
 use Rattle.dcc_ops.specs.Computed.{computed_expr}
@@ -28,9 +27,9 @@ use Rattle.dcc_simulation.specs.Procedures.{Procedure, frame_place, distance_of}
 use Rattle.dcc_simulation.specs.Operands.{address_of}
 use Rattle.dcc_simulation.specs.Places.{IsPlainAddress}
 use Rattle.dcc_machine_demand.specs.Bodies.{Body}
-use Rattle.dcc_machine_demand.specs.Places.{Place, held, in_frame, Spot, placed, in_memory, nowhere, is_place, is_at}
-use Rattle.dcc_machine_demand.specs.Places.{is_in_cell, is_exposed_place, frame_spot, for_bytes, spots_of}
-use Rattle.dcc_machine_demand.specs.Places.{spots_of_memory, is_of_address}
+use Rattle.dcc_machine_demand.specs.Holders.{Holder, held, in_frame, Spot, placed, in_memory, nowhere, is_holder, is_at}
+use Rattle.dcc_machine_demand.specs.Holders.{is_in_cell, is_exposed_holder, frame_spot, for_bytes, spots_of}
+use Rattle.dcc_machine_demand.specs.Holders.{spots_of_memory, is_of_address}
 use Rattle.dcc_lifted_demand.specs.LiftedRefinement.{IsSame}
 use Rattle.dcc_instruction_demand.proofs.ShownLaws.{Shows, shows_never, shows_alike}
 use Rattle.dcc_instruction_demand.proofs.SpotLaws.{address_reads, IsOpenSpot, IsHalf, HasByte, HasWord, HasBytes}
@@ -38,7 +37,7 @@ use Rattle.dcc_instruction_demand.proofs.AddressLaws.{bp_apart, Addressed, addre
 use Rattle.dcc_instruction_demand.proofs.FrameLaws.{frame_body, IsOpen, AccessAt}
 
 -- of what does not lie in memory no place takes part in the address
-pub no_address : (a : Operand) → is_in_memory a ≡ false → (M : Place) → is_of_address a M ≡ false
+pub no_address : (a : Operand) → is_in_memory a ≡ false → (M : Holder) → is_of_address a M ≡ false
 no_address (Mem w ea) e M = absurd (true≢false e)
 no_address (Word r) e (held l) = refl
 no_address (Byte r h) e (held l) = refl
@@ -62,16 +61,16 @@ frame_bytes body (Mem w ea) k = refl
 frame_bytes body (Const byte_width n) k = refl
 frame_bytes body (Const word_width n) k = refl
 
-module _ (o : Option Procedure) (body : Body) (exposed : Place → Bool) where
+module _ (o : Option Procedure) (body : Body) (exposed : Holder → Bool) where
   -- the bytes of the operand stand at the place, with these in its address
-  pub record AreBytesAt (w : Width) (a : Operand) (Q : InnerPlace) : Type 0 where
+  pub record AreBytesAt (w : Width) (a : Operand) (Q : OperandPlace) : Type 0 where
     pub bytes : HasBytes o body exposed w (spots_of body a) Q
-    pub addresses : Shows (IsSame o) (λ M. (is_place body M ≡ true) × (is_of_address a M ≡ true)) (address_reads Q)
+    pub addresses : Shows (IsSame o) (λ M. (is_holder body M ≡ true) × (is_of_address a M ≡ true)) (address_reads Q)
 
-  unaddressed : (a : Operand) → is_in_memory a ≡ false → Shows (IsSame o) (λ M. (is_place body M ≡ true) × (is_of_address a M ≡ true)) []
-  unaddressed a e = shows_never (IsSame o) (λ M. (is_place body M ≡ true) × (is_of_address a M ≡ true)) (λ M t. true≢false (sym t.1 ∙ no_address a e M))
+  unaddressed : (a : Operand) → is_in_memory a ≡ false → Shows (IsSame o) (λ M. (is_holder body M ≡ true) × (is_of_address a M ≡ true)) []
+  unaddressed a e = shows_never (IsSame o) (λ M. (is_holder body M ≡ true) × (is_of_address a M ≡ true)) (λ M t. true≢false (sym t.1 ∙ no_address a e M))
 
-  pub word_of : (t u : Spot) (Q : InnerPlace) → HasBytes o body exposed word_width (t ∷ u ∷ []) Q → HasWord o body exposed t u Q
+  pub word_of : (t u : Spot) (Q : OperandPlace) → HasBytes o body exposed word_width (t ∷ u ∷ []) Q → HasWord o body exposed t u Q
   word_of t u Q (HasBytes.as_word q) = q
 
   half_of_register : (r : Reg) (h : HalfName) → is_general r ≡ true → IsHalf o body exposed (held (half_of r h)) (Half r h)
@@ -108,21 +107,21 @@ module _ (o : Option Procedure) (body : Body) (exposed : Place → Bool) where
   indirect_bytes w ea e plain = record {
     bytes = subst (λ b. HasBytes o body exposed w (if b then for_bytes w (frame_spot body (offset_in_frame ea)) (frame_spot body (offset_in_frame ea +ℤ pos 1)) else for_bytes w in_memory in_memory) (memory w (computed_expr (address_of ea))))
         (sym (ap (λ b. body.frame.framed && b) e ∙ and_false body.frame.framed)) (elsewhere_bytes w (computed_expr (address_of ea)) (address_kept ea));
-    addresses = shows_alike (IsSame o) (Addressed o body exposed ea) (λ M. (is_place body M ≡ true) × (is_of_address (Mem w ea) M ≡ true)) (reads_of (computed_expr (address_of ea))) (reads_of (computed_expr (address_of ea)))
+    addresses = shows_alike (IsSame o) (Addressed o body exposed ea) (λ M. (is_holder body M ≡ true) × (is_of_address (Mem w ea) M ≡ true)) (reads_of (computed_expr (address_of ea))) (reads_of (computed_expr (address_of ea)))
         (address_shown o body exposed ea plain) to from (λ l c. c) (λ l c. c);
   }
     where
-      to : (M : Place) (m : Loc) → IsSame o M m → Addressed o body exposed ea M → (is_place body M ≡ true) × (is_of_address (Mem w ea) M ≡ true)
+      to : (M : Holder) (m : Loc) → IsSame o M m → Addressed o body exposed ea M → (is_holder body M ≡ true) × (is_of_address (Mem w ea) M ≡ true)
       to (held l) m s t = t
       to (in_frame k) m s t = absurd t
 
-      from : (M : Place) (m : Loc) → IsSame o M m → (is_place body M ≡ true) × (is_of_address (Mem w ea) M ≡ true) → Addressed o body exposed ea M
+      from : (M : Holder) (m : Loc) → IsSame o M m → (is_holder body M ≡ true) × (is_of_address (Mem w ea) M ≡ true) → Addressed o body exposed ea M
       from (held l) m s t = t
       from (in_frame k) m s t = true≢false (sym t.1)
 
 -- In the frame.
 
-module _ (o : Option Procedure) (q : Procedure) (found : o ≡ Some q) (heights : List (ℕ × ℕ)) (exposed : Place → Bool) (exposed_is : (k : ℤ) → exposed (in_frame k) ≡ is_exposed_place (frame_body o q found heights) (in_frame k)) where
+module _ (o : Option Procedure) (q : Procedure) (found : o ≡ Some q) (heights : List (ℕ × ℕ)) (exposed : Holder → Bool) (exposed_is : (k : ℤ) → exposed (in_frame k) ≡ is_exposed_holder (frame_body o q found heights) (in_frame k)) where
   abbrev body : Body
   body = frame_body o q found heights
 
@@ -169,7 +168,7 @@ module _ (o : Option Procedure) (q : Procedure) (found : o ≡ Some q) (heights 
     no_index None l e = refl
     no_index (Some r) l e = absurd (true≢false (sym e))
 
-    direct_unaddressed : (M : Place) → is_place body M ≡ true → is_of_address (Mem w ea) M ≡ false
+    direct_unaddressed : (M : Holder) → is_holder body M ≡ true → is_of_address (Mem w ea) M ≡ false
     direct_unaddressed (held l) p =
         ap (λ b. b || is_half_of_some l ea.index) (bp_apart o body exposed ea.base l (and_left (is_bp ea.base) (is_none ea.index) direct) p)
         ∙ no_index ea.index l (and_right (is_bp ea.base) (is_none ea.index) direct)
@@ -179,6 +178,6 @@ module _ (o : Option Procedure) (q : Procedure) (found : o ≡ Some q) (heights 
     direct_bytes access = record {
       bytes = subst (λ b. HasBytes o body exposed w (if b then for_bytes w (frame_spot body (offset_in_frame ea)) (frame_spot body (offset_in_frame ea +ℤ pos 1)) else for_bytes w in_memory in_memory) (frame_place q w (offset_in_frame ea)))
           (sym (and_both q.frame.framed (is_direct ea) framed direct)) (access_bytes w (offset_in_frame ea) access);
-      addresses = subst (λ ls. Shows (IsSame o) (λ M. (is_place body M ≡ true) × (is_of_address (Mem w ea) M ≡ true)) ls) (sym (access_address w (offset_in_frame ea) access))
-          (shows_never (IsSame o) (λ M. (is_place body M ≡ true) × (is_of_address (Mem w ea) M ≡ true)) (λ M t. true≢false (sym t.1 ∙ direct_unaddressed M t.0)));
+      addresses = subst (λ ls. Shows (IsSame o) (λ M. (is_holder body M ≡ true) × (is_of_address (Mem w ea) M ≡ true)) ls) (sym (access_address w (offset_in_frame ea) access))
+          (shows_never (IsSame o) (λ M. (is_holder body M ≡ true) × (is_of_address (Mem w ea) M ≡ true)) (λ M t. true≢false (sym t.1 ∙ direct_unaddressed M t.0)));
     }

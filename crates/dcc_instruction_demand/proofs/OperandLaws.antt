@@ -6,24 +6,25 @@ use Rattle.dcc_num.specs.declared.Width.{Width}
 use Rattle.dcc_num.specs.declared.Reg.{Reg}
 use Rattle.dcc_num.specs.declared.Half.{Half as HalfName}
 use Rattle.dcc_num.specs.declared.Half.TheVariants.{Low, High}
-use Rattle.dcc_prog.specs.declared.instr.Operand.{Operand}
-use Rattle.dcc_prog.specs.declared.instr.Operand.TheVariants.{Word, Byte, Seg, Mem, Const}
+use Rattle.dcc_machine.specs.declared.instr.Operand.{Operand}
+use Rattle.dcc_machine.specs.declared.instr.Operand.TheVariants.{Word, Byte, Seg, Mem, Const}
 use Rattle.dcc_prog.specs.Frame.{memory_of}
-use Rattle.dcc_prog.specs.Trail.{is_general}
-use Rattle.dcc_prog.specs.Writes.{is_same_register, is_same_half, is_half_of}
-use Rattle.dcc_prog.specs.Wanted.{Location, half_of, flag_of, is_read, is_in_memory}
-use Rattle.dcc_prog.proofs.AlikeValues.{register-self, half-self}
+use Rattle.dcc_machine.specs.Machine.{is_general}
+use Rattle.dcc_machine.specs.Writes.{is_same_register, is_same_half, is_half_of}
+use Rattle.dcc_machine.specs.Wanted.{Location, half_of, flag_of, is_read, is_in_memory}
+use Rattle.dcc_machine.proofs.AlikeValues.{register-self, half-self}
 use Rattle.dcc_ir.specs.declared.syntax.Loc.{Loc}
 use Rattle.dcc_ir.specs.declared.syntax.Loc.TheVariants.{Half}
 use Rattle.dcc_ir.specs.Location.{same_location}
 use Rattle.dcc_ir.specs.Live.{is_among}
 use Rattle.dcc_ir.proofs.LocationLaws.{Contains-here, Contains-later, Contains-none, Contains-cases, location_itself, location_same}
-use Rattle.dcc_ops.specs.Place.{Place as InnerPlace, constant}
+use Rattle.dcc_ops.specs.OperandPlace.{OperandPlace, constant}
 use Rattle.dcc_ops.specs.Registers.{is_source, register_place}
 use Rattle.dcc_lift.proofs.ListTests.{and_left, and_right, and_both, or_here, or_there, or_cases, or_none, and_false, same_test}
 use Rattle.dcc_simulation.specs.Procedures.{Procedure}
 use Rattle.dcc_machine_demand.specs.Bodies.{Body}
-use Rattle.dcc_machine_demand.specs.Places.{Place, held, in_frame, passes, is_at, is_placed, is_place, spots_of_memory}
+use Rattle.dcc_machine_demand.specs.Holders.{Holder, held, in_frame, passes, is_at, is_placed, is_holder}
+use Rattle.dcc_machine_demand.specs.Holders.{spots_of_memory}
 use Rattle.dcc_machine_demand.proofs.PlaceLaws.{same-register, same-half}
 use Rattle.dcc_lifted_demand.proofs.ListLaws.{only}
 use Rattle.dcc_lifted_demand.specs.LiftedRefinement.{inner_of, IsSame}
@@ -40,21 +41,21 @@ abbrev pub in_cells : Body → Operand → Bool
 in_cells body a = list_any is_placed (spots_of_memory body (memory_of a))
 
 -- what is read for the operand, and what is written where a value is stored to it
-abbrev pub reads_by : Body → Operand → Place → Bool
+abbrev pub reads_by : Body → Operand → Holder → Bool
 reads_by body a (held location) = is_read location a
 reads_by body a (in_frame k) = frame_read body a k
 
-abbrev pub writes_by : Body → Operand → Place → Bool
+abbrev pub writes_by : Body → Operand → Holder → Bool
 writes_by body a (held (half_of r h)) = is_general r && is_half_of r h a
 writes_by body a (held (flag_of f)) = false
 writes_by body a (in_frame k) = frame_read body a k
 
 -- the operand stands at the place
-pub record IsOperandAt (o : Option Procedure) (body : Body) (exposed : Place → Bool) (a : Operand) (Q : InnerPlace) : Type 0 where
-  pub reads : Shows (IsSame o) (λ L. (is_place body L ≡ true) × (reads_by body a L ≡ true)) (reads_at Q)
+pub record IsOperandAt (o : Option Procedure) (body : Body) (exposed : Holder → Bool) (a : Operand) (Q : OperandPlace) : Type 0 where
+  pub reads : Shows (IsSame o) (λ L. (is_holder body L ≡ true) × (reads_by body a L ≡ true)) (reads_at Q)
   pub reads_kept : list_all is_kept_place (reads_at Q) ≡ true
   pub kept : has_kept Q ≡ true
-  pub stores : (A : Place) (l : Loc) → IsSame o A l → is_kept_place l ≡ true → writes_by body a A ≡ is_among (outs Q) l
+  pub stores : (A : Holder) (l : Loc) → IsSame o A l → is_kept_place l ≡ true → writes_by body a A ≡ is_among (outs Q) l
   -- the place is no store to memory, or it is one
   pub unstored : is_stored Q ≡ false
       → ((is_in_memory a && not (in_cells body a)) ≡ false) × ((k : ℤ) → frame_read body a k ≡ true → exposed (in_frame k) ≡ true → ⊥)
@@ -64,9 +65,9 @@ pub record IsOperandAt (o : Option Procedure) (body : Body) (exposed : Place →
 
 -- A word register.
 
-module _ (o : Option Procedure) (body : Body) (exposed : Place → Bool) where
-  abbrev Reads : Operand → Place → Type 0
-  Reads a L = (is_place body L ≡ true) × (reads_by body a L ≡ true)
+module _ (o : Option Procedure) (body : Body) (exposed : Holder → Bool) where
+  abbrev Reads : Operand → Holder → Type 0
+  Reads a L = (is_holder body L ≡ true) × (reads_by body a L ≡ true)
 
   -- where a half stands
   half_there : (r : Reg) (h : HalfName) (l : Loc) → IsSame o (held (half_of r h)) l → l ≡ Half r h
@@ -79,7 +80,7 @@ module _ (o : Option Procedure) (body : Body) (exposed : Place → Bool) where
   half_is : (r : Reg) (h : HalfName) → is_general r ≡ true → IsSame o (held (half_of r h)) (Half r h)
   half_is r h g = IsSame.is_held g
 
-  word_has : (r : Reg) (L : Place) (l : Loc) → IsSame o L l → Reads (Word r) L → Contains (Half r High ∷ Half r Low ∷ []) l
+  word_has : (r : Reg) (L : Holder) (l : Loc) → IsSame o L l → Reads (Word r) L → Contains (Half r High ∷ Half r Low ∷ []) l
   word_has r (held (half_of q h)) l s t =
       let same = same-register q r (sym (or_none (is_same_register q r)) ∙ t.1) in
       subst (λ m. Contains (Half r High ∷ Half r Low ∷ []) m) (sym (half_there q h l s ∙ ap (λ x. Half x h) same)) (by h)
@@ -90,15 +91,15 @@ module _ (o : Option Procedure) (body : Body) (exposed : Place → Bool) where
   word_has r (held (flag_of f)) l s t = absurd (true≢false (sym t.1))
   word_has r (in_frame k) l s t = absurd (true≢false (sym t.1))
 
-  word_comes : (r : Reg) → is_general r ≡ true → (l : Loc) → Contains (Half r High ∷ Half r Low ∷ []) l → (L : Place) × IsSame o L l × Reads (Word r) L
+  word_comes : (r : Reg) → is_general r ≡ true → (l : Loc) → Contains (Half r High ∷ Half r Low ∷ []) l → (L : Holder) × IsSame o L l × Reads (Word r) L
   word_comes r g l c =
-      Contains-cases (Half r High) (Half r Low ∷ []) l ((L : Place) × IsSame o L l × Reads (Word r) L) (λ e. at High l e)
-      (λ later. Contains-cases (Half r Low) [] l ((L : Place) × IsSame o L l × Reads (Word r) L) (λ e. at Low l e) (λ none. absurd (Contains-none l none)) later) c
+      Contains-cases (Half r High) (Half r Low ∷ []) l ((L : Holder) × IsSame o L l × Reads (Word r) L) (λ e. at High l e)
+      (λ later. Contains-cases (Half r Low) [] l ((L : Holder) × IsSame o L l × Reads (Word r) L) (λ e. at Low l e) (λ none. absurd (Contains-none l none)) later) c
     where
-      at : (h : HalfName) (l : Loc) → Half r h ≡ l → (L : Place) × IsSame o L l × Reads (Word r) L
+      at : (h : HalfName) (l : Loc) → Half r h ≡ l → (L : Holder) × IsSame o L l × Reads (Word r) L
       at h l e = (held (half_of r h), subst (λ m. IsSame o (held (half_of r h)) m) e (half_is r h g), (g, or_here (is_same_register r r) false (register-self r)))
 
-  word_stores : (r : Reg) (A : Place) (l : Loc) → IsSame o A l → is_kept_place l ≡ true → writes_by body (Word r) A ≡ is_among (Half r Low ∷ Half r High ∷ []) l
+  word_stores : (r : Reg) (A : Holder) (l : Loc) → IsSame o A l → is_kept_place l ≡ true → writes_by body (Word r) A ≡ is_among (Half r Low ∷ Half r High ∷ []) l
   word_stores r A l s t = by (same_cases o s)
     where
       here : (q : Reg) (h : HalfName) → is_general q ≡ true → (is_general q && is_same_register q r) ≡ is_among (Half r Low ∷ Half r High ∷ []) (Half q h)
@@ -140,7 +141,7 @@ module _ (o : Option Procedure) (body : Body) (exposed : Place → Bool) where
 
   -- A byte register.
 
-  byte_has : (r : Reg) (h : HalfName) (L : Place) (l : Loc) → IsSame o L l → Reads (Byte r h) L → Contains (Half r h ∷ []) l
+  byte_has : (r : Reg) (h : HalfName) (L : Holder) (l : Loc) → IsSame o L l → Reads (Byte r h) L → Contains (Half r h ∷ []) l
   byte_has r h (held (half_of q k)) l s t =
       let both = sym (or_none (is_same_register q r && is_same_half k h)) ∙ t.1 in
       let same = same-register q r (and_left (is_same_register q r) (is_same_half k h) both) in
@@ -149,14 +150,14 @@ module _ (o : Option Procedure) (body : Body) (exposed : Place → Bool) where
   byte_has r h (held (flag_of f)) l s t = absurd (true≢false (sym t.1))
   byte_has r h (in_frame k) l s t = absurd (true≢false (sym t.1))
 
-  byte_comes : (r : Reg) (h : HalfName) → is_general r ≡ true → (l : Loc) → Contains (Half r h ∷ []) l → (L : Place) × IsSame o L l × Reads (Byte r h) L
+  byte_comes : (r : Reg) (h : HalfName) → is_general r ≡ true → (l : Loc) → Contains (Half r h ∷ []) l → (L : Holder) × IsSame o L l × Reads (Byte r h) L
   byte_comes r h g l c = (
     held (half_of r h),
     subst (λ m. IsSame o (held (half_of r h)) m) (only (Half r h) l c) (half_is r h g),
     (g, or_here (is_same_register r r && is_same_half h h) false (and_both (is_same_register r r) (is_same_half h h) (register-self r) (half-self h))),
   )
 
-  byte_stores : (r : Reg) (h : HalfName) (A : Place) (l : Loc) → IsSame o A l → is_kept_place l ≡ true → writes_by body (Byte r h) A ≡ is_among (Half r h ∷ []) l
+  byte_stores : (r : Reg) (h : HalfName) (A : Holder) (l : Loc) → IsSame o A l → is_kept_place l ≡ true → writes_by body (Byte r h) A ≡ is_among (Half r h ∷ []) l
   byte_stores r h A l s t = by (same_cases o s)
     where
       here : (q : Reg) (k : HalfName) → is_general q ≡ true → (is_general q && (is_same_register q r && is_same_half k h)) ≡ is_among (Half r h ∷ []) (Half q k)
@@ -192,8 +193,8 @@ module _ (o : Option Procedure) (body : Body) (exposed : Place → Bool) where
 
   -- What reads and writes nothing.
 
-  pub nothing_at : (a : Operand) (Q : InnerPlace) → is_in_memory a ≡ false → memory_of a ≡ None → ((L : Place) (l : Loc) → IsSame o L l → reads_by body a L ≡ false)
-      → ((A : Place) (l : Loc) → IsSame o A l → writes_by body a A ≡ false) → reads_at Q ≡ [] → outs Q ≡ [] → has_kept Q ≡ true → is_stored Q ≡ false → IsOperandAt o body exposed a Q
+  pub nothing_at : (a : Operand) (Q : OperandPlace) → is_in_memory a ≡ false → memory_of a ≡ None → ((L : Holder) (l : Loc) → IsSame o L l → reads_by body a L ≡ false)
+      → ((A : Holder) (l : Loc) → IsSame o A l → writes_by body a A ≡ false) → reads_at Q ≡ [] → outs Q ≡ [] → has_kept Q ≡ true → is_stored Q ≡ false → IsOperandAt o body exposed a Q
   nothing_at a Q apart none unread unwritten reads out kept unstored = record {
     reads = subst (λ ls. Shows (IsSame o) (Reads a) ls) (sym reads)
         (record { has = λ L l s t. absurd (true≢false (sym t.1 ∙ unread L l s)); comes = λ l c. absurd (Contains-none l c) });
@@ -211,12 +212,12 @@ module _ (o : Option Procedure) (body : Body) (exposed : Place → Bool) where
   pub constant_at : (v : Width) (n : ℕ) → IsOperandAt o body exposed (Const v n) (register_place (Const v n))
   constant_at v n = nothing_at (Const v n) (constant v n) refl refl unread unwritten refl refl refl refl
     where
-      unread : (L : Place) (l : Loc) → IsSame o L l → reads_by body (Const v n) L ≡ false
+      unread : (L : Holder) (l : Loc) → IsSame o L l → reads_by body (Const v n) L ≡ false
       unread (held (half_of r h)) l s = refl
       unread (held (flag_of f)) l s = refl
       unread (in_frame k) l s = refl
 
-      unwritten : (A : Place) (l : Loc) → IsSame o A l → writes_by body (Const v n) A ≡ false
+      unwritten : (A : Holder) (l : Loc) → IsSame o A l → writes_by body (Const v n) A ≡ false
       unwritten (held (half_of r h)) l s = and_false (is_general r)
       unwritten (held (flag_of f)) l s = refl
       unwritten (in_frame k) l s = refl

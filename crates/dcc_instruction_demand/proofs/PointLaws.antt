@@ -1,7 +1,7 @@
 -- The points of an instruction do what its statements do, so what is told of these is told of the points.
 use Rattle.std.proofs.Common.{◌≡◌, ℕ, ℤ, false, inl, inr, List, [], ◌∷◌, map, Option, Some, None, refl, sym, ap, ◌∙◌, subst, true≢false}
-use Rattle.dcc_prog.specs.declared.instr.Op.{Op}
-use Rattle.dcc_prog.specs.declared.instr.Op.TheVariants.{Table, Ret}
+use Rattle.dcc_machine.specs.declared.instr.Op.{Op}
+use Rattle.dcc_machine.specs.declared.instr.Op.TheVariants.{Table, Ret}
 use Rattle.dcc_ir.specs.declared.syntax.Loc.{Loc}
 use Rattle.dcc_ir.specs.Tree.{Expr, Stmt}
 use Rattle.dcc_ir.specs.Live.{is_among}
@@ -11,7 +11,7 @@ use Rattle.dcc_simulation.specs.Passed.{exit_of}
 use Rattle.dcc_lift.specs.Blocks.{is_table}
 use Rattle.dcc_lift.specs.Sound.{AgreesWith, GoesOnAt}
 use Rattle.dcc_demand.specs.Procedures.{Action, Procedures}
-use Rattle.dcc_machine_demand.specs.Places.{Place}
+use Rattle.dcc_machine_demand.specs.Holders.{Holder}
 use Rattle.dcc_sums.specs.Points.{Position}
 use Rattle.dcc_sums.specs.Instance as sums
 use Rattle.dcc_sums.specs.Instance.{action_of}
@@ -66,7 +66,7 @@ goes_on_alike op f places goes = alike (op_test op) f places goes
 
 -- What points do.
 
-module _ (coarse : Procedures ℕ Place ℤ) (fine : Procedures Position Loc Loc) (r : Refinement ℕ Place ℤ Position Loc Loc) (entry at pushed : ℕ) (stmts : List Stmt) (after : List Loc)
+module _ (coarse : Procedures ℕ Holder ℤ) (fine : Procedures Position Loc Loc) (r : Refinement ℕ Holder ℤ Position Loc Loc) (entry at pushed : ℕ) (stmts : List Stmt) (after : List Loc)
     (are : AreAt (fine.procedure entry) pushed (r.steps entry at) stmts after) (agrees : Agrees coarse fine r entry at pushed stmts after) where
   tell : TellPoints (fine.procedure entry) pushed (r.steps entry at) stmts after
   tell = statements-tell_points (fine.procedure entry) pushed (r.steps entry at) stmts after are

@@ -9,7 +9,7 @@ use Rattle.std.proofs.lemmas.List.Elements.{All-contains}
 use Rattle.dcc_num.specs.declared.Width.TheVariants.{Byte as byte_width}
 use Rattle.dcc_num.specs.declared.Half.{Half as HalfName}
 use Rattle.dcc_num.specs.declared.Half.TheVariants.{Low, High}
-use Rattle.dcc_prog.specs.declared.image.Image.{Image}
+use Rattle.dcc_machine.specs.declared.image.Image.{Image}
 use Rattle.dcc_prog.specs.declared.procedure.Layout.{Layout}
 use Rattle.dcc_prog.specs.declared.frame.Cell.{Cell as FrameCell}
 use Rattle.dcc_prog.specs.declared.frame.Program.{Program as Analysed}
@@ -22,18 +22,18 @@ use Rattle.dcc_ir.specs.declared.syntax.Loc.{Loc}
 use Rattle.dcc_ir.specs.declared.syntax.Loc.TheVariants.{Cell}
 use Rattle.dcc_ir.specs.Tree.{Program}
 use Rattle.dcc_ir.proofs.PathLaws.{decided}
-use Rattle.dcc_ops.specs.Place.{byte}
+use Rattle.dcc_ops.specs.OperandPlace.{byte}
 use Rattle.dcc_lift.specs.Translated.{IsTranslated}
 use Rattle.dcc_lift.proofs.ListTests.{and_left, and_right, and_both, not_true, or_here, or_there, or_cases, same_test}
 use Rattle.dcc_simulation.specs.Coupled.{half_in}
 use Rattle.dcc_simulation.specs.Procedures.{Procedure, procedure_at, accessed_cells, other_cells, cells_of, pushed_of}
 use Rattle.dcc_simulation.specs.Procedures.{frame_place, is_accessed}
 use Rattle.dcc_simulation.specs.Nodes.{procedures_in}
-use Rattle.dcc_simulation.proofs.PieceRuns.{runs-same}
+use Rattle.dcc_simulation.proofs.PieceExtents.{extents-same}
 use Rattle.dcc_simulation.proofs.PieceCells.{placed-cell}
 use Rattle.dcc_simulation.proofs.PieceBounds.{LiesInFrame, piece-lies}
 use Rattle.dcc_machine_demand.specs.Bodies.{Body}
-use Rattle.dcc_machine_demand.specs.Places.{is_in_cell, is_private_byte}
+use Rattle.dcc_machine_demand.specs.Holders.{is_in_cell, is_private_byte}
 use Rattle.dcc_sums.specs.Instance.{is_pushed}
 use Rattle.dcc_lifted_demand.proofs.SameLaws.{IsKept, kept_in, exposed_unkept}
 use Rattle.dcc_lifted_demand.proofs.RefinedLaws as refined
@@ -104,7 +104,7 @@ module _ (image : Image) (program : Analysed) (p : Program) (is : IsTranslated i
   -- two cells with a byte are one
   one_cell : (k : ℤ) (c d : FrameCell) → Contains q.frame.cells.items c → Contains q.frame.cells.items d → within k c ≡ true → within k d ≡ true → bytes_of c ≡ bytes_of d
   one_cell k c d in_c in_d t u =
-      runs-same image layout entry (bytes_of c) (bytes_of d) k (cell_there c in_c).run (cell_there d in_d).run (within-tells k (bytes_of c) t) (within-tells k (bytes_of d) u)
+      extents-same image layout entry (bytes_of c) (bytes_of d) k (cell_there c in_c).extent (cell_there d in_d).extent (within-tells k (bytes_of c) t) (within-tells k (bytes_of d) u)
 
   -- In a cell that is in no memory.
 
@@ -181,15 +181,15 @@ module _ (image : Image) (program : Analysed) (p : Program) (is : IsTranslated i
 
     no_cell : (cell : Span) (k : ℤ) → IsCell image layout entry cell → Has cell k → pos 0 ≤ℤ k → k <ℤ pos 2 → ⊥
     no_cell cell k c has low high =
-        let begins = c.run.begins in
+        let begins = c.extent.begins in
         let small = c.small in
-        elim (apart c.run.span c.run.piece) [
+        elim (apart c.extent.span c.extent.piece) [
           | inr above ↦ absurd (omega (arith, ints, begins, above, has.0, high))
           | inl below ↦
-              let some = (lies c.run.span c.run.piece).some in
+              let some = (lies c.extent.span c.extent.piece).some in
               let before : cell.first <ℤ pos 0 = omega (arith, ints, begins, below, some) in
               let after : pos 0 <ℤ cell.end = omega (arith, ints, low, has.1) in
-              let crossed = c.run.joined (pos 0) before after in
+              let crossed = c.extent.joined (pos 0) before after in
               let start = crossed.before in
               let end = crossed.after in
               elim (apart crossed.span crossed.piece) [

@@ -8,21 +8,21 @@ use Rattle.dcc_num.specs.declared.Half.{Half as HalfName}
 use Rattle.dcc_num.specs.declared.Half.TheVariants.{Low}
 use Rattle.dcc_num.specs.declared.FlagName.{FlagName}
 use Rattle.dcc_prog.specs.declared.procedure.Node.{Node}
-use Rattle.dcc_prog.specs.declared.instr.Unary.{Unary}
-use Rattle.dcc_prog.specs.declared.instr.Unary.TheVariants.{Mul, Imul, Div as DivOf, Idiv}
-use Rattle.dcc_prog.specs.declared.instr.Operand.{Operand}
-use Rattle.dcc_prog.specs.declared.instr.Op.TheVariants.{Unary as UnaryOp, Imul3}
-use Rattle.dcc_prog.specs.Machine.{operand_width}
-use Rattle.dcc_prog.specs.Access.{writes_back}
-use Rattle.dcc_prog.specs.Prepared.{is_division}
-use Rattle.dcc_prog.specs.Writes.{is_same_register, is_in_pair, is_carry_or_overflow, unary_writes_half, unary_writes_flag}
-use Rattle.dcc_prog.specs.Wanted.{Location, half_of, flag_of, is_read, is_in_memory, is_accumulator, is_dividend, unary_makes, unary_reads, stores_back, uses}
+use Rattle.dcc_machine.specs.declared.instr.Unary.{Unary}
+use Rattle.dcc_machine.specs.declared.instr.Unary.TheVariants.{Mul, Imul, Div as DivOf, Idiv}
+use Rattle.dcc_machine.specs.declared.instr.Operand.{Operand}
+use Rattle.dcc_machine.specs.declared.instr.Op.TheVariants.{Unary as UnaryOp, Imul3}
+use Rattle.dcc_machine.specs.Machine.{operand_width}
+use Rattle.dcc_machine.specs.Access.{writes_back}
+use Rattle.dcc_machine.specs.Operations.{is_division}
+use Rattle.dcc_machine.specs.Writes.{is_same_register, is_in_pair, is_carry_or_overflow, unary_writes_half, unary_writes_flag}
+use Rattle.dcc_machine.specs.Wanted.{Location, half_of, flag_of, is_read, is_in_memory, is_accumulator, is_dividend, unary_makes, unary_reads, stores_back, uses}
 use Rattle.dcc_stack.specs.Slots.{is_memory}
 use Rattle.dcc_ir.specs.declared.syntax.Loc.{Loc}
 use Rattle.dcc_ir.specs.declared.syntax.BinOp.{BinOp}
 use Rattle.dcc_ir.specs.declared.syntax.BinOp.TheVariants.{DivS, DivU, RemS, RemU}
 use Rattle.dcc_ir.specs.Tree.{Stmt}
-use Rattle.dcc_ops.specs.Place.{Place as InnerPlace, constant}
+use Rattle.dcc_ops.specs.OperandPlace.{OperandPlace, constant}
 use Rattle.dcc_ops.specs.Registers.{register_place}
 use Rattle.dcc_ops.specs.Expressions.{product}
 use Rattle.dcc_ops.specs.Statements.{accumulator, word_taking, product_working, product_storing, division_working, division_storing, multiplying, dividing, unary_stmts, triple_product}
@@ -30,7 +30,7 @@ use Rattle.dcc_lift.proofs.ListTests.{and_false, or_none}
 use Rattle.dcc_simulation.specs.Procedures.{Procedure}
 use Rattle.dcc_demand.specs.Procedures.{Procedures}
 use Rattle.dcc_machine_demand.specs.Bodies.{Body}
-use Rattle.dcc_machine_demand.specs.Places.{Place, held, in_frame, passes, is_place}
+use Rattle.dcc_machine_demand.specs.Holders.{Holder, held, in_frame, passes, is_holder}
 use Rattle.dcc_machine_demand.specs.Values.{value_written, is_sure, value_made_of, value_uses, division_uses}
 use Rattle.dcc_sums.specs.Points.{Position}
 use Rattle.dcc_refinement.specs.Refinement.{Refinement}
@@ -126,7 +126,7 @@ idiv_is : IsQuotient Idiv
 idiv_is = record { pair = record { writes = λ a q h. refl; writes_flag = λ f. refl; keeps = refl }; makes = λ a l. refl; division = refl }
 
 -- a flag that is made of both, or a constant
-flag_made : (first_reads second_reads : Place → Bool) (b : Bool) (L : Place) (m : Bool) → m ≡ made_by first_reads second_reads both_inputs L → (b && m) ≡ made_by first_reads second_reads (if b then both_inputs else []) L
+flag_made : (first_reads second_reads : Holder → Bool) (b : Bool) (L : Holder) (m : Bool) → m ≡ made_by first_reads second_reads both_inputs L → (b && m) ≡ made_by first_reads second_reads (if b then both_inputs else []) L
 flag_made first_reads second_reads true L m e = e
 flag_made first_reads second_reads false L m e = refl
 
@@ -142,26 +142,26 @@ accumulator_framed : (body : Body) (w : Width) (k : ℤ) → frame_read body (ac
 accumulator_framed body byte_width k = refl
 accumulator_framed body word_width k = refl
 
-module _ (coarse : Procedures ℕ Place ℤ) (fine : Procedures Position Loc Loc) (r : Refinement ℕ Place ℤ Position Loc Loc) (entry at pushed : ℕ)
-    (o : Option Procedure) (bodies : List Body) (body : Body) (node : Node) (height : ℕ) (a : Operand) (P : InnerPlace) (x : IsOperandAt o body (coarse.procedure entry).is_exposed a P) where
+module _ (coarse : Procedures ℕ Holder ℤ) (fine : Procedures Position Loc Loc) (r : Refinement ℕ Holder ℤ Position Loc Loc) (entry at pushed : ℕ)
+    (o : Option Procedure) (bodies : List Body) (body : Body) (node : Node) (height : ℕ) (a : Operand) (P : OperandPlace) (x : IsOperandAt o body (coarse.procedure entry).is_exposed a P) where
   abbrev w : Width
   w = operand_width a
 
-  abbrev ra : Place → Bool
+  abbrev ra : Holder → Bool
   ra L = reads_by body (accumulator w) L
 
-  abbrev rb : Place → Bool
+  abbrev rb : Holder → Bool
   rb L = reads_by body a L
 
-  abbrev Reads : (Place → Bool) → Place → Type 0
-  Reads reads L = (is_place body L ≡ true) × (reads L ≡ true)
+  abbrev Reads : (Holder → Bool) → Holder → Type 0
+  Reads reads L = (is_holder body L ≡ true) × (reads L ≡ true)
 
   -- the accumulator and the operand
-  abbrev all_read : Place → Bool
+  abbrev all_read : Holder → Bool
   all_read (held l) = is_accumulator w l || is_read l a
   all_read (in_frame k) = frame_read body a k
 
-  all_made : (L : Place) → all_read L ≡ made_by ra rb both_inputs L
+  all_made : (L : Holder) → all_read L ≡ made_by ra rb both_inputs L
   all_made (held l) = ap (λ c. c || is_read l a) (accumulator_read w l) ∙ ap (λ c. is_read l (accumulator w) || c) (sym (or_none (is_read l a)))
   all_made (in_frame k) = sym (ap (λ c. c || (frame_read body a k || false)) (accumulator_framed body w k) ∙ or_none (frame_read body a k))
 
@@ -171,8 +171,8 @@ module _ (coarse : Procedures ℕ Place ℤ) (fine : Procedures Position Loc Loc
 
   module _ (operation : Unary) (v : IsValueOperation coarse fine r entry at o bodies body (point_with_op node height (UnaryOp operation a))) where
     module _ (pair : IsPair operation) (working : List Stmt) (made : Location → List Input) (used_inputs : List Input) (work : IsHeldWork w working (pair_writes w) made used_inputs)
-        (makes : (l : Location) → pair_writes w l ≡ true → (L : Place) → value_made_of body (UnaryOp operation a) (held l) L ≡ made_by ra rb (made l) L)
-        (uses_are : (L : Place) → value_uses body (UnaryOp operation a) node.number L ≡ made_by ra rb used_inputs L) where
+        (makes : (l : Location) → pair_writes w l ≡ true → (L : Holder) → value_made_of body (UnaryOp operation a) (held l) L ≡ made_by ra rb (made l) L)
+        (uses_are : (L : Holder) → value_uses body (UnaryOp operation a) node.number L ≡ made_by ra rb used_inputs L) where
       writes_held : (l : Location) → passes (held l) ≡ true → value_written body (UnaryOp operation a) node.number (held l) ≡ pair_writes w l
       writes_held (half_of q h) p = ap (λ c. c && unary_writes_half operation a q h) p ∙ pair.writes a q h
       writes_held (flag_of f) p = pair.writes_flag f
@@ -195,7 +195,7 @@ module _ (coarse : Procedures ℕ Place ℤ) (fine : Procedures Position Loc Loc
       })
 
     module _ (is : IsProduct operation) where
-      product_makes : (l : Location) → pair_writes w l ≡ true → (L : Place) → value_made_of body (UnaryOp operation a) (held l) L ≡ made_by ra rb (product_made l) L
+      product_makes : (l : Location) → pair_writes w l ≡ true → (L : Holder) → value_made_of body (UnaryOp operation a) (held l) L ≡ made_by ra rb (product_made l) L
       product_makes (half_of q h) e (held l) =
           ap (λ c. (c && unary_reads operation a l) && true) (is.makes a q h ∙ e) ∙ and_true (unary_reads operation a l) ∙ is.reads a l ∙ all_made (held l)
       product_makes (half_of q h) e (in_frame k) = ap (λ c. (c && true) && frame_read body a k) (is.makes a q h ∙ e) ∙ all_made (in_frame k)
@@ -206,7 +206,7 @@ module _ (coarse : Procedures ℕ Place ℤ) (fine : Procedures Position Loc Loc
           ap (λ c. (c && true) && frame_read body a k) (is.makes_flag a f) ∙ ap (λ c. c && frame_read body a k) (and_true (is_carry_or_overflow f))
           ∙ flag_made ra rb (is_carry_or_overflow f) (in_frame k) (frame_read body a k) (all_made (in_frame k))
 
-      product_uses : (L : Place) → value_uses body (UnaryOp operation a) node.number L ≡ false
+      product_uses : (L : Holder) → value_uses body (UnaryOp operation a) node.number L ≡ false
       product_uses (held l) =
           ap (λ b. if b then division_uses a l else not (in_cells body a) && (if b then is_dividend (operand_width a) l || is_read l a else (is_in_memory a && stores_back operation) && is_read l a)) is.no_division
           ∙ ap (λ c. not (in_cells body a) && ((is_in_memory a && c) && is_read l a)) is.stores ∙ ap (λ c. not (in_cells body a) && (c && is_read l a)) (and_false (is_in_memory a))
@@ -217,11 +217,11 @@ module _ (coarse : Procedures ℕ Place ℤ) (fine : Procedures Position Loc Loc
       product_agrees signed = pair_agrees is.pair (multiplied_by w signed) product_made [] (product_works w signed) product_makes product_uses
 
     module _ (is : IsQuotient operation) where
-      quotient_makes : (l : Location) → pair_writes w l ≡ true → (L : Place) → value_made_of body (UnaryOp operation a) (held l) L ≡ false
+      quotient_makes : (l : Location) → pair_writes w l ≡ true → (L : Holder) → value_made_of body (UnaryOp operation a) (held l) L ≡ false
       quotient_makes l e (held from) = ap (λ c. (c && unary_reads operation a from) && true) (is.makes a l)
       quotient_makes l e (in_frame k) = ap (λ c. (c && true) && frame_read body a k) (is.makes a l)
 
-      quotient_uses : (L : Place) → value_uses body (UnaryOp operation a) node.number L ≡ made_by ra rb both_inputs L
+      quotient_uses : (L : Holder) → value_uses body (UnaryOp operation a) node.number L ≡ made_by ra rb both_inputs L
       quotient_uses (held l) = ap (λ b. if b then division_uses a l else not (in_cells body a) && uses (UnaryOp operation a) node.number l) is.division ∙ all_made (held l)
       quotient_uses (in_frame k) = ap (λ c. c && frame_read body a k) is.division ∙ all_made (in_frame k)
 
@@ -243,13 +243,13 @@ module _ (coarse : Procedures ℕ Place ℤ) (fine : Procedures Position Loc Loc
   -- The product with a constant.
 
   module _ (to : Reg) (factor : ℕ) (v : IsValueOperation coarse fine r entry at o bodies body (point_with_op node height (Imul3 to a factor))) where
-    abbrev nothing : Place → Bool
+    abbrev nothing : Holder → Bool
     nothing L = false
 
-    operand_made : (L : Place) → rb L ≡ made_by rb nothing both_inputs L
+    operand_made : (L : Holder) → rb L ≡ made_by rb nothing both_inputs L
     operand_made L = sym (or_none (rb L))
 
-    triple_makes : (l : Location) → triple_writes to l ≡ true → (L : Place) → value_made_of body (Imul3 to a factor) (held l) L ≡ made_by rb nothing (product_made l) L
+    triple_makes : (l : Location) → triple_writes to l ≡ true → (L : Holder) → value_made_of body (Imul3 to a factor) (held l) L ≡ made_by rb nothing (product_made l) L
     triple_makes (half_of q h) e (held l) = ap (λ c. (c && is_read l a) && true) e ∙ and_true (is_read l a) ∙ operand_made (held l)
     triple_makes (half_of q h) e (in_frame k) = ap (λ c. (c && true) && frame_read body a k) e ∙ operand_made (in_frame k)
     triple_makes (flag_of f) e (held l) =
@@ -257,7 +257,7 @@ module _ (coarse : Procedures ℕ Place ℤ) (fine : Procedures Position Loc Loc
     triple_makes (flag_of f) e (in_frame k) =
         ap (λ c. c && frame_read body a k) (and_true (is_carry_or_overflow f)) ∙ flag_made rb nothing (is_carry_or_overflow f) (in_frame k) (frame_read body a k) (operand_made (in_frame k))
 
-    triple_uses : (L : Place) → value_uses body (Imul3 to a factor) node.number L ≡ false
+    triple_uses : (L : Holder) → value_uses body (Imul3 to a factor) node.number L ≡ false
     triple_uses (held l) = and_false (not (in_cells body a))
     triple_uses (in_frame k) = refl
 

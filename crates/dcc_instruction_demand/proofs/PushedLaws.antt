@@ -10,9 +10,9 @@ use Rattle.dcc_num.specs.declared.Width.TheVariants.{Byte as byte_width, Word as
 use Rattle.dcc_num.specs.declared.Half.{Half as HalfName}
 use Rattle.dcc_num.specs.declared.Half.TheVariants.{Low, High}
 use Rattle.dcc_prog.specs.declared.frame.Cell.{Cell as FrameCell}
-use Rattle.dcc_prog.specs.declared.instr.Ea.{Ea}
+use Rattle.dcc_machine.specs.declared.instr.Ea.{Ea}
 use Rattle.dcc_prog.specs.declared.procedure.Node.{Node}
-use Rattle.dcc_prog.specs.Access.{is_direct, bytes_in}
+use Rattle.dcc_machine.specs.Access.{is_direct, bytes_in}
 use Rattle.dcc_prog.specs.Analysed.{bytes_of}
 use Rattle.dcc_prog.specs.Frame.{span_of, memory_operand, offset_in_frame}
 use Rattle.dcc_stack.specs.Slots.{is_within, direct_bytes, overlaps}
@@ -20,15 +20,15 @@ use Rattle.dcc_stack.proofs.SlotPlaces.{any-tells, any-told, within-tells, lt-to
 use Rattle.dcc_ir.specs.declared.syntax.Loc.{Loc}
 use Rattle.dcc_ir.specs.declared.syntax.Loc.TheVariants.{Cell}
 use Rattle.dcc_ir.proofs.PathLaws.{decided}
-use Rattle.dcc_ops.specs.Place.{byte}
+use Rattle.dcc_ops.specs.OperandPlace.{byte}
 use Rattle.dcc_lift.specs.Blocks.{Nodes, node_in}
 use Rattle.dcc_lift.proofs.ListTests.{and_left, and_right, and_both, or_here, or_there, or_cases, or_none}
 use Rattle.dcc_simulation.specs.Coupled.{half_in}
 use Rattle.dcc_simulation.specs.Procedures.{Procedure, accessed_cells, other_cells, cells_of, pushed_of, frame_place}
 use Rattle.dcc_simulation.specs.Procedures.{is_accessed}
 use Rattle.dcc_machine_demand.specs.Bodies.{Body}
-use Rattle.dcc_machine_demand.specs.Places.{in_frame, placed, in_memory, is_at, is_in_cell, frame_spot, is_of_frame}
-use Rattle.dcc_machine_demand.specs.Places.{for_bytes, spots_of_memory, is_accessed_by}
+use Rattle.dcc_machine_demand.specs.Holders.{in_frame, placed, in_memory, is_at, is_in_cell, frame_spot, is_of_frame}
+use Rattle.dcc_machine_demand.specs.Holders.{for_bytes, spots_of_memory, is_accessed_by}
 use Rattle.dcc_sums.specs.Instance.{is_pushed}
 use Rattle.dcc_lifted_demand.specs.LiftedRefinement.{IsSameWord}
 use Rattle.dcc_lifted_demand.proofs.SameLaws.{IsKept, kept_in}

@@ -1,10 +1,10 @@
 -- An instruction of a procedure that is found, in its setting.
 use Rattle.std.proofs.Common.{◌≡◌, ℕ, ℤ, Bool, false, ◌||◌, ◌&&◌, if◌then◌else◌, ◌==◌, List, [], ◌∷◌, Option, Some, None, refl, ap, ◌∙◌, true≢false}
-use Rattle.dcc_prog.specs.declared.image.Image.{Image}
+use Rattle.dcc_machine.specs.declared.image.Image.{Image}
 use Rattle.dcc_prog.specs.declared.frame.Program.{Program as Analysed}
 use Rattle.dcc_prog.specs.declared.procedure.Node.{Node}
-use Rattle.dcc_prog.specs.declared.instr.Op.{Op}
-use Rattle.dcc_prog.specs.declared.instr.Op.TheVariants.{Mov, Xchg, Push, Pop, Call}
+use Rattle.dcc_machine.specs.declared.instr.Op.{Op}
+use Rattle.dcc_machine.specs.declared.instr.Op.TheVariants.{Mov, Xchg, Push, Pop, Call}
 use Rattle.dcc_stack.specs.Slots.{writes_memory}
 use Rattle.dcc_ir.specs.declared.syntax.Loc.{Loc}
 use Rattle.dcc_ir.specs.Tree.{Program}
@@ -14,7 +14,7 @@ use Rattle.dcc_lift.specs.Blocks.{node_in, height_in}
 use Rattle.dcc_lift.specs.Translated.{IsTranslated}
 use Rattle.dcc_demand.specs.Procedures.{Leaves, Makes, LeavesWord, Overwrites, WordEffect, Procedures}
 use Rattle.dcc_machine_demand.specs.Bodies.{Body, bodies_of, find_at, point_with, Point}
-use Rattle.dcc_machine_demand.specs.Places.{Place, Spot, in_frame, is_accessed_by}
+use Rattle.dcc_machine_demand.specs.Holders.{Holder, Spot, in_frame, is_accessed_by}
 use Rattle.dcc_machine_demand.specs.Moves.{moved_effect, moved_made_of, moved_uses, pushed_from, pushed_offset}
 use Rattle.dcc_machine_demand.specs.Moves.{pushed_spots}
 use Rattle.dcc_machine_demand.specs.Values.{moves_or_calls, value_written, value_made_of, value_uses}
@@ -45,7 +45,7 @@ quiet_op bodies body (Call target) e = absurd (true≢false e)
 quiet_op bodies body op e = record { callee = refl; pushes = refl; calls = refl }
 
 module _ (image : Image) (program : Analysed) (p : Program) (is : IsTranslated image program p) (entry : ℕ) (x : refined.Link image program p is entry) where
-  abbrev pub coarse : Procedures ℕ Place ℤ
+  abbrev pub coarse : Procedures ℕ Holder ℤ
   coarse = machine image program p
 
   abbrev pub fine : Procedures Position Loc Loc
@@ -71,7 +71,7 @@ module _ (image : Image) (program : Analysed) (p : Program) (is : IsTranslated i
         action_there at ∙ ap (λ o. asks.action_at (bodies_of program) body (point_with o (find_at x.own at))) found
         ∙ ap (λ o. asks.action_at (bodies_of program) body (point_with (Some node) o)) (found_height x.own at ∙ high)
 
-    abbrev word_by : ℤ → Bool → List Spot → WordEffect Place
+    abbrev word_by : ℤ → Bool → List Spot → WordEffect Holder
     word_by k touched spots =
         if touched || (writes_memory node.instr.op && is_accessed_by body node.instr.op k) then Overwrites
         else pushed_from (pushed_offset height) spots k

@@ -5,18 +5,18 @@ use Rattle.dcc_num.specs.declared.Width.{Width}
 use Rattle.dcc_num.specs.declared.Width.TheVariants.{Byte as byte_width, Word as word_width}
 use Rattle.dcc_num.specs.declared.FlagName.{FlagName}
 use Rattle.dcc_num.specs.declared.FlagName.TheVariants.{Cf, Of}
-use Rattle.dcc_prog.specs.declared.instr.Shift.{Shift}
-use Rattle.dcc_prog.specs.declared.instr.Shift.TheVariants.{Rol, Ror, Rcl, Rcr, Shl, Shr, Sar}
-use Rattle.dcc_prog.specs.declared.instr.Count.TheVariants.{One, Cl}
-use Rattle.dcc_prog.specs.Writes.{shift_writes_flag}
-use Rattle.dcc_prog.specs.Wanted.{Location, flag_of, is_flag, is_turn, is_constant_flag, brings_carry}
+use Rattle.dcc_machine.specs.declared.instr.Shift.{Shift}
+use Rattle.dcc_machine.specs.declared.instr.Shift.TheVariants.{Rol, Ror, Rcl, Rcr, Shl, Shr, Sar}
+use Rattle.dcc_machine.specs.declared.instr.Count.TheVariants.{One, Cl}
+use Rattle.dcc_machine.specs.Writes.{shift_writes_flag}
+use Rattle.dcc_machine.specs.Wanted.{Location, flag_of, is_flag, is_through_carry, is_constant_flag, brings_carry}
 use Rattle.dcc_ir.specs.declared.syntax.Loc.TheVariants.{Flag}
 use Rattle.dcc_ir.specs.declared.syntax.BinOp.TheVariants.{Xor as XorOp, Shl as ShlOp, Shr as ShrOp, Sar as SarOp}
 use Rattle.dcc_ir.specs.Tree.{Binary, Stmt}
-use Rattle.dcc_ops.specs.Expressions.{left, result, bit, sign, below_sign, lowest, shifted, nearly_shifted, rotated_left, rotated_right}
+use Rattle.dcc_ops.specs.Expressions.{left, result, bit, sign, below_sign, lowest, shifted, nearly_shifted, rol_value, ror_value}
 use Rattle.dcc_ops.specs.Statements.{result_taking, shift_flags as flags_of_shift, rotate_flags, shift_working}
 use Rattle.dcc_lift.proofs.ListTests.{and_left, and_right}
-use Rattle.dcc_machine_demand.specs.Places.{Place, held, in_frame}
+use Rattle.dcc_machine_demand.specs.Holders.{Holder, held, in_frame}
 use Rattle.dcc_instruction_demand.proofs.ValueLaws.{is_written}
 use Rattle.dcc_instruction_demand.proofs.ClosedLaws.{same_test, tests_same}
 use Rattle.dcc_instruction_demand.proofs.FormLaws.{Input, first, second, carry, itself, has_itself, made_by, IsWork}
@@ -25,7 +25,7 @@ use Rattle.dcc_instruction_demand.proofs.WorkLaws.{all_flags, every_flag, worked
 -- What the result and the flags are made of, where the count is in CL or not, and where OF is 0 for it or not.
 
 abbrev pub shift_inputs : Shift → List Input
-shift_inputs operation = if is_turn operation then first ∷ carry ∷ [] else first ∷ second ∷ []
+shift_inputs operation = if is_through_carry operation then first ∷ carry ∷ [] else first ∷ second ∷ []
 
 abbrev base_inputs : Shift → FlagName → List Input
 base_inputs Sar Of = []
@@ -43,14 +43,14 @@ is_overflow f = false
 abbrev pub shift_flags : Shift → Bool → Bool → FlagName → List Input
 shift_flags operation cl cleared f =
     if not (shift_writes_flag operation f) then itself ∷ []
-    else if cl && not (is_turn operation) then second ∷ itself ∷ base_inputs operation f
+    else if cl && not (is_through_carry operation) then second ∷ itself ∷ base_inputs operation f
     else if cleared && is_overflow f then []
     else base_inputs operation f
 
 -- what is not written stays
 pub unwritten_inputs : (operation : Shift) (cl cleared : Bool) (f : FlagName) → shift_writes_flag operation f ≡ false → shift_flags operation cl cleared f ≡ itself ∷ []
 unwritten_inputs operation cl cleared f e =
-    ap (λ s. if not s then itself ∷ [] else if cl && not (is_turn operation) then second ∷ itself ∷ base_inputs operation f else if cleared && is_overflow f then [] else base_inputs operation f) e
+    ap (λ s. if not s then itself ∷ [] else if cl && not (is_through_carry operation) then second ∷ itself ∷ base_inputs operation f else if cleared && is_overflow f then [] else base_inputs operation f) e
 
 abbrev pub Works : Shift → Width → List Stmt → Bool → Bool → Type 0
 Works operation w working cl cleared =
@@ -67,18 +67,19 @@ const_working c Shl w =
     ++ flags_of_shift w One (if c then Binary XorOp 1 (sign w (nearly_shifted ShlOp w)) (sign w (result w)) else bit 0) (sign w (nearly_shifted ShlOp w))
 const_working c Shr w = result_taking w (shifted ShrOp w) ++ flags_of_shift w One (if c then sign w (left w) else bit 0) (lowest (nearly_shifted ShrOp w))
 const_working c Sar w = result_taking w (shifted SarOp w) ++ flags_of_shift w One (bit 0) (lowest (nearly_shifted SarOp w))
-const_working c Rol w = result_taking w (rotated_left w) ++ rotate_flags w One (if c then Binary XorOp 1 (lowest (result w)) (sign w (result w)) else bit 0) (lowest (result w))
-const_working c Ror w = result_taking w (rotated_right w) ++ rotate_flags w One (if c then Binary XorOp 1 (sign w (result w)) (below_sign w (result w)) else bit 0) (sign w (result w))
+const_working c Rol w = result_taking w (rol_value w) ++ rotate_flags w One (if c then Binary XorOp 1 (lowest (result w)) (sign w (result w)) else bit 0) (lowest (result w))
+const_working c Ror w = result_taking w (ror_value w) ++ rotate_flags w One (if c then Binary XorOp 1 (sign w (result w)) (below_sign w (result w)) else bit 0) (sign w (result w))
 const_working c operation w = []
 
 -- What dcc_machine_demand tells: the operand is read, CL is the place, CF is the place.
 
 abbrev pub result_made : Shift → Bool → Bool → Bool → Bool → Bool
-result_made operation cl r y k = r || (((cl && not (is_turn operation)) && y) || (is_turn operation && k))
+result_made operation cl r y k = r || (((cl && not (is_through_carry operation)) && y) || (is_through_carry operation &&
+    k))
 
 abbrev pub flag_made : Shift → Bool → Bool → FlagName → Bool → Bool → Bool → Bool
 flag_made operation cl cleared f r y k =
-    ((not (is_constant_flag operation f) && r) || (((cl && not (is_turn operation)) && y) || (brings_carry operation (flag_of f) && k))) && not (cleared && is_overflow f)
+    ((not (is_constant_flag operation f) && r) || (((cl && not (is_through_carry operation)) && y) || (brings_carry operation (flag_of f) && k))) && not (cleared && is_overflow f)
 
 abbrev pub input_value : Bool → Bool → Bool → Input → Bool
 input_value r c k first = r
@@ -112,14 +113,14 @@ flag_told operation cl cleared f =
 
 abbrev sure_told : Shift → Bool → Bool → FlagName → Bool
 sure_told operation cl cleared f =
-    same_test (shift_writes_flag operation f && (shift_writes_flag operation f && not (cl && not (is_turn operation)))) (not (has_itself (shift_flags operation cl cleared f)))
+    same_test (shift_writes_flag operation f && (shift_writes_flag operation f && not (cl && not (is_through_carry operation)))) (not (has_itself (shift_flags operation cl cleared f)))
 
 abbrev is_told : Shift → Bool → Bool → Bool
 is_told operation cl cleared = result_told operation cl && (all_flags (flag_told operation cl cleared) && all_flags (sure_told operation cl cleared))
 
 -- the count is in CL, or a constant, which RCL and RCR don't have
 abbrev pub may_be : Shift → Bool → Bool → Bool
-may_be operation cl cleared = not cleared || (not cl && not (is_turn operation))
+may_be operation cl cleared = not cleared || (not cl && not (is_through_carry operation))
 
 -- Tables.
 
@@ -155,7 +156,7 @@ cl_work Rcl word_width = works_by Rcl word_width (shift_working Rcl word_width C
 cl_work Rcr byte_width = works_by Rcr byte_width (shift_working Rcr byte_width Cl) true false (worked byte_width (shift_working Rcr byte_width Cl) (shift_inputs Rcr) (shift_flags Rcr true false) refl (λ r h. refl) (λ n h. refl) (λ r h. refl) (λ n h. refl)) refl
 cl_work Rcr word_width = works_by Rcr word_width (shift_working Rcr word_width Cl) true false (worked word_width (shift_working Rcr word_width Cl) (shift_inputs Rcr) (shift_flags Rcr true false) refl (λ r h. refl) (λ n h. refl) (λ r h. refl) (λ n h. refl)) refl
 
-pub const_work : (c : Bool) (operation : Shift) (w : Width) → is_turn operation ≡ false → Works operation w (const_working c operation w) false (not c)
+pub const_work : (c : Bool) (operation : Shift) (w : Width) → is_through_carry operation ≡ false → Works operation w (const_working c operation w) false (not c)
 const_work true Shl byte_width e = works_by Shl byte_width (const_working true Shl byte_width) false false (worked byte_width (const_working true Shl byte_width) (shift_inputs Shl) (shift_flags Shl false false) refl (λ r h. refl) (λ n h. refl) (λ r h. refl) (λ n h. refl)) refl
 const_work true Shl word_width e = works_by Shl word_width (const_working true Shl word_width) false false (worked word_width (const_working true Shl word_width) (shift_inputs Shl) (shift_flags Shl false false) refl (λ r h. refl) (λ n h. refl) (λ r h. refl) (λ n h. refl)) refl
 const_work true Shr byte_width e = works_by Shr byte_width (const_working true Shr byte_width) false false (worked byte_width (const_working true Shr byte_width) (shift_inputs Shr) (shift_flags Shr false false) refl (λ r h. refl) (λ n h. refl) (λ r h. refl) (λ n h. refl)) refl
@@ -226,21 +227,21 @@ module _ (operation : Shift) (cl cleared : Bool) (may : may_be operation cl clea
       ∙ three (λ r y k. not (shift_writes_flag operation f) || same_test (flag_made operation cl cleared f r y k) (made_value (shift_flags operation cl cleared f) r (cl && y) k))
       (every_flag (flag_told operation cl cleared) (and_left (all_flags (flag_told operation cl cleared)) (all_flags (sure_told operation cl cleared)) rest) f) r y k)
 
-  pub sure_is_told : (f : FlagName) → (shift_writes_flag operation f && (shift_writes_flag operation f && not (cl && not (is_turn operation)))) ≡ not (has_itself (shift_flags operation cl cleared f))
+  pub sure_is_told : (f : FlagName) → (shift_writes_flag operation f && (shift_writes_flag operation f && not (cl && not (is_through_carry operation)))) ≡ not (has_itself (shift_flags operation cl cleared f))
   sure_is_told f =
-      tests_same (shift_writes_flag operation f && (shift_writes_flag operation f && not (cl && not (is_turn operation)))) (not (has_itself (shift_flags operation cl cleared f)))
+      tests_same (shift_writes_flag operation f && (shift_writes_flag operation f && not (cl && not (is_through_carry operation)))) (not (has_itself (shift_flags operation cl cleared f)))
       (every_flag (sure_told operation cl cleared) (and_right (all_flags (flag_told operation cl cleared)) (all_flags (sure_told operation cl cleared)) rest) f)
 
 -- What places are made of.
 
-pub made_held : (ra rb : Place → Bool) (inputs : List Input) (l : Location) → made_by ra rb inputs (held l) ≡ made_value inputs (ra (held l)) (rb (held l)) (is_flag Cf l)
+pub made_held : (ra rb : Holder → Bool) (inputs : List Input) (l : Location) → made_by ra rb inputs (held l) ≡ made_value inputs (ra (held l)) (rb (held l)) (is_flag Cf l)
 made_held ra rb [] l = refl
 made_held ra rb (first ∷ inputs) l = ap (λ b. ra (held l) || b) (made_held ra rb inputs l)
 made_held ra rb (second ∷ inputs) l = ap (λ b. rb (held l) || b) (made_held ra rb inputs l)
 made_held ra rb (carry ∷ inputs) l = ap (λ b. is_flag Cf l || b) (made_held ra rb inputs l)
 made_held ra rb (itself ∷ inputs) l = made_held ra rb inputs l
 
-pub made_framed : (ra rb : Place → Bool) (inputs : List Input) (k : ℤ) → made_by ra rb inputs (in_frame k) ≡ made_value inputs (ra (in_frame k)) (rb (in_frame k)) false
+pub made_framed : (ra rb : Holder → Bool) (inputs : List Input) (k : ℤ) → made_by ra rb inputs (in_frame k) ≡ made_value inputs (ra (in_frame k)) (rb (in_frame k)) false
 made_framed ra rb [] k = refl
 made_framed ra rb (first ∷ inputs) k = ap (λ b. ra (in_frame k) || b) (made_framed ra rb inputs k)
 made_framed ra rb (second ∷ inputs) k = ap (λ b. rb (in_frame k) || b) (made_framed ra rb inputs k)

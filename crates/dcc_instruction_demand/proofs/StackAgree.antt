@@ -9,10 +9,10 @@ use Rattle.dcc_num.specs.declared.Reg.TheVariants.{Bp}
 use Rattle.dcc_num.specs.declared.Half.{Half as HalfName}
 use Rattle.dcc_num.specs.declared.Half.TheVariants.{Low, High}
 use Rattle.dcc_prog.specs.declared.procedure.Node.{Node}
-use Rattle.dcc_prog.specs.declared.instr.Operand.{Operand}
-use Rattle.dcc_prog.specs.declared.instr.Operand.TheVariants.{Word}
-use Rattle.dcc_prog.specs.declared.instr.Op.TheVariants.{Push, Pop}
-use Rattle.dcc_prog.specs.Wanted.{Location, half_of, flag_of}
+use Rattle.dcc_machine.specs.declared.instr.Operand.{Operand}
+use Rattle.dcc_machine.specs.declared.instr.Operand.TheVariants.{Word}
+use Rattle.dcc_machine.specs.declared.instr.Op.TheVariants.{Push, Pop}
+use Rattle.dcc_machine.specs.Wanted.{Location, half_of, flag_of}
 use Rattle.dcc_ir.specs.declared.syntax.Loc.{Loc}
 use Rattle.dcc_ir.specs.declared.syntax.Loc.TheVariants.{Cell}
 use Rattle.dcc_ir.specs.Location.{same_location}
@@ -20,7 +20,7 @@ use Rattle.dcc_ir.specs.Tree.{Expr, Const, Get, Part, Set, Address}
 use Rattle.dcc_ir.specs.Live.{is_among}
 use Rattle.dcc_ir.proofs.LocationLaws.{location_itself, location_same}
 use Rattle.dcc_ir.proofs.PathLaws.{decided}
-use Rattle.dcc_ops.specs.Place.{Place as InnerPlace, byte, constant, word, memory, computed, is_low, is_high, taking}
+use Rattle.dcc_ops.specs.OperandPlace.{OperandPlace, byte, constant, word, memory, computed, is_low, is_high, taking}
 use Rattle.dcc_ops.specs.Temporaries.{left_place}
 use Rattle.dcc_ops.specs.Expressions.{left}
 use Rattle.dcc_ops.specs.Statements.{mov_stmts}
@@ -28,8 +28,8 @@ use Rattle.dcc_lift.proofs.ListTests.{or_here, or_there, or_none}
 use Rattle.dcc_simulation.specs.Procedures.{Procedure, frame_place, distance_of, pushed_of}
 use Rattle.dcc_demand.specs.Procedures.{Effect, Copies, Pops, WordEffect, LeavesWord, Pushes, Overwrites, Procedures}
 use Rattle.dcc_machine_demand.specs.Bodies.{Body, Point}
-use Rattle.dcc_machine_demand.specs.Places.{Place, held, in_frame, Spot, nowhere, is_place, is_at, is_in_cell}
-use Rattle.dcc_machine_demand.specs.Places.{frame_spot, spots_of, is_of_address}
+use Rattle.dcc_machine_demand.specs.Holders.{Holder, held, in_frame, Spot, nowhere, is_holder, is_at, is_in_cell}
+use Rattle.dcc_machine_demand.specs.Holders.{frame_spot, spots_of, is_of_address}
 use Rattle.dcc_machine_demand.specs.Moves.{Move, copying, moves_between, popping, word_spots, pushed_offset}
 use Rattle.dcc_machine_demand.specs.Moves.{popped_offset, pushing, pushed_from}
 use Rattle.dcc_sums.specs.Points.{Position}
@@ -62,7 +62,7 @@ use Rattle.dcc_instruction_demand.proofs.OperandBytes.{access_address}
 alone : (x y : Loc) → is_among (y ∷ []) x ≡ true → x ≡ y
 alone x y t = location_same x y (sym (or_none (same_location x y)) ∙ t)
 
-module _ (coarse : Procedures ℕ Place ℤ) (fine : Procedures Position Loc Loc) (r : Refinement ℕ Place ℤ Position Loc Loc) (entry at : ℕ)
+module _ (coarse : Procedures ℕ Holder ℤ) (fine : Procedures Position Loc Loc) (r : Refinement ℕ Holder ℤ Position Loc Loc) (entry at : ℕ)
     (o : Option Procedure) (q : Procedure) (found : o ≡ Some q) (heights : List (ℕ × ℕ)) (bodies : List Body) where
   abbrev body : Body
   body = frame_body o q found heights
@@ -70,11 +70,11 @@ module _ (coarse : Procedures ℕ Place ℤ) (fine : Procedures Position Loc Loc
   abbrev pushed : ℕ
   pushed = pushed_of q
 
-  abbrev exposed : Place → Bool
+  abbrev exposed : Holder → Bool
   exposed = (coarse.procedure entry).is_exposed
 
   module _ (point : Point) (v : IsMovingOperation coarse fine r entry at (pushed_of q) o bodies (frame_body o q found heights) point) where
-    abbrev WordAt : Spot → Spot → InnerPlace → Type 0
+    abbrev WordAt : Spot → Spot → OperandPlace → Type 0
     WordAt = HasWord o body exposed
 
     -- What passes between procedures is no byte of the frame, and where it is a half, a half of a register.
@@ -82,7 +82,7 @@ module _ (coarse : Procedures ℕ Place ℤ) (fine : Procedures Position Loc Loc
     unpassed : (k : ℤ) → coarse.passes (in_frame k) ≡ true → ⊥
     unpassed k p = true≢false (sym p ∙ v.passes_is (in_frame k))
 
-    passing_half : (L : Place) (l : Loc) → IsSame o L l → coarse.passes L ≡ true → is_kept_place l ≡ true → is_half l ≡ true
+    passing_half : (L : Holder) (l : Loc) → IsSame o L l → coarse.passes L ≡ true → is_kept_place l ≡ true → is_half l ≡ true
     passing_half L l s p t = by (same_cases o s)
       where
         inner : (location : Location) → l ≡ inner_of location → is_half l ≡ true
@@ -93,7 +93,7 @@ module _ (coarse : Procedures ℕ Place ℤ) (fine : Procedures Position Loc Loc
         by (SameCases.by_held location c e f) = inner location f
         by (SameCases.by_kept other k c e kept f) = absurd (unpassed k (subst (λ M. coarse.passes M ≡ true) e p))
 
-    passing_cell : (L : Place) (n : ℕ) (h : HalfName) → IsSame o L (Cell n h) → coarse.passes L ≡ true → ⊥
+    passing_cell : (L : Holder) (n : ℕ) (h : HalfName) → IsSame o L (Cell n h) → coarse.passes L ≡ true → ⊥
     passing_cell L n h s p = true≢false (sym (passing_half L (Cell n h) s p refl))
 
     -- POP.
@@ -115,11 +115,11 @@ module _ (coarse : Procedures ℕ Place ℤ) (fine : Procedures Position Loc Loc
               subst (λ y. EffectsAgree coarse fine r entry (Pops j) y) (sym (effect_is false e))
               (EffectsAgree.both_lose (LosesAtOnce.popped_open (private_is j c place ∙ e)) LosesAtOnce.copied)
 
-      module _ (addresses : Place → Bool) (k : ℤ) where
-        abbrev Fits : InnerPlace → InnerPlace → Type 0
+      module _ (addresses : Holder → Bool) (k : ℤ) where
+        abbrev Fits : OperandPlace → OperandPlace → Type 0
         Fits P Q = BothFit coarse fine r entry at (pushed_of q) o bodies body point v addresses P (mov_stmts word_width P Q) (Pops k) (Pops (k +ℤ pos 1))
 
-        nothing_fits : (Q P : InnerPlace) → low_of P ≡ [] → high_of P ≡ [] → Fits P Q
+        nothing_fits : (Q P : OperandPlace) → low_of P ≡ [] → high_of P ≡ [] → Fits P Q
         nothing_fits Q P e f = (
           subst (λ ls. FitsEffect coarse fine r entry at (pushed_of q) o bodies body point v addresses (mov_stmts word_width P Q) ls (Pops k)) (sym e)
               (none_fit coarse fine r entry at (pushed_of q) o bodies body point v addresses (mov_stmts word_width P Q) (Pops k)),
@@ -127,7 +127,7 @@ module _ (coarse : Procedures ℕ Place ℤ) (fine : Procedures Position Loc Loc
               (none_fit coarse fine r entry at (pushed_of q) o bodies body point v addresses (mov_stmts word_width P Q) (Pops (k +ℤ pos 1))),
         )
 
-        module _ (L M : Place) (l m : Loc) (a : IsHalf o body exposed L l) (b : IsHalf o body exposed M m) (low : is_low l ≡ true) (high : is_high m ≡ true) where
+        module _ (L M : Holder) (l m : Loc) (a : IsHalf o body exposed L l) (b : IsHalf o body exposed M m) (low : is_low l ≡ true) (high : is_high m ≡ true) where
           apart : same_location l m ≡ false
           apart = halves_apart l m low high
 
@@ -158,10 +158,10 @@ module _ (coarse : Procedures ℕ Place ℤ) (fine : Procedures Position Loc Loc
                   effect_lost (fine.procedure entry) (pushed_of q) (mov_stmts word_width (word l m) (memory word_width e)) x
                   (word_unpopped o body exposed l m low high f g (memory word_width e) (pushed_of q) (λ y u. absurd (true≢false (sym u))) w) t
 
-              written : (x : Loc) (N : Place) → IsSame o N x → is_among (l ∷ m ∷ []) x ≡ true → is_written (mov_stmts word_width (word l m) (memory word_width e)) x ≡ true
+              written : (x : Loc) (N : Holder) → IsSame o N x → is_among (l ∷ m ∷ []) x ≡ true → is_written (mov_stmts word_width (word l m) (memory word_width e)) x ≡ true
               written x N s t = word_unwritten o body exposed l m low high f g (memory word_width e) w x (same_lasts o N x s) ∙ t
 
-        word_fits : (t u : Spot) (P : InnerPlace) → WordAt t u P → AccessAt o q found heights word_width k → Fits P (frame_place q word_width k)
+        word_fits : (t u : Spot) (P : OperandPlace) → WordAt t u P → AccessAt o q found heights word_width k → Fits P (frame_place q word_width k)
         word_fits _ _ _ (HasWord.two_halves {L = L} {M = M} {l = l} {m = m} a b low high) access = by access
           where
             by : AccessAt o q found heights word_width k → Fits (word l m) (frame_place q word_width k)
@@ -179,8 +179,8 @@ module _ (coarse : Procedures ℕ Place ℤ) (fine : Procedures Position Loc Loc
         word_fits _ _ _ (HasWord.open_word {e = e} opens next kept) access = nothing_fits (frame_place q word_width k) (memory word_width e) refl refl
 
         -- the word is popped to these bytes
-        popped_pairing : (a : Operand) (to : List Spot) (P : InnerPlace) → addresses ≡ is_of_address a → HasBytes o body exposed word_width to P → AccessAt o q found heights word_width k
-            → Shows (IsSame o) (λ M. (is_place body M ≡ true) × (addresses M ≡ true)) (address_reads P)
+        popped_pairing : (a : Operand) (to : List Spot) (P : OperandPlace) → addresses ≡ is_of_address a → HasBytes o body exposed word_width to P → AccessAt o q found heights word_width k
+            → Shows (IsSame o) (λ M. (is_holder body M ≡ true) × (addresses M ≡ true)) (address_reads P)
             → Pairing coarse fine r entry at (pushed_of q) o bodies body point v (mov_stmts word_width P (frame_place q word_width k)) (popping body a to k) (outs P)
         popped_pairing a _ P same (HasBytes.as_word {f = t} {g = u} p) access shown =
             subst (λ taking. Pairing coarse fine r entry at (pushed_of q) o bodies body point v (mov_stmts word_width P (frame_place q word_width k))
@@ -188,19 +188,19 @@ module _ (coarse : Procedures ℕ Place ℤ) (fine : Procedures Position Loc Loc
             ∷ record { to = u; effect = Pops (k +ℤ pos 1); made_of = λ place. is_at (frame_spot body (k +ℤ pos 1)) place || taking place } ∷ []) (outs P)) same
             (word_pairing coarse fine r entry at (pushed_of q) o bodies body point v addresses t u (frame_spot body k) (frame_spot body (k +ℤ pos 1)) P (frame_place q word_width k) (Pops k) (Pops (k +ℤ pos 1)) p
             (word_of o body exposed (frame_spot body k) (frame_spot body (k +ℤ pos 1)) (frame_place q word_width k) (access_bytes o q found heights exposed (λ j. v.exposed (in_frame j)) word_width k access))
-            (subst (λ ls. Shows (IsSame o) (λ M. (is_place body M ≡ true) × (addresses M ≡ true)) (address_reads P ++ ls)) (sym (access_address o q found heights exposed (λ j. v.exposed (in_frame j)) word_width k access))
-            (subst (λ ls. Shows (IsSame o) (λ M. (is_place body M ≡ true) × (addresses M ≡ true)) ls) (sym (append-nil (address_reads P))) shown))
+            (subst (λ ls. Shows (IsSame o) (λ M. (is_holder body M ≡ true) × (addresses M ≡ true)) (address_reads P ++ ls)) (sym (access_address o q found heights exposed (λ j. v.exposed (in_frame j)) word_width k access))
+            (subst (λ ls. Shows (IsSame o) (λ M. (is_holder body M ≡ true) × (addresses M ≡ true)) ls) (sym (append-nil (address_reads P))) shown))
             (word_fits t u P p access))
 
     -- PUSH.
 
     -- what is pushed of a byte
-    module _ (L : Place) (l : Loc) (s : IsSame o L l) (p : coarse.passes L ≡ true) where
+    module _ (L : Holder) (l : Loc) (s : IsSame o L l) (p : coarse.passes L ≡ true) where
       open_spoils : (t : Spot) → IsOpenSpot o body exposed t → Spoils L (pushing t)
       open_spoils _ IsOpenSpot.in_no_cell = Spoils.overwritten
       open_spoils _ (IsOpenSpot.in_open_cell {k = k} e) = Spoils.by_other (λ same. unpassed k (subst (λ M. coarse.passes M ≡ true) (sym same) p))
 
-      half_pushed : (M : Place) (m : Loc) → IsHalf o body exposed M m → (c : Loc) → WordEffectsAgree coarse fine r L l (Pushes M) (word_effect_of (Set c (Get m)))
+      half_pushed : (M : Holder) (m : Loc) → IsHalf o body exposed M m → (c : Loc) → WordEffectsAgree coarse fine r L l (Pushes M) (word_effect_of (Set c (Get m)))
       half_pushed M m h c = elim (decided (same_location m l)) [
         | inl t ↦
             let one = location_same m l t in
@@ -219,10 +219,10 @@ module _ (coarse : Procedures ℕ Place ℤ) (fine : Procedures Position Loc Loc
           by false other = Spoils.overwritten
 
       module _ (c d : Loc) (apart : same_location c d ≡ false) where
-        agree_as : (y : WordEffect Place) (z w : WordEffect Loc) → w ≡ z → WordEffectsAgree coarse fine r L l y z → WordEffectsAgree coarse fine r L l y w
+        agree_as : (y : WordEffect Holder) (z w : WordEffect Loc) → w ≡ z → WordEffectsAgree coarse fine r L l y z → WordEffectsAgree coarse fine r L l y w
         agree_as y z w e a = subst (λ x. WordEffectsAgree coarse fine r L l y x) (sym e) a
 
-        pub low_pushed : (f g : Spot) (Q : InnerPlace) → WordAt f g Q → WordEffectsAgree coarse fine r L l (pushing f) (word_effect_after (pushed_of q) (mov_stmts word_width (word c d) Q) c)
+        pub low_pushed : (f g : Spot) (Q : OperandPlace) → WordAt f g Q → WordEffectsAgree coarse fine r L l (pushing f) (word_effect_after (pushed_of q) (mov_stmts word_width (word c d) Q) c)
         low_pushed _ _ Q (HasWord.two_halves {L = M} {l = m} {m = n} a b low high) =
             agree_as (Pushes M) (word_effect_of (Set c (Get m))) (word_effect_after pushed (mov_stmts word_width (word c d) Q) c) (low_word (fine.procedure entry) pushed c d apart (Get m) (Get n)) (half_pushed M m a c)
         low_pushed _ _ Q (HasWord.constant_word {n = n}) =
@@ -235,7 +235,7 @@ module _ (coarse : Procedures ℕ Place ℤ) (fine : Procedures Position Loc Loc
             agree_as (pushing f) Overwrites (word_effect_after pushed (mov_stmts word_width (word c d) Q) c)
             (low_word_then (fine.procedure entry) pushed c d apart (Part 8 0 (left word_width)) (Part 8 8 (left word_width)) (taking (left_place word_width) Q)) (WordEffectsAgree.both_spoil (open_spoils f opens) Spoils.overwritten)
 
-        pub high_pushed : (f g : Spot) (Q : InnerPlace) → WordAt f g Q → WordEffectsAgree coarse fine r L l (pushing g) (word_effect_after (pushed_of q) (mov_stmts word_width (word c d) Q) d)
+        pub high_pushed : (f g : Spot) (Q : OperandPlace) → WordAt f g Q → WordEffectsAgree coarse fine r L l (pushing g) (word_effect_after (pushed_of q) (mov_stmts word_width (word c d) Q) d)
         high_pushed _ _ Q (HasWord.two_halves {M = M} {l = m} {m = n} a b low high) =
             agree_as (Pushes M) (word_effect_of (Set d (Get n))) (word_effect_after pushed (mov_stmts word_width (word c d) Q) d) (high_word (fine.procedure entry) pushed c d apart (Get m) (Get n)) (half_pushed M n b d)
         high_pushed _ _ Q (HasWord.constant_word {n = n}) =
@@ -248,7 +248,7 @@ module _ (coarse : Procedures ℕ Place ℤ) (fine : Procedures Position Loc Loc
             agree_as (pushing g) Overwrites (word_effect_after pushed (mov_stmts word_width (word c d) Q) d)
             (high_word_then (fine.procedure entry) pushed c d apart (Part 8 0 (left word_width)) (Part 8 8 (left word_width)) (taking (left_place word_width) Q)) (WordEffectsAgree.both_spoil (open_spoils g next) Spoils.overwritten)
 
-    module _ (addresses : Place → Bool) (k : ℤ) where
+    module _ (addresses : Holder → Bool) (k : ℤ) where
       -- which byte of a pushed word a word of the stack is: the low one, the high one, or none
       data PushedAt (from : List Spot) (j : ℤ) (f g : Spot) : Type 0 where
         at_low : j ≡ k → pushed_from k from j ≡ pushing f → PushedAt from j f g
@@ -258,7 +258,7 @@ module _ (coarse : Procedures ℕ Place ℤ) (fine : Procedures Position Loc Loc
       pushed_at : (f g : Spot) (j : ℤ) → PushedAt (f ∷ g ∷ []) j f g
       pushed_at f g j = by (int_eq k j) (int_eq (k +ℤ pos 1) j) refl refl
         where
-          way : Bool → Bool → WordEffect Place
+          way : Bool → Bool → WordEffect Holder
           way a b = if a then pushing f else if b then pushing g else LeavesWord
 
           other : (i : ℤ) → int_eq i j ≡ false → ¬ (j ≡ i)
@@ -276,14 +276,14 @@ module _ (coarse : Procedures ℕ Place ℤ) (fine : Procedures Position Loc Loc
       abbrev Access : Type 0
       Access = AccessAt o q found heights word_width k
 
-      abbrev there : InnerPlace
+      abbrev there : OperandPlace
       there = frame_place q word_width k
 
       there_bytes : Access → WordAt (frame_spot body k) (frame_spot body (k +ℤ pos 1)) (frame_place q word_width k)
       there_bytes access = word_of o body exposed (frame_spot body k) (frame_spot body (k +ℤ pos 1)) (frame_place q word_width k) (access_bytes o q found heights exposed (λ j. v.exposed (in_frame j)) word_width k access)
 
       -- what passes between procedures isn't written
-      pushed_fits : (Q : InnerPlace) (d e : Effect Place ℤ) → Access → BothFit coarse fine r entry at (pushed_of q) o bodies body point v addresses (frame_place q word_width k) (mov_stmts word_width (frame_place q word_width k) Q) d e
+      pushed_fits : (Q : OperandPlace) (d e : Effect Holder ℤ) → Access → BothFit coarse fine r entry at (pushed_of q) o bodies body point v addresses (frame_place q word_width k) (mov_stmts word_width (frame_place q word_width k) Q) d e
       pushed_fits Q d e access = by access
         where
           by : Access → BothFit coarse fine r entry at (pushed_of q) o bodies body point v addresses (frame_place q word_width k) (mov_stmts word_width (frame_place q word_width k) Q) d e
@@ -299,16 +299,16 @@ module _ (coarse : Procedures ℕ Place ℤ) (fine : Procedures Position Loc Loc
                 none_fit coarse fine r entry at (pushed_of q) o bodies body point v addresses (mov_stmts word_width (memory word_width (Address (distance_of k))) Q) e,
               )
 
-      pushed_pairing : (from : List Spot) (Q : InnerPlace) → HasBytes o body exposed word_width from Q → Access → Shows (IsSame o) (λ M. (is_place body M ≡ true) × (addresses M ≡ true)) (address_reads Q)
+      pushed_pairing : (from : List Spot) (Q : OperandPlace) → HasBytes o body exposed word_width from Q → Access → Shows (IsSame o) (λ M. (is_holder body M ≡ true) × (addresses M ≡ true)) (address_reads Q)
           → Pairing coarse fine r entry at (pushed_of q) o bodies body point v (mov_stmts word_width (frame_place q word_width k) Q) (moves_between addresses (word_spots body k) from) (outs (frame_place q word_width k))
       pushed_pairing _ Q (HasBytes.as_word {f = f} {g = g} w) access shown =
           word_pairing coarse fine r entry at (pushed_of q) o bodies body point v addresses (frame_spot body k) (frame_spot body (k +ℤ pos 1)) f g (frame_place q word_width k) Q (copying f) (copying g) (there_bytes access) w
-          (subst (λ ls. Shows (IsSame o) (λ M. (is_place body M ≡ true) × (addresses M ≡ true)) (ls ++ address_reads Q)) (sym (access_address o q found heights exposed (λ j. v.exposed (in_frame j)) word_width k access)) shown)
+          (subst (λ ls. Shows (IsSame o) (λ M. (is_holder body M ≡ true) × (addresses M ≡ true)) (ls ++ address_reads Q)) (sym (access_address o q found heights exposed (λ j. v.exposed (in_frame j)) word_width k access)) shown)
           (pushed_fits Q (copying f) (copying g) access)
 
       -- the words of the stack
-      module _ (Q : InnerPlace) (f g : Spot) (w : WordAt f g Q) (L : Place) (l : Loc) (s : IsSame o L l) (p : coarse.passes L ≡ true) (j : ℤ) (x : Loc) (is : IsSameWord o j x) where
-        abbrev Agree : InnerPlace → WordEffect Place → Loc → Type 0
+      module _ (Q : OperandPlace) (f g : Spot) (w : WordAt f g Q) (L : Holder) (l : Loc) (s : IsSame o L l) (p : coarse.passes L ≡ true) (j : ℤ) (x : Loc) (is : IsSameWord o j x) where
+        abbrev Agree : OperandPlace → WordEffect Holder → Loc → Type 0
         Agree P y z = WordEffectsAgree coarse fine r L l y (word_effect_after (pushed_of q) (mov_stmts word_width P Q) z)
 
         x_there : IsSame o (in_frame j) x
@@ -361,12 +361,12 @@ module _ (coarse : Procedures ℕ Place ℤ) (fine : Procedures Position Loc Loc
             by (AccessAt.word_access n u place first second inside inside_next) = in_cell access n place first second (pushed_at f g j)
             by (AccessAt.open_access place opens next) = in_open access place opens (next refl) (pushed_at f g j)
 
-      pushed_words : (from : List Spot) (Q : InnerPlace) → HasBytes o body exposed word_width from Q → Access → (L : Place) (l : Loc) (j : ℤ) (x : Loc) → IsSame o L l → coarse.passes L ≡ true → IsSameWord o j x
+      pushed_words : (from : List Spot) (Q : OperandPlace) → HasBytes o body exposed word_width from Q → Access → (L : Holder) (l : Loc) (j : ℤ) (x : Loc) → IsSame o L l → coarse.passes L ≡ true → IsSameWord o j x
           → WordEffectsAgree coarse fine r L l (pushed_from k from j) (word_effect_after (pushed_of q) (mov_stmts word_width (frame_place q word_width k) Q) x)
       pushed_words _ Q (HasBytes.as_word {f = f} {g = g} w) access L l j x s p is = word_pushed Q f g w L l s p j x is access
 
     -- what is pushed moves no half and no flag
-    unmoved : (addresses : Place → Bool) (k : ℤ) (from : List Spot) (L : Place) → coarse.passes L ≡ true → moved_to (moves_between addresses (word_spots body k) from) L ≡ false
+    unmoved : (addresses : Holder → Bool) (k : ℤ) (from : List Spot) (L : Holder) → coarse.passes L ≡ true → moved_to (moves_between addresses (word_spots body k) from) L ≡ false
     unmoved addresses k from (held l) p = between_to addresses (word_spots body k) from (held l) ∙ word_held body k l
     unmoved addresses k from (in_frame j) p = absurd (unpassed j p)
 
@@ -375,7 +375,7 @@ module _ (coarse : Procedures ℕ Place ℤ) (fine : Procedures Position Loc Loc
   module _ (node : Node) (height : ℕ) where
     pub pop_agrees : (a : Operand) (v : IsMovingOperation coarse fine r entry at (pushed_of q) o bodies (frame_body o q found heights) (point_with_op node height (Pop a)))
         → ((j : ℤ) (c : Loc) → frame_place q byte_width j ≡ byte c → (coarse.procedure entry).is_private j ≡ is_pushed (pushed_of q) c) → ((j : ℤ) → IsOpen o q found heights j → (coarse.procedure entry).is_private j ≡ false)
-        → ((j : ℤ) (c : Loc) → IsSameWord o j c → r.same_word entry j c) → (P : InnerPlace) → AreBytesAt o (frame_body o q found heights) (coarse.procedure entry).is_exposed word_width a P
+        → ((j : ℤ) (c : Loc) → IsSameWord o j c → r.same_word entry j c) → (P : OperandPlace) → AreBytesAt o (frame_body o q found heights) (coarse.procedure entry).is_exposed word_width a P
         → AccessAt o q found heights word_width (popped_offset height) → IsCalm coarse fine r entry at (pushed_of q) o bodies (frame_body o q found heights) (point_with_op node height (Pop a)) v
         → Agrees coarse fine r entry at (pushed_of q) (mov_stmts word_width P (frame_place q word_width (popped_offset height))) []
     pop_agrees a v private_is private_open words_same P bytes access calm =
@@ -383,7 +383,7 @@ module _ (coarse : Procedures ℕ Place ℤ) (fine : Procedures Position Loc Loc
         (popped_pairing (point_with_op node height (Pop a)) v private_is private_open words_same (is_of_address a) (popped_offset height) a (spots_of body a) P refl bytes.bytes access bytes.addresses)
 
     pub push_agrees : (a : Operand) (v : IsMovingOperation coarse fine r entry at (pushed_of q) o bodies (frame_body o q found heights) (point_with_op node height (Push a)))
-        (Q : InnerPlace) → AreBytesAt o (frame_body o q found heights) (coarse.procedure entry).is_exposed word_width a Q → AccessAt o q found heights word_width (pushed_offset height)
+        (Q : OperandPlace) → AreBytesAt o (frame_body o q found heights) (coarse.procedure entry).is_exposed word_width a Q → AccessAt o q found heights word_width (pushed_offset height)
         → Agrees coarse fine r entry at (pushed_of q) (mov_stmts word_width (frame_place q word_width (pushed_offset height)) Q) []
     push_agrees a v Q bytes access =
         let point = point_with_op node height (Push a) in
@@ -411,7 +411,7 @@ module _ (coarse : Procedures ℕ Place ℤ) (fine : Procedures Position Loc Loc
       apart_spot : (k : ℤ) → is_in_cell body k ≡ false → IsOpenSpot o body exposed (frame_spot body k)
       apart_spot k e = subst (λ s. IsOpenSpot o body exposed s) (sym (celled_spot o q found heights exposed (λ j. v.exposed (in_frame j)) k false e)) IsOpenSpot.in_no_cell
 
-      none_saved : (L : Place) → IsStored coarse fine r entry at (pushed_of q) o bodies body point saving L → ⊥
+      none_saved : (L : Holder) → IsStored coarse fine r entry at (pushed_of q) o bodies body point saving L → ⊥
       none_saved L (inl here) = true≢false (sym here.1 ∙ no_address (Word Bp) refl L)
       none_saved L (inr (inl here)) = true≢false (sym here.1 ∙ no_address (Word Bp) refl L)
       none_saved L (inr (inr none)) = none
@@ -431,7 +431,7 @@ module _ (coarse : Procedures ℕ Place ℤ) (fine : Procedures Position Loc Loc
             pairing = record {
               paired = ArePaired.open_more (apart_spot (pushed_offset height) low_apart) (ArePaired.open_more (apart_spot (pushed_offset height +ℤ pos 1) high_apart) ArePaired.no_more);
               unwritten = λ m t e. refl;
-              stored = shows_never (IsSame o) (λ L. (is_place body L ≡ true) × IsStored coarse fine r entry at (pushed_of q) o bodies body point saving L) (λ L t. none_saved L t.1);
+              stored = shows_never (IsSame o) (λ L. (is_holder body L ≡ true) × IsStored coarse fine r entry at (pushed_of q) o bodies body point saving L) (λ L t. none_saved L t.1);
               quiet = tt;
             };
             words = λ L l j x s p t.

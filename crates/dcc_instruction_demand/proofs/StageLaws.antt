@@ -14,7 +14,7 @@ use Rattle.dcc_ir.specs.Tree.{Part, Stmt, Set}
 use Rattle.dcc_ir.specs.Demand.{makes_of}
 use Rattle.dcc_ir.specs.Live.{is_among}
 use Rattle.dcc_ir.proofs.LocationLaws.{among_contains}
-use Rattle.dcc_ops.specs.Place.{Place, constant, byte, word, memory, address, computed, taking, storing}
+use Rattle.dcc_ops.specs.OperandPlace.{OperandPlace, constant, byte, word, memory, address, computed, taking, storing}
 use Rattle.dcc_ops.specs.Expressions.{result}
 use Rattle.dcc_ops.specs.Temporaries.{left_place, right_place, result_place}
 use Rattle.dcc_lift.proofs.ListTests.{and_left, and_right, and_both, or_none}
@@ -112,10 +112,10 @@ is_kept_place (Cell n h) = true
 is_kept_place location = false
 
 -- of what a place is read
-abbrev pub reads_at : Place → List Loc
+abbrev pub reads_at : OperandPlace → List Loc
 reads_at place = makes_of (taking (Temp 0) place)
 
-pub taking_makes : (to : Loc) (place : Place) → makes_of (taking to place) ≡ reads_at place
+pub taking_makes : (to : Loc) (place : OperandPlace) → makes_of (taking to place) ≡ reads_at place
 taking_makes to (constant w n) = refl
 taking_makes to (byte location) = refl
 taking_makes to (word low high) = refl
@@ -123,7 +123,7 @@ taking_makes to (memory w at) = refl
 taking_makes to (address distance) = refl
 taking_makes to (computed e) = refl
 
-pub taking_writes : (to : Loc) (place : Place) → written_by (taking to place) ≡ to ∷ []
+pub taking_writes : (to : Loc) (place : OperandPlace) → written_by (taking to place) ≡ to ∷ []
 taking_writes to (constant w n) = refl
 taking_writes to (byte location) = refl
 taking_writes to (word low high) = refl
@@ -131,7 +131,7 @@ taking_writes to (memory w at) = refl
 taking_writes to (address distance) = refl
 taking_writes to (computed e) = refl
 
-pub taking_useless : (to : Loc) (place : Place) → used_by (taking to place) ≡ []
+pub taking_useless : (to : Loc) (place : OperandPlace) → used_by (taking to place) ≡ []
 taking_useless to (constant w n) = refl
 taking_useless to (byte location) = refl
 taking_useless to (word low high) = refl
@@ -139,7 +139,7 @@ taking_useless to (memory w at) = refl
 taking_useless to (address distance) = refl
 taking_useless to (computed e) = refl
 
-pub before_taking : (to : Loc) (place : Place) (m : Loc) → before (taking to place) m ≡ (if same_location m to then reads_at place else m ∷ [])
+pub before_taking : (to : Loc) (place : OperandPlace) (m : Loc) → before (taking to place) m ≡ (if same_location m to then reads_at place else m ∷ [])
 before_taking to place m =
     ap (λ ls. if is_among ls m then makes_of (taking to place) else m ∷ []) (taking_writes to place)
     ∙ ap (λ b. if b then makes_of (taking to place) else m ∷ []) (or_none (same_location m to))
@@ -186,7 +186,7 @@ lasts_right byte_width (Cell n h) t = refl
 lasts_right word_width (Cell n h) t = refl
 lasts_right w (Temp n) t = absurd (true≢false (sym t))
 
-module _ (w : Width) (first second : Place) where
+module _ (w : Width) (first second : OperandPlace) where
   abbrev pub two_taken : List Stmt
   two_taken = taking (left_place w) first ∷ taking (right_place w) second ∷ []
 
@@ -226,17 +226,17 @@ module _ (w : Width) (first second : Place) where
 -- Storing.
 
 -- the locations at which a place stores
-abbrev pub outs : Place → List Loc
+abbrev pub outs : OperandPlace → List Loc
 outs (byte location) = location ∷ []
 outs (word low high) = low ∷ high ∷ []
 outs place = []
 
-abbrev pub is_stored : Place → Bool
+abbrev pub is_stored : OperandPlace → Bool
 is_stored (memory w at) = true
 is_stored place = false
 
 -- where the halves of a place are kept
-abbrev pub has_kept : Place → Bool
+abbrev pub has_kept : OperandPlace → Bool
 has_kept (byte location) = is_kept_place location
 has_kept (word low high) = is_kept_place low && is_kept_place high
 has_kept place = true
@@ -250,7 +250,7 @@ kept_temp w (Flag f) t = absurd (true≢false (sym t))
 kept_temp w (Temp n) t = absurd (true≢false (sym t))
 
 -- what the storing statements write is made of the result
-pub sources_storing : (w : Width) (place : Place) (m : Loc) → has_kept place ≡ true → HaveSame (sources (storing place (result w)) m) (if is_among (outs place) m then result_place w ∷ [] else m ∷ [])
+pub sources_storing : (w : Width) (place : OperandPlace) (m : Loc) → has_kept place ≡ true → HaveSame (sources (storing place (result w)) m) (if is_among (outs place) m then result_place w ∷ [] else m ∷ [])
 sources_storing w (constant v n) m t = have_itself (m ∷ [])
 sources_storing w (address distance) m t = have_itself (m ∷ [])
 sources_storing w (computed e) m t = have_itself (m ∷ [])
@@ -276,7 +276,7 @@ sources_storing w (word low high) m t = have_equal (sources (storing (word low h
         ∙ sym (ap (λ c. if c || (same_location m high || false) then result_place w ∷ [] else m ∷ []) e ∙ ap (λ c. if c || false then result_place w ∷ [] else m ∷ []) f)
 
 -- what the storing statements use: of a store to memory the address and the result
-pub used_storing : (w : Width) (place : Place) → used (storing place (result w)) [] ≡ (if is_stored place then reads_at place ++ (result_place w ∷ []) else [])
+pub used_storing : (w : Width) (place : OperandPlace) → used (storing place (result w)) [] ≡ (if is_stored place then reads_at place ++ (result_place w ∷ []) else [])
 used_storing w (constant v n) = refl
 used_storing w (address distance) = refl
 used_storing w (computed e) = refl
@@ -284,7 +284,7 @@ used_storing w (memory v at) = append-nil (reads_at (memory v at) ++ (result_pla
 used_storing w (byte location) = refl
 used_storing w (word low high) = refl
 
-pub written_storing : (w : Width) (place : Place) (m : Loc) → is_written (storing place (result w)) m ≡ is_among (outs place) m
+pub written_storing : (w : Width) (place : OperandPlace) (m : Loc) → is_written (storing place (result w)) m ≡ is_among (outs place) m
 written_storing w (constant v n) m = refl
 written_storing w (address distance) m = refl
 written_storing w (computed e) m = refl
@@ -298,7 +298,7 @@ written_storing w (word low high) m = by (same_location m low) (same_location m 
     by false true = refl
     by false false = refl
 
-pub values_storing : (w : Width) (place : Place) → list_all is_value (storing place (result w)) ≡ true
+pub values_storing : (w : Width) (place : OperandPlace) → list_all is_value (storing place (result w)) ≡ true
 values_storing w (constant v n) = refl
 values_storing w (address distance) = refl
 values_storing w (computed e) = refl

@@ -8,25 +8,24 @@ use Rattle.dcc_num.specs.declared.Reg.{Reg}
 use Rattle.dcc_num.specs.declared.Half.{Half as HalfName}
 use Rattle.dcc_num.specs.declared.FlagName.{FlagName}
 use Rattle.dcc_prog.specs.declared.procedure.Node.{Node}
-use Rattle.dcc_prog.specs.declared.instr.Unary.{Unary}
-use Rattle.dcc_prog.specs.declared.instr.Unary.TheVariants.{Inc, Dec, Neg, Not}
-use Rattle.dcc_prog.specs.declared.instr.Operand.{Operand}
-use Rattle.dcc_prog.specs.declared.instr.Operand.TheVariants.{Word, Byte, Seg, Mem, Const}
-use Rattle.dcc_prog.specs.declared.instr.Op.{Op}
-use Rattle.dcc_prog.specs.declared.instr.Op.TheVariants.{Unary as UnaryOp}
-use Rattle.dcc_prog.specs.Machine.{operand_width}
-use Rattle.dcc_prog.specs.Access.{writes_back}
-use Rattle.dcc_prog.specs.Prepared.{is_division}
-use Rattle.dcc_prog.specs.Trail.{is_general}
-use Rattle.dcc_prog.specs.Writes.{is_half_of, unary_writes_half, unary_writes_flag}
-use Rattle.dcc_prog.specs.Wanted.{Location, half_of, flag_of, is_read, is_in_memory, unary_makes, unary_reads, stores_back, is_dividend, uses}
+use Rattle.dcc_machine.specs.declared.instr.Unary.{Unary}
+use Rattle.dcc_machine.specs.declared.instr.Unary.TheVariants.{Inc, Dec, Neg, Not}
+use Rattle.dcc_machine.specs.declared.instr.Operand.{Operand}
+use Rattle.dcc_machine.specs.declared.instr.Operand.TheVariants.{Word, Byte, Seg, Mem, Const}
+use Rattle.dcc_machine.specs.declared.instr.Op.{Op}
+use Rattle.dcc_machine.specs.declared.instr.Op.TheVariants.{Unary as UnaryOp}
+use Rattle.dcc_machine.specs.Machine.{operand_width, is_general}
+use Rattle.dcc_machine.specs.Access.{writes_back}
+use Rattle.dcc_machine.specs.Operations.{is_division}
+use Rattle.dcc_machine.specs.Writes.{is_half_of, unary_writes_half, unary_writes_flag}
+use Rattle.dcc_machine.specs.Wanted.{Location, half_of, flag_of, is_read, is_in_memory, unary_makes, unary_reads, stores_back, is_dividend, uses}
 use Rattle.dcc_stack.specs.Slots.{is_memory}
 use Rattle.dcc_ir.specs.declared.syntax.Loc.{Loc}
 use Rattle.dcc_ir.specs.declared.syntax.Loc.TheVariants.{Flag}
 use Rattle.dcc_ir.specs.declared.syntax.UnOp.TheVariants.{Not as NotOp}
 use Rattle.dcc_ir.specs.Tree.{Unary as UnaryExpr, Stmt}
 use Rattle.dcc_ir.proofs.LocationLaws.{Contains-here, Contains-later}
-use Rattle.dcc_ops.specs.Place.{Place as InnerPlace, constant, taking}
+use Rattle.dcc_ops.specs.OperandPlace.{OperandPlace, constant, taking}
 use Rattle.dcc_num.specs.Numbers.{bits_of}
 use Rattle.dcc_ops.specs.Expressions.{left, sum, difference}
 use Rattle.dcc_ops.specs.Temporaries.{left_place, right_place, result_place}
@@ -35,7 +34,7 @@ use Rattle.dcc_lift.proofs.ListTests.{or_none}
 use Rattle.dcc_simulation.specs.Procedures.{Procedure}
 use Rattle.dcc_demand.specs.Procedures.{Procedures}
 use Rattle.dcc_machine_demand.specs.Bodies.{Body, Point}
-use Rattle.dcc_machine_demand.specs.Places.{Place, held, in_frame, is_place}
+use Rattle.dcc_machine_demand.specs.Holders.{Holder, held, in_frame, is_holder}
 use Rattle.dcc_machine_demand.specs.Values.{value_made_of, value_uses, division_uses}
 use Rattle.dcc_sums.specs.Points.{Position}
 use Rattle.dcc_refinement.specs.Refinement.{Refinement}
@@ -135,7 +134,7 @@ one_written body (Byte r h) k = refl
 one_written body (Seg n) k = refl
 one_written body (Const v n) k = refl
 
-module _ (coarse : Procedures ℕ Place ℤ) (fine : Procedures Position Loc Loc) (r : Refinement ℕ Place ℤ Position Loc Loc) (entry at pushed : ℕ)
+module _ (coarse : Procedures ℕ Holder ℤ) (fine : Procedures Position Loc Loc) (r : Refinement ℕ Holder ℤ Position Loc Loc) (entry at pushed : ℕ)
     (o : Option Procedure) (bodies : List Body) (body : Body) (node : Node) (height : ℕ) (operation : Unary) (a : Operand) where
   abbrev op : Op
   op = UnaryOp operation a
@@ -146,23 +145,23 @@ module _ (coarse : Procedures ℕ Place ℤ) (fine : Procedures Position Loc Loc
   abbrev w : Width
   w = operand_width a
 
-  abbrev Reads : (Place → Bool) → Place → Type 0
-  Reads reads L = (is_place body L ≡ true) × (reads L ≡ true)
+  abbrev Reads : (Holder → Bool) → Holder → Type 0
+  Reads reads L = (is_holder body L ≡ true) × (reads L ≡ true)
 
-  module _ (v : IsValueOperation coarse fine r entry at o bodies body unary_point) (P F G : InnerPlace) (x : IsOperandAt o body (coarse.procedure entry).is_exposed a P) (plain : IsPlainUnary operation)
-      (ra rb : Place → Bool) (either : (L : Place) → reads_by body a L ≡ made_by ra rb both_inputs L) (frames : (k : ℤ) → (ra (in_frame k) ≡ true) ⊎ (rb (in_frame k) ≡ true) → frame_read body a k ≡ true)
+  module _ (v : IsValueOperation coarse fine r entry at o bodies body unary_point) (P F G : OperandPlace) (x : IsOperandAt o body (coarse.procedure entry).is_exposed a P) (plain : IsPlainUnary operation)
+      (ra rb : Holder → Bool) (either : (L : Holder) → reads_by body a L ≡ made_by ra rb both_inputs L) (frames : (k : ℤ) → (ra (in_frame k) ≡ true) ⊎ (rb (in_frame k) ≡ true) → frame_read body a k ≡ true)
       (firsts : Shows (IsSame o) (Reads ra) (reads_at F)) (seconds : Shows (IsSame o) (Reads rb) (reads_at G)) (second_kept : list_all is_kept_place (reads_at G) ≡ true)
       (address : (l : Loc) → Contains (reads_at P) l → Contains (flat_map (before_both w F G) (map (input_location w (result_place w)) both_inputs)) l)
       (working : List Stmt) (works : Works operation w working) (next : (b : ℕ) × Contains ((coarse.procedure entry).next at) b) where
-    abbrev made_so : List Input → Place → Bool
+    abbrev made_so : List Input → Holder → Bool
     made_so inputs L = made_by ra rb inputs L
 
-    makes_by : (made : Bool) → made ≡ true → (to : Location) → unary_makes operation a to ≡ made → (L : Place) → value_made_of body op (held to) L ≡ made_so both_inputs L
+    makes_by : (made : Bool) → made ≡ true → (to : Location) → unary_makes operation a to ≡ made → (L : Holder) → value_made_of body op (held to) L ≡ made_so both_inputs L
     makes_by made t to e (held l) =
         ap (λ c. (c && unary_reads operation a l) && true) (e ∙ t) ∙ and_true (unary_reads operation a l) ∙ plain.reads a l ∙ either (held l)
     makes_by made t to e (in_frame k) = ap (λ c. (c && true) && frame_read body a k) (e ∙ t) ∙ either (in_frame k)
 
-    makes_flag : (f : FlagName) → unary_writes_flag operation f ≡ true → (L : Place) → value_made_of body op (held (flag_of f)) L ≡ made_so (unary_flags operation f) L
+    makes_flag : (f : FlagName) → unary_writes_flag operation f ≡ true → (L : Holder) → value_made_of body op (held (flag_of f)) L ≡ made_so (unary_flags operation f) L
     makes_flag f t L = makes_by (unary_writes_flag operation f) t (flag_of f) (plain.makes_flag a f) L ∙ sym (ap (λ b. made_so (flags_if b) L) t)
 
     uses_are : (l : Location) → uses op None l ≡ (is_in_memory a && is_read l a)
@@ -170,7 +169,7 @@ module _ (coarse : Procedures ℕ Place ℤ) (fine : Procedures Position Loc Loc
         ap (λ b. if b then is_dividend (operand_width a) l || is_read l a else (is_in_memory a && stores_back operation) && is_read l a) plain.no_division
         ∙ ap (λ c. (is_in_memory a && c) && is_read l a) plain.stores ∙ ap (λ c. c && is_read l a) (and_true (is_in_memory a))
 
-    makes_frame : (k : ℤ) → frame_read body a k ≡ true → (L : Place) → value_made_of body op (in_frame k) L ≡ made_so both_inputs L
+    makes_frame : (k : ℤ) → frame_read body a k ≡ true → (L : Holder) → value_made_of body op (in_frame k) L ≡ made_so both_inputs L
     makes_frame k t (held l) = ap (λ c. c && uses op None l) t ∙ uses_are l ∙ ap (λ c. c && is_read l a) (read_in_memory body a k t) ∙ either (held l)
     makes_frame k t (in_frame j) = ap (λ c. c && frame_read body a j) t ∙ either (in_frame j)
 
@@ -209,16 +208,16 @@ module _ (coarse : Procedures ℕ Place ℤ) (fine : Procedures Position Loc Loc
 
   -- The three.
 
-  module _ (v : IsValueOperation coarse fine r entry at o bodies body unary_point) (P : InnerPlace) (x : IsOperandAt o body (coarse.procedure entry).is_exposed a P) (next : (b : ℕ) × Contains ((coarse.procedure entry).next at) b) where
+  module _ (v : IsValueOperation coarse fine r entry at o bodies body unary_point) (P : OperandPlace) (x : IsOperandAt o body (coarse.procedure entry).is_exposed a P) (next : (b : ℕ) × Contains ((coarse.procedure entry).next at) b) where
     -- a constant reads nothing
-    constant_shown : (reads : Place → Bool) → ((L : Place) → reads L ≡ false) → Shows (IsSame o) (Reads reads) []
+    constant_shown : (reads : Holder → Bool) → ((L : Holder) → reads L ≡ false) → Shows (IsSame o) (Reads reads) []
     constant_shown reads none =
         shows_alike (IsSame o) (λ L. ⊥) (Reads reads) [] [] (shows_none (IsSame o)) (λ L l s t. absurd t) (λ L l s t. true≢false (sym t.1 ∙ none L)) (λ l c. c) (λ l c. c)
 
-    abbrev ra : Place → Bool
+    abbrev ra : Holder → Bool
     ra L = reads_by body a L
 
-    abbrev nothing : Place → Bool
+    abbrev nothing : Holder → Bool
     nothing L = false
 
     only_first : (k : ℤ) → (ra (in_frame k) ≡ true) ⊎ (false ≡ true) → frame_read body a k ≡ true
@@ -229,11 +228,11 @@ module _ (coarse : Procedures ℕ Place ℤ) (fine : Procedures Position Loc Loc
     only_second k (inl e) = absurd (true≢false (sym e))
     only_second k (inr e) = e
 
-    to_left : (G : InnerPlace) (l : Loc) → Contains (reads_at P) l → Contains (flat_map (before_both w P G) (map (input_location w (result_place w)) both_inputs)) l
+    to_left : (G : OperandPlace) (l : Loc) → Contains (reads_at P) l → Contains (flat_map (before_both w P G) (map (input_location w (result_place w)) both_inputs)) l
     to_left G l c = in_flat (before_both w P G) (map (input_location w (result_place w)) both_inputs) (left_place w) l (Contains-here (left_place w) (right_place w ∷ []))
         (subst (λ ls. Contains ls l) (sym (both_left w P G)) c)
 
-    to_right : (F : InnerPlace) → (l : Loc) → Contains (reads_at P) l → Contains (flat_map (before_both w F P) (map (input_location w (result_place w)) both_inputs)) l
+    to_right : (F : OperandPlace) → (l : Loc) → Contains (reads_at P) l → Contains (flat_map (before_both w F P) (map (input_location w (result_place w)) both_inputs)) l
     to_right F l c = in_flat (before_both w F P) (map (input_location w (result_place w)) both_inputs) (right_place w) l
         (Contains-later (left_place w) (right_place w ∷ []) (right_place w) (Contains-here (right_place w) []))
         (subst (λ ls. Contains ls l) (sym (both_right w F P (all_lasting (reads_at P) x.reads_kept))) c)
@@ -251,8 +250,8 @@ module _ (coarse : Procedures ℕ Place ℤ) (fine : Procedures Position Loc Loc
         unary_agrees v P (constant w 0) P x plain nothing ra (λ L. sym (or_none (ra L))) only_second (constant_shown nothing (λ L. refl)) x.reads x.reads_kept (to_right (constant w 0)) working works next
 
 -- INC, DEC, NEG and NOT agree with their statements
-module _ (coarse : Procedures ℕ Place ℤ) (fine : Procedures Position Loc Loc) (r : Refinement ℕ Place ℤ Position Loc Loc) (entry at pushed : ℕ)
-    (o : Option Procedure) (bodies : List Body) (body : Body) (node : Node) (height : ℕ) (a : Operand) (P : InnerPlace) (x : IsOperandAt o body (coarse.procedure entry).is_exposed a P)
+module _ (coarse : Procedures ℕ Holder ℤ) (fine : Procedures Position Loc Loc) (r : Refinement ℕ Holder ℤ Position Loc Loc) (entry at pushed : ℕ)
+    (o : Option Procedure) (bodies : List Body) (body : Body) (node : Node) (height : ℕ) (a : Operand) (P : OperandPlace) (x : IsOperandAt o body (coarse.procedure entry).is_exposed a P)
     (next : (b : ℕ) × Contains ((coarse.procedure entry).next at) b) where
   pub inc_agrees : IsValueOperation coarse fine r entry at o bodies body (unary_point coarse fine r entry at pushed o bodies body node height Inc a) → Agrees coarse fine r entry at pushed (unary_stmts Inc (operand_width a) P) []
   inc_agrees v = stepped_agrees coarse fine r entry at pushed o bodies body node height Inc a v P x next plain_inc (adding_one (operand_width a)) (inc_works (operand_width a))

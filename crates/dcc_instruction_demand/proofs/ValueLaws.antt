@@ -9,7 +9,7 @@ use Rattle.dcc_ir.specs.Tree.{Get, Stmt, Set, Call}
 use Rattle.dcc_ir.specs.Live.{is_among}
 use Rattle.dcc_lift.proofs.ListTests.{and_left, and_right, and_both, not_true}
 use Rattle.dcc_demand.specs.Procedures.{Effect, Leaves, Copies, Makes, LeavesWord, Overwrites, Pops, Pushes, Action, Procedure, Procedures, is_left}
-use Rattle.dcc_machine_demand.specs.Places.{Place}
+use Rattle.dcc_machine_demand.specs.Holders.{Holder}
 use Rattle.dcc_sums.specs.Points.{Position}
 use Rattle.dcc_sums.specs.Instance.{written_by, is_half, is_pushed, effect_of, word_effect_of, action_of}
 use Rattle.dcc_refinement.specs.Steps.{later_effect, later_word_effect, LosesAtOnce, Spoils}
@@ -133,38 +133,38 @@ quiet (s ∷ ss) v = (quiet_one s (and_left (is_value s) (list_all is_value ss) 
 
 -- what makes or leaves pushes and pops nothing
 
-pub no_push : (b : Bool) (L : Place) → (if b then Overwrites else LeavesWord) ≡ Pushes L → ⊥
+pub no_push : (b : Bool) (L : Holder) → (if b then Overwrites else LeavesWord) ≡ Pushes L → ⊥
 no_push true L e = cc e
 no_push false L e = cc e
 
-pub no_pop : (b : Bool) (k : ℤ) (y : Effect Place ℤ) → y ≡ (if b then Makes else Leaves) → y ≡ Pops k → ⊥
+pub no_pop : (b : Bool) (k : ℤ) (y : Effect Holder ℤ) → y ≡ (if b then Makes else Leaves) → y ≡ Pops k → ⊥
 no_pop true k y e f = cc (e, f)
 no_pop false k y e f = cc (e, f)
 
-module _ (coarse : Procedures ℕ Place ℤ) (fine : Procedures Position Loc Loc) (r : Refinement ℕ Place ℤ Position Loc Loc) (entry at pushed : ℕ) (stmts : List Stmt) (after : List Loc) where
-  abbrev x : Action Place ℤ
+module _ (coarse : Procedures ℕ Holder ℤ) (fine : Procedures Position Loc Loc) (r : Refinement ℕ Holder ℤ Position Loc Loc) (entry at pushed : ℕ) (stmts : List Stmt) (after : List Loc) where
+  abbrev x : Action Holder ℤ
   x = (coarse.procedure entry).action at
 
   -- an operation that makes values, and statements that do what it does
   pub record MakesValues : Type 0 where
-    pub written : Place → Bool
+    pub written : Holder → Bool
     pub word_written : ℤ → Bool
-    pub effect : (L : Place) → x.effect L ≡ (if written L then Makes else Leaves)
+    pub effect : (L : Holder) → x.effect L ≡ (if written L then Makes else Leaves)
     pub word_effect : (k : ℤ) → x.word_effect k ≡ (if word_written k then Overwrites else LeavesWord)
     pub callee : x.callee ≡ None
     -- the statements write just these
     pub values : list_all is_value stmts ≡ true
-    pub writes : (L : Place) (l : Loc) → r.same entry L l → written L ≡ is_written stmts l
+    pub writes : (L : Holder) (l : Loc) → r.same entry L l → written L ≡ is_written stmts l
     pub writes_word : (k : ℤ) (l : Loc) → r.same_word entry k l → (word_written k ≡ is_written stmts l) × ((n : ℕ) × (h : HalfName) × (l ≡ Cell n h))
     -- the statements make and use just what the instruction does
     pub using : Shows (r.same entry) (Takes coarse fine r entry at) (used stmts after)
-    pub making : (A : Place) (a : Loc) → r.same entry A a
+    pub making : (A : Holder) (a : Loc) → r.same entry A a
         → Shows (r.same entry) (λ L. Carries coarse fine r entry at L A ⊎ Takes coarse fine r entry at L) (sources stmts a ++ used stmts after)
-    pub made : (place to : Place) → is_left (x.effect to) ≡ false → x.made_of to place ≡ true
+    pub made : (place to : Holder) → is_left (x.effect to) ≡ false → x.made_of to place ≡ true
         → ((coarse.procedure entry).is_exposed to ≡ true) ⊎ ((fine_to : Loc) × r.same entry to fine_to)
 
   module _ (v : MakesValues) where
-    effect_agrees : (b : Bool) (L : Place) (l : Loc) → v.written L ≡ b → is_written stmts l ≡ b → EffectsAgree coarse fine r entry (x.effect L) (effect_after pushed stmts l)
+    effect_agrees : (b : Bool) (L : Holder) (l : Loc) → v.written L ≡ b → is_written stmts l ≡ b → EffectsAgree coarse fine r entry (x.effect L) (effect_after pushed stmts l)
     effect_agrees true L l e f =
         EffectsAgree.both_lose (subst (λ y. LosesAtOnce (coarse.procedure entry) y) (sym (v.effect L ∙ ap (λ b. if b then Makes else Leaves) e)) LosesAtOnce.made)
         (effect_lost (fine.procedure entry) pushed stmts l (values_kept pushed stmts v.values) f)
@@ -172,7 +172,7 @@ module _ (coarse : Procedures ℕ Place ℤ) (fine : Procedures Position Loc Loc
         subst (λ y. EffectsAgree coarse fine r entry y (effect_after pushed stmts l)) (sym (v.effect L ∙ ap (λ b. if b then Makes else Leaves) e))
         (subst (λ y. EffectsAgree coarse fine r entry Leaves y) (sym (effect_left (fine.procedure entry) pushed stmts l f)) EffectsAgree.both_leave)
 
-    word_agrees : (b : Bool) (L : Place) (l : Loc) (k : ℤ) (n : ℕ) (h : HalfName) → v.word_written k ≡ b → is_written stmts (Cell n h) ≡ b
+    word_agrees : (b : Bool) (L : Holder) (l : Loc) (k : ℤ) (n : ℕ) (h : HalfName) → v.word_written k ≡ b → is_written stmts (Cell n h) ≡ b
         → WordEffectsAgree coarse fine r L l (x.word_effect k) (word_effect_after pushed stmts (Cell n h))
     word_agrees true L l k n h e f =
         subst (λ y. WordEffectsAgree coarse fine r L l y (word_effect_after pushed stmts (Cell n h))) (sym (v.word_effect k ∙ ap (λ b. if b then Overwrites else LeavesWord) e))

@@ -7,18 +7,18 @@ use Rattle.dcc_num.specs.declared.Half.{Half as HalfName}
 use Rattle.dcc_num.specs.declared.FlagName.{FlagName}
 use Rattle.dcc_num.specs.declared.FlagName.TheVariants.{Cf, Zf, Sf, Of}
 use Rattle.dcc_prog.specs.declared.procedure.Node.{Node}
-use Rattle.dcc_prog.specs.declared.instr.Op.{Op}
-use Rattle.dcc_prog.specs.declared.instr.Operand.{Operand}
-use Rattle.dcc_prog.specs.declared.instr.Operand.TheVariants.{Word, Byte, Seg, Mem, Const}
+use Rattle.dcc_machine.specs.declared.instr.Op.{Op}
+use Rattle.dcc_machine.specs.declared.instr.Operand.{Operand}
+use Rattle.dcc_machine.specs.declared.instr.Operand.TheVariants.{Word, Byte, Seg, Mem, Const}
 use Rattle.dcc_prog.specs.Frame.{memory_of_two}
-use Rattle.dcc_prog.specs.Wanted.{Location, is_flag, is_in_memory}
+use Rattle.dcc_machine.specs.Wanted.{Location, is_flag, is_in_memory}
 use Rattle.dcc_stack.specs.Slots.{is_memory}
 use Rattle.dcc_ir.specs.declared.syntax.Loc.TheVariants.{Half, Flag, Cell}
 use Rattle.dcc_ir.specs.Tree.{Stmt}
 use Rattle.dcc_ops.specs.Temporaries.{result_place}
 use Rattle.dcc_lift.proofs.ListTests.{and_left, and_right, or_none, not_true}
 use Rattle.dcc_machine_demand.specs.Bodies.{Body, Point}
-use Rattle.dcc_machine_demand.specs.Places.{Place, held, in_frame, is_at, spots_of_memory}
+use Rattle.dcc_machine_demand.specs.Holders.{Holder, held, in_frame, is_at, spots_of_memory}
 use Rattle.dcc_lifted_demand.specs.Sources.{sources}
 use Rattle.dcc_instruction_demand.proofs.ValueLaws.{is_value, is_written}
 use Rattle.dcc_instruction_demand.proofs.StageLaws.{have_same, is_useless}
@@ -97,11 +97,11 @@ and_moved false false c = refl
 abbrev pub carry_if : Bool → List Input
 carry_if b = if b then carry ∷ [] else []
 
-pub carry_held : (first_reads second_reads : Place → Bool) (b : Bool) (location : Location) → (b && is_flag Cf location) ≡ made_by first_reads second_reads (carry_if b) (held location)
+pub carry_held : (first_reads second_reads : Holder → Bool) (b : Bool) (location : Location) → (b && is_flag Cf location) ≡ made_by first_reads second_reads (carry_if b) (held location)
 carry_held first_reads second_reads true location = sym (or_none (is_flag Cf location))
 carry_held first_reads second_reads false location = refl
 
-pub carry_framed : (first_reads second_reads : Place → Bool) (b : Bool) (k : ℤ) → made_by first_reads second_reads (carry_if b) (in_frame k) ≡ false
+pub carry_framed : (first_reads second_reads : Holder → Bool) (b : Bool) (k : ℤ) → made_by first_reads second_reads (carry_if b) (in_frame k) ≡ false
 carry_framed first_reads second_reads true k = refl
 carry_framed first_reads second_reads false k = refl
 

@@ -5,16 +5,15 @@ use Rattle.dcc_num.specs.declared.Reg.{Reg}
 use Rattle.dcc_num.specs.declared.Reg.TheVariants.{Ax, Cx, Dx, Bx, Sp, Bp, Si, Di}
 use Rattle.dcc_num.specs.declared.Half.{Half as HalfName}
 use Rattle.dcc_num.specs.declared.Half.TheVariants.{Low, High}
-use Rattle.dcc_prog.specs.declared.instr.Alu.{Alu}
-use Rattle.dcc_prog.specs.declared.instr.Alu.TheVariants.{Sub, Xor}
-use Rattle.dcc_prog.specs.declared.instr.Operand.{Operand}
-use Rattle.dcc_prog.specs.declared.instr.Operand.TheVariants.{Word, Byte}
-use Rattle.dcc_prog.specs.declared.instr.Op.{Op}
-use Rattle.dcc_prog.specs.declared.instr.Op.TheVariants.{Alu as AluOp}
-use Rattle.dcc_prog.specs.Machine.{operand_width}
-use Rattle.dcc_prog.specs.Trail.{is_general}
-use Rattle.dcc_prog.specs.Writes.{is_same_register, is_same_half}
-use Rattle.dcc_prog.specs.Wanted.{Location, is_zeroing}
+use Rattle.dcc_machine.specs.declared.instr.Alu.{Alu}
+use Rattle.dcc_machine.specs.declared.instr.Alu.TheVariants.{Sub, Xor}
+use Rattle.dcc_machine.specs.declared.instr.Operand.{Operand}
+use Rattle.dcc_machine.specs.declared.instr.Operand.TheVariants.{Word, Byte}
+use Rattle.dcc_machine.specs.declared.instr.Op.{Op}
+use Rattle.dcc_machine.specs.declared.instr.Op.TheVariants.{Alu as AluOp}
+use Rattle.dcc_machine.specs.Machine.{operand_width, is_general}
+use Rattle.dcc_machine.specs.Writes.{is_same_register, is_same_half}
+use Rattle.dcc_machine.specs.Wanted.{Location, is_zeroing}
 use Rattle.dcc_ops.specs.Registers.{register_place}
 use Rattle.dcc_ops.specs.Statements.{zeroing}
 use Rattle.dcc_lift.proofs.ListTests.{and_left, and_right, and_false}

@@ -1,7 +1,7 @@
 -- When an instruction of the machine does what its statements do together, by what is computed of these.
 use Rattle.std.specs.Prelude.{◌≡◌, ℕ, ℤ, true, false, ◌⊎◌, List, [], ◌∷◌, Contains, Option, Some, None}
-use Rattle.dcc_prog.specs.declared.instr.Op.{Op}
-use Rattle.dcc_prog.specs.declared.instr.Op.TheVariants.{Table}
+use Rattle.dcc_machine.specs.declared.instr.Op.{Op}
+use Rattle.dcc_machine.specs.declared.instr.Op.TheVariants.{Table}
 use Rattle.dcc_ir.specs.declared.syntax.Loc.{Loc}
 use Rattle.dcc_ir.specs.Tree.{Expr, Stmt}
 use Rattle.dcc_ir.specs.Use.{reads_of}
@@ -10,7 +10,7 @@ use Rattle.dcc_ir.specs.Live.{is_among}
 use Rattle.dcc_ops.specs.Expressions.{word_of}
 use Rattle.dcc_ops.specs.Statements.{op_test}
 use Rattle.dcc_demand.specs.Procedures.{Leaves, LeavesWord, Pops, Pushes, Procedures, is_left}
-use Rattle.dcc_machine_demand.specs.Places.{Place}
+use Rattle.dcc_machine_demand.specs.Holders.{Holder}
 use Rattle.dcc_sums.specs.Points.{Position}
 use Rattle.dcc_sums.specs.Instance.{used_by, written_by, callee_of}
 use Rattle.dcc_refinement.specs.Steps.{Passes}
@@ -44,8 +44,8 @@ SparedBy location [] = Unit {0}
 SparedBy location (stmt ∷ stmts) =
     Spares location stmt × (is_among (used_by stmt) location ≡ false) × SparedBy location stmts
 
-module _ (coarse : Procedures ℕ Place ℤ) (fine : Procedures Position Loc Loc)
-    (r : Refinement ℕ Place ℤ Position Loc Loc) (entry at pushed : ℕ) (stmts : List Stmt) (after : List Loc) where
+module _ (coarse : Procedures ℕ Holder ℤ) (fine : Procedures Position Loc Loc)
+    (r : Refinement ℕ Holder ℤ Position Loc Loc) (entry at pushed : ℕ) (stmts : List Stmt) (after : List Loc) where
   -- the instruction is a call: its first statement is the call, and what passes with it is left by the instruction and
   -- by the other statements
   pub record IsCallFirst (callee : ℕ) : Type 0 where
@@ -54,7 +54,7 @@ module _ (coarse : Procedures ℕ Place ℤ) (fine : Procedures Position Loc Loc
     pub stmts_are : stmts ≡ call ∷ others
     pub calls : callee_of call ≡ Some callee
     pub then : Quiet others
-    pub left : (place : Place) (location : Loc) → r.same entry place location → coarse.passes place ≡ true
+    pub left : (place : Holder) (location : Loc) → r.same entry place location → coarse.passes place ≡ true
         → (((coarse.procedure entry).action at).effect place ≡ Leaves) × Passes (coarse.procedure entry) place at
     pub spared : (location : Loc) → fine.passes location ≡ true
         → Spares location call × SparedBy location others × (is_among after location ≡ false)
@@ -63,17 +63,17 @@ module _ (coarse : Procedures ℕ Place ℤ) (fine : Procedures Position Loc Loc
   -- words have the cells from the given number on.
   pub record Agrees : Type 0 where
     -- what the instruction does to what passes, its statements do
-    pub effect : (place : Place) (location : Loc) → r.same entry place location → coarse.passes place ≡ true
+    pub effect : (place : Holder) (location : Loc) → r.same entry place location → coarse.passes place ≡ true
         → EffectsAgree coarse fine r entry (((coarse.procedure entry).action at).effect place)
         (effect_after pushed stmts location)
-    pub word_effect : (place : Place) (location : Loc) (k : ℤ) (word : Loc) → r.same entry place location
+    pub word_effect : (place : Holder) (location : Loc) (k : ℤ) (word : Loc) → r.same entry place location
         → coarse.passes place ≡ true → r.same_word entry k word
         → WordEffectsAgree coarse fine r place location (((coarse.procedure entry).action at).word_effect k)
         (word_effect_after pushed stmts word)
-    pub saved : (place : Place) (location : Loc) (k : ℤ) → r.same entry place location → coarse.passes place ≡ true
+    pub saved : (place : Holder) (location : Loc) (k : ℤ) → r.same entry place location → coarse.passes place ≡ true
         → ((coarse.procedure entry).action at).word_effect k ≡ Pushes place
         → (((coarse.procedure entry).action at).callee ≡ None) × (effect_after pushed stmts location ≡ Leaves)
-    pub popped : (place : Place) (location : Loc) (k : ℤ) (word : Loc) → r.same entry place location
+    pub popped : (place : Holder) (location : Loc) (k : ℤ) (word : Loc) → r.same entry place location
         → coarse.passes place ≡ true → r.same_word entry k word
         → ((coarse.procedure entry).action at).effect place ≡ Pops k
         → word_effect_after pushed stmts word ≡ LeavesWord
@@ -81,17 +81,17 @@ module _ (coarse : Procedures ℕ Place ℤ) (fine : Procedures Position Loc Loc
         ((((coarse.procedure entry).action at).callee ≡ None) × Quiet stmts)
         ⊎ ((callee : ℕ) × (((coarse.procedure entry).action at).callee ≡ Some callee) × IsCallFirst callee)
     -- what the instruction carries from place to place, its statements carry or use
-    pub carried : (place to : Place) (location fine_to : Loc) → r.same entry place location → r.same entry to fine_to
+    pub carried : (place to : Holder) (location fine_to : Loc) → r.same entry place location → r.same entry to fine_to
         → Carries coarse fine r entry at place to
         → Contains (sources stmts fine_to) location ⊎ Contains (used stmts after) location
-    pub taken : (place : Place) (location : Loc) → r.same entry place location → Takes coarse fine r entry at place
+    pub taken : (place : Holder) (location : Loc) → r.same entry place location → Takes coarse fine r entry at place
         → Contains (used stmts after) location
-    pub flows : (to : Place) (location fine_to : Loc) → r.same entry to fine_to
+    pub flows : (to : Holder) (location fine_to : Loc) → r.same entry to fine_to
         → Contains (sources stmts fine_to) location
-        → (place : Place) × r.same entry place location
+        → (place : Holder) × r.same entry place location
         × (Carries coarse fine r entry at place to ⊎ Takes coarse fine r entry at place)
     pub uses : (location : Loc) → Contains (used stmts after) location
-        → (place : Place) × r.same entry place location × Takes coarse fine r entry at place
-    pub made : (place to : Place) → is_left (((coarse.procedure entry).action at).effect to) ≡ false
+        → (place : Holder) × r.same entry place location × Takes coarse fine r entry at place
+    pub made : (place to : Holder) → is_left (((coarse.procedure entry).action at).effect to) ≡ false
         → ((coarse.procedure entry).action at).made_of to place ≡ true
         → ((coarse.procedure entry).is_exposed to ≡ true) ⊎ ((fine_to : Loc) × r.same entry to fine_to)

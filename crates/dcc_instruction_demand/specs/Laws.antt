@@ -1,12 +1,12 @@
 -- Each instruction does what its statements do together, and that is all that is to be shown of a lifted program.
 use Rattle.std.specs.Prelude.{◌≡◌, ℕ, Some}
-use Rattle.dcc_prog.specs.declared.image.Image.{Image}
+use Rattle.dcc_machine.specs.declared.image.Image.{Image}
 use Rattle.dcc_prog.specs.declared.frame.Program.{Program as Analysed}
 use Rattle.dcc_prog.specs.declared.procedure.Node.{Node}
 use Rattle.dcc_ir.specs.Tree.{Program}
 use Rattle.dcc_simulation.specs.Procedures.{pushed_of}
 use Rattle.dcc_simulation.specs.Statements.{node_stmts}
-use Rattle.dcc_lift.specs.Blocks.{node_in, Scene, nodes_in, height_in}
+use Rattle.dcc_lift.specs.Blocks.{node_in, BlockSource, nodes_in, height_in}
 use Rattle.dcc_lift.specs.Translated.{IsTranslated}
 use Rattle.dcc_refinement.specs.Laws.{HaveSameRelations}
 use Rattle.dcc_lifted_demand.specs.LiftedRefinement.{scenes_in, scene_at, lifted_refinement}
@@ -15,13 +15,13 @@ use Rattle.dcc_instruction_demand.specs.Agreement.{ending, Agrees}
 
 module _ (image : Image) (program : Analysed) (p : Program) where
   -- an instruction of a procedure that is found, with the height of the stack before it
-  pub record IsInstruction (entry at : ℕ) (scene : Scene) (node : Node) (height : ℕ) : Type 0 where
+  pub record IsInstruction (entry at : ℕ) (scene : BlockSource) (node : Node) (height : ℕ) : Type 0 where
     pub scene_is : scene_at (scenes_in program) entry ≡ Some scene
     pub node_is : node_in (nodes_in scene) at ≡ Some node
     pub height_is : height_in scene.heights at ≡ Some height
 
   -- the instruction does what its statements do together
-  abbrev pub AgreesWithItsStatements : ℕ → ℕ → Scene → Node → ℕ → Type 0
+  abbrev pub AgreesWithItsStatements : ℕ → ℕ → BlockSource → Node → ℕ → Type 0
   AgreesWithItsStatements entry at scene node height =
       Agrees (machine image program p) (inner image program p) (lifted_refinement program) entry at
       (pushed_of scene.procedure) (node_stmts scene.cpu scene.procedures scene.procedure height node)
@@ -32,7 +32,7 @@ module _ (image : Image) (program : Analysed) (p : Program) where
 abbrev pub AgreeingInstructionsAreEnough : Type 0
 AgreeingInstructionsAreEnough =
     (image : Image) (program : Analysed) (p : Program) → IsTranslated image program p
-    → ((entry at : ℕ) (scene : Scene) (node : Node) (height : ℕ)
+    → ((entry at : ℕ) (scene : BlockSource) (node : Node) (height : ℕ)
     → IsInstruction image program p entry at scene node height
     → AgreesWithItsStatements image program p entry at scene node height)
     → InstructionsAgree image program p
@@ -41,7 +41,7 @@ AgreeingInstructionsAreEnough =
 abbrev pub InstructionsAgreeWithTheirStatements : Type 0
 InstructionsAgreeWithTheirStatements =
     (image : Image) (program : Analysed) (p : Program) → IsTranslated image program p
-    → (entry at : ℕ) (scene : Scene) (node : Node) (height : ℕ)
+    → (entry at : ℕ) (scene : BlockSource) (node : Node) (height : ℕ)
     → IsInstruction image program p entry at scene node height
     → AgreesWithItsStatements image program p entry at scene node height
 

@@ -7,10 +7,10 @@ ghost use Rattle.dcc_pipe.specs.Prepared.{HasLiftedForm};
 
 use dcc_ir::IrProgram;
 use dcc_lift::lift;
+use dcc_machine::Cpu;
 use dcc_mz::load;
 use dcc_pipe::analyse;
 use dcc_pipe::laws::lifted_has_the_form;
-use dcc_prog::Cpu;
 use dcc_summaries::SumsFault;
 use std::alloc::Global;
 use std::test::Fail;

@@ -152,7 +152,7 @@ module _ (edge edge' : ℕ → ℕ → Bool) (entry entry' : ℕ) (Same : ℕ �
 
 -- Levels that collapsing does not change.
 
-only : (ns : List ℕ) (a b : ℕ) → is_single ns ≡ true → is_in ns a ≡ true → is_in ns b ≡ true → a ≡ b
+pub only : (ns : List ℕ) (a b : ℕ) → is_single ns ≡ true → is_in ns a ≡ true → is_in ns b ≡ true → a ≡ b
 only [] a b single h k = absurd (false≢true h)
 only (n ∷ []) a b single h k = sym (own a h) ∙ own b k
   where
@@ -160,7 +160,7 @@ only (n ∷ []) a b single h k = sym (own a h) ∙ own b k
     own x h = elim (in_cases n x [] h) [ inl e ↦ e | inr none ↦ absurd (false≢true none) ]
 only (n ∷ m ∷ ns) a b single h k = absurd (false≢true single)
 
-all_at : (f : Interval → Bool) (level : List Interval) (k : ℕ) → list_all f level ≡ true → k < length level → f (get_or level k no_interval) ≡ true
+pub all_at : (f : Interval → Bool) (level : List Interval) (k : ℕ) → list_all f level ≡ true → k < length level → f (get_or level k no_interval) ≡ true
 all_at f [] k h inside = absurd (omega (arith, inside))
 all_at f (i ∷ level) zero h inside = (and_parts (f i) (list_all f level) h).0
 all_at f (i ∷ level) (suc k) h inside = all_at f level k (and_parts (f i) (list_all f level) h).1 (omega (arith, inside))
@@ -200,18 +200,18 @@ module _ (edge edge' : ℕ → ℕ → Bool) (entry entry' : ℕ) (Same : ℕ �
 
 -- Headers with an edge back.
 
-record BackAt (edge : ℕ → ℕ → Bool) (level : List Interval) (n : ℕ) : Type 0 where
-  place : ℕ
-  inside : place < length level
-  header : header_at level place ≡ n
-  from : ℕ
-  member : is_in (members_at level place) from ≡ true
-  leads_back : edge from n ≡ true
+pub record BackAt (edge : ℕ → ℕ → Bool) (level : List Interval) (n : ℕ) : Type 0 where
+  pub place : ℕ
+  pub inside : place < length level
+  pub header : header_at level place ≡ n
+  pub from : ℕ
+  pub member : is_in (members_at level place) from ≡ true
+  pub leads_back : edge from n ≡ true
 
 abbrev kept : (ℕ → ℕ → Bool) → List Interval → List Interval
 kept edge level = filter (λ i. list_any (λ m. edge m i.header) i.members) level
 
-back_at : (edge : ℕ → ℕ → Bool) (level : List Interval) (n : ℕ) → is_in (back_headers edge level) n ≡ true → BackAt edge level n
+pub back_at : (edge : ℕ → ℕ → Bool) (level : List Interval) (n : ℕ) → is_in (back_headers edge level) n ≡ true → BackAt edge level n
 back_at edge [] n h = absurd (false≢true h)
 back_at edge (i ∷ level) n h =
     let later : is_in (back_headers edge level) n ≡ true → BackAt edge (i ∷ level) n = λ t.
@@ -227,7 +227,7 @@ back_at edge (i ∷ level) n h =
     ])
     (λ f k. later k) h
 
-back_in : (edge : ℕ → ℕ → Bool) (level : List Interval) (p m : ℕ) → p < length level → is_in (members_at level p) m ≡ true → edge m (header_at level p) ≡ true
+pub back_in : (edge : ℕ → ℕ → Bool) (level : List Interval) (p m : ℕ) → p < length level → is_in (members_at level p) m ≡ true → edge m (header_at level p) ≡ true
     → is_in (back_headers edge level) (header_at level p) ≡ true
 back_in edge [] p m inside member e = absurd (omega (arith, inside))
 back_in edge (i ∷ level) zero m inside member e =
@@ -336,7 +336,7 @@ both_counts edge edge' entry entry' Same same level level' are are' =
 
 -- Whole sequences.
 
-mapped_in : (f : ℕ → ℕ) (ns : List ℕ) (n : ℕ) → is_in ns n ≡ true → is_in (map f ns) (f n) ≡ true
+pub mapped_in : (f : ℕ → ℕ) (ns : List ℕ) (n : ℕ) → is_in ns n ≡ true → is_in (map f ns) (f n) ≡ true
 mapped_in f [] n h = absurd (false≢true h)
 mapped_in f (m ∷ ns) n h = elim (in_cases m n ns h) [
   | inl e ↦ subst (λ k. is_in (f m ∷ map f ns) (f k) ≡ true) e (in_here (f m) (map f ns))

@@ -27,14 +27,14 @@ pub length_all_placed : (places ns : List ℕ) (place : ℕ) → length (all_pla
 length_all_placed places [] place = refl
 length_all_placed places (n ∷ ns) place = length_all_placed (slice_set places n place) ns place ∙ length-set places n place
 
-placed_out : (places ns : List ℕ) (place n : ℕ) → is_in ns n ≡ false → get_or (all_placed places ns place) n 0 ≡ get_or places n 0
+pub placed_out : (places ns : List ℕ) (place n : ℕ) → is_in ns n ≡ false → get_or (all_placed places ns place) n 0 ≡ get_or places n 0
 placed_out places [] place n h = refl
 placed_out places (m ∷ ns) place n h =
     let parts = or_parts (m == n) (is_in ns n) h in
     placed_out (slice_set places m place) ns place n parts.1
     ∙ get_or-set_other places m n place 0 (λ e. false≢true (sym parts.0 ∙ eq-eqb m n (sym e)))
 
-placed_in : (places ns : List ℕ) (place n : ℕ) → n < length places → is_in ns n ≡ true → get_or (all_placed places ns place) n 0 ≡ place
+pub placed_in : (places ns : List ℕ) (place n : ℕ) → n < length places → is_in ns n ≡ true → get_or (all_placed places ns place) n 0 ≡ place
 placed_in places [] place n inside h = absurd (false≢true h)
 placed_in places (m ∷ ns) place n inside h = elim (cases_Bool (is_in ns n)) [
   | inl t ↦ placed_in (slice_set places m place) ns place n (omega (arith, inside, length-set places m place)) t
@@ -336,12 +336,17 @@ others_below places place count (n ∷ ns) h = by_test (All (λ p. p < count)) (
     (λ t. others_below places place count ns (All-tail (λ k. get_or places k 0 < count) n ns h))
     (λ f. All-cons (λ p. p < count) (get_or places n 0) (others places place ns) (All-head (λ k. get_or places k 0 < count) n ns h) (others_below places place count ns (All-tail (λ k. get_or places k 0 < count) n ns h)))
 
+-- the values so far, and one more
+pub pushed_at : {X : Type 0} (f : ℕ → X) (xs : List X) (x d : X) (place : ℕ) → length xs ≡ place → ((a : ℕ) → a < place → get_or xs a d ≡ f a) → x ≡ f place
+    → (a : ℕ) → a < place + 1 → get_or (xs ++ x ∷ []) a d ≡ f a
+pushed_at f xs x d place size are is a less = elim (cases_lt a place) [
+  | inl before ↦ get_or_append_left xs (x ∷ []) d a (omega (arith, before, size)) ∙ are a before
+  | inr past ↦
+      let same : place ≡ a = omega (arith, past, less) in
+      subst (λ k. get_or (xs ++ x ∷ []) k d ≡ f k) same (get_or_push xs x d place size ∙ is)
+]
+
 -- the rows so far, and one more
 pub rows_push : (f : ℕ → List ℕ) (graph : List (List ℕ)) (row : List ℕ) (place : ℕ) → length graph ≡ place → ((a : ℕ) → a < place → get_or graph a [] ≡ f a) → row ≡ f place
     → (a : ℕ) → a < place + 1 → get_or (graph ++ row ∷ []) a [] ≡ f a
-rows_push f graph row place size rows_are is a less = elim (cases_lt a place) [
-  | inl before ↦ get_or_append_left graph (row ∷ []) [] a (omega (arith, before, size)) ∙ rows_are a before
-  | inr past ↦
-      let same : place ≡ a = omega (arith, past, less) in
-      subst (λ k. get_or (graph ++ row ∷ []) k [] ≡ f k) same (get_or_push graph row [] place size ∙ is)
-]
+rows_push f graph row place size rows_are is = pushed_at f graph row [] place size rows_are is

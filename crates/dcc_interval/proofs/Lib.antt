@@ -12,3 +12,11 @@ pub mod JoinLaws
 pub mod PartingLaws
 pub mod LoopLaws
 pub mod AgreeLaws
+pub mod RegionLaws
+pub mod LevelRegions
+pub mod NumberLaws
+pub mod JoinedLaws
+pub mod TryLaws
+pub mod PassLaws
+pub mod ReducedLaws
+pub mod ExistLaws

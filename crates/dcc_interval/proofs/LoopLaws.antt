@@ -60,7 +60,7 @@ follower_inside edge level m p e =
     members_within level p to.0 to.1
 
 -- the nodes of a collapsed graph are places of the level
-place_inside : (edge : ℕ → ℕ → Bool) (entry : ℕ) (level : List Interval) → AreIntervals edge entry level → {p : ℕ} → IsReached (collapsed edge level) 0 p → p < length level
+pub place_inside : (edge : ℕ → ℕ → Bool) (entry : ℕ) (level : List Interval) → AreIntervals edge entry level → {p : ℕ} → IsReached (collapsed edge level) 0 p → p < length level
 place_inside edge entry level are at_entry = omega (arith, ap length are.first.1, length-map level (λ (i : Interval). i.header))
 place_inside edge entry level are (along {m = m} {n = p} r e) = follower_inside edge level m p e
 

@@ -1,6 +1,7 @@
 -- The derived sequence of a graph (F. E. Allen, J. Cocke, A program data flow analysis procedure, 1976). Each level has
 -- the intervals of a graph. The graph of the next level has these intervals for nodes, by their places in the level.
-use Rattle.std.specs.Prelude.{◌≡◌, ℕ, ◌==◌, Bool, true, false, ◌&&◌, not, List, [], ◌∷◌, ◌++◌, map, filter, get_or}
+use Rattle.std.specs.Prelude.{◌≡◌, ℕ, ◌==◌, Bool, true, false, ◌&&◌, not, List, [], ◌∷◌, ◌++◌, map, filter}
+use Rattle.std.specs.Prelude.{length, get_or}
 use Rattle.std.specs.List.{list_any, list_all}
 use Rattle.std.specs.Global.{Vec}
 use Rattle.dcc_interval.specs.declared.interval.Interval.{Interval as IntervalOf}
@@ -55,6 +56,12 @@ abbrev pub loop_headers : (ℕ → ℕ → Bool) → List (List Interval) → Li
 loop_headers edge [] = []
 loop_headers edge (level ∷ levels) =
     back_headers edge level ++ map (header_at level) (loop_headers (collapsed edge level) levels)
+
+-- a derived sequence ends in one node
+abbrev pub ends_in_one : List (List Interval) → Bool
+ends_in_one [] = false
+ends_in_one (level ∷ []) = length level == 1
+ends_in_one (level ∷ levels) = ends_in_one levels
 
 -- what the declared values stand for
 abbrev pub levels_in : List (Vec IntervalOf) → List (List Interval)

@@ -4,7 +4,8 @@ use Rattle.dcc_ir.specs.Flow.{IsPath}
 use Rattle.dcc_flow.specs.Edges.{is_in, leads, AreWithin}
 use Rattle.dcc_interval.specs.Graphs.{IsReached}
 use Rattle.dcc_interval.specs.Intervals.{InInterval, Interval, AreIntervals}
-use Rattle.dcc_interval.specs.Derived.{members_at, IsDerived, loop_headers}
+use Rattle.dcc_interval.specs.Derived.{members_at, IsDerived, loop_headers, ends_in_one}
+use Rattle.dcc_interval.specs.Reduction.{IsReduced}
 
 -- the node is in just one of the intervals
 pub record IsInOne (intervals : List Interval) (n : ℕ) : Type 0 where
@@ -51,3 +52,14 @@ pub record AreAlike (edge : ℕ → ℕ → Bool) (levels others : List (List In
 abbrev pub DerivedSequencesAgree : Type 0
 DerivedSequencesAgree = (edge : ℕ → ℕ → Bool) (entry : ℕ) (levels others : List (List Interval))
     → IsDerived edge entry levels → IsDerived edge entry others → AreAlike edge levels others
+
+-- The loop headers of a derived sequence of a graph are those of the graph's reduction. It ends in one node where the
+-- reduction does.
+abbrev pub DerivedSequencesReduce : Type 0
+DerivedSequencesReduce = (edge : ℕ → ℕ → Bool) (entry : ℕ) (levels : List (List Interval)) → IsDerived edge entry levels
+    → IsReduced edge entry (is_in (loop_headers edge levels)) (ends_in_one levels)
+
+-- each graph has a derived sequence
+abbrev pub GraphsHaveDerivedSequences : Type 0
+GraphsHaveDerivedSequences = (next : List (List ℕ)) (entry : ℕ) → AreWithin next → entry < length next
+    → (levels : List (List Interval)) × IsDerived (leads next) entry levels

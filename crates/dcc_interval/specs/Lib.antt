@@ -6,3 +6,5 @@ pub mod Noted
 pub mod Reaching
 pub mod Growing
 pub mod Collapsing
+pub mod Reduction
+pub mod Reducing

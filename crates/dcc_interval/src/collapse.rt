@@ -97,7 +97,7 @@ fn row(
 
 /// The graph whose nodes are these intervals, by their places: for each the places of the others that follow it, each
 /// once.
-pub fn collapsed(
+pub(crate) fn collapsed(
     alloc: Global,
     next: &Vec<Vec<u32>>,
     intervals: &Vec<Interval>,
@@ -130,7 +130,7 @@ fn is_still_node(next: &Vec<Vec<u32>>, interval: &Interval) -> bool
 }
 
 /// Whether collapsing changes neither nodes nor edges.
-pub fn is_still(next: &Vec<Vec<u32>>, intervals: &Vec<Interval>) -> bool
+pub(crate) fn is_still(next: &Vec<Vec<u32>>, intervals: &Vec<Interval>) -> bool
     requires { All (λ i. i.header < length next.now.items) intervals.now.items }
     ensures { result ≡ is_still (leads (rows next.now.items)) (intervals_in intervals.now.items) }
 {

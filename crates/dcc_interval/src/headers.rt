@@ -28,7 +28,7 @@ fn count(headers: &[u32]) -> usize
 }
 
 /// How many intervals there are: a number of 32 bits, their header, tells each from the others.
-pub fn count_intervals(alloc: Global, intervals: &Vec<Interval>) -> Result<usize, AllocError>
+pub(crate) fn count_intervals(alloc: Global, intervals: &Vec<Interval>) -> Result<usize, AllocError>
     requires { all_differ (headers_of (intervals_in intervals.now.items)) ≡ true }
     ensures all { IfOk result (λ n. n ≡ length intervals.now.items) }
     ensures few { IfOk result (λ n. n ≤ 2 ^ 32) }

@@ -13,9 +13,12 @@ pub mod laws;
 mod loops;
 mod noted;
 mod reach;
+mod reduce;
+mod regions;
 mod sequence;
 
 pub use growth::intervals;
 pub use interval::{Interval, Sequence};
 pub use loops::loop_headers;
+pub use reduce::{Joining, Reduction, reduced};
 pub use sequence::derived;

@@ -1,4 +1,4 @@
--- What is wanted and what is live are closed families, and what is wanted is the least one.
+-- What is needed and what is live are closed families, and what is needed is the least one.
 use Rattle.std.proofs.Common.{◌≡◌, ℕ, Bool, true, false, ◌&&◌, ◌||◌, not, inl, inr, List, [], ◌∷◌, ◌++◌, refl, sym, ap, ◌∙◌, subst, flat_map, Contains, eq-eqb}
 use Rattle.std.specs.Prelude.{◌==◌}
 use Rattle.std.specs.List.{list_any}
@@ -7,18 +7,18 @@ use Rattle.std.proofs.lemmas.List.Elements.{Contains-append_left, Contains-appen
 use Rattle.dcc_ir.specs.declared.syntax.Loc.{Loc}
 use Rattle.dcc_ir.specs.Tree.{Stmt, Set, Fetch, Store, Div, Call, Dos, Exit, Goto, If, Switch, Ret, Stop, Block, Graph}
 use Rattle.dcc_ir.specs.Use.{reads_of, exprs_of, writes_of, exit_exprs}
-use Rattle.dcc_ir.specs.Demand.{uses_of, makes_of, tests_of, IsWantedIn, used, made_of, left, tested, goes}
+use Rattle.dcc_ir.specs.Demand.{uses_of, makes_of, tests_of, IsNeededIn, used, made_of, left, tested, goes}
 use Rattle.dcc_ir.specs.Location.{same_location}
 use Rattle.dcc_ir.specs.Run.{no_block}
 use Rattle.dcc_ir.specs.Flow.{targets}
 use Rattle.dcc_ir.specs.Live.{is_among, reads, reads_first, writes, block_in, follows, IsLiveAfter}
-use Rattle.dcc_ir.specs.Families.{Family, IsClosed, wanted, IsLiveAtStart, live}
+use Rattle.dcc_ir.specs.Families.{Family, IsClosed, needed, IsLiveAtStart, live}
 use Rattle.dcc_ir.proofs.PathLaws.{decided}
 use Rattle.dcc_ir.proofs.GraphLaws.{or_there}
 use Rattle.dcc_ir.proofs.LocationLaws.{among_contains, contains_among, Contains-none, Contains-cases}
 
-pub wanted-closed : (graph : Graph) → IsClosed graph (wanted graph)
-wanted-closed graph = record {
+pub needed-closed : (graph : Graph) → IsClosed graph (needed graph)
+needed-closed graph = record {
   used = λ block stmt rest l c. used c;
   made_of = λ block stmt rest l to w c d. made_of w c d;
   left = λ block stmt rest l n d. left n d;
@@ -26,12 +26,12 @@ wanted-closed graph = record {
   goes = λ block next place l c f d. goes c f d;
 }
 
-pub wanted-least : (family : Family) (graph : Graph) (block : Block) (stmts : List Stmt) (l : Loc) → IsClosed graph family → IsWantedIn graph block stmts l → family block stmts l
-wanted-least family graph block stmts l closed (used {stmt = stmt} {rest = rest} c) = closed.used block stmt rest l c
-wanted-least family graph block stmts l closed (made_of {stmt = stmt} {rest = rest} {to = to} w c d) = closed.made_of block stmt rest l to w c (wanted-least family graph block rest to closed d)
-wanted-least family graph block stmts l closed (left {stmt = stmt} {rest = rest} n d) = closed.left block stmt rest l n (wanted-least family graph block rest l closed d)
-wanted-least family graph block stmts l closed (tested c) = closed.tested block l c
-wanted-least family graph block stmts l closed (goes {next = next} {place = place} c f d) = closed.goes block next place l c f (wanted-least family graph next next.stmts l closed d)
+pub needed-least : (family : Family) (graph : Graph) (block : Block) (stmts : List Stmt) (l : Loc) → IsClosed graph family → IsNeededIn graph block stmts l → family block stmts l
+needed-least family graph block stmts l closed (used {stmt = stmt} {rest = rest} c) = closed.used block stmt rest l c
+needed-least family graph block stmts l closed (made_of {stmt = stmt} {rest = rest} {to = to} w c d) = closed.made_of block stmt rest l to w c (needed-least family graph block rest to closed d)
+needed-least family graph block stmts l closed (left {stmt = stmt} {rest = rest} n d) = closed.left block stmt rest l n (needed-least family graph block rest l closed d)
+needed-least family graph block stmts l closed (tested c) = closed.tested block l c
+needed-least family graph block stmts l closed (goes {next = next} {place = place} c f d) = closed.goes block next place l c f (needed-least family graph next next.stmts l closed d)
 
 -- What a statement uses, and what it makes values of, it reads.
 

@@ -10,7 +10,7 @@ use Rattle.dcc_ir.specs.declared.syntax.UnOp.TheVariants.{Neg, Not, IsZero}
 use Rattle.dcc_ir.specs.declared.syntax.BinOp.{BinOp}
 use Rattle.dcc_ir.specs.declared.syntax.BinOp.TheVariants.{Add, Sub, Mul, DivS, DivU, RemS, RemU, And, Or, Xor, Shl, Shr, Sar, Eq, LtS, LtU, LeS, LeU}
 use Rattle.dcc_ir.specs.Tree.{Expr, Const, Get, Load, Unary, Binary, Widen, Part, Join, Choose, Address}
-use Rattle.dcc_ir.specs.Value.{is_comparison, is_test, width_of, signed_at, pattern_at, faults_signed, unary_value, binary_value, bytes_at, Scene, value_of, Fits}
+use Rattle.dcc_ir.specs.Value.{is_comparison, is_test, width_of, signed_at, pattern_at, faults_signed, unary_value, binary_value, bytes_at, Environment, value_of, Fits}
 use Rattle.dcc_ir.specs.WellFormed.{is_width, is_stored_width, is_expr, is_division, divides_safely}
 
 pub both : (a b : Bool) → (a && b) ≡ true → (a ≡ true) × (b ≡ true)
@@ -95,7 +95,7 @@ joined_fits h l a b x y =
     below : (m n a b : ℕ) → a < m → b < n → a * n + b < m * n
     below m n a b x y = grind arith
 
-pub value_fits : (scene : Scene) → Fits scene → (e : Expr) → is_expr scene.bits e ≡ true → value_of scene e < 2 ^ width_of scene.bits e
+pub value_fits : (scene : Environment) → Fits scene → (e : Expr) → is_expr scene.bits e ≡ true → value_of scene e < 2 ^ width_of scene.bits e
 value_fits scene fits (Const width n) ok = ltb-true n (2 ^ width) (both (is_width width) (nat_lt n (2 ^ width)) ok).1
 value_fits scene fits (Get location) ok = fits.values location
 value_fits scene fits (Load width address) ok =

@@ -3,7 +3,7 @@ use Rattle.std.proofs.Common.{◌≡◌, ℕ, Bool, true, false, cond, ◌⊎◌
 use Rattle.std.specs.Prelude.{if◌then◌else◌, ◌==◌}
 use Rattle.std.specs.List.{list_any}
 use Rattle.dcc_run.specs.End.{is_over}
-use Rattle.dcc_run.specs.Place.{Place}
+use Rattle.dcc_run.specs.ProgramPoint.{ProgramPoint}
 use Rattle.dcc_ir.specs.declared.syntax.Loc.{Loc}
 use Rattle.dcc_ir.specs.Tree.{Stmt, Call, Exit, Goto, If, Switch, Ret, Stop, Block, Graph, Program}
 use Rattle.dcc_ir.specs.Location.{filled}
@@ -117,17 +117,17 @@ unfolding opening
 first_holds p fill input = opening-holds p.graphs p fill input
 
 -- where the running activation stands
-abbrev stand : State → Place
+abbrev stand : State → ProgramPoint
 stand s = record { entry = s.running.graph.entry; at = s.running.block.at }
 
 stand_known : (p : Program) (s : State) → StandsAt p.graphs s → s.running.begins ≡ true → has_block p (stand s) ≡ true
 stand_known p s h b = subst (λ o. list_any (λ x. x.at == s.running.block.at) (graph_or_none o).blocks ≡ true) (sym h.graph_known) (h.block_known b)
 
-mark_at : (p : Program) (s : State) (place : Place) (b : Bool) → s.running.begins ≡ b → Holds p s → (if b then Some (stand s) else None) ≡ Some place → has_block p place ≡ true
+mark_at : (p : Program) (s : State) (place : ProgramPoint) (b : Bool) → s.running.begins ≡ b → Holds p s → (if b then Some (stand s) else None) ≡ Some place → has_block p place ≡ true
 mark_at p s place true b (inl h) o = let same : stand s ≡ place = cc in subst (λ x. has_block p x ≡ true) same (stand_known p s h b)
 mark_at p s place true b (inr f) o = absurd (true≢false (sym b ∙ f.0))
 mark_at p s place false b h o = absurd (cc)
 
 -- the block that is about to begin is one of the program's
-pub mark_known : (p : Program) (s : State) → Holds p s → (place : Place) → block_mark s ≡ Some place → has_block p place ≡ true
+pub mark_known : (p : Program) (s : State) → Holds p s → (place : ProgramPoint) → block_mark s ≡ Some place → has_block p place ≡ true
 mark_known p s holds place e = mark_at p s place s.running.begins refl holds e

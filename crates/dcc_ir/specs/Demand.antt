@@ -1,4 +1,4 @@
--- Which locations are wanted before a statement: those whose value a test, a store, a division, a DOS call, an argument
+-- Which locations are needed before a statement: those whose value a test, a store, a division, a DOS call, an argument
 -- of a call or a value given back may come to use (liveness by demand). A call passes its arguments and results alone.
 use Rattle.std.specs.Prelude.{◌≡◌, ℕ, Bool, true, false, List, [], ◌∷◌, ◌++◌, flat_map, Contains, slice_get}
 use Rattle.std.specs.Prelude.{option_to_list, Some}
@@ -13,7 +13,7 @@ is_assignment (Set location e) = true
 is_assignment (Fetch location width address) = true
 is_assignment stmt = false
 
--- the locations that a statement uses whatever is wanted after it
+-- the locations that a statement uses whatever is needed after it
 abbrev pub uses_of : Stmt → List Loc
 uses_of (Store width address e) = reads_of address ++ reads_of e
 uses_of (Div location e) = reads_of e
@@ -34,18 +34,18 @@ tests_of (Switch e places) = reads_of e
 tests_of (Ret values) = flat_map reads_of values
 tests_of exit = []
 
--- the location is wanted in the block before these statements, which are its last ones; the least relation by the
+-- the location is needed in the block before these statements, which are its last ones; the least relation by the
 -- rules
-pub data IsWantedIn (graph : Graph) : Block → List Stmt → Loc → Type 0 where
+pub data IsNeededIn (graph : Graph) : Block → List Stmt → Loc → Type 0 where
   used : {block : Block} {stmt : Stmt} {rest : List Stmt} {location : Loc} → Contains (uses_of stmt) location
-      → IsWantedIn graph block (stmt ∷ rest) location
+      → IsNeededIn graph block (stmt ∷ rest) location
   made_of : {block : Block} {stmt : Stmt} {rest : List Stmt} {location to : Loc} → Contains (writes_of stmt) to
-      → Contains (makes_of stmt) location → IsWantedIn graph block rest to
-      → IsWantedIn graph block (stmt ∷ rest) location
+      → Contains (makes_of stmt) location → IsNeededIn graph block rest to
+      → IsNeededIn graph block (stmt ∷ rest) location
   left : {block : Block} {stmt : Stmt} {rest : List Stmt} {location : Loc} → ¬ Contains (writes_of stmt) location
-      → IsWantedIn graph block rest location → IsWantedIn graph block (stmt ∷ rest) location
+      → IsNeededIn graph block rest location → IsNeededIn graph block (stmt ∷ rest) location
   tested : {block : Block} {location : Loc} → Contains (tests_of block.exit) location
-      → IsWantedIn graph block [] location
+      → IsNeededIn graph block [] location
   goes : {block next : Block} {place : ℕ} {location : Loc} → Contains (targets block.exit) place
-      → slice_get graph.blocks place ≡ Some next → IsWantedIn graph next next.stmts location
-      → IsWantedIn graph block [] location
+      → slice_get graph.blocks place ≡ Some next → IsNeededIn graph next next.stmts location
+      → IsNeededIn graph block [] location

@@ -4,7 +4,7 @@ use Rattle.std.specs.List.{AllZip}
 use Rattle.dcc_ir.specs.declared.syntax.Loc.{Loc}
 use Rattle.dcc_ir.specs.Tree.{Stmt, Block, Graph}
 use Rattle.dcc_ir.specs.Use.{writes_of}
-use Rattle.dcc_ir.specs.Demand.{is_assignment, uses_of, makes_of, tests_of, IsWantedIn}
+use Rattle.dcc_ir.specs.Demand.{is_assignment, uses_of, makes_of, tests_of, IsNeededIn}
 use Rattle.dcc_ir.specs.Flow.{targets}
 use Rattle.dcc_ir.specs.Live.{block_in, reads_first, writes, IsLiveAfter}
 
@@ -26,9 +26,9 @@ pub record IsClosed (graph : Graph) (family : Family) : Type 0 where
   pub goes : (block next : Block) (place : ℕ) (location : Loc) → Contains (targets block.exit) place
       → slice_get graph.blocks place ≡ Some next → family next next.stmts location → family block [] location
 
--- the least closed family: what is wanted
-abbrev pub wanted : Graph → Family
-wanted graph = IsWantedIn graph
+-- the least closed family: what is needed
+abbrev pub needed : Graph → Family
+needed graph = IsNeededIn graph
 
 -- A location is live where a block begins: the block reads it first, or it doesn't write it and it is live at its end.
 abbrev pub IsLiveAtStart : Graph → ℕ → Loc → Type 0
@@ -75,10 +75,10 @@ pub record IsGraphWithout (family : Family) (before after : Graph) : Type 0 wher
   pub bits : after.bits ≡ before.bits
   pub blocks : AllZip (IsBlockWithout family) before.blocks after.blocks
 
--- Each assignment among the last statements of the block makes a location that is wanted after it.
-abbrev pub AllWanted : Graph → Block → List Stmt → Type 0
-AllWanted graph block [] = Unit {0}
-AllWanted graph block (stmt ∷ rest) =
+-- Each assignment among the last statements of the block makes a location that is needed after it.
+abbrev pub AllNeeded : Graph → Block → List Stmt → Type 0
+AllNeeded graph block [] = Unit {0}
+AllNeeded graph block (stmt ∷ rest) =
     (is_assignment stmt
-    ≡ true → (location : Loc) × Contains (writes_of stmt) location × IsWantedIn graph block rest location)
-    × AllWanted graph block rest
+    ≡ true → (location : Loc) × Contains (writes_of stmt) location × IsNeededIn graph block rest location)
+    × AllNeeded graph block rest

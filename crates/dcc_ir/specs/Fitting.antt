@@ -1,11 +1,11 @@
 -- States whose numbers fit their places.
 use Rattle.std.specs.Prelude.{ℕ, ◌<◌, List, All}
 use Rattle.dcc_run.specs.Event.{written_by, taken_by}
-use Rattle.dcc_ir.specs.Value.{Scene, Fits}
+use Rattle.dcc_ir.specs.Value.{Environment, Fits}
 use Rattle.dcc_ir.specs.Run.{Activation, State, scene_of}
 
 -- what the expressions of an activation read in this memory
-abbrev pub scene_in : Activation → List ℕ → Scene
+abbrev pub scene_in : Activation → List ℕ → Environment
 scene_in a memory = record { bits = a.graph.bits; values = a.values; base = a.base; memory = memory }
 
 abbrev pub AreBytes : List ℕ → Type 0

@@ -1,7 +1,7 @@
 -- What a pass keeps of a program.
 use Rattle.std.specs.Prelude.{◌≡◌, ◌≢◌, ℕ, ◌<◌, ◌==◌, Bool, true, List, [], ◌∷◌, map, filter, find, flat_map, All}
 use Rattle.std.specs.Prelude.{Option, Some, None}
-use Rattle.dcc_run.specs.Place.{Place}
+use Rattle.dcc_run.specs.ProgramPoint.{ProgramPoint}
 use Rattle.dcc_run.specs.Visits.{VisitsKept}
 use Rattle.dcc_ir.specs.Tree.{Stmt, Call, Block, Graph, Program}
 use Rattle.dcc_ir.specs.WellFormed.{is_memory}
@@ -9,7 +9,7 @@ use Rattle.dcc_ir.specs.Run.{graph_at, no_block, inner_system, first_state, bloc
 use Rattle.dcc_ir.specs.Flow.{graph_or_none, flow_at, Reached, IsContraction, HaveOneEdge}
 
 -- the program has the block
-abbrev pub has_block : Program → Place → Bool
+abbrev pub has_block : Program → ProgramPoint → Bool
 has_block p place = (flow_at p place.entry).has place.at
 
 -- a call by the entry of its graph and its depth

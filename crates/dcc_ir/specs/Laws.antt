@@ -5,14 +5,14 @@ use Rattle.dcc_run.specs.End.{is_over}
 use Rattle.dcc_run.specs.Watched.{IsWatchable}
 use Rattle.dcc_ir.specs.declared.syntax.Loc.{Loc}
 use Rattle.dcc_ir.specs.Tree.{Expr, Stmt, Block, Graph, Program}
-use Rattle.dcc_ir.specs.Value.{width_of, Scene, value_of, Fits}
+use Rattle.dcc_ir.specs.Value.{width_of, Environment, value_of, Fits}
 use Rattle.dcc_ir.specs.WellFormed.{is_expr, IsProgram}
 use Rattle.dcc_ir.specs.Fitting.{AreBytes, StateFits}
 use Rattle.dcc_ir.specs.Ends.{IsNeverStuck, HasNoSwitch, HasSoundEnds, SwitchesHavePlaces}
 use Rattle.dcc_ir.specs.Run.{State, execute, is_call, block_step, reached, watched_inner}
 use Rattle.dcc_ir.specs.Flow.{Flow, Reached, Leads, HaveOneEdge}
 use Rattle.dcc_ir.specs.Keeps.{KeepsRuns, Keeps}
-use Rattle.dcc_ir.specs.Families.{Family, IsClosed, wanted, live, IsGraphWithout}
+use Rattle.dcc_ir.specs.Families.{Family, IsClosed, needed, live, IsGraphWithout}
 use Rattle.dcc_ir.specs.Replaced.{MayReplace}
 use Rattle.dcc_ir.specs.Trimmed.{Trim, trimmed, IsTrimmable}
 
@@ -40,7 +40,7 @@ OneEdgeLiesAfterOne = (p q : Flow) → HaveOneEdge p q → (a b c : ℕ) → Rea
 
 -- the value of a well-formed expression fits its width
 abbrev pub ValuesFit : Type 0
-ValuesFit = (scene : Scene) → Fits scene → (e : Expr) → is_expr scene.bits e ≡ true
+ValuesFit = (scene : Environment) → Fits scene → (e : Expr) → is_expr scene.bits e ≡ true
     → value_of scene e < 2 ^ width_of scene.bits e
 
 -- each state that a well-formed program reaches fits its widths
@@ -65,18 +65,18 @@ abbrev pub UnreadMayGo : Type 0
 UnreadMayGo = (trim : Trim) (p : Program) → IsProgram p → IsProgram (trimmed trim p) → All (IsTrimmable trim) p.graphs
     → KeepsRuns p (trimmed trim p)
 
--- what is wanted is a closed family
-abbrev pub WantedIsClosed : Type 0
-WantedIsClosed = (graph : Graph) → IsClosed graph (wanted graph)
+-- what is needed is a closed family
+abbrev pub NeededIsClosed : Type 0
+NeededIsClosed = (graph : Graph) → IsClosed graph (needed graph)
 
 -- what is live is a closed family, where all reads count
 abbrev pub LiveIsClosed : Type 0
 LiveIsClosed = (graph : Graph) → IsClosed graph (live graph)
 
--- a closed family has all that is wanted
-abbrev pub HasAllWanted : Family → Type 0
-HasAllWanted family = (graph : Graph) (block : Block) (stmts : List Stmt) (location : Loc) → IsClosed graph family
-    → wanted graph block stmts location → family block stmts location
+-- a closed family has all that is needed
+abbrev pub HasAllNeeded : Family → Type 0
+HasAllNeeded family = (graph : Graph) (block : Block) (stmts : List Stmt) (location : Loc) → IsClosed graph family
+    → needed graph block stmts location → family block stmts location
 
 -- assignments to locations that don't matter after them may go, by any closed family
 abbrev pub AssignmentsMayGo : Family → Type 0

@@ -19,7 +19,7 @@ use Rattle.dcc_ir.specs.declared.syntax.Graph.{Graph as GraphOf}
 use Rattle.dcc_ir.specs.Tree.{Block, Graph}
 use Rattle.dcc_ir.specs.Views.{stmt_of, block_of, graph_of}
 use Rattle.dcc_ir.specs.Location.{Values, with_value, filled}
-use Rattle.dcc_ir.specs.Value.{Scene}
+use Rattle.dcc_ir.specs.Value.{Environment}
 use Rattle.dcc_ir.specs.Run.{Activation, Waiting, State, no_block}
 
 -- the event of the definitions that a happening of the plain run stands for
@@ -33,7 +33,7 @@ abbrev pub values_of : List ℕ → ℕ → List Held → Values
 values_of bits fill held = fold (λ values h. with_value values h.at h.bits) (filled bits fill) held
 
 -- what the expressions read in a view of the plain run
-abbrev pub scene_of : View → Scene
+abbrev pub scene_of : View → Environment
 scene_of view = record {
   bits = view.bits.now;
   values = values_of view.bits.now view.fill view.held.now;

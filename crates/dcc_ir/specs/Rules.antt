@@ -6,7 +6,7 @@ use Rattle.std.specs.declared.alloc.AllocError.{AllocError}
 use Rattle.dcc_ir.specs.declared.syntax.Expr.{Expr as Expression}
 use Rattle.dcc_ir.specs.Views.{expr_of}
 use Rattle.dcc_ir.specs.Tree.{Expr}
-use Rattle.dcc_ir.specs.Value.{width_of, Scene, value_of, Fits}
+use Rattle.dcc_ir.specs.Value.{width_of, Environment, value_of, Fits}
 use Rattle.dcc_ir.specs.WellFormed.{is_width, is_expr}
 use Rattle.dcc_ir.specs.Use.{parts_of, reads_of, addresses_of}
 use Rattle.dcc_ir.specs.Measure.{nodes_of, depth_of, truths_of}
@@ -22,7 +22,7 @@ pub record IsSimpler (given other : Expr) : Type 0 where
   pub formed : (bits : List ℕ) → are_widths bits ≡ true → is_expr bits given ≡ true → is_expr bits other ≡ true
   pub width : (bits : List ℕ) → are_widths bits ≡ true → is_expr bits given ≡ true
       → width_of bits other ≡ width_of bits given
-  pub value : (scene : Scene) → are_widths scene.bits ≡ true → Fits scene → is_expr scene.bits given ≡ true
+  pub value : (scene : Environment) → are_widths scene.bits ≡ true → Fits scene → is_expr scene.bits given ≡ true
       → value_of scene other ≡ value_of scene given
   pub nodes : nodes_of other < nodes_of given
   pub depth : depth_of other ≤ depth_of given

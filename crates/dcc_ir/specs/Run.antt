@@ -4,7 +4,7 @@ use Rattle.std.specs.Prelude.{List, [], ◌∷◌, ◌++◌, map, find, get_or, 
 use Rattle.std.specs.List.{range_with_len}
 use Rattle.dcc_run.specs.End.{End, Running, Exit as ExitWith, Divide, Stuck, is_over}
 use Rattle.dcc_run.specs.Event.{Event, Wrote, Took, MetEnd, writes}
-use Rattle.dcc_run.specs.Place.{Place}
+use Rattle.dcc_run.specs.ProgramPoint.{ProgramPoint}
 use Rattle.dcc_run.specs.System.{System, after}
 use Rattle.dcc_run.specs.Watched.{Watched}
 use Rattle.dcc_ir.specs.declared.syntax.Loc.{Loc}
@@ -14,7 +14,7 @@ use Rattle.dcc_ir.specs.declared.syntax.Param.{Param}
 use Rattle.dcc_ir.specs.Tree.{Expr, Stmt, Set, Fetch, Store, Div, Call, Dos, Exit, Goto, If, Switch, Ret, Stop, Block}
 use Rattle.dcc_ir.specs.Tree.{Graph, Program}
 use Rattle.dcc_ir.specs.Location.{Values, with_value, filled}
-use Rattle.dcc_ir.specs.Value.{Scene, value_of, division_of, bytes_at, with_bytes_at}
+use Rattle.dcc_ir.specs.Value.{Environment, value_of, division_of, bytes_at, with_bytes_at}
 use Rattle.dcc_ir.specs.Dos.{dos_string}
 
 -- a call of a graph: where it stands, and what it has of its own
@@ -47,7 +47,7 @@ pub record State : Type 0 where
   pub end : End
 
 -- what the expressions of the running activation read
-abbrev pub scene_of : State → Scene
+abbrev pub scene_of : State → Environment
 scene_of s = record { bits = s.running.graph.bits; values = s.running.values; base = s.running.base; memory = s.memory }
 
 -- the value of an expression in a state
@@ -255,10 +255,10 @@ abbrev pub inner_system : Program → ℕ → System State
 inner_system p fill = record { step = step p fill; events = λ s. s.events; end = λ s. s.end }
 
 -- the block that is about to begin, by the entry of its graph and its own address
-abbrev pub block_mark : State → Option Place
+abbrev pub block_mark : State → Option ProgramPoint
 block_mark s =
     if s.running.begins then Some (record { entry = s.running.graph.entry; at = s.running.block.at }) else None
 
 -- the runs of a program, with this fill, of which the blocks are marked; no step is foul
-abbrev pub watched_inner : Program → ℕ → Watched State Place
+abbrev pub watched_inner : Program → ℕ → Watched State ProgramPoint
 watched_inner p fill = record { system = inner_system p fill; mark = block_mark; foul = λ s. false }

@@ -118,14 +118,14 @@ with_bytes_at memory (suc count) address n =
 
 -- what an expression reads: the widths of the temporaries, the values of the call's locations, the base of its frame
 -- and the memory
-pub record Scene : Type 0 where
+pub record Environment : Type 0 where
   pub bits : List ℕ
   pub values : Values
   pub base : ℕ
   pub memory : List ℕ
 
 -- the value of an expression
-abbrev pub value_of : Scene → Expr → ℕ
+abbrev pub value_of : Environment → Expr → ℕ
 value_of scene (Const width n) = n
 value_of scene (Get location) = scene.values location
 value_of scene (Load width address) = bytes_at scene.memory (width / 8) (value_of scene address)
@@ -139,12 +139,12 @@ value_of scene (Choose test a b) = if value_of scene test == 1 then value_of sce
 value_of scene (Address distance) = (scene.base + distance) % 65536
 
 -- the value of a division; none where it faults
-abbrev pub division_of : Scene → Expr → Option ℕ
+abbrev pub division_of : Environment → Expr → Option ℕ
 division_of scene (Binary operator width a b) = division_at operator width (value_of scene a) (value_of scene b)
 division_of scene e = None
 
 -- each location holds a number of its width, and the memory has 65,536 bytes
-pub record Fits (scene : Scene) : Type 0 where
+pub record Fits (scene : Environment) : Type 0 where
   pub values : (location : Loc) → scene.values location < 2 ^ location_width scene.bits location
   pub len : length scene.memory ≡ 65536
   pub bytes : (address : ℕ) → slice_index scene.memory address < 256

@@ -72,8 +72,8 @@ abbrev pub summary_of : Sum → Summary
 summary_of x = record { params = x.params.items; results = x.results.items; preserved = x.preserved.items }
 
 -- the locations that pass, of each graph
-abbrev pub sums_of : Sums → List Summary
-sums_of s = map summary_of s.of.items
+abbrev pub summaries_of : Sums → List Summary
+summaries_of s = map summary_of s.of.items
 
 -- the locations that are live at the end of each block
 abbrev pub live_of : Live → List (List Loc)

@@ -7,7 +7,7 @@ ghost use Rattle.dcc_ir.specs.Laws.{RunsAreWatchable, StatementsAreExecuted, Pro
 ghost use Rattle.dcc_ir.specs.Laws.{OneEdgeLiesAfterOne, ValuesFit, StatesFit, RunsAreNeverStuck, NoSwitchHasPlaces};
 ghost use Rattle.dcc_ir.specs.Laws.{ProgramsKeepTheirRuns, UnreadMayGo};
 ghost use Rattle.dcc_ir.specs.Families.{Family};
-ghost use Rattle.dcc_ir.specs.Laws.{WantedIsClosed, LiveIsClosed, HasAllWanted, AssignmentsMayGo};
+ghost use Rattle.dcc_ir.specs.Laws.{NeededIsClosed, LiveIsClosed, HasAllNeeded, AssignmentsMayGo};
 
 /// A run that has ended stays, no step takes events back, and no step is foul.
 pub fn runs_are_watchable()
@@ -80,9 +80,9 @@ pub fn unread_may_go()
     ensures { UnreadMayGo }
 {}
 
-/// What is wanted is a closed family.
-pub fn wanted_is_closed()
-    ensures { WantedIsClosed }
+/// What is needed is a closed family.
+pub fn needed_is_closed()
+    ensures { NeededIsClosed }
 {}
 
 /// What is live is a closed family.
@@ -95,9 +95,9 @@ pub trait SomeFamily {
     ghost family: { Family };
 }
 
-/// What is wanted is the least closed family.
-pub fn closed_families_have_all_wanted<F: SomeFamily>()
-    ensures { HasAllWanted F.family }
+/// What is needed is the least closed family.
+pub fn closed_families_have_all_needed<F: SomeFamily>()
+    ensures { HasAllNeeded F.family }
 {}
 
 /// A graph without assignments to locations that don't matter after them, by a closed family, may stand in the place of

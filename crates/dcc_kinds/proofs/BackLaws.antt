@@ -19,7 +19,7 @@ use Rattle.dcc_ir.specs.Tree.{Get, Address, Stmt, Set, Store}
 use Rattle.dcc_ir.specs.Live.{is_among}
 use Rattle.dcc_ir.proofs.LocationLaws.{Contains-here, Contains-later, Contains-none, Contains-cases, among_contains, contains_among}
 use Rattle.dcc_ir.proofs.PathLaws.{decided}
-use Rattle.dcc_ops.specs.Place.{Place as InnerPlace, constant, byte, memory, storing}
+use Rattle.dcc_ops.specs.OperandPlace.{OperandPlace, constant, byte, memory, storing}
 use Rattle.dcc_lift.proofs.ListTests.{and_both}
 use Rattle.dcc_simulation.specs.Procedures.{Procedure, frame_place, cell_place, cells_of, distance_of}
 use Rattle.dcc_simulation.specs.Statements.{argument_offset, taking_all_back}
@@ -52,7 +52,7 @@ in_cells : (n : ℕ) (cells : List FrameCell) (k : ℤ) → InCells n cells k
 in_cells n [] k = in_none refl
 in_cells n (cell ∷ cells) k = by (is_within k (bytes_of cell)) refl (in_cells (suc n) cells k)
   where
-    place_by : Bool → InnerPlace
+    place_by : Bool → OperandPlace
     place_by b = if b then byte (Cell n (if int_eq k cell.first then Low else High)) else cell_place (suc n) cells byte_width k
 
     by : (b : Bool) → is_within k (bytes_of cell) ≡ b → InCells (suc n) cells k → InCells n (cell ∷ cells) k
@@ -63,7 +63,7 @@ in_cells n (cell ∷ cells) k = by (is_within k (bytes_of cell)) refl (in_cells 
 stands : (q : Procedure) (k : ℤ) → Stands q k
 stands q k = by (is_placed q.frame k) refl (in_cells 0 (cells_of q) k)
   where
-    place_by : Bool → InnerPlace
+    place_by : Bool → OperandPlace
     place_by b = if b then memory byte_width (Address (distance_of k)) else cell_place 0 (cells_of q) byte_width k
 
     by : (b : Bool) → is_placed q.frame k ≡ b → InCells 0 (cells_of q) k → Stands q k
@@ -105,7 +105,7 @@ module _ (q : Procedure) where
     abbrev more : List Stmt
     more = put_back q bs
 
-    with_place : (P : InnerPlace) → frame_place q byte_width c.0 ≡ P → put_back q (c ∷ bs) ≡ storing P (Get (Temp c.1)) ++ more
+    with_place : (P : OperandPlace) → frame_place q byte_width c.0 ≡ P → put_back q (c ∷ bs) ≡ storing P (Get (Temp c.1)) ++ more
     with_place P e = ap (λ place. storing place (Get (Temp c.1)) ++ more) e
 
     -- what is carried by the others is carried by all of them

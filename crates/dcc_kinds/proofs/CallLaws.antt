@@ -7,17 +7,18 @@ use Rattle.std.proofs.lemmas.Int.{ints}
 use Rattle.std.proofs.lemmas.List.Elements.{All-append, All-contains, All-contains_itself, All-filter}
 use Rattle.dcc_num.specs.declared.Width.TheVariants.{Byte as byte_width}
 use Rattle.dcc_num.specs.declared.Half.TheVariants.{Low, High}
-use Rattle.dcc_prog.specs.declared.image.Image.{Image}
+use Rattle.dcc_machine.specs.declared.image.Image.{Image}
 use Rattle.dcc_prog.specs.declared.procedure.Layout.{Layout}
 use Rattle.dcc_prog.specs.declared.procedure.Node.{Node}
 use Rattle.dcc_prog.specs.declared.frame.Cell.{Cell as FrameCell}
 use Rattle.dcc_prog.specs.declared.frame.Program.{Program as Analysed}
-use Rattle.dcc_prog.specs.declared.instr.Op.TheVariants.{Call as CallOp}
+use Rattle.dcc_machine.specs.declared.instr.Op.TheVariants.{Call as CallOp}
 use Rattle.dcc_prog.specs.Analysed.{bytes_of}
 use Rattle.dcc_prog.specs.Found.{IsNodeFound}
 use Rattle.dcc_prog.specs.Height.{IsHeight}
 use Rattle.dcc_prog.specs.Frame.{span_of, own_bytes, HasArguments, IsUsed, IsPiece, passed, IsCell, IsPlaced}
-use Rattle.dcc_prog.specs.Trail.{IsEntry, StandsAt, next_of, known_ah, targets_of, op_successors, instr_successors}
+use Rattle.dcc_machine.specs.Successors.{next_of, op_successors}
+use Rattle.dcc_prog.specs.Trail.{IsEntry, StandsAt, known_ah, targets_of, instr_successors}
 use Rattle.dcc_stack.specs.Accepted.{IsFrameFor, IsAt}
 use Rattle.dcc_stack.specs.Slots.{is_within, exposes_of, is_placed, gives_back}
 use Rattle.dcc_stack.proofs.SlotPlaces.{any-tells, any-told, within-tells, exposed-slot-told}
@@ -26,7 +27,7 @@ use Rattle.dcc_ir.specs.declared.syntax.Loc.{Loc}
 use Rattle.dcc_ir.specs.declared.syntax.Loc.TheVariants.{Cell}
 use Rattle.dcc_ir.specs.Tree.{Program, Address}
 use Rattle.dcc_ir.proofs.LocationLaws.{Contains-here}
-use Rattle.dcc_ops.specs.Place.{Place as InnerPlace, byte, memory}
+use Rattle.dcc_ops.specs.OperandPlace.{OperandPlace, byte, memory}
 use Rattle.dcc_simulation.specs.Coupled.{Setting}
 use Rattle.dcc_simulation.specs.Places.{IsFramePlace, in_half, in_memory}
 use Rattle.dcc_simulation.specs.Procedures.{Procedure, frame_place, cell_place, cells_of, is_accessed, distance_of}
@@ -43,7 +44,7 @@ use Rattle.dcc_lift.proofs.Lifting.{lifting, offsets-any, height-told}
 use Rattle.dcc_lift.proofs.ListTests.{and_both, or_here, or_there}
 use Rattle.dcc_lift.proofs.NodeLaws.{node_in_has}
 use Rattle.dcc_machine_demand.specs.Bodies.{Body, find_at, point_at, point_with}
-use Rattle.dcc_machine_demand.specs.Places.{in_frame, is_in_cell, is_exposed_place}
+use Rattle.dcc_machine_demand.specs.Holders.{in_frame, is_in_cell, is_exposed_holder}
 use Rattle.dcc_machine_demand.specs.Instance.{passed_word}
 use Rattle.dcc_lifted_demand.proofs.EdgeLaws.{found_node}
 use Rattle.dcc_lifted_demand.proofs.RefinedLaws as refined
@@ -61,7 +62,7 @@ in_one : (n : ℕ) (cells : List FrameCell) (k : ℤ) (l : Loc) → cell_place n
 in_one n [] k l e = absurd (cc e)
 in_one n (cell ∷ cells) k l e = by (is_within k (bytes_of cell)) refl (in_one (suc n) cells k l)
   where
-    place_by : Bool → InnerPlace
+    place_by : Bool → OperandPlace
     place_by b = if b then byte (Cell n (if int_eq k cell.first then Low else High)) else cell_place (suc n) cells byte_width k
 
     by : (b : Bool) → is_within k (bytes_of cell) ≡ b → (cell_place (suc n) cells byte_width k ≡ byte l → list_any (λ cell. is_within k (bytes_of cell)) cells ≡ true)
@@ -87,7 +88,7 @@ in_some_cell q k l e = by (is_placed q.frame k) refl
         (All-filter accessed (Contains cells) cells (All-contains_itself cells))
         (All-filter (λ cell. not (accessed cell)) (Contains cells) cells (All-contains_itself cells))
 
-    place_by : Bool → InnerPlace
+    place_by : Bool → OperandPlace
     place_by b = if b then memory byte_width (Address (distance_of k)) else cell_place 0 (cells_of q) byte_width k
 
     by : (b : Bool) → is_placed q.frame k ≡ b → list_any within cells ≡ true
@@ -129,7 +130,7 @@ module _ (image : Image) (program : Analysed) (p : Program) (is : IsTranslated i
   frame_is = frame-for e found.lifting entry is_entry q x.procedure_found
 
   -- a byte of a cell that stands in memory may be read anywhere
-  opened : (k : ℤ) → IsPlaced image layout entry k → is_in_cell body k ≡ true → is_exposed_place body (in_frame k) ≡ true
+  opened : (k : ℤ) → IsPlaced image layout entry k → is_in_cell body k ≡ true → is_exposed_holder body (in_frame k) ≡ true
   opened k placed t =
       let cells = q.frame.cells.items in
       let c = any-tells (λ (cell : FrameCell). is_within k (bytes_of cell)) cells t in
@@ -141,10 +142,10 @@ module _ (image : Image) (program : Analysed) (p : Program) (is : IsTranslated i
   -- where a byte stands that is used together with others: in memory, so that it may be read anywhere where it belongs to
   -- a cell, or in a location
   pub data BytePlace (k : ℤ) : Type 0 where
-    in_open : IsOpen q k → (is_in_cell body k ≡ true → is_exposed_place body (in_frame k) ≡ true) → BytePlace k
+    in_open : IsOpen q k → (is_in_cell body k ≡ true → is_exposed_holder body (in_frame k) ≡ true) → BytePlace k
     in_location : (l : Loc) → StandsIn q k l → is_in_cell body k ≡ true → BytePlace k
 
-  byte_place : (k : ℤ) (Q : InnerPlace) → frame_place q byte_width k ≡ Q → IsFramePlace e entry k byte_width Q → BytePlace k
+  byte_place : (k : ℤ) (Q : OperandPlace) → frame_place q byte_width k ≡ Q → IsFramePlace e entry k byte_width Q → BytePlace k
   byte_place k Q place (in_half {number = number} {half = half} there) =
       in_location (Cell number half) place (in_some_cell q k (Cell number half) place)
   byte_place k Q place (in_memory placed) =

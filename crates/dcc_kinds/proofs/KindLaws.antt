@@ -2,12 +2,14 @@
 use Rattle.std.proofs.Common.{◌≡◌, ℕ, ◌+◌, ◌*◌, true, false, ◌⊎◌, inl, inr, List, [], ◌∷◌, ◌++◌, ◌==◌, length, map, Contains, Option, Some, None, refl, sym, ap, ◌∙◌, subst, arith}
 use Rattle.std.specs.List.{range_with_len, list_any}
 use Rattle.std.proofs.lemmas.List.Elements.{Contains-append_cases, Contains-append_right}
-use Rattle.dcc_prog.specs.declared.image.Image.{Image}
+use Rattle.dcc_machine.specs.declared.image.Image.{Image}
 use Rattle.dcc_prog.specs.declared.procedure.Node.{Node}
 use Rattle.dcc_prog.specs.declared.frame.Program.{Program as Analysed}
-use Rattle.dcc_prog.specs.declared.refusal.construct.TheConstants.{ARGUMENT_REUSED, SEVERAL_RESULTS}
-use Rattle.dcc_prog.specs.declared.instr.Op.{Op}
-use Rattle.dcc_prog.specs.declared.instr.Op.TheVariants.{Call as CallOp}
+use Rattle.dcc_prog.specs.declared.refusal.ConstructKind.{ConstructKind}
+use Rattle.dcc_prog.specs.declared.refusal.ConstructKind.TheVariants.{ArgumentReused as ReusedArgument, SeveralResults as ManyResults}
+use Rattle.dcc_machine.specs.declared.instr.Op.{Op}
+use Rattle.dcc_prog.specs.Construct.{construct_number}
+use Rattle.dcc_machine.specs.declared.instr.Op.TheVariants.{Call as CallOp}
 use Rattle.dcc_stack.specs.Slots.{is_within}
 use Rattle.dcc_ir.specs.declared.syntax.Loc.{Loc}
 use Rattle.dcc_ir.specs.declared.syntax.Loc.TheVariants.{Temp}
@@ -27,15 +29,15 @@ use Rattle.dcc_simulation.specs.Procedures.{Procedure, given_back}
 use Rattle.dcc_simulation.specs.Statements.{calling, results_of, arguments_of}
 use Rattle.dcc_demand.specs.Wanted.{Wanted}
 use Rattle.dcc_machine_demand.specs.Bodies.{Body, entry_of, bodies_of, body_at, Point, op_of, find_at, point_with}
-use Rattle.dcc_machine_demand.specs.Places.{in_frame, is_in_cell}
+use Rattle.dcc_machine_demand.specs.Holders.{in_frame, is_in_cell}
 use Rattle.dcc_machine_demand.specs.Instance.{passed_word, touched_of}
 use Rattle.dcc_machine_demand.specs.Asked as asked
 use Rattle.dcc_machine_demand.specs.Asked.{IsOfSummaries, argument_reused, several_results}
 use Rattle.dcc_sums.specs.Points.{Position, next_of, Site, Executes, site_of}
 use Rattle.dcc_sums.specs.Instance as sums
 use Rattle.dcc_sums.specs.Instance.{passes}
-use Rattle.dcc_sums.specs.Sums.{IsReused, AreSums, ReusesNone, GivesOneValue}
-use Rattle.dcc_lift.specs.Blocks.{node_in, is_call as is_call_op, onward, Scene, nodes_in, entry_in, node_stmts, stmts_at}
+use Rattle.dcc_sums.specs.Summaries.{IsReused, AreSummaries, ReusesNone, GivesOneValue}
+use Rattle.dcc_lift.specs.Blocks.{node_in, is_call as is_call_op, onward, BlockSource, nodes_in, entry_in, node_stmts, stmts_at}
 use Rattle.dcc_lift.specs.Translated.{IsTranslated}
 use Rattle.dcc_lift.proofs.CallFree.{IsCallFree, node-free}
 use Rattle.dcc_lift.proofs.FormProgram.{well-formed}
@@ -76,7 +78,7 @@ module _ (image : Image) (program : Analysed) (p : Program) (like : IsLikeMachin
   -- From the lifted program to the machine.
 
   module _ (entry : ℕ) (x : refined.Link image program p is entry) where
-    abbrev scene : Scene
+    abbrev scene : BlockSource
     scene = refined.scene image program p is entry x
 
     abbrev body : Body
@@ -124,7 +126,7 @@ module _ (image : Image) (program : Analysed) (p : Program) (like : IsLikeMachin
           returned = map returned_place (range_with_len 0 (2 * length (given_back called)))
 
       at_call : (at : ℕ) (node : Node) (stands : node_in x.proc.nodes.entries at ≡ Some node) (target : ℕ) (is_call : node.instr.op ≡ CallOp target) (rest : List Stmt)
-          → stmts_at scene at ≡ call ∷ rest → begin_at scene at ≡ position → IsOfSummaries (bodies_of program) ARGUMENT_REUSED (block_in x.graph position.block).at
+          → stmts_at scene at ≡ call ∷ rest → begin_at scene at ≡ position → IsOfSummaries (bodies_of program) ReusedArgument (block_in x.graph position.block).at
       at_call at node stands target is_call rest stmts begin = elim (refined.stands image program p is target) [
         | Standing.missing none ↦ absurd (no_stmts (sym stmts ∙ reused.stmts_are image program p is entry x at node stands target is_call
             ∙ ap (calling (refined.procedure image program p is entry x) (calls.height image program p is entry x at node stands)) none.procedure_none))
@@ -134,7 +136,7 @@ module _ (image : Image) (program : Analysed) (p : Program) (like : IsLikeMachin
           no_stmts : call ∷ rest ≡ [] → ⊥
           no_stmts e = cc e
 
-          by : refined.Link image program p is target → IsOfSummaries (bodies_of program) ARGUMENT_REUSED (block_in x.graph position.block).at
+          by : refined.Link image program p is target → IsOfSummaries (bodies_of program) ReusedArgument (block_in x.graph position.block).at
           by y =
               let called = refined.procedure image program p is target y in
               let same_call : call ∷ rest ≡ reused.call image program p is entry x at node stands target is_call y ∷ reused.taking image program p is entry x at node stands target is_call y =
@@ -146,10 +148,10 @@ module _ (image : Image) (program : Analysed) (p : Program) (like : IsLikeMachin
               let byte = reused.temporary_wanted image program p like entry x at node stands target is_call y (8 + t.0) wanted in
               let where_is : at ≡ (block_in x.graph position.block).at =
               sym {a = (block_in x.graph (begin_at scene at).block).at} (reused.block_at image program p is entry x at node stands target is_call) ∙ ap (λ (a : Position). (block_in x.graph a.block).at) begin in
-              subst (IsOfSummaries (bodies_of program) ARGUMENT_REUSED) where_is (argument_reused body_there (wanted_reused at node stands target is_call y byte))
+              subst (IsOfSummaries (bodies_of program) ReusedArgument) where_is (argument_reused body_there (wanted_reused at node stands target is_call y byte))
 
       at_node : (at : ℕ) (node : Node) (others : List Position) → node_in x.proc.nodes.entries at ≡ Some node → points_at scene at ≡ position ∷ others
-          → IsOfSummaries (bodies_of program) ARGUMENT_REUSED (block_in x.graph position.block).at
+          → IsOfSummaries (bodies_of program) ReusedArgument (block_in x.graph position.block).at
       at_node at node others stands points = by node.instr.op refl
         where
           has : HasInstructions scene x.graph
@@ -171,29 +173,29 @@ module _ (image : Image) (program : Analysed) (p : Program) (like : IsLikeMachin
           not_free : is_call_op node.instr.op ≡ false → ⊥
           not_free other = clash (ap (list_any is_call) first.1) (is_free other)
 
-          by : (op : Op) → node.instr.op ≡ op → IsOfSummaries (bodies_of program) ARGUMENT_REUSED (block_in x.graph position.block).at
+          by : (op : Op) → node.instr.op ≡ op → IsOfSummaries (bodies_of program) ReusedArgument (block_in x.graph position.block).at
           by (CallOp target) e = at_call at node stands target e first.0 first.1 begin
           by op e = absurd (not_free (ap is_call_op e))
 
-      here : IsOfSummaries (bodies_of program) ARGUMENT_REUSED (block_in x.graph position.block).at
+      here : IsOfSummaries (bodies_of program) ReusedArgument (block_in x.graph position.block).at
       here =
           let found = (refined.has image program p is entry x).calls position again.callee (ap (λ s. (sums.action_at x.graph.pushed s).callee) site_there) in
           by found.0 found.1 found.2 (node_in x.proc.nodes.entries found.0) refl
         where
           by : (at : ℕ) (others : List Position) → points_at scene at ≡ position ∷ others → (o : Option Node) → node_in x.proc.nodes.entries at ≡ o
-              → IsOfSummaries (bodies_of program) ARGUMENT_REUSED (block_in x.graph position.block).at
+              → IsOfSummaries (bodies_of program) ReusedArgument (block_in x.graph position.block).at
           by at others points None e = absurd (no_point (sym points ∙ ap (λ o. points_by scene o at) e))
             where
               no_point : position ∷ others ≡ [] → ⊥
               no_point e = cc e
           by at others points (Some node) e = at_node at node others e points
 
-  reused_up : (at : ℕ) → IsReusedAt p at → IsOfSummaries (bodies_of program) ARGUMENT_REUSED at
+  reused_up : (at : ℕ) → IsReusedAt p at → IsOfSummaries (bodies_of program) ReusedArgument at
   reused_up at fault = elim (refined.stands image program p is fault.graph.entry) [
     | Standing.missing none ↦ absurd (no_graph (sym (graph_known fault.graph fault.there) ∙ none.graph_none))
     | Standing.linked x ↦
         let one : x.graph ≡ fault.graph = cc (x.graph_found, graph_known fault.graph fault.there) in
-        subst (IsOfSummaries (bodies_of program) ARGUMENT_REUSED) (ap (λ g. (block_in g fault.position.block).at) one ∙ fault.stands)
+        subst (IsOfSummaries (bodies_of program) ReusedArgument) (ap (λ g. (block_in g fault.position.block).at) one ∙ fault.stands)
         (here fault.graph.entry x fault.position fault.location fault.reused)
   ]
     where
@@ -292,20 +294,22 @@ module _ (image : Image) (program : Analysed) (p : Program) (like : IsLikeMachin
   up (SeveralResults at) fault = several_up image program p like at fault
   up Memory fault = tt
 
-  reused_of : (kind at : ℕ) → kind ≡ ARGUMENT_REUSED → IsOfSummaries (bodies_of program) kind at → IsReusedAt p at
+  reused_of : (kind : ConstructKind) (at : ℕ) → kind ≡ ReusedArgument → IsOfSummaries (bodies_of program) kind at → IsReusedAt p at
   reused_of _ _ e (argument_reused {body = body} {at = place} c again) = reused_down body place c again
-  reused_of _ _ e (several_results {body = body} c several) = absurd (omega (arith, e))
+  reused_of _ _ e (several_results {body = body} c several) =
+      absurd (let apart : 10 ≡ 9 = ap construct_number e in omega (arith, apart))
 
-  several_of : (sums : List Summary) → AreSums p sums → (kind at : ℕ) → kind ≡ SEVERAL_RESULTS → IsOfSummaries (bodies_of program) kind at → GivesSeveral p at
-  several_of sums are _ _ e (argument_reused {body = body} {at = place} c again) = absurd (omega (arith, e))
+  several_of : (sums : List Summary) → AreSummaries p sums → (kind : ConstructKind) (at : ℕ) → kind ≡ ManyResults → IsOfSummaries (bodies_of program) kind at → GivesSeveral p at
+  several_of sums are _ _ e (argument_reused {body = body} {at = place} c again) =
+      absurd (let apart : 9 ≡ 10 = ap construct_number e in omega (arith, apart))
   several_of sums are _ _ e (several_results {body = body} c several) = several_down image program p like body sums are c several
 
-  down : (sums : List Summary) → AreSums p sums → (fault : SumsFault) → IsConstructOf (bodies_of program) fault → IsFault p fault
-  down sums are (ArgumentReused at) construct = reused_of ARGUMENT_REUSED at refl construct
-  down sums are (SeveralResults at) construct = several_of sums are SEVERAL_RESULTS at refl construct
+  down : (sums : List Summary) → AreSummaries p sums → (fault : SumsFault) → IsConstructOf (bodies_of program) fault → IsFault p fault
+  down sums are (ArgumentReused at) construct = reused_of ReusedArgument at refl construct
+  down sums are (SeveralResults at) construct = several_of sums are ManyResults at refl construct
   down sums are Memory construct = tt
 
-  none : (sums : List Summary) → AreSums p sums → ReusesNone p → GivesOneValue sums → (kind at : ℕ) → ¬ IsOfSummaries (bodies_of program) kind at
+  none : (sums : List Summary) → AreSummaries p sums → ReusesNone p → GivesOneValue sums → (kind : ConstructKind) (at : ℕ) → ¬ IsOfSummaries (bodies_of program) kind at
   none sums are reuses one _ _ (argument_reused {body = body} {at = place} c again) =
       let fault = reused_down body place c again in reuses fault.graph.entry fault.position fault.location fault.reused
   none sums are reuses one _ _ (several_results {body = body} c several) = several_none image program p like body sums are one c several

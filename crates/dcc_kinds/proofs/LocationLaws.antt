@@ -9,9 +9,9 @@ use Rattle.dcc_num.specs.declared.Half.{Half as HalfName}
 use Rattle.dcc_num.specs.declared.Half.TheVariants.{Low, High}
 use Rattle.dcc_num.specs.declared.FlagName.{FlagName}
 use Rattle.dcc_num.specs.declared.FlagName.TheVariants.{Cf, Zf, Sf, Of}
-use Rattle.dcc_prog.specs.Machine.{reg_number}
-use Rattle.dcc_prog.specs.Writes.{is_same_half}
-use Rattle.dcc_prog.specs.Wanted.{Location, half_of, flag_of, is_flag}
+use Rattle.dcc_machine.specs.Machine.{reg_number}
+use Rattle.dcc_machine.specs.Writes.{is_same_half}
+use Rattle.dcc_machine.specs.Wanted.{Location, half_of, flag_of, is_flag}
 use Rattle.dcc_stack.proofs.SlotPlaces.{any-told}
 use Rattle.dcc_ir.specs.declared.syntax.Loc.{Loc}
 use Rattle.dcc_ir.specs.declared.syntax.Loc.TheVariants.{Half, Flag, Cell, Temp}
@@ -21,11 +21,11 @@ use Rattle.dcc_ir.specs.Location.{same_location, register_number, half_number, f
 use Rattle.dcc_ir.specs.Passing as inner
 use Rattle.dcc_ir.proofs.LocationLaws.{Contains-here, Contains-later, Contains-none, Contains-cases}
 use Rattle.dcc_lift.proofs.ListTests.{and_left, and_right}
-use Rattle.dcc_machine_demand.specs.Places as asks
-use Rattle.dcc_machine_demand.specs.Places.{held, is_same_location}
+use Rattle.dcc_machine_demand.specs.Holders as asks
+use Rattle.dcc_machine_demand.specs.Holders.{held, is_same_location}
 use Rattle.dcc_machine_demand.specs.Asked as asked
 use Rattle.dcc_sums.specs.Instance.{passes}
-use Rattle.dcc_sums.specs.Sums as sums
+use Rattle.dcc_sums.specs.Summaries as sums
 use Rattle.dcc_lifted_demand.specs.LiftedRefinement.{inner_of}
 use Rattle.dcc_lifted_demand.proofs.SameLaws.{one_location}
 

@@ -2,12 +2,12 @@
 use Rattle.std.proofs.Common.{◌≡◌, ◌≤◌, ℕ, ℤ, zero, suc, ◌+◌, Bool, true, false, ◌==◌, if◌then◌else◌, ◌⊎◌, inl, inr, List, [], ◌∷◌, ◌++◌, length, map, Contains, Option, Some, None, refl, sym, ap, ◌∙◌, subst, true≢false, arith}
 use Rattle.std.specs.Prelude.{slice_get}
 use Rattle.std.proofs.lemmas.Option.{get_or_from_slice_get}
-use Rattle.dcc_prog.specs.declared.image.Image.{Image}
+use Rattle.dcc_machine.specs.declared.image.Image.{Image}
 use Rattle.dcc_prog.specs.declared.procedure.Node.{Node}
 use Rattle.dcc_prog.specs.declared.frame.Program.{Program as Analysed}
-use Rattle.dcc_prog.specs.declared.instr.Op.TheVariants.{Call as CallOp}
-use Rattle.dcc_prog.specs.Trail as trail
-use Rattle.dcc_prog.specs.Wanted.{Location, half_of, flag_of}
+use Rattle.dcc_machine.specs.declared.instr.Op.TheVariants.{Call as CallOp}
+use Rattle.dcc_machine.specs.Successors as trail
+use Rattle.dcc_machine.specs.Wanted.{Location, half_of, flag_of}
 use Rattle.dcc_stack.specs.Slots.{is_within}
 use Rattle.dcc_ir.specs.declared.syntax.Loc.{Loc}
 use Rattle.dcc_ir.specs.declared.syntax.Loc.TheVariants.{Temp}
@@ -21,7 +21,7 @@ use Rattle.dcc_simulation.specs.Nodes.{procedures_in}
 use Rattle.dcc_simulation.specs.Passed.{exit_of}
 use Rattle.dcc_simulation.specs.Statements.{moves_frame, working_stmts, calling, results_of, arguments_of}
 use Rattle.dcc_simulation.specs.Statements.{taking_all_back}
-use Rattle.dcc_lift.specs.Blocks.{node_in, successors_in, calls_in, is_call as is_call_op, joins, onward, Scene, nodes_in, entry_in, block_place, node_stmts, stmts_at, node_exit, exit_at}
+use Rattle.dcc_lift.specs.Blocks.{node_in, successors_in, calls_in, is_call as is_call_op, joins, onward, BlockSource, nodes_in, entry_in, block_place, node_stmts, stmts_at, node_exit, exit_at}
 use Rattle.dcc_lift.specs.Translated.{IsTranslated}
 use Rattle.dcc_lift.proofs.BlockLaws.{leader_block}
 use Rattle.dcc_lift.proofs.ChainLaws.{joined, onward_tells, begins_leader}
@@ -30,7 +30,7 @@ use Rattle.dcc_lift.proofs.TranslationLaws.{front_of, graph-blocks}
 use Rattle.dcc_demand.specs.Procedures.{Procedures}
 use Rattle.dcc_demand.specs.Wanted.{IsWantedBy, Wanted}
 use Rattle.dcc_machine_demand.specs.Bodies.{Body, bodies_of}
-use Rattle.dcc_machine_demand.specs.Places.{Place, in_frame, is_in_cell}
+use Rattle.dcc_machine_demand.specs.Holders.{Holder, in_frame, is_in_cell}
 use Rattle.dcc_machine_demand.specs.Instance.{passed_word}
 use Rattle.dcc_sums.specs.Points.{Position, next_of, Executes, Ends, site_of, nexts_of}
 use Rattle.dcc_sums.specs.Instance as sums
@@ -69,7 +69,7 @@ module _ (image : Image) (program : Analysed) (p : Program) (is : IsTranslated i
   abbrev pub q : Procedure
   q = refined.procedure image program p is entry x
 
-  abbrev pub scene : Scene
+  abbrev pub scene : BlockSource
   scene = refined.scene image program p is entry x
 
   abbrev pub height : ℕ
@@ -174,7 +174,7 @@ module _ (image : Image) (program : Analysed) (p : Program) (is : IsTranslated i
 -- What is wanted after it.
 
 -- halves, flags and bytes of cells are no temporaries
-no_temporary : (o : Option Procedure) {L : Place} {l : Loc} (t : ℕ) → IsSame o L l → Temp t ≡ l → ⊥
+no_temporary : (o : Option Procedure) {L : Holder} {l : Loc} (t : ℕ) → IsSame o L l → Temp t ≡ l → ⊥
 no_temporary o t same e = elim (same_cases o same) [
   | SameCases.by_held location passes f g ↦ by location (e ∙ g)
   | SameCases.by_kept found k f g kept h ↦ cc (e, kept.is)
@@ -188,7 +188,7 @@ module _ (image : Image) (program : Analysed) (p : Program) (like : IsLikeMachin
   abbrev is : IsTranslated image program p
   is = like.translated
 
-  abbrev coarse : Procedures ℕ Place ℤ
+  abbrev coarse : Procedures ℕ Holder ℤ
   coarse = machine image program p
 
   abbrev fine : Procedures Position Loc Loc
@@ -199,7 +199,7 @@ module _ (image : Image) (program : Analysed) (p : Program) (like : IsLikeMachin
     abbrev body : Body
     body = refined.body image program p is entry x
 
-    abbrev here : Scene
+    abbrev here : BlockSource
     here = scene image program p is entry x at node stands target is_call
 
     abbrev tall : ℕ
@@ -286,7 +286,7 @@ module _ (image : Image) (program : Analysed) (p : Program) (like : IsLikeMachin
             let after = calls.goes_on image program p is entry x at node stands target is_call in
             inr (trail.next_of at node.instr, after, IsWantedBy.exposed (ap (λ g. g.is_exposed (in_frame b.0)) (refined.coarse_is image program p is entry x) ∙ exposed f))
 
-    kept_wanted : (l : Loc) (L : Place) (after : ℕ) (b : ℤ × ℕ) → Contains bytes b → StandsIn own b.0 l → IsSame (procedure_at (procedures_in program) entry) L l
+    kept_wanted : (l : Loc) (L : Holder) (after : ℕ) (b : ℤ × ℕ) → Contains bytes b → StandsIn own b.0 l → IsSame (procedure_at (procedures_in program) entry) L l
         → Contains ((coarse.procedure entry).next at) after → Wanted coarse entry after L → IsWantedByte
     kept_wanted l L after b among place same_place goes w =
         let told = back_passed tall 0 (given_back called) b among in

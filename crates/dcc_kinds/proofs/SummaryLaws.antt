@@ -4,14 +4,14 @@ use Rattle.std.specs.Prelude.{zip, ◌↔◌}
 use Rattle.std.specs.List.{AllZip}
 use Rattle.std.proofs.lemmas.List.Elements.{All-contains, Contains-append_right}
 use Rattle.dcc_num.specs.declared.Reg.TheVariants.{Ax, Dx}
-use Rattle.dcc_prog.specs.declared.image.Image.{Image}
+use Rattle.dcc_machine.specs.declared.image.Image.{Image}
 use Rattle.dcc_prog.specs.Analysed.{AreHeightsOf, IsFrameOf}
 use Rattle.dcc_prog.specs.declared.procedure.Layout.{Layout}
 use Rattle.dcc_prog.specs.declared.procedure.Proc.{Proc}
 use Rattle.dcc_prog.specs.declared.frame.Frame.{Frame}
 use Rattle.dcc_prog.specs.declared.frame.Program.{Program as Analysed}
-use Rattle.dcc_prog.specs.declared.refusal.construct.TheConstants.{SEVERAL_RESULTS}
-use Rattle.dcc_prog.specs.Wanted.{Location, half_of, flag_of}
+use Rattle.dcc_prog.specs.declared.refusal.ConstructKind.TheVariants.{SeveralResults}
+use Rattle.dcc_machine.specs.Wanted.{Location, half_of, flag_of}
 use Rattle.dcc_ir.specs.declared.syntax.Loc.{Loc}
 use Rattle.dcc_ir.specs.declared.syntax.Loc.TheVariants.{Flag}
 use Rattle.dcc_ir.specs.declared.syntax.Param.{Param}
@@ -26,14 +26,14 @@ use Rattle.dcc_lift.proofs.Lifting.{lifting}
 use Rattle.dcc_demand.specs.Changes.{IsPreserved}
 use Rattle.dcc_demand.specs.Wanted.{IsParam, IsResult}
 use Rattle.dcc_machine_demand.specs.Bodies.{Body, entry_of, bodies_of}
-use Rattle.dcc_machine_demand.specs.Places as asks
-use Rattle.dcc_machine_demand.specs.Places.{held}
+use Rattle.dcc_machine_demand.specs.Holders as asks
+use Rattle.dcc_machine_demand.specs.Holders.{held}
 use Rattle.dcc_machine_demand.specs.Asked as asked
 use Rattle.dcc_machine_demand.specs.Asked.{IsSummary, AreSummaries, AreSummariesOf, IsOneValue, of_register, of_flag}
 use Rattle.dcc_machine_demand.specs.Asked.{of_pair, IsOfSummaries, several_results}
 use Rattle.dcc_sums.specs.Instance.{passes}
-use Rattle.dcc_sums.specs.Sums as sums
-use Rattle.dcc_sums.specs.Sums.{IsSum, AreSums, AreOneValue}
+use Rattle.dcc_sums.specs.Summaries as sums
+use Rattle.dcc_sums.specs.Summaries.{IsSummary as IsInnerSummary, AreSummaries as AreInnerSummaries, AreOneValue}
 use Rattle.dcc_refinement.proofs.WantedLaws.{changes_pass}
 use Rattle.dcc_summaries.specs.Summaries.{GivesSeveral}
 use Rattle.dcc_lifted_demand.specs.LiftedRefinement.{inner_of, IsSame}
@@ -152,14 +152,14 @@ module _ (image : Image) (program : Analysed) (p : Program) (like : IsLikeMachin
           (a.0, a.1, (other, (like.relations.params n (held a.0) (inner_of a.0) (IsSame.is_held passes_here) (begins_there n other)).1 inner_param));
     }
 
-    sum_up : (summary : asked.Summary) → IsSummary start (bodies_of program) body summary → IsSum p graph (inner_summary summary)
+    sum_up : (summary : asked.Summary) → IsSummary start (bodies_of program) body summary → IsInnerSummary p graph (inner_summary summary)
     sum_up summary sum = record {
       params = just_up params_alike summary.params sum.params;
       results = subst (λ m. sums.AreJust (IsResult (inner image program p) m) (map inner_of summary.results)) at.entry (just_up (results_alike n) summary.results sum.results);
       preserved = subst (λ m. sums.AreJust (IsPreserved (inner image program p) m) (map inner_of summary.preserved)) at.entry (just_up (preserved_alike n) summary.preserved sum.preserved);
     }
 
-    sum_down : (summary : asked.Summary) → IsSum p graph (inner_summary summary) → IsSummary start (bodies_of program) body summary
+    sum_down : (summary : asked.Summary) → IsInnerSummary p graph (inner_summary summary) → IsSummary start (bodies_of program) body summary
     sum_down summary sum = record {
       params = just_down params_alike summary.params sum.params;
       results = just_down (results_alike n) summary.results
@@ -169,7 +169,7 @@ module _ (image : Image) (program : Analysed) (p : Program) (like : IsLikeMachin
     }
 
   all_up : (bodies : List Body) (graphs : List Graph) (summaries : List asked.Summary) → AllZip (IsBeside start) bodies graphs
-      → AllZip (IsSummary start (bodies_of program)) bodies summaries → AllZip (IsSum p) graphs (map inner_summary summaries)
+      → AllZip (IsSummary start (bodies_of program)) bodies summaries → AllZip (IsInnerSummary p) graphs (map inner_summary summaries)
   all_up [] [] [] besides are = tt
   all_up [] [] (s ∷ summaries) besides are = absurd are
   all_up [] (graph ∷ graphs) summaries besides are = absurd besides
@@ -178,7 +178,7 @@ module _ (image : Image) (program : Analysed) (p : Program) (like : IsLikeMachin
   all_up (body ∷ bodies) (graph ∷ graphs) (s ∷ summaries) besides are = (sum_up body graph besides.0 s are.0, all_up bodies graphs summaries besides.1 are.1)
 
   all_down : (bodies : List Body) (graphs : List Graph) (summaries : List asked.Summary) → AllZip (IsBeside start) bodies graphs
-      → AllZip (IsSum p) graphs (map inner_summary summaries) → AllZip (IsSummary start (bodies_of program)) bodies summaries
+      → AllZip (IsInnerSummary p) graphs (map inner_summary summaries) → AllZip (IsSummary start (bodies_of program)) bodies summaries
   all_down [] [] [] besides are = tt
   all_down [] [] (s ∷ summaries) besides are = absurd are
   all_down [] (graph ∷ graphs) summaries besides are = absurd besides
@@ -186,10 +186,10 @@ module _ (image : Image) (program : Analysed) (p : Program) (like : IsLikeMachin
   all_down (body ∷ bodies) (graph ∷ graphs) [] besides are = absurd are
   all_down (body ∷ bodies) (graph ∷ graphs) (s ∷ summaries) besides are = (sum_down body graph besides.0 s are.0, all_down bodies graphs summaries besides.1 are.1)
 
-  pub summaries_are : (summaries : List asked.Summary) → AreSummariesOf program summaries ↔ AreSums p (map inner_summary summaries)
+  pub summaries_are : (summaries : List asked.Summary) → AreSummariesOf program summaries ↔ AreInnerSummaries p (map inner_summary summaries)
   summaries_are summaries = (all_up (bodies_of program) p.graphs summaries beside, all_down (bodies_of program) p.graphs summaries beside)
 
-  known_each : (graphs : List Graph) (list : List Summary) → AllZip (IsSum p) graphs list → (summaries : List asked.Summary) × (list ≡ map inner_summary summaries)
+  known_each : (graphs : List Graph) (list : List Summary) → AllZip (IsInnerSummary p) graphs list → (summaries : List asked.Summary) × (list ≡ map inner_summary summaries)
   known_each [] [] are = ([], refl)
   known_each [] (s ∷ list) are = absurd are
   known_each (graph ∷ graphs) [] are = absurd are
@@ -204,7 +204,7 @@ module _ (image : Image) (program : Analysed) (p : Program) (like : IsLikeMachin
       ∙ ap (λ x. record { params = map inner_of params.0; results = map inner_of results.0; preserved = x }) preserved.1 in
       (record { params = params.0; results = results.0; preserved = preserved.0 } ∷ rest.0, ap₂ (λ x xs. x ∷ xs) one rest.1)
 
-  pub summaries_known : (list : List Summary) → AreSums p list → (summaries : List asked.Summary) × (list ≡ map inner_summary summaries)
+  pub summaries_known : (list : List Summary) → AreInnerSummaries p list → (summaries : List asked.Summary) × (list ≡ map inner_summary summaries)
   summaries_known list are = known_each p.graphs list are
 
   -- Several values.
@@ -243,23 +243,23 @@ module _ (image : Image) (program : Analysed) (p : Program) (like : IsLikeMachin
           | inr half ↦ inr (half_down half)
         ])
 
-  pub several_up : (at : ℕ) → GivesSeveral p at → IsOfSummaries (bodies_of program) SEVERAL_RESULTS at
+  pub several_up : (at : ℕ) → GivesSeveral p at → IsOfSummaries (bodies_of program) SeveralResults at
   several_up at several =
       let x = zipped_right (IsBeside start) (bodies_of program) p.graphs several.graph beside several.there in
       let entry : entry_of x.0 ≡ at = x.2.entry ∙ several.entry in
-      subst (IsOfSummaries (bodies_of program) SEVERAL_RESULTS) entry
+      subst (IsOfSummaries (bodies_of program) SeveralResults) entry
       (several_results x.1 (λ one. several.several (one_up at several.results several.just
       (subst (λ m. IsOneValue (λ a. IsResult (machine image program p) m (held a))) entry one))))
 
   -- the summary of a procedure
-  sum_of : (body : Body) (list : List Summary) → AreSums p list → Contains (bodies_of program) body
-      → (graph : Graph) × Contains p.graphs graph × (entry_of body ≡ graph.entry) × (s : Summary) × Contains list s × IsSum p graph s
+  sum_of : (body : Body) (list : List Summary) → AreInnerSummaries p list → Contains (bodies_of program) body
+      → (graph : Graph) × Contains p.graphs graph × (entry_of body ≡ graph.entry) × (s : Summary) × Contains list s × IsInnerSummary p graph s
   sum_of body list are c =
       let x = zipped_left (IsBeside start) (bodies_of program) p.graphs body beside c in
-      let s = zipped_left (IsSum p) p.graphs list x.0 are x.1 in
+      let s = zipped_left (IsInnerSummary p) p.graphs list x.0 are x.1 in
       (x.0, x.1, x.2.entry, s.0, s.1, s.2)
 
-  pub several_down : (body : Body) (list : List Summary) → AreSums p list → Contains (bodies_of program) body → asked.GivesSeveral (bodies_of program) (entry_of body)
+  pub several_down : (body : Body) (list : List Summary) → AreInnerSummaries p list → Contains (bodies_of program) body → asked.GivesSeveral (bodies_of program) (entry_of body)
       → GivesSeveral p (entry_of body)
   several_down body list are c several =
       let x = sum_of body list are c in
@@ -274,7 +274,7 @@ module _ (image : Image) (program : Analysed) (p : Program) (like : IsLikeMachin
       }
 
   -- a procedure whose summary has one value doesn't give several
-  pub several_none : (body : Body) (list : List Summary) → AreSums p list → sums.GivesOneValue list → Contains (bodies_of program) body
+  pub several_none : (body : Body) (list : List Summary) → AreInnerSummaries p list → sums.GivesOneValue list → Contains (bodies_of program) body
       → ¬ asked.GivesSeveral (bodies_of program) (entry_of body)
   several_none body list are one c several =
       let x = sum_of body list are c in

@@ -1,13 +1,15 @@
 -- What is told of the summaries of a lifted program is told of the machine's procedures, and the other way.
 use Rattle.std.specs.Prelude.{◌≡◌, ◌↔◌, ℕ, List, map}
-use Rattle.dcc_prog.specs.declared.image.Image.{Image}
-use Rattle.dcc_prog.specs.declared.refusal.construct.TheConstants.{ARGUMENT_REUSED, SEVERAL_RESULTS}
+use Rattle.dcc_machine.specs.declared.image.Image.{Image}
+use Rattle.dcc_prog.specs.declared.refusal.ConstructKind.{ConstructKind}
+use Rattle.dcc_prog.specs.declared.refusal.ConstructKind.TheVariants.{ArgumentReused as ReusedArgument}
+use Rattle.dcc_prog.specs.declared.refusal.ConstructKind.TheVariants.{SeveralResults as ManyResults}
 use Rattle.dcc_prog.specs.declared.frame.Program.{Program as Analysed}
 use Rattle.dcc_ir.specs.Tree.{Program, Summary}
 use Rattle.dcc_machine_demand.specs.Bodies.{Body, bodies_of}
 use Rattle.dcc_machine_demand.specs.Asked.{IsOfSummaries, AreSummariesOf}
 use Rattle.dcc_machine_demand.specs.Asked as asked
-use Rattle.dcc_sums.specs.Sums.{AreSums, ReusesNone, GivesOneValue}
+use Rattle.dcc_sums.specs.Summaries.{AreSummaries, ReusesNone, GivesOneValue}
 use Rattle.dcc_refinement.specs.Laws.{HaveSameRelations}
 use Rattle.dcc_summaries.specs.declared.summaries.SumsFault.{SumsFault}
 use Rattle.dcc_summaries.specs.declared.summaries.SumsFault.TheVariants.{ArgumentReused, SeveralResults, Memory}
@@ -25,8 +27,8 @@ pub record IsLikeMachine (image : Image) (program : Analysed) (p : Program) : Ty
 
 -- a fault of the lifted program is a construct of the machine's procedures; want of memory is none
 abbrev pub IsConstructOf : List Body → SumsFault → Type 0
-IsConstructOf bodies (ArgumentReused at) = IsOfSummaries bodies ARGUMENT_REUSED at
-IsConstructOf bodies (SeveralResults at) = IsOfSummaries bodies SEVERAL_RESULTS at
+IsConstructOf bodies (ArgumentReused at) = IsOfSummaries bodies ReusedArgument at
+IsConstructOf bodies (SeveralResults at) = IsOfSummaries bodies ManyResults at
 IsConstructOf bodies Memory = Unit {0}
 
 -- what is told of the lifted program stands in the machine's procedures
@@ -39,14 +41,15 @@ FaultsAreConstructs =
 abbrev pub ConstructsAreFaults : Type 0
 ConstructsAreFaults =
     (image : Image) (program : Analysed) (p : Program) (sums : List Summary) (fault : SumsFault)
-    → IsLikeMachine image program p → AreSums p sums → IsConstructOf (bodies_of program) fault → IsFault p fault
+    → IsLikeMachine image program p → AreSummaries p sums → IsConstructOf (bodies_of program) fault → IsFault p fault
 
 -- no construct of summaries stands in the machine's procedures where the lifted program's summaries are some that a
 -- text can have
 abbrev pub SummedProgramsHaveNone : Type 0
 SummedProgramsHaveNone =
     (image : Image) (program : Analysed) (p : Program) (sums : List Summary) → IsLikeMachine image program p
-    → AreSums p sums → ReusesNone p → GivesOneValue sums → (kind at : ℕ) → ¬ IsOfSummaries (bodies_of program) kind at
+    → AreSummaries p sums → ReusesNone p → GivesOneValue sums → (kind : ConstructKind) (at : ℕ)
+    → ¬ IsOfSummaries (bodies_of program) kind at
 
 -- Summaries.
 
@@ -64,7 +67,7 @@ pub record SummariesAreLifted : Type 0 where
   pub are :
       (image : Image) (program : Analysed) (p : Program) (summaries : List asked.Summary)
       → IsLikeMachine image program p
-      → AreSummariesOf program summaries ↔ AreSums p (map inner_summary summaries)
+      → AreSummariesOf program summaries ↔ AreSummaries p (map inner_summary summaries)
   pub known :
       (image : Image) (program : Analysed) (p : Program) (sums : List Summary) → IsLikeMachine image program p
-      → AreSums p sums → (summaries : List asked.Summary) × (sums ≡ map inner_summary summaries)
+      → AreSummaries p sums → (summaries : List asked.Summary) × (sums ≡ map inner_summary summaries)

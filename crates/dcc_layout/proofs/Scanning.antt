@@ -1,13 +1,13 @@
 -- How the search for a prelude goes on: what it has passed and what it keeps.
 use Rattle.std.proofs.Common.{◌≡◌, ℕ, ◌+◌, true, false, List, [], ◌∷◌, ◌++◌, refl, sym, ap, ◌∙◌, subst, append_assoc}
 use Rattle.std.proofs.lemmas.List.{append-nil}
-use Rattle.dcc_prog.specs.declared.cpu.Cpu.{Cpu}
-use Rattle.dcc_prog.specs.declared.image.Image.{Image}
-use Rattle.dcc_prog.specs.declared.instr.Instr.{Instr}
-use Rattle.dcc_prog.specs.MzImage.{IsLoaded}
-use Rattle.dcc_prog.specs.Code.{code_of}
-use Rattle.dcc_prog.specs.Machine.{State, start_state}
-use Rattle.dcc_prog.specs.Step.{op_step}
+use Rattle.dcc_machine.specs.declared.cpu.Cpu.{Cpu}
+use Rattle.dcc_machine.specs.declared.image.Image.{Image}
+use Rattle.dcc_machine.specs.declared.instr.Instr.{Instr}
+use Rattle.dcc_machine.specs.MzImage.{IsLoaded}
+use Rattle.dcc_machine.specs.Code.{code_of}
+use Rattle.dcc_machine.specs.Machine.{State, start_state}
+use Rattle.dcc_machine.specs.Step.{op_step}
 use Rattle.dcc_prog.specs.Layout.{is_prelude_form, may_end_prelude, IsFormAt, IsRun, offset_after, ends_prelude}
 use Rattle.dcc_prog.proofs.PreludeLaws.{NoFormAt, run-append, run-of_append, offset_after-append, none_ends, none_ends-push, ends_prelude-push, prelude-is}
 use Rattle.dcc_prog.proofs.PreludeSteps.{form-step, executed, executed-push, state_after-is}

@@ -2,15 +2,15 @@
 use Rattle.std.proofs.Common.{◌≡◌, ℕ, ◌+◌, ◌-◌, ◌*◌, ◌<◌, true, false, List, [], min, refl, sym, ap, ◌∙◌, subst, arith}
 use Rattle.std.specs.List.{list_any}
 use Rattle.dcc_num.specs.declared.Reg.TheVariants.{Sp}
-use Rattle.dcc_prog.specs.declared.cpu.Cpu.{Cpu}
-use Rattle.dcc_prog.specs.declared.image.Image.{Image}
+use Rattle.dcc_machine.specs.declared.cpu.Cpu.{Cpu}
+use Rattle.dcc_machine.specs.declared.image.Image.{Image}
 use Rattle.dcc_prog.specs.declared.procedure.Layout.{Layout}
-use Rattle.dcc_prog.specs.declared.instr.Instr.{Instr}
-use Rattle.dcc_prog.specs.MzImage.{IsLoaded}
-use Rattle.dcc_prog.specs.Code.{code_of}
-use Rattle.dcc_prog.specs.Machine.{word_in, stack_segment, data_segment, start_state}
+use Rattle.dcc_machine.specs.declared.instr.Instr.{Instr}
+use Rattle.dcc_machine.specs.MzImage.{IsLoaded}
+use Rattle.dcc_machine.specs.Code.{code_of}
+use Rattle.dcc_machine.specs.Machine.{word_in, stack_segment, data_segment, start_state}
 use Rattle.dcc_prog.specs.Layout.{writes_ds, state_after, lowest_of_stack, IsLeftBy, IsSmall, HasLayout}
-use Rattle.dcc_prog.proofs.MzImageLaws.{cs-loaded}
+use Rattle.dcc_machine.proofs.MzImageLaws.{cs-loaded}
 use Rattle.dcc_prog.proofs.PreludeSteps.{executed-data, state_after-is}
 use Rattle.dcc_prog.proofs.LayoutLaws.{left-by}
 use Rattle.dcc_layout.specs.declared.registers.Registers.{Registers}

@@ -1,9 +1,9 @@
 -- Laws of layouts.
 use Rattle.std.specs.Prelude.{◌≡◌, ◌⊎◌}
-use Rattle.dcc_prog.specs.declared.cpu.Cpu.{Cpu}
-use Rattle.dcc_prog.specs.declared.image.Image.{Image}
+use Rattle.dcc_machine.specs.declared.cpu.Cpu.{Cpu}
+use Rattle.dcc_machine.specs.declared.image.Image.{Image}
 use Rattle.dcc_prog.specs.declared.procedure.Layout.{Layout}
-use Rattle.dcc_prog.specs.declared.refusal.construct.TheConstants.{NO_LAYOUT}
+use Rattle.dcc_prog.specs.declared.refusal.ConstructKind.TheVariants.{NoLayout}
 use Rattle.dcc_prog.specs.Layout.{HasLayout}
 use Rattle.dcc_prog.specs.Construct.{IsConstruct}
 
@@ -21,5 +21,5 @@ pub record HasSomeLayout (cpu : Cpu) (image : Image) : Type 0 where
 
 -- a layout for the processor holds of an image, or the construct of no layout stands at its entry, and not both
 pub record HasLayoutOrConstruct : Type 0 where
-  pub one : (cpu : Cpu) (image : Image) → HasSomeLayout cpu image ⊎ IsConstruct cpu NO_LAYOUT image image.ip
-  pub not_both : (cpu : Cpu) (image : Image) → HasSomeLayout cpu image → ¬ IsConstruct cpu NO_LAYOUT image image.ip
+  pub one : (cpu : Cpu) (image : Image) → HasSomeLayout cpu image ⊎ IsConstruct cpu NoLayout image image.ip
+  pub not_both : (cpu : Cpu) (image : Image) → HasSomeLayout cpu image → ¬ IsConstruct cpu NoLayout image image.ip

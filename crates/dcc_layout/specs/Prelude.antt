@@ -1,9 +1,9 @@
 -- What the code keeps of a prelude.
 use Rattle.std.specs.Prelude.{◌≡◌, List}
-use Rattle.dcc_prog.specs.declared.cpu.Cpu.{Cpu}
-use Rattle.dcc_prog.specs.declared.image.Image.{Image}
-use Rattle.dcc_prog.specs.declared.instr.Instr.{Instr}
-use Rattle.dcc_prog.specs.Code.{code_of}
+use Rattle.dcc_machine.specs.declared.cpu.Cpu.{Cpu}
+use Rattle.dcc_machine.specs.declared.image.Image.{Image}
+use Rattle.dcc_machine.specs.declared.instr.Instr.{Instr}
+use Rattle.dcc_machine.specs.Code.{code_of}
 use Rattle.dcc_prog.specs.Layout.{IsPrelude, offset_after, state_after}
 use Rattle.dcc_layout.specs.declared.prelude.Prelude.{Prelude}
 use Rattle.dcc_layout.specs.Registers.{registers_of}

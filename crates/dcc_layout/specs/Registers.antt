@@ -1,9 +1,9 @@
 -- The registers and flags that the code keeps, and a state of the machine that has them and nothing else.
 use Rattle.std.specs.Prelude.{Bool, true, false, []}
 use Rattle.dcc_run.specs.End.{Running}
-use Rattle.dcc_prog.specs.Machine.{State}
-use Rattle.dcc_prog.specs.declared.instr.Operand.{Operand}
-use Rattle.dcc_prog.specs.declared.instr.Operand.TheVariants.{Mem}
+use Rattle.dcc_machine.specs.Machine.{State}
+use Rattle.dcc_machine.specs.declared.instr.Operand.{Operand}
+use Rattle.dcc_machine.specs.declared.instr.Operand.TheVariants.{Mem}
 use Rattle.dcc_layout.specs.declared.registers.Registers.{Registers}
 
 -- the operand is a register or a constant

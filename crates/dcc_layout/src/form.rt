@@ -4,8 +4,8 @@ ghost use Rattle.std.specs.Prelude.{◌≡◌};
 ghost use Rattle.dcc_prog.specs.Layout.{is_data_segment, is_prelude_move, is_prelude_sum, is_word_register};
 ghost use Rattle.dcc_prog.specs.Layout.{is_prelude_plain, is_prelude_form, is_segment_or_sp, may_end_prelude};
 
+use dcc_machine::{Alu, DS, ES, Op, Operand, Plain, SS, Shift};
 use dcc_num::Reg;
-use dcc_prog::{Alu, DS, ES, Op, Operand, Plain, SS, Shift};
 
 // Whether the number is that of ES, SS or DS.
 fn is_data_segment(number: u8) -> bool
@@ -52,7 +52,7 @@ fn is_prelude_plain(operation: Plain) -> bool
 }
 
 /// Whether the operation may stand in a prelude.
-pub fn is_prelude_form(op: Op) -> bool
+pub(crate) fn is_prelude_form(op: Op) -> bool
     ensures { result ≡ is_prelude_form op }
 {
     match op {
@@ -71,7 +71,7 @@ fn is_segment_or_sp(operand: Operand) -> bool
 }
 
 /// Whether a prelude may end after the operation: it writes a segment register or SP, or is CLI, STI or CLD.
-pub fn may_end_prelude(op: Op) -> bool
+pub(crate) fn may_end_prelude(op: Op) -> bool
     ensures { result ≡ may_end_prelude op }
 {
     match op {

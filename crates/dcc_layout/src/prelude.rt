@@ -1,16 +1,16 @@
 //! The prelude and what it leaves.
 
 ghost use Rattle.std.specs.Prelude.{◌≡◌, ◌≤◌, length, None, IfSome};
-ghost use Rattle.dcc_prog.specs.declared.instr.Instr.{Instr};
+ghost use Rattle.dcc_machine.specs.declared.instr.Instr.{Instr};
 ghost use Rattle.dcc_prog.specs.Layout.{IsFormAt};
-ghost use Rattle.dcc_prog.specs.MzImage.{IsLoaded};
-ghost use Rattle.dcc_prog.specs.WellFormed.{IsOperation};
+ghost use Rattle.dcc_machine.specs.MzImage.{IsLoaded};
+ghost use Rattle.dcc_machine.specs.WellFormed.{IsOperation};
 ghost use Rattle.dcc_layout.specs.Prelude.{IsLeft};
 
 use crate::form::{is_prelude_form, may_end_prelude};
 use crate::registers::Registers;
 use dcc_decode::decode_window;
-use dcc_prog::{Cpu, Image, Instr};
+use dcc_machine::{Cpu, Image, Instr};
 
 /// What a prelude leaves.
 #[derive(Clone, Copy)]
@@ -35,7 +35,7 @@ fn form_at(code: &[u8], at: usize, cpu: Cpu) -> Option<Instr>
 
 /// What the prelude of a loaded program leaves on the processor, which is the longest run from the entry of
 /// instructions that may stand in one, up to the last after which it may end.
-pub fn prelude_of(image: &Image, cpu: Cpu) -> Prelude
+pub(crate) fn prelude_of(image: &Image, cpu: Cpu) -> Prelude
     requires { IsLoaded image.now }
     ensures { IsLeft cpu image.now result }
 {

@@ -3,14 +3,14 @@
 ghost use Rattle.std.specs.Prelude.{◌≡◌, ◌<◌, true, []};
 ghost use Rattle.dcc_num.specs.Numbers.{limit_of};
 ghost use Rattle.dcc_prog.specs.Layout.{is_prelude_form};
-ghost use Rattle.dcc_prog.specs.Machine.{start_state, operand_value, operand_width, with_operand};
-ghost use Rattle.dcc_prog.specs.Operations.{with_result, count_in};
-ghost use Rattle.dcc_prog.specs.Step.{op_step};
-ghost use Rattle.dcc_prog.specs.WellFormed.{IsOperand, IsOperation};
+ghost use Rattle.dcc_machine.specs.Machine.{start_state, operand_value, operand_width, with_operand};
+ghost use Rattle.dcc_machine.specs.Operations.{with_result, count_in};
+ghost use Rattle.dcc_machine.specs.Step.{op_step};
+ghost use Rattle.dcc_machine.specs.WellFormed.{IsOperand, IsOperation};
 ghost use Rattle.dcc_layout.specs.Registers.{has_no_memory, state_of, registers_of};
 
+use dcc_machine::{Alu, Count, Cpu, Image, Op, Operand, PREFIX_SEGMENT};
 use dcc_num::{Flags, Half, NO_FLAGS, Reg, Width, add, shl, sub};
-use dcc_prog::{Alu, Count, Cpu, Image, Op, Operand, PREFIX_SEGMENT};
 
 /// The registers and flags of a machine.
 #[derive(Clone, Copy)]

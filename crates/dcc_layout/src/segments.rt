@@ -2,16 +2,16 @@
 
 ghost use Rattle.std.specs.Prelude.{◌≡◌, ◌≤◌, ◌*◌, ◌+◌, ◌-◌, ℕ, min, length, None, Ok, Err, IfSome, IfOk, IfErr};
 ghost use Rattle.dcc_prog.specs.declared.procedure.Layout.{Layout};
-ghost use Rattle.dcc_prog.specs.MzImage.{IsLoaded};
+ghost use Rattle.dcc_machine.specs.MzImage.{IsLoaded};
 ghost use Rattle.dcc_prog.specs.Layout.{HasLayout, lowest_of_stack};
 ghost use Rattle.dcc_prog.specs.Construct.{IsConstruct};
 ghost use Rattle.dcc_layout.specs.Prelude.{IsLeft};
 ghost use Rattle.dcc_layout.specs.Refusal.{IsRefusal};
 
 use crate::prelude::{Prelude, prelude_of};
+use dcc_machine::{Cpu, DS, Image, SS};
 use dcc_num::Reg;
-use dcc_prog::construct::NO_LAYOUT;
-use dcc_prog::{Cpu, DS, Image, Layout, Refusal, SS};
+use dcc_prog::{ConstructKind, Layout, Refusal};
 use std::alloc::Global;
 
 // The highest data segment of a layout.
@@ -101,12 +101,12 @@ pub fn layout(alloc: Global, image: &Image, cpu: Cpu) -> Result<Layout, Refusal>
 
     // A program that has a layout for the processor gets it, and one that has none is refused.
     ensures lays_out { (layout : Layout) → layout.cpu ≡ cpu → HasLayout image.now layout → result ≡ Ok layout }
-    ensures refuses { (at : ℕ) → IsConstruct cpu NO_LAYOUT image.now at
-        → result ≡ Err (Refusal.Construct NO_LAYOUT at) }
+    ensures refuses { (at : ℕ) → IsConstruct cpu ConstructKind.NoLayout image.now at
+        → result ≡ Err (Refusal.Construct ConstructKind.NoLayout at) }
 {
     let _ = alloc;
     layout_after(image, &prelude_of(image, cpu), cpu).ok_or(Refusal::Construct {
-        kind: NO_LAYOUT,
+        kind: ConstructKind::NoLayout,
         at: image.ip,
     })
 }

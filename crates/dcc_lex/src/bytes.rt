@@ -8,35 +8,35 @@ ghost use Rattle.dcc_c.specs.Pieces as spec;
 ghost use Rattle.dcc_lex.specs.ByteViews.{has_kind};
 
 /// Whether the byte is a decimal digit.
-pub fn is_digit(byte: u8) -> bool
+pub(crate) fn is_digit(byte: u8) -> bool
     ensures { result ≡ tokens.is_digit byte }
 {
     b'0' <= byte && byte <= b'9'
 }
 
 /// Whether the byte is a letter or `_`.
-pub fn is_letter(byte: u8) -> bool
+pub(crate) fn is_letter(byte: u8) -> bool
     ensures { result ≡ tokens.is_letter byte }
 {
     (b'A' <= byte && byte <= b'Z') || (b'a' <= byte && byte <= b'z') || byte == b'_'
 }
 
 /// Whether a word or a number goes on with this byte.
-pub fn is_word_byte(byte: u8) -> bool
+pub(crate) fn is_word_byte(byte: u8) -> bool
     ensures { result ≡ tokens.is_word_byte byte }
 {
     is_letter(byte) || is_digit(byte)
 }
 
 /// Whether the byte is a space or a tab.
-pub fn is_blank(byte: u8) -> bool
+pub(crate) fn is_blank(byte: u8) -> bool
     ensures { result ≡ lexing.is_blank byte }
 {
     byte == b' ' || byte == b'\t'
 }
 
 /// The value of a hexadecimal digit, or 16 for another byte.
-pub fn hex_value(byte: u8) -> u8
+pub(crate) fn hex_value(byte: u8) -> u8
     ensures { result ≡ tokens.hex_value byte }
 {
     if b'0' <= byte && byte <= b'9' {
@@ -51,7 +51,7 @@ pub fn hex_value(byte: u8) -> u8
 }
 
 /// Whether the byte is a hexadecimal digit.
-pub fn is_hex_digit(byte: u8) -> bool
+pub(crate) fn is_hex_digit(byte: u8) -> bool
     ensures { result ≡ spec.is_hex_digit byte }
 {
     hex_value(byte) <= 15
@@ -106,7 +106,7 @@ impl ByteKind {
 }
 
 /// Whether the line ends before these bytes.
-pub fn is_line_end(bytes: &[u8]) -> bool
+pub(crate) fn is_line_end(bytes: &[u8]) -> bool
     ensures { result ≡ spec.is_line_end bytes.now }
 {
     match bytes.first() {
@@ -116,7 +116,7 @@ pub fn is_line_end(bytes: &[u8]) -> bool
 }
 
 /// Whether no word or number goes on with these bytes.
-pub fn is_word_end(bytes: &[u8]) -> bool
+pub(crate) fn is_word_end(bytes: &[u8]) -> bool
     ensures { result ≡ spec.is_word_end bytes.now }
 {
     match bytes.first() {

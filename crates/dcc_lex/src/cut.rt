@@ -178,7 +178,7 @@ fn number_cut(spot: Spot, line: u32, bytes: &[u8]) -> Option<Cut<'_>>
 }
 
 /// The first cut of bytes that are not none; a run of blanks is one.
-pub fn next_cut(spot: Spot, line: u32, bytes: &[u8]) -> Cut<'_>
+pub(crate) fn next_cut(spot: Spot, line: u32, bytes: &[u8]) -> Cut<'_>
     requires some { 0 < length bytes.now }
     requires short { line < 4294967295 }
     ensures continues { cuts.Continues (cuts.spot_of spot) line bytes.now (cuts.cut_of result) }
@@ -199,7 +199,7 @@ pub fn next_cut(spot: Spot, line: u32, bytes: &[u8]) -> Cut<'_>
 }
 
 /// The next piece of bytes that begin at this spot of this line, or none, and where the text goes on.
-pub fn next_piece(spot: Spot, line: u32, bytes: &[u8]) -> Cut<'_>
+pub(crate) fn next_piece(spot: Spot, line: u32, bytes: &[u8]) -> Cut<'_>
     requires short { line + length bytes.now ≤ 67108865 }
     ensures continues { cuts.Continues (cuts.spot_of spot) line bytes.now (cuts.cut_of result) }
     ensures all { ForNone result.piece (length result.rest.now ≡ 0) }

@@ -64,7 +64,7 @@ pub struct FoundMark<'a> {
 }
 
 /// The longest mark that the bytes begin with.
-pub fn first_mark(bytes: &[u8]) -> Option<FoundMark<'_>>
+pub(crate) fn first_mark(bytes: &[u8]) -> Option<FoundMark<'_>>
     ensures { IsFirstMark result bytes.now }
 {
     let (first, after_first) = bytes.split_first()?;

@@ -118,7 +118,7 @@ fn token_of_text(word: &str) -> Option<Token<'_>>
 }
 
 /// The token that a run of letters, digits and `_` is.
-pub fn token_of_word(run: &[u8]) -> Option<Token<'_>>
+pub(crate) fn token_of_word(run: &[u8]) -> Option<Token<'_>>
     requires { list_all tokens.is_word_byte run.now ≡ true }
     ensures { option_map views.token_of result ≡ spec.token_of_word run.now }
 {

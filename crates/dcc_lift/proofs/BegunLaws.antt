@@ -3,7 +3,7 @@ use Rattle.std.proofs.Common.{◌≡◌, ℕ, List, [], ◌∷◌, ◌++◌, fla
 use Rattle.std.proofs.lemmas.Grind.{flat_map-append}
 use Rattle.std.proofs.lemmas.List.{append-nil}
 use Rattle.dcc_ir.specs.Tree.{Stmt, Block}
-use Rattle.dcc_lift.specs.Blocks.{Nodes, Scene, nodes_in, entry_in, onward, stmts_at, exit_at, last_of, IsChain, IsBlockAt, AreBlocksAt}
+use Rattle.dcc_lift.specs.Blocks.{Nodes, BlockSource, nodes_in, entry_in, onward, stmts_at, exit_at, last_of, IsChain, IsBlockAt, AreBlocksAt}
 
 -- each leads to the next; the last may lead on
 abbrev pub IsRun : Nodes → ℕ → ℕ → List ℕ → Type 0
@@ -11,7 +11,7 @@ IsRun nodes start at [] = Unit {0}
 IsRun nodes start at (next ∷ rest) = (onward nodes start at ≡ Some next) × IsRun nodes start next rest
 
 -- the statements of a block that begins at an offset are written up to the last instruction
-pub record IsBegun (scene : Scene) (at last : ℕ) (stmts : List Stmt) : Type 0 where
+pub record IsBegun (scene : BlockSource) (at last : ℕ) (stmts : List Stmt) : Type 0 where
   pub done : List ℕ
   pub run : IsRun (nodes_in scene) (entry_in scene) at done
   pub last_is : last_of at done ≡ last
@@ -27,7 +27,7 @@ run-more nodes start at [] next run e = (e, tt)
 run-more nodes start at (first ∷ done) next run e = (run.0, run-more nodes start first done next run.1 e)
 
 -- one instruction more
-pub begun-more : (scene : Scene) (at last next : ℕ) (stmts more : List Stmt) → IsBegun scene at last stmts
+pub begun-more : (scene : BlockSource) (at last next : ℕ) (stmts more : List Stmt) → IsBegun scene at last stmts
     → onward (nodes_in scene) (entry_in scene) last ≡ Some next
     → more ≡ stmts ++ stmts_at scene next → IsBegun scene at next more
 begun-more scene at last next stmts more begun leads e = record {
@@ -49,7 +49,7 @@ chain-all nodes start at [] run e = e
 chain-all nodes start at (first ∷ done) run e = (run.0, chain-all nodes start first done run.1 e)
 
 -- the last instruction leads nowhere in the block
-pub begun-all : (scene : Scene) (at last : ℕ) (stmts : List Stmt) (block : Block) → IsBegun scene at last stmts
+pub begun-all : (scene : BlockSource) (at last : ℕ) (stmts : List Stmt) (block : Block) → IsBegun scene at last stmts
     → onward (nodes_in scene) (entry_in scene) last ≡ None
     → block.at ≡ at → block.stmts ≡ stmts → block.exit ≡ exit_at scene last → IsBlockAt scene at block
 begun-all scene at last stmts block begun ends at_is stmts_are exit_is = record {
@@ -62,7 +62,7 @@ begun-all scene at last stmts block begun ends at_is stmts_are exit_is = record 
 }
 
 -- one block more
-pub blocks-more : (scene : Scene) (places : List ℕ) (blocks : List Block) (at : ℕ) (block : Block)
+pub blocks-more : (scene : BlockSource) (places : List ℕ) (blocks : List Block) (at : ℕ) (block : Block)
     → AreBlocksAt scene places blocks
     → IsBlockAt scene at block → AreBlocksAt scene (places ++ at ∷ []) (blocks ++ block ∷ [])
 blocks-more scene [] [] at block are is = (is, tt)

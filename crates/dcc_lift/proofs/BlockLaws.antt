@@ -4,13 +4,13 @@ use Rattle.std.specs.List.{list_any}
 use Rattle.std.proofs.lemmas.List.Elements.{All-nil, All-cons}
 use Rattle.std.proofs.lemmas.List.Folds.{list_any-append}
 use Rattle.dcc_prog.specs.declared.procedure.Node.{Node}
-use Rattle.dcc_prog.specs.declared.instr.Op.{Op}
-use Rattle.dcc_prog.specs.declared.instr.Op.TheVariants.{Table, Ret}
+use Rattle.dcc_machine.specs.declared.instr.Op.{Op}
+use Rattle.dcc_machine.specs.declared.instr.Op.TheVariants.{Table, Ret}
 use Rattle.dcc_ir.specs.Tree.{Expr, Goto, Block}
 use Rattle.dcc_ir.specs.Flow.{targets, stands_at, has_edge}
 use Rattle.dcc_ops.specs.Statements.{op_test, exit_to}
 use Rattle.dcc_simulation.specs.Passed.{exit_of}
-use Rattle.dcc_lift.specs.Blocks.{node_in, successors_in, IsChain, leaders, place_in, Scene, nodes_in, entry_in, block_place, node_exit, exit_at, last_of, IsBlockAt, AreBlocksAt}
+use Rattle.dcc_lift.specs.Blocks.{node_in, successors_in, IsChain, leaders, place_in, BlockSource, nodes_in, entry_in, block_place, node_exit, exit_at, last_of, IsBlockAt, AreBlocksAt}
 use Rattle.dcc_lift.specs.Sound.{AgreesWith, GoesOnAt, AreSound}
 use Rattle.dcc_lift.proofs.ListTests.{and_left, and_right, and_both, or_here, or_there, or_none, or_cases, same_number, any_agree, any_map, any_same, any_at, passing}
 use Rattle.dcc_lift.proofs.NodeLaws.{node_in_holds}
@@ -18,7 +18,7 @@ use Rattle.dcc_lift.proofs.ChainLaws.{is_leader, has_successor, entry_is_leader,
 
 -- Blocks by their places.
 
-module _ (scene : Scene) where
+module _ (scene : BlockSource) where
   -- the offsets of the blocks
   pub blocks_at : (places : List ℕ) (blocks : List Block) → AreBlocksAt scene places blocks
       → map (λ (b : Block). b.at) blocks ≡ places
@@ -123,7 +123,7 @@ agreeing_map f None [] agree = tt
 agreeing_map f None (one ∷ []) agree = tt
 agreeing_map f None (one ∷ other ∷ places) agree = absurd agree
 
-module _ (scene : Scene) (prelude : ℕ) (sound : AreSound (nodes_in scene) (entry_in scene) prelude) where
+module _ (scene : BlockSource) (prelude : ℕ) (sound : AreSound (nodes_in scene) (entry_in scene) prelude) where
   -- the end of an operation goes to all its places
   exit_targets : (op : Op) (places : List ℕ) → GoesOnAt op places
       → targets (exit_of scene.procedure op (map (block_place scene) places)) ≡ map (block_place scene) places
@@ -153,7 +153,7 @@ abbrev pub goes_between : List Block → ℕ → ℕ → Bool
 goes_between blocks a b = list_any (λ block. (block.at == a) && has_edge blocks block b) blocks
 
 -- an edge from a leader to a leader, where the chain of the first ends
-pub record IsFromLeader (scene : Scene) (a b : ℕ) : Type 0 where
+pub record IsFromLeader (scene : BlockSource) (a b : ℕ) : Type 0 where
   pub leader : is_leader (nodes_in scene) (entry_in scene) a ≡ true
   pub rest : List ℕ
   pub chain : IsChain (nodes_in scene) (entry_in scene) a rest
@@ -168,7 +168,7 @@ get_after (x ∷ front) rest k =
     let e : length (x ∷ front) + k ≡ suc (length front + k) = omega arith in
     ap (slice_get (x ∷ (front ++ rest))) e ∙ get_after front rest k
 
-module _ (scene : Scene) (prelude : ℕ) (sound : AreSound (nodes_in scene) (entry_in scene) prelude)
+module _ (scene : BlockSource) (prelude : ℕ) (sound : AreSound (nodes_in scene) (entry_in scene) prelude)
     (front : List Block)
     (before : length front ≡ scene.before) (blocks : List Block)
     (are : AreBlocksAt scene (leaders (nodes_in scene) (entry_in scene)) blocks) where

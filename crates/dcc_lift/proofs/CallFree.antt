@@ -5,29 +5,29 @@ use Rattle.std.specs.List.{list_any}
 use Rattle.std.proofs.lemmas.List.Folds.{list_any-append}
 use Rattle.dcc_num.specs.declared.Width.{Width}
 use Rattle.dcc_num.specs.declared.Width.TheVariants.{Byte as byte_width, Word as word_width}
-use Rattle.dcc_prog.specs.declared.cpu.Cpu.{Cpu}
-use Rattle.dcc_prog.specs.declared.instr.Alu.{Alu}
-use Rattle.dcc_prog.specs.declared.instr.Alu.TheVariants.{Add, Or, Adc, Sbb, And, Sub, Xor, Cmp, Test}
-use Rattle.dcc_prog.specs.declared.instr.Shift.{Shift}
-use Rattle.dcc_prog.specs.declared.instr.Shift.TheVariants.{Rol, Ror, Rcl, Rcr, Shl, Shr, Sar}
-use Rattle.dcc_prog.specs.declared.instr.Count.{Count}
-use Rattle.dcc_prog.specs.declared.instr.Unary.{Unary}
-use Rattle.dcc_prog.specs.declared.instr.Unary.TheVariants.{Inc, Dec, Neg, Not, Mul, Imul, Div as DivOf, Idiv}
-use Rattle.dcc_prog.specs.declared.instr.Plain.{Plain}
-use Rattle.dcc_prog.specs.declared.instr.Plain.TheVariants.{Cbw, Cwd, Xlat, Clc, Stc, Cmc}
-use Rattle.dcc_prog.specs.declared.instr.Operand.TheVariants.{Word}
-use Rattle.dcc_prog.specs.declared.instr.Op.{Op}
-use Rattle.dcc_prog.specs.declared.instr.Op.TheVariants.{Alu as AluOp, Unary as UnaryOp, Shift as ShiftOp, Mov, Xchg, Imul3, Lea, Push, Pop, Plain as PlainOp, Loop, LoopE, LoopNe, Call as CallOp, Int21}
+use Rattle.dcc_machine.specs.declared.cpu.Cpu.{Cpu}
+use Rattle.dcc_machine.specs.declared.instr.Alu.{Alu}
+use Rattle.dcc_machine.specs.declared.instr.Alu.TheVariants.{Add, Or, Adc, Sbb, And, Sub, Xor, Cmp, Test}
+use Rattle.dcc_machine.specs.declared.instr.Shift.{Shift}
+use Rattle.dcc_machine.specs.declared.instr.Shift.TheVariants.{Rol, Ror, Rcl, Rcr, Shl, Shr, Sar}
+use Rattle.dcc_machine.specs.declared.instr.Count.{Count}
+use Rattle.dcc_machine.specs.declared.instr.Unary.{Unary}
+use Rattle.dcc_machine.specs.declared.instr.Unary.TheVariants.{Inc, Dec, Neg, Not, Mul, Imul, Div as DivOf, Idiv}
+use Rattle.dcc_machine.specs.declared.instr.Plain.{Plain}
+use Rattle.dcc_machine.specs.declared.instr.Plain.TheVariants.{Cbw, Cwd, Xlat, Clc, Stc, Cmc}
+use Rattle.dcc_machine.specs.declared.instr.Operand.TheVariants.{Word}
+use Rattle.dcc_machine.specs.declared.instr.Op.{Op}
+use Rattle.dcc_machine.specs.declared.instr.Op.TheVariants.{Alu as AluOp, Unary as UnaryOp, Shift as ShiftOp, Mov, Xchg, Imul3, Lea, Push, Pop, Plain as PlainOp, Loop, LoopE, LoopNe, Call as CallOp, Int21}
 use Rattle.dcc_prog.specs.declared.procedure.Node.{Node}
-use Rattle.dcc_prog.specs.Machine.{operand_width}
-use Rattle.dcc_prog.specs.Writes.{never_shifts}
-use Rattle.dcc_prog.specs.Wanted.{is_zeroing}
+use Rattle.dcc_machine.specs.Machine.{operand_width}
+use Rattle.dcc_machine.specs.Writes.{never_shifts}
+use Rattle.dcc_machine.specs.Wanted.{is_zeroing}
 use Rattle.dcc_ir.specs.declared.syntax.Loc.{Loc}
 use Rattle.dcc_ir.specs.Tree.{Expr, Get, Stmt}
 use Rattle.dcc_ir.specs.Run.{is_call}
 use Rattle.dcc_ops.proofs.DosStatements.{dos_all}
 use Rattle.dcc_ops.specs.Temporaries.{returned_place, left_place, right_place, result_place}
-use Rattle.dcc_ops.specs.Place.{Place, constant, byte, word, memory, address, computed, taking, storing}
+use Rattle.dcc_ops.specs.OperandPlace.{OperandPlace, constant, byte, word, memory, address, computed, taking, storing}
 use Rattle.dcc_ops.specs.Registers.{register_place}
 use Rattle.dcc_ops.specs.Expressions.{result, left, right}
 use Rattle.dcc_ops.specs.Computed.{computed_expr}
@@ -47,7 +47,7 @@ free-append stmts more e f = list_any-append is_call stmts more ∙ ap (λ b. b 
 
 -- Places.
 
-taking-free : (to : Loc) (place : Place) → is_call (taking to place) ≡ false
+taking-free : (to : Loc) (place : OperandPlace) → is_call (taking to place) ≡ false
 taking-free to (constant w n) = refl
 taking-free to (byte location) = refl
 taking-free to (word low high) = refl
@@ -55,7 +55,7 @@ taking-free to (memory w at) = refl
 taking-free to (address distance) = refl
 taking-free to (computed e) = refl
 
-pub storing-free : (place : Place) (e : Expr) → IsCallFree (storing place e)
+pub storing-free : (place : OperandPlace) (e : Expr) → IsCallFree (storing place e)
 storing-free (constant w n) e = refl
 storing-free (byte location) e = refl
 storing-free (word low high) e = refl
@@ -64,7 +64,7 @@ storing-free (address distance) e = refl
 storing-free (computed f) e = refl
 
 -- one that takes a place, and others
-taken : (to : Loc) (place : Place) {b : Bool} → b ≡ false → (is_call (taking to place) || b) ≡ false
+taken : (to : Loc) (place : OperandPlace) {b : Bool} → b ≡ false → (is_call (taking to place) || b) ≡ false
 taken to place {b} e = ap (λ c. c || b) (taking-free to place) ∙ e
 
 -- Operations.
@@ -80,7 +80,7 @@ alu-working-free Xor w = refl
 alu-working-free Cmp w = refl
 alu-working-free Test w = refl
 
-alu-storing-free : (operation : Alu) (w : Width) (p : Place) → IsCallFree (alu_storing operation w p)
+alu-storing-free : (operation : Alu) (w : Width) (p : OperandPlace) → IsCallFree (alu_storing operation w p)
 alu-storing-free Cmp w p = refl
 alu-storing-free Test w p = refl
 alu-storing-free Add w p = storing-free p (result w)
@@ -91,7 +91,7 @@ alu-storing-free And w p = storing-free p (result w)
 alu-storing-free Sub w p = storing-free p (result w)
 alu-storing-free Xor w p = storing-free p (result w)
 
-unary-free : (operation : Unary) (w : Width) (p : Place) → IsCallFree (unary_stmts operation w p)
+unary-free : (operation : Unary) (w : Width) (p : OperandPlace) → IsCallFree (unary_stmts operation w p)
 unary-free Inc w p = taken (left_place w) p (storing-free p (result w))
 unary-free Dec w p = taken (left_place w) p (storing-free p (result w))
 unary-free Neg w p = taken (right_place w) p (storing-free p (result w))
@@ -114,7 +114,7 @@ shift-working-free Shl w count = refl
 shift-working-free Shr w count = refl
 shift-working-free Sar w count = refl
 
-shift-free : (cpu : Cpu) (operation : Shift) (w : Width) (p : Place) (count : Count)
+shift-free : (cpu : Cpu) (operation : Shift) (w : Width) (p : OperandPlace) (count : Count)
     → IsCallFree (shift_stmts cpu operation w p count)
 shift-free cpu operation w p count = go (never_shifts count)
   where
@@ -125,14 +125,14 @@ shift-free cpu operation w p count = go (never_shifts count)
         (free-append (shift_working operation w count) (storing p (result w)) (shift-working-free operation w count)
         (storing-free p (result w)))
 
-pub mov-free : (w : Width) (p q : Place) → IsCallFree (mov_stmts w p q)
+pub mov-free : (w : Width) (p q : OperandPlace) → IsCallFree (mov_stmts w p q)
 mov-free w (byte to) (byte from) = refl
 mov-free w (byte to) (constant v n) = refl
 mov-free w (word low high) (word l h) = refl
 mov-free w (word low high) (constant v n) = refl
 mov-free w p q = taken (left_place w) q (storing-free p (left w))
 
-xchg-free : (w : Width) (p q : Place) → IsCallFree (xchg_stmts w p q)
+xchg-free : (w : Width) (p q : OperandPlace) → IsCallFree (xchg_stmts w p q)
 xchg-free w (byte a) (byte b) = refl
 xchg-free w (word low high) (word l h) = refl
 xchg-free w p q =
@@ -152,7 +152,7 @@ plain-free operation = refl
 dos-free : (number : Option ℕ) → IsCallFree (dos_stmts number)
 dos-free = dos_all (λ l. IsCallFree l) refl (λ n. refl) (λ n. refl) (λ n. refl) (λ n. refl)
 
-op-free : (cpu : Cpu) (op : Op) (number : Option ℕ) (p q : Place) → IsCallFree (op_stmts cpu op number p q)
+op-free : (cpu : Cpu) (op : Op) (number : Option ℕ) (p q : OperandPlace) → IsCallFree (op_stmts cpu op number p q)
 op-free cpu (AluOp operation a b) number p q = go (is_zeroing operation a b)
   where
     w : Width

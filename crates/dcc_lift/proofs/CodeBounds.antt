@@ -1,19 +1,19 @@
 -- Where instructions of the code stand: below offset 65536, in the whole code as well as in what lies below its end.
 use Rattle.std.proofs.Common.{◌≡◌, ℕ, zero, suc, ◌+◌, ◌-◌, ◌*◌, ◌<◌, ◌≤◌, List, [], ◌∷◌, take, drop, All, Some, sym, ap, ◌∙◌, subst, arith}
 use Rattle.std.proofs.lemmas.List.{length-drop, length-take, drop-take, take-take, get_or-drop}
-use Rattle.dcc_prog.specs.declared.image.Image.{Image}
+use Rattle.dcc_machine.specs.declared.image.Image.{Image}
 use Rattle.dcc_prog.specs.declared.procedure.Layout.{Layout}
-use Rattle.dcc_prog.specs.declared.instr.Instr.{Instr}
-use Rattle.dcc_prog.specs.MzImage.{IsLoaded}
-use Rattle.dcc_prog.specs.Bytes.{byte_at}
-use Rattle.dcc_prog.specs.Load.{load_segment}
-use Rattle.dcc_prog.specs.Code.{code_of}
-use Rattle.dcc_prog.specs.Table.{instruction_at}
+use Rattle.dcc_machine.specs.declared.instr.Instr.{Instr}
+use Rattle.dcc_machine.specs.MzImage.{IsLoaded}
+use Rattle.dcc_machine.specs.Bytes.{byte_at}
+use Rattle.dcc_machine.specs.Load.{load_segment}
+use Rattle.dcc_machine.specs.Code.{code_of}
+use Rattle.dcc_machine.specs.Table.{instruction_at}
 use Rattle.dcc_prog.specs.Trail.{code_within, instruction_in}
-use Rattle.dcc_prog.proofs.TableLaws.{instruction-length, instruction-prefix}
-use Rattle.dcc_prog.proofs.MzImageLaws.{All-loaded}
-use Rattle.dcc_prog.proofs.FetchLaws.{IsPlaced, image-placed, length-code_of}
-use Rattle.dcc_prog.proofs.WellFormedLaws.{AreBytes}
+use Rattle.dcc_machine.proofs.TableLaws.{instruction-length, instruction-prefix}
+use Rattle.dcc_machine.proofs.MzImageLaws.{All-loaded}
+use Rattle.dcc_machine.proofs.FetchLaws.{IsPlaced, image-placed, length-code_of}
+use Rattle.dcc_machine.proofs.WellFormedLaws.{AreBytes}
 
 -- the image of a file lies where it is loaded
 pub loaded-placed : (image : Image) → IsLoaded image → IsPlaced image

@@ -8,8 +8,8 @@ use Rattle.dcc_num.specs.declared.Width.{Width}
 use Rattle.dcc_num.specs.declared.Width.TheVariants.{Byte as byte_width, Word as word_width}
 use Rattle.dcc_num.specs.declared.FlagName.{FlagName}
 use Rattle.dcc_num.specs.declared.FlagName.TheVariants.{Cf, Zf, Sf, Of}
-use Rattle.dcc_prog.specs.declared.instr.Op.{Op}
-use Rattle.dcc_prog.specs.Writes.{writes_flag}
+use Rattle.dcc_machine.specs.declared.instr.Op.{Op}
+use Rattle.dcc_machine.specs.Writes.{writes_flag}
 use Rattle.dcc_ir.specs.declared.syntax.Loc.{Loc}
 use Rattle.dcc_ir.specs.declared.syntax.Loc.TheVariants.{Flag}
 use Rattle.dcc_ir.specs.Location.{same_location}
@@ -17,7 +17,9 @@ use Rattle.dcc_ir.specs.Tree.{Expr, Stmt}
 use Rattle.dcc_ir.specs.Use.{writes_of}
 use Rattle.dcc_ops.specs.Temporaries.{left_place, right_place}
 use Rattle.dcc_ops.specs.Expressions.{left, right, result}
-use Rattle.dcc_ops.specs.Place.{Place, constant, byte, word, memory, address, computed, place_value, taking, storing}
+use Rattle.dcc_ops.specs.OperandPlace.{OperandPlace, constant, byte, word, memory, address, computed, place_value}
+use Rattle.dcc_ops.specs.OperandPlace.{taking}
+use Rattle.dcc_ops.specs.OperandPlace.{storing}
 use Rattle.dcc_ops.specs.Statements.{operands_taking}
 use Rattle.dcc_lift.specs.FlagStmts.{is_on_flags, is_flag_stmt, is_flag_location, is_setter_of, is_other_flag_stmt, has_carry_in}
 use Rattle.dcc_lift.proofs.ListTests.{and_left, and_right, and_both, not_true}
@@ -170,7 +172,7 @@ module _ (writes : FlagName → Bool) (carry_in : Bool) where
 -- Places.
 
 -- what the place holds is on no flags
-abbrev pub is_apart : Place → Bool
+abbrev pub is_apart : OperandPlace → Bool
 is_apart p = not (is_on_flags (place_value p))
 
 pub left-apart : (w : Width) → is_on_flags (left w) ≡ false
@@ -185,7 +187,7 @@ pub result-apart : (w : Width) → is_on_flags (result w) ≡ false
 result-apart byte_width = refl
 result-apart word_width = refl
 
-pub taking-off : (to : Loc) (p : Place) → is_apart p ≡ true → is_flag_stmt (taking to p) ≡ false
+pub taking-off : (to : Loc) (p : OperandPlace) → is_apart p ≡ true → is_flag_stmt (taking to p) ≡ false
 taking-off to (constant w n) apart = refl
 taking-off to (byte location) apart = not_true (is_on_flags (place_value (byte location))) apart
 taking-off to (word low high) apart = not_true (is_on_flags (place_value (word low high))) apart
@@ -193,7 +195,7 @@ taking-off to (memory w at) apart = not_true (is_on_flags at) apart
 taking-off to (address distance) apart = refl
 taking-off to (computed e) apart = not_true (is_on_flags e) apart
 
-pub storing-off : (p : Place) (e : Expr) → is_on_flags e ≡ false → are_off_flags (storing p e) ≡ true
+pub storing-off : (p : OperandPlace) (e : Expr) → is_on_flags e ≡ false → are_off_flags (storing p e) ≡ true
 storing-off (constant w n) e apart = refl
 storing-off (byte location) e apart = ap (λ b. not b && true) apart
 storing-off (word low high) e apart = ap (λ b. not b && (not b && true)) apart
@@ -201,7 +203,7 @@ storing-off (memory w at) e apart = refl
 storing-off (address distance) e apart = refl
 storing-off (computed sum) e apart = refl
 
-pub operands-off : (w : Width) (p q : Place) → is_apart p ≡ true → is_apart q ≡ true
+pub operands-off : (w : Width) (p q : OperandPlace) → is_apart p ≡ true → is_apart q ≡ true
     → are_off_flags (operands_taking w p q) ≡ true
 operands-off w p q one other =
     off-cons (taking (left_place w) p) (taking (right_place w) q ∷ []) (taking-off (left_place w) p one)

@@ -3,25 +3,25 @@ use Rattle.std.proofs.Common.{◌≡◌, ◌≤◌, ℕ, ◌+◌, ◌==◌, Bool
 use Rattle.std.specs.Prelude.{count_by, flat_map}
 use Rattle.std.specs.List.{AllZip}
 use Rattle.std.proofs.lemmas.List.Elements.{All-head, All-tail}
-use Rattle.dcc_prog.specs.declared.image.Image.{Image}
+use Rattle.dcc_machine.specs.declared.image.Image.{Image}
 use Rattle.dcc_prog.specs.declared.procedure.Layout.{Layout}
 use Rattle.dcc_prog.specs.declared.procedure.Node.{Node}
 use Rattle.dcc_prog.specs.declared.procedure.Proc.{Proc}
 use Rattle.dcc_prog.specs.declared.frame.Frame.{Frame}
 use Rattle.dcc_prog.specs.declared.frame.Program.{Program as Analysed}
-use Rattle.dcc_prog.specs.declared.instr.Op.{Op}
-use Rattle.dcc_prog.specs.MzImage.{IsLoaded}
+use Rattle.dcc_machine.specs.declared.instr.Op.{Op}
+use Rattle.dcc_machine.specs.MzImage.{IsLoaded}
 use Rattle.dcc_prog.specs.Layout.{HasLayout}
 use Rattle.dcc_prog.specs.Trail.{IsEntry}
 use Rattle.dcc_prog.specs.Analysed.{AreHeightsOf, IsFrameOf}
 use Rattle.dcc_prog.specs.Found.{IsFound, AreFound}
-use Rattle.dcc_prog.specs.Writes.{writes_flag}
+use Rattle.dcc_machine.specs.Writes.{writes_flag}
 use Rattle.dcc_ir.specs.Tree.{Stmt, Block, Graph, Program}
 use Rattle.dcc_simulation.specs.Nodes.{procedures_in}
 use Rattle.dcc_simulation.specs.Procedures.{Procedure, procedures_of}
 use Rattle.dcc_simulation.specs.Statements as placed
 use Rattle.dcc_lift.specs.FlagStmts.{is_setter_of, is_other_flag_stmt, has_carry_in, graph_stmts, HasFewFlagStmts}
-use Rattle.dcc_lift.specs.Blocks.{Scene, nodes_in, entry_in}
+use Rattle.dcc_lift.specs.Blocks.{BlockSource, nodes_in, entry_in}
 use Rattle.dcc_lift.specs.Sound.{AreSound}
 use Rattle.dcc_lift.specs.Translated.{IsTranslated}
 use Rattle.dcc_lift.specs.Translation.{prelude_block, IsGraphOf, scenes_of}
@@ -36,7 +36,8 @@ use Rattle.dcc_lift.proofs.FlagMembers.{blocks-counted}
 abbrev stmts_of : List Block → List Stmt
 stmts_of blocks = flat_map (λ (b : Block). b.stmts) blocks
 
-module _ (image : Image) (layout : Layout) (scene : Scene) (graph : Graph) (is : IsGraphOf image layout scene graph)
+module _ (image : Image) (layout : Layout) (scene : BlockSource) (graph : Graph) (is : IsGraphOf image layout scene
+    graph)
     (sound : AreSound (nodes_in scene) (entry_in scene) image.ip) where
   -- the block of the prelude counts nothing
   front-counted : (test : Stmt → Bool) → total (counted test) (prelude_block image layout scene).stmts ≡ 0
@@ -105,7 +106,7 @@ module _ (image : Image) (layout : Layout) (all : List Procedure) (all-procs : L
   graphs-few before (proc ∷ procs) (frame ∷ frames) [] graphs framed high are found reached = absurd high
   graphs-few before (proc ∷ procs) (frame ∷ frames) (h ∷ heights) [] framed high are found reached = absurd are
   graphs-few before (proc ∷ procs) (frame ∷ frames) (h ∷ heights) (graph ∷ graphs) framed high are found reached =
-      let scene : Scene = record {
+      let scene : BlockSource = record {
         cpu = layout.cpu;
         procedures = all;
         procedure = record { proc = proc; frame = frame; delta = layout.delta };

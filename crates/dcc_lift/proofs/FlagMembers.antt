@@ -8,7 +8,7 @@ use Rattle.dcc_prog.specs.declared.procedure.Node.{Node}
 use Rattle.dcc_ir.specs.Tree.{Stmt, Block}
 use Rattle.dcc_ir.proofs.PathLaws.{decided, clash, or_left, or_right}
 use Rattle.dcc_simulation.specs.Statements as placed
-use Rattle.dcc_lift.specs.Blocks.{Nodes, node_in, joins, IsChain, leaders, Scene, nodes_in, entry_in, height_in, node_stmts, stmts_at, AreBlocksAt}
+use Rattle.dcc_lift.specs.Blocks.{Nodes, node_in, joins, IsChain, leaders, BlockSource, nodes_in, entry_in, height_in, node_stmts, stmts_at, AreBlocksAt}
 use Rattle.dcc_lift.specs.Sound.{offsets_of, AreSound}
 use Rattle.dcc_lift.proofs.ListTests.{and_left, and_right, and_both, not_true}
 use Rattle.dcc_lift.proofs.NodeLaws.{is_node, Differ, nodes_differ}
@@ -85,13 +85,14 @@ leaders-once nodes entry x differ = go (entry == x) refl
         omega (arith, fewer, listed)
 
 -- the instructions of blocks, one block after another
-abbrev pub members : (scene : Scene) (places : List ℕ) (blocks : List Block) → AreBlocksAt scene places blocks → List ℕ
+abbrev pub members : (scene : BlockSource) (places : List ℕ) (blocks : List Block) → AreBlocksAt scene places blocks
+    → List ℕ
 members scene [] [] are = []
 members scene [] (block ∷ blocks) are = absurd are
 members scene (at ∷ places) [] are = absurd are
 members scene (at ∷ places) (block ∷ blocks) are = (at ∷ are.0.rest) ++ members scene places blocks are.1
 
-module _ (scene : Scene) (prelude : ℕ) (sound : AreSound (nodes_in scene) (entry_in scene) prelude) where
+module _ (scene : BlockSource) (prelude : ℕ) (sound : AreSound (nodes_in scene) (entry_in scene) prelude) where
   abbrev nodes : Nodes
   nodes = nodes_in scene
 
@@ -221,7 +222,7 @@ module _ (f : Node → ℕ) where
       bound (suc zero) k less p q = omega (arith, p, q)
       bound (suc (suc n)) k less p q = absurd (omega (arith, less))
 
-  module _ (scene : Scene) (prelude : ℕ) (sound : AreSound (nodes_in scene) (entry_in scene) prelude)
+  module _ (scene : BlockSource) (prelude : ℕ) (sound : AreSound (nodes_in scene) (entry_in scene) prelude)
       (count : Stmt → ℕ)
       (few : (height : ℕ) (node : Node)
       → total count (placed.node_stmts scene.cpu scene.procedures scene.procedure height node) ≤ f node) where

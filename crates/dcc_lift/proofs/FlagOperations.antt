@@ -4,24 +4,24 @@ use Rattle.dcc_num.specs.declared.Width.{Width}
 use Rattle.dcc_num.specs.declared.Width.TheVariants.{Byte as byte_width, Word as word_width}
 use Rattle.dcc_num.specs.declared.Reg.{Reg}
 use Rattle.dcc_num.specs.declared.FlagName.{FlagName}
-use Rattle.dcc_prog.specs.declared.cpu.Cpu.{Cpu}
-use Rattle.dcc_prog.specs.declared.cpu.Cpu.TheVariants.{I8086, I186}
-use Rattle.dcc_prog.specs.declared.instr.Alu.{Alu}
-use Rattle.dcc_prog.specs.declared.instr.Alu.TheVariants.{Add, Cmp, Test}
-use Rattle.dcc_prog.specs.declared.instr.Shift.{Shift}
-use Rattle.dcc_prog.specs.declared.instr.Shift.TheVariants.{Rol}
-use Rattle.dcc_prog.specs.declared.instr.Count.{Count}
-use Rattle.dcc_prog.specs.declared.instr.Count.TheVariants.{One, Cl, Const as ConstCount}
-use Rattle.dcc_prog.specs.declared.instr.Unary.{Unary}
-use Rattle.dcc_prog.specs.declared.instr.Unary.TheVariants.{Inc, Dec, Neg, Not, Mul, Imul, Div as DivOf, Idiv}
-use Rattle.dcc_prog.specs.declared.instr.Plain.{Plain}
-use Rattle.dcc_prog.specs.declared.instr.Plain.TheVariants.{Nop, Cbw, Cwd, Xlat, Clc, Stc, Cmc, Cli, Sti, Cld}
-use Rattle.dcc_prog.specs.declared.instr.Operand.{Operand}
-use Rattle.dcc_prog.specs.declared.instr.Op.{Op}
-use Rattle.dcc_prog.specs.declared.instr.Op.TheVariants.{Alu as AluOp, Unary as UnaryOp, Shift as ShiftOp, Mov, Xchg, Imul3, Plain as PlainOp, Loop, LoopE, LoopNe, Int21}
-use Rattle.dcc_prog.specs.Machine.{operand_width}
-use Rattle.dcc_prog.specs.Writes.{shift_writes_flag, never_shifts, writes_flag}
-use Rattle.dcc_prog.specs.Wanted.{is_turn, is_zeroing}
+use Rattle.dcc_machine.specs.declared.cpu.Cpu.{Cpu}
+use Rattle.dcc_machine.specs.declared.cpu.Cpu.TheVariants.{I8086, I186}
+use Rattle.dcc_machine.specs.declared.instr.Alu.{Alu}
+use Rattle.dcc_machine.specs.declared.instr.Alu.TheVariants.{Add, Cmp, Test}
+use Rattle.dcc_machine.specs.declared.instr.Shift.{Shift}
+use Rattle.dcc_machine.specs.declared.instr.Shift.TheVariants.{Rol}
+use Rattle.dcc_machine.specs.declared.instr.Count.{Count}
+use Rattle.dcc_machine.specs.declared.instr.Count.TheVariants.{One, Cl, Const as ConstCount}
+use Rattle.dcc_machine.specs.declared.instr.Unary.{Unary}
+use Rattle.dcc_machine.specs.declared.instr.Unary.TheVariants.{Inc, Dec, Neg, Not, Mul, Imul, Div as DivOf, Idiv}
+use Rattle.dcc_machine.specs.declared.instr.Plain.{Plain}
+use Rattle.dcc_machine.specs.declared.instr.Plain.TheVariants.{Nop, Cbw, Cwd, Xlat, Clc, Stc, Cmc, Cli, Sti, Cld}
+use Rattle.dcc_machine.specs.declared.instr.Operand.{Operand}
+use Rattle.dcc_machine.specs.declared.instr.Op.{Op}
+use Rattle.dcc_machine.specs.declared.instr.Op.TheVariants.{Alu as AluOp, Unary as UnaryOp, Shift as ShiftOp, Mov, Xchg, Imul3, Plain as PlainOp, Loop, LoopE, LoopNe, Int21}
+use Rattle.dcc_machine.specs.Machine.{operand_width}
+use Rattle.dcc_machine.specs.Writes.{shift_writes_flag, never_shifts, writes_flag}
+use Rattle.dcc_machine.specs.Wanted.{is_through_carry, is_zeroing}
 use Rattle.dcc_ir.specs.declared.syntax.Loc.{Loc}
 use Rattle.dcc_ir.specs.declared.syntax.BinOp.TheVariants.{DivS, DivU, RemS, RemU}
 use Rattle.dcc_ir.specs.Tree.{Expr, Get, Stmt, Set}
@@ -30,7 +30,7 @@ use Rattle.dcc_ir.proofs.PathLaws.{or_left, or_right}
 use Rattle.dcc_ops.specs.Temporaries.{left_place, right_place, result_place}
 use Rattle.dcc_ops.specs.Expressions.{left, right, result, product, sum, difference, count_expr}
 use Rattle.dcc_ops.specs.Registers.{register_place}
-use Rattle.dcc_ops.specs.Place.{Place, constant, byte, word, place_value, taking, storing}
+use Rattle.dcc_ops.specs.OperandPlace.{OperandPlace, constant, byte, word, place_value, taking, storing}
 use Rattle.dcc_ops.specs.Statements.{operands_taking, word_taking, result_taking, sum_flags, difference_flags, subtracting, alu_working, alu_storing, alu_stmts, zeroing, product_storing, accumulator, product_working, triple_product, division_storing, division_working, complementing, unary_stmts, shift_working, count_taking, shifting, staying, shift_stmts, mov_stmts, exchanging, xchg_stmts, plain_stmts, counting, dos_stmts, op_stmts}
 use Rattle.dcc_lift.specs.FlagStmts.{is_flag_read, is_on_flags, has_carry_in}
 use Rattle.dcc_ops.proofs.DosStatements.{dos_all}
@@ -46,7 +46,7 @@ alu-working a b byte_width Add = refl
 alu-working a b word_width Add = refl
 alu-working a b _ _ = refl
 
-alu-storing : (operation : Alu) (w : Width) (p : Place) → are_off_flags (alu_storing operation w p) ≡ true
+alu-storing : (operation : Alu) (w : Width) (p : OperandPlace) → are_off_flags (alu_storing operation w p) ≡ true
 alu-storing Cmp w p = refl
 alu-storing Test w p = refl
 alu-storing operation w p = storing-off p (result w) (result-apart w)
@@ -70,7 +70,7 @@ afterwards op first stmts taken few =
 pub nothing : (op : Op) (stmts : List Stmt) → are_off_flags stmts ≡ true → AreFew op stmts
 nothing op stmts off = off-within (writes_flag op) (has_carry_in op) stmts off
 
-alu-few : (operation : Alu) (a b : Operand) (w : Width) (p q : Place) → is_apart p ≡ true → is_apart q ≡ true
+alu-few : (operation : Alu) (a b : Operand) (w : Width) (p q : OperandPlace) → is_apart p ≡ true → is_apart q ≡ true
     → AreFew (AluOp operation a b) (alu_stmts operation w p q)
 alu-few operation a b w p q one other =
     between (AluOp operation a b) (operands_taking w p q) (alu_working operation w) (alu_storing operation w p)
@@ -118,7 +118,7 @@ accumulator-apart : (w : Width) → is_apart (register_place (accumulator w)) �
 accumulator-apart byte_width = refl
 accumulator-apart word_width = refl
 
-unary-few : (operation : Unary) (a : Operand) (w : Width) (p : Place) → is_apart p ≡ true
+unary-few : (operation : Unary) (a : Operand) (w : Width) (p : OperandPlace) → is_apart p ≡ true
     → AreFew (UnaryOp operation a) (unary_stmts operation w p)
 unary-few Inc a w p apart =
     between (UnaryOp Inc a) (operands_taking w p (constant w 1)) (result_taking w (sum w) ++ sum_flags w)
@@ -154,7 +154,7 @@ unary-few Idiv a w p apart =
     (division_working w DivS RemS ++ division_storing w)
     (operands-off w (register_place (accumulator w)) p (accumulator-apart w) apart) (signed_quotient-few a w)
 
-triple-few : (r : Reg) (a : Operand) (factor : ℕ) (p : Place) → is_apart p ≡ true
+triple-few : (r : Reg) (a : Operand) (factor : ℕ) (p : OperandPlace) → is_apart p ≡ true
     → AreFew (Imul3 r a factor) (triple_product r p factor)
 triple-few r a factor p apart =
     afterwards (Imul3 r a factor) (operands_taking word_width p (constant word_width factor))
@@ -168,11 +168,12 @@ abbrev shift_flags_written : Shift → Bool → FlagName → Bool
 shift_flags_written operation never flag = shift_writes_flag operation flag && not never
 
 shift-working : (count : Count) (w : Width) (operation : Shift)
-    → are_within (shift_flags_written operation false) (is_turn operation) (shift_working operation w count) ≡ true
+    → are_within (shift_flags_written operation false) (is_through_carry operation) (shift_working operation w count)
+    ≡ true
 shift-working count w operation = holds_by_count (within operation) operation w count (each w operation)
   where
     within : Shift → List Stmt → Bool
-    within operation = are_within (shift_flags_written operation false) (is_turn operation)
+    within operation = are_within (shift_flags_written operation false) (is_through_carry operation)
 
     each : (w : Width) (operation : Shift) → HoldsByEach (within operation) operation w
     each byte_width Rol = record { one = refl; cl = refl; other = refl }
@@ -187,7 +188,8 @@ count-apart I186 word_width Cl = refl
 count-apart cpu w One = refl
 count-apart cpu w (ConstCount n) = refl
 
-shift-few : (cpu : Cpu) (operation : Shift) (a : Operand) (w : Width) (p : Place) (count : Count) → is_apart p ≡ true
+shift-few : (cpu : Cpu) (operation : Shift) (a : Operand) (w : Width) (p : OperandPlace) (count : Count) → is_apart p
+    ≡ true
     → AreFew (ShiftOp operation a count) (shift_stmts cpu operation w p count)
 shift-few cpu operation a w p count apart = by (never_shifts count)
   where
@@ -200,17 +202,17 @@ shift-few cpu operation a w p count apart = by (never_shifts count)
         (taking-off (left_place w) p apart)
         (off-cons (Set (right_place w) (count_expr cpu w count)) [] (count-apart cpu w count) refl)
 
-    by : (b : Bool) → AreWithin (shift_flags_written operation b) (is_turn operation)
+    by : (b : Bool) → AreWithin (shift_flags_written operation b) (is_through_carry operation)
         (if b then staying w p else shifting cpu operation w p count)
     by true =
-        off-within (shift_flags_written operation true) (is_turn operation) (staying w p)
+        off-within (shift_flags_written operation true) (is_through_carry operation) (staying w p)
         (off-cons (taking (result_place w) p) (storing p (result w)) (taking-off (result_place w) p apart) stored)
     by false =
-        off-before (shift_flags_written operation false) (is_turn operation) (count_taking cpu w p count)
+        off-before (shift_flags_written operation false) (is_through_carry operation) (count_taking cpu w p count)
         (shift_working operation w count ++ storing p (result w)) taken
-        (off-after (shift_flags_written operation false) (is_turn operation) (shift_working operation w count)
+        (off-after (shift_flags_written operation false) (is_through_carry operation) (shift_working operation w count)
         (storing p (result w))
-        (within-by (shift_flags_written operation false) (is_turn operation) (shift_working operation w count)
+        (within-by (shift_flags_written operation false) (is_through_carry operation) (shift_working operation w count)
         (shift-working count w operation)) stored)
 
 -- Moves.
@@ -229,7 +231,7 @@ halves-apart low high apart =
       ap (λ b. b || false) (or_left (is_flag_part (Get high)) (is_flag_part (Get low) || false) none),
     )
 
-pub mov-off : (w : Width) (p q : Place) → is_apart q ≡ true → are_off_flags (mov_stmts w p q) ≡ true
+pub mov-off : (w : Width) (p q : OperandPlace) → is_apart q ≡ true → are_off_flags (mov_stmts w p q) ≡ true
 mov-off w (byte to) (byte from) apart = off-cons (Set to (Get from)) [] (not_true (is_on_flags (Get from)) apart) refl
 mov-off w (byte to) (constant v n) apart = refl
 mov-off w (word low high) (word l h) apart =
@@ -246,7 +248,8 @@ exchanging-off a b one other =
     off-cons (Set (left_place byte_width) (Get a)) (Set a (Get b) ∷ Set b (left byte_width) ∷ []) one
     (off-cons (Set a (Get b)) (Set b (left byte_width) ∷ []) other refl)
 
-xchg-off : (w : Width) (p q : Place) → is_apart p ≡ true → is_apart q ≡ true → are_off_flags (xchg_stmts w p q) ≡ true
+xchg-off : (w : Width) (p q : OperandPlace) → is_apart p ≡ true → is_apart q ≡ true → are_off_flags (xchg_stmts w p q)
+    ≡ true
 xchg-off w (byte a) (byte b) one other =
     exchanging-off a b (not_true (is_on_flags (Get a)) one) (not_true (is_on_flags (Get b)) other)
 xchg-off w (word low high) (word l h) one other =
@@ -278,7 +281,7 @@ dos-off = dos_all (λ l. are_off_flags l ≡ true) refl (λ n. refl) (λ n. refl
 
 -- All operations.
 
-pub op-few : (cpu : Cpu) (op : Op) (number : Option ℕ) (p q : Place) → is_apart p ≡ true → is_apart q ≡ true
+pub op-few : (cpu : Cpu) (op : Op) (number : Option ℕ) (p q : OperandPlace) → is_apart p ≡ true → is_apart q ≡ true
     → AreFew op (op_stmts cpu op number p q)
 op-few cpu (AluOp operation a b) number p q one other = go (is_zeroing operation a b)
   where

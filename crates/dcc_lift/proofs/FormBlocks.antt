@@ -11,15 +11,16 @@ use Rattle.dcc_num.specs.declared.Half.TheVariants.{Low, High}
 use Rattle.dcc_num.specs.declared.FlagName.{FlagName}
 use Rattle.dcc_num.specs.declared.FlagName.TheVariants.{Cf, Zf, Sf, Of}
 use Rattle.dcc_num.specs.declared.Flags.{Flags}
-use Rattle.dcc_prog.specs.declared.image.Image.{Image}
+use Rattle.dcc_machine.specs.declared.image.Image.{Image}
 use Rattle.dcc_prog.specs.declared.procedure.Node.{Node}
 use Rattle.dcc_prog.specs.declared.frame.Program.{Program as Analysed}
 use Rattle.dcc_prog.specs.declared.refusal.LimitName.TheVariants.{Entries, Arguments}
-use Rattle.dcc_prog.specs.declared.instr.Instr.{Instr}
-use Rattle.dcc_prog.specs.declared.instr.Op.{Op}
-use Rattle.dcc_prog.specs.declared.instr.Op.TheVariants.{Table, Call as CallOp, Ret as RetOp}
-use Rattle.dcc_prog.specs.Machine.{reg_number}
-use Rattle.dcc_prog.specs.Trail.{StandsAt, IsEntry, called, instr_successors, next_of, known_ah, targets_of, table_targets, op_successors}
+use Rattle.dcc_machine.specs.declared.instr.Instr.{Instr}
+use Rattle.dcc_machine.specs.declared.instr.Op.{Op}
+use Rattle.dcc_machine.specs.declared.instr.Op.TheVariants.{Table, Call as CallOp, Ret as RetOp}
+use Rattle.dcc_machine.specs.Machine.{reg_number}
+use Rattle.dcc_machine.specs.Successors.{next_of, op_successors}
+use Rattle.dcc_prog.specs.Trail.{StandsAt, IsEntry, called, instr_successors, known_ah, targets_of, table_targets}
 use Rattle.dcc_prog.specs.Construct.{HasNumber, returns, calls as calls_entry, entry_return}
 use Rattle.dcc_prog.specs.Limit.{entries, arguments}
 use Rattle.dcc_prog.proofs.PreludeOffsets.{prelude-below, prelude-some}

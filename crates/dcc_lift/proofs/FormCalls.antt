@@ -18,7 +18,8 @@ use Rattle.dcc_ir.specs.Value.{width_of}
 use Rattle.dcc_ir.specs.WellFormed.{is_location, is_expr, is_stmt, is_put, put_width, is_param_list}
 use Rattle.dcc_ir.specs.Passing.{passed, param_of, bytes_at_put, bytes_of_param, bytes_of}
 use Rattle.dcc_ops.specs.Temporaries.{temporary_bits, most_returned, returned_place}
-use Rattle.dcc_ops.specs.Place.{Place, word, memory, place_value, storing, is_low, is_high, is_sound_place}
+use Rattle.dcc_ops.specs.OperandPlace.{OperandPlace, word, memory, place_value, storing, is_low, is_high}
+use Rattle.dcc_ops.specs.OperandPlace.{is_sound_place}
 use Rattle.dcc_simulation.specs.Procedures.{Procedure, cells_of, within_cell, cell_place, distance_of, frame_place}
 use Rattle.dcc_simulation.specs.Procedures.{given_back}
 use Rattle.dcc_simulation.specs.Passed.{put_of, argument_param, argument_params, params_of, returned_values}
@@ -108,18 +109,18 @@ arguments-good caller height callee =
 
 -- Params.
 
-put-wide : (place : Place) → put_width temporary_bits (put_of place) ≡ 16
+put-wide : (place : OperandPlace) → put_width temporary_bits (put_of place) ≡ 16
 put-wide (word low high) = refl
 put-wide place = refl
 
-put-well : (place : Place) → is_sound_place place ≡ true → is_put temporary_bits (put_of place) ≡ true
+put-well : (place : OperandPlace) → is_sound_place place ≡ true → is_put temporary_bits (put_of place) ≡ true
 put-well (word low high) sound =
     let l = low-location low (and_left (is_low low) (is_high high) sound) in
     let h = high-location high (and_right (is_low low) (is_high high) sound) in
     rw (l.known, l.wide, h.known, h.wide) refl
 put-well place sound = refl
 
-abbrev place_of_argument : Procedure → ℕ → Place
+abbrev place_of_argument : Procedure → ℕ → OperandPlace
 place_of_argument p number = frame_place p word_width (pos (4 + 2 * number))
 
 param-well : (p : Procedure) (number : ℕ) → is_put temporary_bits (argument_param p number).put ≡ true
@@ -216,7 +217,7 @@ pub record AreTwoBytes (es : List Expr) : Type 0 where
   pub good : are_good es ≡ true
   pub wide : map (width_of temporary_bits) es ≡ 8 ∷ 8 ∷ []
 
-put-bytes : (number : ℕ) (place : Place) → number < 32 → is_sound_place place ≡ true
+put-bytes : (number : ℕ) (place : OperandPlace) → number < 32 → is_sound_place place ≡ true
     → AreTwoBytes (bytes_at_put number (put_of place))
 put-bytes number (word low high) less sound =
     let l = low-location low (and_left (is_low low) (is_high high) sound) in

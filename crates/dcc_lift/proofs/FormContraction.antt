@@ -6,7 +6,7 @@ use Rattle.dcc_ir.specs.Flow.{Flow, first_address, flow_of, has_edge, IsPath, An
 use Rattle.dcc_ir.proofs.PathLaws.{decided, clash, or_left, or_right, path_of_none, path_last, reached_has}
 use Rattle.dcc_ir.proofs.GraphLaws.{flow_of-flow}
 use Rattle.dcc_ir.proofs.EdgeLaws.{after_one_from_edges}
-use Rattle.dcc_lift.specs.Blocks.{Nodes, node_in, successors_in, joins, IsChain, leaders, Scene, nodes_in, entry_in, last_of, AreBlocksAt}
+use Rattle.dcc_lift.specs.Blocks.{Nodes, node_in, successors_in, joins, IsChain, leaders, BlockSource, nodes_in, entry_in, last_of, AreBlocksAt}
 use Rattle.dcc_lift.specs.Sound.{AreSound}
 use Rattle.dcc_lift.proofs.ListTests.{and_left, and_right, and_both, or_here, or_there, or_cases, same_number}
 use Rattle.dcc_lift.proofs.NodeLaws.{is_node, goes_on, goes_from, goes_on_is, nodes_differ, entry_is_node, prelude_no_node, successor_is_node}
@@ -22,7 +22,7 @@ begun_flow begun prelude nodes entry = record {
 }
 
 -- the blocks before those of the instructions: that of the prelude alone, which goes to the entry's, or none
-pub record AreBefore (scene : Scene) (prelude : ℕ) (begun : Bool) (front blocks : List Block) : Type 0 where
+pub record AreBefore (scene : BlockSource) (prelude : ℕ) (begun : Bool) (front blocks : List Block) : Type 0 where
   pub before : length front ≡ scene.before
   pub are : AreBlocksAt scene (leaders (nodes_in scene) (entry_in scene)) blocks
   pub has : (a : ℕ) → list_any (λ block. block.at == a) front ≡ (begun && (prelude == a))
@@ -32,7 +32,7 @@ pub record AreBefore (scene : Scene) (prelude : ℕ) (begun : Bool) (front block
       ≡ (begun && ((prelude == a) && (entry_in scene == b)))
   pub start : first_address (front ++ blocks) ≡ (if begun then prelude else entry_in scene)
 
-module _ (scene : Scene) (prelude : ℕ) (sound : AreSound (nodes_in scene) (entry_in scene) prelude) (begun : Bool)
+module _ (scene : BlockSource) (prelude : ℕ) (sound : AreSound (nodes_in scene) (entry_in scene) prelude) (begun : Bool)
     (front blocks : List Block) (is : AreBefore scene prelude begun front blocks) (graph : Graph)
     (graph_is : graph.blocks ≡ front ++ blocks) where
   abbrev nodes : Nodes

@@ -3,10 +3,11 @@ use Rattle.std.proofs.Common.{◌≡◌, ◌≢◌, ℕ, ◌+◌, ◌*◌, ◌�
 use Rattle.std.specs.Prelude.{nat_lt}
 use Rattle.std.specs.List.{list_any, list_all}
 use Rattle.std.proofs.lemmas.List.FromFn.{length-map-range_with_len}
-use Rattle.dcc_prog.specs.declared.image.Image.{Image}
-use Rattle.dcc_prog.specs.declared.instr.Op.{Op}
-use Rattle.dcc_prog.specs.declared.instr.Op.TheVariants.{Table, Ret as RetOp, Int21}
-use Rattle.dcc_prog.specs.Trail.{is_exit as is_exit_call, word_in_segment, table_targets, op_successors}
+use Rattle.dcc_machine.specs.declared.image.Image.{Image}
+use Rattle.dcc_machine.specs.declared.instr.Op.{Op}
+use Rattle.dcc_machine.specs.declared.instr.Op.TheVariants.{Table, Ret as RetOp, Int21}
+use Rattle.dcc_machine.specs.Successors.{is_exit as is_exit_call, op_successors}
+use Rattle.dcc_prog.specs.Trail.{word_in_segment, table_targets}
 use Rattle.dcc_ir.specs.Tree.{Expr, Exit, Goto, Ret, Stop}
 use Rattle.dcc_ir.specs.WellFormed.{is_expr, is_expr_of, is_exit}
 use Rattle.dcc_ir.specs.Use.{exit_exprs}

@@ -4,7 +4,7 @@ use Rattle.std.specs.Prelude.{◌+ℤ◌, pos}
 use Rattle.std.specs.List.{list_all}
 use Rattle.std.proofs.lemmas.List.Elements.{All-head, All-tail}
 use Rattle.dcc_num.specs.declared.Width.TheVariants.{Byte as byte_width}
-use Rattle.dcc_prog.specs.declared.image.Image.{Image}
+use Rattle.dcc_machine.specs.declared.image.Image.{Image}
 use Rattle.dcc_prog.specs.declared.frame.Program.{Program as Analysed}
 use Rattle.dcc_prog.specs.Trail.{IsEntry}
 use Rattle.dcc_ir.specs.declared.syntax.Loc.{Loc}
@@ -13,7 +13,7 @@ use Rattle.dcc_ir.specs.Tree.{Expr, Get, Part, Set, Block, Program}
 use Rattle.dcc_ir.specs.FlagReads.{nests_flatly, loads_plainly, FlagsReadPlainly}
 use Rattle.dcc_ops.specs.FlagReading.{sets_flags_plainly}
 use Rattle.dcc_ops.specs.Temporaries.{returned_place}
-use Rattle.dcc_ops.specs.Place.{Place, constant, byte, word, memory, address, computed, storing, is_half, is_low, is_high, is_sound_place}
+use Rattle.dcc_ops.specs.OperandPlace.{OperandPlace, constant, byte, word, memory, address, computed, storing, is_half, is_low, is_high, is_sound_place}
 use Rattle.dcc_simulation.specs.Procedures.{Procedure, frame_place, given_back}
 use Rattle.dcc_simulation.specs.Statements.{argument_offset, taking_back, taking_all_back}
 use Rattle.dcc_lift.specs.Translated.{IsTranslated}
@@ -46,7 +46,7 @@ high-half (Flag f) is = cc
 high-half (Cell n half) is = refl
 high-half (Temp n) is = cc
 
-storing-plain : (p : Place) (e : Expr) → is_sound_place p ≡ true → are_plain (storing p e) ≡ true
+storing-plain : (p : OperandPlace) (e : Expr) → is_sound_place p ≡ true → are_plain (storing p e) ≡ true
 storing-plain (constant w n) e sound = refl
 storing-plain (byte location) e sound =
     and_both (sets_flags_plainly (Set location e)) true (half-plain location e sound) refl

@@ -5,18 +5,18 @@ use Rattle.std.proofs.lemmas.List.Folds.{list_all-append}
 use Rattle.dcc_num.specs.declared.Width.{Width}
 use Rattle.dcc_num.specs.declared.Width.TheVariants.{Word as word_width}
 use Rattle.dcc_num.specs.declared.Reg.TheVariants.{Ax, Sp, Bp}
-use Rattle.dcc_prog.specs.declared.cpu.Cpu.{Cpu}
-use Rattle.dcc_prog.specs.declared.instr.Ea.{Ea}
-use Rattle.dcc_prog.specs.declared.instr.Operand.{Operand}
-use Rattle.dcc_prog.specs.declared.instr.Operand.TheVariants.{Word, Byte, Seg, Mem, Const as Constant}
-use Rattle.dcc_prog.specs.declared.instr.Op.{Op}
-use Rattle.dcc_prog.specs.declared.instr.Op.TheVariants.{Alu, Unary, Shift, Mov, Xchg, Lea, Imul3, Push, Pop, Call as CallOp}
-use Rattle.dcc_prog.specs.Access.{is_direct}
+use Rattle.dcc_machine.specs.declared.cpu.Cpu.{Cpu}
+use Rattle.dcc_machine.specs.declared.instr.Ea.{Ea}
+use Rattle.dcc_machine.specs.declared.instr.Operand.{Operand}
+use Rattle.dcc_machine.specs.declared.instr.Operand.TheVariants.{Word, Byte, Seg, Mem, Const as Constant}
+use Rattle.dcc_machine.specs.declared.instr.Op.{Op}
+use Rattle.dcc_machine.specs.declared.instr.Op.TheVariants.{Alu, Unary, Shift, Mov, Xchg, Lea, Imul3, Push, Pop, Call as CallOp}
+use Rattle.dcc_machine.specs.Access.{is_direct}
 use Rattle.dcc_prog.specs.Frame.{offset_in_frame}
 use Rattle.dcc_ir.specs.Tree.{Stmt}
 use Rattle.dcc_ops.specs.Computed.{computed_expr}
 use Rattle.dcc_ops.specs.Registers.{register_place}
-use Rattle.dcc_ops.specs.Place.{Place, memory, computed, is_sound_place}
+use Rattle.dcc_ops.specs.OperandPlace.{OperandPlace, memory, computed, is_sound_place}
 use Rattle.dcc_ops.specs.Statements.{mov_stmts}
 use Rattle.dcc_ops.specs.FlagReading.{sets_flags_plainly}
 use Rattle.dcc_ops.proofs.FlagReadLaws.{op_plain}
@@ -67,7 +67,7 @@ second-sound p height (Mov to from) = operand-sound p height from
 second-sound p height (Xchg a b) = operand-sound p height b
 second-sound p height op = refl
 
-mov-plain : (cpu : Cpu) (p q : Place) → is_sound_place p ≡ true → is_sound_place q ≡ true
+mov-plain : (cpu : Cpu) (p q : OperandPlace) → is_sound_place p ≡ true → is_sound_place q ≡ true
     → are_plain (mov_stmts word_width p q) ≡ true
 mov-plain cpu p q one other = op_plain cpu (Mov (Word Ax) (Word Ax)) None p q one other
 

@@ -3,18 +3,19 @@ use Rattle.std.proofs.Common.{◌≡◌, ◌≢◌, ◌⊎◌, inl, inr, ℕ, ze
 use Rattle.std.specs.List.{list_any}
 use Rattle.std.proofs.lemmas.List.Elements.{All-weaker, All-contains, All-contains_itself}
 use Rattle.std.proofs.lemmas.Option.{slice_get-get_or}
-use Rattle.dcc_prog.specs.declared.image.Image.{Image}
+use Rattle.dcc_machine.specs.declared.image.Image.{Image}
 use Rattle.dcc_prog.specs.declared.procedure.Node.{Node}
 use Rattle.dcc_prog.specs.declared.procedure.Proc.{Proc}
 use Rattle.dcc_prog.specs.declared.frame.Program.{Program as Analysed}
-use Rattle.dcc_prog.specs.declared.instr.Op.TheVariants.{Call as CallOp}
-use Rattle.dcc_prog.specs.Trail.{IsEntry, next_of, known_ah, targets_of, op_successors}
+use Rattle.dcc_machine.specs.declared.instr.Op.TheVariants.{Call as CallOp}
+use Rattle.dcc_machine.specs.Successors.{next_of, op_successors}
+use Rattle.dcc_prog.specs.Trail.{IsEntry, known_ah, targets_of}
 use Rattle.dcc_ir.specs.Tree.{Goto, Block, Graph, Program}
 use Rattle.dcc_ir.specs.WellFormed.{all_differ}
 use Rattle.dcc_ir.specs.Flow.{first_address, flow_of, graph_or_none, flow_at, has_edge, IsContraction, HaveOneEdge}
 use Rattle.dcc_ir.proofs.PathLaws.{decided, clash}
 use Rattle.dcc_simulation.proofs.FoundProcedures.{listed}
-use Rattle.dcc_lift.specs.Blocks.{Nodes, node_in, successors_in, is_call, calls_in, joins, leaders, Scene, nodes_in, entry_in, block_place, AreBlocksAt}
+use Rattle.dcc_lift.specs.Blocks.{Nodes, node_in, successors_in, is_call, calls_in, joins, leaders, BlockSource, nodes_in, entry_in, block_place, AreBlocksAt}
 use Rattle.dcc_lift.specs.Sound.{AreSound}
 use Rattle.dcc_lift.specs.Translated.{setting, IsTranslated}
 use Rattle.dcc_lift.specs.Translation.{prelude_block}
@@ -87,7 +88,7 @@ module _ (image : Image) (program : Analysed) (p : Program) (is : IsTranslated i
   open program use {layout}
 
   module _ (entry : ℕ) (is_entry : IsEntry image layout entry) where
-    abbrev scene : Scene
+    abbrev scene : BlockSource
     scene = scene_at image program p is entry is_entry
 
     abbrev nodes : Nodes

@@ -8,30 +8,30 @@ use Rattle.dcc_num.specs.declared.Reg.{Reg}
 use Rattle.dcc_num.specs.declared.Reg.TheVariants.{Sp, Bp}
 use Rattle.dcc_num.specs.declared.Half.{Half as HalfName}
 use Rattle.dcc_num.proofs.Differences.{wrapped_below}
-use Rattle.dcc_prog.specs.declared.cpu.Cpu.{Cpu}
+use Rattle.dcc_machine.specs.declared.cpu.Cpu.{Cpu}
 use Rattle.dcc_prog.specs.declared.frame.Cell.{Cell}
-use Rattle.dcc_prog.specs.declared.instr.Ea.{Ea}
-use Rattle.dcc_prog.specs.declared.instr.Operand.{Operand}
-use Rattle.dcc_prog.specs.declared.instr.Operand.TheVariants.{Word, Byte, Seg, Mem, Const as Constant}
-use Rattle.dcc_prog.specs.declared.instr.Op.{Op}
-use Rattle.dcc_prog.specs.declared.instr.Op.TheVariants.{Alu, Unary, Shift, Mov, Xchg, Lea, Imul3, Push, Pop, Call as CallOp}
-use Rattle.dcc_prog.specs.Machine.{operand_width, is_bp}
-use Rattle.dcc_prog.specs.Access.{is_direct}
+use Rattle.dcc_machine.specs.declared.instr.Ea.{Ea}
+use Rattle.dcc_machine.specs.declared.instr.Operand.{Operand}
+use Rattle.dcc_machine.specs.declared.instr.Operand.TheVariants.{Word, Byte, Seg, Mem, Const as Constant}
+use Rattle.dcc_machine.specs.declared.instr.Op.{Op}
+use Rattle.dcc_machine.specs.declared.instr.Op.TheVariants.{Alu, Unary, Shift, Mov, Xchg, Lea, Imul3, Push, Pop, Call as CallOp}
+use Rattle.dcc_machine.specs.Machine.{operand_width, is_bp}
+use Rattle.dcc_machine.specs.Access.{is_direct}
 use Rattle.dcc_prog.specs.Frame.{offset_in_frame}
 use Rattle.dcc_prog.specs.Analysed.{bytes_of}
-use Rattle.dcc_prog.specs.WellFormed.{IsOperand, IsOperation}
+use Rattle.dcc_machine.specs.WellFormed.{IsOperand, IsOperation}
 use Rattle.dcc_stack.specs.Slots.{is_within, is_placed}
 use Rattle.dcc_ir.specs.declared.syntax.BinOp.TheVariants.{Add}
 use Rattle.dcc_ir.specs.Tree.{Expr, Const, Binary, Address}
 use Rattle.dcc_ir.specs.Measure.{depth_of}
 use Rattle.dcc_ir.specs.WellFormed.{is_expr, is_expr_of}
 use Rattle.dcc_ir.specs.Value.{width_of}
-use Rattle.dcc_ops.specs.declared.place.Computed.{Computed}
+use Rattle.dcc_ops.specs.declared.operand_place.Computed.{Computed}
 use Rattle.dcc_ops.specs.Computed.{adding, ending, computed_expr}
 use Rattle.dcc_ops.specs.Temporaries.{temporary_bits}
 use Rattle.dcc_ops.specs.Expressions.{word_of}
 use Rattle.dcc_ops.specs.Registers.{register_place}
-use Rattle.dcc_ops.specs.Place.{Place, memory, computed}
+use Rattle.dcc_ops.specs.OperandPlace.{OperandPlace, memory, computed}
 use Rattle.dcc_simulation.specs.Procedures.{Procedure, cells_of, within_cell, cell_place, distance_of, frame_place}
 use Rattle.dcc_simulation.specs.Operands.{from_frame, address_of, memory_place, operand_place, first_place}
 use Rattle.dcc_simulation.specs.Operands.{second_place}
@@ -189,7 +189,7 @@ register-source (Constant w n) is = absurd is
 -- Instructions.
 
 -- of a width that another operand has
-same-width : (w v : Width) (p : Place) → v ≡ w → IsGoodPlace v p → IsGoodPlace w p
+same-width : (w v : Width) (p : OperandPlace) → v ≡ w → IsGoodPlace v p → IsGoodPlace w p
 same-width w v p same good = subst (λ u. IsGoodPlace u p) same good
 
 places-good : (p : Procedure) (height : ℕ) (op : Op) → IsOperation op → HavePlaces op

@@ -7,31 +7,31 @@ use Rattle.dcc_num.specs.declared.Reg.{Reg}
 use Rattle.dcc_num.specs.declared.Reg.TheVariants.{Ax, Dx}
 use Rattle.dcc_num.specs.declared.Half.TheVariants.{Low}
 use Rattle.dcc_num.specs.Numbers.{bits_of, limit_of}
-use Rattle.dcc_prog.specs.declared.cpu.Cpu.{Cpu}
-use Rattle.dcc_prog.specs.declared.cpu.Cpu.TheVariants.{I8086, I186}
-use Rattle.dcc_prog.specs.declared.instr.Alu.{Alu}
-use Rattle.dcc_prog.specs.declared.instr.Alu.TheVariants.{Add, Or, Adc, Sbb, And, Sub, Xor, Cmp, Test}
-use Rattle.dcc_prog.specs.declared.instr.Shift.{Shift}
-use Rattle.dcc_prog.specs.declared.instr.Shift.TheVariants.{Rol}
-use Rattle.dcc_prog.specs.declared.instr.Count.{Count}
-use Rattle.dcc_prog.specs.declared.instr.Count.TheVariants.{One, Cl, Const as ConstCount}
-use Rattle.dcc_prog.specs.declared.instr.Unary.{Unary}
-use Rattle.dcc_prog.specs.declared.instr.Unary.TheVariants.{Inc, Dec, Neg, Not, Mul, Imul, Div as DivOf, Idiv}
-use Rattle.dcc_prog.specs.declared.instr.Plain.{Plain}
-use Rattle.dcc_prog.specs.declared.instr.Plain.TheVariants.{Nop, Cbw, Cwd, Xlat, Clc, Stc, Cmc, Cli, Sti, Cld}
-use Rattle.dcc_prog.specs.declared.instr.Cond.{Cond}
-use Rattle.dcc_prog.specs.declared.instr.Cond.TheVariants.{O, No, B, Ae, Z, Nz, Be, A, S, Ns, L, Ge, Le, G}
-use Rattle.dcc_prog.specs.declared.instr.Op.{Op}
-use Rattle.dcc_prog.specs.declared.instr.Op.TheVariants.{Alu as AluOp, Unary as UnaryOp, Shift as ShiftOp, Mov, Xchg, Imul3, Plain as PlainOp, Branch, Loop, LoopE, LoopNe, Jcxz, Int21}
-use Rattle.dcc_prog.specs.Machine.{operand_width}
-use Rattle.dcc_prog.specs.Writes.{never_shifts}
-use Rattle.dcc_prog.specs.Wanted.{is_zeroing}
+use Rattle.dcc_machine.specs.declared.cpu.Cpu.{Cpu}
+use Rattle.dcc_machine.specs.declared.cpu.Cpu.TheVariants.{I8086, I186}
+use Rattle.dcc_machine.specs.declared.instr.Alu.{Alu}
+use Rattle.dcc_machine.specs.declared.instr.Alu.TheVariants.{Add, Or, Adc, Sbb, And, Sub, Xor, Cmp, Test}
+use Rattle.dcc_machine.specs.declared.instr.Shift.{Shift}
+use Rattle.dcc_machine.specs.declared.instr.Shift.TheVariants.{Rol}
+use Rattle.dcc_machine.specs.declared.instr.Count.{Count}
+use Rattle.dcc_machine.specs.declared.instr.Count.TheVariants.{One, Cl, Const as ConstCount}
+use Rattle.dcc_machine.specs.declared.instr.Unary.{Unary}
+use Rattle.dcc_machine.specs.declared.instr.Unary.TheVariants.{Inc, Dec, Neg, Not, Mul, Imul, Div as DivOf, Idiv}
+use Rattle.dcc_machine.specs.declared.instr.Plain.{Plain}
+use Rattle.dcc_machine.specs.declared.instr.Plain.TheVariants.{Nop, Cbw, Cwd, Xlat, Clc, Stc, Cmc, Cli, Sti, Cld}
+use Rattle.dcc_machine.specs.declared.instr.Cond.{Cond}
+use Rattle.dcc_machine.specs.declared.instr.Cond.TheVariants.{O, No, B, Ae, Z, Nz, Be, A, S, Ns, L, Ge, Le, G}
+use Rattle.dcc_machine.specs.declared.instr.Op.{Op}
+use Rattle.dcc_machine.specs.declared.instr.Op.TheVariants.{Alu as AluOp, Unary as UnaryOp, Shift as ShiftOp, Mov, Xchg, Imul3, Plain as PlainOp, Branch, Loop, LoopE, LoopNe, Jcxz, Int21}
+use Rattle.dcc_machine.specs.Machine.{operand_width}
+use Rattle.dcc_machine.specs.Writes.{never_shifts}
+use Rattle.dcc_machine.specs.Wanted.{is_zeroing}
 use Rattle.dcc_ir.specs.declared.syntax.Loc.{Loc}
 use Rattle.dcc_ir.specs.declared.syntax.Loc.TheVariants.{Half}
 use Rattle.dcc_ir.specs.declared.syntax.BinOp.TheVariants.{DivU, DivS, RemU, RemS}
 use Rattle.dcc_ir.specs.Tree.{Expr, Const, Get, Stmt, Set, Dos}
 use Rattle.dcc_ops.specs.Temporaries.{left_place, right_place, result_place}
-use Rattle.dcc_ops.specs.Place.{Place, constant, byte, word, taking, storing}
+use Rattle.dcc_ops.specs.OperandPlace.{OperandPlace, constant, byte, word, taking, storing}
 use Rattle.dcc_ops.specs.Registers.{register_place}
 use Rattle.dcc_ops.specs.Expressions.{word_of, left, right, result, product, count_expr, sum, difference, condition}
 use Rattle.dcc_ops.specs.Statements.{operands_taking, word_taking, result_taking, sum_flags, difference_flags, subtracting, alu_working, alu_storing, alu_stmts, zeroing, product_storing, product_working, triple_product, division_storing, division_working, accumulator, complementing, unary_stmts, shift_working, shifting, staying, shift_stmts, mov_stmts, exchanging, xchg_stmts, plain_stmts, dos_stmts, op_stmts, op_test}
@@ -40,7 +40,7 @@ use Rattle.dcc_lift.proofs.FormPlaces.{is_sound_expr, are_sound, sound-cons, sou
 
 -- Operands.
 
-both-taken : (w : Width) (p q : Place) → IsGoodPlace w p → IsGoodPlace w q
+both-taken : (w : Width) (p q : OperandPlace) → IsGoodPlace w p → IsGoodPlace w q
     → are_sound (operands_taking w p q) ≡ true
 both-taken w p q one other =
     sound-cons (taking (left_place w) p) (taking (right_place w) q ∷ [])
@@ -48,7 +48,7 @@ both-taken w p q one other =
     (sound-cons (taking (right_place w) q) [] (taken w (right_place w) q other (right-location w)) refl)
 
 -- the operands, the work, and what is stored
-worked : (w : Width) (p q : Place) (work store : List Stmt) → IsGoodPlace w p → IsGoodPlace w q
+worked : (w : Width) (p q : OperandPlace) (work store : List Stmt) → IsGoodPlace w p → IsGoodPlace w q
     → are_sound work ≡ true → are_sound store ≡ true → are_sound (operands_taking w p q ++ (work ++ store)) ≡ true
 worked w p q work store one other e f =
     sound-append (operands_taking w p q) (work ++ store) (both-taken w p q one other) (sound-append work store e f)
@@ -83,10 +83,11 @@ alu-sound Cmp word_width = refl
 alu-sound Test byte_width = refl
 alu-sound Test word_width = refl
 
-result-stored : (w : Width) (p : Place) → IsGoodPlace w p → are_sound (storing p (result w)) ≡ true
+result-stored : (w : Width) (p : OperandPlace) → IsGoodPlace w p → are_sound (storing p (result w)) ≡ true
 result-stored w p good = stored w p (result_place w) good (result-location w)
 
-alu-stored : (operation : Alu) (w : Width) (p : Place) → IsGoodPlace w p → are_sound (alu_storing operation w p) ≡ true
+alu-stored : (operation : Alu) (w : Width) (p : OperandPlace) → IsGoodPlace w p → are_sound (alu_storing operation w p)
+    ≡ true
 alu-stored Cmp w p good = refl
 alu-stored Test w p good = refl
 alu-stored operation w p good = result-stored w p good
@@ -122,7 +123,7 @@ division-stored : (w : Width) → are_sound (division_storing w) ≡ true
 division-stored byte_width = refl
 division-stored word_width = refl
 
-unary-sound : (operation : Unary) (w : Width) (p : Place) → IsGoodPlace w p
+unary-sound : (operation : Unary) (w : Width) (p : OperandPlace) → IsGoodPlace w p
     → are_sound (unary_stmts operation w p) ≡ true
 unary-sound Inc w p good =
     worked w p (constant w 1) (result_taking w (sum w) ++ sum_flags w) (storing p (result w)) good
@@ -170,7 +171,7 @@ count-sound cpu word_width One = refl
 count-sound cpu byte_width (ConstCount n) = constant-sound byte_width (n % 32) (omega arith)
 count-sound cpu word_width (ConstCount n) = constant-sound word_width (n % 32) (omega arith)
 
-shifting-sound : (cpu : Cpu) (operation : Shift) (w : Width) (p : Place) (count : Count) → IsGoodPlace w p
+shifting-sound : (cpu : Cpu) (operation : Shift) (w : Width) (p : OperandPlace) (count : Count) → IsGoodPlace w p
     → are_sound (shifting cpu operation w p count) ≡ true
 shifting-sound cpu operation w p count good =
     let counting = Set (right_place w) (count_expr cpu w count) in
@@ -181,7 +182,7 @@ shifting-sound cpu operation w p count good =
     (sound-append (shift_working operation w count) (storing p (result w)) (shift-worked w count operation)
     (result-stored w p good)))
 
-shift-sound : (cpu : Cpu) (operation : Shift) (w : Width) (p : Place) (count : Count) → IsGoodPlace w p
+shift-sound : (cpu : Cpu) (operation : Shift) (w : Width) (p : OperandPlace) (count : Count) → IsGoodPlace w p
     → are_sound (shift_stmts cpu operation w p count) ≡ true
 shift-sound cpu operation w p count good = go (never_shifts count)
   where
@@ -193,7 +194,8 @@ shift-sound cpu operation w p count good = go (never_shifts count)
 
 -- Moves.
 
-pub mov-sound : (w : Width) (p q : Place) → IsGoodPlace w p → IsGoodPlace w q → are_sound (mov_stmts w p q) ≡ true
+pub mov-sound : (w : Width) (p q : OperandPlace) → IsGoodPlace w p → IsGoodPlace w q → are_sound (mov_stmts w p q)
+    ≡ true
 mov-sound w (byte to) (byte from) good other =
     sound-cons (Set to (Get from)) []
     (set-sound 8 to (Get from) (half-location to good.sound) (get-sound 8 from (half-location from other.sound))) refl
@@ -222,7 +224,7 @@ exchanged a b one other =
     (sound-cons (Set b (left byte_width)) []
     (set-sound 8 b (left byte_width) other (get-sound 8 (left_place byte_width) (left-location byte_width))) refl))
 
-xchg-sound : (w : Width) (p q : Place) → IsGoodPlace w p → IsGoodPlace w q → are_sound (xchg_stmts w p q) ≡ true
+xchg-sound : (w : Width) (p q : OperandPlace) → IsGoodPlace w p → IsGoodPlace w q → are_sound (xchg_stmts w p q) ≡ true
 xchg-sound w (byte a) (byte b) good other = exchanged a b (half-location a good.sound) (half-location b other.sound)
 xchg-sound w (word low high) (word l h) good other =
     let one = halves-located low high good.sound in
@@ -286,7 +288,7 @@ dos-sound (Some n) =
 -- All operations.
 
 -- the operands stand at good places of their widths
-abbrev pub HasGoodPlaces : Op → Place → Place → Type 0
+abbrev pub HasGoodPlaces : Op → OperandPlace → OperandPlace → Type 0
 HasGoodPlaces (AluOp operation a b) p q = IsGoodPlace (operand_width a) p × IsGoodPlace (operand_width a) q
 HasGoodPlaces (UnaryOp operation a) p q = IsGoodPlace (operand_width a) p
 HasGoodPlaces (ShiftOp operation a count) p q = IsGoodPlace (operand_width a) p
@@ -295,13 +297,13 @@ HasGoodPlaces (Xchg a b) p q = IsGoodPlace (operand_width a) p × IsGoodPlace (o
 HasGoodPlaces (Imul3 r a factor) p q = IsGoodPlace word_width p × (factor < 65536)
 HasGoodPlaces op p q = Unit {0}
 
-triple-sound : (r : Reg) (p : Place) (factor : ℕ) → IsGoodPlace word_width p → factor < 65536
+triple-sound : (r : Reg) (p : OperandPlace) (factor : ℕ) → IsGoodPlace word_width p → factor < 65536
     → are_sound (triple_product r p factor) ≡ true
 triple-sound r p factor good fits =
     worked word_width p (constant word_width factor) (product_working word_width true)
     (word_taking r 0 (product word_width)) good (record { width = refl; sound = refl; value = fits }) refl refl
 
-pub op-sound : (cpu : Cpu) (op : Op) (number : Option ℕ) (p q : Place) → HasGoodPlaces op p q
+pub op-sound : (cpu : Cpu) (op : Op) (number : Option ℕ) (p q : OperandPlace) → HasGoodPlaces op p q
     → are_sound (op_stmts cpu op number p q) ≡ true
 op-sound cpu (AluOp operation a b) number p q good = go (is_zeroing operation a b)
   where

@@ -8,7 +8,7 @@ use Rattle.std.proofs.lemmas.List.Folds.{list_all-append}
 use Rattle.dcc_num.specs.declared.Width.{Width}
 use Rattle.dcc_num.specs.declared.Width.TheVariants.{Word as word_width}
 use Rattle.dcc_prog.specs.declared.procedure.Layout.{Layout}
-use Rattle.dcc_prog.specs.Access.{bytes_in}
+use Rattle.dcc_machine.specs.Access.{bytes_in}
 use Rattle.dcc_prog.specs.Frame.{Span, argument_word, IsPiece, IsSlot, IsExposed, below_bp, in_arguments, IsPlaced, by_itself, by_slot}
 use Rattle.dcc_prog.proofs.FrameLaws.{arguments-once}
 use Rattle.dcc_stack.specs.Accepted.{IsFrameFor}
@@ -19,7 +19,7 @@ use Rattle.dcc_ir.specs.Tree.{Address}
 use Rattle.dcc_ir.specs.Passing.{passed, param_of}
 use Rattle.dcc_ir.specs.WellFormed.{is_memory, memory_params_last}
 use Rattle.dcc_ir.proofs.PathLaws.{decided}
-use Rattle.dcc_ops.specs.Place.{Place, memory}
+use Rattle.dcc_ops.specs.OperandPlace.{OperandPlace, memory}
 use Rattle.dcc_simulation.specs.Coupled.{Setting}
 use Rattle.dcc_simulation.specs.Places.{IsFramePlace, in_half, in_cell, in_memory}
 use Rattle.dcc_simulation.specs.Procedures.{Procedure, cells_of, distance_of, cell_place, frame_place}
@@ -39,7 +39,7 @@ module _ (e : Setting) (entry : ℕ) (q : Procedure) (at : IsFoundAt e entry q) 
   abbrev Placed : ℤ → Type 0
   Placed = IsPlaced e.image layout entry
 
-  in-memory : (w : Width) (k : ℤ) (place : Place) → w ≡ word_width → IsFramePlace e entry k w place
+  in-memory : (w : Width) (k : ℤ) (place : OperandPlace) → w ≡ word_width → IsFramePlace e entry k w place
       → is_memory (put_of place) ≡ true
       → Placed k
   in-memory _ k _ same (in_half is) told = cc

@@ -7,7 +7,7 @@ use Rattle.std.proofs.lemmas.List.FromFn.{length-range_with_len, length-map-rang
 use Rattle.std.proofs.lemmas.List.Kept.{IsStrictlyIncreasing-filter}
 use Rattle.std.proofs.lemmas.List.Elements.{All-nil, All-cons, All-weaker}
 use Rattle.std.proofs.lemmas.List.Folds.{list_all-map}
-use Rattle.dcc_prog.specs.declared.image.Image.{Image}
+use Rattle.dcc_machine.specs.declared.image.Image.{Image}
 use Rattle.dcc_prog.specs.declared.frame.Program.{Program as Analysed}
 use Rattle.dcc_prog.specs.Trail.{IsEntry}
 use Rattle.dcc_stack.specs.Slots.{gives_back}
@@ -18,7 +18,7 @@ use Rattle.dcc_ir.specs.Run.{is_call}
 use Rattle.dcc_ir.specs.WellFormed.{all_differ}
 use Rattle.dcc_ir.specs.Passing.{passed, is_word_put, AreNumbers, RetPasses, GraphPasses, CallPasses, StmtPasses, PassesAll}
 use Rattle.dcc_ops.specs.Temporaries.{returned_place}
-use Rattle.dcc_ops.specs.Place.{Place, word}
+use Rattle.dcc_ops.specs.OperandPlace.{OperandPlace, word}
 use Rattle.dcc_simulation.specs.Procedures.{Procedure, frame_place, given_back}
 use Rattle.dcc_simulation.specs.Nodes.{procedures_in}
 use Rattle.dcc_simulation.specs.Passed.{put_of, argument_param, argument_params}
@@ -37,7 +37,7 @@ use Rattle.dcc_lift.proofs.FormProgram.{none-left}
 
 -- Params.
 
-word-put : (place : Place) → is_word_put (put_of place) ≡ true
+word-put : (place : OperandPlace) → is_word_put (put_of place) ≡ true
 word-put (word low high) = refl
 word-put place = refl
 

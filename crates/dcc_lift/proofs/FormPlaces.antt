@@ -17,7 +17,7 @@ use Rattle.dcc_ir.specs.Use.{exprs_of}
 use Rattle.dcc_ir.specs.Run.{is_call}
 use Rattle.dcc_ir.specs.Measure.{depth_of}
 use Rattle.dcc_ops.specs.Temporaries.{temporary_bits, left_place, right_place, result_place}
-use Rattle.dcc_ops.specs.Place.{Place, constant, byte, word, memory, address, computed, place_width, taking, storing, is_half, is_low, is_high, is_sound_place}
+use Rattle.dcc_ops.specs.OperandPlace.{OperandPlace, constant, byte, word, memory, address, computed, place_width, taking, storing, is_half, is_low, is_high, is_sound_place}
 use Rattle.dcc_lift.proofs.ListTests.{and_left, and_right, and_both}
 
 -- Tests.
@@ -171,19 +171,19 @@ join-sound low high l h = rw (l.known, l.wide, h.known, h.wide) refl
 -- Places.
 
 -- what the place holds is sound, where it is no half
-abbrev pub IsGoodValue : Place → Type 0
+abbrev pub IsGoodValue : OperandPlace → Type 0
 IsGoodValue (constant w n) = n < limit_of w
 IsGoodValue (memory w at) = is_sound_expr 16 at ≡ true
 IsGoodValue (address distance) = distance < 65536
 IsGoodValue (computed e) = is_sound_expr 16 e ≡ true
 IsGoodValue place = Unit {0}
 
-pub record IsGoodPlace (w : Width) (p : Place) : Type 0 where
+pub record IsGoodPlace (w : Width) (p : OperandPlace) : Type 0 where
   pub width : place_width p ≡ w
   pub sound : is_sound_place p ≡ true
   pub value : IsGoodValue p
 
-taking-good : (to : Loc) (p : Place) → is_sound_place p ≡ true → IsGoodValue p
+taking-good : (to : Loc) (p : OperandPlace) → is_sound_place p ≡ true → IsGoodValue p
     → IsLocationOf (bits_of (place_width p)) to → is_sound (taking to p) ≡ true
 taking-good to (constant w n) sound good l =
     set-sound (bits_of w) to (Const (bits_of w) n) l (constant-sound w n good)
@@ -199,7 +199,7 @@ taking-good to (address distance) sound good l = set-sound 16 to (Address distan
 taking-good to (computed e) sound good l = set-sound 16 to e l good
 
 -- a location takes what a place holds
-pub taken : (w : Width) (to : Loc) (p : Place) → IsGoodPlace w p → IsLocationOf (bits_of w) to
+pub taken : (w : Width) (to : Loc) (p : OperandPlace) → IsGoodPlace w p → IsLocationOf (bits_of w) to
     → is_sound (taking to p) ≡ true
 taken w to p good l =
     taking-good to p good.sound good.value (subst (λ v. IsLocationOf (bits_of v) to) (sym good.width) l)
@@ -212,7 +212,7 @@ halves-set low high e f sound one other =
     (sound-cons (Set high f) []
     (set-sound 8 high f (high-location high (and_right (is_low low) (is_high high) sound)) other) refl)
 
-storing-good : (p : Place) (from : Loc) → is_sound_place p ≡ true → IsGoodValue p
+storing-good : (p : OperandPlace) (from : Loc) → is_sound_place p ≡ true → IsGoodValue p
     → IsLocationOf (bits_of (place_width p)) from → are_sound (storing p (Get from)) ≡ true
 storing-good (constant w n) from sound good l = refl
 storing-good (byte location) from sound good l =
@@ -227,7 +227,7 @@ storing-good (address distance) from sound good l = refl
 storing-good (computed e) from sound good l = refl
 
 -- a place takes what a location holds
-pub stored : (w : Width) (p : Place) (from : Loc) → IsGoodPlace w p → IsLocationOf (bits_of w) from
+pub stored : (w : Width) (p : OperandPlace) (from : Loc) → IsGoodPlace w p → IsLocationOf (bits_of w) from
     → are_sound (storing p (Get from)) ≡ true
 stored w p from good l =
     storing-good p from good.sound good.value (subst (λ v. IsLocationOf (bits_of v) from) (sym good.width) l)

@@ -3,11 +3,11 @@ use Rattle.std.proofs.Common.{◌≡◌, ◌≢◌, ℕ, ◌-◌, ◌*◌, ◌<�
 use Rattle.std.specs.Prelude.{Contains}
 use Rattle.std.specs.List.{list_any, list_all}
 use Rattle.std.proofs.lemmas.List.Elements.{All-nil, All-cons, All-weaker, All-take, All-drop, All-contains}
-use Rattle.dcc_prog.specs.declared.image.Image.{Image}
+use Rattle.dcc_machine.specs.declared.image.Image.{Image}
 use Rattle.dcc_prog.specs.declared.frame.Program.{Program as Analysed}
-use Rattle.dcc_prog.specs.Load.{load_segment}
+use Rattle.dcc_machine.specs.Load.{load_segment}
 use Rattle.dcc_prog.specs.Trail.{IsEntry}
-use Rattle.dcc_prog.proofs.MzImageLaws.{All-loaded}
+use Rattle.dcc_machine.proofs.MzImageLaws.{All-loaded}
 use Rattle.dcc_ir.specs.declared.syntax.Param.{Param}
 use Rattle.dcc_ir.specs.Tree.{Expr, Stmt, Call, Block, Graph, Program}
 use Rattle.dcc_ir.specs.Location.{location_width}

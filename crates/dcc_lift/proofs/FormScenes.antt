@@ -2,18 +2,18 @@
 use Rattle.std.proofs.Common.{◌≡◌, ℕ, ◌<◌, ◌≤◌, Bool, true, false, if◌then◌else◌, List, [], ◌∷◌, ◌++◌, length, drop, Option, Some, None, refl, sym, subst, arith}
 use Rattle.std.specs.Prelude.{pos}
 use Rattle.std.proofs.lemmas.Option.{slice_get_within}
-use Rattle.dcc_prog.specs.declared.image.Image.{Image}
+use Rattle.dcc_machine.specs.declared.image.Image.{Image}
 use Rattle.dcc_prog.specs.declared.procedure.Layout.{Layout}
 use Rattle.dcc_prog.specs.declared.procedure.Node.{Node}
 use Rattle.dcc_prog.specs.declared.frame.Program.{Program as Analysed}
-use Rattle.dcc_prog.specs.declared.instr.Op.{Op}
-use Rattle.dcc_prog.specs.declared.instr.Op.TheVariants.{Call as CallOp}
+use Rattle.dcc_machine.specs.declared.instr.Op.{Op}
+use Rattle.dcc_machine.specs.declared.instr.Op.TheVariants.{Call as CallOp}
 use Rattle.dcc_prog.specs.Trail.{code_within, IsEntry}
 use Rattle.dcc_prog.specs.Height.{GivesHeight}
 use Rattle.dcc_prog.specs.Found.{IsNodeFound}
-use Rattle.dcc_prog.specs.WellFormed.{IsOperation}
+use Rattle.dcc_machine.specs.WellFormed.{IsOperation}
 use Rattle.dcc_prog.specs.Construct.{is_system}
-use Rattle.dcc_prog.proofs.WellFormedLaws.{AreBytes, instruction-operation}
+use Rattle.dcc_machine.proofs.WellFormedLaws.{AreBytes, instruction-operation}
 use Rattle.dcc_stack.specs.Accepted.{IsAt}
 use Rattle.dcc_stack.proofs.FormHeights.{no-system, heights-fit}
 use Rattle.dcc_ir.specs.Tree.{Stmt, Block, Graph, Program}
@@ -21,7 +21,7 @@ use Rattle.dcc_simulation.specs.Procedures.{Procedure}
 use Rattle.dcc_simulation.specs.Nodes.{procedures_in, IsLifting}
 use Rattle.dcc_simulation.specs.Statements as placed
 use Rattle.dcc_simulation.proofs.TabledOperands.{HavePlaces, instruction-placed}
-use Rattle.dcc_lift.specs.Blocks.{Nodes, node_in, is_call, calls_in, Scene, nodes_in, entry_in, block_place, height_in, node_stmts, stmts_at}
+use Rattle.dcc_lift.specs.Blocks.{Nodes, node_in, is_call, calls_in, BlockSource, nodes_in, entry_in, block_place, height_in, node_stmts, stmts_at}
 use Rattle.dcc_lift.specs.Translated.{setting, IsTranslated}
 use Rattle.dcc_lift.proofs.CodeBounds.{bytes-dropped, code-bytes, loaded-bytes}
 use Rattle.dcc_lift.proofs.ChainLaws.{is_leader}
@@ -49,7 +49,7 @@ no-work = record { sound = refl; plain = refl }
 -- a procedure of the program, where it is translated
 pub record Translated : Type 0 where
   pub procedure : Procedure
-  pub scene : Scene
+  pub scene : BlockSource
   pub nodes : Nodes
   pub graph : Graph
 
@@ -64,7 +64,7 @@ module _ (image : Image) (program : Analysed) (p : Program) (is : IsTranslated i
     abbrev x : Located image program p entry
     x = located_at image program p is entry is_entry
 
-    abbrev scene : Scene
+    abbrev scene : BlockSource
     scene = scene_at image program p is entry is_entry
 
     abbrev pub procedure_at_entry : Procedure

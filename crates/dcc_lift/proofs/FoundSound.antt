@@ -6,18 +6,20 @@ use Rattle.std.proofs.lemmas.List.Elements.{All-weaker, All-take, All-contains_i
 use Rattle.std.proofs.lemmas.List.{length-take-le, get_or-take}
 use Rattle.std.proofs.lemmas.Bool.{cases_lt}
 use Rattle.std.proofs.Math.Nat.{mod-eq_of_lt}
-use Rattle.dcc_prog.specs.declared.image.Image.{Image}
+use Rattle.dcc_machine.specs.declared.image.Image.{Image}
 use Rattle.dcc_prog.specs.declared.procedure.Layout.{Layout}
 use Rattle.dcc_prog.specs.declared.procedure.Node.{Node}
 use Rattle.dcc_prog.specs.declared.procedure.Proc.{Proc}
-use Rattle.dcc_prog.specs.declared.instr.Operand.TheVariants.{Seg}
-use Rattle.dcc_prog.specs.declared.instr.Op.{Op}
-use Rattle.dcc_prog.specs.declared.instr.Op.TheVariants.{Alu as AluOp, Shift as ShiftOp, Mov, Plain as PlainOp, Table, Ret, Int21}
-use Rattle.dcc_prog.specs.declared.instr.Instr.{Instr}
-use Rattle.dcc_prog.specs.MzImage.{IsLoaded}
-use Rattle.dcc_prog.specs.Code.{code_of}
+use Rattle.dcc_machine.specs.declared.instr.Operand.TheVariants.{Seg}
+use Rattle.dcc_machine.specs.declared.instr.Op.{Op}
+use Rattle.dcc_machine.specs.declared.instr.Op.TheVariants.{Alu as AluOp, Shift as ShiftOp, Mov, Plain as PlainOp, Table, Ret, Int21}
+use Rattle.dcc_machine.specs.declared.instr.Instr.{Instr}
+use Rattle.dcc_machine.specs.MzImage.{IsLoaded}
+use Rattle.dcc_machine.specs.Code.{code_of}
 use Rattle.dcc_prog.specs.Layout.{is_prelude_form, writes_ds, IsRun, offset_after, HasLayout}
-use Rattle.dcc_prog.specs.Trail.{instruction_in, next_of, known_ah, is_exit, op_successors, targets_of, instr_successors, successors, IsNode, IsEntry}
+use Rattle.dcc_machine.specs.Successors.{next_of, is_exit, op_successors}
+use Rattle.dcc_prog.specs.declared.refusal.ConstructKind.TheVariants.{OutsideProfile}
+use Rattle.dcc_prog.specs.Trail.{instruction_in, known_ah, targets_of, instr_successors, successors, IsNode, IsEntry}
 use Rattle.dcc_prog.specs.FrameForm.{is_frame_form}
 use Rattle.dcc_prog.specs.Construct.{is_system, foreign}
 use Rattle.dcc_prog.specs.declared.refusal.LimitName.TheVariants.{Instructions}
@@ -77,7 +79,7 @@ module _ (image : Image) (layout : Layout) (procs : List Proc) (are : AreFound i
       untrue (is_system instr.op) (λ h.
       let framed : Bool = is_frame_form image layout entry at instr.op in
       let here : (is_system instr.op || not framed) ≡ true = or_left (is_system instr.op) (not framed) h in
-      are.no_construct 2 at (record {
+      are.no_construct OutsideProfile at (record {
         entry = entry;
         is_entry = is_entry;
         node = node;

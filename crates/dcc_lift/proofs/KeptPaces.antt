@@ -3,15 +3,15 @@ use Rattle.std.proofs.Common.{◌≡◌, inl, inr, ℕ, ◌+◌, ◌≤◌, ◌<
 use Rattle.std.specs.List.{list_any}
 use Rattle.std.proofs.lemmas.List.Elements.{All-nil, All-cons, All-weaker, All-contains_itself}
 use Rattle.std.proofs.lemmas.List.Folds.{list_any_at}
-use Rattle.dcc_run.specs.Place.{Place}
+use Rattle.dcc_run.specs.ProgramPoint.{ProgramPoint}
 use Rattle.dcc_run.specs.Shadows.{KeepsPace, only}
 use Rattle.dcc_run.proofs.PaceLaws.{GoesThrough, kept_places_pace}
-use Rattle.dcc_prog.specs.declared.image.Image.{Image}
+use Rattle.dcc_machine.specs.declared.image.Image.{Image}
 use Rattle.dcc_prog.specs.declared.procedure.Node.{Node}
 use Rattle.dcc_prog.specs.declared.procedure.Proc.{Proc}
 use Rattle.dcc_prog.specs.declared.frame.Program.{Program as Analysed}
-use Rattle.dcc_prog.specs.declared.instr.Op.TheVariants.{Call as CallOp}
-use Rattle.dcc_prog.specs.Code.{code_of}
+use Rattle.dcc_machine.specs.declared.instr.Op.TheVariants.{Call as CallOp}
+use Rattle.dcc_machine.specs.Code.{code_of}
 use Rattle.dcc_prog.specs.Watch.{place_of, watched_machine, first_watch}
 use Rattle.dcc_prog.proofs.PreludeOffsets.{offset-far, offset-end, prelude-short, prelude-some}
 use Rattle.dcc_prog.proofs.WatchLaws.{machine_watchable, in_the_prelude}
@@ -33,7 +33,7 @@ use Rattle.dcc_lift.proofs.RunLaws.{at, far, numbers, past}
 
 -- Kept places that hold the paths.
 
-module _ (c : Runs) (kept : Place → Bool) (holds : HoldsPaths c.program c.p kept) where
+module _ (c : Runs) (kept : ProgramPoint → Bool) (holds : HoldsPaths c.program c.p kept) where
   through : GoesThrough (watched_machine c.program) (StandsAtPlace c.image c.program c.is.of_file)
       (Goes c.image (layout c)) (Leaves c.image (layout c)) (Enters c.image (layout c)) kept 4096
   through = record {
@@ -51,7 +51,7 @@ module _ (c : Runs) (kept : Place → Bool) (holds : HoldsPaths c.program c.p ke
     first = begun-node c input bytes (numbers c input bytes)
 
     -- where the entry procedure begins
-    abbrev place : Place
+    abbrev place : ProgramPoint
     place = record {
       entry = (first).agree.stands.newest.frame.entry;
       at = (entered c input bytes (numbers c input bytes)).ip;
@@ -103,7 +103,7 @@ kept-paced image program p kept is holds input bytes =
 -- The places of blocks hold them.
 
 -- a path along these edges is one along those
-path-along : (these those : ℕ → ℕ → Bool) → ((a b : ℕ) → these a b ≡ true → those a b ≡ true)
+pub path-along : (these those : ℕ → ℕ → Bool) → ((a b : ℕ) → these a b ≡ true → those a b ≡ true)
     → (a : ℕ) (between : List ℕ) (b : ℕ) → IsPath these Any a between b → IsPath those Any a between b
 path-along these those wider a [] b path = wider a b path
 path-along these those wider a (m ∷ between) b path =

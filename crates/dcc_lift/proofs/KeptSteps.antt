@@ -3,17 +3,17 @@
 use Rattle.std.proofs.Common.{◌≡◌, inl, inr, ℕ, pos, false, ◌||◌, List, [], ◌∷◌, Option, Some, None, refl, sym, ap, ◌∙◌, subst}
 use Rattle.std.specs.Prelude.{if◌then◌else◌}
 use Rattle.dcc_run.specs.End.{is_over}
-use Rattle.dcc_run.specs.Place.{Place}
+use Rattle.dcc_run.specs.ProgramPoint.{ProgramPoint}
 use Rattle.dcc_run.proofs.PaceLaws.{Comes, ends, fouls, walks, leaps}
 use Rattle.dcc_num.specs.declared.Reg.TheVariants.{Bp}
-use Rattle.dcc_prog.specs.declared.image.Image.{Image}
+use Rattle.dcc_machine.specs.declared.image.Image.{Image}
 use Rattle.dcc_prog.specs.declared.procedure.Layout.{Layout}
 use Rattle.dcc_prog.specs.declared.frame.Program.{Program as Analysed}
-use Rattle.dcc_prog.specs.declared.instr.Op.{Op}
-use Rattle.dcc_prog.specs.declared.instr.Op.TheVariants.{Call as CallOp, Ret as RetOp}
-use Rattle.dcc_prog.specs.declared.instr.Instr.{Instr}
-use Rattle.dcc_prog.specs.Machine.{State as Machine, word_in}
-use Rattle.dcc_prog.specs.Step.{step}
+use Rattle.dcc_machine.specs.declared.instr.Op.{Op}
+use Rattle.dcc_machine.specs.declared.instr.Op.TheVariants.{Call as CallOp, Ret as RetOp}
+use Rattle.dcc_machine.specs.declared.instr.Instr.{Instr}
+use Rattle.dcc_machine.specs.Machine.{State as Machine, word_in}
+use Rattle.dcc_machine.specs.Step.{step}
 use Rattle.dcc_prog.specs.Trail.{StandsAt, IsTrail, IsNode, IsEdge}
 use Rattle.dcc_prog.specs.Clean.{LiveFrame, Stack, Foul, top_in, foul_of, stack_after}
 use Rattle.dcc_prog.specs.Watch.{InProcedures, Watch, next_instruction, next_foul, is_foul, made, watch_step, place_of, watched_machine}
@@ -44,7 +44,7 @@ module _ (image : Image) (program : Analysed) (of : IsProgramOfFile program.layo
   within s stack = record { machine = s; stage = InProcedures stack }
 
   -- the machine stands in the procedure of the newest frame, and goes on
-  pub record StandsAtPlace (w : Watch) (place : Place) : Type 0 where
+  pub record StandsAtPlace (w : Watch) (place : ProgramPoint) : Type 0 where
     pub state_of : Machine
     pub stack : Stack
     pub same : w ≡ within state_of stack
@@ -52,22 +52,22 @@ module _ (image : Image) (program : Analysed) (of : IsProgramOfFile program.layo
     pub stands : StackStands image layout state_of stack
     pub place_is : place ≡ record { entry = stands.newest.frame.entry; at = state_of.ip }
 
-  abbrev To : Place → Watch → Type 0
+  abbrev To : ProgramPoint → Watch → Type 0
   To = Comes (watched_machine program) StandsAtPlace (Goes image layout) (Leaves image layout) (Enters image layout)
 
-  pub place-mark : (w : Watch) (place : Place) → StandsAtPlace w place → place_of layout w ≡ Some place
+  pub place-mark : (w : Watch) (place : ProgramPoint) → StandsAtPlace w place → place_of layout w ≡ Some place
   place-mark w place h =
       ap (place_of layout) h.same
       ∙ ap (λ (frames : List LiveFrame). place_of layout
       (within h.state_of (record { frames = frames; written = h.stack.written }))) (sym h.stands.frames)
       ∙ ap Some (sym h.place_is)
 
-  pub place-running : (w : Watch) (place : Place) → StandsAtPlace w place → is_over w.machine.end ≡ false
+  pub place-running : (w : Watch) (place : ProgramPoint) → StandsAtPlace w place → is_over w.machine.end ≡ false
   place-running w place h = ap (λ (v : Watch). is_over v.machine.end) h.same ∙ h.running
 
   module _ (s : Machine) (stack : Stack) (running : is_over s.end ≡ false)
       (stands : StackStands image layout s stack) where
-    abbrev here : Place
+    abbrev here : ProgramPoint
     here = record { entry = stands.newest.frame.entry; at = s.ip }
 
     newest : StandsIn image layout s.memory stands.newest (top_in layout s) (word_in s Bp)
@@ -99,7 +99,7 @@ module _ (image : Image) (program : Analysed) (of : IsProgramOfFile program.layo
     -- After a clean step that doesn't end the run.
 
     module _ (v : StandsAfter image program s stack stands) (goes_on : is_over (next).end ≡ false) where
-      abbrev there : Place
+      abbrev there : ProgramPoint
       there = record { entry = v.after.newest.frame.entry; at = (next).ip }
 
       stands-there : StandsAtPlace (within next next_stack) there
@@ -200,7 +200,7 @@ module _ (image : Image) (program : Analysed) (of : IsProgramOfFile program.layo
               | inr on ↦ clean-comes (steps_stand layout.cpu image program s stack of stands running e on) on
             ])
 
-  pub place-steps : (w : Watch) (place : Place) → StandsAtPlace w place → To place (watch_step program w)
+  pub place-steps : (w : Watch) (place : ProgramPoint) → StandsAtPlace w place → To place (watch_step program w)
   place-steps w place h =
       subst (λ (v : Watch). To place (watch_step program v)) (sym h.same)
       (subst (λ q. To q (watch_step program (within h.state_of h.stack))) (sym h.place_is)

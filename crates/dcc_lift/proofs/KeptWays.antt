@@ -4,16 +4,16 @@ use Rattle.std.proofs.Common.{◌≡◌, ◌≢◌, ◌≤◌, ◌<◌, ◌⊎�
 use Rattle.std.specs.List.{list_any}
 use Rattle.std.proofs.lemmas.List.{get_or-map, length-map}
 use Rattle.std.proofs.lemmas.List.Elements.{All-nil, All-cons, All-map, All-weaker, All-contains}
-use Rattle.dcc_run.specs.Place.{Place}
+use Rattle.dcc_run.specs.ProgramPoint.{ProgramPoint}
 use Rattle.dcc_run.proofs.WayLaws.{IsWay, AllClosedHold, origin}
-use Rattle.dcc_prog.specs.declared.image.Image.{Image}
+use Rattle.dcc_machine.specs.declared.image.Image.{Image}
 use Rattle.dcc_prog.specs.declared.procedure.Layout.{Layout}
 use Rattle.dcc_prog.specs.declared.procedure.Node.{Node}
 use Rattle.dcc_prog.specs.declared.procedure.Proc.{Proc}
 use Rattle.dcc_prog.specs.declared.frame.Program.{Program as Analysed}
-use Rattle.dcc_prog.specs.declared.instr.Op.{Op}
-use Rattle.dcc_prog.specs.declared.instr.Op.TheVariants.{Call as CallOp, Ret as RetOp}
-use Rattle.dcc_prog.specs.declared.instr.Instr.{Instr}
+use Rattle.dcc_machine.specs.declared.instr.Op.{Op}
+use Rattle.dcc_machine.specs.declared.instr.Op.TheVariants.{Call as CallOp, Ret as RetOp}
+use Rattle.dcc_machine.specs.declared.instr.Instr.{Instr}
 use Rattle.dcc_prog.specs.Trail.{StandsAt, IsTrail, IsEntry, IsNode, IsEdge}
 use Rattle.dcc_ir.specs.Tree.{Expr, Ret, Block, Program}
 use Rattle.dcc_ir.specs.Run.{graph_at}
@@ -22,7 +22,7 @@ use Rattle.dcc_ir.proofs.PathLaws.{decided, clash, nor, path-append, path_any, n
 use Rattle.dcc_ir.proofs.ReachedLaws.{contained}
 use Rattle.dcc_simulation.specs.Passed.{returned_values, exit_of}
 use Rattle.dcc_simulation.proofs.FoundProcedures.{listed}
-use Rattle.dcc_lift.specs.Blocks.{Nodes, node_in, successors_in, is_call, calls_in, if_joins, onward, IsChain, Scene, nodes_in, entry_in, block_place, node_exit, exit_at, last_of}
+use Rattle.dcc_lift.specs.Blocks.{Nodes, node_in, successors_in, is_call, calls_in, if_joins, onward, IsChain, BlockSource, nodes_in, entry_in, block_place, node_exit, exit_at, last_of}
 use Rattle.dcc_lift.specs.Sound.{GoesOnAt, AreSound}
 use Rattle.dcc_lift.specs.Lifted.{procedure_flow, HoldsPathsOf, HoldsPaths}
 use Rattle.dcc_lift.specs.Laws.{IsFlowOfTrails}
@@ -41,20 +41,20 @@ one-instr e = cc
 
 module _ (image : Image) (layout : Layout) where
   -- from one place to another the procedure has an edge
-  pub record Goes (a b : Place) : Type 0 where
+  pub record Goes (a b : ProgramPoint) : Type 0 where
     pub is_entry : IsEntry image layout a.entry
     pub same : b.entry ≡ a.entry
     pub edge : IsEdge image layout a.entry a.at b.at
 
   -- at the place a run leaves its procedure, by a call or a return
-  pub record Leaves (a : Place) : Type 0 where
+  pub record Leaves (a : ProgramPoint) : Type 0 where
     pub is_entry : IsEntry image layout a.entry
     pub node : IsNode image layout a.entry a.at
     pub by : ((target : ℕ) × StandsAt image layout a.at (CallOp target))
         ⊎ ((count : ℕ) × StandsAt image layout a.at (RetOp count))
 
   -- at the place a run comes to its procedure: at the entry, or after a call
-  pub data Enters (b : Place) : Type 0 where
+  pub data Enters (b : ProgramPoint) : Type 0 where
     begins : b.at ≡ b.entry → Enters b
     comes_back : (from target : ℕ) → IsEdge image layout b.entry from b.at → StandsAt image layout from (CallOp target)
         → Enters b
@@ -66,11 +66,11 @@ module _ (image : Image) (layout : Layout) where
   edge-to entry a b edge = record { before = a ∷ edge.before; trail = edge.trail }
 
 module _ (image : Image) (program : Analysed) (p : Program) (is : IsTranslated image program p)
-    (kept : Place → Bool) (holds : HoldsPaths program p kept) where
+    (kept : ProgramPoint → Bool) (holds : HoldsPaths program p kept) where
   open program use {layout}
 
   -- along edges of a procedure, past places that aren't kept
-  abbrev pub Way : Place → List Place → Type 0
+  abbrev pub Way : ProgramPoint → List ProgramPoint → Type 0
   Way = IsWay kept (Goes image layout)
 
   module _ (entry : ℕ) (is_entry : IsEntry image layout entry) where
@@ -80,7 +80,7 @@ module _ (image : Image) (program : Analysed) (p : Program) (is : IsTranslated i
     abbrev proc : Proc
     proc = (x).proc
 
-    abbrev scene : Scene
+    abbrev scene : BlockSource
     scene = scene_at image program p is entry is_entry
 
     abbrev nodes : Nodes
@@ -117,14 +117,14 @@ module _ (image : Image) (program : Analysed) (p : Program) (is : IsTranslated i
         reached_along (procedure_flow proc) Any from [] at (reached from before trail.1)
         (((flow).edges from at).1 (record { before = before; trail = trail }))
 
-    other : (c : Place) → c.entry ≡ entry → kept c ≡ false → IsOther c.at
+    other : (c : ProgramPoint) → c.entry ≡ entry → kept c ≡ false → IsOther c.at
     other c same none = sym (ap (λ n. kept (record { entry = n; at = c.at })) same) ∙ none
 
-    edge-here : (b c : Place) → b.entry ≡ entry → Goes image layout b c → IsEdge image layout entry b.at c.at
+    edge-here : (b c : ProgramPoint) → b.entry ≡ entry → Goes image layout b c → IsEdge image layout entry b.at c.at
     edge-here b c same goes = subst (λ n. IsEdge image layout n b.at c.at) same goes.edge
 
     -- a way is a path
-    way-path : (c b : Place) (before : List Place) → c.entry ≡ entry → Way c (b ∷ before)
+    way-path : (c b : ProgramPoint) (before : List ProgramPoint) → c.entry ≡ entry → Way c (b ∷ before)
         → (between : List ℕ) × IsPath (procedure_flow proc).goes IsOther (origin b before).at between c.at
     way-path c b [] same way =
         ([], ((flow).edges b.at c.at).1 (edge-here b c (sym way.1.same ∙ same) way.1))
@@ -137,12 +137,12 @@ module _ (image : Image) (program : Analysed) (p : Program) (is : IsTranslated i
               (((flow).edges b.at c.at).1 (edge-here b c first way.1)),
         )
 
-    pub none-closes : (c b : Place) (before : List Place) → c.entry ≡ entry → Way c (b ∷ before)
+    pub none-closes : (c b : ProgramPoint) (before : List ProgramPoint) → c.entry ≡ entry → Way c (b ∷ before)
         → origin b before ≡ c → ⊥
     none-closes c b before same way back =
         let path = way-path c b before same way in
         let round : IsPath (procedure_flow proc).goes IsOther c.at path.0 c.at =
-        subst (λ (q : Place). IsPath (procedure_flow proc).goes IsOther q.at path.0 c.at) back path.1 in
+        subst (λ (q : ProgramPoint). IsPath (procedure_flow proc).goes IsOther q.at path.0 c.at) back path.1 in
         let edge = edge-here b c (sym way.1.same ∙ same) way.1 in
         clash
         ((here).cycles c.at path.0 (reached c.at (b.at ∷ edge.before) edge.trail)
@@ -152,10 +152,10 @@ module _ (image : Image) (program : Analysed) (p : Program) (is : IsTranslated i
 
     -- The instructions of a way.
 
-    abbrev IsOwn : Place → Type 0
+    abbrev IsOwn : ProgramPoint → Type 0
     IsOwn c = (c.entry ≡ entry) × IsNode image layout entry c.at
 
-    way-own : (c : Place) (before : List Place) → IsOwn c → Way c before → All IsOwn (c ∷ before)
+    way-own : (c : ProgramPoint) (before : List ProgramPoint) → IsOwn c → Way c before → All IsOwn (c ∷ before)
     way-own c [] own way = All-cons IsOwn c [] own (All-nil IsOwn)
     way-own c (b ∷ before) own way =
         let first : b.entry ≡ entry = sym way.1.same ∙ own.0 in
@@ -163,25 +163,25 @@ module _ (image : Image) (program : Analysed) (p : Program) (is : IsTranslated i
         (way-own b before
         (first, edge-from image layout entry b.at c.at (edge-here b c first way.1)) way.2)
 
-    pub few-differ : (c : Place) (before : List Place) → IsOwn c → Way c before
+    pub few-differ : (c : ProgramPoint) (before : List ProgramPoint) → IsOwn c → Way c before
         → AllPairs (λ a b. a ≢ b) (c ∷ before) → length (c ∷ before) ≤ 4096
     few-differ c before own way differ =
         subst (λ n. n ≤ 4096) count
         (few-nodes image layout program.procs.items is.of_file.is_program.procs entry is_entry
         (map offset (c ∷ before))
         (All-map (IsNode image layout entry) offset (c ∷ before)
-        (All-weaker IsOwn (λ (q : Place). IsNode image layout entry q.at) (λ q o. o.1) (c ∷ before) all))
+        (All-weaker IsOwn (λ (q : ProgramPoint). IsNode image layout entry q.at) (λ q o. o.1) (c ∷ before) all))
         (λ i j d less inside same.
         let low : j < length (c ∷ before) = subst (λ n. j < n) count inside in
         let less' : i < length (c ∷ before) = omega (arith, less, low) in
-        let one : Place = get_or (c ∷ before) i c in
-        let two : Place = get_or (c ∷ before) j c in
+        let one : ProgramPoint = get_or (c ∷ before) i c in
+        let two : ProgramPoint = get_or (c ∷ before) j c in
         let ats : one.at ≡ two.at =
         sym (get_or-map offset (c ∷ before) i c d less') ∙ same ∙ get_or-map offset (c ∷ before) j c d low in
         differ i j c less low
         (ap₂ (λ n m. record { entry = n; at = m }) ((all i c less').0 ∙ sym (all j c low).0) ats)))
       where
-        offset : Place → ℕ
+        offset : ProgramPoint → ℕ
         offset q = q.at
 
         all : All IsOwn (c ∷ before)
@@ -214,7 +214,7 @@ module _ (image : Image) (program : Analysed) (p : Program) (is : IsTranslated i
         sym (goes_on_is nodes a b (nodes_differ nodes (entry_in scene) image.ip sound)) ∙ ((flow).edges a b).1 edge
 
     -- a block begins where a run comes to the procedure
-    enters-leader : (b : Place) → b.entry ≡ entry → Enters image layout b
+    enters-leader : (b : ProgramPoint) → b.entry ≡ entry → Enters image layout b
         → is_leader nodes (entry_in scene) b.at ≡ true
     enters-leader b same (begins first) =
         subst (λ n. is_leader nodes (entry_in scene) n ≡ true) ((x).entry_is ∙ sym (first ∙ same))
@@ -261,7 +261,8 @@ module _ (image : Image) (program : Analysed) (p : Program) (is : IsTranslated i
         ∙ ap (if_joins nodes (entry_in scene)) none
 
     -- on the way back from a return the beginning of its block is passed
-    none-returns : (c : Place) (before : List Place) (count : ℕ) (rest : List ℕ) → c.entry ≡ entry → Way c before
+    none-returns : (c : ProgramPoint) (before : List ProgramPoint) (count : ℕ) (rest : List ℕ) → c.entry ≡ entry
+        → Way c before
         → Enters image layout (origin c before) → kept (origin c before) ≡ false → IsNode image layout entry c.at
         → IsChain nodes (entry_in scene) c.at rest → IsAt (last_of c.at rest) (RetOp count) → ⊥
     none-returns c [] count rest same way enters none node chain last =
@@ -284,7 +285,7 @@ module _ (image : Image) (program : Analysed) (p : Program) (is : IsTranslated i
             let joins = no_leader_joins nodes (entry_in scene) image.ip sound c.at (((flow).nodes c.at).1 node) inner in
             on (edge_to_joined nodes (entry_in scene) image.ip sound b.at c.at joins (goes-there b.at c.at edge))
 
-    pub none-leaves : (c : Place) (before : List Place) → c.entry ≡ entry → Way c before
+    pub none-leaves : (c : ProgramPoint) (before : List ProgramPoint) → c.entry ≡ entry → Way c before
         → Enters image layout (origin c before) → kept (origin c before) ≡ false → kept c ≡ false
         → IsNode image layout entry c.at
         → ((target : ℕ) × StandsAt image layout c.at (CallOp target))
@@ -297,7 +298,8 @@ module _ (image : Image) (program : Analysed) (p : Program) (is : IsTranslated i
 
   -- The laws of ways.
 
-  still-other : (c : Place) (before : List Place) → Way c before → kept (origin c before) ≡ false → kept c ≡ false
+  still-other : (c : ProgramPoint) (before : List ProgramPoint) → Way c before → kept (origin c before) ≡ false → kept c
+      ≡ false
   still-other c [] way none = none
   still-other c (b ∷ before) way none = way.0
 
@@ -305,13 +307,14 @@ module _ (image : Image) (program : Analysed) (p : Program) (is : IsTranslated i
   closed-ways c b before way back =
       none-closes c.entry (subst (IsEntry image layout) (sym way.1.same) way.1.is_entry) c b before refl way back
 
-  pub crossing-ways : (c : Place) (before : List Place) → Way c before → Enters image layout (origin c before)
+  pub crossing-ways : (c : ProgramPoint) (before : List ProgramPoint) → Way c before
+      → Enters image layout (origin c before)
       → kept (origin c before) ≡ false → Leaves image layout c → ⊥
   crossing-ways c before way enters none leaves =
       none-leaves c.entry leaves.is_entry c before refl way enters none (still-other c before way none) leaves.node
       leaves.by
 
-  pub short-ways : (c : Place) (before : List Place) → Way c before → AllPairs (λ a b. a ≢ b) (c ∷ before)
+  pub short-ways : (c : ProgramPoint) (before : List ProgramPoint) → Way c before → AllPairs (λ a b. a ≢ b) (c ∷ before)
       → length (c ∷ before) ≤ 4096
   short-ways c [] way differ = omega arith
   short-ways c (b ∷ before) way differ =

@@ -6,7 +6,7 @@ pub mod IncomingLaws
 pub mod LeaderLaws
 pub mod BegunLaws
 pub mod StartingLaws
-mod TrailFlow
+pub mod TrailFlow
 mod ListLaws
 mod ProcedureLaws
 mod KnownLaws

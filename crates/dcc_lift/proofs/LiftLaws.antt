@@ -1,5 +1,5 @@
 -- All that is known of the program that `lift` gives, from the laws of translated programs.
-use Rattle.dcc_prog.specs.declared.image.Image.{Image}
+use Rattle.dcc_machine.specs.declared.image.Image.{Image}
 use Rattle.dcc_prog.specs.declared.frame.Program.{Program as Analysed}
 use Rattle.dcc_ir.specs.Tree.{Program}
 use Rattle.dcc_lift.specs.Lifted.{IsLifted, IsLiftOf}

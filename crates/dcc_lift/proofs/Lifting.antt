@@ -5,13 +5,13 @@ use Rattle.std.specs.List.{list_any, AllZip}
 use Rattle.std.proofs.lemmas.List.{append-nil}
 use Rattle.std.proofs.lemmas.List.Elements.{All-head, All-tail}
 use Rattle.std.proofs.lemmas.Option.{slice_get-get_or}
-use Rattle.dcc_prog.specs.declared.image.Image.{Image}
+use Rattle.dcc_machine.specs.declared.image.Image.{Image}
 use Rattle.dcc_prog.specs.declared.procedure.Layout.{Layout}
 use Rattle.dcc_prog.specs.declared.procedure.Node.{Node}
 use Rattle.dcc_prog.specs.declared.procedure.Proc.{Proc}
 use Rattle.dcc_prog.specs.declared.frame.Frame.{Frame}
 use Rattle.dcc_prog.specs.declared.frame.Program.{Program as Analysed}
-use Rattle.dcc_prog.specs.declared.instr.Op.TheVariants.{Call}
+use Rattle.dcc_machine.specs.declared.instr.Op.TheVariants.{Call}
 use Rattle.dcc_prog.specs.Trail.{IsTrail, IsNode, IsEntry}
 use Rattle.dcc_prog.specs.Height.{GivesHeight, IsHeight}
 use Rattle.dcc_prog.specs.Found.{IsNodeFound, AreFound}
@@ -25,7 +25,7 @@ use Rattle.dcc_simulation.specs.Nodes.{procedures_in, IsGraphFor, HasCall, IsLif
 use Rattle.dcc_simulation.specs.Statements as placed
 use Rattle.dcc_simulation.specs.Statements.{calling}
 use Rattle.dcc_simulation.specs.Passed.{params_of, exit_of}
-use Rattle.dcc_lift.specs.Blocks.{Nodes, node_in, is_call, calls_in, leaders, Scene, nodes_in, entry_in, block_place, height_in, node_stmts, stmts_at, node_exit, exit_at, last_of, IsBlockAt}
+use Rattle.dcc_lift.specs.Blocks.{Nodes, node_in, is_call, calls_in, leaders, BlockSource, nodes_in, entry_in, block_place, height_in, node_stmts, stmts_at, node_exit, exit_at, last_of, IsBlockAt}
 use Rattle.dcc_lift.specs.Sound.{AreSound}
 use Rattle.dcc_lift.specs.Translated.{setting}
 use Rattle.dcc_lift.specs.Translation.{prelude_block, IsGraphOf, scenes_of, IsTranslation}
@@ -110,7 +110,7 @@ module _ (image : Image) (program : Analysed) (p : Program) where
   abbrev pub procedure_of : (entry : ℕ) → Located entry → Procedure
   procedure_of entry x = record { proc = x.proc; frame = x.frame; delta = program.layout.delta }
 
-  abbrev pub scene_of : (entry : ℕ) → Located entry → Scene
+  abbrev pub scene_of : (entry : ℕ) → Located entry → BlockSource
   scene_of entry x = record {
     cpu = program.layout.cpu;
     procedures = procedures_in program;
@@ -153,7 +153,7 @@ module _ (image : Image) (program : Analysed) (p : Program)
       )
 
   module _ (entry : ℕ) (is_entry : IsEntry image layout entry) (x : Located image program p entry) where
-    abbrev scene : Scene
+    abbrev scene : BlockSource
     scene = scene_of image program p entry x
 
     is_entry_of : IsEntry image layout x.proc.entry

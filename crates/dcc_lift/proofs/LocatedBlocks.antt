@@ -2,13 +2,13 @@
 -- that chains without CALLs hold no Call.
 use Rattle.std.proofs.Common.{◌≡◌, ℕ, suc, Bool, true, false, List, [], ◌∷◌, ◌++◌, length, flat_map, Option, Some, None, refl, sym, ap, ◌∙◌, subst, eqb-true, eq-eqb, arith}
 use Rattle.std.specs.Prelude.{◌==◌, if◌then◌else◌, slice_get}
-use Rattle.dcc_prog.specs.declared.image.Image.{Image}
+use Rattle.dcc_machine.specs.declared.image.Image.{Image}
 use Rattle.dcc_prog.specs.declared.procedure.Node.{Node}
 use Rattle.dcc_prog.specs.declared.frame.Program.{Program as Analysed}
 use Rattle.dcc_prog.specs.Trail.{IsEntry}
 use Rattle.dcc_ir.specs.Tree.{Graph, Program}
 use Rattle.dcc_ir.specs.Run.{graph_at}
-use Rattle.dcc_lift.specs.Blocks.{node_in, calls_in, IsChain, leaders, place_in, Scene, nodes_in, entry_in, block_place, height_in, node_stmts, stmts_at}
+use Rattle.dcc_lift.specs.Blocks.{node_in, calls_in, IsChain, leaders, place_in, BlockSource, nodes_in, entry_in, block_place, height_in, node_stmts, stmts_at}
 use Rattle.dcc_lift.specs.Translated.{IsTranslated}
 use Rattle.dcc_lift.specs.Sound.{AreSound}
 use Rattle.dcc_lift.specs.Translation.{prelude_block}
@@ -20,7 +20,7 @@ use Rattle.dcc_lift.proofs.Lifting.{Located, scene_of, before_of, locate, sound}
 
 -- Chains without CALLs.
 
-module _ (scene : Scene) (prelude : ℕ) (sound_here : AreSound (nodes_in scene) (entry_in scene) prelude) where
+module _ (scene : BlockSource) (prelude : ℕ) (sound_here : AreSound (nodes_in scene) (entry_in scene) prelude) where
   pub stmts-free : (at : ℕ) → calls_in (node_in (nodes_in scene) at) ≡ false → IsCallFree (stmts_at scene at)
   stmts-free at none = go (height_in scene.heights at) (node_in (nodes_in scene) at) none
     where
@@ -41,7 +41,7 @@ module _ (image : Image) (program : Analysed) (p : Program) (is : IsTranslated i
   abbrev pub located_at : (entry : ℕ) → IsEntry image program.layout entry → Located image program p entry
   located_at entry is_entry = (locate image program p is.of_file is.translation entry is_entry).0
 
-  abbrev pub scene_at : (entry : ℕ) → IsEntry image program.layout entry → Scene
+  abbrev pub scene_at : (entry : ℕ) → IsEntry image program.layout entry → BlockSource
   scene_at entry is_entry = scene_of image program p entry (located_at entry is_entry)
 
   pub sound_at : (entry : ℕ) (is_entry : IsEntry image program.layout entry)
@@ -116,7 +116,7 @@ module _ (image : Image) (program : Analysed) (p : Program) (is : IsTranslated i
   pub begins-with : (entry : ℕ) (is_entry : IsEntry image program.layout entry) → BeginsWith entry is_entry
   begins-with entry is_entry = by (program.layout.start_ip == entry) refl
     where
-      scene : Scene
+      scene : BlockSource
       scene = scene_at entry is_entry
 
       by : (b : Bool) → (program.layout.start_ip == entry) ≡ b → BeginsWith entry is_entry

@@ -5,11 +5,11 @@ use Rattle.std.specs.List.{AllZip}
 use Rattle.std.proofs.lemmas.Bool.{cases_lt}
 use Rattle.std.proofs.lemmas.Int.{ints}
 use Rattle.std.proofs.lemmas.List.Elements.{All-nil, All-cons, All-head, All-tail}
-use Rattle.dcc_prog.specs.declared.image.Image.{Image}
+use Rattle.dcc_machine.specs.declared.image.Image.{Image}
 use Rattle.dcc_prog.specs.declared.procedure.Layout.{Layout}
 use Rattle.dcc_prog.specs.declared.procedure.Node.{Node}
 use Rattle.dcc_prog.specs.declared.procedure.Proc.{Proc}
-use Rattle.dcc_prog.specs.declared.refusal.construct.TheConstants.{HEIGHTS}
+use Rattle.dcc_prog.specs.declared.refusal.ConstructKind.TheVariants.{StackHeight}
 use Rattle.dcc_prog.specs.Trail.{IsNode, IsEntry}
 use Rattle.dcc_prog.specs.Found.{IsNodeFound, IsFound}
 use Rattle.dcc_prog.specs.Construct.{bad_height}
@@ -34,7 +34,7 @@ module _ (image : Image) (layout : Layout) (accepted : IsAcceptedByHeights image
   low_height entry at height is_entry node is = elim (cases_lt greatest_height height) [
     | inl more ↦
         absurd
-        (accepted.no_construct HEIGHTS at
+        (accepted.no_construct StackHeight at
         (record {
           entry = entry;
           is_entry = is_entry;

@@ -5,11 +5,11 @@ use Rattle.std.specs.List.{list_any}
 use Rattle.std.proofs.lemmas.List.{append-nil}
 use Rattle.std.proofs.lemmas.List.Folds.{list_any-append}
 use Rattle.dcc_run.specs.End.{End, Running, is_over}
-use Rattle.dcc_prog.specs.declared.image.Image.{Image}
+use Rattle.dcc_machine.specs.declared.image.Image.{Image}
 use Rattle.dcc_prog.specs.declared.procedure.Node.{Node}
 use Rattle.dcc_prog.specs.declared.frame.Program.{Program as Analysed}
-use Rattle.dcc_prog.specs.declared.instr.Op.{Op}
-use Rattle.dcc_prog.specs.declared.instr.Op.TheVariants.{Alu as AluOp, Shift as ShiftOp, Mov, Branch}
+use Rattle.dcc_machine.specs.declared.instr.Op.{Op}
+use Rattle.dcc_machine.specs.declared.instr.Op.TheVariants.{Alu as AluOp, Shift as ShiftOp, Mov, Branch}
 use Rattle.dcc_prog.specs.Trail.{IsTrail, IsEntry}
 use Rattle.dcc_stack.specs.Accepted.{IsProgramOfFile}
 use Rattle.dcc_ir.specs.Tree.{Expr, Stmt, Exit, Goto, If, Switch, Ret as RetTo, Stop, Program}
@@ -22,7 +22,7 @@ use Rattle.dcc_ops.specs.Temporaries.{temporary_bits}
 use Rattle.dcc_simulation.specs.Nodes.{leads_to}
 use Rattle.dcc_simulation.specs.Passed.{exit_of}
 use Rattle.dcc_simulation.specs.Procedures.{Procedure}
-use Rattle.dcc_lift.specs.Blocks.{Nodes, successors_in, IsChain, last_of, Scene, nodes_in, entry_in, stmts_at}
+use Rattle.dcc_lift.specs.Blocks.{Nodes, successors_in, IsChain, last_of, BlockSource, nodes_in, entry_in, stmts_at}
 use Rattle.dcc_lift.specs.Sound.{AreSound, GoesOnAt}
 use Rattle.dcc_lift.specs.Translation.{IsTranslation}
 use Rattle.dcc_lift.proofs.CallFree.{IsCallFree}
@@ -106,7 +106,7 @@ module _ (image : Image) (program : Analysed) (p : Program) (well : IsProgram p)
   abbrev procedure : Procedure
   procedure = procedure_of image program p entry x
 
-  abbrev scene : Scene
+  abbrev scene : BlockSource
   scene = scene_of image program p entry x
 
   abbrev nodes : Nodes

@@ -4,13 +4,14 @@ use Rattle.std.proofs.Common.{◌≡◌, ℕ, Bool, true, false, ◌||◌, not, 
 use Rattle.std.specs.Prelude.{◌==◌, if◌then◌else◌, All}
 use Rattle.std.specs.List.{list_any}
 use Rattle.std.proofs.lemmas.List.Folds.{list_any-append}
-use Rattle.dcc_prog.specs.declared.image.Image.{Image}
+use Rattle.dcc_machine.specs.declared.image.Image.{Image}
 use Rattle.dcc_prog.specs.declared.frame.Program.{Program as Analysed}
-use Rattle.dcc_prog.specs.declared.instr.Op.{Op}
-use Rattle.dcc_prog.specs.declared.instr.Op.TheVariants.{Table, Ret as RetOp, Int21}
-use Rattle.dcc_prog.specs.declared.refusal.construct.TheConstants.{ENTRY_RETURN}
+use Rattle.dcc_machine.specs.declared.instr.Op.{Op}
+use Rattle.dcc_machine.specs.declared.instr.Op.TheVariants.{Table, Ret as RetOp, Int21}
+use Rattle.dcc_prog.specs.declared.refusal.ConstructKind.TheVariants.{EntryReturn}
 use Rattle.dcc_prog.specs.Construct.{returns, entry_return}
-use Rattle.dcc_prog.specs.Trail.{next_of, known_ah, targets_of, op_successors, IsNode, IsEntry, start}
+use Rattle.dcc_machine.specs.Successors.{next_of, op_successors}
+use Rattle.dcc_prog.specs.Trail.{known_ah, targets_of, IsNode, IsEntry, start}
 use Rattle.dcc_ir.specs.Tree.{Expr, Stmt, Block, Program}
 use Rattle.dcc_ir.specs.WellFormed.{IsProgram}
 use Rattle.dcc_ir.specs.Ends.{IsNeverStuck, is_ret, is_stop, is_exit_call, stops_soundly, HasSoundEnds}
@@ -21,7 +22,7 @@ use Rattle.dcc_simulation.specs.Nodes.{procedures_in}
 use Rattle.dcc_simulation.specs.Passed.{exit_of}
 use Rattle.dcc_simulation.specs.Procedures.{Procedure}
 use Rattle.dcc_simulation.specs.Statements.{moves_frame, working_stmts}
-use Rattle.dcc_lift.specs.Blocks.{last_of, Scene, nodes_in, entry_in, block_place, stmts_at, node_exit, IsBlockAt}
+use Rattle.dcc_lift.specs.Blocks.{last_of, BlockSource, nodes_in, entry_in, block_place, stmts_at, node_exit, IsBlockAt}
 use Rattle.dcc_lift.specs.Translated.{IsTranslated}
 use Rattle.dcc_lift.proofs.ListTests.{or_here, or_there}
 use Rattle.dcc_lift.proofs.ChainLaws.{leader_node, last_node}
@@ -72,7 +73,7 @@ module _ (image : Image) (program : Analysed) (p : Program) (well : IsProgram p)
   open program use {layout}
 
   module _ (entry : ℕ) (is_entry : IsEntry image layout entry) where
-    abbrev scene : Scene
+    abbrev scene : BlockSource
     scene = scene_of_entry image program p is entry is_entry
 
     abbrev procedure : Procedure
@@ -157,7 +158,7 @@ module _ (image : Image) (program : Analysed) (p : Program) (well : IsProgram p)
           let h = has.is_here in
           let ret = return-is procedure h.node.instr.op (map (block_place scene) h.node.succ.items)
           (sym (ap is_ret has.exit) ∙ gives) in
-          absurd (is.of_file.is_program.procs.no_construct ENTRY_RETURN (last_of at is_block.rest) (record {
+          absurd (is.of_file.is_program.procs.no_construct EntryReturn (last_of at is_block.rest) (record {
             entry = entry;
             is_entry = is_entry;
             node = record { before = has.before; trail = h.trail };

@@ -5,7 +5,7 @@ use Rattle.std.specs.Prelude.{◌==◌, not, if◌then◌else◌, slice_get, get
 use Rattle.std.specs.List.{list_any, AllZip}
 use Rattle.std.proofs.lemmas.List.Elements.{All-nil, All-cons, All-head, All-tail, All-append, All-weaker, All-contains, All-contains_itself}
 use Rattle.std.proofs.lemmas.Option.{slice_get-get_or}
-use Rattle.dcc_prog.specs.declared.image.Image.{Image}
+use Rattle.dcc_machine.specs.declared.image.Image.{Image}
 use Rattle.dcc_prog.specs.declared.procedure.Layout.{Layout}
 use Rattle.dcc_prog.specs.declared.procedure.Proc.{Proc}
 use Rattle.dcc_prog.specs.declared.frame.Frame.{Frame}

@@ -11,31 +11,31 @@ use Rattle.dcc_num.specs.declared.Reg.TheVariants.{Ax, Cx, Dx, Bx, Sp, Bp, Si, D
 use Rattle.dcc_num.specs.declared.Half.TheVariants.{Low, High}
 use Rattle.dcc_num.specs.declared.FlagName.{FlagName}
 use Rattle.dcc_num.specs.declared.FlagName.TheVariants.{Cf, Zf, Sf, Of}
-use Rattle.dcc_prog.specs.declared.cpu.Cpu.{Cpu}
-use Rattle.dcc_prog.specs.declared.image.Image.{Image}
+use Rattle.dcc_machine.specs.declared.cpu.Cpu.{Cpu}
+use Rattle.dcc_machine.specs.declared.image.Image.{Image}
 use Rattle.dcc_prog.specs.declared.procedure.Layout.{Layout}
-use Rattle.dcc_prog.specs.declared.instr.Operand.{Operand}
-use Rattle.dcc_prog.specs.declared.instr.Operand.TheVariants.{Word, Byte, Seg, Mem, Const as Constant}
-use Rattle.dcc_prog.specs.declared.instr.Op.{Op}
-use Rattle.dcc_prog.specs.declared.instr.Op.TheVariants.{Alu as AluOp, Shift as ShiftOp, Mov, Branch}
-use Rattle.dcc_prog.specs.Machine.{State as Machine, reg_number, word_in, start_state}
-use Rattle.dcc_prog.specs.MzImage.{IsLoaded}
+use Rattle.dcc_machine.specs.declared.instr.Operand.{Operand}
+use Rattle.dcc_machine.specs.declared.instr.Operand.TheVariants.{Word, Byte, Seg, Mem, Const as Constant}
+use Rattle.dcc_machine.specs.declared.instr.Op.{Op}
+use Rattle.dcc_machine.specs.declared.instr.Op.TheVariants.{Alu as AluOp, Shift as ShiftOp, Mov, Branch}
+use Rattle.dcc_machine.specs.Machine.{State as Machine, reg_number, word_in, start_state, is_general}
+use Rattle.dcc_machine.specs.MzImage.{IsLoaded}
 use Rattle.dcc_prog.specs.Layout.{HasLayout}
-use Rattle.dcc_prog.specs.Code.{HoldsCode}
-use Rattle.dcc_prog.specs.StateForm.{IsState}
-use Rattle.dcc_prog.specs.Step.{op_step}
-use Rattle.dcc_prog.specs.Trail.{is_general, op_successors}
-use Rattle.dcc_prog.specs.WellFormed.{IsOperand, IsOperation}
-use Rattle.dcc_prog.specs.Writes.{writes_operand}
-use Rattle.dcc_prog.proofs.FetchLaws.{image-placed, start-holds, code-kept, code-part}
-use Rattle.dcc_prog.proofs.StartState.{starts-are}
+use Rattle.dcc_machine.specs.Code.{HoldsCode}
+use Rattle.dcc_machine.specs.StateForm.{IsState}
+use Rattle.dcc_machine.specs.Step.{op_step}
+use Rattle.dcc_machine.specs.Successors.{op_successors}
+use Rattle.dcc_machine.specs.WellFormed.{IsOperand, IsOperation}
+use Rattle.dcc_machine.specs.Writes.{writes_operand}
+use Rattle.dcc_machine.proofs.FetchLaws.{image-placed, start-holds, code-kept, code-part}
+use Rattle.dcc_machine.proofs.StartState.{starts-are}
 use Rattle.dcc_stack.proofs.TableGoes.{op-goes}
 use Rattle.dcc_ir.specs.declared.syntax.Loc.TheVariants.{Half, Flag}
 use Rattle.dcc_ir.specs.Location.{Values}
 use Rattle.dcc_ir.specs.Value.{Fits}
 use Rattle.dcc_ir.specs.Run.{State, scene_of, value_in, setting, execute}
 use Rattle.dcc_ops.specs.Temporaries.{temporary_bits}
-use Rattle.dcc_ops.specs.Place.{is_sound_place}
+use Rattle.dcc_ops.specs.OperandPlace.{is_sound_place}
 use Rattle.dcc_ops.specs.Registers.{is_register, is_source, register_place}
 use Rattle.dcc_ops.specs.Coupling.{HoldFlags, IsCoupling, IsRead, IsWritten, IsWrittenIf}
 use Rattle.dcc_ops.specs.Expressions.{condition}

@@ -4,11 +4,11 @@ use Rattle.std.specs.Prelude.{if◌then◌else◌, slice_get, option_map, Contai
 use Rattle.std.proofs.lemmas.List.{append-nil}
 use Rattle.dcc_run.specs.End.{is_over}
 use Rattle.dcc_run.specs.System.{after}
-use Rattle.dcc_prog.specs.declared.image.Image.{Image}
+use Rattle.dcc_machine.specs.declared.image.Image.{Image}
 use Rattle.dcc_prog.specs.declared.frame.Program.{Program as Analysed}
-use Rattle.dcc_prog.specs.declared.instr.Op.{Op}
-use Rattle.dcc_prog.specs.declared.instr.Op.TheVariants.{Call as CallOp}
-use Rattle.dcc_prog.specs.declared.instr.Instr.{Instr}
+use Rattle.dcc_machine.specs.declared.instr.Op.{Op}
+use Rattle.dcc_machine.specs.declared.instr.Op.TheVariants.{Call as CallOp}
+use Rattle.dcc_machine.specs.declared.instr.Instr.{Instr}
 use Rattle.dcc_prog.specs.Trail.{operation_in, IsEntry, called}
 use Rattle.dcc_stack.specs.Accepted.{IsAt}
 use Rattle.dcc_ir.specs.Location.{filled}
@@ -24,7 +24,7 @@ use Rattle.dcc_simulation.specs.Passed.{exit_of}
 use Rattle.dcc_simulation.specs.Procedures.{Procedure, given_back}
 use Rattle.dcc_simulation.specs.Statements.{results_of, arguments_of, taking_all_back}
 use Rattle.dcc_simulation.specs.Statements as placed
-use Rattle.dcc_lift.specs.Blocks.{node_in, is_call, calls_in, last_of, Scene, nodes_in, entry_in, block_place, stmts_at, node_exit}
+use Rattle.dcc_lift.specs.Blocks.{node_in, is_call, calls_in, last_of, BlockSource, nodes_in, entry_in, block_place, stmts_at, node_exit}
 use Rattle.dcc_lift.specs.Translated.{IsTranslated}
 use Rattle.dcc_lift.specs.Translation.{prelude_block}
 use Rattle.dcc_lift.proofs.CallFree.{IsCallFree, back-free}
@@ -117,7 +117,7 @@ module _ (image : Image) (program : Analysed) (p : Program) (well : IsProgram p)
         by false e still = ends e still
 
     module _ (a : AtBlock image program p is t) where
-      abbrev scene : Scene
+      abbrev scene : BlockSource
       scene = scene_of_entry image program p is a.entry a.is_entry
 
       abbrev last : ℕ

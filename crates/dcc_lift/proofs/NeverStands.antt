@@ -4,10 +4,10 @@ use Rattle.std.proofs.Common.{◌≡◌, ℕ, Bool, true, false, List, [], ◌�
 use Rattle.std.specs.Prelude.{◌==◌, slice_get, option_map, Contains}
 use Rattle.std.specs.List.{list_any}
 use Rattle.dcc_run.specs.End.{Running, is_over}
-use Rattle.dcc_prog.specs.declared.image.Image.{Image}
+use Rattle.dcc_machine.specs.declared.image.Image.{Image}
 use Rattle.dcc_prog.specs.declared.frame.Program.{Program as Analysed}
-use Rattle.dcc_prog.specs.declared.instr.Op.{Op}
-use Rattle.dcc_prog.specs.declared.instr.Op.TheVariants.{Call as CallOp}
+use Rattle.dcc_machine.specs.declared.instr.Op.{Op}
+use Rattle.dcc_machine.specs.declared.instr.Op.TheVariants.{Call as CallOp}
 use Rattle.dcc_prog.specs.Trail.{IsTrail, IsEntry}
 use Rattle.dcc_ir.specs.declared.syntax.Loc.{Loc}
 use Rattle.dcc_ir.specs.Tree.{Stmt, Exit, Ret as RetTo, Block, Graph, Program}
@@ -18,7 +18,7 @@ use Rattle.dcc_ops.specs.Temporaries.{temporary_bits}
 use Rattle.dcc_simulation.specs.Nodes.{leads_to}
 use Rattle.dcc_simulation.specs.Passed.{exit_of}
 use Rattle.dcc_simulation.specs.Procedures.{Procedure}
-use Rattle.dcc_lift.specs.Blocks.{successors_in, Scene, nodes_in, entry_in, block_place, IsBlockAt}
+use Rattle.dcc_lift.specs.Blocks.{successors_in, BlockSource, nodes_in, entry_in, block_place, IsBlockAt}
 use Rattle.dcc_lift.specs.Translated.{IsTranslated}
 use Rattle.dcc_lift.specs.Translation.{prelude_block}
 use Rattle.dcc_lift.proofs.CallFree.{IsCallFree}
@@ -51,7 +51,7 @@ module _ (image : Image) (program : Analysed) (p : Program) (is : IsTranslated i
   abbrev pub graph_of : (entry : ℕ) → IsEntry image layout entry → Graph
   graph_of entry is_entry = (located_at image program p is entry is_entry).graph
 
-  abbrev pub scene_of_entry : (entry : ℕ) → IsEntry image layout entry → Scene
+  abbrev pub scene_of_entry : (entry : ℕ) → IsEntry image layout entry → BlockSource
   scene_of_entry entry is_entry = scene_at image program p is entry is_entry
 
   abbrev pub leads : (entry : ℕ) → IsEntry image layout entry → ℕ → Bool

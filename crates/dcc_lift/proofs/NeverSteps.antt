@@ -5,15 +5,16 @@ use Rattle.std.specs.Prelude.{option_map}
 use Rattle.std.proofs.lemmas.List.FromFn.{length-map-range_with_len}
 use Rattle.dcc_run.specs.End.{Running, is_over}
 use Rattle.dcc_num.specs.declared.Reg.{Reg}
-use Rattle.dcc_prog.specs.declared.image.Image.{Image}
+use Rattle.dcc_machine.specs.declared.image.Image.{Image}
 use Rattle.dcc_prog.specs.declared.procedure.Node.{Node}
 use Rattle.dcc_prog.specs.declared.frame.Program.{Program as Analysed}
-use Rattle.dcc_prog.specs.declared.instr.Operand.TheVariants.{Word}
-use Rattle.dcc_prog.specs.declared.instr.Op.TheVariants.{Table}
-use Rattle.dcc_prog.specs.declared.instr.Instr.{Instr}
-use Rattle.dcc_prog.specs.Machine.{State as Machine, word_in}
-use Rattle.dcc_prog.specs.Step.{op_step, step}
-use Rattle.dcc_prog.specs.Trail.{instruction_in, next_of, operation_in, is_general, known_ah, table_targets, word_in_segment, targets_of, op_successors, instr_successors, IsTrail, IsEntry}
+use Rattle.dcc_machine.specs.declared.instr.Operand.TheVariants.{Word}
+use Rattle.dcc_machine.specs.declared.instr.Op.TheVariants.{Table}
+use Rattle.dcc_machine.specs.declared.instr.Instr.{Instr}
+use Rattle.dcc_machine.specs.Machine.{State as Machine, word_in, is_general}
+use Rattle.dcc_machine.specs.Step.{op_step, step}
+use Rattle.dcc_machine.specs.Successors.{next_of, op_successors}
+use Rattle.dcc_prog.specs.Trail.{instruction_in, operation_in, known_ah, table_targets, word_in_segment, targets_of, instr_successors, IsTrail, IsEntry}
 use Rattle.dcc_prog.specs.Found.{IsNodeFound}
 use Rattle.dcc_prog.specs.RunLaws.{HasPassed, begun, stepped}
 use Rattle.dcc_prog.proofs.PassedRuns.{passed-state}
@@ -36,7 +37,7 @@ use Rattle.dcc_simulation.specs.Operands.{first_place, second_place}
 use Rattle.dcc_simulation.specs.Passed.{exit_of}
 use Rattle.dcc_simulation.specs.Procedures.{Procedure}
 use Rattle.dcc_simulation.proofs.ExitsLead.{IsGeneralTable, general-table}
-use Rattle.dcc_lift.specs.Blocks.{node_in, Scene, nodes_in, stmts_at}
+use Rattle.dcc_lift.specs.Blocks.{node_in, BlockSource, nodes_in, stmts_at}
 use Rattle.dcc_lift.specs.Translation.{IsTranslation}
 use Rattle.dcc_lift.proofs.Lifting.{Located, procedure_of, scene_of, node-at, stmts-at, told-at}
 use Rattle.dcc_lift.proofs.NeverForms.{is_followed, is_followed_in, followed, followed-more, followed-none, table-followed}
@@ -49,7 +50,7 @@ module _ (image : Image) (program : Analysed) (p : Program)
     (of_file : IsProgramOfFile program.layout.cpu image program)
     (translation : IsTranslation image program.layout program.procs.items program.heights program.cells p) (entry : ℕ)
     (is_entry : IsEntry image program.layout entry) (x : Located image program p entry) where
-  abbrev scene : Scene
+  abbrev scene : BlockSource
   scene = scene_of image program p entry x
 
   abbrev procedure : Procedure

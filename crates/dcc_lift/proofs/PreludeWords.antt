@@ -8,27 +8,27 @@ use Rattle.dcc_num.specs.declared.Width.TheVariants.{Word as word_width}
 use Rattle.dcc_num.specs.declared.Flags.{Flags}
 use Rattle.dcc_num.specs.Numbers.{limit_of}
 use Rattle.dcc_num.specs.Shift.{shl_of}
-use Rattle.dcc_prog.specs.declared.cpu.Cpu.{Cpu}
-use Rattle.dcc_prog.specs.declared.image.Image.{Image}
+use Rattle.dcc_machine.specs.declared.cpu.Cpu.{Cpu}
+use Rattle.dcc_machine.specs.declared.image.Image.{Image}
 use Rattle.dcc_prog.specs.declared.procedure.Layout.{Layout}
-use Rattle.dcc_prog.specs.declared.instr.Alu.TheVariants.{Add, Sub}
-use Rattle.dcc_prog.specs.declared.instr.Shift.TheVariants.{Shl}
-use Rattle.dcc_prog.specs.declared.instr.Plain.TheVariants.{Nop, Cli, Sti, Cld}
-use Rattle.dcc_prog.specs.declared.instr.Operand.TheVariants.{Word, Byte, Seg, Const}
-use Rattle.dcc_prog.specs.declared.instr.Op.{Op}
-use Rattle.dcc_prog.specs.declared.instr.Op.TheVariants.{Alu as AluOp, Shift as ShiftOp, Mov, Plain as PlainOp}
-use Rattle.dcc_prog.specs.declared.instr.Instr.{Instr}
-use Rattle.dcc_prog.specs.MzImage.{IsLoaded}
-use Rattle.dcc_prog.specs.Load.{prefix_segment}
-use Rattle.dcc_prog.specs.Code.{code_of}
-use Rattle.dcc_prog.specs.Machine.{State, reg_number, word_in, half_of_word, word_with_half, start_state}
-use Rattle.dcc_prog.specs.Step.{op_step}
+use Rattle.dcc_machine.specs.declared.instr.Alu.TheVariants.{Add, Sub}
+use Rattle.dcc_machine.specs.declared.instr.Shift.TheVariants.{Shl}
+use Rattle.dcc_machine.specs.declared.instr.Plain.TheVariants.{Nop, Cli, Sti, Cld}
+use Rattle.dcc_machine.specs.declared.instr.Operand.TheVariants.{Word, Byte, Seg, Const}
+use Rattle.dcc_machine.specs.declared.instr.Op.{Op}
+use Rattle.dcc_machine.specs.declared.instr.Op.TheVariants.{Alu as AluOp, Shift as ShiftOp, Mov, Plain as PlainOp}
+use Rattle.dcc_machine.specs.declared.instr.Instr.{Instr}
+use Rattle.dcc_machine.specs.MzImage.{IsLoaded}
+use Rattle.dcc_machine.specs.Load.{prefix_segment}
+use Rattle.dcc_machine.specs.Code.{code_of}
+use Rattle.dcc_machine.specs.Machine.{State, reg_number, word_in, half_of_word, word_with_half, start_state}
+use Rattle.dcc_machine.specs.Step.{op_step}
 use Rattle.dcc_prog.specs.Layout.{is_prelude_form, IsRun, HasLayout}
-use Rattle.dcc_prog.specs.Operations.{count_in}
-use Rattle.dcc_prog.specs.WellFormed.{IsOperation}
-use Rattle.dcc_prog.proofs.MzImageLaws.{word_at-lt}
+use Rattle.dcc_machine.specs.Operations.{count_in}
+use Rattle.dcc_machine.specs.WellFormed.{IsOperation}
+use Rattle.dcc_machine.proofs.MzImageLaws.{word_at-lt}
 use Rattle.dcc_prog.proofs.PreludeSteps.{executed, state_after-is}
-use Rattle.dcc_prog.proofs.WellFormedLaws.{AreBytes, instruction-operation}
+use Rattle.dcc_machine.proofs.WellFormedLaws.{AreBytes, instruction-operation}
 use Rattle.dcc_ops.proofs.SumValues.{sum_below, difference_below}
 use Rattle.dcc_lift.proofs.CodeBounds.{bytes-dropped, whole-bytes, loaded-bytes}
 

@@ -3,9 +3,9 @@ use Rattle.std.proofs.Common.{◌≡◌, ℕ, pos, true, false, if◌then◌else
 use Rattle.std.specs.List.{list_any}
 use Rattle.std.proofs.lemmas.List.Folds.{list_any-append}
 use Rattle.dcc_prog.specs.declared.procedure.Node.{Node}
-use Rattle.dcc_prog.specs.declared.instr.Instr.{Instr}
-use Rattle.dcc_prog.specs.declared.instr.Op.TheVariants.{Call as CallOp}
-use Rattle.dcc_prog.specs.Machine.{State as Machine}
+use Rattle.dcc_machine.specs.declared.instr.Instr.{Instr}
+use Rattle.dcc_machine.specs.declared.instr.Op.TheVariants.{Call as CallOp}
+use Rattle.dcc_machine.specs.Machine.{State as Machine}
 use Rattle.dcc_prog.specs.Trail.{IsEntry}
 use Rattle.dcc_prog.specs.Found.{IsNodeFound}
 use Rattle.dcc_prog.specs.Clean.{Stack}

@@ -13,12 +13,11 @@ use Rattle.dcc_num.specs.declared.Half.TheVariants.{Low, High}
 use Rattle.dcc_num.specs.declared.FlagName.{FlagName}
 use Rattle.dcc_num.specs.declared.FlagName.TheVariants.{Cf, Zf, Sf, Of}
 use Rattle.dcc_num.specs.declared.Flags.{Flags}
-use Rattle.dcc_prog.specs.MzImage.{IsLoaded}
-use Rattle.dcc_prog.specs.Machine.{State as Machine, word_in, reg_number, start_state}
+use Rattle.dcc_machine.specs.MzImage.{IsLoaded}
+use Rattle.dcc_machine.specs.Machine.{State as Machine, word_in, reg_number, start_state, is_general}
 use Rattle.dcc_prog.specs.Layout.{HasLayout, offset_after}
-use Rattle.dcc_prog.specs.Trail.{is_general}
 use Rattle.dcc_prog.specs.Clean.{LiveFrame, Stack, top_in, first_stack}
-use Rattle.dcc_prog.specs.Load.{load_segment}
+use Rattle.dcc_machine.specs.Load.{load_segment}
 use Rattle.dcc_prog.proofs.StackMarks.{none-marked}
 use Rattle.dcc_prog.proofs.PreludeOffsets.{prelude-short}
 use Rattle.dcc_prog.proofs.PreludeSteps.{executed, at_offset, steps-from_start, state_after-is}

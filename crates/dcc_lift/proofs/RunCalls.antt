@@ -2,8 +2,9 @@
 use Rattle.std.proofs.Common.{◌≡◌, inl, inr, ℕ, suc, ◌+◌, pos, true, false, ◌==◌, if◌then◌else◌, List, ◌∷◌, map, slice_get, Contains, Option, Some, None, refl, sym, ap, ◌∙◌, subst, eqb-true, eq-eqb, arith}
 use Rattle.dcc_run.specs.Shadows.{still_related}
 use Rattle.dcc_num.specs.declared.Reg.TheVariants.{Bp}
-use Rattle.dcc_prog.specs.declared.instr.Op.TheVariants.{Call as CallOp}
-use Rattle.dcc_prog.specs.Machine.{State as Machine, word_in}
+use Rattle.dcc_machine.specs.declared.instr.Op.TheVariants.{Call as CallOp}
+use Rattle.dcc_machine.specs.Machine.{State as Machine, word_in}
+use Rattle.dcc_prog.specs.declared.refusal.ConstructKind.TheVariants.{EntryReturn}
 use Rattle.dcc_prog.specs.Trail.{IsEntry, StandsAt, called}
 use Rattle.dcc_prog.specs.Construct.{entry_return, calls}
 use Rattle.dcc_prog.specs.Clean.{LiveFrame, Stack, Foul, top_in, frames_after}
@@ -22,7 +23,7 @@ use Rattle.dcc_simulation.specs.Procedures.{Procedure, given_back}
 use Rattle.dcc_simulation.specs.Statements.{results_of, arguments_of, calling, taking_all_back}
 use Rattle.dcc_simulation.proofs.CallNodes.{call-nodes-agree}
 use Rattle.dcc_simulation.proofs.Next.{next-stands}
-use Rattle.dcc_lift.specs.Blocks.{node_in, leaders, place_in, Scene, nodes_in, entry_in, block_place, IsBlockAt}
+use Rattle.dcc_lift.specs.Blocks.{node_in, leaders, place_in, BlockSource, nodes_in, entry_in, block_place, IsBlockAt}
 use Rattle.dcc_lift.proofs.ChainLaws.{is_leader, entry_is_leader}
 use Rattle.dcc_lift.proofs.BlockLaws.{HasBlock}
 use Rattle.dcc_lift.proofs.ShownRuns.{call-soon}
@@ -63,7 +64,7 @@ module _ (c : Runs) (entry : ℕ) (is_entry : IsEntry c.image (layout c) entry) 
     (t : Inner)
     (a : AtNode c entry s stack t) (target : ℕ)
     (is : (node c entry is_entry s stack t a).instr.op ≡ CallOp target) where
-  abbrev scene : Scene
+  abbrev scene : BlockSource
   scene = scene_at c entry is_entry
 
   abbrev p : Procedure
@@ -86,7 +87,7 @@ module _ (c : Runs) (entry : ℕ) (is_entry : IsEntry c.image (layout c) entry) 
   is_target : IsEntry c.image (layout c) target
   is_target = called is_entry (node_here c entry is_entry s stack t a).2.node call-stands
 
-  abbrev home : Scene
+  abbrev home : BlockSource
   home = scene_at c target is_target
 
   -- the called procedure isn't the entry procedure, which nothing calls
@@ -94,7 +95,7 @@ module _ (c : Runs) (entry : ℕ) (is_entry : IsEntry c.image (layout c) entry) 
   other = elim (decided ((layout c).start_ip == target)) [
     | inr different ↦ different
     | inl same ↦
-        absurd (c.is.of_file.is_program.procs.no_construct 11 s.ip (record {
+        absurd (c.is.of_file.is_program.procs.no_construct EntryReturn s.ip (record {
           entry = entry;
           is_entry = is_entry;
           node = (node_here c entry is_entry s stack t a).2.node;

@@ -7,10 +7,10 @@ use Rattle.dcc_run.specs.Watched.{state, IsQuiet, IsQuietUntil}
 use Rattle.dcc_run.specs.Shadows.{ComesTo, still_related, both_over}
 use Rattle.dcc_run.proofs.PaceLaws.{quiet_before}
 use Rattle.dcc_prog.specs.declared.procedure.Node.{Node}
-use Rattle.dcc_prog.specs.declared.instr.Op.{Op}
-use Rattle.dcc_prog.specs.declared.instr.Op.TheVariants.{Call, Ret}
-use Rattle.dcc_prog.specs.Machine.{State as Machine}
-use Rattle.dcc_prog.specs.Step.{step as machine_step}
+use Rattle.dcc_machine.specs.declared.instr.Op.{Op}
+use Rattle.dcc_machine.specs.declared.instr.Op.TheVariants.{Call, Ret}
+use Rattle.dcc_machine.specs.Machine.{State as Machine}
+use Rattle.dcc_machine.specs.Step.{step as machine_step}
 use Rattle.dcc_prog.specs.Trail.{IsEntry}
 use Rattle.dcc_prog.specs.Clean.{LiveFrame, Stack, Foul, top_in, foul_of, stack_after}
 use Rattle.dcc_prog.specs.CleanLaws.{moves_frames}
@@ -24,7 +24,7 @@ use Rattle.dcc_simulation.specs.Passed.{exit_of}
 use Rattle.dcc_simulation.specs.Statements as placed
 use Rattle.dcc_simulation.proofs.NodesAgree.{nodes-agree}
 use Rattle.dcc_simulation.proofs.ExitsLead.{exits-lead}
-use Rattle.dcc_lift.specs.Blocks.{Nodes, node_in, successors_in, is_call, calls_in, IsChain, Scene, nodes_in, entry_in, block_place, stmts_at, node_exit, exit_at, last_of}
+use Rattle.dcc_lift.specs.Blocks.{Nodes, node_in, successors_in, is_call, calls_in, IsChain, BlockSource, nodes_in, entry_in, block_place, stmts_at, node_exit, exit_at, last_of}
 use Rattle.dcc_lift.specs.Sound.{GoesOnAt}
 use Rattle.dcc_lift.proofs.ListTests.{any_contained}
 use Rattle.dcc_lift.proofs.NodeLaws.{node_in_has, node_in_holds}
@@ -42,7 +42,7 @@ ret-of (Ret count) moves other = (count, refl)
 ret-of op moves other = cc
 
 module _ (c : Runs) (entry : ℕ) (is_entry : IsEntry c.image (layout c) entry) where
-  abbrev scene : Scene
+  abbrev scene : BlockSource
   scene = scene_at c entry is_entry
 
   abbrev nodes : Nodes

@@ -9,7 +9,7 @@ use Rattle.dcc_run.specs.Shadows.{ComesTo, still_related, AreMatched, Shadows, k
 use Rattle.dcc_run.proofs.PaceLaws.{quiet_once}
 use Rattle.dcc_run.proofs.KeptLaws.{only_watchable}
 use Rattle.dcc_run.proofs.ShadowLaws.{shadows_from_matched}
-use Rattle.dcc_prog.specs.declared.image.Image.{Image}
+use Rattle.dcc_machine.specs.declared.image.Image.{Image}
 use Rattle.dcc_prog.specs.declared.frame.Program.{Program as Analysed}
 use Rattle.dcc_prog.specs.Watch.{Watch, place_of, watched_machine, first_watch}
 use Rattle.dcc_prog.proofs.PreludeOffsets.{prelude-some}

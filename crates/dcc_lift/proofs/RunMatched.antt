@@ -3,14 +3,14 @@ use Rattle.std.proofs.Common.{◌≡◌, ℕ, zero, suc, ◌<◌, Bool, true, fa
 use Rattle.dcc_run.specs.End.{is_over}
 use Rattle.dcc_run.specs.Watched.{state, IsQuiet, IsQuietUntil}
 use Rattle.dcc_run.specs.Shadows.{ComesTo, Matches}
-use Rattle.dcc_prog.specs.declared.instr.Op.{Op}
-use Rattle.dcc_prog.specs.declared.instr.Op.TheVariants.{Call as CallOp}
-use Rattle.dcc_prog.specs.Machine.{State as Machine}
+use Rattle.dcc_machine.specs.declared.instr.Op.{Op}
+use Rattle.dcc_machine.specs.declared.instr.Op.TheVariants.{Call as CallOp}
+use Rattle.dcc_machine.specs.Machine.{State as Machine}
 use Rattle.dcc_prog.specs.Trail.{IsEntry}
 use Rattle.dcc_prog.specs.Clean.{Stack}
 use Rattle.dcc_prog.specs.Watch.{Watch}
 use Rattle.dcc_ir.specs.Run.{State as Inner, block_step, step}
-use Rattle.dcc_lift.specs.Blocks.{node_in, is_call, calls_in, IsChain, Scene, nodes_in, entry_in, stmts_at, exit_at, last_of}
+use Rattle.dcc_lift.specs.Blocks.{node_in, is_call, calls_in, IsChain, BlockSource, nodes_in, entry_in, stmts_at, exit_at, last_of}
 use Rattle.dcc_lift.proofs.RunScenes.{Runs, layout, machine, inner, within, scene_at, AtNode, node_here, goes, inner_goes}
 use Rattle.dcc_lift.proofs.RunArrives.{InBlock, block-mark, inner-mark}
 use Rattle.dcc_lift.proofs.RunNodes.{Through}
@@ -43,7 +43,7 @@ module _ (c : Runs) where
       → Through c b.state_of b.stack (block_step c.p.graphs c.fill t.running.rest t)
   block-through w t b = by (calls_in (node_in (nodes_in scene) b.state_of.ip)) refl
     where
-      scene : Scene
+      scene : BlockSource
       scene = scene_at c b.entry b.is_entry
 
       by : (call : Bool) → calls_in (node_in (nodes_in (scene_at c b.entry b.is_entry)) b.state_of.ip) ≡ call

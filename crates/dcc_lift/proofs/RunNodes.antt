@@ -4,9 +4,9 @@ use Rattle.dcc_run.specs.Prefix.{IsPrefix}
 use Rattle.dcc_run.specs.Watched.{state, IsQuiet, IsQuietUntil}
 use Rattle.dcc_run.specs.Shadows.{ComesTo, first_foul}
 use Rattle.dcc_run.proofs.PaceLaws.{quiet_once}
-use Rattle.dcc_prog.specs.declared.instr.Op.{Op}
-use Rattle.dcc_prog.specs.declared.instr.Op.TheVariants.{Table, Ret}
-use Rattle.dcc_prog.specs.Machine.{State as Machine}
+use Rattle.dcc_machine.specs.declared.instr.Op.{Op}
+use Rattle.dcc_machine.specs.declared.instr.Op.TheVariants.{Table, Ret}
+use Rattle.dcc_machine.specs.Machine.{State as Machine}
 use Rattle.dcc_prog.specs.Trail.{IsEntry}
 use Rattle.dcc_prog.specs.Clean.{Stack, Foul, foul_of}
 use Rattle.dcc_prog.specs.Watch.{Watch}

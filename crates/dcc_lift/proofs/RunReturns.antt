@@ -5,12 +5,13 @@ use Rattle.std.specs.List.{list_any}
 use Rattle.dcc_run.specs.End.{Running, is_over}
 use Rattle.dcc_run.specs.Watched.{state, IsQuiet}
 use Rattle.dcc_run.specs.Shadows.{ComesTo, still_related}
-use Rattle.dcc_run.specs.Place.{Place}
+use Rattle.dcc_run.specs.ProgramPoint.{ProgramPoint}
 use Rattle.dcc_run.proofs.PaceLaws.{quiet_once}
 use Rattle.dcc_num.specs.declared.Reg.TheVariants.{Bp}
-use Rattle.dcc_prog.specs.declared.instr.Op.TheVariants.{Call as CallOp, Ret}
-use Rattle.dcc_prog.specs.Machine.{State as Machine, word_in}
-use Rattle.dcc_prog.specs.Trail.{IsEntry, next_of, known_ah, op_successors, targets_of, instr_successors}
+use Rattle.dcc_machine.specs.declared.instr.Op.TheVariants.{Call as CallOp, Ret}
+use Rattle.dcc_machine.specs.Machine.{State as Machine, word_in}
+use Rattle.dcc_machine.specs.Successors.{next_of, op_successors}
+use Rattle.dcc_prog.specs.Trail.{IsEntry, known_ah, targets_of, instr_successors}
 use Rattle.dcc_prog.specs.Clean.{LiveFrame, Stack, top_in, frames_after}
 use Rattle.dcc_stack.specs.Accepted.{IsAt}
 use Rattle.dcc_stack.specs.Standing.{Activation, StackStands}
@@ -26,7 +27,7 @@ use Rattle.dcc_simulation.specs.Passed.{returned_values, exit_of}
 use Rattle.dcc_simulation.specs.Statements as placed
 use Rattle.dcc_simulation.proofs.Next.{next-stands}
 use Rattle.dcc_simulation.proofs.ReturnNodes.{return-nodes-agree}
-use Rattle.dcc_lift.specs.Blocks.{Nodes, node_in, successors_in, is_call, calls_in, onward, Scene, nodes_in, entry_in, block_place, stmts_at, node_exit, exit_at}
+use Rattle.dcc_lift.specs.Blocks.{Nodes, node_in, successors_in, is_call, calls_in, onward, BlockSource, nodes_in, entry_in, block_place, stmts_at, node_exit, exit_at}
 use Rattle.dcc_lift.specs.Sound.{AreSound}
 use Rattle.dcc_lift.proofs.ListTests.{any_contained}
 use Rattle.dcc_lift.proofs.ChainLaws.{is_leader, onward_tells, last_goes_to_leaders}
@@ -52,7 +53,7 @@ module _ (c : Runs) (entry : ℕ) (is_entry : IsEntry c.image (layout c) entry) 
     (t : Inner)
     (a : AtNode c entry s stack t) (count : ℕ) (clean : foul c entry is_entry s stack t a ≡ None)
     (is : (node c entry is_entry s stack t a).instr.op ≡ Ret count) where
-  abbrev scene : Scene
+  abbrev scene : BlockSource
   scene = scene_at c entry is_entry
 
   abbrev p : Procedure
@@ -103,7 +104,7 @@ module _ (c : Runs) (entry : ℕ) (is_entry : IsEntry c.image (layout c) entry) 
   abbrev known : IsCaller c caller a.agree.stands.newest.frame.entry w
   known = (waiting-caller).3
 
-  abbrev home : Scene
+  abbrev home : BlockSource
   home = scene_at c caller.frame.entry (known).is_entry
 
   -- The machine goes on at the instruction after the CALL.
@@ -252,7 +253,7 @@ module _ (c : Runs) (entry : ℕ) (is_entry : IsEntry c.image (layout c) entry) 
         clean = refl;
       }
         where
-          mark : Bool → Option Place
+          mark : Bool → Option ProgramPoint
           mark b =
               if b then
               Some (record { entry = (returned p t).running.graph.entry; at = (returned p t).running.block.at })

@@ -2,16 +2,16 @@
 use Rattle.std.proofs.Common.{◌≡◌, ◌<◌, inl, inr, ℕ, pos, Bool, true, false, ◌||◌, ◌==◌, if◌then◌else◌, List, [], ◌∷◌, ◌++◌, length, Some, None, refl, sym, ap, ap₂, ◌∙◌, subst, true≢false, eqb-true}
 use Rattle.std.specs.List.{list_any}
 use Rattle.dcc_run.specs.End.{is_over}
-use Rattle.dcc_run.specs.Place.{Place}
+use Rattle.dcc_run.specs.ProgramPoint.{ProgramPoint}
 use Rattle.dcc_run.specs.Watched.{Watched}
 use Rattle.dcc_run.specs.Shadows.{kept_mark, only}
 use Rattle.dcc_num.specs.declared.Reg.TheVariants.{Bp}
-use Rattle.dcc_prog.specs.declared.image.Image.{Image}
+use Rattle.dcc_machine.specs.declared.image.Image.{Image}
 use Rattle.dcc_prog.specs.declared.procedure.Layout.{Layout}
 use Rattle.dcc_prog.specs.declared.procedure.Node.{Node}
 use Rattle.dcc_prog.specs.declared.frame.Program.{Program as Analysed}
-use Rattle.dcc_prog.specs.Machine.{State as Machine, word_in}
-use Rattle.dcc_prog.specs.Step.{step as machine_step}
+use Rattle.dcc_machine.specs.Machine.{State as Machine, word_in}
+use Rattle.dcc_machine.specs.Step.{step as machine_step}
 use Rattle.dcc_prog.specs.Trail.{IsEntry}
 use Rattle.dcc_prog.specs.Found.{IsNodeFound}
 use Rattle.dcc_prog.specs.Clean.{LiveFrame, Stack, Foul, top_in, foul_of, stack_after}
@@ -31,7 +31,7 @@ use Rattle.dcc_simulation.specs.Laws.{IsCleanInstruction}
 use Rattle.dcc_simulation.specs.Nodes.{procedures_in, IsLifting, IsNodeHere}
 use Rattle.dcc_simulation.specs.Procedures.{procedure_at}
 use Rattle.dcc_simulation.proofs.FoundProcedures.{numbered}
-use Rattle.dcc_lift.specs.Blocks.{Nodes, node_in, Scene, nodes_in, entry_in, block_place}
+use Rattle.dcc_lift.specs.Blocks.{Nodes, node_in, BlockSource, nodes_in, entry_in, block_place}
 use Rattle.dcc_lift.specs.Sound.{AreSound}
 use Rattle.dcc_lift.specs.Translation.{prelude_block}
 use Rattle.dcc_lift.specs.Translated.{setting, IsTranslated}
@@ -67,10 +67,10 @@ module _ (c : Runs) where
   e = setting c.image c.program c.p
 
   -- the machine's run, of which the places of blocks are marked, and the program's
-  abbrev pub machine : Watched Watch Place
+  abbrev pub machine : Watched Watch ProgramPoint
   machine = only (has_block c.p) (watched_machine c.program)
 
-  abbrev pub inner : Watched Inner Place
+  abbrev pub inner : Watched Inner ProgramPoint
   inner = watched_inner c.p c.fill
 
   -- the machine in procedures
@@ -85,7 +85,7 @@ module _ (c : Runs) where
   abbrev pub located_at : (entry : ℕ) → IsEntry c.image layout entry → Located c.image c.program c.p entry
   located_at entry is_entry = (locate c.image c.program c.p c.is.of_file c.is.translation entry is_entry).0
 
-  abbrev pub scene_at : (entry : ℕ) → IsEntry c.image layout entry → Scene
+  abbrev pub scene_at : (entry : ℕ) → IsEntry c.image layout entry → BlockSource
   scene_at entry is_entry = scene_of c.image c.program c.p entry (located_at entry is_entry)
 
   pub before-is : (entry : ℕ) (is_entry : IsEntry c.image layout entry)
@@ -142,7 +142,7 @@ module _ (c : Runs) where
   inner-has entry is_entry at node none =
       block-there entry is_entry at ∙ ap₂ (λ a b. a || b) (first (scene.before == 0)) none
     where
-      scene : Scene
+      scene : BlockSource
       scene = scene_at entry is_entry
 
       other : (c.image.ip == at) ≡ false

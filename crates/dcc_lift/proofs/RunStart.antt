@@ -14,7 +14,7 @@ use Rattle.dcc_ir.specs.Run.{State as Inner, activation, no_graph, first_memory,
 use Rattle.dcc_ops.specs.Temporaries.{temporary_bits}
 use Rattle.dcc_simulation.specs.Nodes.{procedures_in, IsGraphFor}
 use Rattle.dcc_simulation.specs.Procedures.{Procedure, procedures_of}
-use Rattle.dcc_lift.specs.Blocks.{Scene, block_place}
+use Rattle.dcc_lift.specs.Blocks.{BlockSource, block_place}
 use Rattle.dcc_lift.specs.Translation.{prelude_block}
 use Rattle.dcc_lift.proofs.ListTests.{same_number}
 use Rattle.dcc_lift.proofs.ShownRuns.{block-is}
@@ -53,7 +53,7 @@ module _ (c : Runs) (input : List ℕ) where
   abbrev pub is_entry : IsEntry c.image (layout c) (layout c).start_ip
   is_entry = start
 
-  abbrev pub scene : Scene
+  abbrev pub scene : BlockSource
   scene = scene_at c (layout c).start_ip is_entry
 
   abbrev pub graph : Graph

@@ -6,7 +6,7 @@ use Rattle.std.specs.Map.{lookup}
 use Rattle.std.proofs.lemmas.Bool.{ne_eqb, cases_lt}
 use Rattle.std.proofs.lemmas.List.{at_drop_more, at_drop_all, append-nil, get_or-map, length-map}
 use Rattle.std.proofs.lemmas.List.Elements.{All-nil, All-cons, All-head, All-tail, All-get_or}
-use Rattle.dcc_prog.specs.declared.image.Image.{Image}
+use Rattle.dcc_machine.specs.declared.image.Image.{Image}
 use Rattle.dcc_prog.specs.declared.procedure.Layout.{Layout}
 use Rattle.dcc_prog.specs.declared.procedure.Node.{Node}
 use Rattle.dcc_prog.specs.declared.procedure.Proc.{Proc}
@@ -17,7 +17,7 @@ use Rattle.dcc_ir.specs.Tree.{Graph}
 use Rattle.dcc_simulation.specs.Procedures.{Procedure, procedures_of}
 use Rattle.dcc_lift.specs.declared.procedure.Procedure.{Procedure as Known}
 use Rattle.dcc_lift.specs.KnownProcedures.{procedure_of}
-use Rattle.dcc_lift.specs.Blocks.{Scene, height_in, node_stmts}
+use Rattle.dcc_lift.specs.Blocks.{BlockSource, height_in, node_stmts}
 use Rattle.dcc_lift.specs.Translation.{IsGraphOf, scenes_of}
 use Rattle.dcc_lift.specs.Known.{before_of}
 use Rattle.dcc_lift.proofs.LowLaws.{IsLow}
@@ -43,7 +43,7 @@ height_low (first ∷ heights) at height low found =
         subst (λ h. h ≤ greatest_height) same (All-head IsLow first heights low)
     go false e later = later e
 
-pub no_node : (scene : Scene) (height : Option ℕ) → node_stmts scene height None ≡ []
+pub no_node : (scene : BlockSource) (height : Option ℕ) → node_stmts scene height None ≡ []
 no_node scene None = refl
 no_node scene (Some height) = refl
 
@@ -66,17 +66,17 @@ before_small n = go (n == 0)
     go true = omega arith
     go false = omega arith
 
-abbrev pub scene_made : Layout → List Procedure → ℕ → Procedure → List (ℕ × ℕ) → Scene
+abbrev pub scene_made : Layout → List Procedure → ℕ → Procedure → List (ℕ × ℕ) → BlockSource
 scene_made layout all before procedure heights =
     record { cpu = layout.cpu; procedures = all; procedure = procedure; heights = heights; before = before }
 
-abbrev pub scene_with : Layout → List Procedure → ℕ → Procedure → List (ℕ × ℕ) → Scene
+abbrev pub scene_with : Layout → List Procedure → ℕ → Procedure → List (ℕ × ℕ) → BlockSource
 scene_with layout all n procedure heights = scene_made layout all (before_of n) procedure heights
 
 -- the graphs of the first procedures, so many of them
 pub record AreGraphsOfFirst (image : Image) (layout : Layout) (all : List Procedure) (heights : List (List (ℕ × ℕ)))
     (n : ℕ) (graphs : List Graph) : Type 0 where
-  pub done : List Scene
+  pub done : List BlockSource
   pub graphs_are : AllZip (IsGraphOf image layout) done graphs
   pub scenes_are : done ++ scenes_of layout all (before_of n) (drop n all) (drop n heights) ≡ scenes_of layout all 1
       all heights

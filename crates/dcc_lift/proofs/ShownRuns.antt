@@ -8,7 +8,7 @@ use Rattle.dcc_run.specs.End.{is_over}
 use Rattle.dcc_run.specs.Event.{Event}
 use Rattle.dcc_run.specs.Prefix.{IsPrefix}
 use Rattle.dcc_run.specs.Watched.{Watched, state, is_shown, IsQuiet}
-use Rattle.dcc_run.specs.Place.{Place}
+use Rattle.dcc_run.specs.ProgramPoint.{ProgramPoint}
 use Rattle.dcc_run.proofs.PrefixLaws.{prefix_trans}
 use Rattle.dcc_ir.specs.declared.syntax.Loc.{Loc}
 use Rattle.dcc_ir.specs.Tree.{Expr, Stmt, Call, Exit, Goto, If, Switch, Ret, Stop, Block, Graph, Program}
@@ -30,7 +30,7 @@ Resumes [] = Unit {0}
 Resumes (w ∷ waiting) = IsCallFree w.caller.rest × (is_return w.caller.block.exit ≡ false)
 
 module _ (p : Program) (fill : ℕ) where
-  abbrev inner : Watched State Place
+  abbrev inner : Watched State ProgramPoint
   inner = watched_inner p fill
 
   -- Shown.
@@ -47,7 +47,7 @@ module _ (p : Program) (fill : ℕ) where
       ap (λ b. is_over t.end || is_some (place b)) e
       ∙ or-true (is_over t.end)
     where
-      place : Bool → Option Place
+      place : Bool → Option ProgramPoint
       place b = if b then Some (record { entry = t.running.graph.entry; at = t.running.block.at }) else None
 
   entering-shown : (block : Option Block) (t : State) → is_shown inner (entering block t) ≡ true

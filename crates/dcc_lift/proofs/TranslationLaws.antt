@@ -3,7 +3,7 @@
 use Rattle.std.proofs.Common.{◌≡◌, ℕ, Bool, true, false, ◌||◌, ◌==◌, if◌then◌else◌, List, [], ◌∷◌, ◌++◌, Some, All, refl, sym, ap, ◌∙◌, true≢false, eqb-true, eq-eqb}
 use Rattle.std.specs.List.{list_any, AllZip}
 use Rattle.std.proofs.lemmas.List.Elements.{All-head, All-tail}
-use Rattle.dcc_prog.specs.declared.image.Image.{Image}
+use Rattle.dcc_machine.specs.declared.image.Image.{Image}
 use Rattle.dcc_prog.specs.declared.procedure.Layout.{Layout}
 use Rattle.dcc_prog.specs.declared.procedure.Proc.{Proc}
 use Rattle.dcc_prog.specs.declared.frame.Frame.{Frame}
@@ -12,17 +12,17 @@ use Rattle.dcc_prog.specs.Analysed.{AreHeightsOf, IsFrameOf}
 use Rattle.dcc_ir.specs.Tree.{Block, Graph}
 use Rattle.dcc_ir.specs.Run.{graph_at}
 use Rattle.dcc_simulation.specs.Procedures.{Procedure, procedures_of, procedure_at}
-use Rattle.dcc_lift.specs.Blocks.{Scene}
+use Rattle.dcc_lift.specs.Blocks.{BlockSource}
 use Rattle.dcc_lift.specs.Translation.{prelude_block, graph_with, IsGraphOf, scenes_of}
 
 -- The blocks of a graph.
 
 -- the blocks before those of the instructions
-abbrev pub front_of : Image → Layout → Scene → List Block
+abbrev pub front_of : Image → Layout → BlockSource → List Block
 front_of image layout scene = if scene.before == 0 then [] else prelude_block image layout scene ∷ []
 
 -- the graph of a scene begins with them
-pub graph-blocks : (image : Image) (layout : Layout) (scene : Scene) (blocks : List Block)
+pub graph-blocks : (image : Image) (layout : Layout) (scene : BlockSource) (blocks : List Block)
     → (graph_with image layout scene blocks).blocks ≡ front_of image layout scene ++ blocks
 graph-blocks image layout scene blocks = go (scene.before == 0)
   where
@@ -77,7 +77,7 @@ module _ (image : Image) (layout : Layout) (all : List Procedure) (entry : ℕ) 
   abbrev procedure : Proc → Frame → Procedure
   procedure proc frame = record { proc = proc; frame = frame; delta = layout.delta }
 
-  abbrev scene : Proc → Frame → List (ℕ × ℕ) → ℕ → Scene
+  abbrev scene : Proc → Frame → List (ℕ × ℕ) → ℕ → BlockSource
   scene proc frame heights before = record {
     cpu = layout.cpu;
     procedures = all;
@@ -86,7 +86,8 @@ module _ (image : Image) (layout : Layout) (all : List Procedure) (entry : ℕ) 
     before = before;
   }
 
-  graph-entry : (s : Scene) (graph : Graph) → IsGraphOf image layout s graph → graph.entry ≡ s.procedure.proc.entry
+  graph-entry : (s : BlockSource) (graph : Graph) → IsGraphOf image layout s graph → graph.entry
+      ≡ s.procedure.proc.entry
   graph-entry s graph is = ap (λ (g : Graph). g.entry) is.graph_is
 
   first-located : (proc : Proc) (frame : Frame) (heights : List (ℕ × ℕ)) (before : ℕ) (graph : Graph)

@@ -4,9 +4,9 @@
 -- (specs/Lifted.antt).
 use Rattle.std.specs.Prelude.{◌≡◌, ℕ, suc, ◌==◌, nat_lt, Bool, true, false, not, ◌&&◌, if◌then◌else◌, List, [], ◌∷◌}
 use Rattle.std.specs.Prelude.{◌+◌, map, filter, flat_map, Option, Some, None}
-use Rattle.dcc_prog.specs.declared.cpu.Cpu.{Cpu}
-use Rattle.dcc_prog.specs.declared.instr.Op.{Op}
-use Rattle.dcc_prog.specs.declared.instr.Op.TheVariants.{Table, Call}
+use Rattle.dcc_machine.specs.declared.cpu.Cpu.{Cpu}
+use Rattle.dcc_machine.specs.declared.instr.Op.{Op}
+use Rattle.dcc_machine.specs.declared.instr.Op.TheVariants.{Table, Call}
 use Rattle.dcc_prog.specs.declared.procedure.Node.{Node}
 use Rattle.dcc_ir.specs.Tree.{Stmt, Exit, Stop, Block}
 use Rattle.dcc_simulation.specs.Procedures.{Procedure}
@@ -93,7 +93,7 @@ place_in [] at = 0
 place_in (x ∷ xs) at = if x == at then 0 else suc (place_in xs at)
 
 -- What the blocks of a procedure are made of.
-pub record Scene : Type 0 where
+pub record BlockSource : Type 0 where
   -- the processor
   pub cpu : Cpu
   -- all procedures, and the procedure whose blocks these are
@@ -104,14 +104,14 @@ pub record Scene : Type 0 where
   -- how many blocks of the graph come before those of the procedure's instructions
   pub before : ℕ
 
-abbrev pub nodes_in : Scene → Nodes
+abbrev pub nodes_in : BlockSource → Nodes
 nodes_in scene = scene.procedure.proc.nodes.entries
 
-abbrev pub entry_in : Scene → ℕ
+abbrev pub entry_in : BlockSource → ℕ
 entry_in scene = scene.procedure.proc.entry
 
 -- the place of the block that begins at an offset
-abbrev pub block_place : Scene → ℕ → ℕ
+abbrev pub block_place : BlockSource → ℕ → ℕ
 block_place scene at = scene.before + place_in (leaders (nodes_in scene) (entry_in scene)) at
 
 -- Statements.
@@ -121,21 +121,21 @@ abbrev pub height_in : List (ℕ × ℕ) → ℕ → Option ℕ
 height_in [] at = None
 height_in (found ∷ heights) at = if found.0 == at then Some found.1 else height_in heights at
 
-abbrev pub node_stmts : Scene → Option ℕ → Option Node → List Stmt
+abbrev pub node_stmts : BlockSource → Option ℕ → Option Node → List Stmt
 node_stmts scene (Some height) (Some node) =
     placed.node_stmts scene.cpu scene.procedures scene.procedure height node
 node_stmts scene _ _ = []
 
-abbrev pub stmts_at : Scene → ℕ → List Stmt
+abbrev pub stmts_at : BlockSource → ℕ → List Stmt
 stmts_at scene at = node_stmts scene (height_in scene.heights at) (node_in (nodes_in scene) at)
 
-abbrev pub node_exit : Scene → Option Node → Exit
+abbrev pub node_exit : BlockSource → Option Node → Exit
 node_exit scene None = Stop
 node_exit scene (Some node) =
     passed.exit_of scene.procedure node.instr.op (map (block_place scene) node.succ.items)
 
 -- how the block ends that has its last instruction at an offset
-abbrev pub exit_at : Scene → ℕ → Exit
+abbrev pub exit_at : BlockSource → ℕ → Exit
 exit_at scene at = node_exit scene (node_in (nodes_in scene) at)
 
 -- the last of an offset and the list of others after it
@@ -144,7 +144,7 @@ last_of at [] = at
 last_of at (next ∷ rest) = last_of next rest
 
 -- the block that begins at an offset
-pub record IsBlockAt (scene : Scene) (at : ℕ) (block : Block) : Type 0 where
+pub record IsBlockAt (scene : BlockSource) (at : ℕ) (block : Block) : Type 0 where
   pub rest : List ℕ
   pub chain : IsChain (nodes_in scene) (entry_in scene) at rest
   pub at_is : block.at ≡ at
@@ -152,7 +152,7 @@ pub record IsBlockAt (scene : Scene) (at : ℕ) (block : Block) : Type 0 where
   pub exit_is : block.exit ≡ exit_at scene (last_of at rest)
 
 -- the blocks that begin at the offsets of the list, in their order
-abbrev pub AreBlocksAt : Scene → List ℕ → List Block → Type 0
+abbrev pub AreBlocksAt : BlockSource → List ℕ → List Block → Type 0
 AreBlocksAt scene [] [] = Unit {0}
 AreBlocksAt scene (at ∷ places) (block ∷ blocks) = IsBlockAt scene at block × AreBlocksAt scene places blocks
 AreBlocksAt scene _ _ = ⊥

@@ -4,10 +4,10 @@ use Rattle.std.specs.List.{list_any}
 use Rattle.dcc_num.specs.declared.FlagName.{FlagName}
 use Rattle.dcc_prog.specs.declared.procedure.Node.{Node}
 use Rattle.dcc_prog.specs.declared.procedure.Proc.{Proc}
-use Rattle.dcc_prog.specs.declared.instr.Op.{Op}
-use Rattle.dcc_prog.specs.declared.instr.Op.TheVariants.{Alu as AluOp, Shift as ShiftOp}
-use Rattle.dcc_prog.specs.Writes.{writes_flag}
-use Rattle.dcc_prog.specs.Wanted.{takes_carry, is_turn}
+use Rattle.dcc_machine.specs.declared.instr.Op.{Op}
+use Rattle.dcc_machine.specs.declared.instr.Op.TheVariants.{Alu as AluOp, Shift as ShiftOp}
+use Rattle.dcc_machine.specs.Writes.{writes_flag}
+use Rattle.dcc_machine.specs.Wanted.{takes_carry, is_through_carry}
 use Rattle.dcc_ir.specs.declared.syntax.Loc.{Loc}
 use Rattle.dcc_ir.specs.declared.syntax.Loc.TheVariants.{Flag}
 use Rattle.dcc_ir.specs.Location.{same_location}
@@ -45,7 +45,7 @@ is_other_flag_stmt stmt = is_flag_stmt stmt && not (list_any is_flag_location (w
 -- ADC, SBB, RCL and RCR: CF goes into their result
 abbrev pub has_carry_in : Op → Bool
 has_carry_in (AluOp operation a b) = takes_carry operation
-has_carry_in (ShiftOp operation a count) = is_turn operation
+has_carry_in (ShiftOp operation a count) = is_through_carry operation
 has_carry_in op = false
 
 abbrev pub graph_stmts : Graph → List Stmt

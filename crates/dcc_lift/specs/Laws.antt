@@ -1,7 +1,7 @@
 -- Laws of what the contract speaks of.
 use Rattle.std.specs.Prelude.{◌≡◌, ℕ, Bool, true, ◌↔◌, List, All}
-use Rattle.dcc_run.specs.Place.{Place}
-use Rattle.dcc_prog.specs.declared.image.Image.{Image}
+use Rattle.dcc_run.specs.ProgramPoint.{ProgramPoint}
+use Rattle.dcc_machine.specs.declared.image.Image.{Image}
 use Rattle.dcc_prog.specs.declared.procedure.Layout.{Layout}
 use Rattle.dcc_prog.specs.declared.procedure.Proc.{Proc}
 use Rattle.dcc_prog.specs.declared.frame.Program.{Program as Analysed}
@@ -27,6 +27,6 @@ FlowIsOfTrails =
 -- at kept places that hold the paths of all procedures of an analysed file and its translation the machine keeps pace
 abbrev pub KeptPlacesArePaced : Type 0
 KeptPlacesArePaced =
-    (image : Image) (program : Analysed) (p : Program) (kept : Place → Bool)
+    (image : Image) (program : Analysed) (p : Program) (kept : ProgramPoint → Bool)
     → IsTranslated image program p → HoldsPaths program p kept
     → PacedAt image program kept

@@ -10,5 +10,5 @@ pub mod Known
 pub mod Translated
 pub use Rattle.dcc_prog.specs.Found
 pub use Rattle.dcc_prog.specs.Layout
-pub use Rattle.dcc_prog.specs.MzImage
+pub use Rattle.dcc_machine.specs.MzImage
 pub use Rattle.dcc_ir.specs.Views

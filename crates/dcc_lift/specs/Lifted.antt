@@ -1,14 +1,14 @@
 -- What the lifted program is to the executable.
 use Rattle.std.specs.Prelude.{◌≡◌, ◌≤◌, ◌<◌, ℕ, ◌+◌, ◌==◌, Bool, true, ◌&&◌, ◌||◌, List, [], ◌∷◌, All, Some, None}
 use Rattle.std.specs.List.{AllZip, list_any}
-use Rattle.dcc_run.specs.Place.{Place}
+use Rattle.dcc_run.specs.ProgramPoint.{ProgramPoint}
 use Rattle.dcc_run.specs.Shadows.{Shadows, KeepsPace, only}
-use Rattle.dcc_prog.specs.declared.image.Image.{Image}
+use Rattle.dcc_machine.specs.declared.image.Image.{Image}
 use Rattle.dcc_prog.specs.declared.procedure.Node.{Node}
 use Rattle.dcc_prog.specs.declared.procedure.Proc.{Proc}
 use Rattle.dcc_prog.specs.declared.frame.Program.{Program as Analysed}
-use Rattle.dcc_prog.specs.declared.instr.Op.TheVariants.{Call}
-use Rattle.dcc_prog.specs.Trail.{next_of}
+use Rattle.dcc_machine.specs.declared.instr.Op.TheVariants.{Call}
+use Rattle.dcc_machine.specs.Successors.{next_of}
 use Rattle.dcc_prog.specs.Watch.{watched_machine, first_watch}
 use Rattle.dcc_ir.specs.Tree.{Expr, Ret, Graph, Program}
 use Rattle.dcc_ir.specs.Use.{graph_exprs}
@@ -49,7 +49,7 @@ abbrev pub steps_at_start : ℕ
 steps_at_start = 65535 + steps_between
 
 -- for every input the machine comes to kept places, to its end or to where it is foul, within such numbers of steps
-abbrev pub PacedAt : Image → Analysed → (Place → Bool) → Type 0
+abbrev pub PacedAt : Image → Analysed → (ProgramPoint → Bool) → Type 0
 PacedAt image program kept =
     (input : List ℕ) → All (λ byte. byte < 256) input
     → KeepsPace (only kept (watched_machine program)) (first_watch image input) steps_at_start steps_between
@@ -115,7 +115,7 @@ pub record HoldsPathsOf (p : Program) (kept : ℕ → Bool) (proc : Proc) : Type
       (graph_or_none (graph_at p.graphs proc.entry)).blocks
 
 -- kept places hold those of each procedure
-abbrev pub HoldsPaths : Analysed → Program → (Place → Bool) → Type 0
+abbrev pub HoldsPaths : Analysed → Program → (ProgramPoint → Bool) → Type 0
 HoldsPaths program p kept =
     All (λ proc. HoldsPathsOf p (λ at. kept (record { entry = proc.entry; at = at })) proc) program.procs.items
 

@@ -2,8 +2,8 @@
 -- as their operations say. This stands between the procedure and the code.
 use Rattle.std.specs.Prelude.{◌≡◌, ◌<◌, ℕ, List, [], ◌∷◌, map, All, AllPairs, Contains, Option, Some, None}
 use Rattle.dcc_prog.specs.declared.procedure.Node.{Node}
-use Rattle.dcc_prog.specs.declared.instr.Op.{Op}
-use Rattle.dcc_prog.specs.declared.instr.Op.TheVariants.{Table, Ret}
+use Rattle.dcc_machine.specs.declared.instr.Op.{Op}
+use Rattle.dcc_machine.specs.declared.instr.Op.TheVariants.{Table, Ret}
 use Rattle.dcc_ir.specs.Tree.{Expr}
 use Rattle.dcc_ops.specs.Statements.{op_test}
 use Rattle.dcc_lift.specs.Blocks.{Nodes}

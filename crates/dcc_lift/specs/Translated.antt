@@ -1,6 +1,6 @@
 -- An analysed file with its translation, and the setting in which it runs. This stands between the definitions and the
 -- proofs.
-use Rattle.dcc_prog.specs.declared.image.Image.{Image}
+use Rattle.dcc_machine.specs.declared.image.Image.{Image}
 use Rattle.dcc_prog.specs.declared.frame.Program.{Program as Analysed}
 use Rattle.dcc_stack.specs.Accepted.{IsProgramOfFile}
 use Rattle.dcc_ir.specs.Tree.{Program}

@@ -1,14 +1,14 @@
 //! Memory operands, and direct accesses to the frame.
 
 ghost use Rattle.std.specs.Prelude.{◌≡◌, Some, option_map};
-ghost use Rattle.dcc_prog.specs.Access.{bytes_in};
+ghost use Rattle.dcc_machine.specs.Access.{bytes_in};
 ghost use Rattle.dcc_prog.specs.Frame.{memory_operand};
 ghost use Rattle.dcc_stack.specs.Slots.{is_memory, is_within, writes_memory, writes_directly, direct_bytes, overlaps};
 ghost use Rattle.dcc_lift.specs.KnownProcedures.{span_of_bytes};
 
 use dcc_frames::{is_direct, memory_operand, offset_in_frame};
+use dcc_machine::{Alu, Op, Operand, Unary};
 use dcc_num::Width;
-use dcc_prog::{Alu, Op, Operand, Unary};
 
 /// Bytes of a frame: `size` of them, from an offset from its base less 4 on.
 #[derive(Clone, Copy)]
@@ -88,7 +88,7 @@ fn writes_memory(op: Op) -> bool
 }
 
 /// Whether the operation touches one of the bytes by a direct access of a framed procedure.
-pub fn has_access(op: Op, bytes: Bytes) -> bool
+pub(crate) fn has_access(op: Op, bytes: Bytes) -> bool
     ensures { result ≡ overlaps (span_of_bytes bytes) (direct_bytes (memory_operand op)) }
 {
     match direct_bytes(op) {
@@ -98,7 +98,7 @@ pub fn has_access(op: Op, bytes: Bytes) -> bool
 }
 
 /// Whether the operation writes one of the bytes by a direct access.
-pub fn writes_directly(op: Op, bytes: Bytes) -> bool
+pub(crate) fn writes_directly(op: Op, bytes: Bytes) -> bool
     ensures { result ≡ writes_directly op (span_of_bytes bytes) }
 {
     writes_memory(op) && has_access(op, bytes)

@@ -47,7 +47,10 @@ fn note(table: &mut [Incoming], from: u16, successors: &[u16])
 }
 
 /// The edges to each offset of a segment.
-pub fn edges_of(alloc: Global, nodes: &IndexMap<u16, Node>) -> Result<Vec<Incoming>, AllocError>
+pub(crate) fn edges_of(
+    alloc: Global,
+    nodes: &IndexMap<u16, Node>,
+) -> Result<Vec<Incoming>, AllocError>
     ensures { IfOk result (λ table. AreIncoming nodes.now.entries table.items) }
 {
     let mut table = vec![in alloc; Incoming::Nowhere; OFFSETS]?;

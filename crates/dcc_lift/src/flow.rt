@@ -6,7 +6,8 @@ ghost use Rattle.dcc_lift.specs.Blocks as spec;
 ghost use Rattle.dcc_lift.specs.Known.{nodes_of, KnowsEdges};
 
 use crate::edges::{Incoming, edges_of};
-use dcc_prog::{Node, Op};
+use dcc_machine::Op;
+use dcc_prog::Node;
 use indexmap::IndexMap;
 use std::alloc::{AllocError, Global};
 

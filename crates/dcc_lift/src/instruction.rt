@@ -10,9 +10,10 @@ ghost use Rattle.dcc_lift.specs.KnownProcedures.{procedure_of, KnowsProcedure, K
 use crate::call::callee_of;
 use crate::operand::address_of;
 use crate::procedure::Procedure;
+use dcc_machine::{Cpu, Op, Operand};
 use dcc_num::Width;
-use dcc_ops::{Place, Writer, register_place};
-use dcc_prog::{Cpu, Node, Op, Operand};
+use dcc_ops::{OperandPlace, Writer, register_place};
+use dcc_prog::Node;
 use std::alloc::AllocError;
 
 // Whether the operation saves BP, sets it up or gives it back, or moves SP to it.
@@ -31,7 +32,7 @@ fn below_top(height: u16) -> i32
 
 impl Procedure<'_> {
     // The word below the top of the stack.
-    fn place_below_top(&self, height: u16) -> Place
+    fn place_below_top(&self, height: u16) -> OperandPlace
         requires { KnowsProcedure self.now }
         ensures { place_of result ≡ spec.place_below_top (procedure_of self.now) height }
     {
@@ -39,7 +40,7 @@ impl Procedure<'_> {
     }
 
     // The word at the top of the stack.
-    fn top_place(&self, height: u16) -> Place
+    fn top_place(&self, height: u16) -> OperandPlace
         requires { KnowsProcedure self.now }
         ensures { place_of result ≡ spec.top_place (procedure_of self.now) height }
     {
@@ -76,7 +77,7 @@ impl Procedure<'_> {
             }
             Op::Lea(r, ea) => {
                 let to = register_place(Operand::Word(r));
-                writer.mov(Width::Word, to, Place::Computed(address_of(ea)))
+                writer.mov(Width::Word, to, OperandPlace::Computed(address_of(ea)))
             }
             Op::Call(target) => match callee_of(procedures, target) {
                 Some(callee) => self.write_call(writer, height, callee),

@@ -7,9 +7,9 @@ ghost use Rattle.dcc_lift.specs.KnownProcedures.{procedure_of, KnowsProcedure};
 
 use crate::procedure::{Procedure, distance_of};
 use dcc_frames::{is_direct, offset_in_frame};
+use dcc_machine::{Ea, Op, Operand};
 use dcc_num::{Reg, Width};
-use dcc_ops::{Computed, Place, register_place};
-use dcc_prog::{Ea, Op, Operand};
+use dcc_ops::{Computed, OperandPlace, register_place};
 
 // The address at an offset in the frame, and a number.
 fn from_frame(k: i32, number: i32) -> Computed
@@ -59,40 +59,40 @@ impl Procedure<'_> {
     }
 
     // Where an operand in memory stands.
-    fn memory_place(&self, width: Width, ea: Ea) -> Place
+    fn memory_place(&self, width: Width, ea: Ea) -> OperandPlace
         requires { KnowsProcedure self.now }
         ensures { place_of result ≡ spec.memory_place (procedure_of self.now) width ea }
     {
         if is_direct(ea) {
             self.frame_place(width, offset_in_frame(ea))
         } else {
-            Place::Memory(width, address_of(ea))
+            OperandPlace::Memory(width, address_of(ea))
         }
     }
 
     /// Where an operand stands, at a height of the stack.
-    pub fn operand_place(&self, height: u16, operand: Operand) -> Place
+    pub fn operand_place(&self, height: u16, operand: Operand) -> OperandPlace
         requires { KnowsProcedure self.now }
         ensures { place_of result ≡ spec.operand_place (procedure_of self.now) height operand }
     {
         match operand {
             Operand::Mem(width, ea) => self.memory_place(width, ea),
-            Operand::Word(Reg::Sp) => Place::Computed(self.stack_pointer(height)),
+            Operand::Word(Reg::Sp) => OperandPlace::Computed(self.stack_pointer(height)),
             Operand::Word(Reg::Bp) => {
                 let height = i32::from(height);
-                Place::Computed(from_frame(2 - height, height - 2))
+                OperandPlace::Computed(from_frame(2 - height, height - 2))
             }
             _ => register_place(operand),
         }
     }
 
     /// The places of an operation's first and second operand. Where there is none, the place is never taken.
-    pub fn operand_places(&self, height: u16, op: Op) -> (Place, Place)
+    pub fn operand_places(&self, height: u16, op: Op) -> (OperandPlace, OperandPlace)
         requires { KnowsProcedure self.now }
         ensures first { place_of result.0 ≡ spec.first_place (procedure_of self.now) height op }
         ensures second { place_of result.1 ≡ spec.second_place (procedure_of self.now) height op }
     {
-        let none = Place::Constant(Width::Word, 0);
+        let none = OperandPlace::Constant(Width::Word, 0);
         match op {
             Op::Alu(_, a, b) | Op::Mov(a, b) | Op::Xchg(a, b) => {
                 (self.operand_place(height, a), self.operand_place(height, b))

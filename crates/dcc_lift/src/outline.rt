@@ -5,20 +5,20 @@ ghost use Rattle.std.specs.List.Sorted.{IsStrictlyIncreasing};
 ghost use Rattle.dcc_ir.specs.Views.{exit_of, block_of};
 ghost use Rattle.dcc_lift.specs.Blocks as spec;
 ghost use Rattle.dcc_lift.specs.Blocks.{IsBlockAt, AreBlocksAt};
-ghost use Rattle.dcc_lift.specs.Known.{KnowsScene, KnowsLeaders, scene_of};
+ghost use Rattle.dcc_lift.specs.Known.{KnowsSource, KnowsLeaders, source_of};
 ghost use Rattle.dcc_ops.specs.Writing.{written};
 
 use crate::flow::Instructions;
 use crate::procedure::Procedure;
 use dcc_ir::{Block, End};
+use dcc_machine::Cpu;
 use dcc_ops::Writer;
-use dcc_prog::Cpu;
 use indexmap::IndexMap;
 use std::alloc::{AllocError, Global};
 
 /// What the blocks of a procedure are made of.
 #[derive(Clone, Copy)]
-pub struct Scene<'p, 'a> {
+pub struct BlockSource<'p, 'a> {
     /// The processor that runs the program.
     pub cpu: Cpu,
     /// All procedures.
@@ -35,7 +35,7 @@ pub struct Scene<'p, 'a> {
 /// in ascending order.
 #[derive(Drop)]
 pub struct Outline<'p, 'a> {
-    pub scene: Scene<'p, 'a>,
+    pub scene: BlockSource<'p, 'a>,
     pub instructions: Instructions<'a>,
     pub leaders: Vec<u16>,
 }
@@ -55,8 +55,8 @@ fn place_of(numbers: &[u16], n: u16) -> usize
 
 impl<'p, 'a> Outline<'p, 'a> {
     /// The outline of a procedure.
-    pub fn new(alloc: Global, scene: Scene<'p, 'a>) -> Result<Outline<'p, 'a>, AllocError>
-        requires { KnowsScene scene }
+    pub fn new(alloc: Global, scene: BlockSource<'p, 'a>) -> Result<Outline<'p, 'a>, AllocError>
+        requires { KnowsSource scene }
         ensures scene { IfOk result (λ outline. outline.scene ≡ scene.entry) }
         ensures leaders { IfOk result KnowsLeaders }
     {
@@ -73,7 +73,7 @@ impl<'p, 'a> Outline<'p, 'a> {
     /// The place of the block that begins at an offset.
     pub fn place(&self, at: u16) -> u32
         requires { KnowsLeaders self.now }
-        ensures { result ≡ spec.block_place (scene_of self.now) at }
+        ensures { result ≡ spec.block_place (source_of self.now) at }
     {
         if at == self.instructions.start {
             return self.scene.before;
@@ -84,7 +84,7 @@ impl<'p, 'a> Outline<'p, 'a> {
     // How the block ends that has its last instruction at an offset.
     fn end(&self, alloc: Global, at: u16) -> Result<End, AllocError>
         requires { KnowsLeaders self.now }
-        ensures { IfOk result (λ end. exit_of end ≡ spec.exit_at (scene_of self.now) at) }
+        ensures { IfOk result (λ end. exit_of end ≡ spec.exit_at (source_of self.now) at) }
     {
         let Some(node) = self.instructions.at(at) else {
             return Ok(End::Stop);
@@ -100,7 +100,7 @@ impl<'p, 'a> Outline<'p, 'a> {
     fn write(&self, writer: &mut Writer, at: u16) -> Result<(), AllocError>
         requires { KnowsLeaders self.now }
         ensures { OnOk result (written writer.new
-            ≡ written writer.old ++ spec.stmts_at (scene_of self.now) at) }
+            ≡ written writer.old ++ spec.stmts_at (source_of self.now) at) }
     {
         let Some(node) = self.instructions.at(at) else {
             return Ok(());
@@ -119,7 +119,7 @@ impl<'p, 'a> Outline<'p, 'a> {
     // The block that begins at an offset.
     fn block(&self, alloc: Global, at: u16) -> Result<Block, AllocError>
         requires { KnowsLeaders self.now }
-        ensures { IfOk result (λ block. IsBlockAt (scene_of self.now) at (block_of block)) }
+        ensures { IfOk result (λ block. IsBlockAt (source_of self.now) at (block_of block)) }
     {
         let mut writer = Writer::new(alloc);
         self.write(&mut writer, at)?;
@@ -140,7 +140,7 @@ impl<'p, 'a> Outline<'p, 'a> {
     pub fn blocks(&self, alloc: Global) -> Result<Vec<Block>, AllocError>
         requires { KnowsLeaders self.now }
         ensures { IfOk result (λ blocks.
-            AreBlocksAt (scene_of self.now) self.now.leaders.items (map block_of blocks.items)) }
+            AreBlocksAt (source_of self.now) self.now.leaders.items (map block_of blocks.items)) }
     {
         let mut blocks = Vec::new(alloc);
         for at in &self.leaders {

@@ -13,9 +13,9 @@ ghost use Rattle.dcc_lift.specs.KnownProcedures.{procedure_of, KnowsProcedure};
 
 use crate::procedure::Procedure;
 use dcc_ir::{BinOp, End, Expr, Loc, PASSED_LOCATIONS, Param, Put};
+use dcc_machine::Op;
 use dcc_num::{Reg, Width};
-use dcc_ops::{Place, Writer, constant, op_test};
-use dcc_prog::Op;
+use dcc_ops::{OperandPlace, Writer, constant, op_test};
 use std::alloc::{AllocError, Global};
 
 /// The word registers whose halves pass, in their order.
@@ -29,7 +29,7 @@ pub fn passed(alloc: Global) -> Result<Vec<Loc>, AllocError>
 }
 
 /// The values of the halves and flags that pass.
-pub fn passed_values(alloc: Global) -> Result<Vec<Expr>, AllocError>
+pub(crate) fn passed_values(alloc: Global) -> Result<Vec<Expr>, AllocError>
     ensures { IfOk result (λ values. map expr_of values.items ≡ map tree.Get passing.passed) }
 {
     let locations = passed(alloc)?;
@@ -66,11 +66,11 @@ fn push_byte(alloc: Global, values: &mut Vec<Expr>, distance: u16) -> Result<(),
 }
 
 // Where an argument word goes that stands at a place.
-fn put_at(place: Place) -> Put
+fn put_at(place: OperandPlace) -> Put
     ensures { result ≡ spec.put_of (place_of place) }
 {
     match place {
-        Place::Word(low, high) => Put::Two(low, high),
+        OperandPlace::Word(low, high) => Put::Two(low, high),
         _ => Put::Memory,
     }
 }

@@ -16,7 +16,7 @@ ghost use Rattle.dcc_lift.specs.KnownProcedures.{KnowsProcedure, KnowsProcedures
 use crate::access::{Bytes, has_access, writes_directly};
 use dcc_ir::Loc;
 use dcc_num::{Half, Width};
-use dcc_ops::{Computed, Place};
+use dcc_ops::{Computed, OperandPlace};
 use dcc_prog::{Cell, Cells, Frame, Layout, Proc};
 use std::alloc::{AllocError, Global};
 
@@ -36,7 +36,7 @@ pub struct Procedure<'a> {
 }
 
 /// The distance of an offset from the frame's base, as a word.
-pub fn distance_of(k: i32) -> u16
+pub(crate) fn distance_of(k: i32) -> u16
     ensures { result ≡ spec.distance_of k }
 {
     (i64::from(k) - 4).rem_euclid(65536) as u16
@@ -212,12 +212,15 @@ fn half_at(cell: Cell, k: i32) -> Half
 }
 
 // A byte or a word of the cell of that number, from an offset on.
-fn within_cell(number: u16, cell: Cell, width: Width, k: i32) -> Place
+fn within_cell(number: u16, cell: Cell, width: Width, k: i32) -> OperandPlace
     ensures { place_of result ≡ spec.within_cell number cell width k }
 {
     match width {
-        Width::Byte => Place::Byte(Loc::Cell(number, half_at(cell, k))),
-        Width::Word => Place::Word(Loc::Cell(number, Half::Low), Loc::Cell(number, Half::High)),
+        Width::Byte => OperandPlace::Byte(Loc::Cell(number, half_at(cell, k))),
+        Width::Word => OperandPlace::Word(
+            Loc::Cell(number, Half::Low),
+            Loc::Cell(number, Half::High),
+        ),
     }
 }
 
@@ -249,7 +252,7 @@ impl<'a> Procedure<'a> {
     }
 
     // Where a byte or a word of a cell stands, from an offset on.
-    fn cell_place(&self, width: Width, k: i32) -> Place
+    fn cell_place(&self, width: Width, k: i32) -> OperandPlace
         requires { KnowsProcedure self.now }
         ensures { place_of result ≡ spec.cell_place 0 (spec.cells_of (procedure_of self.now)) width k }
     {
@@ -259,11 +262,11 @@ impl<'a> Procedure<'a> {
                 return within_cell(number as u16, cell, width, k);
             }
         }
-        Place::Constant(width, 0)
+        OperandPlace::Constant(width, 0)
     }
 
     /// Where a byte or a word of the frame stands, from an offset on.
-    pub fn frame_place(&self, width: Width, k: i32) -> Place
+    pub fn frame_place(&self, width: Width, k: i32) -> OperandPlace
         requires { KnowsProcedure self.now }
         ensures { place_of result ≡ spec.frame_place (procedure_of self.now) width k }
     {
@@ -274,14 +277,14 @@ impl<'a> Procedure<'a> {
                 index: None,
                 number: 0,
             };
-            return Place::Memory(width, at);
+            return OperandPlace::Memory(width, at);
         }
         self.cell_place(width, k)
     }
 }
 
 /// The procedures with their frames, in their order.
-pub fn procedures_of<'a>(
+pub(crate) fn procedures_of<'a>(
     alloc: Global,
     layout: &Layout,
     procs: &'a Vec<Proc>,

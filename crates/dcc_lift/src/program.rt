@@ -1,7 +1,7 @@
 //! The lifted program.
 
 ghost use Rattle.std.specs.Prelude.{◌≡◌, ◌++◌, OnOk, IfOk, map, flat_map};
-ghost use Rattle.dcc_prog.specs.MzImage.{IsLoaded};
+ghost use Rattle.dcc_machine.specs.MzImage.{IsLoaded};
 ghost use Rattle.dcc_prog.specs.Layout.{HasLayout};
 ghost use Rattle.dcc_prog.specs.Found.{AreFound};
 ghost use Rattle.dcc_prog.specs.Analysed.{AreHeights, AreFrames};
@@ -9,18 +9,19 @@ ghost use Rattle.dcc_ir.specs.Views.{block_of, graph_of, program_of};
 ghost use Rattle.dcc_lift.specs.Translation as spec;
 ghost use Rattle.dcc_lift.specs.Translation.{IsGraphOf};
 ghost use Rattle.dcc_lift.specs.Known as known;
-ghost use Rattle.dcc_lift.specs.Known.{scene_given, scene_of, KnowsScene, KnowsLeaders, AreBlocksOf};
+ghost use Rattle.dcc_lift.specs.Known.{scene_given, source_of, KnowsSource, KnowsLeaders, AreBlocksOf};
 ghost use Rattle.dcc_lift.specs.Lifted.{IsLiftOf};
 ghost use Rattle.dcc_ops.specs.Writing.{written};
 
 use crate::edges::OFFSETS;
-use crate::outline::{Outline, Scene};
+use crate::outline::{BlockSource, Outline};
 use crate::passed::PASSED_REGISTERS;
 use crate::procedure::procedures_of;
 use dcc_ir::{Block, End, Graph, IrProgram, Loc, Param};
+use dcc_machine::{Image, LOAD_SEGMENT};
 use dcc_num::{FlagName, Flags, Half, Reg};
 use dcc_ops::{Writer, bit, byte, temporary_bits};
-use dcc_prog::{Image, LOAD_SEGMENT, Layout, Program};
+use dcc_prog::{Layout, Program};
 use std::alloc::{AllocError, Global};
 
 // A word register begins with what the prelude leaves in it.
@@ -63,7 +64,7 @@ fn prelude_block(
     outline: &Outline<'_, '_>,
 ) -> Result<Block, AllocError>
     requires leaders { KnowsLeaders outline.now }
-    ensures { IfOk result (λ block. block_of block ≡ spec.prelude_block image.now layout.now (scene_of outline.now)) }
+    ensures { IfOk result (λ block. block_of block ≡ spec.prelude_block image.now layout.now (source_of outline.now)) }
 {
     let mut writer = Writer::new(alloc);
     start_registers(&mut writer, &layout.regs)?;
@@ -84,7 +85,7 @@ fn graph_blocks(
 ) -> Result<Vec<Block>, AllocError>
     requires { KnowsLeaders outline.now }
     ensures { IfOk result (λ blocks.
-        AreBlocksOf image.now layout.now (scene_of outline.now) (map block_of blocks.items)) }
+        AreBlocksOf image.now layout.now (source_of outline.now) (map block_of blocks.items)) }
 {
     let mut own = outline.blocks(alloc)?;
     if outline.scene.before == 0 {
@@ -97,8 +98,8 @@ fn graph_blocks(
 }
 
 // What a graph takes: nothing where the prelude's block comes first.
-fn graph_params(alloc: Global, scene: Scene<'_, '_>) -> Result<Vec<Param>, AllocError>
-    requires { KnowsScene scene }
+fn graph_params(alloc: Global, scene: BlockSource<'_, '_>) -> Result<Vec<Param>, AllocError>
+    requires { KnowsSource scene }
     ensures { IfOk result (λ params. params.items ≡ known.graph_params (scene_given scene.entry)) }
 {
     if scene.before == 0 {
@@ -113,9 +114,9 @@ fn graph(
     alloc: Global,
     image: &Image,
     layout: &Layout,
-    scene: Scene<'_, '_>,
+    scene: BlockSource<'_, '_>,
 ) -> Result<Graph, AllocError>
-    requires { KnowsScene scene }
+    requires { KnowsSource scene }
     ensures { IfOk result (λ graph. IsGraphOf image.now layout.now (scene_given scene.entry) (graph_of graph)) }
 {
     let outline = Outline::new(alloc, scene)?;
@@ -168,7 +169,7 @@ pub fn lift(alloc: Global, image: &Image, program: &Program) -> Result<IrProgram
     let procedures = procedures_of(alloc, &program.layout, &program.procs, &program.cells)?;
     let mut graphs = Vec::new(alloc);
     for number in 0..procedures.len().min(program.heights.at.len()) {
-        let scene = Scene {
+        let scene = BlockSource {
             cpu: program.layout.cpu,
             procedures: procedures.as_slice(),
             procedure: &procedures[number],

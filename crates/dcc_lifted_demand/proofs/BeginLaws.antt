@@ -7,7 +7,7 @@ use Rattle.dcc_ir.specs.Tree.{Block, Graph}
 use Rattle.dcc_ir.specs.Live.{block_in}
 use Rattle.dcc_ir.specs.Run.{no_block}
 use Rattle.dcc_sums.specs.Points.{Position, begin_of}
-use Rattle.dcc_lift.specs.Blocks.{Nodes, joins, onward, IsChain, leaders, Scene, nodes_in, entry_in, block_place, stmts_at, exit_at, last_of, AreBlocksAt}
+use Rattle.dcc_lift.specs.Blocks.{Nodes, joins, onward, IsChain, leaders, BlockSource, nodes_in, entry_in, block_place, stmts_at, exit_at, last_of, AreBlocksAt}
 use Rattle.dcc_lift.specs.Sound.{AreSound}
 use Rattle.dcc_lift.proofs.ListTests.{or_none, same_number}
 use Rattle.dcc_lift.proofs.NodeLaws.{is_node, goes_from, edges_into_are, edges_are}
@@ -16,7 +16,7 @@ use Rattle.dcc_lift.proofs.BlockLaws.{leader_block}
 use Rattle.dcc_lifted_demand.specs.InstructionPoints.{source_of, advanced, count_at, begin_within, begin_at}
 use Rattle.dcc_lifted_demand.proofs.PointLaws.{IsBefore, is_before_later}
 
-module _ (scene : Scene) where
+module _ (scene : BlockSource) where
   abbrev pub nodes : Nodes
   nodes = nodes_in scene
 

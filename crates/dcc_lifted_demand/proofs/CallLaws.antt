@@ -5,8 +5,8 @@ use Rattle.std.specs.List.{list_any}
 use Rattle.std.proofs.lemmas.Option.{unwrap_or-slice_get}
 use Rattle.std.proofs.lemmas.List.{append-nil}
 use Rattle.dcc_prog.specs.declared.procedure.Node.{Node}
-use Rattle.dcc_prog.specs.declared.instr.Op.{Op}
-use Rattle.dcc_prog.specs.declared.instr.Op.TheVariants.{Call as CallOp}
+use Rattle.dcc_machine.specs.declared.instr.Op.{Op}
+use Rattle.dcc_machine.specs.declared.instr.Op.TheVariants.{Call as CallOp}
 use Rattle.dcc_ir.specs.Tree.{Stmt, Call, Exit, Block, Graph}
 use Rattle.dcc_ir.specs.Live.{block_in}
 use Rattle.dcc_ir.specs.Run.{is_call, no_block}
@@ -16,7 +16,7 @@ use Rattle.dcc_sums.specs.Instance as sums
 use Rattle.dcc_simulation.specs.Procedures.{Procedure, procedure_at, given_back}
 use Rattle.dcc_simulation.specs.Statements.{moves_frame, working_stmts, calling, results_of, arguments_of}
 use Rattle.dcc_simulation.specs.Statements.{taking_all_back}
-use Rattle.dcc_lift.specs.Blocks.{Nodes, node_in, calls_in, is_call as is_call_op, joins, onward, leaders, place_in, Scene, nodes_in, entry_in, height_in, node_stmts, stmts_at, IsBlockAt, AreBlocksAt}
+use Rattle.dcc_lift.specs.Blocks.{Nodes, node_in, calls_in, is_call as is_call_op, joins, onward, leaders, place_in, BlockSource, nodes_in, entry_in, height_in, node_stmts, stmts_at, IsBlockAt, AreBlocksAt}
 use Rattle.dcc_lift.specs.Sound.{AreSound}
 use Rattle.dcc_lift.proofs.ListTests.{and_false, or_here, or_there, same_number, any_filter, any_map}
 use Rattle.dcc_lift.proofs.NodeLaws as nodes
@@ -46,12 +46,12 @@ differ_nodes (found ∷ ns) d = (any_map (λ n. n == found.0) (λ (f : ℕ × No
 
 -- Which block is at a place.
 
-record Slot (scene : Scene) (places : List ℕ) (slot : ℕ) (block : Block) : Type 0 where
+record Slot (scene : BlockSource) (places : List ℕ) (slot : ℕ) (block : Block) : Type 0 where
   place_is : place_in places block.at ≡ slot
   listed : list_any (λ x. x == block.at) places ≡ true
   is_block : IsBlockAt scene block.at block
 
-slot_is : (scene : Scene) (places : List ℕ) (blocks : List Block) (slot : ℕ) (block : Block) → AreBlocksAt scene places blocks → Differ places → slice_get blocks slot ≡ Some block → Slot scene places slot block
+slot_is : (scene : BlockSource) (places : List ℕ) (blocks : List Block) (slot : ℕ) (block : Block) → AreBlocksAt scene places blocks → Differ places → slice_get blocks slot ≡ Some block → Slot scene places slot block
 slot_is scene places [] slot block are d e = absurd (cc e)
 slot_is scene [] (first ∷ blocks) slot block are d e = absurd are
 slot_is scene (at ∷ places) (first ∷ blocks) zero block are d e =
@@ -104,7 +104,7 @@ call_op : (op : Op) → is_call_op op ≡ true → (target : ℕ) × (op ≡ Cal
 call_op (CallOp target) e = (target, refl)
 call_op op e = absurd (true≢false (sym e))
 
-module _ (scene : Scene) (graph : Graph) (prelude : ℕ) (sound : AreSound (nodes_in scene) (entry_in scene) prelude) (front blocks : List Block)
+module _ (scene : BlockSource) (graph : Graph) (prelude : ℕ) (sound : AreSound (nodes_in scene) (entry_in scene) prelude) (front blocks : List Block)
     (front_is : length front ≡ scene.before) (are : AreBlocksAt scene (leaders (nodes_in scene) (entry_in scene)) blocks) (blocks_are : graph.blocks ≡ front ++ blocks)
     (front_free : (j : ℕ) (block : Block) → slice_get front j ≡ Some block → IsCallFree block.stmts) where
   leaders_differ : Differ (leaders (nodes_in scene) (entry_in scene))

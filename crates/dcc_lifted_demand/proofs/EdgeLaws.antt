@@ -2,19 +2,19 @@
 use Rattle.std.proofs.Common.{◌≡◌, ℕ, ℤ, Bool, true, false, ◌==◌, if◌then◌else◌, List, [], ◌∷◌, ◌++◌, map, Option, Some, None, refl, sym, ap, ◌∙◌, subst}
 use Rattle.std.specs.Prelude.{Contains}
 use Rattle.dcc_prog.specs.declared.procedure.Node.{Node}
-use Rattle.dcc_prog.specs.declared.instr.Op.{Op}
-use Rattle.dcc_prog.specs.declared.instr.Op.TheVariants.{Ret}
+use Rattle.dcc_machine.specs.declared.instr.Op.{Op}
+use Rattle.dcc_machine.specs.declared.instr.Op.TheVariants.{Ret}
 use Rattle.dcc_ir.specs.declared.syntax.Loc.{Loc}
 use Rattle.dcc_ir.specs.Tree.{Graph}
 use Rattle.dcc_demand.specs.Procedures.{Procedures}
 use Rattle.dcc_machine_demand.specs.Bodies.{Body, nodes_of, find_at, point_with, point_at}
-use Rattle.dcc_machine_demand.specs.Places.{Place}
+use Rattle.dcc_machine_demand.specs.Holders.{Holder}
 use Rattle.dcc_machine_demand.specs.Instance as asks
 use Rattle.dcc_sums.specs.Points.{Position, site_of, nexts_of, is_return}
 use Rattle.dcc_sums.specs.Instance as sums
 use Rattle.dcc_refinement.specs.Steps.{Walks}
 use Rattle.dcc_refinement.specs.Refinement.{Refinement, EdgesAgree, IsSettled}
-use Rattle.dcc_lift.specs.Blocks.{Nodes, node_in, successors_in, Scene, nodes_in}
+use Rattle.dcc_lift.specs.Blocks.{Nodes, node_in, successors_in, BlockSource, nodes_in}
 use Rattle.dcc_lifted_demand.specs.InstructionPoints.{is_ret, returns_in, begin_at, points_at}
 use Rattle.dcc_lifted_demand.specs.InstructionsHavePoints.{ComesToPoints, HasInstructions}
 use Rattle.dcc_lifted_demand.specs.LiftedRefinement.{steps_in, begin_in}
@@ -82,8 +82,8 @@ module _ (body : Body) (heights : map (λ found. found.0) body.heights ≡ map (
 
 -- A procedure beside its graph.
 
-module _ (coarse : Procedures ℕ Place ℤ) (fine : Procedures Position Loc Loc) (r : Refinement ℕ Place ℤ Position Loc Loc) (entry : ℕ)
-    (bodies : List Body) (body : Body) (graph : Graph) (scene : Scene) (given : Option Scene)
+module _ (coarse : Procedures ℕ Holder ℤ) (fine : Procedures Position Loc Loc) (r : Refinement ℕ Holder ℤ Position Loc Loc) (entry : ℕ)
+    (bodies : List Body) (body : Body) (graph : Graph) (scene : BlockSource) (given : Option BlockSource)
     (heights : map (λ found. found.0) body.heights ≡ map (λ (found : ℕ × Node). found.0) (nodes_of body))
     (nodes : nodes_in scene ≡ nodes_of body)
     (coarse_is : coarse.procedure entry ≡ asks.procedure_of bodies body) (fine_is : fine.procedure entry ≡ sums.procedure_of graph) (scene_is : given ≡ Some scene)

@@ -2,11 +2,11 @@
 use Rattle.std.proofs.Common.{◌≡◌, ◌≤◌, ℕ, zero, suc, ◌+◌, Bool, true, false, inl, inr, ◌==◌, if◌then◌else◌, List, [], ◌∷◌, ◌++◌, length, map, flat_map, Option, Some, None, refl, sym, ap, ap₂, ◌∙◌, subst, true≢false, arith}
 use Rattle.std.specs.Prelude.{Contains, slice_get}
 use Rattle.std.proofs.lemmas.List.{append-nil, map-append}
-use Rattle.dcc_prog.specs.declared.image.Image.{Image}
+use Rattle.dcc_machine.specs.declared.image.Image.{Image}
 use Rattle.dcc_prog.specs.declared.procedure.Layout.{Layout}
 use Rattle.dcc_prog.specs.declared.procedure.Node.{Node}
-use Rattle.dcc_prog.specs.declared.instr.Op.{Op}
-use Rattle.dcc_prog.specs.declared.instr.Op.TheVariants.{Ret, Table}
+use Rattle.dcc_machine.specs.declared.instr.Op.{Op}
+use Rattle.dcc_machine.specs.declared.instr.Op.TheVariants.{Ret, Table}
 use Rattle.dcc_ir.specs.Tree.{Expr, Stmt, Block, Graph}
 use Rattle.dcc_ir.specs.Live.{block_in}
 use Rattle.dcc_ir.proofs.LocationLaws.{Contains-here, Contains-later, Contains-none, Contains-cases}
@@ -20,7 +20,7 @@ use Rattle.dcc_ops.specs.Statements.{exit_to, op_test}
 use Rattle.dcc_simulation.specs.Procedures.{Procedure}
 use Rattle.dcc_simulation.specs.Passed.{exit_of}
 use Rattle.dcc_simulation.specs.Statements.{moves_frame, working_stmts}
-use Rattle.dcc_lift.specs.Blocks.{node_in, successors_in, joins, onward, IsChain, leaders, Scene, block_place, height_in, node_stmts, stmts_at, node_exit, exit_at, last_of, AreBlocksAt}
+use Rattle.dcc_lift.specs.Blocks.{node_in, successors_in, joins, onward, IsChain, leaders, BlockSource, block_place, height_in, node_stmts, stmts_at, node_exit, exit_at, last_of, AreBlocksAt}
 use Rattle.dcc_lift.specs.Sound.{GoesOnAt, AreSound}
 use Rattle.dcc_lift.specs.Translation.{prelude_block}
 use Rattle.dcc_lift.proofs.ListTests.{any_contained}
@@ -77,7 +77,7 @@ pub a_ret : (op : Op) → is_ret op ≡ true → (count : ℕ) × (op ≡ Ret co
 a_ret (Ret count) e = (count, refl)
 a_ret op e = absurd (true≢false (sym e))
 
-module _ (scene : Scene) where
+module _ (scene : BlockSource) where
   -- The points as so many from where the instruction begins.
 
   points_none : (at : ℕ) → node_in (nodes scene) at ≡ None → points_at scene at ≡ []
@@ -324,7 +324,7 @@ front_length x (suc zero) few = refl
 front_length x (suc (suc n)) few = absurd (omega (arith, few))
 
 -- the prelude's block calls nothing
-front_free : (image : Image) (layout : Layout) (scene : Scene) (b : Bool) (j : ℕ) (block : Block)
+front_free : (image : Image) (layout : Layout) (scene : BlockSource) (b : Bool) (j : ℕ) (block : Block)
     → slice_get (if b then [] else prelude_block image layout scene ∷ []) j ≡ Some block → IsCallFree block.stmts
 front_free image layout scene true j block e = absurd (cc e)
 front_free image layout scene false zero block e =

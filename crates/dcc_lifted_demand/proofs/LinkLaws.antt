@@ -3,7 +3,7 @@ use Rattle.std.proofs.Common.{◌≡◌, ◌≤◌, ℕ, Bool, true, false, ◌=
 use Rattle.std.specs.Prelude.{zip}
 use Rattle.std.specs.List.{AllZip}
 use Rattle.std.proofs.lemmas.List.Elements.{All-head, All-tail}
-use Rattle.dcc_prog.specs.declared.image.Image.{Image}
+use Rattle.dcc_machine.specs.declared.image.Image.{Image}
 use Rattle.dcc_prog.specs.declared.procedure.Layout.{Layout}
 use Rattle.dcc_prog.specs.declared.procedure.Proc.{Proc}
 use Rattle.dcc_prog.specs.declared.frame.Frame.{Frame}
@@ -13,7 +13,7 @@ use Rattle.dcc_prog.specs.Analysed.{AreHeightsOf, IsFrameOf}
 use Rattle.dcc_ir.specs.Tree.{Graph}
 use Rattle.dcc_ir.specs.Run.{graph_at}
 use Rattle.dcc_simulation.specs.Procedures.{Procedure, procedures_of, procedure_at}
-use Rattle.dcc_lift.specs.Blocks.{Scene}
+use Rattle.dcc_lift.specs.Blocks.{BlockSource}
 use Rattle.dcc_lift.specs.Translation.{scenes_of, IsGraphOf}
 use Rattle.dcc_machine_demand.specs.Bodies.{Body, body_at}
 use Rattle.dcc_lifted_demand.specs.LiftedRefinement.{scene_at}
@@ -28,13 +28,13 @@ module _ {Heights : Type 0} (entries : Heights → List (ℕ × ℕ)) (image : I
   abbrev pub procedure_with : Proc → Frame → Procedure
   procedure_with proc frame = record { proc = proc; frame = frame; delta = layout.delta }
 
-  abbrev pub scene_with : Proc → Frame → List (ℕ × ℕ) → ℕ → Scene
+  abbrev pub scene_with : Proc → Frame → List (ℕ × ℕ) → ℕ → BlockSource
   scene_with proc frame heights before = record { cpu = layout.cpu; procedures = all; procedure = procedure_with proc frame; heights = heights; before = before }
 
   abbrev pub bodies_from : List Proc → List Frame → List Heights → List Body
   bodies_from procs frames heights = map (λ found. record { proc = found.0; frame = found.1.0; heights = entries found.1.1 }) (zip procs (zip frames heights))
 
-  abbrev pub scenes_from : ℕ → List Proc → List Frame → List Heights → List Scene
+  abbrev pub scenes_from : ℕ → List Proc → List Frame → List Heights → List BlockSource
   scenes_from before procs frames heights = scenes_of layout all before (procedures_of layout procs frames) (map entries heights)
 
   -- one with that entry
@@ -69,7 +69,7 @@ module _ {Heights : Type 0} (entries : Heights → List (ℕ × ℕ)) (image : I
     linked : Linked before procs frames heights graphs entry → Standing before procs frames heights graphs entry
     missing : Missing before procs frames heights graphs entry → Standing before procs frames heights graphs entry
 
-  graph_entry : (scene : Scene) (graph : Graph) → IsGraphOf image layout scene graph → graph.entry ≡ scene.procedure.proc.entry
+  graph_entry : (scene : BlockSource) (graph : Graph) → IsGraphOf image layout scene graph → graph.entry ≡ scene.procedure.proc.entry
   graph_entry scene graph is = ap (λ (g : Graph). g.entry) is.graph_is
 
   module _ (entry : ℕ) where

@@ -2,9 +2,9 @@
 use Rattle.std.proofs.Common.{◌≡◌, ℕ, ℤ, zero, suc, Bool, true, false, inl, inr, List, [], ◌∷◌, ◌++◌, map, Option, Some, None, All, refl, sym, ap, ◌∙◌, subst, true≢false, arith}
 use Rattle.std.specs.Prelude.{Contains, get_or, ◌==◌, if◌then◌else◌}
 use Rattle.std.proofs.lemmas.List.Elements.{All-nil, All-cons, All-head, All-tail, All-append}
-use Rattle.dcc_prog.specs.declared.instr.Op.{Op}
-use Rattle.dcc_prog.specs.declared.instr.Op.TheVariants.{Call}
-use Rattle.dcc_prog.specs.declared.refusal.construct.TheConstants.{ENTRY_RETURN}
+use Rattle.dcc_machine.specs.declared.instr.Op.{Op}
+use Rattle.dcc_machine.specs.declared.instr.Op.TheVariants.{Call}
+use Rattle.dcc_prog.specs.declared.refusal.ConstructKind.TheVariants.{EntryReturn}
 use Rattle.dcc_prog.specs.Construct.{ReturnsFromEntry, entry_return}
 use Rattle.dcc_prog.specs.Found.{IsNodeFound}
 use Rattle.dcc_ir.specs.Tree.{Stmt, Exit, Block, Graph}
@@ -21,7 +21,7 @@ use Rattle.dcc_refinement.specs.Steps.{CallNothing}
 use Rattle.dcc_lifted_demand.specs.InstructionPoints.{is_ret, returns_in}
 use Rattle.dcc_lifted_demand.proofs.InstructionLaws.{exit_returns, a_ret}
 use Rattle.dcc_lifted_demand.proofs.EdgeLaws.{callee_by}
-use Rattle.dcc_prog.specs.declared.image.Image.{Image}
+use Rattle.dcc_machine.specs.declared.image.Image.{Image}
 use Rattle.dcc_prog.specs.declared.procedure.Layout.{Layout}
 use Rattle.dcc_prog.specs.declared.procedure.Node.{Node}
 use Rattle.dcc_prog.specs.declared.frame.Program.{Program as Analysed}
@@ -30,19 +30,19 @@ use Rattle.dcc_ir.specs.Tree.{Program, Stop}
 use Rattle.dcc_ir.specs.Flow.{graph_or_none}
 use Rattle.dcc_ir.proofs.LocationLaws.{Contains-none}
 use Rattle.dcc_num.specs.declared.Width.TheVariants.{Byte as byte_width}
-use Rattle.dcc_ops.specs.Place.{byte}
+use Rattle.dcc_ops.specs.OperandPlace.{byte}
 use Rattle.dcc_simulation.specs.Procedures.{Procedure, procedure_at, cells_of, frame_place}
 use Rattle.dcc_simulation.specs.Nodes.{procedures_in}
 use Rattle.dcc_simulation.proofs.CellSlots.{IsSmall}
-use Rattle.dcc_lift.specs.Blocks.{node_in, successors_in, Scene, nodes_in, entry_in}
+use Rattle.dcc_lift.specs.Blocks.{node_in, successors_in, BlockSource, nodes_in, entry_in}
 use Rattle.dcc_lift.specs.Sound.{AreSound}
 use Rattle.dcc_lift.specs.Translated.{IsTranslated}
 use Rattle.dcc_lift.proofs.FoundSound.{found-sound}
 use Rattle.dcc_lift.proofs.ListTests.{any_contained}
 use Rattle.dcc_lift.proofs.NodeLaws.{node_in_some, entry_is_node, successor_is_node}
 use Rattle.dcc_machine_demand.specs.Bodies.{Body, bodies_of}
-use Rattle.dcc_machine_demand.specs.Places.{Place, held, in_frame}
-use Rattle.dcc_machine_demand.specs.Places as asked
+use Rattle.dcc_machine_demand.specs.Holders.{Holder, held, in_frame}
+use Rattle.dcc_machine_demand.specs.Holders as asked
 use Rattle.dcc_machine_demand.specs.Instance as asks
 use Rattle.dcc_sums.specs.Points.{Position, begin_of}
 use Rattle.dcc_sums.specs.Instance as sums
@@ -60,13 +60,13 @@ module _ (image : Image) (program : Analysed) (p : Program) (is : IsTranslated i
   abbrev pub layout : Layout
   layout = program.layout
 
-  abbrev pub coarse : Procedures ℕ Place ℤ
+  abbrev pub coarse : Procedures ℕ Holder ℤ
   coarse = machine image program p
 
   abbrev pub fine : Procedures Position Loc Loc
   fine = inner image program p
 
-  abbrev pub r : Refinement ℕ Place ℤ Position Loc Loc
+  abbrev pub r : Refinement ℕ Holder ℤ Position Loc Loc
   r = lifted_refinement program
 
   abbrev pub Link : ℕ → Type 0
@@ -96,7 +96,7 @@ module _ (image : Image) (program : Analysed) (p : Program) (is : IsTranslated i
     abbrev pub procedure : Procedure
     procedure = record { proc = x.proc; frame = x.frame; delta = layout.delta }
 
-    abbrev pub scene : Scene
+    abbrev pub scene : BlockSource
     scene = record { cpu = layout.cpu; procedures = procedures_in program; procedure = procedure; heights = x.own; before = x.first }
 
     pub sound : AreSound (nodes_in scene) (entry_in scene) image.ip
@@ -139,10 +139,10 @@ module _ (image : Image) (program : Analysed) (p : Program) (is : IsTranslated i
         let one : procedure ≡ found = cc (x.procedure_found, e) in
         subst (λ q. All IsSmall (cells_of q)) one (same.small_cells image layout x.proc.entry procedure x.is_frame.cells)
 
-    exposed_linked : (place : Place) (location : Loc) → (coarse.procedure entry).is_exposed place ≡ true → IsSame (procedure_at (procedures_in program) entry) place location → ⊥
+    exposed_linked : (place : Holder) (location : Loc) → (coarse.procedure entry).is_exposed place ≡ true → IsSame (procedure_at (procedures_in program) entry) place location → ⊥
     exposed_linked place location e s = by (sym (ap (λ g. g.is_exposed place) coarse_is) ∙ e) s
       where
-        by : {place : Place} {location : Loc} → asked.is_exposed_place body place ≡ true → IsSame (procedure_at (procedures_in program) entry) place location → ⊥
+        by : {place : Holder} {location : Loc} → asked.is_exposed_holder body place ≡ true → IsSame (procedure_at (procedures_in program) entry) place location → ⊥
         by e (IsSame.is_held t) = true≢false (sym e)
         by e (IsSame.is_kept {found = found} {k = k} {location = location} f g) =
             let one : procedure ≡ found = cc (x.procedure_found, f) in
@@ -209,7 +209,7 @@ module _ (image : Image) (program : Analysed) (p : Program) (is : IsTranslated i
           | inl t ↦
               let there = found_there at node f in
               let op = a_ret node.instr.op t in
-              absurd (is.of_file.is_program.procs.no_construct ENTRY_RETURN at (record {
+              absurd (is.of_file.is_program.procs.no_construct EntryReturn at (record {
                 entry = x.proc.entry;
                 is_entry = x.reached;
                 node = there.node;
@@ -224,7 +224,7 @@ module _ (image : Image) (program : Analysed) (p : Program) (is : IsTranslated i
         by None f e = cc e
         by (Some node) f e =
             let there = found_there at node f in
-            is.of_file.is_program.procs.no_construct ENTRY_RETURN at (record {
+            is.of_file.is_program.procs.no_construct EntryReturn at (record {
               entry = x.proc.entry;
               is_entry = x.reached;
               node = there.node;
@@ -328,11 +328,11 @@ module _ (image : Image) (program : Analysed) (p : Program) (is : IsTranslated i
       | Standing.missing x ↦ absurd (cc (e, x.procedure_none))
     ]
 
-    shared : (i j : ℕ) {L : Place} {l : Loc} → IsSame (procedure_at (procedures_in program) i) L l → asked.passes L ≡ true → IsSame (procedure_at (procedures_in program) j) L l
+    shared : (i j : ℕ) {L : Holder} {l : Loc} → IsSame (procedure_at (procedures_in program) i) L l → asked.passes L ≡ true → IsSame (procedure_at (procedures_in program) j) L l
     shared i j (IsSame.is_held e) t = IsSame.is_held e
     shared i j (IsSame.is_kept e f) t = absurd (true≢false (sym t))
 
-    exposed : (entry : ℕ) (place : Place) (location : Loc) → (coarse.procedure entry).is_exposed place ≡ true → IsSame (procedure_at (procedures_in program) entry) place location → ⊥
+    exposed : (entry : ℕ) (place : Holder) (location : Loc) → (coarse.procedure entry).is_exposed place ≡ true → IsSame (procedure_at (procedures_in program) entry) place location → ⊥
     exposed entry place location e s = elim (stands entry) [
       | Standing.linked x ↦ exposed_linked entry x place location e s
       | Standing.missing x ↦ true≢false (sym e ∙ ap (λ g. g.is_exposed place) (coarse_none entry x))

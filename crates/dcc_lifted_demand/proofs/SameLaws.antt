@@ -14,11 +14,11 @@ use Rattle.dcc_num.specs.declared.Half.TheVariants.{Low, High}
 use Rattle.dcc_num.specs.declared.FlagName.TheVariants.{Cf, Zf, Sf, Of}
 use Rattle.dcc_prog.specs.declared.frame.Cell.{Cell}
 use Rattle.dcc_prog.specs.declared.frame.Frame.{Frame}
-use Rattle.dcc_prog.specs.declared.image.Image.{Image}
+use Rattle.dcc_machine.specs.declared.image.Image.{Image}
 use Rattle.dcc_prog.specs.declared.procedure.Layout.{Layout}
 use Rattle.dcc_prog.specs.Frame.{IsCell, argument_word}
 use Rattle.dcc_prog.specs.Analysed.{bytes_of}
-use Rattle.dcc_prog.specs.Wanted.{Location, half_of, flag_of}
+use Rattle.dcc_machine.specs.Wanted.{Location, half_of, flag_of}
 use Rattle.dcc_prog.specs.Clean.{exposes}
 use Rattle.dcc_stack.specs.Slots.{is_within, is_placed, exposes_of, slots_of}
 use Rattle.dcc_ir.specs.declared.syntax.Loc.{Loc}
@@ -26,14 +26,14 @@ use Rattle.dcc_ir.specs.declared.syntax.Loc.TheVariants.{Cell as CellHalf}
 use Rattle.dcc_ir.specs.Location.{with_value}
 use Rattle.dcc_ir.specs.Tree.{Address}
 use Rattle.dcc_ir.proofs.LocationLaws.{location_itself}
-use Rattle.dcc_ops.specs.Place.{byte, memory}
+use Rattle.dcc_ops.specs.OperandPlace.{byte, memory}
 use Rattle.dcc_simulation.specs.Coupled.{half_in, held_at, slots_in}
 use Rattle.dcc_simulation.specs.Procedures.{Procedure, cells_of, accessed_cells, other_cells, is_accessed, distance_of}
 use Rattle.dcc_simulation.specs.Procedures.{cell_place, frame_place}
 use Rattle.dcc_simulation.proofs.CellSlots.{IsSmall, slot-set}
 use Rattle.dcc_lift.proofs.ListTests.{any_map, or_here, or_there}
-use Rattle.dcc_machine_demand.specs.Places as asks
-use Rattle.dcc_machine_demand.specs.Places.{Place, held, in_frame}
+use Rattle.dcc_machine_demand.specs.Holders as asks
+use Rattle.dcc_machine_demand.specs.Holders.{Holder, held, in_frame}
 use Rattle.dcc_sums.specs.Instance as sums
 use Rattle.dcc_lifted_demand.specs.LiftedRefinement.{inner_of, IsSame}
 
@@ -131,21 +131,21 @@ one_byte cells k j number half small e f = by (int_eq j k) refl (sym set ∙ slo
 
 module _ (p : Option Procedure) where
   -- what is the same, by equations
-  pub data SameCases (L : Place) (l : Loc) : Type 0 where
+  pub data SameCases (L : Holder) (l : Loc) : Type 0 where
     by_held : (location : Location) → asks.passes (held location) ≡ true → L ≡ held location → l ≡ inner_of location → SameCases L l
     by_kept : (found : Procedure) (k : ℤ) → p ≡ Some found → L ≡ in_frame k → IsKept 0 (cells_of found) k l → frame_place found byte_width k ≡ byte l → SameCases L l
 
-  pub same_cases : {L : Place} {l : Loc} → IsSame p L l → SameCases L l
+  pub same_cases : {L : Holder} {l : Loc} → IsSame p L l → SameCases L l
   same_cases (IsSame.is_held {location = location} e) = SameCases.by_held location e refl refl
   same_cases (IsSame.is_kept {found = found} {k = k} {location = location} e f) = SameCases.by_kept found k e refl (kept_in found k location f) f
 
-  pub passes_alike : {L : Place} {l : Loc} → IsSame p L l → asks.passes L ≡ sums.passes l
+  pub passes_alike : {L : Holder} {l : Loc} → IsSame p L l → asks.passes L ≡ sums.passes l
   passes_alike same = elim (same_cases same) [
     | SameCases.by_held location e f g ↦ ap asks.passes f ∙ same_passes location ∙ ap sums.passes (sym g)
     | SameCases.by_kept found k e f kept g ↦ ap asks.passes f ∙ sym (ap sums.passes kept.is)
   ]
 
-  pub one_place : ((found : Procedure) → p ≡ Some found → All IsSmall (cells_of found)) → {L M : Place} {l : Loc} → IsSame p L l → IsSame p M l → L ≡ M
+  pub one_place : ((found : Procedure) → p ≡ Some found → All IsSmall (cells_of found)) → {L M : Holder} {l : Loc} → IsSame p L l → IsSame p M l → L ≡ M
   one_place small {L} {M} {l} same other = by (same_cases same) (same_cases other)
     where
       by : SameCases L l → SameCases M l → L ≡ M

@@ -3,10 +3,11 @@
 use Rattle.std.specs.Prelude.{ℕ, zero, suc, ◌+◌, Bool, true, false, List, [], ◌∷◌, ◌++◌, length, get_or, if◌then◌else◌}
 use Rattle.std.specs.Prelude.{Option, Some, None}
 use Rattle.dcc_prog.specs.declared.procedure.Node.{Node}
-use Rattle.dcc_prog.specs.declared.instr.Op.{Op}
-use Rattle.dcc_prog.specs.declared.instr.Op.TheVariants.{Ret}
+use Rattle.dcc_machine.specs.declared.instr.Op.{Op}
+use Rattle.dcc_machine.specs.declared.instr.Op.TheVariants.{Ret}
 use Rattle.dcc_sums.specs.Points.{Position, begin_of, next_of, Site, Ends}
-use Rattle.dcc_lift.specs.Blocks.{Nodes, node_in, edges_into, joins, onward, Scene, nodes_in, entry_in, block_place}
+use Rattle.dcc_lift.specs.Blocks.{Nodes, node_in, edges_into, joins, onward, BlockSource, nodes_in, entry_in}
+use Rattle.dcc_lift.specs.Blocks.{block_place}
 use Rattle.dcc_lift.specs.Blocks.{stmts_at, exit_at}
 
 -- the offset from which the first edge to an instruction leads
@@ -31,7 +32,7 @@ abbrev pub returns_in : Option Node → Bool
 returns_in None = false
 returns_in (Some node) = is_ret node.instr.op
 
-module _ (scene : Scene) where
+module _ (scene : BlockSource) where
   -- how many statements stand for the instruction
   abbrev pub count_at : ℕ → ℕ
   count_at at = length (stmts_at scene at)

@@ -1,18 +1,18 @@
 -- The points of a lifted graph are those of its instructions.
 use Rattle.std.specs.Prelude.{◌≡◌, ◌≤◌, ℕ, true, false, List, [], ◌∷◌, ◌++◌, map, Contains, Some}
-use Rattle.dcc_prog.specs.declared.image.Image.{Image}
+use Rattle.dcc_machine.specs.declared.image.Image.{Image}
 use Rattle.dcc_prog.specs.declared.procedure.Layout.{Layout}
 use Rattle.dcc_prog.specs.declared.procedure.Node.{Node}
 use Rattle.dcc_ir.specs.Tree.{Graph}
 use Rattle.dcc_sums.specs.Points.{Position, begin_of, Executes, site_of, nexts_of, is_return}
 use Rattle.dcc_sums.specs.Instance.{procedure_of}
 use Rattle.dcc_refinement.specs.Steps.{Walks}
-use Rattle.dcc_lift.specs.Blocks.{node_in, successors_in, onward, Scene, nodes_in, entry_in, stmts_at}
+use Rattle.dcc_lift.specs.Blocks.{node_in, successors_in, onward, BlockSource, nodes_in, entry_in, stmts_at}
 use Rattle.dcc_lift.specs.Sound.{AreSound}
 use Rattle.dcc_lift.specs.Translation.{IsGraphOf}
 use Rattle.dcc_lifted_demand.specs.InstructionPoints.{returns_in, begin_at, points_at, end_sites}
 
-module _ (scene : Scene) where
+module _ (scene : BlockSource) where
   -- the instructions from the offset on come to one that has points
   pub data ComesToPoints : ℕ → Type 0 where
     by_points : {at : ℕ} {first : Position} {others : List Position} → points_at scene at ≡ first ∷ others
@@ -56,5 +56,5 @@ module _ (scene : Scene) where
 -- the points of the graph of a procedure, whose instructions are sound, are those of its instructions
 abbrev pub InstructionsHavePoints : Type 0
 InstructionsHavePoints =
-    (image : Image) (layout : Layout) (scene : Scene) (graph : Graph) → IsGraphOf image layout scene graph
+    (image : Image) (layout : Layout) (scene : BlockSource) (graph : Graph) → IsGraphOf image layout scene graph
     → AreSound (nodes_in scene) (entry_in scene) image.ip → scene.before ≤ 1 → HasInstructions scene graph

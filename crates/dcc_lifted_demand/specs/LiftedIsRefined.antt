@@ -1,12 +1,12 @@
 -- The lifted program has the machine's relations where each instruction does what its statements do.
 use Rattle.std.specs.Prelude.{ℕ, ℤ}
-use Rattle.dcc_prog.specs.declared.image.Image.{Image}
+use Rattle.dcc_machine.specs.declared.image.Image.{Image}
 use Rattle.dcc_prog.specs.declared.frame.Program.{Program as Analysed}
 use Rattle.dcc_ir.specs.declared.syntax.Loc.{Loc}
 use Rattle.dcc_ir.specs.Tree.{Program}
 use Rattle.dcc_demand.specs.Procedures.{Procedures}
 use Rattle.dcc_machine_demand.specs.Bodies.{bodies_of}
-use Rattle.dcc_machine_demand.specs.Places.{Place}
+use Rattle.dcc_machine_demand.specs.Holders.{Holder}
 use Rattle.dcc_machine_demand.specs.Instance as asks
 use Rattle.dcc_sums.specs.Points.{Position}
 use Rattle.dcc_sums.specs.Instance as sums
@@ -15,7 +15,7 @@ use Rattle.dcc_lift.specs.Translated.{IsTranslated}
 use Rattle.dcc_lifted_demand.specs.LiftedRefinement.{lifted_refinement}
 
 module _ (image : Image) (program : Analysed) (p : Program) where
-  abbrev pub machine : Procedures ℕ Place ℤ
+  abbrev pub machine : Procedures ℕ Holder ℤ
   machine = asks.procedures_of (bodies_of program)
 
   abbrev pub inner : Procedures Position Loc Loc

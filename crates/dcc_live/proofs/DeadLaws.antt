@@ -1,4 +1,4 @@
--- What is left of a graph without the assignments to what is not wanted after them.
+-- What is left of a graph without the assignments to what is not needed after them.
 use Rattle.std.proofs.Common.{◌≡◌, ℕ, zero, suc, ◌+◌, ◌<◌, ◌≤◌, Bool, true, false, ◌&&◌, not, inl, inr, List, [], ◌∷◌, ◌++◌, length, get_or, slice_get, map, take, drop, reverse, Some, refl, sym, ap, ap₂, ◌∙◌, subst, true≢false, arith, Contains}
 use Rattle.std.specs.Prelude.{if◌then◌else◌, All}
 use Rattle.std.specs.List.{AllZip, list_any}
@@ -10,18 +10,18 @@ use Rattle.dcc_ir.specs.declared.syntax.Block.{Block as BlockOf}
 use Rattle.dcc_ir.specs.Tree.{Stmt, Block, Graph}
 use Rattle.dcc_ir.specs.Views.{stmt_of, block_of}
 use Rattle.dcc_ir.specs.Use.{writes_of}
-use Rattle.dcc_ir.specs.Demand.{is_assignment, uses_of, makes_of, tests_of, IsWantedIn, used, made_of, left, tested, goes}
+use Rattle.dcc_ir.specs.Demand.{is_assignment, uses_of, makes_of, tests_of, IsNeededIn, used, made_of, left, tested, goes}
 use Rattle.dcc_ir.specs.Flow.{targets}
-use Rattle.dcc_ir.specs.Families.{wanted, WritesNone, IsWithout, done, stays as remains, goes as leaves, IsBlockWithout, IsGraphWithout, AllWanted}
+use Rattle.dcc_ir.specs.Families.{needed, WritesNone, IsWithout, done, stays as remains, goes as leaves, IsBlockWithout, IsGraphWithout, AllNeeded}
 use Rattle.dcc_ir.specs.Replaced.{MayReplace}
 use Rattle.dcc_ir.specs.WellFormed.{IsGraph}
-use Rattle.dcc_ir.proofs.FamilyLaws.{wanted-closed}
+use Rattle.dcc_ir.proofs.FamilyLaws.{needed-closed}
 use Rattle.dcc_ir.proofs.passes.ReplaceLaws.{graph_still, kept_with}
 use Rattle.dcc_flow.specs.Access.{access_of, block_access_of}
-use Rattle.dcc_live.specs.Wanted.{stays, before_all, after_stmts, left_of, block_left, blocks_left, AreWantedAtEnds}
-use Rattle.dcc_live.specs.Dead.{IsWithoutUnwanted}
+use Rattle.dcc_live.specs.Needed.{stays, before_all, after_stmts, left_of, block_left, blocks_left, AreNeededAtEnds}
+use Rattle.dcc_live.specs.Dead.{IsWithoutUnneeded}
 use Rattle.dcc_live.proofs.RowLaws.{map_read}
-use Rattle.dcc_live.proofs.WantedLaws.{Exactly, wanted_before, any_passes, some_passes, staying, going, uses_plain}
+use Rattle.dcc_live.proofs.NeededLaws.{Exactly, needed_before, any_passes, some_passes, staying, going, uses_plain}
 
 -- an assignment that goes
 goes_away : (assigns some : Bool) → not (assigns && not some) ≡ false → assigns ≡ true
@@ -32,104 +32,104 @@ module _ (graph : Graph) (block : Block) (has : Loc → Bool) (exact : Exactly g
   abbrev W : List Stmt → Loc → Bool
   W rest = before_all (map access_of rest) has
 
-  -- only assignments to what is not wanted after them go
-  pub left_without : (stmts : List Stmt) → IsWithout (IsWantedIn graph block) stmts (left_of stmts has)
+  -- only assignments to what is not needed after them go
+  pub left_without : (stmts : List Stmt) → IsWithout (IsNeededIn graph block) stmts (left_of stmts has)
   left_without [] = done
   left_without (stmt ∷ rest) = go (stays (access_of stmt) (W rest)) refl (left_without rest)
     where
-      none : list_any (W rest) (writes_of stmt) ≡ false → WritesNone (IsWantedIn graph block rest) stmt
-      none e l c d = true≢false (sym (any_passes (W rest) (writes_of stmt) l c ((wanted_before graph block has rest exact l).1 d)) ∙ e)
+      none : list_any (W rest) (writes_of stmt) ≡ false → WritesNone (IsNeededIn graph block rest) stmt
+      none e l c d = true≢false (sym (any_passes (W rest) (writes_of stmt) l c ((needed_before graph block has rest exact l).1 d)) ∙ e)
 
-      go : (b : Bool) → stays (access_of stmt) (W rest) ≡ b → IsWithout (IsWantedIn graph block) rest (left_of rest has) → IsWithout (IsWantedIn graph block) (stmt ∷ rest) (if b then stmt ∷ left_of rest has else left_of rest has)
+      go : (b : Bool) → stays (access_of stmt) (W rest) ≡ b → IsWithout (IsNeededIn graph block) rest (left_of rest has) → IsWithout (IsNeededIn graph block) (stmt ∷ rest) (if b then stmt ∷ left_of rest has else left_of rest has)
       go true e w = remains w
       go false e w =
           leaves (goes_away (is_assignment stmt) (list_any (W rest) (writes_of stmt)) e) (none (going (is_assignment stmt) (list_any (W rest) (writes_of stmt)) e)) w
 
--- What is wanted in the graph is wanted in what is left of it.
+-- What is needed in the graph is needed in what is left of it.
 
-module _ (g g' : Graph) (h : IsGraphWithout (wanted g) g g') where
-  zip_on : (xs ys : List Block) (k : ℕ) (x : Block) → AllZip (IsBlockWithout (wanted g)) xs ys → slice_get xs k ≡ Some x → (y : Block) × (slice_get ys k ≡ Some y) × IsBlockWithout (wanted g) x y
+module _ (g g' : Graph) (h : IsGraphWithout (needed g) g g') where
+  zip_on : (xs ys : List Block) (k : ℕ) (x : Block) → AllZip (IsBlockWithout (needed g)) xs ys → slice_get xs k ≡ Some x → (y : Block) × (slice_get ys k ≡ Some y) × IsBlockWithout (needed g) x y
   zip_on [] [] k x all e = absurd (cc)
   zip_on [] (z ∷ ys) k x all e = absurd all
   zip_on (z ∷ xs) [] k x all e = absurd all
-  zip_on (z ∷ xs) (y ∷ ys) zero x all e = let same : z ≡ x = cc in (y, refl, subst (λ b. IsBlockWithout (wanted g) b y) same all.0)
+  zip_on (z ∷ xs) (y ∷ ys) zero x all e = let same : z ≡ x = cc in (y, refl, subst (λ b. IsBlockWithout (needed g) b y) same all.0)
   zip_on (z ∷ xs) (y ∷ ys) (suc k) x all e = zip_on xs ys k x all.1 e
 
-  pub still_wanted : (block : Block) (stmts : List Stmt) (l : Loc) → IsWantedIn g block stmts l → (block' : Block) → IsBlockWithout (wanted g) block block' → (stmts' : List Stmt) →
-      IsWithout (IsWantedIn g block) stmts stmts' → IsWantedIn g' block' stmts' l
-  still_wanted block stmts l (used {stmt = stmt} {rest = rest} c) block' pair stmts' w = go (stmt ∷ rest) stmts' refl w
+  pub still_needed : (block : Block) (stmts : List Stmt) (l : Loc) → IsNeededIn g block stmts l → (block' : Block) → IsBlockWithout (needed g) block block' → (stmts' : List Stmt) →
+      IsWithout (IsNeededIn g block) stmts stmts' → IsNeededIn g' block' stmts' l
+  still_needed block stmts l (used {stmt = stmt} {rest = rest} c) block' pair stmts' w = go (stmt ∷ rest) stmts' refl w
     where
-      go : (all stmts' : List Stmt) → all ≡ stmt ∷ rest → IsWithout (IsWantedIn g block) all stmts' → IsWantedIn g' block' stmts' l
+      go : (all stmts' : List Stmt) → all ≡ stmt ∷ rest → IsWithout (IsNeededIn g block) all stmts' → IsNeededIn g' block' stmts' l
       go all stmts' is done = absurd (cc)
       go all stmts' is (remains {stmt = s} {rest = r} {rest' = r'} w) = let same : s ≡ stmt = cc in used (subst (λ s. Contains (uses_of s) l) (sym same) c)
       go all stmts' is (leaves {stmt = s} {rest = r} {rest' = r'} assigns none w) = let same : s ≡ stmt = cc in absurd (true≢false (sym assigns ∙ ap is_assignment same ∙ uses_plain stmt l c))
-  still_wanted block stmts l (made_of {stmt = stmt} {rest = rest} {to = to} writes c d) block' pair stmts' w = go (stmt ∷ rest) stmts' refl w (λ r' w. still_wanted block rest to d block' pair r' w)
+  still_needed block stmts l (made_of {stmt = stmt} {rest = rest} {to = to} writes c d) block' pair stmts' w = go (stmt ∷ rest) stmts' refl w (λ r' w. still_needed block rest to d block' pair r' w)
     where
-      go : (all stmts' : List Stmt) → all ≡ stmt ∷ rest → IsWithout (IsWantedIn g block) all stmts' → ((r' : List Stmt) → IsWithout (IsWantedIn g block) rest r' → IsWantedIn g' block' r' to) → IsWantedIn g' block' stmts' l
+      go : (all stmts' : List Stmt) → all ≡ stmt ∷ rest → IsWithout (IsNeededIn g block) all stmts' → ((r' : List Stmt) → IsWithout (IsNeededIn g block) rest r' → IsNeededIn g' block' r' to) → IsNeededIn g' block' stmts' l
       go all stmts' is done later = absurd (cc)
       go all stmts' is (remains {stmt = s} {rest = r} {rest' = r'} w) later =
           let same : s ≡ stmt = cc in
           let also : r ≡ rest = cc in
-          made_of (subst (λ s. Contains (writes_of s) to) (sym same) writes) (subst (λ s. Contains (makes_of s) l) (sym same) c) (later r' (subst (λ r. IsWithout (IsWantedIn g block) r r') also w))
+          made_of (subst (λ s. Contains (writes_of s) to) (sym same) writes) (subst (λ s. Contains (makes_of s) l) (sym same) c) (later r' (subst (λ r. IsWithout (IsNeededIn g block) r r') also w))
       go all stmts' is (leaves {stmt = s} {rest = r} {rest' = r'} assigns none w) later =
           let same : s ≡ stmt = cc in
           let also : r ≡ rest = cc in
-          absurd (none to (subst (λ s. Contains (writes_of s) to) (sym same) writes) (subst (λ r. IsWantedIn g block r to) (sym also) d))
-  still_wanted block stmts l (left {stmt = stmt} {rest = rest} n d) block' pair stmts' w = go (stmt ∷ rest) stmts' refl w (λ r' w. still_wanted block rest l d block' pair r' w)
+          absurd (none to (subst (λ s. Contains (writes_of s) to) (sym same) writes) (subst (λ r. IsNeededIn g block r to) (sym also) d))
+  still_needed block stmts l (left {stmt = stmt} {rest = rest} n d) block' pair stmts' w = go (stmt ∷ rest) stmts' refl w (λ r' w. still_needed block rest l d block' pair r' w)
     where
-      go : (all stmts' : List Stmt) → all ≡ stmt ∷ rest → IsWithout (IsWantedIn g block) all stmts' → ((r' : List Stmt) → IsWithout (IsWantedIn g block) rest r' → IsWantedIn g' block' r' l) → IsWantedIn g' block' stmts' l
+      go : (all stmts' : List Stmt) → all ≡ stmt ∷ rest → IsWithout (IsNeededIn g block) all stmts' → ((r' : List Stmt) → IsWithout (IsNeededIn g block) rest r' → IsNeededIn g' block' r' l) → IsNeededIn g' block' stmts' l
       go all stmts' is done later = absurd (cc)
       go all stmts' is (remains {stmt = s} {rest = r} {rest' = r'} w) later =
           let same : s ≡ stmt = cc in
           let also : r ≡ rest = cc in
-          left (subst (λ s. ¬ Contains (writes_of s) l) (sym same) n) (later r' (subst (λ r. IsWithout (IsWantedIn g block) r r') also w))
-      go all stmts' is (leaves {stmt = s} {rest = r} {rest' = r'} assigns none w) later = let also : r ≡ rest = cc in later stmts' (subst (λ r. IsWithout (IsWantedIn g block) r stmts') also w)
-  still_wanted block stmts l (tested c) block' pair stmts' w = go [] stmts' refl w
+          left (subst (λ s. ¬ Contains (writes_of s) l) (sym same) n) (later r' (subst (λ r. IsWithout (IsNeededIn g block) r r') also w))
+      go all stmts' is (leaves {stmt = s} {rest = r} {rest' = r'} assigns none w) later = let also : r ≡ rest = cc in later stmts' (subst (λ r. IsWithout (IsNeededIn g block) r stmts') also w)
+  still_needed block stmts l (tested c) block' pair stmts' w = go [] stmts' refl w
     where
-      go : (all stmts' : List Stmt) → all ≡ [] → IsWithout (IsWantedIn g block) all stmts' → IsWantedIn g' block' stmts' l
+      go : (all stmts' : List Stmt) → all ≡ [] → IsWithout (IsNeededIn g block) all stmts' → IsNeededIn g' block' stmts' l
       go all stmts' is done = tested (subst (λ x. Contains (tests_of x) l) (sym pair.exit) c)
       go all stmts' is (remains w) = absurd (cc)
       go all stmts' is (leaves assigns none w) = absurd (cc)
-  still_wanted block stmts l (goes {next = next} {place = place} c f d) block' pair stmts' w =
+  still_needed block stmts l (goes {next = next} {place = place} c f d) block' pair stmts' w =
       let there = zip_on g.blocks g'.blocks place next h.blocks f in
-      go [] stmts' refl w (goes (subst (λ x. Contains (targets x) place) (sym pair.exit) c) there.1 (still_wanted next next.stmts l d there.0 there.2 there.0.stmts there.2.stmts))
+      go [] stmts' refl w (goes (subst (λ x. Contains (targets x) place) (sym pair.exit) c) there.1 (still_needed next next.stmts l d there.0 there.2 there.0.stmts there.2.stmts))
     where
-      go : (all stmts' : List Stmt) → all ≡ [] → IsWithout (IsWantedIn g block) all stmts' → IsWantedIn g' block' [] l → IsWantedIn g' block' stmts' l
+      go : (all stmts' : List Stmt) → all ≡ [] → IsWithout (IsNeededIn g block) all stmts' → IsNeededIn g' block' [] l → IsNeededIn g' block' stmts' l
       go all stmts' is done e = e
       go all stmts' is (remains w) e = absurd (cc)
       go all stmts' is (leaves assigns none w) e = absurd (cc)
 
-  -- each assignment that is left makes what is wanted
-  pub left_wanted : (block : Block) (has : Loc → Bool) → Exactly g block has [] → (block' : Block) → IsBlockWithout (wanted g) block block' → (stmts : List Stmt) → AllWanted g' block' (left_of stmts has)
-  left_wanted block has exact block' pair [] = tt
-  left_wanted block has exact block' pair (stmt ∷ rest) = go (stays (access_of stmt) (W g block has exact rest)) refl (left_wanted block has exact block' pair rest)
+  -- each assignment that is left makes what is needed
+  pub left_needed : (block : Block) (has : Loc → Bool) → Exactly g block has [] → (block' : Block) → IsBlockWithout (needed g) block block' → (stmts : List Stmt) → AllNeeded g' block' (left_of stmts has)
+  left_needed block has exact block' pair [] = tt
+  left_needed block has exact block' pair (stmt ∷ rest) = go (stays (access_of stmt) (W g block has exact rest)) refl (left_needed block has exact block' pair rest)
     where
-      here : stays (access_of stmt) (W g block has exact rest) ≡ true → is_assignment stmt ≡ true → (l : Loc) × Contains (writes_of stmt) l × IsWantedIn g' block' (left_of rest has) l
+      here : stays (access_of stmt) (W g block has exact rest) ≡ true → is_assignment stmt ≡ true → (l : Loc) × Contains (writes_of stmt) l × IsNeededIn g' block' (left_of rest has) l
       here e assigns = elim (staying (is_assignment stmt) (list_any (W g block has exact rest) (writes_of stmt)) e) [
         | inl plain ↦ absurd (true≢false (sym assigns ∙ plain))
         | inr some ↦
             let to = some_passes (W g block has exact rest) (writes_of stmt) some in (
               to.0,
               to.1,
-              still_wanted block rest to.0 ((wanted_before g block has rest exact to.0).0 to.2) block' pair (left_of rest has) (left_without g block has exact rest),
+              still_needed block rest to.0 ((needed_before g block has rest exact to.0).0 to.2) block' pair (left_of rest has) (left_without g block has exact rest),
             )
       ]
 
-      go : (b : Bool) → stays (access_of stmt) (W g block has exact rest) ≡ b → AllWanted g' block' (left_of rest has) → AllWanted g' block' (if b then stmt ∷ left_of rest has else left_of rest has)
+      go : (b : Bool) → stays (access_of stmt) (W g block has exact rest) ≡ b → AllNeeded g' block' (left_of rest has) → AllNeeded g' block' (if b then stmt ∷ left_of rest has else left_of rest has)
       go true e later = (here e, later)
       go false e later = later
 
 -- The whole graph.
 
-module _ (g : Graph) (places : List Loc) (at_end : List (List Bool)) (known : AreWantedAtEnds g places at_end) (g' : Graph) (is : g' ≡ record g { blocks = blocks_left places at_end g.blocks }) where
-  -- what is wanted at the end of each of these blocks is known
+module _ (g : Graph) (places : List Loc) (at_end : List (List Bool)) (known : AreNeededAtEnds g places at_end) (g' : Graph) (is : g' ≡ record g { blocks = blocks_left places at_end g.blocks }) where
+  -- what is needed at the end of each of these blocks is known
   abbrev AreExact : List Block → List (List Bool) → Type 0
   AreExact blocks ends = (k : ℕ) (block : Block) → slice_get blocks k ≡ Some block → Exactly g block (after_stmts places (get_or ends k []) (block_access_of block).last) []
 
-  pair_left : (block : Block) (bits : List Bool) → Exactly g block (after_stmts places bits (block_access_of block).last) [] → IsBlockWithout (wanted g) block (block_left places bits block)
+  pair_left : (block : Block) (bits : List Bool) → Exactly g block (after_stmts places bits (block_access_of block).last) [] → IsBlockWithout (needed g) block (block_left places bits block)
   pair_left block bits exact = record { at = refl; exit = refl; stmts = left_without g block (after_stmts places bits (block_access_of block).last) exact block.stmts }
 
-  zip_left : (blocks : List Block) (ends : List (List Bool)) → length ends ≡ length blocks → AreExact blocks ends → AllZip (IsBlockWithout (wanted g)) blocks (blocks_left places ends blocks)
+  zip_left : (blocks : List Block) (ends : List (List Bool)) → length ends ≡ length blocks → AreExact blocks ends → AllZip (IsBlockWithout (needed g)) blocks (blocks_left places ends blocks)
   zip_left [] [] len exact = tt
   zip_left [] (bits ∷ ends) len exact = tt
   zip_left (block ∷ blocks) [] len exact = absurd (omega (arith, len))
@@ -138,33 +138,33 @@ module _ (g : Graph) (places : List Loc) (at_end : List (List Bool)) (known : Ar
   exact_ends : AreExact g.blocks at_end
   exact_ends k block at x = known.exact k block x at
 
-  zipped : AllZip (IsBlockWithout (wanted g)) g.blocks (blocks_left places at_end g.blocks)
+  zipped : AllZip (IsBlockWithout (needed g)) g.blocks (blocks_left places at_end g.blocks)
   zipped = zip_left g.blocks at_end known.are.count_is exact_ends
 
-  pub without_unwanted : IsGraphWithout (wanted g) g g'
-  without_unwanted = subst (IsGraphWithout (wanted g) g) (sym is) (record { entry = refl; params = refl; local = refl; pushed = refl; bits = refl; blocks = zipped })
+  pub without_unneeded : IsGraphWithout (needed g) g g'
+  without_unneeded = subst (IsGraphWithout (needed g) g) (sym is) (record { entry = refl; params = refl; local = refl; pushed = refl; bits = refl; blocks = zipped })
 
-  all_left : (blocks : List Block) (ends : List (List Bool)) → length ends ≡ length blocks → AreExact blocks ends → All (λ b. AllWanted g' b b.stmts) (blocks_left places ends blocks)
-  all_left [] [] len exact = All-nil (λ b. AllWanted g' b b.stmts)
-  all_left [] (bits ∷ ends) len exact = All-nil (λ b. AllWanted g' b b.stmts)
+  all_left : (blocks : List Block) (ends : List (List Bool)) → length ends ≡ length blocks → AreExact blocks ends → All (λ b. AllNeeded g' b b.stmts) (blocks_left places ends blocks)
+  all_left [] [] len exact = All-nil (λ b. AllNeeded g' b b.stmts)
+  all_left [] (bits ∷ ends) len exact = All-nil (λ b. AllNeeded g' b b.stmts)
   all_left (block ∷ blocks) [] len exact = absurd (omega (arith, len))
   all_left (block ∷ blocks) (bits ∷ ends) len exact =
       let here = exact 0 block refl in
-      All-cons (λ b. AllWanted g' b b.stmts) (block_left places bits block) (blocks_left places ends blocks)
-      (left_wanted g g' without_unwanted block (after_stmts places bits (block_access_of block).last) here (block_left places bits block) (pair_left block bits here) block.stmts)
+      All-cons (λ b. AllNeeded g' b b.stmts) (block_left places bits block) (blocks_left places ends blocks)
+      (left_needed g g' without_unneeded block (after_stmts places bits (block_access_of block).last) here (block_left places bits block) (pair_left block bits here) block.stmts)
       (all_left blocks ends (omega (arith, len)) (λ k b e. exact (suc k) b e))
 
-  pub unwanted_gone : IsWithoutUnwanted g g'
-  unwanted_gone = record {
-    without = without_unwanted;
-    wanted = subst (All (λ b. AllWanted g' b b.stmts)) (sym (ap (λ (x : Graph). x.blocks) is)) (all_left g.blocks at_end known.are.count_is exact_ends);
+  pub unneeded_gone : IsWithoutUnneeded g g'
+  unneeded_gone = record {
+    without = without_unneeded;
+    needed = subst (All (λ b. AllNeeded g' b b.stmts)) (sym (ap (λ (x : Graph). x.blocks) is)) (all_left g.blocks at_end known.are.count_is exact_ends);
   }
 
   pub formed_left : IsGraph g → IsGraph g'
-  formed_left formed = graph_still (wanted g) g g' without_unwanted formed
+  formed_left formed = graph_still (needed g) g g' without_unneeded formed
 
   pub may_replace : MayReplace g g'
-  may_replace p formed there = kept_with p (wanted g) g g' formed there (wanted-closed g) without_unwanted
+  may_replace p formed there = kept_with p (needed g) g g' formed there (needed-closed g) without_unneeded
 
 -- The loops over statements and over blocks, from the last to the first.
 

@@ -1,5 +1,5 @@
 pub mod RowLaws
-pub mod WantedLaws
+pub mod NeededLaws
 pub mod WorkLaws
 pub mod LiveLaws
 pub mod StartLaws

@@ -22,7 +22,7 @@ use Rattle.dcc_flow.specs.Marks.{empty, with_all}
 use Rattle.dcc_live.specs.First.{others, Row, row_of}
 use Rattle.dcc_live.specs.Start.{is_read_along, begins_live, BeginsLiveIsLive}
 use Rattle.dcc_live.proofs.RowLaws.{among_append, among_others, row_first, row_writes}
-use Rattle.dcc_live.proofs.WantedLaws.{any_passes, some_passes}
+use Rattle.dcc_live.proofs.NeededLaws.{any_passes, some_passes}
 use Rattle.dcc_live.proofs.WorkLaws.{contains_in, in_contains}
 
 -- Numbers without one of them.

@@ -1,4 +1,4 @@
--- What is wanted flows until nothing changes: what each turn keeps, and that less is left after it.
+-- What is needed flows until nothing changes: what each turn keeps, and that less is left after it.
 use Rattle.std.proofs.Common.{◌≡◌, ℕ, zero, suc, ◌+◌, ◌*◌, ◌<◌, ◌≤◌, Bool, true, false, ◌&&◌, ◌||◌, not, inl, inr, List, [], ◌∷◌, ◌++◌, length, get_or, slice_get, slice_set, replicate, map, Some, refl, sym, ap, ◌∙◌, subst, true≢false, arith, Contains}
 use Rattle.std.specs.Prelude.{if◌then◌else◌, ◌==◌, All}
 use Rattle.std.proofs.lemmas.Bool.{cases_eq, cases_lt, or_cases, or_left, or_right, and_parts, and_from, eq-eqb, ne_eqb, eqb-true}
@@ -9,7 +9,7 @@ use Rattle.std.proofs.lemmas.Option.{slice_get-get_or, get_or_from_slice_get, sl
 use Rattle.dcc_ir.specs.declared.syntax.Loc.{Loc}
 use Rattle.dcc_ir.specs.Tree.{Stmt, Block, Graph}
 use Rattle.dcc_ir.specs.Flow.{targets}
-use Rattle.dcc_ir.specs.Demand.{IsWantedIn, tested, goes}
+use Rattle.dcc_ir.specs.Demand.{IsNeededIn, tested, goes}
 use Rattle.dcc_ir.specs.Run.{no_block}
 use Rattle.dcc_ir.specs.Live.{is_among, block_in}
 use Rattle.dcc_ir.specs.Families.{IsClosed}
@@ -18,7 +18,7 @@ use Rattle.dcc_ir.proofs.LocationLaws.{among_contains, contains_among, Contains-
 use Rattle.dcc_ir.proofs.ReachedLaws.{contained}
 use Rattle.dcc_ir.proofs.ListLaws.{left_part}
 use Rattle.dcc_ir.proofs.passes.LocalLaws.{some_same}
-use Rattle.dcc_ir.proofs.FamilyLaws.{wanted-least, tests-read}
+use Rattle.dcc_ir.proofs.FamilyLaws.{needed-least, tests-read}
 use Rattle.dcc_flow.specs.Edges.{is_in, leads, successors_of, ArePredecessors}
 use Rattle.dcc_flow.specs.Bits.{bit, flowed, differ}
 use Rattle.dcc_flow.specs.Uses.{AreLists}
@@ -29,9 +29,9 @@ use Rattle.dcc_flow.proofs.WorkLaws.{flowed_at, length_flowed_bits, within, trut
 use Rattle.dcc_flow.specs.Access.{access_of, block_access_of, accesses_of}
 use Rattle.dcc_flow.specs.Marks.{selected}
 use Rattle.dcc_live.specs.First.{Row, row_of, Tells}
-use Rattle.dcc_live.specs.Wanted.{before_all, after_stmts, before_block, AreWantedAtEnds}
+use Rattle.dcc_live.specs.Needed.{before_all, after_stmts, before_block, AreNeededAtEnds}
 use Rattle.dcc_live.proofs.RowLaws.{selected_sound, selected_complete, row_first}
-use Rattle.dcc_live.proofs.WantedLaws.{read_tested, passes_before, uses_before, makes_before, sound_before, before_known}
+use Rattle.dcc_live.proofs.NeededLaws.{read_tested, passes_before, uses_before, makes_before, sound_before, before_known}
 
 -- What is not yet known.
 
@@ -105,7 +105,7 @@ wanting_at old start k inside = flowed_at old start start start k inside ∙ abs
 wanting_grows : (old start : List Bool) → Grows old (wanting old start)
 wanting_grows old start = grows_from old (wanting old start) (length_flowed_bits old start start start) (λ k inside t. wanting_at old start k inside ∙ or_left (bit old k) (bit start k) t)
 
--- from one state of the work to another, in which these places are wanted at the ends of these blocks
+-- from one state of the work to another, in which these places are needed at the ends of these blocks
 pub record Wants (count len : ℕ) (start : List Bool) (blocks : List ℕ) (w after : Work) : Type 0 where
   pub are : AreLists count len after.answer
   pub flags : length after.queued ≡ count
@@ -278,7 +278,7 @@ module _ (graph : Graph) (places : List Loc) where
   pub record Going (w : Work) : Type 0 where
     pub are : AreLists (length graph.blocks) (length places) w.answer
     pub flags : length w.queued ≡ length graph.blocks
-    pub sound : (b k : ℕ) (block : Block) (x : Loc) → slice_get graph.blocks b ≡ Some block → slice_get places k ≡ Some x → bit (get_or w.answer b []) k ≡ true → IsWantedIn graph block [] x
+    pub sound : (b k : ℕ) (block : Block) (x : Loc) → slice_get graph.blocks b ≡ Some block → slice_get places k ≡ Some x → bit (get_or w.answer b []) k ≡ true → IsNeededIn graph block [] x
     pub flows : (b : ℕ) (block : Block) → slice_get graph.blocks b ≡ Some block → get_or w.queued b false ≡ false → (a : ℕ) → leads (successors_of graph) a b ≡ true → (k : ℕ) (x : Loc) → slice_get places k ≡ Some x →
         before_block places (get_or w.answer b []) (block_access_of block) x ≡ true → bit (get_or w.answer a []) k ≡ true
 
@@ -299,8 +299,8 @@ module _ (graph : Graph) (places : List Loc) where
         flows = λ b block at q a e k x pl t. absurd (true≢false (sym (get_or-replicate count b true false (slice_get_within graph.blocks b block at)) ∙ q));
       }
 
-  -- what is wanted at the end of a block, by what is known
-  end_sound : (w : Work) → Going w → (b : ℕ) (block : Block) (x : Loc) → slice_get graph.blocks b ≡ Some block → after_stmts places (get_or w.answer b []) (block_access_of block).last x ≡ true → IsWantedIn graph block [] x
+  -- what is needed at the end of a block, by what is known
+  end_sound : (w : Work) → Going w → (b : ℕ) (block : Block) (x : Loc) → slice_get graph.blocks b ≡ Some block → after_stmts places (get_or w.answer b []) (block_access_of block).last x ≡ true → IsNeededIn graph block [] x
   end_sound w going b block x at t =
       let last = (block_access_of block).last in
       let bits = get_or w.answer b [] in
@@ -312,7 +312,7 @@ module _ (graph : Graph) (places : List Loc) where
         ]
       ]
 
-  -- One turn: a block that waits is taken, and what is wanted before it is wanted at the end of each block before it.
+  -- One turn: a block that waits is taken, and what is needed before it is needed at the end of each block before it.
   module _ (w : Work) (going : Going w) (block : ℕ) (was : get_or w.queued block false ≡ true) (b : Block) (at : slice_get graph.blocks block ≡ Some b)
       (start : List Bool) (tells : Tells places (before_block places (get_or w.answer block []) (block_access_of b)) start)
       (sources : List ℕ) (edges : (a : ℕ) → is_in sources a ≡ leads (successors_of graph) a block) (below : All (λ a. a < length graph.blocks) sources) where
@@ -328,8 +328,8 @@ module _ (graph : Graph) (places : List Loc) where
     wants : Wants (length graph.blocks) (length places) start sources taken after
     wants = all_want (length graph.blocks) (length places) start sources taken below going.are (length-set w.queued block false ∙ going.flags)
 
-    -- what is wanted before the block is wanted at the end of a block that goes there
-    flows_back : (a : ℕ) (block' : Block) (x : Loc) → slice_get graph.blocks a ≡ Some block' → is_in sources a ≡ true → before_block places (get_or w.answer block []) (block_access_of b) x ≡ true → IsWantedIn graph block' [] x
+    -- what is needed before the block is needed at the end of a block that goes there
+    flows_back : (a : ℕ) (block' : Block) (x : Loc) → slice_get graph.blocks a ≡ Some block' → is_in sources a ≡ true → before_block places (get_or w.answer block []) (block_access_of b) x ≡ true → IsNeededIn graph block' [] x
     flows_back a block' x there e t =
         let edge = sym (ap (λ l. is_in l block) (targets_at graph a block' there)) ∙ sym (edges a) ∙ e in
         goes (in_contains (targets block'.exit) block edge) at
@@ -373,7 +373,7 @@ module _ (graph : Graph) (places : List Loc) where
         let fewer = truths_without w.queued block was in
         omega (arith, less, fewer)
 
-  -- Where no block waits, all that is wanted is known.
+  -- Where no block waits, all that is needed is known.
   module _ (w : Work) (going : Going w) (free_now : AllFlowed w) (tracked : All (λ row. All (Contains places) row.first) (map row_of (accesses_of graph))) where
     -- before the statements of the block at any place
     Known : Block → List Stmt → Loc → Type 0
@@ -408,11 +408,11 @@ module _ (graph : Graph) (places : List Loc) where
           (or_left (is_among (selected places bits) x) false (contains_among (selected places bits) x (selected_complete places bits k.0 x k.1 known)));
     }
 
-    pub all_wanted : AreWantedAtEnds graph places w.answer
+    pub all_needed : AreNeededAtEnds graph places w.answer
     unfolding Known
-    all_wanted = record {
+    all_needed = record {
       are = going.are;
-      exact = λ place block x at. (end_sound w going place block x at, λ d. wanted-least Known graph block [] x known_closed d place at);
+      exact = λ place block x at. (end_sound w going place block x at, λ d. needed-least Known graph block [] x known_closed d place at);
     }
 
 -- A turn as the code takes it.

@@ -1,4 +1,4 @@
 pub mod First
 pub mod Start
-pub mod Wanted
+pub mod Needed
 pub mod Dead

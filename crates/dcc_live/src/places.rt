@@ -29,7 +29,7 @@ pub fn bits_of<L: Ledger>(
 }
 
 /// The locations at whose places the list holds true.
-pub fn selected(alloc: Global, places: &[Loc], bits: &Bits) -> Result<Vec<Loc>, AllocError>
+pub(crate) fn selected(alloc: Global, places: &[Loc], bits: &Bits) -> Result<Vec<Loc>, AllocError>
     requires { length bits.now ≡ length places.now }
     ensures { IfOk result (λ locations. locations.items ≡ selected places.now bits.now) }
 {

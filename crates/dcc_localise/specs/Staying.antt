@@ -8,7 +8,7 @@ use Rattle.dcc_ir.specs.Tree.{Graph, Summary}
 use Rattle.dcc_ir.specs.Live.{is_among}
 use Rattle.dcc_ir.specs.Passing.{passed}
 use Rattle.dcc_ir.specs.Trimmed.{Trim}
-use Rattle.dcc_sums.specs.Localised.{no_sum, is_taken}
+use Rattle.dcc_sums.specs.Localised.{no_summary, is_taken}
 use Rattle.dcc_localise.specs.declared.staying.Stays.{Stays}
 
 -- the place stays, by a list of which places do
@@ -36,9 +36,9 @@ abbrev pub stays_of : Graph → Summary → Places
 stays_of graph sum = record { params = taken_of sum.params graph.params; results = given_of sum.results }
 
 -- a graph that has no summary takes no location and gives none
-abbrev pub sum_or_none : Option Summary → Summary
-sum_or_none (Some sum) = sum
-sum_or_none None = no_sum
+abbrev pub summary_or_none : Option Summary → Summary
+summary_or_none (Some sum) = sum
+summary_or_none None = no_summary
 
 -- what stays of the first graph with that entry
 abbrev pub stays_at : List Graph → List Summary → ℕ → Option Places
@@ -46,7 +46,7 @@ stays_at [] sums entry = None
 stays_at (graph ∷ graphs) (sum ∷ sums) entry =
     if graph.entry == entry then Some (stays_of graph sum) else stays_at graphs sums entry
 stays_at (graph ∷ graphs) [] entry =
-    if graph.entry == entry then Some (stays_of graph no_sum) else stays_at graphs [] entry
+    if graph.entry == entry then Some (stays_of graph no_summary) else stays_at graphs [] entry
 
 -- which params stay of a graph, if anything is told of it; else none
 abbrev pub params_in : Option Places → List Bool

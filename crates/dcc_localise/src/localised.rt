@@ -1,11 +1,11 @@
 //! The pass between the procedures of a program.
 
 ghost use Rattle.std.specs.Prelude.{◌≡◌, ℕ, List, IfOk};
-ghost use Rattle.dcc_ir.specs.Views.{program_of, sums_of};
+ghost use Rattle.dcc_ir.specs.Views.{program_of, summaries_of};
 ghost use Rattle.dcc_ir.specs.WellFormed.{IsProgram};
 ghost use Rattle.dcc_ir.specs.Passing.{PassesAll};
-ghost use Rattle.dcc_sums.specs.Sums.{AreSums, ReusesNone};
-ghost use Rattle.dcc_sums.specs.Localised.{sum_at, localised, PassesJust};
+ghost use Rattle.dcc_sums.specs.Summaries.{AreSummaries, ReusesNone};
+ghost use Rattle.dcc_sums.specs.Localised.{summary_at, localised, PassesJust};
 ghost use Rattle.dcc_sums.specs.Laws.{IsKeptBy};
 
 use crate::staying::Staying;
@@ -21,13 +21,13 @@ use std::alloc::{AllocError, Global};
 ///
 /// Where memory runs out.
 pub fn localise(alloc: Global, p: IrProgram, sums: &Sums) -> Result<IrProgram, AllocError>
-    ensures localised { IfOk result (λ q. program_of q ≡ localised (sums_of sums.now) (program_of p)) }
+    ensures localised { IfOk result (λ q. program_of q ≡ localised (summaries_of sums.now) (program_of p)) }
     ensures keeps { (back : ℕ → List ℕ) → IsProgram (program_of p) → PassesAll back (program_of p)
-        → AreSums (program_of p) (sums_of sums.now) → ReusesNone (program_of p)
+        → AreSummaries (program_of p) (summaries_of sums.now) → ReusesNone (program_of p)
         → IfOk result (λ q. IsKeptBy (program_of p) (program_of q)) }
     ensures just { (back : ℕ → List ℕ) → IsProgram (program_of p) → PassesAll back (program_of p)
-        → AreSums (program_of p) (sums_of sums.now)
-        → IfOk result (λ q. PassesJust (sum_at (program_of p).graphs (sums_of sums.now)) (program_of q)) }
+        → AreSummaries (program_of p) (summaries_of sums.now)
+        → IfOk result (λ q. PassesJust (summary_at (program_of p).graphs (summaries_of sums.now)) (program_of q)) }
 {
     let staying = Staying::new(alloc, &p, sums)?;
     let graphs = trim_graphs(alloc, &staying, p.graphs)?;

@@ -3,7 +3,7 @@
 ghost use Rattle.std.specs.Prelude.{◌≡◌, nat_eq, IfOk, OnOk, Some, option_map};
 ghost use Rattle.std.specs.Option.{option_copied};
 ghost use Rattle.indexmap.specs.IndexMap.{Updates};
-ghost use Rattle.dcc_ir.specs.Views.{graph_of, summary_of, program_of, sums_of};
+ghost use Rattle.dcc_ir.specs.Views.{graph_of, summary_of, program_of, summaries_of};
 ghost use Rattle.dcc_ir.specs.Live as live;
 ghost use Rattle.dcc_sums.specs.Localised as localised;
 ghost use Rattle.dcc_sums.specs.Localised.{trim_by};
@@ -83,7 +83,7 @@ fn stays_by(alloc: Global, graph: &Graph, sum: &Sum) -> Result<Stays, AllocError
 // What stays of a graph; without a summary it takes the words on the stack alone, and gives nothing back.
 fn what_stays(alloc: Global, graph: &Graph, sum: Option<&Sum>) -> Result<Stays, AllocError>
     ensures { IfOk result (λ stays. spec.places_of stays
-        ≡ stays_of (graph_of graph.now) (spec.sum_or_none (option_map summary_of (option_copied sum.entry)))) }
+        ≡ stays_of (graph_of graph.now) (spec.summary_or_none (option_map summary_of (option_copied sum.entry)))) }
 {
     match sum {
         Some(sum) => stays_by(alloc, graph, sum),
@@ -106,7 +106,7 @@ impl Staying {
     /// What stays of the graphs of a program that have these summaries.
     pub fn new(alloc: Global, p: &IrProgram, sums: &Sums) -> Result<Staying, AllocError>
         ensures { IfOk result (λ staying.
-            trim_in staying.by_entry.entries ≡ trim_by (program_of p.now).graphs (sums_of sums.now)) }
+            trim_in staying.by_entry.entries ≡ trim_by (program_of p.now).graphs (summaries_of sums.now)) }
     {
         let mut by_entry = IndexMap::new(alloc);
         for place in (0..p.graphs.len()).rev() {

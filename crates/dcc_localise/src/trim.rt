@@ -112,7 +112,7 @@ fn trim_graph(alloc: Global, staying: &Staying, g: Graph) -> Result<Graph, Alloc
 }
 
 /// The graphs in which just the arguments and values stay that are told of their entries.
-pub fn trim_graphs(
+pub(crate) fn trim_graphs(
     alloc: Global,
     staying: &Staying,
     graphs: Vec<Graph>,

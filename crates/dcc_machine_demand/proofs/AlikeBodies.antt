@@ -7,28 +7,29 @@ use Rattle.dcc_num.specs.declared.Width.{Width}
 use Rattle.dcc_prog.specs.declared.procedure.Node.{Node}
 use Rattle.dcc_prog.specs.declared.frame.Cell.{Cell}
 use Rattle.dcc_prog.specs.declared.frame.Exposed.{Exposed}
-use Rattle.dcc_prog.specs.declared.instr.Ea.{Ea}
-use Rattle.dcc_prog.specs.declared.instr.Instr.{Instr}
-use Rattle.dcc_prog.specs.declared.instr.Operand.{Operand}
-use Rattle.dcc_prog.specs.declared.instr.Operand.TheVariants.{Word, Byte, Seg, Mem, Const}
-use Rattle.dcc_prog.specs.declared.instr.Op.{Op}
-use Rattle.dcc_prog.specs.declared.instr.Op.TheVariants.{Unary as UnaryOp, Mov, Xchg, Push, Pop, Call}
-use Rattle.dcc_prog.specs.declared.refusal.construct.TheConstants.{SEVERAL_RESULTS}
-use Rattle.dcc_prog.specs.Access.{is_direct}
+use Rattle.dcc_machine.specs.declared.instr.Ea.{Ea}
+use Rattle.dcc_machine.specs.declared.instr.Instr.{Instr}
+use Rattle.dcc_machine.specs.declared.instr.Operand.{Operand}
+use Rattle.dcc_machine.specs.declared.instr.Operand.TheVariants.{Word, Byte, Seg, Mem, Const}
+use Rattle.dcc_machine.specs.declared.instr.Op.{Op}
+use Rattle.dcc_machine.specs.declared.instr.Op.TheVariants.{Unary as UnaryOp, Mov, Xchg, Push, Pop, Call}
+use Rattle.dcc_prog.specs.declared.refusal.ConstructKind.{ConstructKind}
+use Rattle.dcc_prog.specs.declared.refusal.ConstructKind.TheVariants.{SeveralResults}
+use Rattle.dcc_machine.specs.Access.{is_direct}
 use Rattle.dcc_prog.specs.Frame.{Span, argument_word, memory_operand, offset_in_frame}
 use Rattle.dcc_prog.specs.Analysed.{bytes_of}
-use Rattle.dcc_prog.specs.Prepared.{is_division}
-use Rattle.dcc_prog.specs.Wanted.{half_of, flag_of, uses}
+use Rattle.dcc_machine.specs.Operations.{is_division}
+use Rattle.dcc_machine.specs.Wanted.{half_of, flag_of, uses}
 use Rattle.dcc_prog.specs.Clean.{exposes}
 use Rattle.dcc_stack.specs.Slots.{is_within, exposes_of, direct_bytes, overlaps, writes_memory, writes_directly, gives_back}
 use Rattle.dcc_demand.specs.Procedures.{Effect, Leaves, Makes, Pops, WordEffect, Overwrites, Action, Procedure, is_left}
 use Rattle.dcc_demand.specs.Wanted.{Wanted, IsResult}
 use Rattle.dcc_machine_demand.specs.Bodies.{Body, entry_of, nodes_of, body_at, Point, op_of, find_at, point_with}
 use Rattle.dcc_machine_demand.specs.Bodies.{point_at}
-use Rattle.dcc_machine_demand.specs.Places.{Place, held, in_frame, Spot, placed, in_memory, is_in_cell, is_place}
-use Rattle.dcc_machine_demand.specs.Places.{is_exposed_place, frame_spot, for_bytes, is_of_frame, memory_spots}
-use Rattle.dcc_machine_demand.specs.Places.{spots_of, is_at, is_placed, is_of_address, spots_of_memory, is_accessed_by}
-use Rattle.dcc_machine_demand.specs.Places.{is_in_cells, is_accessed, is_private_byte}
+use Rattle.dcc_machine_demand.specs.Holders.{Holder, held, in_frame, Spot, placed, in_memory, is_in_cell, is_holder}
+use Rattle.dcc_machine_demand.specs.Holders.{is_exposed_holder, frame_spot, for_bytes, is_of_frame, memory_spots}
+use Rattle.dcc_machine_demand.specs.Holders.{spots_of, is_at, is_placed, is_of_address, spots_of_memory, is_accessed_by}
+use Rattle.dcc_machine_demand.specs.Holders.{is_in_cells, is_accessed, is_private_byte}
 use Rattle.dcc_machine_demand.specs.Moves.{moves_between, popping, word_spots, pushed_offset, popped_offset, of_either}
 use Rattle.dcc_machine_demand.specs.Moves.{moves_of, moved_effect, moved_made_of, moved_uses, pushed_spots, pushed_from}
 use Rattle.dcc_machine_demand.specs.Values.{moves_or_calls, value_written, is_sure, is_cleared, takes_memory}
@@ -81,7 +82,7 @@ module _ (a b : Body) (one : AreOneBody a b) where
   cell_one : (k : ℤ) → is_in_cell a k ≡ is_in_cell b k
   cell_one k = ap (list_any (λ (cell : Cell). is_within k (bytes_of cell))) one.cells
 
-  place_one : (place : Place) → is_place a place ≡ is_place b place
+  place_one : (place : Holder) → is_holder a place ≡ is_holder b place
   place_one (held location) = refl
   place_one (in_frame k) = cell_one k
 
@@ -89,7 +90,7 @@ module _ (a b : Body) (one : AreOneBody a b) where
   any_cell f g same [] = refl
   any_cell f g same (cell ∷ cells) = ap₂ (λ s t. s || t) (same cell) (any_cell f g same cells)
 
-  exposed_place_one : (place : Place) → is_exposed_place a place ≡ is_exposed_place b place
+  exposed_place_one : (place : Holder) → is_exposed_holder a place ≡ is_exposed_holder b place
   exposed_place_one (held location) = refl
   exposed_place_one (in_frame k) =
       ap (list_any (λ (cell : Cell). is_within k (bytes_of cell) && exposes_of a.frame (bytes_of cell))) one.cells
@@ -160,18 +161,19 @@ module _ (a b : Body) (one : AreOneBody a b) where
 
   -- Values.
 
-  written_one : (op : Op) (number : Option ℕ) (place : Place) → value_written a op number place ≡ value_written b op number place
+  written_one : (op : Op) (number : Option ℕ) (place : Holder) → value_written a op number place ≡ value_written b op number place
   written_one op number (held (half_of r half)) = refl
   written_one op number (held (flag_of flag)) = refl
   written_one op number (in_frame k) = ap (λ t. writes_memory op && t) (by_op op k)
 
-  made_one : (op : Op) (to from : Place) → value_made_of a op to from ≡ value_made_of b op to from
+  made_one : (op : Op) (to from : Holder) → value_made_of a op to from ≡ value_made_of b op to from
   made_one op (held to) (held from) = refl
   made_one op (held to) (in_frame k) = ap (λ t. (takes_memory op to && not (is_cleared op to)) && t) (by_op op k)
   made_one op (in_frame k) (held from) = ap (λ t. t && uses op None from) (by_op op k)
   made_one op (in_frame k) (in_frame j) = ap₂ (λ s t. s && t) (by_op op k) (by_op op j)
 
-  used_one : (op : Op) (number : Option ℕ) (place : Place) → value_uses a op number place ≡ value_uses b op number place
+  used_one : (op : Op) (number : Option ℕ) (place : Holder) → value_uses a op number place
+      ≡ value_uses b op number place
   used_one (UnaryOp operation x) number (held location) =
       ap (λ t. if is_division operation then division_uses x location else not t && uses (UnaryOp operation x) number location) (in_cells_one (UnaryOp operation x))
   used_one op number (held location) = ap (λ t. not t && uses op number location) (in_cells_one op)
@@ -260,11 +262,11 @@ module _ (xs ys : List Body) (all : AllZip AreOneBody xs ys) where
   arguments_in (Call target) = arguments_both (body_at xs target) (body_at ys target) (bodies_both target xs ys all)
   arguments_in op = refl
 
-  touches_alike : (op : Op) (height : ℕ) (place : Place) → touches_byte (callee_in xs op) height place ≡ touches_byte (callee_in ys op) height place
+  touches_alike : (op : Op) (height : ℕ) (place : Holder) → touches_byte (callee_in xs op) height place ≡ touches_byte (callee_in ys op) height place
   touches_alike op height (held location) = refl
   touches_alike op height (in_frame k) = ap (λ ns. is_passed height ns k) (touched_in op)
 
-  passes_alike : (op : Op) (height : ℕ) (place : Place) → passes_byte (callee_in xs op) height place ≡ passes_byte (callee_in ys op) height place
+  passes_alike : (op : Op) (height : ℕ) (place : Holder) → passes_byte (callee_in xs op) height place ≡ passes_byte (callee_in ys op) height place
   passes_alike op height (held location) = refl
   passes_alike op height (in_frame k) = ap (λ ns. is_passed height ns k) (arguments_in op)
 
@@ -273,18 +275,18 @@ module _ (xs ys : List Body) (all : AllZip AreOneBody xs ys) where
       abbrev op : Op
       op = op_of pt
 
-      effect_alike : (place : Place) → effect_at xs a pt place ≡ effect_at ys b pt place
+      effect_alike : (place : Holder) → effect_at xs a pt place ≡ effect_at ys b pt place
       effect_alike place =
           ap (λ t. if moves_or_calls op then if t then Makes else moved_effect (moves xs a pt) place else if value_written a op pt.node.number place then Makes else Leaves)
           (touches_alike op pt.height place)
           ∙ ap₂ (λ ms t. if moves_or_calls op then if touches ys b pt place then Makes else moved_effect ms place else if t then Makes else Leaves)
           (moves_one a b one pt.height op) (written_one a b one op pt.node.number place)
 
-      made_alike : (to from : Place) → made_at xs a pt to from ≡ made_at ys b pt to from
+      made_alike : (to from : Holder) → made_at xs a pt to from ≡ made_at ys b pt to from
       made_alike to from =
           ap₂ (λ ms t. if moves_or_calls op then moved_made_of ms to from else t) (moves_one a b one pt.height op) (made_one a b one op to from)
 
-      uses_alike : (place : Place) → uses_at xs a pt place ≡ uses_at ys b pt place
+      uses_alike : (place : Holder) → uses_at xs a pt place ≡ uses_at ys b pt place
       uses_alike place =
           ap₂ (λ ms t. if moves_or_calls op then moved_uses ms place || t else value_uses a op pt.node.number place) (moves_one a b one pt.height op) (passes_alike op pt.height place)
           ∙ ap (λ t. if moves_or_calls op then moved_uses (moves ys b pt) place || passes_byte (callee_in ys op) pt.height place else t) (used_one a b one op pt.node.number place)
@@ -294,7 +296,7 @@ module _ (xs ys : List Body) (all : AllZip AreOneBody xs ys) where
 
       same_point : action_of xs a pt ≡ action_of ys b pt
       same_point =
-          let made : (Place → Bool) → (Place → Effect Place ℤ) → (Place → Place → Bool) → (Place → Bool) → (ℤ → WordEffect Place) → Action Place ℤ =
+          let made : (Holder → Bool) → (Holder → Effect Holder ℤ) → (Holder → Holder → Bool) → (Holder → Bool) → (ℤ → WordEffect Holder) → Action Holder ℤ =
           λ u e m s w. record { uses = u; effect = e; made_of = m; surely = s; word_effect = w; callee = callee_of op } in
           ap (λ u. made u (effect_at xs a pt) (action_of xs a pt).made_of (action_of xs a pt).surely (action_of xs a pt).word_effect)
           (fun_ext (λ place. ap₂ (λ s t. s && t) (place_one a b one place) (uses_alike place)))
@@ -328,7 +330,7 @@ module _ (xs ys : List Body) (all : AllZip AreOneBody xs ys) where
 
     procedure_alike : procedure_of xs a ≡ procedure_of ys b
     procedure_alike =
-        let made : ℕ → (ℕ → List ℕ) → (ℕ → Bool) → (ℕ → Action Place ℤ) → (ℤ → Bool) → (Place → Bool) → Procedure ℕ Place ℤ =
+        let made : ℕ → (ℕ → List ℕ) → (ℕ → Bool) → (ℕ → Action Holder ℤ) → (ℤ → Bool) → (Holder → Bool) → Procedure ℕ Holder ℤ =
         λ e n r act p x. record { entry = e; next = n; returns = r; action = act; is_private = p; is_exposed = x } in
         let before = procedure_of xs a in
         let after = procedure_of ys b in
@@ -393,11 +395,11 @@ module _ (xs ys : List Body) (all : AllZip AreOneBody xs ys) where
           }
 
   -- what stands in the one stands in the other
-  pub constructs_alike : (kind at : ℕ) → IsOfSummaries xs kind at → IsOfSummaries ys kind at
+  pub constructs_alike : (kind : ConstructKind) (at : ℕ) → IsOfSummaries xs kind at → IsOfSummaries ys kind at
   constructs_alike _ _ (argument_reused {body = a} {at = place} c again) =
       let found = one_in xs ys all a c in argument_reused found.1 (reused_alike a found.0 found.2 place again)
   constructs_alike _ _ (several_results {body = a} c several) =
       let found = one_in xs ys all a c in
-      subst (IsOfSummaries ys SEVERAL_RESULTS) (sym found.2.entry)
+      subst (IsOfSummaries ys SeveralResults) (sym found.2.entry)
       (several_results found.1 (subst (λ e. GivesSeveral ys e) found.2.entry (λ one. several
       (subst (λ p. IsOneValue (λ location. IsResult p (entry_of a) (held location))) (sym (procedures_alike xs ys all)) one))))

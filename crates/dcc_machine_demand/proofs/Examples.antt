@@ -14,32 +14,32 @@ use Rattle.dcc_num.specs.declared.Half.{Half}
 use Rattle.dcc_num.specs.declared.Half.TheVariants.{Low, High}
 use Rattle.dcc_num.specs.declared.FlagName.TheVariants.{Cf, Zf, Of}
 use Rattle.dcc_num.specs.Numbers.{signed_of}
-use Rattle.dcc_prog.specs.declared.instr.Alu.TheVariants.{Add, And, Sub, Xor}
-use Rattle.dcc_prog.specs.declared.instr.Shift.TheVariants.{Shl}
-use Rattle.dcc_prog.specs.declared.instr.Count.TheVariants.{One, Cl, Const as ConstCount}
-use Rattle.dcc_prog.specs.declared.instr.Unary.TheVariants.{Inc, Div}
-use Rattle.dcc_prog.specs.declared.instr.Operand.{Operand}
-use Rattle.dcc_prog.specs.declared.instr.Operand.TheVariants.{Word, Byte, Mem, Const}
-use Rattle.dcc_prog.specs.declared.instr.Op.{Op}
-use Rattle.dcc_prog.specs.declared.instr.Op.TheVariants.{Alu as AluOp, Unary as UnaryOp, Shift as ShiftOp, Mov, Xchg, Push, Pop, Jump, Call, Ret, Int21}
+use Rattle.dcc_machine.specs.declared.instr.Alu.TheVariants.{Add, And, Sub, Xor}
+use Rattle.dcc_machine.specs.declared.instr.Shift.TheVariants.{Shl}
+use Rattle.dcc_machine.specs.declared.instr.Count.TheVariants.{One, Cl, Const as ConstCount}
+use Rattle.dcc_machine.specs.declared.instr.Unary.TheVariants.{Inc, Div}
+use Rattle.dcc_machine.specs.declared.instr.Operand.{Operand}
+use Rattle.dcc_machine.specs.declared.instr.Operand.TheVariants.{Word, Byte, Mem, Const}
+use Rattle.dcc_machine.specs.declared.instr.Op.{Op}
+use Rattle.dcc_machine.specs.declared.instr.Op.TheVariants.{Alu as AluOp, Unary as UnaryOp, Shift as ShiftOp, Mov, Xchg, Push, Pop, Jump, Call, Ret, Int21}
 use Rattle.dcc_prog.specs.declared.procedure.Node.{Node}
 use Rattle.dcc_prog.specs.declared.procedure.Proc.{Proc}
 use Rattle.dcc_prog.specs.declared.frame.Cell.{Cell}
 use Rattle.dcc_prog.specs.declared.frame.Frame.{Frame}
-use Rattle.dcc_prog.specs.Trail.{is_general}
-use Rattle.dcc_prog.specs.Writes.{is_same_register}
-use Rattle.dcc_prog.specs.Wanted.{Location, half_of, flag_of, is_read, alu_makes, makes}
-use Rattle.dcc_prog.proofs.AlikeValues.{and-parts, or-parts}
-use Rattle.dcc_prog.specs.Machine.{reg_number}
+use Rattle.dcc_machine.specs.Writes.{is_same_register}
+use Rattle.dcc_machine.specs.Wanted.{Location, half_of, flag_of, is_read, alu_makes, makes}
+use Rattle.dcc_machine.proofs.AlikeValues.{and-parts, or-parts}
+use Rattle.dcc_machine.specs.Machine.{reg_number, is_general}
 use Rattle.dcc_demand.specs.Procedures.{Leaves, Copies, Pops, Makes, LeavesWord, Pushes, Overwrites, Action, Procedure, Procedures, ChangeFamily, CallChanges, is_left}
 use Rattle.dcc_demand.specs.Trail.{IsTrail}
 use Rattle.dcc_demand.specs.Changes.{IsUnsaved, Loses, Changes, ChangesWithin, IsPreserved}
 use Rattle.dcc_demand.specs.Wanted.{Wanted, IsWantedBy, IsParam, IsResult}
 use Rattle.dcc_demand.proofs.ChangeLaws.{changes-closed}
 use Rattle.dcc_machine_demand.specs.Bodies.{Body}
-use Rattle.dcc_machine_demand.specs.Places.{Place, held, in_frame, passes}
+use Rattle.dcc_machine_demand.specs.Holders.{Holder, held, in_frame, passes}
 use Rattle.dcc_machine_demand.proofs.PlaceLaws.{same-register}
 use Rattle.dcc_machine_demand.specs.Instance.{action_of, procedures_of}
+use Rattle.dcc_prog.specs.declared.refusal.ConstructKind.TheVariants.{SeveralResults}
 use Rattle.dcc_machine_demand.specs.Asked.{IsHalfOf, of_register, of_flag, of_pair, GivesSeveral, IsOfSummaries}
 use Rattle.dcc_machine_demand.specs.Asked.{several_results}
 
@@ -50,13 +50,13 @@ vec_with xs few = record { ptr = null_ptr; len = length xs; cap = length xs; all
 abbrev pub node_of : Op → List ℕ → Node
 node_of op next = record { instr = record { op = op; len = 2 }; succ = record { items = next; capacity = 2 }; number = None }
 
-abbrev pub half : Reg → Half → Place
+abbrev pub half : Reg → Half → Holder
 half r h = held (half_of r h)
 
-abbrev al : Place
+abbrev al : Holder
 al = half Ax Low
 
-abbrev si : Place
+abbrev si : Holder
 si = half Si Low
 
 -- the word at SI, and at BP and a displacement
@@ -78,10 +78,10 @@ none_there c = absurd (omega (arith, c.1))
 
 -- A location that is pushed into a private word, written and popped from there is saved, where the three instructions
 -- stand at these points.
-module _ (P : Procedure ℕ Place ℤ) (l : Place) (word : ℤ) (first second third : ℕ)
+module _ (P : Procedure ℕ Holder ℤ) (l : Holder) (word : ℤ) (first second third : ℕ)
     (pushes : (P.action first).word_effect word ≡ Pushes l) (leaves : (P.action second).word_effect word ≡ LeavesWord)
     (pops : (P.action third).effect l ≡ Pops word) (private : P.is_private word ≡ true) (uncalled : (P.action third).callee ≡ None)
-    (changed : ChangeFamily Place) where
+    (changed : ChangeFamily Holder) where
   unpushed : IsUnsaved changed P l word (first ∷ []) → ⊥
   unpushed (IsUnsaved.overwritten e) = absurd (cc)
   unpushed (IsUnsaved.by_other e n) = n (cc)
@@ -145,7 +145,7 @@ module _ (proc : Proc) (frame : Frame) where
   abbrev bodies : List Body
   bodies = caller ∷ saver ∷ adder ∷ exchanger ∷ []
 
-  abbrev P : Procedures ℕ Place ℤ
+  abbrev P : Procedures ℕ Holder ℤ
   P = procedures_of bodies
 
   -- What is saved.
@@ -173,7 +173,7 @@ module _ (proc : Proc) (frame : Frame) where
   returns_there third e = absurd (true≢false (sym e))
   returns_there fourth e = refl
 
-  keeps : (l : Place) → (P.passes l ≡ true) → ((changed : ChangeFamily Place) → Loses changed (P.procedure 0x10) l (0x12 ∷ 0x11 ∷ 0x10 ∷ []) → ⊥) → IsPreserved P 0x10 l
+  keeps : (l : Holder) → (P.passes l ≡ true) → ((changed : ChangeFamily Holder) → Loses changed (P.procedure 0x10) l (0x12 ∷ 0x11 ∷ 0x10 ∷ []) → ⊥) → IsPreserved P 0x10 l
   keeps l is out = (is, λ c. go c.0 c.1)
     where
       go : (depth : ℕ) → ChangesWithin P depth 0x10 l → ⊥
@@ -207,7 +207,7 @@ module _ (proc : Proc) (frame : Frame) where
   stored High = (IsWantedBy.used refl, IsWantedBy.used refl)
 
   -- what one instruction and a RET after it change
-  changed_by : (i next : ℕ) (l : Place) → P.passes l ≡ true → Contains ((P.procedure i).next (P.procedure i).entry) next → (P.procedure i).returns next ≡ true
+  changed_by : (i next : ℕ) (l : Holder) → P.passes l ≡ true → Contains ((P.procedure i).next (P.procedure i).entry) next → (P.procedure i).returns next ≡ true
       → Loses (Changes P) (P.procedure i) l ((P.procedure i).entry ∷ []) → Changes P i l
   changed_by i next l is goes returns loses = changes-closed P i l (record {
     passes = is;
@@ -263,7 +263,7 @@ module _ (proc : Proc) (frame : Frame) where
   -- the adder takes nothing else
 
   -- the adder loses nothing that its ADD leaves
-  added : (changed : ChangeFamily Place) (l : Place) → Loses changed (P.procedure 0x20) l (0x20 ∷ []) → is_left (((P.procedure 0x20).action 0x20).effect l) ≡ false
+  added : (changed : ChangeFamily Holder) (l : Holder) → Loses changed (P.procedure 0x20) l (0x20 ∷ []) → is_left (((P.procedure 0x20).action 0x20).effect l) ≡ false
   added changed l (Loses.in_call c) = absurd c
   added changed l (Loses.made e) = ap is_left e
   added changed l (Loses.copied e) = ap is_left e
@@ -288,7 +288,7 @@ module _ (proc : Proc) (frame : Frame) where
   added_there begun e = absurd (true≢false (sym e))
   added_there ended e = refl
 
-  changes_written : (l : Place) → Changes P 0x20 l → is_left (((P.procedure 0x20).action 0x20).effect l) ≡ false
+  changes_written : (l : Holder) → Changes P 0x20 l → is_left (((P.procedure 0x20).action 0x20).effect l) ≡ false
   changes_written l c = go c.0 c.1
     where
       go : (depth : ℕ) → ChangesWithin P depth 0x20 l → is_left (((P.procedure 0x20).action 0x20).effect l) ≡ false
@@ -301,16 +301,16 @@ module _ (proc : Proc) (frame : Frame) where
   surely_added (flag_of flag) e = ap (λ b. not b && true) e
 
   -- of what is wanted at its RET it changes all
-  returned_is_changed : (l : Place) → Wanted P 0x20 0x22 l → Changes P 0x20 l
+  returned_is_changed : (l : Holder) → Wanted P 0x20 0x22 l → Changes P 0x20 l
   returned_is_changed l (IsWantedBy.used e) = absurd (true≢false (sym (unused l e)))
     where
-      unused : (l : Place) → ((P.procedure 0x20).action 0x22).uses l ≡ true → false ≡ true
+      unused : (l : Holder) → ((P.procedure 0x20).action 0x22).uses l ≡ true → false ≡ true
       unused (held (half_of r h)) e = absurd (true≢false (sym (and-parts (is_general r) false e).1))
       unused (held (flag_of flag)) e = e
       unused (in_frame k) e = e
   returned_is_changed l (IsWantedBy.exposed e) = absurd (true≢false (sym (unexposed l e)))
     where
-      unexposed : (l : Place) → (P.procedure 0x20).is_exposed l ≡ true → false ≡ true
+      unexposed : (l : Holder) → (P.procedure 0x20).is_exposed l ≡ true → false ≡ true
       unexposed (held l) e = e
       unexposed (in_frame k) e = e
   returned_is_changed l (IsWantedBy.made_of goes written made w) = none_there goes
@@ -326,7 +326,7 @@ module _ (proc : Proc) (frame : Frame) where
       half-or false e = e
   read_of r (flag_of flag) e = absurd (true≢false (sym e))
 
-  made_from : (to : Place) (l : Location) → ((P.procedure 0x20).action 0x20).made_of to (held l) ≡ true → IsHalfOf Ax l ⊎ IsHalfOf Bx l
+  made_from : (to : Holder) (l : Location) → ((P.procedure 0x20).action 0x20).made_of to (held l) ≡ true → IsHalfOf Ax l ⊎ IsHalfOf Bx l
   made_from (held t) l e =
       let value = (and-parts (passes (held l)) (makes (AluOp Add (Word Ax) (Word Bx)) t l && true) e).1 in
       let made = (and-parts (makes (AluOp Add (Word Ax) (Word Bx)) t l) true value).0 in
@@ -366,17 +366,17 @@ module _ (proc : Proc) (frame : Frame) where
   ]
 
   -- a construct of several results stands at the exchanger's entry
-  is_refused : IsOfSummaries bodies 10 0x30
+  is_refused : IsOfSummaries bodies SeveralResults 0x30
   is_refused = several_results {body = exchanger} (3, omega arith, refl) several
 
   -- Single instructions, of a procedure whose frame has a cell for the word at the top.
 
   -- what an operation does at a height
-  abbrev doing : ℕ → Op → Action Place ℤ
+  abbrev doing : ℕ → Op → Action Holder ℤ
   doing height op = action_of bodies saver (record { node = node_of op []; height = height })
 
   -- what a DOS call does
-  abbrev calling : ℕ → Action Place ℤ
+  abbrev calling : ℕ → Action Holder ℤ
   calling number = action_of bodies saver (record { node = record (node_of Int21 []) { number = Some number }; height = 0 })
 
   -- `pop cx` uses nothing; CL is made of the popped cell's first byte and CH of its second
@@ -469,7 +469,7 @@ module _ (proc : Proc) (frame : Frame) where
   abbrev framed : Body
   framed = record saver { frame = record saver.frame { framed = true } }
 
-  abbrev adding : Action Place ℤ
+  abbrev adding : Action Holder ℤ
   adding = action_of bodies framed (record { node = node_of (AluOp Add (at_bp 0) (Word Ax)) []; height = 4 })
 
   cells_are_places :

@@ -4,17 +4,17 @@ use Rattle.std.specs.Prelude.{zip, ◌<ℤ◌, ◌+ℤ◌}
 use Rattle.std.specs.List.{AllZip}
 use Rattle.std.proofs.lemmas.Int.{ints}
 use Rattle.std.proofs.lemmas.List.Elements.{All-contains, All-head, All-tail, All-nil, All-cons}
-use Rattle.dcc_prog.specs.declared.cpu.Cpu.{Cpu}
-use Rattle.dcc_prog.specs.declared.image.Image.{Image}
+use Rattle.dcc_machine.specs.declared.cpu.Cpu.{Cpu}
+use Rattle.dcc_machine.specs.declared.image.Image.{Image}
 use Rattle.dcc_prog.specs.declared.procedure.Layout.{Layout}
 use Rattle.dcc_prog.specs.declared.procedure.Node.{Node}
 use Rattle.dcc_prog.specs.declared.procedure.Proc.{Proc}
 use Rattle.dcc_prog.specs.declared.frame.Cell.{Cell}
 use Rattle.dcc_prog.specs.declared.frame.Frame.{Frame}
 use Rattle.dcc_prog.specs.declared.frame.Program.{Program}
-use Rattle.dcc_prog.specs.declared.instr.Instr.{Instr}
-use Rattle.dcc_prog.specs.declared.instr.Op.{Op}
-use Rattle.dcc_prog.specs.declared.instr.Op.TheVariants.{Int21}
+use Rattle.dcc_machine.specs.declared.instr.Instr.{Instr}
+use Rattle.dcc_machine.specs.declared.instr.Op.{Op}
+use Rattle.dcc_machine.specs.declared.instr.Op.TheVariants.{Int21}
 use Rattle.dcc_prog.specs.Trail.{successors, IsTrail, IsNode, IsEntry}
 use Rattle.dcc_prog.specs.Height.{IsHeight, HasHeight, two_heights}
 use Rattle.dcc_prog.specs.FrameForm.{is_framed}
@@ -23,7 +23,7 @@ use Rattle.dcc_prog.specs.Construct.{bad_height}
 use Rattle.dcc_prog.specs.Found.{IsNodeFound, IsFound, AreFound}
 use Rattle.dcc_prog.specs.Analysed.{AreHeightsOf, bytes_of, IsFrameOf, IsProgramOf}
 use Rattle.dcc_prog.specs.Refused.{IsAcceptedByHeights}
-use Rattle.dcc_prog.specs.declared.refusal.construct.TheConstants.{HEIGHTS}
+use Rattle.dcc_prog.specs.declared.refusal.ConstructKind.TheVariants.{StackHeight}
 use Rattle.dcc_prog.proofs.LayoutLaws.{layout-once}
 use Rattle.dcc_prog.proofs.FrameLaws.{arguments-once, local-once, argument-once}
 use Rattle.dcc_stack.proofs.FormHeights.{int-same}
@@ -240,7 +240,7 @@ module _ (image : Image) (layout : Layout) where
       }
 
       height : x.1 ≡ y.1
-      height = one (int-same (pos x.1) (pos y.1) (λ other. accepted.no_construct HEIGHTS x.0 (record {
+      height = one (int-same (pos x.1) (pos y.1) (λ other. accepted.no_construct StackHeight x.0 (record {
         entry = entry;
         is_entry = is_entry;
         node = node;

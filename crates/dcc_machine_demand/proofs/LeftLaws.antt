@@ -7,24 +7,23 @@ use Rattle.dcc_num.specs.declared.Reg.TheVariants.{Ax, Cx, Dx, Bx, Sp, Bp, Si, D
 use Rattle.dcc_num.specs.declared.Half.{Half}
 use Rattle.dcc_num.specs.declared.Half.TheVariants.{Low, High}
 use Rattle.dcc_num.specs.declared.FlagName.{FlagName}
-use Rattle.dcc_prog.specs.declared.cpu.Cpu.{Cpu}
-use Rattle.dcc_prog.specs.declared.instr.Operand.{Operand}
-use Rattle.dcc_prog.specs.declared.instr.Operand.TheVariants.{Word, Byte, Seg, Mem, Const}
-use Rattle.dcc_prog.specs.declared.instr.Op.{Op}
-use Rattle.dcc_prog.specs.declared.instr.Op.TheVariants.{Alu, Unary, Shift, Mov, Xchg, Lea, Imul3, Push, Pop, Enter, Leave, Plain, Jump, Branch, Loop, LoopE, LoopNe, Jcxz, Table, Call, Ret, Int21}
-use Rattle.dcc_prog.specs.Machine.{State, half_of_word}
-use Rattle.dcc_prog.specs.Step.{op_step}
-use Rattle.dcc_prog.specs.Trail.{is_general}
-use Rattle.dcc_prog.specs.Writes.{is_same_register, is_same_half, is_half_of, writes_half, writes_flag}
-use Rattle.dcc_prog.specs.WellFormed.{IsOperation}
-use Rattle.dcc_prog.specs.StateForm.{IsState}
-use Rattle.dcc_prog.specs.LocationLaws.{half_in, flag_in}
-use Rattle.dcc_prog.specs.Wanted.{half_of, flag_of}
-use Rattle.dcc_prog.proofs.LocationKept.{or-none, op-half, op-flag, locations-kept}
+use Rattle.dcc_machine.specs.declared.cpu.Cpu.{Cpu}
+use Rattle.dcc_machine.specs.declared.instr.Operand.{Operand}
+use Rattle.dcc_machine.specs.declared.instr.Operand.TheVariants.{Word, Byte, Seg, Mem, Const}
+use Rattle.dcc_machine.specs.declared.instr.Op.{Op}
+use Rattle.dcc_machine.specs.declared.instr.Op.TheVariants.{Alu, Unary, Shift, Mov, Xchg, Lea, Imul3, Push, Pop, Enter, Leave, Plain, Jump, Branch, Loop, LoopE, LoopNe, Jcxz, Table, Call, Ret, Int21}
+use Rattle.dcc_machine.specs.Machine.{State, half_of_word, is_general}
+use Rattle.dcc_machine.specs.Step.{op_step}
+use Rattle.dcc_machine.specs.Writes.{is_same_register, is_same_half, is_half_of, writes_half, writes_flag}
+use Rattle.dcc_machine.specs.WellFormed.{IsOperation}
+use Rattle.dcc_machine.specs.StateForm.{IsState}
+use Rattle.dcc_machine.specs.LocationLaws.{half_in, flag_in}
+use Rattle.dcc_machine.specs.Wanted.{half_of, flag_of}
+use Rattle.dcc_machine.proofs.LocationKept.{or-none, op-half, op-flag, locations-kept}
 use Rattle.dcc_demand.specs.Procedures.{Effect, Leaves, Pops, Makes, is_left}
 use Rattle.dcc_machine_demand.specs.Bodies.{Body, op_of}
-use Rattle.dcc_machine_demand.specs.Places.{Place, held, Spot, placed, in_memory, nowhere, is_at, register_spots}
-use Rattle.dcc_machine_demand.specs.Places.{spots_of}
+use Rattle.dcc_machine_demand.specs.Holders.{Holder, held, Spot, placed, in_memory, nowhere, is_at, register_spots}
+use Rattle.dcc_machine_demand.specs.Holders.{spots_of}
 use Rattle.dcc_machine_demand.specs.Moves.{Move, copying, moves_between, popping, popped_offset, of_either, moves_of}
 use Rattle.dcc_machine_demand.specs.Moves.{moved_effect}
 use Rattle.dcc_machine_demand.specs.Values.{moves_or_calls, value_written}
@@ -32,7 +31,7 @@ use Rattle.dcc_machine_demand.specs.Instance.{touches_byte, callee_in}
 use Rattle.dcc_machine_demand.specs.Laws.{WhatIsLeftStays}
 
 -- what is made isn't left
-made-false : (b : Bool) → is_left {Location = Place} {Word = ℤ} (if b then Makes else Leaves) ≡ true → b ≡ false
+made-false : (b : Bool) → is_left {Location = Holder} {Word = ℤ} (if b then Makes else Leaves) ≡ true → b ≡ false
 made-false true e = absurd (true≢false (sym e))
 made-false false e = refl
 
@@ -43,11 +42,11 @@ copied-not-left nowhere e = true≢false (sym e)
 
 -- Moves.
 
-abbrev pub lands : List Spot → Place → Bool
+abbrev pub lands : List Spot → Holder → Bool
 lands spots place = list_any (λ spot. is_at spot place) spots
 
 -- what follows a test that fails
-skipped : (b : Bool) (effect other : Effect Place ℤ) → (is_left effect ≡ true → ⊥) → is_left (if b then effect else other) ≡ true → (b ≡ false) × (is_left other ≡ true)
+skipped : (b : Bool) (effect other : Effect Holder ℤ) → (is_left effect ≡ true → ⊥) → is_left (if b then effect else other) ≡ true → (b ≡ false) × (is_left other ≡ true)
 skipped true effect other out e = absurd (out e)
 skipped false effect other out e = (refl, e)
 
@@ -55,7 +54,7 @@ none-of : (a b : Bool) → a ≡ false → b ≡ false → (a || b) ≡ false
 none-of a b e f = ap (λ x. x || b) e ∙ f
 
 -- a place that moves leave is none of those to which they lead
-module _ (place : Place) (addresses : Place → Bool) where
+module _ (place : Holder) (addresses : Holder → Bool) where
   between-left : (tos froms : List Spot) (rest : List Move) → is_left (moved_effect (moves_between addresses tos froms ++ rest) place) ≡ true
       → (lands tos place ≡ false) × (is_left (moved_effect rest place) ≡ true)
   between-left [] froms rest e = (refl, e)
@@ -77,7 +76,7 @@ module _ (place : Place) (addresses : Place → Bool) where
       let here = skipped (is_at to place) (copying from) (moved_effect (moves_between addresses tos froms) place) (copied-not-left from) e in
       none-of (is_at to place) (lands tos place) here.0 (only-between-left tos froms here.1)
 
-popped-left : (place : Place) (body : Body) (a : Operand) (tos : List Spot) (k : ℤ) → is_left (moved_effect (popping body a tos k) place) ≡ true → lands tos place ≡ false
+popped-left : (place : Holder) (body : Body) (a : Operand) (tos : List Spot) (k : ℤ) → is_left (moved_effect (popping body a tos k) place) ≡ true → lands tos place ≡ false
 popped-left place body a [] k e = refl
 popped-left place body a (to ∷ tos) k e =
     let here = skipped (is_at to place) (Pops k) (moved_effect (popping body a tos (k +ℤ pos 1)) place) (λ l. true≢false (sym l)) e in
@@ -111,7 +110,7 @@ not-bp Si g = refl
 not-bp Di g = refl
 
 module _ (r : Reg) (half : Half) (general : is_general r ≡ true) where
-  abbrev place : Place
+  abbrev place : Holder
   place = held (half_of r half)
 
   word-left : (q : Reg) → lands (register_spots q) place ≡ false → is_same_register r q ≡ false
@@ -139,7 +138,7 @@ IsCall (Call target) = Unit {0}
 IsCall op = ⊥
 
 -- what an operation at a height does, where it calls that procedure
-abbrev pub effect_by : Body → Op → ℕ → Option ℕ → Option Body → Place → Effect Place ℤ
+abbrev pub effect_by : Body → Op → ℕ → Option ℕ → Option Body → Holder → Effect Holder ℤ
 effect_by body op height number callee place =
     if moves_or_calls op then if touches_byte callee height place then Makes else moved_effect (moves_of body height op) place
     else if value_written body op number place then Makes
@@ -147,7 +146,7 @@ effect_by body op height number callee place =
 
 module _ (body : Body) (height : ℕ) (number : Option ℕ) (callee : Option Body) (r : Reg) (half : Half) (general : is_general r ≡ true) where
   -- an operation that neither moves bytes nor calls leaves what it doesn't write
-  value-left : (b : Bool) → is_left {Location = Place} {Word = ℤ} (if is_general r && b then Makes else Leaves) ≡ true → b ≡ false
+  value-left : (b : Bool) → is_left {Location = Holder} {Word = ℤ} (if is_general r && b then Makes else Leaves) ≡ true → b ≡ false
   value-left b e = sym (ap (λ g. g && b) general) ∙ made-false (is_general r && b) e
 
   -- no operation but a CALL and INT 21h leaves a half that it writes

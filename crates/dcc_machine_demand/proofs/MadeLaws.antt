@@ -13,35 +13,34 @@ use Rattle.dcc_num.specs.declared.Flags.{Flags}
 use Rattle.dcc_num.specs.declared.FlagName.{FlagName}
 use Rattle.dcc_num.specs.declared.FlagName.TheVariants.{Cf, Zf, Sf, Of}
 use Rattle.dcc_num.specs.Numbers.{result_flags}
-use Rattle.dcc_num.specs.Shift.{unless_zero, left_rotation_of, right_rotation_of, shl_of, shr_of, sar_of}
-use Rattle.dcc_prog.specs.declared.cpu.Cpu.{Cpu}
-use Rattle.dcc_prog.specs.declared.instr.Shift.{Shift as ShiftName}
-use Rattle.dcc_prog.specs.declared.instr.Shift.TheVariants.{Rol, Ror, Rcl, Rcr, Shl, Shr, Sar}
-use Rattle.dcc_prog.specs.declared.instr.Count.TheVariants.{One, Cl, Const as ConstCount}
-use Rattle.dcc_prog.specs.declared.instr.Ea.{Ea}
-use Rattle.dcc_prog.specs.declared.instr.Operand.{Operand}
-use Rattle.dcc_prog.specs.declared.instr.Operand.TheVariants.{Word, Byte, Seg, Mem, Const}
-use Rattle.dcc_prog.specs.declared.instr.Op.{Op}
-use Rattle.dcc_prog.specs.declared.instr.Op.TheVariants.{Alu, Unary, Shift, Mov, Xchg, Lea, Imul3, Push, Pop, Enter, Leave, Plain, Jump, Branch, Loop, LoopE, LoopNe, Jcxz, Table, Call, Ret, Int21}
-use Rattle.dcc_prog.specs.Machine.{State, half_of_word, operand_width, operand_value}
-use Rattle.dcc_prog.specs.Operations.{shift_result, with_flags}
-use Rattle.dcc_prog.specs.Step.{op_step}
+use Rattle.dcc_num.specs.Shift.{unless_zero, rol_of, ror_of, shl_of, shr_of, sar_of}
+use Rattle.dcc_machine.specs.declared.cpu.Cpu.{Cpu}
+use Rattle.dcc_machine.specs.declared.instr.Shift.{Shift as ShiftName}
+use Rattle.dcc_machine.specs.declared.instr.Shift.TheVariants.{Rol, Ror, Rcl, Rcr, Shl, Shr, Sar}
+use Rattle.dcc_machine.specs.declared.instr.Count.TheVariants.{One, Cl, Const as ConstCount}
+use Rattle.dcc_machine.specs.declared.instr.Ea.{Ea}
+use Rattle.dcc_machine.specs.declared.instr.Operand.{Operand}
+use Rattle.dcc_machine.specs.declared.instr.Operand.TheVariants.{Word, Byte, Seg, Mem, Const}
+use Rattle.dcc_machine.specs.declared.instr.Op.{Op}
+use Rattle.dcc_machine.specs.declared.instr.Op.TheVariants.{Alu, Unary, Shift, Mov, Xchg, Lea, Imul3, Push, Pop, Enter, Leave, Plain, Jump, Branch, Loop, LoopE, LoopNe, Jcxz, Table, Call, Ret, Int21}
+use Rattle.dcc_machine.specs.Machine.{State, half_of_word, operand_width, operand_value, is_general}
+use Rattle.dcc_machine.specs.Operations.{shift_result, with_flags}
+use Rattle.dcc_machine.specs.Step.{op_step}
 use Rattle.dcc_prog.specs.Frame.{offset_in_frame}
-use Rattle.dcc_prog.specs.Trail.{is_general}
-use Rattle.dcc_prog.specs.Writes.{is_same_register, is_same_half, is_half_of, shift_writes_flag, writes_flag}
-use Rattle.dcc_prog.specs.WellFormed.{IsOperation, MayCount}
-use Rattle.dcc_prog.specs.StateForm.{IsState}
-use Rattle.dcc_prog.specs.LocationLaws.{flag_in}
-use Rattle.dcc_prog.specs.Wanted.{Location, half_of, flag_of, is_part, is_in_address_of, is_by_cl, moves, makes, surely_writes_half, surely_writes_flag}
-use Rattle.dcc_prog.specs.AlikeLaws.{AgreeIn, AgreeBeside, IsCallNumber, divides_by, passes as may_keep}
-use Rattle.dcc_prog.proofs.LocationKept.{or-none, operand-flags}
-use Rattle.dcc_prog.proofs.AlikeValues.{and-both, and-parts, or-first, or-second, or-parts}
-use Rattle.dcc_prog.proofs.AlikeMade.{made-alike}
+use Rattle.dcc_machine.specs.Writes.{is_same_register, is_same_half, is_half_of, shift_writes_flag, writes_flag}
+use Rattle.dcc_machine.specs.WellFormed.{IsOperation, MayCount}
+use Rattle.dcc_machine.specs.StateForm.{IsState}
+use Rattle.dcc_machine.specs.LocationLaws.{flag_in}
+use Rattle.dcc_machine.specs.Wanted.{Location, half_of, flag_of, is_part, is_in_address_of, is_by_cl, moves, makes, surely_writes_half, surely_writes_flag}
+use Rattle.dcc_machine.specs.AlikeLaws.{AgreeIn, AgreeBeside, IsCallNumber, divides_by, passes as may_keep}
+use Rattle.dcc_machine.proofs.LocationKept.{or-none, operand-flags}
+use Rattle.dcc_machine.proofs.AlikeValues.{and-both, and-parts, or-first, or-second, or-parts}
+use Rattle.dcc_machine.proofs.AlikeMade.{made-alike}
 use Rattle.dcc_demand.specs.Procedures.{Effect, Leaves, Pops, Makes, is_left}
 use Rattle.dcc_machine_demand.specs.Bodies.{Body, op_of}
-use Rattle.dcc_machine_demand.specs.Places.{Place, held, in_frame, passes, Spot, placed, in_memory, nowhere, is_at}
-use Rattle.dcc_machine_demand.specs.Places.{is_in_cell, is_of_frame, frame_spot, register_spots, spots_of}
-use Rattle.dcc_machine_demand.specs.Places.{is_of_address}
+use Rattle.dcc_machine_demand.specs.Holders.{Holder, held, in_frame, passes, Spot, placed, in_memory, nowhere, is_at}
+use Rattle.dcc_machine_demand.specs.Holders.{is_in_cell, is_of_frame, frame_spot, register_spots, spots_of}
+use Rattle.dcc_machine_demand.specs.Holders.{is_of_address}
 use Rattle.dcc_machine_demand.specs.Moves.{Move, copying, moves_between, popping, popped_offset, pushed_offset}
 use Rattle.dcc_machine_demand.specs.Moves.{word_spots, of_either, moves_of, moved_effect, moved_made_of}
 use Rattle.dcc_machine_demand.specs.Values.{moves_or_calls, value_made_of, is_cleared, is_sure}
@@ -51,11 +50,11 @@ use Rattle.dcc_machine_demand.proofs.LeftLaws.{lands, not-sp, not-bp, effect_by}
 
 -- Where moves don't land.
 
-other-effect : (b : Bool) (effect other : Effect Place ℤ) → b ≡ false → is_left other ≡ true → is_left (if b then effect else other) ≡ true
+other-effect : (b : Bool) (effect other : Effect Holder ℤ) → b ≡ false → is_left other ≡ true → is_left (if b then effect else other) ≡ true
 other-effect true effect other e l = absurd (true≢false e)
 other-effect false effect other e l = l
 
-module _ (place : Place) (addresses : Place → Bool) where
+module _ (place : Holder) (addresses : Holder → Bool) where
   between-leaves : (tos froms : List Spot) (rest : List Move) → lands tos place ≡ false → is_left (moved_effect rest place) ≡ true
       → is_left (moved_effect (moves_between addresses tos froms ++ rest) place) ≡ true
   between-leaves [] froms rest e l = l
@@ -75,7 +74,7 @@ module _ (place : Place) (addresses : Place → Bool) where
       let parts = or-none (is_at to place) (lands tos place) e in
       other-effect (is_at to place) (copying from) (moved_effect (moves_between addresses tos froms) place) parts.0 (only-between-leaves tos froms parts.1)
 
-popping-leaves : (place : Place) (body : Body) (a : Operand) (tos : List Spot) (k : ℤ) → lands tos place ≡ false → is_left (moved_effect (popping body a tos k) place) ≡ true
+popping-leaves : (place : Holder) (body : Body) (a : Operand) (tos : List Spot) (k : ℤ) → lands tos place ≡ false → is_left (moved_effect (popping body a tos k) place) ≡ true
 popping-leaves place body a [] k e = refl
 popping-leaves place body a (to ∷ tos) k e =
     let parts = or-none (is_at to place) (lands tos place) e in
@@ -85,10 +84,10 @@ popping-leaves place body a (to ∷ tos) k e =
 frame-apart : (body : Body) (k : ℤ) (l : Location) → is_at (frame_spot body k) (held l) ≡ false
 frame-apart body k l = elim (is_in_cell body k) as (λ b. is_at (if b then placed (in_frame k) else in_memory) (held l) ≡ false) [ true ↦ refl | false ↦ refl ]
 
-two-apart : (first second : Spot) (place : Place) → is_at first place ≡ false → is_at second place ≡ false → lands (first ∷ second ∷ []) place ≡ false
+two-apart : (first second : Spot) (place : Holder) → is_at first place ≡ false → is_at second place ≡ false → lands (first ∷ second ∷ []) place ≡ false
 two-apart first second place e f = ap (λ b. b || (is_at second place || false)) e ∙ ap (λ b. b || false) f
 
-one-apart : (first : Spot) (place : Place) → is_at first place ≡ false → lands (first ∷ []) place ≡ false
+one-apart : (first : Spot) (place : Holder) → is_at first place ≡ false → lands (first ∷ []) place ≡ false
 one-apart first place e = ap (λ b. b || false) e
 
 memory-apart : (body : Body) (width : Width) (ea : Ea) (l : Location) → lands (spots_of body (Mem width ea)) (held l) ≡ false
@@ -131,7 +130,7 @@ from-not true e = absurd (true≢false (sym e))
 from-not false e = refl
 
 -- a half that is left
-unwritten-half : (general b : Bool) → not b ≡ true → (not (is_left {Location = Place} {Word = ℤ} (if general && b then Makes else Leaves)) && true) ≡ false
+unwritten-half : (general b : Bool) → not b ≡ true → (not (is_left {Location = Holder} {Word = ℤ} (if general && b then Makes else Leaves)) && true) ≡ false
 unwritten-half general true e = absurd (true≢false (sym e))
 unwritten-half true false e = refl
 unwritten-half false false e = refl
@@ -191,23 +190,23 @@ module _ (body : Body) (height : ℕ) (number : Option ℕ) (callee : Option Bod
   half-left (Call target) r half e = refl
 
   flag-left : (op : Op) (flag : FlagName) → may_keep op number (flag_of flag) ≡ true → sure_by op (flag_of flag) ≡ false
-  flag-left (Alu operation a b) flag e = and-last (not (is_left {Location = Place} {Word = ℤ} (if writes_flag (Alu operation a b) flag then Makes else Leaves))) (surely_writes_flag (Alu operation a b) flag) e
-  flag-left (Unary operation a) flag e = and-last (not (is_left {Location = Place} {Word = ℤ} (if writes_flag (Unary operation a) flag then Makes else Leaves))) (surely_writes_flag (Unary operation a) flag) e
-  flag-left (Shift operation a count) flag e = and-last (not (is_left {Location = Place} {Word = ℤ} (if writes_flag (Shift operation a count) flag then Makes else Leaves))) (surely_writes_flag (Shift operation a count) flag) e
-  flag-left (Lea q ea) flag e = and-last (not (is_left {Location = Place} {Word = ℤ} (if writes_flag (Lea q ea) flag then Makes else Leaves))) (surely_writes_flag (Lea q ea) flag) e
-  flag-left (Imul3 q a constant) flag e = and-last (not (is_left {Location = Place} {Word = ℤ} (if writes_flag (Imul3 q a constant) flag then Makes else Leaves))) (surely_writes_flag (Imul3 q a constant) flag) e
-  flag-left (Enter size) flag e = and-last (not (is_left {Location = Place} {Word = ℤ} (if writes_flag (Enter size) flag then Makes else Leaves))) (surely_writes_flag (Enter size) flag) e
-  flag-left Leave flag e = and-last (not (is_left {Location = Place} {Word = ℤ} (if writes_flag Leave flag then Makes else Leaves))) (surely_writes_flag Leave flag) e
-  flag-left (Plain operation) flag e = and-last (not (is_left {Location = Place} {Word = ℤ} (if writes_flag (Plain operation) flag then Makes else Leaves))) (surely_writes_flag (Plain operation) flag) e
-  flag-left (Jump target) flag e = and-last (not (is_left {Location = Place} {Word = ℤ} (if writes_flag (Jump target) flag then Makes else Leaves))) (surely_writes_flag (Jump target) flag) e
-  flag-left (Branch condition target) flag e = and-last (not (is_left {Location = Place} {Word = ℤ} (if writes_flag (Branch condition target) flag then Makes else Leaves))) (surely_writes_flag (Branch condition target) flag) e
-  flag-left (Loop target) flag e = and-last (not (is_left {Location = Place} {Word = ℤ} (if writes_flag (Loop target) flag then Makes else Leaves))) (surely_writes_flag (Loop target) flag) e
-  flag-left (LoopE target) flag e = and-last (not (is_left {Location = Place} {Word = ℤ} (if writes_flag (LoopE target) flag then Makes else Leaves))) (surely_writes_flag (LoopE target) flag) e
-  flag-left (LoopNe target) flag e = and-last (not (is_left {Location = Place} {Word = ℤ} (if writes_flag (LoopNe target) flag then Makes else Leaves))) (surely_writes_flag (LoopNe target) flag) e
-  flag-left (Jcxz target) flag e = and-last (not (is_left {Location = Place} {Word = ℤ} (if writes_flag (Jcxz target) flag then Makes else Leaves))) (surely_writes_flag (Jcxz target) flag) e
-  flag-left (Table q offset) flag e = and-last (not (is_left {Location = Place} {Word = ℤ} (if writes_flag (Table q offset) flag then Makes else Leaves))) (surely_writes_flag (Table q offset) flag) e
-  flag-left (Ret size) flag e = and-last (not (is_left {Location = Place} {Word = ℤ} (if writes_flag (Ret size) flag then Makes else Leaves))) (surely_writes_flag (Ret size) flag) e
-  flag-left Int21 flag e = and-last (not (is_left {Location = Place} {Word = ℤ} (if writes_flag Int21 flag then Makes else Leaves))) (surely_writes_flag Int21 flag) e
+  flag-left (Alu operation a b) flag e = and-last (not (is_left {Location = Holder} {Word = ℤ} (if writes_flag (Alu operation a b) flag then Makes else Leaves))) (surely_writes_flag (Alu operation a b) flag) e
+  flag-left (Unary operation a) flag e = and-last (not (is_left {Location = Holder} {Word = ℤ} (if writes_flag (Unary operation a) flag then Makes else Leaves))) (surely_writes_flag (Unary operation a) flag) e
+  flag-left (Shift operation a count) flag e = and-last (not (is_left {Location = Holder} {Word = ℤ} (if writes_flag (Shift operation a count) flag then Makes else Leaves))) (surely_writes_flag (Shift operation a count) flag) e
+  flag-left (Lea q ea) flag e = and-last (not (is_left {Location = Holder} {Word = ℤ} (if writes_flag (Lea q ea) flag then Makes else Leaves))) (surely_writes_flag (Lea q ea) flag) e
+  flag-left (Imul3 q a constant) flag e = and-last (not (is_left {Location = Holder} {Word = ℤ} (if writes_flag (Imul3 q a constant) flag then Makes else Leaves))) (surely_writes_flag (Imul3 q a constant) flag) e
+  flag-left (Enter size) flag e = and-last (not (is_left {Location = Holder} {Word = ℤ} (if writes_flag (Enter size) flag then Makes else Leaves))) (surely_writes_flag (Enter size) flag) e
+  flag-left Leave flag e = and-last (not (is_left {Location = Holder} {Word = ℤ} (if writes_flag Leave flag then Makes else Leaves))) (surely_writes_flag Leave flag) e
+  flag-left (Plain operation) flag e = and-last (not (is_left {Location = Holder} {Word = ℤ} (if writes_flag (Plain operation) flag then Makes else Leaves))) (surely_writes_flag (Plain operation) flag) e
+  flag-left (Jump target) flag e = and-last (not (is_left {Location = Holder} {Word = ℤ} (if writes_flag (Jump target) flag then Makes else Leaves))) (surely_writes_flag (Jump target) flag) e
+  flag-left (Branch condition target) flag e = and-last (not (is_left {Location = Holder} {Word = ℤ} (if writes_flag (Branch condition target) flag then Makes else Leaves))) (surely_writes_flag (Branch condition target) flag) e
+  flag-left (Loop target) flag e = and-last (not (is_left {Location = Holder} {Word = ℤ} (if writes_flag (Loop target) flag then Makes else Leaves))) (surely_writes_flag (Loop target) flag) e
+  flag-left (LoopE target) flag e = and-last (not (is_left {Location = Holder} {Word = ℤ} (if writes_flag (LoopE target) flag then Makes else Leaves))) (surely_writes_flag (LoopE target) flag) e
+  flag-left (LoopNe target) flag e = and-last (not (is_left {Location = Holder} {Word = ℤ} (if writes_flag (LoopNe target) flag then Makes else Leaves))) (surely_writes_flag (LoopNe target) flag) e
+  flag-left (Jcxz target) flag e = and-last (not (is_left {Location = Holder} {Word = ℤ} (if writes_flag (Jcxz target) flag then Makes else Leaves))) (surely_writes_flag (Jcxz target) flag) e
+  flag-left (Table q offset) flag e = and-last (not (is_left {Location = Holder} {Word = ℤ} (if writes_flag (Table q offset) flag then Makes else Leaves))) (surely_writes_flag (Table q offset) flag) e
+  flag-left (Ret size) flag e = and-last (not (is_left {Location = Holder} {Word = ℤ} (if writes_flag (Ret size) flag then Makes else Leaves))) (surely_writes_flag (Ret size) flag) e
+  flag-left Int21 flag e = and-last (not (is_left {Location = Holder} {Word = ℤ} (if writes_flag Int21 flag then Makes else Leaves))) (surely_writes_flag Int21 flag) e
   flag-left (Mov to from) flag e =
       left-isnt (is_left (moved_effect (moves_of body height (Mov to from)) (held (flag_of flag)))) false
       (only-between-leaves (held (flag_of flag)) (of_either to from) (spots_of body to) (spots_of body from) (flag-apart body to flag))
@@ -246,7 +245,7 @@ either-made true x y lands_later later e h is = or-first (x || y) later (or-seco
 either-made false x y lands_later later e h is = h e
 
 -- each byte that is moved is made of what the addresses take
-address-made : (place from : Place) (addresses : Place → Bool) (tos froms : List Spot) → lands tos place ≡ true → addresses from ≡ true
+address-made : (place from : Holder) (addresses : Holder → Bool) (tos froms : List Spot) → lands tos place ≡ true → addresses from ≡ true
     → moved_made_of (moves_between addresses tos froms) place from ≡ true
 address-made place from addresses [] froms e is = no e
 address-made place from addresses (to ∷ tos) [] e is =
@@ -295,14 +294,14 @@ module _ (body : Body) where
   part-lands (Const width constant) (half_of r half) g e = no e
   part-lands a (flag_of flag) g e = no e
 
-  module _ (addresses : Place → Bool) (l from : Location) (to_passes : passes (held l) ≡ true) where
+  module _ (addresses : Holder → Bool) (l from : Location) (to_passes : passes (held l) ≡ true) where
     by-address : (a b : Operand) → (is_in_address_of from b ≡ true → addresses (held from) ≡ true) → (is_part l a && is_in_address_of from b) ≡ true
         → moved_made_of (moves_between addresses (spots_of body a) (spots_of body b)) (held l) (held from) ≡ true
     by-address a b covers e =
         let parts = and-parts (is_part l a) (is_in_address_of from b) e in
         address-made (held l) (held from) addresses (spots_of body a) (spots_of body b) (part-lands a l to_passes parts.0) (covers parts.1)
 
-  moves-made : (addresses : Place → Bool) (a b : Operand) (l from : Location) → (is_in_address_of from b ≡ true → addresses (held from) ≡ true) → passes (held l) ≡ true
+  moves-made : (addresses : Holder → Bool) (a b : Operand) (l from : Location) → (is_in_address_of from b ≡ true → addresses (held from) ≡ true) → passes (held l) ≡ true
       → passes (held from) ≡ true → moves a b l from ≡ true → moved_made_of (moves_between addresses (spots_of body a) (spots_of body b)) (held l) (held from) ≡ true
   moves-made addresses (Word r) (Word q) (half_of t k) (half_of u j) covers g h e =
       let parts = and-parts (is_same_register t r) (is_same_register u q && is_same_half k j) e in
@@ -374,7 +373,7 @@ none-first false b e = refl
 
 shifted-of : (operation : ShiftName) (number : ℕ) (w : Width) (a count : ℕ) (was : Flags) → MayCount operation (ConstCount number) → (count == 1) ≡ false
     → (shift_result operation w a count was).1.of ≡ (if count == 0 then was.of else false)
-unfolding left_rotation_of right_rotation_of shl_of shr_of sar_of result_flags
+unfolding rol_of ror_of shl_of shr_of sar_of result_flags
 shifted-of Rol number w a count was may e = clear-of count a _ was _ (none-first (count == 1) _ e)
 shifted-of Ror number w a count was may e = clear-of count a _ was _ (none-first (count == 1) _ e)
 shifted-of Rcl number w a count was may e = absurd may

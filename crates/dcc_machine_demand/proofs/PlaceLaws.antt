@@ -7,15 +7,15 @@ use Rattle.dcc_num.specs.declared.Half.{Half}
 use Rattle.dcc_num.specs.declared.Half.TheVariants.{Low, High}
 use Rattle.dcc_num.specs.declared.FlagName.{FlagName}
 use Rattle.dcc_num.specs.declared.FlagName.TheVariants.{Cf, Zf, Sf, Of}
-use Rattle.dcc_prog.specs.Machine.{reg_number}
-use Rattle.dcc_prog.specs.Operands.{word_register}
-use Rattle.dcc_prog.specs.Writes.{is_same_register, is_same_half}
-use Rattle.dcc_prog.specs.Wanted.{half_of, flag_of, is_flag}
-use Rattle.dcc_prog.proofs.AlikeValues.{and-both, and-parts, register-self, half-self}
+use Rattle.dcc_machine.specs.Machine.{reg_number}
+use Rattle.dcc_machine.specs.Operands.{word_register}
+use Rattle.dcc_machine.specs.Writes.{is_same_register, is_same_half}
+use Rattle.dcc_machine.specs.Wanted.{half_of, flag_of, is_flag}
+use Rattle.dcc_machine.proofs.AlikeValues.{and-both, and-parts, register-self, half-self}
 use Rattle.dcc_demand.specs.Laws.{AreDecided}
 use Rattle.dcc_demand.specs.Tables.{TellsApart}
 use Rattle.dcc_demand.proofs.SaveLaws.{preserved-is_held}
-use Rattle.dcc_machine_demand.specs.Places.{Place, held, in_frame, is_same_place}
+use Rattle.dcc_machine_demand.specs.Holders.{Holder, held, in_frame, is_same_holder}
 use Rattle.dcc_machine_demand.specs.Instance.{procedures_of}
 use Rattle.dcc_machine_demand.specs.Laws.{WhatIsPreservedIsHeld}
 
@@ -53,7 +53,7 @@ flag-self Sf = refl
 flag-self Of = refl
 
 -- the test takes no two places for one
-pub places-apart : TellsApart is_same_place
+pub places-apart : TellsApart is_same_holder
 places-apart (held (half_of r h)) (held (half_of q k)) e =
     let parts = and-parts (is_same_register r q) (is_same_half h k) e in
     ap (λ x. held (half_of x h)) (same-register r q parts.0) ∙ ap (λ x. held (half_of q x)) (same-half h k parts.1)
@@ -65,17 +65,17 @@ places-apart (held l) (in_frame j) e = absurd (true≢false (sym e))
 places-apart (in_frame k) (held l) e = absurd (true≢false (sym e))
 
 -- the test takes each place for itself
-place-self : (place : Place) → is_same_place place place ≡ true
+place-self : (place : Holder) → is_same_holder place place ≡ true
 place-self (held (half_of r h)) = and-both (is_same_register r r) (is_same_half h h) (register-self r) (half-self h)
 place-self (held (flag_of f)) = flag-self f
 place-self (in_frame k) = (Decides-int_eq k k).1 refl
 
-pub places-decided : AreDecided Place
-places-decided x y = go (is_same_place x y) refl
+pub places-decided : AreDecided Holder
+places-decided x y = go (is_same_holder x y) refl
   where
-    go : (b : Bool) → is_same_place x y ≡ b → (x ≡ y) ⊎ ¬ (x ≡ y)
+    go : (b : Bool) → is_same_holder x y ≡ b → (x ≡ y) ⊎ ¬ (x ≡ y)
     go true e = inl (places-apart x y e)
-    go false e = inr (λ same. true≢false (sym (place-self x) ∙ ap (is_same_place x) same ∙ e))
+    go false e = inr (λ same. true≢false (sym (place-self x) ∙ ap (is_same_holder x) same ∙ e))
 
 pub preserved-held : WhatIsPreservedIsHeld
 preserved-held bodies entry place passed at trail returns preserved =

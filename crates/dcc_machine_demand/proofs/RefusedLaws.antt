@@ -1,8 +1,9 @@
 -- A program that the analyses find and in which no construct of summaries stands is accepted; nothing refuses one that is.
 use Rattle.std.proofs.Common.{◌≡◌, ℕ, subst}
-use Rattle.dcc_prog.specs.declared.cpu.Cpu.{Cpu}
-use Rattle.dcc_prog.specs.declared.image.Image.{Image}
+use Rattle.dcc_machine.specs.declared.cpu.Cpu.{Cpu}
+use Rattle.dcc_machine.specs.declared.image.Image.{Image}
 use Rattle.dcc_prog.specs.declared.frame.Program.{Program}
+use Rattle.dcc_prog.specs.declared.refusal.ConstructKind.{ConstructKind}
 use Rattle.dcc_prog.specs.declared.refusal.Refusal.{Refusal}
 use Rattle.dcc_prog.specs.declared.refusal.Refusal.TheVariants.{Memory}
 use Rattle.dcc_prog.specs.Analysed.{IsProgramOf}
@@ -28,7 +29,7 @@ program-sound cpu image program is =
       frames = is.cells.accepted;
     }))
 
-accepted-if : (cpu : Cpu) (image : Image) (program : Program) → IsProgramOf cpu image program → ((kind at : ℕ) → ¬ IsOfSummaries (bodies_of program) kind at) → IsAcceptedProgram cpu image
+accepted-if : (cpu : Cpu) (image : Image) (program : Program) → IsProgramOf cpu image program → ((kind : ConstructKind) (at : ℕ) → ¬ IsOfSummaries (bodies_of program) kind at) → IsAcceptedProgram cpu image
 accepted-if cpu image program is none = record {
   sound = program-sound cpu image program is;
   none = λ kind at other. none kind at (one-program_is_found cpu image other.program program kind at other.found is other.stands);

@@ -6,18 +6,19 @@ use Rattle.dcc_num.specs.declared.Reg.TheVariants.{Ax, Cx, Dx, Bx, Sp, Bp, Si, D
 use Rattle.dcc_num.specs.declared.Half.{Half}
 use Rattle.dcc_num.specs.declared.Half.TheVariants.{Low, High}
 use Rattle.dcc_num.specs.Numbers.{signed_of}
-use Rattle.dcc_prog.specs.declared.instr.Operand.TheVariants.{Word}
-use Rattle.dcc_prog.specs.declared.instr.Op.{Op}
-use Rattle.dcc_prog.specs.declared.instr.Op.TheVariants.{Mov, Push, Pop, Jump, Call, Ret}
+use Rattle.dcc_machine.specs.declared.instr.Operand.TheVariants.{Word}
+use Rattle.dcc_machine.specs.declared.instr.Op.{Op}
+use Rattle.dcc_machine.specs.declared.instr.Op.TheVariants.{Mov, Push, Pop, Jump, Call, Ret}
 use Rattle.dcc_prog.specs.declared.procedure.Proc.{Proc}
 use Rattle.dcc_prog.specs.declared.frame.Frame.{Frame}
-use Rattle.dcc_prog.specs.Wanted.{half_of, flag_of}
-use Rattle.dcc_prog.specs.Writes.{is_same_register, is_same_half}
+use Rattle.dcc_machine.specs.Wanted.{half_of, flag_of}
+use Rattle.dcc_machine.specs.Writes.{is_same_register, is_same_half}
 use Rattle.dcc_demand.specs.Procedures.{Procedures}
 use Rattle.dcc_demand.specs.Wanted.{Wanted, IsWantedBy}
 use Rattle.dcc_machine_demand.specs.Bodies.{Body, body_at}
-use Rattle.dcc_machine_demand.specs.Places.{Place, held, in_frame}
+use Rattle.dcc_machine_demand.specs.Holders.{Holder, held, in_frame}
 use Rattle.dcc_machine_demand.specs.Instance.{touched_of, procedures_of}
+use Rattle.dcc_prog.specs.declared.refusal.ConstructKind.TheVariants.{ArgumentReused}
 use Rattle.dcc_machine_demand.specs.Asked.{IsReused, IsOfSummaries, argument_reused}
 use Rattle.dcc_machine_demand.proofs.Examples.{vec_with, node_of, half, at_si, at_bp, here, at_only, body_with}
 
@@ -69,14 +70,14 @@ module _ (proc : Proc) (frame : Frame) where
   abbrev bodies : List Body
   bodies = caller ∷ writer ∷ []
 
-  abbrev P : Procedures ℕ Place ℤ
+  abbrev P : Procedures ℕ Holder ℤ
   P = procedures_of bodies
 
   -- CX is stored, so the cell is wanted before the POP
   cell_is_wanted : Wanted P 0 4 (in_frame (pos 0))
   cell_is_wanted = IsWantedBy.made_of {to = half Cx Low} here refl refl (IsWantedBy.used refl)
 
-  after : (place : Place) {b : ℕ} → Contains (5 ∷ []) b → Wanted P 0 b place → Wanted P 0 5 place
+  after : (place : Holder) {b : ℕ} → Contains (5 ∷ []) b → Wanted P 0 b place → Wanted P 0 5 place
   after place goes w = at_only (λ b. Wanted P 0 b place → Wanted P 0 5 place) goes (λ h. h) w
 
   -- a byte of the cell is wanted before the POP only where its half of CX is wanted after it, or the byte itself is
@@ -111,7 +112,7 @@ module _ (proc : Proc) (frame : Frame) where
   }
 
   -- a construct of a reused argument stands at the CALL
-  is_refused : IsOfSummaries bodies 9 1
+  is_refused : IsOfSummaries bodies ArgumentReused 1
   is_refused = argument_reused {body = caller} (0, omega arith, refl) is_reused
 
   -- near miss: the reader changes no argument

@@ -6,15 +6,16 @@ use Rattle.dcc_num.specs.declared.Reg.{Reg}
 use Rattle.dcc_num.specs.declared.Reg.TheVariants.{Ax, Dx}
 use Rattle.dcc_num.specs.declared.Half.{Half}
 use Rattle.dcc_num.specs.declared.FlagName.{FlagName}
-use Rattle.dcc_prog.specs.declared.instr.Op.TheVariants.{Call}
-use Rattle.dcc_prog.specs.declared.refusal.construct.TheConstants.{ARGUMENT_REUSED, SEVERAL_RESULTS}
+use Rattle.dcc_machine.specs.declared.instr.Op.TheVariants.{Call}
+use Rattle.dcc_prog.specs.declared.refusal.ConstructKind.{ConstructKind}
+use Rattle.dcc_prog.specs.declared.refusal.ConstructKind.TheVariants.{ArgumentReused, SeveralResults}
 use Rattle.dcc_prog.specs.declared.frame.Program.{Program}
-use Rattle.dcc_prog.specs.Wanted.{Location, half_of, flag_of}
+use Rattle.dcc_machine.specs.Wanted.{Location, half_of, flag_of}
 use Rattle.dcc_stack.specs.Slots.{is_within}
 use Rattle.dcc_demand.specs.Changes.{IsPreserved}
 use Rattle.dcc_demand.specs.Wanted.{Wanted, IsParam, IsResult}
 use Rattle.dcc_machine_demand.specs.Bodies.{Body, entry_of, bodies_of, body_at, Point, op_of, point_at}
-use Rattle.dcc_machine_demand.specs.Places.{held, in_frame, passed, is_same_location, is_in_cell}
+use Rattle.dcc_machine_demand.specs.Holders.{held, in_frame, passed, is_same_location, is_in_cell}
 use Rattle.dcc_machine_demand.specs.Instance.{passed_word, touched_of, procedures_of}
 
 -- the summary of a procedure: the halves and flags that it takes, gives back and leaves as they were
@@ -84,10 +85,10 @@ GivesSeveral bodies entry = ¬ IsOneValue (λ location. IsResult (procedures_of 
 
 -- A construct of this kind, one that summaries tell, stands at the offset: an argument that is reused at the CALL,
 -- several results at the procedure's entry.
-pub data IsOfSummaries (bodies : List Body) : ℕ → ℕ → Type 0 where
+pub data IsOfSummaries (bodies : List Body) : ConstructKind → ℕ → Type 0 where
   argument_reused :
       {body : Body} {at : ℕ} → Contains bodies body → IsReused bodies body at
-      → IsOfSummaries bodies ARGUMENT_REUSED at
+      → IsOfSummaries bodies ArgumentReused at
   several_results :
       {body : Body} → Contains bodies body → GivesSeveral bodies (entry_of body)
-      → IsOfSummaries bodies SEVERAL_RESULTS (entry_of body)
+      → IsOfSummaries bodies SeveralResults (entry_of body)

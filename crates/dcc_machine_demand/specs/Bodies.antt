@@ -1,6 +1,6 @@
 -- The procedures of a program, each with what the analyses tell of it in one place.
 use Rattle.std.specs.Prelude.{ℕ, ◌==◌, List, [], ◌∷◌, map, zip, find, Option, Some, None, if◌then◌else◌}
-use Rattle.dcc_prog.specs.declared.instr.Op.{Op}
+use Rattle.dcc_machine.specs.declared.instr.Op.{Op}
 use Rattle.dcc_prog.specs.declared.procedure.Node.{Node}
 use Rattle.dcc_prog.specs.declared.procedure.Proc.{Proc}
 use Rattle.dcc_prog.specs.declared.frame.Frame.{Frame}

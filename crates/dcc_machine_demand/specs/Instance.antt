@@ -3,15 +3,15 @@
 use Rattle.std.specs.Prelude.{ℕ, ◌+◌, ◌*◌, ℤ, pos, ◌-ℤ◌, Bool, true, false, not, ◌&&◌, ◌||◌, List, [], filter, Option}
 use Rattle.std.specs.Prelude.{Some, None, if◌then◌else◌}
 use Rattle.std.specs.List.{list_any, range_with_len}
-use Rattle.dcc_prog.specs.declared.instr.Op.{Op}
-use Rattle.dcc_prog.specs.declared.instr.Op.TheVariants.{Call, Ret}
+use Rattle.dcc_machine.specs.declared.instr.Op.{Op}
+use Rattle.dcc_machine.specs.declared.instr.Op.TheVariants.{Call, Ret}
 use Rattle.dcc_prog.specs.Frame.{Span, span_of}
 use Rattle.dcc_stack.specs.Slots.{is_within, writes_memory, gives_back}
 use Rattle.dcc_demand.specs.Procedures.{Effect, Leaves, Makes, LeavesWord, Overwrites, Action, Procedure, Procedures}
 use Rattle.dcc_demand.specs.Procedures.{is_left}
 use Rattle.dcc_machine_demand.specs.Bodies.{Body, entry_of, body_at, Point, op_of, point_at}
-use Rattle.dcc_machine_demand.specs.Places.{Place, in_frame, passes, is_place, is_exposed_place, is_accessed_by}
-use Rattle.dcc_machine_demand.specs.Places.{is_private_byte}
+use Rattle.dcc_machine_demand.specs.Holders.{Holder, in_frame, passes, is_holder, is_exposed_holder, is_accessed_by}
+use Rattle.dcc_machine_demand.specs.Holders.{is_private_byte}
 use Rattle.dcc_machine_demand.specs.Moves.{Move, moves_of, moved_effect, moved_made_of, moved_uses, pushed_from}
 use Rattle.dcc_machine_demand.specs.Moves.{pushed_offset, pushed_spots}
 use Rattle.dcc_machine_demand.specs.Values.{moves_or_calls, value_written, is_sure, value_made_of, value_uses}
@@ -48,11 +48,11 @@ callee_in bodies op = None
 -- What an instruction does.
 
 -- the byte is passed as an argument; `touches_byte`: and the procedure that is called may change it
-abbrev pub passes_byte : Option Body → ℕ → Place → Bool
+abbrev pub passes_byte : Option Body → ℕ → Holder → Bool
 passes_byte callee height (in_frame k) = is_passed height (arguments_of callee) k
 passes_byte callee height place = false
 
-abbrev pub touches_byte : Option Body → ℕ → Place → Bool
+abbrev pub touches_byte : Option Body → ℕ → Holder → Bool
 touches_byte callee height (in_frame k) = is_passed height (touched_of callee) k
 touches_byte callee height place = false
 
@@ -60,21 +60,21 @@ module _ (bodies : List Body) (body : Body) (point : Point) where
   abbrev pub moves : List Move
   moves = moves_of body point.height (op_of point)
 
-  abbrev pub touches : Place → Bool
+  abbrev pub touches : Holder → Bool
   touches place = touches_byte (callee_in bodies (op_of point)) point.height place
 
   -- what the instruction does to a place of its procedure
-  abbrev pub effect_at : Place → Effect Place ℤ
+  abbrev pub effect_at : Holder → Effect Holder ℤ
   effect_at place =
       if moves_or_calls (op_of point) then if touches place then Makes else moved_effect moves place
       else if value_written body (op_of point) point.node.number place then Makes
       else Leaves
 
-  abbrev pub made_at : Place → Place → Bool
+  abbrev pub made_at : Holder → Holder → Bool
   made_at to from =
       if moves_or_calls (op_of point) then moved_made_of moves to from else value_made_of body (op_of point) to from
 
-  abbrev pub uses_at : Place → Bool
+  abbrev pub uses_at : Holder → Bool
   uses_at place =
       if moves_or_calls (op_of point) then
       moved_uses moves place || passes_byte (callee_in bodies (op_of point)) point.height place
@@ -84,11 +84,11 @@ module _ (bodies : List Body) (body : Body) (point : Point) where
   abbrev pub overwrites : ℤ → Bool
   overwrites k = touches (in_frame k) || (writes_memory (op_of point) && is_accessed_by body (op_of point) k)
 
-  abbrev pub action_of : Action Place ℤ
+  abbrev pub action_of : Action Holder ℤ
   action_of = record {
-    uses = λ place. is_place body place && uses_at place;
+    uses = λ place. is_holder body place && uses_at place;
     effect = effect_at;
-    made_of = λ to from. is_place body from && made_at to from;
+    made_of = λ to from. is_holder body from && made_at to from;
     surely = λ place. not (is_left (effect_at place)) && is_sure (op_of point) place;
     word_effect = λ k.
         if overwrites k then Overwrites
@@ -97,7 +97,7 @@ module _ (bodies : List Body) (body : Body) (point : Point) where
   }
 
 -- the action that does nothing
-abbrev pub idle : Action Place ℤ
+abbrev pub idle : Action Holder ℤ
 idle = record {
   uses = λ place. false;
   effect = λ place. Leaves;
@@ -109,7 +109,7 @@ idle = record {
 
 -- Procedures.
 
-abbrev pub action_at : List Body → Body → Option Point → Action Place ℤ
+abbrev pub action_at : List Body → Body → Option Point → Action Holder ℤ
 action_at bodies body None = idle
 action_at bodies body (Some point) = action_of bodies body point
 
@@ -125,18 +125,18 @@ abbrev pub returns_at : Option Point → Bool
 returns_at None = false
 returns_at (Some point) = is_ret (op_of point)
 
-abbrev pub procedure_of : List Body → Body → Procedure ℕ Place ℤ
+abbrev pub procedure_of : List Body → Body → Procedure ℕ Holder ℤ
 procedure_of bodies body = record {
   entry = entry_of body;
   next = λ at. next_of (point_at body at);
   returns = λ at. returns_at (point_at body at);
   action = λ at. action_at bodies body (point_at body at);
   is_private = is_private_byte body;
-  is_exposed = is_exposed_place body;
+  is_exposed = is_exposed_holder body;
 }
 
 -- the procedure without instructions
-abbrev pub no_procedure : Procedure ℕ Place ℤ
+abbrev pub no_procedure : Procedure ℕ Holder ℤ
 no_procedure = record {
   entry = 0;
   next = λ at. [];
@@ -146,11 +146,11 @@ no_procedure = record {
   is_exposed = λ place. false;
 }
 
-abbrev pub procedure_or_none : List Body → Option Body → Procedure ℕ Place ℤ
+abbrev pub procedure_or_none : List Body → Option Body → Procedure ℕ Holder ℤ
 procedure_or_none bodies None = no_procedure
 procedure_or_none bodies (Some body) = procedure_of bodies body
 
 -- the procedures by their entries
-abbrev pub procedures_of : List Body → Procedures ℕ Place ℤ
+abbrev pub procedures_of : List Body → Procedures ℕ Holder ℤ
 procedures_of bodies =
     record { procedure = λ entry. procedure_or_none bodies (body_at bodies entry); passes = passes }

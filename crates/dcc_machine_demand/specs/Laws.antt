@@ -4,23 +4,22 @@ use Rattle.std.specs.Prelude.{◌≡◌, ℕ, true, false, List}
 use Rattle.dcc_num.specs.declared.Reg.{Reg}
 use Rattle.dcc_num.specs.declared.Half.{Half}
 use Rattle.dcc_num.specs.declared.FlagName.{FlagName}
-use Rattle.dcc_prog.specs.declared.cpu.Cpu.{Cpu}
-use Rattle.dcc_prog.specs.declared.instr.Op.TheVariants.{Int21}
-use Rattle.dcc_prog.specs.Machine.{State}
-use Rattle.dcc_prog.specs.Step.{op_step}
-use Rattle.dcc_prog.specs.Trail.{is_general}
-use Rattle.dcc_prog.specs.WellFormed.{IsOperation}
-use Rattle.dcc_prog.specs.StateForm.{IsState}
-use Rattle.dcc_prog.specs.LocationLaws.{half_in, flag_in}
-use Rattle.dcc_prog.specs.AlikeLaws.{AgreeIn, AgreeBeside, IsCallNumber, divides_by}
-use Rattle.dcc_prog.specs.Wanted.{Location, half_of, flag_of}
+use Rattle.dcc_machine.specs.declared.cpu.Cpu.{Cpu}
+use Rattle.dcc_machine.specs.declared.instr.Op.TheVariants.{Int21}
+use Rattle.dcc_machine.specs.Machine.{State, is_general}
+use Rattle.dcc_machine.specs.Step.{op_step}
+use Rattle.dcc_machine.specs.WellFormed.{IsOperation}
+use Rattle.dcc_machine.specs.StateForm.{IsState}
+use Rattle.dcc_machine.specs.LocationLaws.{half_in, flag_in}
+use Rattle.dcc_machine.specs.AlikeLaws.{AgreeIn, AgreeBeside, IsCallNumber, divides_by}
+use Rattle.dcc_machine.specs.Wanted.{Location, half_of, flag_of}
 use Rattle.dcc_run.specs.End.{is_over}
 use Rattle.dcc_demand.specs.Procedures.{Leaves}
 use Rattle.dcc_demand.specs.Trail.{IsTrail}
 use Rattle.dcc_demand.specs.Changes.{Changes, IsPreserved}
 use Rattle.dcc_demand.specs.Holds.{Holds}
 use Rattle.dcc_machine_demand.specs.Bodies.{Body, Point, op_of}
-use Rattle.dcc_machine_demand.specs.Places.{Place, held, passes}
+use Rattle.dcc_machine_demand.specs.Holders.{Holder, held, passes}
 use Rattle.dcc_machine_demand.specs.Instance.{effect_at, action_of, procedures_of}
 
 -- The step of an instruction leaves each half and each flag as it was that the instruction is told to leave; the step
@@ -60,7 +59,7 @@ WhatInstructionsMakeAlikeIsAlike =
 -- At each return of a procedure a place that it preserves holds what it held at the entry.
 abbrev pub WhatIsPreservedIsHeld : Type 0
 WhatIsPreservedIsHeld =
-    (bodies : List Body) (entry : ℕ) (place : Place) (passed : List ℕ) (at : ℕ)
+    (bodies : List Body) (entry : ℕ) (place : Holder) (passed : List ℕ) (at : ℕ)
     → IsTrail ((procedures_of bodies).procedure entry) passed at
     → ((procedures_of bodies).procedure entry).returns at ≡ true → IsPreserved (procedures_of bodies) entry place
     → Holds (Changes (procedures_of bodies)) ((procedures_of bodies).procedure entry) place passed place

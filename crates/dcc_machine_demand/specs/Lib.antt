@@ -1,5 +1,5 @@
 pub mod Bodies
-pub mod Places
+pub mod Holders
 pub mod Moves
 pub mod Values
 pub mod Instance

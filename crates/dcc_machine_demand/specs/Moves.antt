@@ -2,32 +2,32 @@
 use Rattle.std.specs.Prelude.{ℕ, ℤ, pos, neg_ℤ, ◌+ℤ◌, ◌-ℤ◌, Bool, ◌&&◌, ◌||◌, List, [], ◌∷◌, ◌++◌, if◌then◌else◌}
 use Rattle.std.specs.List.{list_any}
 use Rattle.std.specs.Ordering.{int_eq}
-use Rattle.dcc_prog.specs.declared.instr.Operand.{Operand}
-use Rattle.dcc_prog.specs.declared.instr.Op.{Op}
-use Rattle.dcc_prog.specs.declared.instr.Op.TheVariants.{Mov, Xchg, Push, Pop}
+use Rattle.dcc_machine.specs.declared.instr.Operand.{Operand}
+use Rattle.dcc_machine.specs.declared.instr.Op.{Op}
+use Rattle.dcc_machine.specs.declared.instr.Op.TheVariants.{Mov, Xchg, Push, Pop}
 use Rattle.dcc_demand.specs.Procedures.{Effect, Leaves, Copies, Pops, Makes, WordEffect, LeavesWord, Pushes, Overwrites}
 use Rattle.dcc_machine_demand.specs.Bodies.{Body}
-use Rattle.dcc_machine_demand.specs.Places.{Place, Spot, placed, nowhere, is_at, is_memory, frame_spot, spots_of}
-use Rattle.dcc_machine_demand.specs.Places.{is_of_address}
+use Rattle.dcc_machine_demand.specs.Holders.{Holder, Spot, placed, nowhere, is_at, is_memory, frame_spot, spots_of}
+use Rattle.dcc_machine_demand.specs.Holders.{is_of_address}
 
 -- one byte is moved: where to, how, and what it is made of
 pub record Move : Type 0 where
   pub to : Spot
-  pub effect : Effect Place ℤ
-  pub made_of : Place → Bool
+  pub effect : Effect Holder ℤ
+  pub made_of : Holder → Bool
 
 -- a byte of a place is copied
-abbrev pub copying : Spot → Effect Place ℤ
+abbrev pub copying : Spot → Effect Holder ℤ
 copying (placed place) = Copies place
 copying spot = Makes
 
 -- the move of one byte, which is made of that byte and of what takes part in the addresses
-abbrev pub move_from : (Place → Bool) → Spot → Spot → Move
+abbrev pub move_from : (Holder → Bool) → Spot → Spot → Move
 move_from addresses to from =
     record { to = to; effect = copying from; made_of = λ place. is_at from place || addresses place }
 
 -- the moves to each of the first bytes from the others, in their order
-abbrev pub moves_between : (Place → Bool) → List Spot → List Spot → List Move
+abbrev pub moves_between : (Holder → Bool) → List Spot → List Spot → List Move
 moves_between addresses [] from = []
 moves_between addresses (to ∷ rest) [] = move_from addresses to nowhere ∷ moves_between addresses rest []
 moves_between addresses (to ∷ rest) (from ∷ others) =
@@ -51,7 +51,7 @@ pushed_offset height = neg_ℤ (pos height)
 abbrev pub popped_offset : ℕ → ℤ
 popped_offset height = pos 2 -ℤ pos height
 
-abbrev pub of_either : Operand → Operand → Place → Bool
+abbrev pub of_either : Operand → Operand → Holder → Bool
 of_either a b place = is_of_address a place || is_of_address b place
 
 -- the moves of an operation at a height
@@ -67,20 +67,20 @@ moves_of body height op = []
 
 -- What moves do.
 
-abbrev pub moved_effect : List Move → Place → Effect Place ℤ
+abbrev pub moved_effect : List Move → Holder → Effect Holder ℤ
 moved_effect [] place = Leaves
 moved_effect (move ∷ moves) place = if is_at move.to place then move.effect else moved_effect moves place
 
-abbrev pub moved_made_of : List Move → Place → Place → Bool
+abbrev pub moved_made_of : List Move → Holder → Holder → Bool
 moved_made_of moves to from = list_any (λ move. is_at move.to to && move.made_of from) moves
 
 -- moves use what they move to memory
-abbrev pub moved_uses : List Move → Place → Bool
+abbrev pub moved_uses : List Move → Holder → Bool
 moved_uses moves place = list_any (λ move. is_memory move.to && move.made_of place) moves
 
 -- Words of the stack.
 
-abbrev pub pushing : Spot → WordEffect Place
+abbrev pub pushing : Spot → WordEffect Holder
 pushing (placed place) = Pushes place
 pushing spot = Overwrites
 
@@ -90,6 +90,6 @@ pushed_spots body (Push a) = spots_of body a
 pushed_spots body op = []
 
 -- what a PUSH of bytes into the frame, from an offset on, does to the byte of the stack at an offset
-abbrev pub pushed_from : ℤ → List Spot → ℤ → WordEffect Place
+abbrev pub pushed_from : ℤ → List Spot → ℤ → WordEffect Holder
 pushed_from k [] j = LeavesWord
 pushed_from k (spot ∷ spots) j = if int_eq k j then pushing spot else pushed_from (k +ℤ pos 1) spots j

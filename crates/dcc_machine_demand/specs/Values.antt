@@ -3,20 +3,19 @@
 -- here.
 use Rattle.std.specs.Prelude.{ℕ, ◌%◌, ◌==◌, Bool, true, false, not, ◌&&◌, ◌||◌, Option, None, if◌then◌else◌}
 use Rattle.dcc_num.specs.declared.FlagName.TheVariants.{Of}
-use Rattle.dcc_prog.specs.declared.instr.Count.TheVariants.{Const as ConstCount}
-use Rattle.dcc_prog.specs.declared.instr.Operand.{Operand}
-use Rattle.dcc_prog.specs.declared.instr.Op.{Op}
-use Rattle.dcc_prog.specs.declared.instr.Op.TheVariants.{Alu as AluOp, Unary as UnaryOp, Shift as ShiftOp, Mov, Xchg}
-use Rattle.dcc_prog.specs.declared.instr.Op.TheVariants.{Imul3, Push, Pop, Call}
-use Rattle.dcc_prog.specs.Machine.{operand_width}
-use Rattle.dcc_prog.specs.Prepared.{is_division}
-use Rattle.dcc_prog.specs.Trail.{is_general}
-use Rattle.dcc_prog.specs.Writes.{is_same_register, is_carry_or_overflow, writes_flag}
-use Rattle.dcc_prog.specs.Wanted.{Location, half_of, flag_of, is_read, is_accumulator, alu_makes, unary_makes}
-use Rattle.dcc_prog.specs.Wanted.{shift_writes, shift_reads, makes, uses, surely_writes_half, surely_writes_flag}
+use Rattle.dcc_machine.specs.declared.instr.Count.TheVariants.{Const as ConstCount}
+use Rattle.dcc_machine.specs.declared.instr.Operand.{Operand}
+use Rattle.dcc_machine.specs.declared.instr.Op.{Op}
+use Rattle.dcc_machine.specs.declared.instr.Op.TheVariants.{Alu as AluOp, Unary as UnaryOp, Shift as ShiftOp, Mov, Xchg}
+use Rattle.dcc_machine.specs.declared.instr.Op.TheVariants.{Imul3, Push, Pop, Call}
+use Rattle.dcc_machine.specs.Machine.{operand_width, is_general}
+use Rattle.dcc_machine.specs.Operations.{is_division}
+use Rattle.dcc_machine.specs.Writes.{is_same_register, is_carry_or_overflow, writes_flag}
+use Rattle.dcc_machine.specs.Wanted.{Location, half_of, flag_of, is_read, is_accumulator, alu_makes, unary_makes}
+use Rattle.dcc_machine.specs.Wanted.{shift_writes, shift_reads, makes, uses, surely_writes_half, surely_writes_flag}
 use Rattle.dcc_stack.specs.Slots.{writes_memory}
 use Rattle.dcc_machine_demand.specs.Bodies.{Body}
-use Rattle.dcc_machine_demand.specs.Places.{Place, held, in_frame, is_accessed_by, is_in_cells}
+use Rattle.dcc_machine_demand.specs.Holders.{Holder, held, in_frame, is_accessed_by, is_in_cells}
 
 -- the operation moves bytes or calls
 abbrev pub moves_or_calls : Op → Bool
@@ -30,14 +29,14 @@ moves_or_calls op = false
 -- What is written.
 
 -- the operation gives the place a value that it makes; of the calls of INT 21h only those that give a byte write AL
-abbrev pub value_written : Body → Op → Option ℕ → Place → Bool
+abbrev pub value_written : Body → Op → Option ℕ → Holder → Bool
 value_written body op number (held (half_of r half)) = is_general r && surely_writes_half op number r half
 value_written body op number (held (flag_of flag)) = writes_flag op flag
 value_written body op number (in_frame k) = writes_memory op && is_accessed_by body op k
 
 -- Where the operation writes the place, it surely does, whatever it finds; a shift or rotate by CL may leave the
 -- flags.
-abbrev pub is_sure : Op → Place → Bool
+abbrev pub is_sure : Op → Holder → Bool
 is_sure (Call target) place = false
 is_sure op (held (flag_of flag)) = surely_writes_flag op flag
 is_sure op place = true
@@ -59,7 +58,7 @@ takes_memory (Imul3 r a constant) (flag_of flag) = is_carry_or_overflow flag
 takes_memory op to = false
 
 -- A byte of a cell that is written is made of what a store to memory would use.
-abbrev pub value_made_of : Body → Op → Place → Place → Bool
+abbrev pub value_made_of : Body → Op → Holder → Holder → Bool
 value_made_of body op (held to) (held from) = makes op to from && not (is_cleared op to)
 value_made_of body op (held to) (in_frame k) =
     (takes_memory op to && not (is_cleared op to)) && is_accessed_by body op k
@@ -81,7 +80,7 @@ divides op = false
 
 -- What an operation uses for a jump, a store, a division or a DOS call, whatever is wanted after it. A write of a
 -- memory operand that stands in a cell is no store, and of what a division divides the lower half alone counts.
-abbrev pub value_uses : Body → Op → Option ℕ → Place → Bool
+abbrev pub value_uses : Body → Op → Option ℕ → Holder → Bool
 value_uses body (UnaryOp operation a) number (held location) =
     if is_division operation then division_uses a location
     else not (is_in_cells body (UnaryOp operation a)) && uses (UnaryOp operation a) number location

@@ -1,11 +1,11 @@
 //! Encodings with the instructions that an independent decoder of both processors gives for them.
 
 use dcc_decode::decode;
+use dcc_machine::Operand::{Byte, Seg, Word};
+use dcc_machine::{Alu, Cond, Count, Cpu, Ea, Instr, Op, Operand, Plain, Shift, Unary};
 use dcc_num::Half::{High, Low};
 use dcc_num::Reg::{Ax, Bp, Bx, Cx, Di, Dx, Si, Sp};
 use dcc_num::{Reg, Width};
-use dcc_prog::Operand::{Byte, Seg, Word};
-use dcc_prog::{Alu, Cond, Count, Cpu, Ea, Instr, Op, Operand, Plain, Shift, Unary};
 
 // Whether all of the bytes are an instruction of the processor with this operation.
 fn decodes_on(cpu: Cpu, code: &[u8], op: Op) -> bool {

@@ -1,12 +1,13 @@
 //! Layouts of small programs. The values come from a reference analysis apart from this one.
 
 ghost use Rattle.std.specs.Prelude.{IfOk};
-ghost use Rattle.dcc_prog.specs.MzImage.{IsLoaded};
+ghost use Rattle.dcc_machine.specs.MzImage.{IsLoaded};
 
 use dcc_layout::layout;
+use dcc_machine::{Cpu, Image};
 use dcc_mz::load;
 use dcc_num::Flags;
-use dcc_prog::{Cpu, Image, Refusal, construct};
+use dcc_prog::{ConstructKind, Refusal};
 use std::alloc::Global;
 use std::process::Abort;
 use std::test::Fail;
@@ -298,7 +299,7 @@ fn a_program_may_have_a_layout_for_the_80186_alone(rt: HostRuntime) -> Result<()
     let bytes = b"\0\0\0\xB8\x12\x01\xC1\xE0\x04\x8E\xD8\xB4\x4C\xCD\x21";
     let image = image_of(&rt, alloc, start, bytes)?;
     let refusal = Refusal::Construct {
-        kind: construct::NO_LAYOUT,
+        kind: ConstructKind::NoLayout,
         at: start.ip,
     };
     assert_eq!(rt; layout(alloc, &image, Cpu::I8086).err(), Some(refusal));
@@ -382,7 +383,7 @@ fn a_program_without_a_layout_is_refused_at_its_entry(rt: HostRuntime) -> Result
     for (start, bytes) in refused() {
         let image = image_of(&rt, alloc, *start, bytes)?;
         let refusal = Refusal::Construct {
-            kind: construct::NO_LAYOUT,
+            kind: ConstructKind::NoLayout,
             at: start.ip,
         };
         assert_eq!(rt; layout(alloc, &image, Cpu::I8086).err(), Some(refusal));

@@ -1,8 +1,8 @@
 //! Small programs, with what a reference machine apart from this one gives.
 
 use dcc_io::{MemSink, MemSource};
+use dcc_machine::{Cpu, Image, LOAD_SEGMENT};
 use dcc_num::Reg;
-use dcc_prog::{Cpu, Image, LOAD_SEGMENT};
 use dcc_step::{Machine, Stepped};
 use std::alloc::{AllocError, Global};
 use std::process::Abort;

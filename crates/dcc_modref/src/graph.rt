@@ -259,7 +259,7 @@ fn any_loses(
 }
 
 /// Whether some trail to a return of the graph loses the location, where the procedures that are told of change it.
-pub fn loses(alloc: Global, subject: &Subject<'_>) -> Result<bool, AllocError>
+pub(crate) fn loses(alloc: Global, subject: &Subject<'_>) -> Result<bool, AllocError>
     requires { IsGraph (graph_of subject.now.graph.now) }
     ensures { IfOk result (λ b. (b ≡ true)
         ↔ GraphLoses (told_in subject.now.changed.now) (graph_of subject.now.graph.now) subject.now.location) }

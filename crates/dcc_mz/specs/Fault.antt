@@ -1,8 +1,8 @@
 -- What a fault of the loader says of the file.
 use Rattle.std.specs.Prelude.{ℕ, Option, Some, None, IfSome, IsSomeAnd, List}
 use Rattle.std.specs.Option.{option_map_or}
-use Rattle.dcc_prog.specs.MzImage.{FormatFault, too_large, short, not_mz, bad_pages, header_past_image, bad_relocation}
-use Rattle.dcc_prog.specs.MzImage.{entry_outside, IsFirstFault, fault_number, fault_place}
+use Rattle.dcc_machine.specs.MzImage.{FormatFault, too_large, short, not_mz, bad_pages, header_past_image}
+use Rattle.dcc_machine.specs.MzImage.{bad_relocation, entry_outside, IsFirstFault, fault_number, fault_place}
 use Rattle.dcc_mz.specs.declared.fault.MzFault.{MzFault}
 use Rattle.dcc_mz.specs.declared.fault.MzFault.TheVariants.{Short, NotMz, Pages, HeaderPastImage, Reloc, EntryOutside}
 use Rattle.dcc_mz.specs.declared.fault.MzFault.TheVariants.{TooLarge, Memory}

@@ -1,7 +1,7 @@
 -- The header as it is read.
 use Rattle.std.specs.Prelude.{◌≡◌, ℕ, List}
-use Rattle.dcc_prog.specs.MzImage.{last_page_bytes, page_count, relocation_count, header_paragraphs, header_ss}
-use Rattle.dcc_prog.specs.MzImage.{header_sp, header_ip, header_cs, relocation_table}
+use Rattle.dcc_machine.specs.MzImage.{last_page_bytes, page_count, relocation_count, header_paragraphs, header_ss}
+use Rattle.dcc_machine.specs.MzImage.{header_sp, header_ip, header_cs, relocation_table}
 use Rattle.dcc_mz.specs.declared.header.Header.{Header}
 
 -- each field is its word of the file

@@ -1,7 +1,7 @@
 -- Laws on images and first faults, for every list of bytes.
 use Rattle.std.specs.Prelude.{◌≡◌, ℕ, List, ◌⊎◌}
-use Rattle.dcc_prog.specs.declared.image.Image.{Image}
-use Rattle.dcc_prog.specs.MzImage.{FormatFault, IsFirstFault, IsImageOf}
+use Rattle.dcc_machine.specs.declared.image.Image.{Image}
+use Rattle.dcc_machine.specs.MzImage.{FormatFault, IsFirstFault, IsImageOf}
 
 -- two images have the same bytes and the same numbers
 pub record IsSameImage (one other : Image) : Type 0 where

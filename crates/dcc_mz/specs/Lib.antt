@@ -1,4 +1,4 @@
 pub mod Fault
 pub mod Header
 pub mod Laws
-pub use Rattle.dcc_prog.specs.MzImage
+pub use Rattle.dcc_machine.specs.MzImage

@@ -1,7 +1,7 @@
 //! The checks of a file before its relocations.
 
 ghost use Rattle.std.specs.Prelude.{IfOk, IfErr};
-ghost use Rattle.dcc_prog.specs.MzImage.{HasGoodHeader};
+ghost use Rattle.dcc_machine.specs.MzImage.{HasGoodHeader};
 ghost use Rattle.dcc_mz.specs.Fault.{IsRefusal};
 ghost use Rattle.dcc_mz.specs.Header.{IsHeaderOf};
 
@@ -12,7 +12,7 @@ use crate::header::{HEADER_LENGTH, Header};
 const GREATEST_LENGTH: usize = 262_144;
 
 /// Reads the header, and sees that it says where in the file the image lies.
-pub fn checked_header(file: &[u8]) -> Result<Header, MzFault>
+pub(crate) fn checked_header(file: &[u8]) -> Result<Header, MzFault>
     ensures header { IfOk result (λ header. IsHeaderOf file.now header) }
     ensures good { IfOk result (λ _. HasGoodHeader file.now) }
     ensures refused { IfErr result (IsRefusal file.now) }

@@ -1,8 +1,8 @@
 //! The header of an MZ file.
 
 ghost use Rattle.std.specs.Prelude.{◌≡◌, ◌≤◌, ◌<◌, ◌+◌, ◌*◌, length};
-ghost use Rattle.dcc_prog.specs.Bytes.{word_at};
-ghost use Rattle.dcc_prog.specs.MzImage.{HasHeader, pages_length};
+ghost use Rattle.dcc_machine.specs.Bytes.{word_at};
+ghost use Rattle.dcc_machine.specs.MzImage.{HasHeader, pages_length};
 
 use byteorder::{ByteOrder, LittleEndian};
 
@@ -39,7 +39,7 @@ pub struct Header {
 }
 
 /// The little-endian word at an offset in bytes.
-#[tactic(auto, unfolding(dcc_prog::specs::Bytes::word_at))]
+#[tactic(auto, unfolding(dcc_machine::specs::Bytes::word_at))]
 pub fn word(bytes: &[u8], at: usize) -> u16
     requires { at + 2 ≤ length bytes.now }
     ensures { result ≡ word_at bytes.now at }
@@ -76,7 +76,7 @@ impl Header {
     }
 
     /// The offset in the file at which the image ends.
-    #[tactic(auto, unfolding(dcc_prog::specs::MzImage::pages_length))]
+    #[tactic(auto, unfolding(dcc_machine::specs::MzImage::pages_length))]
     pub fn image_end(&self) -> usize
         requires pages { 0 < self.now.pages }
         requires last_page { self.now.last_page_bytes ≤ 512 }

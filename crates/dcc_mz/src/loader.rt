@@ -1,14 +1,14 @@
 //! The loader.
 
 ghost use Rattle.std.specs.Prelude.{◌≡◌, IfOk, IfErr, IsErrAnd, IsOkUnless, IfSome, List, ℕ};
-ghost use Rattle.dcc_prog.specs.MzImage.{FormatFault, IsFirstFault, IsImageOf, IsLoaded};
-ghost use Rattle.dcc_prog.specs.declared.image.Image.{Image};
+ghost use Rattle.dcc_machine.specs.MzImage.{FormatFault, IsFirstFault, IsImageOf, IsLoaded};
+ghost use Rattle.dcc_machine.specs.declared.image.Image.{Image};
 ghost use Rattle.dcc_mz.specs.Fault.{IsRefusalOrMemory, fault_of};
 
 use crate::checks::checked_header;
 use crate::fault::MzFault;
 use crate::relocation::{loaded_segment, relocated_image};
-use dcc_prog::Image;
+use dcc_machine::Image;
 use std::alloc::Global;
 
 // The image of a file, where the file passes the seven checks.

@@ -1,20 +1,20 @@
 //! The relocations of an image.
 
 ghost use Rattle.std.specs.Prelude.{◌≡◌, ◌≤◌, ◌<◌, ◌+◌, length, OnOk, IfOk, IfErr, MatchOption};
-ghost use Rattle.dcc_prog.specs.Bytes.{with_word_at, word_at};
-ghost use Rattle.dcc_prog.specs.MzImage.{HasGoodHeader, RelocationFits, RelocationsFit, image_length, loaded_segment};
-ghost use Rattle.dcc_prog.specs.MzImage.{relocated_image, relocated_place, relocation_count};
+ghost use Rattle.dcc_machine.specs.Bytes.{with_word_at, word_at};
+ghost use Rattle.dcc_machine.specs.MzImage.{HasGoodHeader, RelocationFits, RelocationsFit, image_length};
+ghost use Rattle.dcc_machine.specs.MzImage.{loaded_segment, relocated_image, relocated_place, relocation_count};
 ghost use Rattle.dcc_mz.specs.Fault.{IsRefusal, IsRefusalOrMemory};
 ghost use Rattle.dcc_mz.specs.Header.{IsHeaderOf};
 
 use crate::fault::MzFault;
 use crate::header::{Header, PARAGRAPH, word};
 use byteorder::{ByteOrder, LittleEndian};
-use dcc_prog::LOAD_SEGMENT;
+use dcc_machine::LOAD_SEGMENT;
 use std::alloc::Global;
 
 /// A segment that the file counts from the image's start, moved to where the image is loaded.
-pub fn loaded_segment(segment: u16) -> u16
+pub(crate) fn loaded_segment(segment: u16) -> u16
     ensures { result ≡ loaded_segment segment }
 {
     segment.wrapping_add(LOAD_SEGMENT)
@@ -64,8 +64,12 @@ fn relocate(file: &[u8], header: &Header, image: &mut [u8]) -> Result<(), MzFaul
 }
 
 /// The image of a file, copied and relocated.
-#[tactic(auto, unfolding(dcc_prog::specs::MzImage::relocated_image))]
-pub fn relocated_image(alloc: Global, file: &[u8], header: &Header) -> Result<Vec<u8>, MzFault>
+#[tactic(auto, unfolding(dcc_machine::specs::MzImage::relocated_image))]
+pub(crate) fn relocated_image(
+    alloc: Global,
+    file: &[u8],
+    header: &Header,
+) -> Result<Vec<u8>, MzFault>
     requires header { IsHeaderOf file.now header.now }
     requires good { HasGoodHeader file.now }
     ensures moved { IfOk result (λ image.

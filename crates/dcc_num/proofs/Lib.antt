@@ -9,4 +9,4 @@ pub mod ShiftFlags
 pub mod Shifts
 pub mod Steps
 pub mod Sums
-pub mod Turns
+pub mod CarryRotations

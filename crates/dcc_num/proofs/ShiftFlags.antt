@@ -10,10 +10,10 @@ use Rattle.dcc_num.specs.declared.Width.{Width}
 use Rattle.dcc_num.specs.declared.Width.TheVariants.{Byte, Word}
 use Rattle.dcc_num.specs.declared.Flags.{Flags}
 use Rattle.dcc_num.specs.Numbers.{bits_of, limit_of, half_of, has_sign, is_set, differ, result_flags, signed_of, halved_of, wrapped_of, residue_of}
-use Rattle.dcc_num.specs.Shift.{shl_of, shr_of, sar_of, left_rotation_of, right_rotation_of, left_turn_of, right_turn_of, turned_of, top_bits_differ, unless_zero}
-use Rattle.dcc_num.specs.Laws.{TellsSign, TellsResult, ShiftsTellResults, RotationsKeepFlags, TurnsKeepFlags, LeftShiftsCarry, RightShiftsCarry}
+use Rattle.dcc_num.specs.Shift.{shl_of, shr_of, sar_of, rol_of, ror_of, rcl_of, rcr_of, rotated_of, top_bits_differ, unless_zero}
+use Rattle.dcc_num.specs.Laws.{TellsSign, TellsResult, ShiftsTellResults, RotationsKeepFlags, CarryRotationsKeepFlags, LeftShiftsCarry, RightShiftsCarry}
 use Rattle.dcc_num.proofs.Differences.{tells_result, below, wrapped_below}
-use Rattle.dcc_num.proofs.Shifts.{nothing_left, turned_below}
+use Rattle.dcc_num.proofs.Shifts.{nothing_left, rotated_below}
 use Rattle.dcc_num.proofs.Steps.{signed_cases}
 
 not_zero : (n : ℕ) → nat_eq (suc n) 0 ≡ false
@@ -136,46 +136,46 @@ right_carries w a count was small some = rw (moved_is count (a, was) _ some) ref
 
 -- ---- rotations
 
-pub left_rotation_keeps : RotationsKeepFlags left_rotation_of
-unfolding left_rotation_of
-left_rotation_keeps w a count was small =
-    let r = turned_of w a (count % bits_of w) in
+pub rol_keeps : RotationsKeepFlags rol_of
+unfolding rol_of
+rol_keeps w a count was small =
+    let r = rotated_of w a (count % bits_of w) in
     let f : Flags = record was { cf = is_set r 0; of = nat_eq count 1 && differ (is_set r 0) (has_sign w r) } in (
       signs w a count was r f (differ (is_set r 0) (has_sign w r)) refl
-          (λ one. ap (λ (c : Bool). differ c (has_sign w r)) (ap (λ (n : ℕ). is_set (turned_of w a (n % bits_of w)) 0) one ∙ round w a small)),
+          (λ one. ap (λ (c : Bool). differ c (has_sign w r)) (ap (λ (n : ℕ). is_set (rotated_of w a (n % bits_of w)) 0) one ∙ round w a small)),
       (kept count (a, was) (r, f) was refl (refl, refl)).0,
       (kept count (a, was) (r, f) was refl (refl, refl)).1,
     )
   where
-    round : (w : Width) (a : ℕ) → a < limit_of w → is_set (turned_of w a (1 % bits_of w)) 0 ≡ has_sign w a
+    round : (w : Width) (a : ℕ) → a < limit_of w → is_set (rotated_of w a (1 % bits_of w)) 0 ≡ has_sign w a
     round Byte a small = grind (arith, nat_tests)
     round Word a small = grind (arith, nat_tests)
 
-pub right_rotation_keeps : RotationsKeepFlags right_rotation_of
-unfolding right_rotation_of
-right_rotation_keeps w a count was small =
-    let r = turned_of w a (bits_of w - count % bits_of w) in
+pub ror_keeps : RotationsKeepFlags ror_of
+unfolding ror_of
+ror_keeps w a count was small =
+    let r = rotated_of w a (bits_of w - count % bits_of w) in
     let f : Flags = record was { cf = has_sign w r; of = nat_eq count 1 && top_bits_differ w r } in (
       signs w a count was r f (top_bits_differ w r) refl
-          (λ one. ap (λ (n : ℕ). top_bits_differ w (turned_of w a (bits_of w - n % bits_of w))) one
+          (λ one. ap (λ (n : ℕ). top_bits_differ w (rotated_of w a (bits_of w - n % bits_of w))) one
           ∙ round w a small
-          ∙ sym (ap (λ (n : ℕ). differ (has_sign w a) (has_sign w (turned_of w a (bits_of w - n % bits_of w)))) one)),
+          ∙ sym (ap (λ (n : ℕ). differ (has_sign w a) (has_sign w (rotated_of w a (bits_of w - n % bits_of w)))) one)),
       (kept count (a, was) (r, f) was refl (refl, refl)).0,
       (kept count (a, was) (r, f) was refl (refl, refl)).1,
     )
   where
     round : (w : Width) (a : ℕ) → a < limit_of w
-        → top_bits_differ w (turned_of w a (bits_of w - 1 % bits_of w)) ≡ differ (has_sign w a) (has_sign w (turned_of w a (bits_of w - 1 % bits_of w)))
+        → top_bits_differ w (rotated_of w a (bits_of w - 1 % bits_of w)) ≡ differ (has_sign w a) (has_sign w (rotated_of w a (bits_of w - 1 % bits_of w)))
     round Byte a small = grind (arith, nat_tests)
     round Word a small = grind (arith, nat_tests)
 
-pub left_turn_keeps : TurnsKeepFlags left_turn_of
-unfolding left_turn_of
-left_turn_keeps w a was small = (refl, refl, refl)
+pub rcl_keeps : CarryRotationsKeepFlags rcl_of
+unfolding rcl_of
+rcl_keeps w a was small = (refl, refl, refl)
 
-pub right_turn_keeps : TurnsKeepFlags right_turn_of
-unfolding right_turn_of
-right_turn_keeps w a was small = (changed w a was.cf small, refl, refl)
+pub rcr_keeps : CarryRotationsKeepFlags rcr_of
+unfolding rcr_of
+rcr_keeps w a was small = (changed w a was.cf small, refl, refl)
   where
     changed : (w : Width) (a : ℕ) (c : Bool) → a < limit_of w
         → top_bits_differ w (a / 2 + from_bool c * half_of w) ≡ differ (has_sign w a) (has_sign w (a / 2 + from_bool c * half_of w))

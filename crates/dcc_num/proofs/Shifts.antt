@@ -70,8 +70,8 @@ moved_down_is a k small some = elim (cases_lt k 18) [
 ]
 
 -- what leaves at the top has room at the bottom
-turned_fits : (a c p : ℕ) → 0 < c → 0 < p → a < p * c → a * p % (c * p) + a * p / (c * p) < c * p
-turned_fits a c p some more small =
+rotated_fits : (a c p : ℕ) → 0 < c → 0 < p → a < p * c → a * p % (c * p) + a * p / (c * p) < c * p
+rotated_fits a c p some more small =
     let high : a * p / (c * p) ≡ a / c = mul-div-mul_right a c more in
     let below : a / c < p = div_below a c p some small in
     let parts : a * p / (c * p) * (c * p) + a * p % (c * p) ≡ a * p = div-add-mod' (a * p) (c * p) in
@@ -85,20 +85,20 @@ turned_fits a c p some more small =
     suc_times : (m n : ℕ) → suc m * n ≡ m * n + n
     suc_times m n = omega arith
 
-pub turned_below : (a b n : ℕ) → a < 2 ^ b → n ≤ b → a * 2 ^ n % 2 ^ b + a * 2 ^ n / 2 ^ b < 2 ^ b
-turned_below a b n small within =
+pub rotated_below : (a b n : ℕ) → a < 2 ^ b → n ≤ b → a * 2 ^ n % 2 ^ b + a * 2 ^ n / 2 ^ b < 2 ^ b
+rotated_below a b n small within =
     let e : b ≡ (b - n) + n = omega arith in
     let p : 2 ^ b ≡ 2 ^ (b - n) * 2 ^ n = ap (λ k. 2 ^ k) e ∙ pow-add 2 (b - n) n in
     let q : a < 2 ^ n * 2 ^ (b - n) = subst (λ (k : ℕ). a < k) (p ∙ mul_comm (2 ^ (b - n)) (2 ^ n)) small in
-    rw p (turned_fits a (2 ^ (b - n)) (2 ^ n) (pow_pos (b - n)) (pow_pos n) q)
+    rw p (rotated_fits a (2 ^ (b - n)) (2 ^ n) (pow_pos (b - n)) (pow_pos n) q)
 
 -- what the code computes for a turn, p standing for a and l for the limit
-pub turned_is : (w : Width) (a n p l : ℕ) → p ≡ a → l ≡ limit_of w → a < limit_of w → n ≤ bits_of w
+pub rotated_is : (w : Width) (a n p l : ℕ) → p ≡ a → l ≡ limit_of w → a < limit_of w → n ≤ bits_of w
     → p * 2 ^ n % 2 ^ 64 % l + p * 2 ^ n % 2 ^ 64 / l < limit_of w
-turned_is w a n p l ep el h within =
+rotated_is w a n p l ep el h within =
     let small = bits_small w in
     let whole : a * 2 ^ n % 2 ^ 64 ≡ a * 2 ^ n = shl_whole a 16 n 64 (limit_small w a h) (omega arith) in
-    rw (ep, el) (rw whole (turned_below a (bits_of w) n h within))
+    rw (ep, el) (rw whole (rotated_below a (bits_of w) n h within))
 
 -- what the code computes for a shift down, with p standing for the number and n for the places
 pub moved_down_for : (a k p n : ℕ) → p ≡ a → n ≡ min k 17 → a < 2 ^ 16 → 0 < k

@@ -8,9 +8,9 @@ use Rattle.dcc_num.specs.declared.Width.{Width}
 use Rattle.dcc_num.specs.declared.Width.TheVariants.{Byte, Word}
 use Rattle.dcc_num.specs.declared.Flags.{Flags}
 use Rattle.dcc_num.specs.Numbers.{bits_of, limit_of, half_of, has_sign, is_set, result_flags, signed_of, halved_of, wrapped_of, residue_of}
-use Rattle.dcc_num.specs.Shift.{shl_of, shr_of, sar_of, left_rotation_of, right_rotation_of, turned_of}
-use Rattle.dcc_num.specs.Laws.{after_steps, left_step, right_step, signed_step, left_rotation_step, right_rotation_step, value_and_carry, IsRepeated}
-use Rattle.dcc_num.proofs.Shifts.{turned_below}
+use Rattle.dcc_num.specs.Shift.{shl_of, shr_of, sar_of, rol_of, ror_of, rotated_of}
+use Rattle.dcc_num.specs.Laws.{after_steps, left_step, right_step, signed_step, rol_step, ror_step, value_and_carry, IsRepeated}
+use Rattle.dcc_num.proofs.Shifts.{rotated_below}
 
 -- states with the values and the carries that the step gives are the step, repeated
 repeats : (step : ℕ × Bool → ℕ × Bool) (at : ℕ → ℕ × Bool) (value : ℕ → ℕ) (carry : ℕ → Bool)
@@ -148,13 +148,13 @@ signed_repeated w a count was small =
 
 -- ---- ROL and ROR
 
-turned_none : (w : Width) (a : ℕ) → a < limit_of w → turned_of w a 0 ≡ a
-turned_none Byte a small = omega arith
-turned_none Word a small = omega arith
+rotated_none : (w : Width) (a : ℕ) → a < limit_of w → rotated_of w a 0 ≡ a
+rotated_none Byte a small = omega arith
+rotated_none Word a small = omega arith
 
-turned_whole : (w : Width) (a : ℕ) → a < limit_of w → turned_of w a (bits_of w) ≡ a
-turned_whole Byte a small = omega arith
-turned_whole Word a small = omega arith
+rotated_whole : (w : Width) (a : ℕ) → a < limit_of w → rotated_of w a (bits_of w) ≡ a
+rotated_whole Byte a small = omega arith
+rotated_whole Word a small = omega arith
 
 -- the place after a place
 next_place : (w : Width) (n : ℕ)
@@ -163,87 +163,87 @@ next_place Byte n = elim (cases_lt (n % 8) 7) [ inl more ↦ inl (more, omega ar
 next_place Word n = elim (cases_lt (n % 16) 15) [ inl more ↦ inl (more, omega arith) | inr last ↦ inr (omega arith, omega arith) ]
 
 -- one place more, by the halves of what was moved up
-turned_more : (w : Width) (x y : ℕ) (c : Bool) → y ≡ x * 2 → y % limit_of w + y / limit_of w < limit_of w
-    → left_rotation_step w (x % limit_of w + x / limit_of w, c) ≡ (y % limit_of w + y / limit_of w, is_set (y % limit_of w + y / limit_of w) 0)
-turned_more Byte x y c e small = two (grind (arith, nat_tests)) (grind (arith, nat_tests))
-turned_more Word x y c e small = two (grind (arith, nat_tests)) (grind (arith, nat_tests))
+rotated_more : (w : Width) (x y : ℕ) (c : Bool) → y ≡ x * 2 → y % limit_of w + y / limit_of w < limit_of w
+    → rol_step w (x % limit_of w + x / limit_of w, c) ≡ (y % limit_of w + y / limit_of w, is_set (y % limit_of w + y / limit_of w) 0)
+rotated_more Byte x y c e small = two (grind (arith, nat_tests)) (grind (arith, nat_tests))
+rotated_more Word x y c e small = two (grind (arith, nat_tests)) (grind (arith, nat_tests))
 
 -- one place less of a turn to the right, by the halves of what was moved up
-turned_less : (w : Width) (x y : ℕ) (c : Bool) → y ≡ x * 2 → y % limit_of w + y / limit_of w < limit_of w
-    → right_rotation_step w (y % limit_of w + y / limit_of w, c) ≡ (x % limit_of w + x / limit_of w, has_sign w (x % limit_of w + x / limit_of w))
-turned_less Byte x y c e small = two (grind (arith, nat_tests)) (grind (arith, nat_tests))
-turned_less Word x y c e small = two (grind (arith, nat_tests)) (grind (arith, nat_tests))
+rotated_less : (w : Width) (x y : ℕ) (c : Bool) → y ≡ x * 2 → y % limit_of w + y / limit_of w < limit_of w
+    → ror_step w (y % limit_of w + y / limit_of w, c) ≡ (x % limit_of w + x / limit_of w, has_sign w (x % limit_of w + x / limit_of w))
+rotated_less Byte x y c e small = two (grind (arith, nat_tests)) (grind (arith, nat_tests))
+rotated_less Word x y c e small = two (grind (arith, nat_tests)) (grind (arith, nat_tests))
 
-left_turn_has : (w : Width) (a : ℕ) (was : Flags) → a < limit_of w → (n : ℕ) → (left_rotation_of w a n was).0 ≡ turned_of w a (n % bits_of w)
-unfolding left_rotation_of
-left_turn_has w a was small zero = sym (ap (turned_of w a) (zero_place w) ∙ turned_none w a small)
+rol_has : (w : Width) (a : ℕ) (was : Flags) → a < limit_of w → (n : ℕ) → (rol_of w a n was).0 ≡ rotated_of w a (n % bits_of w)
+unfolding rol_of
+rol_has w a was small zero = sym (ap (rotated_of w a) (zero_place w) ∙ rotated_none w a small)
   where
     zero_place : (w : Width) → 0 % bits_of w ≡ 0
     zero_place Byte = refl
     zero_place Word = refl
-left_turn_has w a was small (suc n) = rw (not_zero n)
+rol_has w a was small (suc n) = rw (not_zero n)
 
-left_turn_gives : (w : Width) (a : ℕ) (was : Flags) (n : ℕ)
-    → value_and_carry (left_rotation_of w a (suc n) was) ≡ (turned_of w a (suc n % bits_of w), is_set (turned_of w a (suc n % bits_of w)) 0)
-unfolding left_rotation_of
-left_turn_gives w a was n = rw (not_zero n)
+rol_gives : (w : Width) (a : ℕ) (was : Flags) (n : ℕ)
+    → value_and_carry (rol_of w a (suc n) was) ≡ (rotated_of w a (suc n % bits_of w), is_set (rotated_of w a (suc n % bits_of w)) 0)
+unfolding rol_of
+rol_gives w a was n = rw (not_zero n)
 
 -- a turn by k places, and by one more
-turn_once : (w : Width) (a k : ℕ) (c : Bool) → a < limit_of w → suc k ≤ bits_of w
-    → left_rotation_step w (turned_of w a k, c) ≡ (turned_of w a (suc k), is_set (turned_of w a (suc k)) 0)
-turn_once w a k c small within = turned_more w (a * 2 ^ k) (a * 2 ^ suc k) c (doubled a k) (turned_below a (bits_of w) (suc k) small within)
+rotate_once : (w : Width) (a k : ℕ) (c : Bool) → a < limit_of w → suc k ≤ bits_of w
+    → rol_step w (rotated_of w a k, c) ≡ (rotated_of w a (suc k), is_set (rotated_of w a (suc k)) 0)
+rotate_once w a k c small within = rotated_more w (a * 2 ^ k) (a * 2 ^ suc k) c (doubled a k) (rotated_below a (bits_of w) (suc k) small within)
 
-left_turn_next : (w : Width) (a : ℕ) → a < limit_of w → (n : ℕ) (c : Bool)
-    → left_rotation_step w (turned_of w a (n % bits_of w), c) ≡ (turned_of w a (suc n % bits_of w), is_set (turned_of w a (suc n % bits_of w)) 0)
-left_turn_next w a small n c = elim (next_place w n) [
-  | inl more ↦ rw more.1 (turn_once w a (n % bits_of w) c small (omega arith))
+rol_next : (w : Width) (a : ℕ) → a < limit_of w → (n : ℕ) (c : Bool)
+    → rol_step w (rotated_of w a (n % bits_of w), c) ≡ (rotated_of w a (suc n % bits_of w), is_set (rotated_of w a (suc n % bits_of w)) 0)
+rol_next w a small n c = elim (next_place w n) [
+  | inl more ↦ rw more.1 (rotate_once w a (n % bits_of w) c small (omega arith))
   | inr last ↦
-      let whole : turned_of w a (suc (bits_of w - 1)) ≡ turned_of w a 0 = ap (turned_of w a) (one_more w) ∙ turned_whole w a small ∙ sym (turned_none w a small) in
-      rw (last.1, last.0) (turn_once w a (bits_of w - 1) c small (omega (arith, one_more w)) ∙ ap (λ (v : ℕ). (v, is_set v 0)) whole)
+      let whole : rotated_of w a (suc (bits_of w - 1)) ≡ rotated_of w a 0 = ap (rotated_of w a) (one_more w) ∙ rotated_whole w a small ∙ sym (rotated_none w a small) in
+      rw (last.1, last.0) (rotate_once w a (bits_of w - 1) c small (omega (arith, one_more w)) ∙ ap (λ (v : ℕ). (v, is_set v 0)) whole)
 ]
   where
     one_more : (w : Width) → suc (bits_of w - 1) ≡ bits_of w
     one_more Byte = refl
     one_more Word = refl
 
-pub left_turn_repeated : IsRepeated left_rotation_step left_rotation_of
-unfolding left_rotation_of
-left_turn_repeated w a count was small =
-    repeats (left_rotation_step w) (λ n. value_and_carry (left_rotation_of w a n was)) (λ n. turned_of w a (n % bits_of w))
-    (λ n. is_set (turned_of w a (suc n % bits_of w)) 0)
-    (left_turn_has w a was small) (left_turn_gives w a was) (left_turn_next w a small) count
+pub rol_repeated : IsRepeated rol_step rol_of
+unfolding rol_of
+rol_repeated w a count was small =
+    repeats (rol_step w) (λ n. value_and_carry (rol_of w a n was)) (λ n. rotated_of w a (n % bits_of w))
+    (λ n. is_set (rotated_of w a (suc n % bits_of w)) 0)
+    (rol_has w a was small) (rol_gives w a was) (rol_next w a small) count
 
-right_turn_has : (w : Width) (a : ℕ) (was : Flags) → a < limit_of w → (n : ℕ) → (right_rotation_of w a n was).0 ≡ turned_of w a (bits_of w - n % bits_of w)
-unfolding right_rotation_of
-right_turn_has w a was small zero = sym (ap (turned_of w a) (all_places w) ∙ turned_whole w a small)
+ror_has : (w : Width) (a : ℕ) (was : Flags) → a < limit_of w → (n : ℕ) → (ror_of w a n was).0 ≡ rotated_of w a (bits_of w - n % bits_of w)
+unfolding ror_of
+ror_has w a was small zero = sym (ap (rotated_of w a) (all_places w) ∙ rotated_whole w a small)
   where
     all_places : (w : Width) → bits_of w - 0 % bits_of w ≡ bits_of w
     all_places Byte = refl
     all_places Word = refl
-right_turn_has w a was small (suc n) = rw (not_zero n)
+ror_has w a was small (suc n) = rw (not_zero n)
 
-right_turn_gives : (w : Width) (a : ℕ) (was : Flags) (n : ℕ)
-    → value_and_carry (right_rotation_of w a (suc n) was)
-    ≡ (turned_of w a (bits_of w - suc n % bits_of w), has_sign w (turned_of w a (bits_of w - suc n % bits_of w)))
-unfolding right_rotation_of
-right_turn_gives w a was n = rw (not_zero n)
+ror_gives : (w : Width) (a : ℕ) (was : Flags) (n : ℕ)
+    → value_and_carry (ror_of w a (suc n) was)
+    ≡ (rotated_of w a (bits_of w - suc n % bits_of w), has_sign w (rotated_of w a (bits_of w - suc n % bits_of w)))
+unfolding ror_of
+ror_gives w a was n = rw (not_zero n)
 
 -- a turn by one place more than k, and by k
-turn_back : (w : Width) (a k : ℕ) (c : Bool) → a < limit_of w → suc k ≤ bits_of w
-    → right_rotation_step w (turned_of w a (suc k), c) ≡ (turned_of w a k, has_sign w (turned_of w a k))
-turn_back w a k c small within = turned_less w (a * 2 ^ k) (a * 2 ^ suc k) c (doubled a k) (turned_below a (bits_of w) (suc k) small within)
+rotate_back : (w : Width) (a k : ℕ) (c : Bool) → a < limit_of w → suc k ≤ bits_of w
+    → ror_step w (rotated_of w a (suc k), c) ≡ (rotated_of w a k, has_sign w (rotated_of w a k))
+rotate_back w a k c small within = rotated_less w (a * 2 ^ k) (a * 2 ^ suc k) c (doubled a k) (rotated_below a (bits_of w) (suc k) small within)
 
-right_turn_next : (w : Width) (a : ℕ) → a < limit_of w → (n : ℕ) (c : Bool)
-    → right_rotation_step w (turned_of w a (bits_of w - n % bits_of w), c)
-    ≡ (turned_of w a (bits_of w - suc n % bits_of w), has_sign w (turned_of w a (bits_of w - suc n % bits_of w)))
-right_turn_next w a small n c = elim (next_place w n) [
+ror_next : (w : Width) (a : ℕ) → a < limit_of w → (n : ℕ) (c : Bool)
+    → ror_step w (rotated_of w a (bits_of w - n % bits_of w), c)
+    ≡ (rotated_of w a (bits_of w - suc n % bits_of w), has_sign w (rotated_of w a (bits_of w - suc n % bits_of w)))
+ror_next w a small n c = elim (next_place w n) [
   | inl more ↦
       let before : bits_of w - n % bits_of w ≡ suc (bits_of w - suc (n % bits_of w)) = omega arith in
-      rw (more.1, before) (turn_back w a (bits_of w - suc (n % bits_of w)) c small (omega arith))
+      rw (more.1, before) (rotate_back w a (bits_of w - suc (n % bits_of w)) c small (omega arith))
   | inr last ↦
       let all : bits_of w ≡ bits_of w - 0 = omega arith in
-      let whole : turned_of w a 0 ≡ turned_of w a (bits_of w - 0) = turned_none w a small ∙ sym (turned_whole w a small) ∙ ap (turned_of w a) all in
-      rw (last.1, last.0) (ap (λ (k : ℕ). right_rotation_step w (turned_of w a k, c)) (one_left w) ∙ turn_back w a 0 c small (one_fits w) ∙ ap (λ (v : ℕ). (v, has_sign w v)) whole)
+      let whole : rotated_of w a 0 ≡ rotated_of w a (bits_of w - 0) = rotated_none w a small ∙ sym (rotated_whole w a small) ∙ ap (rotated_of w a) all in
+      rw (last.1, last.0) (ap (λ (k : ℕ). ror_step w (rotated_of w a k, c)) (one_left w) ∙ rotate_back w a 0 c small (one_fits w) ∙ ap (λ (v : ℕ). (v, has_sign w v)) whole)
 ]
   where
     one_left : (w : Width) → bits_of w - (bits_of w - 1) ≡ 1
@@ -254,9 +254,9 @@ right_turn_next w a small n c = elim (next_place w n) [
     one_fits Byte = omega arith
     one_fits Word = omega arith
 
-pub right_turn_repeated : IsRepeated right_rotation_step right_rotation_of
-unfolding right_rotation_of
-right_turn_repeated w a count was small =
-    repeats (right_rotation_step w) (λ n. value_and_carry (right_rotation_of w a n was)) (λ n. turned_of w a (bits_of w - n % bits_of w))
-    (λ n. has_sign w (turned_of w a (bits_of w - suc n % bits_of w)))
-    (right_turn_has w a was small) (right_turn_gives w a was) (right_turn_next w a small) count
+pub ror_repeated : IsRepeated ror_step ror_of
+unfolding ror_of
+ror_repeated w a count was small =
+    repeats (ror_step w) (λ n. value_and_carry (ror_of w a n was)) (λ n. rotated_of w a (bits_of w - n % bits_of w))
+    (λ n. has_sign w (rotated_of w a (bits_of w - suc n % bits_of w)))
+    (ror_has w a was small) (ror_gives w a was) (ror_next w a small) count

@@ -10,7 +10,7 @@ use Rattle.dcc_num.specs.declared.Flags.{Flags}
 use Rattle.dcc_num.specs.Numbers.{bits_of, limit_of, half_of, has_sign, is_set, differ, signed_of, sign_extension_of}
 use Rattle.dcc_num.specs.Numbers.{fits_signed, no_flags}
 use Rattle.dcc_num.specs.Sum.{sum_of, difference_of, negation_of, increment_of, decrement_of}
-use Rattle.dcc_num.specs.Shift.{shl_of, shr_of, left_turn_of, right_turn_of}
+use Rattle.dcc_num.specs.Shift.{shl_of, shr_of, rcl_of, rcr_of}
 use Rattle.dcc_num.specs.Product.{product_of, signed_product_of}
 use Rattle.dcc_num.specs.Quotient.{joined_of, signed_joined_of, division_of, signed_division_of}
 
@@ -34,12 +34,12 @@ abbrev pub signed_step : Width → ℕ × Bool → ℕ × Bool
 signed_step w (a, carry) = (a / 2 + (if has_sign w a then half_of w else 0), is_set a 0)
 
 -- one place to the left: the top bit comes in at the bottom
-abbrev pub left_rotation_step : Width → ℕ × Bool → ℕ × Bool
-left_rotation_step w (a, carry) = (2 * a % limit_of w + from_bool (has_sign w a), has_sign w a)
+abbrev pub rol_step : Width → ℕ × Bool → ℕ × Bool
+rol_step w (a, carry) = (2 * a % limit_of w + from_bool (has_sign w a), has_sign w a)
 
 -- one place to the right: the lowest bit comes in at the top
-abbrev pub right_rotation_step : Width → ℕ × Bool → ℕ × Bool
-right_rotation_step w (a, carry) = (a / 2 + from_bool (is_set a 0) * half_of w, is_set a 0)
+abbrev pub ror_step : Width → ℕ × Bool → ℕ × Bool
+ror_step w (a, carry) = (a / 2 + from_bool (is_set a 0) * half_of w, is_set a 0)
 
 -- the result and CF
 abbrev pub value_and_carry : ℕ × Flags → ℕ × Bool
@@ -55,13 +55,13 @@ IsRepeated step moved =
 abbrev pub only_carry : Bool → Flags
 only_carry carry = record no_flags { cf = carry }
 
--- one place to the left through CF (RCL): CF comes in, and the top bit is the new CF; `right_turn_step` (RCR): CF
+-- one place to the left through CF (RCL): CF comes in, and the top bit is the new CF; `rcr_step` (RCR): CF
 -- comes in at the top, and the lowest bit is the new CF
-abbrev pub left_turn_step : Width → ℕ × Bool → ℕ × Bool
-left_turn_step w (a, carry) = value_and_carry (left_turn_of w a (only_carry carry))
+abbrev pub rcl_step : Width → ℕ × Bool → ℕ × Bool
+rcl_step w (a, carry) = value_and_carry (rcl_of w a (only_carry carry))
 
-abbrev pub right_turn_step : Width → ℕ × Bool → ℕ × Bool
-right_turn_step w (a, carry) = value_and_carry (right_turn_of w a (only_carry carry))
+abbrev pub rcr_step : Width → ℕ × Bool → ℕ × Bool
+rcr_step w (a, carry) = value_and_carry (rcr_of w a (only_carry carry))
 
 -- made once more than an operand has bits, a step gives every operand and CF back
 abbrev pub ComesRound : (Width → ℕ × Bool → ℕ × Bool) → Type 0
@@ -217,8 +217,8 @@ RotationsKeepFlags moved = (w : Width) (a count : ℕ) (was : Flags) → a < lim
     × ((moved w a count was).1.zf ≡ was.zf) × ((moved w a count was).1.sf ≡ was.sf)
 
 -- RCL or RCR by 1 place: OF tells the change of the sign, and ZF and SF stay
-abbrev pub TurnsKeepFlags : (Width → ℕ → Flags → ℕ × Flags) → Type 0
-TurnsKeepFlags turned = (w : Width) (a : ℕ) (was : Flags) → a < limit_of w
+abbrev pub CarryRotationsKeepFlags : (Width → ℕ → Flags → ℕ × Flags) → Type 0
+CarryRotationsKeepFlags turned = (w : Width) (a : ℕ) (was : Flags) → a < limit_of w
     → ((turned w a was).1.of ≡ differ (has_sign w a) (has_sign w (turned w a was).0))
     × ((turned w a was).1.zf ≡ was.zf) × ((turned w a was).1.sf ≡ was.sf)
 

@@ -35,8 +35,8 @@ sar_of w a count was =
     unless_zero count (a, was) (r, result_flags w r out false)
 
 -- the bits moved up by some places, at most the width: those that leave at the top come in at the bottom
-abbrev pub turned_of : Width → ℕ → ℕ → ℕ
-turned_of w a places = a * 2 ^ places % limit_of w + a * 2 ^ places / limit_of w
+abbrev pub rotated_of : Width → ℕ → ℕ → ℕ
+rotated_of w a places = a * 2 ^ places % limit_of w + a * 2 ^ places / limit_of w
 
 -- ZF and SF as they were, beside a new CF and OF
 abbrev pub rotate_flags : Flags → Bool → Bool → Flags
@@ -47,29 +47,29 @@ abbrev pub top_bits_differ : Width → ℕ → Bool
 top_bits_differ w a = differ (has_sign w a) (is_set a (bits_of w - 2))
 
 -- the bits turned left. CF: the last bit that came round, now the lowest. OF for a count of 1: CF differs from the sign
-unfoldable pub left_rotation_of : Width → ℕ → ℕ → Flags → ℕ × Flags
-left_rotation_of w a count was =
-    let r = turned_of w a (count % bits_of w) in
+unfoldable pub rol_of : Width → ℕ → ℕ → Flags → ℕ × Flags
+rol_of w a count was =
+    let r = rotated_of w a (count % bits_of w) in
     let out = is_set r 0 in
     unless_zero count (a, was) (r, rotate_flags was out (count == 1 && differ out (has_sign w r)))
 
 -- the bits turned right, which is left by what is missing to a whole turn. CF: the last bit that came round, now the
 -- highest. OF for a count of 1: the two top bits differ
-unfoldable pub right_rotation_of : Width → ℕ → ℕ → Flags → ℕ × Flags
-right_rotation_of w a count was =
-    let r = turned_of w a (bits_of w - count % bits_of w) in
+unfoldable pub ror_of : Width → ℕ → ℕ → Flags → ℕ × Flags
+ror_of w a count was =
+    let r = rotated_of w a (bits_of w - count % bits_of w) in
     unless_zero count (a, was) (r, rotate_flags was (has_sign w r) (count == 1 && top_bits_differ w r))
 
 -- the bits and CF turned left by one place: CF comes in at the bottom, and the top bit is the new CF. OF: CF differs
 -- from the sign
-unfoldable pub left_turn_of : Width → ℕ → Flags → ℕ × Flags
-left_turn_of w a was =
+unfoldable pub rcl_of : Width → ℕ → Flags → ℕ × Flags
+rcl_of w a was =
     let r = (2 * a + from_bool was.cf) % limit_of w in
     (r, rotate_flags was (has_sign w a) (differ (has_sign w a) (has_sign w r)))
 
 -- the bits and CF turned right by one place: CF comes in at the top, and the lowest bit is the new CF. OF: the two top
 -- bits differ
-unfoldable pub right_turn_of : Width → ℕ → Flags → ℕ × Flags
-right_turn_of w a was =
+unfoldable pub rcr_of : Width → ℕ → Flags → ℕ × Flags
+rcr_of w a was =
     let r = a / 2 + from_bool was.cf * half_of w in
     (r, rotate_flags was (is_set a 0) (top_bits_differ w r))

@@ -2,14 +2,15 @@
 
 ghost use Rattle.dcc_num.specs.Numbers.{differ};
 ghost use Rattle.dcc_num.specs.Logic.{conjunction_of, disjunction_of, exclusive_of};
-ghost use Rattle.dcc_num.specs.Shift.{shl_of, shr_of, sar_of, left_rotation_of, right_rotation_of, left_turn_of};
-ghost use Rattle.dcc_num.specs.Shift.{right_turn_of};
-ghost use Rattle.dcc_num.specs.Laws.{IsRepeated, left_step, right_step, signed_step, left_rotation_step};
-ghost use Rattle.dcc_num.specs.Laws.{right_rotation_step, ComesRound, Undoes, left_turn_step, right_turn_step};
+ghost use Rattle.dcc_num.specs.Shift.{shl_of, shr_of, sar_of, rol_of, ror_of, rcl_of};
+ghost use Rattle.dcc_num.specs.Shift.{rcr_of};
+ghost use Rattle.dcc_num.specs.Laws.{IsRepeated, left_step, right_step, signed_step, rol_step};
+ghost use Rattle.dcc_num.specs.Laws.{ror_step, ComesRound, Undoes, rcl_step, rcr_step};
 ghost use Rattle.dcc_num.specs.Laws.{SumsAreExact, DifferencesAreExact, SumsCarryOn, DifferencesCarryOn};
 ghost use Rattle.dcc_num.specs.Laws.{DifferencesCompare, NegationsAreExact, IncrementsAreExact, DecrementsAreExact};
 ghost use Rattle.dcc_num.specs.Laws.{IsBitByBit, both, either, LeftShiftsCarry, RightShiftsCarry, ShiftsTellResults};
-ghost use Rattle.dcc_num.specs.Laws.{RotationsKeepFlags, TurnsKeepFlags, SignExtensionsAreExact, ProductsAreExact};
+ghost use Rattle.dcc_num.specs.Laws.{RotationsKeepFlags, CarryRotationsKeepFlags, SignExtensionsAreExact};
+ghost use Rattle.dcc_num.specs.Laws.{ProductsAreExact};
 ghost use Rattle.dcc_num.specs.Laws.{SignedProductsAreExact, DivisionsAreExact, SignedDivisionsAreExact};
 
 /// SHL by a count is a shift by one place, made count times.
@@ -29,32 +30,32 @@ pub fn sar_is_repeated()
 
 /// ROL by a count is a turn by one place, made count times.
 pub fn rol_is_repeated()
-    ensures { IsRepeated left_rotation_step left_rotation_of }
+    ensures { IsRepeated rol_step rol_of }
 {}
 
 /// ROR by a count is a turn by one place, made count times.
 pub fn ror_is_repeated()
-    ensures { IsRepeated right_rotation_step right_rotation_of }
+    ensures { IsRepeated ror_step ror_of }
 {}
 
 /// RCL, made once more than the operand has bits, gives the operand and CF back.
 pub fn rcl_comes_round()
-    ensures { ComesRound left_turn_step }
+    ensures { ComesRound rcl_step }
 {}
 
 /// RCR, made once more than the operand has bits, gives the operand and CF back.
 pub fn rcr_comes_round()
-    ensures { ComesRound right_turn_step }
+    ensures { ComesRound rcr_step }
 {}
 
 /// RCR undoes RCL.
 pub fn rcr_undoes_rcl()
-    ensures { Undoes left_turn_step right_turn_step }
+    ensures { Undoes rcl_step rcr_step }
 {}
 
 /// RCL undoes RCR.
 pub fn rcl_undoes_rcr()
-    ensures { Undoes right_turn_step left_turn_step }
+    ensures { Undoes rcr_step rcl_step }
 {}
 
 /// ADD and ADC give the sum of the unsigned numbers, and that of the signed ones exactly where OF is clear.
@@ -139,22 +140,22 @@ pub fn sar_tells_its_result()
 
 /// ROL leaves ZF and SF, and by 1 place tells a change of the sign by OF.
 pub fn rol_keeps_flags()
-    ensures { RotationsKeepFlags left_rotation_of }
+    ensures { RotationsKeepFlags rol_of }
 {}
 
 /// ROR leaves ZF and SF, and by 1 place tells a change of the sign by OF.
 pub fn ror_keeps_flags()
-    ensures { RotationsKeepFlags right_rotation_of }
+    ensures { RotationsKeepFlags ror_of }
 {}
 
 /// RCL leaves ZF and SF, and tells a change of the sign by OF.
 pub fn rcl_keeps_flags()
-    ensures { TurnsKeepFlags left_turn_of }
+    ensures { CarryRotationsKeepFlags rcl_of }
 {}
 
 /// RCR leaves ZF and SF, and tells a change of the sign by OF.
 pub fn rcr_keeps_flags()
-    ensures { TurnsKeepFlags right_turn_of }
+    ensures { CarryRotationsKeepFlags rcr_of }
 {}
 
 /// A sign-extended byte stands for the same number.

@@ -73,7 +73,7 @@ pub fn fits(w: Width, number: i64) -> bool
 
 /// ZF and SF of a result, beside the given CF and OF.
 #[tactic(auto, unfolding(crate::specs::Numbers::result_flags))]
-pub fn flags_of(w: Width, value: u16, cf: bool, of: bool) -> Flags
+pub(crate) fn flags_of(w: Width, value: u16, cf: bool, of: bool) -> Flags
     ensures { result ≡ result_flags w value cf of }
 {
     Flags {

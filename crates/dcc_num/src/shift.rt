@@ -2,8 +2,8 @@
 
 ghost use Rattle.std.specs.Prelude.{◌==◌, ◌≡◌, ◌<◌, ◌≤◌, ◌*◌, ◌/◌, ◌%◌, ◌^◌, ◌-◌};
 ghost use Rattle.dcc_num.specs.Numbers.{limit_of, bits_of, is_set, signed_of, wrapped_of, residue_of, halved_of};
-ghost use Rattle.dcc_num.specs.Shift.{shl_of, shr_of, sar_of, left_rotation_of, right_rotation_of, left_turn_of};
-ghost use Rattle.dcc_num.specs.Shift.{right_turn_of, turned_of, top_bits_differ};
+ghost use Rattle.dcc_num.specs.Shift.{shl_of, shr_of, sar_of, rol_of, ror_of, rcl_of};
+ghost use Rattle.dcc_num.specs.Shift.{rcr_of, rotated_of, top_bits_differ};
 
 use crate::operand::{flags_of, half, is_negative, limit, signed, wrapped};
 use crate::{Flags, Width};
@@ -90,10 +90,10 @@ pub fn sar(w: Width, a: u16, count: u8, was: Flags) -> (u16, Flags)
 }
 
 // The bits moved up by some places, at most the width: those that leave at the top come in at the bottom.
-fn turned(w: Width, a: u16, places: u8) -> u16
+fn rotated(w: Width, a: u16, places: u8) -> u16
     requires operand { a < limit_of w }
     requires places { places ≤ bits_of w }
-    ensures turned { result ≡ turned_of w a places }
+    ensures rotated { result ≡ rotated_of w a places }
     ensures width { result < limit_of w }
 {
     let wide = u64::from(a) << places;
@@ -109,33 +109,33 @@ fn top_bits_differ(w: Width, a: u16) -> bool
     is_negative(w, a) != below_sign
 }
 
-/// ROL: the bits turned left.
-#[tactic(auto, unfolding(crate::specs::Shift::left_rotation_of))]
+/// ROL: the bits rotated left.
+#[tactic(auto, unfolding(crate::specs::Shift::rol_of))]
 pub fn rol(w: Width, a: u16, count: u8, was: Flags) -> (u16, Flags)
     requires { a < limit_of w }
-    ensures rotation { result ≡ left_rotation_of w a count was }
+    ensures rotation { result ≡ rol_of w a count was }
     ensures width { result.0 < limit_of w }
 {
     if count == 0 {
         return (a, was);
     }
-    let result = turned(w, a, count % w.bits());
+    let result = rotated(w, a, count % w.bits());
     let cf = result % 2 == 1;
     let of = count == 1 && cf != is_negative(w, result);
     (result, Flags { cf, of, ..was })
 }
 
-/// ROR: the bits turned right.
-#[tactic(auto, unfolding(crate::specs::Shift::right_rotation_of))]
+/// ROR: the bits rotated right.
+#[tactic(auto, unfolding(crate::specs::Shift::ror_of))]
 pub fn ror(w: Width, a: u16, count: u8, was: Flags) -> (u16, Flags)
     requires { a < limit_of w }
-    ensures rotation { result ≡ right_rotation_of w a count was }
+    ensures rotation { result ≡ ror_of w a count was }
     ensures width { result.0 < limit_of w }
 {
     if count == 0 {
         return (a, was);
     }
-    let result = turned(w, a, w.bits() - count % w.bits());
+    let result = rotated(w, a, w.bits() - count % w.bits());
     let of = count == 1 && top_bits_differ(w, result);
     (
         result,
@@ -147,11 +147,11 @@ pub fn ror(w: Width, a: u16, count: u8, was: Flags) -> (u16, Flags)
     )
 }
 
-/// RCL by 1: the bits and CF turned left by one place.
-#[tactic(auto, unfolding(crate::specs::Shift::left_turn_of))]
+/// RCL by 1: the bits and CF rotated left by one place.
+#[tactic(auto, unfolding(crate::specs::Shift::rcl_of))]
 pub fn rcl1(w: Width, a: u16, was: Flags) -> (u16, Flags)
     requires { a < limit_of w }
-    ensures rotation { result ≡ left_turn_of w a was }
+    ensures rotation { result ≡ rcl_of w a was }
     ensures width { result.0 < limit_of w }
 {
     let wide = 2 * u32::from(a) + u32::from(was.cf);
@@ -167,11 +167,11 @@ pub fn rcl1(w: Width, a: u16, was: Flags) -> (u16, Flags)
     )
 }
 
-/// RCR by 1: the bits and CF turned right by one place.
-#[tactic(auto, unfolding(crate::specs::Shift::right_turn_of))]
+/// RCR by 1: the bits and CF rotated right by one place.
+#[tactic(auto, unfolding(crate::specs::Shift::rcr_of))]
 pub fn rcr1(w: Width, a: u16, was: Flags) -> (u16, Flags)
     requires { a < limit_of w }
-    ensures rotation { result ≡ right_turn_of w a was }
+    ensures rotation { result ≡ rcr_of w a was }
     ensures width { result.0 < limit_of w }
 {
     let result = (u32::from(a) / 2 + u32::from(was.cf) * half(w)) as u16;

@@ -12,24 +12,24 @@ use Rattle.dcc_num.specs.declared.Flags.{Flags}
 use Rattle.dcc_num.specs.Numbers.{bits_of, limit_of, has_sign, result_flags}
 use Rattle.dcc_num.specs.Sum.{sum_of, difference_of}
 use Rattle.dcc_num.specs.Logic.{conjunction_of, disjunction_of, exclusive_of}
-use Rattle.dcc_prog.specs.declared.instr.Alu.{Alu}
-use Rattle.dcc_prog.specs.declared.instr.Alu.TheVariants.{Add, Or, Adc, Sbb, And, Sub, Xor, Cmp, Test}
-use Rattle.dcc_prog.specs.declared.instr.Operand.{Operand}
-use Rattle.dcc_prog.specs.Machine.{State as Machine, operand_value, operand_width}
-use Rattle.dcc_prog.specs.Operations.{alu_step}
-use Rattle.dcc_prog.specs.WellFormed.{AreOperands}
-use Rattle.dcc_prog.specs.Writes.{writes_operand}
+use Rattle.dcc_machine.specs.declared.instr.Alu.{Alu}
+use Rattle.dcc_machine.specs.declared.instr.Alu.TheVariants.{Add, Or, Adc, Sbb, And, Sub, Xor, Cmp, Test}
+use Rattle.dcc_machine.specs.declared.instr.Operand.{Operand}
+use Rattle.dcc_machine.specs.Machine.{State as Machine, operand_value, operand_width}
+use Rattle.dcc_machine.specs.Operations.{alu_step}
+use Rattle.dcc_machine.specs.WellFormed.{AreOperands}
+use Rattle.dcc_machine.specs.Writes.{writes_operand}
 use Rattle.dcc_ir.specs.declared.syntax.Loc.{Loc}
 use Rattle.dcc_ir.specs.declared.syntax.Loc.TheVariants.{Flag, Temp}
 use Rattle.dcc_ir.specs.declared.syntax.BinOp.{BinOp}
 use Rattle.dcc_ir.specs.declared.syntax.BinOp.TheVariants.{And as AndOp, Or as OrOp, Xor as XorOp, Eq}
 use Rattle.dcc_ir.specs.Location.{with_value}
 use Rattle.dcc_ir.specs.Tree.{Expr}
-use Rattle.dcc_ir.specs.Value.{signed_at, binary_value, Scene, value_of}
+use Rattle.dcc_ir.specs.Value.{signed_at, binary_value, Environment, value_of}
 use Rattle.dcc_ir.specs.Run.{State, scene_of, execute}
 use Rattle.dcc_ir.proofs.ExecuteLaws.{execute-append}
 use Rattle.dcc_ops.specs.Temporaries.{left_place, right_place, result_place, carry_place}
-use Rattle.dcc_ops.specs.Place.{Place}
+use Rattle.dcc_ops.specs.OperandPlace.{OperandPlace}
 use Rattle.dcc_ops.specs.Expressions.{left, right, result, at_width, bit, flag, sign, is_zero, sum, sum_and_carry, carry_out, carry_out_of_both, sum_overflow, difference, difference_and_borrow, borrow_out, borrow_out_of_both, difference_overflow, difference_overflow_of_both}
 use Rattle.dcc_ops.specs.Statements.{operands_taking, flags_taking, carry_taking, result_taking, subtracting, combining, alu_working, alu_storing, alu_stmts}
 use Rattle.dcc_ops.specs.Executed.{executed}
@@ -40,11 +40,11 @@ use Rattle.dcc_ops.proofs.SumValues.{xor_bits, and_bits, sign_value, sum_result,
 -- Results and flags.
 
 -- a location takes the value of an expression
-abbrev pub after_set : Loc → Expr → Scene → Scene
+abbrev pub after_set : Loc → Expr → Environment → Environment
 after_set location e scene = record scene { values = with_value scene.values location (value_of scene e) }
 
 -- the result and the flags are made by these expressions, each of which reads what those before it left
-pub worked : (w : Width) (scene : Scene) (e o n z c : Expr) (outcome : ℕ × Flags) → value_of scene e ≡ outcome.0
+pub worked : (w : Width) (scene : Environment) (e o n z c : Expr) (outcome : ℕ × Flags) → value_of scene e ≡ outcome.0
     → value_of (after_set (result_place w) e scene) o ≡ from_bool outcome.1.of
     → value_of (after_set (Flag Of) o (after_set (result_place w) e scene)) n ≡ from_bool outcome.1.sf
     → value_of (after_set (Flag Sf) n (after_set (Flag Of) o (after_set (result_place w) e scene))) z
@@ -58,7 +58,8 @@ worked word_width scene e o n z c outcome er eo en ez ec =
     record { value = er; flags = record { carry = ec; zero = ez; negative = en; overflow = eo } }
 
 -- the result and the flags but for CF, which stays, are made by these expressions
-pub worked_three : (w : Width) (scene : Scene) (e o n z : Expr) (outcome : ℕ × Flags) → value_of scene e ≡ outcome.0
+pub worked_three : (w : Width) (scene : Environment) (e o n z : Expr) (outcome : ℕ × Flags) → value_of scene e
+    ≡ outcome.0
     → value_of (after_set (result_place w) e scene) o ≡ from_bool outcome.1.of
     → value_of (after_set (Flag Of) o (after_set (result_place w) e scene)) n ≡ from_bool outcome.1.sf
     → value_of (after_set (Flag Sf) n (after_set (Flag Of) o (after_set (result_place w) e scene))) z
@@ -140,7 +141,7 @@ difference_with_borrow_value w a b k c first second flag = rw flag (difference_w
 -- What operations do to the result and the flags.
 
 -- ADD
-sum_worked : (w : Width) (scene : Scene) → scene.values (left_place w) < limit_of w
+sum_worked : (w : Width) (scene : Environment) → scene.values (left_place w) < limit_of w
     → scene.values (right_place w) < limit_of w
     → Working w (sum_of w (scene.values (left_place w)) (scene.values (right_place w)) false)
     (executed (alu_working Add w) scene)
@@ -168,7 +169,7 @@ sum_worked word_width scene first second =
     (sum_carry_value word_width a b _ first second r)
 
 -- ADC
-sum_with_carry_worked : (w : Width) (c : Bool) (scene : Scene) → scene.values (Flag Cf) ≡ from_bool c
+sum_with_carry_worked : (w : Width) (c : Bool) (scene : Environment) → scene.values (Flag Cf) ≡ from_bool c
     → scene.values (left_place w) < limit_of w → scene.values (right_place w) < limit_of w
     → Working w (sum_of w (scene.values (left_place w)) (scene.values (right_place w)) c)
     (executed (alu_working Adc w) scene)
@@ -198,7 +199,7 @@ sum_with_carry_worked word_width c scene carry first second =
     (sum_carry_of_both_value word_width a b (scene.values (Flag Cf)) _ c first second carry r)
 
 -- SUB, CMP and NEG
-pub difference_worked : (w : Width) (scene : Scene) → scene.values (left_place w) < limit_of w
+pub difference_worked : (w : Width) (scene : Environment) → scene.values (left_place w) < limit_of w
     → scene.values (right_place w) < limit_of w
     → Working w (difference_of w (scene.values (left_place w)) (scene.values (right_place w)) false)
     (executed (subtracting w) scene)
@@ -228,7 +229,7 @@ difference_worked word_width scene first second =
     (ap from_bool (difference_borrow word_width a b first second))
 
 -- SBB
-difference_with_borrow_worked : (w : Width) (c : Bool) (scene : Scene) → scene.values (Flag Cf) ≡ from_bool c
+difference_with_borrow_worked : (w : Width) (c : Bool) (scene : Environment) → scene.values (Flag Cf) ≡ from_bool c
     → scene.values (left_place w) < limit_of w → scene.values (right_place w) < limit_of w
     → Working w (difference_of w (scene.values (left_place w)) (scene.values (right_place w)) c)
     (executed (alu_working Sbb w) scene)
@@ -260,7 +261,7 @@ difference_with_borrow_worked word_width c scene carry first second =
     (chosen_test k c (nat_le a b) (nat_lt a b) carry ∙ ap from_bool (difference_borrow_of_both word_width a b c))
 
 -- the result and the flags of AND, OR, XOR and TEST
-combined_worked : (w : Width) (scene : Scene) (operator : BinOp) (outcome : ℕ × Flags)
+combined_worked : (w : Width) (scene : Environment) (operator : BinOp) (outcome : ℕ × Flags)
     → binary_value operator (bits_of w) (scene.values (left_place w)) (scene.values (right_place w)) ≡ outcome.0
     → outcome.0 < limit_of w → outcome.1 ≡ result_flags w outcome.0 false false
     → Working w outcome (executed (combining w operator) scene)
@@ -297,7 +298,7 @@ alu_outcome Xor w a b c = exclusive_of w a b
 alu_outcome Cmp w a b c = difference_of w a b false
 alu_outcome Test w a b c = conjunction_of w a b
 
-pub alu_worked : (operation : Alu) (w : Width) (c : Bool) (scene : Scene) → scene.values (Flag Cf) ≡ from_bool c
+pub alu_worked : (operation : Alu) (w : Width) (c : Bool) (scene : Environment) → scene.values (Flag Cf) ≡ from_bool c
     → scene.values (left_place w) < limit_of w → scene.values (right_place w) < limit_of w
     → Working w (alu_outcome operation w (scene.values (left_place w)) (scene.values (right_place w)) c)
     (executed (alu_working operation w) scene)
@@ -345,7 +346,7 @@ alu_scratch Test word_width = refl
 
 module _ (R After : Relation) (coupling : IsCoupling R) where
   -- CMP and TEST set the flags alone
-  alu_finished : (operation : Alu) (x : Operand) (p : Place) (a b : ℕ) (s : Machine) (u : State)
+  alu_finished : (operation : Alu) (x : Operand) (p : OperandPlace) (a b : ℕ) (s : Machine) (u : State)
       → IsWrittenIf (writes_operand operation) R After s x p
       → Working (operand_width x) (alu_outcome operation (operand_width x) a b s.flags.cf)
       (executed (alu_working operation (operand_width x)) (scene_of u)) → R s u
@@ -379,7 +380,7 @@ module _ (R After : Relation) (coupling : IsCoupling R) where
       follows _ _ (worked_on R coupling (alu_working Test (operand_width x)) s u
       (conjunction_of (operand_width x) a b).1 (alu_scratch Test (operand_width x)) work.flags rel)
 
-  pub alu_performed : (operation : Alu) (a b : Operand) (p q : Place) (s : Machine) (t : State) → AreOperands a b
+  pub alu_performed : (operation : Alu) (a b : Operand) (p q : OperandPlace) (s : Machine) (t : State) → AreOperands a b
       → IsRead R s a p → IsRead R s b q
       → IsWrittenIf (writes_operand operation) R After s a p → R s t
       → After (alu_step operation (operand_width a) a (operand_value s a) (operand_value s b) s)

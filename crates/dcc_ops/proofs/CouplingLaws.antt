@@ -13,22 +13,21 @@ use Rattle.dcc_num.specs.declared.Half.TheVariants.{Low, High}
 use Rattle.dcc_num.specs.declared.FlagName.TheVariants.{Cf, Zf, Sf, Of}
 use Rattle.dcc_num.specs.declared.Flags.{Flags}
 use Rattle.dcc_num.specs.Numbers.{bits_of, limit_of}
-use Rattle.dcc_prog.specs.declared.instr.Operand.{Operand}
-use Rattle.dcc_prog.specs.declared.instr.Operand.TheVariants.{Word, Byte, Seg, Mem, Const as Constant}
-use Rattle.dcc_prog.specs.Machine.{State as Machine, word_with_half, word_in, with_word_in, operand_value, operand_width, with_operand}
-use Rattle.dcc_prog.specs.Operations.{with_flags, with_result}
-use Rattle.dcc_prog.specs.Trail.{is_general}
-use Rattle.dcc_prog.specs.WellFormed.{IsOperand}
+use Rattle.dcc_machine.specs.declared.instr.Operand.{Operand}
+use Rattle.dcc_machine.specs.declared.instr.Operand.TheVariants.{Word, Byte, Seg, Mem, Const as Constant}
+use Rattle.dcc_machine.specs.Machine.{State as Machine, word_with_half, word_in, with_word_in, operand_value, operand_width, with_operand, is_general}
+use Rattle.dcc_machine.specs.Operations.{with_flags, with_result}
+use Rattle.dcc_machine.specs.WellFormed.{IsOperand}
 use Rattle.dcc_ir.specs.declared.syntax.Loc.{Loc}
 use Rattle.dcc_ir.specs.declared.syntax.Loc.TheVariants.{Half, Flag, Cell, Temp}
 use Rattle.dcc_ir.specs.Location.{same_location, Values, with_value}
 use Rattle.dcc_ir.specs.Tree.{Get, Stmt, Set, Fetch, Store, Div, Call, Dos}
-use Rattle.dcc_ir.specs.Value.{Scene, value_of, Fits}
+use Rattle.dcc_ir.specs.Value.{Environment, value_of, Fits}
 use Rattle.dcc_ir.specs.WellFormed.{is_stmt}
 use Rattle.dcc_ir.specs.Run.{State, scene_of, value_in, setting, execute}
 use Rattle.dcc_ir.proofs.ExecuteLaws.{execute-append}
 use Rattle.dcc_ops.specs.Temporaries.{temporary_bits, left_place, right_place, result_place, is_temporary_of}
-use Rattle.dcc_ops.specs.Place.{Place, constant, byte, word, memory, address, computed, place_width, place_value, taking, storing}
+use Rattle.dcc_ops.specs.OperandPlace.{OperandPlace, constant, byte, word, memory, address, computed, place_width, place_value, taking, storing}
 use Rattle.dcc_ops.specs.Registers.{is_register, is_source, register_place}
 use Rattle.dcc_ops.specs.Expressions.{result}
 use Rattle.dcc_ops.specs.Statements.{operands_taking, word_taking}
@@ -102,7 +101,7 @@ apart (Cell m h) (Cell n k) own s = absurd (true≢false (sym s))
 apart (Flag f) to own s = absurd (true≢false own)
 apart (Temp n) to own s = absurd (true≢false own)
 
-scratch_kept : (stmts : List Stmt) (scene : Scene) → list_all sets_scratch stmts ≡ true → (location : Loc)
+scratch_kept : (stmts : List Stmt) (scene : Environment) → list_all sets_scratch stmts ≡ true → (location : Loc)
     → is_scratch location ≡ false
     → (executed stmts scene).values location ≡ scene.values location
 scratch_kept [] scene ok location own = refl
@@ -157,7 +156,7 @@ right_taken byte_width values b = refl
 right_taken word_width values b = refl
 
 -- a place is taken by one statement
-pub taking_is : (to : Loc) (p : Place) (t : State) → t.end ≡ Running
+pub taking_is : (to : Loc) (p : OperandPlace) (t : State) → t.end ≡ Running
     → execute (taking to p ∷ []) t ≡ setting to (value_in t (place_value p)) t
 taking_is to (constant w n) t running =
     ap (λ end. if is_over end then t else setting to (value_in t (place_value (constant w n))) t) running
@@ -199,7 +198,7 @@ word_below w high low small less e = omega (arith, small, less, e)
 -- What is made.
 
 -- the result and the flags of an operation
-pub record Working (w : Width) (outcome : ℕ × Flags) (after : Scene) : Type 0 where
+pub record Working (w : Width) (outcome : ℕ × Flags) (after : Environment) : Type 0 where
   pub value : after.values (result_place w) ≡ outcome.0
   pub flags : HoldFlags outcome.1 after.values
 
@@ -416,7 +415,7 @@ module _ (R : Relation) (coupling : IsCoupling R) where
 
   -- Operands.
 
-  pub took : (s : Machine) (t : State) (w : Width) (x : Operand) (p : Place) (to : Loc) → IsRead R s x p
+  pub took : (s : Machine) (t : State) (w : Width) (x : Operand) (p : OperandPlace) (to : Loc) → IsRead R s x p
       → operand_width x ≡ w → is_temporary_of w to ≡ true → R s t
       → Took R s t (execute (taking to p ∷ []) t) to (operand_value s x)
   took s t w x p to read width is rel =
@@ -430,7 +429,8 @@ module _ (R : Relation) (coupling : IsCoupling R) where
             ap (λ (u : State). u.running.values) run;
       }
 
-  pub both_took : (s : Machine) (t : State) (w : Width) (x y : Operand) (p q : Place) → IsRead R s x p → IsRead R s y q
+  pub both_took : (s : Machine) (t : State) (w : Width) (x y : Operand) (p q : OperandPlace) → IsRead R s x p
+      → IsRead R s y q
       → operand_width x ≡ w → operand_width y ≡ w → R s t
       → Holding R w s (execute (operands_taking w p q) t) (operand_value s x) (operand_value s y)
   both_took s t w x y p q first second one other rel =
@@ -450,7 +450,7 @@ module _ (R : Relation) (coupling : IsCoupling R) where
       })
 
   -- the destination takes the result
-  pub finished : (After : Relation) (s : Machine) (u : State) (x : Operand) (p : Place) (stmts : List Stmt)
+  pub finished : (After : Relation) (s : Machine) (u : State) (x : Operand) (p : OperandPlace) (stmts : List Stmt)
       (outcome : ℕ × Flags) → IsWritten R After s x p
       → list_all sets_scratch stmts ≡ true → Working (operand_width x) outcome (executed stmts (scene_of u)) → R s u
       → After (with_result x outcome s) (execute (stmts ++ storing p (result (operand_width x))) u)

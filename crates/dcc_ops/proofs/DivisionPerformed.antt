@@ -9,9 +9,9 @@ use Rattle.dcc_num.specs.declared.Width.TheVariants.{Byte as byte_width, Word as
 use Rattle.dcc_num.specs.declared.Reg.TheVariants.{Ax, Dx}
 use Rattle.dcc_num.specs.Numbers.{bits_of, limit_of, no_flags}
 use Rattle.dcc_num.specs.Quotient.{division_of as pair_of, signed_division_of as signed_pair_of}
-use Rattle.dcc_prog.specs.declared.instr.Operand.{Operand}
-use Rattle.dcc_prog.specs.Machine.{State as Machine, with_word_in, operand_value, operand_width}
-use Rattle.dcc_prog.specs.Operations.{with_end, with_flags, with_pair, with_division, accumulator_in, upper_in}
+use Rattle.dcc_machine.specs.declared.instr.Operand.{Operand}
+use Rattle.dcc_machine.specs.Machine.{State as Machine, with_word_in, operand_value, operand_width}
+use Rattle.dcc_machine.specs.Operations.{with_end, with_flags, with_pair, with_division, accumulator_in, upper_in}
 use Rattle.dcc_ir.specs.declared.syntax.Loc.TheVariants.{Temp}
 use Rattle.dcc_ir.specs.declared.syntax.BinOp.{BinOp}
 use Rattle.dcc_ir.specs.declared.syntax.BinOp.TheVariants.{DivS, DivU, RemS, RemU}
@@ -21,7 +21,7 @@ use Rattle.dcc_ir.specs.Value.{division_at, faults_signed, signed_at, pattern_at
 use Rattle.dcc_ir.specs.Run.{State, scene_of, setting, ended, execute, dividing as dividing_step}
 use Rattle.dcc_ir.proofs.ExecuteLaws.{execute-append, execute_first, execute_over}
 use Rattle.dcc_ops.specs.Temporaries.{left_place, right_place, result_place}
-use Rattle.dcc_ops.specs.Place.{Place}
+use Rattle.dcc_ops.specs.OperandPlace.{OperandPlace}
 use Rattle.dcc_ops.specs.Registers.{register_place}
 use Rattle.dcc_ops.specs.Expressions.{left, right, result, at_width, bit}
 use Rattle.dcc_ops.specs.Statements.{accumulator, operands_taking, word_taking, flags_taking, carry_taking, division_storing, dividing}
@@ -158,7 +158,7 @@ module _ (R : Relation) (coupling : IsCoupling R) where
       (ap (λ (f : Values). f (left_place w)) same ∙ apart.1 ∙ held.1) rel3)
 
   -- the lower half and the divisor
-  taken : (s : Machine) (t : State) (x : Operand) (p : Place) → IsRead R s x p → R s t
+  taken : (s : Machine) (t : State) (x : Operand) (p : OperandPlace) → IsRead R s x p → R s t
       → Holding R (operand_width x) s
       (execute (operands_taking (operand_width x) (register_place (accumulator (operand_width x))) p) t)
       (accumulator_in (operand_width x) s) (operand_value s x)
@@ -183,7 +183,8 @@ module _ (R : Relation) (coupling : IsCoupling R) where
       divides (divided w signed s u a b q r hold first second small less)
 
   -- the whole
-  performed : (x : Operand) (signed : Bool) (at : ℕ) (s : Machine) (t : State) (p : Place) (pair : Option (ℕ × ℕ))
+  performed : (x : Operand) (signed : Bool) (at : ℕ) (s : Machine) (t : State) (p : OperandPlace) (pair : Option (ℕ
+      × ℕ))
       (q r : ℕ) (fault : Bool) → IsRead R s x p → R s t
       → pair ≡ (if fault then None else Some (q, r))
       → division_at (quotient_operator signed) (bits_of (operand_width x)) (accumulator_in (operand_width x) s)

@@ -7,20 +7,20 @@ use Rattle.std.proofs.lemmas.List.Folds.{list_all-append}
 use Rattle.dcc_num.specs.declared.Width.{Width}
 use Rattle.dcc_num.specs.declared.Width.TheVariants.{Byte as byte_width, Word as word_width}
 use Rattle.dcc_num.specs.Numbers.{bits_of}
-use Rattle.dcc_prog.specs.declared.cpu.Cpu.{Cpu}
-use Rattle.dcc_prog.specs.declared.instr.Alu.{Alu}
-use Rattle.dcc_prog.specs.declared.instr.Alu.TheVariants.{Add, Or, Adc, Sbb, And, Sub, Xor, Cmp, Test}
-use Rattle.dcc_prog.specs.declared.instr.Shift.{Shift}
-use Rattle.dcc_prog.specs.declared.instr.Shift.TheVariants.{Rol}
-use Rattle.dcc_prog.specs.declared.instr.Count.{Count}
-use Rattle.dcc_prog.specs.declared.instr.Unary.{Unary}
-use Rattle.dcc_prog.specs.declared.instr.Unary.TheVariants.{Inc, Dec, Neg, Not, Mul, Imul, Div as DivOf, Idiv}
-use Rattle.dcc_prog.specs.declared.instr.Plain.{Plain}
-use Rattle.dcc_prog.specs.declared.instr.Plain.TheVariants.{Nop, Cbw, Cwd, Xlat, Clc, Stc, Cmc, Cli, Sti, Cld}
-use Rattle.dcc_prog.specs.declared.instr.Op.TheVariants.{Alu as AluOp, Unary as UnaryOp, Shift as ShiftOp, Mov, Xchg, Imul3, Plain as PlainOp, Int21}
-use Rattle.dcc_prog.specs.Machine.{operand_width}
-use Rattle.dcc_prog.specs.Writes.{never_shifts}
-use Rattle.dcc_prog.specs.Wanted.{is_zeroing}
+use Rattle.dcc_machine.specs.declared.cpu.Cpu.{Cpu}
+use Rattle.dcc_machine.specs.declared.instr.Alu.{Alu}
+use Rattle.dcc_machine.specs.declared.instr.Alu.TheVariants.{Add, Or, Adc, Sbb, And, Sub, Xor, Cmp, Test}
+use Rattle.dcc_machine.specs.declared.instr.Shift.{Shift}
+use Rattle.dcc_machine.specs.declared.instr.Shift.TheVariants.{Rol}
+use Rattle.dcc_machine.specs.declared.instr.Count.{Count}
+use Rattle.dcc_machine.specs.declared.instr.Unary.{Unary}
+use Rattle.dcc_machine.specs.declared.instr.Unary.TheVariants.{Inc, Dec, Neg, Not, Mul, Imul, Div as DivOf, Idiv}
+use Rattle.dcc_machine.specs.declared.instr.Plain.{Plain}
+use Rattle.dcc_machine.specs.declared.instr.Plain.TheVariants.{Nop, Cbw, Cwd, Xlat, Clc, Stc, Cmc, Cli, Sti, Cld}
+use Rattle.dcc_machine.specs.declared.instr.Op.TheVariants.{Alu as AluOp, Unary as UnaryOp, Shift as ShiftOp, Mov, Xchg, Imul3, Plain as PlainOp, Int21}
+use Rattle.dcc_machine.specs.Machine.{operand_width}
+use Rattle.dcc_machine.specs.Writes.{never_shifts}
+use Rattle.dcc_machine.specs.Wanted.{is_zeroing}
 use Rattle.dcc_ir.specs.declared.syntax.Loc.{Loc}
 use Rattle.dcc_ir.specs.declared.syntax.Loc.TheVariants.{Half, Flag, Temp, Cell}
 use Rattle.dcc_ir.specs.declared.syntax.BinOp.{BinOp}
@@ -30,7 +30,7 @@ use Rattle.dcc_ir.specs.FlagReads.{is_flag_place}
 use Rattle.dcc_ops.proofs.DosStatements.{dos_all}
 use Rattle.dcc_ops.proofs.ShiftCounts.{HoldsByEach, holds_by_count}
 use Rattle.dcc_ops.specs.Temporaries.{left_place, right_place, result_place}
-use Rattle.dcc_ops.specs.Place.{Place, constant, byte, word, memory, address, computed, place_value, taking, storing, is_half, is_low, is_high, is_sound_place}
+use Rattle.dcc_ops.specs.OperandPlace.{OperandPlace, constant, byte, word, memory, address, computed, place_value, taking, storing, is_half, is_low, is_high, is_sound_place}
 use Rattle.dcc_ops.specs.Registers.{register_place}
 use Rattle.dcc_ops.specs.Expressions.{left, right, result, product, count_expr, sum, difference}
 use Rattle.dcc_ops.specs.Statements.{operands_taking, word_taking, result_taking, sum_flags, difference_flags, subtracting, alu_working, alu_storing, alu_stmts, zeroing, product_storing, product_working, division_storing, division_working, accumulator, complementing, unary_stmts, shift_working, shifting, staying, shift_stmts, mov_stmts, exchanging, xchg_stmts, plain_stmts, dos_stmts}
@@ -100,11 +100,11 @@ halves_set low high e e' is =
     (no_flag_set low e (low_no_flag low halves.0))
     (both (sets_flags_plainly (Set high e')) true (no_flag_set high e' (high_no_flag high halves.1)) refl)
 
-taken : (to : Loc) (p : Place) → is_flag_place to ≡ false → sets_flags_plainly (taking to p) ≡ true
+taken : (to : Loc) (p : OperandPlace) → is_flag_place to ≡ false → sets_flags_plainly (taking to p) ≡ true
 taken to (memory w at) apart = refl
 taken to p apart = no_flag_set to (place_value p) apart
 
-stored : (p : Place) (e : Expr) → is_sound_place p ≡ true → are_plain (storing p e) ≡ true
+stored : (p : OperandPlace) (e : Expr) → is_sound_place p ≡ true → are_plain (storing p e) ≡ true
 stored (constant w n) e sound = refl
 stored (byte location) e sound = half_set location e sound
 stored (word low high) e sound = halves_set low high (Part 8 0 e) (Part 8 8 e) sound
@@ -112,20 +112,20 @@ stored (memory w at) e sound = refl
 stored (address distance) e sound = refl
 stored (computed sum) e sound = refl
 
-both_taken : (w : Width) (p q : Place) → are_plain (operands_taking w p q) ≡ true
+both_taken : (w : Width) (p q : OperandPlace) → are_plain (operands_taking w p q) ≡ true
 both_taken w p q =
     both (sets_flags_plainly (taking (left_place w) p)) (sets_flags_plainly (taking (right_place w) q) && true)
     (taken (left_place w) p (left_no_flag w))
     (both (sets_flags_plainly (taking (right_place w) q)) true (taken (right_place w) q (right_no_flag w)) refl)
 
 -- the operands, the work, and what is stored
-worked : (w : Width) (p q : Place) (work store : List Stmt) → are_plain work ≡ true → are_plain store ≡ true
+worked : (w : Width) (p q : OperandPlace) (work store : List Stmt) → are_plain work ≡ true → are_plain store ≡ true
     → are_plain (operands_taking w p q ++ (work ++ store)) ≡ true
 worked w p q work store e f =
     appended (operands_taking w p q) (work ++ store) (both_taken w p q) (appended work store e f)
 
 -- the one operand, the work, and what is stored
-taken_first : (to : Loc) (p : Place) (rest : List Stmt) → is_flag_place to ≡ false → are_plain rest ≡ true
+taken_first : (to : Loc) (p : OperandPlace) (rest : List Stmt) → is_flag_place to ≡ false → are_plain rest ≡ true
     → are_plain (taking to p ∷ rest) ≡ true
 taken_first to p rest apart e = both (sets_flags_plainly (taking to p)) (are_plain rest) (taken to p apart) e
 
@@ -151,7 +151,7 @@ alu_plain Cmp word_width = refl
 alu_plain Test byte_width = refl
 alu_plain Test word_width = refl
 
-alu_stored : (operation : Alu) (w : Width) (p : Place) → is_sound_place p ≡ true
+alu_stored : (operation : Alu) (w : Width) (p : OperandPlace) → is_sound_place p ≡ true
     → are_plain (alu_storing operation w p) ≡ true
 alu_stored Cmp w p sound = refl
 alu_stored Test w p sound = refl
@@ -186,7 +186,7 @@ division_stored : (w : Width) → are_plain (division_storing w) ≡ true
 division_stored byte_width = refl
 division_stored word_width = refl
 
-unary_plain : (operation : Unary) (w : Width) (p : Place) → is_sound_place p ≡ true
+unary_plain : (operation : Unary) (w : Width) (p : OperandPlace) → is_sound_place p ≡ true
     → are_plain (unary_stmts operation w p) ≡ true
 unary_plain Inc w p sound =
     worked w p (constant w 1) (result_taking w (sum w) ++ sum_flags w) (storing p (result w)) (counted w).0
@@ -222,7 +222,8 @@ shift_worked w count operation = holds_by_count are_plain operation w count (eac
     each word_width Rol = record { one = refl; cl = refl; other = refl }
     each _ _ = record { one = refl; cl = refl; other = refl }
 
-shifting_plain : (cpu : Cpu) (operation : Shift) (w : Width) (p : Place) (count : Count) → is_sound_place p ≡ true
+shifting_plain : (cpu : Cpu) (operation : Shift) (w : Width) (p : OperandPlace) (count : Count) → is_sound_place p
+    ≡ true
     → are_plain (shifting cpu operation w p count) ≡ true
 shifting_plain cpu operation w p count sound =
     let counting = Set (right_place w) (count_expr cpu w count) in
@@ -233,7 +234,7 @@ shifting_plain cpu operation w p count sound =
     (appended (shift_working operation w count) (storing p (result w)) (shift_worked w count operation)
     (stored p (result w) sound)))
 
-shift_plain : (cpu : Cpu) (operation : Shift) (w : Width) (p : Place) (count : Count) → is_sound_place p ≡ true
+shift_plain : (cpu : Cpu) (operation : Shift) (w : Width) (p : OperandPlace) (count : Count) → is_sound_place p ≡ true
     → are_plain (shift_stmts cpu operation w p count) ≡ true
 shift_plain cpu operation w p count sound = go (never_shifts count)
   where
@@ -243,7 +244,7 @@ shift_plain cpu operation w p count sound = go (never_shifts count)
 
 -- Moves.
 
-mov_plain : (w : Width) (p q : Place) → is_sound_place p ≡ true → are_plain (mov_stmts w p q) ≡ true
+mov_plain : (w : Width) (p q : OperandPlace) → is_sound_place p ≡ true → are_plain (mov_stmts w p q) ≡ true
 mov_plain w (byte to) (byte from) sound = half_set to (Get from) sound
 mov_plain w (byte to) (constant v n) sound = half_set to (Const (bits_of v) n) sound
 mov_plain w (word low high) (word l h) sound = halves_set low high (Get l) (Get h) sound
@@ -256,7 +257,7 @@ exchanged a b apart none =
     (no_flag_set a (Get b) apart)
     (both (sets_flags_plainly (Set b (left byte_width))) true (no_flag_set b (left byte_width) none) refl)
 
-xchg_plain : (w : Width) (p q : Place) → is_sound_place p ≡ true → is_sound_place q ≡ true
+xchg_plain : (w : Width) (p q : OperandPlace) → is_sound_place p ≡ true → is_sound_place q ≡ true
     → are_plain (xchg_stmts w p q) ≡ true
 xchg_plain w (byte a) (byte b) sound other = exchanged a b (half_no_flag a sound) (half_no_flag b other)
 xchg_plain w (word low high) (word l h) sound other =

@@ -2,21 +2,21 @@
 -- in which each such place is written.
 use Rattle.std.proofs.Common.{◌≡◌, refl, sym, subst, ℕ, Bool, true, false, Option, true≢false}
 use Rattle.std.specs.Prelude.{if◌then◌else◌}
-use Rattle.dcc_prog.specs.declared.cpu.Cpu.{Cpu}
-use Rattle.dcc_prog.specs.declared.instr.Alu.{Alu}
-use Rattle.dcc_prog.specs.declared.instr.Unary.{Unary}
-use Rattle.dcc_prog.specs.declared.instr.Unary.TheVariants.{Inc, Dec, Neg, Not, Mul, Imul, Div, Idiv}
-use Rattle.dcc_prog.specs.declared.instr.Operand.{Operand}
-use Rattle.dcc_prog.specs.declared.instr.Op.TheVariants.{Alu as AluOp, Unary as UnaryOp}
-use Rattle.dcc_prog.specs.Machine.{State as Machine, operand_width}
-use Rattle.dcc_prog.specs.Prepared.{is_division}
-use Rattle.dcc_prog.specs.Step.{op_step}
-use Rattle.dcc_prog.specs.Wanted.{is_zeroing, stores_back}
-use Rattle.dcc_prog.specs.WellFormed.{AreOperands}
-use Rattle.dcc_prog.specs.Writes.{writes_operand}
+use Rattle.dcc_machine.specs.declared.cpu.Cpu.{Cpu}
+use Rattle.dcc_machine.specs.declared.instr.Alu.{Alu}
+use Rattle.dcc_machine.specs.declared.instr.Unary.{Unary}
+use Rattle.dcc_machine.specs.declared.instr.Unary.TheVariants.{Inc, Dec, Neg, Not, Mul, Imul, Div, Idiv}
+use Rattle.dcc_machine.specs.declared.instr.Operand.{Operand}
+use Rattle.dcc_machine.specs.declared.instr.Op.TheVariants.{Alu as AluOp, Unary as UnaryOp}
+use Rattle.dcc_machine.specs.Machine.{State as Machine, operand_width}
+use Rattle.dcc_machine.specs.Operations.{is_division}
+use Rattle.dcc_machine.specs.Step.{op_step}
+use Rattle.dcc_machine.specs.Wanted.{is_zeroing, stores_back}
+use Rattle.dcc_machine.specs.WellFormed.{AreOperands}
+use Rattle.dcc_machine.specs.Writes.{writes_operand}
 use Rattle.dcc_ir.specs.Tree.{Expr}
 use Rattle.dcc_ir.specs.Run.{State, execute}
-use Rattle.dcc_ops.specs.Place.{Place, computed}
+use Rattle.dcc_ops.specs.OperandPlace.{OperandPlace, computed}
 use Rattle.dcc_ops.specs.Statements.{alu_stmts, zeroing, op_stmts}
 use Rattle.dcc_ops.specs.Coupling.{Relation, IsCoupling, IsRead, IsWritten, IsWrittenIf}
 use Rattle.dcc_ops.specs.Held.{IsHeld, ResultsAreHeld}
@@ -34,7 +34,7 @@ module _ (R : Relation) (coupling : IsCoupling R) where
   }
 
   unary_held : (cpu : Cpu) (operation : Unary) (a : Operand) (number : Option ℕ) (at : ℕ) (s : Machine) (t : State)
-      (e : Expr) (q : Place) → is_division operation ≡ false
+      (e : Expr) (q : OperandPlace) → is_division operation ≡ false
       → stores_back operation ≡ true → IsRead R s a (computed e) → R s t
       → IsHeld R s a (op_step cpu (UnaryOp operation a) at s)
       (execute (op_stmts cpu (UnaryOp operation a) number (computed e) q) t)
@@ -52,7 +52,7 @@ module _ (R : Relation) (coupling : IsCoupling R) where
   unary_held cpu Idiv a number at s t e q undivided stores read rel = absurd (true≢false undivided)
 
   alu_held : (cpu : Cpu) (operation : Alu) (a b : Operand) (number : Option ℕ) (at : ℕ) (s : Machine) (t : State)
-      (e : Expr) (q : Place) → AreOperands a b → writes_operand operation ≡ true → IsRead R s a (computed e)
+      (e : Expr) (q : OperandPlace) → AreOperands a b → writes_operand operation ≡ true → IsRead R s a (computed e)
       → IsRead R s b q → R s t
       → IsHeld R s a (op_step cpu (AluOp operation a b) at s)
       (execute (op_stmts cpu (AluOp operation a b) number (computed e) q) t)

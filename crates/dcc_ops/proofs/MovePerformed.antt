@@ -10,12 +10,11 @@ use Rattle.dcc_num.specs.declared.Reg.{Reg}
 use Rattle.dcc_num.specs.declared.Half.{Half as HalfName}
 use Rattle.dcc_num.specs.declared.Half.TheVariants.{Low, High}
 use Rattle.dcc_num.specs.Numbers.{bits_of, limit_of}
-use Rattle.dcc_prog.specs.declared.instr.Operand.{Operand}
-use Rattle.dcc_prog.specs.declared.instr.Operand.TheVariants.{Word, Byte, Seg, Mem, Const as Constant}
-use Rattle.dcc_prog.specs.Machine.{State as Machine, operand_value, operand_width, with_operand}
-use Rattle.dcc_prog.specs.Operations.{mov_step, xchg_step}
-use Rattle.dcc_prog.specs.Trail.{is_general}
-use Rattle.dcc_prog.specs.WellFormed.{AreOperands}
+use Rattle.dcc_machine.specs.declared.instr.Operand.{Operand}
+use Rattle.dcc_machine.specs.declared.instr.Operand.TheVariants.{Word, Byte, Seg, Mem, Const as Constant}
+use Rattle.dcc_machine.specs.Machine.{State as Machine, operand_value, operand_width, with_operand, is_general}
+use Rattle.dcc_machine.specs.Operations.{mov_step, xchg_step}
+use Rattle.dcc_machine.specs.WellFormed.{AreOperands}
 use Rattle.dcc_ir.specs.declared.syntax.Loc.{Loc}
 use Rattle.dcc_ir.specs.declared.syntax.Loc.TheVariants.{Half, Flag, Cell, Temp}
 use Rattle.dcc_ir.specs.Location.{register_number, half_number, flag_number, same_location, location_width, Values, with_value}
@@ -24,7 +23,7 @@ use Rattle.dcc_ir.specs.Value.{Fits}
 use Rattle.dcc_ir.specs.Run.{State, scene_of, value_in, setting, storing as store, execute}
 use Rattle.dcc_ir.proofs.ExecuteLaws.{execute-append}
 use Rattle.dcc_ops.specs.Temporaries.{left_place, right_place, is_temporary_of}
-use Rattle.dcc_ops.specs.Place.{Place, constant, byte, word, memory, address, computed, taking, storing, is_half, is_low, is_high, is_sound_place}
+use Rattle.dcc_ops.specs.OperandPlace.{OperandPlace, constant, byte, word, memory, address, computed, taking, storing, is_half, is_low, is_high, is_sound_place}
 use Rattle.dcc_ops.specs.Registers.{is_register, is_source, register_place}
 use Rattle.dcc_ops.specs.Expressions.{left, right}
 use Rattle.dcc_ops.specs.Statements.{operands_taking, mov_stmts, exchanging, xchg_stmts}
@@ -175,7 +174,7 @@ lower_small n = omega arith
 
 -- Storing leaves temporaries.
 
-storing_keeps : (p : Place) (e : Expr) (t : State) (n : ℕ) → is_sound_place p ≡ true → t.end ≡ Running
+storing_keeps : (p : OperandPlace) (e : Expr) (t : State) (n : ℕ) → is_sound_place p ≡ true → t.end ≡ Running
     → (execute (storing p e) t).running.values (Temp n) ≡ t.running.values (Temp n)
 storing_keeps (constant w k) e t n sound running = refl
 storing_keeps (address distance) e t n sound running = refl
@@ -194,7 +193,7 @@ storing_keeps (word low high) e t n sound running =
     (high_half high halves.1)
     ∙ held_stays t.running.values n (value_in t (Part 8 0 e)) low (low_half low halves.0)
 
-left_kept : (w : Width) (p : Place) (e : Expr) (t : State) → is_sound_place p ≡ true → t.end ≡ Running
+left_kept : (w : Width) (p : OperandPlace) (e : Expr) (t : State) → is_sound_place p ≡ true → t.end ≡ Running
     → (execute (storing p e) t).running.values (left_place w) ≡ t.running.values (left_place w)
 left_kept byte_width p e t sound running = storing_keeps p e t 0 sound running
 left_kept word_width p e t sound running = storing_keeps p e t 3 sound running
@@ -264,7 +263,7 @@ module _ (R After : Relation) (coupling : IsCoupling R) (after : IsCoupling Afte
   -- MOV
 
   module _ (to from : Operand) (s : Machine) (t : State) (are : AreOperands to from) (rel : R s t) where
-    source_below : (q : Place) → IsRead R s from q → operand_value s from < limit_of (operand_width to)
+    source_below : (q : OperandPlace) → IsRead R s from q → operand_value s from < limit_of (operand_width to)
     source_below q read = subst (λ w. operand_value s from < limit_of w) (sym are.widths) (read.small s.flags t rel)
 
     moved : (v : ℕ) (u : State) → v ≡ operand_value s from → After (with_operand s to v) u
@@ -319,7 +318,7 @@ module _ (R After : Relation) (coupling : IsCoupling R) (after : IsCoupling Afte
         (moved (n / 256 * 256 + n % 256) (setting h (n / 256) (setting l (n % 256) t)) (word_joined n ∙ e)
         (direct_word s t to l h (n % 256) (n / 256) written (lower_small n) (upper_small n small) rel))
 
-    mov_through : (p q : Place) → IsRead R s from q → IsWritten R After s to p
+    mov_through : (p q : OperandPlace) → IsRead R s from q → IsWritten R After s to p
         → After (mov_step to from s)
         (execute (taking (left_place (operand_width to)) q ∷ storing p (left (operand_width to))) t)
     mov_through p q read written =
@@ -333,7 +332,7 @@ module _ (R After : Relation) (coupling : IsCoupling R) (after : IsCoupling Afte
         (moved (u.running.values (left_place w)) (execute (storing p (left w)) u) held
         (written.taken s.flags u (left_place w) one.stands (left_is w)))
 
-    pub mov_performed : (p q : Place) → IsRead R s from q → is_sound_place q ≡ true → IsWritten R After s to p
+    pub mov_performed : (p q : OperandPlace) → IsRead R s from q → is_sound_place q ≡ true → IsWritten R After s to p
         → After (mov_step to from s) (execute (mov_stmts (operand_width to) p q) t)
     mov_performed (byte l) (byte m) read sound written = mov_bytes l m read sound written
     mov_performed (byte l) (constant w n) read sound written = mov_byte l w n read written
@@ -345,7 +344,7 @@ module _ (R After : Relation) (coupling : IsCoupling R) (after : IsCoupling Afte
 
   module _ (a b : Operand) (s : Machine) (t : State) (are : AreOperands a b) (g : is_register b ≡ true) (rel : R s t)
     where
-      xchg_through : (p : Place) → IsRead R s a p → IsWritten R After s a p
+      xchg_through : (p : OperandPlace) → IsRead R s a p → IsWritten R After s a p
           → After (xchg_step a b s)
           (execute (operands_taking (operand_width a) p (register_place b)
           ++ (storing p (right (operand_width a)) ++ storing (register_place b) (left (operand_width a)))) t)
@@ -480,7 +479,8 @@ module _ (R After : Relation) (coupling : IsCoupling R) (after : IsCoupling Afte
       (never_both x h m h_m)))
       fits5 both)
 
-  pub xchg_performed : (a b : Operand) (p : Place) (s : Machine) (t : State) → AreOperands a b → is_register b ≡ true
+  pub xchg_performed : (a b : Operand) (p : OperandPlace) (s : Machine) (t : State) → AreOperands a b → is_register b
+      ≡ true
       → IsRead R s a p → IsWritten R After s a p → R s t
       → After (xchg_step a b s) (execute (xchg_stmts (operand_width a) p (register_place b)) t)
   xchg_performed a (Byte r half) (byte l) s t are g read written rel = xchg_bytes a r half l s t g read written rel

@@ -6,22 +6,21 @@ use Rattle.std.specs.List.{list_all}
 use Rattle.dcc_num.specs.declared.Width.TheVariants.{Word as word_width}
 use Rattle.dcc_num.specs.declared.Reg.TheVariants.{Cx}
 use Rattle.dcc_num.specs.declared.FlagName.TheVariants.{Cf}
-use Rattle.dcc_prog.specs.declared.cpu.Cpu.{Cpu}
-use Rattle.dcc_prog.specs.declared.instr.Alu.{Alu}
-use Rattle.dcc_prog.specs.declared.instr.Unary.{Unary}
-use Rattle.dcc_prog.specs.declared.instr.Unary.TheVariants.{Inc, Dec, Neg, Not, Mul, Imul, Div, Idiv}
-use Rattle.dcc_prog.specs.declared.instr.Plain.{Plain}
-use Rattle.dcc_prog.specs.declared.instr.Plain.TheVariants.{Nop, Cbw, Cwd, Xlat, Clc, Stc, Cmc, Cli, Sti, Cld}
-use Rattle.dcc_prog.specs.declared.instr.Operand.{Operand}
-use Rattle.dcc_prog.specs.declared.instr.Operand.TheVariants.{Word}
-use Rattle.dcc_prog.specs.declared.instr.Op.TheVariants.{Alu as AluOp, Unary as UnaryOp, Shift as ShiftOp, Mov, Xchg, Lea, Imul3, Push, Pop, Enter, Leave, Plain as PlainOp, Jump, Branch, Loop, LoopE, LoopNe, Jcxz, Table, Call, Ret, Int21}
-use Rattle.dcc_prog.specs.Machine.{State as Machine, operand_width, word_in, with_word_in}
-use Rattle.dcc_prog.specs.Operations.{with_carry, loop_step}
-use Rattle.dcc_prog.specs.Prepared.{is_division}
-use Rattle.dcc_prog.specs.Step.{op_step}
-use Rattle.dcc_prog.specs.Wanted.{is_zeroing, stores_back}
-use Rattle.dcc_prog.specs.WellFormed.{AreOperands}
-use Rattle.dcc_prog.specs.Writes.{writes_operand}
+use Rattle.dcc_machine.specs.declared.cpu.Cpu.{Cpu}
+use Rattle.dcc_machine.specs.declared.instr.Alu.{Alu}
+use Rattle.dcc_machine.specs.declared.instr.Unary.{Unary}
+use Rattle.dcc_machine.specs.declared.instr.Unary.TheVariants.{Inc, Dec, Neg, Not, Mul, Imul, Div, Idiv}
+use Rattle.dcc_machine.specs.declared.instr.Plain.{Plain}
+use Rattle.dcc_machine.specs.declared.instr.Plain.TheVariants.{Nop, Cbw, Cwd, Xlat, Clc, Stc, Cmc, Cli, Sti, Cld}
+use Rattle.dcc_machine.specs.declared.instr.Operand.{Operand}
+use Rattle.dcc_machine.specs.declared.instr.Operand.TheVariants.{Word}
+use Rattle.dcc_machine.specs.declared.instr.Op.TheVariants.{Alu as AluOp, Unary as UnaryOp, Shift as ShiftOp, Mov, Xchg, Lea, Imul3, Push, Pop, Enter, Leave, Plain as PlainOp, Jump, Branch, Loop, LoopE, LoopNe, Jcxz, Table, Call, Ret, Int21}
+use Rattle.dcc_machine.specs.Machine.{State as Machine, operand_width, word_in, with_word_in}
+use Rattle.dcc_machine.specs.Operations.{with_carry, loop_step, is_division}
+use Rattle.dcc_machine.specs.Step.{op_step}
+use Rattle.dcc_machine.specs.Wanted.{is_zeroing, stores_back}
+use Rattle.dcc_machine.specs.WellFormed.{AreOperands}
+use Rattle.dcc_machine.specs.Writes.{writes_operand}
 use Rattle.dcc_ir.specs.declared.syntax.Loc.TheVariants.{Flag, Temp}
 use Rattle.dcc_ir.specs.declared.syntax.BinOp.TheVariants.{Sub as SubOp}
 use Rattle.dcc_ir.specs.Location.{Values}
@@ -29,7 +28,7 @@ use Rattle.dcc_ir.specs.Tree.{Expr}
 use Rattle.dcc_ir.specs.Value.{value_of}
 use Rattle.dcc_ir.specs.Run.{State, scene_of, execute}
 use Rattle.dcc_ir.proofs.ExecuteLaws.{execute-append}
-use Rattle.dcc_ops.specs.Place.{Place}
+use Rattle.dcc_ops.specs.OperandPlace.{OperandPlace}
 use Rattle.dcc_ops.specs.Expressions.{word_of, at_width, number, bit, flag, negated, result}
 use Rattle.dcc_ops.specs.Statements.{result_taking, word_taking, carry_taking, counting, alu_stmts, zeroing, op_stmts}
 use Rattle.dcc_ops.specs.Coupling.{Relation, IsCoupling, IsRead, IsWrittenIf, Follows}
@@ -85,7 +84,8 @@ module _ (R : Relation) (coupling : IsCoupling R) where
   registers_stand = record { read = register_read R coupling; written = register_written R coupling }
 
 module _ (R After : Relation) (coupling : IsCoupling R) (after : IsCoupling After) where
-  unary_case : (operation : Unary) (a : Operand) (cpu : Cpu) (number : Option ℕ) (at : ℕ) (p q : Place) (s : Machine)
+  unary_case : (operation : Unary) (a : Operand) (cpu : Cpu) (number : Option ℕ) (at : ℕ) (p q : OperandPlace) (s :
+      Machine)
       (t : State) → is_division operation ≡ false → IsRead R s a p
       → IsWrittenIf (stores_back operation) R After s a p → R s t
       → After (op_step cpu (UnaryOp operation a) at s) (execute (op_stmts cpu (UnaryOp operation a) number p q) t)
@@ -104,7 +104,8 @@ module _ (R After : Relation) (coupling : IsCoupling R) (after : IsCoupling Afte
   unary_case Div a cpu number at p q s t undivided read follows rel = absurd (true≢false undivided)
   unary_case Idiv a cpu number at p q s t undivided read follows rel = absurd (true≢false undivided)
 
-  plain_case : (operation : Plain) (cpu : Cpu) (number : Option ℕ) (at : ℕ) (p q : Place) (s : Machine) (t : State)
+  plain_case : (operation : Plain) (cpu : Cpu) (number : Option ℕ) (at : ℕ) (p q : OperandPlace) (s : Machine) (t :
+      State)
       → is_xlat operation ≡ false → Follows R After → R s t
       → After (op_step cpu (PlainOp operation) at s) (execute (op_stmts cpu (PlainOp operation) number p q) t)
   plain_case Nop cpu number at p q s t undivided follows rel = follows _ _ rel
@@ -123,7 +124,8 @@ module _ (R After : Relation) (coupling : IsCoupling R) (after : IsCoupling Afte
   plain_case Cld cpu number at p q s t undivided follows rel = follows _ _ rel
 
   -- where the operation makes 0 of its operands, that moves there
-  alu_case : (operation : Alu) (a b : Operand) (cpu : Cpu) (number : Option ℕ) (at : ℕ) (p q : Place) (s : Machine)
+  alu_case : (operation : Alu) (a b : Operand) (cpu : Cpu) (number : Option ℕ) (at : ℕ) (p q : OperandPlace) (s :
+      Machine)
       (t : State) → AreOperands a b → IsRead R s a p → IsRead R s b q
       → IsWrittenIf (writes_operand operation) R After s a p → R s t
       → After (op_step cpu (AluOp operation a b) at s) (execute (op_stmts cpu (AluOp operation a b) number p q) t)

@@ -11,21 +11,20 @@ use Rattle.dcc_num.specs.declared.FlagName.{FlagName}
 use Rattle.dcc_num.specs.declared.FlagName.TheVariants.{Cf, Zf, Sf, Of}
 use Rattle.dcc_num.specs.Numbers.{bits_of, limit_of, signed_of, halved_of, wrapped_of, sign_extension_of}
 use Rattle.dcc_num.specs.Product.{product_of, signed_product_of, product_flags, extension_of}
-use Rattle.dcc_prog.specs.declared.instr.Operand.{Operand}
-use Rattle.dcc_prog.specs.declared.instr.Operand.TheVariants.{Word, Byte, Const as Constant}
-use Rattle.dcc_prog.specs.declared.instr.Plain.TheVariants.{Cbw, Cwd}
-use Rattle.dcc_prog.specs.Machine.{State as Machine, word_in, with_word_in, half_of_word, word_with_half, operand_value, operand_width}
-use Rattle.dcc_prog.specs.Operations.{with_flags, with_pair, with_product, accumulator_in, imul3_step, plain_step}
-use Rattle.dcc_prog.specs.Trail.{is_general}
-use Rattle.dcc_prog.specs.WellFormed.{AreFactors}
+use Rattle.dcc_machine.specs.declared.instr.Operand.{Operand}
+use Rattle.dcc_machine.specs.declared.instr.Operand.TheVariants.{Word, Byte, Const as Constant}
+use Rattle.dcc_machine.specs.declared.instr.Plain.TheVariants.{Cbw, Cwd}
+use Rattle.dcc_machine.specs.Machine.{State as Machine, word_in, with_word_in, half_of_word, word_with_half, operand_value, operand_width, is_general}
+use Rattle.dcc_machine.specs.Operations.{with_flags, with_pair, with_product, accumulator_in, imul3_step, plain_step}
+use Rattle.dcc_machine.specs.WellFormed.{AreFactors}
 use Rattle.dcc_ir.specs.declared.syntax.Loc.TheVariants.{Half, Flag, Temp}
 use Rattle.dcc_ir.specs.Location.{Values, with_value, location_width}
 use Rattle.dcc_ir.specs.Tree.{Set, Widen}
-use Rattle.dcc_ir.specs.Value.{Scene, value_of, signed_at, pattern_at}
+use Rattle.dcc_ir.specs.Value.{Environment, value_of, signed_at, pattern_at}
 use Rattle.dcc_ir.specs.Run.{State, scene_of, setting, execute}
 use Rattle.dcc_ir.proofs.ExecuteLaws.{execute-append}
 use Rattle.dcc_ops.specs.Temporaries.{temporary_bits, left_place, right_place, product_place}
-use Rattle.dcc_ops.specs.Place.{Place, constant}
+use Rattle.dcc_ops.specs.OperandPlace.{OperandPlace, constant}
 use Rattle.dcc_ops.specs.Registers.{register_place}
 use Rattle.dcc_ops.specs.Expressions.{word_of, double, multiplied, needs_upper_half, product}
 use Rattle.dcc_ops.specs.Statements.{accumulator, operands_taking, word_taking, product_working, multiplying, triple_product, product_storing, plain_stmts}
@@ -46,19 +45,20 @@ right_width byte_width bits e = ap (λ (xs : List ℕ). location_width xs (Temp 
 right_width word_width bits e = ap (λ (xs : List ℕ). location_width xs (Temp 4)) e
 
 -- the product in a place of twice the width
-product_is : (w : Width) (scene : Scene) (a b : ℕ) → scene.values (left_place w) ≡ a → scene.values (right_place w) ≡ b
+product_is : (w : Width) (scene : Environment) (a b : ℕ) → scene.values (left_place w) ≡ a
+    → scene.values (right_place w) ≡ b
     → a < limit_of w → b < limit_of w
     → value_of scene (multiplied w false) ≡ a * b
 product_is w scene a b held other first second = rw (held, other) (product_fits w a b first second)
 
-signed_product_is : (w : Width) (scene : Scene) (a b : ℕ) → scene.bits ≡ temporary_bits
+signed_product_is : (w : Width) (scene : Environment) (a b : ℕ) → scene.bits ≡ temporary_bits
     → scene.values (left_place w) ≡ a → scene.values (right_place w) ≡ b → a < limit_of w → b < limit_of w
     → value_of scene (multiplied w true) ≡ pattern_at (double w) (signed_of w a *ℤ signed_of w b)
 signed_product_is w scene a b bits held other first second =
     rw (held, other, left_width w scene.bits bits, right_width w scene.bits bits) (product_pattern w a b first second)
 
 -- whether a product of unsigned factors needs its upper half
-needed_is : (w : Width) (scene : Scene) (p : ℕ) → scene.values (product_place w) ≡ p → p < 2 ^ double w
+needed_is : (w : Width) (scene : Environment) (p : ℕ) → scene.values (product_place w) ≡ p → p < 2 ^ double w
     → value_of scene (needs_upper_half w false) ≡ from_bool (not (nat_eq (p / limit_of w) 0))
 needed_is w scene p is small = rw is (needs_half w p small)
 
@@ -66,7 +66,7 @@ negated_bit : (b : Bool) → 2 ^ 1 - 1 - from_bool b ≡ from_bool (not b)
 negated_bit true = refl
 negated_bit false = refl
 
-signed_needed_is : (w : Width) (scene : Scene) (p : ℕ) → scene.values (product_place w) ≡ p → p < 2 ^ double w
+signed_needed_is : (w : Width) (scene : Environment) (p : ℕ) → scene.values (product_place w) ≡ p → p < 2 ^ double w
     → value_of scene (needs_upper_half w true)
     ≡ from_bool (not (nat_eq (p / limit_of w) (extension_of w (p % limit_of w))))
 signed_needed_is w scene p is small =
@@ -79,7 +79,7 @@ signed_needed_is w scene p is small =
 abbrev overflows : Width → ℤ → Bool
 overflows w z = not (nat_eq (wrapped_of w (halved_of z (bits_of w))) (extension_of w (wrapped_of w z)))
 
-signed_needed : (w : Width) (scene : Scene) (z : ℤ) → scene.values (product_place w) ≡ pattern_at (double w) z
+signed_needed : (w : Width) (scene : Environment) (z : ℤ) → scene.values (product_place w) ≡ pattern_at (double w) z
     → value_of scene (needs_upper_half w true) ≡ from_bool (overflows w z)
 signed_needed w scene z is =
     let p : ℕ = pattern_at (double w) z in
@@ -99,22 +99,22 @@ place_taken byte_width values v = refl
 place_taken word_width values v = refl
 
 -- after a product and its flags are made: p is the product, needed whether it needs its upper half
-record IsMade (w : Width) (p : ℕ) (needed : Bool) (scene : Scene) : Type 0 where
+record IsMade (w : Width) (p : ℕ) (needed : Bool) (scene : Environment) : Type 0 where
   flags : HoldFlags (product_flags needed) scene.values
   product : scene.values (product_place w) ≡ p
 
-product_made : (w : Width) (signed : Bool) (scene : Scene) (p : ℕ) (needed : Bool)
+product_made : (w : Width) (signed : Bool) (scene : Environment) (p : ℕ) (needed : Bool)
     → value_of scene (multiplied w signed) ≡ p
-    → ((seen : Scene) → seen.values (product_place w) ≡ p
+    → ((seen : Environment) → seen.values (product_place w) ≡ p
     → value_of seen (needs_upper_half w signed) ≡ from_bool needed)
     → IsMade w p needed (executed (product_working w signed) scene)
 product_made w signed scene p needed made told =
     let v0 : ℕ = value_of scene (multiplied w signed) in
-    let scene0 : Scene = record scene { values = with_value scene.values (product_place w) v0 } in
+    let scene0 : Environment = record scene { values = with_value scene.values (product_place w) v0 } in
     let p0 : scene0.values (product_place w) ≡ p = place_taken w scene.values v0 ∙ made in
     let v1 : ℕ = value_of scene0 (needs_upper_half w signed) in
     let values1 : Values = with_value (with_value (with_value scene0.values (Flag Of) v1) (Flag Sf) 0) (Flag Zf) 0 in
-    let scene1 : Scene = record scene0 { values = values1 } in
+    let scene1 : Environment = record scene0 { values = values1 } in
     let p1 : scene1.values (product_place w) ≡ p =
     place_kept w (with_value (with_value scene0.values (Flag Of) v1) (Flag Sf) 0) Zf 0
     ∙ place_kept w (with_value scene0.values (Flag Of) v1) Sf 0 ∙ place_kept w scene0.values Of v1 ∙ p0 in
@@ -196,7 +196,7 @@ module _ (R : Relation) (coupling : IsCoupling R) where
 
   multiplied_run : (w : Width) (signed : Bool) (s : Machine) (u : State) (p : ℕ) (needed : Bool) → R s u
       → value_of (scene_of u) (multiplied w signed) ≡ p
-      → ((seen : Scene) → seen.values (product_place w) ≡ p
+      → ((seen : Environment) → seen.values (product_place w) ≡ p
       → value_of seen (needs_upper_half w signed) ≡ from_bool needed)
       → IsMultiplied R w s (execute (product_working w signed) u) p needed
   multiplied_run w signed s u p needed rel made told =
@@ -209,11 +209,11 @@ module _ (R : Relation) (coupling : IsCoupling R) where
             (scratch_values R coupling (product_working w signed) s u (product_scratch w signed) rel) ∙ done.product;
       }
 
-  multiplying_performed : (w : Width) (signed : Bool) (x : Operand) (place : Place) (s : Machine) (t : State)
+  multiplying_performed : (w : Width) (signed : Bool) (x : Operand) (place : OperandPlace) (s : Machine) (t : State)
       (p low high : ℕ) (needed : Bool) → IsRead R s x place → operand_width x ≡ w → R s t
       → ((u : State) → Holding R w s u (accumulator_in w s) (operand_value s x)
       → value_of (scene_of u) (multiplied w signed) ≡ p)
-      → ((seen : Scene) → seen.values (product_place w) ≡ p
+      → ((seen : Environment) → seen.values (product_place w) ≡ p
       → value_of seen (needs_upper_half w signed) ≡ from_bool needed)
       → p < 2 ^ double w → low ≡ p % limit_of w → high ≡ p / limit_of w
       → R (with_product w (low, high, product_flags needed) s) (execute (multiplying w signed place) t)
@@ -232,11 +232,11 @@ module _ (R : Relation) (coupling : IsCoupling R) where
       p low high done.product small el eh done.stands)
 
   -- both factors are below the limit of their width
-  factors_below : (x : Operand) (place : Place) (s : Machine) (t : State) → IsRead R s x place → R s t
+  factors_below : (x : Operand) (place : OperandPlace) (s : Machine) (t : State) → IsRead R s x place → R s t
       → (accumulator_in (operand_width x) s < limit_of (operand_width x)) × (operand_value s x < limit_of (operand_width x))
   factors_below x place s t read rel = (accumulator_below (operand_width x) s t rel, read.small s.flags t rel)
 
-  pub mul_performed : (x : Operand) (place : Place) (s : Machine) (t : State) → IsRead R s x place → R s t
+  pub mul_performed : (x : Operand) (place : OperandPlace) (s : Machine) (t : State) → IsRead R s x place → R s t
       → R (with_product (operand_width x)
       (product_of (operand_width x) (accumulator_in (operand_width x) s) (operand_value s x)) s)
       (execute (multiplying (operand_width x) false place) t)
@@ -253,7 +253,7 @@ module _ (R : Relation) (coupling : IsCoupling R) where
       small refl refl
 
   -- of signed numbers
-  pub imul_performed : (x : Operand) (place : Place) (s : Machine) (t : State) → IsRead R s x place → R s t
+  pub imul_performed : (x : Operand) (place : OperandPlace) (s : Machine) (t : State) → IsRead R s x place → R s t
       → R (with_product (operand_width x)
       (signed_product_of (operand_width x) (accumulator_in (operand_width x) s) (operand_value s x)) s)
       (execute (multiplying (operand_width x) true place) t)
@@ -271,7 +271,7 @@ module _ (R : Relation) (coupling : IsCoupling R) where
       (sym (pattern_high w z))
 
   -- of three operands: the register takes the lower word
-  pub triple_performed : (r : Reg) (x : Operand) (place : Place) (number : ℕ) (s : Machine) (t : State)
+  pub triple_performed : (r : Reg) (x : Operand) (place : OperandPlace) (number : ℕ) (s : Machine) (t : State)
       → is_general r ≡ true → AreFactors x number → IsRead R s x place → R s t
       → R (imul3_step r x number s) (execute (triple_product r place number) t)
   unfolding signed_product_of

@@ -9,7 +9,7 @@ use Rattle.dcc_ir.specs.declared.syntax.Loc.{Loc}
 use Rattle.dcc_ir.specs.declared.syntax.Loc.TheVariants.{Half}
 use Rattle.dcc_ir.specs.Location.{register_number, same_location, location_width, Values, with_value}
 use Rattle.dcc_ir.specs.Tree.{Stmt, Set, Fetch, Store, Div, Call, Dos}
-use Rattle.dcc_ir.specs.Value.{width_of, Scene, value_of, Fits}
+use Rattle.dcc_ir.specs.Value.{width_of, Environment, value_of, Fits}
 use Rattle.dcc_ir.specs.WellFormed.{is_location, is_expr, is_expr_of, is_stmt}
 use Rattle.dcc_ir.proofs.FitLaws.{value_fits}
 use Rattle.dcc_ir.proofs.LocationLaws.{location_same}
@@ -60,7 +60,7 @@ again_high values r v location =
 
 -- Statements that set locations.
 
-pub executed_append : (first rest : List Stmt) (scene : Scene)
+pub executed_append : (first rest : List Stmt) (scene : Environment)
     → executed (first ++ rest) scene ≡ executed rest (executed first scene)
 executed_append [] rest scene = refl
 executed_append (Set location e ∷ first) rest scene =
@@ -72,7 +72,8 @@ executed_append (Call results entry arguments depth ∷ first) rest scene = exec
 executed_append (Dos number place argument ∷ first) rest scene = executed_append first rest scene
 
 -- a location takes a value of its width
-pub fits_taking : (scene : Scene) (location : Loc) (v : ℕ) → v < 2 ^ location_width scene.bits location → Fits scene
+pub fits_taking : (scene : Environment) (location : Loc) (v : ℕ) → v < 2 ^ location_width scene.bits location
+    → Fits scene
     → Fits (record scene { values = with_value scene.values location v })
 fits_taking scene location v small fits = record {
   values = λ other. elim (same_location other location)
@@ -86,7 +87,7 @@ fits_taking scene location v small fits = record {
 }
 
 -- statements that are well formed keep what they read within its widths
-pub executed_fits : (stmts : List Stmt) (scene : Scene) → list_all (is_stmt scene.bits) stmts ≡ true → Fits scene
+pub executed_fits : (stmts : List Stmt) (scene : Environment) → list_all (is_stmt scene.bits) stmts ≡ true → Fits scene
     → Fits (executed stmts scene)
 executed_fits [] scene ok fits = fits
 executed_fits (Set location e ∷ rest) scene ok fits =
@@ -111,7 +112,7 @@ executed_fits (Dos number place argument ∷ rest) scene ok fits =
     executed_fits rest scene (and_parts _ (list_all (is_stmt scene.bits) rest) ok).1 fits
 
 -- well-formed statements that set locations change nothing but values
-pub executed_values : (stmts : List Stmt) (scene : Scene)
+pub executed_values : (stmts : List Stmt) (scene : Environment)
     → executed stmts scene ≡ record scene { values = (executed stmts scene).values }
 executed_values [] scene = refl
 executed_values (Set location e ∷ rest) scene =
@@ -122,6 +123,6 @@ executed_values (Div location e ∷ rest) scene = executed_values rest scene
 executed_values (Call results entry arguments depth ∷ rest) scene = executed_values rest scene
 executed_values (Dos number place argument ∷ rest) scene = executed_values rest scene
 
-pub values_fit : (stmts : List Stmt) (scene : Scene) → list_all (is_stmt scene.bits) stmts ≡ true → Fits scene
+pub values_fit : (stmts : List Stmt) (scene : Environment) → list_all (is_stmt scene.bits) stmts ≡ true → Fits scene
     → Fits (record scene { values = (executed stmts scene).values })
 values_fit stmts scene ok fits = subst Fits (executed_values stmts scene) (executed_fits stmts scene ok fits)

@@ -15,64 +15,64 @@ use Rattle.dcc_num.specs.declared.Flags.{Flags}
 use Rattle.dcc_num.specs.declared.FlagName.{FlagName}
 use Rattle.dcc_num.specs.declared.FlagName.TheVariants.{Cf, Zf, Sf, Of}
 use Rattle.dcc_num.specs.Numbers.{bits_of, limit_of, half_of, has_sign, is_set, differ, residue_of, signed_of, halved_of, wrapped_of, result_flags}
-use Rattle.dcc_num.specs.Shift.{shl_of, shr_of, sar_of, left_rotation_of, right_rotation_of, left_turn_of, right_turn_of, turned_of, top_bits_differ, rotate_flags as turned_flags}
-use Rattle.dcc_num.proofs.Shifts.{turned_below}
+use Rattle.dcc_num.specs.Shift.{shl_of, shr_of, sar_of, rol_of, ror_of, rcl_of, rcr_of, rotated_of, top_bits_differ, rotate_flags as turned_flags}
+use Rattle.dcc_num.proofs.Shifts.{rotated_below}
 use Rattle.dcc_num.proofs.Differences.{wrapped_below}
 use Rattle.dcc_num.proofs.Steps.{wrapped_signed}
-use Rattle.dcc_prog.specs.declared.cpu.Cpu.{Cpu}
-use Rattle.dcc_prog.specs.declared.cpu.Cpu.TheVariants.{I8086, I186}
-use Rattle.dcc_prog.specs.declared.instr.Count.{Count}
-use Rattle.dcc_prog.specs.declared.instr.Count.TheVariants.{One, Cl, Const as ConstCount}
-use Rattle.dcc_prog.specs.declared.instr.Shift.{Shift}
-use Rattle.dcc_prog.specs.declared.instr.Shift.TheVariants.{Rol, Ror, Rcl, Rcr, Shl, Shr, Sar}
-use Rattle.dcc_prog.specs.declared.instr.Operand.{Operand}
-use Rattle.dcc_prog.specs.declared.instr.Operand.TheVariants.{Byte}
-use Rattle.dcc_prog.specs.Machine.{State as Machine, operand_value, operand_width}
-use Rattle.dcc_prog.specs.Operations.{with_result, count_in, shift_result, shift_step}
-use Rattle.dcc_prog.specs.Writes.{never_shifts}
-use Rattle.dcc_prog.specs.Wanted.{is_turn, is_in_cl}
-use Rattle.dcc_prog.specs.WellFormed.{MayCount, IsShift}
+use Rattle.dcc_machine.specs.declared.cpu.Cpu.{Cpu}
+use Rattle.dcc_machine.specs.declared.cpu.Cpu.TheVariants.{I8086, I186}
+use Rattle.dcc_machine.specs.declared.instr.Count.{Count}
+use Rattle.dcc_machine.specs.declared.instr.Count.TheVariants.{One, Cl, Const as ConstCount}
+use Rattle.dcc_machine.specs.declared.instr.Shift.{Shift}
+use Rattle.dcc_machine.specs.declared.instr.Shift.TheVariants.{Rol, Ror, Rcl, Rcr, Shl, Shr, Sar}
+use Rattle.dcc_machine.specs.declared.instr.Operand.{Operand}
+use Rattle.dcc_machine.specs.declared.instr.Operand.TheVariants.{Byte}
+use Rattle.dcc_machine.specs.Machine.{State as Machine, operand_value, operand_width}
+use Rattle.dcc_machine.specs.Operations.{with_result, count_in, shift_result, shift_step}
+use Rattle.dcc_machine.specs.Writes.{never_shifts}
+use Rattle.dcc_machine.specs.Wanted.{is_through_carry, is_in_cl}
+use Rattle.dcc_machine.specs.WellFormed.{MayCount, IsShift}
 use Rattle.dcc_ir.specs.declared.syntax.Loc.TheVariants.{Half, Flag}
 use Rattle.dcc_ir.specs.declared.syntax.BinOp.TheVariants.{Xor as XorOp, Shl as ShlOp, Shr as ShrOp, Sar as SarOp}
 use Rattle.dcc_ir.specs.Location.{Values, with_value}
 use Rattle.dcc_ir.specs.Tree.{Expr, Get, Binary, Set}
-use Rattle.dcc_ir.specs.Value.{Scene, value_of}
+use Rattle.dcc_ir.specs.Value.{Environment, value_of}
 use Rattle.dcc_ir.specs.Run.{State, scene_of, value_in, setting, execute}
 use Rattle.dcc_ir.proofs.ExecuteLaws.{execute-append}
 use Rattle.dcc_ops.specs.Temporaries.{left_place, right_place, result_place, carry_place}
-use Rattle.dcc_ops.specs.Place.{Place, taking, storing}
-use Rattle.dcc_ops.specs.Expressions.{bit, count_expr, left, result, sign, below_sign, lowest, is_zero, unless_zero, if_one, shifted, nearly_shifted, rotated_left, rotated_right, turned_left, turned_right}
+use Rattle.dcc_ops.specs.OperandPlace.{OperandPlace, taking, storing}
+use Rattle.dcc_ops.specs.Expressions.{bit, count_expr, left, result, sign, below_sign, lowest, is_zero, unless_zero, if_one, shifted, nearly_shifted, rol_value, ror_value, rcl_value, rcr_value}
 use Rattle.dcc_ops.specs.Statements.{result_taking, shift_flags, rotate_flags, shift_working, count_taking, staying, shifting, shift_stmts}
 use Rattle.dcc_ops.specs.Executed.{executed}
 use Rattle.dcc_ops.specs.Coupling.{Relation, HoldFlags, IsCoupling, IsRead, IsWritten}
-use Rattle.dcc_ops.proofs.ShiftValues.{sign_value, bit_value, differ_value, both_value, one_less, last_out, lowest_out, signed_is, lowest_of_signed, unmoved, turn_is, turn_below, rest_is, or_turned, or_turned_back, carry_below, carry_above, carry_above_small, unturned, unturned_back}
+use Rattle.dcc_ops.proofs.ShiftValues.{sign_value, bit_value, differ_value, both_value, one_less, last_out, lowest_out, signed_is, lowest_of_signed, unmoved, rotation_is, rotation_below, rest_is, or_turned, or_turned_back, carry_below, carry_above, carry_above_small, unturned, unturned_back}
 use Rattle.dcc_ops.proofs.ShiftCounts.{HoldsByEach, holds_by_count}
 use Rattle.dcc_ops.proofs.CouplingLaws.{sets_scratch, left_is, right_is, result_is, left_stays, right_taken, Working, Took, Holding, temporary_set, register_value, register_small, took, finished}
 
 -- Temporaries.
 
 -- a scene with these values
-abbrev pub scene_with : Scene → Values → Scene
+abbrev pub scene_with : Environment → Values → Environment
 scene_with scene values = record scene { values = values }
 
 -- what the temporaries of the operands hold
-pub record Holds (w : Width) (scene : Scene) (a b : ℕ) : Type 0 where
+pub record Holds (w : Width) (scene : Environment) (a b : ℕ) : Type 0 where
   pub left : scene.values (left_place w) ≡ a
   pub right : scene.values (right_place w) ≡ b
 
 -- what the temporaries of the operands and of the result hold
-pub record Yields (w : Width) (scene : Scene) (a b r : ℕ) : Type 0 where
+pub record Yields (w : Width) (scene : Environment) (a b r : ℕ) : Type 0 where
   pub holds : Holds w scene a b
   pub result : scene.values (result_place w) ≡ r
 
 -- the result goes there
-yields : (w : Width) (scene : Scene) (e : Expr) (a b r : ℕ) → Holds w scene a b → value_of scene e ≡ r
+yields : (w : Width) (scene : Environment) (e : Expr) (a b r : ℕ) → Holds w scene a b → value_of scene e ≡ r
     → Yields w (executed (result_taking w e) scene) a b r
 yields byte_width scene e a b r h is = record { holds = record { left = h.left; right = h.right }; result = is }
 yields word_width scene e a b r h is = record { holds = record { left = h.left; right = h.right }; result = is }
 
 -- a flag changes none of this
-yields_flag : (w : Width) (scene : Scene) (f : FlagName) (v a b r : ℕ) → Yields w scene a b r
+yields_flag : (w : Width) (scene : Environment) (f : FlagName) (v a b r : ℕ) → Yields w scene a b r
     → Yields w (scene_with scene (with_value scene.values (Flag f) v)) a b r
 yields_flag byte_width scene f v a b r y =
     record { holds = record { left = y.holds.left; right = y.holds.right }; result = y.result }
@@ -80,16 +80,16 @@ yields_flag word_width scene f v a b r y =
     record { holds = record { left = y.holds.left; right = y.holds.right }; result = y.result }
 
 -- CF that comes in changes nothing of what the operands' temporaries hold
-holds_carry : (w : Width) (scene : Scene) (v a b : ℕ) → Holds w scene a b
+holds_carry : (w : Width) (scene : Environment) (v a b : ℕ) → Holds w scene a b
     → Holds w (scene_with scene (with_value scene.values carry_place v)) a b
 holds_carry byte_width scene v a b h = record { left = h.left; right = h.right }
 holds_carry word_width scene v a b h = record { left = h.left; right = h.right }
 
-flags_carry : (was : Flags) (scene : Scene) (v : ℕ) → HoldFlags was scene.values
+flags_carry : (was : Flags) (scene : Environment) (v : ℕ) → HoldFlags was scene.values
     → HoldFlags was (with_value scene.values carry_place v)
 flags_carry was scene v h = record { carry = h.carry; zero = h.zero; negative = h.negative; overflow = h.overflow }
 
-flags_result : (w : Width) (was : Flags) (scene : Scene) (v : ℕ) → HoldFlags was scene.values
+flags_result : (w : Width) (was : Flags) (scene : Environment) (v : ℕ) → HoldFlags was scene.values
     → HoldFlags was (with_value scene.values (result_place w) v)
 flags_result byte_width was scene v h =
     record { carry = h.carry; zero = h.zero; negative = h.negative; overflow = h.overflow }
@@ -102,19 +102,20 @@ result_taken word_width values a = refl
 
 -- Bits of what the temporaries hold.
 
-sign_bit : (w : Width) (scene : Scene) (e : Expr) (x : ℕ) → value_of scene e ≡ x → x < limit_of w
+sign_bit : (w : Width) (scene : Environment) (e : Expr) (x : ℕ) → value_of scene e ≡ x → x < limit_of w
     → value_of scene (sign w e) ≡ from_bool (has_sign w x)
 sign_bit w scene e x is small = ap (λ (n : ℕ). n / 2 ^ (bits_of w - 1) % 2 ^ 1) is ∙ sign_value w x small
 
-below_sign_bit : (w : Width) (scene : Scene) (e : Expr) (x : ℕ) → value_of scene e ≡ x
+below_sign_bit : (w : Width) (scene : Environment) (e : Expr) (x : ℕ) → value_of scene e ≡ x
     → value_of scene (below_sign w e) ≡ from_bool (is_set x (bits_of w - 2))
 below_sign_bit w scene e x is = ap (λ (n : ℕ). n / 2 ^ (bits_of w - 2) % 2 ^ 1) is ∙ bit_value x (bits_of w - 2)
 
-lowest_bit : (scene : Scene) (e : Expr) (x : ℕ) → value_of scene e ≡ x
+lowest_bit : (scene : Environment) (e : Expr) (x : ℕ) → value_of scene e ≡ x
     → value_of scene (lowest e) ≡ from_bool (is_set x 0)
 lowest_bit scene e x is = ap (λ (n : ℕ). n / 2 ^ 0 % 2 ^ 1) is ∙ bit_value x 0
 
-differing : (scene : Scene) (e f : Expr) (p q : Bool) → value_of scene e ≡ from_bool p → value_of scene f ≡ from_bool q
+differing : (scene : Environment) (e f : Expr) (p q : Bool) → value_of scene e ≡ from_bool p → value_of scene f
+    ≡ from_bool q
     → value_of scene (Binary XorOp 1 e f) ≡ from_bool (differ p q)
 differing scene e f p q first second = ap (λ (n : ℕ). bit_xor n (value_of scene f)) first
     ∙ ap (λ (n : ℕ). bit_xor (from_bool p) n) second ∙ differ_value p q
@@ -127,13 +128,14 @@ pub record Counts (count : Count) (n : ℕ) : Type 0 where
   pub some : is_in_cl count ≡ false → 0 < n
 
 -- a bit for a count of 1
-one_counted : (w : Width) (scene : Scene) (e : Expr) (n : ℕ) (x : Bool) → scene.values (right_place w) ≡ n
+one_counted : (w : Width) (scene : Environment) (e : Expr) (n : ℕ) (x : Bool) → scene.values (right_place w) ≡ n
     → value_of scene e ≡ from_bool x
     → value_of scene (if_one w Cl e) ≡ from_bool ((n == 1) && x)
 one_counted w scene e n x counted is = ap (λ (k : ℕ). bit_and (from_bool (nat_eq k 1)) (value_of scene e)) counted
     ∙ ap (λ (k : ℕ). bit_and (from_bool (nat_eq n 1)) k) is ∙ both_value (nat_eq n 1) x
 
-one_bit : (w : Width) (count : Count) (scene : Scene) (e : Expr) (n : ℕ) (x : Bool) → scene.values (right_place w) ≡ n
+one_bit : (w : Width) (count : Count) (scene : Environment) (e : Expr) (n : ℕ) (x : Bool) → scene.values (right_place w)
+    ≡ n
     → Counts count n
     → value_of scene e ≡ from_bool x → value_of scene (if_one w count e) ≡ from_bool ((n == 1) && x)
 one_bit w One scene e n x counted c is = is ∙ ap (λ (k : ℕ). from_bool (nat_eq k 1 && x)) (sym (c.one refl))
@@ -148,12 +150,12 @@ one_bit w (ConstCount m) scene e n x counted c is = by (m % 32 == 1) refl
     by false t = told t
 
 -- a flag that stays where the count is 0
-shifted_bit : (scene : Scene) (e : Expr) (n : ℕ) (was x : Bool) → 0 < n → (0 < n → value_of scene e ≡ from_bool x)
+shifted_bit : (scene : Environment) (e : Expr) (n : ℕ) (was x : Bool) → 0 < n → (0 < n → value_of scene e ≡ from_bool x)
     → value_of scene e ≡ from_bool (if n == 0 then was else x)
 shifted_bit scene e n was x some is = is some
     ∙ ap (λ b. from_bool (if b then was else x)) (sym (ne_eqb n 0 (λ none. absurd (omega (arith, some, none)))))
 
-kept_bit : (w : Width) (count : Count) (f : FlagName) (scene : Scene) (e : Expr) (n : ℕ) (was x : Bool)
+kept_bit : (w : Width) (count : Count) (f : FlagName) (scene : Environment) (e : Expr) (n : ℕ) (was x : Bool)
     → scene.values (right_place w) ≡ n → Counts count n
     → scene.values (Flag f) ≡ from_bool was → (0 < n → value_of scene e ≡ from_bool x)
     → value_of scene (unless_zero w count f e) ≡ from_bool (if n == 0 then was else x)
@@ -178,23 +180,23 @@ flag_chosen true was moved f g e = ap (λ (x : Flags). from_bool (g x)) (sym e)
 flag_chosen false was moved f g e = ap (λ (x : Flags). from_bool (g x)) (sym e)
 
 -- after the flags of a shift, where these numbers are in the temporaries
-shift_flags_kept : (w : Width) (count : Count) (overflow carry : Expr) (was : Flags) (scene : Scene) (a n r : ℕ)
+shift_flags_kept : (w : Width) (count : Count) (overflow carry : Expr) (was : Flags) (scene : Environment) (a n r : ℕ)
     (o c : Bool) (f : Flags)
     → HoldFlags was scene.values → Yields w scene a n r → r < limit_of w → Counts count n
-    → ((seen : Scene) → Yields w seen a n r → 0 < n → value_of seen overflow ≡ from_bool o)
-    → ((seen : Scene) → Yields w seen a n r → 0 < n → value_of seen carry ≡ from_bool c)
+    → ((seen : Environment) → Yields w seen a n r → 0 < n → value_of seen overflow ≡ from_bool o)
+    → ((seen : Environment) → Yields w seen a n r → 0 < n → value_of seen carry ≡ from_bool c)
     → f ≡ (if n == 0 then was else record { cf = c; zf = r == 0; sf = has_sign w r; of = o })
     → HoldFlags f (executed (shift_flags w count overflow carry) scene).values
     × Yields w (executed (shift_flags w count overflow carry) scene) a n r
 shift_flags_kept w count overflow carry was scene a n r o c f p y small one of_is cf_is e =
     let v1 : ℕ = value_of scene (unless_zero w count Of overflow) in
-    let scene1 : Scene = scene_with scene (with_value scene.values (Flag Of) v1) in
+    let scene1 : Environment = scene_with scene (with_value scene.values (Flag Of) v1) in
     let y1 : Yields w scene1 a n r = yields_flag w scene Of v1 a n r y in
     let v2 : ℕ = value_of scene1 (unless_zero w count Sf (sign w (result w))) in
-    let scene2 : Scene = scene_with scene1 (with_value scene1.values (Flag Sf) v2) in
+    let scene2 : Environment = scene_with scene1 (with_value scene1.values (Flag Sf) v2) in
     let y2 : Yields w scene2 a n r = yields_flag w scene1 Sf v2 a n r y1 in
     let v3 : ℕ = value_of scene2 (unless_zero w count Zf (is_zero w (result w))) in
-    let scene3 : Scene = scene_with scene2 (with_value scene2.values (Flag Zf) v3) in
+    let scene3 : Environment = scene_with scene2 (with_value scene2.values (Flag Zf) v3) in
     let y3 : Yields w scene3 a n r = yields_flag w scene2 Zf v3 a n r y2 in
     let v4 : ℕ = value_of scene3 (unless_zero w count Cf carry) in (
       record {
@@ -217,17 +219,17 @@ shift_flags_kept w count overflow carry was scene a n r o c f p y small one of_i
     told g = flag_chosen (n == 0) was moved f g e
 
 -- flags and temporaries after the flags of a rotate by a count
-rotate_flags_kept : (w : Width) (count : Count) (overflow carry : Expr) (was : Flags) (scene : Scene) (a n r : ℕ)
+rotate_flags_kept : (w : Width) (count : Count) (overflow carry : Expr) (was : Flags) (scene : Environment) (a n r : ℕ)
     (o c : Bool) (f : Flags)
     → HoldFlags was scene.values → Yields w scene a n r → Counts count n
-    → ((seen : Scene) → Yields w seen a n r → 0 < n → value_of seen overflow ≡ from_bool o)
-    → ((seen : Scene) → Yields w seen a n r → 0 < n → value_of seen carry ≡ from_bool c)
+    → ((seen : Environment) → Yields w seen a n r → 0 < n → value_of seen overflow ≡ from_bool o)
+    → ((seen : Environment) → Yields w seen a n r → 0 < n → value_of seen carry ≡ from_bool c)
     → f ≡ (if n == 0 then was else turned_flags was c o)
     → HoldFlags f (executed (rotate_flags w count overflow carry) scene).values
     × Yields w (executed (rotate_flags w count overflow carry) scene) a n r
 rotate_flags_kept w count overflow carry was scene a n r o c f p y one of_is cf_is e =
     let v1 : ℕ = value_of scene (unless_zero w count Of overflow) in
-    let scene1 : Scene = scene_with scene (with_value scene.values (Flag Of) v1) in
+    let scene1 : Environment = scene_with scene (with_value scene.values (Flag Of) v1) in
     let y1 : Yields w scene1 a n r = yields_flag w scene Of v1 a n r y in
     let v2 : ℕ = value_of scene1 (unless_zero w count Cf carry) in (
       record {
@@ -255,16 +257,16 @@ rotate_flags_kept w count overflow carry was scene a n r o c f p y one of_is cf_
     told : (g : Flags → Bool) → from_bool (if n == 0 then g was else g moved) ≡ from_bool (g f)
     told g = flag_chosen (n == 0) was moved f g e
 
--- flags and temporaries after the flags of a turn by one place through CF
-turn_flags_kept : (w : Width) (overflow carry : Expr) (was : Flags) (scene : Scene) (a n r : ℕ) (o c : Bool)
+-- flags and temporaries after the flags of a rotation by one place through CF
+rotation_flags_kept : (w : Width) (overflow carry : Expr) (was : Flags) (scene : Environment) (a n r : ℕ) (o c : Bool)
     → HoldFlags was scene.values → Yields w scene a n r
-    → ((seen : Scene) → Yields w seen a n r → value_of seen overflow ≡ from_bool o)
-    → ((seen : Scene) → Yields w seen a n r → value_of seen carry ≡ from_bool c)
+    → ((seen : Environment) → Yields w seen a n r → value_of seen overflow ≡ from_bool o)
+    → ((seen : Environment) → Yields w seen a n r → value_of seen carry ≡ from_bool c)
     → HoldFlags (turned_flags was c o) (executed (rotate_flags w One overflow carry) scene).values
     × Yields w (executed (rotate_flags w One overflow carry) scene) a n r
-turn_flags_kept w overflow carry was scene a n r o c p y of_is cf_is =
+rotation_flags_kept w overflow carry was scene a n r o c p y of_is cf_is =
     let v1 : ℕ = value_of scene overflow in
-    let scene1 : Scene = scene_with scene (with_value scene.values (Flag Of) v1) in
+    let scene1 : Environment = scene_with scene (with_value scene.values (Flag Of) v1) in
     let y1 : Yields w scene1 a n r = yields_flag w scene Of v1 a n r y in
     let v2 : ℕ = value_of scene1 carry in (
       record { zero = p.zero; negative = p.negative; overflow = of_is scene y; carry = cf_is scene1 y1 },
@@ -285,7 +287,7 @@ value_chosen n x y still true e = still (eqb-true n 0 e)
 value_chosen n x y still false e = refl
 
 -- what a shift or a rotate takes
-pub record Takes (w : Width) (count : Count) (was : Flags) (scene : Scene) (a n : ℕ) : Type 0 where
+pub record Takes (w : Width) (count : Count) (was : Flags) (scene : Environment) (a n : ℕ) : Type 0 where
   pub shown : HoldFlags was scene.values
   pub holds : Holds w scene a n
   pub operand : a < limit_of w
@@ -301,11 +303,11 @@ remainder_small byte_width x = omega arith
 remainder_small word_width x = omega arith
 
 -- the operand but for the last place
-nearly_left : (w : Width) (seen : Scene) (a n : ℕ) → Holds w seen a n → 0 < n → n < 256
+nearly_left : (w : Width) (seen : Environment) (a n : ℕ) → Holds w seen a n → 0 < n → n < 256
     → value_of seen (nearly_shifted ShlOp w) ≡ a * 2 ^ (n - 1) % limit_of w
 nearly_left w seen a n h some small = rw (h.left, h.right, one_less w n some (count_small w n small)) refl
 
-shl_works : (w : Width) (count : Count) (was : Flags) (scene : Scene) (a n : ℕ) → Takes w count was scene a n
+shl_works : (w : Width) (count : Count) (was : Flags) (scene : Environment) (a n : ℕ) → Takes w count was scene a n
     → Working w (shl_of w a n was) (executed (shift_working Shl w count) scene)
 unfolding shl_of result_flags
 shl_works w count was scene a n t =
@@ -315,14 +317,14 @@ shl_works w count was scene a n t =
     let g : Flags = record { cf = out; zf = r == 0; sf = has_sign w r; of = o } in
     let is : value_of scene (shifted ShlOp w) ≡ r = rw (t.holds.left, t.holds.right) refl in
     let y = yields w scene (shifted ShlOp w) a n r t.holds is in
-    let after : Scene = executed (result_taking w (shifted ShlOp w)) scene in
+    let after : Environment = executed (result_taking w (shifted ShlOp w)) scene in
     let small : r < limit_of w = remainder_small w (a * 2 ^ n) in
-    let top : (seen : Scene) → Yields w seen a n r → 0 < n
+    let top : (seen : Environment) → Yields w seen a n r → 0 < n
     → value_of seen (sign w (nearly_shifted ShlOp w)) ≡ from_bool out =
     λ seen z some. sign_bit w seen (nearly_shifted ShlOp w) (a * 2 ^ (n - 1) % limit_of w)
     (nearly_left w seen a n z.holds some t.below)
     (remainder_small w (a * 2 ^ (n - 1))) ∙ ap from_bool (last_out w a n some) in
-    let over : (seen : Scene) → Yields w seen a n r → 0 < n
+    let over : (seen : Environment) → Yields w seen a n r → 0 < n
     → value_of seen (if_one w count (Binary XorOp 1 (sign w (nearly_shifted ShlOp w)) (sign w (result w))))
     ≡ from_bool o =
     λ seen z some. one_bit w count seen (Binary XorOp 1 (sign w (nearly_shifted ShlOp w)) (sign w (result w))) n
@@ -338,11 +340,11 @@ shl_works w count was scene a n t =
     value_chosen n (a, was) (r, g) (λ e. rw e (sym (unmoved w a t.operand))) (n == 0) refl in
     record { value = kept.1.result ∙ sym value; flags = kept.0 }
 
-nearly_right : (w : Width) (seen : Scene) (a n : ℕ) → Holds w seen a n → 0 < n → n < 256
+nearly_right : (w : Width) (seen : Environment) (a n : ℕ) → Holds w seen a n → 0 < n → n < 256
     → value_of seen (nearly_shifted ShrOp w) ≡ a / 2 ^ (n - 1)
 nearly_right w seen a n h some small = rw (h.left, h.right, one_less w n some (count_small w n small)) refl
 
-shr_works : (w : Width) (count : Count) (was : Flags) (scene : Scene) (a n : ℕ) → Takes w count was scene a n
+shr_works : (w : Width) (count : Count) (was : Flags) (scene : Environment) (a n : ℕ) → Takes w count was scene a n
     → Working w (shr_of w a n was) (executed (shift_working Shr w count) scene)
 unfolding shr_of result_flags
 shr_works w count was scene a n t =
@@ -352,14 +354,14 @@ shr_works w count was scene a n t =
     let g : Flags = record { cf = out; zf = r == 0; sf = has_sign w r; of = o } in
     let is : value_of scene (shifted ShrOp w) ≡ r = rw (t.holds.left, t.holds.right) refl in
     let y = yields w scene (shifted ShrOp w) a n r t.holds is in
-    let after : Scene = executed (result_taking w (shifted ShrOp w)) scene in
+    let after : Environment = executed (result_taking w (shifted ShrOp w)) scene in
     let less : r ≤ a = shr_le a n in
     let small : r < limit_of w = omega (arith, less, t.operand) in
-    let last : (seen : Scene) → Yields w seen a n r → 0 < n
+    let last : (seen : Environment) → Yields w seen a n r → 0 < n
     → value_of seen (lowest (nearly_shifted ShrOp w)) ≡ from_bool out =
     λ seen z some. lowest_bit seen (nearly_shifted ShrOp w) (a / 2 ^ (n - 1))
     (nearly_right w seen a n z.holds some t.below) ∙ ap from_bool (lowest_out a n) in
-    let over : (seen : Scene) → Yields w seen a n r → 0 < n
+    let over : (seen : Environment) → Yields w seen a n r → 0 < n
     → value_of seen (if_one w count (sign w (left w))) ≡ from_bool o =
     λ seen z some. one_bit w count seen (sign w (left w)) n (has_sign w a) z.holds.right t.counts
     (sign_bit w seen (left w) a z.holds.left t.operand) in
@@ -370,16 +372,16 @@ shr_works w count was scene a n t =
     let value : (shr_of w a n was).0 ≡ r = value_chosen n (a, was) (r, g) (λ e. rw e (omega arith)) (n == 0) refl in
     record { value = kept.1.result ∙ sym value; flags = kept.0 }
 
-signed_moved : (w : Width) (seen : Scene) (a n : ℕ) → Holds w seen a n
+signed_moved : (w : Width) (seen : Environment) (a n : ℕ) → Holds w seen a n
     → value_of seen (shifted SarOp w) ≡ wrapped_of w (halved_of (signed_of w a) n)
 signed_moved w seen a n h = rw (h.left, h.right, signed_is w a) refl
 
-nearly_signed : (w : Width) (seen : Scene) (a n : ℕ) → Holds w seen a n → 0 < n → n < 256
+nearly_signed : (w : Width) (seen : Environment) (a n : ℕ) → Holds w seen a n → 0 < n → n < 256
     → value_of seen (nearly_shifted SarOp w) ≡ wrapped_of w (halved_of (signed_of w a) (n - 1))
 nearly_signed w seen a n h some small =
     rw (h.left, h.right, one_less w n some (count_small w n small), signed_is w a) refl
 
-sar_works : (w : Width) (count : Count) (was : Flags) (scene : Scene) (a n : ℕ) → Takes w count was scene a n
+sar_works : (w : Width) (count : Count) (was : Flags) (scene : Environment) (a n : ℕ) → Takes w count was scene a n
     → Working w (sar_of w a n was) (executed (shift_working Sar w count) scene)
 unfolding sar_of result_flags
 sar_works w count was scene a n t =
@@ -387,9 +389,9 @@ sar_works w count was scene a n t =
     let out : Bool = nat_eq (residue_of 2 (halved_of (signed_of w a) (n - 1))) 1 in
     let g : Flags = record { cf = out; zf = r == 0; sf = has_sign w r; of = false } in
     let y = yields w scene (shifted SarOp w) a n r t.holds (signed_moved w scene a n t.holds) in
-    let after : Scene = executed (result_taking w (shifted SarOp w)) scene in
+    let after : Environment = executed (result_taking w (shifted SarOp w)) scene in
     let small : r < limit_of w = wrapped_below w (halved_of (signed_of w a) n) in
-    let last : (seen : Scene) → Yields w seen a n r → 0 < n
+    let last : (seen : Environment) → Yields w seen a n r → 0 < n
     → value_of seen (lowest (nearly_shifted SarOp w)) ≡ from_bool out =
     λ seen z some. lowest_bit seen (nearly_shifted SarOp w) (wrapped_of w (halved_of (signed_of w a) (n - 1)))
     (nearly_signed w seen a n z.holds some t.below)
@@ -401,25 +403,25 @@ sar_works w count was scene a n t =
     value_chosen n (a, was) (r, g) (λ e. rw e (wrapped_signed w a t.operand)) (n == 0) refl in
     record { value = kept.1.result ∙ sym value; flags = kept.0 }
 
-rol_works : (w : Width) (count : Count) (was : Flags) (scene : Scene) (a n : ℕ) → Takes w count was scene a n
-    → Working w (left_rotation_of w a n was) (executed (shift_working Rol w count) scene)
-unfolding left_rotation_of
+rol_works : (w : Width) (count : Count) (was : Flags) (scene : Environment) (a n : ℕ) → Takes w count was scene a n
+    → Working w (rol_of w a n was) (executed (shift_working Rol w count) scene)
+unfolding rol_of
 rol_works w count was scene a n t =
     let places : ℕ = n % bits_of w in
-    let fewer : places < bits_of w = turn_below w n in
+    let fewer : places < bits_of w = rotation_below w n in
     let within : places ≤ bits_of w = omega arith in
-    let r : ℕ = turned_of w a places in
+    let r : ℕ = rotated_of w a places in
     let out : Bool = is_set r 0 in
     let o : Bool = (n == 1) && differ out (has_sign w r) in
-    let is : value_of scene (rotated_left w) ≡ r =
-    rw (t.holds.left, t.holds.right, turn_is w n, rest_is w places fewer)
+    let is : value_of scene (rol_value w) ≡ r =
+    rw (t.holds.left, t.holds.right, rotation_is w n, rest_is w places fewer)
     (or_turned a (bits_of w) places t.operand within) in
-    let y = yields w scene (rotated_left w) a n r t.holds is in
-    let after : Scene = executed (result_taking w (rotated_left w)) scene in
-    let small : r < limit_of w = turned_below a (bits_of w) places t.operand within in
-    let last : (seen : Scene) → Yields w seen a n r → 0 < n
+    let y = yields w scene (rol_value w) a n r t.holds is in
+    let after : Environment = executed (result_taking w (rol_value w)) scene in
+    let small : r < limit_of w = rotated_below a (bits_of w) places t.operand within in
+    let last : (seen : Environment) → Yields w seen a n r → 0 < n
     → value_of seen (lowest (result w)) ≡ from_bool out = λ seen z some. lowest_bit seen (result w) r z.result in
-    let over : (seen : Scene) → Yields w seen a n r → 0 < n
+    let over : (seen : Environment) → Yields w seen a n r → 0 < n
     → value_of seen (if_one w count (Binary XorOp 1 (lowest (result w)) (sign w (result w)))) ≡ from_bool o =
     λ seen z some. one_bit w count seen (Binary XorOp 1 (lowest (result w)) (sign w (result w))) n
     (differ out (has_sign w r)) z.holds.right t.counts
@@ -427,31 +429,31 @@ rol_works w count was scene a n t =
     (sign_bit w seen (result w) r z.result small)) in
     let kept = rotate_flags_kept w count (if_one w count (Binary XorOp 1 (lowest (result w)) (sign w (result w))))
     (lowest (result w)) was after a n r o out
-    (left_rotation_of w a n was).1 (flags_result w was scene (value_of scene (rotated_left w)) t.shown)
+    (rol_of w a n was).1 (flags_result w was scene (value_of scene (rol_value w)) t.shown)
     y t.counts over last (flags_chosen (n == 0) (a, was) (r, turned_flags was out o)) in
-    let value : (left_rotation_of w a n was).0 ≡ r =
+    let value : (rol_of w a n was).0 ≡ r =
     value_chosen n (a, was) (r, turned_flags was out o) (λ e. rw e (unturned w a t.operand)) (n == 0) refl in
     record { value = kept.1.result ∙ sym value; flags = kept.0 }
 
-ror_works : (w : Width) (count : Count) (was : Flags) (scene : Scene) (a n : ℕ) → Takes w count was scene a n
-    → Working w (right_rotation_of w a n was) (executed (shift_working Ror w count) scene)
-unfolding right_rotation_of
+ror_works : (w : Width) (count : Count) (was : Flags) (scene : Environment) (a n : ℕ) → Takes w count was scene a n
+    → Working w (ror_of w a n was) (executed (shift_working Ror w count) scene)
+unfolding ror_of
 ror_works w count was scene a n t =
-    let fewer : n % bits_of w < bits_of w = turn_below w n in
+    let fewer : n % bits_of w < bits_of w = rotation_below w n in
     let places : ℕ = bits_of w - n % bits_of w in
     let within : places ≤ bits_of w = omega arith in
-    let r : ℕ = turned_of w a places in
+    let r : ℕ = rotated_of w a places in
     let out : Bool = has_sign w r in
     let o : Bool = (n == 1) && top_bits_differ w r in
-    let is : value_of scene (rotated_right w) ≡ r =
-    rw (t.holds.left, t.holds.right, turn_is w n, rest_is w (n % bits_of w) fewer)
+    let is : value_of scene (ror_value w) ≡ r =
+    rw (t.holds.left, t.holds.right, rotation_is w n, rest_is w (n % bits_of w) fewer)
     (or_turned_back w a (n % bits_of w) t.operand fewer) in
-    let y = yields w scene (rotated_right w) a n r t.holds is in
-    let after : Scene = executed (result_taking w (rotated_right w)) scene in
-    let small : r < limit_of w = turned_below a (bits_of w) places t.operand within in
-    let top : (seen : Scene) → Yields w seen a n r → 0 < n
+    let y = yields w scene (ror_value w) a n r t.holds is in
+    let after : Environment = executed (result_taking w (ror_value w)) scene in
+    let small : r < limit_of w = rotated_below a (bits_of w) places t.operand within in
+    let top : (seen : Environment) → Yields w seen a n r → 0 < n
     → value_of seen (sign w (result w)) ≡ from_bool out = λ seen z some. sign_bit w seen (result w) r z.result small in
-    let over : (seen : Scene) → Yields w seen a n r → 0 < n
+    let over : (seen : Environment) → Yields w seen a n r → 0 < n
     → value_of seen (if_one w count (Binary XorOp 1 (sign w (result w)) (below_sign w (result w)))) ≡ from_bool o =
     λ seen z some. one_bit w count seen (Binary XorOp 1 (sign w (result w)) (below_sign w (result w))) n
     (top_bits_differ w r) z.holds.right t.counts
@@ -459,65 +461,65 @@ ror_works w count was scene a n t =
     (below_sign_bit w seen (result w) r z.result)) in
     let kept = rotate_flags_kept w count (if_one w count (Binary XorOp 1 (sign w (result w)) (below_sign w (result w))))
     (sign w (result w)) was after a n r o out
-    (right_rotation_of w a n was).1 (flags_result w was scene (value_of scene (rotated_right w)) t.shown)
+    (ror_of w a n was).1 (flags_result w was scene (value_of scene (ror_value w)) t.shown)
     y t.counts over top (flags_chosen (n == 0) (a, was) (r, turned_flags was out o)) in
-    let value : (right_rotation_of w a n was).0 ≡ r =
+    let value : (ror_of w a n was).0 ≡ r =
     value_chosen n (a, was) (r, turned_flags was out o) (λ e. rw e (unturned_back w a t.operand)) (n == 0) refl in
     record { value = kept.1.result ∙ sym value; flags = kept.0 }
 
 -- CF comes in
-turned_left_is : (w : Width) (seen : Scene) (a : ℕ) (c : Bool) → seen.values (left_place w) ≡ a
+rcl_value_is : (w : Width) (seen : Environment) (a : ℕ) (c : Bool) → seen.values (left_place w) ≡ a
     → seen.values carry_place ≡ from_bool c
-    → value_of seen (turned_left w) ≡ (2 * a + from_bool c) % limit_of w
-turned_left_is w seen a c held came = rw (held, came) (carry_below w a c)
+    → value_of seen (rcl_value w) ≡ (2 * a + from_bool c) % limit_of w
+rcl_value_is w seen a c held came = rw (held, came) (carry_below w a c)
 
-turned_right_is : (w : Width) (seen : Scene) (a : ℕ) (c : Bool) → a < limit_of w → seen.values (left_place w) ≡ a
+rcr_value_is : (w : Width) (seen : Environment) (a : ℕ) (c : Bool) → a < limit_of w → seen.values (left_place w) ≡ a
     → seen.values carry_place ≡ from_bool c
-    → value_of seen (turned_right w) ≡ a / 2 + from_bool c * half_of w
-turned_right_is w seen a c small held came = rw (held, came) (carry_above w a c small)
+    → value_of seen (rcr_value w) ≡ a / 2 + from_bool c * half_of w
+rcr_value_is w seen a c small held came = rw (held, came) (carry_above w a c small)
 
-rcl_works : (w : Width) (count : Count) (was : Flags) (scene : Scene) (a n : ℕ) → Takes w count was scene a n
-    → Working w (left_turn_of w a was) (executed (shift_working Rcl w count) scene)
-unfolding left_turn_of
+rcl_works : (w : Width) (count : Count) (was : Flags) (scene : Environment) (a n : ℕ) → Takes w count was scene a n
+    → Working w (rcl_of w a was) (executed (shift_working Rcl w count) scene)
+unfolding rcl_of
 rcl_works w count was scene a n t =
     let r : ℕ = (2 * a + from_bool was.cf) % limit_of w in
-    let brought : Scene = scene_with scene (with_value scene.values carry_place (scene.values (Flag Cf))) in
+    let brought : Environment = scene_with scene (with_value scene.values carry_place (scene.values (Flag Cf))) in
     let holds = holds_carry w scene (scene.values (Flag Cf)) a n t.holds in
     let shown : HoldFlags was brought.values = flags_carry was scene (scene.values (Flag Cf)) t.shown in
-    let y = yields w brought (turned_left w) a n r holds (turned_left_is w brought a was.cf holds.left t.shown.carry) in
-    let after : Scene = executed (result_taking w (turned_left w)) brought in
+    let y = yields w brought (rcl_value w) a n r holds (rcl_value_is w brought a was.cf holds.left t.shown.carry) in
+    let after : Environment = executed (result_taking w (rcl_value w)) brought in
     let small : r < limit_of w = remainder_small w (2 * a + from_bool was.cf) in
-    let out : (seen : Scene) → Yields w seen a n r
+    let out : (seen : Environment) → Yields w seen a n r
     → value_of seen (sign w (left w)) ≡ from_bool (has_sign w a) =
     λ seen z. sign_bit w seen (left w) a z.holds.left t.operand in
-    let kept = turn_flags_kept w (Binary XorOp 1 (sign w (left w)) (sign w (result w))) (sign w (left w))
+    let kept = rotation_flags_kept w (Binary XorOp 1 (sign w (left w)) (sign w (result w))) (sign w (left w))
     was after a n r (differ (has_sign w a) (has_sign w r)) (has_sign w a)
-    (flags_result w was brought (value_of brought (turned_left w)) shown) y
+    (flags_result w was brought (value_of brought (rcl_value w)) shown) y
     (λ seen z. differing seen (sign w (left w)) (sign w (result w)) (has_sign w a) (has_sign w r) (out seen z)
     (sign_bit w seen (result w) r z.result small)) out in
     record { value = kept.1.result; flags = kept.0 }
 
-rcr_works : (w : Width) (count : Count) (was : Flags) (scene : Scene) (a n : ℕ) → Takes w count was scene a n
-    → Working w (right_turn_of w a was) (executed (shift_working Rcr w count) scene)
-unfolding right_turn_of
+rcr_works : (w : Width) (count : Count) (was : Flags) (scene : Environment) (a n : ℕ) → Takes w count was scene a n
+    → Working w (rcr_of w a was) (executed (shift_working Rcr w count) scene)
+unfolding rcr_of
 rcr_works w count was scene a n t =
     let r : ℕ = a / 2 + from_bool was.cf * half_of w in
-    let brought : Scene = scene_with scene (with_value scene.values carry_place (scene.values (Flag Cf))) in
+    let brought : Environment = scene_with scene (with_value scene.values carry_place (scene.values (Flag Cf))) in
     let holds = holds_carry w scene (scene.values (Flag Cf)) a n t.holds in
     let shown : HoldFlags was brought.values = flags_carry was scene (scene.values (Flag Cf)) t.shown in
-    let y = yields w brought (turned_right w) a n r holds
-    (turned_right_is w brought a was.cf t.operand holds.left t.shown.carry) in
-    let after : Scene = executed (result_taking w (turned_right w)) brought in
+    let y = yields w brought (rcr_value w) a n r holds
+    (rcr_value_is w brought a was.cf t.operand holds.left t.shown.carry) in
+    let after : Environment = executed (result_taking w (rcr_value w)) brought in
     let small : r < limit_of w = carry_above_small w a was.cf t.operand in
-    let kept = turn_flags_kept w (Binary XorOp 1 (sign w (result w)) (below_sign w (result w))) (lowest (left w))
+    let kept = rotation_flags_kept w (Binary XorOp 1 (sign w (result w)) (below_sign w (result w))) (lowest (left w))
     was after a n r (top_bits_differ w r) (is_set a 0)
-    (flags_result w was brought (value_of brought (turned_right w)) shown) y
+    (flags_result w was brought (value_of brought (rcr_value w)) shown) y
     (λ seen z. differing seen (sign w (result w)) (below_sign w (result w)) (has_sign w r) (is_set r (bits_of w - 2))
     (sign_bit w seen (result w) r z.result small) (below_sign_bit w seen (result w) r z.result))
     (λ seen z. lowest_bit seen (left w) a z.holds.left) in
     record { value = kept.1.result; flags = kept.0 }
 
-pub shift_works : (operation : Shift) (w : Width) (count : Count) (was : Flags) (scene : Scene) (a n : ℕ)
+pub shift_works : (operation : Shift) (w : Width) (count : Count) (was : Flags) (scene : Environment) (a n : ℕ)
     → Takes w count was scene a n
     → Working w (shift_result operation w a n was) (executed (shift_working operation w count) scene)
 shift_works Rol w count was scene a n t = rol_works w count was scene a n t
@@ -531,9 +533,9 @@ shift_works Sar w count was scene a n t = sar_works w count was scene a n t
 -- The whole.
 
 -- by no place, but for RCL and RCR, nothing changes
-unshifted : (operation : Shift) (w : Width) (a : ℕ) (was : Flags) → is_turn operation ≡ false
+unshifted : (operation : Shift) (w : Width) (a : ℕ) (was : Flags) → is_through_carry operation ≡ false
     → shift_result operation w a 0 was ≡ (a, was)
-unfolding shl_of shr_of sar_of left_rotation_of right_rotation_of
+unfolding shl_of shr_of sar_of rol_of ror_of
 unshifted Rol w a was straight = refl
 unshifted Ror w a was straight = refl
 unshifted Rcl w a was straight = absurd (true≢false straight)
@@ -548,13 +550,13 @@ none_counted cpu One s never = absurd (true≢false (sym never))
 none_counted cpu Cl s never = absurd (true≢false (sym never))
 none_counted cpu (ConstCount n) s never = eqb-true (n % 32) 0 never
 
-pub never_turns : (operation : Shift) (count : Count) → MayCount operation count → never_shifts count ≡ true
-    → is_turn operation ≡ false
-never_turns operation One may never = absurd (true≢false (sym never))
-never_turns operation Cl may never = absurd (true≢false (sym never))
-never_turns Rcl (ConstCount n) may never = absurd may
-never_turns Rcr (ConstCount n) may never = absurd may
-never_turns operation (ConstCount n) may never = refl
+pub never_rotates : (operation : Shift) (count : Count) → MayCount operation count → never_shifts count ≡ true
+    → is_through_carry operation ≡ false
+never_rotates operation One may never = absurd (true≢false (sym never))
+never_rotates operation Cl may never = absurd (true≢false (sym never))
+never_rotates Rcl (ConstCount n) may never = absurd may
+never_rotates Rcr (ConstCount n) may never = absurd may
+never_rotates operation (ConstCount n) may never = refl
 
 some_counted : (cpu : Cpu) (count : Count) (s : Machine) → never_shifts count ≡ false → is_in_cl count ≡ false
     → 0 < count_in cpu count s
@@ -594,7 +596,7 @@ module _ (R After : Relation) (coupling : IsCoupling R) where
   count_below cpu One s t rel = omega arith
   count_below cpu (ConstCount n) s t rel = omega arith
 
-  counted_took : (cpu : Cpu) (x : Operand) (p : Place) (count : Count) (s : Machine) (t : State) → IsRead R s x p
+  counted_took : (cpu : Cpu) (x : Operand) (p : OperandPlace) (count : Count) (s : Machine) (t : State) → IsRead R s x p
       → R s t
       → Holding R (operand_width x) s (execute (count_taking cpu (operand_width x) p count) t) (operand_value s x)
       (count_in cpu count s)
@@ -619,7 +621,7 @@ module _ (R After : Relation) (coupling : IsCoupling R) where
         right = right_taken w t1.running.values n;
       })
 
-  shifting_performed : (cpu : Cpu) (operation : Shift) (x : Operand) (p : Place) (count : Count) (s : Machine)
+  shifting_performed : (cpu : Cpu) (operation : Shift) (x : Operand) (p : OperandPlace) (count : Count) (s : Machine)
       (t : State) → IsRead R s x p → IsWritten R After s x p
       → never_shifts count ≡ false → R s t
       → After (shift_step cpu operation x count s) (execute (shifting cpu operation (operand_width x) p count) t)
@@ -649,7 +651,7 @@ module _ (R After : Relation) (coupling : IsCoupling R) where
       written (shift_scratch operation w count) work hold.stands)
 
   -- by no place it takes its own value
-  staying_performed : (cpu : Cpu) (operation : Shift) (x : Operand) (p : Place) (count : Count) (s : Machine)
+  staying_performed : (cpu : Cpu) (operation : Shift) (x : Operand) (p : OperandPlace) (count : Count) (s : Machine)
       (t : State) → MayCount operation count → IsRead R s x p
       → IsWritten R After s x p → never_shifts count ≡ true → R s t
       → After (shift_step cpu operation x count s) (execute (staying (operand_width x) p) t)
@@ -663,14 +665,14 @@ module _ (R After : Relation) (coupling : IsCoupling R) where
       ∙ result_taken w t.running.values a in
       let same : shift_result operation w a (count_in cpu count s) s.flags ≡ (a, s.flags) =
       ap (λ n. shift_result operation w a n s.flags) (none_counted cpu count s never)
-      ∙ unshifted operation w a s.flags (never_turns operation count may never) in
+      ∙ unshifted operation w a s.flags (never_rotates operation count may never) in
       subst (λ outcome. After (with_result x outcome s) (execute (staying w p) t)) (sym same)
       (subst (After (with_result x (a, s.flags) s))
       (sym (execute-append (taking (result_place w) p ∷ []) (storing p (result w)) t))
       (subst (λ n. After (with_result x (n, s.flags) s) (execute (storing p (Get (result_place w))) u)) held
       (written.taken s.flags u (result_place w) one.stands (result_is w))))
 
-  pub shift_performed : (cpu : Cpu) (operation : Shift) (x : Operand) (p : Place) (count : Count) (s : Machine)
+  pub shift_performed : (cpu : Cpu) (operation : Shift) (x : Operand) (p : OperandPlace) (count : Count) (s : Machine)
       (t : State) → IsShift operation x count → IsRead R s x p
       → IsWritten R After s x p → R s t
       → After (shift_step cpu operation x count s) (execute (shift_stmts cpu operation (operand_width x) p count) t)

@@ -9,7 +9,7 @@ use Rattle.std.proofs.Math.Nat.{mul-div-mul_right, mul_comm}
 use Rattle.dcc_num.specs.declared.Width.{Width}
 use Rattle.dcc_num.specs.declared.Width.TheVariants.{Byte, Word}
 use Rattle.dcc_num.specs.Numbers.{bits_of, limit_of, half_of, has_sign, is_set, differ, residue_of, signed_of, wrapped_of}
-use Rattle.dcc_num.specs.Shift.{turned_of}
+use Rattle.dcc_num.specs.Shift.{rotated_of}
 use Rattle.dcc_ir.specs.Value.{signed_at}
 
 -- Bits.
@@ -80,25 +80,25 @@ unmoved Word a small = omega arith
 
 -- Rotates.
 
--- a rotate by no place, and by a whole turn
-pub unturned : (w : Width) (a : ℕ) → a < limit_of w → a ≡ turned_of w a (0 % bits_of w)
+-- a rotate by no place, and by a whole rotation
+pub unturned : (w : Width) (a : ℕ) → a < limit_of w → a ≡ rotated_of w a (0 % bits_of w)
 unturned Byte a small = omega arith
 unturned Word a small = omega arith
 
-pub unturned_back : (w : Width) (a : ℕ) → a < limit_of w → a ≡ turned_of w a (bits_of w - 0 % bits_of w)
+pub unturned_back : (w : Width) (a : ℕ) → a < limit_of w → a ≡ rotated_of w a (bits_of w - 0 % bits_of w)
 unturned_back Byte a small = omega arith
 unturned_back Word a small = omega arith
 
 -- places that are turned
-pub turn_is : (w : Width) (n : ℕ) → bit_and n (bits_of w - 1) ≡ n % bits_of w
-turn_is Byte n = and_mask n 3
-turn_is Word n = and_mask n 4
+pub rotation_is : (w : Width) (n : ℕ) → bit_and n (bits_of w - 1) ≡ n % bits_of w
+rotation_is Byte n = and_mask n 3
+rotation_is Word n = and_mask n 4
 
-pub turn_below : (w : Width) (n : ℕ) → n % bits_of w < bits_of w
-turn_below Byte n = omega arith
-turn_below Word n = omega arith
+pub rotation_below : (w : Width) (n : ℕ) → n % bits_of w < bits_of w
+rotation_below Byte n = omega arith
+rotation_below Word n = omega arith
 
--- what is missing to a whole turn
+-- what is missing to a whole rotation
 pub rest_is : (w : Width) (t : ℕ) → t < bits_of w → (bits_of w + limit_of w - t) % limit_of w ≡ bits_of w - t
 rest_is Byte t less = omega arith
 rest_is Word t less = omega arith
@@ -127,7 +127,7 @@ or_turned a b k small within =
     rw p (parts_apart a (2 ^ (b - k)) (2 ^ k) k (pow_pos (b - k)) refl q)
 
 pub or_turned_back : (w : Width) (a t : ℕ) → a < limit_of w → t < bits_of w
-    → bit_or (a / 2 ^ t) (a * 2 ^ (bits_of w - t) % limit_of w) ≡ turned_of w a (bits_of w - t)
+    → bit_or (a / 2 ^ t) (a * 2 ^ (bits_of w - t) % limit_of w) ≡ rotated_of w a (bits_of w - t)
 or_turned_back w a t small less =
     let e : bits_of w - (bits_of w - t) ≡ t = omega arith in
     or_comm (a / 2 ^ t) (a * 2 ^ (bits_of w - t) % limit_of w)

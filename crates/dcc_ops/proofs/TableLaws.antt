@@ -3,15 +3,15 @@ use Rattle.std.proofs.Common.{◌≡◌, ◌∙◌, refl, sym, ap, ap₂, subst,
 use Rattle.dcc_num.specs.declared.Width.TheVariants.{Byte as byte_width}
 use Rattle.dcc_num.specs.declared.Reg.TheVariants.{Ax, Bx}
 use Rattle.dcc_num.specs.declared.Half.TheVariants.{Low}
-use Rattle.dcc_prog.specs.declared.instr.Operand.TheVariants.{Word, Byte}
-use Rattle.dcc_prog.specs.declared.instr.Plain.TheVariants.{Xlat}
-use Rattle.dcc_prog.specs.Machine.{State as Machine, with_operand}
-use Rattle.dcc_prog.specs.Operations.{plain_step}
+use Rattle.dcc_machine.specs.declared.instr.Operand.TheVariants.{Word, Byte}
+use Rattle.dcc_machine.specs.declared.instr.Plain.TheVariants.{Xlat}
+use Rattle.dcc_machine.specs.Machine.{State as Machine, with_operand}
+use Rattle.dcc_machine.specs.Operations.{plain_step}
 use Rattle.dcc_ir.specs.declared.syntax.Loc.TheVariants.{Half, Temp}
 use Rattle.dcc_ir.specs.Run.{State, value_in, setting, execute}
 use Rattle.dcc_ir.proofs.ExecuteLaws.{execute-append}
 use Rattle.dcc_ops.specs.Temporaries.{left_place}
-use Rattle.dcc_ops.specs.Place.{byte, taking, storing}
+use Rattle.dcc_ops.specs.OperandPlace.{byte, taking, storing}
 use Rattle.dcc_ops.specs.Expressions.{left}
 use Rattle.dcc_ops.specs.Coupling.{Relation, IsCoupling}
 use Rattle.dcc_ops.specs.Statements.{xlat_address, plain_stmts}

@@ -7,23 +7,23 @@ use Rattle.dcc_num.specs.declared.Reg.TheVariants.{Cx}
 use Rattle.dcc_num.specs.declared.FlagName.TheVariants.{Zf, Of}
 use Rattle.dcc_num.specs.declared.Flags.{Flags}
 use Rattle.dcc_num.specs.Numbers.{differ}
-use Rattle.dcc_prog.specs.declared.cpu.Cpu.{Cpu}
-use Rattle.dcc_prog.specs.declared.instr.Cond.{Cond}
-use Rattle.dcc_prog.specs.declared.instr.Cond.TheVariants.{O, No, B, Ae, Z, Nz, Be, A, S, Ns, L, Ge, Le, G}
-use Rattle.dcc_prog.specs.declared.instr.Operand.TheVariants.{Word}
-use Rattle.dcc_prog.specs.declared.instr.Op.{Op}
-use Rattle.dcc_prog.specs.declared.instr.Op.TheVariants.{Alu as AluOp, Unary as UnaryOp, Shift as ShiftOp, Mov, Xchg, Lea, Imul3, Push, Pop, Enter, Leave, Plain as PlainOp, Jump, Branch, Loop, LoopE, LoopNe, Jcxz, Table, Call, Ret, Int21}
-use Rattle.dcc_prog.specs.Machine.{State as Machine, word_in}
-use Rattle.dcc_prog.specs.Operations.{holds}
-use Rattle.dcc_prog.specs.Step.{op_step}
-use Rattle.dcc_prog.specs.Trail.{op_successors}
+use Rattle.dcc_machine.specs.declared.cpu.Cpu.{Cpu}
+use Rattle.dcc_machine.specs.declared.instr.Cond.{Cond}
+use Rattle.dcc_machine.specs.declared.instr.Cond.TheVariants.{O, No, B, Ae, Z, Nz, Be, A, S, Ns, L, Ge, Le, G}
+use Rattle.dcc_machine.specs.declared.instr.Operand.TheVariants.{Word}
+use Rattle.dcc_machine.specs.declared.instr.Op.{Op}
+use Rattle.dcc_machine.specs.declared.instr.Op.TheVariants.{Alu as AluOp, Unary as UnaryOp, Shift as ShiftOp, Mov, Xchg, Lea, Imul3, Push, Pop, Enter, Leave, Plain as PlainOp, Jump, Branch, Loop, LoopE, LoopNe, Jcxz, Table, Call, Ret, Int21}
+use Rattle.dcc_machine.specs.Machine.{State as Machine, word_in}
+use Rattle.dcc_machine.specs.Operations.{holds}
+use Rattle.dcc_machine.specs.Step.{op_step}
+use Rattle.dcc_machine.specs.Successors.{op_successors}
 use Rattle.dcc_ir.specs.declared.syntax.BinOp.TheVariants.{And as AndOp}
 use Rattle.dcc_ir.specs.declared.syntax.Loc.TheVariants.{Flag, Temp}
 use Rattle.dcc_ir.specs.Location.{Values}
 use Rattle.dcc_ir.specs.Tree.{Expr, Binary}
-use Rattle.dcc_ir.specs.Value.{Scene, value_of}
+use Rattle.dcc_ir.specs.Value.{Environment, value_of}
 use Rattle.dcc_ir.specs.Run.{State, scene_of, value_in, execute}
-use Rattle.dcc_ops.specs.Place.{Place}
+use Rattle.dcc_ops.specs.OperandPlace.{OperandPlace}
 use Rattle.dcc_ops.specs.Expressions.{word_of, flag, negated, is_zero, less, condition, goes_round}
 use Rattle.dcc_ops.specs.Statements.{counting, op_stmts}
 use Rattle.dcc_ops.specs.Coupling.{Relation, HoldFlags, IsCoupling}
@@ -40,13 +40,13 @@ and_value j k p q e f = ap (λ n. bit_and n k) e ∙ ap (bit_and (from_bool p)) 
 or_value : (j k : ℕ) (p q : Bool) → j ≡ from_bool p → k ≡ from_bool q → bit_or j k ≡ from_bool (p || q)
 or_value j k p q e f = ap (λ n. bit_or n k) e ∙ ap (bit_or (from_bool p)) f ∙ or_bits p q
 
-less_value : (flags : Flags) (scene : Scene) → HoldFlags flags scene.values
+less_value : (flags : Flags) (scene : Environment) → HoldFlags flags scene.values
     → value_of scene less ≡ from_bool (differ flags.sf flags.of)
 less_value flags scene h = ap (λ n. bit_xor n (scene.values (Flag Of))) h.negative
     ∙ ap (bit_xor (from_bool flags.sf)) h.overflow ∙ xor_bits flags.sf flags.of
 
 -- the expression of a condition tells whether it holds
-pub condition_value : (tested : Cond) (flags : Flags) (scene : Scene) → HoldFlags flags scene.values
+pub condition_value : (tested : Cond) (flags : Flags) (scene : Environment) → HoldFlags flags scene.values
     → value_of scene (condition tested) ≡ from_bool (holds tested flags)
 condition_value O flags scene h = h.overflow
 condition_value No flags scene h = negated_value _ flags.of h.overflow
@@ -73,7 +73,7 @@ chosen_by k target next p e = sym (ap (λ n. if n == 1 then target else next) e 
 -- Where an operation with a test goes on.
 
 -- the state goes on to the target where the test has the value 1, else to the next instruction
-abbrev Goes : Cpu → Op → Option ℕ → ℕ → Machine → Option ℕ → State → Place → Place → Expr → Type 0
+abbrev Goes : Cpu → Op → Option ℕ → ℕ → Machine → Option ℕ → State → OperandPlace → OperandPlace → Expr → Type 0
 Goes cpu op number at s ah t p q test =
     (target : ℕ) × (op_successors op s.ip ah [] ≡ target ∷ s.ip ∷ [])
     × ((op_step cpu op at s).ip
@@ -84,7 +84,7 @@ not_done : Machine → Bool
 not_done s = not ((word_in s Cx + 65535) % 65536 == 0)
 
 module _ (R : Relation) (coupling : IsCoupling R) (cpu : Cpu) (number : Option ℕ) (at : ℕ) (s : Machine) (t : State)
-    (p q : Place) (ah : Option ℕ) (rel : R s t) where
+    (p q : OperandPlace) (ah : Option ℕ) (rel : R s t) where
   branch_goes : (tested : Cond) (target : ℕ) → Goes cpu (Branch tested target) number at s ah t p q (condition tested)
   branch_goes tested target = (
     target,

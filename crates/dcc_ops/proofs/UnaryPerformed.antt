@@ -8,20 +8,20 @@ use Rattle.dcc_num.specs.declared.FlagName.TheVariants.{Cf}
 use Rattle.dcc_num.specs.declared.Flags.{Flags}
 use Rattle.dcc_num.specs.Numbers.{limit_of}
 use Rattle.dcc_num.specs.Sum.{sum_of, difference_of, negation_of, keeping_carry, increment_of, decrement_of}
-use Rattle.dcc_prog.specs.declared.instr.Unary.TheVariants.{Inc, Dec, Neg, Not}
-use Rattle.dcc_prog.specs.declared.instr.Operand.{Operand}
-use Rattle.dcc_prog.specs.declared.instr.Operand.TheVariants.{Const as Constant}
-use Rattle.dcc_prog.specs.Machine.{State as Machine, operand_value, operand_width, with_operand}
-use Rattle.dcc_prog.specs.Operations.{with_result}
+use Rattle.dcc_machine.specs.declared.instr.Unary.TheVariants.{Inc, Dec, Neg, Not}
+use Rattle.dcc_machine.specs.declared.instr.Operand.{Operand}
+use Rattle.dcc_machine.specs.declared.instr.Operand.TheVariants.{Const as Constant}
+use Rattle.dcc_machine.specs.Machine.{State as Machine, operand_value, operand_width, with_operand}
+use Rattle.dcc_machine.specs.Operations.{with_result}
 use Rattle.dcc_ir.specs.declared.syntax.Loc.TheVariants.{Flag, Temp}
 use Rattle.dcc_ir.specs.declared.syntax.BinOp.TheVariants.{Eq}
 use Rattle.dcc_ir.specs.Location.{Values, with_value}
 use Rattle.dcc_ir.specs.Tree.{Stmt}
-use Rattle.dcc_ir.specs.Value.{Scene}
+use Rattle.dcc_ir.specs.Value.{Environment}
 use Rattle.dcc_ir.specs.Run.{State, scene_of, execute}
 use Rattle.dcc_ir.proofs.ExecuteLaws.{execute-append}
 use Rattle.dcc_ops.specs.Temporaries.{left_place, right_place}
-use Rattle.dcc_ops.specs.Place.{Place, constant, taking, storing}
+use Rattle.dcc_ops.specs.OperandPlace.{OperandPlace, constant, taking, storing}
 use Rattle.dcc_ops.specs.Expressions.{left, right, result, at_width, sign, is_zero, sum, sum_overflow, difference, difference_overflow}
 use Rattle.dcc_ops.specs.Statements.{operands_taking, result_taking, sum_flags, difference_flags, subtracting, complementing, unary_stmts}
 use Rattle.dcc_ops.specs.Executed.{executed}
@@ -29,14 +29,14 @@ use Rattle.dcc_ops.specs.Coupling.{Relation, HoldFlags, IsCoupling, IsRead, IsWr
 use Rattle.dcc_ops.proofs.CouplingLaws.{sets_scratch, Working, Holding, Took, left_is, took, both_took, register_read, finished}
 use Rattle.dcc_ops.proofs.SumValues.{sum_result, sum_below, sum_sign, sum_zero, difference_result, difference_below, difference_sign, difference_equal}
 use Rattle.dcc_ops.proofs.AluPerformed.{worked_three, sum_overflow_value, difference_overflow_value, sign_flag, zero_flag, difference_worked, alu_scratch}
-use Rattle.dcc_prog.specs.declared.instr.Alu.TheVariants.{Sub}
+use Rattle.dcc_machine.specs.declared.instr.Alu.TheVariants.{Sub}
 
 one_below : (w : Width) → 1 < limit_of w
 one_below byte_width = omega arith
 one_below word_width = omega arith
 
 -- a sum that keeps CF
-increment_worked : (w : Width) (flags : Flags) (scene : Scene) → scene.values (Flag Cf) ≡ from_bool flags.cf
+increment_worked : (w : Width) (flags : Flags) (scene : Environment) → scene.values (Flag Cf) ≡ from_bool flags.cf
     → scene.values (left_place w) < limit_of w → scene.values (right_place w) < limit_of w
     → Working w (keeping_carry flags (sum_of w (scene.values (left_place w)) (scene.values (right_place w)) false))
     (executed (result_taking w (sum w) ++ sum_flags w) scene)
@@ -64,7 +64,7 @@ increment_worked word_width flags scene carry first second =
     carry
 
 -- a difference that keeps CF
-decrement_worked : (w : Width) (flags : Flags) (scene : Scene) → scene.values (Flag Cf) ≡ from_bool flags.cf
+decrement_worked : (w : Width) (flags : Flags) (scene : Environment) → scene.values (Flag Cf) ≡ from_bool flags.cf
     → scene.values (left_place w) < limit_of w → scene.values (right_place w) < limit_of w
     → Working w (keeping_carry flags
     (difference_of w (scene.values (left_place w)) (scene.values (right_place w)) false))
@@ -111,7 +111,7 @@ complement_scratch byte_width = refl
 complement_scratch word_width = refl
 
 -- NOT sets no flags
-complement_worked : (w : Width) (flags : Flags) (scene : Scene) (a : ℕ) → HoldFlags flags scene.values
+complement_worked : (w : Width) (flags : Flags) (scene : Environment) (a : ℕ) → HoldFlags flags scene.values
     → scene.values (left_place w) ≡ a
     → Working w (limit_of w - 1 - a, flags) (executed (complementing w) scene)
 complement_worked byte_width flags scene a h e = record {
@@ -127,13 +127,14 @@ left_taken : (w : Width) (values : Values) (a : ℕ) → with_value values (left
 left_taken byte_width values a = refl
 left_taken word_width values a = refl
 
-module _ (R After : Relation) (coupling : IsCoupling R) (x : Operand) (p : Place) (s : Machine) (t : State)
+module _ (R After : Relation) (coupling : IsCoupling R) (x : Operand) (p : OperandPlace) (s : Machine) (t : State)
     (read : IsRead R s x p) (written : IsWritten R After s x p) (rel : R s t) where
   small : operand_value s x < limit_of (operand_width x)
   small = read.small s.flags t rel
 
   -- two operands are taken, a result and flags are made of them, and the operand takes the result
-  combined : (a b : Operand) (c d : Place) (stmts : List Stmt) (outcome : ℕ × Flags) → IsRead R s a c → IsRead R s b d
+  combined : (a b : Operand) (c d : OperandPlace) (stmts : List Stmt) (outcome : ℕ × Flags) → IsRead R s a c
+      → IsRead R s b d
       → operand_width a ≡ operand_width x → operand_width b ≡ operand_width x
       → list_all sets_scratch stmts ≡ true
       → ((u : State) → Holding R (operand_width x) s u (operand_value s a) (operand_value s b)

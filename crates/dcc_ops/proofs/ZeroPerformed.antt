@@ -3,22 +3,22 @@ use Rattle.std.proofs.Common.{◌≡◌, sym, ap, refl, subst, ◌<◌, true, Li
 use Rattle.dcc_num.specs.declared.Width.{Width}
 use Rattle.dcc_num.specs.declared.Width.TheVariants.{Byte as byte_width, Word as word_width}
 use Rattle.dcc_num.specs.Numbers.{limit_of}
-use Rattle.dcc_prog.specs.declared.instr.Alu.{Alu}
-use Rattle.dcc_prog.specs.declared.instr.Alu.TheVariants.{Sub, Xor}
-use Rattle.dcc_prog.specs.declared.instr.Operand.{Operand}
-use Rattle.dcc_prog.specs.declared.instr.Operand.TheVariants.{Const as Constant}
-use Rattle.dcc_prog.specs.Machine.{State as Machine, operand_value, operand_width}
-use Rattle.dcc_prog.specs.Operations.{with_flags, with_result, alu_step}
-use Rattle.dcc_prog.specs.WellFormed.{IsOperand}
-use Rattle.dcc_prog.specs.Wanted.{is_zeroing}
-use Rattle.dcc_prog.specs.Writes.{writes_operand}
-use Rattle.dcc_prog.proofs.ZeroingLaws.{zeroed, zeroed-result}
+use Rattle.dcc_machine.specs.declared.instr.Alu.{Alu}
+use Rattle.dcc_machine.specs.declared.instr.Alu.TheVariants.{Sub, Xor}
+use Rattle.dcc_machine.specs.declared.instr.Operand.{Operand}
+use Rattle.dcc_machine.specs.declared.instr.Operand.TheVariants.{Const as Constant}
+use Rattle.dcc_machine.specs.Machine.{State as Machine, operand_value, operand_width}
+use Rattle.dcc_machine.specs.Operations.{with_flags, with_result, alu_step}
+use Rattle.dcc_machine.specs.WellFormed.{IsOperand}
+use Rattle.dcc_machine.specs.Wanted.{is_zeroing}
+use Rattle.dcc_machine.specs.Writes.{writes_operand}
+use Rattle.dcc_machine.proofs.ZeroingLaws.{zeroed, zeroed-result}
 use Rattle.dcc_ir.specs.Tree.{Expr, Stmt}
 use Rattle.dcc_ir.specs.Run.{State, execute}
 use Rattle.dcc_ir.specs.Location.{Values}
 use Rattle.dcc_ir.proofs.ExecuteLaws.{execute-append}
 use Rattle.dcc_ops.specs.Temporaries.{left_place, is_temporary_of}
-use Rattle.dcc_ops.specs.Place.{Place, constant, computed}
+use Rattle.dcc_ops.specs.OperandPlace.{OperandPlace, constant, computed}
 use Rattle.dcc_ops.specs.Expressions.{bit}
 use Rattle.dcc_ops.specs.Statements.{flags_taking, carry_taking, mov_stmts, zeroing}
 use Rattle.dcc_ops.specs.Coupling.{Relation, IsCoupling, IsWritten}
@@ -48,7 +48,7 @@ abbrev zero_flags : List Stmt
 zero_flags = flags_taking (bit 0) (bit 0) (bit 1) ++ carry_taking (bit 0)
 
 module _ (R After : Relation) (coupling : IsCoupling R) (after : IsCoupling After) where
-  pub zero_performed : (operation : Alu) (a b : Operand) (p : Place) (s : Machine) (t : State) → IsOperand a
+  pub zero_performed : (operation : Alu) (a b : Operand) (p : OperandPlace) (s : Machine) (t : State) → IsOperand a
       → is_zeroing operation a b ≡ true → IsWritten R After s a p → R s t
       → After (alu_step operation (operand_width a) a (operand_value s a) (operand_value s b) s)
       (execute (zeroing (operand_width a) p) t)

@@ -4,7 +4,7 @@ use Rattle.std.specs.Prelude.{ℕ, ◌==◌, if◌then◌else◌, Option, Some, 
 use Rattle.dcc_num.specs.declared.Reg.{Reg}
 use Rattle.dcc_ir.specs.declared.syntax.BinOp.TheVariants.{Add}
 use Rattle.dcc_ir.specs.Tree.{Expr, Const, Binary, Address}
-use Rattle.dcc_ops.specs.declared.place.Computed.{Computed}
+use Rattle.dcc_ops.specs.declared.operand_place.Computed.{Computed}
 use Rattle.dcc_ops.specs.Expressions.{word_of}
 
 -- a sum so far, where there is one, and a part more

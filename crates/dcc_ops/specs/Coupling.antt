@@ -8,10 +8,10 @@ use Rattle.dcc_num.specs.declared.Half.TheVariants.{Low, High}
 use Rattle.dcc_num.specs.declared.Flags.{Flags}
 use Rattle.dcc_num.specs.declared.FlagName.TheVariants.{Cf, Zf, Sf, Of}
 use Rattle.dcc_num.specs.Numbers.{limit_of}
-use Rattle.dcc_prog.specs.declared.instr.Operand.{Operand}
-use Rattle.dcc_prog.specs.Machine.{State as Machine, word_in, with_word_in, operand_value, operand_width, with_operand}
-use Rattle.dcc_prog.specs.Operations.{with_flags}
-use Rattle.dcc_prog.specs.Trail.{is_general}
+use Rattle.dcc_machine.specs.declared.instr.Operand.{Operand}
+use Rattle.dcc_machine.specs.Machine.{State as Machine, word_in, with_word_in, operand_value, operand_width}
+use Rattle.dcc_machine.specs.Machine.{with_operand, is_general}
+use Rattle.dcc_machine.specs.Operations.{with_flags}
 use Rattle.dcc_ir.specs.declared.syntax.Loc.{Loc}
 use Rattle.dcc_ir.specs.declared.syntax.Loc.TheVariants.{Half, Flag, Temp}
 use Rattle.dcc_ir.specs.Location.{Values}
@@ -19,7 +19,7 @@ use Rattle.dcc_ir.specs.Tree.{Get}
 use Rattle.dcc_ir.specs.Value.{Fits}
 use Rattle.dcc_ir.specs.Run.{State, scene_of, value_in, setting, execute}
 use Rattle.dcc_ops.specs.Temporaries.{temporary_bits, is_temporary_of}
-use Rattle.dcc_ops.specs.Place.{Place, place_width, place_value, storing, is_sound_place}
+use Rattle.dcc_ops.specs.OperandPlace.{OperandPlace, place_width, place_value, storing, is_sound_place}
 
 abbrev pub Relation : Type 1
 Relation = Machine → State → Type 0
@@ -66,7 +66,7 @@ pub record IsCoupling (R : Relation) : Type 0 where
 -- Operands, in a state of the machine, whatever its flags are.
 
 -- the operand stands at the place: what the place holds is what the operand holds
-pub record IsRead (R : Relation) (s : Machine) (x : Operand) (place : Place) : Type 0 where
+pub record IsRead (R : Relation) (s : Machine) (x : Operand) (place : OperandPlace) : Type 0 where
   pub width : place_width place ≡ operand_width x
   pub value : (flags : Flags) (t : State) → R (with_flags flags s) t
       → value_in t (place_value place) ≡ operand_value s x
@@ -75,7 +75,7 @@ pub record IsRead (R : Relation) (s : Machine) (x : Operand) (place : Place) : T
 
 -- the operand may be written at the place: where the place takes a temporary as the operand takes its value, the
 -- relation for afterwards holds
-pub record IsWritten (R After : Relation) (s : Machine) (x : Operand) (place : Place) : Type 0 where
+pub record IsWritten (R After : Relation) (s : Machine) (x : Operand) (place : OperandPlace) : Type 0 where
   pub width : place_width place ≡ operand_width x
   pub sound : is_sound_place place ≡ true
   pub taken : (flags : Flags) (t : State) (from : Loc) → R (with_flags flags s) t
@@ -86,6 +86,6 @@ pub record IsWritten (R After : Relation) (s : Machine) (x : Operand) (place : P
 abbrev pub Follows : Relation → Relation → Type 0
 Follows R After = (s : Machine) (t : State) → R s t → After s t
 
-abbrev pub IsWrittenIf : Bool → Relation → Relation → Machine → Operand → Place → Type 0
+abbrev pub IsWrittenIf : Bool → Relation → Relation → Machine → Operand → OperandPlace → Type 0
 IsWrittenIf true R After s x place = IsWritten R After s x place
 IsWrittenIf false R After s x place = Follows R After

@@ -2,10 +2,10 @@
 use Rattle.std.specs.Prelude.{List, [], ◌∷◌}
 use Rattle.dcc_ir.specs.Location.{with_value}
 use Rattle.dcc_ir.specs.Tree.{Stmt, Set}
-use Rattle.dcc_ir.specs.Value.{Scene, value_of}
+use Rattle.dcc_ir.specs.Value.{Environment, value_of}
 
 -- what expressions read after statements that set locations; other statements leave it
-abbrev pub executed : List Stmt → Scene → Scene
+abbrev pub executed : List Stmt → Environment → Environment
 executed [] scene = scene
 executed (Set location e ∷ rest) scene =
     executed rest (record scene { values = with_value scene.values location (value_of scene e) })

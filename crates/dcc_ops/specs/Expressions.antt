@@ -8,12 +8,12 @@ use Rattle.dcc_num.specs.declared.Half.TheVariants.{Low, High}
 use Rattle.dcc_num.specs.declared.FlagName.{FlagName}
 use Rattle.dcc_num.specs.declared.FlagName.TheVariants.{Cf, Zf, Sf, Of}
 use Rattle.dcc_num.specs.Numbers.{bits_of}
-use Rattle.dcc_prog.specs.declared.cpu.Cpu.{Cpu}
-use Rattle.dcc_prog.specs.declared.cpu.Cpu.TheVariants.{I8086, I186}
-use Rattle.dcc_prog.specs.declared.instr.Count.{Count}
-use Rattle.dcc_prog.specs.declared.instr.Count.TheVariants.{One, Cl, Const as ConstCount}
-use Rattle.dcc_prog.specs.declared.instr.Cond.{Cond}
-use Rattle.dcc_prog.specs.declared.instr.Cond.TheVariants.{O, No, B, Ae, Z, Nz, Be, A, S, Ns, L, Ge, Le, G}
+use Rattle.dcc_machine.specs.declared.cpu.Cpu.{Cpu}
+use Rattle.dcc_machine.specs.declared.cpu.Cpu.TheVariants.{I8086, I186}
+use Rattle.dcc_machine.specs.declared.instr.Count.{Count}
+use Rattle.dcc_machine.specs.declared.instr.Count.TheVariants.{One, Cl, Const as ConstCount}
+use Rattle.dcc_machine.specs.declared.instr.Cond.{Cond}
+use Rattle.dcc_machine.specs.declared.instr.Cond.TheVariants.{O, No, B, Ae, Z, Nz, Be, A, S, Ns, L, Ge, Le, G}
 use Rattle.dcc_ir.specs.declared.syntax.Loc.TheVariants.{Half, Flag}
 use Rattle.dcc_ir.specs.declared.syntax.UnOp.TheVariants.{Not, IsZero}
 use Rattle.dcc_ir.specs.declared.syntax.BinOp.{BinOp}
@@ -162,25 +162,25 @@ shifted operator w = at_width operator w (left w) (right w)
 abbrev pub nearly_shifted : BinOp → Width → Expr
 nearly_shifted operator w = at_width operator w (left w) (at_width Sub w (right w) (number w 1))
 
--- how many places a rotate moves the bits; `rest_of_turn`: what is missing to a whole turn
-abbrev pub turn : Width → Expr
-turn w = at_width And w (right w) (number w (bits_of w - 1))
+-- how many places a rotate moves the bits; `rest_of_rotation`: what is missing to a whole rotation
+abbrev pub rotation : Width → Expr
+rotation w = at_width And w (right w) (number w (bits_of w - 1))
 
-abbrev pub rest_of_turn : Width → Expr
-rest_of_turn w = at_width Sub w (number w (bits_of w)) (turn w)
+abbrev pub rest_of_rotation : Width → Expr
+rest_of_rotation w = at_width Sub w (number w (bits_of w)) (rotation w)
 
-abbrev pub rotated_left : Width → Expr
-rotated_left w = at_width Or w (at_width Shl w (left w) (turn w)) (at_width Shr w (left w) (rest_of_turn w))
+abbrev pub rol_value : Width → Expr
+rol_value w = at_width Or w (at_width Shl w (left w) (rotation w)) (at_width Shr w (left w) (rest_of_rotation w))
 
-abbrev pub rotated_right : Width → Expr
-rotated_right w = at_width Or w (at_width Shr w (left w) (turn w)) (at_width Shl w (left w) (rest_of_turn w))
+abbrev pub ror_value : Width → Expr
+ror_value w = at_width Or w (at_width Shr w (left w) (rotation w)) (at_width Shl w (left w) (rest_of_rotation w))
 
--- the operand rotated to the left by one place, with CF as the bit that comes in; `turned_right`: to the right
-abbrev pub turned_left : Width → Expr
-turned_left w = at_width Or w (at_width Shl w (left w) (number w 1)) (carry_at w)
+-- the operand rotated to the left by one place, with CF as the bit that comes in; `rcr_value`: to the right
+abbrev pub rcl_value : Width → Expr
+rcl_value w = at_width Or w (at_width Shl w (left w) (number w 1)) (carry_at w)
 
-abbrev pub turned_right : Width → Expr
-turned_right w =
+abbrev pub rcr_value : Width → Expr
+rcr_value w =
     at_width Or w (at_width Shr w (left w) (number w 1)) (at_width Shl w (carry_at w) (number w (bits_of w - 1)))
 
 -- Products.

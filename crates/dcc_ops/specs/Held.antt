@@ -2,23 +2,22 @@
 -- flags are set, and a temporary has their result.
 use Rattle.std.specs.Prelude.{◌≡◌, ℕ, true, false, Option}
 use Rattle.dcc_num.specs.declared.Flags.{Flags}
-use Rattle.dcc_prog.specs.declared.cpu.Cpu.{Cpu}
-use Rattle.dcc_prog.specs.declared.instr.Alu.{Alu}
-use Rattle.dcc_prog.specs.declared.instr.Unary.{Unary}
-use Rattle.dcc_prog.specs.declared.instr.Operand.{Operand}
-use Rattle.dcc_prog.specs.declared.instr.Op.TheVariants.{Alu as AluOp, Unary as UnaryOp}
-use Rattle.dcc_prog.specs.Machine.{State as Machine, operand_width, with_operand}
-use Rattle.dcc_prog.specs.Operations.{with_flags}
-use Rattle.dcc_prog.specs.Prepared.{is_division}
-use Rattle.dcc_prog.specs.Step.{op_step}
-use Rattle.dcc_prog.specs.Wanted.{stores_back}
-use Rattle.dcc_prog.specs.WellFormed.{IsOperation}
-use Rattle.dcc_prog.specs.Writes.{writes_operand}
+use Rattle.dcc_machine.specs.declared.cpu.Cpu.{Cpu}
+use Rattle.dcc_machine.specs.declared.instr.Alu.{Alu}
+use Rattle.dcc_machine.specs.declared.instr.Unary.{Unary}
+use Rattle.dcc_machine.specs.declared.instr.Operand.{Operand}
+use Rattle.dcc_machine.specs.declared.instr.Op.TheVariants.{Alu as AluOp, Unary as UnaryOp}
+use Rattle.dcc_machine.specs.Machine.{State as Machine, operand_width, with_operand}
+use Rattle.dcc_machine.specs.Operations.{with_flags, is_division}
+use Rattle.dcc_machine.specs.Step.{op_step}
+use Rattle.dcc_machine.specs.Wanted.{stores_back}
+use Rattle.dcc_machine.specs.WellFormed.{IsOperation}
+use Rattle.dcc_machine.specs.Writes.{writes_operand}
 use Rattle.dcc_ir.specs.declared.syntax.Loc.{Loc}
 use Rattle.dcc_ir.specs.Tree.{Expr}
 use Rattle.dcc_ir.specs.Run.{State, execute}
 use Rattle.dcc_ops.specs.Temporaries.{is_temporary_of}
-use Rattle.dcc_ops.specs.Place.{Place, computed}
+use Rattle.dcc_ops.specs.OperandPlace.{OperandPlace, computed}
 use Rattle.dcc_ops.specs.Statements.{op_stmts}
 use Rattle.dcc_ops.specs.Coupling.{Relation, IsRead}
 
@@ -35,12 +34,14 @@ pub record IsHeld (R : Relation) (s : Machine) (x : Operand) (after : Machine) (
 pub record ResultsAreHeld (R : Relation) : Type 0 where
   pub alu :
       (cpu : Cpu) (operation : Alu) (a b : Operand) (number : Option ℕ) (at : ℕ) (s : Machine) (t : State) (e : Expr)
-      (q : Place) → IsOperation (AluOp operation a b) → writes_operand operation ≡ true → IsRead R s a (computed e)
+      (q : OperandPlace) → IsOperation (AluOp operation a b) → writes_operand operation ≡ true
+      → IsRead R s a (computed e)
       → IsRead R s b q → R s t
       → IsHeld R s a (op_step cpu (AluOp operation a b) at s)
       (execute (op_stmts cpu (AluOp operation a b) number (computed e) q) t)
   pub unary :
       (cpu : Cpu) (operation : Unary) (a : Operand) (number : Option ℕ) (at : ℕ) (s : Machine) (t : State) (e : Expr)
-      (q : Place) → is_division operation ≡ false → stores_back operation ≡ true → IsRead R s a (computed e) → R s t
+      (q : OperandPlace) → is_division operation ≡ false → stores_back operation ≡ true → IsRead R s a (computed e)
+      → R s t
       → IsHeld R s a (op_step cpu (UnaryOp operation a) at s)
       (execute (op_stmts cpu (UnaryOp operation a) number (computed e) q) t)

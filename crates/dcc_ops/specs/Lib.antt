@@ -1,5 +1,5 @@
 pub mod Temporaries
-pub mod Place
+pub mod OperandPlace
 pub mod Registers
 pub mod Expressions
 pub mod Computed

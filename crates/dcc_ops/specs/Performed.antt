@@ -1,23 +1,23 @@
 -- The statements of an operation do to the run what the operation does to the machine.
 use Rattle.std.specs.Prelude.{◌≡◌, ℕ, ◌==◌, Bool, true, false, [], ◌∷◌, if◌then◌else◌, Option, Some}
-use Rattle.dcc_prog.specs.declared.cpu.Cpu.{Cpu}
-use Rattle.dcc_prog.specs.declared.instr.Plain.{Plain}
-use Rattle.dcc_prog.specs.declared.instr.Plain.TheVariants.{Xlat}
-use Rattle.dcc_prog.specs.declared.instr.Operand.{Operand}
-use Rattle.dcc_prog.specs.declared.instr.Op.{Op}
-use Rattle.dcc_prog.specs.declared.instr.Op.TheVariants.{Alu as AluOp, Unary as UnaryOp, Shift as ShiftOp, Mov, Xchg}
-use Rattle.dcc_prog.specs.declared.instr.Op.TheVariants.{Imul3, Plain as PlainOp, Jump, Branch, Loop, LoopE, LoopNe}
-use Rattle.dcc_prog.specs.declared.instr.Op.TheVariants.{Jcxz}
-use Rattle.dcc_prog.specs.Machine.{State as Machine}
-use Rattle.dcc_prog.specs.Prepared.{is_division}
-use Rattle.dcc_prog.specs.Step.{op_step}
-use Rattle.dcc_prog.specs.Trail.{is_general, op_successors}
-use Rattle.dcc_prog.specs.Wanted.{stores_back}
-use Rattle.dcc_prog.specs.WellFormed.{IsOperand, IsOperation}
-use Rattle.dcc_prog.specs.Writes.{writes_operand}
+use Rattle.dcc_machine.specs.declared.cpu.Cpu.{Cpu}
+use Rattle.dcc_machine.specs.declared.instr.Plain.{Plain}
+use Rattle.dcc_machine.specs.declared.instr.Plain.TheVariants.{Xlat}
+use Rattle.dcc_machine.specs.declared.instr.Operand.{Operand}
+use Rattle.dcc_machine.specs.declared.instr.Op.{Op}
+use Rattle.dcc_machine.specs.declared.instr.Op.TheVariants.{Alu as AluOp, Unary as UnaryOp, Shift as ShiftOp, Mov, Xchg}
+use Rattle.dcc_machine.specs.declared.instr.Op.TheVariants.{Imul3, Plain as PlainOp, Jump, Branch, Loop, LoopE, LoopNe}
+use Rattle.dcc_machine.specs.declared.instr.Op.TheVariants.{Jcxz}
+use Rattle.dcc_machine.specs.Machine.{State as Machine, is_general}
+use Rattle.dcc_machine.specs.Operations.{is_division}
+use Rattle.dcc_machine.specs.Step.{op_step}
+use Rattle.dcc_machine.specs.Successors.{op_successors}
+use Rattle.dcc_machine.specs.Wanted.{stores_back}
+use Rattle.dcc_machine.specs.WellFormed.{IsOperand, IsOperation}
+use Rattle.dcc_machine.specs.Writes.{writes_operand}
 use Rattle.dcc_ir.specs.Tree.{Expr}
 use Rattle.dcc_ir.specs.Run.{State, value_in, execute}
-use Rattle.dcc_ops.specs.Place.{Place, is_sound_place}
+use Rattle.dcc_ops.specs.OperandPlace.{OperandPlace, is_sound_place}
 use Rattle.dcc_ops.specs.Registers.{is_register, is_source, register_place}
 use Rattle.dcc_ops.specs.Statements.{op_stmts, op_test}
 use Rattle.dcc_ops.specs.Coupling.{Relation, IsRead, IsWritten, Follows, IsWrittenIf}
@@ -29,7 +29,7 @@ is_xlat operation = false
 
 -- The operands of an operation stand at the places, and its destination may be written there; XCHG has a register as
 -- its second operand. The last clause is of operations that have no place here.
-abbrev pub Stands : Relation → Relation → Machine → Op → Place → Place → Type 0
+abbrev pub Stands : Relation → Relation → Machine → Op → OperandPlace → OperandPlace → Type 0
 Stands R After s (AluOp operation a b) p q =
     IsRead R s a p × IsRead R s b q × IsWrittenIf (writes_operand operation) R After s a p
 Stands R After s (UnaryOp operation a) p q =
@@ -51,14 +51,14 @@ Stands R After s op p q = ⊥
 -- after the statements of an operation whose operands stand at their places the relation for afterwards holds
 abbrev pub OperationsArePerformed : Relation → Relation → Type 0
 OperationsArePerformed R After =
-    (cpu : Cpu) (op : Op) (number : Option ℕ) (at : ℕ) (s : Machine) (t : State) (p q : Place) → IsOperation op
+    (cpu : Cpu) (op : Op) (number : Option ℕ) (at : ℕ) (s : Machine) (t : State) (p q : OperandPlace) → IsOperation op
     → Stands R After s op p q → R s t → After (op_step cpu op at s) (execute (op_stmts cpu op number p q) t)
 
 -- An operation with a test goes on at the first of its two successors where the test has the value 1 after the
 -- statements, else at the second, which is the next instruction.
 abbrev pub TestsDecide : Relation → Type 0
 TestsDecide R =
-    (cpu : Cpu) (op : Op) (number : Option ℕ) (at : ℕ) (s : Machine) (t : State) (p q : Place) (ah : Option ℕ)
+    (cpu : Cpu) (op : Op) (number : Option ℕ) (at : ℕ) (s : Machine) (t : State) (p q : OperandPlace) (ah : Option ℕ)
     (test : Expr) → op_test op ≡ Some test → R s t
     → (target : ℕ) × (op_successors op s.ip ah [] ≡ target ∷ s.ip ∷ [])
     × ((op_step cpu op at s).ip

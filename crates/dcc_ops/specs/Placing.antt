@@ -1,10 +1,11 @@
 -- The code's places as places of the definitions.
-use Rattle.dcc_ops.specs.declared.place.Place.{Place as Placed}
-use Rattle.dcc_ops.specs.declared.place.Place.TheVariants.{Constant, Byte, Word, Memory, Address, Computed}
-use Rattle.dcc_ops.specs.Place.{Place, constant, byte, word, memory, address, computed}
+use Rattle.dcc_ops.specs.declared.operand_place.OperandPlace.{OperandPlace as Placed}
+use Rattle.dcc_ops.specs.declared.operand_place.OperandPlace.TheVariants.{Constant, Byte, Word, Memory, Address}
+use Rattle.dcc_ops.specs.declared.operand_place.OperandPlace.TheVariants.{Computed}
+use Rattle.dcc_ops.specs.OperandPlace.{OperandPlace, constant, byte, word, memory, address, computed}
 use Rattle.dcc_ops.specs.Computed.{computed_expr}
 
-abbrev pub place_of : Placed → Place
+abbrev pub place_of : Placed → OperandPlace
 place_of (Constant w n) = constant w n
 place_of (Byte location) = byte location
 place_of (Word low high) = word low high

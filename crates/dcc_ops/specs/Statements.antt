@@ -10,26 +10,26 @@ use Rattle.dcc_num.specs.declared.Reg.TheVariants.{Ax, Cx, Dx, Bx}
 use Rattle.dcc_num.specs.declared.Half.TheVariants.{Low, High}
 use Rattle.dcc_num.specs.declared.FlagName.TheVariants.{Cf, Zf, Sf, Of}
 use Rattle.dcc_num.specs.Numbers.{bits_of}
-use Rattle.dcc_prog.specs.declared.cpu.Cpu.{Cpu}
-use Rattle.dcc_prog.specs.declared.instr.Alu.{Alu}
-use Rattle.dcc_prog.specs.declared.instr.Alu.TheVariants.{Add, Or, Adc, Sbb, And, Sub, Xor, Cmp, Test}
-use Rattle.dcc_prog.specs.declared.instr.Shift.{Shift}
-use Rattle.dcc_prog.specs.declared.instr.Shift.TheVariants.{Rol, Ror, Rcl, Rcr, Shl, Shr, Sar}
-use Rattle.dcc_prog.specs.declared.instr.Count.{Count}
-use Rattle.dcc_prog.specs.declared.instr.Count.TheVariants.{One}
-use Rattle.dcc_prog.specs.declared.instr.Unary.{Unary}
-use Rattle.dcc_prog.specs.declared.instr.Unary.TheVariants.{Inc, Dec, Neg, Not, Mul, Imul, Div as DivOf, Idiv}
-use Rattle.dcc_prog.specs.declared.instr.Plain.{Plain}
-use Rattle.dcc_prog.specs.declared.instr.Plain.TheVariants.{Cbw, Cwd, Xlat, Clc, Stc, Cmc}
-use Rattle.dcc_prog.specs.declared.instr.Operand.{Operand}
-use Rattle.dcc_prog.specs.declared.instr.Operand.TheVariants.{Word, Byte}
-use Rattle.dcc_prog.specs.declared.instr.Op.{Op}
-use Rattle.dcc_prog.specs.declared.instr.Op.TheVariants.{Alu as AluOp, Unary as UnaryOp, Shift as ShiftOp, Mov, Xchg}
-use Rattle.dcc_prog.specs.declared.instr.Op.TheVariants.{Imul3, Plain as PlainOp, Branch, Loop, LoopE, LoopNe, Jcxz}
-use Rattle.dcc_prog.specs.declared.instr.Op.TheVariants.{Int21}
-use Rattle.dcc_prog.specs.Machine.{operand_width}
-use Rattle.dcc_prog.specs.Writes.{never_shifts}
-use Rattle.dcc_prog.specs.Wanted.{is_zeroing}
+use Rattle.dcc_machine.specs.declared.cpu.Cpu.{Cpu}
+use Rattle.dcc_machine.specs.declared.instr.Alu.{Alu}
+use Rattle.dcc_machine.specs.declared.instr.Alu.TheVariants.{Add, Or, Adc, Sbb, And, Sub, Xor, Cmp, Test}
+use Rattle.dcc_machine.specs.declared.instr.Shift.{Shift}
+use Rattle.dcc_machine.specs.declared.instr.Shift.TheVariants.{Rol, Ror, Rcl, Rcr, Shl, Shr, Sar}
+use Rattle.dcc_machine.specs.declared.instr.Count.{Count}
+use Rattle.dcc_machine.specs.declared.instr.Count.TheVariants.{One}
+use Rattle.dcc_machine.specs.declared.instr.Unary.{Unary}
+use Rattle.dcc_machine.specs.declared.instr.Unary.TheVariants.{Inc, Dec, Neg, Not, Mul, Imul, Div as DivOf, Idiv}
+use Rattle.dcc_machine.specs.declared.instr.Plain.{Plain}
+use Rattle.dcc_machine.specs.declared.instr.Plain.TheVariants.{Cbw, Cwd, Xlat, Clc, Stc, Cmc}
+use Rattle.dcc_machine.specs.declared.instr.Operand.{Operand}
+use Rattle.dcc_machine.specs.declared.instr.Operand.TheVariants.{Word, Byte}
+use Rattle.dcc_machine.specs.declared.instr.Op.{Op}
+use Rattle.dcc_machine.specs.declared.instr.Op.TheVariants.{Alu as AluOp, Unary as UnaryOp, Shift as ShiftOp, Mov, Xchg}
+use Rattle.dcc_machine.specs.declared.instr.Op.TheVariants.{Imul3, Plain as PlainOp, Branch, Loop, LoopE, LoopNe, Jcxz}
+use Rattle.dcc_machine.specs.declared.instr.Op.TheVariants.{Int21}
+use Rattle.dcc_machine.specs.Machine.{operand_width}
+use Rattle.dcc_machine.specs.Writes.{never_shifts}
+use Rattle.dcc_machine.specs.Wanted.{is_zeroing}
 use Rattle.dcc_ir.specs.declared.syntax.Loc.{Loc}
 use Rattle.dcc_ir.specs.declared.syntax.Loc.TheVariants.{Half, Flag}
 use Rattle.dcc_ir.specs.declared.syntax.UnOp.TheVariants.{Not as NotOp}
@@ -40,19 +40,19 @@ use Rattle.dcc_ir.specs.declared.syntax.BinOp.TheVariants.{Shr as ShrOp, Sar as 
 use Rattle.dcc_ir.specs.Tree.{Expr, Const, Get, Unary as UnaryExpr, Binary, Widen, Part, Stmt, Set, Div, Dos, Exit}
 use Rattle.dcc_ir.specs.Tree.{Goto, If, Stop}
 use Rattle.dcc_ops.specs.Temporaries.{left_place, right_place, result_place, product_place, carry_place}
-use Rattle.dcc_ops.specs.Place.{Place, constant, byte, word, memory, taking, storing}
+use Rattle.dcc_ops.specs.OperandPlace.{OperandPlace, constant, byte, word, memory, taking, storing}
 use Rattle.dcc_ops.specs.Registers.{register_place}
 use Rattle.dcc_ops.specs.Expressions.{word_of, left, right, result, product, at_width, number, bit, flag, negated}
 use Rattle.dcc_ops.specs.Expressions.{is_zero, sign, below_sign, lowest, sum, sum_and_carry, carry_out}
 use Rattle.dcc_ops.specs.Expressions.{carry_out_of_both, sum_overflow, difference, difference_and_borrow, borrow_out}
 use Rattle.dcc_ops.specs.Expressions.{borrow_out_of_both, difference_overflow, difference_overflow_of_both, count_expr}
-use Rattle.dcc_ops.specs.Expressions.{unless_zero, if_one, shifted, nearly_shifted, rotated_left, rotated_right}
-use Rattle.dcc_ops.specs.Expressions.{turned_left, turned_right, multiplied, needs_upper_half, condition, goes_round}
+use Rattle.dcc_ops.specs.Expressions.{unless_zero, if_one, shifted, nearly_shifted, rol_value, ror_value}
+use Rattle.dcc_ops.specs.Expressions.{rcl_value, rcr_value, multiplied, needs_upper_half, condition, goes_round}
 
 -- Pieces.
 
 -- the operands go to their temporaries
-abbrev pub operands_taking : Width → Place → Place → List Stmt
+abbrev pub operands_taking : Width → OperandPlace → OperandPlace → List Stmt
 operands_taking w p q = taking (left_place w) p ∷ taking (right_place w) q ∷ []
 
 -- a word register takes two bytes of an expression
@@ -109,12 +109,12 @@ alu_working Or w = combining w OrOp
 alu_working Xor w = combining w XorOp
 
 -- the operand takes the result; CMP and TEST store nothing
-abbrev pub alu_storing : Alu → Width → Place → List Stmt
+abbrev pub alu_storing : Alu → Width → OperandPlace → List Stmt
 alu_storing Cmp w p = []
 alu_storing Test w p = []
 alu_storing operation w p = storing p (result w)
 
-abbrev pub alu_stmts : Alu → Width → Place → Place → List Stmt
+abbrev pub alu_stmts : Alu → Width → OperandPlace → OperandPlace → List Stmt
 alu_stmts operation w p q = operands_taking w p q ++ (alu_working operation w ++ alu_storing operation w p)
 
 -- Operations on one operand.
@@ -135,12 +135,12 @@ abbrev pub accumulator : Width → Operand
 accumulator byte_width = Byte Ax Low
 accumulator word_width = Word Ax
 
-abbrev pub multiplying : Width → Bool → Place → List Stmt
+abbrev pub multiplying : Width → Bool → OperandPlace → List Stmt
 multiplying w signed p =
     operands_taking w (register_place (accumulator w)) p ++ (product_working w signed ++ product_storing w)
 
 -- the register takes the lower word of the signed product of an operand and a constant
-abbrev pub triple_product : Reg → Place → ℕ → List Stmt
+abbrev pub triple_product : Reg → OperandPlace → ℕ → List Stmt
 triple_product r p number =
     operands_taking word_width p (constant word_width number)
     ++ (product_working word_width true ++ word_taking r 0 (product word_width))
@@ -160,7 +160,7 @@ division_working w quotient remainder =
     ∷ Div (left_place w) (at_width remainder w (left w) (right w))
     ∷ (flags_taking (bit 0) (bit 0) (bit 0) ++ carry_taking (bit 0))
 
-abbrev pub dividing : Width → BinOp → BinOp → Place → List Stmt
+abbrev pub dividing : Width → BinOp → BinOp → OperandPlace → List Stmt
 dividing w quotient remainder p =
     operands_taking w (register_place (accumulator w)) p
     ++ (division_working w quotient remainder ++ division_storing w)
@@ -169,7 +169,7 @@ dividing w quotient remainder p =
 abbrev pub complementing : Width → List Stmt
 complementing w = result_taking w (UnaryExpr NotOp (bits_of w) (left w))
 
-abbrev pub unary_stmts : Unary → Width → Place → List Stmt
+abbrev pub unary_stmts : Unary → Width → OperandPlace → List Stmt
 unary_stmts Inc w p =
     operands_taking w p (constant w 1) ++ ((result_taking w (sum w) ++ sum_flags w) ++ storing p (result w))
 unary_stmts Dec w p =
@@ -210,42 +210,42 @@ shift_working Shr w count =
 shift_working Sar w count =
     result_taking w (shifted SarOp w) ++ shift_flags w count (bit 0) (lowest (nearly_shifted SarOp w))
 shift_working Rol w count =
-    result_taking w (rotated_left w)
+    result_taking w (rol_value w)
     ++ rotate_flags w count
     (if_one w count (Binary XorOp 1 (lowest (result w)) (sign w (result w))))
     (lowest (result w))
 shift_working Ror w count =
-    result_taking w (rotated_right w)
+    result_taking w (ror_value w)
     ++ rotate_flags w count
     (if_one w count (Binary XorOp 1 (sign w (result w)) (below_sign w (result w))))
     (sign w (result w))
 shift_working Rcl w count =
-    carry_in ∷ (result_taking w (turned_left w)
+    carry_in ∷ (result_taking w (rcl_value w)
     ++ rotate_flags w One (Binary XorOp 1 (sign w (left w)) (sign w (result w))) (sign w (left w)))
 shift_working Rcr w count =
-    carry_in ∷ (result_taking w (turned_right w)
+    carry_in ∷ (result_taking w (rcr_value w)
     ++ rotate_flags w One (Binary XorOp 1 (sign w (result w)) (below_sign w (result w))) (lowest (left w)))
 
 -- the operand and the count go to their temporaries
-abbrev pub count_taking : Cpu → Width → Place → Count → List Stmt
+abbrev pub count_taking : Cpu → Width → OperandPlace → Count → List Stmt
 count_taking cpu w p count = taking (left_place w) p ∷ Set (right_place w) (count_expr cpu w count) ∷ []
 
-abbrev pub shifting : Cpu → Shift → Width → Place → Count → List Stmt
+abbrev pub shifting : Cpu → Shift → Width → OperandPlace → Count → List Stmt
 shifting cpu operation w p count =
     count_taking cpu w p count ++ (shift_working operation w count ++ storing p (result w))
 
 -- an operand takes its own value, and the flags stay
-abbrev pub staying : Width → Place → List Stmt
+abbrev pub staying : Width → OperandPlace → List Stmt
 staying w p = taking (result_place w) p ∷ storing p (result w)
 
 -- the statements of a shift or rotate; by a constant that is 0 modulo 32 nothing is shifted
-abbrev pub shift_stmts : Cpu → Shift → Width → Place → Count → List Stmt
+abbrev pub shift_stmts : Cpu → Shift → Width → OperandPlace → Count → List Stmt
 shift_stmts cpu operation w p count =
     if never_shifts count then staying w p else shifting cpu operation w p count
 
 -- Moves. Between halves they go half by half, else through a temporary.
 
-abbrev pub mov_stmts : Width → Place → Place → List Stmt
+abbrev pub mov_stmts : Width → OperandPlace → OperandPlace → List Stmt
 mov_stmts w (byte to) (byte from) = Set to (Get from) ∷ []
 mov_stmts w (byte to) (constant v n) = Set to (Const (bits_of v) n) ∷ []
 mov_stmts w (word low high) (word l h) = Set low (Get l) ∷ Set high (Get h) ∷ []
@@ -253,7 +253,7 @@ mov_stmts w (word low high) (constant v n) = Set low (Const 8 (n % 256)) ∷ Set
 mov_stmts w p q = taking (left_place w) q ∷ storing p (left w)
 
 -- XOR and SUB of a place with itself: the flags of 0, and 0 moves there
-abbrev pub zeroing : Width → Place → List Stmt
+abbrev pub zeroing : Width → OperandPlace → List Stmt
 zeroing w p =
     flags_taking (bit 0) (bit 0) (bit 1) ++ (carry_taking (bit 0) ++ mov_stmts w p (constant w 0))
 
@@ -262,7 +262,7 @@ abbrev pub exchanging : Loc → Loc → List Stmt
 exchanging a b = Set (left_place byte_width) (Get a) ∷ Set a (Get b) ∷ Set b (left byte_width) ∷ []
 
 -- the statements of XCHG; the first operand is stored first
-abbrev pub xchg_stmts : Width → Place → Place → List Stmt
+abbrev pub xchg_stmts : Width → OperandPlace → OperandPlace → List Stmt
 xchg_stmts w (byte a) (byte b) = exchanging a b
 xchg_stmts w (word low high) (word l h) = exchanging low l ++ exchanging high h
 xchg_stmts w p q = operands_taking w p q ++ (storing p (right w) ++ storing q (left w))
@@ -300,7 +300,7 @@ dos_stmts (Some number) =
     else []
 
 -- All operations that are built, with the places of their operands; INT 21h has the number of its call.
-abbrev pub op_stmts : Cpu → Op → Option ℕ → Place → Place → List Stmt
+abbrev pub op_stmts : Cpu → Op → Option ℕ → OperandPlace → OperandPlace → List Stmt
 op_stmts cpu (AluOp operation a b) number p q =
     if is_zeroing operation a b then zeroing (operand_width a) p else alu_stmts operation (operand_width a) p q
 op_stmts cpu (UnaryOp operation a) number p q = unary_stmts operation (operand_width a) p

@@ -3,11 +3,11 @@ use Rattle.std.specs.Prelude.{◌≡◌, ℕ, ◌+◌, ◌%◌, ◌<◌}
 use Rattle.dcc_num.specs.declared.Width.TheVariants.{Byte as byte_width}
 use Rattle.dcc_num.specs.declared.Reg.TheVariants.{Ax, Bx}
 use Rattle.dcc_num.specs.declared.Half.TheVariants.{Low}
-use Rattle.dcc_prog.specs.declared.instr.Plain.TheVariants.{Xlat}
-use Rattle.dcc_prog.specs.Machine.{State as Machine, word_in, half_of_word, data_segment, byte_in}
-use Rattle.dcc_prog.specs.Operations.{plain_step}
+use Rattle.dcc_machine.specs.declared.instr.Plain.TheVariants.{Xlat}
+use Rattle.dcc_machine.specs.Machine.{State as Machine, word_in, half_of_word, data_segment, byte_in}
+use Rattle.dcc_machine.specs.Operations.{plain_step}
 use Rattle.dcc_ir.specs.Run.{State, value_in, execute}
-use Rattle.dcc_ops.specs.Place.{Place, memory, place_value}
+use Rattle.dcc_ops.specs.OperandPlace.{OperandPlace, memory, place_value}
 use Rattle.dcc_ops.specs.Statements.{xlat_address, plain_stmts}
 use Rattle.dcc_ops.specs.Coupling.{Relation}
 
@@ -19,7 +19,7 @@ abbrev pub table_byte : Machine → ℕ
 table_byte s = byte_in s (data_segment s) (table_offset s)
 
 -- the place where the byte that XLAT takes stands
-abbrev pub table_place : Place
+abbrev pub table_place : OperandPlace
 table_place = memory byte_width xlat_address
 
 -- the run has the byte that XLAT takes at its place

@@ -8,11 +8,11 @@ ghost use Rattle.dcc_ops.specs.Placing.{place_of};
 ghost use Rattle.dcc_ops.specs.Writing.{written};
 
 use crate::expression::{bit, left_place, result_place};
-use crate::place::Place;
+use crate::operand_place::OperandPlace;
 use crate::writer::Writer;
 use dcc_ir::{BinOp, Expr, UnOp};
+use dcc_machine::{Alu, Unary};
 use dcc_num::Width;
-use dcc_prog::{Alu, Unary};
 use std::alloc::AllocError;
 
 impl Writer {
@@ -111,7 +111,7 @@ impl Writer {
     }
 
     // The operand takes the result, except of CMP and TEST.
-    fn alu_storing(&mut self, operation: Alu, w: Width, p: Place) -> Result<(), AllocError>
+    fn alu_storing(&mut self, operation: Alu, w: Width, p: OperandPlace) -> Result<(), AllocError>
         ensures { OnOk result (written self.new ≡ written self.old ++ spec.alu_storing operation w (place_of p)) }
     {
         match operation {
@@ -121,7 +121,13 @@ impl Writer {
     }
 
     /// An operation on two operands of that width.
-    pub fn alu(&mut self, operation: Alu, w: Width, p: Place, q: Place) -> Result<(), AllocError>
+    pub fn alu(
+        &mut self,
+        operation: Alu,
+        w: Width,
+        p: OperandPlace,
+        q: OperandPlace,
+    ) -> Result<(), AllocError>
         ensures { OnOk result (written self.new
             ≡ written self.old ++ spec.alu_stmts operation w (place_of p) (place_of q)) }
     {
@@ -131,45 +137,45 @@ impl Writer {
     }
 
     /// XOR or SUB of a place of that width with itself: the flags of 0, and 0 moves there.
-    pub fn zero(&mut self, w: Width, p: Place) -> Result<(), AllocError>
+    pub fn zero(&mut self, w: Width, p: OperandPlace) -> Result<(), AllocError>
         ensures { OnOk result (written self.new ≡ written self.old ++ spec.zeroing w (place_of p)) }
     {
         self.take_flags(bit(false), bit(false), bit(true))?;
         self.take_carry(bit(false))?;
-        self.mov(w, p, Place::Constant(w, 0))
+        self.mov(w, p, OperandPlace::Constant(w, 0))
     }
 
     // INC.
-    fn inc(&mut self, w: Width, p: Place) -> Result<(), AllocError>
+    fn inc(&mut self, w: Width, p: OperandPlace) -> Result<(), AllocError>
         ensures { OnOk result (written self.new ≡ written self.old ++ spec.unary_stmts Unary.Inc w (place_of p)) }
     {
-        self.take_operands(w, p, Place::Constant(w, 1))?;
+        self.take_operands(w, p, OperandPlace::Constant(w, 1))?;
         self.take_result(w, self.maker(w).sum()?)?;
         self.sum_flags(w)?;
         self.store(p, result_place(w))
     }
 
     // DEC.
-    fn dec(&mut self, w: Width, p: Place) -> Result<(), AllocError>
+    fn dec(&mut self, w: Width, p: OperandPlace) -> Result<(), AllocError>
         ensures { OnOk result (written self.new ≡ written self.old ++ spec.unary_stmts Unary.Dec w (place_of p)) }
     {
-        self.take_operands(w, p, Place::Constant(w, 1))?;
+        self.take_operands(w, p, OperandPlace::Constant(w, 1))?;
         self.take_result(w, self.maker(w).difference()?)?;
         self.difference_flags(w)?;
         self.store(p, result_place(w))
     }
 
     // NEG.
-    fn neg(&mut self, w: Width, p: Place) -> Result<(), AllocError>
+    fn neg(&mut self, w: Width, p: OperandPlace) -> Result<(), AllocError>
         ensures { OnOk result (written self.new ≡ written self.old ++ spec.unary_stmts Unary.Neg w (place_of p)) }
     {
-        self.take_operands(w, Place::Constant(w, 0), p)?;
+        self.take_operands(w, OperandPlace::Constant(w, 0), p)?;
         self.sub(w)?;
         self.store(p, result_place(w))
     }
 
     // NOT.
-    fn not(&mut self, w: Width, p: Place) -> Result<(), AllocError>
+    fn not(&mut self, w: Width, p: OperandPlace) -> Result<(), AllocError>
         ensures { OnOk result (written self.new ≡ written self.old ++ spec.unary_stmts Unary.Not w (place_of p)) }
     {
         self.take(left_place(w), p)?;
@@ -181,7 +187,7 @@ impl Writer {
 
     /// An operation on one operand of that width. What a division divides has an upper half that is 0, or that repeats
     /// the sign of the lower one.
-    pub fn unary(&mut self, operation: Unary, w: Width, p: Place) -> Result<(), AllocError>
+    pub fn unary(&mut self, operation: Unary, w: Width, p: OperandPlace) -> Result<(), AllocError>
         ensures { OnOk result (written self.new ≡ written self.old ++ spec.unary_stmts operation w (place_of p)) }
     {
         match operation {

@@ -10,8 +10,8 @@ ghost use Rattle.dcc_ops.specs.Writing.{written};
 use crate::expression::{Maker, flag, half, result_place};
 use crate::writer::Writer;
 use dcc_ir::{BinOp, Expr, Loc, Stmt, UnOp};
+use dcc_machine::{Cond, Op};
 use dcc_num::{FlagName, Half, Reg, Width, dos};
-use dcc_prog::{Cond, Op};
 use std::alloc::{AllocError, Global};
 
 impl Maker {

@@ -8,7 +8,7 @@ ghost use Rattle.dcc_ops.specs.Placing.{place_of};
 ghost use Rattle.dcc_ops.specs.Writing.{written};
 
 use crate::expression::{bit, left_place, result_place};
-use crate::place::Place;
+use crate::operand_place::OperandPlace;
 use crate::product::accumulator;
 use crate::writer::Writer;
 use dcc_ir::{BinOp, Expr, Loc, Stmt};
@@ -70,7 +70,7 @@ impl Writer {
         w: Width,
         quotient: BinOp,
         remainder: BinOp,
-        p: Place,
+        p: OperandPlace,
     ) -> Result<(), AllocError>
         ensures { OnOk result (written self.new
             ≡ written self.old ++ spec.dividing w quotient remainder (place_of p)) }

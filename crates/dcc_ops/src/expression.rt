@@ -26,7 +26,7 @@ pub fn temporary_bits(alloc: Global) -> Result<Vec<u8>, AllocError>
 }
 
 /// The temporary of the left operand.
-pub fn left_place(w: Width) -> Loc
+pub(crate) fn left_place(w: Width) -> Loc
     ensures { result ≡ temporaries.left_place w }
 {
     match w {
@@ -36,7 +36,7 @@ pub fn left_place(w: Width) -> Loc
 }
 
 /// The temporary of the right operand.
-pub fn right_place(w: Width) -> Loc
+pub(crate) fn right_place(w: Width) -> Loc
     ensures { result ≡ temporaries.right_place w }
 {
     match w {
@@ -46,7 +46,7 @@ pub fn right_place(w: Width) -> Loc
 }
 
 /// The temporary of the result.
-pub fn result_place(w: Width) -> Loc
+pub(crate) fn result_place(w: Width) -> Loc
     ensures { result ≡ temporaries.result_place w }
 {
     match w {
@@ -56,7 +56,7 @@ pub fn result_place(w: Width) -> Loc
 }
 
 /// The temporary of a product, which has twice the width.
-pub fn product_place(w: Width) -> Loc
+pub(crate) fn product_place(w: Width) -> Loc
     ensures { result ≡ temporaries.product_place w }
 {
     match w {
@@ -66,7 +66,7 @@ pub fn product_place(w: Width) -> Loc
 }
 
 /// The temporary of CF as it comes in.
-pub fn carry_place() -> Loc
+pub(crate) fn carry_place() -> Loc
     ensures { result ≡ temporaries.carry_place }
 {
     Loc::Temp(7)

@@ -10,8 +10,8 @@ mod division;
 mod expression;
 pub mod laws;
 mod movement;
+mod operand_place;
 mod operation;
-mod place;
 mod product;
 mod shift;
 mod sum;
@@ -19,5 +19,5 @@ mod writer;
 
 pub use control::op_test;
 pub use expression::{bit, byte, constant, returned_place, temporary_bits};
-pub use place::{Computed, Place, register_place};
+pub use operand_place::{Computed, OperandPlace, register_place};
 pub use writer::Writer;

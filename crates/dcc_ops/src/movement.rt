@@ -3,22 +3,27 @@
 ghost use Rattle.std.specs.Prelude.{◌≡◌, ◌++◌, ◌∷◌, OnOk};
 ghost use Rattle.dcc_ops.specs.Temporaries as temporaries;
 ghost use Rattle.dcc_ops.specs.Expressions as expressions;
-ghost use Rattle.dcc_ops.specs.Place as places;
+ghost use Rattle.dcc_ops.specs.OperandPlace as places;
 ghost use Rattle.dcc_ops.specs.Statements as spec;
 ghost use Rattle.dcc_ops.specs.Placing.{place_of};
 ghost use Rattle.dcc_ops.specs.Writing.{written};
 
 use crate::expression::{bit, byte, constant, flag, half, left_place, product_place, right_place};
-use crate::place::Place;
+use crate::operand_place::OperandPlace;
 use crate::writer::Writer;
 use dcc_ir::{BinOp, Expr, Loc};
+use dcc_machine::Plain;
 use dcc_num::{FlagName, Half, Reg, Width};
-use dcc_prog::Plain;
 use std::alloc::AllocError;
 
 impl Writer {
     // The first place takes what the second holds, through a temporary of that width.
-    fn move_through(&mut self, w: Width, to: Place, from: Place) -> Result<(), AllocError>
+    fn move_through(
+        &mut self,
+        w: Width,
+        to: OperandPlace,
+        from: OperandPlace,
+    ) -> Result<(), AllocError>
         ensures { OnOk result (written self.new ≡ written self.old
             ++ places.taking (temporaries.left_place w) (place_of from)
             ∷ places.storing (place_of to) (expressions.left w)) }
@@ -28,19 +33,19 @@ impl Writer {
     }
 
     /// MOV of operands of that width.
-    pub fn mov(&mut self, w: Width, to: Place, from: Place) -> Result<(), AllocError>
+    pub fn mov(&mut self, w: Width, to: OperandPlace, from: OperandPlace) -> Result<(), AllocError>
         ensures { OnOk result (written self.new ≡ written self.old ++ spec.mov_stmts w (place_of to) (place_of from)) }
     {
         match (to, from) {
-            (Place::Byte(to), Place::Byte(from)) => self.set(to, Expr::Get(from)),
-            (Place::Byte(to), Place::Constant(width, number)) => {
+            (OperandPlace::Byte(to), OperandPlace::Byte(from)) => self.set(to, Expr::Get(from)),
+            (OperandPlace::Byte(to), OperandPlace::Constant(width, number)) => {
                 self.set(to, constant(width.bits(), u32::from(number)))
             }
-            (Place::Word(low, high), Place::Word(l, h)) => {
+            (OperandPlace::Word(low, high), OperandPlace::Word(l, h)) => {
                 self.set(low, Expr::Get(l))?;
                 self.set(high, Expr::Get(h))
             }
-            (Place::Word(low, high), Place::Constant(_, number)) => {
+            (OperandPlace::Word(low, high), OperandPlace::Constant(_, number)) => {
                 self.set(low, byte(Half::Low.of(number)))?;
                 self.set(high, byte(Half::High.of(number)))
             }
@@ -59,7 +64,12 @@ impl Writer {
     }
 
     // Two places are exchanged through temporaries of that width; the first is stored first.
-    fn exchange_through(&mut self, w: Width, p: Place, q: Place) -> Result<(), AllocError>
+    fn exchange_through(
+        &mut self,
+        w: Width,
+        p: OperandPlace,
+        q: OperandPlace,
+    ) -> Result<(), AllocError>
         ensures { OnOk result (written self.new ≡ written self.old ++ (spec.operands_taking w (place_of p) (place_of q)
             ++ (places.storing (place_of p) (expressions.right w)
             ++ places.storing (place_of q) (expressions.left w)))) }
@@ -70,12 +80,12 @@ impl Writer {
     }
 
     /// XCHG of operands of that width.
-    pub fn xchg(&mut self, w: Width, p: Place, q: Place) -> Result<(), AllocError>
+    pub fn xchg(&mut self, w: Width, p: OperandPlace, q: OperandPlace) -> Result<(), AllocError>
         ensures { OnOk result (written self.new ≡ written self.old ++ spec.xchg_stmts w (place_of p) (place_of q)) }
     {
         match (p, q) {
-            (Place::Byte(a), Place::Byte(b)) => self.exchange(a, b),
-            (Place::Word(low, high), Place::Word(l, h)) => {
+            (OperandPlace::Byte(a), OperandPlace::Byte(b)) => self.exchange(a, b),
+            (OperandPlace::Word(low, high), OperandPlace::Word(l, h)) => {
                 self.exchange(low, l)?;
                 self.exchange(high, h)
             }

@@ -5,9 +5,9 @@ ghost use Rattle.dcc_ops.specs.Statements as spec;
 ghost use Rattle.dcc_ops.specs.Placing.{place_of};
 ghost use Rattle.dcc_ops.specs.Writing.{written};
 
-use crate::place::Place;
+use crate::operand_place::OperandPlace;
 use crate::writer::Writer;
-use dcc_prog::{Cpu, Op};
+use dcc_machine::{Cpu, Op};
 use std::alloc::AllocError;
 
 impl Writer {
@@ -19,8 +19,8 @@ impl Writer {
         cpu: Cpu,
         op: Op,
         number: Option<u8>,
-        p: Place,
-        q: Place,
+        p: OperandPlace,
+        q: OperandPlace,
     ) -> Result<(), AllocError>
         ensures { OnOk result (written self.new
             ≡ written self.old ++ spec.op_stmts cpu op number (place_of p) (place_of q)) }

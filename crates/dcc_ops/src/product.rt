@@ -9,15 +9,15 @@ ghost use Rattle.dcc_ops.specs.Placing.{place_of};
 ghost use Rattle.dcc_ops.specs.Writing.{written};
 
 use crate::expression::{Maker, bit, product_place};
-use crate::place::{Place, register_place};
+use crate::operand_place::{OperandPlace, register_place};
 use crate::writer::Writer;
 use dcc_ir::{BinOp, Expr};
+use dcc_machine::Operand;
 use dcc_num::{Half, Reg, Width};
-use dcc_prog::Operand;
 use std::alloc::AllocError;
 
 /// The accumulator of a width: AL or AX.
-pub fn accumulator(w: Width) -> Place
+pub fn accumulator(w: Width) -> OperandPlace
     ensures { place_of result ≡ registers.register_place (spec.accumulator w) }
 {
     register_place(match w {
@@ -95,7 +95,7 @@ impl Writer {
     }
 
     /// MUL, or IMUL where the numbers are signed.
-    pub fn multiply(&mut self, w: Width, signed: bool, p: Place) -> Result<(), AllocError>
+    pub fn multiply(&mut self, w: Width, signed: bool, p: OperandPlace) -> Result<(), AllocError>
         ensures { OnOk result (written self.new ≡ written self.old ++ spec.multiplying w signed (place_of p)) }
     {
         self.take_operands(w, accumulator(w), p)?;
@@ -104,11 +104,11 @@ impl Writer {
     }
 
     /// IMUL of three operands: the register takes the lower word of the product.
-    pub fn triple_product(&mut self, r: Reg, p: Place, number: u16) -> Result<(), AllocError>
+    pub fn triple_product(&mut self, r: Reg, p: OperandPlace, number: u16) -> Result<(), AllocError>
         ensures { OnOk result (written self.new ≡ written self.old ++ spec.triple_product r (place_of p) number) }
     {
         let w = Width::Word;
-        self.take_operands(w, p, Place::Constant(w, number))?;
+        self.take_operands(w, p, OperandPlace::Constant(w, number))?;
         self.product_working(w, true)?;
         self.take_word(r, 0, product_place(w))
     }

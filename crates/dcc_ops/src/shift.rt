@@ -1,7 +1,7 @@
 //! Shifts and rotates. The right operand is the count.
 
 ghost use Rattle.std.specs.Prelude.{◌≡◌, ◌++◌, [], ◌∷◌, OnOk, IfOk};
-ghost use Rattle.dcc_prog.specs.Writes as writes;
+ghost use Rattle.dcc_machine.specs.Writes as writes;
 ghost use Rattle.dcc_ir.specs.Views.{expr_of};
 ghost use Rattle.dcc_ir.specs.Tree as tree;
 ghost use Rattle.dcc_ops.specs.Expressions as expressions;
@@ -10,11 +10,11 @@ ghost use Rattle.dcc_ops.specs.Placing.{place_of};
 ghost use Rattle.dcc_ops.specs.Writing.{written};
 
 use crate::expression::{Maker, bit, flag, half, left_place, result_place, right_place};
-use crate::place::Place;
+use crate::operand_place::OperandPlace;
 use crate::writer::Writer;
 use dcc_ir::{BinOp, Expr, Loc};
+use dcc_machine::{Count, Cpu, Shift};
 use dcc_num::{FlagName, Half, Reg, Width};
-use dcc_prog::{Count, Cpu, Shift};
 use std::alloc::AllocError;
 
 // Whether nothing is shifted: the count is a constant that is 0 modulo 32.
@@ -97,64 +97,64 @@ impl Maker {
     }
 
     // How many places a rotate moves the bits.
-    fn turn(self) -> Result<Expr, AllocError>
-        ensures { IfOk result (λ e. expr_of e ≡ expressions.turn self.w) }
+    fn rotation(self) -> Result<Expr, AllocError>
+        ensures { IfOk result (λ e. expr_of e ≡ expressions.rotation self.w) }
     {
         let last = self.number(u32::from(self.w.bits()) - 1);
         self.at_width(BinOp::And, self.right(), last)
     }
 
-    // What is missing to a whole turn.
-    fn rest_of_turn(self) -> Result<Expr, AllocError>
-        ensures { IfOk result (λ e. expr_of e ≡ expressions.rest_of_turn self.w) }
+    // What is missing to a whole rotation.
+    fn rest_of_rotation(self) -> Result<Expr, AllocError>
+        ensures { IfOk result (λ e. expr_of e ≡ expressions.rest_of_rotation self.w) }
     {
         let whole = self.number(u32::from(self.w.bits()));
-        self.at_width(BinOp::Sub, whole, self.turn()?)
+        self.at_width(BinOp::Sub, whole, self.rotation()?)
     }
 
     // The operand shifted by as many places as a rotate moves the bits.
     fn moved(self, operator: BinOp) -> Result<Expr, AllocError>
         ensures { IfOk result (λ e. expr_of e
-            ≡ expressions.at_width operator self.w (expressions.left self.w) (expressions.turn self.w)) }
+            ≡ expressions.at_width operator self.w (expressions.left self.w) (expressions.rotation self.w)) }
     {
-        self.at_width(operator, self.left(), self.turn()?)
+        self.at_width(operator, self.left(), self.rotation()?)
     }
 
-    // The operand shifted by what is missing to a whole turn: the bits that come round.
+    // The operand shifted by what is missing to a whole rotation: the bits that come round.
     fn come_round(self, operator: BinOp) -> Result<Expr, AllocError>
         ensures { IfOk result (λ e. expr_of e
-            ≡ expressions.at_width operator self.w (expressions.left self.w) (expressions.rest_of_turn self.w)) }
+            ≡ expressions.at_width operator self.w (expressions.left self.w) (expressions.rest_of_rotation self.w)) }
     {
-        self.at_width(operator, self.left(), self.rest_of_turn()?)
+        self.at_width(operator, self.left(), self.rest_of_rotation()?)
     }
 
     // The operand rotated to the left.
-    fn rotated_left(self) -> Result<Expr, AllocError>
-        ensures { IfOk result (λ e. expr_of e ≡ expressions.rotated_left self.w) }
+    fn rol_value(self) -> Result<Expr, AllocError>
+        ensures { IfOk result (λ e. expr_of e ≡ expressions.rol_value self.w) }
     {
         let high = self.moved(BinOp::Shl)?;
         self.at_width(BinOp::Or, high, self.come_round(BinOp::Shr)?)
     }
 
     // The operand rotated to the right.
-    fn rotated_right(self) -> Result<Expr, AllocError>
-        ensures { IfOk result (λ e. expr_of e ≡ expressions.rotated_right self.w) }
+    fn ror_value(self) -> Result<Expr, AllocError>
+        ensures { IfOk result (λ e. expr_of e ≡ expressions.ror_value self.w) }
     {
         let low = self.moved(BinOp::Shr)?;
         self.at_width(BinOp::Or, low, self.come_round(BinOp::Shl)?)
     }
 
     // The operand rotated to the left by one place, through CF.
-    fn turned_left(self) -> Result<Expr, AllocError>
-        ensures { IfOk result (λ e. expr_of e ≡ expressions.turned_left self.w) }
+    fn rcl_value(self) -> Result<Expr, AllocError>
+        ensures { IfOk result (λ e. expr_of e ≡ expressions.rcl_value self.w) }
     {
         let high = self.at_width(BinOp::Shl, self.left(), self.number(1))?;
         self.at_width(BinOp::Or, high, self.carry()?)
     }
 
     // The operand rotated to the right by one place, through CF.
-    fn turned_right(self) -> Result<Expr, AllocError>
-        ensures { IfOk result (λ e. expr_of e ≡ expressions.turned_right self.w) }
+    fn rcr_value(self) -> Result<Expr, AllocError>
+        ensures { IfOk result (λ e. expr_of e ≡ expressions.rcr_value self.w) }
     {
         let last = self.number(u32::from(self.w.bits()) - 1);
         let low = self.at_width(BinOp::Shr, self.left(), self.number(1))?;
@@ -273,7 +273,7 @@ impl Writer {
         ensures { OnOk result (written self.new ≡ written self.old ++ spec.shift_working Shift.Rol w count) }
     {
         let maker = self.maker(w);
-        self.take_result(w, maker.rotated_left()?)?;
+        self.take_result(w, maker.rol_value()?)?;
         let differ = maker.differs_from_sign(maker.lowest(maker.result())?)?;
         let overflow = maker.if_one(count, differ)?;
         let carry = maker.lowest(maker.result())?;
@@ -285,7 +285,7 @@ impl Writer {
         ensures { OnOk result (written self.new ≡ written self.old ++ spec.shift_working Shift.Ror w count) }
     {
         let maker = self.maker(w);
-        self.take_result(w, maker.rotated_right()?)?;
+        self.take_result(w, maker.ror_value()?)?;
         let overflow = maker.if_one(count, maker.top_bits_differ()?)?;
         let carry = maker.sign(maker.result())?;
         self.rotate_flags(w, count, MovedOut { overflow, carry })
@@ -297,7 +297,7 @@ impl Writer {
     {
         let maker = self.maker(w);
         self.bring_carry()?;
-        self.take_result(w, maker.turned_left()?)?;
+        self.take_result(w, maker.rcl_value()?)?;
         let overflow = maker.differs_from_sign(maker.sign(maker.left())?)?;
         let carry = maker.sign(maker.left())?;
         self.rotate_flags(w, Count::One, MovedOut { overflow, carry })
@@ -309,7 +309,7 @@ impl Writer {
     {
         let maker = self.maker(w);
         self.bring_carry()?;
-        self.take_result(w, maker.turned_right()?)?;
+        self.take_result(w, maker.rcr_value()?)?;
         let overflow = maker.top_bits_differ()?;
         let carry = maker.lowest(maker.left())?;
         self.rotate_flags(w, Count::One, MovedOut { overflow, carry })
@@ -331,7 +331,13 @@ impl Writer {
     }
 
     // The operand and the count go to their temporaries.
-    fn take_count(&mut self, cpu: Cpu, w: Width, p: Place, count: Count) -> Result<(), AllocError>
+    fn take_count(
+        &mut self,
+        cpu: Cpu,
+        w: Width,
+        p: OperandPlace,
+        count: Count,
+    ) -> Result<(), AllocError>
         ensures { OnOk result (written self.new
             ≡ written self.old ++ spec.count_taking cpu w (place_of p) count) }
     {
@@ -341,7 +347,7 @@ impl Writer {
     }
 
     // An operand takes its own value.
-    fn stay(&mut self, w: Width, p: Place) -> Result<(), AllocError>
+    fn stay(&mut self, w: Width, p: OperandPlace) -> Result<(), AllocError>
         ensures { OnOk result (written self.new ≡ written self.old ++ spec.staying w (place_of p)) }
     {
         self.take(result_place(w), p)?;
@@ -354,7 +360,7 @@ impl Writer {
         cpu: Cpu,
         operation: Shift,
         w: Width,
-        p: Place,
+        p: OperandPlace,
         count: Count,
     ) -> Result<(), AllocError>
         ensures { OnOk result (written self.new

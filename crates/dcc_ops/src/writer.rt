@@ -3,7 +3,7 @@
 ghost use Rattle.std.specs.Prelude.{◌≡◌, ◌+◌, ◌++◌, [], ◌∷◌, ◌<◌, OnOk, IfOk, option_map};
 ghost use Rattle.dcc_ir.specs.Views.{expr_of};
 ghost use Rattle.dcc_ir.specs.Tree as tree;
-ghost use Rattle.dcc_ops.specs.Place as places;
+ghost use Rattle.dcc_ops.specs.OperandPlace as places;
 ghost use Rattle.dcc_ops.specs.Computed as computed;
 ghost use Rattle.dcc_ops.specs.Placing.{place_of};
 ghost use Rattle.dcc_ops.specs.Statements as spec;
@@ -12,7 +12,7 @@ ghost use Rattle.dcc_ops.specs.Writing.{written};
 use crate::expression::{
     Maker, carry_place, constant, flag, left_place, result_place, right_place,
 };
-use crate::place::{Computed, Place};
+use crate::operand_place::{Computed, OperandPlace};
 use dcc_ir::{BinOp, Expr, Loc, Stmt};
 use dcc_num::{FlagName, Half, Reg, Width};
 use std::alloc::{AllocError, Global};
@@ -112,18 +112,22 @@ impl Writer {
     }
 
     /// The expression of what a place holds.
-    pub fn value(&self, place: Place) -> Result<Expr, AllocError>
+    pub fn value(&self, place: OperandPlace) -> Result<Expr, AllocError>
         ensures { IfOk result (λ e. expr_of e ≡ places.place_value (place_of place)) }
     {
         match place {
-            Place::Constant(width, number) => Ok(constant(width.bits(), u32::from(number))),
-            Place::Byte(location) => Ok(Expr::Get(location)),
-            Place::Word(low, high) => self
+            OperandPlace::Constant(width, number) => Ok(constant(width.bits(), u32::from(number))),
+            OperandPlace::Byte(location) => Ok(Expr::Get(location)),
+            OperandPlace::Word(low, high) => self
                 .maker(Width::Word)
                 .join(Expr::Get(high), Expr::Get(low)),
-            Place::Memory(width, at) => Expr::load(self.alloc, width.bits(), self.computed(at)?),
-            Place::Address(distance) => Ok(Expr::Address(distance)),
-            Place::Computed(word) => self.computed(word),
+            OperandPlace::Memory(width, at) => Expr::load(
+                self.alloc,
+                width.bits(),
+                self.computed(at)?,
+            ),
+            OperandPlace::Address(distance) => Ok(Expr::Address(distance)),
+            OperandPlace::Computed(word) => self.computed(word),
         }
     }
 
@@ -140,11 +144,11 @@ impl Writer {
     }
 
     /// A location takes what a place holds.
-    pub fn take(&mut self, to: Loc, place: Place) -> Result<(), AllocError>
+    pub fn take(&mut self, to: Loc, place: OperandPlace) -> Result<(), AllocError>
         ensures { OnOk result (written self.new ≡ written self.old ++ places.taking to (place_of place) ∷ []) }
     {
         match place {
-            Place::Memory(width, at) => {
+            OperandPlace::Memory(width, at) => {
                 let address = self.computed(at)?;
                 self.fetch(to, width.bits(), address)
             }
@@ -156,7 +160,12 @@ impl Writer {
     }
 
     /// The operands go to their temporaries.
-    pub fn take_operands(&mut self, w: Width, p: Place, q: Place) -> Result<(), AllocError>
+    pub fn take_operands(
+        &mut self,
+        w: Width,
+        p: OperandPlace,
+        q: OperandPlace,
+    ) -> Result<(), AllocError>
         ensures { OnOk result (written self.new
             ≡ written self.old ++ spec.operands_taking w (place_of p) (place_of q)) }
     {
@@ -213,19 +222,19 @@ impl Writer {
     }
 
     /// A place takes a temporary of its width.
-    pub fn store(&mut self, place: Place, from: Loc) -> Result<(), AllocError>
+    pub fn store(&mut self, place: OperandPlace, from: Loc) -> Result<(), AllocError>
         ensures { OnOk result (written self.new ≡ written self.old ++ places.storing (place_of place) (tree.Get from)) }
     {
         match place {
-            Place::Byte(location) => self.set(location, Expr::Get(from)),
-            Place::Word(low, high) => {
+            OperandPlace::Byte(location) => self.set(location, Expr::Get(from)),
+            OperandPlace::Word(low, high) => {
                 let maker = self.maker(Width::Byte);
                 let first = maker.part(8, 0, Expr::Get(from))?;
                 let second = maker.part(8, 8, Expr::Get(from))?;
                 self.set(low, first)?;
                 self.set(high, second)
             }
-            Place::Memory(width, at) => {
+            OperandPlace::Memory(width, at) => {
                 let address = self.computed(at)?;
                 self.stmts.push(Stmt::Store {
                     width: width.bits(),
@@ -234,7 +243,9 @@ impl Writer {
                 })?;
                 Ok(())
             }
-            Place::Constant(..) | Place::Address(_) | Place::Computed(_) => Ok(()),
+            OperandPlace::Constant(..) | OperandPlace::Address(_) | OperandPlace::Computed(_) => Ok(
+                (),
+            ),
         }
     }
 }

@@ -12,7 +12,7 @@ use Rattle.dcc_c.specs.Tree.{Lines, no_lines, line, Arms, no_arms, arm}
 use Rattle.dcc_c.specs.Views.{expr_of, stmt_of, lines_of, arms_of, arm_before, arms_if}
 use Rattle.dcc_c.specs.Kinds.{of_depth, offence, only_if}
 use Rattle.dcc_c.specs.Partial.{NumberAt, PartialLines, PartialArms, no_rows, cases, row}
-use Rattle.dcc_c.specs.Offences.{Scene, default_offences, lines_offences, own_offences, inner_offences, arms_inner, case_offences, case_numbers}
+use Rattle.dcc_c.specs.Offences.{BodyContext, default_offences, lines_offences, own_offences, inner_offences, arms_inner, case_offences, case_numbers}
 use Rattle.dcc_c.specs.Stripped.{plain_numbers, plain_expr, plain_stmt, plain_lines, case_arms, default_arms}
 use Rattle.dcc_c.proofs.refusals.ExprRules.{none-both}
 use Rattle.dcc_reader.specs.declared.partial.PartialExpr.{PartialExpr}
@@ -82,25 +82,25 @@ default-alone None = refl
 default-alone (Some a) = refl
 
 -- What has been made of the first statements, before the rest, of which there are so many. Nothing offends in the rest.
-pub record LinesLeft (scene : Scene) (blocks : ℕ) (lines : List Line) (rest : List Row) (count : ℕ) (rows : List Row) : Type 0 where
+pub record LinesLeft (scene : BodyContext) (blocks : ℕ) (lines : List Line) (rest : List Row) (count : ℕ) (rows : List Row) : Type 0 where
   pub none : lines_offences scene blocks (partial.lines_of rest) ≡ []
   pub same : lines_then lines (plain_lines (partial.lines_of rest)) ≡ plain_lines (partial.lines_of rows)
   pub left : count ≡ length rest
 
 -- What has been made of the last statements, the last of them first; these stand before them. Nothing offends in these.
-pub record LinesMade (scene : Scene) (blocks : ℕ) (lines : List Line) (rest rows : List Row) : Type 0 where
+pub record LinesMade (scene : BodyContext) (blocks : ℕ) (lines : List Line) (rest rows : List Row) : Type 0 where
   pub none : lines_offences scene blocks (partial.lines_of rest) ≡ []
   pub same : rows_then rest (lines_of (reverse lines)) ≡ plain_lines (partial.lines_of rows)
 
 -- What has been made of arms, before the rest, of which there are so many. Nothing offends in the rest.
-pub record ArmsLeft (scene : Scene) (blocks : ℕ) (found : List Arm) (last : Option Arm) (rest : List PartialArm) (count : ℕ) (arms : List PartialArm) : Type 0 where
+pub record ArmsLeft (scene : BodyContext) (blocks : ℕ) (found : List Arm) (last : Option Arm) (rest : List PartialArm) (count : ℕ) (arms : List PartialArm) : Type 0 where
   pub none : arms_inner scene blocks (partial.arms_of rest) ≡ []
   pub single : default_offences (is_some last) (partial.arms_of rest) ≡ []
   pub with_cases : arms_then found (case_arms (partial.arms_of rest)) ≡ case_arms (partial.arms_of arms)
   pub default : default_then last (default_arms (partial.arms_of rest)) ≡ default_arms (partial.arms_of arms)
   pub left : count ≡ length rest
 
-module _ (scene : Scene) (blocks : ℕ) where
+module _ (scene : BodyContext) (blocks : ℕ) where
   -- nothing offends in a statement, in those inside it and in those after it
   record IsClean (r : Row) (others : PartialLines) : Type 0 where
     deep : only_if (nat_lt 200 blocks) (offence of_depth r.at) ≡ []
@@ -222,7 +222,7 @@ own_numbers a = map partial.case_of (out-PartialArm a).numbers.items
 abbrev own_body : PartialArm → PartialLines
 own_body a = partial.lines_of (out-PartialArm a).body.items
 
-module _ (scene : Scene) (blocks : ℕ) where
+module _ (scene : BodyContext) (blocks : ℕ) where
   own-clean : (a : PartialArm) (rest more : List PartialArm) → rest ≡ a ∷ more → arms_inner scene blocks (partial.arms_of rest) ≡ [] →
       (partial.arms_of rest ≡ cases (own_numbers a) (out-PartialArm a).default (own_body a) (partial.arms_of more))
       × (lines_offences scene blocks (own_body a) ≡ []) × (arms_inner scene blocks (partial.arms_of more) ≡ [])
@@ -290,7 +290,7 @@ module _ (scene : Scene) (blocks : ℕ) where
       )
 
 -- Statements with blocks.
-module _ (scene : Scene) (blocks : ℕ) where
+module _ (scene : BodyContext) (blocks : ℕ) where
   pub if-strip : (stmt : PartialStmt) (e : PartialExpr) (done : Bool) (body otherwise : Vec Row Global) (f : CExpr) (first second : Vec Line Global) →
       stmt ≡ If e done body otherwise → inner_offences scene blocks (partial.stmt_of stmt) ≡ [] → expr_of f ≡ plain_expr (partial.expr_of e) →
       (lines_offences scene blocks (partial.lines_of body.items) ≡ [] → lines_of first.items ≡ plain_lines (partial.lines_of body.items)) →

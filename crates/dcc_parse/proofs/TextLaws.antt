@@ -9,7 +9,7 @@ use Rattle.dcc_c.specs.Rules.{has_element, allows_global}
 use Rattle.dcc_c.specs.Placement.{after_global}
 use Rattle.dcc_c.specs.Dos.{dos_names}
 use Rattle.dcc_c.specs.Partial as trees
-use Rattle.dcc_c.specs.Offences.{Scene, repeated, label_list, lines_offences, body_offences}
+use Rattle.dcc_c.specs.Offences.{BodyContext, repeated, label_list, lines_offences, body_offences}
 use Rattle.dcc_c.specs.TextOffences.{Whole, name_list, function_names, stack_offences, number_or_zero, globals_places, start_offences, sizes_of, known_in, scene_of, function_offences, functions_offences, text_offences}
 use Rattle.dcc_c.specs.Stripped.{plain_number, plain_global, plain_function, plain_text}
 use Rattle.dcc_c.specs.Complete.{is_complete_text}
@@ -32,7 +32,7 @@ function-lines whole labels f none =
 
 -- nothing offends in the first function and in the others
 functions-split : (whole : Whole) (f : trees.PartialFunction) (fs : List trees.PartialFunction) → functions_offences whole (f ∷ fs) ≡ [] →
-    ((scene : Scene) × (lines_offences scene 0 f.body ≡ [])) × (functions_offences whole fs ≡ [])
+    ((scene : BodyContext) × (lines_offences scene 0 f.body ≡ [])) × (functions_offences whole fs ≡ [])
 functions-split whole f [] none = ((scene_of whole whole.labels f, function-lines whole whole.labels f none), refl)
 functions-split whole f (g ∷ fs) none =
     let both = none-both (function_offences whole [] f) (functions_offences whole (g ∷ fs)) none in
@@ -40,7 +40,7 @@ functions-split whole f (g ∷ fs) none =
 
 -- nothing offends in the first function that is left, nor in the others
 pub functions-clean : (whole : Whole) (f : PartialFunction) {fs more : List PartialFunction} {A : Type 0} → fs ≡ f ∷ more →
-    ((scene : Scene) → lines_offences scene 0 (partial.lines_of f.body.items) ≡ [] → A) →
+    ((scene : BodyContext) → lines_offences scene 0 (partial.lines_of f.body.items) ≡ [] → A) →
     functions_offences whole (map partial.function_of fs) ≡ [] → A × (functions_offences whole (map partial.function_of more) ≡ [])
 functions-clean whole f {fs} {more} is stripped none =
     let parts = functions-split whole (partial.function_of f) (map partial.function_of more) (sym (ap (λ l. functions_offences whole (map partial.function_of l)) is) ∙ none) in

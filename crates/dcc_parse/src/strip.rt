@@ -4,7 +4,7 @@ ghost use Rattle.std.specs.Prelude.{◌≡◌, ℕ, [], false, IfOk, map, string
 ghost use Rattle.std.specs.Option.{option_map};
 ghost use Rattle.dcc_c.specs.Views as tree;
 ghost use Rattle.dcc_c.specs.Stripped as stripped;
-ghost use Rattle.dcc_c.specs.Offences.{Scene, default_offences, lines_offences, inner_offences, arms_inner};
+ghost use Rattle.dcc_c.specs.Offences.{BodyContext, default_offences, lines_offences, inner_offences, arms_inner};
 ghost use Rattle.dcc_reader.specs.PartialViews as partial;
 
 use dcc_c::{Arm, Base, CExpr, CStmt, Line};
@@ -112,7 +112,7 @@ struct Arms {
 // A statement.
 #[cycle(strip)]
 fn strip_stmt(alloc: Global, stmt: PartialStmt) -> Result<CStmt, AllocError>
-    ensures { (scene : Scene) (blocks : ℕ) → inner_offences scene blocks (partial.stmt_of stmt.entry) ≡ [] →
+    ensures { (scene : BodyContext) (blocks : ℕ) → inner_offences scene blocks (partial.stmt_of stmt.entry) ≡ [] →
         IfOk result (λ r. tree.stmt_of r ≡ stripped.plain_stmt (partial.stmt_of stmt.entry)) }
 {
     match stmt {
@@ -167,7 +167,8 @@ fn shrink_in_steps(rows: &mut Vec<Row>)
 // A statement with its line.
 #[cycle(strip)]
 fn strip_row(alloc: Global, row: Row) -> Result<Line, AllocError>
-    ensures stmt { (scene : Scene) (blocks : ℕ) → inner_offences scene blocks (partial.stmt_of row.entry.stmt) ≡ [] →
+    ensures stmt { (scene : BodyContext) (blocks : ℕ) → inner_offences scene blocks (partial.stmt_of row.entry.stmt)
+        ≡ [] →
         IfOk result (λ r. tree.stmt_of r.stmt ≡ stripped.plain_stmt (partial.stmt_of row.entry.stmt)) }
     ensures line { IfOk result (λ r. r.line ≡ row.entry.line) }
 {
@@ -182,7 +183,8 @@ fn strip_row(alloc: Global, row: Row) -> Result<Line, AllocError>
 /// so that it and the list of its lines never stand whole side by side.
 #[cycle(strip)]
 pub(crate) fn strip_lines(alloc: Global, rows: Vec<Row>) -> Result<Vec<Line>, AllocError>
-    ensures { (scene : Scene) (blocks : ℕ) → lines_offences scene blocks (partial.lines_of rows.entry.items) ≡ [] →
+    ensures { (scene : BodyContext) (blocks : ℕ) → lines_offences scene blocks (partial.lines_of rows.entry.items) ≡ []
+        →
         IfOk result (λ r. tree.lines_of r.items ≡ stripped.plain_lines (partial.lines_of rows.entry.items)) }
 {
     let mut lines = Vec::with_capacity(alloc, rows.len())?;
@@ -204,7 +206,7 @@ pub(crate) fn strip_lines(alloc: Global, rows: Vec<Row>) -> Result<Vec<Line>, Al
 // The arms of a `switch`.
 #[cycle(strip)]
 fn strip_arms(alloc: Global, arms: Vec<PartialArm>) -> Result<Arms, AllocError>
-    ensures { (scene : Scene) (blocks : ℕ) → arms_inner scene blocks (partial.arms_of arms.entry.items) ≡ [] →
+    ensures { (scene : BodyContext) (blocks : ℕ) → arms_inner scene blocks (partial.arms_of arms.entry.items) ≡ [] →
         default_offences false (partial.arms_of arms.entry.items) ≡ [] →
         IfOk result (λ r. (tree.arms_of r.with_cases.items ≡ stripped.case_arms (partial.arms_of arms.entry.items))
         × (tree.arms_if r.default ≡ stripped.default_arms (partial.arms_of arms.entry.items))) }

@@ -4,7 +4,7 @@ ghost use Rattle.std.specs.Prelude.{◌≡◌, ◌≤◌, ℕ, [], true, IfOk, m
 ghost use Rattle.std.specs.Option.{option_map};
 ghost use Rattle.std.specs.List.{list_all};
 ghost use Rattle.dcc_c.specs.Complete.{is_complete_text};
-ghost use Rattle.dcc_c.specs.Offences.{Scene, lines_offences};
+ghost use Rattle.dcc_c.specs.Offences.{BodyContext, lines_offences};
 ghost use Rattle.dcc_c.specs.Stripped as stripped;
 ghost use Rattle.dcc_c.specs.TextOffences.{Whole, stack_offences, functions_offences, text_offences};
 ghost use Rattle.dcc_c.specs.Views as tree;
@@ -110,7 +110,7 @@ fn strip_globals(alloc: Global, vs: Vec<PartialVariable>) -> Result<Vec<Global_>
 
 // A function.
 fn strip_function(alloc: Global, f: PartialFunction) -> Result<Func, AllocError>
-    ensures { (scene : Scene) → lines_offences scene 0 (partial.lines_of f.entry.body.items) ≡ [] →
+    ensures { (scene : BodyContext) → lines_offences scene 0 (partial.lines_of f.entry.body.items) ≡ [] →
         IfOk result (λ r. tree.function_of r ≡ stripped.plain_function (partial.function_of f.entry)) }
 {
     Ok(Func {

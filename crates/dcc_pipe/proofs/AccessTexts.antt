@@ -1,6 +1,6 @@
 -- By no names but those of halves the text of a graph loads or stores, where the addresses of the graph's accesses read
 -- halves of registers and of cells alone.
-use Rattle.std.proofs.Common.{◌≡◌, ℕ, ◌+◌, ◌-◌, ◌*◌, ◌^◌, ◌<◌, Bool, true, false, ◌==◌, inl, inr, List, [], ◌∷◌, ◌++◌, map, flat_map, length, Option, Some, None, slice_get, refl, sym, ap, ap₂, ◌∙◌, subst, true≢false, get_or, arith}
+use Rattle.std.proofs.Common.{◌≡◌, ℕ, ◌+◌, ◌-◌, ◌*◌, ◌^◌, Bool, true, false, ◌==◌, inl, inr, List, [], ◌∷◌, ◌++◌, map, flat_map, length, Option, Some, None, refl, sym, ap, ◌∙◌, subst, true≢false, arith}
 use Rattle.std.specs.Prelude.{◌&&◌, ◌||◌, not, nat_lt, if◌then◌else◌, All, Contains, option_to_list}
 use Rattle.std.specs.List.{list_all, list_any}
 use Rattle.std.proofs.lemmas.Bool.{and_parts, and_from, or_from, cases_lt, false_from_ne_true, not-true}
@@ -23,12 +23,12 @@ use Rattle.dcc_ir.specs.Location.{location_width}
 use Rattle.dcc_ir.specs.Measure.{depth_of}
 use Rattle.dcc_ir.specs.Run.{no_block}
 use Rattle.dcc_ir.specs.Tree as inner
-use Rattle.dcc_ir.specs.Use.{parts_of, got_by, reads_of, exprs_of, exit_exprs}
+use Rattle.dcc_ir.specs.Use.{parts_of, got_by, exprs_of, exit_exprs}
 use Rattle.dcc_ir.specs.Value.{width_of}
 use Rattle.dcc_ir.specs.WellFormed.{IsGraph}
 use Rattle.dcc_ir.proofs.ListLaws.{left_part}
 use Rattle.dcc_ir.proofs.LocationLaws.{location_same}
-use Rattle.dcc_flags.specs.Accesses.{is_half_place, reads_halves, loads_by_halves, accessed, accesses_by_halves, block_by_halves}
+use Rattle.dcc_flags.specs.Accesses.{is_half_place, reads_halves, loads_by_halves, accesses_by_halves, block_by_halves}
 use Rattle.dcc_c.specs.declared.syntax.Base.{Base}
 use Rattle.dcc_c.specs.declared.syntax.Base.TheVariants.{Schar, Uchar, Int, Uint}
 use Rattle.dcc_c.specs.declared.syntax.CBin.{CBin}
@@ -38,8 +38,8 @@ use Rattle.dcc_c.specs.declared.syntax.CUn.TheVariants.{Minus, Complement, Deref
 use Rattle.dcc_c.specs.Numbered.{numbered_lines}
 use Rattle.dcc_c.specs.Parts.{stmts_in, exprs_of as exprs_in_text}
 use Rattle.dcc_c.specs.Token.{same_bytes}
-use Rattle.dcc_c.specs.Tree.{Word, Expr, Number, Name, Unary, Binary, Conditional, Cast, Stmt, Assign, Function}
-use Rattle.dcc_c.specs.Types.{is_signed, plain, pointer_to, same_type}
+use Rattle.dcc_c.specs.Tree.{Word, Expr, Number, Name, Unary, Binary, Cast, Stmt, Assign, Function}
+use Rattle.dcc_c.specs.Types.{is_signed, plain, same_type}
 use Rattle.dcc_text.specs.Holding.{IsWithin}
 use Rattle.dcc_text.specs.Names.{names_in, place_name, read_names}
 use Rattle.dcc_text.specs.Spelled.{Way, Low, Exact, Signed, unsigned_type, signed_type, reckoning_type, small, cut, signed_reading, cut_to, taken, constant, as_char, bit_read, variable, placed, pointer, operand_way, unary_text, left_way, right_way, symbol, unary_result, binary_result, votes_left, votes_right, moved_down, joined, text, byte_quotient, byte_remainder, division_text, text_division}
@@ -54,7 +54,8 @@ use Rattle.dcc_variables.proofs.Served.{functions-served}
 use Rattle.dcc_plan.specs.PlanText.{text_of_test, text_of_way, text_of_choice, text_of_return, plan_text}
 use Rattle.dcc_plan.proofs.TextLaws.{numbered-text}
 use Rattle.dcc_pipe.specs.TypedFrames.{stands_in, stands_beneath, is_accessed_by}
-use Rattle.dcc_pipe.specs.WholeText.{control, opened}
+use Rattle.dcc_control.specs.Plan.{Plan}
+use Rattle.dcc_pipe.specs.WholeText.{opened}
 use Rattle.dcc_pipe.proofs.BodyStatements.{TextsPass, plan-passes, opened-passes}
 use Rattle.dcc_pipe.proofs.FunctionTables.{IsOne}
 use Rattle.dcc_pipe.proofs.LeftAddresses.{AllTold, by-halves}
@@ -503,7 +504,8 @@ module _ (g : inner.Graph) (formed : IsGraph g) (word : Word) (apart : IsApart g
           All-contains (λ stmt. clear (stmt_text s 2 stmt) ≡ true) stmts stmt (all-clear stmts (stmts-load b) (fine b).stmts)
           (subst (Contains stmts) (get_or_from_slice_get stmts m stmt stmt is)
           (Contains-get_or stmts m stmt (slice_get_within stmts m stmt is)));
-      tested = λ b body otherwise. ap (λ c. not (c || false)) (test-away (block_in g b).exit (exit-loads b) (fine b).exit);
+      tested = λ b on first second.
+          ap (λ c. not (c || false)) (way-away on (block_in g b).exit (exit-loads b) (fine b).exit);
       tested_first = λ b on body.
           ap (λ c. not (c || false)) (way-away on (block_in g b).exit (exit-loads b) (fine b).exit);
       tested_last = λ b on body.
@@ -519,10 +521,10 @@ module _ (g : inner.Graph) (formed : IsGraph g) (word : Word) (apart : IsApart g
     }
 
     -- the body of the graph's function
-    pub never-accessed : (f : Function) → IsOne g f → is_accessed_by f.body word ≡ false
-    never-accessed f is =
-        let goes = body-goes g f is in
+    pub never-accessed : (plan : Plan) (f : Function) → IsOne plan g f → is_accessed_by f.body word ≡ false
+    never-accessed plan f is =
+        let goes = body-goes g plan f is in
         none-any (λ stmt. list_any (stands_beneath word) (exprs_in_text stmt)) (stmts_in f.body)
         (opened-passes s g clear texts-clear (openings (opened g) g) (openings-clear 0 g.params)
-        (openings-assign s (opened g) 0 g.params) f.body (numbered_lines goes.depth goes.at (plan_text s g (control g)))
-        goes.begins (plan-passes s g clear texts-clear (numbered-text s g (control g) _ _)))
+        (openings-assign s (opened g) 0 g.params) f.body (numbered_lines goes.depth goes.at (plan_text s g plan))
+        goes.begins (plan-passes s g clear texts-clear (numbered-text s g plan _ _)))

@@ -10,7 +10,7 @@ use Rattle.dcc_num.specs.declared.Half.TheVariants.{Low, High}
 use Rattle.dcc_num.specs.declared.Width.TheVariants.{Word as word_width}
 use Rattle.dcc_prog.specs.declared.frame.Cell.{Cell}
 use Rattle.dcc_prog.specs.declared.frame.Frame.{Frame}
-use Rattle.dcc_prog.specs.declared.image.Image.{Image}
+use Rattle.dcc_machine.specs.declared.image.Image.{Image}
 use Rattle.dcc_prog.specs.declared.procedure.Layout.{Layout}
 use Rattle.dcc_prog.specs.declared.procedure.Proc.{Proc}
 use Rattle.dcc_prog.specs.Analysed.{bytes_of, IsFrameOf}
@@ -27,7 +27,7 @@ use Rattle.dcc_ir.specs.Location.{half_number}
 use Rattle.dcc_ir.specs.Passing.{passed, param_of}
 use Rattle.dcc_ir.specs.Tree.{Address, Graph}
 use Rattle.dcc_ir.proofs.PathLaws.{decided}
-use Rattle.dcc_ops.specs.Place.{memory}
+use Rattle.dcc_ops.specs.OperandPlace.{memory}
 use Rattle.dcc_simulation.specs.Nodes.{IsGraphFor}
 use Rattle.dcc_simulation.specs.Passed.{put_of, argument_param, params_of}
 use Rattle.dcc_simulation.specs.Procedures.{Procedure, procedures_of, cells_of, within_cell, cell_place, distance_of}

@@ -4,7 +4,7 @@ use Rattle.std.specs.Prelude.{ℤ, pos, ◌+ℤ◌, ◌≤ℤ◌, ◌<ℤ◌, if
 use Rattle.std.proofs.lemmas.Int.{ints, by_lt_z}
 use Rattle.dcc_num.specs.declared.Width.{Width}
 use Rattle.dcc_num.specs.declared.Width.TheVariants.{Word as word_width}
-use Rattle.dcc_prog.specs.Access.{bytes_in}
+use Rattle.dcc_machine.specs.Access.{bytes_in}
 use Rattle.dcc_prog.specs.declared.procedure.Layout.{Layout}
 use Rattle.dcc_prog.specs.Frame.{Span, argument_word, IsPiece, IsSlot, IsCell, IsExposedSlot, IsPlaced, by_itself, by_slot}
 use Rattle.dcc_stack.specs.Accepted.{IsFrameFor}
@@ -13,7 +13,7 @@ use Rattle.dcc_stack.proofs.SlotPlaces.{exposed-slot-tells, exposed-slot-told, p
 use Rattle.dcc_ir.specs.Tree.{Address}
 use Rattle.dcc_ir.specs.WellFormed.{is_memory}
 use Rattle.dcc_ir.proofs.PathLaws.{decided}
-use Rattle.dcc_ops.specs.Place.{Place, memory}
+use Rattle.dcc_ops.specs.OperandPlace.{OperandPlace, memory}
 use Rattle.dcc_simulation.specs.Coupled.{Setting}
 use Rattle.dcc_simulation.specs.FoundPlaces.{IsFoundAt}
 use Rattle.dcc_simulation.specs.Places.{IsFramePlace, in_half, in_cell, in_memory}
@@ -37,7 +37,7 @@ module _ (e : Setting) (entry : ℕ) (q : Procedure) (at : IsFoundAt e entry q) 
   word-slot = IsSlot.argument frame.arguments less
 
   -- a word at a place that is no location has its first byte in memory
-  word-placed : (w : Width) (place : Place) → IsFramePlace e entry first w place → w ≡ word_width
+  word-placed : (w : Width) (place : OperandPlace) → IsFramePlace e entry first w place → w ≡ word_width
       → is_memory (put_of place) ≡ true → IsPlaced e.image layout entry first
   word-placed _ _ (in_half is) same told = cc
   word-placed _ _ (in_cell low high) same told = absurd (true≢false (sym told))
@@ -57,7 +57,7 @@ module _ (e : Setting) (entry : ℕ) (q : Procedure) (at : IsFoundAt e entry q) 
       → first ≤ℤ span.first
   cell-begins span is low high =
       by_lt_z span.first first
-      (λ before. absurd (is.run.apart_after (record {
+      (λ before. absurd (is.extent.apart_after (record {
         span = argument_word number;
         piece = IsPiece.argument frame.arguments less;
         before = high;

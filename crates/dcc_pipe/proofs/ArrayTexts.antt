@@ -1,11 +1,10 @@
 -- Of the array of a frame that exposes no local byte the text uses nothing but the address: it stands only where temporaries
 -- are set to sums of the frame, by which the body loads and stores nothing.
-use Rattle.std.proofs.Common.{◌≡◌, ℕ, ◌+◌, ◌*◌, ◌<◌, ◌≤◌, Bool, true, false, ◌==◌, inl, inr, List, [], ◌∷◌, ◌++◌, map, flat_map, Option, Some, None, slice_get, refl, sym, ap, ◌∙◌, subst, true≢false, get_or, length, arith}
+use Rattle.std.proofs.Common.{◌≡◌, ℕ, ◌+◌, Bool, true, false, ◌==◌, inl, inr, List, [], ◌∷◌, ◌++◌, map, flat_map, Option, Some, None, refl, sym, ap, ◌∙◌, subst, true≢false, length}
 use Rattle.std.specs.Prelude.{◌&&◌, ◌||◌, not, nat_le, if◌then◌else◌, All, Contains, option_to_list, option_map}
 use Rattle.std.specs.List.{list_all, list_any}
 use Rattle.std.proofs.lemmas.Bool.{and_parts, and_from, or_cases, or_from, or_left, or_right, cases_lt, false_from_ne_true}
 use Rattle.std.proofs.lemmas.List.{append-nil, get_or_past}
-use Rattle.std.proofs.lemmas.List.Concat.{flat_map-append}
 use Rattle.std.proofs.lemmas.List.Elements.{All-nil, All-cons, All-head, All-tail, All-weaker, All-contains, Contains-get_or}
 use Rattle.std.proofs.lemmas.List.Folds.{list_all-append, list_any-append}
 use Rattle.std.proofs.lemmas.Option.{slice_get_within, get_or_from_slice_get}
@@ -21,13 +20,12 @@ use Rattle.dcc_ir.specs.Live.{block_in}
 use Rattle.dcc_ir.specs.Location.{location_width}
 use Rattle.dcc_ir.specs.Run.{no_block}
 use Rattle.dcc_ir.specs.Tree as inner
-use Rattle.dcc_ir.specs.Use.{parts_of, got_by, addressed_by, reads_of, addresses_of, exprs_of, writes_of, exit_exprs}
+use Rattle.dcc_ir.specs.Use.{parts_of, got_by, addressed_by, reads_of, exprs_of, writes_of, exit_exprs}
 use Rattle.dcc_ir.specs.Value.{width_of}
 use Rattle.dcc_ir.specs.WellFormed.{IsGraph}
 use Rattle.dcc_ir.proofs.ListLaws.{left_part}
 use Rattle.dcc_flags.specs.Accesses.{accessed}
 use Rattle.dcc_flags.specs.Kinds.{is_frame_sum, takes_frame_sum}
-use Rattle.dcc_live.specs.Start.{begins_live}
 use Rattle.dcc_c.specs.declared.syntax.Base.TheVariants.{Int, Uint}
 use Rattle.dcc_c.specs.declared.syntax.CBin.{CBin}
 use Rattle.dcc_c.specs.declared.syntax.CBin.TheVariants.{Add as Plus, Sub as Less, Mul as Times, Div as Over, Rem as Rest}
@@ -42,24 +40,25 @@ use Rattle.dcc_text.specs.Holding.{IsWithin}
 use Rattle.dcc_text.specs.Names.{names_in, place_name, read_names}
 use Rattle.dcc_text.specs.Spelled.{Way, Low, Exact, Signed, small, constant, placed, pointer, taken, left_way, symbol, text, byte_quotient, byte_remainder, division_text, text_division}
 use Rattle.dcc_text.specs.Spelling.{Placed, Spelling}
-use Rattle.dcc_text.specs.Stmts.{place_of, wanted_way, first_place, stmt_text}
+use Rattle.dcc_text.specs.Stmts.{place_of, wanted_way, stmt_text}
 use Rattle.dcc_text.proofs.Depths.{read-alike}
 use Rattle.dcc_variables.specs.FunctionLaws.{HasFewNames, has_name, IsServedStmt, IsServedByFunction}
-use Rattle.dcc_variables.specs.Functions.{parameter_name, memory_from, name_or, place_from, place_by, argument_place, function_shape, function_spelling, opening, put_openings, openings_from, openings, low_byte, high_byte}
-use Rattle.dcc_variables.specs.Variables.{shape_of, is_told_from, variable_name, frame_name, frame_place}
+use Rattle.dcc_variables.specs.Functions.{parameter_name, memory_from, name_or, place_from, argument_place, function_shape, function_spelling, opening, put_openings, openings_from, openings, low_byte, high_byte}
+use Rattle.dcc_variables.specs.Variables.{shape_of, is_told_from, variable_name, frame_name}
 use Rattle.dcc_variables.proofs.FramePlaces.{IsToldBy, by_parameter, by_array, place-told, place-then}
 use Rattle.dcc_variables.proofs.Names.{frame-apart}
 use Rattle.dcc_variables.proofs.Served.{functions-served}
 use Rattle.dcc_plan.specs.PlanText.{text_of_test, text_of_way, text_of_choice, text_of_return, plan_text}
 use Rattle.dcc_plan.proofs.TextLaws.{numbered-text}
 use Rattle.dcc_pipe.specs.TypedFrames.{stands_in, is_sum_from, is_accessed_by, tells_address, is_only_addressed}
-use Rattle.dcc_pipe.specs.WholeText.{control, opened}
+use Rattle.dcc_control.specs.Plan.{Plan}
+use Rattle.dcc_pipe.specs.WholeText.{opened}
 use Rattle.dcc_pipe.proofs.AccessTexts.{pointer-names}
 use Rattle.dcc_pipe.proofs.BodyStatements.{TextsPass, plan-passes, opened-passes}
 use Rattle.dcc_pipe.proofs.FunctionTables.{IsOne}
 use Rattle.dcc_pipe.proofs.LeftAddresses.{Told, IsTold, AllTold, Addressed, all-addressed, stmt-addressed, each-passes}
 use Rattle.dcc_pipe.proofs.MatteringLaws.{opened-named}
-use Rattle.dcc_pipe.proofs.OperationAddresses.{stmt_passes, stmt_told}
+use Rattle.dcc_pipe.proofs.OperationAddresses.{stmt_passes}
 use Rattle.dcc_pipe.proofs.OpeningLines.{openings-assign}
 use Rattle.dcc_pipe.proofs.WholeTexts.{body-goes}
 
@@ -458,7 +457,7 @@ module _ (g : inner.Graph) (formed : IsGraph g) (few : HasFewNames g) (body : Li
           All-contains (λ stmt. Tells (stmt_text s 2 stmt)) stmts stmt (fine b).stmts
           (subst (Contains stmts) (get_or_from_slice_get stmts m stmt stmt is)
           (Contains-get_or stmts m stmt (slice_get_within stmts m stmt is)));
-      tested = λ b body otherwise. ap (λ c. not (c || false)) (test-free (block_in g b).exit (fine b).exit);
+      tested = λ b on first second. ap (λ c. not (c || false)) (way-free on (block_in g b).exit (fine b).exit);
       tested_first = λ b on body. ap (λ c. not (c || false)) (way-free on (block_in g b).exit (fine b).exit);
       tested_last = λ b on body. ap (λ c. not (c || false)) (way-free on (block_in g b).exit (fine b).exit);
       chosen = λ b bodies. ap (λ c. not (c || false)) (choice-free (block_in g b).exit (fine b).exit);
@@ -500,11 +499,11 @@ module _ (g : inner.Graph) (formed : IsGraph g) (few : HasFewNames g) (body : Li
         ∙ and_from _ _ (put-tells j p.put) (openings-tell (j + 1) params)
 
     -- the body of the graph's function
-    pub only-addressed : (f : Function) → IsOne g f → f.body ≡ body → is_only_addressed frame_name f.body ≡ true
-    only-addressed f is same =
-        let goes = body-goes g f is in
+    pub only-addressed : (plan : Plan) (f : Function) → IsOne plan g f → f.body ≡ body → is_only_addressed frame_name f.body ≡ true
+    only-addressed plan f is same =
+        let goes = body-goes g plan f is in
         let test = tells_address frame_name body in
         subst (λ lines. list_all (tells_address frame_name lines) (stmts_in f.body) ≡ true) (sym same)
         (opened-passes s g test texts-pass (openings (opened g) g) (openings-tell 0 g.params)
-        (openings-assign s (opened g) 0 g.params) f.body (numbered_lines goes.depth goes.at (plan_text s g (control g)))
-        goes.begins (plan-passes s g test texts-pass (numbered-text s g (control g) _ _)))
+        (openings-assign s (opened g) 0 g.params) f.body (numbered_lines goes.depth goes.at (plan_text s g plan))
+        goes.begins (plan-passes s g test texts-pass (numbered-text s g plan _ _)))

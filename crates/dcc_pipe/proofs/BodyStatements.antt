@@ -1,6 +1,6 @@
 -- All statements in a body of a graph's text pass a test, where the texts of the graph's statements and of the ends of its
 -- blocks do.
-use Rattle.std.proofs.Common.{◌≡◌, ℕ, Bool, true, false, ◌&&◌, List, [], ◌∷◌, ◌++◌, Option, Some, None, slice_get, refl, sym, ap, ap₂, ◌∙◌, subst, true≢false}
+use Rattle.std.proofs.Common.{◌≡◌, ℕ, Bool, true, List, [], ◌∷◌, ◌++◌, Option, Some, None, slice_get, refl, sym, ap, ◌∙◌, subst, true≢false}
 use Rattle.std.specs.List.{list_all}
 use Rattle.std.proofs.lemmas.Bool.{and_parts, and_from}
 use Rattle.std.proofs.lemmas.List.Folds.{list_all-append}
@@ -13,7 +13,7 @@ use Rattle.dcc_text.specs.Stmts.{stmt_text}
 use Rattle.dcc_variables.specs.Functions.{BeginsWith}
 use Rattle.dcc_control.specs.Plan as plan
 use Rattle.dcc_control.specs.Plan.{Plan, Item}
-use Rattle.dcc_plan.specs.PlanText.{text_of_test, text_of_way, text_of_choice, text_of_return, IsPlanText, nothing, one_more, IsItemText, does, marks, jumps, tests, chooses, returns, repeats, tests_first, tests_last, breaks, continues, AreArmsText, no_more, next_arm}
+use Rattle.dcc_plan.specs.PlanText.{text_of_way, text_of_choice, text_of_return, is_true_first, IsPlanText, nothing, one_more, IsItemText, does, marks, jumps, tests, chooses, returns, repeats, tests_first, tests_last, breaks, continues, does_nothing, AreArmsText, no_more, next_arm}
 use Rattle.dcc_pipe.proofs.OpeningLines.{is_assignment}
 
 -- statements of blocks have no statements inside
@@ -31,7 +31,8 @@ inside-none s (inner.Dos number (Some l) argument) = refl
 pub record TextsPass (s : Spelling) (graph : inner.Graph) (test : Stmt → Bool) : Type 0 where
   pub done : (b m : ℕ) (stmt : inner.Stmt) → slice_get (block_in graph b).stmts m ≡ Some stmt
       → test (stmt_text s 2 stmt) ≡ true
-  pub tested : (b : ℕ) (body otherwise : Lines) → test (If (text_of_test s (block_in graph b).exit) body otherwise) ≡ true
+  pub tested : (b : ℕ) (on : Bool) (first second : Lines)
+      → test (If (text_of_way s on (block_in graph b).exit) first second) ≡ true
   pub tested_first : (b : ℕ) (on : Bool) (body : Lines) → test (While (text_of_way s on (block_in graph b).exit) body) ≡ true
   pub tested_last : (b : ℕ) (on : Bool) (body : Lines) → test (DoWhile body (text_of_way s on (block_in graph b).exit)) ≡ true
   pub chosen : (b : ℕ) (bodies : Arms) → test (Switch (text_of_choice s (block_in graph b).exit) bodies no_arms) ≡ true
@@ -77,8 +78,10 @@ module _ (s : Spelling) (graph : inner.Graph) (test : Stmt → Bool) (pass : Tex
     item-passes (does {b = b} {m = m}) = done-passes b m (slice_get (block_in graph b).stmts m) refl
     item-passes marks = (pass.marked _, refl)
     item-passes jumps = (pass.jumped _, refl)
-    item-passes (tests {b = b} {body = body} {otherwise = otherwise} p q) =
-        (pass.tested b body otherwise, joined (stmts_in body) (stmts_in otherwise) (plan-passes p) (plan-passes q))
+    item-passes (tests {b = b} {one = one} {other = other} {first = first} {second = second} p q) = (
+      pass.tested b (is_true_first one other) first second,
+      joined (stmts_in first) (stmts_in second) (plan-passes p) (plan-passes q),
+    )
     item-passes (chooses {b = b} {bodies = bodies} arms) =
         (pass.chosen b bodies, joined (arm_stmts bodies) [] (arms-pass arms) refl)
     item-passes (returns {b = b}) = (pass.returned b, return-inside (block_in graph b).exit)
@@ -87,6 +90,7 @@ module _ (s : Spelling) (graph : inner.Graph) (test : Stmt → Bool) (pass : Tex
     item-passes (tests_last {on = on} {b = b} {lines = lines} p) = (pass.tested_last b on lines, plan-passes p)
     item-passes breaks = (pass.broken, refl)
     item-passes continues = (pass.continued, refl)
+    item-passes does_nothing = (pass.empty, refl)
 
     arms-pass : {arms : plan.Arms} {bodies : Arms} → AreArmsText s graph arms bodies → Pass (arm_stmts bodies)
     arms-pass no_more = refl

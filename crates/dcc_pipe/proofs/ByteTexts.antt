@@ -32,6 +32,7 @@ use Rattle.dcc_variables.proofs.FramePlaces.{IsToldBy, by_parameter, by_array, p
 use Rattle.dcc_pipe.specs.TypedFrames.{is_accessed_by, is_byte, accesses_by_bytes}
 use Rattle.dcc_pipe.proofs.AccessTexts.{IsApart, other-apart}
 use Rattle.dcc_pipe.proofs.FreeBodies.{IsNamedByOwn, each-parameter}
+use Rattle.dcc_control.specs.Plan.{Plan}
 use Rattle.dcc_pipe.proofs.FunctionTables.{IsOne}
 
 -- a location of so many bits is held in one byte
@@ -154,8 +155,8 @@ module _ (g : Graph) (few : HasFewNames g) (f : Function)
       ∙ and_from _ _ (variables-fit shape.locations (λ l is. is)) (array-fits shape.frame)
 
   -- the function of the graph
-  pub by-bytes : IsOne g f → accesses_by_bytes f ≡ true
-  by-bytes is =
+  pub by-bytes : (plan : Plan) → IsOne plan g f → accesses_by_bytes f ≡ true
+  by-bytes plan is =
       let number = is.1 in
       subst (λ vs. list_all fits_or_placed vs ≡ true) (sym (ap (λ (h : Function). h.params ++ h.locals) number.is))
       (list_all-append fits_or_placed (parameters g) (own_declarations g)

@@ -23,7 +23,7 @@ use Rattle.dcc_demand.specs.Wanted.{Wanted, IsClosedUnderDemand}
 use Rattle.dcc_demand.proofs.WantedLaws.{wanted-least}
 use Rattle.dcc_sums.specs.Points.{Position, site_of}
 use Rattle.dcc_sums.specs.Instance.{action_at, procedures_of}
-use Rattle.dcc_sums.specs.Sums.{IsSum, AreSums, ReusesNone, AreOneValue, GivesOneValue}
+use Rattle.dcc_sums.specs.Summaries.{IsSummary, AreSummaries, ReusesNone, AreOneValue, GivesOneValue}
 use Rattle.dcc_sums.specs.Localised.{localised}
 use Rattle.dcc_ir.specs.Use.{graph_exprs}
 use Rattle.dcc_lift.specs.Lifted.{IsShallow}
@@ -183,7 +183,7 @@ never-changed i l c = go c.0 i l c.1
 abbrev idle_sum : Summary
 idle_sum = record { params = []; results = []; preserved = passed }
 
-sum-is : (g : Graph) → IsSum program g idle_sum
+sum-is : (g : Graph) → IsSummary program g idle_sum
 sum-is g = record {
   params = record { order = refl; exact = λ l. (λ c. absurd (Contains-none l c), λ h. absurd (nothing-wanted g.entry _ l h.1.wanted)) };
   results = record { order = refl; exact = λ l. (λ c. absurd (Contains-none l c), λ h. absurd (never-changed g.entry l h.changes)) };
@@ -193,7 +193,7 @@ sum-is g = record {
 abbrev sums : List Summary
 sums = idle_sum ∷ idle_sum ∷ []
 
-are-sums : AreSums program sums
+are-sums : AreSummaries program sums
 are-sums = (sum-is caller, (sum-is callee, tt))
 
 reuses-none : ReusesNone program

@@ -1,14 +1,14 @@
 -- Which addresses the end of a block takes: those of arguments in memory that are given back.
-use Rattle.std.proofs.Common.{◌≡◌, ℕ, ◌+◌, ◌*◌, ◌<◌, ◌≤◌, Bool, true, false, ◌&&◌, List, [], ◌∷◌, ◌++◌, length, map, slice_get, Option, Some, None, refl, sym, ap, ◌∙◌, subst, arith}
-use Rattle.std.specs.List.{list_all, range_with_len, flat_map}
+use Rattle.std.proofs.Common.{◌≡◌, ℕ, ◌+◌, ◌*◌, ◌<◌, ◌≤◌, Bool, true, false, ◌&&◌, List, [], ◌∷◌, length, map, slice_get, Option, Some, None, refl, sym, ap, ◌∙◌, arith}
+use Rattle.std.specs.List.{list_all, range_with_len}
 use Rattle.std.proofs.lemmas.List.{length-map, get_or-map}
 use Rattle.std.proofs.lemmas.List.FromFn.{length-range_with_len, get_or-range_with_len}
 use Rattle.std.proofs.lemmas.List.Folds.{list_all-append}
 use Rattle.std.proofs.lemmas.Option.{slice_get_within, get_or_from_slice_get}
-use Rattle.dcc_prog.specs.declared.instr.Cond.{Cond}
-use Rattle.dcc_prog.specs.declared.instr.Cond.TheVariants.{O, No, B, Ae, Z, Nz, Be, A, S, Ns, L, Ge, Le, G}
-use Rattle.dcc_prog.specs.declared.instr.Op.{Op}
-use Rattle.dcc_prog.specs.declared.instr.Op.TheVariants.{Table, Ret as RetOp, Branch, Loop, LoopE, LoopNe, Jcxz}
+use Rattle.dcc_machine.specs.declared.instr.Cond.{Cond}
+use Rattle.dcc_machine.specs.declared.instr.Cond.TheVariants.{O, No, B, Ae, Z, Nz, Be, A, S, Ns, L, Ge, Le, G}
+use Rattle.dcc_machine.specs.declared.instr.Op.{Op}
+use Rattle.dcc_machine.specs.declared.instr.Op.TheVariants.{Table, Ret as RetOp, Branch, Loop, LoopE, LoopNe, Jcxz}
 use Rattle.dcc_prog.specs.Frame.{argument_word}
 use Rattle.dcc_stack.specs.Slots.{exposes_of}
 use Rattle.dcc_ir.specs.declared.syntax.Put.{Put}

@@ -1,7 +1,7 @@
 -- Which addresses an instruction takes where its procedure exposes no local byte: those of arguments in memory, if it
 -- isn't a move of SP.
-use Rattle.std.proofs.Common.{◌≡◌, ◌≢◌, ℕ, suc, ◌+◌, ◌-◌, ◌*◌, ◌/◌, ◌%◌, ◌<◌, ◌≤◌, Bool, true, false, ◌==◌, ◌&&◌, ◌||◌, not, inl, inr, List, [], ◌∷◌, ◌++◌, Option, Some, None, refl, sym, ap, ◌∙◌, subst, true≢false, arith, mod-eq_of_lt}
-use Rattle.std.specs.Prelude.{ℤ, pos, negsuc, ◌+ℤ◌, ◌-ℤ◌, neg_ℤ, ◌≤ℤ◌, ◌<ℤ◌, if◌then◌else◌, flat_map, option_map}
+use Rattle.std.proofs.Common.{◌≡◌, ℕ, suc, ◌+◌, ◌-◌, ◌*◌, ◌/◌, ◌<◌, ◌≤◌, Bool, true, false, ◌==◌, ◌&&◌, List, [], ◌∷◌, ◌++◌, Option, Some, None, refl, ap, ◌∙◌, subst, arith, mod-eq_of_lt}
+use Rattle.std.specs.Prelude.{ℤ, pos, negsuc, ◌+ℤ◌, ◌-ℤ◌, ◌≤ℤ◌, ◌<ℤ◌, if◌then◌else◌, flat_map, option_map}
 use Rattle.std.specs.List.{list_all}
 use Rattle.std.proofs.lemmas.Bool.{and_parts}
 use Rattle.std.proofs.lemmas.Int.{ints, by_lt_z}
@@ -11,12 +11,12 @@ use Rattle.dcc_num.specs.declared.Width.{Width}
 use Rattle.dcc_num.specs.declared.Width.TheVariants.{Byte as byte_width, Word as word_width}
 use Rattle.dcc_num.specs.declared.Reg.{Reg}
 use Rattle.dcc_num.specs.Numbers.{residue_of}
-use Rattle.dcc_prog.specs.declared.image.Image.{Image}
+use Rattle.dcc_machine.specs.declared.image.Image.{Image}
 use Rattle.dcc_prog.specs.declared.procedure.Layout.{Layout}
 use Rattle.dcc_prog.specs.declared.frame.Cell.{Cell}
 use Rattle.dcc_prog.specs.declared.frame.Program.{Program as Analysed}
 use Rattle.dcc_prog.specs.Analysed.{bytes_of}
-use Rattle.dcc_prog.specs.Frame.{Span, span_of, argument_word, IsPiece, IsSlot, IsCell, IsExposed, below_bp, in_arguments, IsExposureStart, by_instruction, StartsExposure, HasExposedLocal, no_local, local, HasExposedArguments, no_argument, from_argument, IsExposedSlot, IsPlaced, by_itself, by_slot}
+use Rattle.dcc_prog.specs.Frame.{Span, span_of, argument_word, IsPiece, IsSlot, IsExposed, below_bp, in_arguments, IsExposureStart, by_instruction, StartsExposure, HasExposedLocal, no_local, local, HasExposedArguments, no_argument, from_argument, IsPlaced, by_itself, by_slot}
 use Rattle.dcc_prog.specs.Trail.{IsNode}
 use Rattle.dcc_prog.proofs.FrameLaws.{arguments-once, local-once}
 use Rattle.dcc_stack.specs.Accepted.{IsAt, IsFrameFor, IsInFrame, in_locals, IsProgramOfFile}
@@ -27,10 +27,10 @@ use Rattle.dcc_ir.specs.declared.syntax.BinOp.TheVariants.{Add}
 use Rattle.dcc_ir.specs.Tree.{Expr, Const, Binary, Address}
 use Rattle.dcc_ir.specs.Use.{parts_of, addressed_by, addresses_of}
 use Rattle.dcc_flags.specs.Accesses.{reads_halves, loads_by_halves}
-use Rattle.dcc_ops.specs.declared.place.Computed.{Computed}
-use Rattle.dcc_ops.specs.Computed.{plus, adding, ending, computed_expr}
+use Rattle.dcc_ops.specs.declared.operand_place.Computed.{Computed}
+use Rattle.dcc_ops.specs.Computed.{adding, ending, computed_expr}
 use Rattle.dcc_ops.specs.Expressions.{word_of}
-use Rattle.dcc_ops.specs.Place.{Place, memory}
+use Rattle.dcc_ops.specs.OperandPlace.{memory}
 use Rattle.dcc_simulation.specs.Procedures.{Procedure, cells_of, within_cell, cell_place, distance_of, frame_place}
 use Rattle.dcc_pipe.proofs.OperationAddresses.{passes, place_passes}
 
@@ -174,7 +174,7 @@ module _ (image : Image) (program : Analysed) (entry : ℕ) (q : Procedure) (f :
       → x <ℤ slot.end → pos (4 + 2 * w.number) ≤ℤ slot.first
   slot-begins slot x w (IsSlot.cell is) low high =
       by_lt_z slot.first (pos (4 + 2 * w.number))
-      (λ before. absurd (is.run.apart_after (record {
+      (λ before. absurd (is.extent.apart_after (record {
         span = argument_word w.number;
         piece = IsPiece.argument f.arguments w.less;
         before = let from = w.low in omega (arith, ints, from, high);

@@ -1,6 +1,6 @@
 -- The body of a graph's function takes the address of no name but that of the first argument in memory, and so of no
 -- parameter that is not in memory. A test of the parameters that are not in memory.
-use Rattle.std.proofs.Common.{◌≡◌, ℕ, ◌+◌, ◌^◌, ◌<◌, Bool, true, false, inl, inr, List, [], ◌∷◌, ◌++◌, length, Option, Some, None, slice_get, refl, sym, ap, ap₂, ◌∙◌, subst, true≢false, arith}
+use Rattle.std.proofs.Common.{◌≡◌, ℕ, ◌+◌, ◌^◌, ◌<◌, Bool, true, false, inl, inr, List, [], ◌∷◌, length, Option, Some, refl, sym, ap, ap₂, ◌∙◌, true≢false, arith}
 use Rattle.std.specs.Prelude.{◌⊎◌, ◌&&◌, ◌||◌, not, if◌then◌else◌}
 use Rattle.std.specs.List.{list_all, list_any}
 use Rattle.std.proofs.lemmas.Bool.{and_from, and_parts, not-true, or_parts, or_left, or_right, false_from_ne_true}
@@ -68,7 +68,7 @@ module _ (graph : inner.Graph) (word : Word) (apart : IsNoMemoryName graph word)
   texts-free : TextsPass s graph free
   texts-free = record {
     done = λ b m stmt is. ap not (none.statements stmt 2);
-    tested = λ b body otherwise. ap (λ c. not (c || false)) (test-free (block_in graph b).exit);
+    tested = λ b on first second. ap (λ c. not (c || false)) (way-free on (block_in graph b).exit);
     tested_first = λ b on body. ap (λ c. not (c || false)) (way-free on (block_in graph b).exit);
     tested_last = λ b on body. ap (λ c. not (c || false)) (way-free on (block_in graph b).exit);
     chosen = λ b bodies. ap (λ c. not (c || false)) (choice-free (block_in graph b).exit);

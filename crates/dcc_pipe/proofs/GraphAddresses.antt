@@ -1,31 +1,28 @@
 -- Which addresses the graph of a lifted procedure takes that exposes no local byte: those of arguments in memory alone,
 -- and if it moves SP by sums, those of SP, to which temporaries are set.
-use Rattle.std.proofs.Common.{◌≡◌, ℕ, zero, suc, ◌+◌, ◌*◌, ◌<◌, ◌≤◌, Bool, true, false, ◌==◌, ◌&&◌, ◌||◌, List, [], ◌∷◌, ◌++◌, map, Option, Some, None, refl, sym, ap, ◌∙◌, subst, true≢false, arith}
-use Rattle.std.specs.Prelude.{pos, if◌then◌else◌, All, slice_index, ◌/◌, ◌%◌}
+use Rattle.std.proofs.Common.{◌≡◌, ℕ, ◌*◌, ◌<◌, ◌≤◌, Bool, true, false, ◌==◌, ◌&&◌, ◌||◌, List, [], ◌∷◌, ◌++◌, map, Option, Some, None, refl, sym, ap, ◌∙◌, subst}
+use Rattle.std.specs.Prelude.{if◌then◌else◌}
 use Rattle.std.specs.List.{list_all, list_any, flat_map}
 use Rattle.std.proofs.lemmas.Bool.{or_left, or_right}
-use Rattle.dcc_prog.specs.declared.image.Image.{Image}
+use Rattle.dcc_machine.specs.declared.image.Image.{Image}
 use Rattle.dcc_prog.specs.declared.procedure.Node.{Node}
-use Rattle.dcc_prog.specs.declared.procedure.Proc.{Proc}
 use Rattle.dcc_prog.specs.declared.frame.Program.{Program as Analysed}
-use Rattle.dcc_prog.specs.FrameForm.{is_sp_move}
+use Rattle.dcc_machine.specs.SpAndBp.{is_sp_move}
 use Rattle.dcc_prog.specs.Frame.{argument_word}
 use Rattle.dcc_prog.specs.Trail.{IsEntry}
 use Rattle.dcc_stack.specs.Accepted.{IsFrameFor}
 use Rattle.dcc_stack.specs.Slots.{exposes_of}
-use Rattle.dcc_ir.specs.Tree.{Stmt, Exit, Stop, Block, Graph, Program}
+use Rattle.dcc_ir.specs.Tree.{Block, Program}
 use Rattle.dcc_ir.specs.Use.{exit_exprs}
 use Rattle.dcc_ir.specs.WellFormed.{is_memory}
-use Rattle.dcc_simulation.specs.Nodes.{procedures_in}
 use Rattle.dcc_simulation.specs.Passed.{argument_param}
-use Rattle.dcc_simulation.specs.Procedures.{Procedure, procedure_at}
-use Rattle.dcc_simulation.specs.Statements as placed
+use Rattle.dcc_simulation.specs.Procedures.{Procedure}
 use Rattle.dcc_simulation.proofs.FoundProcedures.{frame-for}
-use Rattle.dcc_lift.specs.Blocks.{Scene, Nodes, node_in, height_in, node_stmts, stmts_at, node_exit, exit_at, last_of, leaders, nodes_in, entry_in, block_place, IsBlockAt, AreBlocksAt}
+use Rattle.dcc_lift.specs.Blocks.{BlockSource, Nodes, node_in, height_in, node_stmts, stmts_at, node_exit, exit_at, last_of, leaders, nodes_in, entry_in, block_place, AreBlocksAt}
 use Rattle.dcc_lift.specs.Translated.{setting, IsTranslated}
 use Rattle.dcc_lift.specs.Translation.{prelude_block}
 use Rattle.dcc_lift.proofs.FormBlocks.{args-few}
-use Rattle.dcc_lift.proofs.FormScenes.{translated_at, procedure_at_entry, graph_of_entry, instruction-at, lifted}
+use Rattle.dcc_lift.proofs.FormScenes.{procedure_at_entry, graph_of_entry, instruction-at, lifted}
 use Rattle.dcc_lift.proofs.LocatedBlocks.{located_at, scene_at, blocks-are}
 use Rattle.dcc_lift.proofs.TranslationLaws.{front_of}
 use Rattle.dcc_pipe.specs.TypedFrames.{moves_sp}
@@ -66,7 +63,7 @@ module _ (image : Image) (program : Analysed) (p : Program) (is : IsTranslated i
   abbrev q : Procedure
   q = procedure_at_entry image program p is entry is_entry
 
-  abbrev scene : Scene
+  abbrev scene : BlockSource
   scene = scene_at image program p is entry is_entry
 
   frame : IsFrameFor image program entry q.frame

@@ -5,6 +5,9 @@ pub mod BodyStatements
 pub mod FreeBodies
 pub mod PlainTexts
 pub mod MatteringLaws
+pub mod StepPlaces
+pub mod ControlLaws
+pub mod AllowedItems
 pub mod WholeTexts
 pub mod WritableWholes
 pub mod UnitLaws
@@ -36,4 +39,9 @@ pub mod ArrayTexts
 pub mod TypedLaws
 mod CallExample
 pub mod PipeLaws
+pub mod ShapedLaws
 pub mod RefusedLaws
+pub mod PlacePaths
+pub mod HeldPaths
+pub mod CallBlocks
+pub mod StepPaces

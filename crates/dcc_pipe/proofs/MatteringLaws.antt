@@ -1,12 +1,12 @@
 -- What matters in the text of a graph: what is live there, and has a name.
 use Rattle.std.proofs.Common.{◌≡◌, ℕ, ◌<◌, Bool, true, false, inl, inr, List, [], ◌∷◌, length, flat_map, refl, sym, ap, ◌∙◌, true≢false, Contains}
-use Rattle.std.specs.Prelude.{◌⊎◌, ◌||◌, ◌&&◌, not, All}
+use Rattle.std.specs.Prelude.{◌⊎◌, not, All}
 use Rattle.std.proofs.lemmas.Bool.{cases_lt, or_left, or_cases, and_parts}
 use Rattle.std.proofs.lemmas.List.{get_or_past}
 use Rattle.std.proofs.lemmas.List.Elements.{All-nil, All-append, All-contains, All-head, All-tail, Contains-get_or}
 use Rattle.std.proofs.lemmas.Option.{slice_get-get_or}
 use Rattle.dcc_ir.specs.declared.syntax.Loc.{Loc}
-use Rattle.dcc_ir.specs.Families.{Family, IsLiveAtStart, live}
+use Rattle.dcc_ir.specs.Families.{Family, live}
 use Rattle.dcc_ir.specs.Live.{is_among, reads, reads_first, block_in}
 use Rattle.dcc_ir.specs.Run.{is_call, no_block}
 use Rattle.dcc_ir.specs.Tree as inner

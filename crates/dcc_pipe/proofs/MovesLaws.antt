@@ -1,11 +1,11 @@
 -- A graph that is prepared, of a procedure that exposes no local byte, takes an address that is told from no parameter only
 -- where the procedure moves SP by a sum, and then a temporary is set to it.
-use Rattle.std.proofs.Common.{◌≡◌, ℕ, zero, suc, ◌+◌, ◌*◌, ◌<◌, ◌≤◌, Bool, true, false, ◌&&◌, inl, inr, List, [], ◌∷◌, ◌++◌, map, Option, Some, None, refl, sym, ap, ◌∙◌, subst, true≢false, le-leb, lt-ltb, arith}
+use Rattle.std.proofs.Common.{◌≡◌, ℕ, zero, suc, ◌+◌, ◌*◌, ◌<◌, ◌≤◌, Bool, true, false, inl, inr, List, [], ◌∷◌, ◌++◌, map, Option, Some, refl, sym, ap, ◌∙◌, subst, true≢false, le-leb, lt-ltb, arith}
 use Rattle.std.specs.Prelude.{if◌then◌else◌, nat_le, nat_lt, All}
 use Rattle.std.specs.List.{AllZip, range_with_len}
 use Rattle.std.proofs.lemmas.Bool.{cases_lt, and_from}
 use Rattle.std.proofs.lemmas.List.Elements.{All-head, All-tail}
-use Rattle.dcc_prog.specs.declared.image.Image.{Image}
+use Rattle.dcc_machine.specs.declared.image.Image.{Image}
 use Rattle.dcc_prog.specs.declared.frame.Program.{Program as Analysed}
 use Rattle.dcc_prog.specs.Frame.{argument_word}
 use Rattle.dcc_prog.specs.Trail.{IsEntry}
@@ -14,9 +14,8 @@ use Rattle.dcc_ir.specs.declared.syntax.Param.{Param}
 use Rattle.dcc_ir.specs.Tree.{Graph, Program}
 use Rattle.dcc_ir.specs.Trimmed.{Trim, trim_graph}
 use Rattle.dcc_ir.specs.WellFormed.{is_memory}
-use Rattle.dcc_ir.proofs.PathLaws.{decided}
 use Rattle.dcc_simulation.specs.Nodes.{procedures_in, IsGraphFor}
-use Rattle.dcc_simulation.specs.Passed.{argument_param, argument_params}
+use Rattle.dcc_simulation.specs.Passed.{argument_param}
 use Rattle.dcc_simulation.specs.Procedures.{Procedure, procedure_at}
 use Rattle.dcc_lift.specs.Translated.{IsTranslated}
 use Rattle.dcc_lift.proofs.FormDrawn.{all-graphs}

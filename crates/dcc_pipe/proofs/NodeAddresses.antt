@@ -1,48 +1,51 @@
 -- Which addresses the statements of an instruction take where the procedure exposes no local byte: those of arguments in
 -- memory alone, and if the instruction moves SP, that of SP, to which a temporary is set.
-use Rattle.std.proofs.Common.{◌≡◌, ◌≢◌, ℕ, zero, suc, ◌+◌, ◌*◌, ◌<◌, ◌≤◌, Bool, true, false, ◌==◌, ◌&&◌, ◌||◌, inl, inr, List, [], ◌∷◌, ◌++◌, length, map, slice_get, Option, Some, None, refl, sym, ap, ◌∙◌, subst, true≢false, arith}
+use Rattle.std.proofs.Common.{◌≡◌, ℕ, zero, suc, ◌+◌, ◌*◌, ◌<◌, ◌≤◌, Bool, true, false, ◌==◌, ◌&&◌, ◌||◌, inl, inr, List, [], ◌∷◌, ◌++◌, map, Option, Some, None, refl, sym, ap, ◌∙◌, subst, true≢false}
 use Rattle.std.specs.Prelude.{ℤ, pos, ◌+ℤ◌, ◌-ℤ◌, ◌⊎◌, if◌then◌else◌}
-use Rattle.std.specs.List.{list_all, range_with_len, flat_map}
+use Rattle.std.specs.List.{list_all, range_with_len}
 use Rattle.std.proofs.lemmas.Bool.{or_parts, or_right, and_parts}
 use Rattle.std.proofs.lemmas.List.Folds.{list_all-append}
 use Rattle.dcc_num.specs.declared.Width.{Width}
 use Rattle.dcc_num.specs.declared.Width.TheVariants.{Byte as byte_width, Word as word_width}
 use Rattle.dcc_num.specs.declared.Reg.{Reg}
 use Rattle.dcc_num.specs.declared.Reg.TheVariants.{Sp, Bp}
-use Rattle.dcc_prog.specs.declared.cpu.Cpu.{Cpu}
-use Rattle.dcc_prog.specs.declared.image.Image.{Image}
+use Rattle.dcc_machine.specs.declared.cpu.Cpu.{Cpu}
+use Rattle.dcc_machine.specs.declared.image.Image.{Image}
 use Rattle.dcc_prog.specs.declared.procedure.Layout.{Layout}
 use Rattle.dcc_prog.specs.declared.procedure.Node.{Node}
 use Rattle.dcc_prog.specs.declared.frame.Program.{Program as Analysed}
-use Rattle.dcc_prog.specs.declared.instr.Ea.{Ea}
-use Rattle.dcc_prog.specs.declared.instr.Operand.{Operand}
-use Rattle.dcc_prog.specs.declared.instr.Operand.TheVariants.{Word, Byte, Seg, Mem, Const as Constant}
-use Rattle.dcc_prog.specs.declared.instr.Alu.TheVariants.{Add, Sub}
-use Rattle.dcc_prog.specs.declared.instr.Unary.TheVariants.{Inc, Dec}
-use Rattle.dcc_prog.specs.declared.instr.Op.{Op}
-use Rattle.dcc_prog.specs.declared.instr.Op.TheVariants.{Alu, Unary, Shift, Mov, Xchg, Lea, Imul3, Push, Pop, Call as CallOp}
-use Rattle.dcc_prog.specs.Machine.{is_bp}
-use Rattle.dcc_prog.specs.Access.{is_direct}
-use Rattle.dcc_prog.specs.Trail.{is_general, StandsAt}
-use Rattle.dcc_prog.specs.FrameForm.{is_push_bp, is_mov_bp_sp, is_enter, leaves_frame, is_sp_or_bp, names_sp_or_bp, is_sp_move, copies_bp}
+use Rattle.dcc_machine.specs.declared.instr.Ea.{Ea}
+use Rattle.dcc_machine.specs.declared.instr.Operand.{Operand}
+use Rattle.dcc_machine.specs.declared.instr.Operand.TheVariants.{Word, Byte, Seg, Mem, Const as Constant}
+use Rattle.dcc_machine.specs.declared.instr.Alu.TheVariants.{Add, Sub}
+use Rattle.dcc_machine.specs.declared.instr.Unary.TheVariants.{Inc, Dec}
+use Rattle.dcc_machine.specs.declared.instr.Op.{Op}
+use Rattle.dcc_machine.specs.declared.instr.Op.TheVariants.{Alu, Unary, Shift, Mov, Xchg, Lea, Imul3, Push, Pop, Call as CallOp}
+use Rattle.dcc_machine.specs.Machine.{is_bp, is_general}
+use Rattle.dcc_machine.specs.Access.{is_direct}
+use Rattle.dcc_prog.specs.Trail.{StandsAt}
+use Rattle.dcc_machine.specs.SpAndBp.{is_push_bp, is_mov_bp_sp, is_enter, leaves_frame, is_sp_or_bp, names_sp_or_bp}
+use Rattle.dcc_machine.specs.SpAndBp.{is_sp_move, copies_bp}
 use Rattle.dcc_prog.specs.Frame.{argument_word, memory_of, memory_of_two, memory_operand, offset_in_frame, StartsExposure, by_lea, by_index, by_copy}
 use Rattle.dcc_stack.specs.Accepted.{IsAt, IsFrameFor, IsProgramOfFile}
 use Rattle.dcc_stack.specs.Slots.{is_memory, exposes_of}
 use Rattle.dcc_stack.proofs.FormHeights.{form-there, has-height}
 use Rattle.dcc_stack.proofs.FormOps.{FormOf, moves, unnamed, leaves, copies, saves, points, enters}
 use Rattle.dcc_ir.specs.declared.syntax.BinOp.TheVariants.{Add as AddOp}
-use Rattle.dcc_ir.specs.Tree.{Expr, Const, Get, Binary, Address, Stmt, Set}
+use Rattle.dcc_ir.specs.Tree.{Const, Get, Binary, Address, Stmt, Set}
 use Rattle.dcc_ir.specs.Passing.{passed}
 use Rattle.dcc_ir.specs.Use.{addresses_of}
 use Rattle.dcc_flags.specs.Accesses.{reads_halves, loads_by_halves}
 use Rattle.dcc_flags.specs.Kinds.{is_frame_sum}
-use Rattle.dcc_ops.specs.declared.place.Computed.{Computed}
+use Rattle.dcc_ops.specs.declared.operand_place.Computed.{Computed}
 use Rattle.dcc_ops.specs.Computed.{computed_expr}
 use Rattle.dcc_ops.specs.Registers.{register_place}
 use Rattle.dcc_ops.specs.Expressions.{sum, difference}
 use Rattle.dcc_ops.specs.Statements.{result_taking, sum_flags, difference_flags, alu_working}
 use Rattle.dcc_ops.specs.Temporaries.{left_place, right_place, returned_place}
-use Rattle.dcc_ops.specs.Place.{Place, constant, byte, word, memory, address, computed, place_value, taking, storing}
+use Rattle.dcc_ops.specs.OperandPlace.{OperandPlace, constant, byte, word, memory, address, computed, place_value}
+use Rattle.dcc_ops.specs.OperandPlace.{taking}
+use Rattle.dcc_ops.specs.OperandPlace.{storing}
 use Rattle.dcc_simulation.specs.Operands.{from_frame, stack_pointer, address_of, memory_place, operand_place, first_place}
 use Rattle.dcc_simulation.specs.Operands.{second_place}
 use Rattle.dcc_simulation.specs.Procedures.{Procedure, procedure_at, frame_place, distance_of, given_back}
@@ -158,7 +161,7 @@ module _ (image : Image) (program : Analysed) (entry : ℕ) (q : Procedure) (f :
   framed : (w : Width) (k : ℤ) → place_passes test (frame_place q w k) ≡ true
   framed w k = frame-passes image program entry q f none few test tested w k
 
-  value-passes : (p : Place) → place_passes test p ≡ true → passes test (place_value p) ≡ true
+  value-passes : (p : OperandPlace) → place_passes test p ≡ true → passes test (place_value p) ≡ true
   value-passes (constant w n) is = refl
   value-passes (byte location) is = refl
   value-passes (word low high) is = refl

@@ -1,44 +1,45 @@
 -- The statements of an operation take no address but those of its operands' places, and load, fetch and store by no
 -- temporary and by no flag.
 use Rattle.std.proofs.Common.{◌≡◌, ◌∙◌, ℕ, Bool, true, false, ◌&&◌, ◌||◌, if◌then◌else◌, List, [], ◌∷◌, ◌++◌, Option, refl}
-use Rattle.std.specs.Prelude.{◌/◌, ◌%◌}
 use Rattle.std.specs.List.{list_all}
 use Rattle.std.proofs.lemmas.Bool.{and_parts, or_left}
 use Rattle.std.proofs.lemmas.List.Folds.{list_all-append}
 use Rattle.dcc_num.specs.declared.Width.{Width}
 use Rattle.dcc_num.specs.declared.Width.TheVariants.{Byte as byte_width, Word as word_width}
 use Rattle.dcc_num.specs.Numbers.{bits_of}
-use Rattle.dcc_prog.specs.declared.cpu.Cpu.{Cpu}
-use Rattle.dcc_prog.specs.declared.cpu.Cpu.TheVariants.{I8086, I186}
-use Rattle.dcc_prog.specs.declared.instr.Alu.{Alu}
-use Rattle.dcc_prog.specs.declared.instr.Alu.TheVariants.{Add, Or, Adc, Sbb, And, Sub, Xor, Cmp, Test}
-use Rattle.dcc_prog.specs.declared.instr.Shift.{Shift}
-use Rattle.dcc_prog.specs.declared.instr.Shift.TheVariants.{Rol}
-use Rattle.dcc_prog.specs.declared.instr.Count.{Count}
-use Rattle.dcc_prog.specs.declared.instr.Count.TheVariants.{One, Cl, Const as ConstCount}
-use Rattle.dcc_prog.specs.declared.instr.Unary.{Unary}
-use Rattle.dcc_prog.specs.declared.instr.Unary.TheVariants.{Inc, Dec, Neg, Not, Mul, Imul, Div as DivOf, Idiv}
-use Rattle.dcc_prog.specs.declared.instr.Plain.{Plain}
-use Rattle.dcc_prog.specs.declared.instr.Plain.TheVariants.{Nop, Cbw, Cwd, Xlat, Clc, Stc, Cmc, Cli, Sti, Cld}
-use Rattle.dcc_prog.specs.declared.instr.Op.{Op}
-use Rattle.dcc_prog.specs.declared.instr.Op.TheVariants.{Alu as AluOp, Unary as UnaryOp, Shift as ShiftOp, Mov, Xchg, Imul3, Plain as PlainOp, Int21}
-use Rattle.dcc_prog.specs.Machine.{operand_width}
-use Rattle.dcc_prog.specs.Writes.{never_shifts}
-use Rattle.dcc_prog.specs.Wanted.{is_zeroing}
+use Rattle.dcc_machine.specs.declared.cpu.Cpu.{Cpu}
+use Rattle.dcc_machine.specs.declared.cpu.Cpu.TheVariants.{I8086, I186}
+use Rattle.dcc_machine.specs.declared.instr.Alu.{Alu}
+use Rattle.dcc_machine.specs.declared.instr.Alu.TheVariants.{Add, Or, Adc, Sbb, And, Sub, Xor, Cmp, Test}
+use Rattle.dcc_machine.specs.declared.instr.Shift.{Shift}
+use Rattle.dcc_machine.specs.declared.instr.Shift.TheVariants.{Rol}
+use Rattle.dcc_machine.specs.declared.instr.Count.{Count}
+use Rattle.dcc_machine.specs.declared.instr.Count.TheVariants.{One, Cl, Const as ConstCount}
+use Rattle.dcc_machine.specs.declared.instr.Unary.{Unary}
+use Rattle.dcc_machine.specs.declared.instr.Unary.TheVariants.{Inc, Dec, Neg, Not, Mul, Imul, Div as DivOf, Idiv}
+use Rattle.dcc_machine.specs.declared.instr.Plain.{Plain}
+use Rattle.dcc_machine.specs.declared.instr.Plain.TheVariants.{Nop, Cbw, Cwd, Xlat, Clc, Stc, Cmc, Cli, Sti, Cld}
+use Rattle.dcc_machine.specs.declared.instr.Op.{Op}
+use Rattle.dcc_machine.specs.declared.instr.Op.TheVariants.{Alu as AluOp, Unary as UnaryOp, Shift as ShiftOp, Mov, Xchg, Imul3, Plain as PlainOp, Int21}
+use Rattle.dcc_machine.specs.Machine.{operand_width}
+use Rattle.dcc_machine.specs.Writes.{never_shifts}
+use Rattle.dcc_machine.specs.Wanted.{is_zeroing}
 use Rattle.dcc_ir.specs.declared.syntax.Loc.{Loc}
 use Rattle.dcc_ir.specs.declared.syntax.BinOp.{BinOp}
 use Rattle.dcc_ir.specs.declared.syntax.BinOp.TheVariants.{DivU, DivS, RemU, RemS}
-use Rattle.dcc_ir.specs.Tree.{Expr, Const, Get, Load, Part, Address, Stmt, Set}
+use Rattle.dcc_ir.specs.Tree.{Expr, Load, Address, Stmt, Set}
 use Rattle.dcc_ir.specs.Use.{addresses_of}
 use Rattle.dcc_flags.specs.Accesses.{loads_by_halves, accessed}
 use Rattle.dcc_flags.specs.Kinds.{takes_frame_sum}
 use Rattle.dcc_ops.proofs.DosStatements.{dos_all}
 use Rattle.dcc_ops.proofs.ShiftCounts.{HoldsByEach, holds_by_count}
 use Rattle.dcc_ops.specs.Temporaries.{left_place, right_place, result_place}
-use Rattle.dcc_ops.specs.Place.{Place, constant, byte, word, memory, address, computed, place_value, taking, storing}
+use Rattle.dcc_ops.specs.OperandPlace.{OperandPlace, constant, byte, word, memory, address, computed}
+use Rattle.dcc_ops.specs.OperandPlace.{taking}
+use Rattle.dcc_ops.specs.OperandPlace.{storing}
 use Rattle.dcc_ops.specs.Registers.{register_place}
 use Rattle.dcc_ops.specs.Expressions.{left, right, result, product, count_expr, sum, difference}
-use Rattle.dcc_ops.specs.Statements.{operands_taking, word_taking, result_taking, sum_flags, difference_flags, subtracting, alu_working, alu_storing, alu_stmts, zeroing, product_storing, product_working, division_storing, division_working, accumulator, complementing, unary_stmts, shift_working, shifting, staying, shift_stmts, mov_stmts, exchanging, xchg_stmts, plain_stmts, dos_stmts, op_stmts}
+use Rattle.dcc_ops.specs.Statements.{operands_taking, word_taking, result_taking, sum_flags, difference_flags, subtracting, alu_working, alu_storing, alu_stmts, zeroing, product_storing, product_working, division_storing, division_working, accumulator, complementing, unary_stmts, shift_working, shifting, staying, shift_stmts, mov_stmts, xchg_stmts, plain_stmts, dos_stmts, op_stmts}
 
 both : (a b : Bool) → a ≡ true → b ≡ true → (a && b) ≡ true
 both true b e f = f
@@ -75,7 +76,7 @@ module _ (test : ℕ → Bool) where
       list_all-append (stmt_told sums) stmts others ∙ both (all_told sums stmts) (all_told sums others) p q
 
   -- the addresses that a place has pass, and memory is accessed by halves
-  abbrev pub place_passes : Place → Bool
+  abbrev pub place_passes : OperandPlace → Bool
   place_passes (memory w at) = passes (Load (bits_of w) at)
   place_passes (address distance) = passes (Address distance)
   place_passes (computed e) = passes e
@@ -88,7 +89,7 @@ module _ (test : ℕ → Bool) where
 
   -- Operands.
 
-  taken : (to : Loc) (p : Place) → place_passes p ≡ true → stmt_passes (taking to p) ≡ true
+  taken : (to : Loc) (p : OperandPlace) → place_passes p ≡ true → stmt_passes (taking to p) ≡ true
   taken to (constant w n) is = refl
   taken to (byte location) is = refl
   taken to (word low high) is = refl
@@ -96,7 +97,7 @@ module _ (test : ℕ → Bool) where
   taken to (address distance) is = both (passes (Address distance)) true is refl
   taken to (computed e) is = both (passes e) true is refl
 
-  pub stored : (p : Place) (e : Expr) → place_passes p ≡ true → passes e ≡ true → all_pass (storing p e) ≡ true
+  pub stored : (p : OperandPlace) (e : Expr) → place_passes p ≡ true → passes e ≡ true → all_pass (storing p e) ≡ true
   stored (constant w n) e is made = refl
   stored (byte location) e is made = both (passes e && true) true (both (passes e) true made refl) refl
   stored (word low high) e is made =
@@ -108,17 +109,17 @@ module _ (test : ℕ → Bool) where
   stored (address distance) e is made = refl
   stored (computed sum) e is made = refl
 
-  taken_first : (to : Loc) (p : Place) (rest : List Stmt) → place_passes p ≡ true → all_pass rest ≡ true
+  taken_first : (to : Loc) (p : OperandPlace) (rest : List Stmt) → place_passes p ≡ true → all_pass rest ≡ true
       → all_pass (taking to p ∷ rest) ≡ true
   taken_first to p rest is e = both (stmt_passes (taking to p)) (all_pass rest) (taken to p is) e
 
-  both_taken : (w : Width) (p q : Place) → place_passes p ≡ true → place_passes q ≡ true
+  both_taken : (w : Width) (p q : OperandPlace) → place_passes p ≡ true → place_passes q ≡ true
       → all_pass (operands_taking w p q) ≡ true
   both_taken w p q one other =
       taken_first (left_place w) p (taking (right_place w) q ∷ []) one (taken_first (right_place w) q [] other refl)
 
   -- the operands, the work, and what is stored
-  worked : (w : Width) (p q : Place) (work store : List Stmt) → place_passes p ≡ true → place_passes q ≡ true
+  worked : (w : Width) (p q : OperandPlace) (work store : List Stmt) → place_passes p ≡ true → place_passes q ≡ true
       → all_pass work ≡ true → all_pass store ≡ true → all_pass (operands_taking w p q ++ (work ++ store)) ≡ true
   worked w p q work store one other e f =
       appended (operands_taking w p q) (work ++ store) (both_taken w p q one other) (appended work store e f)
@@ -149,7 +150,7 @@ module _ (test : ℕ → Bool) where
   alu_passes Test byte_width = refl
   alu_passes Test word_width = refl
 
-  alu_stored : (operation : Alu) (w : Width) (p : Place) → place_passes p ≡ true
+  alu_stored : (operation : Alu) (w : Width) (p : OperandPlace) → place_passes p ≡ true
       → all_pass (alu_storing operation w p) ≡ true
   alu_stored Cmp w p is = refl
   alu_stored Test w p is = refl
@@ -184,7 +185,7 @@ module _ (test : ℕ → Bool) where
   division_stored byte_width = refl
   division_stored word_width = refl
 
-  unary_passes : (operation : Unary) (w : Width) (p : Place) → place_passes p ≡ true
+  unary_passes : (operation : Unary) (w : Width) (p : OperandPlace) → place_passes p ≡ true
       → all_pass (unary_stmts operation w p) ≡ true
   unary_passes Inc w p is =
       worked w p (constant w 1) (result_taking w (sum w) ++ sum_flags w) (storing p (result w)) is refl (counted w).0
@@ -235,7 +236,7 @@ module _ (test : ℕ → Bool) where
   count_passes I186 word_width Cl = refl
   count_passes I186 word_width (ConstCount n) = refl
 
-  shift_passes : (cpu : Cpu) (operation : Shift) (w : Width) (p : Place) (count : Count) → place_passes p ≡ true
+  shift_passes : (cpu : Cpu) (operation : Shift) (w : Width) (p : OperandPlace) (count : Count) → place_passes p ≡ true
       → all_pass (shift_stmts cpu operation w p count) ≡ true
   shift_passes cpu operation w p count is = go (never_shifts count)
     where
@@ -251,7 +252,7 @@ module _ (test : ℕ → Bool) where
 
   -- Moves.
 
-  pub mov_passes : (w : Width) (p q : Place) → place_passes p ≡ true → place_passes q ≡ true
+  pub mov_passes : (w : Width) (p q : OperandPlace) → place_passes p ≡ true → place_passes q ≡ true
       → all_pass (mov_stmts w p q) ≡ true
   mov_passes w (byte to) (byte from) one other = refl
   mov_passes w (byte to) (constant v n) one other = refl
@@ -259,7 +260,7 @@ module _ (test : ℕ → Bool) where
   mov_passes w (word low high) (constant v n) one other = refl
   mov_passes w p q one other = taken_first (left_place w) q (storing p (left w)) other (stored p (left w) one refl)
 
-  xchg_passes : (w : Width) (p q : Place) → place_passes p ≡ true → place_passes q ≡ true
+  xchg_passes : (w : Width) (p q : OperandPlace) → place_passes p ≡ true → place_passes q ≡ true
       → all_pass (xchg_stmts w p q) ≡ true
   xchg_passes w (byte a) (byte b) one other = refl
   xchg_passes w (word low high) (word l h) one other = refl
@@ -285,7 +286,7 @@ module _ (test : ℕ → Bool) where
   dos_passes = dos_all (λ l. all_pass l ≡ true) refl (λ n. refl) (λ n. refl) (λ n. refl) (λ n. refl)
 
   -- All operations.
-  pub op_passes : (cpu : Cpu) (op : Op) (number : Option ℕ) (p q : Place) → place_passes p ≡ true → place_passes q ≡ true
+  pub op_passes : (cpu : Cpu) (op : Op) (number : Option ℕ) (p q : OperandPlace) → place_passes p ≡ true → place_passes q ≡ true
       → all_pass (op_stmts cpu op number p q) ≡ true
   op_passes cpu (AluOp operation a b) number p q one other = go (is_zeroing operation a b)
     where

@@ -10,7 +10,7 @@ use Rattle.dcc_ir.specs.Location.{location_width}
 use Rattle.dcc_ir.specs.Value.{width_of}
 use Rattle.dcc_ir.specs.WellFormed.{is_width, ret_widths}
 use Rattle.dcc_ir.specs.Form.{Signature, signatures_of, BlockStays, GraphStays}
-use Rattle.dcc_ir.specs.Families.{Family, wanted, IsWithout, done, stays, goes, IsBlockWithout, IsGraphWithout}
+use Rattle.dcc_ir.specs.Families.{Family, needed, IsWithout, done, stays, goes, IsBlockWithout, IsGraphWithout}
 use Rattle.dcc_ir.proofs.ListLaws.{all_had, all_parts}
 use Rattle.dcc_ir.proofs.ZipLaws.{all_zipped}
 use Rattle.dcc_signatures.specs.Laws.{AtMostOne, GivesAtMostOne, TakesAtMostOne, TakesTogether, PassesAtMostOne}
@@ -170,8 +170,8 @@ module _ (known : ℕ → Bool) where
   -- a simplified graph gives few values, as the graph did
   simplified-few : (g h : Graph) → IsSimplifiedGraph g h → GivesFew g → GivesFew h
   simplified-few g h is few =
-      few-left (wanted is.folded) is.folded h is.last.without
-      (few-stays is.wanted is.folded is.flags.form (few-left (wanted g) g is.wanted is.first.without few))
+      few-left (needed is.folded) is.folded h is.last.without
+      (few-stays is.wanted is.folded is.flags.form (few-left (needed g) g is.wanted is.first.without few))
 
 -- a simplified graph has the graph's entry, and takes what that took
 pub simplified-entry : (g h : Graph) → IsSimplifiedGraph g h → h.entry ≡ g.entry

@@ -1,8 +1,8 @@
 -- The text of a plan is its text, whatever the numbers of its lines.
 use Rattle.dcc_ir.specs.Tree as inner
 use Rattle.dcc_text.specs.Spelling.{Spelling}
-use Rattle.dcc_control.specs.Plan.{Item, Do, Mark, Jump, If, Switch, Return, For, While, DoWhile, Break, Continue, Plan, no_items, item, Arms, no_arms, arm}
-use Rattle.dcc_plan.specs.PlanText.{plan_text, item_text, arms_text, IsPlanText, nothing, one_more, IsItemText, does, marks, jumps, tests, chooses, returns, repeats, tests_first, tests_last, breaks, continues, AreArmsText, no_more, next_arm}
+use Rattle.dcc_control.specs.Plan.{Item, Do, Mark, Jump, If, Switch, Return, For, While, DoWhile, Break, Continue, Empty, Plan, no_items, item, Arms, no_arms, arm}
+use Rattle.dcc_plan.specs.PlanText.{plan_text, item_text, arms_text, IsPlanText, nothing, one_more, IsItemText, does, marks, jumps, tests, chooses, returns, repeats, tests_first, tests_last, breaks, continues, does_nothing, AreArmsText, no_more, next_arm}
 
 -- The lines of a plan's text are its text.
 mutual
@@ -14,7 +14,9 @@ mutual
   plain-item s graph (Do b m) = does
   plain-item s graph (Mark b) = marks
   plain-item s graph (Jump b) = jumps
-  plain-item s graph (If b one other) = tests (plain-text s graph one) (plain-text s graph other)
+  plain-item s graph (If b no_items no_items) = tests nothing nothing
+  plain-item s graph (If b no_items (item i p)) = tests (plain-text s graph (item i p)) nothing
+  plain-item s graph (If b (item i p) other) = tests (plain-text s graph (item i p)) (plain-text s graph other)
   plain-item s graph (Switch b arms) = chooses (plain-arms s graph arms)
   plain-item s graph (Return b) = returns
   plain-item s graph (For b body) = repeats (plain-text s graph body)
@@ -22,6 +24,7 @@ mutual
   plain-item s graph (DoWhile on b head body) = tests_last (plain-text s graph body)
   plain-item s graph Break = breaks
   plain-item s graph Continue = continues
+  plain-item s graph Empty = does_nothing
 
   plain-arms : (s : Spelling) (graph : inner.Graph) (arms : Arms) → AreArmsText s graph arms (arms_text s graph arms)
   plain-arms s graph no_arms = no_more

@@ -7,13 +7,13 @@ use Rattle.dcc_ir.specs.declared.syntax.Loc.{Loc}
 use Rattle.dcc_ir.specs.Ends.{is_ret}
 use Rattle.dcc_ir.specs.Flow.{graph_or_none}
 use Rattle.dcc_ir.specs.Location.{location_width}
-use Rattle.dcc_ir.specs.Tree.{Stmt, Set, Fetch, Store, Div, Call, Dos, Exit, Goto, If, Switch, Ret, Stop, Block, Graph, Program}
+use Rattle.dcc_ir.specs.Tree.{Stmt, Set, Fetch, Store, Div, Call, Dos, Exit, Goto, If, Switch, Ret, Stop, Block, Program}
 use Rattle.dcc_ir.specs.Value.{width_of}
-use Rattle.dcc_ir.specs.WellFormed.{ret_widths, all_ret_widths}
+use Rattle.dcc_ir.specs.WellFormed.{ret_widths}
 use Rattle.dcc_ir.proofs.ReachedLaws.{named_again}
 use Rattle.dcc_signatures.specs.Laws.{AtMostOne, GivesAtMostOne}
 use Rattle.dcc_plan.specs.Programs as plan
-use Rattle.dcc_sums.specs.Localised.{sum_at}
+use Rattle.dcc_sums.specs.Localised.{summary_at}
 use Rattle.dcc_variables.specs.FunctionLaws.{HasFewNames}
 use Rattle.dcc_pipe.specs.Prepared.{has_ret, returns, IsPrepared}
 use Rattle.dcc_pipe.specs.WholeText.{TakesFew, FitsText}
@@ -73,7 +73,7 @@ module _ (p q : Program) (is : IsPrepared p q) (few : All HasFewNames q.graphs) 
       one-at_most (width_of bits) values (subst (GivesAtMostOne bits) same gives)
 
   each-few : All (GivesFew known) q.graphs
-  each-few = all-few known (sum_at p.graphs is.sums) q (record { one = is.passes; returned = is.returned })
+  each-few = all-few known (summary_at p.graphs is.sums) q (record { one = is.passes; returned = is.returned })
 
   pub prepared-fits : FitsText q
   prepared-fits = record {

@@ -3,7 +3,7 @@ use Rattle.std.proofs.Common.{◌≡◌, ℕ, ◌≤◌, List, [], ◌∷◌, ma
 use Rattle.std.specs.Prelude.{All, if◌then◌else◌, ◌==◌}
 use Rattle.std.specs.List.{AllZip}
 use Rattle.std.proofs.lemmas.List.Elements.{All-map, All-weaker}
-use Rattle.dcc_run.specs.Place.{Place}
+use Rattle.dcc_run.specs.ProgramPoint.{ProgramPoint}
 use Rattle.dcc_ir.specs.Tree.{Block, Graph, Program, Summary}
 use Rattle.dcc_ir.specs.FlagReads.{FlagsReadPlainly}
 use Rattle.dcc_ir.specs.Keeps.{has_block, Keeps}
@@ -14,7 +14,7 @@ use Rattle.dcc_ir.proofs.KeepsLaws.{keeps_trans}
 use Rattle.dcc_ir.proofs.ZipLaws.{all_zipped}
 use Rattle.dcc_lift.specs.Lifted.{IsShallow}
 use Rattle.dcc_sums.specs.Laws.{IsKeptBy}
-use Rattle.dcc_sums.specs.Localised.{sum_at, trim_by, localised, CallsJust, PassesJust}
+use Rattle.dcc_sums.specs.Localised.{summary_at, trim_by, localised, CallsJust, PassesJust}
 use Rattle.dcc_sums.proofs.KeepLaws.{localised-keeps}
 use Rattle.dcc_signatures.specs.Packed.{pack_graph, packed}
 use Rattle.dcc_signatures.specs.Laws.{PassesOneValue, PassesAtMostOne}
@@ -37,7 +37,7 @@ use mathlib.Core.Path.{fun_ext}
 -- Programs of which each graph is changed by one function.
 
 -- what is changed is related to what it was
-all-changed : {A : Type 0} (R : A → A → Type 0) (f : A → A) → ((x : A) → R x (f x)) → (xs : List A)
+pub all-changed : {A : Type 0} (R : A → A → Type 0) (f : A → A) → ((x : A) → R x (f x)) → (xs : List A)
     → AllZip R xs (map f xs)
 all-changed R f to [] = tt
 all-changed R f to (x ∷ xs) = (to x, all-changed R f to xs)
@@ -77,7 +77,7 @@ module _ (p : Program) (sums : List Summary) (form : HasLiftedForm p) (known : A
   packed-blocks : (g : Graph) → HasSameBlocks g (pack_graph g)
   packed-blocks g = record { entry = refl; addresses = addresses-changed _ (λ b. refl) g.blocks }
 
-  together-places : (place : Place) → has_block together place ≡ has_block p place
+  together-places : (place : ProgramPoint) → has_block together place ≡ has_block p place
   together-places place =
       blocks-stay just together place
       (all-changed HasSameBlocks pack_graph packed-blocks just.graphs)
@@ -122,19 +122,19 @@ module _ (p : Program) (sums : List Summary) (form : HasLiftedForm p) (known : A
   }
 
   sum-still : (graphs : List Graph) (sums : List Summary) (entry : ℕ)
-      → sum_at (map (trim_graph trim) graphs) sums entry ≡ sum_at graphs sums entry
+      → summary_at (map (trim_graph trim) graphs) sums entry ≡ summary_at graphs sums entry
   sum-still [] sums entry = refl
   sum-still (g ∷ graphs) [] entry = refl
   sum-still (g ∷ graphs) (sum ∷ sums) entry =
       ap (λ later. if g.entry == entry then sum else later) (sum-still graphs sums entry)
 
-  together-passes : PassesAtMostOne (sum_at p.graphs sums) together
+  together-passes : PassesAtMostOne (summary_at p.graphs sums) together
   together-passes =
       subst (λ sum_of. PassesAtMostOne sum_of together) (fun_ext (sum-still p.graphs sums))
       (packed-passes_one just sums localised-kept.formed one-value)
 
   -- results are taken of procedures that return
-  just-passes : PassesJust (sum_at p.graphs sums) just
+  just-passes : PassesJust (summary_at p.graphs sums) just
   just-passes =
       subst (λ sum_of. PassesJust sum_of just) (fun_ext (sum-still p.graphs sums)) one-value.just
 
@@ -144,10 +144,11 @@ module _ (p : Program) (sums : List Summary) (form : HasLiftedForm p) (known : A
   together-returned : All Taken together.graphs
   together-returned =
       All-map Taken pack_graph just.graphs
-      (All-weaker (λ g. All (λ b. All (CallsJust (sum_at p.graphs sums)) b.stmts) g.blocks) (λ g. Taken (pack_graph g))
+      (All-weaker (λ g. All (λ b. All (CallsJust (summary_at p.graphs sums)) b.stmts) g.blocks) (λ g. Taken (pack_graph
+      g))
       (λ g calls. graph-taken (returns p) g
-      (All-weaker (λ b. All (CallsJust (sum_at p.graphs sums)) b.stmts) (λ b. All (TakesOfReturning (returns p)) b.stmts)
-      (λ b stmts. All-weaker (CallsJust (sum_at p.graphs sums)) (TakesOfReturning (returns p))
+      (All-weaker (λ b. All (CallsJust (summary_at p.graphs sums)) b.stmts) (λ b. All (TakesOfReturning (returns p)) b.stmts)
+      (λ b stmts. All-weaker (CallsJust (summary_at p.graphs sums)) (TakesOfReturning (returns p))
       (just-taken p sums known.are) b.stmts stmts) g.blocks calls)) just.graphs just-passes.calls)
 
   -- the graph has the other's entry, and returns where that does
@@ -160,9 +161,9 @@ module _ (p : Program) (sums : List Summary) (form : HasLiftedForm p) (known : A
         program-simplified lifted_levels together q together-simplified.textable
         (All-weaker Fine FlagsReadPlainly (λ g fine. fine.1) together.graphs together-fine) left
 
-    left-passes : AllPass (returns p) (sum_at p.graphs sums) q
+    left-passes : AllPass (returns p) (summary_at p.graphs sums) q
     left-passes =
-        passes-stay (returns p) (sum_at p.graphs sums) together q left.graphs
+        passes-stay (returns p) (summary_at p.graphs sums) together q left.graphs
         (record { one = together-passes; returned = together-returned })
 
     -- in the prepared program the procedures return that returned

@@ -4,7 +4,7 @@ use Rattle.std.specs.Prelude.{◌||◌, not, if◌then◌else◌}
 use Rattle.std.specs.List.{AllZip, list_any}
 use Rattle.std.proofs.lemmas.Bool.{and_parts}
 use Rattle.std.proofs.lemmas.List.Elements.{Contains-append_right}
-use Rattle.dcc_run.specs.Place.{Place}
+use Rattle.dcc_run.specs.ProgramPoint.{ProgramPoint}
 use Rattle.dcc_ir.specs.Tree.{Block, Graph, Program}
 use Rattle.dcc_ir.specs.WellFormed.{all_differ, IsProgram}
 use Rattle.dcc_ir.specs.Flow.{graph_or_none}
@@ -177,7 +177,7 @@ addresses-tell : (at : ℕ) (blocks : List Block)
 addresses-tell at [] = refl
 addresses-tell at (b ∷ blocks) = ap (λ c. (b.at == at) || c) (addresses-tell at blocks)
 
-pub blocks-stay : (p q : Program) (place : Place) → AllZip HasSameBlocks p.graphs q.graphs
+pub blocks-stay : (p q : Program) (place : ProgramPoint) → AllZip HasSameBlocks p.graphs q.graphs
     → has_block q place ≡ has_block p place
 blocks-stay p q place all =
     alike-at HasSameBlocks (λ g. list_any (λ block. block.at == place.at) g.blocks) (λ g h is. is.entry)

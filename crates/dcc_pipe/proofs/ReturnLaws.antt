@@ -6,11 +6,11 @@ use Rattle.std.proofs.lemmas.List.Elements.{All-nil, All-cons, All-head, All-tai
 use Rattle.dcc_ir.specs.declared.syntax.Loc.{Loc}
 use Rattle.dcc_ir.specs.Tree.{Stmt, Set, Fetch, Store, Div, Call, Dos, Exit, Goto, If, Switch, Ret, Stop, Block, Graph, Program, Summary}
 use Rattle.dcc_ir.specs.Ends.{is_ret}
-use Rattle.dcc_ir.specs.Families.{Family, wanted, IsBlockWithout, IsGraphWithout}
+use Rattle.dcc_ir.specs.Families.{Family, needed, IsBlockWithout, IsGraphWithout}
 use Rattle.dcc_ir.specs.Form.{BlockStays, GraphStays}
 use Rattle.dcc_ir.specs.Live.{block_in}
 use Rattle.dcc_ir.specs.WellFormed.{ret_widths}
-use Rattle.dcc_ir.proofs.ZipLaws.{any_zipped}
+use Rattle.dcc_ir.proofs.ZipLaws.{map_zipped}
 use Rattle.dcc_pipe.specs.Simplified.{IsSimplifiedGraph}
 use Rattle.dcc_ir.specs.Flow.{graph_or_none}
 use Rattle.dcc_ir.specs.Run.{no_block, graph_at}
@@ -19,8 +19,8 @@ use Rattle.dcc_ir.proofs.LocationLaws.{Contains-here}
 use Rattle.dcc_demand.specs.Changes.{Changes, ChangesWithin}
 use Rattle.dcc_sums.specs.Points.{Position, site_at, is_return, site_of}
 use Rattle.dcc_sums.specs.Instance.{procedures_of}
-use Rattle.dcc_sums.specs.Sums.{IsSum, AreSums}
-use Rattle.dcc_sums.specs.Localised.{sum_at, CallsJust}
+use Rattle.dcc_sums.specs.Summaries.{IsSummary, AreSummaries}
+use Rattle.dcc_sums.specs.Localised.{summary_at, CallsJust}
 use Rattle.dcc_signatures.specs.declared.packing.Fresh.{Fresh}
 use Rattle.dcc_signatures.specs.declared.packing.Packing.TheVariants.{Apart, Word, Double}
 use Rattle.dcc_signatures.specs.Packed.{packing_of, taking_part, taking_parts, value_places, pack_stmt, pack_exit}
@@ -68,8 +68,8 @@ module _ (p : Program) where
   abbrev GivesReturning : ℕ → List Loc → Type 0
   GivesReturning entry results = (results ≡ []) ⊎ (returns p entry ≡ true)
 
-  given-returns : (graphs : List Graph) (sums : List Summary) → AllZip (IsSum p) graphs sums → (entry : ℕ)
-      → GivesReturning entry (sum_at graphs sums entry).results
+  given-returns : (graphs : List Graph) (sums : List Summary) → AllZip (IsSummary p) graphs sums → (entry : ℕ)
+      → GivesReturning entry (summary_at graphs sums entry).results
   given-returns [] sums all entry = inl refl
   given-returns (g ∷ graphs) [] all entry = absurd all
   given-returns (g ∷ graphs) (sum ∷ sums) all entry = by (g.entry == entry) refl (given-returns graphs sums all.1 entry)
@@ -79,14 +79,14 @@ module _ (p : Program) where
       some (l ∷ ls) is =
           inr (changed-returns g.entry l ((all.0.results.exact l).0 (subst (λ ls. Contains ls l) (sym is) (Contains-here l ls))).changes)
 
-      by : (b : Bool) → (g.entry == entry) ≡ b → GivesReturning entry (sum_at graphs sums entry).results
-          → GivesReturning entry (if b then sum else sum_at graphs sums entry).results
+      by : (b : Bool) → (g.entry == entry) ≡ b → GivesReturning entry (summary_at graphs sums entry).results
+          → GivesReturning entry (if b then sum else summary_at graphs sums entry).results
       by true is later = subst (λ n. GivesReturning n sum.results) (eqb-true g.entry entry is) (some sum.results refl)
       by false is later = later
 
   -- where just what the summaries say passes, results are taken of graphs that return
-  module _ (sums : List Summary) (are : AreSums p sums) where
-    pub just-taken : (stmt : Stmt) → CallsJust (sum_at p.graphs sums) stmt → TakesOfReturning (returns p) stmt
+  module _ (sums : List Summary) (are : AreSummaries p sums) where
+    pub just-taken : (stmt : Stmt) → CallsJust (summary_at p.graphs sums) stmt → TakesOfReturning (returns p) stmt
     just-taken (Call results entry arguments depth) just =
         subst (GivesReturning entry) (sym just.0) (given-returns p.graphs sums are entry)
     just-taken (Set location e) just = tt
@@ -146,12 +146,27 @@ module _ (known : ℕ → Bool) where
       (All-weaker (λ (b : Block). All Taken b.stmts) (λ b. All Taken (pack_block (fresh_after g.bits) b).stmts)
       (λ b stmts. stmts-taken (fresh_after g.bits) b.stmts stmts) g.blocks taken)
 
--- Ends of blocks stay Rets.
+-- Where blocks end in returns.
 
-ends-stay : (f : Block → Block) → ((b : Block) → is_ret (f b).exit ≡ is_ret b.exit) → (blocks : List Block)
-    → list_any (λ b. is_ret b.exit) (map f blocks) ≡ list_any (λ b. is_ret b.exit) blocks
-ends-stay f same [] = refl
-ends-stay f same (b ∷ blocks) = ap₂ (λ c d. c || d) (same b) (ends-stay f same blocks)
+-- the address of a block, and whether it ends in a return
+abbrev pub end_of : Block → ℕ × Bool
+end_of b = (b.at, is_ret b.exit)
+
+abbrev pub ends : Graph → List (ℕ × Bool)
+ends graph = map end_of graph.blocks
+
+-- where blocks end alike, a graph returns where the other does
+returns-alike : (g h : Graph) → ends h ≡ ends g → has_ret h ≡ has_ret g
+returns-alike g h same = told h.blocks ∙ ap (list_any (λ e. e.1)) same ∙ sym (told g.blocks)
+  where
+    told : (blocks : List Block) → list_any (λ b. is_ret b.exit) blocks ≡ list_any (λ e. e.1) (map end_of blocks)
+    told [] = refl
+    told (b ∷ blocks) = ap (λ c. is_ret b.exit || c) (told blocks)
+
+ends-changed : (f : Block → Block) → ((b : Block) → end_of (f b) ≡ end_of b) → (blocks : List Block)
+    → map end_of (map f blocks) ≡ map end_of blocks
+ends-changed f same [] = refl
+ends-changed f same (b ∷ blocks) = ap₂ (λ e es. e ∷ es) (same b) (ends-changed f same blocks)
 
 trimmed-end : (trim : Trim) (entry : ℕ) (exit : Exit) → is_ret (trim_exit trim entry exit) ≡ is_ret exit
 trimmed-end trim entry (Ret values) = refl
@@ -167,11 +182,19 @@ packed-end (If test one other) = refl
 packed-end (Switch e places) = refl
 packed-end Stop = refl
 
+pub trimmed-ends : (trim : Trim) (g : Graph) → ends (trim_graph trim g) ≡ ends g
+trimmed-ends trim g =
+    ends-changed (trim_block trim g.entry) (λ b. ap (λ ret. (b.at, ret)) (trimmed-end trim g.entry b.exit)) g.blocks
+
+pub packed-ends : (g : Graph) → ends (pack_graph g) ≡ ends g
+packed-ends g =
+    ends-changed (pack_block (fresh_after g.bits)) (λ b. ap (λ ret. (b.at, ret)) (packed-end b.exit)) g.blocks
+
 pub trimmed-returns : (trim : Trim) (g : Graph) → has_ret (trim_graph trim g) ≡ has_ret g
-trimmed-returns trim g = ends-stay (trim_block trim g.entry) (λ b. trimmed-end trim g.entry b.exit) g.blocks
+trimmed-returns trim g = returns-alike g (trim_graph trim g) (trimmed-ends trim g)
 
 pub packed-returns : (g : Graph) → has_ret (pack_graph g) ≡ has_ret g
-packed-returns g = ends-stay (pack_block (fresh_after g.bits)) (λ b. packed-end b.exit) g.blocks
+packed-returns g = returns-alike g (pack_graph g) (packed-ends g)
 
 -- A simplified graph returns where the graph did.
 
@@ -186,19 +209,22 @@ ret-widths bits (If test one other) = refl
 ret-widths bits (Switch e places) = refl
 ret-widths bits Stop = refl
 
-without-returns : (family : Family) (g h : Graph) → IsGraphWithout family g h → has_ret h ≡ has_ret g
-without-returns family g h is =
-    any_zipped (IsBlockWithout family) (λ (b : Block). is_ret b.exit) (λ (b : Block). is_ret b.exit)
-    (λ b c pair. ap is_ret pair.exit) g.blocks h.blocks is.blocks
+without-ends : (family : Family) (g h : Graph) → IsGraphWithout family g h → ends h ≡ ends g
+without-ends family g h is =
+    map_zipped (IsBlockWithout family) end_of end_of (λ b c pair. ap₂ (λ at ret. (at, ret)) pair.at (ap is_ret pair.exit))
+    g.blocks h.blocks is.blocks
 
-stays-returns : (g h : Graph) → GraphStays g h → has_ret h ≡ has_ret g
-stays-returns g h is =
-    any_zipped (BlockStays g.bits h.bits) (λ (b : Block). is_ret b.exit) (λ (b : Block). is_ret b.exit)
-    (λ b c pair. ret-widths h.bits c.exit ∙ ap is_some_list pair.given ∙ sym (ret-widths g.bits b.exit)) g.blocks h.blocks
-    is.blocks
+stays-ends : (g h : Graph) → GraphStays g h → ends h ≡ ends g
+stays-ends g h is =
+    map_zipped (BlockStays g.bits h.bits) end_of end_of
+    (λ b c pair. ap₂ (λ at ret. (at, ret)) pair.at
+    (ret-widths h.bits c.exit ∙ ap is_some_list pair.given ∙ sym (ret-widths g.bits b.exit))) g.blocks h.blocks is.blocks
+
+pub simplified-ends : (g h : Graph) → IsSimplifiedGraph g h → ends h ≡ ends g
+simplified-ends g h is =
+    without-ends (needed is.folded) is.folded h is.last.without
+    ∙ stays-ends is.wanted is.folded is.flags.form
+    ∙ without-ends (needed g) g is.wanted is.first.without
 
 pub simplified-returns : (g h : Graph) → IsSimplifiedGraph g h → has_ret h ≡ has_ret g
-simplified-returns g h is =
-    without-returns (wanted is.folded) is.folded h is.last.without
-    ∙ stays-returns is.wanted is.folded is.flags.form
-    ∙ without-returns (wanted g) g is.wanted is.first.without
+simplified-returns g h is = returns-alike g h (simplified-ends g h is)

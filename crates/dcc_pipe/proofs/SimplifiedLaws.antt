@@ -1,14 +1,14 @@
--- Programs that passes simplify: what follows an image follows it still.
-use Rattle.std.proofs.Common.{◌≡◌, ℕ, ◌*◌, ◌≤◌, Bool, true, false, List, [], ◌∷◌, map, Option, Some, None, refl, sym, ap, ◌∙◌, subst, arith}
+-- Programs that passes simplify: what shadows a machine shadows it still.
+use Rattle.std.proofs.Common.{◌≡◌, ℕ, ◌*◌, ◌≤◌, Bool, true, false, List, [], ◌∷◌, map, Option, Some, None, refl, sym, ap, ◌∙◌, subst, true≢false, arith}
 use Rattle.std.specs.Prelude.{All, if◌then◌else◌}
 use Rattle.std.specs.List.{list_all, flat_map, AllZip}
 use Rattle.std.proofs.lemmas.Bool.{and_parts, and_from}
 use Rattle.std.proofs.lemmas.List.Elements.{All-append, All-contains, All-head, All-tail, All-nil, All-cons}
 use Rattle.dcc_run.specs.End.{is_over}
 use Rattle.dcc_run.specs.Watched.{Watched}
-use Rattle.dcc_run.specs.Shadows.{Shadows, KeepsPace, kept_mark, only}
+use Rattle.dcc_run.specs.Shadows.{Shadows, kept_mark, only}
 use Rattle.dcc_run.proofs.KeptLaws.{shadows_kept, right_part}
-use Rattle.dcc_prog.specs.declared.image.Image.{Image}
+use Rattle.dcc_machine.specs.declared.image.Image.{Image}
 use Rattle.dcc_prog.specs.declared.frame.Program.{Program}
 use Rattle.dcc_prog.specs.Watch.{watched_machine, first_watch}
 use Rattle.dcc_ir.specs.declared.syntax.Loc.{Loc}
@@ -21,19 +21,18 @@ use Rattle.dcc_ir.specs.Form.{BlockStays}
 use Rattle.dcc_ir.specs.WellFormed.{IsProgram}
 use Rattle.dcc_ir.specs.Keeps.{has_block, KeepsRuns, Keeps}
 use Rattle.dcc_ir.specs.Ends.{IsNeverStuck}
-use Rattle.dcc_ir.specs.Families.{Family, wanted, IsWithout, done, stays, goes, IsBlockWithout}
+use Rattle.dcc_ir.specs.Families.{Family, needed, IsWithout, done, stays, goes, IsBlockWithout}
 use Rattle.dcc_ir.proofs.RunLaws.{inner_watchable}
 use Rattle.dcc_ir.proofs.KeepsLaws.{keeps_trans}
-use Rattle.dcc_ir.proofs.FamilyLaws.{wanted-closed}
+use Rattle.dcc_ir.proofs.FamilyLaws.{needed-closed}
 use Rattle.dcc_ir.proofs.passes.ReplaceLaws.{kept_with}
 use Rattle.dcc_ir.proofs.ListLaws.{all_had, left_part}
 use Rattle.dcc_ir.proofs.ZipLaws.{all_zipped, map_zipped, passes_zipped, weaker_zipped}
-use Rattle.dcc_lift.specs.Lifted.{ShadowsMachine, MachineKeepsPace, IsShallow, steps_between, steps_at_start}
-use Rattle.dcc_live.specs.Dead.{IsWithoutUnwanted}
+use Rattle.dcc_lift.specs.Lifted.{ShadowsMachine, IsShallow}
+use Rattle.dcc_live.specs.Dead.{IsWithoutUnneeded}
 use Rattle.dcc_flags.specs.Folded.{IsFolded}
 use Rattle.dcc_pipe.specs.Textable.{IsTextable}
 use Rattle.dcc_pipe.specs.Simplified.{IsSimplifiedGraph, HasEachChanged, IsSimplified}
-use Rattle.dcc_pipe.specs.Following.{IsFollowing}
 use Rattle.dcc_pipe.proofs.ReplacedLaws.{HasSameBlocks, StandsFor, stands-for, stands-trans, with_graphs, left-from, blocks-stay}
 use mathlib.Core.Path.{fun_ext}
 
@@ -55,47 +54,36 @@ never-stuck p q keeps unstuck fill input n entry fits bytes stuck =
     let alike = back.2 (ap is_over stuck) in
     unstuck fill input back.0 entry fits bytes (sym alike.end ∙ stuck)
 
--- what is kept twice is kept
-kept-twice : {P : Type 0} (kept : P → Bool) (place : Option P)
-    → kept_mark kept (kept_mark kept place) ≡ kept_mark kept place
-kept-twice kept None = refl
-kept-twice kept (Some place) = by (kept place) refl
+-- what is kept of places among which all that is kept lies is what is kept of all places
+kept-within : {P : Type 0} (kept has : P → Bool) → ((place : P) → kept place ≡ true → has place ≡ true)
+    → (place : Option P) → kept_mark kept (kept_mark has place) ≡ kept_mark kept place
+kept-within kept has lies None = refl
+kept-within kept has lies (Some place) = by (has place) refl (kept place) refl
   where
-    by : (b : Bool) → kept place ≡ b
-        → kept_mark kept (if b then Some place else None) ≡ (if b then Some place else None)
-    by true is = ap (λ c. if c then Some place else None) is
-    by false is = refl
+    by : (there : Bool) → has place ≡ there → (b : Bool) → kept place ≡ b
+        → kept_mark kept (if there then Some place else None) ≡ (if b then Some place else None)
+    by true inside b is = ap (λ c. if c then Some place else None) is
+    by false outside true is = absurd (true≢false (sym (lies place is) ∙ outside))
+    by false outside false is = refl
 
-only-twice : {S P : Type 0} (kept : P → Bool) (w : Watched S P) → only kept (only kept w) ≡ only kept w
-only-twice kept w = ap (λ mark. record w { mark = mark }) (fun_ext (λ s. kept-twice kept (w.mark s)))
+pub only-within : {S P : Type 0} (kept has : P → Bool) (w : Watched S P)
+    → ((place : P) → kept place ≡ true → has place ≡ true) → only kept (only has w) ≡ only kept w
+only-within kept has w lies =
+    ap (λ mark. record w { mark = mark }) (fun_ext (λ s. kept-within kept has lies (w.mark s)))
 
-pub simplified-follows : (image : Image) (program : Program) (depth : ℕ) (p q : inner.Program) → IsSimplified depth p q
-    → IsFollowing image program p → IsFollowing image program q
-simplified-follows image program depth p q simple follows = record { runs = runs; pace = pace }
-  where
-    same : has_block q ≡ has_block p
-    same = fun_ext simple.places
-
-    runs : ShadowsMachine image program q
-    runs fill input fits bytes =
-        let machine = watched_machine program in
-        let start = first_watch image input in
-        let inner_run = run.watched_inner q fill in
-        let inner_start = run.first_state q fill input in
-        let through =
-        shadows_kept (has_block q) (only (has_block p) machine) (run.watched_inner p fill) inner_run
-        (inner_watchable p fill) start (run.first_state p fill input) inner_start (follows.runs fill input fits bytes)
-        (simple.keeps.runs fill input fits bytes) in
-        let alone : Shadows (only (has_block p) (only (has_block p) machine)) start inner_run inner_start =
-        subst (λ kept. Shadows (only kept (only (has_block p) machine)) start inner_run inner_start) same through in
-        subst (λ kept. Shadows (only kept machine) start inner_run inner_start) (sym same)
-        (subst (λ w. Shadows w start inner_run inner_start) (only-twice (has_block p) machine) alone)
-
-    pace : MachineKeepsPace image program q
-    pace input bytes =
-        subst
-        (λ kept. KeepsPace (only kept (watched_machine program)) (first_watch image input) steps_at_start steps_between)
-        (sym same) (follows.pace input bytes)
+pub simplified-shadows : (image : Image) (program : Program) (depth : ℕ) (p q : inner.Program) → IsSimplified depth p q
+    → ShadowsMachine image program p → ShadowsMachine image program q
+simplified-shadows image program depth p q simple shadows fill input fits bytes =
+    let machine = watched_machine program in
+    let start = first_watch image input in
+    let inner_run = run.watched_inner q fill in
+    let inner_start = run.first_state q fill input in
+    let through =
+    shadows_kept (has_block q) (only (has_block p) machine) (run.watched_inner p fill) inner_run
+    (inner_watchable p fill) start (run.first_state p fill input) inner_start (shadows fill input fits bytes)
+    (simple.keeps.runs fill input fits bytes) in
+    subst (λ w. Shadows w start inner_run inner_start)
+    (only-within (has_block q) (has_block p) machine (λ place there. sym (simple.places place) ∙ there)) through
 
 -- Statements that are left.
 
@@ -168,22 +156,22 @@ none-deeper n (e ∷ es) less =
 -- Assignments that go.
 
 -- a graph without assignments that nothing wants may stand in its place
-dead-stands : (g h : inner.Graph) → IsWithoutUnwanted g h → StandsFor g h
+dead-stands : (g h : inner.Graph) → IsWithoutUnneeded g h → StandsFor g h
 dead-stands g h is =
     let left = is.without in
     stands-for g h
-    (record { entry = left.entry; addresses = addresses-stay (wanted g) g.blocks h.blocks left.blocks })
-    (λ p formed there. kept_with p (wanted g) g h formed there (wanted-closed g) left)
+    (record { entry = left.entry; addresses = addresses-stay (needed g) g.blocks h.blocks left.blocks })
+    (λ p formed there. kept_with p (needed g) g h formed there (needed-closed g) left)
 
 -- a graph without what nothing wants is no deeper: its expressions are the graph's
-dead-shallow : (depth : ℕ) (g h : inner.Graph) → IsWithoutUnwanted g h → IsShallow depth g → IsShallow depth h
-dead-shallow depth g h is = exprs-stay (wanted g) (λ e. depth_of e ≤ depth) g.blocks h.blocks is.without.blocks
+dead-shallow : (depth : ℕ) (g h : inner.Graph) → IsWithoutUnneeded g h → IsShallow depth g → IsShallow depth h
+dead-shallow depth g h is = exprs-stay (needed g) (λ e. depth_of e ≤ depth) g.blocks h.blocks is.without.blocks
 
 -- the definitions of flags that are left read flags as they did
-reads-stay : (g h : inner.Graph) → IsWithoutUnwanted g h → FlagsReadPlainly g → FlagsReadPlainly h
+reads-stay : (g h : inner.Graph) → IsWithoutUnneeded g h → FlagsReadPlainly g → FlagsReadPlainly h
 reads-stay g h is reads = record {
-  flat = stmts-stay (wanted g) nests_flatly g.blocks h.blocks is.without.blocks reads.flat;
-  plain = stmts-stay (wanted g) loads_plainly g.blocks h.blocks is.without.blocks reads.plain;
+  flat = stmts-stay (needed g) nests_flatly g.blocks h.blocks is.without.blocks reads.flat;
+  plain = stmts-stay (needed g) loads_plainly g.blocks h.blocks is.without.blocks reads.plain;
 }
 
 -- Flags that go.

@@ -1,10 +1,10 @@
 -- Each graph that is prepared stands for the procedure at its place.
-use Rattle.std.proofs.Common.{◌≡◌, ℕ, zero, ◌+◌, ◌<◌, Bool, true, false, cond, List, [], ◌∷◌, ◌++◌, length, map, Contains, Option, Some, None, refl, sym, ap, ap₂, ◌∙◌, subst, true≢false, eqb-true, eq-eqb, arith}
-use Rattle.std.specs.Prelude.{All, ◌==◌, ◌||◌, not, if◌then◌else◌, slice_get}
+use Rattle.std.proofs.Common.{◌≡◌, ℕ, ◌<◌, Bool, true, false, cond, List, [], ◌∷◌, ◌++◌, map, Some, refl, sym, ap, ap₂, ◌∙◌, subst, eqb-true, eq-eqb}
+use Rattle.std.specs.Prelude.{All, ◌==◌, not, if◌then◌else◌, slice_get}
 use Rattle.std.specs.List.{AllZip, find, list_any, range_with_len}
 use Rattle.std.proofs.lemmas.Bool.{and_parts, or_parts, not-true}
 use Rattle.std.proofs.lemmas.List.Elements.{All-nil, All-cons, All-head, All-tail, All-weaker}
-use Rattle.dcc_prog.specs.declared.image.Image.{Image}
+use Rattle.dcc_machine.specs.declared.image.Image.{Image}
 use Rattle.dcc_prog.specs.declared.procedure.Layout.{Layout}
 use Rattle.dcc_prog.specs.declared.procedure.Proc.{Proc}
 use Rattle.dcc_prog.specs.declared.frame.Frame.{Frame}
@@ -21,7 +21,6 @@ use Rattle.dcc_ir.specs.Run.{graph_at}
 use Rattle.dcc_ir.specs.Tree.{Graph, Program, Summary}
 use Rattle.dcc_ir.specs.Trimmed.{Trim, trim_graph, kept}
 use Rattle.dcc_ir.specs.WellFormed.{all_differ, is_memory}
-use Rattle.dcc_simulation.specs.FoundPlaces.{IsFoundAt}
 use Rattle.dcc_simulation.specs.Nodes.{procedures_in, IsGraphFor}
 use Rattle.dcc_simulation.specs.Passed.{argument_param, argument_params, params_of}
 use Rattle.dcc_simulation.specs.Procedures.{Procedure, procedures_of, procedure_at}
@@ -29,7 +28,7 @@ use Rattle.dcc_lift.specs.Lifted.{HasFrameOf, IsLiftOf}
 use Rattle.dcc_lift.specs.Translated.{setting}
 use Rattle.dcc_lift.proofs.Lifting.{lifting}
 use Rattle.dcc_signatures.specs.Packed.{merged, one_param, pack_graph}
-use Rattle.dcc_sums.specs.Localised.{sum_at, is_taken, trim_by}
+use Rattle.dcc_sums.specs.Localised.{summary_at, is_taken, trim_by}
 use Rattle.dcc_pipe.specs.Prepared.{IsPrepared}
 use Rattle.dcc_pipe.specs.Simplified.{IsSimplifiedGraph}
 use Rattle.dcc_pipe.specs.Standing.{IsLocated, StandsForProcedure, PreparedStands}
@@ -108,9 +107,9 @@ module _ (graphs : List Graph) (sums : List Summary) where
       stays = trim.takes g.entry
 
       taken : (params : List Param) → g.params ≡ params
-          → stays ≡ (λ k. is_taken (sum_at graphs sums g.entry).params (slice_get params k))
+          → stays ≡ (λ k. is_taken (summary_at graphs sums g.entry).params (slice_get params k))
       taken params same =
-          ap (λ ps k. is_taken (sum_at graphs sums g.entry).params (slice_get ps k))
+          ap (λ ps k. is_taken (summary_at graphs sums g.entry).params (slice_get ps k))
           (ap (λ o. (graph_or_none o).params) found ∙ same)
 
       left : (params : List Param) → g.params ≡ params → BeginsWith (argument_params p) (merged one_param (kept stays params))
@@ -134,7 +133,7 @@ module _ (graphs : List Graph) (sums : List Summary) where
           left (params_of p) params
           (of-words (kept-begins stays (argument_params p) (map param_of passed) passed-located
           (λ k less. ap (λ (f : ℕ → Bool). f k) (taken (params_of p) params)
-          ∙ word-taken (sum_at graphs sums g.entry).params (argument_params p) (map param_of passed)
+          ∙ word-taken (summary_at graphs sums g.entry).params (argument_params p) (map param_of passed)
           (words-stacked p (range_with_len 0 p.frame.args)) k less)))
 
   stands : (start : ℕ) (p : Procedure) (g h : Graph) → IsKnown start p → IsGraphFor start p g → HasFrameOf p g

@@ -1,22 +1,22 @@
 -- The text of a program that shadows an image agrees with the image.
-use Rattle.std.proofs.Common.{◌≡◌, ◌≢◌, ℕ, zero, suc, ◌+◌, ◌*◌, ◌^◌, ◌<◌, true, false, List, ◌∷◌, length, refl, sym, ap, ◌∙◌, subst, true≢false, arith}
+use Rattle.std.proofs.Common.{◌≡◌, ◌≢◌, ℕ, zero, suc, ◌+◌, ◌*◌, ◌^◌, ◌<◌, Bool, false, List, ◌∷◌, length, refl, sym, ap, ◌∙◌, subst, true≢false, arith}
 use Rattle.std.specs.Prelude.{All}
 use Rattle.std.proofs.Math.Nat.{mul_comm}
 use Rattle.dcc_run.specs.End.{Stuck, is_over}
-use Rattle.dcc_run.specs.Place.{Place}
+use Rattle.dcc_run.specs.ProgramPoint.{ProgramPoint}
 use Rattle.dcc_run.specs.Prefix.{IsPrefix}
 use Rattle.dcc_run.specs.System.{System, events_after, end_after}
 use Rattle.dcc_run.specs.Agreement.{KeepsUp}
 use Rattle.dcc_run.specs.Watched.{Watched, IsWatchable, state}
-use Rattle.dcc_run.specs.Shadows.{only}
-use Rattle.dcc_run.proofs.KeptLaws.{only_watchable, pace_of_all}
+use Rattle.dcc_run.specs.Shadows.{KeepsPace, only}
+use Rattle.dcc_run.proofs.KeptLaws.{only_watchable}
 use Rattle.dcc_run.proofs.CountLaws.{third_keeps_up, first_keeps_up_with_third, never_stuck}
-use Rattle.dcc_prog.specs.declared.image.Image.{Image}
+use Rattle.dcc_machine.specs.declared.image.Image.{Image}
 use Rattle.dcc_prog.specs.declared.procedure.Layout.{Layout}
 use Rattle.dcc_prog.specs.declared.frame.Program.{Program}
 use Rattle.dcc_prog.specs.Analysed.{IsProgramOf}
-use Rattle.dcc_prog.specs.Machine.{State as Machine, start_state}
-use Rattle.dcc_prog.specs.Step.{machine_system}
+use Rattle.dcc_machine.specs.Machine.{State as Machine, start_state}
+use Rattle.dcc_machine.specs.Step.{machine_system}
 use Rattle.dcc_prog.specs.Watch.{Watch, is_foul, watched_machine, first_watch, IsClean}
 use Rattle.dcc_prog.proofs.WatchLaws.{machine_watchable, machine_after}
 use Rattle.dcc_ir.specs.Tree as inner
@@ -29,14 +29,17 @@ use Rattle.dcc_c.specs.Run as c
 use Rattle.dcc_c.specs.Run.{text_system}
 use Rattle.dcc_c.specs.Text.{StandsFor}
 use Rattle.dcc_c.proofs.RunLaws.{text_lawful}
-use Rattle.dcc_plan.specs.Laws.{IsCounted}
+use Rattle.dcc_plan.specs.Laws.{IsCountedBy}
 use Rattle.dcc_plan.proofs.PlanRuns.{programs-count}
+use Rattle.dcc_pipe.specs.Control.{Control, AreControls, keeps_step}
 use Rattle.dcc_pipe.specs.WholeText.{opened, whole_text, FitsText}
 use Rattle.dcc_pipe.specs.Agreement.{RunsAgree}
 use Rattle.dcc_pipe.specs.Following.{IsFollowing}
+use Rattle.dcc_pipe.proofs.SimplifiedLaws.{only-within}
+use Rattle.dcc_pipe.proofs.StepPlaces.{step-has}
 use Rattle.dcc_pipe.proofs.TokenCounts.{unit-count}
 use Rattle.dcc_pipe.proofs.WholeTexts.{texts, start-is, whole-text, whole-begins, all-kept}
-use Rattle.dcc_pipe.proofs.WholeTexts.{program as inner_program}
+use Rattle.dcc_pipe.proofs.WholeTexts.{with_first}
 
 head-equal : {A : Type 0} {a b : A} {xs ys : List A} → a ∷ xs ≡ b ∷ ys → a ≡ b
 head-equal e = cc
@@ -69,20 +72,24 @@ module _ {T : Type 0} (program : Program) (w : Watch) (other : System T) (t : T)
             record { end = ap (λ (s : Machine). s.end) (sym same) ∙ z.end; events = ap (λ (s : Machine). s.events) (sym same) ∙ z.events };
       }
 
-module _ (image : Image) (program : Program) (g : inner.Graph) (others : List inner.Graph) (bytes_of : List ℕ) (lo hi : ℕ)
+module _ (image : Image) (program : Program) (control : Control) (g : inner.Graph) (others : List inner.Graph)
+    (bytes_of : List ℕ) (lo hi : ℕ) (controls : AreControls control (with_first g others bytes_of lo hi))
     (is_program : IsProgramOf program.layout.cpu image program)
-    (fits : FitsText (inner_program g others bytes_of lo hi))
-    (follows : IsFollowing image program (inner_program g others bytes_of lo hi))
-    (text : List ℕ) (stands : StandsFor text (numbered (whole_text (inner_program g others bytes_of lo hi))))
+    (fits : FitsText (with_first g others bytes_of lo hi))
+    (follows : IsFollowing image program (with_first g others bytes_of lo hi))
+    (text : List ℕ) (stands : StandsFor text (numbered (whole_text control (with_first g others bytes_of lo hi))))
     (input : List ℕ) (fill : ℕ) (bytes : All (λ b. b < 256) input) (small : fill < 2 ^ 16) where
   abbrev p : inner.Program
-  p = inner_program g others bytes_of lo hi
+  p = with_first g others bytes_of lo hi
 
   abbrev layout : Layout
   layout = program.layout
 
   abbrev tree : Tree
-  tree = numbered (whole_text p)
+  tree = numbered (whole_text control p)
+
+  abbrev kept : ProgramPoint → Bool
+  kept = keeps_step control p
 
   abbrev start : Function
   start = stands.allowed.start
@@ -94,19 +101,19 @@ module _ (image : Image) (program : Program) (g : inner.Graph) (others : List in
   unstuck n at = fits.textable.never_stuck fill input n at small bytes
 
   -- the text counts the blocks that the program visits
-  together : IsCounted p tree start fill input tokens
+  together : IsCountedBy kept p tree start fill input tokens
   together =
       let well = fits.textable.formed in
-      let first-is = start-is g others bytes_of lo hi well fits.few fits.apart fits.gives in
-      subst (λ f. IsCounted p tree f fill input tokens) (first-is ∙ head-equal stands.allowed.first)
-      (programs-count opened (texts g others bytes_of lo hi) p tree g others fill input (λ place. true)
-      (whole-text g others bytes_of lo hi well fits.few fits.apart fits.gives)
-      (whole-begins g others bytes_of lo hi well fits.few fits.apart fits.gives)
-      (all-kept g others bytes_of lo hi well fits.few fits.apart fits.gives) bytes unstuck tokens
+      let first-is = start-is control g others bytes_of lo hi well fits.few fits.apart fits.gives controls in
+      subst (λ f. IsCountedBy kept p tree f fill input tokens) (first-is ∙ head-equal stands.allowed.first)
+      (programs-count opened (texts control g others bytes_of lo hi) p tree g others fill input kept
+      (whole-text control g others bytes_of lo hi well fits.few fits.apart fits.gives controls)
+      (whole-begins control g others bytes_of lo hi well fits.few fits.apart fits.gives controls)
+      (all-kept control g others bytes_of lo hi well fits.few fits.apart fits.gives controls) bytes unstuck tokens
       (unit-count 200 stands.tokens tree stands.formed))
 
   -- The machine watched, in the places of blocks.
-  abbrev machine : Watched Watch Place
+  abbrev machine : Watched Watch ProgramPoint
   machine = only (has_block p) (watched_machine program)
 
   machine-law : IsWatchable machine
@@ -121,11 +128,18 @@ module _ (image : Image) (program : Program) (g : inner.Graph) (others : List in
   abbrev t : c.State
   t = c.first_state tree start fill input
 
+  -- of the blocks' places the machine keeps pace with those for which the text has a step
+  pace : KeepsPace (only kept machine) w steps_at_start steps_between
+  pace =
+      subst (λ seen. KeepsPace seen w steps_at_start steps_between)
+      (sym (only-within kept (has_block p) (watched_machine program) (step-has control p)))
+      (follows.pace control controls input bytes)
+
   text-keeps_up : (n : ℕ) → IsClean layout.cpu image input n → KeepsUp (machine_system layout.cpu) (start_state image input) n (text_system tree) t ((n + 1) * tokens)
   text-keeps_up n clean =
       subst (λ m. KeepsUp (machine_system layout.cpu) (start_state image input) n (text_system tree) t m) (mul_comm tokens (n + 1))
       (machine-first program w (text_system tree) t n (tokens * (n + 1)) (clean program is_program)
-      (third_keeps_up (λ place. true) machine (run.watched_inner p fill) (text_system tree) machine-law (text_lawful tree) w i t tokens together.counts
+      (third_keeps_up kept machine (run.watched_inner p fill) (text_system tree) machine-law (text_lawful tree) w i t tokens together.counts
       (follows.runs fill input small bytes) together.shows n (clean program is_program)))
 
   machine-keeps_up : (k : ℕ) → IsClean layout.cpu image input ((k + 1) * 65536) → KeepsUp (text_system tree) t k (machine_system layout.cpu) (start_state image input) ((k + 1) * 65536)
@@ -136,13 +150,13 @@ module _ (image : Image) (program : Program) (g : inner.Graph) (others : List in
   machine-keeps_up (suc k) clean =
       let enough_steps : steps_at_start + suc k * steps_between < (suc k + 1) * 65536 = omega arith in
       machine-second program w (text_system tree) t (suc k) ((suc k + 1) * 65536) (clean program is_program)
-      (first_keeps_up_with_third (λ place. true) machine (run.watched_inner p fill) (text_system tree) machine-law (text_lawful tree) w i t tokens together.counts
-      (follows.runs fill input small bytes) steps_at_start steps_between (pace_of_all machine w steps_at_start steps_between (follows.pace input bytes))
+      (first_keeps_up_with_third kept machine (run.watched_inner p fill) (text_system tree) machine-law (text_lawful tree) w i t tokens together.counts
+      (follows.runs fill input small bytes) steps_at_start steps_between pace
       (suc k) ((suc k + 1) * 65536) enough_steps (clean program is_program))
 
   pub text-agrees : RunsAgree layout.cpu image tree start tokens input fill
   text-agrees = record {
     text_keeps_up = text-keeps_up;
     machine_keeps_up = machine-keeps_up;
-    never_stuck = never_stuck (λ place. true) machine (run.watched_inner p fill) (text_system tree) machine-law (text_lawful tree) w i t tokens together.counts unstuck together.goes_on;
+    never_stuck = never_stuck kept machine (run.watched_inner p fill) (text_system tree) machine-law (text_lawful tree) w i t tokens together.counts unstuck together.goes_on;
   }

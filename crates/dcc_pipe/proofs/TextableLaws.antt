@@ -1,17 +1,16 @@
 -- What is lifted has the form that is prepared, and what follows it follows the image.
 use Rattle.std.proofs.Common.{ℕ, List}
-use Rattle.dcc_prog.specs.declared.image.Image.{Image}
+use Rattle.dcc_machine.specs.declared.image.Image.{Image}
 use Rattle.dcc_prog.specs.declared.frame.Program.{Program}
-use Rattle.dcc_prog.specs.Analysed.{IsProgramOf}
 use Rattle.dcc_ir.specs.Tree as inner
 use Rattle.dcc_simulation.specs.Nodes.{procedures_in}
 use Rattle.dcc_lift.specs.Lifted.{IsLifted}
 use Rattle.dcc_pipe.specs.Textable.{lifted_levels, levels, IsTextable}
 use Rattle.dcc_pipe.specs.Prepared.{HasLiftedForm, LiftedHasTheForm, IsPrepared}
 use Rattle.dcc_ir.specs.Passing.{PassesAll}
-use Rattle.dcc_pipe.specs.Following.{IsFollowing}
+use Rattle.dcc_pipe.specs.Following.{KeepsPaceWith, IsFollowing}
 use Rattle.dcc_pipe.proofs.ArgumentsApart.{frames-small, graphs-apart}
-use Rattle.dcc_pipe.proofs.SimplifiedLaws.{simplified-follows}
+use Rattle.dcc_pipe.proofs.SimplifiedLaws.{simplified-shadows}
 
 -- what is lifted has what a text needs
 textable-lifted : (image : Image) (program : Program) (p : inner.Program) → IsLifted image program p
@@ -33,8 +32,10 @@ lifted-has_the_form image program p is lifted = with_back lifted.passes
       reads = lifted.flag_reads;
     }
 
--- what is prepared of it follows the image
+-- What is prepared of it follows the image, where the machine keeps pace with it.
 pub prepared-follows : (image : Image) (program : Program) (p q : inner.Program) → IsLifted image program p → IsPrepared p q
-    → IsFollowing image program q
-prepared-follows image program p q lifted is =
-    simplified-follows image program levels p q is.simplified (record { runs = lifted.runs; pace = lifted.pace })
+    → KeepsPaceWith image program q → IsFollowing image program q
+prepared-follows image program p q lifted is pace = record {
+  runs = simplified-shadows image program levels p q is.simplified lifted.runs;
+  pace = pace;
+}

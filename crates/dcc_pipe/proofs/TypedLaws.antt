@@ -1,14 +1,12 @@
 -- The functions of a text keep in memory just what the frames of their procedures expose.
-use Rattle.std.proofs.Common.{◌≡◌, ℕ, zero, suc, ◌+◌, ◌<◌, ◌≤◌, Bool, true, false, ◌==◌, List, [], ◌∷◌, ◌++◌, length, map, replicate, Option, Some, refl, sym, ap, ap₂, ◌∙◌, subst, true≢false, eqb-true, arith}
-use Rattle.std.specs.Prelude.{filter, if◌then◌else◌, ◌||◌, not, All, codes}
-use Rattle.std.specs.List.{AllZip, list_all, range_with_len}
+use Rattle.std.proofs.Common.{◌≡◌, ℕ, zero, suc, ◌+◌, ◌≤◌, Bool, true, false, ◌==◌, List, [], ◌∷◌, ◌++◌, length, map, replicate, Option, Some, refl, sym, ap, ap₂, ◌∙◌, subst, true≢false, eqb-true, arith}
+use Rattle.std.specs.Prelude.{filter, if◌then◌else◌, All, codes}
+use Rattle.std.specs.List.{AllZip, range_with_len}
 use Rattle.std.proofs.lemmas.List.{map-append}
 use Rattle.std.proofs.lemmas.List.Elements.{All-head, All-tail}
-use Rattle.dcc_prog.specs.declared.image.Image.{Image}
+use Rattle.dcc_machine.specs.declared.image.Image.{Image}
 use Rattle.dcc_prog.specs.declared.frame.Program.{Program as Analysed}
-use Rattle.dcc_prog.specs.Frame.{argument_word}
 use Rattle.dcc_stack.specs.Accepted.{IsProgramOfFile}
-use Rattle.dcc_stack.specs.Slots.{exposes_of}
 use Rattle.dcc_ir.specs.declared.syntax.Loc.{Loc}
 use Rattle.dcc_ir.specs.declared.syntax.Loc.TheVariants.{Temp}
 use Rattle.dcc_ir.specs.declared.syntax.Param.{Param}
@@ -27,16 +25,18 @@ use Rattle.dcc_c.specs.Types.{plain}
 use Rattle.dcc_c.specs.Numbered.{numbered}
 use Rattle.dcc_c.specs.Tree.{Word, Variable, Function, Tree}
 use Rattle.dcc_variables.specs.FunctionLaws.{HasFewNames, has_name}
-use Rattle.dcc_variables.specs.Functions.{function_name, function_names, parameter_class, parameters_from, parameters, memory_from, function_shape, function_spelling, is_own, own_declarations}
+use Rattle.dcc_variables.specs.Functions.{function_name, function_names, parameter_class, parameters_from, parameters, memory_from, function_shape, function_spelling, is_own}
 use Rattle.dcc_variables.specs.Variables.{Shape, is_told_from, takes_address, variable, frame_name, frame_array}
 use Rattle.dcc_pipe.specs.Prepared.{IsPrepared}
+use Rattle.dcc_control.specs.Plan.{Plan}
+use Rattle.dcc_pipe.specs.Control.{Control}
 use Rattle.dcc_pipe.specs.WholeText.{whole_text}
 use Rattle.dcc_pipe.specs.Standing.{IsLocated, StandsForProcedure}
 use Rattle.dcc_pipe.specs.TypedFrames.{argument_class, param_classes, moves_sp, procedure_names, is_only_addressed, accesses_by_bytes, HasArrayOf, exposed, for_moves, HasTypedFrame, AreTypedFrames}
 use Rattle.dcc_pipe.proofs.AccessTexts.{IsApart, other-apart, never-accessed}
 use Rattle.dcc_pipe.proofs.ArrayTexts.{only-addressed}
 use Rattle.dcc_pipe.proofs.ByteTexts.{by-bytes}
-use Rattle.dcc_pipe.proofs.FunctionTables.{IsOne, all-numbered}
+use Rattle.dcc_pipe.proofs.FunctionTables.{IsOne, IsOneOf, all-numbered}
 use Rattle.dcc_pipe.proofs.LeftAddresses.{AllTold, takes-none}
 use Rattle.dcc_pipe.proofs.MovesLaws.{MovesWhere, lifted-pass, graphs-move}
 use Rattle.dcc_pipe.proofs.StandingLaws.{prepared-stands, procedures-found}
@@ -117,34 +117,37 @@ module _ (p : Procedure) (g : Graph) (stands : StandsForProcedure p g) where
 
   -- The function.
 
-  typed-frame : MovesWhere p g → IsGraph g → HasFewNames g → (f : Function) → IsOne g f → HasTypedFrame p f
-  typed-frame moves formed few f is =
+  typed-frame : MovesWhere p g → IsGraph g → HasFewNames g → (plan : Plan) (f : Function) → IsOne plan g f
+      → HasTypedFrame p f
+  typed-frame moves formed few plan f is =
       let number = is.1 in record {
         others = length stands.others;
         params = ap (λ (h : Function). map (λ (v : Variable). v.class) h.params) number.is ∙ params-classes;
         bytes = bytes;
         array = array-of f moves (λ all.
-            let away = λ (word : Word) (apart : IsApart g word). never-accessed g formed word apart all f is in
+            let away = λ (word : Word) (apart : IsApart g word). never-accessed g formed word apart all plan f is in
             let unused = λ (n : ℕ) (named : has_name g (Temp n)).
             away ((function_spelling g).name (Temp n)) (other-apart g few (Temp n) refl named) in
-            (only-addressed g formed few f.body unused all f is refl, by-bytes g few f away is));
+            (only-addressed g formed few f.body unused all plan f is refl, by-bytes g few f away plan is));
         locals = ap (λ (h : Function). autos h.locals) number.is
             ∙ locals-auto (function_shape g) (filter (is_own g) (function_shape g).locations) bytes;
-        addresses = one-unplaced g f is few;
+        addresses = one-unplaced g plan f is few;
       }
 
 -- The functions of a text.
 
-all-typed : (ps : List Procedure) (gs : List Graph) (fs : List Function) → AllZip StandsForProcedure ps gs
-    → AllZip MovesWhere ps gs → All IsGraph gs → All HasFewNames gs → AllZip IsOne gs fs → AllZip HasTypedFrame ps fs
-all-typed [] [] [] stand move formed few are = tt
-all-typed [] [] (f ∷ fs) stand move formed few are = absurd are
-all-typed [] (g ∷ gs) fs stand move formed few are = absurd stand
-all-typed (p ∷ ps) [] fs stand move formed few are = absurd stand
-all-typed (p ∷ ps) (g ∷ gs) [] stand move formed few are = absurd are
-all-typed (p ∷ ps) (g ∷ gs) (f ∷ fs) stand move formed few are = (
-  typed-frame p g stand.0 move.0 (All-head IsGraph g gs formed) (All-head HasFewNames g gs few) f are.0,
-  all-typed ps gs fs stand.1 move.1 (All-tail IsGraph g gs formed) (All-tail HasFewNames g gs few) are.1,
+all-typed : (control : Control) (ps : List Procedure) (gs : List Graph) (fs : List Function)
+    → AllZip StandsForProcedure ps gs → AllZip MovesWhere ps gs → All IsGraph gs → All HasFewNames gs
+    → AllZip (IsOneOf control) gs fs → AllZip HasTypedFrame ps fs
+all-typed control [] [] [] stand move formed few are = tt
+all-typed control [] [] (f ∷ fs) stand move formed few are = absurd are
+all-typed control [] (g ∷ gs) fs stand move formed few are = absurd stand
+all-typed control (p ∷ ps) [] fs stand move formed few are = absurd stand
+all-typed control (p ∷ ps) (g ∷ gs) [] stand move formed few are = absurd are
+all-typed control (p ∷ ps) (g ∷ gs) (f ∷ fs) stand move formed few are = (
+  typed-frame p g stand.0 move.0 (All-head IsGraph g gs formed) (All-head HasFewNames g gs few) (control g) f
+      are.0,
+  all-typed control ps gs fs stand.1 move.1 (All-tail IsGraph g gs formed) (All-tail HasFewNames g gs few) are.1,
 )
 
 others-are : (ps : List Procedure) (gs : List Graph) → AllZip StandsForProcedure ps gs
@@ -163,20 +166,20 @@ names-are (p ∷ ps) (g ∷ gs) stand = ap (λ ws. codes "start" ∷ ws) (others
 
 pub typed-tree : (image : Image) (program : Analysed) (p q : Program)
     → IsProgramOfFile program.layout.cpu image program → IsLiftOf image program p → IsPrepared p q
-    → All HasFewNames q.graphs → (tree : Tree) → tree ≡ numbered (whole_text q)
+    → All HasFewNames q.graphs → (control : Control) (tree : Tree) → tree ≡ numbered (whole_text control q)
     → AreTypedFrames (procedures_in program) tree.functions
-typed-tree image program p q file of is few tree same =
+typed-tree image program p q file of is few control tree same =
     let translated : IsTranslated image program p = record { of_file = file; translation = of.translation } in
     let stand = prepared-stands image program p q file of is in
     let move =
     graphs-move image program p translated (trim_by p.graphs is.sums) program.layout.start_ip (procedures_in program)
     p.graphs q.graphs of.lifted.graphs (procedures-found image program p q file of is)
     (lifted-pass image program p translated) stand is.made.graphs in
-    let functions = (numbered (whole_text q)).functions in
+    let functions = (numbered (whole_text control q)).functions in
     subst (λ (t : Tree). AreTypedFrames (procedures_in program) t.functions) (sym same)
     (record {
-      names = text-names _ q.graphs ∙ names-are (procedures_in program) q.graphs stand;
+      names = text-names control _ q.graphs ∙ names-are (procedures_in program) q.graphs stand;
       frames =
-          all-typed (procedures_in program) q.graphs functions stand move is.simplified.textable.formed.graphs few
-          (all-numbered _ q.graphs);
+          all-typed control (procedures_in program) q.graphs functions stand move is.simplified.textable.formed.graphs few
+          (all-numbered control _ q.graphs);
     })

@@ -1,10 +1,9 @@
 -- The text of a whole program is what the law that counts its visits needs.
-use Rattle.std.proofs.Common.{◌≡◌, ℕ, ◌+◌, ◌<◌, Bool, true, false, inl, inr, ◌==◌, List, [], ◌∷◌, ◌++◌, length, map, Some, refl, sym, ap, ap₂, ◌∙◌, subst, eq-eqb, true≢false}
-use Rattle.std.specs.Prelude.{◌⊎◌, ◌&&◌, ◌||◌, not, All, Contains, None, if◌then◌else◌, codes}
+use Rattle.std.proofs.Common.{◌≡◌, ℕ, ◌+◌, Bool, true, false, ◌==◌, List, [], ◌∷◌, ◌++◌, length, map, Some, refl, sym, ap, ap₂, ◌∙◌, subst, eq-eqb, true≢false}
+use Rattle.std.specs.Prelude.{◌&&◌, ◌||◌, not, All, Contains, None, if◌then◌else◌, codes}
 use Rattle.std.specs.List.{AllZip, list_all, list_any}
-use Rattle.std.proofs.lemmas.Bool.{and_parts, or_left, or_parts}
-use Rattle.std.proofs.lemmas.List.Elements.{All-contains, All-head, All-tail, Contains-get_or}
-use Rattle.dcc_ir.specs.Live.{block_in}
+use Rattle.std.proofs.lemmas.Bool.{and_parts, or_parts}
+use Rattle.std.proofs.lemmas.List.Elements.{All-contains}
 use Rattle.dcc_ir.specs.Tree as inner
 use Rattle.dcc_ir.specs.WellFormed.{all_differ, IsGraph, IsProgram}
 use Rattle.dcc_ir.proofs.ListLaws.{all_had}
@@ -25,17 +24,15 @@ use Rattle.dcc_plan.specs.CallLaws.{IsBeginning}
 use Rattle.dcc_plan.specs.Calls.{all_places, locations_differ, IsNamed, IsCallable, AreFunctions}
 use Rattle.dcc_plan.specs.PlanText.{plan_text, IsPlanText}
 use Rattle.dcc_plan.specs.Programs.{Texts, OpensWith, IsGraphText, open_setting, GivesFew, IsProgramText, AreAllKept}
-use Rattle.dcc_control.specs.Valid.{IsPlanOf, BeginsAll, only_goes}
-use Rattle.dcc_control.specs.Plan.{is_begun}
-use Rattle.dcc_control.specs.GotoPlan.{goto_plan}
-use Rattle.dcc_control.proofs.CompleteLaws.{completed-valid}
-use Rattle.dcc_control.proofs.GotoLaws.{goto-valid}
+use Rattle.dcc_control.specs.Plan.{Plan}
 use Rattle.dcc_plan.proofs.TextLaws.{numbered-text}
-use Rattle.dcc_pipe.specs.WholeText.{control, opened, text_function, other_functions, text_functions, whole_text}
+use Rattle.dcc_pipe.specs.Control.{Control, IsControlOf, AreControls, keeps_step}
+use Rattle.dcc_pipe.specs.WholeText.{opened, text_function, other_functions, text_functions, whole_text}
 use Rattle.dcc_pipe.proofs.MatteringLaws.{mattering, mattering-matters, matters-opened, opened-named}
 use Rattle.dcc_pipe.proofs.OpeningLines.{openings-assign, GoesOn, goes-on, after_lines, after-opens}
-use Rattle.dcc_pipe.proofs.FunctionTables.{function_for, later-functions, functions-are, each-of, each-function, IsNumbered, IsOther, IsOne, others-numbered, all-numbered, found-by_name}
+use Rattle.dcc_pipe.proofs.FunctionTables.{value_for, later-values, values-are, each-of, each-value, IsNumbered, IsOther, IsOne, IsOneOf, others-numbered, all-numbered, found-by_name}
 use Rattle.dcc_pipe.proofs.FreeBodies.{body-free, unplaced}
+use Rattle.dcc_pipe.proofs.StepPlaces.{step-kept}
 
 -- Names in a list of which a part is taken.
 
@@ -63,72 +60,71 @@ differ-left (x ∷ xs) ys differ =
 
 -- One graph and its function.
 
-module _ (g : inner.Graph) (formed : IsGraph g) where
-  pub control-plan : IsPlanOf g (control g) × BeginsAll g (control g)
-  control-plan =
-      let plan = goto-valid g formed in
-      let whole = completed-valid g (goto_plan g) plan.0 in
-      (whole.0, whole.1 plan.1)
-
-module _ (g : inner.Graph) (f : Function) (is : IsOne g f) where
-  pub body-goes : GoesOn (openings (opened g) g) f.body (plan_text (function_spelling g) g (control g))
+module _ (g : inner.Graph) (plan : Plan) (f : Function) (is : IsOne plan g f) where
+  pub body-goes : GoesOn (openings (opened g) g) f.body (plan_text (function_spelling g) g plan)
   body-goes =
       let number = is.1 in
-      subst (λ (h : Function). GoesOn (openings (opened g) g) h.body (plan_text (function_spelling g) g (control g))) (sym number.is)
+      subst (λ (h : Function). GoesOn (openings (opened g) g) h.body (plan_text (function_spelling g) g plan)) (sym number.is)
       (goes-on (openings (opened g) g) (openings-assign (function_spelling g) (opened g) 0 g.params) 2 _
-      (plan_text (function_spelling g) g (control g)))
+      (plan_text (function_spelling g) g plan))
 
   -- the body takes the address of no parameter that is not in memory
   pub one-unplaced : HasFewNames g → list_all (λ v. is_auto v.class || not (takes_address f.body v.name)) f.params ≡ true
   one-unplaced few =
       let number = is.1 in
-      let plan = plan_text (function_spelling g) g (control g) in
+      let lines = plan_text (function_spelling g) g plan in
       subst (λ vs. list_all (λ v. is_auto v.class || not (takes_address f.body v.name)) vs ≡ true)
       (sym (ap (λ (h : Function). h.params) number.is))
       (unplaced g few.params f.body (λ word apart.
-      body-free g word apart (opened g) f.body (numbered_lines body-goes.depth body-goes.at plan)
+      body-free g word apart (opened g) f.body (numbered_lines body-goes.depth body-goes.at lines)
       (openings-assign (function_spelling g) (opened g) 0 g.params) body-goes.begins
-      (numbered-text (function_spelling g) g (control g) _ _)))
+      (numbered-text (function_spelling g) g plan _ _)))
 
-function-of : (name : Word) (g : inner.Graph) (f : Function) → IsNumbered name g f → IsFunctionOf g name f
-function-of name g f number = subst (IsFunctionOf g name) (sym number.is) refl
+function-of : (plan : Plan) (name : Word) (g : inner.Graph) (f : Function) → IsNumbered plan name g f
+    → IsFunctionOf g name f
+function-of plan name g f number = subst (IsFunctionOf g name) (sym number.is) refl
 
 -- The functions of graphs have their names.
 
-names-are : (at : ℕ) (graphs : List inner.Graph)
-    → map (λ f. f.name) (numbered_functions at (other_functions graphs)) ≡ map (λ graph. function_name graph.entry) graphs
-names-are at [] = refl
-names-are at (g ∷ graphs) =
-    let here = numbered_function at (text_function (function_name g.entry) g) in
-    ap (λ ws. function_name g.entry ∷ ws) (names-are (here.last + 1) graphs)
+module _ (control : Control) where
+  names-are : (at : ℕ) (graphs : List inner.Graph)
+      → map (λ f. f.name) (numbered_functions at (other_functions control graphs))
+      ≡ map (λ graph. function_name graph.entry) graphs
+  names-are at [] = refl
+  names-are at (g ∷ graphs) =
+      let here = numbered_function at (text_function (control g) (function_name g.entry) g) in
+      ap (λ ws. function_name g.entry ∷ ws) (names-are (here.last + 1) graphs)
 
-pub text-names : (at : ℕ) (graphs : List inner.Graph)
-    → map (λ f. f.name) (numbered_functions at (text_functions graphs)) ≡ function_names graphs
-text-names at [] = refl
-text-names at (g ∷ graphs) =
-    let here = numbered_function at (text_function (codes "start") g) in
-    ap (λ ws. codes "start" ∷ ws) (names-are (here.last + 1) graphs)
+  pub text-names : (at : ℕ) (graphs : List inner.Graph)
+      → map (λ f. f.name) (numbered_functions at (text_functions control graphs)) ≡ function_names graphs
+  text-names at [] = refl
+  text-names at (g ∷ graphs) =
+      let here = numbered_function at (text_function (control g) (codes "start") g) in
+      ap (λ ws. codes "start" ∷ ws) (names-are (here.last + 1) graphs)
 
 -- A program with a first graph.
 
-module _ (first : inner.Graph) (others : List inner.Graph) (image : List ℕ) (lo hi : ℕ) where
+abbrev pub with_first : inner.Graph → List inner.Graph → List ℕ → ℕ → ℕ → inner.Program
+with_first first others image lo hi = record { graphs = first ∷ others; image = image; lo = lo; hi = hi }
+
+module _ (control : Control) (first : inner.Graph) (others : List inner.Graph) (image : List ℕ) (lo hi : ℕ) where
   abbrev pub program : inner.Program
-  program = record { graphs = first ∷ others; image = image; lo = lo; hi = hi }
+  program = with_first first others image lo hi
 
   abbrev pub tree : Tree
-  tree = numbered (whole_text program)
+  tree = numbered (whole_text control program)
 
   abbrev pub head : ℕ
   head = 3 + rows (written_globals None (globals_of program))
 
   abbrev pub start : Function
-  start = numbered_function head (text_function (codes "start") first)
+  start = numbered_function head (text_function (control first) (codes "start") first)
 
   abbrev pub later : List Function
-  later = numbered_functions (start.last + 1) (other_functions others)
+  later = numbered_functions (start.last + 1) (other_functions control others)
 
   abbrev pub function : inner.Graph → Function
-  function = function_for (first ∷ others) (start ∷ later)
+  function = value_for start (first ∷ others) (start ∷ later)
 
   abbrev pub texts : Texts
   texts = record {
@@ -141,16 +137,19 @@ module _ (first : inner.Graph) (others : List inner.Graph) (image : List ℕ) (l
   }
 
   pub all-names : map (λ f. f.name) tree.functions ≡ function_names program.graphs
-  all-names = text-names head program.graphs
+  all-names = text-names control head program.graphs
 
   module _ (well : IsProgram program) (few : All HasFewNames program.graphs)
       (apart : All (λ g. locations_differ (all_places g.params) ≡ true) program.graphs)
-      (gives : All (λ g. All GivesFew g.blocks) program.graphs) where
-    each-one : All (λ g. IsOne g (function g)) program.graphs
-    each-one = each-function IsOne program.graphs (start ∷ later) (all-numbered head program.graphs) well.entries
+      (gives : All (λ g. All GivesFew g.blocks) program.graphs) (controls : AreControls control program) where
+    each-one : All (λ g. IsOneOf control g (function g)) program.graphs
+    each-one = each-value start (IsOneOf control) program.graphs (start ∷ later) (all-numbered control head program.graphs) well.entries
 
-    one-of : (g : inner.Graph) → Contains program.graphs g → IsOne g (function g)
-    one-of g c = All-contains (λ g. IsOne g (function g)) program.graphs g each-one c
+    one-of : (g : inner.Graph) → Contains program.graphs g → IsOneOf control g (function g)
+    one-of g c = All-contains (λ g. IsOneOf control g (function g)) program.graphs g each-one c
+
+    control-of : (g : inner.Graph) → Contains program.graphs g → IsControlOf g (control g)
+    control-of g c = All-contains (λ g. IsControlOf g (control g)) program.graphs g controls c
 
     graph-formed : (g : inner.Graph) → Contains program.graphs g → IsGraph g
     graph-formed g c = All-contains IsGraph program.graphs g well.graphs c
@@ -159,8 +158,8 @@ module _ (first : inner.Graph) (others : List inner.Graph) (image : List ℕ) (l
     few-of g c = All-contains HasFewNames program.graphs g few c
 
     lines-are : (g : inner.Graph) (c : Contains program.graphs g)
-        → texts.lines g ≡ numbered_lines (body-goes g (function g) (one-of g c)).depth (body-goes g (function g) (one-of g c)).at (plan_text (function_spelling g) g (control g))
-    lines-are g c = after-opens (body-goes g (function g) (one-of g c)).opens
+        → texts.lines g ≡ numbered_lines (body-goes g (control g) (function g) (one-of g c)).depth (body-goes g (control g) (function g) (one-of g c)).at (plan_text (function_spelling g) g (control g))
+    lines-are g c = after-opens (body-goes g (control g) (function g) (one-of g c)).opens
 
     lines-text : (g : inner.Graph) (c : Contains program.graphs g) → IsPlanText (function_spelling g) g (control g) (texts.lines g)
     lines-text g c =
@@ -170,15 +169,15 @@ module _ (first : inner.Graph) (others : List inner.Graph) (image : List ℕ) (l
     begins-lines : (g : inner.Graph) (c : Contains program.graphs g) → BeginsWith (openings (opened g) g) (function g).body (texts.lines g)
     begins-lines g c =
         subst (BeginsWith (openings (opened g) g) (function g).body) (sym (lines-are g c))
-        (body-goes g (function g) (one-of g c)).begins
+        (body-goes g (control g) (function g) (one-of g c)).begins
 
     graph-text : (g : inner.Graph) → Contains program.graphs g → IsGraphText texts g
     graph-text g c = record {
       spelling = spelling-is g (few-of g c).variables (few-of g c).params;
       matters = mattering-matters g (graph-formed g c);
-      is_plan = (control-plan g (graph-formed g c)).0;
+      is_plan = (control-of g c).is_plan;
       text = lines-text g c;
-      opens = subst (OpensWith (texts.openings g) (function g).body) (sym (lines-are g c)) (body-goes g (function g) (one-of g c)).opens;
+      opens = subst (OpensWith (texts.openings g) (function g).body) (sym (lines-are g c)) (body-goes g (control g) (function g) (one-of g c)).opens;
     }
 
     -- The functions that are called.
@@ -190,12 +189,12 @@ module _ (first : inner.Graph) (others : List inner.Graph) (image : List ℕ) (l
       named = λ block stmts location is. is.0;
     }
 
-    others-each : All (λ g. IsOther g (function g)) others
+    others-each : All (λ g. IsOther control g (function g)) others
     others-each =
-        let zipped = others-numbered (start.last + 1) others in
+        let zipped = others-numbered control (start.last + 1) others in
         let parts = and_parts (not (list_any (λ m. first.entry == m) (map (λ g. g.entry) others))) (all_differ (map (λ g. g.entry) others)) well.entries in
-        each-of IsOther function others (subst (AllZip IsOther others)
-        (sym (later-functions first start others later others (no-true _ parts.0) ∙ functions-are IsOther others later zipped parts.1)) zipped)
+        each-of start (IsOther control) function others (subst (AllZip (IsOther control) others)
+        (sym (later-values start first start others later others (no-true _ parts.0) ∙ values-are start (IsOther control) others later zipped parts.1)) zipped)
       where
         no-true : (b : Bool) → not b ≡ true → b ≡ false
         no-true true is = sym is
@@ -203,7 +202,7 @@ module _ (first : inner.Graph) (others : List inner.Graph) (image : List ℕ) (l
 
     function-there : (g : inner.Graph) → Contains program.graphs g → Contains tree.functions (function g)
     function-there g c =
-        subst (λ functions. Contains functions (function g)) (functions-are IsOne program.graphs (start ∷ later) (all-numbered head program.graphs) well.entries)
+        subst (λ functions. Contains functions (function g)) (values-are start (IsOneOf control) program.graphs (start ∷ later) (all-numbered control head program.graphs) well.entries)
         (mapped program.graphs g c)
       where
         mapped : (graphs : List inner.Graph) (g : inner.Graph) → Contains graphs g → Contains (map function graphs) (function g)
@@ -219,18 +218,18 @@ module _ (first : inner.Graph) (others : List inner.Graph) (image : List ℕ) (l
         (differ-right (map (λ g. g.name) tree.globals) _ (known-differ-all program tree well refl all-names))
 
     pub start-is : function first ≡ start
-    start-is = ap (λ b. if b then start else function_for others later first) (eq-eqb first.entry first.entry refl)
+    start-is = ap (λ b. if b then start else value_for start others later first) (eq-eqb first.entry first.entry refl)
 
     graph-callable : (g : inner.Graph) → Contains others g → IsCallable opened (open_setting texts) tree g
     graph-callable g c =
         let there = Contains-later first others g c in
-        let number = All-contains (λ g. IsOther g (function g)) others g others-each c in
-        let is = function-of (function_name g.entry) g (function g) number in
+        let number = All-contains (λ g. IsOther control g (function g)) others g others-each c in
+        let is = function-of (control g) (function_name g.entry) g (function g) number in
         record {
           function = is;
           found = subst (λ word. function_in tree.functions word ≡ Some (function g)) (ap (λ (f : Function). f.name) is)
               (found-by_name tree.functions functions-differ (function g) (function-there g there));
-          unplaced = one-unplaced g (function g) (one-of g there) (few-of g there);
+          unplaced = one-unplaced g (control g) (function g) (one-of g there) (few-of g there);
           opened = λ location among is. matters-opened g (graph-formed g there) location is;
           named = opened-named g (graph-formed g there);
         }
@@ -248,7 +247,7 @@ module _ (first : inner.Graph) (others : List inner.Graph) (image : List ℕ) (l
     whole-text = record {
       well = well;
       graphs = graph-text;
-      functions = sym (functions-are IsOne program.graphs (start ∷ later) (all-numbered head program.graphs) well.entries);
+      functions = sym (values-are start (IsOneOf control) program.graphs (start ∷ later) (all-numbered control head program.graphs) well.entries);
       callable = all-functions;
       opened = λ graph c. record { count = refl; begins = begins-lines graph c };
       few = gives;
@@ -265,7 +264,5 @@ module _ (first : inner.Graph) (others : List inner.Graph) (image : List ℕ) (l
       globals = refl;
     }
 
-    pub all-kept : AreAllKept program texts (λ place. true)
-    all-kept graph c b less =
-        sym (or_left (is_begun (control graph) b) (not (only_goes (block_in graph b).stmts (block_in graph b).exit))
-        ((control-plan graph (graph-formed graph c)).1 b less))
+    pub all-kept : AreAllKept program texts (keeps_step control program)
+    all-kept graph c b less = step-kept control program well graph c b less

@@ -38,15 +38,15 @@ use Rattle.dcc_plan.specs.AllowedCalls.{IsPlaceFor}
 use Rattle.dcc_plan.specs.PlanText.{plan_text}
 use Rattle.dcc_plan.proofs.AllowedCalls.{function-word, calls-allowed, openings-allowed}
 use Rattle.dcc_plan.proofs.AllowedPlans.{texts-allowed}
-use Rattle.dcc_plan.proofs.PlacedItems.{goto-stands}
 use Rattle.dcc_plan.proofs.SpelledGraphs.{spelled-graph}
+use Rattle.dcc_pipe.specs.Control.{Control, IsControlOf, AreControls}
 use Rattle.dcc_pipe.specs.Textable.{levels}
-use Rattle.dcc_pipe.specs.WholeText.{TakesFew, control, opened, before_lines, body_of, text_function, other_functions, whole_text}
+use Rattle.dcc_pipe.specs.WholeText.{TakesFew, opened, before_lines, body_of, text_function, other_functions, whole_text}
 use Rattle.dcc_pipe.proofs.OpeningLines.{is_assignment, openings-assign}
 use Rattle.dcc_pipe.proofs.FunctionTables.{found-by_name}
 use Rattle.dcc_pipe.proofs.PlainTexts.{plain-text}
 use Rattle.dcc_pipe.proofs.MatteringLaws.{mattering, mattering-matters, opened-named}
-use Rattle.dcc_pipe.proofs.WholeTexts.{differ-left, differ-right, control-plan}
+use Rattle.dcc_pipe.proofs.WholeTexts.{differ-left, differ-right, with_first}
 
 -- Bodies that open with assignments.
 
@@ -134,15 +134,15 @@ found (x ∷ graphs) entry g is = by (x.entry == entry) refl is (found graphs en
 
 -- A program.
 
-module _ (first : inner.Graph) (others : List inner.Graph) (image : List ℕ) (lo hi : ℕ) where
+module _ (control : Control) (first : inner.Graph) (others : List inner.Graph) (image : List ℕ) (lo hi : ℕ) where
   abbrev program : inner.Program
-  program = record { graphs = first ∷ others; image = image; lo = lo; hi = hi }
+  program = with_first first others image lo hi
 
   abbrev tree : Tree
-  tree = whole_text program
+  tree = whole_text control program
 
   other-names : (graphs : List inner.Graph)
-      → map (λ f. f.name) (other_functions graphs) ≡ map (λ graph. function_name graph.entry) graphs
+      → map (λ f. f.name) (other_functions control graphs) ≡ map (λ graph. function_name graph.entry) graphs
   other-names [] = refl
   other-names (g ∷ graphs) = ap (λ ws. function_name g.entry ∷ ws) (other-names graphs)
 
@@ -151,7 +151,8 @@ module _ (first : inner.Graph) (others : List inner.Graph) (image : List ℕ) (l
 
   module _ (well : IsProgram program) (few : All HasFewNames program.graphs)
       (shallow : All (λ g. All (λ e. depth_of e ≤ levels) (graph_exprs g)) program.graphs)
-      (takes : All (λ g. All (λ b. All (TakesFew program) b.stmts) g.blocks) program.graphs) where
+      (takes : All (λ g. All (λ b. All (TakesFew program) b.stmts) g.blocks) program.graphs)
+      (controls : AreControls control program) where
     functions-differ : rules.all_differ (map (λ f. f.name) tree.functions) ≡ true
     functions-differ =
         differ-left (map (λ f. f.name) tree.functions) _
@@ -159,10 +160,13 @@ module _ (first : inner.Graph) (others : List inner.Graph) (image : List ℕ) (l
 
     module _ (name : Word) (g : inner.Graph) (c : Contains program.graphs g) where
       abbrev f : Function
-      f = text_function name g
+      f = text_function (control g) name g
 
       formed : IsGraph g
       formed = All-contains IsGraph program.graphs g well.graphs c
+
+      own : IsControlOf g (control g)
+      own = All-contains (λ g. IsControlOf g (control g)) program.graphs g controls c
 
       own-few : HasFewNames g
       own-few = All-contains HasFewNames program.graphs g few c
@@ -177,13 +181,14 @@ module _ (first : inner.Graph) (others : List inner.Graph) (image : List ℕ) (l
       place = record { declared = declared; enough = omega arith }
 
       other-there : (graphs : List inner.Graph) (h : inner.Graph) → Contains graphs h
-          → Contains (other_functions graphs) (text_function (function_name h.entry) h)
+          → Contains (other_functions control graphs) (text_function (control h) (function_name h.entry) h)
       other-there [] h d = absurd (Contains-none h d)
       other-there (x ∷ graphs) h d =
-          let of : inner.Graph → Function = λ h. text_function (function_name h.entry) h in
-          Contains-cases x graphs h (Contains (other_functions (x ∷ graphs)) (of h))
-          (λ same. subst (λ y. Contains (of y ∷ other_functions graphs) (of h)) (sym same) (Contains-here (of h) (other_functions graphs)))
-          (λ later. Contains-later (of x) (other_functions graphs) (of h) (other-there graphs h later)) d
+          let of : inner.Graph → Function = λ h. text_function (control h) (function_name h.entry) h in
+          let rest = other_functions control graphs in
+          Contains-cases x graphs h (Contains (other_functions control (x ∷ graphs)) (of h))
+          (λ same. subst (λ y. Contains (of y ∷ rest) (of h)) (sym same) (Contains-here (of h) rest))
+          (λ later. Contains-later (of x) rest (of h) (other-there graphs h later)) d
 
       call-fits : (b : inner.Block) → Contains g.blocks b → (stmt : inner.Stmt) → Contains b.stmts stmt → is_call stmt ≡ true
           → IsAllowedStmt tree f 200 (stmt_text (function_spelling g) 2 stmt)
@@ -197,10 +202,10 @@ module _ (first : inner.Graph) (others : List inner.Graph) (image : List ℕ) (l
           All-contains (TakesFew program) b.stmts stmt (All-contains (λ b. All (TakesFew program) b.stmts) g.blocks b
           (All-contains (λ g. All (λ b. All (TakesFew program) b.stmts) g.blocks) program.graphs g takes c) inside) there in
           let at = found others entry call.callee call.named in
-          let callee = text_function (function_name entry) call.callee in
+          let callee = text_function (control call.callee) (function_name entry) call.callee in
           let there_is : Contains tree.functions callee =
-          Contains-later (text_function (codes "start") first) (other_functions others) callee
-          (subst (λ n. Contains (other_functions others) (text_function (function_name n) call.callee)) at.1 (other-there others call.callee at.0)) in
+          Contains-later (text_function (control first) (codes "start") first) (other_functions control others) callee
+          (subst (λ n. Contains (other_functions control others) (text_function (control call.callee) (function_name n) call.callee)) at.1 (other-there others call.callee at.0)) in
           let low = All-contains (λ b. All (λ e. depth_of e ≤ levels) (block_exprs b)) g.blocks b
           (all_parts (λ e. depth_of e ≤ levels) block_exprs g.blocks own-shallow) inside in
           calls-allowed program tree f callee g results entry arguments own 2 levels 200 place served.formed call refl
@@ -239,14 +244,14 @@ module _ (first : inner.Graph) (others : List inner.Graph) (image : List ℕ) (l
           by (inner.Switch e places) there = refl
           by inner.Stop there = refl
 
-      body-allowed : AreAllowedLines tree f 200 (body_of g)
+      body-allowed : AreAllowedLines tree f 200 (body_of (control g) g)
       body-allowed =
           opened-lines tree f (openings (opened g) g) (openings-assign (function_spelling g) (opened g) 0 g.params)
           (openings-allowed tree f g (opened g) levels 200 place formed own-few refl (opened-named g formed))
           (plan_text (function_spelling g) g (control g))
           (texts-allowed tree f (function_spelling g) g (control g) (plan_text (function_spelling g) g (control g)) levels 200 declared formed
           (spelled-graph (function_spelling g) g (mattering g) levels refl (mattering-matters g formed) (λ b location less is. is.0) own-shallow)
-          calls-fit returns-fit (omega arith) (control-plan g formed).0 (goto-stands g formed)
+          calls-fit returns-fit (omega arith) own.is_plan own.stands
           (plain-text (function_spelling g) g (control g)))
 
       fewer : ((function_shape g).frame ≡ 0) ⊎ ((function_shape g).frame ≡ (shape_of g).frame)
@@ -270,14 +275,14 @@ module _ (first : inner.Graph) (others : List inner.Graph) (image : List ℕ) (l
           (own-pass is_writable_local (shape_of g) (is_own g) (function_shape g).frame fewer (locals-writable g own-few.variables formed)) body-allowed.writable))
 
     others-allowed : (graphs : List inner.Graph) → ((g : inner.Graph) → Contains graphs g → Contains others g)
-        → AreAllowed tree (other_functions graphs) × (list_all is_writable_function (other_functions graphs) ≡ true)
+        → AreAllowed tree (other_functions control graphs) × (list_all is_writable_function (other_functions control graphs) ≡ true)
     others-allowed [] all = (all_allowed, refl)
     others-allowed (g ∷ graphs) all =
         let name = function_name g.entry in
         let c = Contains-later first others g (all g (Contains-here g graphs)) in
         let rest = others-allowed graphs (λ h d. all h (Contains-later g graphs h d)) in (
           next_allowed (function-allowed name g c) rest.0,
-          and_from (is_writable_function (text_function name g)) (list_all is_writable_function (other_functions graphs))
+          and_from (is_writable_function (text_function (control g) name g)) (list_all is_writable_function (other_functions control graphs))
               (function-writable name g c (function-word g.entry)) rest.1,
         )
 
@@ -287,11 +292,11 @@ module _ (first : inner.Graph) (others : List inner.Graph) (image : List ℕ) (l
         let rest = others-allowed others (λ g d. d) in record {
           version = refl;
           globals = globals-writable program well.hi well.image;
-          functions = and_from (is_writable_function (text_function (codes "start") first)) (list_all is_writable_function (other_functions others))
+          functions = and_from (is_writable_function (text_function (control first) (codes "start") first)) (list_all is_writable_function (other_functions control others))
               (function-writable (codes "start") first c refl) rest.1;
           allowed = record {
-            start = text_function (codes "start") first;
-            others = other_functions others;
+            start = text_function (control first) (codes "start") first;
+            others = other_functions control others;
             first = refl;
             name = refl;
             no_params = ap (parameters_from first.bits 0) (All-head (λ (g : inner.Graph). g.params ≡ []) first [] well.start);

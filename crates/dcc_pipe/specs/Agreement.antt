@@ -3,10 +3,10 @@ use Rattle.std.specs.Prelude.{◌≢◌, ℕ, ◌+◌, ◌*◌, ◌^◌, ◌<◌
 use Rattle.dcc_run.specs.End.{Stuck}
 use Rattle.dcc_run.specs.System.{end_after}
 use Rattle.dcc_run.specs.Agreement.{KeepsUp}
-use Rattle.dcc_prog.specs.declared.cpu.Cpu.{Cpu}
-use Rattle.dcc_prog.specs.declared.image.Image.{Image}
-use Rattle.dcc_prog.specs.Machine.{start_state}
-use Rattle.dcc_prog.specs.Step.{machine_system}
+use Rattle.dcc_machine.specs.declared.cpu.Cpu.{Cpu}
+use Rattle.dcc_machine.specs.declared.image.Image.{Image}
+use Rattle.dcc_machine.specs.Machine.{start_state}
+use Rattle.dcc_machine.specs.Step.{machine_system}
 use Rattle.dcc_prog.specs.Watch.{IsClean}
 use Rattle.dcc_c.specs.Tree.{Tree, Function}
 use Rattle.dcc_c.specs.Run.{text_system, first_state}

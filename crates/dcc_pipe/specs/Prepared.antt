@@ -2,7 +2,7 @@
 -- simplified.
 use Rattle.std.specs.Prelude.{◌≡◌, ℕ, Bool, true, ◌⊎◌, List, [], All}
 use Rattle.std.specs.List.{list_any}
-use Rattle.dcc_prog.specs.declared.image.Image.{Image}
+use Rattle.dcc_machine.specs.declared.image.Image.{Image}
 use Rattle.dcc_prog.specs.declared.frame.Program.{Program as Analysed}
 use Rattle.dcc_prog.specs.Analysed.{IsProgramOf}
 use Rattle.dcc_ir.specs.Tree.{Stmt, Call, Graph, Program, Summary}
@@ -12,8 +12,8 @@ use Rattle.dcc_ir.specs.Run.{graph_at}
 use Rattle.dcc_lift.specs.Lifted.{IsLifted}
 use Rattle.dcc_ir.specs.FlagReads.{FlagsReadPlainly}
 use Rattle.dcc_ir.specs.Passing.{PassesAll}
-use Rattle.dcc_sums.specs.Sums.{AreSums, ReusesNone, GivesOneValue}
-use Rattle.dcc_sums.specs.Localised.{sum_at, localised}
+use Rattle.dcc_sums.specs.Summaries.{AreSummaries, ReusesNone, GivesOneValue}
+use Rattle.dcc_sums.specs.Localised.{summary_at, localised}
 use Rattle.dcc_signatures.specs.Packed.{packed}
 use Rattle.dcc_signatures.specs.Laws.{PassesAtMostOne}
 use Rattle.dcc_pipe.specs.Textable.{lifted_levels, levels, TakesApart, IsTextable}
@@ -44,7 +44,7 @@ pub record HasLiftedForm (p : Program) : Type 0 where
 -- The summaries of all procedures, which a text can have: no argument is wanted after a call that may change it, and no
 -- procedure gives several values back.
 pub record AreSumsOfText (p : Program) (sums : List Summary) : Type 0 where
-  pub are : AreSums p sums
+  pub are : AreSummaries p sums
   pub reuses : ReusesNone p
   pub one : GivesOneValue sums
 
@@ -56,7 +56,7 @@ pub record IsPrepared (p q : Program) : Type 0 where
   pub sums : List Summary
   pub known : AreSumsOfText p sums
   pub made : HasEachChanged IsSimplifiedGraph (packed (localised sums p)) q
-  pub passes : PassesAtMostOne (sum_at p.graphs sums) q
+  pub passes : PassesAtMostOne (summary_at p.graphs sums) q
   pub returned : All (λ g. All (λ b. All (TakesOfReturning (returns q)) b.stmts) g.blocks) q.graphs
   pub apart : All TakesApart q.graphs
   pub simplified : IsSimplified levels p q

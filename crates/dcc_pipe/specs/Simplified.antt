@@ -1,10 +1,10 @@
 -- What passes leave of a program that is to have a text.
 use Rattle.std.specs.Prelude.{◌≡◌, ℕ}
 use Rattle.std.specs.List.{AllZip}
-use Rattle.dcc_run.specs.Place.{Place}
+use Rattle.dcc_run.specs.ProgramPoint.{ProgramPoint}
 use Rattle.dcc_ir.specs.Tree.{Graph, Program}
 use Rattle.dcc_ir.specs.Keeps.{has_block, Keeps}
-use Rattle.dcc_live.specs.Dead.{IsWithoutUnwanted}
+use Rattle.dcc_live.specs.Dead.{IsWithoutUnneeded}
 use Rattle.dcc_flags.specs.Folded.{IsFolded}
 use Rattle.dcc_pipe.specs.Textable.{IsTextable}
 
@@ -13,9 +13,9 @@ use Rattle.dcc_pipe.specs.Textable.{IsTextable}
 pub record IsSimplifiedGraph (before after : Graph) : Type 0 where
   pub wanted : Graph
   pub folded : Graph
-  pub first : IsWithoutUnwanted before wanted
+  pub first : IsWithoutUnneeded before wanted
   pub flags : IsFolded wanted folded
-  pub last : IsWithoutUnwanted folded after
+  pub last : IsWithoutUnneeded folded after
 
 -- the second program has in the place of each graph one that a pass leaves of it, and the first one's memory
 pub record HasEachChanged (Leaves : Graph → Graph → Type 0) (p q : Program) : Type 0 where
@@ -29,4 +29,4 @@ pub record HasEachChanged (Leaves : Graph → Graph → Type 0) (p q : Program) 
 pub record IsSimplified (depth : ℕ) (p q : Program) : Type 0 where
   pub textable : IsTextable depth q
   pub keeps : Keeps p q
-  pub places : (place : Place) → has_block q place ≡ has_block p place
+  pub places : (place : ProgramPoint) → has_block q place ≡ has_block p place

@@ -1,7 +1,7 @@
 -- What each graph that is prepared has of the procedure for which it stands.
 use Rattle.std.specs.Prelude.{◌≡◌, ◌<◌, ℕ, false, List, ◌++◌, All}
 use Rattle.std.specs.List.{AllZip}
-use Rattle.dcc_prog.specs.declared.image.Image.{Image}
+use Rattle.dcc_machine.specs.declared.image.Image.{Image}
 use Rattle.dcc_prog.specs.declared.frame.Program.{Program as Analysed}
 use Rattle.dcc_prog.specs.Frame.{argument_word}
 use Rattle.dcc_stack.specs.Accepted.{IsProgramOfFile}

@@ -3,15 +3,15 @@
 use Rattle.std.specs.Prelude.{◌≡◌, ℕ, Bool, true, false, ◌&&◌, ◌||◌, not, if◌then◌else◌, List, [], ◌∷◌, ◌++◌, map}
 use Rattle.std.specs.Prelude.{filter, replicate, codes}
 use Rattle.std.specs.List.{AllZip, list_all, list_any, range_with_len}
-use Rattle.dcc_prog.specs.declared.cpu.Cpu.{Cpu}
-use Rattle.dcc_prog.specs.declared.image.Image.{Image}
+use Rattle.dcc_machine.specs.declared.cpu.Cpu.{Cpu}
+use Rattle.dcc_machine.specs.declared.image.Image.{Image}
 use Rattle.dcc_prog.specs.declared.procedure.Node.{Node}
 use Rattle.dcc_prog.specs.declared.procedure.Proc.{Proc}
 use Rattle.dcc_prog.specs.declared.frame.Frame.{Frame}
 use Rattle.dcc_prog.specs.declared.frame.Program.{Program as Analysed}
 use Rattle.dcc_prog.specs.Analysed.{IsProgramOf}
 use Rattle.dcc_prog.specs.Frame.{argument_word}
-use Rattle.dcc_prog.specs.FrameForm.{is_sp_move}
+use Rattle.dcc_machine.specs.SpAndBp.{is_sp_move}
 use Rattle.dcc_stack.specs.Slots.{exposes_of}
 use Rattle.dcc_simulation.specs.Procedures.{Procedure}
 use Rattle.dcc_simulation.specs.Nodes.{procedures_in}

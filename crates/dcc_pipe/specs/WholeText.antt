@@ -1,6 +1,6 @@
 -- The text of a program, with a function for each graph: the arrays of its image, and functions with the parameters and
--- variables of their graphs, the assignments that open the bytes of arguments, a label before each block, and jumps.
-use Rattle.std.specs.Prelude.{◌≡◌, ◌<◌, ◌≤◌, Bool, true, List, [], ◌∷◌, length, map, drop, codes, All, Some}
+-- variables of their graphs, the assignments that open the bytes of arguments, and the text of a plan of the graph.
+use Rattle.std.specs.Prelude.{◌≡◌, ◌<◌, ◌≤◌, Bool, List, [], ◌∷◌, length, map, drop, codes, All, Some}
 use Rattle.dcc_ir.specs.declared.syntax.Loc.{Loc}
 use Rattle.dcc_ir.specs.Tree.{Stmt as Statement, Call, Graph, Program}
 use Rattle.dcc_ir.specs.Run.{graph_at}
@@ -10,16 +10,11 @@ use Rattle.dcc_c.specs.Tree.{Word, Stmt, Lines, line, Function, Tree}
 use Rattle.dcc_control.specs.Plan.{Plan}
 use Rattle.dcc_plan.specs.Programs.{GivesFew}
 use Rattle.dcc_plan.specs.PlanText.{plan_text}
-use Rattle.dcc_control.specs.GotoPlan.{goto_plan}
-use Rattle.dcc_control.specs.Complete.{completed}
 use Rattle.dcc_variables.specs.Globals.{globals_of}
 use Rattle.dcc_variables.specs.FunctionLaws.{HasFewNames}
 use Rattle.dcc_variables.specs.Functions.{function_name, function_spelling, function_of, openings}
+use Rattle.dcc_pipe.specs.Control.{Control, AreControls}
 use Rattle.dcc_pipe.specs.Textable.{levels, TakesApart, IsTextable}
-
--- the control of a graph's text
-abbrev pub control : Graph → Plan
-control graph = completed (goto_plan graph)
 
 -- the bytes of arguments that are opened: those that are live where the graph begins
 abbrev pub opened : Graph → Loc → Bool
@@ -30,30 +25,39 @@ abbrev pub before_lines : List Stmt → Lines → Lines
 before_lines [] lines = lines
 before_lines (stmt ∷ stmts) lines = line stmt 0 (before_lines stmts lines)
 
-abbrev pub body_of : Graph → Lines
-body_of graph =
-    before_lines (openings (opened graph) graph) (plan_text (function_spelling graph) graph (control graph))
+-- the body of the graph's function: what opens it, and the text of the plan
+abbrev pub body_of : Plan → Graph → Lines
+body_of plan graph =
+    before_lines (openings (opened graph) graph) (plan_text (function_spelling graph) graph plan)
 
--- the function of a graph, its lines not counted yet
-abbrev pub text_function : Word → Graph → Function
-text_function name graph = function_of graph name (body_of graph) 0
+-- the function of a graph by this plan, its lines not counted yet
+abbrev pub text_function : Plan → Word → Graph → Function
+text_function plan name graph = function_of graph name (body_of plan graph) 0
 
 -- the functions of the graphs after the first
-abbrev pub other_functions : List Graph → List Function
-other_functions graphs = map (λ graph. text_function (function_name graph.entry) graph) graphs
+abbrev pub other_functions : Control → List Graph → List Function
+other_functions control graphs = map (λ graph. text_function (control graph) (function_name graph.entry) graph) graphs
 
-abbrev pub text_functions : List Graph → List Function
-text_functions [] = []
-text_functions (first ∷ others) = text_function (codes "start") first ∷ other_functions others
+abbrev pub text_functions : Control → List Graph → List Function
+text_functions control [] = []
+text_functions control (first ∷ others) =
+    text_function (control first) (codes "start") first ∷ other_functions control others
 
-abbrev pub whole_text : Program → Tree
-whole_text p = record {
+-- the text of a program by the control
+abbrev pub whole_text : Control → Program → Tree
+whole_text control p = record {
   version = 1;
   lo = p.lo;
   hi = p.hi;
   globals = globals_of p;
-  functions = text_functions p.graphs;
+  functions = text_functions control p.graphs;
 }
+
+-- The tree is a text of the program, whose control has a plan of each graph.
+pub record IsWholeText (p : Program) (tree : Tree) : Type 0 where
+  pub control : Control
+  pub controls : AreControls control p
+  pub is : tree ≡ whole_text control p
 
 -- A Call takes one value at most, of a graph that has a Ret.
 abbrev pub TakesFew : Program → Statement → Type 0

@@ -2,14 +2,15 @@
 
 ghost use Rattle.std.specs.Prelude.{IfOk, IfErr};
 ghost use Rattle.dcc_prog.specs.Analysed.{IsProgramOf};
-ghost use Rattle.dcc_prog.specs.MzImage.{IsLoaded};
+ghost use Rattle.dcc_machine.specs.MzImage.{IsLoaded};
 ghost use Rattle.dcc_prog.specs.Refused.{IsRefusedByAnalysis, IsSound};
 
 use dcc_frames::cells;
 use dcc_heights::heights;
 use dcc_layout::layout;
+use dcc_machine::{Cpu, Image};
 use dcc_procs::find;
-use dcc_prog::{Cpu, Image, Program, Refusal};
+use dcc_prog::{Program, Refusal};
 use std::alloc::Global;
 
 /// What the analyses find in a loaded program for a processor: its layout, its procedures with their instructions and

@@ -1,13 +1,17 @@
 //! From an executable to its C text.
 #![tactic(auto)]
 
+mod allowed;
 mod analysis;
+mod control;
 mod decompilation;
 pub mod laws;
+mod no_text;
 mod passes;
 mod preparation;
 mod unit;
 
 pub use analysis::analyse;
 pub use decompilation::decompile;
+pub use no_text::NoText;
 pub use preparation::prepared;

@@ -3,7 +3,7 @@
 ghost use Rattle.std.specs.Prelude.{IfOk, All};
 ghost use Rattle.dcc_ir.specs.Views.{graph_of, program_of};
 ghost use Rattle.dcc_ir.specs.WellFormed.{IsGraph};
-ghost use Rattle.dcc_live.specs.Dead.{IsWithoutUnwanted};
+ghost use Rattle.dcc_live.specs.Dead.{IsWithoutUnneeded};
 ghost use Rattle.dcc_pipe.specs.Simplified.{IsSimplifiedGraph, HasEachChanged};
 
 use dcc_flags::fold_flags;
@@ -15,7 +15,7 @@ use std::alloc::{AllocError, Global};
 fn without_dead(alloc: Global, graph: Graph) -> Result<Graph, AllocError>
     requires { IsGraph (graph_of graph) }
     ensures formed { IfOk result (λ after. IsGraph (graph_of after)) }
-    ensures without { IfOk result (λ after. IsWithoutUnwanted (graph_of graph) (graph_of after)) }
+    ensures without { IfOk result (λ after. IsWithoutUnneeded (graph_of graph) (graph_of after)) }
 {
     let live = live(
         alloc,

@@ -1,18 +1,22 @@
 //! The text of a program: a function for each graph.
 
 ghost use Rattle.std.specs.Prelude.{◌≡◌, ◌++◌, IfOk, OnOk, All, map, string_bytes};
+ghost use Rattle.std.specs.List.{AllZip};
 ghost use Rattle.dcc_ir.specs.Views.{graph_of, program_of};
-ghost use Rattle.dcc_ir.specs.WellFormed.{IsGraph};
+ghost use Rattle.dcc_ir.specs.WellFormed.{IsGraph, IsProgram};
 ghost use Rattle.dcc_c.specs.Views.{function_of, lines_of, tree_of};
 ghost use Rattle.dcc_variables.specs.Functions.{function_shape};
 ghost use Rattle.dcc_variables.specs.Views.{shape_in};
 ghost use Rattle.dcc_variables.specs.FunctionLaws.{HasFewNames};
+ghost use Rattle.dcc_control.specs.Views.{plan_of};
 ghost use Rattle.dcc_pipe.specs.WholeText as spec;
+ghost use Rattle.dcc_pipe.specs.WholeText.{IsWholeText};
+ghost use Rattle.dcc_pipe.specs.WrittenFunctions.{IsFunctionBy, IsOwnFunction, AreFunctionsBy};
 ghost use Rattle.dcc_pipe.specs.Lines.{fresh_line};
 
+use crate::control::control_of;
 use dcc_c::{CStmt, Func, Line, Unit};
-use dcc_control::complete::completed;
-use dcc_control::goto_plan::goto_plan;
+use dcc_control::Item;
 use dcc_ir::{Graph, IrProgram};
 use dcc_live::live_at_start;
 use dcc_plan::plan_text::plan_text;
@@ -42,34 +46,34 @@ fn joined(first: Vec<Line>, second: Vec<Line>) -> Result<Vec<Line>, AllocError>
 }
 
 // The body of a graph's function, which has this head: the assignments that open the bytes of arguments that are live
-// where it begins, and the text of its plan.
-fn body(alloc: Global, head: &Head, graph: &Graph) -> Result<Vec<Line>, AllocError>
+// where it begins, and the text of the plan.
+fn body(alloc: Global, head: &Head, graph: &Graph, plan: &[Item]) -> Result<Vec<Line>, AllocError>
     requires graph { IsGraph (graph_of graph.now) }
     requires shape { shape_in head.now.variables ≡ function_shape (graph_of graph.now) }
     requires params { head.now.params.items ≡ (graph_of graph.now).params }
-    ensures { IfOk result (λ lines. lines_of lines.items ≡ spec.body_of (graph_of graph.now)) }
+    ensures { IfOk result (λ lines. lines_of lines.items ≡ spec.body_of (plan_of plan.now) (graph_of graph.now)) }
 {
-    let plan = completed(alloc, goto_plan(alloc, graph)?)?;
     let wanted = live_at_start(alloc, graph)?;
     let first = openings(alloc, head, wanted.as_slice())?;
     let first = fresh_lines(alloc, first)?;
-    let second = plan_text(alloc, head, graph, plan.as_slice())?;
+    let second = plan_text(alloc, head, graph, plan)?;
     joined(first, second)
 }
 
-// The function of a graph with this name, its lines not counted yet.
+// The function of a graph with this name, by its plan for a text, its lines not counted yet.
 fn function(alloc: Global, name: String, graph: &Graph) -> Result<Func, AllocError>
     requires { IsGraph (graph_of graph.now) }
-    ensures function { IfOk result (λ f. function_of f ≡ spec.text_function (string_bytes name) (graph_of graph.now)) }
+    ensures function { IfOk result (λ f. IsFunctionBy (string_bytes name) (graph_of graph.now) (function_of f)) }
     ensures few { OnOk result (HasFewNames (graph_of graph.now)) }
 {
     let head = Head::of(alloc, graph)?;
+    let plan = control_of(alloc, graph)?;
     Ok(Func {
         name,
         result: result_type(graph)?,
         params: head.parameters(alloc)?,
         locals: head.declarations(alloc)?,
-        body: body(alloc, &head, graph)?,
+        body: body(alloc, &head, graph, plan.as_slice())?,
         last: 0,
     })
 }
@@ -78,7 +82,7 @@ fn function(alloc: Global, name: String, graph: &Graph) -> Result<Func, AllocErr
 fn other_functions(alloc: Global, graphs: &[Graph]) -> Result<Vec<Func>, AllocError>
     requires { All (λ graph. IsGraph (graph_of graph)) graphs.now }
     ensures functions { IfOk result
-        (λ funcs. map function_of funcs.items ≡ spec.other_functions (map graph_of graphs.now)) }
+        (λ funcs. AllZip IsOwnFunction (map graph_of graphs.now) (map function_of funcs.items)) }
     ensures few { OnOk result (All (λ graph. HasFewNames (graph_of graph)) graphs.now) }
 {
     let mut funcs = Vec::new(alloc);
@@ -93,7 +97,7 @@ fn other_functions(alloc: Global, graphs: &[Graph]) -> Result<Vec<Func>, AllocEr
 fn all_functions(alloc: Global, graphs: &[Graph]) -> Result<Vec<Func>, AllocError>
     requires { All IsGraph (map graph_of graphs.now) }
     ensures functions { IfOk result
-        (λ funcs. map function_of funcs.items ≡ spec.text_functions (map graph_of graphs.now)) }
+        (λ funcs. AreFunctionsBy (map graph_of graphs.now) (map function_of funcs.items)) }
     ensures few { OnOk result (All HasFewNames (map graph_of graphs.now)) }
 {
     let mut funcs = Vec::new(alloc);
@@ -109,11 +113,10 @@ fn all_functions(alloc: Global, graphs: &[Graph]) -> Result<Vec<Func>, AllocErro
 
 /// The text of a program, whose lines are not counted yet: the image outside the stack as arrays, and a function for
 /// each graph, with a variable for each location that it reads or writes, an array for the bytes of its frame that are
-/// in memory, a label before each block, and jumps between them. Numbers that 32 bits can't hold are told as want of
-/// memory.
+/// in memory, and the text of a plan of the graph. Numbers that 32 bits can't hold are told as want of memory.
 pub(crate) fn unit_of(alloc: Global, p: &IrProgram) -> Result<Unit, AllocError>
-    requires { All IsGraph (program_of p.now).graphs }
-    ensures text { IfOk result (λ unit. tree_of unit ≡ spec.whole_text (program_of p.now)) }
+    requires { IsProgram (program_of p.now) }
+    ensures text { IfOk result (λ unit. IsWholeText (program_of p.now) (tree_of unit)) }
     ensures few { OnOk result (All HasFewNames (program_of p.now).graphs) }
 {
     Ok(Unit {

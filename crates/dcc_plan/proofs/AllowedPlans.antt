@@ -35,12 +35,13 @@ use Rattle.dcc_text.proofs.AllowedStmts.{IsNamed, AreNamed, IsLow, stmt-allowed}
 use Rattle.dcc_text.proofs.Depths.{shallow}
 use Rattle.dcc_text.proofs.TypedTexts.{text-allowed}
 use Rattle.dcc_variables.specs.Functions.{ret_text}
-use Rattle.dcc_plan.specs.Allowed.{is_mark, has_an_arm, may_stand, item_may_stand, arms_may_stand, may_give, may_return, CallsFit, ReturnsFit, IsSpelled, PlanTextsAreAllowed}
+use Rattle.dcc_plan.specs.Allowed.{has_an_arm, may_stand, item_may_stand, arms_may_stand, may_give, may_return, CallsFit, ReturnsFit, IsSpelled, PlanTextsAreAllowed}
 use Rattle.dcc_control.specs.Plan as plan
-use Rattle.dcc_control.specs.Plan.{Item, Plan, no_items, item, Arms, marks, item_marks, arm_marks, is_in, all_cases}
+use Rattle.dcc_control.specs.Plan.{Item, Plan, no_items, item, Arms, marks, item_marks, arm_marks, is_in, is_mark, all_cases}
 use Rattle.dcc_plan.specs.PlanText as planned
-use Rattle.dcc_plan.specs.PlanText.{text_of_stmt, text_of_test, text_of_way, text_of_choice, text_of_return, IsPlanText, nothing, one_more, IsItemText, AreArmsText, no_more, next_arm}
-use Rattle.dcc_control.specs.Valid.{Context, outside, IsValid, IsValidItem, AreValidArms}
+use Rattle.dcc_plan.specs.PlanText.{text_of_stmt, text_of_way, text_of_choice, text_of_return, is_true_first, side, IsPlanText, nothing, one_more, IsItemText, AreArmsText, no_more, next_arm}
+use Rattle.dcc_control.specs.Valid.{Context, outside, in_sides, IsValid, IsValidItem, AreValidArms}
+use Rattle.dcc_plan.proofs.Sides.{side-has, sides-marked}
 use Rattle.dcc_plan.proofs.LabelWords.{label, label-word, label-among, labels-apart}
 
 -- a test that holds of all elements holds of each
@@ -88,6 +89,7 @@ module _ (graph : inner.Graph) (whole : Plan) where
     item-inside (plan.DoWhile on b head body) rest c (test, yes_place, no_place, exit, less, known, starts, first, l, valid, leaves) = marks-inside body _ valid
     item-inside plan.Break rest c v = refl
     item-inside plan.Continue rest c v = refl
+    item-inside plan.Empty rest c v = refl
 
     arms-inside : (arms : Arms) (c : Context) → AreValidArms graph whole arms c → are_inside (arm_marks arms) ≡ true
     arms-inside plan.no_arms c v = refl
@@ -211,23 +213,6 @@ module _ (whole : Tree) (f : Function) (s : Spelling) (graph : inner.Graph) (lev
     only-of : (P : inner.Expr → Type 0) → All P (graph_exprs graph) → (exit : inner.Exit) (e : inner.Expr) → block.exit ≡ exit → exit_exprs exit ≡ e ∷ [] → P e
     only-of P has exit e is only = All-head P e [] (subst (All P) (ap exit_exprs is ∙ only) (of-end P has))
 
-    test-fine : (around : Around) (one two : Plan) (body otherwise : Lines) (test : inner.Expr) (yes_place no_place : ℕ) → block.exit ≡ inner.If test yes_place no_place
-        → IsFine (in_block around) false one body → IsFine (in_block around) false two otherwise → IsFineItem around (plan.If b one two) (tree.If (text_of_test s block.exit) body otherwise)
-    test-fine around one two body otherwise test yes_place no_place is x y =
-        let e = text s Exact false test in
-        let (tested, second) = and_parts (is_expr_of s.bits 1 test && nat_lt yes_place (length graph.blocks)) (nat_lt no_place (length graph.blocks)) (exit-formed (inner.If test yes_place no_place) is) in
-        let z = end-expr test Exact 1 (and_parts (is_expr_of s.bits 1 test) (nat_lt yes_place (length graph.blocks)) tested).0 (only-of (AreNamed s) spelled.reads (inner.If test yes_place no_place) test is refl) in
-        subst (λ exit. IsFineItem around (plan.If b one two) (tree.If (text_of_test s exit) body otherwise)) (sym is) (record {
-          writable = and_from (is_writable_expr e) (are_writable_lines (in_block around) false body && are_writable_lines (in_block around) false otherwise) z.writable
-              (and_from (are_writable_lines (in_block around) false body) (are_writable_lines (in_block around) false otherwise) x.writable y.writable);
-          marked = refl;
-          pass = and_from (passes (tree.If e body otherwise)) (list_all passes (stmts_in body ++ stmts_in otherwise))
-              (passes-from (tree.If e body otherwise) (ap (λ t. elim t [ Some type ↦ not type.pointer | None ↦ false ]) z.typed)
-              (end-shallow test Exact (only-of (IsLow levels) spelled.shallow (inner.If test yes_place no_place) test is refl)) refl)
-              (both-pass (stmts_in body) (stmts_in otherwise) x.pass y.pass);
-          labels = both-labels (stmts_in body) (stmts_in otherwise) (marks one) (marks two) x.labels y.labels;
-        })
-
     -- a test, or its opposite, that may stand in the text
     record IsFineTest (e : tree.Expr) : Type 0 where
       writable : is_writable_expr e ≡ true
@@ -247,6 +232,20 @@ module _ (whole : Tree) (f : Function) (s : Spelling) (graph : inner.Graph) (lev
           number = ap (λ t. elim (option_and_then (unary_type Not) t) [ Some type ↦ not type.pointer | None ↦ false ]) z.typed;
           low = and_from (nat_le (suc (expr_depth (text s Exact false test))) limit) true
               (le-leb (suc (expr_depth (text s Exact false test))) limit (omega (arith, enough, low, shallow s test Exact false))) refl;
+        }
+
+    test-fine : (around : Around) (on : Bool) (one two p q : Plan) (first second : Lines) (test : inner.Expr) (yes_place no_place : ℕ) → block.exit ≡ inner.If test yes_place no_place
+        → IsFine (in_block around) false p first → IsFine (in_block around) false q second → marks p ++ marks q ≡ marks one ++ marks two
+        → IsFineItem around (plan.If b one two) (tree.If (text_of_way s on block.exit) first second)
+    test-fine around on one two p q first second test yes_place no_place is x y same =
+        let z = way-fine on test yes_place no_place is in
+        let e = text_of_way s on block.exit in record {
+          writable = and_from (is_writable_expr e) (are_writable_lines (in_block around) false first && are_writable_lines (in_block around) false second) z.writable
+              (and_from (are_writable_lines (in_block around) false first) (are_writable_lines (in_block around) false second) x.writable y.writable);
+          marked = refl;
+          pass = and_from (passes (tree.If e first second)) (list_all passes (stmts_in first ++ stmts_in second)) (passes-from (tree.If e first second) z.number z.low refl)
+              (both-pass (stmts_in first) (stmts_in second) x.pass y.pass);
+          labels = both-labels (stmts_in first) (stmts_in second) (marks p) (marks q) x.labels y.labels ∙ ap (map (label graph well)) same;
         }
 
     while-fine : (around : Around) (on : Bool) (inner_plan : Plan) (body : Lines) (test : inner.Expr) (yes_place no_place : ℕ) → block.exit ≡ inner.If test yes_place no_place
@@ -324,6 +323,10 @@ module _ (whole : Tree) (f : Function) (s : Spelling) (graph : inner.Graph) (lev
 
   -- The whole text.
 
+  -- a valid plan that may stand in a block
+  abbrev MayBe : Around → Context → Plan → Type 0
+  MayBe around c plan = IsValid graph all plan c × (may_stand around false plan ≡ true)
+
   mutual
     fine : {plan : Plan} {lines : Lines} (around : Around) (labelled : Bool) (c : Context) → IsPlanText s graph plan lines → IsValid graph all plan c → may_stand around labelled plan ≡ true
         → IsFine around labelled plan lines
@@ -349,9 +352,15 @@ module _ (whole : Tree) (f : Function) (s : Spelling) (graph : inner.Graph) (lev
       pass = and_from (is_among known (label graph well b) && true) true (and_from (is_among known (label graph well b)) true (label-among graph well b (marks all) there) refl) refl;
       labels = refl;
     }
-    item-fine around c rest (planned.tests {b = b} {one = one} {other = two} {body = body} {otherwise = otherwise} is also) (test, yes_place, no_place, exit, inside, first, first_valid, second, second_valid) stands =
+    item-fine around c rest (planned.tests {b = b} {one = one} {other = two} {first = first} {second = second} is also) (test, yes_place, no_place, exit, inside, first_leads, first_valid, second_leads, second_valid) stands =
         let (left, right) = and_parts (may_stand (in_block around) false one) (may_stand (in_block around) false two) stands in
-        test-fine b inside around one two body otherwise test yes_place no_place exit (fine (in_block around) false _ is first_valid left) (fine (in_block around) false _ also second_valid right)
+        let on = is_true_first one two in
+        let may_be : (turn : Bool) → MayBe (in_block around) (in_sides graph rest c) (side turn one two) =
+        λ turn. side-has (MayBe (in_block around) (in_sides graph rest c)) turn one two (first_valid, left) (second_valid, right) in
+        let x = may_be on in
+        let y = may_be (not on) in
+        test-fine b inside around on one two (side on one two) (side (not on) one two) first second test yes_place no_place exit
+        (fine (in_block around) false _ is x.0 x.1) (fine (in_block around) false _ also y.0 y.1) (sides-marked one two)
     item-fine around c rest (planned.chooses {b = b} {arms = arms} {bodies = bodies} are) (e, places, exit, inside, lead, valid) stands =
         let (some, others) = and_parts (has_an_arm arms) (differ (all_cases arms) && arms_may_stand (in_switch around) arms) stands in
         let (apart, stand) = and_parts (differ (all_cases arms)) (arms_may_stand (in_switch around) arms) others in
@@ -366,6 +375,7 @@ module _ (whole : Tree) (f : Function) (s : Spelling) (graph : inner.Graph) (lev
         do-while-fine b inside around on head body lines test yes_place no_place exit (fine (in_loop around) false _ is valid stands)
     item-fine around c rest planned.breaks valid stands = record { writable = stands; marked = refl; pass = refl; labels = refl }
     item-fine around c rest planned.continues valid stands = record { writable = stands; marked = refl; pass = refl; labels = refl }
+    item-fine around c rest planned.does_nothing valid stands = record { writable = refl; marked = refl; pass = refl; labels = refl }
 
     arms-fine : {arms : Arms} {bodies : tree.Arms} (around : Around) (c : Context) → AreArmsText s graph arms bodies → AreValidArms graph all arms c → arms_may_stand around arms ≡ true
         → AreFineArms around arms bodies

@@ -33,10 +33,10 @@ use Rattle.dcc_text.proofs.StmtLaws.{statements-step}
 use Rattle.dcc_control.specs.Plan as plan
 use Rattle.dcc_control.specs.Plan.{Item, Plan, is_marked, is_begun}
 use Rattle.dcc_plan.specs.PlanText as planned
-use Rattle.dcc_plan.specs.PlanText.{text_of_stmt, text_of_test, text_of_way, text_of_choice, text_of_return, IsPlanText, IsItemText}
+use Rattle.dcc_plan.specs.PlanText.{text_of_stmt, text_of_way, text_of_choice, text_of_return, IsPlanText, IsItemText}
 use Rattle.dcc_plan.specs.Programs.{IsGraphText}
 use Rattle.dcc_control.specs.Valid as valid
-use Rattle.dcc_control.specs.Valid.{Point, Before, Leads, Context, item_entry, entry, only_goes, in_do}
+use Rattle.dcc_control.specs.Valid.{Point, Before, Leads, Context, item_entry, entry, only_goes, in_sides, in_do}
 use Rattle.dcc_plan.specs.Laws.{IsCallStep}
 use Rattle.dcc_control.proofs.ListLaws.{drop-first, drop-next, drop-less, drop-all, drop-none}
 use Rattle.dcc_control.proofs.StartLaws.{does-more}
@@ -168,6 +168,11 @@ module _ (G : Premises) (graph : inner.Graph) (inside : Contains G.p.graphs grap
               (jump-comes s graph whole limit text f (well G graph inside) (sound G graph inside) (G.texts.openings graph) (G.texts.lines graph) is.opens is.text (omega arith) t.rest l.to tree.Break x.at x.lines x.rest
               (c.after_break x.rest) steps (λ u function. refl) l.found t t-on mid.function) (λ e. omega arith)
         ]
+
+        -- an empty statement stands where the program is
+        nothing-runs : StepsTo tree.Empty → Counts tree.Empty → mid.stand.context.next ≡ entry graph x.later x.context → Arrives
+        nothing-runs steps count same =
+            stays-put (runs x.lines x.rest) following mid.stand.point mid.stand.leads following-stands (sym same ∙ mid.stand.same) (omega (arith, count)) (stepped tree.Empty steps) (λ e. omega arith)
 
         -- a loop without a test begins a turn
         for-runs : (a : ℕ) (body : Plan) (lines : Lines) → IsPlanText s graph body lines → SoundItem s graph whole (plan.For a body) x.later x.context → StepsTo (tree.Forever lines) → Counts (tree.Forever lines)
@@ -383,7 +388,7 @@ module _ (G : Premises) (graph : inner.Graph) (inside : Contains G.p.graphs grap
                   let u0 = stmt_step text (stmt_text s 2 the_call) x.at before in
                   let u : c.State = after c_step (G.texts.openings callee) u0 in
                   let start = settle-start callee_s callee callee_whole (limit_of G.texts callee) text (G.texts.function callee) callee_well callee_sound (G.texts.openings callee) (G.texts.lines callee) own_text.opens
-                  own_text.text (omega arith) callee_whole (G.texts.lines callee) (G.texts.function callee).last (omega arith) own_text.text callee_sound in
+                  own_text.text (omega arith) callee_whole (G.texts.lines callee) (G.texts.function callee).last (omega arith) own_text.text callee_sound own_text.is_plan.first in
                   let z = is-called fill results own (map (run.value_in i) arguments) callee waits callee_well in
                   let u_on : is_over u.end ≡ false = ap is_over begun_text.holds.end ∙ ap is_over z.end ∙ mid.running in
                   let v : c.State = goes_on start.0.to u in
@@ -451,13 +456,14 @@ module _ (G : Premises) (graph : inner.Graph) (inside : Contains G.p.graphs grap
             ap₂ (text_of_stmt s graph) (sym (ap block_of same)) (sym (ap place_of same))
             ∙ ap (λ o. elim o [ Some y ↦ stmt_text s 2 y | None ↦ tree.Empty ]) (drop-first block.stmts m stmt rest mid.at)
 
-        by-item : (first : Item) (item_stmt : Stmt) → IsItemText s graph first item_stmt → mid.stand.context.next ≡ item_entry graph first x.context → SoundItem s graph whole first x.later x.context
+        by-item : (first : Item) (item_stmt : Stmt) → IsItemText s graph first item_stmt → mid.stand.context.next ≡ item_entry graph first after_it → SoundItem s graph whole first x.later x.context
             → ((tree : Tree) (u : c.State) → step_at tree t.rest u ≡ stmt_step tree item_stmt x.at (goes_on (runs x.lines x.rest) u))
             → left t.rest ≡ suc (inside_count item_stmt + lines_count x.lines + left x.rest) → Reaches false false (moves mid.stand.leads) (left t.rest) t
         by-item (plan.Do a k) item_stmt planned.does same good' steps count =
             any-runs (stepped n again (stmt ∷ rest) b m i t small mid goes x item_stmt steps ∙ ap (λ y. stmt_step text y x.at before) (text-is a k (there ∙ same)))
             (subst (λ q. Leads graph begun q (entry graph x.later x.context)) (sym (ap₂ (λ a' k'. Before a' (suc k')) (ap block_of (there ∙ same)) (ap place_of (there ∙ same)))) good'.0.2) (omega (arith, count))
         by-item plan.Break item_stmt planned.breaks same good' steps count = break-runs n again (stmt ∷ rest) b m i t small mid goes x steps count there same
+        by-item plan.Empty item_stmt planned.does_nothing same good' steps count = nothing-runs n again (stmt ∷ rest) b m i t small mid goes x steps count same
         by-item plan.Continue item_stmt planned.continues same good' steps count = absurd (start-apart x.context.at_continue b m (continue-starts s graph whole x.stands) (there ∙ same))
         by-item (plan.If a one other) item_stmt item_text same good' steps count = absurd (omega (arith, less, ended a (there ∙ same)))
           where
@@ -546,17 +552,18 @@ module _ (G : Premises) (graph : inner.Graph) (inside : Contains G.p.graphs grap
             (loop-runs G graph inside extra last good unstuck b i t end exit-goes true turning body lines x.at (runs x.lines x.rest) (record x.context { next = entry graph x.later x.context }) body_text testing later-stands
             (omega (arith, mid.stand.low, count)) x.at past to (left t.rest) (omega (arith, count)) (inl (omega (arith, count))))
 
-        by-end : (first : Item) (item_stmt : Stmt) → IsItemText s graph first item_stmt → mid.stand.context.next ≡ item_entry graph first x.context → SoundItem s graph whole first x.later x.context
+        by-end : (first : Item) (item_stmt : Stmt) → IsItemText s graph first item_stmt → mid.stand.context.next ≡ item_entry graph first (in_sides graph x.later x.context) → SoundItem s graph whole first x.later x.context
             → ((tree : Tree) (u : c.State) → step_at tree t.rest u ≡ stmt_step tree item_stmt x.at (goes_on (runs x.lines x.rest) u))
             → left t.rest ≡ suc (inside_count item_stmt + lines_count x.lines + left x.rest) → Finishes
         by-end (plan.Do a k) item_stmt item_text same good' steps count =
             absurd (no-place k (subst (λ d. k < length (block_in graph d).stmts) (sym (ap block_of (there ∙ same))) good'.0.1) (ap place_of (there ∙ same)))
-        by-end (plan.If a one other) item_stmt (planned.tests {body = body} {otherwise = otherwise} one_text other_text) same good' steps count =
+        by-end (plan.If a one other) item_stmt (planned.tests {first = first} {second = second} first_text second_text) same good' steps count =
             let here : b ≡ a = ap block_of (there ∙ same) in
             let item = subst (λ d. SoundItem s graph whole (plan.If d one other) x.later x.context) (sym here) good' in
+            let turn = planned.is_true_first one other in
             finished (inner.If item.0.0 item.0.1 item.0.2) item.0.3 refl
-            (if-runs G graph inside extra last good unstuck b i t end exit-goes one other x.later x.context body otherwise (runs x.lines x.rest) one_text other_text item later-stands x.at past
-            (to-step (tree.If (text_of_test s (block_in graph a).exit) body otherwise) steps ∙ ap (λ d. stmt_step text (tree.If (text_of_test s (block_in graph d).exit) body otherwise) x.at past) (sym here))
+            (if-runs G graph inside extra last good unstuck b i t end exit-goes turn one other x.later x.context first second (runs x.lines x.rest) first_text second_text item later-stands x.at past
+            (to-step (tree.If (text_of_way s turn (block_in graph a).exit) first second) steps ∙ ap (λ d. stmt_step text (tree.If (text_of_way s turn (block_in graph d).exit) first second) x.at past) (sym here))
             (left t.rest) (omega (arith, count)) mid.stand.low)
         by-end (plan.Switch a arms) item_stmt (planned.chooses {bodies = bodies} texts) same good' steps count =
             let here : b ≡ a = ap block_of (there ∙ same) in
@@ -582,6 +589,7 @@ module _ (G : Premises) (graph : inner.Graph) (inside : Contains G.p.graphs grap
         by-end (plan.DoWhile turning a top body) item_stmt (planned.tests_last {lines = lines} body_text) same good' steps count =
             do-runs n again [] b m i t small mid goes x turning a top body lines body_text good' steps count (there ∙ same)
         by-end plan.Break item_stmt planned.breaks same good' steps count = break-runs n again [] b m i t small mid goes x steps count there same
+        by-end plan.Empty item_stmt planned.does_nothing same good' steps count = nothing-runs n again [] b m i t small mid goes x steps count same
         by-end plan.Continue item_stmt planned.continues same good' steps count = absurd (start-apart x.context.at_continue b m (continue-starts s graph whole x.stands) (there ∙ same))
         by-end (plan.Mark a) item_stmt item_text same good' steps count = absurd (true≢false (ap is_before (there ∙ same)))
         by-end (plan.Jump a) item_stmt item_text same good' steps count = absurd (true≢false (ap is_before (there ∙ same)))

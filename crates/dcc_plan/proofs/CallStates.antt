@@ -4,7 +4,7 @@ use Rattle.std.specs.Prelude.{◌||◌, if◌then◌else◌, ◌==◌, slice_get
 use Rattle.std.specs.List.{list_any}
 use Rattle.std.proofs.lemmas.Bool.{or_parts}
 use Rattle.dcc_run.specs.End.{is_over}
-use Rattle.dcc_run.specs.Place.{Place}
+use Rattle.dcc_run.specs.ProgramPoint.{ProgramPoint}
 use Rattle.dcc_run.specs.Watched.{is_shown}
 use Rattle.dcc_ir.specs.declared.syntax.Loc.{Loc}
 use Rattle.dcc_ir.specs.declared.syntax.Put.{Put}
@@ -94,7 +94,7 @@ module _ (p : Program) (fill : ℕ) where
     where
       by : (b : Bool) → (b || is_some ((watched_inner p fill).mark s)) ≡ true
       by true = refl
-      by false = ap (λ begins. is_some {T = Place} (if begins then Some (record { entry = s.running.graph.entry; at = s.running.block.at }) else None)) begins
+      by false = ap (λ begins. is_some {T = ProgramPoint} (if begins then Some (record { entry = s.running.graph.entry; at = s.running.block.at }) else None)) begins
 
   going-shown : (place : ℕ) (s : State) → Shown (going_to place s)
   going-shown place s = by (slice_get s.running.graph.blocks place)

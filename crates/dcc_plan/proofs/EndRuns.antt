@@ -24,7 +24,8 @@ use Rattle.dcc_text.specs.Spelling.{Spelling}
 use Rattle.dcc_text.specs.Holding.{IsWithin, Holds, IsWaiting}
 use Rattle.dcc_control.specs.Plan as plan
 use Rattle.dcc_control.specs.Plan.{Plan, Arms, is_begun, arm_with}
-use Rattle.dcc_plan.specs.PlanText.{text_of_test, text_of_way, text_of_choice, text_of_return, IsPlanText, AreArmsText}
+use Rattle.dcc_plan.specs.PlanText as planned
+use Rattle.dcc_plan.specs.PlanText.{text_of_way, text_of_choice, text_of_return, IsPlanText, AreArmsText}
 use Rattle.dcc_plan.specs.Programs.{IsGraphText}
 use Rattle.dcc_control.specs.Valid.{Point, Begin, Leads, Context, way, entry, in_sides, in_arms}
 use Rattle.dcc_control.proofs.ListLaws.{block-at}
@@ -168,18 +169,28 @@ module _ (G : Premises) (graph : inner.Graph) (inside : Contains G.p.graphs grap
   abbrev Following : Plan → Context → Context
   Following later context = record context { next = entry graph later context }
 
-  pub if-runs : (one other later : Plan) (context : Context) (body otherwise : Lines) (rest : Continuation) → IsPlanText s graph one body → IsPlanText s graph other otherwise
+  -- a test, or its opposite, with the side first that it is for
+  pub if-runs : (turn : Bool) (one other later : Plan) (context : Context) (first second : Lines) (rest : Continuation)
+      → IsPlanText s graph (planned.side turn one other) first → IsPlanText s graph (planned.side (not turn) one other) second
       → SoundItem s graph whole (plan.If b one other) later context → Standing rest (Following later context) → (at : ℕ) (past : c.State)
-      → c_step t ≡ on (text_value.value_of (c.scope_of text t) (text_of_test s own.exit)) at past (λ v. goes_on (runs (if is_zero v then otherwise else body) rest) t)
-      → (room : ℕ) → suc (lines_count body + lines_count otherwise + left rest) ≤ room → room ≤ most → Ends room
-  if-runs one other later context body otherwise rest one_text other_text ((test, if_true, if_false, exit, known, first_leads, first_valid, second_leads, second_valid), begins) stands at past to room fits low =
-      let ctx : Context = in_sides graph later context in
-      elim (decided test if_true if_false exit true at past (λ none. goes_on (runs (if none then otherwise else body) rest) t) to) [
-        | inl turned ↦ side test if_true if_false exit true (runs body rest) (record ctx { next = entry graph one ctx }) (entry graph one ctx) first_leads
-            (rests.goes one_text (first_valid, begins.0) stands) refl (omega (arith, fits, low)) room (omega (arith, fits)) turned.0 turned.1
-        | inr ended ↦ side test if_true if_false exit false (runs otherwise rest) (record ctx { next = entry graph other ctx }) (entry graph other ctx) second_leads
-            (rests.goes other_text (second_valid, begins.1) stands) refl (omega (arith, fits, low)) room (omega (arith, fits)) ended.0 ended.1
+      → c_step t ≡ on (text_value.value_of (c.scope_of text t) (text_of_way s turn own.exit)) at past (λ v. goes_on (runs (if is_zero v then second else first) rest) t)
+      → (room : ℕ) → suc (lines_count first + lines_count second + left rest) ≤ room → room ≤ most → Ends room
+  if-runs turn one other later context first second rest first_text second_text ((test, if_true, if_false, exit, known, first_leads, first_valid, second_leads, second_valid), begins) stands at past to room fits low =
+      elim (decided test if_true if_false exit turn at past (λ none. goes_on (runs (if none then second else first) rest) t) to) [
+        | inl turned ↦ goes-to turn first first_text (omega (arith, fits)) turned.0 turned.1
+        | inr ended ↦ goes-to (not turn) second second_text (omega (arith, fits)) ended.0 ended.1
       ]
+    where
+      ctx : Context
+      ctx = in_sides graph later context
+
+      -- to the side for a truth value
+      goes-to : (turn : Bool) (lines : Lines) → IsPlanText s graph (planned.side turn one other) lines → suc (lines_count lines + left rest) ≤ room
+          → c_step t ≡ goes_on (runs lines rest) t → run.going_to (way turn if_true if_false) i ≡ last → Ends room
+      goes-to true lines lines_text few there goes = side test if_true if_false exit true (runs lines rest) (record ctx { next = entry graph one ctx }) (entry graph one ctx) first_leads
+          (rests.goes lines_text (first_valid, begins.0) stands) refl (omega (arith, few, low)) room (omega (arith, few)) there goes
+      goes-to false lines lines_text few there goes = side test if_true if_false exit false (runs lines rest) (record ctx { next = entry graph other ctx }) (entry graph other ctx) second_leads
+          (rests.goes lines_text (second_valid, begins.1) stands) refl (omega (arith, few, low)) room (omega (arith, few)) there goes
 
   -- The test of a loop. Where a turn may begin with a jump, there is room for one.
   pub loop-runs : (first turn : Bool) (body : Plan) (lines : Lines) (loop_at : ℕ) (rest : Continuation) (context : Context) → IsPlanText s graph body lines
@@ -198,7 +209,7 @@ module _ (G : Premises) (graph : inner.Graph) (inside : Contains G.p.graphs grap
           | inr testing_last ↦
               let start = testing.starts testing_last in
               quiet-side testing.test testing.if_true testing.if_false testing.exit turn (runs lines again) (record ctx { next = entry graph body ctx }) (entry graph body ctx) testing.leads
-              turning refl (omega (arith, few)) room (omega (arith, less)) (starts-quiet s graph whole start.0 body lines again body_text start.1) turned.0 turned.1
+              turning refl (omega (arith, few)) room (omega (arith, less)) (starts-quiet s graph whole start.0 body ctx lines again body_text testing.valid.0 start.1) turned.0 turned.1
         ]
         | inr ended ↦ side testing.test testing.if_true testing.if_false testing.exit (not turn) rest context context.next testing.ends stands refl (omega (arith, few)) room (omega (arith, less)) ended.0 ended.1
       ]

@@ -10,6 +10,7 @@ pub mod Returns
 pub mod FirstStates
 pub mod AllowedCalls
 pub mod LabelLaws
+pub mod Sides
 pub mod Rests
 pub mod Settles
 pub mod Settings

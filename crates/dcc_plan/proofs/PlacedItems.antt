@@ -9,10 +9,10 @@ use Rattle.dcc_ir.specs.WellFormed.{is_stmt, is_expr_of, is_exit, is_block}
 use Rattle.dcc_c.specs.Grammar.{outermost, in_switch}
 use Rattle.dcc_c.specs.Rules.{differ}
 use Rattle.dcc_c.proofs.Writable.{are_cases}
-use Rattle.dcc_plan.specs.Allowed.{is_mark, may_stand, item_may_stand, arms_may_stand, GotoPlansMayStand}
-use Rattle.dcc_control.specs.Complete.{completed_item, after_last, completed}
+use Rattle.dcc_plan.specs.Allowed.{may_stand, item_may_stand, arms_may_stand, GotoPlansMayStand}
+use Rattle.dcc_control.specs.Complete.{followed, some_arms, completed, completed_item, completed_arms}
 use Rattle.dcc_control.specs.GotoPlan.{jump, do_all, distinct, places_from, target_arms, goto_exit, goto_blocks}
-use Rattle.dcc_control.specs.Plan.{Item, Do, Mark, Jump, If, Switch, Return, Plan, no_items, item, is_in, all_cases}
+use Rattle.dcc_control.specs.Plan.{Item, Do, Mark, Jump, If, Switch, Return, Plan, no_items, item, arm, is_in, is_mark, all_cases}
 
 -- Numbers that differ.
 
@@ -64,7 +64,7 @@ distinct-in n (m ∷ ns) is = elim (or_cases (m == n) (is_in n (filter (λ k. no
   | inr later ↦ or_right (m == n) (is_in n ns) (distinct-in n ns (from-filter n (λ k. not (k == m)) (distinct ns) later))
 ]
 
-differ-both : (xs ys : List ℕ) → differ xs ≡ true → differ ys ≡ true → ((n : ℕ) → is_in n xs ≡ true → is_in n ys ≡ false) → differ (xs ++ ys) ≡ true
+pub differ-both : (xs ys : List ℕ) → differ xs ≡ true → differ ys ≡ true → ((n : ℕ) → is_in n xs ≡ true → is_in n ys ≡ false) → differ (xs ++ ys) ≡ true
 differ-both [] ys first second apart = second
 differ-both (x ∷ xs) ys first second apart =
     let (front, others) = and_parts (not (is_in x xs)) (differ xs) first in
@@ -174,16 +174,22 @@ arms-stand places (t ∷ targets) few among =
     (cases-from (places_from 0 t places) (places-small 0 t places (omega (arith, few))) (places-some 0 t places (among t (or_left (t == t) (is_in t targets) (eq-eqb t t refl)))))
     (arms-stand places targets few (λ k there. among k (or_right (t == k) (is_in k targets) there)))
 
-choice-stands : (b : ℕ) (places targets : List ℕ) → length places ≤ 65536 → differ targets ≡ true → ((t : ℕ) → is_in t targets ≡ true → is_in t places ≡ true)
-    → item_may_stand outermost (completed_item (Switch b (target_arms places targets))) ≡ true
-choice-stands b places [] few apart among = refl
-choice-stands b places (t ∷ targets) few apart among =
+-- a choice of jumps is completed but for an arm
+targets-completed : (places targets : List ℕ) → completed_arms (target_arms places targets) ≡ target_arms places targets
+targets-completed places [] = refl
+targets-completed places (t ∷ targets) = ap (arm (places_from 0 t places) (jump t)) (targets-completed places targets)
+
+some-stand : (b : ℕ) (places targets : List ℕ) → length places ≤ 65536 → differ targets ≡ true → ((t : ℕ) → is_in t targets ≡ true → is_in t places ≡ true)
+    → item_may_stand outermost (Switch b (some_arms (target_arms places targets))) ≡ true
+some-stand b places [] few apart among = refl
+some-stand b places (t ∷ targets) few apart among =
     and_from (differ (all_cases (target_arms places (t ∷ targets)))) (arms_may_stand (in_switch outermost) (target_arms places (t ∷ targets)))
     (arms-differ places (t ∷ targets) apart) (arms-stand places (t ∷ targets) few among)
 
-choice-no-mark : (b : ℕ) (places targets : List ℕ) → is_mark (completed_item (Switch b (target_arms places targets))) ≡ false
-choice-no-mark b places [] = refl
-choice-no-mark b places (t ∷ targets) = refl
+choice-stands : (b : ℕ) (places targets : List ℕ) → length places ≤ 65536 → differ targets ≡ true → ((t : ℕ) → is_in t targets ≡ true → is_in t places ≡ true)
+    → item_may_stand outermost (completed_item (Switch b (target_arms places targets))) ≡ true
+choice-stands b places targets few apart among =
+    ap (λ arms. item_may_stand outermost (Switch b (some_arms arms))) (targets-completed places targets) ∙ some-stand b places targets few apart among
 
 -- Items.
 
@@ -191,17 +197,14 @@ abbrev Good : Plan → Type 0
 Good plan = may_stand outermost false (completed plan) ≡ true
 
 -- an item that is no label
-item-good : (i : Item) (plan : Plan) → item_may_stand outermost (completed_item i) ≡ true → is_mark (completed_item i) ≡ false → after_last i ≡ no_items → Good plan → Good (item i plan)
-item-good i no_items stands no_mark none good =
-    and_from (item_may_stand outermost (completed_item i)) (may_stand outermost (is_mark (completed_item i)) (after_last i)) stands (ap₂ (may_stand outermost) no_mark none)
-item-good i (item next plan) stands no_mark none good =
-    and_from (item_may_stand outermost (completed_item i)) (may_stand outermost (is_mark (completed_item i)) (completed (item next plan))) stands
-    (ap (λ l. may_stand outermost l (completed (item next plan))) no_mark ∙ good)
+item-good : (i : Item) (plan : Plan) → item_may_stand outermost (completed_item i) ≡ true → is_mark (completed_item i) ≡ false → is_mark i ≡ false → Good plan → Good (item i plan)
+item-good i plan stands no_mark none good =
+    and_from (item_may_stand outermost (completed_item i)) (may_stand outermost (is_mark (completed_item i)) (followed (is_mark i) (completed plan))) stands
+    (ap₂ (λ after before. may_stand outermost after (followed before (completed plan))) no_mark none ∙ good)
 
 mark-good : (b : ℕ) (plan : Plan) → Good plan → Good (item (Mark b) plan)
 mark-good b no_items good = refl
-mark-good b (item i no_items) good = good
-mark-good b (item i (item next plan)) good = good
+mark-good b (item i plan) good = good
 
 all-good : (b m : ℕ) (stmts : List inner.Stmt) (plan : Plan) → Good plan → Good (do_all b m stmts plan)
 all-good b m [] plan good = good
@@ -213,8 +216,7 @@ exit-good bits count b (inner.If test one other) plan formed good = item-good (I
 exit-good bits count b (inner.Switch e places) plan formed good =
     let (two, within) = and_parts (is_expr_of bits 16 e && nat_le (length places) 65536) (list_all (λ place. nat_lt place count) places) formed in
     let few = leb-true (length places) 65536 (and_parts (is_expr_of bits 16 e) (nat_le (length places) 65536) two).1 in
-    item-good (Switch b (target_arms places (distinct places))) plan (choice-stands b places (distinct places) few (distinct-differ places) (λ t. distinct-in t places))
-    (choice-no-mark b places (distinct places)) refl good
+    item-good (Switch b (target_arms places (distinct places))) plan (choice-stands b places (distinct places) few (distinct-differ places) (λ t. distinct-in t places)) refl refl good
 exit-good bits count b (inner.Ret values) plan formed good = item-good (Return b) plan refl refl refl good
 exit-good bits count b inner.Stop plan formed good = good
 

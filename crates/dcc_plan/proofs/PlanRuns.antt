@@ -6,7 +6,7 @@ use Rattle.std.proofs.lemmas.Bool.{or_left, or_right, or_parts, not-true}
 use Rattle.std.proofs.lemmas.List.Elements.{All-contains}
 use Rattle.dcc_run.specs.End.{is_over}
 use Rattle.dcc_run.specs.System.{after}
-use Rattle.dcc_run.specs.Place.{Place}
+use Rattle.dcc_run.specs.ProgramPoint.{ProgramPoint}
 use Rattle.dcc_run.specs.Watched.{is_shown}
 use Rattle.dcc_ir.specs.Families.{Family}
 use Rattle.dcc_ir.specs.Fitting.{AreBytes}
@@ -35,7 +35,7 @@ use Rattle.dcc_plan.specs.PlanText.{IsPlanText, IsItemText, text_of_way}
 use Rattle.dcc_plan.specs.Steps.{steps_in}
 use Rattle.dcc_plan.specs.Programs.{Texts, OpensWith, at_once, one_more, IsGraphText, open_setting, IsProgramText, AreAllKept, text_size, ProgramsCount}
 use Rattle.dcc_control.specs.Valid as valid
-use Rattle.dcc_control.specs.Valid.{Point, Begin, Before, Leads, Context, outside, item_entry, entry, only_goes, has_step}
+use Rattle.dcc_control.specs.Valid.{Point, Begin, Before, Leads, Context, outside, item_entry, entry, in_sides, only_goes, has_step}
 use Rattle.dcc_plan.specs.Laws.{AreSteps, IsTextOf, NeverStuck, AreKept, IsCountedBy, TextsCount, PlansCount}
 use Rattle.dcc_plan.proofs.CallStates.{jump-shown}
 use Rattle.dcc_plan.proofs.KeptLeaps.{keeps, paid, IsKeptLeap, leaps_count, leaps_show, leaps_go_on}
@@ -251,7 +251,7 @@ module _ (G : Premises) where
         begun-here : (a : ℕ) → m.stand.context.next ≡ Begin a → goes_to a ≡ true → goes_to m.b ≡ true
         begun-here a same begun = ap goes_to (ap block_of (there ∙ same)) ∙ begun
 
-        by-item : (first : Item) (stmt : Stmt) → IsItemText s graph first stmt → m.stand.context.next ≡ item_entry graph first x.context → SoundItem s graph whole first x.later x.context
+        by-item : (first : Item) (stmt : Stmt) → IsItemText s graph first stmt → m.stand.context.next ≡ item_entry graph first (in_sides graph x.later x.context) → SoundItem s graph whole first x.later x.context
             → ((tree : Tree) (u : c.State) → step_at tree t.rest u ≡ stmt_step tree stmt x.at (goes_on (runs x.lines x.rest) u))
             → left t.rest ≡ suc (inside_count stmt + lines_count x.lines + left x.rest) → is_jumping t.rest ≡ is_jump_stmt stmt → Leaps
         by-item (plan.Mark a) stmt planned.marks same good steps count jumps =
@@ -261,6 +261,7 @@ module _ (G : Premises) where
         by-item (plan.Jump a) stmt planned.jumps same good steps count jumps = absurd (no-jump there jumps)
         by-item plan.Break stmt planned.breaks same good steps count jumps = absurd (no-jump there jumps)
         by-item plan.Continue stmt planned.continues same good steps count jumps = absurd (no-jump there jumps)
+        by-item plan.Empty stmt planned.does_nothing same good steps count jumps = absurd (no-jump there jumps)
         by-item (plan.Do a k) stmt item_text same good steps count jumps = absurd (true≢false (ap is_begin (there ∙ same)))
         by-item (plan.If a one other) stmt item_text same good steps count jumps = absurd (true≢false (ap is_begin (there ∙ same)))
         by-item (plan.Switch a arms) stmt item_text same good steps count jumps = absurd (true≢false (ap is_begin (there ∙ same)))
@@ -360,8 +361,8 @@ module _ (G : Premises) where
             | at_end none ↦ absurd (true≢false (ap is_begin (sym same ∙ none)))
           ]
 
-  module _ (kept : Place → Bool) (are_kept : AreAllKept G.p G.texts kept) where
-    abbrev place_of : run.State → Place
+  module _ (kept : ProgramPoint → Bool) (are_kept : AreAllKept G.p G.texts kept) where
+    abbrev place_of : run.State → ProgramPoint
     place_of i = record { entry = i.running.graph.entry; at = i.running.block.at }
 
     abbrev Leap : (i : run.State) (t : c.State) → Related G i t → Type 0
@@ -435,7 +436,7 @@ module _ (G : Premises) where
         by (after_call g) same = subst (λ stage. Leap i t (record { graph = r.graph; inside = r.inside; called = r.called; stage = stage })) same (call-leaps r.graph r.inside i t r.called g)
 
   -- The whole runs.
-  module _ (kept : Place → Bool) (are_kept : AreAllKept G.p G.texts kept) (graph : inner.Graph) (others : List inner.Graph) (first : G.p.graphs ≡ graph ∷ others) (none : G.texts.openings graph ≡ 0)
+  module _ (kept : ProgramPoint → Bool) (are_kept : AreAllKept G.p G.texts kept) (graph : inner.Graph) (others : List inner.Graph) (first : G.p.graphs ≡ graph ∷ others) (none : G.texts.openings graph ≡ 0)
       (input : List ℕ) (bytes : AreBytes input) (unstuck : NeverStuck G.p G.fill input) (NoneWait : Alike)
       (holds : Holds (G.texts.spelling graph) (G.texts.matters graph (block_in graph 0) (block_in graph 0).stmts) NoneWait (run.first_state G.p G.fill input) (c.first_state G.tree (G.texts.function graph) G.fill input)) where
     abbrev f : Function
@@ -471,7 +472,7 @@ module _ (G : Premises) where
 
     lead : (x : Settles (G.texts.spelling graph) graph first_plan (limit_of G.texts graph) G.tree f graph_well (sound G graph inside) (G.texts.openings graph) lines (G.each graph inside).opens (G.each graph inside).text (omega arith) begin (entry graph first_plan outside)) × (x.steps ≤ 1)
     lead = settle-start (G.texts.spelling graph) graph first_plan (limit_of G.texts graph) G.tree f graph_well (sound G graph inside) (G.texts.openings graph) lines (G.each graph inside).opens (G.each graph inside).text (omega arith) first_plan lines f.last (omega arith)
-        (G.each graph inside).text (sound G graph inside)
+        (G.each graph inside).text (sound G graph inside) (G.each graph inside).is_plan.first
 
     t0-is : t0 ≡ goes_on begin t0
     t0-is = ap (λ body. goes_on (runs body (ends_function f.last)) t0) whole-body

@@ -3,6 +3,7 @@ use Rattle.std.proofs.Common.{◌≡◌, ℕ, suc, ◌+◌, ◌<◌, ◌≤◌, 
 use Rattle.std.specs.Prelude.{◌⊎◌, ◌||◌, not, if◌then◌else◌, slice_get}
 use Rattle.std.proofs.lemmas.Bool.{or_left, or_right, eq-eqb, eqb-true}
 use Rattle.std.proofs.lemmas.List.Folds.{list_any-append}
+use Rattle.std.proofs.lemmas.Option.{slice_get_cases}
 use Rattle.dcc_ir.specs.Tree as inner
 use Rattle.dcc_ir.specs.Live.{block_in}
 use Rattle.dcc_ir.specs.WellFormed.{IsGraph}
@@ -17,8 +18,9 @@ use Rattle.dcc_control.specs.Plan.{Item, Plan, no_items, item, Arms, marks, item
 use Rattle.dcc_plan.specs.PlanText as planned
 use Rattle.dcc_plan.specs.Steps.{steps_in, stmt_steps, arm_steps}
 use Rattle.dcc_plan.specs.PlanText.{text_of_stmt, text_of_return, text_of_way, IsPlanText, nothing, one_more, IsItemText, AreArmsText}
-use Rattle.dcc_control.specs.Valid.{Point, Begin, Before, Nowhere, Leads, Context, outside, way, end_of, item_entry, entry, IsValid, IsValidItem, AreValidArms}
+use Rattle.dcc_control.specs.Valid.{Point, Begin, Before, Nowhere, Leads, Context, outside, way, end_of, in_sides, item_entry, entry, IsValid, IsValidItem, AreValidArms}
 use Rattle.dcc_plan.proofs.LabelLaws.{label-tested}
+use Rattle.dcc_plan.proofs.Sides.{side-has, sides-marked}
 
 -- How many steps lines have, those inside others too, and how many a statement has after its first one.
 abbrev mutual
@@ -70,11 +72,12 @@ left (tests e body at rest) = suc (left rest)
 left (turns body rest) = left rest
 left (ends_switch rest) = left rest
 
--- the next statement only goes elsewhere
+-- the next statement only goes elsewhere, or on
 abbrev pub is_jump_stmt : Stmt → Bool
 is_jump_stmt (tree.Goto word) = true
 is_jump_stmt tree.Break = true
 is_jump_stmt tree.Continue = true
+is_jump_stmt tree.Empty = true
 is_jump_stmt _ = false
 
 abbrev pub is_jumping : Continuation → Bool
@@ -212,7 +215,7 @@ module _ (s : Spelling) (graph : inner.Graph) (whole : Plan) where
     pub valid : SoundItem first later context
     pub later_valid : Sound later context
     pub stands : Stands limit rest context
-    pub is : next ≡ item_entry graph first context
+    pub is : next ≡ item_entry graph first (in_sides graph later context)
     pub steps : (t : Tree) (u : State) → step_at t k u ≡ stmt_step t stmt at (goes_on (runs lines rest) u)
     pub count : left k ≡ suc (inside_count stmt + lines_count lines + left rest)
     pub jumps : is_jumping k ≡ is_jump_stmt stmt
@@ -464,52 +467,71 @@ module _ (s : Spelling) (graph : inner.Graph) (whole : Plan) where
   in-lists : (limit most b : ℕ) (ones others : List ℕ) (o : Option Continuation) → Search limit most b (is_in b ones || is_in b others) o → Search limit most b (is_in b (ones ++ others)) o
   in-lists limit most b ones others o x = subst (λ has. Search limit most b has o) (sym (list_any-append (λ a. a == b) ones others)) x
 
-  -- a statement of the graph is no label and no jump
+  -- a statement of the graph is no label, and has no others inside
   pub record IsPlain (stmt : Stmt) : Type 0 where
     pub no_label : (word : Word) (at : ℕ) (lines : Lines) (rest : Continuation) → from_label_inside word stmt at lines rest ≡ None
-    pub no_jump : is_jump_stmt stmt ≡ false
     pub no_inside : inside_count stmt ≡ 0
 
   stmt-plain : (stmt : inner.Stmt) → IsPlain (stmt_text s 2 stmt)
-  stmt-plain (inner.Set location e) = record { no_label = λ word at lines rest. refl; no_jump = refl; no_inside = refl }
-  stmt-plain (inner.Fetch location width address) = record { no_label = λ word at lines rest. refl; no_jump = refl; no_inside = refl }
-  stmt-plain (inner.Store width address e) = record { no_label = λ word at lines rest. refl; no_jump = refl; no_inside = refl }
-  stmt-plain (inner.Div location e) = record { no_label = λ word at lines rest. refl; no_jump = refl; no_inside = refl }
-  stmt-plain (inner.Call results entry arguments own) = record { no_label = λ word at lines rest. refl; no_jump = refl; no_inside = refl }
-  stmt-plain (inner.Dos number place argument) = record { no_label = λ word at lines rest. refl; no_jump = refl; no_inside = refl }
+  stmt-plain (inner.Set location e) = record { no_label = λ word at lines rest. refl; no_inside = refl }
+  stmt-plain (inner.Fetch location width address) = record { no_label = λ word at lines rest. refl; no_inside = refl }
+  stmt-plain (inner.Store width address e) = record { no_label = λ word at lines rest. refl; no_inside = refl }
+  stmt-plain (inner.Div location e) = record { no_label = λ word at lines rest. refl; no_inside = refl }
+  stmt-plain (inner.Call results entry arguments own) = record { no_label = λ word at lines rest. refl; no_inside = refl }
+  stmt-plain (inner.Dos number place argument) = record { no_label = λ word at lines rest. refl; no_inside = refl }
 
   pub do-plain : (b m : ℕ) → IsPlain (text_of_stmt s graph b m)
   do-plain b m = by (slice_get (block_in graph b).stmts m)
     where
       by : (o : Option inner.Stmt) → IsPlain (elim o [ Some stmt ↦ stmt_text s 2 stmt | None ↦ tree.Empty ])
       by (Some stmt) = stmt-plain stmt
-      by None = record { no_label = λ word at lines rest. refl; no_jump = refl; no_inside = refl }
+      by None = record { no_label = λ word at lines rest. refl; no_inside = refl }
 
   pub return-plain : (exit : inner.Exit) → IsPlain (text_of_return s exit)
-  return-plain (inner.Goto next) = record { no_label = λ word at lines rest. refl; no_jump = refl; no_inside = refl }
-  return-plain (inner.If test one other) = record { no_label = λ word at lines rest. refl; no_jump = refl; no_inside = refl }
-  return-plain (inner.Switch e places) = record { no_label = λ word at lines rest. refl; no_jump = refl; no_inside = refl }
-  return-plain (inner.Ret values) = record { no_label = λ word at lines rest. refl; no_jump = refl; no_inside = refl }
-  return-plain inner.Stop = record { no_label = λ word at lines rest. refl; no_jump = refl; no_inside = refl }
+  return-plain (inner.Goto next) = record { no_label = λ word at lines rest. refl; no_inside = refl }
+  return-plain (inner.If test one other) = record { no_label = λ word at lines rest. refl; no_inside = refl }
+  return-plain (inner.Switch e places) = record { no_label = λ word at lines rest. refl; no_inside = refl }
+  return-plain (inner.Ret values) = record { no_label = λ word at lines rest. refl; no_inside = refl }
+  return-plain inner.Stop = record { no_label = λ word at lines rest. refl; no_inside = refl }
+
+  -- and no jump, where it is there
+  stmt-quiet : (stmt : inner.Stmt) → is_jump_stmt (stmt_text s 2 stmt) ≡ false
+  stmt-quiet (inner.Set location e) = refl
+  stmt-quiet (inner.Fetch location width address) = refl
+  stmt-quiet (inner.Store width address e) = refl
+  stmt-quiet (inner.Div location e) = refl
+  stmt-quiet (inner.Call results entry arguments own) = refl
+  stmt-quiet (inner.Dos number place argument) = refl
+
+  pub do-quiet : (b m : ℕ) → m < length (block_in graph b).stmts → is_jump_stmt (text_of_stmt s graph b m) ≡ false
+  do-quiet b m less = elim (slice_get_cases (block_in graph b).stmts m).1 [
+    | inl x ↦ ap (λ o. is_jump_stmt (elim o [ Some stmt ↦ stmt_text s 2 stmt | None ↦ tree.Empty ])) x.2 ∙ stmt-quiet x.0
+    | inr past ↦ (let over = past.0 in absurd (omega (arith, less, over)))
+  ]
+
+  pub return-quiet : (exit : inner.Exit) (values : List inner.Expr) → exit ≡ inner.Ret values → is_jump_stmt (text_of_return s exit) ≡ false
+  return-quiet exit values is = ap (λ e. is_jump_stmt (text_of_return s e)) is
 
   -- what starts with an item of a block starts with no jump
-  pub starts-quiet : (head : ℕ) (p : Plan) (lines : Lines) (rest : Continuation) → IsPlanText s graph p lines → starts_with head p ≡ true → is_jumping (runs lines rest) ≡ false
-  starts-quiet head no_items lines rest text is = absurd (true≢false (sym is))
-  starts-quiet head (item i p) no_lines rest text is = elim text [ ]
-  starts-quiet head (item i p) (line stmt at lines) rest (one_more text others) is = by i stmt text is
+  pub starts-quiet : (head : ℕ) (p : Plan) (c : Context) (lines : Lines) (rest : Continuation) → IsPlanText s graph p lines → IsValid graph whole p c → starts_with head p ≡ true
+      → is_jumping (runs lines rest) ≡ false
+  starts-quiet head no_items c lines rest text valid is = absurd (true≢false (sym is))
+  starts-quiet head (item i p) c no_lines rest text valid is = elim text [ ]
+  starts-quiet head (item i p) c (line stmt at lines) rest (one_more text others) valid is = by i stmt text valid.0 is
     where
-      by : (i : Item) (stmt : Stmt) → IsItemText s graph i stmt → plan.is_of head i ≡ true → is_jump_stmt stmt ≡ false
-      by (plan.Do a m) stmt planned.does is = (do-plain a m).no_jump
-      by (plan.If a one other) stmt (planned.tests x y) is = refl
-      by (plan.Switch a arms) stmt (planned.chooses x) is = refl
-      by (plan.Mark a) stmt x is = absurd (true≢false (sym is))
-      by (plan.Jump a) stmt x is = absurd (true≢false (sym is))
-      by (plan.Return a) stmt x is = absurd (true≢false (sym is))
-      by (plan.For a body) stmt x is = absurd (true≢false (sym is))
-      by (plan.While on a body) stmt x is = absurd (true≢false (sym is))
-      by (plan.DoWhile on a head body) stmt x is = absurd (true≢false (sym is))
-      by plan.Break stmt x is = absurd (true≢false (sym is))
-      by plan.Continue stmt x is = absurd (true≢false (sym is))
+      by : (i : Item) (stmt : Stmt) → IsItemText s graph i stmt → IsValidItem graph whole i p c → plan.is_of head i ≡ true → is_jump_stmt stmt ≡ false
+      by (plan.Do a m) stmt planned.does here is = do-quiet a m here.1
+      by (plan.If a one other) stmt (planned.tests x y) here is = refl
+      by (plan.Switch a arms) stmt (planned.chooses x) here is = refl
+      by (plan.Mark a) stmt x here is = absurd (true≢false (sym is))
+      by (plan.Jump a) stmt x here is = absurd (true≢false (sym is))
+      by (plan.Return a) stmt x here is = absurd (true≢false (sym is))
+      by (plan.For a body) stmt x here is = absurd (true≢false (sym is))
+      by (plan.While on a body) stmt x here is = absurd (true≢false (sym is))
+      by (plan.DoWhile on a head body) stmt x here is = absurd (true≢false (sym is))
+      by plan.Break stmt x here is = absurd (true≢false (sym is))
+      by plan.Continue stmt x here is = absurd (true≢false (sym is))
+      by plan.Empty stmt x here is = absurd (true≢false (sym is))
 
   module _ (limit : ℕ) (well : IsGraph graph) (b : ℕ) (known : b < length graph.blocks) where
     abbrev word : Word
@@ -550,12 +572,19 @@ module _ (s : Spelling) (graph : inner.Graph) (whole : Plan) where
       search-item (plan.Do a m) stmt at later lines rest c planned.does valid others later_valid stands few = absent refl ((do-plain a m).no_label word at lines rest)
       search-item (plan.Mark a) stmt at later lines rest c planned.marks valid others later_valid stands few = at-label a at later lines rest c valid others later_valid stands
       search-item (plan.Jump a) stmt at later lines rest c planned.jumps valid others later_valid stands few = absent refl refl
-      search-item (plan.If a one other) stmt at later lines rest c (planned.tests {body = body} {otherwise = otherwise} text text') valid others later_valid stands few =
+      search-item (plan.If a one other) stmt at later lines rest c (planned.tests {first = first} {second = second} text text') valid others later_valid stands few =
           let inside = goes others later_valid stands in
-          in-lists limit _ b (marks one) (marks other) _
-          (in-either limit _ b (is_in b (marks one)) (is_in b (marks other)) _ _
-          (wider (suc (lines_count body + lines_count otherwise + lines_count lines + left rest)) (omega arith) (search-plan one body (runs lines rest) _ text (valid.0.6, valid.1.0) inside (omega (arith, few))))
-          (wider (suc (lines_count body + lines_count otherwise + lines_count lines + left rest)) (omega arith) (search-plan other otherwise (runs lines rest) _ text' (valid.0.8, valid.1.1) inside (omega (arith, few)))))
+          let most = suc (lines_count first + lines_count second + lines_count lines + left rest) in
+          let has : (on : Bool) → Sound (planned.side on one other) (in_sides graph later c) =
+          λ on. side-has (λ p. Sound p (in_sides graph later c)) on one other (valid.0.6, valid.1.0) (valid.0.8, valid.1.1) in
+          let on = planned.is_true_first one other in
+          let here = planned.side on one other in
+          let there = planned.side (not on) one other in
+          subst (λ bs. Search limit most b (is_in b bs) (from_label_inside word stmt at lines rest)) (sides-marked one other)
+          (in-lists limit _ b (marks here) (marks there) _
+          (in-either limit _ b (is_in b (marks here)) (is_in b (marks there)) _ _
+          (wider most (omega arith) (search-plan here first (runs lines rest) _ text (has on) inside (omega (arith, few))))
+          (wider most (omega arith) (search-plan there second (runs lines rest) _ text' (has (not on)) inside (omega (arith, few))))))
       search-item (plan.Switch a arms) stmt at later lines rest c (planned.chooses {bodies = bodies} text) valid others later_valid stands few =
           let inside = leaves (goes others later_valid stands) in
           in-front limit (suc (arms_count bodies + 0 + lines_count lines + left rest)) b (is_in b (arm_marks arms)) (from_label_in_arms word bodies (ends_switch (runs lines rest)))
@@ -576,6 +605,7 @@ module _ (s : Spelling) (graph : inner.Graph) (whole : Plan) where
           (retests text testing (goes others later_valid stands) (omega (arith, few))) (omega (arith, few)))
       search-item plan.Break stmt at later lines rest c planned.breaks valid others later_valid stands few = absent refl refl
       search-item plan.Continue stmt at later lines rest c planned.continues valid others later_valid stands few = absent refl refl
+      search-item plan.Empty stmt at later lines rest c planned.does_nothing valid others later_valid stands few = absent refl refl
 
       search-arms : (arms : Arms) (bodies : tree.Arms) (rest : Continuation) (c : Context) → AreArmsText s graph arms bodies → SoundArms arms c → Stands limit rest c
           → arms_count bodies + left rest ≤ limit → Search limit (arms_count bodies + left rest) b (is_in b (arm_marks arms)) (from_label_in_arms word bodies rest)
@@ -625,6 +655,7 @@ module _ (s : Spelling) (graph : inner.Graph) (whole : Plan) where
     is-begun (plan.DoWhile on b top body) ms ts = are-begun body ms ts
     is-begun plan.Break ms ts = tt
     is-begun plan.Continue ms ts = tt
+    is-begun plan.Empty ms ts = tt
 
     arms-begun : (arms : Arms) → Among (arm_marks arms) → Among (arm_turns arms) → ArmsBegun arms
     arms-begun plan.no_arms ms ts = tt

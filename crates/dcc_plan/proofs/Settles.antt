@@ -11,12 +11,12 @@ use Rattle.dcc_c.specs.Run.{Continuation, ends_function, runs, State, goes_on, j
 use Rattle.dcc_text.specs.Spelling.{Spelling}
 use Rattle.dcc_plan.specs.Labels.{label_at}
 use Rattle.dcc_control.specs.Plan as plan
-use Rattle.dcc_control.specs.Plan.{Item, Plan, no_items, item, is_begun}
+use Rattle.dcc_control.specs.Plan.{Item, Plan, no_items, item, is_begun, is_empty_statement, starts_empty}
 use Rattle.dcc_plan.specs.PlanText as planned
 use Rattle.dcc_plan.specs.PlanText.{IsPlanText, IsItemText}
 use Rattle.dcc_plan.specs.Programs.{OpensWith, at_once, one_more}
-use Rattle.dcc_control.specs.Valid.{Point, Begin, Nowhere, Context, outside, item_entry, entry}
-use Rattle.dcc_plan.proofs.Rests.{Sound, SoundItem, lines_count, inside_count, left, is_jump_stmt, is_jumping, Stands, closes, goes, Lands, AtItem, at_item, at_turn, at_test, at_end, head, break-lands, continue-lands, absent, lands, do-plain, return-plain, search-plan}
+use Rattle.dcc_control.specs.Valid.{Point, Begin, Nowhere, Context, outside, in_sides, item_entry, entry}
+use Rattle.dcc_plan.proofs.Rests.{Sound, SoundItem, lines_count, inside_count, left, is_jump_stmt, is_jumping, Stands, closes, goes, Lands, AtItem, at_item, at_turn, at_test, at_end, head, break-lands, continue-lands, absent, lands, do-quiet, return-quiet, search-plan}
 
 -- assignments have no labels
 opened-label : (word : Word) (count : ℕ) (body lines : Lines) (rest : Continuation) → OpensWith count body lines → from_label word body rest ≡ from_label word lines rest
@@ -98,30 +98,31 @@ module _ (s : Spelling) (graph : inner.Graph) (whole : Plan) (limit : ℕ) (text
   ]
 
   -- From the begin of a text one jump at most leads there.
-  pub settle-start : (p : Plan) (begin : Lines) (at : ℕ) → lines_count begin ≤ limit → IsPlanText s graph p begin → Sound s graph whole p outside
+  pub settle-start : (p : Plan) (begin : Lines) (at : ℕ) → lines_count begin ≤ limit → IsPlanText s graph p begin → Sound s graph whole p outside → starts_empty p ≡ false
       → (x : Settles (runs begin (ends_function at)) (entry graph p outside)) × (x.steps ≤ 1)
-  settle-start no_items begin at few planned.nothing good = (stays _ _ _ (omega (arith, few)) (goes planned.nothing good closes) refl (inr refl), omega arith)
-  settle-start (item i p) begin at few (planned.one_more {stmt = stmt} {at = line_at} {lines = others} text later) good = by i stmt text (good.0.0, good.1.0)
-      (goes (planned.one_more text later) good closes) few
+  settle-start no_items begin at few planned.nothing good full = (stays _ _ _ (omega (arith, few)) (goes planned.nothing good closes) refl (inr refl), omega arith)
+  settle-start (item i p) begin at few (planned.one_more {stmt = stmt} {at = line_at} {lines = others} text later) good full = by i stmt text (good.0.0, good.1.0)
+      (goes (planned.one_more text later) good closes) few full
     where
       -- where the first statement is no jump, or leads nowhere
-      quiet : (i : Item) (stmt : Stmt) → (is_jump_stmt stmt ≡ false) ⊎ (item_entry graph i outside ≡ Nowhere) → Stands s graph whole limit (runs (line stmt line_at others) (ends_function at)) (record outside { next = item_entry graph i outside })
-          → lines_count (line stmt line_at others) ≤ limit → (x : Settles (runs (line stmt line_at others) (ends_function at)) (item_entry graph i outside)) × (x.steps ≤ 1)
+      quiet : (i : Item) (stmt : Stmt) → (is_jump_stmt stmt ≡ false) ⊎ (item_entry graph i (in_sides graph p outside) ≡ Nowhere) → Stands s graph whole limit (runs (line stmt line_at others) (ends_function at)) (record outside { next = item_entry graph i (in_sides graph p outside) })
+          → lines_count (line stmt line_at others) ≤ limit → (x : Settles (runs (line stmt line_at others) (ends_function at)) (item_entry graph i (in_sides graph p outside))) × (x.steps ≤ 1)
       quiet i stmt settled stands few = (stays _ _ _ (omega (arith, few)) stands refl settled, omega arith)
 
-      by : (i : Item) (stmt : Stmt) → IsItemText s graph i stmt → SoundItem s graph whole i p outside → Stands s graph whole limit (runs (line stmt line_at others) (ends_function at)) (record outside { next = item_entry graph i outside })
-          → lines_count (line stmt line_at others) ≤ limit → (x : Settles (runs (line stmt line_at others) (ends_function at)) (item_entry graph i outside)) × (x.steps ≤ 1)
-      by (plan.Do a m) stmt planned.does good stands few = quiet (plan.Do a m) stmt (inl (do-plain s graph whole a m).no_jump) stands few
-      by (plan.Mark a) stmt planned.marks good stands few = quiet (plan.Mark a) stmt (inl refl) stands few
-      by (plan.Jump a) stmt planned.jumps good stands few = jump-lands (runs (line (Goto (label_at graph.blocks a)) line_at others) (ends_function at)) (Begin a) a line_at others (ends_function at) (omega arith) good refl (λ t u. refl)
-      by (plan.If a one other) stmt (planned.tests text' text'') good stands few = quiet (plan.If a one other) stmt (inl refl) stands few
-      by (plan.Switch a arms) stmt (planned.chooses text') good stands few = quiet (plan.Switch a arms) stmt (inl refl) stands few
-      by (plan.Return a) stmt planned.returns good stands few = quiet (plan.Return a) stmt (inl (return-plain s graph whole (block_in graph a).exit).no_jump) stands few
-      by (plan.For a body) stmt (planned.repeats text') good stands few = quiet (plan.For a body) stmt (inl refl) stands few
-      by (plan.While on a body) stmt (planned.tests_first text') good stands few = quiet (plan.While on a body) stmt (inl refl) stands few
-      by (plan.DoWhile on a top body) stmt (planned.tests_last text') good stands few = quiet (plan.DoWhile on a top body) stmt (inl refl) stands few
-      by plan.Break stmt planned.breaks good stands few = quiet plan.Break stmt (inr refl) stands few
-      by plan.Continue stmt planned.continues good stands few = quiet plan.Continue stmt (inr refl) stands few
+      by : (i : Item) (stmt : Stmt) → IsItemText s graph i stmt → SoundItem s graph whole i p outside → Stands s graph whole limit (runs (line stmt line_at others) (ends_function at)) (record outside { next = item_entry graph i (in_sides graph p outside) })
+          → lines_count (line stmt line_at others) ≤ limit → is_empty_statement i ≡ false → (x : Settles (runs (line stmt line_at others) (ends_function at)) (item_entry graph i (in_sides graph p outside))) × (x.steps ≤ 1)
+      by (plan.Do a m) stmt planned.does good stands few full = quiet (plan.Do a m) stmt (inl (do-quiet s graph whole a m good.0.1)) stands few
+      by (plan.Mark a) stmt planned.marks good stands few full = quiet (plan.Mark a) stmt (inl refl) stands few
+      by (plan.Jump a) stmt planned.jumps good stands few full = jump-lands (runs (line (Goto (label_at graph.blocks a)) line_at others) (ends_function at)) (Begin a) a line_at others (ends_function at) (omega arith) good refl (λ t u. refl)
+      by (plan.If a one other) stmt (planned.tests text' text'') good stands few full = quiet (plan.If a one other) stmt (inl refl) stands few
+      by (plan.Switch a arms) stmt (planned.chooses text') good stands few full = quiet (plan.Switch a arms) stmt (inl refl) stands few
+      by (plan.Return a) stmt planned.returns good stands few full = quiet (plan.Return a) stmt (inl (return-quiet s graph whole (block_in graph a).exit good.0.0 good.0.1)) stands few
+      by (plan.For a body) stmt (planned.repeats text') good stands few full = quiet (plan.For a body) stmt (inl refl) stands few
+      by (plan.While on a body) stmt (planned.tests_first text') good stands few full = quiet (plan.While on a body) stmt (inl refl) stands few
+      by (plan.DoWhile on a top body) stmt (planned.tests_last text') good stands few full = quiet (plan.DoWhile on a top body) stmt (inl refl) stands few
+      by plan.Break stmt planned.breaks good stands few full = quiet plan.Break stmt (inr refl) stands few
+      by plan.Continue stmt planned.continues good stands few full = quiet plan.Continue stmt (inr refl) stands few
+      by plan.Empty stmt planned.does_nothing good stands few full = absurd (true≢false full)
 
   -- jumps settle so from each continuation with fewer statements left
   abbrev Later : ℕ → Point → Type 0
@@ -136,15 +137,15 @@ module _ (s : Spelling) (graph : inner.Graph) (whole : Plan) (limit : ℕ) (text
     | at_end none ↦ stays k point c within stands same (inr none)
   ]
     where
-      by : (again : Later n point) (x : AtItem s graph whole limit k c.next) (first : Item) (stmt : Stmt) → IsItemText s graph first stmt → c.next ≡ item_entry graph first x.context
+      by : (again : Later n point) (x : AtItem s graph whole limit k c.next) (first : Item) (stmt : Stmt) → IsItemText s graph first stmt → c.next ≡ item_entry graph first (in_sides graph x.later x.context)
           → SoundItem s graph whole first x.later x.context → ((t : Tree) (u : State) → step_at t k u ≡ stmt_step t stmt x.at (goes_on (runs x.lines x.rest) u))
           → left k ≡ suc (inside_count stmt + lines_count x.lines + left x.rest) → is_jumping k ≡ is_jump_stmt stmt → Settles k point
-      by again x (plan.Do a m) stmt planned.does is good steps count jumps = stays k point c within stands same (inl (jumps ∙ (do-plain s graph whole a m).no_jump))
+      by again x (plan.Do a m) stmt planned.does is good steps count jumps = stays k point c within stands same (inl (jumps ∙ do-quiet s graph whole a m good.0.1))
       by again x (plan.Mark a) stmt planned.marks is good steps count jumps = stays k point c within stands same (inl jumps)
       by again x (plan.Jump a) stmt planned.jumps is good steps count jumps = (jump-lands k point a x.at x.lines x.rest (omega (arith, count)) good (sym is ∙ same) steps).0
       by again x (plan.If a one other) stmt (planned.tests text' text'') is good steps count jumps = stays k point c within stands same (inl jumps)
       by again x (plan.Switch a arms) stmt (planned.chooses text') is good steps count jumps = stays k point c within stands same (inl jumps)
-      by again x (plan.Return a) stmt planned.returns is good steps count jumps = stays k point c within stands same (inl (jumps ∙ (return-plain s graph whole (block_in graph a).exit).no_jump))
+      by again x (plan.Return a) stmt planned.returns is good steps count jumps = stays k point c within stands same (inl (jumps ∙ return-quiet s graph whole (block_in graph a).exit good.0.0 good.0.1))
       by again x (plan.For a p) stmt (planned.repeats text') is good steps count jumps = stays k point c within stands same (inl jumps)
       by again x (plan.While on a p) stmt (planned.tests_first text') is good steps count jumps = stays k point c within stands same (inl jumps)
       by again x (plan.DoWhile on a top p) stmt (planned.tests_last text') is good steps count jumps = stays k point c within stands same (inl jumps)
@@ -166,6 +167,19 @@ module _ (s : Spelling) (graph : inner.Graph) (whole : Plan) (limit : ℕ) (text
                   ∙ there.comes t on function;
             }
       ]
+      by again x plan.Empty stmt planned.does_nothing is good steps count jumps =
+          let there = again (runs x.lines x.rest) (in_sides graph x.later x.context) (omega (arith, small, count)) (omega (arith, within, count)) (goes x.later_text x.later_valid x.stands) (sym is ∙ same) in
+          record {
+            steps = suc there.steps;
+            few = omega (arith, count, there.few);
+            to = there.to;
+            context = there.context;
+            stands = there.stands;
+            is = there.is;
+            settled = there.settled;
+            low_there = there.low_there;
+            comes = λ t on function. ap (after (step text) there.steps) (one-step k t on ∙ steps text (goes_on k t)) ∙ there.comes t on function;
+          }
       by again x plan.Continue stmt planned.continues is good steps count jumps = elim (continue-lands s graph whole x.stands) [
         | inl none ↦ stays k point c within stands same (inr (is ∙ none))
         | inr l ↦ lands-once k point x.context.at_continue (left x.rest) _ (omega (arith, count)) (omega (arith, within, count)) (sym is ∙ same) l

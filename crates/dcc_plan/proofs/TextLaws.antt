@@ -7,8 +7,8 @@ use Rattle.dcc_c.specs.Numbered.{numbered_stmt, numbered_lines, numbered_arms}
 use Rattle.dcc_c.specs.Tree.{Empty}
 use Rattle.dcc_text.specs.Spelling.{Spelling}
 use Rattle.dcc_text.specs.Stmts.{stmt_text}
-use Rattle.dcc_control.specs.Plan.{Item, Do, Mark, Jump, If, Switch, Return, For, While, DoWhile, Break, Continue, Plan, no_items, item, Arms, no_arms, arm}
-use Rattle.dcc_plan.specs.PlanText.{text_of_stmt, text_of_return, plan_text, item_text, arms_text, IsPlanText, nothing, one_more, IsItemText, does, marks, jumps, tests, chooses, returns, repeats, tests_first, tests_last, breaks, continues, AreArmsText, no_more, next_arm}
+use Rattle.dcc_control.specs.Plan.{Item, Do, Mark, Jump, If, Switch, Return, For, While, DoWhile, Break, Continue, Empty as Nothing, Plan, no_items, item, Arms, no_arms, arm}
+use Rattle.dcc_plan.specs.PlanText.{text_of_stmt, text_of_return, plan_text, item_text, arms_text, IsPlanText, nothing, one_more, IsItemText, does, marks, jumps, tests, chooses, returns, repeats, tests_first, tests_last, breaks, continues, does_nothing, AreArmsText, no_more, next_arm}
 
 module _ (s : Spelling) (graph : inner.Graph) where
   -- a statement has no lines inside
@@ -43,7 +43,9 @@ module _ (s : Spelling) (graph : inner.Graph) where
     numbered-item (Do b m) depth at = subst (IsItemText s graph (Do b m)) (sym (do-kept b m depth at)) does
     numbered-item (Mark b) depth at = marks
     numbered-item (Jump b) depth at = jumps
-    numbered-item (If b one other) depth at = tests (numbered-plan one _ _) (numbered-plan other _ _)
+    numbered-item (If b no_items no_items) depth at = tests nothing nothing
+    numbered-item (If b no_items (item i plan)) depth at = tests (numbered-plan (item i plan) _ _) nothing
+    numbered-item (If b (item i plan) other) depth at = tests (numbered-plan (item i plan) _ _) (numbered-plan other _ _)
     numbered-item (Switch b arms) depth at = chooses (numbered-arms arms _ _)
     numbered-item (Return b) depth at = subst (IsItemText s graph (Return b)) (sym (return-kept (block_in graph b).exit depth at)) returns
     numbered-item (For b body) depth at = repeats (numbered-plan body _ _)
@@ -51,6 +53,7 @@ module _ (s : Spelling) (graph : inner.Graph) where
     numbered-item (DoWhile on b head body) depth at = tests_last (numbered-plan body _ _)
     numbered-item Break depth at = breaks
     numbered-item Continue depth at = continues
+    numbered-item Nothing depth at = does_nothing
 
     numbered-arms : (arms : Arms) (depth at : ℕ) → AreArmsText s graph arms (numbered_arms depth at (arms_text s graph arms))
     numbered-arms no_arms depth at = no_more

@@ -1,34 +1,48 @@
 -- The text of an item with others inside, from the texts of these.
-use Rattle.std.proofs.Common.{◌≡◌, ℕ, Bool, List, ◌∷◌, ◌++◌, [], drop, get_or, length, ◌+◌, ◌<◌, Vec, Global, None, sym, ap, ap₂, ◌∙◌}
+use Rattle.std.proofs.Common.{◌≡◌, ℕ, Bool, List, ◌∷◌, ◌++◌, [], drop, get_or, length, ◌+◌, ◌<◌, Vec, Global, None, refl, sym, ap, ap₂, ◌∙◌, arith}
+use Rattle.std.specs.Prelude.{◌==◌, ◌||◌, not, if◌then◌else◌}
+use Rattle.std.proofs.lemmas.Bool.{ne_eqb}
 use Rattle.std.proofs.lemmas.List.{at_drop_more}
 use Rattle.dcc_ir.specs.Live.{block_in}
 use Rattle.dcc_ir.specs.Tree as inner
 use Rattle.dcc_c.specs.declared.syntax.CExpr.{CExpr}
-use Rattle.dcc_c.specs.declared.syntax.CStmt.{If as CIf, Switch as CSwitch, Forever as CForever, While as CWhile, DoWhile as CDoWhile}
+use Rattle.dcc_c.specs.declared.syntax.CStmt.{CStmt, Switch as CSwitch, Forever as CForever, While as CWhile, DoWhile as CDoWhile}
 use Rattle.dcc_c.specs.declared.syntax.Line.{Line}
 use Rattle.dcc_c.specs.declared.syntax.Arm.{Arm as CArm}
 use Rattle.dcc_c.specs.Tree as tree
 use Rattle.dcc_c.specs.Views.{expr_of, stmt_of, lines_of, arms_of as c_arms_of, arm_before}
-use Rattle.dcc_c.proofs.RowLaws.{if-tree, switch-tree, forever-tree, while-tree, do_while-tree}
+use Rattle.dcc_c.proofs.RowLaws.{switch-tree, forever-tree, while-tree, do_while-tree}
 use Rattle.dcc_text.specs.Spelling.{Spelling}
 use Rattle.dcc_control.specs.declared.item.Item.{Item as TheItem, If as IfOf, Switch as SwitchOf, For as ForOf, While as WhileOf, DoWhile as DoWhileOf}
 use Rattle.dcc_control.specs.declared.item.Arm.{Arm as TheArm}
-use Rattle.dcc_plan.specs.PlanText.{text_of_test, text_of_way, text_of_choice, plan_text, item_text, arms_text}
+use Rattle.dcc_plan.specs.PlanText.{text_of_way, text_of_choice, is_true_first, plan_text, item_text, arms_text}
 use Rattle.dcc_control.specs.Views.{item_of, plan_of, arms_of}
 use Rattle.dcc_control.proofs.ItemRows.{if-item, switch-item, for-item, while-item, do-item}
 use Rattle.dcc_plan.proofs.TextRows.{lines_before, lines_before-append, bodies_before, bodies_before-append}
 
+-- the side that comes first, by the items of the sides
+pub first-side : (one other : List TheItem) → (not (length one == 0) || length other == 0) ≡ is_true_first (plan_of one) (plan_of other)
+first-side [] [] = refl
+first-side [] (i ∷ items) = ne_eqb (length (i ∷ items)) 0 (λ none. omega arith)
+first-side (i ∷ items) other = ap (λ none. not none || length other == 0) (ne_eqb (length (i ∷ items)) 0 (λ none. omega arith))
+
 module _ (s : Spelling) (graph : inner.Graph) where
-  pub if-text : (i : TheItem) (b : ℕ) (one other : Vec TheItem Global) (first second : List TheItem) (test : CExpr) (body otherwise : Vec Line Global)
-      → i ≡ IfOf b one other → first ≡ one.items → second ≡ other.items
-      → expr_of test ≡ text_of_test s (block_in graph b).exit → lines_of body.items ≡ plan_text s graph (plan_of first)
-      → lines_of otherwise.items ≡ plan_text s graph (plan_of second) → stmt_of (CIf test body otherwise) ≡ item_text s graph (item_of i)
-  if-text i b one other first second test body otherwise is of_one of_other test_is body_is otherwise_is =
-      if-tree test body otherwise
-      ∙ ap (λ e. tree.If e (lines_of body.items) (lines_of otherwise.items)) test_is
-      ∙ ap₂ (tree.If (text_of_test s (block_in graph b).exit))
-      (body_is ∙ ap (λ items. plan_text s graph (plan_of items)) of_one)
-      (otherwise_is ∙ ap (λ items. plan_text s graph (plan_of items)) of_other)
+  -- the statement of a test for a truth, with the lines for true and the lines for false
+  abbrev test_stmt : Bool → tree.Expr → tree.Lines → tree.Lines → tree.Stmt
+  test_stmt on e body otherwise = tree.If e (if on then body else otherwise) (if on then otherwise else body)
+
+  pub if-text : (i : TheItem) (b : ℕ) (one other : Vec TheItem Global) (on : Bool) (test : CExpr) (body otherwise : Vec Line Global) (made : CStmt)
+      → i ≡ IfOf b one other → on ≡ is_true_first (plan_of one.items) (plan_of other.items)
+      → expr_of test ≡ text_of_way s on (block_in graph b).exit → lines_of body.items ≡ plan_text s graph (plan_of one.items)
+      → lines_of otherwise.items ≡ plan_text s graph (plan_of other.items)
+      → stmt_of made ≡ test_stmt on (expr_of test) (lines_of body.items) (lines_of otherwise.items) → stmt_of made ≡ item_text s graph (item_of i)
+  if-text i b one other on test body otherwise made is on_is test_is body_is otherwise_is made_is =
+      let text : List TheItem → tree.Lines = λ items. plan_text s graph (plan_of items) in
+      let e : Bool → tree.Expr = λ turn. text_of_way s turn (block_in graph b).exit in
+      made_is
+      ∙ ap (λ x. test_stmt on x (lines_of body.items) (lines_of otherwise.items)) test_is
+      ∙ ap₂ (test_stmt on (e on)) body_is otherwise_is
+      ∙ ap (λ turn. test_stmt turn (e turn) (text one.items) (text other.items)) on_is
       ∙ ap (item_text s graph) (sym (if-item b one other))
       ∙ ap (λ x. item_text s graph (item_of x)) (sym is)
 

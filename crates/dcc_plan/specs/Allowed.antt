@@ -18,16 +18,12 @@ use Rattle.dcc_text.specs.Spelling.{Spelling}
 use Rattle.dcc_text.specs.Stmts.{stmt_text}
 use Rattle.dcc_control.specs.Complete.{completed}
 use Rattle.dcc_control.specs.GotoPlan.{goto_plan}
-use Rattle.dcc_control.specs.Plan.{Item, Mark, If, Switch, For, While, DoWhile, Break, Continue, Plan, no_items, item}
-use Rattle.dcc_control.specs.Plan.{Arms, no_arms, arm, all_cases}
+use Rattle.dcc_control.specs.Plan.{Item, If, Switch, For, While, DoWhile, Break, Continue, Plan, no_items, item}
+use Rattle.dcc_control.specs.Plan.{Arms, no_arms, arm, all_cases, is_mark}
 use Rattle.dcc_plan.specs.PlanText.{IsPlanText}
 use Rattle.dcc_control.specs.Valid.{IsPlanOf}
 
 -- Where items may stand.
-
-abbrev pub is_mark : Item → Bool
-is_mark (Mark b) = true
-is_mark _ = false
 
 abbrev pub has_an_arm : Arms → Bool
 has_an_arm no_arms = false

@@ -1,7 +1,7 @@
 -- Laws of the texts of plans.
 use Rattle.std.specs.Prelude.{◌≡◌, ◌≢◌, ℕ, ◌<◌, ◌≤◌, ◌⊎◌, Bool, true, List, [], ◌∷◌, length, All, Contains}
 use Rattle.dcc_run.specs.End.{Stuck, is_over}
-use Rattle.dcc_run.specs.Place.{Place}
+use Rattle.dcc_run.specs.ProgramPoint.{ProgramPoint}
 use Rattle.dcc_run.specs.System.{after, end_after}
 use Rattle.dcc_run.specs.Visits.{visits, visits_of}
 use Rattle.dcc_run.specs.Watched.{is_shown}
@@ -92,12 +92,12 @@ NeverStuck p fill input = (n at : ℕ)
     → end_after (inner_run.inner_system p fill) n (inner_run.first_state p fill input) ≢ Stuck at
 
 -- The kept places are the blocks of the graph that the text has a step for.
-abbrev pub AreKept : inner.Graph → Plan → (Place → Bool) → Type 0
+abbrev pub AreKept : inner.Graph → Plan → (ProgramPoint → Bool) → Type 0
 AreKept graph plan kept = (b : ℕ) → b < length graph.blocks
     → kept (record { entry = graph.entry; at = (block_in graph b).at }) ≡ has_step graph plan b
 
 -- The text counts the program's visits; of the program each state is seen, and it visits ever more kept blocks or ends.
-pub record IsCountedBy (kept : Place → Bool) (p : inner.Program) (tree : Tree) (f : Function) (fill : ℕ)
+pub record IsCountedBy (kept : ProgramPoint → Bool) (p : inner.Program) (tree : Tree) (f : Function) (fill : ℕ)
     (input : List ℕ) (within : ℕ) : Type 0 where
   pub counts : Counts kept (inner_run.watched_inner p fill) (inner_run.first_state p fill input)
       (text_system tree) (text_run.first_state tree f fill input) within
@@ -117,7 +117,7 @@ IsCounted p tree f fill input within = IsCountedBy (λ place. true) p tree f fil
 -- stuck: it makes a step at least for each kept block, and at most as many for each block as there are in the text.
 abbrev pub TextsCount : Family → Alike → Type 0
 TextsCount family AreAlike = (p : inner.Program) (graph : inner.Graph) (s : Spelling) (plan : Plan)
-    (tree : Tree) (f : Function) (fill : ℕ) (input : List ℕ) (kept : Place → Bool)
+    (tree : Tree) (f : Function) (fill : ℕ) (input : List ℕ) (kept : ProgramPoint → Bool)
     → IsTextOf p graph s family plan f → AreKept graph plan kept → AreBytes input → NeverStuck p fill input
     → Holds s (family (block_in graph 0) (block_in graph 0).stmts) AreAlike (inner_run.first_state p fill input)
     (text_run.first_state tree f fill input)

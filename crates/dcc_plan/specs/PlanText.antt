@@ -1,5 +1,5 @@
 -- The text of a plan.
-use Rattle.std.specs.Prelude.{ℕ, Bool, true, false, List, slice_get, Some, None}
+use Rattle.std.specs.Prelude.{ℕ, Bool, true, false, not, if◌then◌else◌, List, slice_get, Some, None}
 use Rattle.dcc_ir.specs.Tree as inner
 use Rattle.dcc_ir.specs.Live.{block_in}
 use Rattle.dcc_c.specs.declared.syntax.Base.TheVariants.{Int}
@@ -42,6 +42,16 @@ abbrev pub text_of_return : Spelling → inner.Exit → Stmt
 text_of_return s (inner.Ret values) = ret_text s values
 text_of_return s _ = Empty
 
+-- Whether the text of a test has the side of true first. Where the side of false alone has items, its lines come first,
+-- and the text tests the opposite: no text has an empty side and then an `else`.
+abbrev pub is_true_first : Plan → Plan → Bool
+is_true_first no_items (item i plan) = false
+is_true_first one other = true
+
+-- the side of a test for a truth value
+abbrev pub side : Bool → Plan → Plan → Plan
+side on one other = if on then one else other
+
 abbrev mutual
   -- the lines of a plan, not numbered yet
   pub plan_text : Spelling → inner.Graph → Plan → Lines
@@ -53,7 +63,10 @@ abbrev mutual
   item_text s graph (plan.Mark b) = Label (label_at graph.blocks b)
   item_text s graph (plan.Jump b) = Goto (label_at graph.blocks b)
   item_text s graph (plan.If b one other) =
-      If (text_of_test s (block_in graph b).exit) (plan_text s graph one) (plan_text s graph other)
+      let on = is_true_first one other in
+      let body = plan_text s graph one in
+      let otherwise = plan_text s graph other in
+      If (text_of_way s on (block_in graph b).exit) (if on then body else otherwise) (if on then otherwise else body)
   item_text s graph (plan.Switch b arms) =
       Switch (text_of_choice s (block_in graph b).exit) (arms_text s graph arms) no_arms
   item_text s graph (plan.Return b) = text_of_return s (block_in graph b).exit
@@ -64,6 +77,7 @@ abbrev mutual
       DoWhile (plan_text s graph body) (text_of_way s on (block_in graph b).exit)
   item_text s graph plan.Break = Break
   item_text s graph plan.Continue = Continue
+  item_text s graph plan.Empty = Empty
 
   pub arms_text : Spelling → inner.Graph → plan.Arms → Arms
   arms_text s graph plan.no_arms = no_arms
@@ -82,9 +96,11 @@ mutual
     does : {b m : ℕ} → IsItemText s graph (plan.Do b m) (text_of_stmt s graph b m)
     marks : {b : ℕ} → IsItemText s graph (plan.Mark b) (Label (label_at graph.blocks b))
     jumps : {b : ℕ} → IsItemText s graph (plan.Jump b) (Goto (label_at graph.blocks b))
-    tests : {b : ℕ} {one other : Plan} {body otherwise : Lines} → IsPlanText s graph one body
-        → IsPlanText s graph other otherwise
-        → IsItemText s graph (plan.If b one other) (If (text_of_test s (block_in graph b).exit) body otherwise)
+    tests : {b : ℕ} {one other : Plan} {first second : Lines}
+        → IsPlanText s graph (side (is_true_first one other) one other) first
+        → IsPlanText s graph (side (not (is_true_first one other)) one other) second
+        → IsItemText s graph (plan.If b one other)
+        (If (text_of_way s (is_true_first one other) (block_in graph b).exit) first second)
     chooses : {b : ℕ} {arms : plan.Arms} {bodies : Arms} → AreArmsText s graph arms bodies
         → IsItemText s graph (plan.Switch b arms) (Switch (text_of_choice s (block_in graph b).exit) bodies no_arms)
     returns : {b : ℕ} → IsItemText s graph (plan.Return b) (text_of_return s (block_in graph b).exit)
@@ -96,6 +112,7 @@ mutual
         → IsItemText s graph (plan.DoWhile on b head body) (DoWhile lines (text_of_way s on (block_in graph b).exit))
     breaks : IsItemText s graph plan.Break Break
     continues : IsItemText s graph plan.Continue Continue
+    does_nothing : IsItemText s graph plan.Empty Empty
 
   -- the arms are the text of the plan's
   pub data AreArmsText (s : Spelling) (graph : inner.Graph) : plan.Arms → Arms → Type 0 where

@@ -1,6 +1,6 @@
 -- The text of a whole program: a function for each graph.
 use Rattle.std.specs.Prelude.{◌≡◌, ℕ, suc, ◌+◌, ◌≤◌, Bool, List, [], ◌∷◌, length, map, All, Contains}
-use Rattle.dcc_run.specs.Place.{Place}
+use Rattle.dcc_run.specs.ProgramPoint.{ProgramPoint}
 use Rattle.dcc_ir.specs.Families.{Family}
 use Rattle.dcc_ir.specs.Fitting.{AreBytes}
 use Rattle.dcc_ir.specs.Tree as inner
@@ -70,7 +70,7 @@ pub record IsProgramText (p : inner.Program) (opens : Opens) (texts : Texts) (tr
   pub few : All (λ g. All GivesFew g.blocks) p.graphs
 
 -- The kept places are the blocks that the text has a step for.
-abbrev pub AreAllKept : inner.Program → Texts → (Place → Bool) → Type 0
+abbrev pub AreAllKept : inner.Program → Texts → (ProgramPoint → Bool) → Type 0
 AreAllKept p texts kept = (graph : inner.Graph) → Contains p.graphs graph → AreKept graph (texts.plan graph) kept
 
 -- the steps of the functions, and one for each function
@@ -83,7 +83,7 @@ text_size (f ∷ functions) = suc (steps_in f.body) + text_size functions
 -- its call's return is paid for with the block.
 abbrev pub ProgramsCount : Opens → Texts → Type 0
 ProgramsCount opens texts = (p : inner.Program) (tree : Tree) (graph : inner.Graph) (others : List inner.Graph)
-    (fill : ℕ) (input : List ℕ) (kept : Place → Bool) → IsProgramText p opens texts tree
+    (fill : ℕ) (input : List ℕ) (kept : ProgramPoint → Bool) → IsProgramText p opens texts tree
     → IsBeginning opens (open_setting texts) p tree graph others → AreAllKept p texts kept
     → AreBytes input → NeverStuck p fill input
     → (within : ℕ) → text_size tree.functions ≤ within

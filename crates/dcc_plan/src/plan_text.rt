@@ -1,9 +1,10 @@
 //! The text of a plan, its lines not numbered yet.
 
-ghost use Rattle.std.specs.Prelude.{◌≡◌, IfOk, map, string_bytes};
+ghost use Rattle.std.specs.Prelude.{◌≡◌, IfOk, if◌then◌else◌, map, string_bytes};
 ghost use Rattle.dcc_ir.specs.Live.{block_in};
 ghost use Rattle.std.specs.Prelude.{option_map};
 ghost use Rattle.dcc_ir.specs.Views.{block_of, exit_of, expr_of as inner_of, graph_of};
+ghost use Rattle.dcc_c.specs.Tree.{If};
 ghost use Rattle.dcc_c.specs.Views.{expr_of, stmt_of, lines_of, arms_of as c_arms_of};
 ghost use Rattle.dcc_variables.specs.Functions.{ret_value};
 ghost use Rattle.dcc_plan.specs.Labels as labels;
@@ -143,6 +144,26 @@ fn return_at<S: Spells>(alloc: Global, s: &S, graph: &Graph, b: u32) -> Result<C
     }
 }
 
+// Whether the text of a test has the side of true first, and not the only side with items, that of false.
+fn is_true_first(one: &[Item], other: &[Item]) -> bool
+    ensures { result ≡ spec.is_true_first (plan_of one.now) (plan_of other.now) }
+{
+    !one.is_empty() || other.is_empty()
+}
+
+// The statement of a test that is for this truth, with the lines for true and the lines for false.
+fn if_stmt(truth: bool, test: CExpr, body: Vec<Line>, otherwise: Vec<Line>) -> CStmt
+    ensures { stmt_of result ≡ If (expr_of test)
+        (if truth then lines_of body.items else lines_of otherwise.items)
+        (if truth then lines_of otherwise.items else lines_of body.items) }
+{
+    if truth {
+        CStmt::If(test, body, otherwise)
+    } else {
+        CStmt::If(test, otherwise, body)
+    }
+}
+
 // The text of an item.
 #[cycle(text)]
 fn item_text<S: Spells>(
@@ -161,8 +182,9 @@ fn item_text<S: Spells>(
         Item::If(b, one, other) => {
             let body = plan_text(alloc, s, graph, one)?;
             let otherwise = plan_text(alloc, s, graph, other)?;
-            let test = test_at(alloc, s, graph, *b)?;
-            Ok(CStmt::If(test, body, otherwise))
+            let on = is_true_first(one, other);
+            let test = way_at(alloc, s, graph, on, *b)?;
+            Ok(if_stmt(on, test, body, otherwise))
         }
         Item::Switch(b, arms) => {
             let value = choice_at(alloc, s, graph, *b)?;
@@ -186,6 +208,7 @@ fn item_text<S: Spells>(
         }
         Item::Break => Ok(CStmt::Break),
         Item::Continue => Ok(CStmt::Continue),
+        Item::Empty => Ok(CStmt::Empty),
     }
 }
 

@@ -3,13 +3,14 @@ use Rattle.std.proofs.Common.{◌≡◌, ℕ, zero, suc, ◌≤◌, ◌<◌, ◌
 use Rattle.std.specs.Prelude.{◌==◌, ◌&&◌, ◌||◌, not}
 use Rattle.std.proofs.lemmas.List.{drop_more, drop_all, append_assoc, append-nil, get_or-set_same, get_or-set_other}
 use Rattle.std.specs.List.{list_any}
-use Rattle.std.proofs.lemmas.Bool.{and_from, or_left, not_from_false, eqb-true, eq-eqb, false_from_ne_true}
+use Rattle.std.proofs.lemmas.Bool.{and_from, or_left, not_from_false, eqb-true, eq-eqb}
 use Rattle.dcc_ir.specs.WellFormed.{all_differ}
 use Rattle.dcc_control.specs.Plan.{If, Switch, For, While, DoWhile, is_in, marks, turns, item_marks, item_turns, arm_marks, arm_turns}
 use Rattle.dcc_control.specs.Views.{item_of, plan_of, arms_of}
 use Rattle.dcc_control.specs.declared.item.Item.{Item as TheItem, If as IfOf, Switch as SwitchOf, For as ForOf, While as WhileOf, DoWhile as DoWhileOf}
 use Rattle.dcc_control.specs.declared.item.Arm.{Arm as TheArm}
 use Rattle.dcc_control.proofs.ItemRows.{if-item, switch-item, for-item, while-item, do-item}
+use Rattle.dcc_control.proofs.ListLaws.{turned}
 use Rattle.dcc_plan_check.specs.declared.labels.Noted.{Noted}
 use Rattle.dcc_plan_check.specs.Checked.{Notes}
 
@@ -109,18 +110,6 @@ notes-do i on b head body given a n is of_body notes =
     subst (λ x. Notes a (item_marks x) (item_turns x) n) (sym same) notes
 
 -- Flags.
-
--- whether a number is another is told either way round
-eqb-turned : (a b : ℕ) → (a == b) ≡ (b == a)
-eqb-turned a b = by (a == b) refl
-  where
-    by : (same : Bool) → (a == b) ≡ same → (a == b) ≡ (b == a)
-    by true is = is ∙ sym (eq-eqb b a (sym (eqb-true a b is)))
-    by false is = is ∙ sym (false_from_ne_true (b == a) (λ back. true≢false (sym (eq-eqb a b (sym (eqb-true b a back))) ∙ is)))
-
-turned : (n : ℕ) (ns : List ℕ) → list_any (λ m. n == m) ns ≡ is_in n ns
-turned n [] = refl
-turned n (m ∷ ns) = ap₂ (λ x y. x || y) (eqb-turned n m) (turned n ns)
 
 -- which blocks of a list without repetition are flagged
 pub record AreFlagged (flags : List Bool) (blocks : List ℕ) : Type 0 where

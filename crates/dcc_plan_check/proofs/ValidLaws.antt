@@ -1,12 +1,12 @@
 -- What the test of a plan tells of an item and of what follows it.
-use Rattle.std.proofs.Common.{◌≡◌, ℕ, ◌≤◌, ◌<◌, ◌+◌, Bool, true, false, List, [], ◌∷◌, length, drop, get_or, Vec, Global, Some, refl, sym, ap, ap₂, ◌∙◌, subst, arith}
+use Rattle.std.proofs.Common.{◌≡◌, ℕ, ◌≤◌, ◌<◌, ◌+◌, Bool, true, false, List, [], ◌∷◌, length, drop, get_or, Vec, Global, Some, refl, sym, ap, ap₂, ◌∙◌, subst, true≢false, arith}
 use Rattle.std.specs.Prelude.{slice_get, if◌then◌else◌}
 use Rattle.std.proofs.Math.Nat.{max-le}
 use Rattle.std.proofs.lemmas.List.{drop_more, drop_all}
 use Rattle.dcc_ir.specs.Live.{block_in}
 use Rattle.dcc_ir.specs.Tree as inner
-use Rattle.dcc_control.specs.Plan.{Item, Do, Mark, Jump, If, Switch, Return, For, While, DoWhile, Break, Continue, Plan, no_items, item, Arms, no_arms, arm, arm_with, is_in, is_begun, is_marked, nests, item_nests}
-use Rattle.dcc_control.specs.Valid.{Begin, Before, Leads, Context, outside, entry, item_entry, IsValidBy, IsValidItemBy}
+use Rattle.dcc_control.specs.Plan.{Item, Do, Mark, Jump, If, Switch, Return, For, While, DoWhile, Break, Continue, Empty, Plan, no_items, item, Arms, no_arms, arm, arm_with, is_empty_statement, starts_empty, is_in, is_begun, is_marked, nests, item_nests}
+use Rattle.dcc_control.specs.Valid.{Point, Begin, Before, Leads, Context, outside, entry, item_entry, IsValidBy, IsValidItemBy}
 use Rattle.dcc_control.specs.Views.{item_of, plan_of, arms_of}
 use Rattle.dcc_control.specs.declared.item.Item.{Item as TheItem, If as IfOf, Switch as SwitchOf, For as ForOf}
 use Rattle.dcc_control.specs.declared.item.Arm.{Arm as TheArm}
@@ -33,6 +33,31 @@ with-rest graph begun marked (While on b body) plan c v = v
 with-rest graph begun marked (DoWhile on b head body) plan c v = v
 with-rest graph begun marked Break plan c v = v
 with-rest graph begun marked Continue plan c v = v
+with-rest graph begun marked Empty plan c v = v
+
+-- Where items start.
+
+-- another item than an empty statement starts so whatever follows, and an empty statement where what follows does
+item-alone : (graph : inner.Graph) (i : Item) (c : Context) (next : Point) → is_empty_statement i ≡ false → item_entry graph i (record c { next = next }) ≡ item_entry graph i c
+item-alone graph Empty c next is = absurd (true≢false is)
+item-alone graph _ c next is = refl
+
+item-empty : (graph : inner.Graph) (i : Item) (c : Context) → is_empty_statement i ≡ true → item_entry graph i c ≡ c.next
+item-empty graph Empty c is = refl
+item-empty graph _ c is = absurd (true≢false (sym is))
+
+-- the items that are left, where the first of them is an empty statement, and where it is another
+module _ (graph : inner.Graph) (items : List TheItem) (k : ℕ) (i : TheItem) (c : Context) (within : k < length items) (is : i ≡ get_or items k i) where
+  left-is : drop k items ≡ i ∷ drop (k + 1) items
+  left-is = drop_more items k i within ∙ ap (λ x. x ∷ drop (k + 1) items) (sym is)
+
+  pub entry-found : is_empty_statement (item_of i) ≡ false → item_entry graph (item_of i) c ≡ entry graph (plan_of (drop k items)) c
+  entry-found some =
+      sym (ap (λ l. entry graph (plan_of l) c) left-is ∙ item-alone graph (item_of i) c (entry graph (plan_of (drop (k + 1) items)) c) some)
+
+  pub entry-passed : is_empty_statement (item_of i) ≡ true → entry graph (plan_of (drop k items)) c ≡ entry graph (plan_of (drop (k + 1) items)) c
+  entry-passed none =
+      ap (λ l. entry graph (plan_of l) c) left-is ∙ item-empty graph (item_of i) (record c { next = entry graph (plan_of (drop (k + 1) items)) c }) none
 
 -- The first arm with a case, among those that are left.
 
@@ -58,7 +83,7 @@ module _ (graph : inner.Graph) (labels : Labels) where
   stands-none a = record { fits = record { valid = tt; nesting = omega arith }; at = refl }
 
   pub stands-one : (i : Item) (plan : Plan) (a : Around) (next now : PointOf) → Stands plan a next
-      → FitsItem graph labels i (record a { next = next }) → point_of now ≡ item_entry graph i (context_of a) → Stands (item i plan) a now
+      → FitsItem graph labels i (record a { next = next }) → point_of now ≡ item_entry graph i (context_of (record a { next = next })) → Stands (item i plan) a now
   stands-one i plan a next now rest fits is =
       let begun : ℕ → Bool = is_begun_in labels.begun.items in
       let marked : ℕ → Bool = is_marked_in labels.marked.items in
@@ -67,13 +92,13 @@ module _ (graph : inner.Graph) (labels : Labels) where
       subst (λ p. IsValidItemBy graph begun marked i no_items (record c { next = p })) rest.at fits.valid in
       record {
         fits = record { valid = (with-rest graph begun marked i plan c valid, rest.fits.valid); nesting = max-le fits.nesting rest.fits.nesting };
-        at = is;
+        at = is ∙ ap (λ p. item_entry graph i (record c { next = p })) rest.at;
       }
 
   -- what is left of a list of items, one further back
   pub stands-step : (items : List TheItem) (k : ℕ) (i : TheItem) (a : Around) (next now : PointOf) → k < length items → i ≡ get_or items k i
       → Stands (plan_of (drop (k + 1) items)) a next → FitsItem graph labels (item_of i) (record a { next = next })
-      → point_of now ≡ item_entry graph (item_of i) (context_of a) → Stands (plan_of (drop k items)) a now
+      → point_of now ≡ item_entry graph (item_of i) (context_of (record a { next = next })) → Stands (plan_of (drop k items)) a now
   stands-step items k i a next now within is rest fits entry_is =
       let left : drop k items ≡ i ∷ drop (k + 1) items = drop_more items k i within ∙ ap (λ x. x ∷ drop (k + 1) items) (sym is) in
       subst (λ l. Stands (plan_of l) a now) (sym left) (stands-one (item_of i) (plan_of (drop (k + 1) items)) a next now rest fits entry_is)
@@ -157,11 +182,11 @@ module _ (graph : inner.Graph) (labels : Labels) where
       subst (λ x. FitsItem graph labels x a) (ap (λ x. For b (plan_of x)) of_body ∙ sym (for-item b body) ∙ ap item_of (sym is)) fits
 
   -- a plan that fits by its own labels is one of the graph
-  pub is-structured : (plan : Plan) → AreLabels plan labels
+  pub is-structured : (plan : Plan) → AreLabels plan labels → starts_empty plan ≡ false
       → Leads graph (is_begun_in labels.begun.items) (Begin 0) (entry graph plan outside)
       → Fits graph labels plan (record { next = NowhereOf; at_break = NowhereOf; at_continue = NowhereOf; room = 200 })
       → IsStructured graph plan
-  is-structured plan are lead fits =
+  is-structured plan are first lead fits =
       let follows = follows-still graph (is_begun_in labels.begun.items) (is_begun plan) (is_marked_in labels.marked.items) (is_marked plan)
       are.begun are.marked (Begin 0) plan outside (record { valid = fits.valid; leads = lead }) in
-      record { valid = record { starts = follows.leads; valid = follows.valid; labels = are.once }; nesting = fits.nesting }
+      record { valid = record { starts = follows.leads; valid = follows.valid; labels = are.once; first = first }; nesting = fits.nesting }

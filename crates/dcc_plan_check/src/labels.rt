@@ -59,7 +59,12 @@ fn note_item(noted: &mut Noted, item: &Item) -> Result<(), AllocError>
             note_items(noted, body)?;
             Ok(())
         }
-        Item::Do(..) | Item::Jump(_) | Item::Return(_) | Item::Break | Item::Continue => Ok(()),
+        Item::Do(..)
+        | Item::Jump(_)
+        | Item::Return(_)
+        | Item::Break
+        | Item::Continue
+        | Item::Empty => Ok(()),
     }
 }
 

@@ -4,7 +4,8 @@ ghost use Rattle.std.specs.Prelude.{◌≡◌, ◌<◌, ℕ, true, List, length,
 ghost use Rattle.dcc_ir.specs.Live.{block_in};
 ghost use Rattle.dcc_ir.specs.Tree.{Expr, If as Test, Switch as Choice, Ret};
 ghost use Rattle.dcc_ir.specs.Views.{graph_of};
-ghost use Rattle.dcc_control.specs.Plan.{arm_with, If as TestItem, Switch as ChoiceItem, For as LoopItem};
+ghost use Rattle.dcc_control.specs.Plan.{arm_with, is_empty_statement, starts_empty};
+ghost use Rattle.dcc_control.specs.Plan.{If as TestItem, Switch as ChoiceItem, For as LoopItem};
 ghost use Rattle.dcc_control.specs.Valid.{Begin, Leads, end_of, entry, item_entry};
 ghost use Rattle.dcc_control.specs.Views.{item_of, plan_of, arms_of};
 ghost use Rattle.dcc_plan_check.specs.Checked.{point_of, context_of, is_begun_in, is_marked_in, FitsItem, Fits, FitArms};
@@ -43,7 +44,7 @@ fn end_of(graph: &Graph, b: u32) -> Point
     }
 }
 
-// The point that an item stands for.
+// The point that an item stands for, where the graph is at the next point behind it.
 fn item_entry(graph: &Graph, item: &Item, a: Around) -> Point
     ensures { point_of result ≡ item_entry (graph_of graph.now) (item_of item.now) (context_of a) }
 {
@@ -59,16 +60,36 @@ fn item_entry(graph: &Graph, item: &Item, a: Around) -> Point
         Item::DoWhile(_, _, head, _) => Point::Before(*head, 0),
         Item::Break => a.at_break,
         Item::Continue => a.at_continue,
+        Item::Empty => a.next,
     }
+}
+
+// Whether the item is an empty statement.
+fn is_empty_statement(item: &Item) -> bool
+    ensures { result ≡ is_empty_statement (item_of item.now) }
+{
+    matches!(item, Item::Empty)
 }
 
 // The point that a plan stands for.
 fn entry(graph: &Graph, items: &[Item], a: Around) -> Point
     ensures { point_of result ≡ entry (graph_of graph.now) (plan_of items.now) (context_of a) }
 {
+    for item in items {
+        if !is_empty_statement(item) {
+            return item_entry(graph, item, a);
+        }
+    }
+    a.next
+}
+
+// Whether the first item is an empty statement.
+fn starts_empty(items: &[Item]) -> bool
+    ensures { result ≡ starts_empty (plan_of items.now) }
+{
     match items.first() {
-        Some(item) => item_entry(graph, item, a),
-        None => a.next,
+        Some(item) => is_empty_statement(item),
+        None => false,
     }
 }
 
@@ -306,7 +327,7 @@ fn is_valid(graph: &Graph, labels: &Labels, items: &[Item], a: Around) -> bool
         if !is_valid_item(graph, labels, item, Around { next, ..a }) {
             return false;
         }
-        next = item_entry(graph, item, a);
+        next = item_entry(graph, item, Around { next, ..a });
     }
     true
 }
@@ -324,6 +345,9 @@ pub fn is_structured(alloc: Global, graph: &Graph, items: &[Item]) -> Result<boo
         at_continue: Point::Nowhere,
         room: MOST_NESTED,
     };
+    if starts_empty(items) {
+        return Ok(false);
+    }
     let start = entry(graph, items, outside);
     if !leads(graph, &labels.begun, Point::Begin(0), start) {
         return Ok(false);

@@ -138,7 +138,7 @@ impl<'a> Code<'a> {
 }
 
 /// Resolves an expression, where there is one.
-pub fn resolve_option(
+pub(crate) fn resolve_option(
     alloc: Global,
     names: &Names<'_, '_, '_>,
     e: &Option<CExpr>,
@@ -152,7 +152,7 @@ pub fn resolve_option(
 }
 
 /// Resolves expressions.
-pub fn resolve_all(
+pub(crate) fn resolve_all(
     alloc: Global,
     names: &Names<'_, '_, '_>,
     list: &[CExpr],

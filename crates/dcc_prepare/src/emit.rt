@@ -66,7 +66,7 @@ impl Following {
 
 /// Makes the points of statements. The answer is the point where they begin.
 #[cycle(emit)]
-pub fn emit_lines<'a>(
+pub(crate) fn emit_lines<'a>(
     context: &Context<'_, '_, '_>,
     lines: &'a [Line],
     following: Following,

@@ -14,7 +14,7 @@ use std::alloc::{AllocError, Global};
 use std::collections::BTreeMap;
 
 /// Where the names whose addresses the body takes stand among all of them.
-pub fn names_taken<'a>(
+pub(crate) fn names_taken<'a>(
     alloc: Global,
     body: &'a [Line],
 ) -> Result<BTreeMap<&'a str, usize>, AllocError>

@@ -5,12 +5,13 @@ use Rattle.std.proofs.lemmas.Option.{slice_get_within, slice_get-get_or}
 use Rattle.std.proofs.lemmas.List.{length-map, get_or-map}
 use Rattle.std.proofs.lemmas.List.Elements.{All-contains, Contains-get_or, Contains-append_left, Contains-append_right, Contains-append_cases, Contains-push_cases}
 use Rattle.std.proofs.lemmas.List.Sorted.{IsPermutation-cons, All-permutation, Contains-permutation}
-use Rattle.dcc_prog.specs.declared.image.Image.{Image}
+use Rattle.dcc_machine.specs.declared.image.Image.{Image}
 use Rattle.dcc_prog.specs.declared.procedure.Layout.{Layout}
 use Rattle.dcc_prog.specs.declared.procedure.Node.{Node}
 use Rattle.dcc_prog.specs.declared.procedure.Proc.{Proc}
+use Rattle.dcc_prog.specs.declared.refusal.ConstructKind.{ConstructKind}
 use Rattle.dcc_prog.specs.declared.refusal.LimitName.{LimitName}
-use Rattle.dcc_prog.specs.declared.instr.Op.TheVariants.{Call}
+use Rattle.dcc_machine.specs.declared.instr.Op.TheVariants.{Call}
 use Rattle.dcc_prog.specs.Trail.{StandsAt, IsNode, IsEntry, start, called}
 use Rattle.dcc_prog.specs.Construct.{HasNumber, IsAtNode, IsOfTrails}
 use Rattle.dcc_prog.specs.Limit.{HasMany, IsNodeOf, IsAbove, procedures, instructions, total, entries}
@@ -134,7 +135,7 @@ module _ (image : Image) (layout : Layout) (x : Proc) (xs sorted : List Proc)
         entry_is = o.entry_is;
       }
 
-  no-construct : (kind at : ℕ) → ¬ IsOfTrails kind image layout at
+  no-construct : (kind : ConstructKind) (at : ℕ) → ¬ IsOfTrails kind image layout at
   no-construct kind at h =
       let o = one h.entry h.is_entry in
       o.is.clean kind at (subst (λ e. IsNode image layout e at) (sym o.entry_is) h.node)

@@ -1,13 +1,14 @@
 -- Why an instruction is refused, in terms of constructs, counts and trails.
 use Rattle.std.proofs.Common.{◌≡◌, inl, inr, ℕ, Bool, true, false, ◌==◌, ◌||◌, if◌then◌else◌, Option, Some, None, refl, sym, ap, ◌∙◌, subst, eq-eqb, eqb-true}
 use Rattle.dcc_num.specs.declared.Reg.{Reg}
-use Rattle.dcc_prog.specs.declared.image.Image.{Image}
+use Rattle.dcc_machine.specs.declared.image.Image.{Image}
 use Rattle.dcc_prog.specs.declared.procedure.Layout.{Layout}
-use Rattle.dcc_prog.specs.declared.instr.Op.TheVariants.{Table, Call, Ret, Int21}
-use Rattle.dcc_prog.specs.declared.refusal.construct.TheConstants.{OUTSIDE, INDIRECT_JUMP, INDIRECT_CALL, DOS_NUMBER, ENTRY_RETURN}
+use Rattle.dcc_machine.specs.declared.instr.Op.TheVariants.{Table, Call, Ret, Int21}
+use Rattle.dcc_prog.specs.declared.refusal.ConstructKind.{ConstructKind}
+use Rattle.dcc_prog.specs.declared.refusal.ConstructKind.TheVariants.{OutsideProfile, IndirectJump, IndirectCall, DosNumber, EntryReturn}
 use Rattle.dcc_prog.specs.declared.refusal.Refusal.{Refusal}
 use Rattle.dcc_prog.specs.declared.refusal.Refusal.TheVariants.{Construct}
-use Rattle.dcc_prog.specs.Writes.{is_same_register}
+use Rattle.dcc_machine.specs.Writes.{is_same_register}
 use Rattle.dcc_prog.specs.Trail.{code_within, instruction_in, StandsAt, IsEntry}
 use Rattle.dcc_prog.specs.Construct.{HasIndirect, is_dos_number, HasNumber, LacksTable, IsFormless, HasAh, HasNoNumber, not_known, other_number, ReturnsFromEntry, returns, calls, IsAtNode, unknown, indirect_jump, formless, indirect_call, dos_number, entry_return, IsOfTrails}
 use Rattle.dcc_prog.specs.Construct as construct
@@ -33,21 +34,21 @@ module _ (image : Image) (layout : Layout) (entry at reg : ℕ) (none : instruct
 
   pub kind-indirect :
       IsAtNode image layout entry at
-      (if (reg == 2) || (reg == 3) then INDIRECT_CALL else if (reg == 4) || (reg == 5) then INDIRECT_JUMP else OUTSIDE)
+      (if (reg == 2) || (reg == 3) then IndirectCall else if (reg == 4) || (reg == 5) then IndirectJump else OutsideProfile)
   kind-indirect =
       elim (reg == 2) as
-      (λ b. (reg == 2) ≡ b → IsAtNode image layout entry at (if b || (reg == 3) then 4 else if (reg == 4) || (reg == 5) then 3 else 2)) [
+      (λ b. (reg == 2) ≡ b → IsAtNode image layout entry at (if b || (reg == 3) then IndirectCall else if (reg == 4) || (reg == 5) then IndirectJump else OutsideProfile)) [
         | true ↦ λ e. indirect_call (inl (same-reg 2 e))
         | false ↦
             λ e2. elim (reg == 3) as
-            (λ b. (reg == 3) ≡ b → IsAtNode image layout entry at (if b then 4 else if (reg == 4) || (reg == 5) then 3 else 2)) [
+            (λ b. (reg == 3) ≡ b → IsAtNode image layout entry at (if b then IndirectCall else if (reg == 4) || (reg == 5) then IndirectJump else OutsideProfile)) [
               | true ↦ λ e. indirect_call (inr (same-reg 3 e))
               | false ↦
                   λ e3. elim (reg == 4) as
-                  (λ b. (reg == 4) ≡ b → IsAtNode image layout entry at (if b || (reg == 5) then 3 else 2)) [
+                  (λ b. (reg == 4) ≡ b → IsAtNode image layout entry at (if b || (reg == 5) then IndirectJump else OutsideProfile)) [
                     | true ↦ λ e. indirect_jump (inl (same-reg 4 e))
                     | false ↦
-                        λ e4. elim (reg == 5) as (λ b. (reg == 5) ≡ b → IsAtNode image layout entry at (if b then 3 else 2)) [
+                        λ e4. elim (reg == 5) as (λ b. (reg == 5) ≡ b → IsAtNode image layout entry at (if b then IndirectJump else OutsideProfile)) [
                           | true ↦ λ e. indirect_jump (inr (same-reg 5 e))
                           | false ↦ λ e5. unknown (record {
                             none = none;
@@ -61,7 +62,7 @@ module _ (image : Image) (layout : Layout) (entry at reg : ℕ) (none : instruct
 
 pub kind-none :
     (image : Image) (layout : Layout) (entry at : ℕ) → instruction_in image layout at ≡ None
-    → ((reg : ℕ) → ¬ HasIndirect (code_within image layout) at reg) → IsAtNode image layout entry at 2
+    → ((reg : ℕ) → ¬ HasIndirect (code_within image layout) at reg) → IsAtNode image layout entry at OutsideProfile
 kind-none image layout entry at none lacks = unknown (record {
   none = none;
   no_jump = λ j. elim j [ inl k ↦ lacks 4 k | inr k ↦ lacks 5 k ];
@@ -74,7 +75,7 @@ module _ (image : Image) (layout : Layout) (entry at : ℕ) (known : Known) (is_
     (w : IsWitnessed image layout entry at known) where
   -- a construct at a node that is reached
   pub construct-here :
-      (kind : ℕ) → IsAtNode image layout entry at kind → IsRefusedByTrails image layout (Construct kind at)
+      (kind : ConstructKind) → IsAtNode image layout entry at kind → IsRefusedByTrails image layout (Construct kind at)
   construct-here kind stands = refused.construct (record {
     entry = entry;
     is_entry = is_entry;
@@ -114,8 +115,8 @@ module _ (image : Image) (layout : Layout) (entry at : ℕ) (known : Known) (is_
             refl refl d.apart
         by (Some n) e = other n e (is_dos_number n) refl
 
-    pub number-refused : ¬ HasDosNumber known → IsRefusedByTrails image layout (Construct DOS_NUMBER at)
-    number-refused lacks = construct-here DOS_NUMBER (dos_number (no-number lacks))
+    pub number-refused : ¬ HasDosNumber known → IsRefusedByTrails image layout (Construct DosNumber at)
+    number-refused lacks = construct-here DosNumber (dos_number (no-number lacks))
 
   module _ (r : Reg) (table : ℕ) (stands : StandsAt image layout at (Table r table)) where
     has-number :
@@ -176,17 +177,17 @@ module _ (image : Image) (layout : Layout) (entry at : ℕ) (known : Known) (is_
     pub table-refused :
         (refusal : Refusal) → IsTableFault image layout at known r table refusal
         → IsRefusedByTrails image layout refusal
-    table-refused _ (no_number none) = construct-here INDIRECT_JUMP (formless (formless-none none))
+    table-refused _ (no_number none) = construct-here IndirectJump (formless (formless-none none))
     table-refused _ (many {number} is more) = refused.limit (entries is_entry (number-here number is) more)
     table-refused _ (outside {number} is few past) =
-        construct-here INDIRECT_JUMP
+        construct-here IndirectJump
         (formless (construct.no_table (number-here number is) few (record { register = r; table = table; stands = stands; outside = past })))
 
   pub return-refused :
       (count : ℕ) → entry ≡ layout.start_ip → StandsAt image layout at (Ret count)
-      → IsRefusedByTrails image layout (Construct ENTRY_RETURN at)
-  return-refused count first stands = construct-here ENTRY_RETURN (entry_return (returns first stands))
+      → IsRefusedByTrails image layout (Construct EntryReturn at)
+  return-refused count first stands = construct-here EntryReturn (entry_return (returns first stands))
 
   pub call-refused :
-      StandsAt image layout at (Call layout.start_ip) → IsRefusedByTrails image layout (Construct ENTRY_RETURN at)
-  call-refused stands = construct-here ENTRY_RETURN (entry_return (calls stands))
+      StandsAt image layout at (Call layout.start_ip) → IsRefusedByTrails image layout (Construct EntryReturn at)
+  call-refused stands = construct-here EntryReturn (entry_return (calls stands))

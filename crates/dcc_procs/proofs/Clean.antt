@@ -2,12 +2,13 @@
 use Rattle.std.proofs.Common.{◌≡◌, ℕ, ◌≤◌, false, not, ◌||◌, List, ◌∷◌, Option, Some, None, refl, sym, ap, ◌∙◌, subst, arith}
 use Rattle.dcc_num.specs.declared.Reg.{Reg}
 use Rattle.dcc_num.specs.declared.Reg.TheVariants.{Ax}
-use Rattle.dcc_prog.specs.declared.image.Image.{Image}
+use Rattle.dcc_machine.specs.declared.image.Image.{Image}
 use Rattle.dcc_prog.specs.declared.procedure.Layout.{Layout}
-use Rattle.dcc_prog.specs.declared.instr.Instr.{Instr}
-use Rattle.dcc_prog.specs.declared.instr.Op.{Op}
-use Rattle.dcc_prog.specs.declared.instr.Op.TheVariants.{Table, Call, Ret, Int21}
-use Rattle.dcc_prog.specs.MzImage.{IsLoaded}
+use Rattle.dcc_prog.specs.declared.refusal.ConstructKind.{ConstructKind}
+use Rattle.dcc_machine.specs.declared.instr.Instr.{Instr}
+use Rattle.dcc_machine.specs.declared.instr.Op.{Op}
+use Rattle.dcc_machine.specs.declared.instr.Op.TheVariants.{Table, Call, Ret, Int21}
+use Rattle.dcc_machine.specs.MzImage.{IsLoaded}
 use Rattle.dcc_prog.specs.Trail.{StandsAt, table_number, IsTrail, IsNode}
 use Rattle.dcc_prog.specs.FrameForm.{is_frame_form}
 use Rattle.dcc_prog.specs.Prepared.{IsUnprepared}
@@ -160,7 +161,7 @@ module _ (image : Image) (layout : Layout) (loaded : IsLoaded image) (entry : �
       apart (let e = both in cc)
 
   pub no-construct :
-      ((at : ℕ) → IsNode image layout entry at → ¬ IsUnprepared image layout entry at) → (kind at : ℕ)
+      ((at : ℕ) → IsNode image layout entry at → ¬ IsUnprepared image layout entry at) → (kind : ConstructKind) (at : ℕ)
       → IsNode image layout entry at → ¬ IsAtNode image layout entry at kind
   no-construct prepared _ at node (unknown u) =
       let k = known-at at node in let clash = sym u.none ∙ k.accepted.found in cc

@@ -6,16 +6,17 @@ use Rattle.std.proofs.lemmas.List.{length-set, get_or_default, get_or-set_same, 
 use Rattle.std.proofs.lemmas.List.Elements.{Contains-get_or}
 use Rattle.dcc_num.specs.declared.Width.{Width}
 use Rattle.dcc_num.specs.declared.Width.TheVariants.{Byte as byte_width, Word as word_width}
-use Rattle.dcc_prog.specs.declared.image.Image.{Image}
+use Rattle.dcc_machine.specs.declared.image.Image.{Image}
 use Rattle.dcc_prog.specs.declared.procedure.Layout.{Layout}
-use Rattle.dcc_prog.specs.declared.instr.Unary.{Unary}
-use Rattle.dcc_prog.specs.declared.instr.Unary.TheVariants.{Div, Idiv}
-use Rattle.dcc_prog.specs.declared.instr.Op.{Op}
-use Rattle.dcc_prog.specs.declared.instr.Op.TheVariants.{Unary as UnaryOp}
-use Rattle.dcc_prog.specs.Machine.{operand_width}
-use Rattle.dcc_prog.specs.declared.instr.Instr.{Instr}
+use Rattle.dcc_machine.specs.declared.instr.Unary.{Unary}
+use Rattle.dcc_machine.specs.declared.instr.Unary.TheVariants.{Div, Idiv}
+use Rattle.dcc_machine.specs.declared.instr.Op.{Op}
+use Rattle.dcc_machine.specs.declared.instr.Op.TheVariants.{Unary as UnaryOp}
+use Rattle.dcc_machine.specs.Machine.{operand_width}
+use Rattle.dcc_machine.specs.declared.instr.Instr.{Instr}
 use Rattle.dcc_prog.specs.Trail.{instruction_in, StandsAt, IsTrail, IsNode, IsEdge, IsSolePredecessor, IsEntry}
-use Rattle.dcc_prog.specs.Prepared.{prepares, keeps_dividend, is_division, IsPrepared, nearest, further, IsUnprepared}
+use Rattle.dcc_machine.specs.Operations.{is_division}
+use Rattle.dcc_prog.specs.Prepared.{prepares, keeps_dividend, IsPrepared, nearest, further, IsUnprepared}
 use Rattle.dcc_prog.specs.Construct.{division as division_stands}
 use Rattle.dcc_prog.specs.Refused.{IsRefusedByTrails, construct}
 use Rattle.dcc_prog.specs.declared.refusal.Refusal.{Refusal}

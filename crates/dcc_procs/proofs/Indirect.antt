@@ -4,20 +4,20 @@ use Rattle.std.specs.Prelude.{find}
 use Rattle.std.proofs.lemmas.Bool.{cases_lt}
 use Rattle.std.proofs.lemmas.List.{get_or_past}
 use Rattle.std.proofs.lemmas.List.Elements.{All-take, All-drop}
-use Rattle.dcc_prog.specs.declared.cpu.Cpu.{Cpu}
-use Rattle.dcc_prog.specs.declared.cpu.Cpu.TheVariants.{I8086, I186}
-use Rattle.dcc_prog.specs.declared.image.Image.{Image}
+use Rattle.dcc_machine.specs.declared.cpu.Cpu.{Cpu}
+use Rattle.dcc_machine.specs.declared.cpu.Cpu.TheVariants.{I8086, I186}
+use Rattle.dcc_machine.specs.declared.image.Image.{Image}
 use Rattle.dcc_prog.specs.declared.procedure.Layout.{Layout}
-use Rattle.dcc_prog.specs.declared.instr.Instr.{Instr}
-use Rattle.dcc_prog.specs.Bytes.{byte_at}
-use Rattle.dcc_prog.specs.Code.{code_of}
-use Rattle.dcc_prog.specs.MzImage.{IsLoaded}
-use Rattle.dcc_prog.specs.Operands.{reg_field}
-use Rattle.dcc_prog.specs.Table.{Row, BytePattern, table, fits, this_byte, any_operand, instruction_at}
+use Rattle.dcc_machine.specs.declared.instr.Instr.{Instr}
+use Rattle.dcc_machine.specs.Bytes.{byte_at}
+use Rattle.dcc_machine.specs.Code.{code_of}
+use Rattle.dcc_machine.specs.MzImage.{IsLoaded}
+use Rattle.dcc_machine.specs.Operands.{reg_field}
+use Rattle.dcc_machine.specs.Table.{Row, BytePattern, table, fits, this_byte, any_operand, instruction_at}
 use Rattle.dcc_prog.specs.Trail.{code_within, instruction_in}
 use Rattle.dcc_prog.specs.Construct.{HasIndirect, IsIndirectJump, IsIndirectCall}
-use Rattle.dcc_prog.proofs.TableLaws.{and_left, and_both, find-fits, find-within, rows_within, instruction-row}
-use Rattle.dcc_prog.proofs.MzImageLaws.{All-loaded}
+use Rattle.dcc_machine.proofs.TableLaws.{and_left, and_both, find-fits, find-within, rows_within, instruction-row}
+use Rattle.dcc_machine.proofs.MzImageLaws.{All-loaded}
 use Rattle.dcc_decode.proofs.Forms.{fits-this, fits-any_operand}
 
 -- the bytes FFh and a ModRM byte with a reg field from 2 to 5

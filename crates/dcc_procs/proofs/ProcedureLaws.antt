@@ -4,11 +4,11 @@ use Rattle.std.specs.List.Sorted.{IsNonDecreasingBy}
 use Rattle.std.proofs.lemmas.List.{length-map, get_or-map}
 use Rattle.std.proofs.lemmas.List.Elements.{All-contains, All-map}
 use Rattle.std.proofs.lemmas.List.Sorted.{IsPermutation-sym, Contains-permutation}
-use Rattle.dcc_prog.specs.declared.image.Image.{Image}
+use Rattle.dcc_machine.specs.declared.image.Image.{Image}
 use Rattle.dcc_prog.specs.declared.procedure.Layout.{Layout}
 use Rattle.dcc_prog.specs.declared.procedure.Node.{Node}
 use Rattle.dcc_prog.specs.declared.procedure.Proc.{Proc}
-use Rattle.dcc_prog.specs.MzImage.{IsLoaded}
+use Rattle.dcc_machine.specs.MzImage.{IsLoaded}
 use Rattle.dcc_prog.specs.Trail.{IsNode}
 use Rattle.dcc_prog.specs.Prepared.{IsUnprepared}
 use Rattle.dcc_prog.specs.Found.{IsFound}

@@ -3,18 +3,19 @@ use Rattle.std.proofs.Common.{◌≡◌, ◌⊎◌, inl, inr, ℕ, Bool, true, f
 use Rattle.dcc_num.specs.declared.Reg.{Reg}
 use Rattle.dcc_num.specs.declared.Reg.TheVariants.{Ax, Cx, Dx, Bx, Sp, Bp, Si, Di}
 use Rattle.dcc_num.specs.declared.Half.TheVariants.{Low, High}
-use Rattle.dcc_prog.specs.declared.image.Image.{Image}
+use Rattle.dcc_machine.specs.declared.image.Image.{Image}
 use Rattle.dcc_prog.specs.declared.procedure.Layout.{Layout}
-use Rattle.dcc_prog.specs.declared.instr.Alu.TheVariants.{Xor, Cmp}
-use Rattle.dcc_prog.specs.declared.instr.Shift.TheVariants.{Shl}
-use Rattle.dcc_prog.specs.declared.instr.Count.TheVariants.{One}
-use Rattle.dcc_prog.specs.declared.instr.Operand.TheVariants.{Word, Byte, Const}
-use Rattle.dcc_prog.specs.declared.instr.Op.{Op}
-use Rattle.dcc_prog.specs.declared.instr.Op.TheVariants.{Alu as AluOp, Shift as ShiftOp, Mov, Table}
-use Rattle.dcc_prog.specs.declared.instr.Instr.{Instr}
-use Rattle.dcc_prog.specs.Writes.{is_same_register, writes_half}
-use Rattle.dcc_prog.specs.Machine.{reg_number}
-use Rattle.dcc_prog.specs.Trail.{instruction_in, next_of, constant_to_ah, known_ah, ah_after, operation_in, is_general, moved_from, is_doubling, clears_upper, compared_with, al_compared_with, is_bounds_test, is_test_to, number_before_test, greatest_in, greatest_doubled, table_number, table_targets, targets_of, op_successors, instr_successors, successors}
+use Rattle.dcc_machine.specs.declared.instr.Alu.TheVariants.{Xor, Cmp}
+use Rattle.dcc_machine.specs.declared.instr.Shift.TheVariants.{Shl}
+use Rattle.dcc_machine.specs.declared.instr.Count.TheVariants.{One}
+use Rattle.dcc_machine.specs.declared.instr.Operand.TheVariants.{Word, Byte, Const}
+use Rattle.dcc_machine.specs.declared.instr.Op.{Op}
+use Rattle.dcc_machine.specs.declared.instr.Op.TheVariants.{Alu as AluOp, Shift as ShiftOp, Mov, Table}
+use Rattle.dcc_machine.specs.declared.instr.Instr.{Instr}
+use Rattle.dcc_machine.specs.Writes.{is_same_register, writes_half}
+use Rattle.dcc_machine.specs.Machine.{reg_number, is_general}
+use Rattle.dcc_machine.specs.Successors.{next_of, op_successors}
+use Rattle.dcc_prog.specs.Trail.{instruction_in, constant_to_ah, known_ah, ah_after, operation_in, moved_from, is_doubling, clears_upper, compared_with, al_compared_with, is_bounds_test, is_test_to, number_before_test, greatest_in, greatest_doubled, table_number, table_targets, targets_of, instr_successors, successors}
 use Rattle.dcc_procs.specs.declared.table.Form.{Form}
 use Rattle.dcc_procs.specs.declared.table.Form.TheVariants.{Compared, AlCompared, InRange, AlInRange, Doubled}
 use Rattle.dcc_procs.specs.Known.{form_begun, continued, first_of, form_after, moved_to, index_of, index_after, number_of, told_after, told, targets_by, successors_by}

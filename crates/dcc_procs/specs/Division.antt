@@ -3,20 +3,21 @@
 use Rattle.std.specs.Prelude.{◌≡◌, ℕ, Bool, true, false, not, ◌&&◌, ◌||◌, List, get_or, Option, Some, None}
 use Rattle.dcc_num.specs.declared.Width.{Width}
 use Rattle.dcc_num.specs.declared.Width.TheVariants.{Byte as byte_width, Word as word_width}
-use Rattle.dcc_prog.specs.declared.image.Image.{Image}
+use Rattle.dcc_machine.specs.declared.image.Image.{Image}
 use Rattle.dcc_prog.specs.declared.procedure.Layout.{Layout}
-use Rattle.dcc_prog.specs.declared.instr.Unary.{Unary}
-use Rattle.dcc_prog.specs.declared.instr.Unary.TheVariants.{Div, Idiv}
-use Rattle.dcc_prog.specs.declared.instr.Operand.{Operand}
-use Rattle.dcc_prog.specs.declared.instr.Op.{Op}
-use Rattle.dcc_prog.specs.declared.instr.Op.TheVariants.{Unary as UnaryOp}
-use Rattle.dcc_prog.specs.declared.instr.Instr.{Instr}
+use Rattle.dcc_machine.specs.declared.instr.Unary.{Unary}
+use Rattle.dcc_machine.specs.declared.instr.Unary.TheVariants.{Div, Idiv}
+use Rattle.dcc_machine.specs.declared.instr.Operand.{Operand}
+use Rattle.dcc_machine.specs.declared.instr.Op.{Op}
+use Rattle.dcc_machine.specs.declared.instr.Op.TheVariants.{Unary as UnaryOp}
+use Rattle.dcc_machine.specs.declared.instr.Instr.{Instr}
 use Rattle.dcc_prog.specs.declared.refusal.Refusal.{Refusal}
 use Rattle.dcc_prog.specs.declared.refusal.Refusal.TheVariants.{Construct}
-use Rattle.dcc_prog.specs.declared.refusal.construct.TheConstants.{DIVISION}
-use Rattle.dcc_prog.specs.Machine.{operand_width}
+use Rattle.dcc_prog.specs.declared.refusal.ConstructKind.TheVariants.{Division}
+use Rattle.dcc_machine.specs.Machine.{operand_width}
 use Rattle.dcc_prog.specs.Trail.{instruction_in, StandsAt}
-use Rattle.dcc_prog.specs.Prepared.{zeroes_upper, extends_sign, writes_ax, writes_upper, is_division, IsPrepared}
+use Rattle.dcc_machine.specs.Operations.{is_division}
+use Rattle.dcc_prog.specs.Prepared.{zeroes_upper, extends_sign, writes_ax, writes_upper, IsPrepared}
 use Rattle.dcc_procs.specs.declared.division.Ready.{Ready}
 use Rattle.dcc_procs.specs.declared.known.Known.{Known}
 
@@ -79,7 +80,7 @@ FindsReady image layout at ready =
 
 -- a division at the offset that does not find its upper half prepared, and is refused for that
 pub record LacksReady (image : Image) (layout : Layout) (at : ℕ) (ready : Ready) (refusal : Refusal) : Type 0 where
-  pub refusal_is : refusal ≡ Construct DIVISION at
+  pub refusal_is : refusal ≡ Construct Division at
   pub operation : Unary
   pub operand : Operand
   pub stands : StandsAt image layout at (UnaryOp operation operand)

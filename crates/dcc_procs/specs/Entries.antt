@@ -1,7 +1,7 @@
 -- The entries that are noted. This stands between the definitions and the code; no public contract rests on it.
 use Rattle.std.specs.Prelude.{◌≡◌, ◌≢◌, ◌≤◌, ◌<◌, ◌↔◌, ℕ, true, false, List, [], ◌∷◌, ◌++◌, length, get_or, slice_set}
 use Rattle.std.specs.Prelude.{AllPairs, Contains}
-use Rattle.dcc_prog.specs.declared.image.Image.{Image}
+use Rattle.dcc_machine.specs.declared.image.Image.{Image}
 use Rattle.dcc_prog.specs.declared.procedure.Layout.{Layout}
 use Rattle.dcc_prog.specs.declared.refusal.LimitName.TheVariants.{Procedures}
 use Rattle.dcc_prog.specs.declared.refusal.Refusal.{Refusal}

@@ -7,6 +7,6 @@ pub mod Procedures
 pub mod Laws
 pub use Rattle.dcc_prog.specs.Found
 pub use Rattle.dcc_prog.specs.Layout
-pub use Rattle.dcc_prog.specs.MzImage
+pub use Rattle.dcc_machine.specs.MzImage
 pub use Rattle.dcc_prog.specs.Refused
 pub use Rattle.dcc_prog.specs.Trail

@@ -2,16 +2,17 @@
 -- code; no public contract rests on it.
 use Rattle.std.specs.Prelude.{◌≡◌, ◌≢◌, ◌≤◌, ◌<◌, ℕ, List, [], ◌∷◌, ◌++◌, length, get_or, map, sum_by, take, AllPairs}
 use Rattle.std.specs.Prelude.{All, Contains, Some}
-use Rattle.dcc_prog.specs.declared.image.Image.{Image}
+use Rattle.dcc_machine.specs.declared.image.Image.{Image}
 use Rattle.dcc_prog.specs.declared.procedure.Layout.{Layout}
 use Rattle.dcc_prog.specs.declared.procedure.Node.{Node}
 use Rattle.dcc_prog.specs.declared.procedure.Proc.{Proc}
-use Rattle.dcc_prog.specs.declared.instr.Op.{Op}
-use Rattle.dcc_prog.specs.declared.instr.Op.TheVariants.{Call}
+use Rattle.dcc_machine.specs.declared.instr.Op.{Op}
+use Rattle.dcc_machine.specs.declared.instr.Op.TheVariants.{Call}
 use Rattle.dcc_prog.specs.Trail.{StandsAt, IsNode}
 use Rattle.dcc_prog.specs.Construct.{HasNumber, IsAtNode}
 use Rattle.dcc_prog.specs.Found.{IsFound}
 use Rattle.dcc_procs.specs.declared.procedures.Finder.{Finder}
+use Rattle.dcc_prog.specs.declared.refusal.ConstructKind.{ConstructKind}
 use Rattle.dcc_procs.specs.Search.{work_of, IsFresh}
 use Rattle.dcc_procs.specs.Entries.{AreAllReached, AreEntries}
 
@@ -19,7 +20,7 @@ use Rattle.dcc_procs.specs.Entries.{AreAllReached, AreEntries}
 pub record IsProcedure (image : Image) (layout : Layout) (entry : ℕ) (proc : Proc) : Type 0 where
   pub entry_is : proc.entry ≡ entry
   pub found : IsFound image layout proc
-  pub clean : (kind at : ℕ) → IsNode image layout entry at → ¬ IsAtNode image layout entry at kind
+  pub clean : (kind : ConstructKind) (at : ℕ) → IsNode image layout entry at → ¬ IsAtNode image layout entry at kind
   pub few : length proc.nodes.entries ≤ 4096
   pub small : (at number : ℕ) → HasNumber image layout entry at (Some number) → number ≤ 255
 

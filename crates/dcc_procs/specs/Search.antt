@@ -2,13 +2,13 @@
 -- contract rests on it.
 use Rattle.std.specs.Prelude.{◌≡◌, ◌≢◌, ◌≤◌, ◌<◌, ◌⊎◌, ◌↔◌, ℕ, ◌+◌, ◌*◌, true, false, not, ◌||◌, List, [], ◌∷◌, ◌++◌}
 use Rattle.std.specs.Prelude.{length, sum_by, get_or, slice_set, AllPairs, Contains, Option, Some, None}
-use Rattle.dcc_prog.specs.declared.image.Image.{Image}
+use Rattle.dcc_machine.specs.declared.image.Image.{Image}
 use Rattle.dcc_prog.specs.declared.procedure.Layout.{Layout}
-use Rattle.dcc_prog.specs.declared.instr.Instr.{Instr}
-use Rattle.dcc_prog.specs.declared.instr.Op.{Op}
-use Rattle.dcc_prog.specs.declared.instr.Op.TheVariants.{Table, Call, Ret, Int21}
+use Rattle.dcc_machine.specs.declared.instr.Instr.{Instr}
+use Rattle.dcc_machine.specs.declared.instr.Op.{Op}
+use Rattle.dcc_machine.specs.declared.instr.Op.TheVariants.{Table, Call, Ret, Int21}
 use Rattle.dcc_num.specs.declared.Reg.{Reg}
-use Rattle.dcc_prog.specs.declared.refusal.construct.TheConstants.{INDIRECT_JUMP}
+use Rattle.dcc_prog.specs.declared.refusal.ConstructKind.TheVariants.{IndirectJump}
 use Rattle.dcc_prog.specs.declared.refusal.LimitName.TheVariants.{Instructions, Entries}
 use Rattle.dcc_prog.specs.declared.refusal.Refusal.{Refusal}
 use Rattle.dcc_prog.specs.declared.refusal.Refusal.TheVariants.{Construct, Limit, Memory}
@@ -91,7 +91,7 @@ pub record IsAccepted (image : Image) (layout : Layout) (entry at : ℕ) (known 
 pub data IsTableFault (image : Image) (layout : Layout) (at : ℕ) (known : Known) (r : Reg) (table : ℕ) : Refusal →
     Type 0 where
   no_number :
-      number_of r known.index ≡ None → IsTableFault image layout at known r table (Construct INDIRECT_JUMP at)
+      number_of r known.index ≡ None → IsTableFault image layout at known r table (Construct IndirectJump at)
   many :
       {number : ℕ}
       → number_of r known.index ≡ Some number
@@ -102,7 +102,7 @@ pub data IsTableFault (image : Image) (layout : Layout) (at : ℕ) (known : Know
       → number_of r known.index ≡ Some number
       → number ≤ 255
       → length (code_within image layout) < table + 2 * (number + 1)
-      → IsTableFault image layout at known r table (Construct INDIRECT_JUMP at)
+      → IsTableFault image layout at known r table (Construct IndirectJump at)
 
 -- The search.
 

@@ -1,14 +1,12 @@
 //! Which instructions are taken in, and why others are refused.
 
 ghost use Rattle.std.specs.Prelude.{◌≡◌, ◌==◌, ◌||◌, if◌then◌else◌, ℕ, None, IfOk, IfErr, OnOk, OnErr};
-ghost use Rattle.dcc_prog.specs.MzImage.{IsLoaded};
+ghost use Rattle.dcc_machine.specs.MzImage.{IsLoaded};
 ghost use Rattle.dcc_prog.specs.Layout.{HasLayout};
-ghost use Rattle.dcc_prog.specs.WellFormed.{IsOperation};
+ghost use Rattle.dcc_machine.specs.WellFormed.{IsOperation};
 ghost use Rattle.dcc_prog.specs.Trail.{instruction_in, StandsAt, IsEntry};
 ghost use Rattle.dcc_prog.specs.Construct.{IsAtNode};
 ghost use Rattle.dcc_prog.specs.Refused.{IsRefusedByTrails};
-ghost use Rattle.dcc_prog.specs.declared.refusal.construct.TheConstants.{OUTSIDE, INDIRECT_JUMP, INDIRECT_CALL};
-ghost use Rattle.dcc_prog.specs.declared.refusal.construct.TheConstants.{DOS_NUMBER};
 ghost use Rattle.dcc_prog.specs.declared.refusal.Refusal.TheVariants.{Construct};
 ghost use Rattle.dcc_procs.specs.Search.{IsWitnessed, HasDosNumber, HasTable, IsAllowed, IsAccepted, IsTableFault};
 
@@ -17,27 +15,28 @@ use crate::form::is_system;
 use crate::frame::is_frame_form;
 use crate::known::Known;
 use crate::onward::number_of;
+use dcc_machine::{Image, Instr, Op};
 use dcc_num::Reg;
 use dcc_num::dos::{EXIT, GETCH, GETCHE, PUTC, PUTS};
-use dcc_prog::construct::{DOS_NUMBER, ENTRY_RETURN, INDIRECT_CALL, INDIRECT_JUMP, OUTSIDE};
-use dcc_prog::{Image, Instr, Layout, LimitName, Op, Refusal};
+use dcc_prog::{ConstructKind, Layout, LimitName, Refusal};
 
 // The greatest N of a table, whose entries are one more.
 const MOST: u16 = 255;
 
 // The kind of construct that FFh with this reg field is: an indirect jump or an indirect call.
-fn indirect_kind(reg: u8) -> u8
-    ensures { result ≡ (if (reg == 2) || (reg == 3) then INDIRECT_CALL else if (reg == 4) || (reg == 5) then INDIRECT_JUMP else OUTSIDE) }
+fn indirect_kind(reg: u8) -> ConstructKind
+    ensures { result ≡ (if (reg == 2) || (reg == 3) then ConstructKind.IndirectCall
+        else if (reg == 4) || (reg == 5) then ConstructKind.IndirectJump else ConstructKind.OutsideProfile) }
 {
     match reg {
-        2 | 3 => INDIRECT_CALL,
-        4 | 5 => INDIRECT_JUMP,
-        _ => OUTSIDE,
+        2 | 3 => ConstructKind::IndirectCall,
+        4 | 5 => ConstructKind::IndirectJump,
+        _ => ConstructKind::OutsideProfile,
     }
 }
 
 // The construct where no instruction stands.
-fn unknown_kind(image: &Image, layout: &Layout, at: u16) -> u8
+fn unknown_kind(image: &Image, layout: &Layout, at: u16) -> ConstructKind
     requires loaded { IsLoaded image.now }
     requires layout { HasLayout image.now layout.now }
     requires none { instruction_in image.now layout.now at ≡ None }
@@ -45,20 +44,20 @@ fn unknown_kind(image: &Image, layout: &Layout, at: u16) -> u8
 {
     match indirect_at(image, layout, at) {
         Some(reg) => indirect_kind(reg),
-        None => OUTSIDE,
+        None => ConstructKind::OutsideProfile,
     }
 }
 
 // Refuses INT 21h without one number of the five known in AH.
 fn check_number(at: u16, known: Known) -> Result<(), Refusal>
     ensures number { OnOk result (HasDosNumber known) }
-    ensures refused { IfErr result (λ refusal. refusal ≡ Construct DOS_NUMBER at) }
+    ensures refused { IfErr result (λ refusal. refusal ≡ Construct ConstructKind.DosNumber at) }
     ensures unknown { OnErr result (¬ HasDosNumber known) }
 {
     match known.ah {
         Some(GETCHE | PUTC | GETCH | PUTS | EXIT) => Ok(()),
         _ => Err(Refusal::Construct {
-            kind: DOS_NUMBER,
+            kind: ConstructKind::DosNumber,
             at,
         }),
     }
@@ -78,7 +77,7 @@ fn check_table(
     ensures table { OnOk result (HasTable image.now layout.now known r table) }
     ensures refused { IfErr result (IsTableFault image.now layout.now at known r table) }
 {
-    let kind = INDIRECT_JUMP;
+    let kind = ConstructKind::IndirectJump;
     let Some(number) = number_of(known, r) else {
         return Err(Refusal::Construct { kind, at });
     };
@@ -111,7 +110,7 @@ fn check_operation(
     ensures allowed { OnOk result (IsAllowed image.now layout.now entry known op) }
     ensures refused { IfErr result (IsRefusedByTrails image.now layout.now) }
 {
-    let kind = ENTRY_RETURN;
+    let kind = ConstructKind::EntryReturn;
     match op {
         Op::Int21 => check_number(at, known),
         Op::Table(r, table) => check_table(image, layout, at, known, r, table),
@@ -144,7 +143,10 @@ pub fn accepted(
         return Err(Refusal::Construct { kind, at });
     };
     if is_system(instr.op) || !is_frame_form(image, layout, entry, at, instr.op) {
-        return Err(Refusal::Construct { kind: OUTSIDE, at });
+        return Err(Refusal::Construct {
+            kind: ConstructKind::OutsideProfile,
+            at,
+        });
     }
     check_operation(image, layout, entry, at, known, instr.op)?;
     Ok(instr)

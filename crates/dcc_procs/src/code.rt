@@ -1,16 +1,17 @@
 //! The code of a program.
 
 ghost use Rattle.std.specs.Prelude.{◌≡◌, ◌+◌, ◌%◌, ◌^◌, ◌<◌, ℕ, None, IfSome};
-ghost use Rattle.dcc_prog.specs.Bytes.{byte_at};
-ghost use Rattle.dcc_prog.specs.Code.{code_of};
-ghost use Rattle.dcc_prog.specs.MzImage.{IsLoaded};
+ghost use Rattle.dcc_machine.specs.Bytes.{byte_at};
+ghost use Rattle.dcc_machine.specs.Code.{code_of};
+ghost use Rattle.dcc_machine.specs.MzImage.{IsLoaded};
 ghost use Rattle.dcc_prog.specs.Layout.{HasLayout};
-ghost use Rattle.dcc_prog.specs.WellFormed.{IsOperation};
+ghost use Rattle.dcc_machine.specs.WellFormed.{IsOperation};
 ghost use Rattle.dcc_prog.specs.Trail.{code_within, instruction_in, word_in_segment};
 ghost use Rattle.dcc_prog.specs.Construct.{HasIndirect};
 
 use dcc_decode::decode_window;
-use dcc_prog::{Image, Instr, Layout};
+use dcc_machine::{Image, Instr};
+use dcc_prog::Layout;
 
 /// The bytes of the code.
 pub fn code_of<'a>(image: &'a Image, layout: &Layout) -> &'a [u8]
@@ -36,7 +37,7 @@ pub fn instruction_in(image: &Image, layout: &Layout, at: u16) -> Option<Instr>
 }
 
 /// The reg field of the ModRM byte after FFh, where these two bytes stand in the code.
-pub fn indirect_at(image: &Image, layout: &Layout, at: u16) -> Option<u8>
+pub(crate) fn indirect_at(image: &Image, layout: &Layout, at: u16) -> Option<u8>
     requires loaded { IsLoaded image.now }
     requires layout { HasLayout image.now layout.now }
     ensures some { IfSome result (HasIndirect (code_within image.now layout.now) at) }
@@ -61,7 +62,7 @@ fn byte_in_segment(image: &Image, offset: u32) -> u8
 }
 
 /// The word at an offset of the code segment, its low byte first.
-pub fn word_in_segment(image: &Image, offset: u32) -> u16
+pub(crate) fn word_in_segment(image: &Image, offset: u32) -> u16
     requires loaded { IsLoaded image.now }
     requires small { offset + 1 < 2 ^ 32 }
     ensures { result ≡ word_in_segment image.now offset }

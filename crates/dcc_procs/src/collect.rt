@@ -1,7 +1,7 @@
 //! The nodes that the search has seen, with their successors.
 
 ghost use Rattle.std.specs.Prelude.{◌≡◌, ◌<◌, nat_eq, AllPairs, IfOk, OnOk};
-ghost use Rattle.dcc_prog.specs.MzImage.{IsLoaded};
+ghost use Rattle.dcc_machine.specs.MzImage.{IsLoaded};
 ghost use Rattle.dcc_prog.specs.Layout.{HasLayout};
 ghost use Rattle.dcc_prog.specs.Found.{IsFound};
 ghost use Rattle.indexmap.specs.IndexMap.{insert_entry};
@@ -11,7 +11,8 @@ ghost use Rattle.dcc_procs.specs.Nodes.{number_by, HasInstruction, IsNodeBy};
 use crate::code::instruction_in;
 use crate::known::Known;
 use crate::onward::successors;
-use dcc_prog::{Image, Layout, Node, Op, Proc};
+use dcc_machine::{Image, Op};
+use dcc_prog::{Layout, Node, Proc};
 use indexmap::IndexMap;
 use std::alloc::{AllocError, Global};
 

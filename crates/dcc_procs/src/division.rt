@@ -1,7 +1,7 @@
 //! Divisions whose upper half is prepared.
 
 ghost use Rattle.std.specs.Prelude.{◌≡◌, ℕ, length, OnOk, IfErr};
-ghost use Rattle.dcc_prog.specs.MzImage.{IsLoaded};
+ghost use Rattle.dcc_machine.specs.MzImage.{IsLoaded};
 ghost use Rattle.dcc_prog.specs.Layout.{HasLayout};
 ghost use Rattle.dcc_prog.specs.Trail.{IsNode, IsEntry};
 ghost use Rattle.dcc_prog.specs.Prepared.{is_upper, zeroes_upper, extends_sign, writes_ax, writes_upper, IsUnprepared};
@@ -13,9 +13,9 @@ ghost use Rattle.dcc_procs.specs.Division.{LacksReady};
 use crate::code::instruction_in;
 use crate::form::writes_half;
 use crate::known::Known;
+use dcc_machine::{Alu, Image, Op, Operand, Plain, Unary};
 use dcc_num::{Half, Reg, Width};
-use dcc_prog::construct::DIVISION;
-use dcc_prog::{Alu, Image, Layout, Op, Operand, Plain, Refusal, Unary};
+use dcc_prog::{ConstructKind, Layout, Refusal};
 
 // Whether the operand is the upper half of what a division of that width divides: AH, or DX.
 fn is_upper(width: Width, operand: Operand) -> bool
@@ -162,7 +162,10 @@ fn check_division(image: &Image, layout: &Layout, at: u16, ready: Ready) -> Resu
     };
     match instr.op {
         Op::Unary(operation, operand) if !ready.is_for(operation, operand.width()) => {
-            Err(Refusal::Construct { kind: DIVISION, at })
+            Err(Refusal::Construct {
+                kind: ConstructKind::Division,
+                at,
+            })
         }
         _ => Ok(()),
     }
@@ -170,7 +173,7 @@ fn check_division(image: &Image, layout: &Layout, at: u16, ready: Ready) -> Resu
 
 /// Refuses a division of the procedure with that entry whose upper half is not prepared. The offsets
 /// stand in the order in which they were first reached, so that a sole predecessor comes before.
-pub fn check_divisions(
+pub(crate) fn check_divisions(
     image: &Image,
     layout: &Layout,
     entry: u16,

@@ -1,7 +1,7 @@
 //! The entries of the procedures that are reached.
 
 ghost use Rattle.std.specs.Prelude.{◌≡◌, ◌≤◌, ◌<◌, length, IfOk, IfErr, OnOk, Contains};
-ghost use Rattle.dcc_prog.specs.declared.image.Image.{Image as TheImage};
+ghost use Rattle.dcc_machine.specs.declared.image.Image.{Image as TheImage};
 ghost use Rattle.dcc_prog.specs.declared.procedure.Layout.{Layout as TheLayout};
 ghost use Rattle.dcc_prog.specs.Trail.{IsEntry};
 ghost use Rattle.dcc_prog.specs.Refused.{IsRefusedByTrails};

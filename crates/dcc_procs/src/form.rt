@@ -1,18 +1,18 @@
 //! What operations are, for the search.
 
 ghost use Rattle.std.specs.Prelude.{◌≡◌};
-ghost use Rattle.dcc_prog.specs.WellFormed.{IsOperation};
-ghost use Rattle.dcc_prog.specs.Writes.{is_same_half, is_half_of, is_in_pair, unary_writes_half, plain_writes_half};
-ghost use Rattle.dcc_prog.specs.Writes.{writes_half};
+ghost use Rattle.dcc_machine.specs.WellFormed.{IsOperation};
+ghost use Rattle.dcc_machine.specs.Writes.{is_same_half, is_half_of, is_in_pair, unary_writes_half, plain_writes_half};
+ghost use Rattle.dcc_machine.specs.Writes.{writes_half};
 ghost use Rattle.dcc_prog.specs.Trail.{constant_to_ah};
 ghost use Rattle.dcc_prog.specs.Construct.{is_system};
 
 use crate::table::is_same_register;
+use dcc_machine::{Alu, Op, Operand, Plain, Unary};
 use dcc_num::{Half, Reg, Width};
-use dcc_prog::{Alu, Op, Operand, Plain, Unary};
 
 /// Whether the operation moves a segment register, or is CLI, STI or CLD.
-pub fn is_system(op: Op) -> bool
+pub(crate) fn is_system(op: Op) -> bool
     ensures { result ≡ is_system op }
 {
     match op {
@@ -75,7 +75,7 @@ fn plain_writes_half(operation: Plain, r: Reg, half: Half) -> bool
 
 /// Whether the operation may write that half of the register; a CALL may write all, and INT 21h
 /// writes AL.
-pub fn writes_half(op: Op, r: Reg, half: Half) -> bool
+pub(crate) fn writes_half(op: Op, r: Reg, half: Half) -> bool
     ensures { result ≡ writes_half op r half }
 {
     match op {
@@ -96,14 +96,14 @@ pub fn writes_half(op: Op, r: Reg, half: Half) -> bool
 }
 
 /// Whether the operation may write AH.
-pub fn writes_ah(op: Op) -> bool
+pub(crate) fn writes_ah(op: Op) -> bool
     ensures { result ≡ writes_half op Reg.Ax Half.High }
 {
     writes_half(op, Reg::Ax, Half::High)
 }
 
 /// The constant that the operation puts into AH, if it moves one to AH or AX.
-pub fn constant_to_ah(op: Op) -> Option<u8>
+pub(crate) fn constant_to_ah(op: Op) -> Option<u8>
     requires { IsOperation op }
     ensures { result ≡ constant_to_ah op }
 {

@@ -2,13 +2,14 @@
 //! stack.
 
 ghost use Rattle.std.specs.Prelude.{◌≡◌};
-ghost use Rattle.dcc_prog.specs.MzImage.{IsLoaded};
+ghost use Rattle.dcc_machine.specs.MzImage.{IsLoaded};
 ghost use Rattle.dcc_prog.specs.Layout.{HasLayout};
 ghost use Rattle.dcc_prog.specs.FrameForm.{stands_push_bp, stands_mov_bp_sp, stands_enter, second_of, begins_by_push};
 ghost use Rattle.dcc_prog.specs.FrameForm.{is_framed, makes_frame, is_frame_form};
 
 use crate::code::instruction_in;
-use dcc_prog::{Image, Instr, Layout, Op};
+use dcc_machine::{Image, Instr, Op};
+use dcc_prog::Layout;
 
 fn stands_push_bp(instr: Option<Instr>) -> bool
     ensures { result ≡ stands_push_bp instr }
@@ -83,7 +84,7 @@ fn makes_frame(image: &Image, layout: &Layout, entry: u16, at: u16, op: Op) -> b
 
 /// Whether the operation, at an offset of the procedure with that entry, uses SP and BP in a form that
 /// is allowed at some height of the stack.
-pub fn is_frame_form(image: &Image, layout: &Layout, entry: u16, at: u16, op: Op) -> bool
+pub(crate) fn is_frame_form(image: &Image, layout: &Layout, entry: u16, at: u16, op: Op) -> bool
     requires loaded { IsLoaded image.now }
     requires layout { HasLayout image.now layout.now }
     ensures { result ≡ is_frame_form image.now layout.now entry at op }

@@ -1,13 +1,13 @@
 //! What the trails to an offset tell in common.
 
 ghost use Rattle.std.specs.Prelude.{◌≡◌, ◌<◌, ◌≤◌, nat_eq, IfSome, None};
-ghost use Rattle.dcc_prog.specs.WellFormed.{IsOperation};
+ghost use Rattle.dcc_machine.specs.WellFormed.{IsOperation};
 ghost use Rattle.dcc_procs.specs.Known.{nothing, known_after, common_of, is_same_form, is_same_index, common};
 ghost use Rattle.dcc_procs.specs.Search.{told_count};
 
 use crate::form::{constant_to_ah, writes_ah};
 use crate::table::{Form, Index, form_after, index_after};
-use dcc_prog::Instr;
+use dcc_machine::Instr;
 
 /// What a trail to an offset tells; or what all trails to the offset that were followed so far tell in common: of each
 /// field the value that they share, and none where one tells none or two tell different ones.

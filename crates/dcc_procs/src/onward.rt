@@ -1,20 +1,20 @@
 //! Where an instruction goes on.
 
 ghost use Rattle.std.specs.Prelude.{◌≡◌, ◌∷◌, [], IfOk, option_to_list};
-ghost use Rattle.dcc_prog.specs.MzImage.{IsLoaded};
+ghost use Rattle.dcc_machine.specs.MzImage.{IsLoaded};
 ghost use Rattle.dcc_prog.specs.Trail.{table_targets};
 ghost use Rattle.dcc_procs.specs.Known.{number_of, successors_by};
 
 use crate::code::word_in_segment;
 use crate::known::Known;
+use dcc_machine::{Image, Instr, Op};
 use dcc_num::Reg;
 use dcc_num::dos::EXIT;
-use dcc_prog::{Image, Instr, Op};
 use smallvec::SmallVec;
 use std::alloc::{AllocError, Global};
 
 /// The targets of a jump through a table: its N + 1 words, where N is told.
-pub fn table_targets(
+pub(crate) fn table_targets(
     alloc: Global,
     image: &Image,
     offset: u16,

@@ -5,9 +5,9 @@
 //! A trail stands here as in the definition, with its newest offset first.
 
 ghost use Rattle.std.specs.Prelude.{◌≡◌, IsTrue, ◌↔◌, Contains, IfOk, IfSome, if◌then◌else◌};
-ghost use Rattle.dcc_prog.specs.MzImage.{IsLoaded};
+ghost use Rattle.dcc_machine.specs.MzImage.{IsLoaded};
 ghost use Rattle.dcc_prog.specs.Layout.{HasLayout};
-ghost use Rattle.dcc_prog.specs.WellFormed.{IsOperation};
+ghost use Rattle.dcc_machine.specs.WellFormed.{IsOperation};
 ghost use Rattle.dcc_prog.specs.Trail.{ah_after, known_ah, operation_in, moved_from, is_doubling, clears_upper};
 ghost use Rattle.dcc_prog.specs.Trail.{compared_with, al_compared_with, is_test_to, number_before_test, greatest_in};
 ghost use Rattle.dcc_prog.specs.Trail.{greatest_doubled, table_number, successors, IsTrail};
@@ -17,8 +17,9 @@ use crate::form::{constant_to_ah, writes_ah};
 use crate::known::{Known, NOTHING};
 use crate::onward;
 use crate::table::{clears_ah, is_bounds_test, is_general, is_same_register};
+use dcc_machine::{Alu, Count, Image, Instr, Op, Operand, Shift};
 use dcc_num::{Half, Reg};
-use dcc_prog::{Alu, Count, Image, Instr, Layout, Op, Operand, Shift};
+use dcc_prog::Layout;
 use smallvec::SmallVec;
 use std::alloc::{AllocError, Global};
 
@@ -185,7 +186,7 @@ fn greatest_doubled(image: &Image, layout: &Layout, r: Reg, trail: &[u16]) -> Op
 }
 
 /// N of a jump through a table by a register, after a trail whose newest offset stands first.
-pub fn table_number(image: &Image, layout: &Layout, q: Reg, trail: &[u16]) -> Option<u16>
+pub(crate) fn table_number(image: &Image, layout: &Layout, q: Reg, trail: &[u16]) -> Option<u16>
     requires loaded { IsLoaded image.now }
     requires layout { HasLayout image.now layout.now }
     ensures { result ≡ table_number image.now layout.now q trail.now }

@@ -1,7 +1,7 @@
 //! The procedures.
 
 ghost use Rattle.std.specs.Prelude.{◌≡◌, ◌≤◌, ◌<◌, ◌+◌, length, IfOk, IfErr, OnOk};
-ghost use Rattle.dcc_prog.specs.MzImage.{IsLoaded};
+ghost use Rattle.dcc_machine.specs.MzImage.{IsLoaded};
 ghost use Rattle.dcc_prog.specs.Layout.{HasLayout};
 ghost use Rattle.dcc_prog.specs.Trail.{IsEntry};
 ghost use Rattle.dcc_prog.specs.Found.{AreFound};
@@ -13,7 +13,8 @@ use crate::collect::collect;
 use crate::division::{Ready, UNREADY, check_divisions};
 use crate::entries::Entries;
 use crate::search::Search;
-use dcc_prog::{Image, Layout, LimitName, Node, Op, Proc, Refusal};
+use dcc_machine::{Image, Op};
+use dcc_prog::{Layout, LimitName, Node, Proc, Refusal};
 use indexmap::IndexMap;
 use std::alloc::{AllocError, Global};
 

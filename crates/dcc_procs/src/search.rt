@@ -2,7 +2,7 @@
 
 ghost use Rattle.std.specs.Prelude.{◌≡◌, ◌≢◌, ◌≤◌, ◌<◌, ◌++◌, ◌∷◌, [], length, slice_set, Some, None, IfOk, IfErr};
 ghost use Rattle.std.specs.Prelude.{OnOk};
-ghost use Rattle.dcc_prog.specs.MzImage.{IsLoaded};
+ghost use Rattle.dcc_machine.specs.MzImage.{IsLoaded};
 ghost use Rattle.dcc_prog.specs.Layout.{HasLayout};
 ghost use Rattle.dcc_prog.specs.Trail.{IsEntry};
 ghost use Rattle.dcc_prog.specs.Refused.{IsRefusedByTrails};
@@ -12,7 +12,8 @@ ghost use Rattle.dcc_procs.specs.Search.{IsFollowed, AreAllSeen, IsListing};
 use crate::accepted::accepted;
 use crate::known::{Known, NOTHING};
 use crate::onward::successors;
-use dcc_prog::{Image, Layout, LimitName, Refusal};
+use dcc_machine::Image;
+use dcc_prog::{Layout, LimitName, Refusal};
 use std::alloc::{AllocError, Global};
 
 // The number of offsets in a segment.

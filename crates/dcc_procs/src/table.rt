@@ -2,13 +2,14 @@
 
 ghost use Rattle.std.specs.Prelude.{◌≡◌, Some};
 ghost use Rattle.dcc_num.specs.declared.Reg.TheVariants.{Ax};
-ghost use Rattle.dcc_prog.specs.Writes.{is_same_register};
-ghost use Rattle.dcc_prog.specs.Trail.{is_general, is_bounds_test, clears_upper, is_doubling};
+ghost use Rattle.dcc_machine.specs.Writes.{is_same_register};
+ghost use Rattle.dcc_machine.specs.Machine.{is_general};
+ghost use Rattle.dcc_prog.specs.Trail.{is_bounds_test, clears_upper, is_doubling};
 ghost use Rattle.dcc_procs.specs.Known.{is_same_form, is_same_index, number_of, form_begun, form_continued, form_after};
 ghost use Rattle.dcc_procs.specs.Known.{moved_to, index_after};
 
+use dcc_machine::{Alu, Cond, Count, Op, Operand, Shift};
 use dcc_num::{Half, Reg};
-use dcc_prog::{Alu, Cond, Count, Op, Operand, Shift};
 
 /// How far the last instructions of a trail are those before a jump through a table.
 #[derive(Clone, Copy)]
@@ -34,7 +35,7 @@ pub struct Index {
 }
 
 /// Whether the two are one register.
-pub fn is_same_register(r: Reg, q: Reg) -> bool
+pub(crate) fn is_same_register(r: Reg, q: Reg) -> bool
     ensures { result ≡ is_same_register r q }
 {
     r == q
@@ -77,7 +78,7 @@ impl Index {
 }
 
 /// Whether the register is general: AX, CX, DX, BX, SI or DI.
-pub fn is_general(r: Reg) -> bool
+pub(crate) fn is_general(r: Reg) -> bool
     ensures { result ≡ is_general r }
 {
     !matches!(r, Reg::Sp | Reg::Bp)
@@ -85,7 +86,7 @@ pub fn is_general(r: Reg) -> bool
 
 /// Whether the operation is a JA whose next instruction stands at the offset and whose target does not, or a JBE the
 /// other way round.
-pub fn is_bounds_test(op: Op, next: u16, to: u16) -> bool
+pub(crate) fn is_bounds_test(op: Op, next: u16, to: u16) -> bool
     ensures { result ≡ is_bounds_test op next to }
 {
     match op {
@@ -96,7 +97,7 @@ pub fn is_bounds_test(op: Op, next: u16, to: u16) -> bool
 }
 
 /// Whether the operation is `xor ah,ah`.
-pub fn clears_ah(op: Op) -> bool
+pub(crate) fn clears_ah(op: Op) -> bool
     ensures { result ≡ clears_upper Ax (Some op) }
 {
     matches!(
@@ -150,7 +151,7 @@ fn form_continued(op: Op, next: u16, to: u16, form: Form) -> Option<Form>
 }
 
 /// The form after an instruction that goes on to an offset, by the form before it.
-pub fn form_after(op: Op, next: u16, to: u16, form: Option<Form>) -> Option<Form>
+pub(crate) fn form_after(op: Op, next: u16, to: u16, form: Option<Form>) -> Option<Form>
     ensures { result ≡ form_after op next to form }
 {
     match (form_begun(op), form) {
@@ -172,7 +173,7 @@ fn moved_to(r: Reg, op: Op) -> Option<Reg>
 }
 
 /// The index after an instruction, by the form before it.
-pub fn index_after(op: Op, form: Option<Form>) -> Option<Index>
+pub(crate) fn index_after(op: Op, form: Option<Form>) -> Option<Index>
     ensures { result ≡ index_after op form }
 {
     match form? {

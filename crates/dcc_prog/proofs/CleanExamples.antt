@@ -8,7 +8,7 @@ use Rattle.dcc_num.specs.declared.Width.TheVariants.{Byte as byte_width, Word as
 use Rattle.dcc_num.specs.declared.Reg.TheVariants.{Ax, Cx, Dx, Bx, Bp}
 use Rattle.dcc_num.specs.declared.Half.TheVariants.{Low as low_half}
 use Rattle.dcc_num.specs.Numbers.{no_flags}
-use Rattle.dcc_prog.specs.declared.cpu.Cpu.TheVariants.{I186}
+use Rattle.dcc_machine.specs.declared.cpu.Cpu.TheVariants.{I186}
 use Rattle.dcc_prog.specs.declared.procedure.Layout.{Layout}
 use Rattle.dcc_prog.specs.declared.procedure.Proc.{Proc}
 use Rattle.dcc_prog.specs.declared.frame.Frame.{Frame}
@@ -16,17 +16,17 @@ use Rattle.dcc_prog.specs.declared.frame.Heights.{Heights}
 use Rattle.dcc_prog.specs.declared.frame.Program.{Program}
 use Rattle.dcc_prog.specs.declared.watch.FoulKind.{FoulKind}
 use Rattle.dcc_prog.specs.declared.watch.FoulKind.TheVariants.{Low, Hidden, Unwritten}
-use Rattle.dcc_prog.specs.declared.instr.Operand.{Operand}
-use Rattle.dcc_prog.specs.declared.instr.Operand.TheVariants.{Word, Byte, Mem}
-use Rattle.dcc_prog.specs.declared.instr.Op.{Op}
-use Rattle.dcc_prog.specs.declared.instr.Op.TheVariants.{Mov, Push, Pop, Enter, Leave, Call, Ret, Int21}
-use Rattle.dcc_prog.specs.declared.instr.Instr.{Instr}
-use Rattle.dcc_prog.specs.Dos.{is_not_dollar}
-use Rattle.dcc_prog.specs.Machine.{State, word_in, byte_in, data_segment}
-use Rattle.dcc_prog.specs.Step.{instruction_step}
-use Rattle.dcc_prog.specs.Access.{Reading, Other, Access, found_accesses}
+use Rattle.dcc_machine.specs.declared.instr.Operand.{Operand}
+use Rattle.dcc_machine.specs.declared.instr.Operand.TheVariants.{Word, Byte, Mem}
+use Rattle.dcc_machine.specs.declared.instr.Op.{Op}
+use Rattle.dcc_machine.specs.declared.instr.Op.TheVariants.{Mov, Push, Pop, Enter, Leave, Call, Ret, Int21}
+use Rattle.dcc_machine.specs.declared.instr.Instr.{Instr}
+use Rattle.dcc_machine.specs.Dos.{is_not_dollar}
+use Rattle.dcc_machine.specs.Machine.{State, word_in, byte_in, data_segment}
+use Rattle.dcc_machine.specs.Step.{instruction_step}
+use Rattle.dcc_machine.specs.Access.{Reading, Other, Access, found_accesses}
 use Rattle.dcc_prog.specs.Clean.{LiveFrame, Stack, Foul, foul_as, or_else, low_of, hidden_of, unwritten_of, sp_after, owner, is_exposed_byte, with_marks, is_marked, foul_of, stack_after}
-use Rattle.dcc_prog.proofs.AccessLaws.{string_size-is}
+use Rattle.dcc_machine.proofs.AccessLaws.{string_size-is}
 
 -- The stack: offsets 14h to 3Fh, and its segment begins 10h above the data segment's, which is at 0.
 small : Layout

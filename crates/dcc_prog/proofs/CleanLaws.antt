@@ -9,18 +9,18 @@ use Rattle.dcc_run.specs.End.{is_over}
 use Rattle.dcc_run.specs.Watched.{state}
 use Rattle.dcc_num.specs.declared.Width.TheVariants.{Word as word_width}
 use Rattle.dcc_num.specs.Numbers.{wrapped_of}
-use Rattle.dcc_prog.specs.declared.image.Image.{Image}
+use Rattle.dcc_machine.specs.declared.image.Image.{Image}
 use Rattle.dcc_prog.specs.declared.procedure.Layout.{Layout}
 use Rattle.dcc_prog.specs.declared.frame.Program.{Program}
 use Rattle.dcc_prog.specs.declared.watch.FoulKind.TheVariants.{Low, Hidden, Unwritten}
-use Rattle.dcc_prog.specs.declared.instr.Op.{Op}
-use Rattle.dcc_prog.specs.declared.instr.Op.TheVariants.{Call, Ret}
-use Rattle.dcc_prog.specs.declared.instr.Instr.{Instr}
-use Rattle.dcc_prog.specs.MzImage.{IsLoaded}
-use Rattle.dcc_prog.specs.Machine.{State}
-use Rattle.dcc_prog.specs.Step.{step}
+use Rattle.dcc_machine.specs.declared.instr.Op.{Op}
+use Rattle.dcc_machine.specs.declared.instr.Op.TheVariants.{Call, Ret}
+use Rattle.dcc_machine.specs.declared.instr.Instr.{Instr}
+use Rattle.dcc_machine.specs.MzImage.{IsLoaded}
+use Rattle.dcc_machine.specs.Machine.{State}
+use Rattle.dcc_machine.specs.Step.{step}
 use Rattle.dcc_prog.specs.Layout.{HasLayout}
-use Rattle.dcc_prog.specs.Access.{Access, addresses_of, found_accesses}
+use Rattle.dcc_machine.specs.Access.{Access, addresses_of, found_accesses}
 use Rattle.dcc_prog.specs.Clean.{LiveFrame, Stack, foul_as, or_else, stack_offset, stack_bytes, is_other, is_reading, is_exposed_byte, top_in, sp_after, hidden_of, unwritten_of, is_marked, foul_of, frames_after, with_marks, written_after, stack_after, first_stack}
 use Rattle.dcc_prog.specs.Watch.{InProcedures, Watch, next_instruction, next_foul, is_foul, made, watch_step, watched_machine, first_watch}
 use Rattle.dcc_prog.specs.CleanLaws.{machine_after as machine_state, stage_at, FrontsOfCleanRunsAreClean, moves_frames, UsesNoStack, NextUsesNoStack, WhatUsesNoStackIsClean}

@@ -6,23 +6,25 @@ use Rattle.dcc_num.specs.declared.Width.TheVariants.{Byte as byte_width, Word as
 use Rattle.dcc_num.specs.declared.Reg.TheVariants.{Ax, Bx}
 use Rattle.dcc_num.specs.declared.Half.TheVariants.{Low, High}
 use Rattle.dcc_num.specs.Numbers.{sign_extension_of, signed_of}
-use Rattle.dcc_prog.specs.declared.image.Image.{Image}
+use Rattle.dcc_machine.specs.declared.image.Image.{Image}
 use Rattle.dcc_prog.specs.declared.procedure.Layout.{Layout}
-use Rattle.dcc_prog.specs.declared.instr.Alu.TheVariants.{Xor}
-use Rattle.dcc_prog.specs.declared.instr.Unary.{Unary}
-use Rattle.dcc_prog.specs.declared.instr.Unary.TheVariants.{Div, Idiv}
-use Rattle.dcc_prog.specs.declared.instr.Plain.TheVariants.{Cbw, Cwd}
-use Rattle.dcc_prog.specs.declared.instr.Operand.TheVariants.{Word, Byte, Const}
-use Rattle.dcc_prog.specs.declared.instr.Op.{Op}
-use Rattle.dcc_prog.specs.declared.instr.Op.TheVariants.{Alu as AluOp, Unary as UnaryOp, Mov, Plain as PlainOp}
-use Rattle.dcc_prog.specs.Bytes.{word_at}
-use Rattle.dcc_prog.specs.Code.{code_of}
-use Rattle.dcc_prog.specs.Table.{table, instruction_at}
+use Rattle.dcc_machine.specs.declared.instr.Alu.TheVariants.{Xor}
+use Rattle.dcc_machine.specs.declared.instr.Unary.{Unary}
+use Rattle.dcc_machine.specs.declared.instr.Unary.TheVariants.{Div, Idiv}
+use Rattle.dcc_machine.specs.declared.instr.Plain.TheVariants.{Cbw, Cwd}
+use Rattle.dcc_machine.specs.declared.instr.Operand.TheVariants.{Word, Byte, Const}
+use Rattle.dcc_machine.specs.declared.instr.Op.{Op}
+use Rattle.dcc_machine.specs.declared.instr.Op.TheVariants.{Alu as AluOp, Unary as UnaryOp, Mov, Plain as PlainOp}
+use Rattle.dcc_machine.specs.Bytes.{word_at}
+use Rattle.dcc_machine.specs.Code.{code_of}
+use Rattle.dcc_machine.specs.Table.{table, instruction_at}
 use Rattle.dcc_prog.specs.Trail.{StandsAt, successors, IsTrail, IsEdge, start}
 use Rattle.dcc_prog.specs.Prepared.{prepares, IsPrepared, nearest, further}
+use Rattle.dcc_prog.specs.declared.refusal.ConstructKind.TheVariants.{Division}
 use Rattle.dcc_prog.specs.Construct.{IsOfTrails, division}
-use Rattle.dcc_prog.proofs.MzImageLaws.{vec_of}
-use Rattle.dcc_prog.proofs.Examples.{image_of, layout_of, first, only}
+use Rattle.dcc_machine.proofs.MzImageLaws.{vec_of}
+use Rattle.dcc_machine.proofs.Examples.{image_of}
+use Rattle.dcc_prog.proofs.Examples.{layout_of, first, only}
 
 -- What isn't prepared.
 
@@ -88,7 +90,7 @@ divides-unprepared =
     (entry_step-unprepared divides_image (layout_of divides) 5 8 (Mov (Word Ax) (Const word_width 1)) Idiv word_width
     first_edge first_move refl)
 
-pub divides-construct : IsOfTrails 12 divides_image (layout_of divides) 0x000B
+pub divides-construct : IsOfTrails Division divides_image (layout_of divides) 0x000B
 unfolding instruction_at table code_of word_at sign_extension_of signed_of vec_of second_edge
 divides-construct = record {
   entry = 5;

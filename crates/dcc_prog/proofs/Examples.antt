@@ -4,62 +4,38 @@ use Rattle.std.proofs.Common.{◌≡◌, inl, inr, ◌<◌, ◌≤◌, ◌^◌, 
 use Rattle.std.specs.List.{slice_index_or}
 use Rattle.dcc_num.specs.declared.Width.TheVariants.{Word as word_width}
 use Rattle.dcc_num.specs.declared.Reg.TheVariants.{Ax, Bx, Sp, Bp}
-use Rattle.dcc_num.specs.declared.dos.TheConstants.{GETCHE, PUTC, GETCH, PUTS, EXIT}
 use Rattle.dcc_num.specs.Numbers.{no_flags, sign_extension_of, signed_of}
-use Rattle.dcc_num.specs.Shift.{shl_of}
-use Rattle.dcc_prog.specs.declared.cpu.Cpu.{Cpu}
-use Rattle.dcc_prog.specs.declared.cpu.Cpu.TheVariants.{I8086, I186}
-use Rattle.dcc_prog.specs.declared.segment.TheConstants.{ES, CS, SS, DS}
-use Rattle.dcc_prog.specs.declared.refusal.construct.TheConstants.{NO_LAYOUT, OUTSIDE, INDIRECT_JUMP, INDIRECT_CALL, DOS_NUMBER, HEIGHTS, FRAME_ACCESS, ARGUMENTS_SHORT, ARGUMENT_REUSED, SEVERAL_RESULTS, ENTRY_RETURN, DIVISION}
+use Rattle.dcc_machine.specs.declared.cpu.Cpu.TheVariants.{I8086, I186}
+use Rattle.dcc_prog.specs.declared.refusal.ConstructKind.TheVariants.{NoLayout, OutsideProfile, IndirectJump, IndirectCall, DosNumber, StackHeight, FrameAccess, ArgumentsShort, ArgumentReused, SeveralResults, EntryReturn, Division}
+use Rattle.dcc_prog.specs.declared.refusal.FrameFault.TheVariants.{AccessOutside}
 use Rattle.dcc_prog.specs.declared.refusal.LimitName.TheVariants.{Entries}
-use Rattle.dcc_prog.specs.declared.image.Image.{Image}
+use Rattle.dcc_machine.specs.declared.image.Image.{Image}
 use Rattle.dcc_prog.specs.declared.procedure.Layout.{Layout}
-use Rattle.dcc_prog.specs.declared.instr.Alu.TheVariants.{Add, Cmp}
-use Rattle.dcc_prog.specs.declared.instr.Shift.TheVariants.{Shl}
-use Rattle.dcc_prog.specs.declared.instr.Count.TheVariants.{Cl, Const as ConstCount}
-use Rattle.dcc_prog.specs.declared.instr.Unary.TheVariants.{Dec}
-use Rattle.dcc_prog.specs.declared.instr.Operand.TheVariants.{Word, Mem, Const}
-use Rattle.dcc_prog.specs.declared.instr.Op.{Op}
-use Rattle.dcc_prog.specs.declared.instr.Op.TheVariants.{Alu as AluOp, Unary as UnaryOp, Shift as ShiftOp, Mov, Lea, Imul3, Push, Pop, Enter, Leave, Table, Call, Ret, Int21}
-use Rattle.dcc_prog.specs.declared.instr.Instr.{Instr}
-use Rattle.dcc_run.specs.Event.{Wrote, Took, MetEnd}
-use Rattle.dcc_prog.specs.Bytes.{word_at}
-use Rattle.dcc_prog.specs.Machine.{start_state, word_in}
-use Rattle.dcc_prog.specs.Step.{op_step}
-use Rattle.dcc_prog.specs.Dos.{key_step}
-use Rattle.dcc_prog.specs.Code.{code_of}
-use Rattle.dcc_prog.specs.Table.{table, instruction_at}
+use Rattle.dcc_machine.specs.declared.instr.Alu.TheVariants.{Add, Cmp}
+use Rattle.dcc_machine.specs.declared.instr.Unary.TheVariants.{Dec}
+use Rattle.dcc_machine.specs.declared.instr.Operand.TheVariants.{Word, Mem, Const}
+use Rattle.dcc_machine.specs.declared.instr.Op.{Op}
+use Rattle.dcc_machine.specs.declared.instr.Op.TheVariants.{Alu as AluOp, Unary as UnaryOp, Mov, Lea, Push, Pop, Enter, Leave, Table, Call, Ret, Int21}
+use Rattle.dcc_machine.specs.Bytes.{word_at}
+use Rattle.dcc_machine.specs.Code.{code_of}
+use Rattle.dcc_machine.specs.Table.{table, instruction_at}
 use Rattle.dcc_prog.specs.Trail.{StandsAt, table_number, successors, IsTrail, start}
 use Rattle.dcc_prog.specs.FrameForm.{is_framed, is_frame_form}
-use Rattle.dcc_prog.specs.Construct.{IsOfTrails, unknown, foreign, indirect_jump, formless, no_number, no_table, indirect_call, dos_number, not_known, other_number, entry_return, returns, calls}
+use Rattle.dcc_prog.specs.Construct.{construct_number, IsOfTrails, unknown, foreign, indirect_jump, formless, no_number, no_table, indirect_call, dos_number, not_known, other_number, entry_return, returns, calls}
 use Rattle.dcc_prog.specs.Limit.{IsAbove, entries}
-use Rattle.dcc_prog.proofs.MzImageLaws.{vec_of}
+use Rattle.dcc_machine.proofs.Examples.{image_of}
+use Rattle.dcc_machine.proofs.MzImageLaws.{vec_of}
 
 -- Numbers.
 
 construct-numbers :
-    NO_LAYOUT ∷ OUTSIDE ∷ INDIRECT_JUMP ∷ INDIRECT_CALL ∷ DOS_NUMBER ∷ HEIGHTS ∷ FRAME_ACCESS ∷ ARGUMENTS_SHORT
-    ∷ ARGUMENT_REUSED ∷ SEVERAL_RESULTS ∷ ENTRY_RETURN ∷ DIVISION ∷ []
+    map construct_number
+    (NoLayout ∷ OutsideProfile ∷ IndirectJump ∷ IndirectCall ∷ DosNumber ∷ StackHeight ∷ FrameAccess AccessOutside
+    ∷ ArgumentsShort ∷ ArgumentReused ∷ SeveralResults ∷ EntryReturn ∷ Division ∷ [])
     ≡ 1 ∷ 2 ∷ 3 ∷ 4 ∷ 5 ∷ 6 ∷ 7 ∷ 8 ∷ 9 ∷ 10 ∷ 11 ∷ 12 ∷ []
 construct-numbers = refl
 
-segment-numbers : ES ∷ CS ∷ SS ∷ DS ∷ [] ≡ 0 ∷ 1 ∷ 2 ∷ 3 ∷ []
-segment-numbers = refl
-
-dos-numbers : GETCHE ∷ PUTC ∷ GETCH ∷ PUTS ∷ EXIT ∷ [] ≡ 0x01 ∷ 0x02 ∷ 0x08 ∷ 0x09 ∷ 0x4C ∷ []
-dos-numbers = refl
-
--- Images: a prelude of five bytes, which loads DS, then the code, which begins at offset 5.
-
-abbrev pub image_of : (code : List ℕ) → length code < 2 ^ 62 → Image
-image_of code few = record {
-  bytes = vec_of (0xB8 ∷ 0x11 ∷ 0x01 ∷ 0x8E ∷ 0xD8 ∷ code) (omega (arith, few));
-  code_len = 5 + length code;
-  cs = 0x0110;
-  ip = 0;
-  ss = 0x0111;
-  sp = 0x0100;
-}
+-- Layouts: the image of a code has a prelude of five bytes before it.
 
 abbrev pub layout_of : List ℕ → Layout
 layout_of code = record {
@@ -130,7 +106,7 @@ two_ways = 0x74 ∷ 0x06 ∷ 0x90 ∷ cases
 abbrev two_ways_image : Image
 two_ways_image = image_of two_ways (omega arith)
 
-two_ways-construct : IsOfTrails 3 two_ways_image (layout_of two_ways) 0x000F
+two_ways-construct : IsOfTrails IndirectJump two_ways_image (layout_of two_ways) 0x000F
 unfolding instruction_at table code_of word_at sign_extension_of signed_of vec_of
 two_ways-construct =
     let trail : IsTrail two_ways_image (layout_of two_ways) 5 (0x0F ∷ 0x0D ∷ 0x05 ∷ []) =
@@ -156,7 +132,7 @@ cut = 0x83 ∷ 0xFB ∷ 0x03 ∷ 0x77 ∷ 0x05 ∷ 0xD1 ∷ 0xE3 ∷ 0x2E ∷ 0x
 abbrev cut_image : Image
 cut_image = image_of cut (omega arith)
 
-cut-construct : IsOfTrails 3 cut_image (layout_of cut) 0x000C
+cut-construct : IsOfTrails IndirectJump cut_image (layout_of cut) 0x000C
 unfolding instruction_at table code_of word_at sign_extension_of signed_of vec_of
 cut-construct =
     let trail : IsTrail cut_image (layout_of cut) 5 (0x0C ∷ 0x0A ∷ 0x08 ∷ 0x05 ∷ []) =
@@ -234,7 +210,7 @@ other_moved-none = refl
 abbrev pub call_through : List ℕ
 call_through = 0xFF ∷ 0x17 ∷ []
 
-pub call_through-construct : IsOfTrails 4 (image_of call_through (omega arith)) (layout_of call_through) 0x0005
+pub call_through-construct : IsOfTrails IndirectCall (image_of call_through (omega arith)) (layout_of call_through) 0x0005
 unfolding code_of vec_of
 call_through-construct = record {
   entry = 5;
@@ -247,7 +223,7 @@ call_through-construct = record {
 abbrev pub jump_through : List ℕ
 jump_through = 0xFF ∷ 0x27 ∷ []
 
-pub jump_through-construct : IsOfTrails 3 (image_of jump_through (omega arith)) (layout_of jump_through) 0x0005
+pub jump_through-construct : IsOfTrails IndirectJump (image_of jump_through (omega arith)) (layout_of jump_through) 0x0005
 unfolding code_of vec_of
 jump_through-construct = record {
   entry = 5;
@@ -265,7 +241,7 @@ unknown_number = 0x8A ∷ 0x26 ∷ 0x00 ∷ 0x00 ∷ 0xCD ∷ 0x21 ∷ []
 abbrev unknown_image : Image
 unknown_image = image_of unknown_number (omega arith)
 
-pub unknown_number-construct : IsOfTrails 5 unknown_image (layout_of unknown_number) 0x0009
+pub unknown_number-construct : IsOfTrails DosNumber unknown_image (layout_of unknown_number) 0x0009
 unfolding instruction_at table code_of word_at sign_extension_of signed_of vec_of
 unknown_number-construct =
     let trail : IsTrail unknown_image (layout_of unknown_number) 5 (0x09 ∷ 0x05 ∷ []) = (first 0x09 [], refl) in
@@ -288,7 +264,7 @@ third_call = 0xB4 ∷ 0x03 ∷ 0xCD ∷ 0x21 ∷ []
 abbrev third_image : Image
 third_image = image_of third_call (omega arith)
 
-third_call-construct : IsOfTrails 5 third_image (layout_of third_call) 0x0007
+third_call-construct : IsOfTrails DosNumber third_image (layout_of third_call) 0x0007
 unfolding instruction_at table code_of word_at sign_extension_of signed_of vec_of
 third_call-construct =
     let trail : IsTrail third_image (layout_of third_call) 5 (0x07 ∷ 0x05 ∷ []) = (first 0x07 [], refl) in
@@ -318,7 +294,7 @@ exit-ends = refl
 abbrev pub ret : List ℕ
 ret = 0xC3 ∷ []
 
-pub ret-construct : IsOfTrails 11 (image_of ret (omega arith)) (layout_of ret) 0x0005
+pub ret-construct : IsOfTrails EntryReturn (image_of ret (omega arith)) (layout_of ret) 0x0005
 unfolding instruction_at table code_of word_at sign_extension_of signed_of vec_of
 ret-construct = record {
   entry = 5;
@@ -331,7 +307,7 @@ ret-construct = record {
 abbrev again : List ℕ
 again = 0xE8 ∷ 0xFD ∷ 0xFF ∷ []
 
-again-construct : IsOfTrails 11 (image_of again (omega arith)) (layout_of again) 0x0005
+again-construct : IsOfTrails EntryReturn (image_of again (omega arith)) (layout_of again) 0x0005
 unfolding instruction_at table code_of word_at sign_extension_of signed_of vec_of
 again-construct = record {
   entry = 5;
@@ -433,7 +409,7 @@ unfolding instruction_at table code_of word_at sign_extension_of signed_of vec_o
 entered-begins = refl
 
 -- the 8086 has no ENTER, so that the program has a construct on the one processor and none there on the other
-entered-unknown : IsOfTrails 2 (image_of entered (omega arith)) (layout_of entered) 0x0005
+entered-unknown : IsOfTrails OutsideProfile (image_of entered (omega arith)) (layout_of entered) 0x0005
 unfolding instruction_at table code_of word_at sign_extension_of signed_of vec_of
 entered-unknown = record {
   entry = 5;
@@ -446,35 +422,7 @@ entered-unknown = record {
   });
 }
 
--- the bytes of an instruction
-abbrev instruction_of : Cpu → List ℕ → Option Instr
-instruction_of cpu bytes = instruction_at cpu 5 bytes
-
--- another level than 0 is none
-deep_enter-none : instruction_of I186 (0xC8 ∷ 0x02 ∷ 0x00 ∷ 0x01 ∷ []) ≡ None
-unfolding instruction_at table word_at
-deep_enter-none = refl
-
--- imul ax,bx,6; shl ax,4
-later_instructions :
-    instruction_of I186 (0x6B ∷ 0xC3 ∷ 0x06 ∷ []) ∷ instruction_of I186 (0xC1 ∷ 0xE0 ∷ 0x04 ∷ []) ∷ []
-    ≡ Some (record { op = Imul3 Ax (Word Bx) 6; len = 3 })
-    ∷ Some (record { op = ShiftOp Shl (Word Ax) (ConstCount 4); len = 3 })
-    ∷ []
-unfolding instruction_at table word_at sign_extension_of signed_of
-later_instructions = refl
-
--- 32 places to the left are all of a word on the 8086, and none on the 80186
-abbrev shifted : Cpu → ℕ
-shifted cpu =
-    word_in (op_step cpu (ShiftOp Shl (Word Ax) Cl) 5
-    (record (start_state (image_of entered (omega arith)) []) { regs = 1 ∷ 32 ∷ 0 ∷ 0 ∷ 0 ∷ 0 ∷ 0 ∷ 0 ∷ [] })) Ax
-
-counts-differ : shifted I8086 ∷ shifted I186 ∷ [] ≡ 0 ∷ 1 ∷ []
-unfolding vec_of shl_of
-counts-differ = refl
-
-pub bare-construct : IsOfTrails 2 (image_of bare (omega arith)) (layout_of bare) 0x0005
+pub bare-construct : IsOfTrails OutsideProfile (image_of bare (omega arith)) (layout_of bare) 0x0005
 unfolding instruction_at table code_of word_at sign_extension_of signed_of vec_of
 bare-construct = record {
   entry = 5;
@@ -486,13 +434,3 @@ bare-construct = record {
     foreign = refl;
   });
 }
-
--- The console.
-
--- on an empty input each of two keys is a read at its end, and nothing is echoed
-keys-at_the_end : (key_step true (key_step true (start_state switch_image []))).events ≡ MetEnd ∷ MetEnd ∷ []
-keys-at_the_end = refl
-
--- a key is taken and then written, before the input has ended
-key-then_the_end : (key_step true (key_step true (start_state switch_image (0x61 ∷ [])))).events ≡ Took 0x61 ∷ Wrote 0x61 ∷ MetEnd ∷ []
-key-then_the_end = refl

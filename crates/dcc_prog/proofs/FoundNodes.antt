@@ -5,15 +5,17 @@ use Rattle.std.specs.Map.{lookup, keys_of}
 use Rattle.std.proofs.lemmas.Cmp.{nat_eq_equiv}
 use Rattle.std.proofs.lemmas.List.Elements.{All-contains}
 use Rattle.std.proofs.lemmas.Map.Views.{Contains-from_lookup, IsSome-lookup_from_Contains, exact_unsigned_eq}
-use Rattle.dcc_prog.specs.declared.image.Image.{Image}
+use Rattle.dcc_machine.specs.declared.image.Image.{Image}
 use Rattle.dcc_prog.specs.declared.procedure.Layout.{Layout}
 use Rattle.dcc_prog.specs.declared.procedure.Node.{Node}
 use Rattle.dcc_prog.specs.declared.procedure.Proc.{Proc}
-use Rattle.dcc_prog.specs.declared.instr.Instr.{Instr}
-use Rattle.dcc_prog.specs.declared.instr.Op.{Op}
-use Rattle.dcc_prog.specs.declared.instr.Op.TheVariants.{Push}
-use Rattle.dcc_prog.specs.Trail.{instruction_in, next_of, IsNode, op_successors, instr_successors, targets_of, successors}
-use Rattle.dcc_prog.specs.FrameForm.{is_push_bp, is_enter, is_framed, stands_push_bp, stands_mov_bp_sp, stands_enter, second_of}
+use Rattle.dcc_machine.specs.declared.instr.Instr.{Instr}
+use Rattle.dcc_machine.specs.declared.instr.Op.{Op}
+use Rattle.dcc_machine.specs.declared.instr.Op.TheVariants.{Push}
+use Rattle.dcc_machine.specs.Successors.{next_of, op_successors}
+use Rattle.dcc_prog.specs.Trail.{instruction_in, IsNode, instr_successors, targets_of, successors}
+use Rattle.dcc_machine.specs.SpAndBp.{is_push_bp, is_enter}
+use Rattle.dcc_prog.specs.FrameForm.{is_framed, stands_push_bp, stands_mov_bp_sp, stands_enter, second_of}
 use Rattle.dcc_prog.specs.Found.{IsNodeFound, IsFound}
 
 -- the instruction of a node, as a look-up finds it

@@ -5,21 +5,23 @@ use Rattle.std.proofs.lemmas.Int.{ints}
 use Rattle.dcc_num.specs.declared.Width.TheVariants.{Word as word_width}
 use Rattle.dcc_num.specs.declared.Reg.TheVariants.{Ax, Sp, Bp}
 use Rattle.dcc_num.specs.Numbers.{sign_extension_of, signed_of}
-use Rattle.dcc_prog.specs.declared.image.Image.{Image}
-use Rattle.dcc_prog.specs.declared.instr.Unary.TheVariants.{Inc}
-use Rattle.dcc_prog.specs.declared.instr.Operand.TheVariants.{Word, Mem}
-use Rattle.dcc_prog.specs.declared.instr.Op.{Op}
-use Rattle.dcc_prog.specs.declared.instr.Op.TheVariants.{Unary as UnaryOp, Mov, Lea, Push, Pop, Ret}
-use Rattle.dcc_prog.specs.declared.instr.Instr.{Instr}
-use Rattle.dcc_prog.specs.Bytes.{word_at}
-use Rattle.dcc_prog.specs.Code.{code_of}
-use Rattle.dcc_prog.specs.Table.{table, instruction_at}
+use Rattle.dcc_machine.specs.declared.image.Image.{Image}
+use Rattle.dcc_machine.specs.declared.instr.Unary.TheVariants.{Inc}
+use Rattle.dcc_machine.specs.declared.instr.Operand.TheVariants.{Word, Mem}
+use Rattle.dcc_machine.specs.declared.instr.Op.{Op}
+use Rattle.dcc_machine.specs.declared.instr.Op.TheVariants.{Unary as UnaryOp, Mov, Lea, Push, Pop, Ret}
+use Rattle.dcc_machine.specs.declared.instr.Instr.{Instr}
+use Rattle.dcc_machine.specs.Bytes.{word_at}
+use Rattle.dcc_machine.specs.Code.{code_of}
+use Rattle.dcc_machine.specs.Table.{table, instruction_at}
 use Rattle.dcc_prog.specs.Trail.{StandsAt, successors, IsTrail, IsNode, start, called, IsEntry}
-use Rattle.dcc_prog.specs.FrameForm.{copies_bp}
+use Rattle.dcc_machine.specs.SpAndBp.{copies_bp}
 use Rattle.dcc_prog.specs.Height.{entered, gone_on, HasHeight, push, pop, move, keep, IsMisplaced, HasBadHeight, two_heights, too_far, above_entry, into_saved_bp}
+use Rattle.dcc_prog.specs.declared.refusal.FrameFault.TheVariants.{AccessOutside}
 use Rattle.dcc_prog.specs.Frame.{span_of, memory_operand, IsDirectAccess, direct, StartsExposure, by_lea, by_index, by_copy, HasArguments, of_start, of_procedure, IsPassedWord, passed, accessed, used, IsCrossed, IsExposureStart, by_instruction, HasBadAccess, access_outside}
-use Rattle.dcc_prog.proofs.MzImageLaws.{vec_of}
-use Rattle.dcc_prog.proofs.Examples.{image_of, layout_of, first}
+use Rattle.dcc_machine.proofs.MzImageLaws.{vec_of}
+use Rattle.dcc_machine.proofs.Examples.{image_of}
+use Rattle.dcc_prog.proofs.Examples.{layout_of, first}
 
 second_place : (x y : ℕ) (xs : List ℕ) → Contains (x ∷ y ∷ xs) y
 second_place x y xs = (1, omega arith, refl)
@@ -118,7 +120,7 @@ reaching = 0x55 ∷ 0x8B ∷ 0xEC ∷ 0x8B ∷ 0x46 ∷ 0x02 ∷ []
 abbrev reaching_image : Image
 reaching_image = image_of reaching (omega arith)
 
-reaching-bad : HasBadAccess reaching_image (layout_of reaching) 5 0x08
+reaching-bad : HasBadAccess reaching_image (layout_of reaching) 5 0x08 AccessOutside
 unfolding instruction_at table code_of word_at sign_extension_of signed_of vec_of
 reaching-bad =
     access_outside

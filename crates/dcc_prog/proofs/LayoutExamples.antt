@@ -6,24 +6,26 @@ use Rattle.std.proofs.lemmas.List.{take_all}
 use Rattle.dcc_num.specs.declared.Width.TheVariants.{Word as word_width}
 use Rattle.dcc_num.specs.declared.Reg.TheVariants.{Ax, Bx, Sp, Bp}
 use Rattle.dcc_num.specs.Numbers.{sign_extension_of, signed_of}
-use Rattle.dcc_prog.specs.declared.cpu.Cpu.TheVariants.{I8086}
-use Rattle.dcc_prog.specs.declared.segment.TheConstants.{DS}
-use Rattle.dcc_prog.specs.declared.image.Image.{Image}
-use Rattle.dcc_prog.specs.declared.instr.Unary.TheVariants.{Idiv}
-use Rattle.dcc_prog.specs.declared.instr.Operand.TheVariants.{Word, Seg, Const}
-use Rattle.dcc_prog.specs.declared.instr.Op.TheVariants.{Unary as UnaryOp, Mov, Ret, Int21}
-use Rattle.dcc_prog.specs.declared.instr.Instr.{Instr}
-use Rattle.dcc_prog.specs.Bytes.{word_at}
-use Rattle.dcc_prog.specs.Code.{code_of}
-use Rattle.dcc_prog.specs.Table.{table, instruction_at}
-use Rattle.dcc_prog.specs.Machine.{word_in, stack_segment, data_segment, start_state}
+use Rattle.dcc_machine.specs.declared.cpu.Cpu.TheVariants.{I8086}
+use Rattle.dcc_prog.specs.declared.refusal.ConstructKind.TheVariants.{NoLayout, OutsideProfile, IndirectJump, IndirectCall, DosNumber, EntryReturn, Division}
+use Rattle.dcc_machine.specs.declared.segment.TheConstants.{DS}
+use Rattle.dcc_machine.specs.declared.image.Image.{Image}
+use Rattle.dcc_machine.specs.declared.instr.Unary.TheVariants.{Idiv}
+use Rattle.dcc_machine.specs.declared.instr.Operand.TheVariants.{Word, Seg, Const}
+use Rattle.dcc_machine.specs.declared.instr.Op.TheVariants.{Unary as UnaryOp, Mov, Ret, Int21}
+use Rattle.dcc_machine.specs.declared.instr.Instr.{Instr}
+use Rattle.dcc_machine.specs.Bytes.{word_at}
+use Rattle.dcc_machine.specs.Code.{code_of}
+use Rattle.dcc_machine.specs.Table.{table, instruction_at}
+use Rattle.dcc_machine.specs.Machine.{word_in, stack_segment, data_segment, start_state}
 use Rattle.dcc_prog.specs.Layout.{is_prelude_form, writes_ds, IsRun, offset_after, state_after, IsPrelude, HasLayout}
 use Rattle.dcc_prog.specs.Construct.{IsConstruct, lacks_layout, of_trails}
-use Rattle.dcc_prog.proofs.MzImageLaws.{vec_of}
-use Rattle.dcc_prog.proofs.FetchLaws.{IsPlaced}
+use Rattle.dcc_machine.proofs.MzImageLaws.{vec_of}
+use Rattle.dcc_machine.proofs.FetchLaws.{IsPlaced}
 use Rattle.dcc_prog.proofs.PreludeLaws.{NoFormAt, none_ends, prelude-is, prelude-once, run-append}
 use Rattle.dcc_prog.proofs.PreludeSteps.{executed, at_offset, run-steps}
-use Rattle.dcc_prog.proofs.Examples.{image_of, layout_of, bare, bare-construct, jump_through, jump_through-construct, call_through, call_through-construct, unknown_number, unknown_number-construct, ret, ret-construct}
+use Rattle.dcc_machine.proofs.Examples.{image_of}
+use Rattle.dcc_prog.proofs.Examples.{layout_of, bare, bare-construct, jump_through, jump_through-construct, call_through, call_through-construct, unknown_number, unknown_number-construct, ret, ret-construct}
 use Rattle.dcc_prog.proofs.DivisionExamples.{divides, divides-construct}
 
 -- Where a prelude can't go on.
@@ -109,38 +111,38 @@ has-layout code few more some short run stop none =
 -- Constructs of whole programs.
 
 -- 0005 mov bp,5
-bare-told : IsConstruct I8086 2 (image_of bare (omega arith)) 0x0005
+bare-told : IsConstruct I8086 OutsideProfile (image_of bare (omega arith)) 0x0005
 unfolding instruction_at table word_at sign_extension_of signed_of
 bare-told = of_trails refl (has-layout bare (omega arith)
     (record { op = Mov (Word Bp) (Const word_width 5); len = 3 } ∷ []) (omega arith) (omega arith)
     (record { found = refl; form = refl }, tt) (none-stops (whole bare) 8 refl) refl) bare-construct
 
 -- 0005 jmp [bx]
-jump_through-told : IsConstruct I8086 3 (image_of jump_through (omega arith)) 0x0005
+jump_through-told : IsConstruct I8086 IndirectJump (image_of jump_through (omega arith)) 0x0005
 unfolding instruction_at table word_at sign_extension_of signed_of
 jump_through-told = of_trails refl (has-layout jump_through (omega arith) [] (omega arith) (omega arith) tt
     (none-stops (whole jump_through) 5 refl) refl) jump_through-construct
 
 -- 0005 call [bx]
-call_through-told : IsConstruct I8086 4 (image_of call_through (omega arith)) 0x0005
+call_through-told : IsConstruct I8086 IndirectCall (image_of call_through (omega arith)) 0x0005
 unfolding instruction_at table word_at sign_extension_of signed_of
 call_through-told = of_trails refl (has-layout call_through (omega arith) [] (omega arith) (omega arith) tt
     (none-stops (whole call_through) 5 refl) refl) call_through-construct
 
 -- 0005 mov ah,[0000]; 0009 int 21h
-unknown_number-told : IsConstruct I8086 5 (image_of unknown_number (omega arith)) 0x0009
+unknown_number-told : IsConstruct I8086 DosNumber (image_of unknown_number (omega arith)) 0x0009
 unfolding instruction_at table word_at sign_extension_of signed_of
 unknown_number-told = of_trails refl (has-layout unknown_number (omega arith) [] (omega arith) (omega arith) tt
     (other-stops (whole unknown_number) 5 _ refl refl) refl) unknown_number-construct
 
 -- 0005 ret
-ret-told : IsConstruct I8086 11 (image_of ret (omega arith)) 0x0005
+ret-told : IsConstruct I8086 EntryReturn (image_of ret (omega arith)) 0x0005
 unfolding instruction_at table word_at sign_extension_of signed_of
 ret-told = of_trails refl (has-layout ret (omega arith) [] (omega arith) (omega arith) tt
     (other-stops (whole ret) 5 (record { op = Ret 0; len = 1 }) refl refl) refl) ret-construct
 
 -- 0005 mov ax,1; 0008 mov bx,0; 000B idiv bx
-divides-told : IsConstruct I8086 12 (image_of divides (omega arith)) 0x000B
+divides-told : IsConstruct I8086 Division (image_of divides (omega arith)) 0x000B
 unfolding instruction_at table word_at sign_extension_of signed_of
 divides-told = of_trails refl (has-layout divides (omega arith)
     (record { op = Mov (Word Ax) (Const word_width 1); len = 3 }
@@ -171,7 +173,7 @@ flat-prelude =
     (record { found = refl; form = refl }, tt)
     (other-stops (code_of flat_image) 3 (record { op = Int21; len = 2 }) refl refl) refl refl
 
-flat-told : IsConstruct I8086 1 flat_image 0x0000
+flat-told : IsConstruct I8086 NoLayout flat_image 0x0000
 flat-told = lacks_layout (record {
   entry = refl;
   none = λ layout runs_on has.

@@ -4,12 +4,12 @@ use Rattle.std.proofs.lemmas.Bool.{cases_lt}
 use Rattle.std.specs.List.{list_any}
 use Rattle.dcc_num.specs.declared.Reg.TheVariants.{Sp}
 use Rattle.dcc_num.specs.declared.Flags.{Flags}
-use Rattle.dcc_prog.specs.declared.cpu.Cpu.{Cpu}
-use Rattle.dcc_prog.specs.declared.image.Image.{Image}
+use Rattle.dcc_machine.specs.declared.cpu.Cpu.{Cpu}
+use Rattle.dcc_machine.specs.declared.image.Image.{Image}
 use Rattle.dcc_prog.specs.declared.procedure.Layout.{Layout}
-use Rattle.dcc_prog.specs.declared.instr.Instr.{Instr}
-use Rattle.dcc_prog.specs.Code.{code_of}
-use Rattle.dcc_prog.specs.Machine.{State, word_in, stack_segment, data_segment}
+use Rattle.dcc_machine.specs.declared.instr.Instr.{Instr}
+use Rattle.dcc_machine.specs.Code.{code_of}
+use Rattle.dcc_machine.specs.Machine.{State, word_in, stack_segment, data_segment}
 use Rattle.dcc_prog.specs.Layout.{writes_ds, offset_after, IsPrelude, state_after, lowest_of_stack, IsLeftBy, IsSmall, HasLayout}
 use Rattle.dcc_prog.specs.Construct.{LacksLayout}
 use Rattle.dcc_prog.proofs.PreludeLaws.{prelude-of, prelude-once}

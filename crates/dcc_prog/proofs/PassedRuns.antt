@@ -16,38 +16,38 @@ use Rattle.dcc_num.specs.Numbers.{signed_of, sign_extension_of}
 use Rattle.dcc_num.specs.Sum.{difference_of}
 use Rattle.dcc_num.specs.Logic.{exclusive_of}
 use Rattle.dcc_num.specs.Product.{extension_of}
-use Rattle.dcc_prog.specs.declared.cpu.Cpu.{Cpu}
-use Rattle.dcc_prog.specs.declared.image.Image.{Image}
+use Rattle.dcc_machine.specs.declared.cpu.Cpu.{Cpu}
+use Rattle.dcc_machine.specs.declared.image.Image.{Image}
 use Rattle.dcc_prog.specs.declared.procedure.Layout.{Layout}
-use Rattle.dcc_prog.specs.declared.instr.Alu.TheVariants.{Sub, Xor}
-use Rattle.dcc_prog.specs.declared.instr.Unary.{Unary as UnaryName}
-use Rattle.dcc_prog.specs.declared.instr.Unary.TheVariants.{Div, Idiv}
-use Rattle.dcc_prog.specs.declared.instr.Plain.TheVariants.{Cbw, Cwd}
-use Rattle.dcc_prog.specs.declared.instr.Operand.{Operand}
-use Rattle.dcc_prog.specs.declared.instr.Operand.TheVariants.{Word, Byte, Const}
-use Rattle.dcc_prog.specs.declared.instr.Op.{Op}
-use Rattle.dcc_prog.specs.declared.instr.Op.TheVariants.{Alu, Mov, Plain, Call}
-use Rattle.dcc_prog.specs.declared.instr.Instr.{Instr}
-use Rattle.dcc_prog.specs.MzImage.{IsImageOf}
-use Rattle.dcc_prog.specs.Table.{instruction_at}
-use Rattle.dcc_prog.specs.Machine.{State, word_in, half_of_word, word_with_half, operand_value, operand_width, with_operand}
-use Rattle.dcc_prog.specs.Operations.{with_flags, with_result, accumulator_in, upper_in}
-use Rattle.dcc_prog.specs.Step.{code_bytes, op_step, instruction_step, step}
-use Rattle.dcc_prog.specs.Code.{code_of, HoldsCode}
-use Rattle.dcc_prog.specs.WellFormed.{IsOperation}
-use Rattle.dcc_prog.specs.Writes.{writes_half}
+use Rattle.dcc_machine.specs.declared.instr.Alu.TheVariants.{Sub, Xor}
+use Rattle.dcc_machine.specs.declared.instr.Unary.{Unary as UnaryName}
+use Rattle.dcc_machine.specs.declared.instr.Unary.TheVariants.{Div, Idiv}
+use Rattle.dcc_machine.specs.declared.instr.Plain.TheVariants.{Cbw, Cwd}
+use Rattle.dcc_machine.specs.declared.instr.Operand.{Operand}
+use Rattle.dcc_machine.specs.declared.instr.Operand.TheVariants.{Word, Byte, Const}
+use Rattle.dcc_machine.specs.declared.instr.Op.{Op}
+use Rattle.dcc_machine.specs.declared.instr.Op.TheVariants.{Alu, Mov, Plain, Call}
+use Rattle.dcc_machine.specs.declared.instr.Instr.{Instr}
+use Rattle.dcc_machine.specs.MzImage.{IsImageOf}
+use Rattle.dcc_machine.specs.Table.{instruction_at}
+use Rattle.dcc_machine.specs.Machine.{State, word_in, half_of_word, word_with_half, operand_value, operand_width, with_operand}
+use Rattle.dcc_machine.specs.Operations.{with_flags, with_result, accumulator_in, upper_in}
+use Rattle.dcc_machine.specs.Step.{code_bytes, op_step, instruction_step, step}
+use Rattle.dcc_machine.specs.Code.{code_of, HoldsCode}
+use Rattle.dcc_machine.specs.WellFormed.{IsOperation}
+use Rattle.dcc_machine.specs.Writes.{writes_half}
 use Rattle.dcc_prog.specs.Trail.{instruction_in, StandsAt, constant_to_ah, ah_after, known_ah, IsTrail, IsSolePredecessor}
 use Rattle.dcc_prog.specs.Prepared.{is_upper, zeroes_upper, extends_sign, prepares, writes_ax, writes_upper, keeps_dividend, IsPrepared, nearest, further}
-use Rattle.dcc_prog.specs.StateForm.{IsState}
-use Rattle.dcc_prog.specs.LocationLaws.{half_in}
+use Rattle.dcc_machine.specs.StateForm.{IsState}
+use Rattle.dcc_machine.specs.LocationLaws.{half_in}
 use Rattle.dcc_prog.specs.RunLaws.{HasPassed, begun, stepped, returned, KnownAhIsHeld, HasUpper, PreparedUpperIsHeld}
-use Rattle.dcc_prog.proofs.FetchLaws.{image-placed, fetched-instruction}
-use Rattle.dcc_prog.proofs.WellFormedLaws.{instruction-operation}
-use Rattle.dcc_prog.proofs.ResultBounds.{sign_extension-low}
-use Rattle.dcc_prog.proofs.StateKept.{same-state, states-kept, code-bytes}
-use Rattle.dcc_prog.proofs.ZeroingLaws.{difference-self, exclusive-self}
-use Rattle.dcc_prog.proofs.LocationKept.{op-half, word-taken, word-other, or-none}
-use Rattle.dcc_prog.proofs.AlikeValues.{and-parts, word-joined}
+use Rattle.dcc_machine.proofs.FetchLaws.{image-placed, fetched-instruction}
+use Rattle.dcc_machine.proofs.WellFormedLaws.{instruction-operation}
+use Rattle.dcc_machine.proofs.ResultBounds.{sign_extension-low}
+use Rattle.dcc_machine.proofs.StateKept.{same-state, states-kept, code-bytes}
+use Rattle.dcc_machine.proofs.ZeroingLaws.{difference-self, exclusive-self}
+use Rattle.dcc_machine.proofs.LocationKept.{op-half, word-taken, word-other, or-none}
+use Rattle.dcc_machine.proofs.AlikeValues.{and-parts, word-joined}
 
 -- Steps along a trail.
 

@@ -1,11 +1,11 @@
 -- Laws of preludes: each code has just one.
 use Rattle.std.proofs.Common.{◌≡◌, ℕ, zero, suc, ◌+◌, ◌<◌, ◌≤◌, ◌⊎◌, inl, inr, Bool, true, false, not, ◌&&◌, List, [], ◌∷◌, ◌++◌, length, drop, Some, None, refl, sym, ap, ◌∙◌, subst, arith, length-drop}
 use Rattle.std.proofs.lemmas.Bool.{not-true}
-use Rattle.dcc_prog.specs.declared.cpu.Cpu.{Cpu}
-use Rattle.dcc_prog.specs.declared.instr.Instr.{Instr}
-use Rattle.dcc_prog.specs.Table.{instruction_at}
+use Rattle.dcc_machine.specs.declared.cpu.Cpu.{Cpu}
+use Rattle.dcc_machine.specs.declared.instr.Instr.{Instr}
+use Rattle.dcc_machine.specs.Table.{instruction_at}
 use Rattle.dcc_prog.specs.Layout.{is_prelude_form, may_end_prelude, IsFormAt, IsRun, offset_after, ends_prelude, IsPrelude}
-use Rattle.dcc_prog.proofs.TableLaws.{and_left, and_right, and_both, instruction-length}
+use Rattle.dcc_machine.proofs.TableLaws.{and_left, and_right, and_both, instruction-length}
 
 -- Runs.
 

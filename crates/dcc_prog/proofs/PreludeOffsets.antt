@@ -1,14 +1,14 @@
 -- Where the instructions of a prelude stand: in ascending order from its first one, below the procedure's entry.
 use Rattle.std.proofs.Common.{◌≡◌, ◌≢◌, ℕ, zero, suc, ◌+◌, ◌<◌, ◌≤◌, true, List, [], ◌∷◌, length, take, Some, slice_get, refl, sym, subst, true≢false, arith}
 use Rattle.std.specs.List.{list_any}
-use Rattle.dcc_prog.specs.declared.cpu.Cpu.{Cpu}
-use Rattle.dcc_prog.specs.declared.image.Image.{Image}
+use Rattle.dcc_machine.specs.declared.cpu.Cpu.{Cpu}
+use Rattle.dcc_machine.specs.declared.image.Image.{Image}
 use Rattle.dcc_prog.specs.declared.procedure.Layout.{Layout}
-use Rattle.dcc_prog.specs.declared.instr.Instr.{Instr}
-use Rattle.dcc_prog.specs.MzImage.{IsLoaded}
-use Rattle.dcc_prog.specs.Code.{code_of}
+use Rattle.dcc_machine.specs.declared.instr.Instr.{Instr}
+use Rattle.dcc_machine.specs.MzImage.{IsLoaded}
+use Rattle.dcc_machine.specs.Code.{code_of}
 use Rattle.dcc_prog.specs.Layout.{writes_ds, IsFormAt, IsRun, offset_after, HasLayout}
-use Rattle.dcc_prog.proofs.FetchLaws.{image-placed}
+use Rattle.dcc_machine.proofs.FetchLaws.{image-placed}
 use Rattle.dcc_prog.proofs.PreludeLaws.{form-inside}
 
 -- the offset of an instruction of a run, by its place, where the run begins at an offset; after the last one, the run's end

@@ -6,24 +6,24 @@ use Rattle.std.proofs.lemmas.List.{get_or-set_other}
 use Rattle.std.specs.Prelude.{◌≢◌}
 use Rattle.std.specs.List.{list_any}
 use Rattle.dcc_run.specs.System.{after}
-use Rattle.dcc_prog.specs.declared.cpu.Cpu.{Cpu}
-use Rattle.dcc_prog.specs.declared.instr.Count.TheVariants.{One, Cl, Const as ConstCount}
-use Rattle.dcc_prog.specs.declared.image.Image.{Image}
-use Rattle.dcc_prog.specs.declared.instr.Alu.TheVariants.{Add, Sub}
-use Rattle.dcc_prog.specs.declared.instr.Shift.TheVariants.{Shl}
-use Rattle.dcc_prog.specs.declared.instr.Plain.TheVariants.{Nop, Cli, Sti, Cld}
-use Rattle.dcc_prog.specs.declared.instr.Operand.TheVariants.{Word, Byte, Seg, Const}
-use Rattle.dcc_prog.specs.declared.instr.Op.{Op}
-use Rattle.dcc_prog.specs.declared.instr.Op.TheVariants.{Alu as AluOp, Shift as ShiftOp, Mov, Plain as PlainOp}
-use Rattle.dcc_prog.specs.declared.instr.Instr.{Instr}
-use Rattle.dcc_prog.specs.MzImage.{IsLoaded}
-use Rattle.dcc_prog.specs.Code.{code_of}
-use Rattle.dcc_prog.specs.Table.{instruction_at}
-use Rattle.dcc_prog.specs.Machine.{State, word_in, code_segment, data_segment, start_state}
-use Rattle.dcc_prog.specs.Step.{op_step, instruction_step, step}
+use Rattle.dcc_machine.specs.declared.cpu.Cpu.{Cpu}
+use Rattle.dcc_machine.specs.declared.instr.Count.TheVariants.{One, Cl, Const as ConstCount}
+use Rattle.dcc_machine.specs.declared.image.Image.{Image}
+use Rattle.dcc_machine.specs.declared.instr.Alu.TheVariants.{Add, Sub}
+use Rattle.dcc_machine.specs.declared.instr.Shift.TheVariants.{Shl}
+use Rattle.dcc_machine.specs.declared.instr.Plain.TheVariants.{Nop, Cli, Sti, Cld}
+use Rattle.dcc_machine.specs.declared.instr.Operand.TheVariants.{Word, Byte, Seg, Const}
+use Rattle.dcc_machine.specs.declared.instr.Op.{Op}
+use Rattle.dcc_machine.specs.declared.instr.Op.TheVariants.{Alu as AluOp, Shift as ShiftOp, Mov, Plain as PlainOp}
+use Rattle.dcc_machine.specs.declared.instr.Instr.{Instr}
+use Rattle.dcc_machine.specs.MzImage.{IsLoaded}
+use Rattle.dcc_machine.specs.Code.{code_of}
+use Rattle.dcc_machine.specs.Table.{instruction_at}
+use Rattle.dcc_machine.specs.Machine.{State, word_in, code_segment, data_segment, start_state}
+use Rattle.dcc_machine.specs.Step.{op_step, instruction_step, step}
 use Rattle.dcc_prog.specs.Layout.{is_data_segment, is_prelude_form, writes_ds, IsFormAt, IsRun, offset_after, state_after}
-use Rattle.dcc_prog.proofs.FetchLaws.{IsPlaced, image-placed, length-code_of, start-holds, code-kept, fetched-whole}
-use Rattle.dcc_prog.proofs.MzImageLaws.{ip-loaded}
+use Rattle.dcc_machine.proofs.FetchLaws.{IsPlaced, image-placed, length-code_of, start-holds, code-kept, fetched-whole}
+use Rattle.dcc_machine.proofs.MzImageLaws.{ip-loaded}
 use Rattle.dcc_prog.proofs.PreludeLaws.{form-inside}
 
 -- the registers and flags of one state, and all else of another

@@ -1,9 +1,10 @@
 -- A program in which the analyses find nothing to refuse is sound, and one that is sound is refused by them for want of
 -- memory alone.
 use Rattle.std.proofs.Common.{◌≡◌, ◌⊎◌, inl, inr, ℕ, refl, subst}
-use Rattle.dcc_prog.specs.declared.cpu.Cpu.{Cpu}
-use Rattle.dcc_prog.specs.declared.image.Image.{Image}
+use Rattle.dcc_machine.specs.declared.cpu.Cpu.{Cpu}
+use Rattle.dcc_machine.specs.declared.image.Image.{Image}
 use Rattle.dcc_prog.specs.declared.procedure.Layout.{Layout}
+use Rattle.dcc_prog.specs.declared.refusal.ConstructKind.{ConstructKind}
 use Rattle.dcc_prog.specs.declared.refusal.LimitName.{LimitName}
 use Rattle.dcc_prog.specs.declared.refusal.Refusal.{Refusal}
 use Rattle.dcc_prog.specs.declared.refusal.Refusal.TheVariants.{Memory}
@@ -19,7 +20,7 @@ module _ (image : Image) (layout : Layout) (has : HasLayout image layout) where
   same_layout other runs_on other_has = layout-once image layout other runs_on has other_has
 
   module _ (all : IsAcceptedByAll image layout) where
-    no-construct : (kind at : ℕ) → ¬ IsConstruct layout.cpu kind image at
+    no-construct : (kind : ConstructKind) (at : ℕ) → ¬ IsConstruct layout.cpu kind image at
     no-construct _ at (lacks_layout l) = l.none layout refl has
     no-construct kind at (of_trails {layout = other} runs_on other_has h) =
         all.trails.no_construct kind at (subst (λ l. IsOfTrails kind image l at) (same_layout other runs_on other_has) h)
@@ -47,8 +48,8 @@ sound-not_unsound cpu image s (passes_limit {what = what} {count = count} h) = s
 
 -- where an analysis may tell nothing, it tells want of memory alone
 told-memory :
-    {Stands : ℕ → ℕ → Type 0} {Passes : LimitName → ℕ → Type 0}
-    → ((kind at : ℕ) → ¬ Stands kind at) → ((what : LimitName) (count : ℕ) → ¬ Passes what count)
+    {Stands : ConstructKind → ℕ → Type 0} {Passes : LimitName → ℕ → Type 0}
+    → ((kind : ConstructKind) (at : ℕ) → ¬ Stands kind at) → ((what : LimitName) (count : ℕ) → ¬ Passes what count)
     → (refusal : Refusal) → IsRefusedBy Stands Passes refusal → refusal ≡ Memory
 told-memory none under refusal (construct {kind = kind} {at = at} h) = absurd (none kind at h)
 told-memory none under refusal (limit {what = what} {count = count} h) = absurd (under what count h)

@@ -10,27 +10,29 @@ use Rattle.dcc_num.specs.declared.Reg.TheVariants.{Sp, Bp}
 use Rattle.dcc_num.specs.declared.Half.TheVariants.{Low, High}
 use Rattle.dcc_num.specs.Numbers.{limit_of, has_sign, signed_of, wrapped_of}
 use Rattle.dcc_num.specs.Sum.{sum_of, difference_of, increment_of, decrement_of}
-use Rattle.dcc_prog.specs.declared.cpu.Cpu.{Cpu}
+use Rattle.dcc_machine.specs.declared.cpu.Cpu.{Cpu}
 use Rattle.dcc_prog.specs.declared.procedure.Layout.{Layout}
-use Rattle.dcc_prog.specs.declared.instr.Alu.TheVariants.{Add, Sub}
-use Rattle.dcc_prog.specs.declared.instr.Unary.TheVariants.{Inc, Dec}
-use Rattle.dcc_prog.specs.declared.instr.Ea.{Ea}
-use Rattle.dcc_prog.specs.declared.instr.Operand.{Operand}
-use Rattle.dcc_prog.specs.declared.instr.Operand.TheVariants.{Word, Const}
-use Rattle.dcc_prog.specs.declared.instr.Op.{Op}
-use Rattle.dcc_prog.specs.declared.instr.Op.TheVariants.{Alu as AluOp, Unary as UnaryOp, Mov, Lea, Push, Pop, Enter, Leave, Call, Ret}
-use Rattle.dcc_prog.specs.Machine.{State, word_in, with_word_in, part_of, is_bp, offset_of, operand_width, with_operand}
-use Rattle.dcc_prog.specs.Operations.{lea_step, pop_step, top_word, with_sp_raised, after_push, enter_step, leave_step}
-use Rattle.dcc_prog.specs.Step.{op_step}
-use Rattle.dcc_prog.specs.WellFormed.{IsWordOperand, IsOperation}
-use Rattle.dcc_prog.specs.Writes.{is_half_of, writes_half}
-use Rattle.dcc_prog.specs.StateForm.{IsState}
-use Rattle.dcc_prog.specs.LocationLaws.{half_in}
-use Rattle.dcc_prog.specs.Access.{is_direct}
+use Rattle.dcc_machine.specs.declared.instr.Alu.TheVariants.{Add, Sub}
+use Rattle.dcc_machine.specs.declared.instr.Unary.TheVariants.{Inc, Dec}
+use Rattle.dcc_machine.specs.declared.instr.Ea.{Ea}
+use Rattle.dcc_machine.specs.declared.instr.Operand.{Operand}
+use Rattle.dcc_machine.specs.declared.instr.Operand.TheVariants.{Word, Const}
+use Rattle.dcc_machine.specs.declared.instr.Op.{Op}
+use Rattle.dcc_machine.specs.declared.instr.Op.TheVariants.{Alu as AluOp, Unary as UnaryOp, Mov, Lea, Push, Pop, Enter, Leave, Call, Ret}
+use Rattle.dcc_machine.specs.Machine.{State, word_in, with_word_in, part_of, is_bp, offset_of, operand_width}
+use Rattle.dcc_machine.specs.Machine.{with_operand}
+use Rattle.dcc_machine.specs.Operations.{lea_step, pop_step, top_word, with_sp_raised, after_push, enter_step}
+use Rattle.dcc_machine.specs.Operations.{leave_step}
+use Rattle.dcc_machine.specs.Step.{op_step}
+use Rattle.dcc_machine.specs.WellFormed.{IsWordOperand, IsOperation}
+use Rattle.dcc_machine.specs.Writes.{is_half_of, writes_half}
+use Rattle.dcc_machine.specs.StateForm.{IsState}
+use Rattle.dcc_machine.specs.LocationLaws.{half_in}
+use Rattle.dcc_machine.specs.Access.{is_direct}
 use Rattle.dcc_prog.specs.Clean.{top_in, sp_after, is_low}
 use Rattle.dcc_prog.specs.CleanLaws.{SpIsAsTold}
-use Rattle.dcc_prog.proofs.StateKept.{top-below}
-use Rattle.dcc_prog.proofs.LocationKept.{word-other, word-taken, operand-half, op-half}
+use Rattle.dcc_machine.proofs.StateKept.{top-below}
+use Rattle.dcc_machine.proofs.LocationKept.{word-other, word-taken, operand-half, op-half}
 
 -- an operation that doesn't write SP leaves it
 sp-unwritten : (op : Op) (s : State) → writes_half op Sp Low ≡ false → sp_after op s ≡ (pos (word_in s Sp) -ℤ pos 0)

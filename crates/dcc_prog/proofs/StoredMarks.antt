@@ -10,27 +10,27 @@ use Rattle.dcc_run.specs.End.{is_over}
 use Rattle.dcc_run.specs.System.{after}
 use Rattle.dcc_run.specs.Watched.{state}
 use Rattle.dcc_run.proofs.RunLaws.{after-add}
-use Rattle.dcc_prog.specs.declared.image.Image.{Image}
+use Rattle.dcc_machine.specs.declared.image.Image.{Image}
 use Rattle.dcc_prog.specs.declared.procedure.Layout.{Layout}
 use Rattle.dcc_prog.specs.declared.frame.Program.{Program}
-use Rattle.dcc_prog.specs.declared.instr.Alu.TheVariants.{Add, Sub}
-use Rattle.dcc_prog.specs.declared.instr.Shift.TheVariants.{Shl}
-use Rattle.dcc_prog.specs.declared.instr.Plain.TheVariants.{Nop, Cli, Sti, Cld}
-use Rattle.dcc_prog.specs.declared.instr.Operand.TheVariants.{Word, Byte, Seg, Const}
-use Rattle.dcc_prog.specs.declared.instr.Op.{Op}
-use Rattle.dcc_prog.specs.declared.instr.Op.TheVariants.{Alu as AluOp, Shift as ShiftOp, Mov, Plain as PlainOp}
-use Rattle.dcc_prog.specs.declared.instr.Instr.{Instr}
-use Rattle.dcc_prog.specs.MzImage.{IsLoaded}
-use Rattle.dcc_prog.specs.Code.{code_of}
-use Rattle.dcc_prog.specs.Table.{instruction_at}
-use Rattle.dcc_prog.specs.Machine.{State, code_segment, start_state}
-use Rattle.dcc_prog.specs.Step.{instruction_step, step}
+use Rattle.dcc_machine.specs.declared.instr.Alu.TheVariants.{Add, Sub}
+use Rattle.dcc_machine.specs.declared.instr.Shift.TheVariants.{Shl}
+use Rattle.dcc_machine.specs.declared.instr.Plain.TheVariants.{Nop, Cli, Sti, Cld}
+use Rattle.dcc_machine.specs.declared.instr.Operand.TheVariants.{Word, Byte, Seg, Const}
+use Rattle.dcc_machine.specs.declared.instr.Op.{Op}
+use Rattle.dcc_machine.specs.declared.instr.Op.TheVariants.{Alu as AluOp, Shift as ShiftOp, Mov, Plain as PlainOp}
+use Rattle.dcc_machine.specs.declared.instr.Instr.{Instr}
+use Rattle.dcc_machine.specs.MzImage.{IsLoaded}
+use Rattle.dcc_machine.specs.Code.{code_of}
+use Rattle.dcc_machine.specs.Table.{instruction_at}
+use Rattle.dcc_machine.specs.Machine.{State, code_segment, start_state}
+use Rattle.dcc_machine.specs.Step.{instruction_step, step}
 use Rattle.dcc_prog.specs.Layout.{is_prelude_form, HasLayout}
-use Rattle.dcc_prog.specs.Access.{accesses, addresses_of, found_accesses, step_accesses}
+use Rattle.dcc_machine.specs.Access.{accesses, addresses_of, found_accesses, step_accesses}
 use Rattle.dcc_prog.specs.Clean.{Stack, Foul, stack_offset, stored_bytes, is_reading, is_marked, stack_after, first_stack}
 use Rattle.dcc_prog.specs.Watch.{Stage, InProcedures, Stopped, Watch, stage_after, next_instruction, next_foul, is_foul, made, watch_step, watched_machine, first_watch}
 use Rattle.dcc_prog.specs.CleanLaws.{machine_after as machine_state, stage_at, IsStoredBy, IsLeftBehind, IsStoredSince, StoredBytesAreMarked}
-use Rattle.dcc_prog.proofs.FetchLaws.{IsPlaced, image-placed, length-code_of, start-holds, code-kept, fetched-whole}
+use Rattle.dcc_machine.proofs.FetchLaws.{IsPlaced, image-placed, length-code_of, start-holds, code-kept, fetched-whole}
 use Rattle.dcc_prog.proofs.PreludeLaws.{form-inside}
 use Rattle.dcc_prog.proofs.PreludeSteps.{executed, executed-code, at_offset}
 use Rattle.dcc_prog.proofs.PreludeOffsets.{offset_in, run-taken, form-at}

@@ -12,19 +12,19 @@ use Rattle.dcc_run.specs.Watched.{IsWatchable, state}
 use Rattle.dcc_run.proofs.PrefixLaws.{prefix_refl}
 use Rattle.dcc_run.proofs.RunLaws.{after-add}
 use Rattle.dcc_run.proofs.ShadowLaws.{clean_before}
-use Rattle.dcc_prog.specs.declared.cpu.Cpu.{Cpu}
-use Rattle.dcc_prog.specs.declared.image.Image.{Image}
+use Rattle.dcc_machine.specs.declared.cpu.Cpu.{Cpu}
+use Rattle.dcc_machine.specs.declared.image.Image.{Image}
 use Rattle.dcc_prog.specs.declared.procedure.Layout.{Layout}
 use Rattle.dcc_prog.specs.declared.frame.Program.{Program}
-use Rattle.dcc_prog.specs.declared.instr.Instr.{Instr}
-use Rattle.dcc_prog.specs.MzImage.{IsLoaded}
-use Rattle.dcc_prog.specs.Code.{code_of}
-use Rattle.dcc_prog.specs.Machine.{State, start_state}
-use Rattle.dcc_prog.specs.Step.{step}
+use Rattle.dcc_machine.specs.declared.instr.Instr.{Instr}
+use Rattle.dcc_machine.specs.MzImage.{IsLoaded}
+use Rattle.dcc_machine.specs.Code.{code_of}
+use Rattle.dcc_machine.specs.Machine.{State, start_state}
+use Rattle.dcc_machine.specs.Step.{step}
 use Rattle.dcc_prog.specs.Layout.{HasLayout}
 use Rattle.dcc_prog.specs.Clean.{Foul, first_stack}
 use Rattle.dcc_prog.specs.Watch.{Stage, AtStart, InPrelude, InProcedures, Stopped, Watch, stage_after, next_instruction, next_foul, is_foul, moved, made, watch_step, place_of, watched_machine, first_watch}
-use Rattle.dcc_prog.proofs.StepLaws.{machine_lawful}
+use Rattle.dcc_machine.proofs.StepLaws.{machine_lawful}
 use Rattle.dcc_prog.proofs.PreludeSteps.{executed, at_offset, steps-from_start}
 use Rattle.dcc_prog.proofs.PreludeOffsets.{offset_in, offset-taken, offset-end, run-taken, prelude-before_start, prelude-below, prelude-some, start-below}
 

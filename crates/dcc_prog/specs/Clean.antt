@@ -15,13 +15,13 @@ use Rattle.dcc_prog.specs.declared.frame.Frame.{Frame}
 use Rattle.dcc_prog.specs.declared.frame.Program.{Program}
 use Rattle.dcc_prog.specs.declared.watch.FoulKind.{FoulKind}
 use Rattle.dcc_prog.specs.declared.watch.FoulKind.TheVariants.{Low, Hidden, Unwritten}
-use Rattle.dcc_prog.specs.declared.instr.Operand.TheVariants.{Word}
-use Rattle.dcc_prog.specs.declared.instr.Op.{Op}
-use Rattle.dcc_prog.specs.declared.instr.Op.TheVariants.{Mov, Lea, Push, Pop, Enter, Leave, Call, Ret}
-use Rattle.dcc_prog.specs.declared.instr.Instr.{Instr}
-use Rattle.dcc_prog.specs.Machine.{State, word_in}
+use Rattle.dcc_machine.specs.declared.instr.Operand.TheVariants.{Word}
+use Rattle.dcc_machine.specs.declared.instr.Op.{Op}
+use Rattle.dcc_machine.specs.declared.instr.Op.TheVariants.{Mov, Lea, Push, Pop, Enter, Leave, Call, Ret}
+use Rattle.dcc_machine.specs.declared.instr.Instr.{Instr}
+use Rattle.dcc_machine.specs.Machine.{State, word_in}
 use Rattle.dcc_prog.specs.Height.{lowering_of}
-use Rattle.dcc_prog.specs.Access.{Reading, Writing, OfStack, OfFrame, Other, Access, addresses_of, found_accesses}
+use Rattle.dcc_machine.specs.Access.{Reading, Writing, OfStack, OfFrame, Other, Access, addresses_of, found_accesses}
 
 -- Frames that live.
 

@@ -10,24 +10,24 @@ use Rattle.dcc_num.specs.declared.Width.TheVariants.{Word as word_width}
 use Rattle.dcc_num.specs.declared.Reg.TheVariants.{Sp, Bp}
 use Rattle.dcc_num.specs.declared.Half.TheVariants.{Low, High}
 use Rattle.dcc_num.specs.Numbers.{wrapped_of}
-use Rattle.dcc_prog.specs.declared.cpu.Cpu.{Cpu}
-use Rattle.dcc_prog.specs.declared.image.Image.{Image}
+use Rattle.dcc_machine.specs.declared.cpu.Cpu.{Cpu}
+use Rattle.dcc_machine.specs.declared.image.Image.{Image}
 use Rattle.dcc_prog.specs.declared.procedure.Layout.{Layout}
 use Rattle.dcc_prog.specs.declared.frame.Program.{Program}
-use Rattle.dcc_prog.specs.declared.instr.Operand.{Operand}
-use Rattle.dcc_prog.specs.declared.instr.Operand.TheVariants.{Word}
-use Rattle.dcc_prog.specs.declared.instr.Op.{Op}
-use Rattle.dcc_prog.specs.declared.instr.Op.TheVariants.{Mov, Lea, Push, Pop, Enter, Leave, Call, Ret}
-use Rattle.dcc_prog.specs.declared.instr.Instr.{Instr}
-use Rattle.dcc_prog.specs.MzImage.{IsLoaded}
-use Rattle.dcc_prog.specs.Machine.{State, word_in, start_state}
-use Rattle.dcc_prog.specs.Step.{op_step, step}
-use Rattle.dcc_prog.specs.WellFormed.{IsOperation}
-use Rattle.dcc_prog.specs.Writes.{is_half_of, writes_half}
-use Rattle.dcc_prog.specs.FrameForm.{is_sp_move}
-use Rattle.dcc_prog.specs.StateForm.{IsState}
+use Rattle.dcc_machine.specs.declared.instr.Operand.{Operand}
+use Rattle.dcc_machine.specs.declared.instr.Operand.TheVariants.{Word}
+use Rattle.dcc_machine.specs.declared.instr.Op.{Op}
+use Rattle.dcc_machine.specs.declared.instr.Op.TheVariants.{Mov, Lea, Push, Pop, Enter, Leave, Call, Ret}
+use Rattle.dcc_machine.specs.declared.instr.Instr.{Instr}
+use Rattle.dcc_machine.specs.MzImage.{IsLoaded}
+use Rattle.dcc_machine.specs.Machine.{State, word_in, start_state}
+use Rattle.dcc_machine.specs.Step.{op_step, step}
+use Rattle.dcc_machine.specs.WellFormed.{IsOperation}
+use Rattle.dcc_machine.specs.Writes.{is_half_of, writes_half}
+use Rattle.dcc_machine.specs.SpAndBp.{is_sp_move}
+use Rattle.dcc_machine.specs.StateForm.{IsState}
 use Rattle.dcc_prog.specs.Layout.{HasLayout}
-use Rattle.dcc_prog.specs.Access.{is_direct, found_accesses, step_accesses}
+use Rattle.dcc_machine.specs.Access.{is_direct, found_accesses, step_accesses}
 use Rattle.dcc_prog.specs.Clean.{Stack, stack_bytes, stored_bytes, top_in, sp_after, is_low, is_marked, foul_of}
 use Rattle.dcc_prog.specs.Clean.{stack_after, first_stack}
 use Rattle.dcc_prog.specs.Watch.{Stage, InProcedures, next_instruction, watched_machine, first_watch, IsClean}

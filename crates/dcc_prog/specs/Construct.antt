@@ -4,25 +4,43 @@ use Rattle.std.specs.Prelude.{◌≡◌, ◌≢◌, ◌≤◌, ◌<◌, ◌⊎�
 use Rattle.std.specs.Prelude.{length, Option, Some, None}
 use Rattle.dcc_num.specs.declared.Reg.{Reg}
 use Rattle.dcc_num.specs.declared.dos.TheConstants.{GETCHE, PUTC, GETCH, PUTS, EXIT}
-use Rattle.dcc_prog.specs.declared.refusal.construct.TheConstants.{NO_LAYOUT, OUTSIDE, INDIRECT_JUMP, INDIRECT_CALL}
-use Rattle.dcc_prog.specs.declared.refusal.construct.TheConstants.{DOS_NUMBER, HEIGHTS, FRAME_ACCESS, ARGUMENTS_SHORT}
-use Rattle.dcc_prog.specs.declared.refusal.construct.TheConstants.{ENTRY_RETURN, DIVISION}
-use Rattle.dcc_prog.specs.declared.cpu.Cpu.{Cpu}
-use Rattle.dcc_prog.specs.declared.image.Image.{Image}
+use Rattle.dcc_prog.specs.declared.refusal.ConstructKind.{ConstructKind}
+use Rattle.dcc_prog.specs.declared.refusal.ConstructKind.TheVariants.{NoLayout, OutsideProfile, IndirectJump}
+use Rattle.dcc_prog.specs.declared.refusal.ConstructKind.TheVariants.{IndirectCall, DosNumber, StackHeight, FrameAccess}
+use Rattle.dcc_prog.specs.declared.refusal.ConstructKind.TheVariants.{ArgumentsShort, ArgumentReused, SeveralResults}
+use Rattle.dcc_prog.specs.declared.refusal.ConstructKind.TheVariants.{EntryReturn, Division}
+use Rattle.dcc_prog.specs.declared.refusal.FrameFault.{FrameFault}
+use Rattle.dcc_machine.specs.declared.cpu.Cpu.{Cpu}
+use Rattle.dcc_machine.specs.declared.image.Image.{Image}
 use Rattle.dcc_prog.specs.declared.procedure.Layout.{Layout}
-use Rattle.dcc_prog.specs.declared.instr.Operand.{Operand}
-use Rattle.dcc_prog.specs.declared.instr.Operand.TheVariants.{Seg}
-use Rattle.dcc_prog.specs.declared.instr.Op.{Op}
-use Rattle.dcc_prog.specs.declared.instr.Op.TheVariants.{Mov, Plain as PlainOp, Table, Call, Ret, Int21}
-use Rattle.dcc_prog.specs.Bytes.{byte_at}
-use Rattle.dcc_prog.specs.Operands.{reg_field}
-use Rattle.dcc_prog.specs.Layout.{HasLayout, is_control}
+use Rattle.dcc_machine.specs.declared.instr.Op.{Op}
+use Rattle.dcc_machine.specs.declared.instr.Op.TheVariants.{Mov, Plain as PlainOp, Table, Call, Ret, Int21}
+use Rattle.dcc_machine.specs.Machine.{is_segment}
+use Rattle.dcc_machine.specs.Bytes.{byte_at}
+use Rattle.dcc_machine.specs.Operands.{reg_field}
+use Rattle.dcc_machine.specs.Operations.{is_control}
+use Rattle.dcc_prog.specs.Layout.{HasLayout}
 use Rattle.dcc_prog.specs.Trail.{code_within, instruction_in, StandsAt, known_ah, table_number, IsTrail, IsNode}
 use Rattle.dcc_prog.specs.Trail.{IsEntry}
 use Rattle.dcc_prog.specs.FrameForm.{is_frame_form}
 use Rattle.dcc_prog.specs.Prepared.{IsUnprepared}
 use Rattle.dcc_prog.specs.Height.{IsMisplaced, HasBadHeight}
 use Rattle.dcc_prog.specs.Frame.{HasBadAccess, IsShortCall}
+
+-- the number by which a construct is told; the causes of one kind share it
+abbrev pub construct_number : ConstructKind → ℕ
+construct_number NoLayout = 1
+construct_number OutsideProfile = 2
+construct_number IndirectJump = 3
+construct_number IndirectCall = 4
+construct_number DosNumber = 5
+construct_number StackHeight = 6
+construct_number (FrameAccess cause) = 7
+construct_number ArgumentsShort = 8
+construct_number ArgumentReused = 9
+construct_number SeveralResults = 10
+construct_number EntryReturn = 11
+construct_number Division = 12
 
 -- Kind 1: no layout.
 
@@ -83,10 +101,6 @@ pub data IsFormless (image : Image) (layout : Layout) (entry at : ℕ) : Type 0 
 -- Kind 2: instructions outside of what is known.
 
 -- a MOV from or to a segment register, CLI, STI or CLD
-abbrev pub is_segment : Operand → Bool
-is_segment (Seg number) = true
-is_segment operand = false
-
 abbrev pub is_system : Op → Bool
 is_system (Mov to from) = is_segment to || is_segment from
 is_system (PlainOp operation) = is_control operation
@@ -146,25 +160,28 @@ pub data ReturnsFromEntry (image : Image) (layout : Layout) (entry at : ℕ) : T
 -- All kinds.
 
 -- a construct of this kind, one of those that trails tell, stands at a node of the procedure with this entry
-pub data IsAtNode (image : Image) (layout : Layout) (entry at : ℕ) : ℕ → Type 0 where
-  unknown : IsUnknown image layout at → IsAtNode image layout entry at OUTSIDE
-  foreign : IsForeign image layout entry at → IsAtNode image layout entry at OUTSIDE
-  indirect_jump : IsIndirectJump (code_within image layout) at → IsAtNode image layout entry at INDIRECT_JUMP
-  formless : IsFormless image layout entry at → IsAtNode image layout entry at INDIRECT_JUMP
-  indirect_call : IsIndirectCall (code_within image layout) at → IsAtNode image layout entry at INDIRECT_CALL
-  dos_number : HasNoNumber image layout entry at → IsAtNode image layout entry at DOS_NUMBER
-  entry_return : ReturnsFromEntry image layout entry at → IsAtNode image layout entry at ENTRY_RETURN
-  division : IsUnprepared image layout entry at → IsAtNode image layout entry at DIVISION
+pub data IsAtNode (image : Image) (layout : Layout) (entry at : ℕ) : ConstructKind → Type 0 where
+  unknown : IsUnknown image layout at → IsAtNode image layout entry at OutsideProfile
+  foreign : IsForeign image layout entry at → IsAtNode image layout entry at OutsideProfile
+  indirect_jump : IsIndirectJump (code_within image layout) at → IsAtNode image layout entry at IndirectJump
+  formless : IsFormless image layout entry at → IsAtNode image layout entry at IndirectJump
+  indirect_call : IsIndirectCall (code_within image layout) at → IsAtNode image layout entry at IndirectCall
+  dos_number : HasNoNumber image layout entry at → IsAtNode image layout entry at DosNumber
+  entry_return : ReturnsFromEntry image layout entry at → IsAtNode image layout entry at EntryReturn
+  division : IsUnprepared image layout entry at → IsAtNode image layout entry at Division
 
 -- a construct of this kind, one of those that heights tell, stands at a node of the procedure with this entry
-pub data IsAtHeight (image : Image) (layout : Layout) (entry at : ℕ) : ℕ → Type 0 where
-  misplaced : IsMisplaced image layout entry at → IsAtHeight image layout entry at OUTSIDE
-  bad_height : HasBadHeight image layout entry at → IsAtHeight image layout entry at HEIGHTS
+pub data IsAtHeight (image : Image) (layout : Layout) (entry at : ℕ) : ConstructKind → Type 0 where
+  misplaced : IsMisplaced image layout entry at → IsAtHeight image layout entry at OutsideProfile
+  bad_height : HasBadHeight image layout entry at → IsAtHeight image layout entry at StackHeight
 
 -- a construct of this kind, one of those that the frame tells, stands at a node of the procedure with this entry
-pub data IsAtFrame (image : Image) (layout : Layout) (entry at : ℕ) : ℕ → Type 0 where
-  bad_access : HasBadAccess image layout entry at → IsAtFrame image layout entry at FRAME_ACCESS
-  short_call : IsShortCall image layout entry at → IsAtFrame image layout entry at ARGUMENTS_SHORT
+pub data IsAtFrame (image : Image) (layout : Layout) (entry at : ℕ) : ConstructKind → Type 0 where
+  bad_access :
+      {cause : FrameFault}
+      → HasBadAccess image layout entry at cause
+      → IsAtFrame image layout entry at (FrameAccess cause)
+  short_call : IsShortCall image layout entry at → IsAtFrame image layout entry at ArgumentsShort
 
 -- the relation of entries and offsets holds at a node of some procedure that is reached
 pub record IsAtSomeNode (image : Image) (layout : Layout) (Stands : ℕ → ℕ → Type 0) (at : ℕ) : Type 0 where
@@ -175,32 +192,32 @@ pub record IsAtSomeNode (image : Image) (layout : Layout) (Stands : ℕ → ℕ 
 
 -- a construct of this kind stands at the offset, as trails tell it; `IsOfHeights`: as heights tell it; `IsOfFrames`:
 -- as a frame tells it
-abbrev pub IsOfTrails : ℕ → Image → Layout → ℕ → Type 0
+abbrev pub IsOfTrails : ConstructKind → Image → Layout → ℕ → Type 0
 IsOfTrails kind image layout = IsAtSomeNode image layout (λ entry at. IsAtNode image layout entry at kind)
 
-abbrev pub IsOfHeights : ℕ → Image → Layout → ℕ → Type 0
+abbrev pub IsOfHeights : ConstructKind → Image → Layout → ℕ → Type 0
 IsOfHeights kind image layout = IsAtSomeNode image layout (λ entry at. IsAtHeight image layout entry at kind)
 
-abbrev pub IsOfFrames : ℕ → Image → Layout → ℕ → Type 0
+abbrev pub IsOfFrames : ConstructKind → Image → Layout → ℕ → Type 0
 IsOfFrames kind image layout = IsAtSomeNode image layout (λ entry at. IsAtFrame image layout entry at kind)
 
 -- on this processor a construct of this kind stands at the offset
-pub data IsConstruct (cpu : Cpu) : ℕ → Image → ℕ → Type 0 where
-  lacks_layout : {image : Image} {at : ℕ} → LacksLayout cpu image at → IsConstruct cpu NO_LAYOUT image at
+pub data IsConstruct (cpu : Cpu) : ConstructKind → Image → ℕ → Type 0 where
+  lacks_layout : {image : Image} {at : ℕ} → LacksLayout cpu image at → IsConstruct cpu NoLayout image at
   of_trails :
-      {kind at : ℕ} {image : Image} {layout : Layout}
+      {kind : ConstructKind} {at : ℕ} {image : Image} {layout : Layout}
       → layout.cpu ≡ cpu
       → HasLayout image layout
       → IsOfTrails kind image layout at
       → IsConstruct cpu kind image at
   of_heights :
-      {kind at : ℕ} {image : Image} {layout : Layout}
+      {kind : ConstructKind} {at : ℕ} {image : Image} {layout : Layout}
       → layout.cpu ≡ cpu
       → HasLayout image layout
       → IsOfHeights kind image layout at
       → IsConstruct cpu kind image at
   of_frames :
-      {kind at : ℕ} {image : Image} {layout : Layout}
+      {kind : ConstructKind} {at : ℕ} {image : Image} {layout : Layout}
       → layout.cpu ≡ cpu
       → HasLayout image layout
       → IsOfFrames kind image layout at

@@ -1,11 +1,12 @@
 -- The procedures of a program as they are found.
 use Rattle.std.specs.Prelude.{◌≡◌, ◌≢◌, ◌<◌, ℕ, List, ◌∷◌, slice_get, All, AllPairs, Some, None}
-use Rattle.dcc_prog.specs.declared.image.Image.{Image}
+use Rattle.dcc_machine.specs.declared.image.Image.{Image}
 use Rattle.dcc_prog.specs.declared.procedure.Layout.{Layout}
 use Rattle.dcc_prog.specs.declared.procedure.Node.{Node}
 use Rattle.dcc_prog.specs.declared.procedure.Proc.{Proc}
+use Rattle.dcc_prog.specs.declared.refusal.ConstructKind.{ConstructKind}
 use Rattle.dcc_prog.specs.declared.refusal.LimitName.{LimitName}
-use Rattle.dcc_prog.specs.declared.instr.Op.TheVariants.{Int21}
+use Rattle.dcc_machine.specs.declared.instr.Op.TheVariants.{Int21}
 use Rattle.dcc_prog.specs.Trail.{instruction_in, known_ah, successors, IsTrail, IsNode, IsEntry}
 use Rattle.dcc_prog.specs.Construct.{IsOfTrails}
 use Rattle.dcc_prog.specs.Limit.{IsAbove}
@@ -61,5 +62,5 @@ pub record AreFound (image : Image) (layout : Layout) (procs : List Proc) : Type
   pub reached : All (λ proc. IsEntry image layout proc.entry) procs
   pub every : (entry : ℕ) → IsEntry image layout entry → HasEntry procs entry
   pub found : All (IsFound image layout) procs
-  pub no_construct : (kind at : ℕ) → ¬ IsOfTrails kind image layout at
+  pub no_construct : (kind : ConstructKind) (at : ℕ) → ¬ IsOfTrails kind image layout at
   pub no_limit : (what : LimitName) (count : ℕ) → ¬ IsAbove image layout what count

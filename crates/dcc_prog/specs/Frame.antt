@@ -7,16 +7,19 @@ use Rattle.dcc_num.specs.declared.Width.{Width}
 use Rattle.dcc_num.specs.declared.Width.TheVariants.{Word as word_width}
 use Rattle.dcc_num.specs.declared.Reg.TheVariants.{Sp, Bp}
 use Rattle.dcc_num.specs.Numbers.{signed_of}
-use Rattle.dcc_prog.specs.declared.image.Image.{Image}
+use Rattle.dcc_machine.specs.declared.image.Image.{Image}
 use Rattle.dcc_prog.specs.declared.procedure.Layout.{Layout}
-use Rattle.dcc_prog.specs.declared.instr.Ea.{Ea}
-use Rattle.dcc_prog.specs.declared.instr.Operand.{Operand}
-use Rattle.dcc_prog.specs.declared.instr.Operand.TheVariants.{Word, Mem}
-use Rattle.dcc_prog.specs.declared.instr.Op.{Op}
-use Rattle.dcc_prog.specs.declared.instr.Op.TheVariants.{Alu, Unary, Shift, Mov, Xchg, Lea, Imul3, Push, Pop, Call}
-use Rattle.dcc_prog.specs.Access.{bytes_in, is_direct}
+use Rattle.dcc_prog.specs.declared.refusal.FrameFault.{FrameFault}
+use Rattle.dcc_prog.specs.declared.refusal.FrameFault.TheVariants.{AccessOutside, AddressOutside, NoAddress, LongExtent}
+use Rattle.dcc_machine.specs.declared.instr.Ea.{Ea}
+use Rattle.dcc_machine.specs.declared.instr.Operand.{Operand}
+use Rattle.dcc_machine.specs.declared.instr.Operand.TheVariants.{Word, Mem}
+use Rattle.dcc_machine.specs.declared.instr.Op.{Op}
+use Rattle.dcc_machine.specs.declared.instr.Op.TheVariants.{Alu, Unary, Shift, Mov, Xchg, Lea, Imul3, Push, Pop, Call}
+use Rattle.dcc_machine.specs.Access.{bytes_in, is_direct}
 use Rattle.dcc_prog.specs.Trail.{StandsAt, IsNode}
-use Rattle.dcc_prog.specs.FrameForm.{is_framed, copies_bp, address_uses_bp}
+use Rattle.dcc_machine.specs.SpAndBp.{copies_bp, address_uses_bp}
+use Rattle.dcc_prog.specs.FrameForm.{is_framed}
 use Rattle.dcc_prog.specs.Height.{ReachesRet, HasHeight}
 
 -- some bytes of a frame: those from the first offset up to the end, which isn't one of them
@@ -157,7 +160,7 @@ pub data IsPassedWord (image : Image) (layout : Layout) (entry at : ℕ) : Span 
       → pos (2 * number + 2) ≤ℤ own_bytes image layout entry height
       → IsPassedWord image layout entry at (span_of (pos (2 + 2 * number) -ℤ height) 2)
 
--- Runs and cells.
+-- Extents and cells.
 
 -- bytes that the instruction at a node uses together
 pub data IsUsed (image : Image) (layout : Layout) (entry at : ℕ) (span : Span) : Type 0 where
@@ -185,37 +188,37 @@ pub record IsCrossed (image : Image) (layout : Layout) (entry : ℕ) (offset : �
   pub before : span.first <ℤ offset
   pub after : offset <ℤ span.end
 
--- a run: pieces that overlap, joined; a piece begins it, each offset within it is crossed, and none of its ends is
-pub record IsRunOfPieces (image : Image) (layout : Layout) (entry : ℕ) (run : Span) : Type 0 where
+-- an extent: pieces that overlap, joined; a piece begins it, each offset within it is crossed, and none of its ends is
+pub record IsExtentOfPieces (image : Image) (layout : Layout) (entry : ℕ) (extent : Span) : Type 0 where
   pub span : Span
   pub piece : IsPiece image layout entry span
-  pub begins : span.first ≡ run.first
-  pub ends : run.first <ℤ run.end
-  pub joined : (offset : ℤ) → run.first <ℤ offset → offset <ℤ run.end → IsCrossed image layout entry offset
-  pub apart_before : ¬ IsCrossed image layout entry run.first
-  pub apart_after : ¬ IsCrossed image layout entry run.end
+  pub begins : span.first ≡ extent.first
+  pub ends : extent.first <ℤ extent.end
+  pub joined : (offset : ℤ) → extent.first <ℤ offset → offset <ℤ extent.end → IsCrossed image layout entry offset
+  pub apart_before : ¬ IsCrossed image layout entry extent.first
+  pub apart_after : ¬ IsCrossed image layout entry extent.end
 
--- a run of at most two bytes is a cell
+-- an extent of at most two bytes is a cell
 pub record IsCell (image : Image) (layout : Layout) (entry : ℕ) (cell : Span) : Type 0 where
-  pub run : IsRunOfPieces image layout entry cell
+  pub extent : IsExtentOfPieces image layout entry cell
   pub small : cell.end ≤ℤ (cell.first +ℤ pos 2)
 
--- a run of more than two bytes, which is no cell
-pub record IsLongRun (image : Image) (layout : Layout) (entry : ℕ) (run : Span) : Type 0 where
-  pub is_run : IsRunOfPieces image layout entry run
-  pub long : (run.first +ℤ pos 2) <ℤ run.end
+-- an extent of more than two bytes, which is no cell
+pub record IsLongExtent (image : Image) (layout : Layout) (entry : ℕ) (extent : Span) : Type 0 where
+  pub is_extent : IsExtentOfPieces image layout entry extent
+  pub long : (extent.first +ℤ pos 2) <ℤ extent.end
 
 -- Exposure.
 
--- the address of this byte and of those after it may be computed: an instruction exposes them from here on, or a run
--- of more than two bytes begins here
+-- the address of this byte and of those after it may be computed: an instruction exposes them from here on, or an
+-- extent of more than two bytes begins here
 pub data IsExposureStart (image : Image) (layout : Layout) (entry : ℕ) : ℤ → Type 0 where
   by_instruction :
       {at : ℕ} {start : ℤ}
       → IsNode image layout entry at
       → StartsExposure image layout entry at start
       → IsExposureStart image layout entry start
-  by_run : {run : Span} → IsLongRun image layout entry run → IsExposureStart image layout entry run.first
+  by_extent : {extent : Span} → IsLongExtent image layout entry extent → IsExposureStart image layout entry extent.first
 
 -- `count` bytes directly below BP are exposed: from the least start of exposure below BP on
 pub data HasExposedLocal (image : Image) (layout : Layout) (entry : ℕ) : ℕ → Type 0 where
@@ -257,7 +260,7 @@ pub data IsExposed (image : Image) (layout : Layout) (entry : ℕ) (offset : ℤ
       → offset <ℤ pos (4 + 2 * count)
       → IsExposed image layout entry offset
 
--- bytes that stand for one value: a cell, or the word of an argument, also where it lies in a longer run
+-- bytes that stand for one value: a cell, or the word of an argument, also where it lies in a longer extent
 pub data IsSlot (image : Image) (layout : Layout) (entry : ℕ) : Span → Type 0 where
   cell : {span : Span} → IsCell image layout entry span → IsSlot image layout entry span
   argument :
@@ -298,32 +301,33 @@ pub record IsOutsideFrame (image : Image) (layout : Layout) (entry : ℕ) (heigh
 abbrev pub LacksAddresses : Image → Layout → ℕ → Type 0
 LacksAddresses image layout entry = (layout.delta ≢ 0) ⊎ (is_framed image layout entry ≡ false)
 
-pub data HasBadAccess (image : Image) (layout : Layout) (entry at : ℕ) : Type 0 where
+-- the frame is accessed as no frame of variables can be, for one of four causes
+pub data HasBadAccess (image : Image) (layout : Layout) (entry at : ℕ) : FrameFault → Type 0 where
   access_outside :
       {span : Span} {height : ℤ}
       → IsDirectAccess image layout entry at span
       → HasHeight image layout entry at height
       → IsOutsideFrame image layout entry height span
-      → HasBadAccess image layout entry at
+      → HasBadAccess image layout entry at AccessOutside
   start_outside :
       {start height : ℤ}
       → StartsExposure image layout entry at start
       → HasHeight image layout entry at height
       → IsOutsideFrame image layout entry height (span_of start 1)
-      → HasBadAccess image layout entry at
+      → HasBadAccess image layout entry at AddressOutside
   no_addresses :
       {start : ℤ}
       → LacksAddresses image layout entry
       → StartsExposure image layout entry at start
-      → HasBadAccess image layout entry at
+      → HasBadAccess image layout entry at NoAddress
   long_without_addresses :
-      {span run : Span}
+      {span extent : Span}
       → LacksAddresses image layout entry
       → IsUsed image layout entry at span
-      → IsLongRun image layout entry run
-      → run.first ≤ℤ span.first
-      → span.end ≤ℤ run.end
-      → HasBadAccess image layout entry at
+      → IsLongExtent image layout entry extent
+      → extent.first ≤ℤ span.first
+      → span.end ≤ℤ extent.end
+      → HasBadAccess image layout entry at LongExtent
 
 -- Kind 8: a CALL with too few bytes of arguments.
 

@@ -6,17 +6,18 @@ use Rattle.dcc_num.specs.declared.Width.TheVariants.{Word as word_width}
 use Rattle.dcc_num.specs.declared.Reg.TheVariants.{Sp, Bp}
 use Rattle.dcc_num.specs.declared.Half.TheVariants.{Low}
 use Rattle.dcc_num.specs.Numbers.{signed_of}
-use Rattle.dcc_prog.specs.declared.image.Image.{Image}
+use Rattle.dcc_machine.specs.declared.image.Image.{Image}
 use Rattle.dcc_prog.specs.declared.procedure.Layout.{Layout}
-use Rattle.dcc_prog.specs.declared.instr.Alu.TheVariants.{Add, Sub}
-use Rattle.dcc_prog.specs.declared.instr.Unary.TheVariants.{Inc, Dec}
-use Rattle.dcc_prog.specs.declared.instr.Operand.TheVariants.{Word, Const}
-use Rattle.dcc_prog.specs.declared.instr.Op.{Op}
-use Rattle.dcc_prog.specs.declared.instr.Op.TheVariants.{Alu as AluOp, Unary as UnaryOp, Mov, Lea, Push, Pop, Enter}
-use Rattle.dcc_prog.specs.declared.instr.Op.TheVariants.{Leave, Call, Ret}
-use Rattle.dcc_prog.specs.Writes.{writes_half}
+use Rattle.dcc_machine.specs.declared.instr.Alu.TheVariants.{Add, Sub}
+use Rattle.dcc_machine.specs.declared.instr.Unary.TheVariants.{Inc, Dec}
+use Rattle.dcc_machine.specs.declared.instr.Operand.TheVariants.{Word, Const}
+use Rattle.dcc_machine.specs.declared.instr.Op.{Op}
+use Rattle.dcc_machine.specs.declared.instr.Op.TheVariants.{Alu as AluOp, Unary as UnaryOp, Mov, Lea, Push, Pop, Enter}
+use Rattle.dcc_machine.specs.declared.instr.Op.TheVariants.{Leave, Call, Ret}
+use Rattle.dcc_machine.specs.Writes.{writes_half}
 use Rattle.dcc_prog.specs.Trail.{StandsAt, IsTrail, IsNode}
-use Rattle.dcc_prog.specs.FrameForm.{is_framed, copies_bp, uses_bp_address, is_frame_form}
+use Rattle.dcc_machine.specs.SpAndBp.{copies_bp, uses_bp_address}
+use Rattle.dcc_prog.specs.FrameForm.{is_framed, is_frame_form}
 
 -- What operations do to the height.
 

@@ -5,18 +5,19 @@ use Rattle.dcc_num.specs.declared.Width.{Width}
 use Rattle.dcc_num.specs.declared.Width.TheVariants.{Byte as byte_width, Word as word_width}
 use Rattle.dcc_num.specs.declared.Reg.TheVariants.{Ax, Dx}
 use Rattle.dcc_num.specs.declared.Half.TheVariants.{Low, High}
-use Rattle.dcc_prog.specs.declared.image.Image.{Image}
+use Rattle.dcc_machine.specs.declared.image.Image.{Image}
 use Rattle.dcc_prog.specs.declared.procedure.Layout.{Layout}
-use Rattle.dcc_prog.specs.declared.instr.Alu.TheVariants.{Sub, Xor}
-use Rattle.dcc_prog.specs.declared.instr.Unary.{Unary}
-use Rattle.dcc_prog.specs.declared.instr.Unary.TheVariants.{Div, Idiv}
-use Rattle.dcc_prog.specs.declared.instr.Plain.TheVariants.{Cbw, Cwd}
-use Rattle.dcc_prog.specs.declared.instr.Operand.{Operand}
-use Rattle.dcc_prog.specs.declared.instr.Operand.TheVariants.{Word, Byte, Const}
-use Rattle.dcc_prog.specs.declared.instr.Op.{Op}
-use Rattle.dcc_prog.specs.declared.instr.Op.TheVariants.{Alu as AluOp, Unary as UnaryOp, Mov, Plain as PlainOp}
-use Rattle.dcc_prog.specs.Machine.{operand_width}
-use Rattle.dcc_prog.specs.Writes.{writes_half}
+use Rattle.dcc_machine.specs.declared.instr.Alu.TheVariants.{Sub, Xor}
+use Rattle.dcc_machine.specs.declared.instr.Unary.{Unary}
+use Rattle.dcc_machine.specs.declared.instr.Unary.TheVariants.{Div, Idiv}
+use Rattle.dcc_machine.specs.declared.instr.Plain.TheVariants.{Cbw, Cwd}
+use Rattle.dcc_machine.specs.declared.instr.Operand.{Operand}
+use Rattle.dcc_machine.specs.declared.instr.Operand.TheVariants.{Word, Byte, Const}
+use Rattle.dcc_machine.specs.declared.instr.Op.{Op}
+use Rattle.dcc_machine.specs.declared.instr.Op.TheVariants.{Alu as AluOp, Unary as UnaryOp, Mov, Plain as PlainOp}
+use Rattle.dcc_machine.specs.Operations.{is_division}
+use Rattle.dcc_machine.specs.Machine.{operand_width}
+use Rattle.dcc_machine.specs.Writes.{writes_half}
 use Rattle.dcc_prog.specs.Trail.{StandsAt, IsSolePredecessor}
 
 -- the operand is the upper half of what a division of that width divides: AH, or DX
@@ -72,12 +73,6 @@ pub data IsPrepared (image : Image) (layout : Layout) (entry : ℕ) (division : 
       → keeps_dividend division width op ≡ true
       → IsPrepared image layout entry division width from
       → IsPrepared image layout entry division width at
-
--- DIV or IDIV
-abbrev pub is_division : Unary → Bool
-is_division Div = true
-is_division Idiv = true
-is_division operation = false
 
 -- a division stands at a node of the procedure, and its upper half isn't prepared
 pub record IsUnprepared (image : Image) (layout : Layout) (entry at : ℕ) : Type 0 where

@@ -1,9 +1,10 @@
 -- What the analyses refuse of programs, and why.
 use Rattle.std.specs.Prelude.{◌≡◌, ◌⊎◌, ℕ}
-use Rattle.dcc_prog.specs.declared.cpu.Cpu.{Cpu}
-use Rattle.dcc_prog.specs.declared.image.Image.{Image}
+use Rattle.dcc_machine.specs.declared.cpu.Cpu.{Cpu}
+use Rattle.dcc_machine.specs.declared.image.Image.{Image}
 use Rattle.dcc_prog.specs.declared.procedure.Layout.{Layout}
-use Rattle.dcc_prog.specs.declared.refusal.construct.TheConstants.{NO_LAYOUT}
+use Rattle.dcc_prog.specs.declared.refusal.ConstructKind.{ConstructKind}
+use Rattle.dcc_prog.specs.declared.refusal.ConstructKind.TheVariants.{NoLayout}
 use Rattle.dcc_prog.specs.declared.refusal.LimitName.{LimitName}
 use Rattle.dcc_prog.specs.declared.refusal.Refusal.{Refusal}
 use Rattle.dcc_prog.specs.declared.refusal.Refusal.TheVariants.{Construct, Limit, Memory}
@@ -20,25 +21,25 @@ pub record PassesLimit (cpu : Cpu) (image : Image) (what : LimitName) (count : �
 
 -- no construct stands anywhere, and no count passes its greatest number
 pub record IsSound (cpu : Cpu) (image : Image) : Type 0 where
-  pub no_construct : (kind at : ℕ) → ¬ IsConstruct cpu kind image at
+  pub no_construct : (kind : ConstructKind) (at : ℕ) → ¬ IsConstruct cpu kind image at
   pub no_limit : (what : LimitName) (count : ℕ) → ¬ PassesLimit cpu image what count
 
 -- a construct of any kind stands somewhere, or a count passes its greatest number
 pub data IsUnsound (cpu : Cpu) (image : Image) : Type 0 where
-  has_construct : {kind at : ℕ} → IsConstruct cpu kind image at → IsUnsound cpu image
+  has_construct : {kind : ConstructKind} {at : ℕ} → IsConstruct cpu kind image at → IsUnsound cpu image
   passes_limit : {what : LimitName} {count : ℕ} → PassesLimit cpu image what count → IsUnsound cpu image
 
 -- What one analysis may tell of a program that it refuses: a construct of those that it tells, or a count of its own
 -- above its greatest number; where several of these stand, any of them may be told. Want of memory has no cause.
-pub data IsRefusedBy (Stands : ℕ → ℕ → Type 0) (Passes : LimitName → ℕ → Type 0) : Refusal → Type 0 where
-  construct : {kind at : ℕ} → Stands kind at → IsRefusedBy Stands Passes (Construct kind at)
+pub data IsRefusedBy (Stands : ConstructKind → ℕ → Type 0) (Passes : LimitName → ℕ → Type 0) : Refusal → Type 0 where
+  construct : {kind : ConstructKind} {at : ℕ} → Stands kind at → IsRefusedBy Stands Passes (Construct kind at)
   limit : {what : LimitName} {count : ℕ} → Passes what count → IsRefusedBy Stands Passes (Limit what count)
   no_memory : IsRefusedBy Stands Passes Memory
 
 -- one analysis has nothing to tell that refuses the program: no construct of those that it tells, and no count of its
 -- own above its greatest number
-pub record IsAcceptedBy (Stands : ℕ → ℕ → Type 0) (Passes : LimitName → ℕ → Type 0) : Type 0 where
-  pub no_construct : (kind at : ℕ) → ¬ Stands kind at
+pub record IsAcceptedBy (Stands : ConstructKind → ℕ → Type 0) (Passes : LimitName → ℕ → Type 0) : Type 0 where
+  pub no_construct : (kind : ConstructKind) (at : ℕ) → ¬ Stands kind at
   pub no_limit : (what : LimitName) (count : ℕ) → ¬ Passes what count
 
 -- what the search for procedures may refuse the program for
@@ -74,7 +75,7 @@ pub record IsAcceptedByAll (image : Image) (layout : Layout) : Type 0 where
 -- where none holds of the image, this is told at its entry, and nothing else is. All else is told of the layout that
 -- holds: what trails tell, then what heights do, then what frames do, each only where those before refuse nothing.
 pub data IsRefusedByAnalysis (cpu : Cpu) (image : Image) : Refusal → Type 0 where
-  no_layout : {at : ℕ} → LacksLayout cpu image at → IsRefusedByAnalysis cpu image (Construct NO_LAYOUT at)
+  no_layout : {at : ℕ} → LacksLayout cpu image at → IsRefusedByAnalysis cpu image (Construct NoLayout at)
   by_trails :
       {layout : Layout} {refusal : Refusal}
       → layout.cpu ≡ cpu

@@ -6,24 +6,24 @@ use Rattle.std.specs.Prelude.{◌≡◌, ℕ, ◌+◌, ◌*◌, ◌/◌, ◌%◌
 use Rattle.std.specs.Prelude.{◌∷◌, take, drop, map, Contains, Option, Some, None, option_map}
 use Rattle.std.specs.List.{range_with_len}
 use Rattle.dcc_num.specs.declared.Reg.{Reg}
-use Rattle.dcc_num.specs.declared.Reg.TheVariants.{Ax, Sp, Bp}
+use Rattle.dcc_num.specs.declared.Reg.TheVariants.{Ax}
 use Rattle.dcc_num.specs.declared.Half.TheVariants.{Low, High}
-use Rattle.dcc_num.specs.declared.dos.TheConstants.{EXIT}
-use Rattle.dcc_prog.specs.declared.image.Image.{Image}
+use Rattle.dcc_machine.specs.declared.image.Image.{Image}
 use Rattle.dcc_prog.specs.declared.procedure.Layout.{Layout}
-use Rattle.dcc_prog.specs.declared.instr.Alu.TheVariants.{Xor, Cmp}
-use Rattle.dcc_prog.specs.declared.instr.Shift.TheVariants.{Shl}
-use Rattle.dcc_prog.specs.declared.instr.Count.TheVariants.{One}
-use Rattle.dcc_prog.specs.declared.instr.Cond.TheVariants.{A, Be}
-use Rattle.dcc_prog.specs.declared.instr.Operand.TheVariants.{Word, Byte, Const}
-use Rattle.dcc_prog.specs.declared.instr.Op.{Op}
-use Rattle.dcc_prog.specs.declared.instr.Op.TheVariants.{Alu as AluOp, Shift as ShiftOp, Mov, Jump, Branch, Loop, LoopE}
-use Rattle.dcc_prog.specs.declared.instr.Op.TheVariants.{LoopNe, Jcxz, Table, Call, Ret, Int21}
-use Rattle.dcc_prog.specs.declared.instr.Instr.{Instr}
-use Rattle.dcc_prog.specs.Code.{code_of}
-use Rattle.dcc_prog.specs.Bytes.{byte_at}
-use Rattle.dcc_prog.specs.Table.{instruction_at}
-use Rattle.dcc_prog.specs.Writes.{is_same_register, writes_half}
+use Rattle.dcc_machine.specs.declared.instr.Alu.TheVariants.{Xor, Cmp}
+use Rattle.dcc_machine.specs.declared.instr.Shift.TheVariants.{Shl}
+use Rattle.dcc_machine.specs.declared.instr.Count.TheVariants.{One}
+use Rattle.dcc_machine.specs.declared.instr.Cond.TheVariants.{A, Be}
+use Rattle.dcc_machine.specs.declared.instr.Operand.TheVariants.{Word, Byte, Const}
+use Rattle.dcc_machine.specs.declared.instr.Op.{Op}
+use Rattle.dcc_machine.specs.declared.instr.Op.TheVariants.{Alu as AluOp, Shift as ShiftOp, Mov, Branch, Table, Call}
+use Rattle.dcc_machine.specs.declared.instr.Instr.{Instr}
+use Rattle.dcc_machine.specs.Successors.{next_of, op_successors}
+use Rattle.dcc_machine.specs.Machine.{is_general}
+use Rattle.dcc_machine.specs.Code.{code_of}
+use Rattle.dcc_machine.specs.Bytes.{byte_at}
+use Rattle.dcc_machine.specs.Table.{instruction_at}
+use Rattle.dcc_machine.specs.Writes.{is_same_register, writes_half}
 
 -- The code.
 
@@ -38,10 +38,6 @@ instruction_in image layout at = instruction_at layout.cpu at (drop at (code_wit
 -- an instruction with this operation stands at the offset, wholly in the code
 abbrev pub StandsAt : Image → Layout → ℕ → Op → Type 0
 StandsAt image layout at op = (instr : Instr) × (instruction_in image layout at ≡ Some instr) × (instr.op ≡ op)
-
--- the offset after an instruction, which wraps
-abbrev pub next_of : ℕ → Instr → ℕ
-next_of at instr = (at + instr.len) % 65536
 
 -- AH.
 
@@ -62,12 +58,6 @@ known_ah image layout [] = None
 known_ah image layout (at ∷ before) = ah_after (instruction_in image layout at) (known_ah image layout before)
 
 -- Tables.
-
--- AX, CX, DX, BX, SI or DI
-abbrev pub is_general : Reg → Bool
-is_general Sp = false
-is_general Bp = false
-is_general r = true
 
 -- the operation at an offset, if an instruction stands there
 abbrev pub operation_in : Image → Layout → ℕ → Option Op
@@ -158,25 +148,6 @@ table_targets image offset (Some number) = table_words image offset (number + 1)
 
 -- Successors.
 
--- AH holds 4Ch, with which INT 21h ends the run
-abbrev pub is_exit : Option ℕ → Bool
-is_exit None = false
-is_exit (Some number) = number == EXIT
-
--- the successors of an operation, by the offset after it, by what is known of AH and by the targets of its table. The
--- target comes before the next instruction
-abbrev pub op_successors : Op → ℕ → Option ℕ → List ℕ → List ℕ
-op_successors (Jump target) next ah targets = target ∷ []
-op_successors (Branch condition target) next ah targets = target ∷ next ∷ []
-op_successors (Loop target) next ah targets = target ∷ next ∷ []
-op_successors (LoopE target) next ah targets = target ∷ next ∷ []
-op_successors (LoopNe target) next ah targets = target ∷ next ∷ []
-op_successors (Jcxz target) next ah targets = target ∷ next ∷ []
-op_successors (Table r offset) next ah targets = targets
-op_successors (Ret count) next ah targets = []
-op_successors Int21 next ah targets = if is_exit ah then [] else next ∷ []
-op_successors op next ah targets = next ∷ []
-
 -- the targets of the table through which an operation after a trail jumps
 abbrev pub targets_of : Image → Layout → Op → List ℕ → List ℕ
 targets_of image layout (Table r offset) before = table_targets image offset (table_number image layout r before)
@@ -229,9 +200,3 @@ pub data IsEntry (image : Image) (layout : Layout) : ℕ → Type 0 where
       → IsNode image layout entry at
       → StandsAt image layout at (Call target)
       → IsEntry image layout target
-
--- a node of a reached procedure
-pub record IsReached (image : Image) (layout : Layout) (at : ℕ) : Type 0 where
-  pub entry : ℕ
-  pub is_entry : IsEntry image layout entry
-  pub node : IsNode image layout entry at

@@ -1,16 +1,16 @@
 -- The machine's run with the frames that live, and how far it is clean.
 use Rattle.std.specs.Prelude.{◌≡◌, ℕ, ◌==◌, Bool, true, false, ◌||◌, if◌then◌else◌, List, [], ◌∷◌, Option, Some, None}
 use Rattle.dcc_run.specs.End.{is_over}
-use Rattle.dcc_run.specs.Place.{Place}
+use Rattle.dcc_run.specs.ProgramPoint.{ProgramPoint}
 use Rattle.dcc_run.specs.Watched.{Watched, state}
-use Rattle.dcc_prog.specs.declared.cpu.Cpu.{Cpu}
-use Rattle.dcc_prog.specs.declared.image.Image.{Image}
+use Rattle.dcc_machine.specs.declared.cpu.Cpu.{Cpu}
+use Rattle.dcc_machine.specs.declared.image.Image.{Image}
 use Rattle.dcc_prog.specs.declared.procedure.Layout.{Layout}
 use Rattle.dcc_prog.specs.declared.frame.Program.{Program}
-use Rattle.dcc_prog.specs.declared.instr.Instr.{Instr}
-use Rattle.dcc_prog.specs.Table.{instruction_at}
-use Rattle.dcc_prog.specs.Machine.{State, start_state}
-use Rattle.dcc_prog.specs.Step.{step, code_bytes}
+use Rattle.dcc_machine.specs.declared.instr.Instr.{Instr}
+use Rattle.dcc_machine.specs.Table.{instruction_at}
+use Rattle.dcc_machine.specs.Machine.{State, start_state}
+use Rattle.dcc_machine.specs.Step.{step, code_bytes}
 use Rattle.dcc_prog.specs.Analysed.{IsProgramOf}
 use Rattle.dcc_prog.specs.Clean.{Stack, Foul, foul_of, stack_after, first_stack}
 
@@ -74,7 +74,7 @@ watch_step program w = if is_over w.machine.end || is_foul w then w else made pr
 
 -- The place where the run stands: an offset in the procedure of the newest frame. The first instruction counts as one
 -- of the entry procedure's, and those that follow it in the prelude are at no place.
-abbrev pub place_of : Layout → Watch → Option Place
+abbrev pub place_of : Layout → Watch → Option ProgramPoint
 place_of layout w = elim w.stage [
   | AtStart ↦ Some (record { entry = layout.start_ip; at = w.machine.ip })
   | InPrelude ↦ None
@@ -86,7 +86,7 @@ place_of layout w = elim w.stage [
 ]
 
 -- the runs of the machine with the program's processor, watched
-abbrev pub watched_machine : Program → Watched Watch Place
+abbrev pub watched_machine : Program → Watched Watch ProgramPoint
 watched_machine program = record {
   system = record { step = watch_step program; events = λ w. w.machine.events; end = λ w. w.machine.end };
   mark = place_of program.layout;

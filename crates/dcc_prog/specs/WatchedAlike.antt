@@ -2,8 +2,8 @@
 -- the image it is watched by.
 use Rattle.std.specs.Prelude.{◌≡◌, ℕ, false, List}
 use Rattle.dcc_run.specs.Watched.{state}
-use Rattle.dcc_prog.specs.declared.cpu.Cpu.{Cpu}
-use Rattle.dcc_prog.specs.declared.image.Image.{Image}
+use Rattle.dcc_machine.specs.declared.cpu.Cpu.{Cpu}
+use Rattle.dcc_machine.specs.declared.image.Image.{Image}
 use Rattle.dcc_prog.specs.declared.frame.Program.{Program}
 use Rattle.dcc_prog.specs.Analysed.{IsProgramOf}
 use Rattle.dcc_prog.specs.Watch.{Watch, is_foul, watch_step, watched_machine, first_watch, IsClean}

@@ -1,13 +1,12 @@
 //! Procedures, and what the prelude of a program sets up.
 
 ghost use Rattle.std.specs.Prelude.{◌≡◌};
-ghost use Rattle.dcc_prog.specs.declared.image.Image.{Image};
+ghost use Rattle.dcc_machine.specs.declared.image.Image.{Image};
 ghost use Rattle.dcc_prog.specs.Trail.{instruction_in, IsNode};
 ghost use Rattle.dcc_prog.specs.FrameForm.{is_framed};
 ghost use Rattle.dcc_prog.specs.Found.{IsFound};
 
-use crate::cpu::Cpu;
-use crate::instr::Instr;
+use dcc_machine::{Cpu, Instr};
 use dcc_num::Flags;
 use indexmap::IndexMap;
 use smallvec::SmallVec;

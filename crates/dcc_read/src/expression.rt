@@ -202,7 +202,7 @@ fn operator_of(r: &Reader<'_>, weakest: u8) -> Option<CBin>
 }
 
 /// A name, and whether a parenthesis follows.
-pub fn name_here<'a>(r: &mut Reader<'a>, word: &'a str) -> PartialExpr<'a>
+pub(crate) fn name_here<'a>(r: &mut Reader<'a>, word: &'a str) -> PartialExpr<'a>
     requires seen { is_some (reading.next_token (reader_of r.now)) ≡ true }
     ensures { reading.got (expr_of result) (reader_of r.new) ≡ reading.name_here word.now (reader_of r.old) }
 {
@@ -427,7 +427,7 @@ fn read_rest<'a>(
 }
 
 /// Reads a unary part, which must stand here.
-pub fn read_unary<'a>(
+pub(crate) fn read_unary<'a>(
     r: &mut Reader<'a>,
     alloc: Global,
     calls: usize,
@@ -442,7 +442,11 @@ pub fn read_unary<'a>(
 }
 
 /// Reads a whole expression.
-pub fn read_value<'a>(r: &mut Reader<'a>, alloc: Global, calls: usize) -> Got<PartialExpr<'a>>
+pub(crate) fn read_value<'a>(
+    r: &mut Reader<'a>,
+    alloc: Global,
+    calls: usize,
+) -> Got<PartialExpr<'a>>
     ensures { IfOk result (λ e. reading.got (expr_of e) (reader_of r.new)
         ≡ statements.read_value calls (reader_of r.old)) }
 {
@@ -455,7 +459,11 @@ pub fn read_value<'a>(r: &mut Reader<'a>, alloc: Global, calls: usize) -> Got<Pa
 }
 
 /// Reads a whole expression inside the parentheses of a statement.
-pub fn read_enclosed<'a>(r: &mut Reader<'a>, alloc: Global, calls: usize) -> Got<PartialExpr<'a>>
+pub(crate) fn read_enclosed<'a>(
+    r: &mut Reader<'a>,
+    alloc: Global,
+    calls: usize,
+) -> Got<PartialExpr<'a>>
     ensures { IfOk result (λ e. reading.got (expr_of e) (reader_of r.new)
         ≡ statements.read_enclosed calls (reader_of r.old)) }
 {
@@ -468,7 +476,7 @@ pub fn read_enclosed<'a>(r: &mut Reader<'a>, alloc: Global, calls: usize) -> Got
 }
 
 /// Reads an expression in parentheses.
-pub fn read_test<'a>(r: &mut Reader<'a>, alloc: Global, calls: usize) -> Got<PartialExpr<'a>>
+pub(crate) fn read_test<'a>(r: &mut Reader<'a>, alloc: Global, calls: usize) -> Got<PartialExpr<'a>>
     ensures { IfOk result (λ e. reading.got (expr_of e) (reader_of r.new)
         ≡ statements.read_test calls (reader_of r.old)) }
 {

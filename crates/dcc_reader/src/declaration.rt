@@ -210,7 +210,7 @@ fn read_param<'a>(r: &mut Reader<'a>, alloc: Global) -> PartialVariable<'a>
 ///
 /// # Errors
 /// Where memory runs out.
-pub fn read_params<'a>(
+pub(crate) fn read_params<'a>(
     r: &mut Reader<'a>,
     alloc: Global,
     calls: usize,

@@ -31,7 +31,7 @@ fn same_keyword(left: Keyword, right: Keyword) -> bool
 }
 
 /// Whether the token is the mark.
-pub fn is_the_mark(token: Option<&Token>, mark: Mark) -> bool
+pub(crate) fn is_the_mark(token: Option<&Token>, mark: Mark) -> bool
     ensures { result ≡ reading.is_the_mark (mark_of mark) (option_map (λ t. token_of t.now) token.entry) }
 {
     match token {
@@ -41,7 +41,7 @@ pub fn is_the_mark(token: Option<&Token>, mark: Mark) -> bool
 }
 
 /// Whether the token is the keyword.
-pub fn is_the_word(token: Option<&Token>, keyword: Keyword) -> bool
+pub(crate) fn is_the_word(token: Option<&Token>, keyword: Keyword) -> bool
     ensures { result ≡ reading.is_the_word (keyword_of keyword) (option_map (λ t. token_of t.now) token.entry) }
 {
     match token {
@@ -51,7 +51,7 @@ pub fn is_the_word(token: Option<&Token>, keyword: Keyword) -> bool
 }
 
 /// Whether the token is the words of the pragma.
-pub fn is_the_head(token: Option<&Token>, head: Head) -> bool
+pub(crate) fn is_the_head(token: Option<&Token>, head: Head) -> bool
     ensures { result ≡ statements.is_the_head (head_of head) (option_map (λ t. token_of t.now) token.entry) }
 {
     match token {
@@ -61,7 +61,7 @@ pub fn is_the_head(token: Option<&Token>, head: Head) -> bool
 }
 
 /// The name that the token is: a word that is no keyword.
-pub fn name_of<'a>(token: Option<&Token<'a>>) -> Option<&'a str>
+pub(crate) fn name_of<'a>(token: Option<&Token<'a>>) -> Option<&'a str>
     ensures { option_map (λ word. word.now) result ≡ reading.name_of (option_map (λ t. token_of t.now) token.entry) }
 {
     match token {
@@ -71,7 +71,7 @@ pub fn name_of<'a>(token: Option<&Token<'a>>) -> Option<&'a str>
 }
 
 /// Whether a type begins with the token.
-pub fn begins_type(token: Option<&Token>) -> bool
+pub(crate) fn begins_type(token: Option<&Token>) -> bool
     ensures { result ≡ reading.begins_type (option_map (λ t. token_of t.now) token.entry) }
 {
     let Some(Token::Keyword(keyword)) = token else {
@@ -84,7 +84,7 @@ pub fn begins_type(token: Option<&Token>) -> bool
 }
 
 /// The decimal number without suffix that the token is.
-pub fn plain_of(token: Option<&Token>) -> Option<u32>
+pub(crate) fn plain_of(token: Option<&Token>) -> Option<u32>
     ensures { result ≡ reading.plain_of (option_map (λ t. token_of t.now) token.entry) }
 {
     match token {

@@ -1,6 +1,6 @@
 pub mod End
 pub mod Event
-pub mod Place
+pub mod ProgramPoint
 pub mod Prefix
 pub mod System
 pub mod Visits

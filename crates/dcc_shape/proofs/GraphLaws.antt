@@ -1,21 +1,19 @@
 -- The graph of a procedure, from the instructions as the code has them.
-use Rattle.std.proofs.Common.{◌≡◌, ℕ, ◌+◌, ◌-◌, ◌<◌, ◌≤◌, All, Bool, true, false, cond, List, [], ◌∷◌, ◌++◌, Option, Some, None, map, take, length, get_or, suc, zero, inl, inr, refl, sym, ap, subst, ◌∙◌, arith}
-use Rattle.std.specs.Prelude.{◌==◌, if◌then◌else◌, not, nat_lt, slice_get}
-use Rattle.std.specs.Global.{Vec}
+use Rattle.std.proofs.Common.{◌≡◌, ℕ, ◌+◌, ◌-◌, ◌<◌, ◌≤◌, All, Bool, cond, List, [], ◌∷◌, ◌++◌, Some, None, map, take, length, get_or, suc, zero, inl, inr, refl, sym, ap, subst, ◌∙◌, arith}
+use Rattle.std.specs.Prelude.{◌==◌, if◌then◌else◌, not, nat_lt}
 use Rattle.std.specs.List.{filter, sum_by, count_by, position, position_or_len}
 use Rattle.std.proofs.lemmas.Bool.{cases_Bool, ltb-false}
 use Rattle.std.proofs.lemmas.Simd.{map-map}
-use Rattle.std.proofs.lemmas.List.{take_more, length-map, length-append}
+use Rattle.std.proofs.lemmas.List.{take_more, length-append}
 use Rattle.std.proofs.lemmas.List.Elements.{filter-append, All-push, All-nil}
 use Rattle.std.proofs.lemmas.List.Sums.{prefix_len-le-length}
 use Rattle.dcc_prog.specs.declared.procedure.Node.{Node}
 use Rattle.dcc_flow.specs.Edges.{is_in, leads, AreWithin}
-use Rattle.dcc_interval.specs.declared.interval.Interval.{Interval as IntervalOf}
-use Rattle.dcc_interval.specs.Intervals.{Interval, intervals_in}
-use Rattle.dcc_interval.specs.Derived.{IsDerived, loop_headers, levels_in}
+use Rattle.dcc_interval.specs.Intervals.{Interval}
+use Rattle.dcc_interval.specs.Derived.{IsDerived, loop_headers, ends_in_one}
 use Rattle.dcc_shape.specs.declared.points.Point.{Point}
 use Rattle.dcc_shape.specs.declared.asked.Asked.{Asked}
-use Rattle.dcc_shape.specs.Procedures.{Flow, is_branching, addresses, place_among, place_at, next_of, different, ends_in_one}
+use Rattle.dcc_shape.specs.Procedures.{Flow, is_branching, addresses, place_among, place_at, next_of, different}
 use Rattle.dcc_shape.specs.Asked.{point_in, point_of, IsAsked}
 use Rattle.dcc_shape.proofs.ListLaws.{flip, sum_by-map, count_by-map}
 
@@ -62,23 +60,6 @@ within-next rows count long h =
     (λ k d less j e inner. let small = h k d less j e inner in omega (arith, small, size, long))
     (All-nil (λ place. place < length (rows ++ [] ∷ [])))
 
--- The end of a derived sequence.
-
-last-one : (levels : List (Vec IntervalOf)) (level : Vec IntervalOf) (k : ℕ) → length levels ≡ suc k → slice_get levels k ≡ Some level →
-    (length level.items == 1) ≡ ends_in_one (levels_in levels)
-last-one [] level k h is = absurd cc
-last-one (x ∷ []) level zero h is =
-    let single : Option (Vec IntervalOf) → Bool = λ o. elim o [ Some y ↦ length (intervals_in y.items) == 1 | None ↦ false ] in
-    ap (λ n. n == 1) (sym (length-map level.items _)) ∙ ap single (sym is)
-last-one (x ∷ []) level (suc k) h is = absurd cc
-last-one (x ∷ y ∷ levels) level zero h is = absurd (omega arith)
-last-one (x ∷ y ∷ levels) level (suc k) h is = last-one (y ∷ levels) level k (omega arith) is
-
-pub last-is : (levels : List (Vec IntervalOf)) (level : Vec IntervalOf) → Some level ≡ slice_get levels (length levels - 1) →
-    (length level.items == 1) ≡ ends_in_one (levels_in levels)
-last-is [] level is = absurd cc
-last-is (x ∷ levels) level is = last-one (x ∷ levels) level (length (x ∷ levels) - 1) (omega arith) (sym is)
-
 -- The whole graph.
 
 abbrev flow_in : ℕ → List Point → Flow
@@ -114,7 +95,7 @@ keys-are points entries same =
     ∙ map-map (λ (x : (ℕ × List ℕ) × Bool). x.0.0) point_of entries
 
 -- what the code finds, by its instructions
-pub record IsFound (points : List Point) (keys : List ℕ) (next : List (List ℕ)) (start : ℕ) (levels : List (List Interval)) (places : List ℕ) (a : Asked) : Type 0 where
+pub record IsFound (points : List Point) (keys : List ℕ) (next : List (List ℕ)) (start : ℕ) (levels : List (List Interval)) (is_header : ℕ → Bool) (a : Asked) : Type 0 where
   pub ats : a.ats.items ≡ map (λ p. p.at) points
   pub branches : a.branches ≡ count_by (λ p. p.branches) points
   pub edges_count : length a.edges.items ≡ sum_by (λ p. different p.next.items) points
@@ -122,12 +103,12 @@ pub record IsFound (points : List Point) (keys : List ℕ) (next : List (List �
   pub next_are : next ≡ map (λ p. map (place_among keys) p.next.items) points ++ [] ∷ []
   pub start_is : start ≡ place_among keys a.entry
   pub derived : IsDerived (leads next) start levels
-  pub places_are : places ≡ loop_headers (leads next) levels
-  pub heads : a.heads.items ≡ filter (λ at. is_in places (place_among keys at)) a.ats.items
+  pub headers_are : (n : ℕ) → is_header n ≡ is_in (loop_headers (leads next) levels) n
+  pub heads : a.heads.items ≡ filter (λ at. is_header (place_among keys at)) a.ats.items
   pub one : a.ends_in_one ≡ ends_in_one levels
 
-module _ (points : List Point) (keys : List ℕ) (next : List (List ℕ)) (start : ℕ) (levels : List (List Interval)) (places : List ℕ) (a : Asked)
-    (is : IsFound points keys next start levels places a) where
+module _ (points : List Point) (keys : List ℕ) (next : List (List ℕ)) (start : ℕ) (levels : List (List Interval)) (is_header : ℕ → Bool) (a : Asked)
+    (is : IsFound points keys next start levels is_header a) where
   own-asked : keys ≡ addresses (flow_in a.entry points) → IsAsked (flow_in a.entry points) a
   own-asked same =
       let flow = flow_in a.entry points in
@@ -148,9 +129,10 @@ module _ (points : List Point) (keys : List ℕ) (next : List (List ℕ)) (start
         derived = subst (λ l. IsDerived l (place_at flow a.entry) levels) edges_are
             (subst (λ n. IsDerived (leads next) n levels) (is.start_is ∙ ap (λ k. place_among k a.entry) same) is.derived);
         heads = is.heads
-            ∙ ap (λ l. filter (λ at. is_in places (place_among keys at)) l) ats_are
-            ∙ ap (λ k. filter (λ at. is_in places (place_among k at)) (addresses flow)) same
-            ∙ ap (λ l. filter (λ at. is_in l (place_at flow at)) (addresses flow)) (is.places_are ∙ ap (λ l. loop_headers l levels) edges_are);
+            ∙ ap (λ l. filter (λ at. is_header (place_among keys at)) l) ats_are
+            ∙ ap (λ k. filter (λ at. is_header (place_among k at)) (addresses flow)) same
+            ∙ ap (λ (t : ℕ → Bool). filter (λ at. t (place_at flow at)) (addresses flow)) (λ i n. is.headers_are n i)
+            ∙ ap (λ l. filter (λ at. is_in (loop_headers l levels) (place_at flow at)) (addresses flow)) edges_are;
         one = is.one;
       }
 

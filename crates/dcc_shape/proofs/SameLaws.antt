@@ -3,10 +3,10 @@ use Rattle.std.proofs.Common.{◌≡◌, ℕ, Bool, false, List, [], ◌∷◌, 
 use Rattle.std.specs.Prelude.{◌==◌, filter}
 use Rattle.dcc_flow.specs.Edges.{leads}
 use Rattle.dcc_interval.specs.Intervals.{Interval}
-use Rattle.dcc_interval.specs.Derived.{IsDerived}
+use Rattle.dcc_interval.specs.Derived.{IsDerived, ends_in_one}
 use Rattle.dcc_interval.specs.Laws.{AreAlike}
 use Rattle.dcc_interval.proofs.AgreeLaws.{are_alike}
-use Rattle.dcc_shape.specs.Procedures.{Flow, addresses, place_at, next_of, headers, ends_in_one}
+use Rattle.dcc_shape.specs.Procedures.{Flow, addresses, place_at, next_of, headers}
 
 -- the last of the numbers is 1
 abbrev last_is_one : List ℕ → Bool

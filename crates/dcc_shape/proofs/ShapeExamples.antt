@@ -2,7 +2,8 @@
 use Rattle.std.proofs.Common.{◌≡◌, ℕ, true, false, List, [], ◌∷◌, refl, arith}
 use Rattle.dcc_c.specs.Tree.{Expr, If, DoWhile, Forever, Goto, Label, Lines, no_lines, line}
 use Rattle.dcc_interval.specs.Intervals.{Interval}
-use Rattle.dcc_shape.specs.Procedures.{Flow, edges_to, edges, headers, ends_in_one}
+use Rattle.dcc_interval.specs.Derived.{ends_in_one}
+use Rattle.dcc_shape.specs.Procedures.{Flow, edges_to, edges, headers}
 use Rattle.dcc_shape.specs.Spots.{spots}
 use Rattle.dcc_shape.specs.Shape.{label_of, goes_where_edges_meet, goes_on_or_round, leaves_innermost_alone, loops_are_labelled, each_labels_one, is_shallow, HasLoops, IsCounted}
 

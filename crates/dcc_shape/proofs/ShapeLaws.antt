@@ -1,25 +1,25 @@
 -- A text has the shape that is asked for just where all is as asked.
-use Rattle.std.proofs.Common.{◌≡◌, ℕ, ◌+◌, ◌-◌, ◌<◌, ◌≤◌, ◌⊎◌, Bool, true, false, inl, inr, List, [], ◌∷◌, ◌++◌, length, get_or, take, drop, map, refl, sym, ap, subst, ◌∙◌, zero, suc, arith}
+use Rattle.std.proofs.Common.{◌≡◌, ℕ, ◌+◌, ◌-◌, ◌<◌, ◌≤◌, ◌⊎◌, Bool, true, inl, inr, List, [], ◌∷◌, ◌++◌, length, get_or, take, drop, map, refl, sym, ap, subst, ◌∙◌, zero, suc, arith}
 use Rattle.std.specs.Prelude.{◌&&◌, ◌||◌, not, ◌==◌, nat_lt, nat_le, Result, Ok, Err, IfOk, Some}
 use Rattle.std.specs.List.{list_all, count_by}
 use Rattle.std.proofs.lemmas.Bool.{cases_Bool, and_parts, and_from, or_cases, or_left, or_right, not_from_false, false≢true, leb-true, le-leb, cases_order}
 use Rattle.std.proofs.lemmas.List.{length-map, length-take, length-drop, map-append, take-append-drop, drop_more, drop_all}
 use Rattle.dcc_prog.specs.declared.procedure.Proc.{Proc}
 use Rattle.dcc_c.specs.declared.syntax.Func.{Func}
-use Rattle.dcc_c.specs.Tree.{Word, Lines, Function}
+use Rattle.dcc_c.specs.Tree.{Lines, Function}
 use Rattle.dcc_c.specs.Views.{function_of}
 use Rattle.dcc_interval.specs.Intervals.{Interval}
-use Rattle.dcc_interval.specs.Derived.{IsDerived}
+use Rattle.dcc_interval.specs.Derived.{IsDerived, ends_in_one}
 use Rattle.dcc_flow.specs.Edges.{leads}
 use Rattle.dcc_shape.specs.declared.asked.Asked.{Asked}
 use Rattle.dcc_shape.specs.declared.seen.Seen.{Seen as SeenOf}
-use Rattle.dcc_shape.specs.Procedures.{Flow, flow_of, addresses, place_at, next_of, edges_to, edges, headers, ends_in_one}
+use Rattle.dcc_shape.specs.Procedures.{Flow, flow_of, place_at, next_of, edges_to, edges, headers}
 use Rattle.dcc_shape.specs.Spots.{Spot, has_blocks, goal_passes, spots}
 use Rattle.dcc_shape.specs.Shape as shape
 use Rattle.dcc_shape.specs.Shape.{is_label, is_jump, is_empty, is_labelled, is_loop_at, names_one, goes_where_edges_meet, leaves_innermost_alone, goes_on_or_round, loops_are_labelled, each_labels_one, HasLoops, IsCounted, HasShapeOf, HaveShape, nothing, one_more, LacksShape, here, no_function, no_procedure, later}
 use Rattle.dcc_shape.specs.Seen.{seen, seen_in, may_all_go}
 use Rattle.dcc_shape.specs.Asked as asked
-use Rattle.dcc_shape.specs.Asked.{edges_at, IsAsked, are_counted, are_looped, is_shallow, is_as_asked}
+use Rattle.dcc_shape.specs.Asked.{IsAsked, are_counted, are_looped, is_shallow, is_as_asked}
 use Rattle.dcc_shape.proofs.ListLaws.{list_all-same}
 use Rattle.dcc_shape.proofs.SeenLaws.{all-seen, count-seen, rounds, room-left}
 use Rattle.dcc_shape.proofs.SameLaws.{heads-same, one-same}

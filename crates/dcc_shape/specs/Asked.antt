@@ -1,18 +1,17 @@
 -- What the code knows of a procedure, and what it finds of a text. No public contract rests on it.
-use Rattle.std.specs.Prelude.{◌≡◌, ℕ, ◌+◌, ◌<◌, ◌==◌, nat_lt, nat_le, Bool, ◌&&◌, ◌||◌, not, if◌then◌else◌, List}
-use Rattle.std.specs.Prelude.{map, length, get_or, count_by, Some}
+use Rattle.std.specs.Prelude.{◌≡◌, ℕ, ◌+◌, ◌==◌, nat_lt, nat_le, Bool, ◌&&◌, ◌||◌, not, if◌then◌else◌, List}
+use Rattle.std.specs.Prelude.{map, length, count_by, Some}
 use Rattle.std.specs.List.{list_all}
 use Rattle.dcc_c.specs.Tree.{Word}
 use Rattle.dcc_c.specs.Views.{stmt_of}
 use Rattle.dcc_prog.specs.declared.procedure.Node.{Node}
 use Rattle.dcc_flow.specs.Edges.{leads}
 use Rattle.dcc_interval.specs.Intervals.{Interval}
-use Rattle.dcc_interval.specs.Derived.{IsDerived}
+use Rattle.dcc_interval.specs.Derived.{IsDerived, ends_in_one}
 use Rattle.dcc_shape.specs.declared.points.Point.{Point}
 use Rattle.dcc_shape.specs.declared.asked.Asked.{Asked}
 use Rattle.dcc_shape.specs.declared.seen.Seen.{Seen as SeenOf}
 use Rattle.dcc_shape.specs.Procedures.{Flow, addresses, is_branching, place_at, next_of, edges_to, edges, headers}
-use Rattle.dcc_shape.specs.Procedures.{ends_in_one}
 use Rattle.dcc_shape.specs.Spots.{has_blocks, goal_passes}
 use Rattle.dcc_shape.specs.Shape.{is_label, is_jump, is_empty, names_one, is_labelled, is_loop_at}
 use Rattle.dcc_shape.specs.Seen.{lent, seen_in, may_all_go}

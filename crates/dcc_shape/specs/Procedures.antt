@@ -1,9 +1,9 @@
 -- What the shape of a text is told by: the graph of a procedure, whose nodes are its instructions.
-use Rattle.std.specs.Prelude.{ℕ, ◌+◌, ◌==◌, Bool, true, false, if◌then◌else◌, List, [], ◌∷◌, map, filter, length}
+use Rattle.std.specs.Prelude.{ℕ, ◌+◌, ◌==◌, Bool, true, false, if◌then◌else◌, List, [], ◌∷◌, map, filter}
 use Rattle.std.specs.Prelude.{sum_by, count_by}
 use Rattle.std.specs.List.{position_or_len}
-use Rattle.dcc_prog.specs.declared.instr.Op.{Op}
-use Rattle.dcc_prog.specs.declared.instr.Op.TheVariants.{Branch, Loop, LoopE, LoopNe, Jcxz, Table}
+use Rattle.dcc_machine.specs.declared.instr.Op.{Op}
+use Rattle.dcc_machine.specs.declared.instr.Op.TheVariants.{Branch, Loop, LoopE, LoopNe, Jcxz, Table}
 use Rattle.dcc_prog.specs.declared.procedure.Proc.{Proc}
 use Rattle.dcc_flow.specs.Edges.{is_in, leads}
 use Rattle.dcc_interval.specs.Intervals.{Interval}
@@ -67,9 +67,3 @@ edges flow = sum_by (λ n. different n.1) flow.nodes
 abbrev pub headers : Flow → List (List Interval) → List ℕ
 headers flow levels =
     filter (λ at. is_in (loop_headers (leads (next_of flow)) levels) (place_at flow at)) (addresses flow)
-
--- a derived sequence ends in one node
-abbrev pub ends_in_one : List (List Interval) → Bool
-ends_in_one [] = false
-ends_in_one (level ∷ []) = length level == 1
-ends_in_one (level ∷ levels) = ends_in_one levels

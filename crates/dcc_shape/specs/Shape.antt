@@ -8,9 +8,8 @@ use Rattle.dcc_c.specs.Tree.{Word, Stmt, Break, Continue, Goto, Label, Empty, Li
 use Rattle.dcc_text.specs.Hex.{name_at}
 use Rattle.dcc_flow.specs.Edges.{leads}
 use Rattle.dcc_interval.specs.Intervals.{Interval}
-use Rattle.dcc_interval.specs.Derived.{IsDerived}
+use Rattle.dcc_interval.specs.Derived.{IsDerived, ends_in_one}
 use Rattle.dcc_shape.specs.Procedures.{Flow, flow_of, addresses, place_at, next_of, edges_to, edges, headers}
-use Rattle.dcc_shape.specs.Procedures.{ends_in_one}
 use Rattle.dcc_shape.specs.Spots.{Spot, is_loop, has_blocks, label_in, spots, is_the, goal_passes, every_goto}
 
 -- the label of the instruction at an address

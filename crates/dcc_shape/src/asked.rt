@@ -1,14 +1,13 @@
 //! What a procedure asks of its function's text.
 
 ghost use Rattle.std.specs.Prelude.{◌≡◌, map, count_by, IfOk};
-ghost use Rattle.dcc_interval.specs.Derived.{levels_in};
-ghost use Rattle.dcc_shape.specs.Procedures.{flow_of, ends_in_one};
+ghost use Rattle.dcc_shape.specs.Procedures.{flow_of};
 ghost use Rattle.dcc_shape.specs.Asked.{IsAsked};
 
 use crate::edges::edges;
 use crate::places::{count, next_places, place, those_at};
 use crate::points::{Point, points};
-use dcc_interval::{Sequence, derived, loop_headers};
+use dcc_interval::reduced;
 use dcc_prog::Proc;
 use std::alloc::{AllocError, Global};
 
@@ -27,16 +26,6 @@ pub(crate) struct Asked {
     pub heads: Vec<u16>,
     /// Whether the derived sequence ends in one node.
     pub ends_in_one: bool,
-}
-
-// Whether a derived sequence ends in one node.
-fn ends_in_one(sequence: &Sequence) -> bool
-    ensures { result ≡ ends_in_one (levels_in sequence.now.levels.items) }
-{
-    match sequence.levels.last() {
-        Some(level) => level.len() == 1,
-        None => false,
-    }
 }
 
 // The addresses of the instructions.
@@ -66,15 +55,15 @@ pub(crate) fn asked_by(alloc: Global, proc: &Proc) -> Result<Asked, AllocError>
     let count = count(&proc.nodes, ats.as_slice());
     let next = next_places(alloc, &proc.nodes, count, points.as_slice())?;
     let entry = place(&proc.nodes, count, proc.entry);
-    let sequence = derived(alloc, &next, entry)?;
-    let places = loop_headers(alloc, &next, &sequence)?;
-    let heads = those_at(alloc, &proc.nodes, count, ats.as_slice(), places.as_slice())?;
+    let reduction = reduced(alloc, &next, entry)?;
+    let marks = reduction.headers.as_slice();
+    let heads = those_at(alloc, &proc.nodes, count, ats.as_slice(), marks)?;
     Ok(Asked {
         ats,
         entry: proc.entry,
         branches: branches(points.as_slice()),
         edges: edges(alloc, points.as_slice())?,
         heads,
-        ends_in_one: ends_in_one(&sequence),
+        ends_in_one: reduction.ends_in_one,
     })
 }

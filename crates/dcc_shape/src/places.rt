@@ -1,13 +1,12 @@
 //! The places of instructions in the order of their addresses. The place of an address at which none is, is the one
 //! after all others.
 
-ghost use Rattle.std.specs.Prelude.{◌≡◌, ◌+◌, ◌≤◌, ◌∷◌, ◌++◌, [], map, filter, length, All, IfOk};
-ghost use Rattle.dcc_flow.specs.Edges.{rows, is_in, AreWithin};
+ghost use Rattle.std.specs.Prelude.{◌≡◌, ◌+◌, ◌≤◌, ◌∷◌, ◌++◌, [], false, map, filter, length, get_or, All, IfOk};
+ghost use Rattle.dcc_flow.specs.Edges.{rows, AreWithin};
 ghost use Rattle.dcc_shape.specs.Procedures.{place_among};
 ghost use Rattle.indexmap.specs.IndexMap.{keys};
 
 use crate::points::Point;
-use crate::tally::set_of;
 use dcc_prog::Node;
 use indexmap::IndexMap;
 use std::alloc::{AllocError, Global};
@@ -88,22 +87,31 @@ pub(crate) fn next_places(
     Ok(next)
 }
 
-/// Those of the addresses at which the instructions with these places are.
+// Whether the place is marked.
+fn is_marked(marks: &[bool], place: u32) -> bool
+    ensures { result ≡ get_or marks.now place false }
+{
+    match marks.get(place as usize) {
+        Some(mark) => *mark,
+        None => false,
+    }
+}
+
+/// Those of the addresses at which the instructions with marked places are.
 pub(crate) fn those_at(
     alloc: Global,
     nodes: &IndexMap<u16, Node>,
     count: u32,
     ats: &[u16],
-    places: &[u32],
+    marks: &[bool],
 ) -> Result<Vec<u16>, AllocError>
     requires { count ≡ length nodes.now.entries }
     ensures { IfOk result (λ found. found.items
-        ≡ filter (λ at. is_in places.now (place_among (keys nodes.now) at)) ats.now) }
+        ≡ filter (λ at. get_or marks.now (place_among (keys nodes.now) at) false) ats.now) }
 {
-    let known = set_of(alloc, places)?;
     let mut found = Vec::new(alloc);
     for at in ats {
-        if known.contains(&place(nodes, count, *at)) {
+        if is_marked(marks, place(nodes, count, *at)) {
             found.push(*at)?;
         }
     }

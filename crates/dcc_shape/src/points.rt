@@ -4,7 +4,8 @@ ghost use Rattle.std.specs.Prelude.{◌≡◌, map, IfOk};
 ghost use Rattle.dcc_shape.specs.Procedures.{is_branching};
 ghost use Rattle.dcc_shape.specs.Asked.{point_in, point_of};
 
-use dcc_prog::{Node, Op};
+use dcc_machine::Op;
+use dcc_prog::Node;
 use indexmap::IndexMap;
 use std::alloc::{AllocError, Global};
 

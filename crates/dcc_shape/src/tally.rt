@@ -1,7 +1,7 @@
 //! Sets of numbers, and which numbers come more than once.
 
 ghost use Rattle.std.specs.Prelude.{◌≡◌, ◌+◌, ◌==◌, ℕ, if◌then◌else◌, count_by, IfOk, OnOk};
-ghost use Rattle.dcc_shape.specs.Known.{IsSetOf, IsTally};
+ghost use Rattle.dcc_shape.specs.Known.{IsTally};
 
 use std::alloc::{AllocError, Global};
 use std::collections::BTreeSet;
@@ -45,15 +45,4 @@ pub(crate) fn came_once(tally: &Tally, number: u16) -> bool
     ensures { (counts : ℕ → ℕ) → IsTally tally.now counts → result ≡ (counts number == 1) }
 {
     tally.once.contains(&number) && !tally.twice.contains(&number)
-}
-
-/// The places in a list.
-pub(crate) fn set_of(alloc: Global, places: &[u32]) -> Result<BTreeSet<u32>, AllocError>
-    ensures { IfOk result (λ known. IsSetOf known places.now) }
-{
-    let mut known = BTreeSet::new(alloc);
-    for place in places {
-        known.insert(*place)?;
-    }
-    Ok(known)
 }

@@ -13,8 +13,8 @@ use Rattle.dcc_ir.specs.Passing.{param_of}
 use Rattle.dcc_ir.specs.WellFormed.{IsProgram}
 use Rattle.dcc_ir.proofs.CallingPrograms as calling
 use Rattle.dcc_ir.proofs.CallingPrograms.{one}
-use Rattle.dcc_sums.specs.Sums.{IsHalfOf, AreOneValue}
-use Rattle.dcc_sums.specs.Localised.{no_sum, sum_at, GivesJust, TakesJust, CallsJust}
+use Rattle.dcc_sums.specs.Summaries.{IsHalfOf, AreOneValue}
+use Rattle.dcc_sums.specs.Localised.{no_summary, summary_at, GivesJust, TakesJust, CallsJust}
 use Rattle.dcc_sums.specs.Laws.{IsKeptBy}
 use Rattle.dcc_signatures.specs.declared.packing.Fresh.{Fresh}
 use Rattle.dcc_signatures.specs.Packed.{merged, one_argument, one_param, param_with, word_of, pack_stmt, pack_exit}
@@ -62,7 +62,7 @@ abbrev callee_sum : Summary
 callee_sum = record { params = params; results = results; preserved = [] }
 
 abbrev sums : List Summary
-sums = no_sum ∷ callee_sum ∷ []
+sums = no_summary ∷ callee_sum ∷ []
 
 program_formed : IsProgram program
 program_formed = calling.formed 0x4C (Get al) (8 ∷ []) [] results arguments (in_memory ∷ map param_of params) (map Get results) refl refl refl refl refl refl refl refl refl
@@ -106,12 +106,12 @@ abbrev callee : Graph
 callee = calling.callee 0x4C (Get al) (8 ∷ []) [] results arguments (in_memory ∷ map param_of params) (map Get results)
 
 abbrev Calls : Stmt → Type 0
-Calls = CallsJust (sum_at program.graphs sums)
+Calls = CallsJust (summary_at program.graphs sums)
 
 passes_one_value : PassesOneValue program sums
 passes_one_value = record {
   just = record {
-    graphs = one (λ g. TakesJust (sum_at program.graphs sums g.entry) g) callee (record {
+    graphs = one (λ g. TakesJust (summary_at program.graphs sums g.entry) g) callee (record {
       words = in_memory ∷ [];
       stack = refl;
       params = refl;
@@ -121,8 +121,8 @@ passes_one_value = record {
         (All-cons (λ b. All Calls b.stmts) calling_block (last_block ∷ []) (one Calls (Call results 32 arguments 4) (refl, (Const 16 7 ∷ [], refl))) (one (λ b. All Calls b.stmts) last_block (one Calls last tt)))
         (one (λ g. All (λ b. All Calls b.stmts) g.blocks) callee (one (λ b. All Calls b.stmts) callee_block (All-nil Calls)));
   };
-  order = All-cons AreInOrder no_sum (callee_sum ∷ []) (record { params = refl; results = refl }) (one AreInOrder callee_sum (record { params = refl; results = refl }));
-  one = All-cons (λ sum. AreOneValue sum.results) no_sum (callee_sum ∷ []) (inl (Ax, All-nil (IsHalfOf Ax)))
+  order = All-cons AreInOrder no_summary (callee_sum ∷ []) (record { params = refl; results = refl }) (one AreInOrder callee_sum (record { params = refl; results = refl }));
+  one = All-cons (λ sum. AreOneValue sum.results) no_summary (callee_sum ∷ []) (inl (Ax, All-nil (IsHalfOf Ax)))
       (one (λ sum. AreOneValue sum.results) callee_sum (inr (inr (All-cons IsInDouble al (dh ∷ []) (inl (Low, refl)) (one IsInDouble dh (inr (High, refl)))))));
 }
 

@@ -20,7 +20,7 @@ use Rattle.dcc_ir.specs.WellFormed.{is_width, ret_widths, IsProgram}
 use Rattle.dcc_ir.proofs.LocationLaws.{location_itself, Contains-here, Contains-later, Contains-none, Contains-cases, contains_among}
 use Rattle.dcc_ir.proofs.ListLaws.{all_had}
 use Rattle.dcc_sums.specs.Instance.{passes}
-use Rattle.dcc_sums.specs.Localised.{sum_at, GivesJust, TakesJust, CallsJust}
+use Rattle.dcc_sums.specs.Localised.{summary_at, GivesJust, TakesJust, CallsJust}
 use Rattle.dcc_signatures.specs.declared.packing.Fresh.{Fresh}
 use Rattle.dcc_signatures.specs.declared.packing.Packing.TheVariants.{Apart, Word, Double}
 use Rattle.dcc_signatures.specs.Packed.{are_halves, two_or_one, in_front, merged, one_put, one_argument, value_places}
@@ -203,16 +203,16 @@ module _ (p : Program) (sums : List Summary) (formed : IsProgram p) (one : Passe
       (all_had (λ (b : Block). All (TakesAtMostOne (two_more g.bits)) (flat_map (pack_stmt (fresh_after g.bits)) b.stmts)) g.blocks (λ b d.
       stmts_few g.bits b.stmts (All-contains (λ (x : Block). All (CallsJust sum) x.stmts) g.blocks b (All-contains (λ (x : Graph). All (λ b. All (CallsJust sum) b.stmts) x.blocks) p.graphs g just.calls c) d)))
 
-  takes_together : (g : Graph) → Contains (drop 1 p.graphs) g → TakesTogether (sum_at p.graphs sums g.entry).params (pack_graph g)
+  takes_together : (g : Graph) → Contains (drop 1 p.graphs) g → TakesTogether (summary_at p.graphs sums g.entry).params (pack_graph g)
   takes_together g c =
-      let t = All-contains (λ (x : Graph). TakesJust (sum_at p.graphs sums x.entry) x) (drop 1 p.graphs) g one.just.graphs c in
-      let ls = (sum_at p.graphs sums g.entry).params in
+      let t = All-contains (λ (x : Graph). TakesJust (summary_at p.graphs sums x.entry) x) (drop 1 p.graphs) g one.just.graphs c in
+      let ls = (summary_at p.graphs sums g.entry).params in
       let ordered = subst (λ (s : Summary). IsInOrder s.params) (later_sum p sums formed one g c) (order p sums formed one g.entry).params in
       record {
         words = t.words;
         puts = puts ls;
         stack = t.stack;
-        params = packed_params (sum_at p.graphs sums g.entry) g t;
+        params = packed_params (summary_at p.graphs sums g.entry) g t;
         order = ordered;
         places = puts-places ls;
         together = taken_together ls ordered;
@@ -220,9 +220,9 @@ module _ (p : Program) (sums : List Summary) (formed : IsProgram p) (one : Passe
 
 pub packed-passes_one : PackedPassesOne
 packed-passes_one p sums formed one = record {
-  params = subst (All (λ (g : Graph). TakesTogether (sum_at p.graphs sums g.entry).params g)) (sym (drop-map pack_graph 1 p.graphs))
-      (All-map (λ (g : Graph). TakesTogether (sum_at p.graphs sums g.entry).params g) pack_graph (drop 1 p.graphs)
-      (all_had (λ (g : Graph). TakesTogether (sum_at p.graphs sums g.entry).params (pack_graph g)) (drop 1 p.graphs) (takes_together p sums formed one)));
+  params = subst (All (λ (g : Graph). TakesTogether (summary_at p.graphs sums g.entry).params g)) (sym (drop-map pack_graph 1 p.graphs))
+      (All-map (λ (g : Graph). TakesTogether (summary_at p.graphs sums g.entry).params g) pack_graph (drop 1 p.graphs)
+      (all_had (λ (g : Graph). TakesTogether (summary_at p.graphs sums g.entry).params (pack_graph g)) (drop 1 p.graphs) (takes_together p sums formed one)));
   rets = All-map (λ (g : Graph). All (λ b. GivesAtMostOne g.bits b.exit) g.blocks) pack_graph p.graphs (all_had (λ (g : Graph). All (λ b. GivesAtMostOne (two_more g.bits) b.exit) (pack_graph g).blocks) p.graphs (rets_few p sums formed one));
   calls = All-map (λ (g : Graph). All (λ b. All (TakesAtMostOne g.bits) b.stmts) g.blocks) pack_graph p.graphs (all_had (λ (g : Graph). All (λ b. All (TakesAtMostOne (two_more g.bits)) b.stmts) (pack_graph g).blocks) p.graphs (calls_few p sums formed one));
 }

@@ -22,8 +22,8 @@ use Rattle.dcc_ir.proofs.LocationLaws.{Contains-here, Contains-later, Contains-n
 use Rattle.dcc_ir.proofs.ListLaws.{all_had, all_parts}
 use Rattle.dcc_ir.proofs.ReachedLaws.{found_contained}
 use Rattle.dcc_sums.specs.Instance.{passes}
-use Rattle.dcc_sums.specs.Sums.{IsHalfOf, AreOneValue}
-use Rattle.dcc_sums.specs.Localised.{no_sum, sum_at, GivesJust, TakesJust, CallsJust}
+use Rattle.dcc_sums.specs.Summaries.{IsHalfOf, AreOneValue}
+use Rattle.dcc_sums.specs.Localised.{no_summary, summary_at, GivesJust, TakesJust, CallsJust}
 use Rattle.dcc_sums.proofs.SiteLaws.{first_or_rest}
 use Rattle.dcc_sums.proofs.ArgumentLaws.{no_elements}
 use Rattle.dcc_signatures.specs.declared.packing.Packing.TheVariants.{Word, Double}
@@ -176,27 +176,27 @@ later_differs (x ∷ graphs) g differ c = go (x.entry == g.entry) refl
 
 -- All graphs.
 
-sum_all : (Q : Summary → Type 0) → Q no_sum → (graphs : List Graph) (sums : List Summary) → All Q sums → (entry : ℕ) → Q (sum_at graphs sums entry)
+sum_all : (Q : Summary → Type 0) → Q no_summary → (graphs : List Graph) (sums : List Summary) → All Q sums → (entry : ℕ) → Q (summary_at graphs sums entry)
 sum_all Q none [] sums all entry = none
 sum_all Q none (g ∷ graphs) [] all entry = none
 sum_all Q none (g ∷ graphs) (sum ∷ sums) all entry = go (g.entry == entry) (sum_all Q none graphs sums (All-tail Q sum sums all) entry)
   where
-    go : (b : Bool) → Q (sum_at graphs sums entry) → Q (if b then sum else sum_at graphs sums entry)
+    go : (b : Bool) → Q (summary_at graphs sums entry) → Q (if b then sum else summary_at graphs sums entry)
     go true rest = All-head Q sum sums all
     go false rest = rest
 
 module _ (p : Program) (sums : List Summary) (formed : IsProgram p) (one : PassesOneValue p sums) where
   -- what passes in and out of a graph; nothing passes in and out of the first one
   pub sum_of : ℕ → Summary
-  sum_of entry = if is_first p.graphs entry then no_sum else sum_at p.graphs sums entry
+  sum_of entry = if is_first p.graphs entry then no_summary else summary_at p.graphs sums entry
 
-  pub later_sum : (g : Graph) → Contains (drop 1 p.graphs) g → sum_of g.entry ≡ sum_at p.graphs sums g.entry
+  pub later_sum : (g : Graph) → Contains (drop 1 p.graphs) g → sum_of g.entry ≡ summary_at p.graphs sums g.entry
   unfolding sum_of
-  later_sum g c = ap (λ b. if b then no_sum else sum_at p.graphs sums g.entry) (later_differs p.graphs g formed.entries c)
+  later_sum g c = ap (λ b. if b then no_summary else summary_at p.graphs sums g.entry) (later_differs p.graphs g formed.entries c)
 
-  first_sum : (g : Graph) → Contains (take 1 p.graphs) g → sum_of g.entry ≡ no_sum
+  first_sum : (g : Graph) → Contains (take 1 p.graphs) g → sum_of g.entry ≡ no_summary
   unfolding sum_of
-  first_sum g c = ap (λ b. if b then no_sum else sum_at p.graphs sums g.entry) (first_there p.graphs g c)
+  first_sum g c = ap (λ b. if b then no_summary else summary_at p.graphs sums g.entry) (first_there p.graphs g c)
 
   -- the first graph gives nothing back
   gives_none : (g : Graph) → Contains (take 1 p.graphs) g → (b : Block) → Contains g.blocks b → GivesJust [] b.exit
@@ -218,15 +218,16 @@ module _ (p : Program) (sums : List Summary) (formed : IsProgram p) (one : Passe
       params = All-contains (λ (x : Graph). x.params ≡ []) (take 1 p.graphs) g formed.start first;
       rets = all_had (λ (b : Block). GivesJust [] b.exit) g.blocks (gives_none g first);
     })
-    | inr later ↦ subst (λ sum. TakesJust sum g) (sym (later_sum g later)) (All-contains (λ (x : Graph). TakesJust (sum_at p.graphs sums x.entry) x) (drop 1 p.graphs) g one.just.graphs later)
+    | inr later ↦ subst (λ sum. TakesJust sum g) (sym (later_sum g later)) (All-contains (λ (x : Graph). TakesJust (summary_at p.graphs sums x.entry) x) (drop 1 p.graphs) g one.just.graphs later)
   ]
 
-  calls : (g : Graph) (stmt : Stmt) → IsCalling p g stmt → CallsJust (sum_at p.graphs sums) stmt → CallsJust sum_of stmt
+  calls : (g : Graph) (stmt : Stmt) → IsCalling p g stmt → CallsJust (summary_at p.graphs sums) stmt
+      → CallsJust sum_of stmt
   calls g (Call results entry arguments depth) call just =
       let callee : IsCall p g results entry arguments = call in
       let same = found_entry (drop 1 p.graphs) entry callee.callee callee.named in
-      let is : sum_of entry ≡ sum_at p.graphs sums entry =
-      subst (λ n. sum_of n ≡ sum_at p.graphs sums n) same (later_sum callee.callee (found_contained (λ (x : Graph). x.entry == entry) (drop 1 p.graphs) callee.callee callee.named)) in
+      let is : sum_of entry ≡ summary_at p.graphs sums entry =
+      subst (λ n. sum_of n ≡ summary_at p.graphs sums n) same (later_sum callee.callee (found_contained (λ (x : Graph). x.entry == entry) (drop 1 p.graphs) callee.callee callee.named)) in
       (just.0 ∙ ap (λ (sum : Summary). sum.results) (sym is), (just.1.0, just.1.1 ∙ ap (λ (sum : Summary). just.1.0 ++ map Get sum.params) (sym is)))
   calls g (Set l e) call just = tt
   calls g (Fetch l width a) call just = tt
@@ -235,9 +236,9 @@ module _ (p : Program) (sums : List Summary) (formed : IsProgram p) (one : Passe
   calls g (Dos number place argument) call just = tt
 
   -- what holds of each summary, and of the one of nothing
-  known : (Q : Summary → Type 0) → Q no_sum → All Q sums → (entry : ℕ) → Q (sum_of entry)
+  known : (Q : Summary → Type 0) → Q no_summary → All Q sums → (entry : ℕ) → Q (sum_of entry)
   unfolding sum_of
-  known Q none all entry = elim (is_first p.graphs entry) as (λ b. Q (if b then no_sum else sum_at p.graphs sums entry)) [ true ↦ none | false ↦ sum_all Q none p.graphs sums all entry ]
+  known Q none all entry = elim (is_first p.graphs entry) as (λ b. Q (if b then no_summary else summary_at p.graphs sums entry)) [ true ↦ none | false ↦ sum_all Q none p.graphs sums all entry ]
 
   pub order : (entry : ℕ) → AreInOrder (sum_of entry)
   order = known AreInOrder (record { params = refl; results = refl }) one.order
@@ -247,8 +248,8 @@ module _ (p : Program) (sums : List Summary) (formed : IsProgram p) (one : Passe
     graphs = all_had (λ (g : Graph). TakesJust (sum_of g.entry) g) p.graphs takes;
     calls = all_had (λ (g : Graph). All (λ b. All (CallsJust sum_of) b.stmts) g.blocks) p.graphs (λ g c. all_had (λ (b : Block). All (CallsJust sum_of) b.stmts) g.blocks (λ b d. all_had (CallsJust sum_of) b.stmts (λ stmt f.
         calls g stmt (All-contains (IsCalling p g) b.stmts stmt (All-contains (λ (x : Block). All (IsCalling p g) x.stmts) g.blocks b (All-contains (λ (x : Graph). All (λ b. All (IsCalling p x) b.stmts) x.blocks) p.graphs g formed.calls c) d) f)
-        (All-contains (CallsJust (sum_at p.graphs sums)) b.stmts stmt (All-contains (λ (x : Block). All (CallsJust (sum_at p.graphs sums)) x.stmts) g.blocks b
-        (All-contains (λ (x : Graph). All (λ b. All (CallsJust (sum_at p.graphs sums)) b.stmts) x.blocks) p.graphs g one.just.calls c) d) f))));
+        (All-contains (CallsJust (summary_at p.graphs sums)) b.stmts stmt (All-contains (λ (x : Block). All (CallsJust (summary_at p.graphs sums)) x.stmts) g.blocks b
+        (All-contains (λ (x : Graph). All (λ b. All (CallsJust (summary_at p.graphs sums)) b.stmts) x.blocks) p.graphs g one.just.calls c) d) f))));
     params = λ entry. all_had IsFixed (sum_of entry).params (λ l c. fixed l (order_passes (sum_of entry).params (order entry).params l c));
     results = λ entry. all_had IsFixed (sum_of entry).results (λ l c. fixed l (order_passes (sum_of entry).results (order entry).results l c));
     forms = λ entry. form_of (sum_of entry).results (order entry).results (known (λ sum. AreOneValue sum.results) (inl (Ax, All-nil (IsHalfOf Ax))) one.one entry);

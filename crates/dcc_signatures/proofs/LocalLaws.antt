@@ -5,19 +5,19 @@ use Rattle.std.specs.List.{AllZip}
 use Rattle.std.proofs.lemmas.List.Elements.{All-nil, All-cons}
 use Rattle.dcc_ir.specs.Tree.{Graph, Program, Summary}
 use Rattle.dcc_ir.specs.Trimmed.{Trim, trim_graph}
-use Rattle.dcc_sums.specs.Sums.{IsSum}
-use Rattle.dcc_sums.specs.Localised.{sum_at, trim_by, localised, PassesJust}
+use Rattle.dcc_sums.specs.Summaries.{IsSummary}
+use Rattle.dcc_sums.specs.Localised.{summary_at, trim_by, localised, PassesJust}
 use Rattle.dcc_sums.proofs.JustLaws.{localised-passes_just}
 use Rattle.dcc_signatures.specs.Laws.{AreInOrder, LocalisedPassesOneValue}
 use mathlib.Core.Path.{fun_ext}
 
 -- a summary is told by the entries of the graphs alone
-sum_still : (trim : Trim) (graphs : List Graph) (sums : List Summary) (entry : ℕ) → sum_at (map (trim_graph trim) graphs) sums entry ≡ sum_at graphs sums entry
+sum_still : (trim : Trim) (graphs : List Graph) (sums : List Summary) (entry : ℕ) → summary_at (map (trim_graph trim) graphs) sums entry ≡ summary_at graphs sums entry
 sum_still trim [] sums entry = refl
 sum_still trim (g ∷ graphs) [] entry = refl
 sum_still trim (g ∷ graphs) (sum ∷ sums) entry = ap (λ later. if g.entry == entry then sum else later) (sum_still trim graphs sums entry)
 
-sums-in_order : (p : Program) (graphs : List Graph) (sums : List Summary) → AllZip (IsSum p) graphs sums → All AreInOrder sums
+sums-in_order : (p : Program) (graphs : List Graph) (sums : List Summary) → AllZip (IsSummary p) graphs sums → All AreInOrder sums
 sums-in_order p [] [] all = All-nil AreInOrder
 sums-in_order p (g ∷ graphs) (sum ∷ sums) all =
     All-cons AreInOrder sum sums (record { params = all.0.params.order; results = all.0.results.order }) (sums-in_order p graphs sums all.1)

@@ -5,7 +5,7 @@ use Rattle.std.specs.List.{list_all}
 use Rattle.dcc_ir.specs.declared.syntax.Loc.{Loc}
 use Rattle.dcc_ir.specs.Tree.{Expr, Const, Get, Load, Unary, Binary, Widen, Part, Join, Choose, Address, Stmt, Set, Fetch, Store, Div, Call, Dos, Exit, Goto, If, Switch, Ret, Stop}
 use Rattle.dcc_ir.specs.Location.{location_width}
-use Rattle.dcc_ir.specs.Value.{width_of, Scene, value_of, unary_value, binary_value, bytes_at, pattern_at, signed_at, division_at}
+use Rattle.dcc_ir.specs.Value.{width_of, Environment, value_of, unary_value, binary_value, bytes_at, pattern_at, signed_at, division_at}
 use Rattle.dcc_ir.specs.WellFormed.{is_stored_width, is_location, is_expr, is_expr_of, is_division, is_dividing, is_byte_place, is_dos, is_stmt, is_exit}
 use Rattle.dcc_ir.specs.Dos.{dos_string}
 use Rattle.dcc_ir.specs.Run.{State, scene_of, value_in, is_call, setting, storing, dividing, writing, keyed, argument_in, dos_step, stmt_step, ended, stuck}
@@ -111,10 +111,10 @@ module _ (bits fresh : List ℕ) where
 
   -- Values.
 
-  abbrev in_bits : List ℕ → Scene → Scene
+  abbrev in_bits : List ℕ → Environment → Environment
   in_bits bits scene = record scene { bits = bits }
 
-  value-more : (scene : Scene) (e : Expr) → is_expr bits e ≡ true → value_of (in_bits more scene) e ≡ value_of (in_bits bits scene) e
+  value-more : (scene : Environment) (e : Expr) → is_expr bits e ≡ true → value_of (in_bits more scene) e ≡ value_of (in_bits bits scene) e
   value-more scene (Const width n) ok = refl
   value-more scene (Get location) ok = refl
   value-more scene (Load width a) ok = ap (bytes_at scene.memory (width / 8)) (value-more scene a (load_formed bits width a ok).inner)

@@ -16,7 +16,7 @@ use Rattle.dcc_ir.specs.WellFormed.{is_location}
 use Rattle.dcc_ir.specs.Passes.{with_values}
 use Rattle.dcc_ir.specs.Run.{State, value_in}
 use Rattle.dcc_ir.proofs.LocationLaws.{location_itself, Contains-here, Contains-later, Contains-none, Contains-cases, among_contains, contains_among}
-use Rattle.dcc_sums.specs.Sums.{IsHalfOf}
+use Rattle.dcc_sums.specs.Summaries.{IsHalfOf}
 use Rattle.dcc_signatures.specs.declared.packing.Fresh.{Fresh}
 use Rattle.dcc_signatures.specs.declared.packing.Packing.{Packing}
 use Rattle.dcc_signatures.specs.declared.packing.Packing.TheVariants.{Apart, Word, Double}

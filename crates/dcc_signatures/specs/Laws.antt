@@ -18,8 +18,8 @@ use Rattle.dcc_ir.specs.Joinable.{places_of}
 use Rattle.dcc_ir.specs.Measure.{deepest}
 use Rattle.dcc_ir.specs.Passing.{passed, is_word_put, PassesAll}
 use Rattle.dcc_ir.specs.WellFormed.{is_width, IsProgram}
-use Rattle.dcc_sums.specs.Sums.{AreSums, GivesOneValue}
-use Rattle.dcc_sums.specs.Localised.{sum_at, localised, PassesJust}
+use Rattle.dcc_sums.specs.Summaries.{AreSummaries, GivesOneValue}
+use Rattle.dcc_sums.specs.Localised.{summary_at, localised, PassesJust}
 use Rattle.dcc_sums.specs.Laws.{IsKeptBy}
 use Rattle.dcc_signatures.specs.Packed.{param_with, pack_graph, packed}
 
@@ -34,7 +34,7 @@ pub record AreInOrder (sum : Summary) : Type 0 where
 
 -- just what the summaries say passes, and no procedure gives several values back
 pub record PassesOneValue (p : Program) (sums : List Summary) : Type 0 where
-  pub just : PassesJust (sum_at p.graphs sums) p
+  pub just : PassesJust (summary_at p.graphs sums) p
   pub order : All AreInOrder sums
   pub one : GivesOneValue sums
 
@@ -76,7 +76,7 @@ pub record PassesAtMostOne (sum_of : ℕ → Summary) (p : Program) : Type 0 whe
 
 abbrev pub PackedPassesOne : Type 0
 PackedPassesOne = (p : Program) (sums : List Summary) → IsProgram p → PassesOneValue p sums
-    → PassesAtMostOne (sum_at p.graphs sums) (packed p)
+    → PassesAtMostOne (summary_at p.graphs sums) (packed p)
 
 -- the deepest expression of the packed graph is at most as deep as the graph's, or 3 deep
 abbrev pub PackedIsShallow : Type 0
@@ -86,4 +86,4 @@ PackedIsShallow = (g : Graph) → deepest (graph_exprs (pack_graph g)) ≤ max (
 -- tell of one value
 abbrev pub LocalisedPassesOneValue : Type 0
 LocalisedPassesOneValue = (back : ℕ → List ℕ) (p : Program) (sums : List Summary) → IsProgram p → PassesAll back p
-    → AreSums p sums → GivesOneValue sums → PassesOneValue (localised sums p) sums
+    → AreSummaries p sums → GivesOneValue sums → PassesOneValue (localised sums p) sums

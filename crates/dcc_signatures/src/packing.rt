@@ -31,7 +31,7 @@ pub struct Fresh {
 }
 
 /// Whether the two locations are the low and the high half of one register.
-pub fn are_halves(low: Loc, high: Loc) -> bool
+pub(crate) fn are_halves(low: Loc, high: Loc) -> bool
     ensures { result ≡ spec.are_halves low high }
 {
     match high {
@@ -41,7 +41,7 @@ pub fn are_halves(low: Loc, high: Loc) -> bool
 }
 
 /// How the locations are given back.
-pub fn packing_of(locations: &[Loc]) -> Packing
+pub(crate) fn packing_of(locations: &[Loc]) -> Packing
     ensures { result ≡ spec.packing_of locations.now }
 {
     match locations {
@@ -97,7 +97,11 @@ fn double(alloc: Global, given: &[Loc]) -> Result<Expr, AllocError>
 }
 
 /// The values of the locations, which are given back, as at most one.
-pub fn one_value(alloc: Global, given: &[Loc], values: Vec<Expr>) -> Result<Vec<Expr>, AllocError>
+pub(crate) fn one_value(
+    alloc: Global,
+    given: &[Loc],
+    values: Vec<Expr>,
+) -> Result<Vec<Expr>, AllocError>
     ensures { IfOk result (λ one. map expr_of one.items ≡ spec.one_value given.now (map expr_of values.items)) }
 {
     let mut one = Vec::new(alloc);
@@ -110,7 +114,11 @@ pub fn one_value(alloc: Global, given: &[Loc], values: Vec<Expr>) -> Result<Vec<
 }
 
 /// The place of the one value that a call gives for the locations.
-pub fn value_places(alloc: Global, fresh: Fresh, results: &[Loc]) -> Result<Vec<Loc>, AllocError>
+pub(crate) fn value_places(
+    alloc: Global,
+    fresh: Fresh,
+    results: &[Loc],
+) -> Result<Vec<Loc>, AllocError>
     ensures { IfOk result (λ places. places.items ≡ spec.value_places fresh results.now) }
 {
     let mut places = Vec::new(alloc);
@@ -169,7 +177,7 @@ fn take_parts(
 }
 
 /// Adds statements by which the locations take their parts of the value that a call has given.
-pub fn push_parts(
+pub(crate) fn push_parts(
     alloc: Global,
     fresh: Fresh,
     results: &[Loc],

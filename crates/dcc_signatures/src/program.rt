@@ -5,7 +5,7 @@ ghost use Rattle.dcc_ir.specs.Views.{expr_of, stmt_of, exit_of, block_of, graph_
 ghost use Rattle.dcc_ir.specs.Use.{got_by};
 ghost use Rattle.dcc_ir.specs.Tree.{Summary};
 ghost use Rattle.dcc_ir.specs.WellFormed.{IsProgram};
-ghost use Rattle.dcc_sums.specs.Localised.{sum_at};
+ghost use Rattle.dcc_sums.specs.Localised.{summary_at};
 ghost use Rattle.dcc_sums.specs.Laws.{IsKeptBy};
 ghost use Rattle.dcc_signatures.specs.Laws.{PassesOneValue, PassesAtMostOne};
 ghost use Rattle.dcc_signatures.specs.Packed as spec;
@@ -236,7 +236,7 @@ pub fn pack(alloc: Global, p: IrProgram) -> Result<IrProgram, AllocError>
     ensures keeps { (sums : List Summary) → IsProgram (program_of p) → PassesOneValue (program_of p) sums
         → IfOk result (λ q. IsKeptBy (program_of p) (program_of q)) }
     ensures one { (sums : List Summary) → IsProgram (program_of p) → PassesOneValue (program_of p) sums
-        → IfOk result (λ q. PassesAtMostOne (sum_at (program_of p).graphs sums) (program_of q)) }
+        → IfOk result (λ q. PassesAtMostOne (summary_at (program_of p).graphs sums) (program_of q)) }
 {
     let graphs = pack_graphs(alloc, p.graphs)?;
     Ok(IrProgram { graphs, ..p })

@@ -7,17 +7,17 @@ use Rattle.dcc_num.specs.declared.Reg.{Reg}
 use Rattle.dcc_num.specs.declared.Reg.TheVariants.{Sp, Bp}
 use Rattle.dcc_num.specs.declared.Flags.{Flags}
 use Rattle.dcc_num.specs.Numbers.{has_sign, signed_of, residue_of, wrapped_of}
-use Rattle.dcc_prog.specs.declared.image.Image.{Image}
+use Rattle.dcc_machine.specs.declared.image.Image.{Image}
 use Rattle.dcc_prog.specs.declared.procedure.Layout.{Layout}
-use Rattle.dcc_prog.specs.declared.instr.Ea.{Ea}
-use Rattle.dcc_prog.specs.declared.instr.Instr.{Instr}
-use Rattle.dcc_prog.specs.declared.instr.Operand.TheVariants.{Word}
-use Rattle.dcc_prog.specs.declared.instr.Op.{Op}
-use Rattle.dcc_prog.specs.declared.instr.Op.TheVariants.{Mov, Lea}
-use Rattle.dcc_prog.specs.Machine.{State as Machine, word_in, is_bp, part_of, offset_of}
-use Rattle.dcc_prog.specs.Operations.{with_flags}
+use Rattle.dcc_machine.specs.declared.instr.Ea.{Ea}
+use Rattle.dcc_machine.specs.declared.instr.Instr.{Instr}
+use Rattle.dcc_machine.specs.declared.instr.Operand.TheVariants.{Word}
+use Rattle.dcc_machine.specs.declared.instr.Op.{Op}
+use Rattle.dcc_machine.specs.declared.instr.Op.TheVariants.{Mov, Lea}
+use Rattle.dcc_machine.specs.Machine.{State as Machine, word_in, is_bp, part_of, offset_of}
+use Rattle.dcc_machine.specs.Operations.{with_flags}
 use Rattle.dcc_prog.specs.Trail.{StandsAt}
-use Rattle.dcc_prog.specs.FrameForm.{copies_bp}
+use Rattle.dcc_machine.specs.SpAndBp.{copies_bp}
 use Rattle.dcc_prog.specs.Frame.{memory_operand, offset_in_frame, StartsExposure, by_lea, by_index, by_copy}
 use Rattle.dcc_prog.specs.Clean.{Stack, top_in}
 use Rattle.dcc_stack.specs.Standing.{Activation, StandsIn}

@@ -16,7 +16,7 @@ use Rattle.dcc_ir.specs.Run.{State, value_in, scene_of, execute}
 use Rattle.dcc_ir.specs.Passing.{bytes_at_put, bytes_of_param, bytes_of}
 use Rattle.dcc_ir.proofs.ExecuteLaws.{execute-append}
 use Rattle.dcc_ops.specs.Temporaries.{returned_place}
-use Rattle.dcc_ops.specs.Place.{storing}
+use Rattle.dcc_ops.specs.OperandPlace.{storing}
 use Rattle.dcc_simulation.specs.Coupled.{Setting}
 use Rattle.dcc_simulation.specs.Places.{IsFramePlace}
 use Rattle.dcc_simulation.specs.Procedures.{Procedure, frame_place}

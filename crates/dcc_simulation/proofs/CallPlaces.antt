@@ -4,7 +4,7 @@ use Rattle.std.specs.Prelude.{ℤ, pos, ◌+ℤ◌, ◌-ℤ◌, ◌≤ℤ◌, if
 use Rattle.std.proofs.lemmas.Int.{ints}
 use Rattle.dcc_num.specs.declared.Width.{Width}
 use Rattle.dcc_num.specs.declared.Width.TheVariants.{Byte as byte_width, Word as word_width}
-use Rattle.dcc_prog.specs.declared.instr.Op.TheVariants.{Call}
+use Rattle.dcc_machine.specs.declared.instr.Op.TheVariants.{Call}
 use Rattle.dcc_prog.specs.Trail.{StandsAt, IsNode, IsEntry, called}
 use Rattle.dcc_prog.specs.FrameForm.{is_framed}
 use Rattle.dcc_prog.specs.Height.{HasHeight}
@@ -14,7 +14,7 @@ use Rattle.dcc_stack.specs.Accepted.{IsProgramOfFile, IsAt, IsFrameFor}
 use Rattle.dcc_stack.specs.Standing.{Activation}
 use Rattle.dcc_stack.proofs.FormHeights.{node-of, has-height, no-trails}
 use Rattle.dcc_stack.proofs.FormLaws.{in-form}
-use Rattle.dcc_ops.specs.Place.{Place}
+use Rattle.dcc_ops.specs.OperandPlace.{OperandPlace}
 use Rattle.dcc_simulation.specs.Coupled.{Setting}
 use Rattle.dcc_simulation.specs.Places.{IsFramePlace}
 use Rattle.dcc_simulation.specs.Procedures.{Procedure, procedure_at, frame_place}
@@ -116,7 +116,7 @@ module _ (e : Setting) (a : Activation) (p : Procedure) (height base target : �
         within : (z : ℤ) → pos (2 * callee.frame.args) ≤ℤ z → pos (2 * number + 2) ≤ℤ z
         within z own = omega (arith, ints, own, less)
 
-    abbrev Stands : ℤ → Width → Place → Type 0
+    abbrev Stands : ℤ → Width → OperandPlace → Type 0
     Stands k w place = IsFramePlace e a.frame.entry k w place
 
     offset-is : (index : ℕ)

@@ -5,11 +5,11 @@ use Rattle.std.specs.List.{list_any}
 use Rattle.std.proofs.lemmas.List.Elements.{All-contains}
 use Rattle.std.proofs.lemmas.List.Folds.{list_any-append}
 use Rattle.dcc_num.specs.declared.Width.TheVariants.{Byte as byte_width}
-use Rattle.dcc_prog.specs.declared.image.Image.{Image}
+use Rattle.dcc_machine.specs.declared.image.Image.{Image}
 use Rattle.dcc_prog.specs.declared.procedure.Layout.{Layout}
 use Rattle.dcc_prog.specs.declared.procedure.Node.{Node}
-use Rattle.dcc_prog.specs.declared.instr.Instr.{Instr}
-use Rattle.dcc_prog.specs.declared.instr.Op.TheVariants.{Call as CallOp}
+use Rattle.dcc_machine.specs.declared.instr.Instr.{Instr}
+use Rattle.dcc_machine.specs.declared.instr.Op.TheVariants.{Call as CallOp}
 use Rattle.dcc_prog.specs.Trail.{IsNode}
 use Rattle.dcc_prog.specs.Found.{IsFound, IsNodeFound, IsListed}
 use Rattle.dcc_prog.specs.Clean.{LiveFrame}
@@ -19,7 +19,8 @@ use Rattle.dcc_ir.specs.declared.syntax.Loc.{Loc}
 use Rattle.dcc_ir.specs.Tree.{Expr, Get, Stmt, Call}
 use Rattle.dcc_ir.specs.Run.{Waiting, graph_at, is_call}
 use Rattle.dcc_ops.specs.Temporaries.{returned_place}
-use Rattle.dcc_ops.specs.Place.{Place, constant, byte, word, memory as in_memory, address, computed, storing}
+use Rattle.dcc_ops.specs.OperandPlace.{OperandPlace, constant, byte, word, memory as in_memory, address, computed}
+use Rattle.dcc_ops.specs.OperandPlace.{storing}
 use Rattle.dcc_simulation.specs.Coupled.{Setting, IsActivationOf, WaitsAfterCall, AreWaiting}
 use Rattle.dcc_simulation.specs.Procedures.{Procedure, procedure_at, frame_place, given_back}
 use Rattle.dcc_simulation.specs.Statements.{argument_offset, taking_back, taking_all_back, results_of, arguments_of}
@@ -70,7 +71,7 @@ has-caller e memory a (caller ∷ older) (w ∷ rest) top bp stand wait other = 
 
 -- Statements.
 
-stored-plainly : (place : Place) (location : Loc) → list_any is_call (storing place (Get location)) ≡ false
+stored-plainly : (place : OperandPlace) (location : Loc) → list_any is_call (storing place (Get location)) ≡ false
 stored-plainly (constant w n) location = refl
 stored-plainly (byte to) location = refl
 stored-plainly (word low high) location = refl

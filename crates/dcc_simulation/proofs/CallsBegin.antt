@@ -4,15 +4,15 @@ use Rattle.std.specs.Prelude.{pos, ◌-ℤ◌}
 use Rattle.dcc_run.specs.End.{is_over}
 use Rattle.dcc_num.specs.declared.Width.TheVariants.{Word as word_width}
 use Rattle.dcc_num.specs.declared.Reg.TheVariants.{Sp, Bp}
-use Rattle.dcc_prog.specs.declared.instr.Op.TheVariants.{Call}
-use Rattle.dcc_prog.specs.declared.instr.Instr.{Instr}
-use Rattle.dcc_prog.specs.Machine.{State as Machine, word_in, with_word_in, stack_segment, physical}
-use Rattle.dcc_prog.specs.Step.{op_step, step}
-use Rattle.dcc_prog.specs.Operations.{after_jump}
-use Rattle.dcc_prog.specs.Trail.{next_of}
-use Rattle.dcc_prog.specs.Access.{push_access, accesses}
+use Rattle.dcc_machine.specs.declared.instr.Op.TheVariants.{Call}
+use Rattle.dcc_machine.specs.declared.instr.Instr.{Instr}
+use Rattle.dcc_machine.specs.Machine.{State as Machine, word_in, with_word_in, stack_segment, physical}
+use Rattle.dcc_machine.specs.Step.{op_step, step}
+use Rattle.dcc_machine.specs.Operations.{after_jump}
+use Rattle.dcc_machine.specs.Successors.{next_of}
+use Rattle.dcc_machine.specs.Access.{push_access, accesses}
 use Rattle.dcc_prog.specs.Clean.{Stack, top_in, with_marks, stored_bytes, stack_after, sp_after}
-use Rattle.dcc_prog.proofs.LocationKept.{word-taken}
+use Rattle.dcc_machine.proofs.LocationKept.{word-taken}
 use Rattle.dcc_stack.specs.Standing.{Activation, StackStands}
 use Rattle.dcc_stack.specs.Apart.{IsApart}
 use Rattle.dcc_stack.specs.Slots.{Typed, AreNested}

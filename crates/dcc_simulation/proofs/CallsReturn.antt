@@ -5,18 +5,19 @@ use Rattle.std.specs.Prelude.{ℤ, pos}
 use Rattle.std.proofs.lemmas.Int.{ints}
 use Rattle.dcc_run.specs.End.{is_over}
 use Rattle.dcc_num.specs.declared.Reg.TheVariants.{Sp, Bp}
-use Rattle.dcc_prog.specs.declared.cpu.Cpu.{Cpu}
-use Rattle.dcc_prog.specs.declared.image.Image.{Image}
+use Rattle.dcc_machine.specs.declared.cpu.Cpu.{Cpu}
+use Rattle.dcc_machine.specs.declared.image.Image.{Image}
 use Rattle.dcc_prog.specs.declared.procedure.Layout.{Layout}
 use Rattle.dcc_prog.specs.declared.frame.Program.{Program}
-use Rattle.dcc_prog.specs.declared.instr.Op.TheVariants.{Call, Ret}
-use Rattle.dcc_prog.specs.declared.instr.Instr.{Instr}
-use Rattle.dcc_prog.specs.Machine.{State as Machine, word_in}
-use Rattle.dcc_prog.specs.Operations.{top_word, with_sp_raised, after_jump}
-use Rattle.dcc_prog.specs.Step.{op_step, step}
-use Rattle.dcc_prog.specs.Trail.{next_of, StandsAt}
+use Rattle.dcc_machine.specs.declared.instr.Op.TheVariants.{Call, Ret}
+use Rattle.dcc_machine.specs.declared.instr.Instr.{Instr}
+use Rattle.dcc_machine.specs.Machine.{State as Machine, word_in}
+use Rattle.dcc_machine.specs.Operations.{top_word, with_sp_raised, after_jump}
+use Rattle.dcc_machine.specs.Step.{op_step, step}
+use Rattle.dcc_machine.specs.Successors.{next_of}
+use Rattle.dcc_prog.specs.Trail.{StandsAt}
 use Rattle.dcc_prog.specs.Height.{GivesHeight, gone_on, MovesHeight}
-use Rattle.dcc_prog.specs.Access.{accesses}
+use Rattle.dcc_machine.specs.Access.{accesses}
 use Rattle.dcc_prog.specs.Clean.{Stack, top_in, with_marks, stored_bytes, stack_after}
 use Rattle.dcc_stack.specs.Accepted.{IsAt, IsProgramOfFile}
 use Rattle.dcc_stack.specs.Standing.{Activation, StandsIn, WaitsFor, Stand, called, StackStands}

@@ -3,7 +3,7 @@ use Rattle.std.specs.List.{cons_option}
 use Rattle.std.proofs.Common.{◌≡◌, ◌≤◌, ◌<◌, ℕ, ◌+◌, ◌*◌, Bool, true, List, [], ◌∷◌, Some, sym, ap₂, arith}
 use Rattle.std.specs.Prelude.{slice_set}
 use Rattle.dcc_num.specs.declared.Width.TheVariants.{Word as word_width}
-use Rattle.dcc_prog.specs.Access.{stored}
+use Rattle.dcc_machine.specs.Access.{stored}
 use Rattle.dcc_prog.specs.Clean.{with_marks, stack_offset}
 use Rattle.dcc_stack.specs.Apart.{IsApart}
 use Rattle.dcc_stack.specs.Slots.{Typed}

@@ -9,18 +9,17 @@ use Rattle.dcc_num.specs.declared.Half.{Half as HalfName}
 use Rattle.dcc_num.specs.declared.Half.TheVariants.{Low, High}
 use Rattle.dcc_num.specs.declared.Flags.{Flags}
 use Rattle.dcc_prog.specs.declared.frame.Cell.{Cell}
-use Rattle.dcc_prog.specs.StateForm.{IsState}
-use Rattle.dcc_prog.specs.declared.image.Image.{Image}
+use Rattle.dcc_machine.specs.StateForm.{IsState}
+use Rattle.dcc_machine.specs.declared.image.Image.{Image}
 use Rattle.dcc_prog.specs.declared.procedure.Layout.{Layout}
-use Rattle.dcc_prog.specs.Machine.{State as Machine, reg_number, word_in, with_word_in, code_segment, data_segment, stack_segment, physical}
-use Rattle.dcc_prog.specs.Operands.{word_register}
-use Rattle.dcc_prog.specs.Operations.{with_flags}
-use Rattle.dcc_prog.specs.Trail.{is_general}
-use Rattle.dcc_prog.specs.Writes.{is_same_register}
+use Rattle.dcc_machine.specs.Machine.{State as Machine, reg_number, word_in, with_word_in, code_segment, data_segment, stack_segment, physical, is_general}
+use Rattle.dcc_machine.specs.Operands.{word_register}
+use Rattle.dcc_machine.specs.Operations.{with_flags}
+use Rattle.dcc_machine.specs.Writes.{is_same_register}
 use Rattle.dcc_prog.specs.Analysed.{bytes_of}
 use Rattle.dcc_prog.specs.Clean.{top_in}
-use Rattle.dcc_prog.proofs.LocationKept.{word-taken, word-other}
-use Rattle.dcc_prog.proofs.StateKept.{same-state, word-state}
+use Rattle.dcc_machine.proofs.LocationKept.{word-taken, word-other}
+use Rattle.dcc_machine.proofs.StateKept.{same-state, word-state}
 use Rattle.dcc_stack.specs.Standing.{Activation, HoldsSegments}
 use Rattle.dcc_stack.specs.Slots.{Typed, IsAlike, is_within}
 use Rattle.dcc_stack.specs.SlotLaws.{AreCarried, SlotsAreCarried}

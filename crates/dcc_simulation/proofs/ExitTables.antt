@@ -5,22 +5,23 @@ use Rattle.std.proofs.lemmas.List.FromFn.{length-map-range_with_len, get_or-map-
 use Rattle.std.proofs.lemmas.Option.{slice_get-get_or}
 use Rattle.std.specs.Prelude.{pos, slice_get, slice_index}
 use Rattle.dcc_num.specs.declared.Reg.{Reg}
-use Rattle.dcc_prog.specs.declared.cpu.Cpu.{Cpu}
-use Rattle.dcc_prog.specs.declared.image.Image.{Image}
+use Rattle.dcc_machine.specs.declared.cpu.Cpu.{Cpu}
+use Rattle.dcc_machine.specs.declared.image.Image.{Image}
 use Rattle.dcc_prog.specs.declared.frame.Program.{Program}
 use Rattle.dcc_prog.specs.declared.procedure.Layout.{Layout}
-use Rattle.dcc_prog.specs.declared.refusal.construct.TheConstants.{INDIRECT_JUMP}
+use Rattle.dcc_prog.specs.declared.refusal.ConstructKind.TheVariants.{IndirectJump}
 use Rattle.dcc_prog.specs.declared.refusal.LimitName.TheVariants.{Entries}
-use Rattle.dcc_prog.specs.declared.instr.Op.TheVariants.{Table}
-use Rattle.dcc_prog.specs.declared.instr.Instr.{Instr}
-use Rattle.dcc_prog.specs.Machine.{State as Machine, word_in, code_segment, byte_in, word_at_offset}
-use Rattle.dcc_prog.specs.Step.{op_step}
-use Rattle.dcc_prog.specs.Code.{code_of, HoldsCode}
-use Rattle.dcc_prog.specs.Trail.{code_within, instruction_in, StandsAt, next_of, table_number, known_ah, table_words, table_targets, targets_of, word_in_segment, op_successors, instr_successors, successors}
+use Rattle.dcc_machine.specs.declared.instr.Op.TheVariants.{Table}
+use Rattle.dcc_machine.specs.declared.instr.Instr.{Instr}
+use Rattle.dcc_machine.specs.Machine.{State as Machine, word_in, code_segment, byte_in, word_at_offset}
+use Rattle.dcc_machine.specs.Step.{op_step}
+use Rattle.dcc_machine.specs.Code.{code_of, HoldsCode}
+use Rattle.dcc_machine.specs.Successors.{next_of, op_successors}
+use Rattle.dcc_prog.specs.Trail.{code_within, instruction_in, StandsAt, table_number, known_ah, table_words, table_targets, targets_of, word_in_segment, instr_successors, successors}
 use Rattle.dcc_prog.specs.Construct.{HasNumber, no_table, formless}
 use Rattle.dcc_prog.specs.Limit.{entries}
 use Rattle.dcc_prog.specs.RunLaws.{HasPassed}
-use Rattle.dcc_prog.proofs.FetchLaws.{image-placed, length-code_of}
+use Rattle.dcc_machine.proofs.FetchLaws.{image-placed, length-code_of}
 use Rattle.dcc_stack.specs.Accepted.{IsAt, IsProgramOfFile}
 use Rattle.dcc_stack.specs.Tables.{HoldsTwice}
 use Rattle.dcc_stack.proofs.ApartWrites.{same-instruction}
@@ -62,7 +63,7 @@ module _ (cpu : Cpu) (image : Image) (program : Program) (of_file : IsProgramOfF
     | inr many ↦ absurd (of_file.is_program.procs.no_limit Entries (greatest.0 + 1)
         (entries is_at.is_entry numbered many))
     | inl few ↦ elim (cases_lt (length (code_within image layout)) (offset + 2 * (greatest.0 + 1))) [
-      | inl short ↦ absurd (of_file.is_program.procs.no_construct INDIRECT_JUMP at (record {
+      | inl short ↦ absurd (of_file.is_program.procs.no_construct IndirectJump at (record {
         entry = entry;
         is_entry = is_at.is_entry;
         node = record { before = before; trail = is_at.trail };

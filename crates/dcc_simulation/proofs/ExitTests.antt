@@ -1,10 +1,10 @@
 -- Where the end of a block leads, other than that of a jump through a table.
 use Rattle.std.proofs.Common.{◌≡◌, ℕ, zero, suc, Bool, true, false, List, [], ◌∷◌, Contains, Option, Some, None, refl, sym, ap, ◌∙◌, arith, true≢false}
 use Rattle.std.specs.Prelude.{◌==◌, if◌then◌else◌}
-use Rattle.dcc_prog.specs.declared.instr.Op.{Op}
-use Rattle.dcc_prog.specs.declared.instr.Op.TheVariants.{Jump, Branch, Loop, LoopE, LoopNe, Jcxz, Table, Call, Ret, Int21}
+use Rattle.dcc_machine.specs.declared.instr.Op.{Op}
+use Rattle.dcc_machine.specs.declared.instr.Op.TheVariants.{Jump, Branch, Loop, LoopE, LoopNe, Jcxz, Table, Call, Ret, Int21}
 use Rattle.dcc_prog.specs.CleanLaws.{moves_frames}
-use Rattle.dcc_prog.specs.Trail.{is_exit, op_successors}
+use Rattle.dcc_machine.specs.Successors.{is_exit, op_successors}
 use Rattle.dcc_ir.specs.Tree.{Expr}
 use Rattle.dcc_ir.specs.Run.{State, value_in}
 use Rattle.dcc_ops.specs.Statements.{op_test, exit_to}

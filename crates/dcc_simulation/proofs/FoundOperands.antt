@@ -9,24 +9,26 @@ use Rattle.dcc_num.specs.declared.Reg.TheVariants.{Sp, Bp}
 use Rattle.dcc_num.specs.declared.Half.TheVariants.{Low, High}
 use Rattle.dcc_num.specs.declared.Flags.{Flags}
 use Rattle.dcc_num.specs.Numbers.{wrapped_of}
-use Rattle.dcc_prog.specs.declared.instr.Ea.{Ea}
-use Rattle.dcc_prog.specs.declared.instr.Operand.{Operand}
-use Rattle.dcc_prog.specs.declared.instr.Operand.TheVariants.{Word, Byte, Seg, Mem, Const}
-use Rattle.dcc_prog.specs.declared.instr.Op.{Op}
-use Rattle.dcc_prog.specs.declared.instr.Instr.{Instr}
-use Rattle.dcc_prog.specs.Machine.{State as Machine, word_in, is_bp}
-use Rattle.dcc_prog.specs.Operations.{with_flags}
-use Rattle.dcc_prog.specs.WellFormed.{IsOperand}
-use Rattle.dcc_prog.specs.Trail.{is_general, next_of, IsNode}
-use Rattle.dcc_prog.specs.FrameForm.{is_sp_or_bp}
-use Rattle.dcc_prog.specs.Access.{Direction, Reading, Writing, Access, bytes_in, is_direct, operand_accesses, accesses}
+use Rattle.dcc_machine.specs.declared.instr.Ea.{Ea}
+use Rattle.dcc_machine.specs.declared.instr.Operand.{Operand}
+use Rattle.dcc_machine.specs.declared.instr.Operand.TheVariants.{Word, Byte, Seg, Mem, Const}
+use Rattle.dcc_machine.specs.declared.instr.Op.{Op}
+use Rattle.dcc_machine.specs.declared.instr.Instr.{Instr}
+use Rattle.dcc_machine.specs.Machine.{State as Machine, word_in, is_bp, is_general}
+use Rattle.dcc_machine.specs.Operations.{with_flags}
+use Rattle.dcc_machine.specs.WellFormed.{IsOperand}
+use Rattle.dcc_machine.specs.Successors.{next_of}
+use Rattle.dcc_prog.specs.Trail.{IsNode}
+use Rattle.dcc_machine.specs.SpAndBp.{is_sp_or_bp}
+use Rattle.dcc_machine.specs.Access.{Direction, Reading, Writing, Access, bytes_in, is_direct, operand_accesses}
+use Rattle.dcc_machine.specs.Access.{accesses}
 use Rattle.dcc_prog.specs.Frame.{span_of, memory_of, memory_operand, offset_in_frame, StartsExposure, by_index, used, IsUsed}
 use Rattle.dcc_prog.specs.Clean.{Stack, top_in, stack_bytes, with_marks}
 use Rattle.dcc_stack.specs.Standing.{StandsIn}
 use Rattle.dcc_stack.specs.Slots.{is_memory, writes_memory}
 use Rattle.dcc_ir.specs.declared.syntax.Loc.TheVariants.{Half}
 use Rattle.dcc_ir.specs.Run.{State, value_in}
-use Rattle.dcc_ops.specs.Place.{Place, memory, is_sound_place}
+use Rattle.dcc_ops.specs.OperandPlace.{OperandPlace, memory, is_sound_place}
 use Rattle.dcc_ops.specs.Computed.{computed_expr}
 use Rattle.dcc_ops.specs.Registers.{register_place}
 use Rattle.dcc_ops.specs.Coupling.{IsRead, IsWritten}
@@ -134,7 +136,7 @@ module _ (e : Setting) (s : Machine) (stack : Stack) (instr : Instr) (is : IsCle
     pub memory-sound : is_sound_place (memory_place p w ea) ≡ true
     memory-sound = by (memory_place p w ea) memory-placed
       where
-        by : (place : Place) → IsOperandPlace e a.frame.entry R here ea w place → is_sound_place place ≡ true
+        by : (place : OperandPlace) → IsOperandPlace e a.frame.entry R here ea w place → is_sound_place place ≡ true
         by place (direct so stands) = frame-sound e a.frame.entry (offset_in_frame ea) w place stands
         by _ (elsewhere indirect offset) = refl
 

@@ -9,11 +9,11 @@ use Rattle.dcc_num.specs.declared.Width.TheVariants.{Byte as byte_width, Word as
 use Rattle.dcc_num.specs.declared.Half.{Half as HalfName}
 use Rattle.dcc_num.specs.declared.Half.TheVariants.{Low, High}
 use Rattle.dcc_prog.specs.declared.frame.Cell.{Cell}
-use Rattle.dcc_prog.specs.declared.instr.Operand.{Operand}
-use Rattle.dcc_prog.specs.declared.instr.Op.TheVariants.{Push, Pop}
+use Rattle.dcc_machine.specs.declared.instr.Operand.{Operand}
+use Rattle.dcc_machine.specs.declared.instr.Op.TheVariants.{Push, Pop}
 use Rattle.dcc_prog.specs.Trail.{StandsAt, IsNode}
-use Rattle.dcc_prog.specs.FrameForm.{is_sp_or_bp}
-use Rattle.dcc_prog.specs.Access.{bytes_in}
+use Rattle.dcc_machine.specs.SpAndBp.{is_sp_or_bp}
+use Rattle.dcc_machine.specs.Access.{bytes_in}
 use Rattle.dcc_prog.specs.Height.{HasHeight}
 use Rattle.dcc_prog.specs.Frame.{Span, IsPiece, used, IsUsed, pushed, popped, top_of, below_top, IsPlaced, is_saved_bp}
 use Rattle.dcc_prog.specs.Analysed.{bytes_of}
@@ -23,7 +23,7 @@ use Rattle.dcc_stack.proofs.FormHeights.{node-of, has-height}
 use Rattle.dcc_stack.proofs.SlotPlaces.{placed-tells, placed-told}
 use Rattle.dcc_ir.specs.declared.syntax.Loc.TheVariants.{Cell as CellHalf}
 use Rattle.dcc_ir.specs.Tree.{Address}
-use Rattle.dcc_ops.specs.Place.{Place, byte, word, memory}
+use Rattle.dcc_ops.specs.OperandPlace.{OperandPlace, byte, word, memory}
 use Rattle.dcc_simulation.specs.Coupled.{Setting, half_in}
 use Rattle.dcc_simulation.specs.Places.{IsFramePlace, in_half, in_cell, in_memory, IsInLocation}
 use Rattle.dcc_simulation.specs.Procedures.{Procedure, cells_of, distance_of, cell_place, frame_place}
@@ -96,7 +96,7 @@ module _ (e : Setting) (entry : ℕ) (p : Procedure) (at : IsFoundAt e entry p) 
   in-cells k number half is = subst (λ l. half_in 0 l k ≡ Some (CellHalf number half)) cells is.is
 
   -- the place that is named, where it is told whether the byte stands in memory
-  abbrev named : Width → ℤ → Bool → Place
+  abbrev named : Width → ℤ → Bool → OperandPlace
   named w k b = if b then memory w (Address (distance_of k)) else cell_place 0 (cells_of p) w k
 
   apart : (w : Width) (k : ℤ) → ¬ Placed k → frame_place p w k ≡ cell_place 0 (cells_of p) w k
@@ -105,7 +105,7 @@ module _ (e : Setting) (entry : ℕ) (p : Procedure) (at : IsFoundAt e entry p) 
       (false_from_ne_true (is_placed p.frame k)
       (λ so. unplaced (placed-tells e.image e.program entry p.frame frame k so)))
 
-  one-place : (w : Width) (k : ℤ) (place : Place) → IsFramePlace e entry k w place → place ≡ frame_place p w k
+  one-place : (w : Width) (k : ℤ) (place : OperandPlace) → IsFramePlace e entry k w place → place ≡ frame_place p w k
   one-place _ k _ (in_half {number = number} {half = half} is) =
       sym (apart byte_width k is.apart ∙ byte-there 0 (cells_of p) k number half (in-cells k number half is))
   one-place _ k _ (in_cell {number = number} low high) =

@@ -16,14 +16,14 @@ use Rattle.dcc_num.specs.declared.FlagName.{FlagName}
 use Rattle.dcc_num.specs.declared.FlagName.TheVariants.{Cf, Zf, Sf, Of}
 use Rattle.dcc_num.specs.Numbers.{limit_of, bits_of, residue_of, wrapped_of}
 use Rattle.dcc_prog.specs.declared.frame.Cell.{Cell}
-use Rattle.dcc_prog.specs.Machine.{State as Machine, physical}
-use Rattle.dcc_prog.specs.StateForm.{IsState}
-use Rattle.dcc_prog.specs.Access.{bytes_in, stored}
+use Rattle.dcc_machine.specs.Machine.{State as Machine, physical}
+use Rattle.dcc_machine.specs.StateForm.{IsState}
+use Rattle.dcc_machine.specs.Access.{bytes_in, stored}
 use Rattle.dcc_prog.specs.Frame.{IsCell, IsPlaced}
 use Rattle.dcc_prog.specs.Trail.{IsEntry}
 use Rattle.dcc_prog.specs.Analysed.{bytes_of}
 use Rattle.dcc_prog.specs.Clean.{is_marked, top_in, end_of}
-use Rattle.dcc_prog.proofs.FetchLaws.{image-placed}
+use Rattle.dcc_machine.proofs.FetchLaws.{image-placed}
 use Rattle.dcc_prog.proofs.StackMarks.{head_or_rest, at_head, in_rest}
 use Rattle.dcc_stack.specs.Accepted.{IsProgramOfFile}
 use Rattle.dcc_stack.specs.Standing.{Activation}
@@ -37,7 +37,7 @@ use Rattle.dcc_ir.specs.Location.{location_width, Values, with_value}
 use Rattle.dcc_ir.specs.Tree.{Expr, Address}
 use Rattle.dcc_ir.specs.Value.{Fits, with_bytes_at}
 use Rattle.dcc_ir.specs.Run.{State, value_in, scene_of, setting}
-use Rattle.dcc_ops.specs.Place.{Place, memory, place_value}
+use Rattle.dcc_ops.specs.OperandPlace.{OperandPlace, memory, place_value}
 use Rattle.dcc_ops.proofs.SceneLaws.{fits_taking}
 use Rattle.dcc_simulation.specs.Coupled.{Setting, AreNumbered, half_in, held_at, slots_in, typed_by, typed_waiting}
 use Rattle.dcc_simulation.specs.Coupled.{Coupled}
@@ -538,7 +538,7 @@ frames-written e a callers written s t w k first place v numbered c of_frame cha
     entry : IsEntry e.image e.program.layout a.frame.entry
     entry = c.carried.nested.0
 
-    by : (w : Width) (place : Place) (of_frame : IsOfFrame e a (top_in e.program.layout s) k w first)
+    by : (w : Width) (place : OperandPlace) (of_frame : IsOfFrame e a (top_in e.program.layout s) k w first)
         (changes : (index : ℕ) → index < bytes_in w → a.frame.base ≤ first + index
         → IsChangeable e.image e.program.layout a.frame (first + index))
         → IsFramePlace e a.frame.entry k w place → (small : v < limit_of w)

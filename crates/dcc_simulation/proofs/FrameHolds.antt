@@ -22,7 +22,7 @@ use Rattle.dcc_ir.specs.Tree.{Expr, Get, Load, Address}
 use Rattle.dcc_ir.specs.Value.{Fits}
 use Rattle.dcc_ir.specs.Run.{State, value_in, scene_of}
 use Rattle.dcc_ir.specs.Passing.{bytes_at_put}
-use Rattle.dcc_ops.specs.Place.{Place, place_value}
+use Rattle.dcc_ops.specs.OperandPlace.{OperandPlace, place_value}
 use Rattle.dcc_simulation.specs.Coupled.{Setting, half_in, held_at, slots_in, typed_by}
 use Rattle.dcc_simulation.specs.Places.{IsInLocation, IsFramePlace, in_cell, in_memory}
 use Rattle.dcc_simulation.specs.Passed.{put_of}
@@ -138,7 +138,7 @@ module _ (e : Setting) (a : Activation) (t : State) where
         → IsInLocation e a.frame.entry (Place-of (first + 1)) location
     next-location {location} in_it = subst (λ j. IsInLocation e a.frame.entry j location) (at-next first) in_it
 
-    pub word-holds : (place : Place) → t.running.base ≡ a.frame.base % 65536 → first + 1 < 65536
+    pub word-holds : (place : OperandPlace) → t.running.base ≡ a.frame.base % 65536 → first + 1 < 65536
         → IsFramePlace e a.frame.entry (Place-of first) word_width place
         → HoldsWord first (value_in t (place_value place))
     word-holds _ base below (in_cell {number = number} low high) =
@@ -163,14 +163,14 @@ module _ (e : Setting) (a : Activation) (t : State) where
             omega (arith, lower, upper)
 
     -- the two bytes of an argument word, from where it was put
-    pub record HoldsPut (number : ℕ) (place : Place) : Type 0 where
+    pub record HoldsPut (number : ℕ) (place : OperandPlace) : Type 0 where
       pub low : Expr
       pub high : Expr
       pub are : bytes_at_put number (put_of place) ≡ low ∷ high ∷ []
       pub lower : HoldsByte first (value_in t low)
       pub upper : HoldsByte (first + 1) (value_in t high)
 
-    pub put-holds : (number : ℕ) (place : Place) → (t.running.base + 2 * number) % 65536 ≡ first
+    pub put-holds : (number : ℕ) (place : OperandPlace) → (t.running.base + 2 * number) % 65536 ≡ first
         → (t.running.base + (2 * number + 1)) % 65536 ≡ first + 1
         → IsFramePlace e a.frame.entry (Place-of first) word_width place
         → HoldsPut number place

@@ -20,7 +20,7 @@ use Rattle.dcc_ir.specs.Location.{Values, with_value}
 use Rattle.dcc_ir.specs.Tree.{Get, Address}
 use Rattle.dcc_ir.specs.Value.{Fits}
 use Rattle.dcc_ir.specs.Run.{State, value_in, scene_of, setting, storing as storing_at, putting, execute}
-use Rattle.dcc_ops.specs.Place.{Place, storing}
+use Rattle.dcc_ops.specs.OperandPlace.{OperandPlace, storing}
 use Rattle.dcc_ops.proofs.SceneLaws.{fits_taking}
 use Rattle.dcc_simulation.specs.Coupled.{Setting, slots_in, typed_by}
 use Rattle.dcc_simulation.specs.Places.{IsInLocation, IsFramePlace, in_half, in_cell, in_memory}
@@ -142,7 +142,8 @@ module _ (e : Setting) (a : Activation) (bytes : ℕ → ℕ) where
   at-next : (first : ℕ) → ((pos (first + 4) -ℤ pos a.frame.base) +ℤ pos 1) ≡ (pos (first + 1 + 4) -ℤ pos a.frame.base)
   at-next first = omega (arith, ints)
 
-  pub word-put : (t : State) (j first v : ℕ) (place : Place) → All IsSmall (e.cells a.frame.entry) → Fits (scene_of t)
+  pub word-put : (t : State) (j first v : ℕ) (place : OperandPlace) → All IsSmall (e.cells a.frame.entry)
+      → Fits (scene_of t)
       → IsFramePlace e a.frame.entry (pos (first + 4) -ℤ pos a.frame.base) word_width place
       → (t.running.base + 2 * j) % 65536 ≡ first → (t.running.base + 2 * j + 1) % 65536 ≡ first + 1 → v < 65536
       → v % 256 ≡ bytes first → v / 256 ≡ bytes (first + 1)
@@ -174,7 +175,7 @@ module _ (e : Setting) (a : Activation) (bytes : ℕ → ℕ) where
       ∙ address-sum a.frame.base (first + index) index ((pos (first + 4) -ℤ pos a.frame.base) -ℤ pos 4)
       (omega (arith, ints)) less
 
-  pub byte-stored : (t : State) (from : Loc) (first : ℕ) (place : Place) → All IsSmall (e.cells a.frame.entry)
+  pub byte-stored : (t : State) (from : Loc) (first : ℕ) (place : OperandPlace) → All IsSmall (e.cells a.frame.entry)
       → Fits (scene_of t) → t.end ≡ Running
       → IsFramePlace e a.frame.entry (pos (first + 4) -ℤ pos a.frame.base) byte_width place
       → t.running.base ≡ a.frame.base % 65536 → first < 65536 → t.running.values from < 256

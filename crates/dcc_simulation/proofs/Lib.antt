@@ -13,7 +13,7 @@ pub mod Lowered
 pub mod Pushes
 pub mod TopWords
 pub mod Begins
-pub mod PieceRuns
+pub mod PieceExtents
 pub mod PieceBounds
 pub mod PieceCells
 pub mod PiecePlaces

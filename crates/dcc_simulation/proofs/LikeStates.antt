@@ -6,11 +6,10 @@ use Rattle.dcc_num.specs.declared.Reg.{Reg}
 use Rattle.dcc_num.specs.declared.Reg.TheVariants.{Sp, Bp}
 use Rattle.dcc_num.specs.declared.Half.TheVariants.{Low, High}
 use Rattle.dcc_num.specs.declared.FlagName.TheVariants.{Cf, Zf, Sf, Of}
-use Rattle.dcc_prog.specs.Machine.{State as Machine, word_in, with_word_in}
-use Rattle.dcc_prog.specs.Operations.{after_jump}
-use Rattle.dcc_prog.specs.Trail.{is_general}
+use Rattle.dcc_machine.specs.Machine.{State as Machine, word_in, with_word_in, is_general}
+use Rattle.dcc_machine.specs.Operations.{after_jump}
 use Rattle.dcc_prog.specs.Clean.{top_in}
-use Rattle.dcc_prog.proofs.LocationKept.{word-other}
+use Rattle.dcc_machine.proofs.LocationKept.{word-other}
 use Rattle.dcc_stack.specs.Standing.{Activation, HoldsSegments}
 use Rattle.dcc_stack.specs.SlotLaws.{AreCarried}
 use Rattle.dcc_ir.specs.Run.{State}

@@ -10,7 +10,7 @@ use Rattle.dcc_num.specs.declared.Half.{Half as HalfName}
 use Rattle.dcc_num.specs.declared.Half.TheVariants.{Low, High}
 use Rattle.dcc_num.specs.declared.FlagName.{FlagName}
 use Rattle.dcc_num.specs.declared.FlagName.TheVariants.{Cf, Zf, Sf, Of}
-use Rattle.dcc_prog.specs.Trail.{is_general}
+use Rattle.dcc_machine.specs.Machine.{is_general}
 use Rattle.dcc_ir.specs.declared.syntax.Loc.{Loc}
 use Rattle.dcc_ir.specs.declared.syntax.Loc.TheVariants.{Half, Flag, Cell as CellHalf, Temp}
 use Rattle.dcc_ir.specs.Location.{Values, with_value, location_width}

@@ -5,14 +5,14 @@ use Rattle.std.proofs.lemmas.Int.{ints}
 use Rattle.std.proofs.Math.Nat.{mod-eq_of_lt}
 use Rattle.dcc_num.specs.declared.Width.TheVariants.{Word as word_width}
 use Rattle.dcc_num.specs.declared.Reg.TheVariants.{Sp}
-use Rattle.dcc_prog.specs.declared.instr.Instr.{Instr}
-use Rattle.dcc_prog.specs.Machine.{State as Machine, word_in, with_word_in, stack_segment, physical}
-use Rattle.dcc_prog.specs.Operations.{after_push}
-use Rattle.dcc_prog.specs.Trail.{next_of}
-use Rattle.dcc_prog.specs.Access.{stored}
+use Rattle.dcc_machine.specs.declared.instr.Instr.{Instr}
+use Rattle.dcc_machine.specs.Machine.{State as Machine, word_in, with_word_in, stack_segment, physical}
+use Rattle.dcc_machine.specs.Operations.{after_push}
+use Rattle.dcc_machine.specs.Successors.{next_of}
+use Rattle.dcc_machine.specs.Access.{stored}
 use Rattle.dcc_prog.specs.Clean.{Stack, top_in, is_low, sp_after}
-use Rattle.dcc_prog.proofs.LocationKept.{or-none}
-use Rattle.dcc_prog.proofs.StateKept.{same-state}
+use Rattle.dcc_machine.proofs.LocationKept.{or-none}
+use Rattle.dcc_machine.proofs.StateKept.{same-state}
 use Rattle.dcc_stack.specs.SlotLaws.{stores_at}
 use Rattle.dcc_stack.proofs.ApartAccesses.{clean-step}
 use Rattle.dcc_stack.proofs.ApartFrames.{top-below}

@@ -2,10 +2,10 @@
 use Rattle.std.proofs.Common.{◌≡◌, Bool, List, [], ◌∷◌, Option, Some, ap, ◌∙◌, subst}
 use Rattle.dcc_run.specs.End.{Running, is_over}
 use Rattle.dcc_num.specs.declared.Reg.TheVariants.{Bp}
-use Rattle.dcc_prog.specs.declared.instr.Instr.{Instr}
-use Rattle.dcc_prog.specs.declared.instr.Op.{Op}
-use Rattle.dcc_prog.specs.Machine.{State as Machine, word_in}
-use Rattle.dcc_prog.specs.Step.{step}
+use Rattle.dcc_machine.specs.declared.instr.Instr.{Instr}
+use Rattle.dcc_machine.specs.declared.instr.Op.{Op}
+use Rattle.dcc_machine.specs.Machine.{State as Machine, word_in}
+use Rattle.dcc_machine.specs.Step.{step}
 use Rattle.dcc_prog.specs.Clean.{Stack, top_in, foul_of, stack_after}
 use Rattle.dcc_prog.specs.Watch.{next_instruction}
 use Rattle.dcc_stack.specs.Standing.{Activation, StackStands}

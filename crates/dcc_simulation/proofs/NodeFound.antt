@@ -3,9 +3,11 @@ use Rattle.std.proofs.Common.{◌≡◌, ℕ, [], ◌∷◌, Some, sym, ap, ◌�
 use Rattle.std.proofs.lemmas.List.Elements.{All-contains}
 use Rattle.std.specs.Prelude.{if◌then◌else◌}
 use Rattle.dcc_prog.specs.declared.procedure.Node.{Node}
-use Rattle.dcc_prog.specs.declared.instr.Instr.{Instr}
-use Rattle.dcc_prog.specs.Machine.{State as Machine}
-use Rattle.dcc_prog.specs.Trail.{instruction_in, next_of, known_ah, targets_of, op_successors, instr_successors, IsTrail, IsEntry}
+use Rattle.dcc_prog.specs.declared.refusal.ConstructKind.{ConstructKind}
+use Rattle.dcc_machine.specs.declared.instr.Instr.{Instr}
+use Rattle.dcc_machine.specs.Machine.{State as Machine}
+use Rattle.dcc_machine.specs.Successors.{next_of, op_successors}
+use Rattle.dcc_prog.specs.Trail.{instruction_in, known_ah, targets_of, instr_successors, IsTrail, IsEntry}
 use Rattle.dcc_prog.specs.Construct.{IsAtNode}
 use Rattle.dcc_prog.specs.Found.{IsNodeFound, IsFound}
 use Rattle.dcc_prog.specs.Clean.{Stack}
@@ -43,7 +45,7 @@ module _ (e : Setting) (s : Machine) (stack : Stack) (instr : Instr) (p : Proced
   node-is = same-instruction (instruction_in e.image layout a.at) node-of.instr instr node-of.stands found-here
 
   -- no construct stands there
-  pub no-construct : (kind : ℕ) → ¬ IsAtNode e.image layout a.frame.entry a.at kind
+  pub no-construct : (kind : ConstructKind) → ¬ IsAtNode e.image layout a.frame.entry a.at kind
   no-construct kind stands =
       is.of_file.is_program.procs.no_construct kind a.at (record {
         entry = a.frame.entry;

@@ -2,11 +2,11 @@
 -- statements the runs agree, or both have ended alike.
 use Rattle.std.proofs.Common.{◌≡◌, Bool, true, false, true≢false, not, ◌&&◌, ◌||◌, refl, ap, ◌∙◌}
 use Rattle.dcc_num.specs.declared.Reg.TheVariants.{Sp}
-use Rattle.dcc_prog.specs.declared.instr.Plain.TheVariants.{Xlat}
-use Rattle.dcc_prog.specs.declared.instr.Unary.TheVariants.{Div, Idiv}
-use Rattle.dcc_prog.specs.declared.instr.Op.{Op}
-use Rattle.dcc_prog.specs.declared.instr.Op.TheVariants.{Unary, Lea, Push, Pop, Enter, Leave, Plain, Table, Call, Ret, Int21}
-use Rattle.dcc_prog.specs.FrameForm.{is_sp_move}
+use Rattle.dcc_machine.specs.declared.instr.Plain.TheVariants.{Xlat}
+use Rattle.dcc_machine.specs.declared.instr.Unary.TheVariants.{Div, Idiv}
+use Rattle.dcc_machine.specs.declared.instr.Op.{Op}
+use Rattle.dcc_machine.specs.declared.instr.Op.TheVariants.{Unary, Lea, Push, Pop, Enter, Leave, Plain, Table, Call, Ret, Int21}
+use Rattle.dcc_machine.specs.SpAndBp.{is_sp_move}
 use Rattle.dcc_prog.specs.CleanLaws.{moves_frames}
 use Rattle.dcc_ir.specs.Run.{execute}
 use Rattle.dcc_simulation.specs.Statements.{moves_frame, node_stmts}

@@ -3,15 +3,15 @@ use Rattle.std.proofs.Common.{◌≡◌, ℕ, false, refl, ap, subst}
 use Rattle.std.specs.Prelude.{pos}
 use Rattle.dcc_run.specs.End.{Running, is_over}
 use Rattle.dcc_prog.specs.declared.procedure.Node.{Node}
-use Rattle.dcc_prog.specs.declared.instr.Instr.{Instr}
-use Rattle.dcc_prog.specs.Machine.{State as Machine}
-use Rattle.dcc_prog.specs.Step.{code_bytes}
-use Rattle.dcc_prog.specs.Trail.{next_of}
+use Rattle.dcc_machine.specs.declared.instr.Instr.{Instr}
+use Rattle.dcc_machine.specs.Machine.{State as Machine}
+use Rattle.dcc_machine.specs.Step.{code_bytes}
+use Rattle.dcc_machine.specs.Successors.{next_of}
 use Rattle.dcc_prog.specs.Height.{HasHeight}
-use Rattle.dcc_prog.specs.StateForm.{IsState}
+use Rattle.dcc_machine.specs.StateForm.{IsState}
 use Rattle.dcc_prog.specs.Construct.{is_system}
 use Rattle.dcc_prog.specs.Clean.{Stack}
-use Rattle.dcc_prog.proofs.StateKept.{same-state, code-bytes}
+use Rattle.dcc_machine.proofs.StateKept.{same-state, code-bytes}
 use Rattle.dcc_stack.specs.Accepted.{IsAt}
 use Rattle.dcc_stack.proofs.ApartLaws.{writes-apart}
 use Rattle.dcc_stack.proofs.FormHeights.{has-height, no-system, form-there}

@@ -3,22 +3,22 @@ use Rattle.std.proofs.Common.{◌≡◌, Bool, true, false, true≢false, ◌&&�
 use Rattle.std.specs.Prelude.{not, if◌then◌else◌}
 use Rattle.std.proofs.lemmas.List.Elements.{filter-append, Contains-append_left, Contains-append_right}
 use Rattle.dcc_num.specs.declared.Width.{Width}
-use Rattle.dcc_prog.specs.declared.instr.Alu.{Alu as AluName}
-use Rattle.dcc_prog.specs.declared.instr.Shift.{Shift as ShiftName}
-use Rattle.dcc_prog.specs.declared.instr.Unary.{Unary as UnaryName}
-use Rattle.dcc_prog.specs.declared.instr.Unary.TheVariants.{Inc, Dec, Neg, Not, Mul, Imul, Div, Idiv}
-use Rattle.dcc_prog.specs.declared.instr.Plain.TheVariants.{Xlat}
-use Rattle.dcc_prog.specs.declared.instr.Count.{Count}
-use Rattle.dcc_prog.specs.declared.instr.Ea.{Ea}
-use Rattle.dcc_prog.specs.declared.instr.Operand.{Operand}
-use Rattle.dcc_prog.specs.declared.instr.Operand.TheVariants.{Word, Byte, Seg, Mem, Const}
-use Rattle.dcc_prog.specs.declared.instr.Op.{Op}
-use Rattle.dcc_prog.specs.declared.instr.Op.TheVariants.{Alu, Unary, Shift, Mov, Xchg, Imul3, Plain, Jump, Branch, Loop, LoopE, LoopNe, Jcxz}
-use Rattle.dcc_prog.specs.Machine.{State as Machine, with_operand, operand_value}
-use Rattle.dcc_prog.specs.Prepared.{is_division}
-use Rattle.dcc_prog.specs.Wanted.{stores_back}
-use Rattle.dcc_prog.specs.Writes.{writes_operand}
-use Rattle.dcc_prog.specs.Access.{Reading, Writing, Access, writes_back, operand_accesses, result_accesses, plain_accesses, accesses}
+use Rattle.dcc_machine.specs.declared.instr.Alu.{Alu as AluName}
+use Rattle.dcc_machine.specs.declared.instr.Shift.{Shift as ShiftName}
+use Rattle.dcc_machine.specs.declared.instr.Unary.{Unary as UnaryName}
+use Rattle.dcc_machine.specs.declared.instr.Unary.TheVariants.{Inc, Dec, Neg, Not, Mul, Imul, Div, Idiv}
+use Rattle.dcc_machine.specs.declared.instr.Plain.TheVariants.{Xlat}
+use Rattle.dcc_machine.specs.declared.instr.Count.{Count}
+use Rattle.dcc_machine.specs.declared.instr.Ea.{Ea}
+use Rattle.dcc_machine.specs.declared.instr.Operand.{Operand}
+use Rattle.dcc_machine.specs.declared.instr.Operand.TheVariants.{Word, Byte, Seg, Mem, Const}
+use Rattle.dcc_machine.specs.declared.instr.Op.{Op}
+use Rattle.dcc_machine.specs.declared.instr.Op.TheVariants.{Alu, Unary, Shift, Mov, Xchg, Imul3, Plain, Jump, Branch, Loop, LoopE, LoopNe, Jcxz}
+use Rattle.dcc_machine.specs.Machine.{State as Machine, with_operand, operand_value}
+use Rattle.dcc_machine.specs.Operations.{is_division}
+use Rattle.dcc_machine.specs.Wanted.{stores_back}
+use Rattle.dcc_machine.specs.Writes.{writes_operand}
+use Rattle.dcc_machine.specs.Access.{Reading, Writing, Access, writes_back, operand_accesses, result_accesses, plain_accesses, accesses}
 use Rattle.dcc_prog.specs.Frame.{memory_of, memory_of_two}
 use Rattle.dcc_prog.specs.Clean.{is_reading}
 use Rattle.dcc_stack.specs.Slots.{is_memory}

@@ -10,17 +10,17 @@ use Rattle.dcc_num.specs.declared.Width.{Width}
 use Rattle.dcc_num.specs.declared.Width.TheVariants.{Byte as byte_width, Word as word_width}
 use Rattle.dcc_num.specs.declared.Reg.TheVariants.{Sp, Bp}
 use Rattle.dcc_prog.specs.declared.procedure.Layout.{Layout}
-use Rattle.dcc_prog.specs.declared.instr.Ea.{Ea}
-use Rattle.dcc_prog.specs.declared.instr.Instr.{Instr}
-use Rattle.dcc_prog.specs.declared.instr.Op.TheVariants.{Mov}
-use Rattle.dcc_prog.specs.declared.instr.Operand.TheVariants.{Word}
-use Rattle.dcc_prog.specs.Machine.{State as Machine, word_in, is_bp, physical, stack_segment, data_segment, offset_of, segment_of}
+use Rattle.dcc_machine.specs.declared.instr.Ea.{Ea}
+use Rattle.dcc_machine.specs.declared.instr.Instr.{Instr}
+use Rattle.dcc_machine.specs.declared.instr.Op.TheVariants.{Mov}
+use Rattle.dcc_machine.specs.declared.instr.Operand.TheVariants.{Word}
+use Rattle.dcc_machine.specs.Machine.{State as Machine, word_in, is_bp, physical, stack_segment, data_segment, offset_of, segment_of}
 use Rattle.dcc_prog.specs.Trail.{instruction_in, StandsAt}
-use Rattle.dcc_prog.specs.FrameForm.{address_uses_bp}
-use Rattle.dcc_prog.specs.Access.{Direction, Reading, OfFrame, Other, Access, bytes_in, is_direct, address_in, addresses_of, found_accesses}
+use Rattle.dcc_machine.specs.SpAndBp.{address_uses_bp}
+use Rattle.dcc_machine.specs.Access.{Direction, Reading, OfFrame, Other, Access, bytes_in, is_direct, address_in, addresses_of, found_accesses}
 use Rattle.dcc_prog.specs.Frame.{span_of, memory_operand, offset_in_frame, IsDirectAccess, direct}
 use Rattle.dcc_prog.specs.Clean.{Stack, stack_offset, is_other, is_reading, is_exposed_byte, is_marked, top_in, end_of}
-use Rattle.dcc_prog.proofs.AlikeValues.{and-parts}
+use Rattle.dcc_machine.proofs.AlikeValues.{and-parts}
 use Rattle.dcc_prog.proofs.StackMarks.{in_rest, at_head}
 use Rattle.dcc_stack.specs.Accepted.{IsSetUp, IsNodeOf, IsInFrame, in_arguments, in_locals}
 use Rattle.dcc_stack.specs.Standing.{Activation, StandsIn}

@@ -6,28 +6,30 @@ use Rattle.dcc_num.specs.declared.Half.{Half as HalfName}
 use Rattle.dcc_num.specs.declared.Half.TheVariants.{Low, High}
 use Rattle.dcc_num.specs.declared.Reg.{Reg}
 use Rattle.dcc_num.specs.declared.Reg.TheVariants.{Sp, Bp}
-use Rattle.dcc_prog.specs.declared.cpu.Cpu.{Cpu}
-use Rattle.dcc_prog.specs.declared.image.Image.{Image}
+use Rattle.dcc_machine.specs.declared.cpu.Cpu.{Cpu}
+use Rattle.dcc_machine.specs.declared.image.Image.{Image}
 use Rattle.dcc_prog.specs.declared.procedure.Layout.{Layout}
 use Rattle.dcc_prog.specs.declared.procedure.Node.{Node}
-use Rattle.dcc_prog.specs.declared.instr.Operand.{Operand}
-use Rattle.dcc_prog.specs.declared.instr.Operand.TheVariants.{Word, Byte, Seg, Mem, Const}
-use Rattle.dcc_prog.specs.declared.instr.Op.{Op}
-use Rattle.dcc_prog.specs.declared.instr.Op.TheVariants.{Alu, Unary, Shift, Mov, Xchg, Lea, Imul3, Push, Pop, Plain, Jump, Branch, Loop, LoopE, LoopNe, Jcxz, Call, Ret}
-use Rattle.dcc_prog.specs.declared.instr.Instr.{Instr}
-use Rattle.dcc_prog.specs.Machine.{State as Machine}
-use Rattle.dcc_prog.specs.Step.{op_step, step}
-use Rattle.dcc_prog.specs.WellFormed.{IsOperation}
-use Rattle.dcc_prog.specs.StateForm.{IsState}
-use Rattle.dcc_prog.specs.Trail.{is_general, next_of, StandsAt}
-use Rattle.dcc_prog.specs.Prepared.{is_division}
-use Rattle.dcc_prog.specs.Writes.{writes_operand, writes_half}
-use Rattle.dcc_prog.specs.FrameForm.{is_push_bp, is_mov_bp_sp, is_enter, is_sp_or_bp, names_sp_or_bp, is_sp_move, leaves_frame, copies_bp}
-use Rattle.dcc_prog.specs.Access.{Writing, writes_back, found_accesses}
+use Rattle.dcc_machine.specs.declared.instr.Operand.{Operand}
+use Rattle.dcc_machine.specs.declared.instr.Operand.TheVariants.{Word, Byte, Seg, Mem, Const}
+use Rattle.dcc_machine.specs.declared.instr.Op.{Op}
+use Rattle.dcc_machine.specs.declared.instr.Op.TheVariants.{Alu, Unary, Shift, Mov, Xchg, Lea, Imul3, Push, Pop, Plain, Jump, Branch, Loop, LoopE, LoopNe, Jcxz, Call, Ret}
+use Rattle.dcc_machine.specs.declared.instr.Instr.{Instr}
+use Rattle.dcc_machine.specs.Machine.{State as Machine, is_general}
+use Rattle.dcc_machine.specs.Step.{op_step, step}
+use Rattle.dcc_machine.specs.WellFormed.{IsOperation}
+use Rattle.dcc_machine.specs.StateForm.{IsState}
+use Rattle.dcc_machine.specs.Successors.{next_of}
+use Rattle.dcc_prog.specs.Trail.{StandsAt}
+use Rattle.dcc_machine.specs.Operations.{is_division}
+use Rattle.dcc_machine.specs.Writes.{writes_operand, writes_half}
+use Rattle.dcc_machine.specs.SpAndBp.{is_push_bp, is_mov_bp_sp, is_enter, is_sp_or_bp, names_sp_or_bp, is_sp_move}
+use Rattle.dcc_machine.specs.SpAndBp.{leaves_frame, copies_bp}
+use Rattle.dcc_machine.specs.Access.{Writing, writes_back, found_accesses}
 use Rattle.dcc_prog.specs.Frame.{by_copy}
 use Rattle.dcc_prog.specs.Clean.{Stack, top_in, with_marks, stack_bytes, stored_bytes}
 use Rattle.dcc_prog.specs.CleanLaws.{moves_frames}
-use Rattle.dcc_prog.proofs.LocationKept.{or-none, op-half}
+use Rattle.dcc_machine.proofs.LocationKept.{or-none, op-half}
 use Rattle.dcc_prog.proofs.SpLaws.{by_halves}
 use Rattle.dcc_stack.specs.Slots.{is_memory, writes_memory}
 use Rattle.dcc_stack.proofs.FormOps.{FormOf, is_stack_op, unnamed-still, copied-still}

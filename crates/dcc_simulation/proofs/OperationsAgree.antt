@@ -1,9 +1,9 @@
 -- The statements of an operation that leaves SP lead to the next instruction.
 use Rattle.std.proofs.Common.{true, Some, refl, sym, ap, subst, arith}
 use Rattle.dcc_run.specs.End.{is_over}
-use Rattle.dcc_prog.specs.Step.{op_step, step}
-use Rattle.dcc_prog.specs.Trail.{next_of}
-use Rattle.dcc_prog.specs.Access.{found_accesses}
+use Rattle.dcc_machine.specs.Step.{op_step, step}
+use Rattle.dcc_machine.specs.Successors.{next_of}
+use Rattle.dcc_machine.specs.Access.{found_accesses}
 use Rattle.dcc_prog.specs.Clean.{top_in, with_marks, stored_bytes}
 use Rattle.dcc_stack.proofs.TableSteps.{IsStepOf, step-of}
 use Rattle.dcc_ir.specs.Run.{execute}

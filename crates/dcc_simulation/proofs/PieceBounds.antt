@@ -6,16 +6,17 @@ use Rattle.std.proofs.lemmas.Int.{ints}
 use Rattle.dcc_num.specs.declared.Width.{Width}
 use Rattle.dcc_num.specs.declared.Width.TheVariants.{Byte as byte_width, Word as word_width}
 use Rattle.dcc_num.specs.declared.Reg.TheVariants.{Bp}
-use Rattle.dcc_prog.specs.declared.cpu.Cpu.{Cpu}
-use Rattle.dcc_prog.specs.declared.image.Image.{Image}
+use Rattle.dcc_machine.specs.declared.cpu.Cpu.{Cpu}
+use Rattle.dcc_machine.specs.declared.image.Image.{Image}
 use Rattle.dcc_prog.specs.declared.procedure.Layout.{Layout}
 use Rattle.dcc_prog.specs.declared.frame.Frame.{Frame}
 use Rattle.dcc_prog.specs.declared.frame.Program.{Program}
-use Rattle.dcc_prog.specs.declared.instr.Operand.{Operand}
-use Rattle.dcc_prog.specs.declared.instr.Operand.TheVariants.{Word}
-use Rattle.dcc_prog.specs.declared.instr.Op.TheVariants.{Push, Pop, Ret}
-use Rattle.dcc_prog.specs.Access.{bytes_in}
-use Rattle.dcc_prog.specs.Trail.{StandsAt, next_of, known_ah, targets_of, op_successors, instr_successors, successors, IsTrail, IsNode, IsEntry}
+use Rattle.dcc_machine.specs.declared.instr.Operand.{Operand}
+use Rattle.dcc_machine.specs.declared.instr.Operand.TheVariants.{Word}
+use Rattle.dcc_machine.specs.declared.instr.Op.TheVariants.{Push, Pop, Ret}
+use Rattle.dcc_machine.specs.Access.{bytes_in}
+use Rattle.dcc_machine.specs.Successors.{next_of, op_successors}
+use Rattle.dcc_prog.specs.Trail.{StandsAt, known_ah, targets_of, instr_successors, successors, IsTrail, IsNode, IsEntry}
 use Rattle.dcc_prog.specs.FrameForm.{is_framed}
 use Rattle.dcc_prog.specs.Height.{GivesHeight, entered, gone_on, HasHeight}
 use Rattle.dcc_prog.specs.Frame.{Span, span_of, offset_in_frame, IsDirectAccess, direct, IsMovedWord, below_top, top_of, pushed, popped, IsPassedWord, passed, IsUsed, IsPiece, used, argument}

@@ -11,11 +11,11 @@ use Rattle.dcc_num.specs.declared.Width.{Width}
 use Rattle.dcc_num.specs.declared.Width.TheVariants.{Byte as byte_width, Word as word_width}
 use Rattle.dcc_num.specs.declared.Half.{Half as HalfName}
 use Rattle.dcc_num.specs.declared.Half.TheVariants.{Low, High}
-use Rattle.dcc_prog.specs.declared.image.Image.{Image}
+use Rattle.dcc_machine.specs.declared.image.Image.{Image}
 use Rattle.dcc_prog.specs.declared.procedure.Layout.{Layout}
 use Rattle.dcc_prog.specs.declared.frame.Cell.{Cell}
 use Rattle.dcc_prog.specs.declared.frame.Frame.{Frame}
-use Rattle.dcc_prog.specs.Access.{bytes_in}
+use Rattle.dcc_machine.specs.Access.{bytes_in}
 use Rattle.dcc_prog.specs.Trail.{IsEntry}
 use Rattle.dcc_prog.specs.Frame.{Span, IsPiece, IsCell, IsPlaced, by_slot}
 use Rattle.dcc_prog.specs.Analysed.{bytes_of}
@@ -24,11 +24,11 @@ use Rattle.dcc_stack.specs.Slots.{is_within}
 use Rattle.dcc_stack.proofs.FormLaws.{in-form}
 use Rattle.dcc_stack.proofs.SlotPlaces.{Has, any-tells, any-told, lt-told, within-tells, placed-decided}
 use Rattle.dcc_ir.specs.declared.syntax.Loc.TheVariants.{Cell as CellHalf}
-use Rattle.dcc_ops.specs.Place.{Place}
+use Rattle.dcc_ops.specs.OperandPlace.{OperandPlace}
 use Rattle.dcc_simulation.specs.Coupled.{Setting, AreNumbered, half_in}
 use Rattle.dcc_simulation.specs.Places.{IsFramePlace, in_half, in_cell, in_memory}
 use Rattle.dcc_simulation.specs.Laws.{PiecesHavePlaces}
-use Rattle.dcc_simulation.proofs.PieceRuns.{runs-same}
+use Rattle.dcc_simulation.proofs.PieceExtents.{extents-same}
 use Rattle.dcc_simulation.proofs.PieceCells.{piece-covered, placed-both}
 
 -- Lists.
@@ -98,7 +98,8 @@ module _ (image : Image) (layout : Layout) (entry : ℕ) where
       -- the first cell has both bytes, or neither
       same-by : (j : ℤ) → Has span j → is_within j (bytes_of cell) ≡ true → bytes_of cell ≡ span
       same-by j has_j e =
-          runs-same image layout entry (bytes_of cell) span j here.run is.run (within-tells j (bytes_of cell) e) has_j
+          extents-same image layout entry (bytes_of cell) span j here.extent is.extent (within-tells j (bytes_of cell)
+          e) has_j
 
       within : bytes_of cell ≡ span → (j : ℤ) → Has span j → is_within j (bytes_of cell) ≡ true
       within same j has_j = within-told j (bytes_of cell) (subst (λ s. Has s j) (sym same) has_j)
@@ -188,7 +189,7 @@ module _ (e : Setting) (entry : ℕ) (piece : Span) (k : ℤ) (p : IsProgramOfFi
   -- The place.
 
   abbrev HasPlace : Width → Type 0
-  HasPlace w = (place : Place) × IsFramePlace e entry k w place
+  HasPlace w = (place : OperandPlace) × IsFramePlace e entry k w place
 
   placed-place : (w : Width) → (k +ℤ pos (bytes_in w)) ≤ℤ piece.end → Placed k → HasPlace w
   placed-place w high placed = (

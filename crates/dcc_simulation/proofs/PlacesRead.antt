@@ -5,18 +5,18 @@ use Rattle.dcc_num.specs.declared.Width.{Width}
 use Rattle.dcc_num.specs.declared.Width.TheVariants.{Byte as byte_width, Word as word_width}
 use Rattle.dcc_num.specs.declared.Flags.{Flags}
 use Rattle.dcc_num.specs.Numbers.{limit_of}
-use Rattle.dcc_prog.specs.declared.instr.Ea.{Ea}
-use Rattle.dcc_prog.specs.declared.instr.Instr.{Instr}
-use Rattle.dcc_prog.specs.declared.instr.Operand.TheVariants.{Mem}
-use Rattle.dcc_prog.specs.Machine.{State as Machine, physical, offset_of, segment_of, operand_value}
-use Rattle.dcc_prog.specs.Operations.{with_flags}
-use Rattle.dcc_prog.specs.StateForm.{IsState}
-use Rattle.dcc_prog.specs.Access.{Reading, bytes_in, is_direct}
+use Rattle.dcc_machine.specs.declared.instr.Ea.{Ea}
+use Rattle.dcc_machine.specs.declared.instr.Instr.{Instr}
+use Rattle.dcc_machine.specs.declared.instr.Operand.TheVariants.{Mem}
+use Rattle.dcc_machine.specs.Machine.{State as Machine, physical, offset_of, segment_of, operand_value}
+use Rattle.dcc_machine.specs.Operations.{with_flags}
+use Rattle.dcc_machine.specs.StateForm.{IsState}
+use Rattle.dcc_machine.specs.Access.{Reading, bytes_in, is_direct}
 use Rattle.dcc_prog.specs.Frame.{memory_operand, offset_in_frame}
 use Rattle.dcc_prog.specs.Clean.{Stack, is_marked}
-use Rattle.dcc_prog.proofs.StateKept.{word-at-below}
+use Rattle.dcc_machine.proofs.StateKept.{word-at-below}
 use Rattle.dcc_ir.specs.Run.{State, value_in}
-use Rattle.dcc_ops.specs.Place.{Place, place_width, place_value}
+use Rattle.dcc_ops.specs.OperandPlace.{OperandPlace, place_width, place_value}
 use Rattle.dcc_simulation.specs.Coupled.{Setting}
 use Rattle.dcc_simulation.specs.Places.{IsFramePlace, in_half, in_cell, in_memory, IsOperandPlace, direct, elsewhere}
 use Rattle.dcc_simulation.specs.Places.{number_of}
@@ -48,7 +48,7 @@ value-small : (s : Machine) (w : Width) (ea : Ea) → IsState s → operand_valu
 value-small s byte_width ea form = form.memory (physical (segment_of s ea) (offset_of s ea))
 value-small s word_width ea form = word-at-below s (segment_of s ea) (offset_of s ea) form
 
-pub frame-wide : (e : Setting) (entry : ℕ) (k : ℤ) (w : Width) (place : Place) → IsFramePlace e entry k w place
+pub frame-wide : (e : Setting) (entry : ℕ) (k : ℤ) (w : Width) (place : OperandPlace) → IsFramePlace e entry k w place
     → place_width place ≡ w
 frame-wide e entry k _ _ (in_half in_it) = refl
 frame-wide e entry k _ _ (in_cell low high) = refl
@@ -62,7 +62,7 @@ module _ (e : Setting) (s : Machine) (stack : Stack) (instr : Instr) (ip : ℕ)
   abbrev here : Machine
   here = record s { ip = ip }
 
-  pub place-wide : (w : Width) (place : Place) → IsOperandPlace e is.stands.newest.frame.entry R here ea w place
+  pub place-wide : (w : Width) (place : OperandPlace) → IsOperandPlace e is.stands.newest.frame.entry R here ea w place
       → place_width place ≡ w
   place-wide w place (direct so at) = frame-wide e is.stands.newest.frame.entry (offset_in_frame ea) w place at
   place-wide w _ (elsewhere indirect offset) = refl
@@ -98,7 +98,7 @@ module _ (e : Setting) (s : Machine) (stack : Stack) (instr : Instr) (ip : ℕ)
         ))
         ∙ sym (ap (slice_index s.memory) address)
 
-    read-at : (place : Place) → IsOperandPlace e is.stands.newest.frame.entry R here ea w place
+    read-at : (place : OperandPlace) → IsOperandPlace e is.stands.newest.frame.entry R here ea w place
         → (flags : Flags) (t : State) → R (with_flags flags here) t
         → value_in t (place_value place) ≡ number_of w byte_of
     read-at place (direct so at) flags t c =

@@ -11,12 +11,12 @@ use Rattle.dcc_num.specs.declared.Half.TheVariants.{Low, High}
 use Rattle.dcc_num.specs.declared.Flags.{Flags}
 use Rattle.dcc_num.specs.Numbers.{limit_of, wrapped_of}
 use Rattle.dcc_prog.specs.declared.procedure.Layout.{Layout}
-use Rattle.dcc_prog.specs.declared.instr.Ea.{Ea}
-use Rattle.dcc_prog.specs.declared.instr.Instr.{Instr}
-use Rattle.dcc_prog.specs.declared.instr.Operand.TheVariants.{Mem}
-use Rattle.dcc_prog.specs.Machine.{State as Machine, physical, offset_of, segment_of, with_operand}
-use Rattle.dcc_prog.specs.Operations.{with_flags}
-use Rattle.dcc_prog.specs.Access.{Writing, Access, bytes_in, is_direct, address_in, addresses_of, stored}
+use Rattle.dcc_machine.specs.declared.instr.Ea.{Ea}
+use Rattle.dcc_machine.specs.declared.instr.Instr.{Instr}
+use Rattle.dcc_machine.specs.declared.instr.Operand.TheVariants.{Mem}
+use Rattle.dcc_machine.specs.Machine.{State as Machine, physical, offset_of, segment_of, with_operand}
+use Rattle.dcc_machine.specs.Operations.{with_flags}
+use Rattle.dcc_machine.specs.Access.{Writing, Access, bytes_in, is_direct, address_in, addresses_of, stored}
 use Rattle.dcc_prog.specs.Frame.{memory_operand, offset_in_frame}
 use Rattle.dcc_prog.specs.Clean.{Stack, stack_offset, stack_bytes, with_marks, top_in}
 use Rattle.dcc_stack.specs.Slots.{IsExposedIn, writes_memory}
@@ -25,7 +25,7 @@ use Rattle.dcc_ir.specs.declared.syntax.Loc.{Loc}
 use Rattle.dcc_ir.specs.declared.syntax.Loc.TheVariants.{Half, Flag, Cell as CellHalf, Temp}
 use Rattle.dcc_ir.specs.Tree.{Expr, Get, Address}
 use Rattle.dcc_ir.specs.Run.{State, value_in, execute, setting}
-use Rattle.dcc_ops.specs.Place.{Place, word, memory, storing, is_sound_place}
+use Rattle.dcc_ops.specs.OperandPlace.{OperandPlace, word, memory, storing, is_sound_place}
 use Rattle.dcc_ops.specs.Temporaries.{is_temporary_of}
 use Rattle.dcc_ops.proofs.CouplingLaws.{held_below}
 use Rattle.dcc_simulation.specs.Coupled.{Setting, typed_by, typed_waiting}
@@ -120,7 +120,7 @@ cell-runs number n t running small =
     highest : (m : ℕ) → m < 65536 → m / 2 ^ 8 % 2 ^ 8 ≡ m / 256
     highest m less = omega (arith, less)
 
-pub frame-runs : (e : Setting) (entry : ℕ) (k : ℤ) (w : Width) (place : Place) (from : Loc) (t : State)
+pub frame-runs : (e : Setting) (entry : ℕ) (k : ℤ) (w : Width) (place : OperandPlace) (from : Loc) (t : State)
     → IsFramePlace e entry k w place → is_temporary_of w from ≡ true → t.end ≡ Running
     → t.running.values from < limit_of w
     → execute (storing place (Get from)) t ≡ taken place (t.running.values from) t
@@ -134,7 +134,7 @@ frame-runs e entry k _ _ (CellHalf number half) t (in_cell low high) temporary r
 frame-runs e entry k w _ from t (in_memory placed) temporary running small = memory-runs w (Address (wrapped_of
     word_width (k -ℤ pos 4))) from t running
 
-pub frame-sound : (e : Setting) (entry : ℕ) (k : ℤ) (w : Width) (place : Place) → IsFramePlace e entry k w place
+pub frame-sound : (e : Setting) (entry : ℕ) (k : ℤ) (w : Width) (place : OperandPlace) → IsFramePlace e entry k w place
     → is_sound_place place ≡ true
 frame-sound e entry k _ _ (in_half in_it) = refl
 frame-sound e entry k _ _ (in_cell low high) = refl
@@ -227,7 +227,7 @@ module _ (e : Setting) (s : Machine) (stack : Stack) (instr : Instr) (w : Width)
           let one = second-apart w index less above in
           not-equal (offset index) (offset 0) (λ same. omega (arith, one, same))
 
-  written-at : (place : Place) → IsOperandPlace e is.stands.newest.frame.entry R here ea w place
+  written-at : (place : OperandPlace) → IsOperandPlace e is.stands.newest.frame.entry R here ea w place
       → (flags : Flags) (t : State) (from : Loc) → R (with_flags flags here) t → is_temporary_of w from ≡ true
       → t.running.values from < limit_of w
       → After (with_operand (with_flags flags here) (Mem w ea) (t.running.values from))
@@ -261,7 +261,7 @@ module _ (e : Setting) (s : Machine) (stack : Stack) (instr : Instr) (w : Width)
       (sym (memory-runs w at from t c.running))
       (elsewhere-written at flags t from indirect (offset flags t c) c small)
 
-  place-sound : (place : Place) → IsOperandPlace e is.stands.newest.frame.entry R here ea w place
+  place-sound : (place : OperandPlace) → IsOperandPlace e is.stands.newest.frame.entry R here ea w place
       → is_sound_place place ≡ true
   place-sound place (direct so at) = frame-sound e is.stands.newest.frame.entry (offset_in_frame ea) w place at
   place-sound _ (elsewhere indirect offset) = refl

@@ -6,22 +6,24 @@ use Rattle.dcc_run.specs.End.{is_over}
 use Rattle.dcc_num.specs.declared.Width.TheVariants.{Word as word_width}
 use Rattle.dcc_num.specs.declared.Reg.TheVariants.{Sp, Bp}
 use Rattle.dcc_num.specs.Numbers.{limit_of}
-use Rattle.dcc_prog.specs.declared.instr.Operand.{Operand}
-use Rattle.dcc_prog.specs.declared.instr.Operand.TheVariants.{Word, Byte, Seg, Mem, Const}
-use Rattle.dcc_prog.specs.declared.instr.Op.TheVariants.{Push}
-use Rattle.dcc_prog.specs.declared.instr.Instr.{Instr}
-use Rattle.dcc_prog.specs.Machine.{State as Machine, word_in, with_word_in, stack_segment, physical, operand_value}
-use Rattle.dcc_prog.specs.Operations.{after_push}
-use Rattle.dcc_prog.specs.Step.{op_step, step}
-use Rattle.dcc_prog.specs.WellFormed.{IsWordOperand, IsOperation}
-use Rattle.dcc_prog.specs.Trail.{next_of, StandsAt}
+use Rattle.dcc_machine.specs.declared.instr.Operand.{Operand}
+use Rattle.dcc_machine.specs.declared.instr.Operand.TheVariants.{Word, Byte, Seg, Mem, Const}
+use Rattle.dcc_machine.specs.declared.instr.Op.TheVariants.{Push}
+use Rattle.dcc_machine.specs.declared.instr.Instr.{Instr}
+use Rattle.dcc_machine.specs.Machine.{State as Machine, word_in, with_word_in, stack_segment, physical, operand_value}
+use Rattle.dcc_machine.specs.Operations.{after_push}
+use Rattle.dcc_machine.specs.Step.{op_step, step}
+use Rattle.dcc_machine.specs.WellFormed.{IsWordOperand, IsOperation}
+use Rattle.dcc_machine.specs.Successors.{next_of}
+use Rattle.dcc_prog.specs.Trail.{StandsAt}
 use Rattle.dcc_prog.specs.Height.{MovesHeight}
-use Rattle.dcc_prog.specs.FrameForm.{is_framed, is_sp_or_bp}
-use Rattle.dcc_prog.specs.Access.{Reading, operand_accesses, push_access, accesses}
+use Rattle.dcc_machine.specs.SpAndBp.{is_sp_or_bp}
+use Rattle.dcc_prog.specs.FrameForm.{is_framed}
+use Rattle.dcc_machine.specs.Access.{Reading, operand_accesses, push_access, accesses}
 use Rattle.dcc_prog.specs.CleanLaws.{moves_frames}
 use Rattle.dcc_prog.specs.Clean.{Stack, top_in, end_of, is_reading, with_marks, stack_bytes, stored_bytes, stack_after, sp_after}
-use Rattle.dcc_prog.proofs.LocationKept.{word-taken}
-use Rattle.dcc_prog.proofs.StateKept.{value-fits}
+use Rattle.dcc_machine.proofs.LocationKept.{word-taken}
+use Rattle.dcc_machine.proofs.StateKept.{value-fits}
 use Rattle.dcc_stack.specs.Accepted.{FrameStays, changes_frame}
 use Rattle.dcc_stack.specs.Standing.{StandsIn}
 use Rattle.dcc_stack.specs.Apart.{IsApart}
@@ -31,7 +33,7 @@ use Rattle.dcc_stack.proofs.FormLaws.{in-form}
 use Rattle.dcc_stack.proofs.StepInner.{push-height}
 use Rattle.dcc_stack.proofs.TableSteps.{IsStepOf, step-of}
 use Rattle.dcc_ir.specs.Run.{State}
-use Rattle.dcc_ops.specs.Place.{Place}
+use Rattle.dcc_ops.specs.OperandPlace.{OperandPlace}
 use Rattle.dcc_simulation.specs.Coupled.{Setting, AreCoupled}
 use Rattle.dcc_simulation.specs.Places.{IsFramePlace, taken, offsets_of, IsOfFrame}
 use Rattle.dcc_simulation.specs.Laws.{IsCleanInstruction, Within, WordsArePushed}
@@ -61,7 +63,7 @@ push-stores : (x : Operand) (s u : Machine)
 push-stores (Mem width ea) s u = refl
 push-stores x s u = refl
 
-module _ (e : Setting) (s : Machine) (stack : Stack) (instr : Instr) (x : Operand) (t : State) (place : Place)
+module _ (e : Setting) (s : Machine) (stack : Stack) (instr : Instr) (x : Operand) (t : State) (place : OperandPlace)
     (is : IsCleanInstruction e s stack instr)
     (stands :
     StandsIn e.image e.program.layout s.memory is.stands.newest (top_in e.program.layout s) (word_in s Bp))

@@ -10,10 +10,10 @@ use Rattle.dcc_num.specs.declared.Width.TheVariants.{Word as word_width}
 use Rattle.dcc_num.specs.declared.Reg.TheVariants.{Bp}
 use Rattle.dcc_prog.specs.declared.refusal.LimitName.TheVariants.{Arguments}
 use Rattle.dcc_prog.specs.declared.procedure.Node.{Node}
-use Rattle.dcc_prog.specs.declared.instr.Instr.{Instr}
-use Rattle.dcc_prog.specs.declared.instr.Op.TheVariants.{Ret as RetOp}
-use Rattle.dcc_prog.specs.Machine.{State as Machine, word_in}
-use Rattle.dcc_prog.specs.Step.{step}
+use Rattle.dcc_machine.specs.declared.instr.Instr.{Instr}
+use Rattle.dcc_machine.specs.declared.instr.Op.TheVariants.{Ret as RetOp}
+use Rattle.dcc_machine.specs.Machine.{State as Machine, word_in}
+use Rattle.dcc_machine.specs.Step.{step}
 use Rattle.dcc_prog.specs.Trail.{StandsAt, IsEntry}
 use Rattle.dcc_prog.specs.Limit.{arguments}
 use Rattle.dcc_prog.specs.Construct.{returns, entry_return}

@@ -5,17 +5,17 @@ use Rattle.dcc_num.specs.declared.Width.TheVariants.{Word as word_width}
 use Rattle.dcc_num.specs.declared.Reg.{Reg}
 use Rattle.dcc_num.specs.declared.Reg.TheVariants.{Sp}
 use Rattle.dcc_prog.specs.declared.procedure.Node.{Node}
-use Rattle.dcc_prog.specs.declared.instr.Ea.{Ea}
-use Rattle.dcc_prog.specs.declared.instr.Operand.TheVariants.{Word, Const}
-use Rattle.dcc_prog.specs.declared.instr.Op.TheVariants.{Lea}
-use Rattle.dcc_prog.specs.declared.instr.Instr.{Instr}
-use Rattle.dcc_prog.specs.Machine.{State as Machine, is_bp, offset_of}
+use Rattle.dcc_machine.specs.declared.instr.Ea.{Ea}
+use Rattle.dcc_machine.specs.declared.instr.Operand.TheVariants.{Word, Const}
+use Rattle.dcc_machine.specs.declared.instr.Op.TheVariants.{Lea}
+use Rattle.dcc_machine.specs.declared.instr.Instr.{Instr}
+use Rattle.dcc_machine.specs.Machine.{State as Machine, is_bp, offset_of, is_general}
 use Rattle.dcc_prog.specs.Frame.{by_lea}
-use Rattle.dcc_prog.specs.Step.{op_step}
-use Rattle.dcc_prog.specs.Trail.{is_general, next_of}
+use Rattle.dcc_machine.specs.Step.{op_step}
+use Rattle.dcc_machine.specs.Successors.{next_of}
 use Rattle.dcc_prog.specs.Clean.{Stack}
 use Rattle.dcc_ir.specs.Run.{State, execute}
-use Rattle.dcc_ops.specs.Place.{computed}
+use Rattle.dcc_ops.specs.OperandPlace.{computed}
 use Rattle.dcc_ops.specs.Computed.{computed_expr}
 use Rattle.dcc_ops.specs.Registers.{register_place}
 use Rattle.dcc_ops.specs.Statements.{mov_stmts}

@@ -5,25 +5,25 @@ use Rattle.dcc_run.specs.End.{is_over}
 use Rattle.dcc_num.specs.declared.Width.{Width}
 use Rattle.dcc_num.specs.declared.Width.TheVariants.{Byte as byte_width, Word as word_width}
 use Rattle.dcc_num.specs.Product.{extension_of}
-use Rattle.dcc_prog.specs.declared.image.Image.{Image}
+use Rattle.dcc_machine.specs.declared.image.Image.{Image}
 use Rattle.dcc_prog.specs.declared.procedure.Layout.{Layout}
 use Rattle.dcc_prog.specs.declared.procedure.Node.{Node}
-use Rattle.dcc_prog.specs.declared.refusal.construct.TheConstants.{DIVISION}
-use Rattle.dcc_prog.specs.declared.instr.Unary.{Unary as UnaryName}
-use Rattle.dcc_prog.specs.declared.instr.Unary.TheVariants.{Div, Idiv}
-use Rattle.dcc_prog.specs.declared.instr.Operand.{Operand}
-use Rattle.dcc_prog.specs.declared.instr.Op.TheVariants.{Unary}
-use Rattle.dcc_prog.specs.declared.instr.Instr.{Instr}
-use Rattle.dcc_prog.specs.Machine.{State as Machine, operand_width}
-use Rattle.dcc_prog.specs.Operations.{accumulator_in, upper_in}
+use Rattle.dcc_prog.specs.declared.refusal.ConstructKind.TheVariants.{Division}
+use Rattle.dcc_machine.specs.declared.instr.Unary.{Unary as UnaryName}
+use Rattle.dcc_machine.specs.declared.instr.Unary.TheVariants.{Div, Idiv}
+use Rattle.dcc_machine.specs.declared.instr.Operand.{Operand}
+use Rattle.dcc_machine.specs.declared.instr.Op.TheVariants.{Unary}
+use Rattle.dcc_machine.specs.declared.instr.Instr.{Instr}
+use Rattle.dcc_machine.specs.Machine.{State as Machine, operand_width}
+use Rattle.dcc_machine.specs.Operations.{accumulator_in, upper_in, is_division}
 use Rattle.dcc_prog.specs.Construct.{division as unprepared_division}
-use Rattle.dcc_prog.specs.FrameForm.{is_sp_or_bp, is_sp_move}
-use Rattle.dcc_prog.specs.Prepared.{is_division, IsPrepared}
+use Rattle.dcc_machine.specs.SpAndBp.{is_sp_or_bp, is_sp_move}
+use Rattle.dcc_prog.specs.Prepared.{IsPrepared}
 use Rattle.dcc_prog.specs.RunLaws.{HasUpper}
-use Rattle.dcc_prog.specs.Step.{op_step, step}
-use Rattle.dcc_prog.specs.Trail.{next_of}
-use Rattle.dcc_prog.specs.WellFormed.{IsOperand, IsOperation}
-use Rattle.dcc_prog.specs.Access.{Reading}
+use Rattle.dcc_machine.specs.Step.{op_step, step}
+use Rattle.dcc_machine.specs.Successors.{next_of}
+use Rattle.dcc_machine.specs.WellFormed.{IsOperand, IsOperation}
+use Rattle.dcc_machine.specs.Access.{Reading}
 use Rattle.dcc_prog.specs.Clean.{Stack}
 use Rattle.dcc_prog.proofs.PassedRuns.{prepared-held}
 use Rattle.dcc_stack.proofs.FormOps.{FormOf}
@@ -95,7 +95,7 @@ module _ (e : Setting) (s : Machine) (stack : Stack) (instr : Instr) (p : Proced
 
   prepared : ¬ (¬ Prepared)
   prepared none =
-      no-construct e s stack instr p node height is here DIVISION (unprepared_division (record {
+      no-construct e s stack instr p node height is here Division (unprepared_division (record {
         division = name;
         operand = x;
         stands = (instr, found-here e s stack instr p node height is here, op_is);

@@ -9,16 +9,17 @@ use Rattle.dcc_num.specs.declared.Reg.TheVariants.{Ax, Dx}
 use Rattle.dcc_num.specs.declared.Half.TheVariants.{Low, High}
 use Rattle.dcc_num.specs.declared.dos.TheConstants.{GETCHE, PUTC, GETCH, PUTS, EXIT, END_OF_INPUT}
 use Rattle.dcc_prog.specs.declared.procedure.Node.{Node}
-use Rattle.dcc_prog.specs.declared.refusal.construct.TheConstants.{DOS_NUMBER}
-use Rattle.dcc_prog.specs.declared.instr.Operand.TheVariants.{Byte, Word}
-use Rattle.dcc_prog.specs.declared.instr.Op.TheVariants.{Int21}
-use Rattle.dcc_prog.specs.declared.instr.Instr.{Instr}
-use Rattle.dcc_prog.specs.Machine.{State as Machine, word_in, with_operand}
+use Rattle.dcc_prog.specs.declared.refusal.ConstructKind.TheVariants.{DosNumber}
+use Rattle.dcc_machine.specs.declared.instr.Operand.TheVariants.{Byte, Word}
+use Rattle.dcc_machine.specs.declared.instr.Op.TheVariants.{Int21}
+use Rattle.dcc_machine.specs.declared.instr.Instr.{Instr}
+use Rattle.dcc_machine.specs.Machine.{State as Machine, word_in, with_operand, is_general}
 use Rattle.dcc_prog.specs.Construct.{is_dos_number, dos_number, other_number}
-use Rattle.dcc_prog.specs.Dos.{key_events, with_key, after_events, after_write, dos_string, dos_step}
-use Rattle.dcc_prog.specs.Step.{op_step, step}
-use Rattle.dcc_prog.specs.Trail.{is_general, next_of, known_ah}
-use Rattle.dcc_prog.specs.LocationLaws.{half_in}
+use Rattle.dcc_machine.specs.Dos.{key_events, with_key, after_events, after_write, dos_string, dos_step}
+use Rattle.dcc_machine.specs.Step.{op_step, step}
+use Rattle.dcc_machine.specs.Successors.{next_of}
+use Rattle.dcc_prog.specs.Trail.{known_ah}
+use Rattle.dcc_machine.specs.LocationLaws.{half_in}
 use Rattle.dcc_prog.specs.Clean.{Stack}
 use Rattle.dcc_prog.proofs.PassedRuns.{ah-held}
 use Rattle.dcc_ir.specs.declared.syntax.Loc.TheVariants.{Half}
@@ -232,7 +233,7 @@ module _ (e : Setting) (s : Machine) (stack : Stack) (instr : Instr) (is : IsCle
               → known_ah e.image e.program.layout is.stands.newest.before ≡ Some n → is_dos_number n ≡ true
           by true n so told = so
           by false n so told =
-              absurd (no-construct e s stack instr p node height is at DOS_NUMBER (dos_number (other_number (record {
+              absurd (no-construct e s stack instr p node height is at DosNumber (dos_number (other_number (record {
                 before = is.stands.newest.before;
                 trail = trail e s stack instr p node height is at;
                 stands = (

@@ -4,9 +4,9 @@ use Rattle.std.specs.Prelude.{slice_index}
 use Rattle.std.proofs.Math.Nat.{mod-eq_of_lt}
 use Rattle.std.proofs.lemmas.List.Elements.{All-contains}
 use Rattle.std.proofs.lemmas.List.FromFn.{length-map-range_with_len, get_or-map-range_with_len}
-use Rattle.dcc_prog.specs.declared.instr.Instr.{Instr}
-use Rattle.dcc_prog.specs.Machine.{State as Machine, physical, data_segment}
-use Rattle.dcc_prog.specs.Access.{Access, other_read, address_in, addresses_of, found_accesses}
+use Rattle.dcc_machine.specs.declared.instr.Instr.{Instr}
+use Rattle.dcc_machine.specs.Machine.{State as Machine, physical, data_segment}
+use Rattle.dcc_machine.specs.Access.{Access, other_read, address_in, addresses_of, found_accesses}
 use Rattle.dcc_prog.specs.Clean.{Stack, stack_offset, is_other, is_reading, is_exposed_byte, is_marked, top_in}
 use Rattle.dcc_stack.proofs.ApartAccesses.{Pass, IsCleanStep, clean-step}
 use Rattle.dcc_ir.specs.Run.{State}

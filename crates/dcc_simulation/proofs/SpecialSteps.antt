@@ -10,26 +10,26 @@ use Rattle.dcc_num.specs.declared.Reg.TheVariants.{Ax, Cx, Dx, Bx, Sp, Bp, Si, D
 use Rattle.dcc_num.specs.declared.Half.{Half}
 use Rattle.dcc_num.specs.declared.Half.TheVariants.{Low, High}
 use Rattle.dcc_num.specs.declared.dos.TheConstants.{PUTS}
-use Rattle.dcc_prog.specs.declared.cpu.Cpu.{Cpu}
-use Rattle.dcc_prog.specs.declared.instr.Unary.TheVariants.{Div, Idiv}
-use Rattle.dcc_prog.specs.declared.instr.Plain.TheVariants.{Xlat}
-use Rattle.dcc_prog.specs.declared.instr.Operand.{Operand}
-use Rattle.dcc_prog.specs.declared.instr.Operand.TheVariants.{Mem}
-use Rattle.dcc_prog.specs.declared.instr.Op.{Op}
-use Rattle.dcc_prog.specs.declared.instr.Op.TheVariants.{Unary, Lea, Plain, Table, Int21}
-use Rattle.dcc_prog.specs.declared.instr.Instr.{Instr}
-use Rattle.dcc_prog.specs.Machine.{State as Machine, word_in, data_segment}
-use Rattle.dcc_prog.specs.Step.{op_step, step}
-use Rattle.dcc_prog.specs.StateForm.{IsState}
-use Rattle.dcc_prog.specs.Trail.{next_of}
-use Rattle.dcc_prog.specs.WellFormed.{IsOperation}
-use Rattle.dcc_prog.specs.Writes.{is_in_pair, writes_half}
-use Rattle.dcc_prog.specs.Access.{Reading, Access, operand_accesses, other_read, string_size, accesses}
+use Rattle.dcc_machine.specs.declared.cpu.Cpu.{Cpu}
+use Rattle.dcc_machine.specs.declared.instr.Unary.TheVariants.{Div, Idiv}
+use Rattle.dcc_machine.specs.declared.instr.Plain.TheVariants.{Xlat}
+use Rattle.dcc_machine.specs.declared.instr.Operand.{Operand}
+use Rattle.dcc_machine.specs.declared.instr.Operand.TheVariants.{Mem}
+use Rattle.dcc_machine.specs.declared.instr.Op.{Op}
+use Rattle.dcc_machine.specs.declared.instr.Op.TheVariants.{Unary, Lea, Plain, Table, Int21}
+use Rattle.dcc_machine.specs.declared.instr.Instr.{Instr}
+use Rattle.dcc_machine.specs.Machine.{State as Machine, word_in, data_segment}
+use Rattle.dcc_machine.specs.Step.{op_step, step}
+use Rattle.dcc_machine.specs.StateForm.{IsState}
+use Rattle.dcc_machine.specs.Successors.{next_of}
+use Rattle.dcc_machine.specs.WellFormed.{IsOperation}
+use Rattle.dcc_machine.specs.Writes.{is_in_pair, writes_half}
+use Rattle.dcc_machine.specs.Access.{Reading, Access, operand_accesses, other_read, string_size, accesses}
 use Rattle.dcc_prog.specs.CleanLaws.{moves_frames}
 use Rattle.dcc_prog.specs.Clean.{Stack, top_in, is_reading, with_marks, stack_bytes, stack_after}
-use Rattle.dcc_prog.proofs.AlikeValues.{word-joined}
-use Rattle.dcc_prog.proofs.LocationKept.{op-half}
-use Rattle.dcc_prog.proofs.StateKept.{same-state}
+use Rattle.dcc_machine.proofs.AlikeValues.{word-joined}
+use Rattle.dcc_machine.proofs.LocationKept.{op-half}
+use Rattle.dcc_machine.proofs.StateKept.{same-state}
 use Rattle.dcc_stack.proofs.TableSteps.{IsStepOf, step-of}
 use Rattle.dcc_ir.specs.Run.{State}
 use Rattle.dcc_simulation.specs.Coupled.{Setting, AreCoupled}

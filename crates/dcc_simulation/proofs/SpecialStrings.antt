@@ -6,12 +6,12 @@ use Rattle.std.proofs.lemmas.List.FromFn.{length-map-range_with_len, get_or-map-
 use Rattle.std.proofs.lemmas.List.Sums.{take_while-cons}
 use Rattle.dcc_num.specs.declared.Reg.TheVariants.{Ax, Dx}
 use Rattle.dcc_num.specs.declared.dos.TheConstants.{PUTS, STRING_MOST}
-use Rattle.dcc_prog.specs.declared.instr.Op.TheVariants.{Int21}
-use Rattle.dcc_prog.specs.declared.instr.Instr.{Instr}
-use Rattle.dcc_prog.specs.Machine.{State as Machine, word_in, physical, data_segment}
-use Rattle.dcc_prog.specs.Dos.{bytes_from, is_not_dollar, dos_string}
-use Rattle.dcc_prog.specs.Trail.{next_of}
-use Rattle.dcc_prog.specs.Access.{Access, other_read, string_size, accesses}
+use Rattle.dcc_machine.specs.declared.instr.Op.TheVariants.{Int21}
+use Rattle.dcc_machine.specs.declared.instr.Instr.{Instr}
+use Rattle.dcc_machine.specs.Machine.{State as Machine, word_in, physical, data_segment}
+use Rattle.dcc_machine.specs.Dos.{bytes_from, is_not_dollar, dos_string}
+use Rattle.dcc_machine.specs.Successors.{next_of}
+use Rattle.dcc_machine.specs.Access.{Access, other_read, string_size, accesses}
 use Rattle.dcc_prog.specs.Clean.{Stack}
 use Rattle.dcc_ir.specs.Dos.{dos_string as inner_string}
 use Rattle.dcc_ir.specs.Run.{State}

@@ -6,28 +6,28 @@ use Rattle.std.proofs.lemmas.Bool.{cases_lt}
 use Rattle.dcc_run.specs.End.{Running}
 use Rattle.dcc_num.specs.declared.Width.TheVariants.{Word as word_width}
 use Rattle.dcc_num.specs.declared.Reg.TheVariants.{Sp}
-use Rattle.dcc_prog.specs.declared.cpu.Cpu.{Cpu}
+use Rattle.dcc_machine.specs.declared.cpu.Cpu.{Cpu}
 use Rattle.dcc_prog.specs.declared.procedure.Node.{Node}
-use Rattle.dcc_prog.specs.declared.instr.Alu.TheVariants.{Add, Sub}
-use Rattle.dcc_prog.specs.declared.instr.Unary.TheVariants.{Inc, Dec}
-use Rattle.dcc_prog.specs.declared.instr.Operand.TheVariants.{Word, Const}
-use Rattle.dcc_prog.specs.declared.instr.Op.{Op}
-use Rattle.dcc_prog.specs.declared.instr.Op.TheVariants.{Alu, Unary}
-use Rattle.dcc_prog.specs.declared.instr.Instr.{Instr}
-use Rattle.dcc_prog.specs.Machine.{State as Machine, word_in, with_word_in}
-use Rattle.dcc_prog.specs.Operations.{with_flags}
-use Rattle.dcc_prog.specs.Step.{op_step, step}
-use Rattle.dcc_prog.specs.WellFormed.{IsOperation}
-use Rattle.dcc_prog.specs.Trail.{next_of}
-use Rattle.dcc_prog.specs.FrameForm.{is_sp_move}
-use Rattle.dcc_prog.specs.Access.{accesses}
+use Rattle.dcc_machine.specs.declared.instr.Alu.TheVariants.{Add, Sub}
+use Rattle.dcc_machine.specs.declared.instr.Unary.TheVariants.{Inc, Dec}
+use Rattle.dcc_machine.specs.declared.instr.Operand.TheVariants.{Word, Const}
+use Rattle.dcc_machine.specs.declared.instr.Op.{Op}
+use Rattle.dcc_machine.specs.declared.instr.Op.TheVariants.{Alu, Unary}
+use Rattle.dcc_machine.specs.declared.instr.Instr.{Instr}
+use Rattle.dcc_machine.specs.Machine.{State as Machine, word_in, with_word_in}
+use Rattle.dcc_machine.specs.Operations.{with_flags}
+use Rattle.dcc_machine.specs.Step.{op_step, step}
+use Rattle.dcc_machine.specs.WellFormed.{IsOperation}
+use Rattle.dcc_machine.specs.Successors.{next_of}
+use Rattle.dcc_machine.specs.SpAndBp.{is_sp_move}
+use Rattle.dcc_machine.specs.Access.{accesses}
 use Rattle.dcc_prog.specs.CleanLaws.{moves_frames}
 use Rattle.dcc_prog.specs.Clean.{Stack, top_in, is_reading, with_marks, stack_bytes, stack_after}
-use Rattle.dcc_prog.proofs.LocationKept.{word-taken}
+use Rattle.dcc_machine.proofs.LocationKept.{word-taken}
 use Rattle.dcc_stack.specs.Standing.{StackStands}
 use Rattle.dcc_stack.proofs.TableSteps.{IsStepOf}
 use Rattle.dcc_ir.specs.Run.{State, execute}
-use Rattle.dcc_ops.specs.Place.{computed}
+use Rattle.dcc_ops.specs.OperandPlace.{computed}
 use Rattle.dcc_ops.specs.Computed.{computed_expr}
 use Rattle.dcc_ops.specs.Coupling.{IsCoupling, IsRead}
 use Rattle.dcc_ops.specs.Held.{IsHeld}

@@ -3,12 +3,12 @@ use Rattle.std.proofs.Common.{◌≡◌, ◌⊎◌, inl, inr, ℕ, Bool, true, f
 use Rattle.std.specs.Prelude.{if◌then◌else◌}
 use Rattle.dcc_num.specs.declared.Reg.TheVariants.{Sp}
 use Rattle.dcc_prog.specs.declared.procedure.Node.{Node}
-use Rattle.dcc_prog.specs.declared.instr.Op.{Op}
-use Rattle.dcc_prog.specs.declared.instr.Op.TheVariants.{Lea, Push, Pop}
-use Rattle.dcc_prog.specs.declared.instr.Instr.{Instr}
-use Rattle.dcc_prog.specs.Machine.{State as Machine}
-use Rattle.dcc_prog.specs.Step.{step}
-use Rattle.dcc_prog.specs.FrameForm.{is_push_bp, is_mov_bp_sp, is_enter, leaves_frame, is_sp_move}
+use Rattle.dcc_machine.specs.declared.instr.Op.{Op}
+use Rattle.dcc_machine.specs.declared.instr.Op.TheVariants.{Lea, Push, Pop}
+use Rattle.dcc_machine.specs.declared.instr.Instr.{Instr}
+use Rattle.dcc_machine.specs.Machine.{State as Machine}
+use Rattle.dcc_machine.specs.Step.{step}
+use Rattle.dcc_machine.specs.SpAndBp.{is_push_bp, is_mov_bp_sp, is_enter, leaves_frame, is_sp_move}
 use Rattle.dcc_prog.specs.Clean.{Stack, stack_after}
 use Rattle.dcc_stack.proofs.FormOps.{FormOf}
 use Rattle.dcc_ir.specs.Run.{State, execute}

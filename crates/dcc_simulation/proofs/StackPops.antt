@@ -9,21 +9,22 @@ use Rattle.dcc_num.specs.declared.Width.TheVariants.{Byte as byte_width, Word as
 use Rattle.dcc_num.specs.declared.Reg.{Reg}
 use Rattle.dcc_num.specs.declared.Reg.TheVariants.{Ax, Cx, Dx, Bx, Sp, Bp, Si, Di}
 use Rattle.dcc_prog.specs.declared.procedure.Node.{Node}
-use Rattle.dcc_prog.specs.declared.instr.Ea.{Ea}
-use Rattle.dcc_prog.specs.declared.instr.Operand.{Operand}
-use Rattle.dcc_prog.specs.declared.instr.Operand.TheVariants.{Word, Byte, Seg, Mem, Const}
-use Rattle.dcc_prog.specs.declared.instr.Op.TheVariants.{Pop}
-use Rattle.dcc_prog.specs.declared.instr.Instr.{Instr}
-use Rattle.dcc_prog.specs.Machine.{State as Machine, word_in, with_word_in, is_bp, part_of, offset_of, segment_of, with_word_at_offset, with_operand, operand_width}
-use Rattle.dcc_prog.specs.Operations.{with_sp_raised, top_word}
-use Rattle.dcc_prog.specs.Step.{op_step, step}
-use Rattle.dcc_prog.specs.WellFormed.{IsWordOperand, IsOperation}
-use Rattle.dcc_prog.specs.Trail.{next_of, StandsAt}
-use Rattle.dcc_prog.specs.FrameForm.{is_sp_or_bp}
-use Rattle.dcc_prog.specs.Access.{Reading, Writing, bytes_in, kind_of, operand_accesses, stack_access, accesses}
+use Rattle.dcc_machine.specs.declared.instr.Ea.{Ea}
+use Rattle.dcc_machine.specs.declared.instr.Operand.{Operand}
+use Rattle.dcc_machine.specs.declared.instr.Operand.TheVariants.{Word, Byte, Seg, Mem, Const}
+use Rattle.dcc_machine.specs.declared.instr.Op.TheVariants.{Pop}
+use Rattle.dcc_machine.specs.declared.instr.Instr.{Instr}
+use Rattle.dcc_machine.specs.Machine.{State as Machine, word_in, with_word_in, is_bp, part_of, offset_of, segment_of, with_word_at_offset, with_operand, operand_width}
+use Rattle.dcc_machine.specs.Operations.{with_sp_raised, top_word}
+use Rattle.dcc_machine.specs.Step.{op_step, step}
+use Rattle.dcc_machine.specs.WellFormed.{IsWordOperand, IsOperation}
+use Rattle.dcc_machine.specs.Successors.{next_of}
+use Rattle.dcc_prog.specs.Trail.{StandsAt}
+use Rattle.dcc_machine.specs.SpAndBp.{is_sp_or_bp}
+use Rattle.dcc_machine.specs.Access.{Reading, Writing, bytes_in, kind_of, operand_accesses, stack_access, accesses}
 use Rattle.dcc_prog.specs.CleanLaws.{moves_frames}
 use Rattle.dcc_prog.specs.Clean.{Stack, top_in, with_marks, stack_bytes, stored_bytes, stack_after}
-use Rattle.dcc_prog.proofs.LocationKept.{word-other}
+use Rattle.dcc_machine.proofs.LocationKept.{word-other}
 use Rattle.dcc_stack.specs.Slots.{writes_memory}
 use Rattle.dcc_stack.proofs.TableSteps.{IsStepOf}
 use Rattle.dcc_ir.specs.Run.{State, execute}

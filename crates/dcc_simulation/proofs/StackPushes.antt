@@ -4,15 +4,16 @@ use Rattle.std.specs.Prelude.{pos, neg_ℤ}
 use Rattle.std.proofs.lemmas.List.Elements.{Contains-append_left}
 use Rattle.dcc_num.specs.declared.Width.TheVariants.{Word as word_width}
 use Rattle.dcc_prog.specs.declared.procedure.Node.{Node}
-use Rattle.dcc_prog.specs.declared.instr.Operand.{Operand}
-use Rattle.dcc_prog.specs.declared.instr.Op.TheVariants.{Push}
-use Rattle.dcc_prog.specs.declared.instr.Instr.{Instr}
-use Rattle.dcc_prog.specs.Machine.{State as Machine, operand_value}
-use Rattle.dcc_prog.specs.Step.{step}
-use Rattle.dcc_prog.specs.WellFormed.{IsWordOperand, IsOperation}
-use Rattle.dcc_prog.specs.Trail.{next_of, StandsAt}
-use Rattle.dcc_prog.specs.FrameForm.{is_sp_or_bp}
-use Rattle.dcc_prog.specs.Access.{Reading, operand_accesses, push_access}
+use Rattle.dcc_machine.specs.declared.instr.Operand.{Operand}
+use Rattle.dcc_machine.specs.declared.instr.Op.TheVariants.{Push}
+use Rattle.dcc_machine.specs.declared.instr.Instr.{Instr}
+use Rattle.dcc_machine.specs.Machine.{State as Machine, operand_value}
+use Rattle.dcc_machine.specs.Step.{step}
+use Rattle.dcc_machine.specs.WellFormed.{IsWordOperand, IsOperation}
+use Rattle.dcc_machine.specs.Successors.{next_of}
+use Rattle.dcc_prog.specs.Trail.{StandsAt}
+use Rattle.dcc_machine.specs.SpAndBp.{is_sp_or_bp}
+use Rattle.dcc_machine.specs.Access.{Reading, operand_accesses, push_access}
 use Rattle.dcc_prog.specs.Clean.{Stack, stack_after}
 use Rattle.dcc_ir.specs.Run.{State, execute}
 use Rattle.dcc_ops.specs.Statements.{mov_stmts}

@@ -5,25 +5,26 @@ use Rattle.dcc_run.specs.End.{Running}
 use Rattle.dcc_num.specs.declared.Width.TheVariants.{Word as word_width}
 use Rattle.dcc_num.specs.declared.Reg.TheVariants.{Sp, Bp}
 use Rattle.dcc_num.specs.declared.Half.TheVariants.{Low}
-use Rattle.dcc_prog.specs.declared.cpu.Cpu.{Cpu}
-use Rattle.dcc_prog.specs.declared.image.Image.{Image}
+use Rattle.dcc_machine.specs.declared.cpu.Cpu.{Cpu}
+use Rattle.dcc_machine.specs.declared.image.Image.{Image}
 use Rattle.dcc_prog.specs.declared.procedure.Layout.{Layout}
 use Rattle.dcc_prog.specs.declared.procedure.Node.{Node}
-use Rattle.dcc_prog.specs.declared.instr.Operand.TheVariants.{Word}
-use Rattle.dcc_prog.specs.declared.instr.Op.{Op}
-use Rattle.dcc_prog.specs.declared.instr.Op.TheVariants.{Push, Enter}
-use Rattle.dcc_prog.specs.declared.instr.Instr.{Instr}
-use Rattle.dcc_prog.specs.Machine.{State as Machine, word_in, with_word_in, stack_segment, physical}
-use Rattle.dcc_prog.specs.Operations.{after_push, with_sp_raised}
-use Rattle.dcc_prog.specs.Step.{op_step, step}
-use Rattle.dcc_prog.specs.StateForm.{IsState}
-use Rattle.dcc_prog.specs.Trail.{next_of}
-use Rattle.dcc_prog.specs.FrameForm.{is_push_bp, is_enter, is_framed}
-use Rattle.dcc_prog.specs.Access.{push_access, accesses}
+use Rattle.dcc_machine.specs.declared.instr.Operand.TheVariants.{Word}
+use Rattle.dcc_machine.specs.declared.instr.Op.{Op}
+use Rattle.dcc_machine.specs.declared.instr.Op.TheVariants.{Push, Enter}
+use Rattle.dcc_machine.specs.declared.instr.Instr.{Instr}
+use Rattle.dcc_machine.specs.Machine.{State as Machine, word_in, with_word_in, stack_segment, physical}
+use Rattle.dcc_machine.specs.Operations.{after_push, with_sp_raised}
+use Rattle.dcc_machine.specs.Step.{op_step, step}
+use Rattle.dcc_machine.specs.StateForm.{IsState}
+use Rattle.dcc_machine.specs.Successors.{next_of}
+use Rattle.dcc_machine.specs.SpAndBp.{is_push_bp, is_enter}
+use Rattle.dcc_prog.specs.FrameForm.{is_framed}
+use Rattle.dcc_machine.specs.Access.{push_access, accesses}
 use Rattle.dcc_prog.specs.CleanLaws.{moves_frames}
 use Rattle.dcc_prog.specs.Clean.{Stack, top_in, is_reading, with_marks, stack_bytes, stack_after, sp_after}
-use Rattle.dcc_prog.proofs.LocationKept.{word-taken, word-other}
-use Rattle.dcc_prog.proofs.StateKept.{word-state, pushed-state}
+use Rattle.dcc_machine.proofs.LocationKept.{word-taken, word-other}
+use Rattle.dcc_machine.proofs.StateKept.{word-state, pushed-state}
 use Rattle.dcc_stack.specs.Accepted.{IsForm, saves, enters, pushes, moves, keeps}
 use Rattle.dcc_stack.specs.Apart.{control_size, IsApart}
 use Rattle.dcc_stack.specs.SlotLaws.{AreCarried}

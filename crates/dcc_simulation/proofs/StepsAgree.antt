@@ -3,16 +3,15 @@ use Rattle.std.specs.List.{range_with_len}
 use Rattle.std.proofs.Common.{◌≡◌, ◌≤◌, ◌<◌, ℕ, ◌+◌, ◌-◌, Bool, true, false, List, [], ◌∷◌, Some, refl, sym, ap, ◌∙◌, subst, arith}
 use Rattle.dcc_num.specs.declared.Reg.{Reg}
 use Rattle.dcc_num.specs.declared.Reg.TheVariants.{Sp, Bp}
-use Rattle.dcc_prog.specs.declared.instr.Op.{Op}
-use Rattle.dcc_prog.specs.declared.instr.Op.TheVariants.{Call, Ret}
-use Rattle.dcc_prog.specs.Machine.{State as Machine, word_in, with_word_in}
-use Rattle.dcc_prog.specs.Step.{step}
-use Rattle.dcc_prog.specs.StateForm.{IsState}
-use Rattle.dcc_prog.specs.Trail.{is_general}
+use Rattle.dcc_machine.specs.declared.instr.Op.{Op}
+use Rattle.dcc_machine.specs.declared.instr.Op.TheVariants.{Call, Ret}
+use Rattle.dcc_machine.specs.Machine.{State as Machine, word_in, with_word_in, is_general}
+use Rattle.dcc_machine.specs.Step.{step}
+use Rattle.dcc_machine.specs.StateForm.{IsState}
 use Rattle.dcc_prog.specs.Clean.{top_in, with_marks, stack_after}
 use Rattle.dcc_prog.specs.CleanLaws.{moves_frames}
-use Rattle.dcc_prog.proofs.LocationKept.{word-taken, word-other}
-use Rattle.dcc_prog.proofs.StateKept.{word-state}
+use Rattle.dcc_machine.proofs.LocationKept.{word-taken, word-other}
+use Rattle.dcc_machine.proofs.StateKept.{word-state}
 use Rattle.dcc_stack.specs.Standing.{Activation, StackStands}
 use Rattle.dcc_stack.specs.SlotLaws.{AreCarried}
 use Rattle.dcc_stack.specs.Laws.{at_next, activations_after}

@@ -4,11 +4,11 @@ use Rattle.std.specs.Prelude.{if◌then◌else◌, slice_set}
 use Rattle.std.proofs.lemmas.Bool.{eq-eqb}
 use Rattle.dcc_num.specs.declared.Width.TheVariants.{Word as word_width}
 use Rattle.dcc_num.specs.declared.Reg.TheVariants.{Sp}
-use Rattle.dcc_prog.specs.Machine.{State as Machine, word_in, with_word_in, with_word_at_offset, stack_segment, physical}
-use Rattle.dcc_prog.specs.Operations.{after_push}
-use Rattle.dcc_prog.specs.StateForm.{IsState}
-use Rattle.dcc_prog.specs.Access.{stored}
-use Rattle.dcc_prog.proofs.LocationKept.{word-taken}
+use Rattle.dcc_machine.specs.Machine.{State as Machine, word_in, with_word_in, with_word_at_offset, stack_segment, physical}
+use Rattle.dcc_machine.specs.Operations.{after_push}
+use Rattle.dcc_machine.specs.StateForm.{IsState}
+use Rattle.dcc_machine.specs.Access.{stored}
+use Rattle.dcc_machine.proofs.LocationKept.{word-taken}
 use Rattle.dcc_stack.specs.SlotLaws.{stores_at}
 use Rattle.dcc_simulation.specs.Places.{bytes_from, offsets_of}
 use Rattle.dcc_simulation.proofs.FrameBytes.{not-equal}

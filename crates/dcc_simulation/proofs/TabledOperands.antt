@@ -7,22 +7,22 @@ use Rattle.dcc_num.specs.declared.Width.{Width}
 use Rattle.dcc_num.specs.declared.Width.TheVariants.{Byte as byte_width, Word as word_width}
 use Rattle.dcc_num.specs.Numbers.{signed_of, sign_extension_of}
 use Rattle.dcc_num.proofs.Differences.{wrapped_below}
-use Rattle.dcc_prog.specs.declared.cpu.Cpu.{Cpu}
-use Rattle.dcc_prog.specs.declared.cpu.Cpu.TheVariants.{I8086, I186}
-use Rattle.dcc_prog.specs.declared.instr.Ea.{Ea}
-use Rattle.dcc_prog.specs.declared.instr.Operand.{Operand}
-use Rattle.dcc_prog.specs.declared.instr.Operand.TheVariants.{Word, Byte, Seg, Mem, Const}
-use Rattle.dcc_prog.specs.declared.instr.Op.{Op}
-use Rattle.dcc_prog.specs.declared.instr.Op.TheVariants.{Alu, Unary, Shift, Mov, Xchg, Lea, Imul3, Push, Pop}
-use Rattle.dcc_prog.specs.declared.instr.Instr.{Instr}
-use Rattle.dcc_prog.specs.Machine.{is_bp}
-use Rattle.dcc_prog.specs.Bytes.{byte_at, word_at}
-use Rattle.dcc_prog.specs.Operands.{displacement_at, register, rm_operand, mod_field, reg_field, rm_field, has_direct_address, base_registers, index_registers, address, width_of}
-use Rattle.dcc_prog.specs.Table.{Row, Parts, ConstantForm, no_constant, byte_constant, word_constant, signed_constant, constant_at, constant_index, head_length, row_parts, table, arithmetic_rows, unary_rows, stack_rows, move_rows, control_rows, plain_rows, later_rows, rows_besides, instruction_at, rm, rm8, rm16, reg, r8, r16, al, ax, accumulator, direct, destination, source}
-use Rattle.dcc_prog.specs.Construct.{is_segment, is_system}
-use Rattle.dcc_prog.proofs.TableLaws.{instruction-row}
-use Rattle.dcc_prog.proofs.WellFormedLaws.{AreBytes}
-use Rattle.dcc_prog.proofs.LocationKept.{or-none}
+use Rattle.dcc_machine.specs.declared.cpu.Cpu.{Cpu}
+use Rattle.dcc_machine.specs.declared.cpu.Cpu.TheVariants.{I8086, I186}
+use Rattle.dcc_machine.specs.declared.instr.Ea.{Ea}
+use Rattle.dcc_machine.specs.declared.instr.Operand.{Operand}
+use Rattle.dcc_machine.specs.declared.instr.Operand.TheVariants.{Word, Byte, Seg, Mem, Const}
+use Rattle.dcc_machine.specs.declared.instr.Op.{Op}
+use Rattle.dcc_machine.specs.declared.instr.Op.TheVariants.{Alu, Unary, Shift, Mov, Xchg, Lea, Imul3, Push, Pop}
+use Rattle.dcc_machine.specs.declared.instr.Instr.{Instr}
+use Rattle.dcc_machine.specs.Machine.{is_bp, is_segment}
+use Rattle.dcc_machine.specs.Bytes.{byte_at, word_at}
+use Rattle.dcc_machine.specs.Operands.{displacement_at, register, rm_operand, mod_field, reg_field, rm_field, has_direct_address, base_registers, index_registers, address, width_of}
+use Rattle.dcc_machine.specs.Table.{Row, Parts, ConstantForm, no_constant, byte_constant, word_constant, signed_constant, constant_at, constant_index, head_length, row_parts, table, arithmetic_rows, unary_rows, stack_rows, move_rows, control_rows, plain_rows, later_rows, rows_besides, instruction_at, rm, rm8, rm16, reg, r8, r16, al, ax, accumulator, direct, destination, source}
+use Rattle.dcc_prog.specs.Construct.{is_system}
+use Rattle.dcc_machine.proofs.TableLaws.{instruction-row}
+use Rattle.dcc_machine.proofs.WellFormedLaws.{AreBytes}
+use Rattle.dcc_machine.proofs.LocationKept.{or-none}
 use Rattle.dcc_stack.specs.Slots.{is_memory}
 use Rattle.dcc_simulation.specs.Places.{is_plain, IsPlainAddress}
 

@@ -7,18 +7,21 @@ use Rattle.std.proofs.Math.Nat.{mod-eq_of_lt}
 use Rattle.dcc_num.specs.declared.Width.TheVariants.{Word as word_width}
 use Rattle.dcc_num.specs.declared.Flags.{Flags}
 use Rattle.dcc_num.specs.declared.Reg.TheVariants.{Sp, Bp}
-use Rattle.dcc_prog.specs.declared.instr.Operand.{Operand}
-use Rattle.dcc_prog.specs.declared.instr.Operand.TheVariants.{Word}
-use Rattle.dcc_prog.specs.declared.instr.Op.TheVariants.{Pop}
-use Rattle.dcc_prog.specs.declared.instr.Instr.{Instr}
-use Rattle.dcc_prog.specs.Machine.{State as Machine, word_in, stack_segment, physical}
-use Rattle.dcc_prog.specs.Operations.{with_flags, with_sp_raised, top_word}
-use Rattle.dcc_prog.specs.Trail.{next_of, StandsAt}
+use Rattle.dcc_machine.specs.declared.instr.Operand.{Operand}
+use Rattle.dcc_machine.specs.declared.instr.Operand.TheVariants.{Word}
+use Rattle.dcc_machine.specs.declared.instr.Op.TheVariants.{Pop}
+use Rattle.dcc_machine.specs.declared.instr.Instr.{Instr}
+use Rattle.dcc_machine.specs.Machine.{State as Machine, word_in, stack_segment, physical}
+use Rattle.dcc_machine.specs.Operations.{with_flags, with_sp_raised, top_word}
+use Rattle.dcc_machine.specs.Successors.{next_of}
+use Rattle.dcc_prog.specs.Trail.{StandsAt}
 use Rattle.dcc_prog.specs.Height.{MovesHeight}
-use Rattle.dcc_prog.specs.FrameForm.{is_framed, is_sp_or_bp}
-use Rattle.dcc_prog.specs.Access.{Reading, Writing, stack_access, operand_accesses, accesses, address_in, addresses_of}
+use Rattle.dcc_machine.specs.SpAndBp.{is_sp_or_bp}
+use Rattle.dcc_prog.specs.FrameForm.{is_framed}
+use Rattle.dcc_machine.specs.Access.{Reading, Writing, stack_access, operand_accesses, accesses, address_in}
+use Rattle.dcc_machine.specs.Access.{addresses_of}
 use Rattle.dcc_prog.specs.Clean.{Stack, top_in, end_of, is_reading, is_marked, stack_offset}
-use Rattle.dcc_prog.proofs.StateKept.{same-state, word-at-below}
+use Rattle.dcc_machine.proofs.StateKept.{same-state, word-at-below}
 use Rattle.dcc_stack.specs.Accepted.{FrameStays, changes_frame}
 use Rattle.dcc_stack.specs.Standing.{StandsIn}
 use Rattle.dcc_stack.specs.Apart.{IsApart}
@@ -28,7 +31,7 @@ use Rattle.dcc_stack.proofs.FormLaws.{in-form}
 use Rattle.dcc_stack.proofs.SlotFrames.{parts-low}
 use Rattle.dcc_stack.proofs.StepInner.{pop-height}
 use Rattle.dcc_ir.specs.Run.{State, value_in}
-use Rattle.dcc_ops.specs.Place.{Place, place_value}
+use Rattle.dcc_ops.specs.OperandPlace.{OperandPlace, place_value}
 use Rattle.dcc_simulation.specs.Coupled.{Setting}
 use Rattle.dcc_simulation.specs.Places.{IsFramePlace, IsOfFrame}
 use Rattle.dcc_simulation.specs.Laws.{IsCleanInstruction, Within}
@@ -128,7 +131,7 @@ module _ (e : Setting) (s : Machine) (stack : Stack) (instr : Instr) (x : Operan
       ∙ stack-offset layout (top + index) (omega (arith, inside)) (high-at index less))
 
   -- the word at the top of the stack is read at its place, whatever the flags are
-  pub top-read : (flags : Flags) (t : State) (place : Place) → Within is stack.written (with_flags flags here) t
+  pub top-read : (flags : Flags) (t : State) (place : OperandPlace) → Within is stack.written (with_flags flags here) t
       → IsFramePlace e is.stands.newest.frame.entry (pos 2 -ℤ pos stands.height) word_width place
       → value_in t (place_value place) ≡ top_word here
   top-read flags t place before at =

@@ -6,15 +6,15 @@ use Rattle.dcc_run.specs.End.{Running}
 use Rattle.dcc_num.specs.declared.Width.TheVariants.{Word as word_width}
 use Rattle.dcc_num.specs.declared.Half.TheVariants.{Low, High}
 use Rattle.dcc_num.specs.Numbers.{limit_of}
-use Rattle.dcc_prog.specs.declared.instr.Operand.{Operand}
-use Rattle.dcc_prog.specs.Machine.{State as Machine, operand_value, operand_width}
+use Rattle.dcc_machine.specs.declared.instr.Operand.{Operand}
+use Rattle.dcc_machine.specs.Machine.{State as Machine, operand_value, operand_width}
 use Rattle.dcc_ir.specs.declared.syntax.Loc.{Loc}
 use Rattle.dcc_ir.specs.declared.syntax.Loc.TheVariants.{Half, Flag, Cell as CellHalf, Temp}
 use Rattle.dcc_ir.specs.Location.{Values, location_width, with_value}
 use Rattle.dcc_ir.specs.Run.{State, setting, execute}
 use Rattle.dcc_ir.proofs.ExecuteLaws.{execute-append}
 use Rattle.dcc_ops.specs.Temporaries.{left_place}
-use Rattle.dcc_ops.specs.Place.{Place, constant, byte, word, memory, address, computed, taking, storing, is_low, is_high, is_sound_place}
+use Rattle.dcc_ops.specs.OperandPlace.{OperandPlace, constant, byte, word, memory, address, computed, taking, storing, is_low, is_high, is_sound_place}
 use Rattle.dcc_ops.specs.Expressions.{left}
 use Rattle.dcc_ops.specs.Statements.{mov_stmts}
 use Rattle.dcc_ops.specs.Coupling.{Relation, IsCoupling, IsRead}
@@ -49,7 +49,7 @@ high-byte : (high low v : ℕ) → low < 256 → high * 256 + low ≡ v → high
 high-byte high low v small is = omega (arith, small, is)
 
 -- the place takes a value in a state that the relation holds of too
-pub record IsMoved (R : Relation) (s : Machine) (place : Place) (v : ℕ) (after : State) : Type 0 where
+pub record IsMoved (R : Relation) (s : Machine) (place : OperandPlace) (v : ℕ) (after : State) : Type 0 where
   pub from : State
   pub stands : R s from
   pub is : after ≡ taken place v from
@@ -79,7 +79,7 @@ module _ (R : Relation) (coupling : IsCoupling R) (s : Machine) (x : Operand) (w
       (high-byte (values h) (values l) v small whole) (low-byte (values h) (values l) v small whole)
 
   module _ (e : Setting) (entry : ℕ) (k : ℤ) where
-    through : (p q : Place) → IsFramePlace e entry k word_width p → IsRead R s x q
+    through : (p q : OperandPlace) → IsFramePlace e entry k word_width p → IsRead R s x q
         → IsMoved R s p (operand_value s x)
         (execute (taking (left_place word_width) q ∷ storing p (left word_width)) t)
     through p q at read =
@@ -100,7 +100,8 @@ module _ (R : Relation) (coupling : IsCoupling R) (s : Machine) (x : Operand) (w
               ∙ ap (λ n. taken p n u) held;
         }
 
-    pub word-moved : (p q : Place) → IsFramePlace e entry k word_width p → IsRead R s x q → is_sound_place q ≡ true
+    pub word-moved : (p q : OperandPlace) → IsFramePlace e entry k word_width p → IsRead R s x q → is_sound_place q
+        ≡ true
         → IsMoved R s p (operand_value s x) (execute (mov_stmts word_width p q) t)
     word-moved _ (word l h) (in_cell {number = number} low high) read sound =
         record { from = t; stands = rel; is = halves-moved number l h read sound }

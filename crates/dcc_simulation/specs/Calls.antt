@@ -4,8 +4,7 @@ use Rattle.dcc_run.specs.End.{Running}
 use Rattle.dcc_num.specs.declared.Reg.{Reg}
 use Rattle.dcc_num.specs.declared.Half.{Half as HalfName}
 use Rattle.dcc_num.specs.declared.FlagName.{FlagName}
-use Rattle.dcc_prog.specs.Machine.{State as Machine}
-use Rattle.dcc_prog.specs.Trail.{is_general}
+use Rattle.dcc_machine.specs.Machine.{State as Machine, is_general}
 use Rattle.dcc_prog.specs.Frame.{IsPlaced}
 use Rattle.dcc_prog.specs.Clean.{is_marked}
 use Rattle.dcc_stack.specs.Standing.{Activation}

@@ -7,12 +7,12 @@ use Rattle.std.specs.Ordering.{int_eq}
 use Rattle.dcc_run.specs.End.{Running}
 use Rattle.dcc_num.specs.declared.Reg.{Reg}
 use Rattle.dcc_num.specs.declared.Half.TheVariants.{Low, High}
-use Rattle.dcc_prog.specs.declared.cpu.Cpu.{Cpu}
-use Rattle.dcc_prog.specs.declared.image.Image.{Image}
+use Rattle.dcc_machine.specs.declared.cpu.Cpu.{Cpu}
+use Rattle.dcc_machine.specs.declared.image.Image.{Image}
 use Rattle.dcc_prog.specs.declared.frame.Cell.{Cell}
 use Rattle.dcc_prog.specs.declared.frame.Program.{Program}
-use Rattle.dcc_prog.specs.Machine.{State as Machine, word_in}
-use Rattle.dcc_prog.specs.Trail.{is_general, IsEntry}
+use Rattle.dcc_machine.specs.Machine.{State as Machine, word_in, is_general}
+use Rattle.dcc_prog.specs.Trail.{IsEntry}
 use Rattle.dcc_prog.specs.Frame.{Span, IsCell, IsExposedSlot}
 use Rattle.dcc_prog.specs.Analysed.{bytes_of}
 use Rattle.dcc_prog.specs.Clean.{Stack, top_in}

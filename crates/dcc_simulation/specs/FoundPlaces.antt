@@ -2,11 +2,11 @@
 use Rattle.std.specs.Prelude.{◌≡◌, ℕ, ℤ, pos, ◌+ℤ◌, ◌-ℤ◌, ◌≤ℤ◌, neg_ℤ, false, List, Some}
 use Rattle.dcc_num.specs.declared.Width.{Width}
 use Rattle.dcc_num.specs.declared.Width.TheVariants.{Word as word_width}
-use Rattle.dcc_prog.specs.declared.instr.Operand.{Operand}
-use Rattle.dcc_prog.specs.declared.instr.Op.TheVariants.{Push, Pop}
+use Rattle.dcc_machine.specs.declared.instr.Operand.{Operand}
+use Rattle.dcc_machine.specs.declared.instr.Op.TheVariants.{Push, Pop}
 use Rattle.dcc_prog.specs.Trail.{StandsAt, IsEntry}
-use Rattle.dcc_prog.specs.FrameForm.{is_sp_or_bp}
-use Rattle.dcc_prog.specs.Access.{bytes_in}
+use Rattle.dcc_machine.specs.SpAndBp.{is_sp_or_bp}
+use Rattle.dcc_machine.specs.Access.{bytes_in}
 use Rattle.dcc_prog.specs.Frame.{Span, IsPiece}
 use Rattle.dcc_stack.specs.Accepted.{IsAt}
 use Rattle.dcc_simulation.specs.Coupled.{Setting, AreNumbered}

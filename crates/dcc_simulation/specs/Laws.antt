@@ -9,17 +9,19 @@ use Rattle.dcc_num.specs.declared.Reg.{Reg}
 use Rattle.dcc_num.specs.declared.Reg.TheVariants.{Sp, Bp}
 use Rattle.dcc_num.specs.declared.Flags.{Flags}
 use Rattle.dcc_num.specs.Numbers.{limit_of, wrapped_of}
-use Rattle.dcc_prog.specs.declared.instr.Ea.{Ea}
-use Rattle.dcc_prog.specs.declared.instr.Operand.{Operand}
-use Rattle.dcc_prog.specs.declared.instr.Operand.TheVariants.{Mem}
-use Rattle.dcc_prog.specs.declared.instr.Op.TheVariants.{Push, Call, Ret}
-use Rattle.dcc_prog.specs.declared.instr.Instr.{Instr}
-use Rattle.dcc_prog.specs.Machine.{State as Machine, word_in, with_word_in, is_bp, segment_of, offset_of, operand_value}
-use Rattle.dcc_prog.specs.Operations.{with_flags}
-use Rattle.dcc_prog.specs.FrameForm.{is_mov_bp_sp, is_sp_or_bp, leaves_frame}
-use Rattle.dcc_prog.specs.Step.{step}
-use Rattle.dcc_prog.specs.Trail.{is_general, instruction_in, next_of, IsEntry}
-use Rattle.dcc_prog.specs.Access.{Direction, Reading, Writing, Access, bytes_in, kind_of, found_accesses, stored}
+use Rattle.dcc_machine.specs.declared.instr.Ea.{Ea}
+use Rattle.dcc_machine.specs.declared.instr.Operand.{Operand}
+use Rattle.dcc_machine.specs.declared.instr.Operand.TheVariants.{Mem}
+use Rattle.dcc_machine.specs.declared.instr.Op.TheVariants.{Push, Call, Ret}
+use Rattle.dcc_machine.specs.declared.instr.Instr.{Instr}
+use Rattle.dcc_machine.specs.Machine.{State as Machine, word_in, with_word_in, is_bp, segment_of, offset_of}
+use Rattle.dcc_machine.specs.Machine.{operand_value, is_general}
+use Rattle.dcc_machine.specs.Operations.{with_flags}
+use Rattle.dcc_machine.specs.SpAndBp.{is_mov_bp_sp, is_sp_or_bp, leaves_frame}
+use Rattle.dcc_machine.specs.Step.{step}
+use Rattle.dcc_machine.specs.Successors.{next_of}
+use Rattle.dcc_prog.specs.Trail.{instruction_in, IsEntry}
+use Rattle.dcc_machine.specs.Access.{Direction, Reading, Writing, Access, bytes_in, kind_of, found_accesses, stored}
 use Rattle.dcc_prog.specs.Frame.{Span, memory_operand, offset_in_frame, IsPiece, StartsExposure}
 use Rattle.dcc_prog.specs.Clean.{Stack, top_in, is_marked, stack_bytes, stored_bytes, with_marks, foul_of, stack_after}
 use Rattle.dcc_prog.specs.CleanLaws.{moves_frames}
@@ -30,7 +32,7 @@ use Rattle.dcc_stack.specs.SlotLaws.{stores_at, marks_at}
 use Rattle.dcc_ir.specs.declared.syntax.Loc.TheVariants.{Half}
 use Rattle.dcc_ir.specs.Tree.{Expr}
 use Rattle.dcc_ir.specs.Run.{State, value_in, execute}
-use Rattle.dcc_ops.specs.Place.{Place, place_value}
+use Rattle.dcc_ops.specs.OperandPlace.{OperandPlace, place_value}
 use Rattle.dcc_ops.specs.Coupling.{Relation, HoldFlags, IsCoupling, IsRead, IsWritten}
 use Rattle.dcc_ops.specs.Performed.{Stands}
 use Rattle.dcc_ops.specs.Statements.{op_stmts}
@@ -66,7 +68,7 @@ RunsBegin =
 abbrev pub FramesAreRead : Type 0
 FramesAreRead =
     (e : Setting) (a : Activation) (callers : List Activation) (written : List Bool) (s : Machine) (t : State)
-    (w : Width) (k : ℤ) (first : ℕ) (place : Place) → Coupled e a callers written s t
+    (w : Width) (k : ℤ) (first : ℕ) (place : OperandPlace) → Coupled e a callers written s t
     → IsOfFrame e a (top_in e.program.layout s) k w first
     → ((index : ℕ) → index < bytes_in w → is_marked written (first + index) ≡ true)
     → IsFramePlace e a.frame.entry k w place
@@ -78,7 +80,7 @@ FramesAreRead =
 abbrev pub FramesAreWritten : Type 0
 FramesAreWritten =
     (e : Setting) (a : Activation) (callers : List Activation) (written : List Bool) (s : Machine) (t : State)
-    (w : Width) (k : ℤ) (first : ℕ) (place : Place) (v : ℕ) → AreNumbered e → Coupled e a callers written s t
+    (w : Width) (k : ℤ) (first : ℕ) (place : OperandPlace) (v : ℕ) → AreNumbered e → Coupled e a callers written s t
     → IsOfFrame e a (top_in e.program.layout s) k w first
     → ((index : ℕ) → index < bytes_in w → a.frame.base ≤ first + index
     → IsChangeable e.image e.program.layout a.frame (first + index))
@@ -98,7 +100,7 @@ PiecesHavePlaces =
     (e : Setting) (entry : ℕ) (piece : Span) (w : Width) (k : ℤ) → IsProgramOfFile e.cpu e.image e.program
     → AreNumbered e → IsEntry e.image e.program.layout entry → IsPiece e.image e.program.layout entry piece
     → piece.first ≤ℤ k → (k +ℤ pos (bytes_in w)) ≤ℤ piece.end
-    → (place : Place) × IsFramePlace e entry k w place
+    → (place : OperandPlace) × IsFramePlace e entry k w place
 
 -- One instruction.
 
@@ -136,7 +138,7 @@ module _ {e : Setting} {s : Machine} {stack : Stack} {instr : Instr} (is : IsCle
 -- a memory operand that a clean instruction reads is read at its place
 abbrev pub OperandsAreRead : Type 0
 OperandsAreRead =
-    (e : Setting) (s : Machine) (stack : Stack) (instr : Instr) (w : Width) (ea : Ea) (place : Place) (ip : ℕ)
+    (e : Setting) (s : Machine) (stack : Stack) (instr : Instr) (w : Width) (ea : Ea) (place : OperandPlace) (ip : ℕ)
     (is : IsCleanInstruction e s stack instr) → memory_operand instr.op ≡ Some (w, ea) → Makes is Reading w ea
     → IsOperandPlace e is.stands.newest.frame.entry (Within is stack.written) (record s { ip = ip }) ea w place
     → IsRead (Within is stack.written) (record s { ip = ip }) (Mem w ea) place
@@ -144,7 +146,7 @@ OperandsAreRead =
 -- a memory operand that a clean instruction writes is written at its place
 abbrev pub OperandsAreWritten : Type 0
 OperandsAreWritten =
-    (e : Setting) (s : Machine) (stack : Stack) (instr : Instr) (w : Width) (ea : Ea) (place : Place) (ip : ℕ)
+    (e : Setting) (s : Machine) (stack : Stack) (instr : Instr) (w : Width) (ea : Ea) (place : OperandPlace) (ip : ℕ)
     (is : IsCleanInstruction e s stack instr) → memory_operand instr.op ≡ Some (w, ea)
     → writes_memory instr.op ≡ true → Makes is Writing w ea
     → IsOperandPlace e is.stands.newest.frame.entry (Within is stack.written) (record s { ip = ip }) ea w place
@@ -217,7 +219,7 @@ StepsAgree =
 -- runs agree at the next instruction.
 abbrev pub OperationsAgree : Type 0
 OperationsAgree =
-    (e : Setting) (s : Machine) (stack : Stack) (instr : Instr) (t : State) (number : Option ℕ) (p q : Place)
+    (e : Setting) (s : Machine) (stack : Stack) (instr : Instr) (t : State) (number : Option ℕ) (p q : OperandPlace)
     (is : IsCleanInstruction e s stack instr) → moves_frames instr.op ≡ false
     → top_in e.program.layout (step e.program.layout.cpu s) ≡ top_in e.program.layout s
     → Stands (Within is stack.written)
@@ -233,7 +235,7 @@ OperationsAgree =
 -- operand, at its place.
 abbrev pub WordsArePushed : Type 0
 WordsArePushed =
-    (e : Setting) (s : Machine) (stack : Stack) (instr : Instr) (x : Operand) (t : State) (place : Place)
+    (e : Setting) (s : Machine) (stack : Stack) (instr : Instr) (x : Operand) (t : State) (place : OperandPlace)
     (is : IsCleanInstruction e s stack instr)
     (stands :
     StandsIn e.image e.program.layout s.memory is.stands.newest (top_in e.program.layout s) (word_in s Bp))

@@ -8,10 +8,10 @@ use Rattle.dcc_num.specs.declared.Reg.TheVariants.{Bp}
 use Rattle.dcc_prog.specs.declared.procedure.Node.{Node}
 use Rattle.dcc_prog.specs.declared.frame.Cell.{Cell}
 use Rattle.dcc_prog.specs.declared.frame.Program.{Program}
-use Rattle.dcc_prog.specs.declared.instr.Instr.{Instr}
-use Rattle.dcc_prog.specs.declared.instr.Op.TheVariants.{Call, Ret}
-use Rattle.dcc_prog.specs.Machine.{State as Machine, word_in}
-use Rattle.dcc_prog.specs.Step.{step}
+use Rattle.dcc_machine.specs.declared.instr.Instr.{Instr}
+use Rattle.dcc_machine.specs.declared.instr.Op.TheVariants.{Call, Ret}
+use Rattle.dcc_machine.specs.Machine.{State as Machine, word_in}
+use Rattle.dcc_machine.specs.Step.{step}
 use Rattle.dcc_prog.specs.Clean.{Stack, top_in, stack_after}
 use Rattle.dcc_prog.specs.CleanLaws.{moves_frames}
 use Rattle.dcc_stack.specs.Accepted.{IsAt, IsProgramOfFile}

@@ -5,16 +5,16 @@ use Rattle.dcc_num.specs.declared.Width.{Width}
 use Rattle.dcc_num.specs.declared.Width.TheVariants.{Word as word_width}
 use Rattle.dcc_num.specs.declared.Reg.TheVariants.{Sp, Bp}
 use Rattle.dcc_num.specs.Numbers.{wrapped_of}
-use Rattle.dcc_prog.specs.declared.instr.Ea.{Ea}
-use Rattle.dcc_prog.specs.declared.instr.Operand.{Operand}
-use Rattle.dcc_prog.specs.declared.instr.Operand.TheVariants.{Word, Mem}
-use Rattle.dcc_prog.specs.declared.instr.Op.{Op}
-use Rattle.dcc_prog.specs.declared.instr.Op.TheVariants.{Alu, Unary, Shift, Mov, Xchg, Imul3}
-use Rattle.dcc_prog.specs.Machine.{is_bp}
-use Rattle.dcc_prog.specs.Access.{is_direct}
+use Rattle.dcc_machine.specs.declared.instr.Ea.{Ea}
+use Rattle.dcc_machine.specs.declared.instr.Operand.{Operand}
+use Rattle.dcc_machine.specs.declared.instr.Operand.TheVariants.{Word, Mem}
+use Rattle.dcc_machine.specs.declared.instr.Op.{Op}
+use Rattle.dcc_machine.specs.declared.instr.Op.TheVariants.{Alu, Unary, Shift, Mov, Xchg, Imul3}
+use Rattle.dcc_machine.specs.Machine.{is_bp}
+use Rattle.dcc_machine.specs.Access.{is_direct}
 use Rattle.dcc_prog.specs.Frame.{offset_in_frame}
-use Rattle.dcc_ops.specs.declared.place.Computed.{Computed}
-use Rattle.dcc_ops.specs.Place.{Place, constant, memory, computed}
+use Rattle.dcc_ops.specs.declared.operand_place.Computed.{Computed}
+use Rattle.dcc_ops.specs.OperandPlace.{OperandPlace, constant, memory, computed}
 use Rattle.dcc_ops.specs.Computed.{computed_expr}
 use Rattle.dcc_ops.specs.Registers.{register_place}
 use Rattle.dcc_simulation.specs.Procedures.{Procedure, distance_of, frame_place}
@@ -44,12 +44,12 @@ frame_pointer height = from_frame (pos 2 -ℤ pos height) (pos height -ℤ pos 2
 -- Operands.
 
 -- a direct access to the frame is told by the frame; all other memory stands at its address
-abbrev pub memory_place : Procedure → Width → Ea → Place
+abbrev pub memory_place : Procedure → Width → Ea → OperandPlace
 memory_place p width ea =
     if is_direct ea then frame_place p width (offset_in_frame ea)
     else memory width (computed_expr (address_of ea))
 
-abbrev pub operand_place : Procedure → ℕ → Operand → Place
+abbrev pub operand_place : Procedure → ℕ → Operand → OperandPlace
 operand_place p height (Mem width ea) = memory_place p width ea
 operand_place p height (Word Sp) = computed (computed_expr (stack_pointer p height))
 operand_place p height (Word Bp) = computed (computed_expr (frame_pointer height))
@@ -57,10 +57,10 @@ operand_place p height operand = register_place operand
 
 -- The places of an operation's first and second operand.
 
-abbrev pub no_place : Place
+abbrev pub no_place : OperandPlace
 no_place = constant word_width 0
 
-abbrev pub first_place : Procedure → ℕ → Op → Place
+abbrev pub first_place : Procedure → ℕ → Op → OperandPlace
 first_place p height (Alu operation a b) = operand_place p height a
 first_place p height (Unary operation a) = operand_place p height a
 first_place p height (Shift operation a count) = operand_place p height a
@@ -69,7 +69,7 @@ first_place p height (Xchg a b) = operand_place p height a
 first_place p height (Imul3 r a factor) = operand_place p height a
 first_place p height op = no_place
 
-abbrev pub second_place : Procedure → ℕ → Op → Place
+abbrev pub second_place : Procedure → ℕ → Op → OperandPlace
 second_place p height (Alu operation a b) = operand_place p height b
 second_place p height (Mov to from) = operand_place p height from
 second_place p height (Xchg a b) = operand_place p height b

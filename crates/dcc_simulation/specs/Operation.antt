@@ -1,13 +1,13 @@
 -- Operations whose statements take their operands from their places, and put their result there.
 use Rattle.std.specs.Prelude.{◌≡◌, ℕ, Bool, true, false, not, ◌&&◌, ◌||◌}
 use Rattle.dcc_prog.specs.declared.procedure.Node.{Node}
-use Rattle.dcc_prog.specs.declared.instr.Op.{Op}
-use Rattle.dcc_prog.specs.declared.instr.Op.TheVariants.{Alu, Unary, Shift, Mov, Xchg, Imul3, Plain, Jump, Branch, Loop}
-use Rattle.dcc_prog.specs.declared.instr.Op.TheVariants.{LoopE, LoopNe, Jcxz}
-use Rattle.dcc_prog.specs.declared.instr.Instr.{Instr}
-use Rattle.dcc_prog.specs.Machine.{State as Machine}
-use Rattle.dcc_prog.specs.Prepared.{is_division}
-use Rattle.dcc_prog.specs.FrameForm.{is_sp_move}
+use Rattle.dcc_machine.specs.declared.instr.Op.{Op}
+use Rattle.dcc_machine.specs.declared.instr.Op.TheVariants.{Alu, Unary, Shift, Mov, Xchg, Imul3, Plain, Jump, Branch}
+use Rattle.dcc_machine.specs.declared.instr.Op.TheVariants.{Loop, LoopE, LoopNe, Jcxz}
+use Rattle.dcc_machine.specs.declared.instr.Instr.{Instr}
+use Rattle.dcc_machine.specs.Machine.{State as Machine}
+use Rattle.dcc_machine.specs.Operations.{is_division}
+use Rattle.dcc_machine.specs.SpAndBp.{is_sp_move}
 use Rattle.dcc_prog.specs.Clean.{Stack}
 use Rattle.dcc_ir.specs.Run.{State, execute}
 use Rattle.dcc_ops.specs.Performed.{is_xlat}

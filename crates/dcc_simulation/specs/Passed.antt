@@ -2,15 +2,15 @@
 use Rattle.std.specs.Prelude.{ℕ, ◌+◌, ◌*◌, pos, true, List, ◌++◌, map}
 use Rattle.std.specs.List.{range_with_len}
 use Rattle.dcc_num.specs.declared.Width.TheVariants.{Word as word_width}
-use Rattle.dcc_prog.specs.declared.instr.Op.{Op}
-use Rattle.dcc_prog.specs.declared.instr.Op.TheVariants.{Table, Ret as RetOp}
+use Rattle.dcc_machine.specs.declared.instr.Op.{Op}
+use Rattle.dcc_machine.specs.declared.instr.Op.TheVariants.{Table, Ret as RetOp}
 use Rattle.dcc_ir.specs.declared.syntax.BinOp.TheVariants.{Shr}
 use Rattle.dcc_ir.specs.declared.syntax.Put.{Put}
 use Rattle.dcc_ir.specs.declared.syntax.Put.TheVariants.{Memory, Two}
 use Rattle.dcc_ir.specs.declared.syntax.Param.{Param}
 use Rattle.dcc_ir.specs.Tree.{Expr, Const, Get, Binary, Exit, Switch, Ret}
 use Rattle.dcc_ir.specs.Passing.{passed, param_of, bytes_of}
-use Rattle.dcc_ops.specs.Place.{Place, word}
+use Rattle.dcc_ops.specs.OperandPlace.{OperandPlace, word}
 use Rattle.dcc_ops.specs.Expressions.{word_of}
 use Rattle.dcc_ops.specs.Statements.{op_test, exit_to}
 use Rattle.dcc_simulation.specs.Procedures.{Procedure, frame_place, given_back}
@@ -18,7 +18,7 @@ use Rattle.dcc_simulation.specs.Procedures.{Procedure, frame_place, given_back}
 -- Params.
 
 -- an argument word goes to its cell, or to memory, where it then stands
-abbrev pub put_of : Place → Put
+abbrev pub put_of : OperandPlace → Put
 put_of (word low high) = Two low high
 put_of place = Memory
 

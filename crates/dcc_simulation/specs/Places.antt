@@ -10,11 +10,10 @@ use Rattle.dcc_num.specs.declared.Reg.{Reg}
 use Rattle.dcc_num.specs.declared.Half.{Half as HalfName}
 use Rattle.dcc_num.specs.declared.Half.TheVariants.{Low, High}
 use Rattle.dcc_num.specs.Numbers.{bits_of, wrapped_of}
-use Rattle.dcc_prog.specs.declared.instr.Ea.{Ea}
-use Rattle.dcc_prog.specs.Machine.{State as Machine, is_bp, offset_of}
-use Rattle.dcc_prog.specs.Operations.{with_flags}
-use Rattle.dcc_prog.specs.Trail.{is_general}
-use Rattle.dcc_prog.specs.Access.{bytes_in, is_direct}
+use Rattle.dcc_machine.specs.declared.instr.Ea.{Ea}
+use Rattle.dcc_machine.specs.Machine.{State as Machine, is_bp, offset_of, is_general}
+use Rattle.dcc_machine.specs.Operations.{with_flags}
+use Rattle.dcc_machine.specs.Access.{bytes_in, is_direct}
 use Rattle.dcc_prog.specs.Frame.{offset_in_frame, IsPlaced}
 use Rattle.dcc_prog.specs.Clean.{end_of}
 use Rattle.dcc_stack.specs.Standing.{Activation}
@@ -24,7 +23,7 @@ use Rattle.dcc_ir.specs.declared.syntax.Loc.TheVariants.{Cell as CellHalf}
 use Rattle.dcc_ir.specs.Tree.{Expr, Address}
 use Rattle.dcc_ir.specs.Run.{State, value_in, setting, storing}
 use Rattle.dcc_ops.specs.Expressions.{word_of}
-use Rattle.dcc_ops.specs.Place.{Place, byte, word, memory}
+use Rattle.dcc_ops.specs.OperandPlace.{OperandPlace, byte, word, memory}
 use Rattle.dcc_ops.specs.Coupling.{Relation}
 use Rattle.dcc_simulation.specs.Coupled.{Setting, half_in}
 
@@ -34,7 +33,7 @@ pub record IsInLocation (e : Setting) (entry : ℕ) (k : ℤ) (location : Loc) :
   pub is : half_in 0 (e.cells entry) k ≡ Some location
 
 -- the place of a byte or a word of a frame, from a distance from its base less 4 on
-pub data IsFramePlace (e : Setting) (entry : ℕ) (k : ℤ) : Width → Place → Type 0 where
+pub data IsFramePlace (e : Setting) (entry : ℕ) (k : ℤ) : Width → OperandPlace → Type 0 where
   in_half :
       {number : ℕ} {half : HalfName}
       → IsInLocation e entry k (CellHalf number half)
@@ -80,9 +79,10 @@ address_value t ea =
     % 65536
 
 -- the place of a memory operand of a width, in a procedure and a state of the machine
-pub data IsOperandPlace (e : Setting) (entry : ℕ) (R : Relation) (s : Machine) (ea : Ea) : Width → Place → Type 0 where
+pub data IsOperandPlace (e : Setting) (entry : ℕ) (R : Relation) (s : Machine) (ea : Ea) : Width → OperandPlace
+    → Type 0 where
   direct :
-      {w : Width} {place : Place}
+      {w : Width} {place : OperandPlace}
       → is_direct ea ≡ true
       → IsFramePlace e entry (offset_in_frame ea) w place
       → IsOperandPlace e entry R s ea w place
@@ -95,7 +95,7 @@ pub data IsOperandPlace (e : Setting) (entry : ℕ) (R : Relation) (s : Machine)
 -- What lies at a place.
 
 -- the place takes a number
-abbrev pub taken : Place → ℕ → State → State
+abbrev pub taken : OperandPlace → ℕ → State → State
 taken (byte location) v t = setting location v t
 taken (word low high) v t = setting high (v / 256) (setting low (v % 256) t)
 taken (memory w at) v t = storing (bits_of w) (value_in t at) v t

@@ -18,7 +18,7 @@ use Rattle.dcc_prog.specs.Analysed.{bytes_of}
 use Rattle.dcc_stack.specs.Slots.{is_within, is_placed, direct_bytes, overlaps, gives_back}
 use Rattle.dcc_ir.specs.declared.syntax.Loc.TheVariants.{Cell as cell_half}
 use Rattle.dcc_ir.specs.Tree.{Address}
-use Rattle.dcc_ops.specs.Place.{Place, constant, byte, word, memory}
+use Rattle.dcc_ops.specs.OperandPlace.{OperandPlace, constant, byte, word, memory}
 
 -- a procedure with its frame; `delta` is how many bytes the stack segment begins above the data segment
 pub record Procedure : Type 0 where
@@ -61,13 +61,13 @@ pushed_of p = length (accessed_cells p.proc p.frame)
 
 -- where a byte or a word of a cell stands: a word is the cell, and a byte one half of it, the low one where it is the
 -- cell's first
-abbrev pub within_cell : ℕ → Cell → Width → ℤ → Place
+abbrev pub within_cell : ℕ → Cell → Width → ℤ → OperandPlace
 within_cell number cell byte_width k = byte (cell_half number (if int_eq k cell.first then Low else High))
 within_cell number cell word_width k = word (cell_half number Low) (cell_half number High)
 
 -- where a byte or a word stands in the cell that holds the byte at an offset, where cells are numbered from one number
 -- on
-abbrev pub cell_place : ℕ → List Cell → Width → ℤ → Place
+abbrev pub cell_place : ℕ → List Cell → Width → ℤ → OperandPlace
 cell_place number [] width k = constant width 0
 cell_place number (cell ∷ cells) width k =
     if is_within k (bytes_of cell) then within_cell number cell width k else cell_place (suc number) cells width k
@@ -79,7 +79,7 @@ abbrev pub distance_of : ℤ → ℕ
 distance_of k = wrapped_of word_width (k -ℤ pos 4)
 
 -- where a byte or a word of the frame stands
-abbrev pub frame_place : Procedure → Width → ℤ → Place
+abbrev pub frame_place : Procedure → Width → ℤ → OperandPlace
 frame_place p width k =
     if is_placed p.frame k then memory width (Address (distance_of k)) else cell_place 0 (cells_of p) width k
 

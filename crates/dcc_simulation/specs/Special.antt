@@ -3,12 +3,12 @@
 use Rattle.std.specs.Prelude.{◌≡◌, ℕ, Bool, true, false}
 use Rattle.dcc_num.specs.declared.Reg.TheVariants.{Sp}
 use Rattle.dcc_prog.specs.declared.procedure.Node.{Node}
-use Rattle.dcc_prog.specs.declared.instr.Instr.{Instr}
-use Rattle.dcc_prog.specs.declared.instr.Op.{Op}
-use Rattle.dcc_prog.specs.declared.instr.Op.TheVariants.{Unary, Lea, Plain, Table, Int21}
-use Rattle.dcc_prog.specs.Machine.{State as Machine}
+use Rattle.dcc_machine.specs.declared.instr.Instr.{Instr}
+use Rattle.dcc_machine.specs.declared.instr.Op.{Op}
+use Rattle.dcc_machine.specs.declared.instr.Op.TheVariants.{Unary, Lea, Plain, Table, Int21}
+use Rattle.dcc_machine.specs.Machine.{State as Machine}
 use Rattle.dcc_prog.specs.Clean.{Stack}
-use Rattle.dcc_prog.specs.Prepared.{is_division}
+use Rattle.dcc_machine.specs.Operations.{is_division}
 use Rattle.dcc_ir.specs.Run.{State, execute}
 use Rattle.dcc_ops.specs.Performed.{is_xlat}
 use Rattle.dcc_simulation.specs.Coupled.{Setting}

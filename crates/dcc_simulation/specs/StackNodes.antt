@@ -2,11 +2,11 @@
 use Rattle.std.specs.Prelude.{◌≡◌, ℕ, Bool, true, ◌||◌}
 use Rattle.dcc_num.specs.declared.Reg.TheVariants.{Sp}
 use Rattle.dcc_prog.specs.declared.procedure.Node.{Node}
-use Rattle.dcc_prog.specs.declared.instr.Instr.{Instr}
-use Rattle.dcc_prog.specs.declared.instr.Op.{Op}
-use Rattle.dcc_prog.specs.declared.instr.Op.TheVariants.{Lea, Push, Pop}
-use Rattle.dcc_prog.specs.Machine.{State as Machine}
-use Rattle.dcc_prog.specs.FrameForm.{is_sp_move}
+use Rattle.dcc_machine.specs.declared.instr.Instr.{Instr}
+use Rattle.dcc_machine.specs.declared.instr.Op.{Op}
+use Rattle.dcc_machine.specs.declared.instr.Op.TheVariants.{Lea, Push, Pop}
+use Rattle.dcc_machine.specs.Machine.{State as Machine}
+use Rattle.dcc_machine.specs.SpAndBp.{is_sp_move}
 use Rattle.dcc_prog.specs.Clean.{Stack}
 use Rattle.dcc_ir.specs.Run.{State, execute}
 use Rattle.dcc_simulation.specs.Coupled.{Setting}

@@ -6,17 +6,17 @@ use Rattle.std.specs.Prelude.{ℕ, suc, ◌+◌, ◌*◌, ℤ, pos, ◌+ℤ◌, 
 use Rattle.std.specs.Prelude.{◌++◌, length, map, Option, Some, None}
 use Rattle.std.specs.List.{range_with_len}
 use Rattle.dcc_num.specs.declared.Width.TheVariants.{Byte as byte_width, Word as word_width}
-use Rattle.dcc_prog.specs.declared.cpu.Cpu.{Cpu}
+use Rattle.dcc_machine.specs.declared.cpu.Cpu.{Cpu}
 use Rattle.dcc_prog.specs.declared.procedure.Node.{Node}
-use Rattle.dcc_prog.specs.declared.instr.Operand.TheVariants.{Word}
-use Rattle.dcc_prog.specs.declared.instr.Op.{Op}
-use Rattle.dcc_prog.specs.declared.instr.Op.TheVariants.{Lea, Push, Pop, Call as CallOp}
-use Rattle.dcc_prog.specs.FrameForm.{is_push_bp, is_mov_bp_sp, is_enter, leaves_frame}
+use Rattle.dcc_machine.specs.declared.instr.Operand.TheVariants.{Word}
+use Rattle.dcc_machine.specs.declared.instr.Op.{Op}
+use Rattle.dcc_machine.specs.declared.instr.Op.TheVariants.{Lea, Push, Pop, Call as CallOp}
+use Rattle.dcc_machine.specs.SpAndBp.{is_push_bp, is_mov_bp_sp, is_enter, leaves_frame}
 use Rattle.dcc_ir.specs.declared.syntax.Loc.{Loc}
 use Rattle.dcc_ir.specs.Tree.{Expr, Get, Stmt, Call}
 use Rattle.dcc_ir.specs.Passing.{passed}
 use Rattle.dcc_ops.specs.Temporaries.{returned_place}
-use Rattle.dcc_ops.specs.Place.{Place, place_value, storing, computed}
+use Rattle.dcc_ops.specs.OperandPlace.{OperandPlace, place_value, storing, computed}
 use Rattle.dcc_ops.specs.Computed.{computed_expr}
 use Rattle.dcc_ops.specs.Registers.{register_place}
 use Rattle.dcc_ops.specs.Statements.{mov_stmts, op_stmts}
@@ -26,10 +26,10 @@ use Rattle.dcc_simulation.specs.Operands.{address_of, operand_place, first_place
 -- Pushes and pops.
 
 -- the word at the top of the stack; `place_below_top`: the word below it
-abbrev pub top_place : Procedure → ℕ → Place
+abbrev pub top_place : Procedure → ℕ → OperandPlace
 top_place p height = frame_place p word_width (pos 2 -ℤ pos height)
 
-abbrev pub place_below_top : Procedure → ℕ → Place
+abbrev pub place_below_top : Procedure → ℕ → OperandPlace
 place_below_top p height = frame_place p word_width (neg_ℤ (pos height))
 
 -- Calls.

@@ -10,25 +10,25 @@ use Rattle.dcc_num.specs.declared.Reg.TheVariants.{Dx, Sp, Bp}
 use Rattle.dcc_num.specs.declared.dos.TheConstants.{PUTS}
 use Rattle.dcc_prog.specs.declared.procedure.Layout.{Layout}
 use Rattle.dcc_prog.specs.declared.frame.Program.{Program}
-use Rattle.dcc_prog.specs.declared.instr.Plain.{Plain as PlainKind}
-use Rattle.dcc_prog.specs.declared.instr.Plain.TheVariants.{Xlat}
-use Rattle.dcc_prog.specs.declared.instr.Ea.{Ea}
-use Rattle.dcc_prog.specs.declared.instr.Operand.{Operand}
-use Rattle.dcc_prog.specs.declared.instr.Operand.TheVariants.{Mem}
-use Rattle.dcc_prog.specs.declared.instr.Op.{Op}
-use Rattle.dcc_prog.specs.declared.instr.Op.TheVariants.{Alu, Unary, Shift, Mov, Xchg, Imul3, Push, Pop, Enter, Leave, Plain, Table, Call, Ret, Int21}
-use Rattle.dcc_prog.specs.declared.instr.Instr.{Instr}
+use Rattle.dcc_machine.specs.declared.instr.Plain.{Plain as PlainKind}
+use Rattle.dcc_machine.specs.declared.instr.Plain.TheVariants.{Xlat}
+use Rattle.dcc_machine.specs.declared.instr.Ea.{Ea}
+use Rattle.dcc_machine.specs.declared.instr.Operand.{Operand}
+use Rattle.dcc_machine.specs.declared.instr.Operand.TheVariants.{Mem}
+use Rattle.dcc_machine.specs.declared.instr.Op.{Op}
+use Rattle.dcc_machine.specs.declared.instr.Op.TheVariants.{Alu, Unary, Shift, Mov, Xchg, Imul3, Push, Pop, Enter, Leave, Plain, Table, Call, Ret, Int21}
+use Rattle.dcc_machine.specs.declared.instr.Instr.{Instr}
 use Rattle.dcc_prog.specs.declared.watch.FoulKind.{FoulKind}
 use Rattle.dcc_prog.specs.declared.watch.FoulKind.TheVariants.{Low, Hidden, Unwritten}
-use Rattle.dcc_prog.specs.Machine.{State, word_in, part_of, is_bp, offset_of, segment_of, operand_value, with_operand, data_segment}
-use Rattle.dcc_prog.specs.Operations.{with_sp_raised}
-use Rattle.dcc_prog.specs.Writes.{writes_operand}
-use Rattle.dcc_prog.specs.Access.{Direction, Reading, Writing, Access, bytes_in, is_direct, kind_of, operand_accesses, result_accesses, writes_back, push_access, other_read, string_size, dos_accesses, plain_accesses, accesses, found_accesses, addresses_of, written_in, written_by}
+use Rattle.dcc_machine.specs.Machine.{State, word_in, part_of, is_bp, offset_of, segment_of, operand_value, with_operand, data_segment}
+use Rattle.dcc_machine.specs.Operations.{with_sp_raised}
+use Rattle.dcc_machine.specs.Writes.{writes_operand}
+use Rattle.dcc_machine.specs.Access.{Direction, Reading, Writing, Access, bytes_in, is_direct, kind_of, operand_accesses, result_accesses, writes_back, push_access, other_read, string_size, dos_accesses, plain_accesses, accesses, found_accesses, addresses_of, written_in, written_by}
 use Rattle.dcc_prog.specs.Frame.{memory_of, memory_of_two, memory_operand}
 use Rattle.dcc_prog.specs.Clean.{Stack, Foul, stack_offset, stack_bytes, is_other, is_reading, is_exposed_byte, is_marked, top_in, sp_after, is_low, low_of, foul_as, or_else, hidden_of, unwritten_of, foul_of}
 use Rattle.dcc_prog.proofs.SpLaws.{part-bp}
-use Rattle.dcc_prog.proofs.LocationKept.{word-other}
-use Rattle.dcc_prog.proofs.AlikeValues.{and-parts}
+use Rattle.dcc_machine.proofs.LocationKept.{word-other}
+use Rattle.dcc_machine.proofs.AlikeValues.{and-parts}
 use Rattle.dcc_stack.specs.Apart.{is_pushing}
 
 -- Lists.

@@ -3,15 +3,15 @@ use Rattle.std.proofs.Common.{◌≡◌, ℕ, ◌+◌, ◌*◌, ◌<◌, ◌≤�
 use Rattle.std.proofs.lemmas.Int.{ints}
 use Rattle.std.proofs.lemmas.List.Elements.{All-nil, All-cons, All-weaker}
 use Rattle.std.specs.Prelude.{ℤ, pos, neg_ℤ, ◌-ℤ◌, ◌≤ℤ◌, int_le, int_lt, not, ◌&&◌, nat_le, if◌then◌else◌, All}
-use Rattle.dcc_prog.specs.declared.cpu.Cpu.{Cpu}
-use Rattle.dcc_prog.specs.declared.image.Image.{Image}
+use Rattle.dcc_machine.specs.declared.cpu.Cpu.{Cpu}
+use Rattle.dcc_machine.specs.declared.image.Image.{Image}
 use Rattle.dcc_prog.specs.declared.procedure.Layout.{Layout}
 use Rattle.dcc_prog.specs.declared.frame.Frame.{Frame}
 use Rattle.dcc_prog.specs.declared.frame.Program.{Program}
 use Rattle.dcc_prog.specs.FrameForm.{is_framed}
 use Rattle.dcc_prog.specs.Frame.{HasArguments, of_start, of_procedure, HasExposedArguments, from_argument}
 use Rattle.dcc_prog.specs.Clean.{LiveFrame, end_of, owner, exposes, exposed_by, is_exposed_byte}
-use Rattle.dcc_prog.proofs.AlikeValues.{and-parts, or-parts}
+use Rattle.dcc_machine.proofs.AlikeValues.{and-parts, or-parts}
 use Rattle.dcc_stack.specs.Accepted.{IsProgramOfFile, AcceptedProgramsAreInForm}
 use Rattle.dcc_stack.specs.Standing.{Activation, StandsIn, Stand, first, called}
 use Rattle.dcc_stack.specs.Apart.{control_size, IsApart}

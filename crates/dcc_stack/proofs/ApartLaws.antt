@@ -2,12 +2,12 @@
 use Rattle.std.proofs.Common.{◌≡◌, ℕ, ◌+◌, ◌-◌, ◌*◌, ◌<◌, ◌≤◌, inl, inr, Bool, true, false, List, [], ◌∷◌, Some, None, refl, sym, ap, ◌∙◌, subst, arith, leb-true, leb-false}
 use Rattle.std.proofs.lemmas.List.Elements.{All-head, All-tail}
 use Rattle.std.specs.Prelude.{slice_index, not, ◌&&◌, nat_le, if◌then◌else◌, All}
-use Rattle.dcc_prog.specs.declared.image.Image.{Image}
+use Rattle.dcc_machine.specs.declared.image.Image.{Image}
 use Rattle.dcc_prog.specs.declared.procedure.Layout.{Layout}
-use Rattle.dcc_prog.specs.declared.instr.Op.{Op}
+use Rattle.dcc_machine.specs.declared.instr.Op.{Op}
 use Rattle.dcc_prog.specs.FrameForm.{is_framed}
 use Rattle.dcc_prog.specs.Clean.{LiveFrame, stack_offset}
-use Rattle.dcc_prog.proofs.FetchLaws.{image-placed, fetched-instruction}
+use Rattle.dcc_machine.proofs.FetchLaws.{image-placed, fetched-instruction}
 use Rattle.dcc_stack.specs.Accepted.{AcceptedProgramsAreInForm}
 use Rattle.dcc_stack.specs.Standing.{Activation, word_at, HoldsBp, outside, at_mov, inside, StandsIn, Stand, first, called}
 use Rattle.dcc_stack.specs.Apart.{control_size, IsApart, MayWrite, off_stack, in_frames, pushed, DifferApart, CleanStepsWriteApart}

@@ -3,11 +3,11 @@ use Rattle.std.proofs.Common.{◌≡◌, ℕ, false, List, Some, refl}
 use Rattle.std.specs.Prelude.{is_some}
 use Rattle.dcc_num.specs.declared.Width.{Width}
 use Rattle.dcc_num.specs.declared.Width.TheVariants.{Byte as byte_width, Word as word_width}
-use Rattle.dcc_prog.specs.declared.cpu.Cpu.{Cpu}
-use Rattle.dcc_prog.specs.declared.instr.Op.{Op}
-use Rattle.dcc_prog.specs.declared.instr.Instr.{Instr}
-use Rattle.dcc_prog.specs.Operands.{register}
-use Rattle.dcc_prog.specs.Table.{instruction_at}
+use Rattle.dcc_machine.specs.declared.cpu.Cpu.{Cpu}
+use Rattle.dcc_machine.specs.declared.instr.Op.{Op}
+use Rattle.dcc_machine.specs.declared.instr.Instr.{Instr}
+use Rattle.dcc_machine.specs.Operands.{register}
+use Rattle.dcc_machine.specs.Table.{instruction_at}
 use Rattle.dcc_prog.specs.Frame.{memory_of}
 use Rattle.dcc_stack.proofs.Rows.{each-instruction}
 use Rattle.dcc_stack.proofs.ApartAccesses.{exchanges_second}

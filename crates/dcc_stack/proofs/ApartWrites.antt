@@ -9,23 +9,24 @@ use Rattle.dcc_num.specs.declared.Width.{Width}
 use Rattle.dcc_num.specs.declared.Width.TheVariants.{Byte as byte_width, Word as word_width}
 use Rattle.dcc_num.specs.declared.Reg.TheVariants.{Sp, Bp}
 use Rattle.dcc_num.specs.Numbers.{has_sign, signed_of}
-use Rattle.dcc_prog.specs.declared.cpu.Cpu.{Cpu}
-use Rattle.dcc_prog.specs.declared.image.Image.{Image}
+use Rattle.dcc_machine.specs.declared.cpu.Cpu.{Cpu}
+use Rattle.dcc_machine.specs.declared.image.Image.{Image}
 use Rattle.dcc_prog.specs.declared.procedure.Layout.{Layout}
 use Rattle.dcc_prog.specs.declared.frame.Program.{Program}
-use Rattle.dcc_prog.specs.declared.instr.Ea.{Ea}
-use Rattle.dcc_prog.specs.declared.instr.Op.{Op}
-use Rattle.dcc_prog.specs.declared.instr.Op.TheVariants.{Mov, Push, Enter, Call}
-use Rattle.dcc_prog.specs.declared.instr.Operand.TheVariants.{Word}
-use Rattle.dcc_prog.specs.declared.instr.Instr.{Instr}
-use Rattle.dcc_prog.specs.Machine.{State, word_in, is_bp, physical, stack_segment, data_segment}
-use Rattle.dcc_prog.specs.Access.{Writing, OfFrame, Other, Access, bytes_in, is_direct, push_access, address_in, addresses_of, found_accesses, written_by}
-use Rattle.dcc_prog.specs.FrameForm.{is_framed, address_uses_bp}
+use Rattle.dcc_machine.specs.declared.instr.Ea.{Ea}
+use Rattle.dcc_machine.specs.declared.instr.Op.{Op}
+use Rattle.dcc_machine.specs.declared.instr.Op.TheVariants.{Mov, Push, Enter, Call}
+use Rattle.dcc_machine.specs.declared.instr.Operand.TheVariants.{Word}
+use Rattle.dcc_machine.specs.declared.instr.Instr.{Instr}
+use Rattle.dcc_machine.specs.Machine.{State, word_in, is_bp, physical, stack_segment, data_segment}
+use Rattle.dcc_machine.specs.Access.{Writing, OfFrame, Other, Access, bytes_in, is_direct, push_access, address_in, addresses_of, found_accesses, written_by}
+use Rattle.dcc_machine.specs.SpAndBp.{address_uses_bp}
+use Rattle.dcc_prog.specs.FrameForm.{is_framed}
 use Rattle.dcc_prog.specs.Trail.{instruction_in}
 use Rattle.dcc_prog.specs.Frame.{span_of, memory_operand, offset_in_frame, direct}
 use Rattle.dcc_prog.specs.Clean.{Stack, is_exposed_byte, stack_offset, is_other, top_in, sp_after, is_low}
-use Rattle.dcc_prog.proofs.AlikeValues.{and-parts}
-use Rattle.dcc_prog.proofs.LocationKept.{or-none}
+use Rattle.dcc_machine.proofs.AlikeValues.{and-parts}
+use Rattle.dcc_machine.proofs.LocationKept.{or-none}
 use Rattle.dcc_stack.specs.Accepted.{IsProgramOfFile, IsSetUp, IsNodeOf, IsInFrame, in_arguments, in_locals, AcceptedProgramsAreInForm}
 use Rattle.dcc_stack.specs.Standing.{Activation, HoldsBp, outside, at_mov, inside, StandsIn, Stand, StackStands}
 use Rattle.dcc_stack.specs.Apart.{is_pushing, MayWrite, off_stack, in_frames, pushed}

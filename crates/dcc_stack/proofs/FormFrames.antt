@@ -5,14 +5,15 @@ use Rattle.std.specs.Prelude.{if◌then◌else◌}
 use Rattle.std.specs.List.{AllZip}
 use Rattle.std.proofs.lemmas.Bool.{eqb-true, eqb-false}
 use Rattle.std.proofs.lemmas.Int.{ints, by_lt_z}
-use Rattle.dcc_prog.specs.declared.cpu.Cpu.{Cpu}
-use Rattle.dcc_prog.specs.declared.image.Image.{Image}
+use Rattle.dcc_machine.specs.declared.cpu.Cpu.{Cpu}
+use Rattle.dcc_machine.specs.declared.image.Image.{Image}
 use Rattle.dcc_prog.specs.declared.procedure.Layout.{Layout}
 use Rattle.dcc_prog.specs.declared.procedure.Proc.{Proc}
 use Rattle.dcc_prog.specs.declared.frame.Cell.{Cell}
 use Rattle.dcc_prog.specs.declared.frame.Frame.{Frame}
 use Rattle.dcc_prog.specs.declared.frame.Program.{Program}
-use Rattle.dcc_prog.specs.declared.instr.Op.TheVariants.{Lea, Call}
+use Rattle.dcc_machine.specs.declared.instr.Op.TheVariants.{Lea, Call}
+use Rattle.dcc_prog.specs.declared.refusal.FrameFault.{FrameFault}
 use Rattle.dcc_prog.specs.Trail.{StandsAt, IsEntry}
 use Rattle.dcc_prog.specs.FrameForm.{is_framed}
 use Rattle.dcc_prog.specs.Frame.{Span, own_bytes, IsDirectAccess, HasArguments, IsCell, HasExposedLocal, HasExposedArguments, IsOutsideFrame, HasBadAccess, access_outside, start_outside, no_addresses, StartsExposure, by_lea, by_index, by_copy, span_of}
@@ -141,7 +142,7 @@ module _ (cpu : Cpu) (image : Image) (program : Program) (p : IsProgramOfFile cp
           (λ more. in-locals (λ both. let high = both.1 in omega (arith, ints, more, high)))
           (λ high. in_arguments count-for.1 low high))
 
-    refused : ¬ HasBadAccess image layout entry at
+    refused : {cause : FrameFault} → ¬ HasBadAccess image layout entry at cause
     refused bad = no-frames cpu image program p entry at before (pos height) is (bad_access bad)
 
     pub access-in_frame :

@@ -5,18 +5,20 @@ use Rattle.std.specs.List.{AllZip}
 use Rattle.std.proofs.lemmas.Bool.{or_cases, and_parts, or_left, or_right, false_from_ne_true, true_from_ne_false, cases_eq}
 use Rattle.std.proofs.lemmas.Int.{ints, by_lt_z}
 use Rattle.dcc_num.specs.declared.Reg.TheVariants.{Bp}
-use Rattle.dcc_prog.specs.declared.cpu.Cpu.{Cpu}
-use Rattle.dcc_prog.specs.declared.image.Image.{Image}
+use Rattle.dcc_machine.specs.declared.cpu.Cpu.{Cpu}
+use Rattle.dcc_machine.specs.declared.image.Image.{Image}
 use Rattle.dcc_prog.specs.declared.procedure.Layout.{Layout}
 use Rattle.dcc_prog.specs.declared.procedure.Proc.{Proc}
+use Rattle.dcc_prog.specs.declared.refusal.ConstructKind.{ConstructKind}
 use Rattle.dcc_prog.specs.declared.frame.Program.{Program}
-use Rattle.dcc_prog.specs.declared.instr.Operand.{Operand}
-use Rattle.dcc_prog.specs.declared.instr.Operand.TheVariants.{Word}
-use Rattle.dcc_prog.specs.declared.instr.Op.{Op}
-use Rattle.dcc_prog.specs.declared.instr.Op.TheVariants.{Push, Pop, Enter, Leave, Call, Ret}
-use Rattle.dcc_prog.specs.declared.instr.Instr.{Instr}
+use Rattle.dcc_machine.specs.declared.instr.Operand.{Operand}
+use Rattle.dcc_machine.specs.declared.instr.Operand.TheVariants.{Word}
+use Rattle.dcc_machine.specs.declared.instr.Op.{Op}
+use Rattle.dcc_machine.specs.declared.instr.Op.TheVariants.{Push, Pop, Enter, Leave, Call, Ret}
+use Rattle.dcc_machine.specs.declared.instr.Instr.{Instr}
 use Rattle.dcc_prog.specs.Trail.{instruction_in, StandsAt, IsNode, IsEntry, called}
-use Rattle.dcc_prog.specs.FrameForm.{is_push_bp, is_enter, begins_by_push, stands_push_bp, stands_mov_bp_sp, second_of, stands_enter, is_framed, is_frame_form}
+use Rattle.dcc_machine.specs.SpAndBp.{is_push_bp, is_enter}
+use Rattle.dcc_prog.specs.FrameForm.{begins_by_push, stands_push_bp, stands_mov_bp_sp, second_of, stands_enter, is_framed, is_frame_form}
 use Rattle.dcc_prog.specs.Height.{needs_frame, by_ret, without_ret, IsRemoved, MovesHeight, GivesHeight, entered, gone_on, HasHeight, HasBadHeight, two_heights, too_far, two_sizes, grows_too_great, above_entry, into_saved_bp}
 use Rattle.dcc_prog.specs.Construct.{is_system, IsAtNode, unknown, foreign, indirect_jump, indirect_call, IsAtHeight, misplaced, bad_height, IsAtFrame}
 use Rattle.dcc_prog.specs.Found.{HasEntry}
@@ -103,17 +105,17 @@ module _ (cpu : Cpu) (image : Image) (program : Program) (p : IsProgramOfFile cp
 
     -- Nothing stands there for which the program would be refused.
 
-    pub no-trails : {kind : ℕ} → ¬ IsAtNode image layout entry at kind
+    pub no-trails : {kind : ConstructKind} → ¬ IsAtNode image layout entry at kind
     no-trails {kind} h =
         p.is_program.procs.no_construct kind at
         (record { entry = entry; is_entry = is.is_entry; node = node-of; stands = h })
 
-    pub no-heights : {kind : ℕ} → ¬ IsAtHeight image layout entry at kind
+    pub no-heights : {kind : ConstructKind} → ¬ IsAtHeight image layout entry at kind
     no-heights {kind} h =
         p.is_program.heights.accepted.no_construct kind at
         (record { entry = entry; is_entry = is.is_entry; node = node-of; stands = h })
 
-    pub no-frames : {kind : ℕ} → ¬ IsAtFrame image layout entry at kind
+    pub no-frames : {kind : ConstructKind} → ¬ IsAtFrame image layout entry at kind
     no-frames {kind} h =
         p.is_program.cells.accepted.no_construct kind at
         (record { entry = entry; is_entry = is.is_entry; node = node-of; stands = h })

@@ -8,16 +8,18 @@ use Rattle.dcc_num.specs.declared.Width.TheVariants.{Word as word_width}
 use Rattle.dcc_num.specs.declared.Reg.TheVariants.{Sp, Bp}
 use Rattle.dcc_num.specs.declared.Half.TheVariants.{Low}
 use Rattle.dcc_num.specs.Numbers.{signed_of}
-use Rattle.dcc_prog.specs.declared.image.Image.{Image}
+use Rattle.dcc_machine.specs.declared.image.Image.{Image}
 use Rattle.dcc_prog.specs.declared.procedure.Layout.{Layout}
-use Rattle.dcc_prog.specs.declared.instr.Ea.{Ea}
-use Rattle.dcc_prog.specs.declared.instr.Alu.TheVariants.{Add, Sub}
-use Rattle.dcc_prog.specs.declared.instr.Unary.TheVariants.{Inc, Dec}
-use Rattle.dcc_prog.specs.declared.instr.Operand.{Operand}
-use Rattle.dcc_prog.specs.declared.instr.Operand.TheVariants.{Word, Const}
-use Rattle.dcc_prog.specs.declared.instr.Op.{Op}
-use Rattle.dcc_prog.specs.declared.instr.Op.TheVariants.{Alu as AluOp, Unary as UnaryOp, Mov, Lea, Push, Pop, Enter, Leave, Call, Ret}
-use Rattle.dcc_prog.specs.FrameForm.{is_push_bp, is_mov_bp_sp, is_enter, names_sp_or_bp, uses_bp_address, is_sp_move, is_at_most_zero, is_at_or_below_bp, leaves_frame, copies_bp, is_frame_form}
+use Rattle.dcc_machine.specs.declared.instr.Ea.{Ea}
+use Rattle.dcc_machine.specs.declared.instr.Alu.TheVariants.{Add, Sub}
+use Rattle.dcc_machine.specs.declared.instr.Unary.TheVariants.{Inc, Dec}
+use Rattle.dcc_machine.specs.declared.instr.Operand.{Operand}
+use Rattle.dcc_machine.specs.declared.instr.Operand.TheVariants.{Word, Const}
+use Rattle.dcc_machine.specs.declared.instr.Op.{Op}
+use Rattle.dcc_machine.specs.declared.instr.Op.TheVariants.{Alu as AluOp, Unary as UnaryOp, Mov, Lea, Push, Pop, Enter, Leave, Call, Ret}
+use Rattle.dcc_machine.specs.SpAndBp.{is_push_bp, is_mov_bp_sp, is_enter, names_sp_or_bp, uses_bp_address, is_sp_move}
+use Rattle.dcc_machine.specs.SpAndBp.{is_at_most_zero, is_at_or_below_bp, leaves_frame, copies_bp}
+use Rattle.dcc_prog.specs.FrameForm.{is_frame_form}
 use Rattle.dcc_prog.specs.Height.{lowering_of, height_set_by, is_above_zero, is_sp_sub, is_frame_work, needs_frame, IsRemoved, MovesHeight, push, pop, call, move, set, keep}
 use Rattle.dcc_stack.proofs.FormWords.{IsLeaWord}
 use Rattle.dcc_stack.proofs.FormOps.{FormOf, moves, unnamed, leaves, copies, saves, points, enters, unnamed-still, copied-still}

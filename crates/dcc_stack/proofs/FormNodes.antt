@@ -7,22 +7,26 @@ use Rattle.std.proofs.lemmas.Int.{ints, by_lt_z}
 use Rattle.dcc_num.specs.declared.Width.{Width}
 use Rattle.dcc_num.specs.declared.Reg.{Reg}
 use Rattle.dcc_num.specs.declared.Reg.TheVariants.{Sp, Bp}
-use Rattle.dcc_prog.specs.declared.cpu.Cpu.{Cpu}
-use Rattle.dcc_prog.specs.declared.image.Image.{Image}
+use Rattle.dcc_machine.specs.declared.cpu.Cpu.{Cpu}
+use Rattle.dcc_machine.specs.declared.image.Image.{Image}
 use Rattle.dcc_prog.specs.declared.procedure.Layout.{Layout}
 use Rattle.dcc_prog.specs.declared.frame.Program.{Program}
-use Rattle.dcc_prog.specs.declared.instr.Ea.{Ea}
-use Rattle.dcc_prog.specs.declared.instr.Alu.TheVariants.{Add, Sub}
-use Rattle.dcc_prog.specs.declared.instr.Unary.TheVariants.{Inc, Dec}
-use Rattle.dcc_prog.specs.declared.instr.Operand.{Operand}
-use Rattle.dcc_prog.specs.declared.instr.Operand.TheVariants.{Word, Mem, Const}
-use Rattle.dcc_prog.specs.declared.instr.Op.{Op}
-use Rattle.dcc_prog.specs.declared.instr.Op.TheVariants.{Alu as AluOp, Unary as UnaryOp, Shift as ShiftOp, Mov, Xchg, Lea, Imul3, Push, Pop, Enter, Leave, Table, Call, Ret, Int21}
-use Rattle.dcc_prog.specs.declared.instr.Instr.{Instr}
-use Rattle.dcc_prog.specs.Access.{is_direct}
-use Rattle.dcc_prog.specs.Machine.{is_bp}
-use Rattle.dcc_prog.specs.Trail.{instruction_in, next_of, StandsAt, known_ah, table_number, targets_of, op_successors, instr_successors, successors, IsTrail, IsEntry}
-use Rattle.dcc_prog.specs.FrameForm.{is_push_bp, is_mov_bp_sp, is_enter, begins_by_push, stands_push_bp, stands_mov_bp_sp, second_of, is_framed, is_sp_or_bp, address_uses_bp, is_by_bp, names_sp_or_bp, uses_bp_address, is_sp_move, is_at_most_zero, is_at_or_below_bp, leaves_frame, copies_bp}
+use Rattle.dcc_machine.specs.declared.instr.Ea.{Ea}
+use Rattle.dcc_machine.specs.declared.instr.Alu.TheVariants.{Add, Sub}
+use Rattle.dcc_machine.specs.declared.instr.Unary.TheVariants.{Inc, Dec}
+use Rattle.dcc_machine.specs.declared.instr.Operand.{Operand}
+use Rattle.dcc_machine.specs.declared.instr.Operand.TheVariants.{Word, Mem, Const}
+use Rattle.dcc_machine.specs.declared.instr.Op.{Op}
+use Rattle.dcc_machine.specs.declared.instr.Op.TheVariants.{Alu as AluOp, Unary as UnaryOp, Shift as ShiftOp, Mov, Xchg, Lea, Imul3, Push, Pop, Enter, Leave, Table, Call, Ret, Int21}
+use Rattle.dcc_machine.specs.declared.instr.Instr.{Instr}
+use Rattle.dcc_machine.specs.Access.{is_direct}
+use Rattle.dcc_machine.specs.Machine.{is_bp}
+use Rattle.dcc_machine.specs.Successors.{next_of, op_successors}
+use Rattle.dcc_prog.specs.Trail.{instruction_in, StandsAt, known_ah, table_number, targets_of, instr_successors, successors, IsTrail, IsEntry}
+use Rattle.dcc_machine.specs.SpAndBp.{is_push_bp, is_mov_bp_sp, is_enter, is_sp_or_bp, address_uses_bp, is_by_bp}
+use Rattle.dcc_machine.specs.SpAndBp.{names_sp_or_bp, uses_bp_address, is_sp_move, is_at_most_zero, is_at_or_below_bp}
+use Rattle.dcc_machine.specs.SpAndBp.{leaves_frame, copies_bp}
+use Rattle.dcc_prog.specs.FrameForm.{begins_by_push, stands_push_bp, stands_mov_bp_sp, second_of, is_framed}
 use Rattle.dcc_prog.specs.Height.{lowering_of, needs_frame, MovesHeight, push, entered, gone_on, returns_early, grows_too_great, set}
 use Rattle.dcc_prog.specs.Frame.{memory_of, memory_of_two, memory_operand, by_index, no_addresses}
 use Rattle.dcc_prog.specs.Construct.{formless, no_number, dos_number, not_known, entry_return, returns as returns_from_entry, bad_access}

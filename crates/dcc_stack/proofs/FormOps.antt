@@ -8,20 +8,22 @@ use Rattle.dcc_num.specs.declared.Reg.{Reg}
 use Rattle.dcc_num.specs.declared.Reg.TheVariants.{Ax, Cx, Dx, Sp, Bp}
 use Rattle.dcc_num.specs.declared.Half.{Half}
 use Rattle.dcc_num.specs.declared.Half.TheVariants.{Low, High}
-use Rattle.dcc_prog.specs.declared.image.Image.{Image}
+use Rattle.dcc_machine.specs.declared.image.Image.{Image}
 use Rattle.dcc_prog.specs.declared.procedure.Layout.{Layout}
-use Rattle.dcc_prog.specs.declared.instr.Unary.{Unary}
-use Rattle.dcc_prog.specs.declared.instr.Unary.TheVariants.{Mul, Imul, Div, Idiv}
-use Rattle.dcc_prog.specs.declared.instr.Plain.{Plain}
-use Rattle.dcc_prog.specs.declared.instr.Plain.TheVariants.{Cbw, Cwd, Xlat}
-use Rattle.dcc_prog.specs.declared.instr.Operand.{Operand}
-use Rattle.dcc_prog.specs.declared.instr.Operand.TheVariants.{Word, Byte}
-use Rattle.dcc_prog.specs.declared.instr.Op.{Op}
-use Rattle.dcc_prog.specs.declared.instr.Op.TheVariants.{Alu as AluOp, Unary as UnaryOp, Shift as ShiftOp, Mov, Xchg, Lea, Imul3, Push, Pop, Enter, Leave, Plain as PlainOp, Loop, LoopE, LoopNe, Call, Ret, Int21}
-use Rattle.dcc_prog.specs.Writes.{is_same_register, is_same_half, is_half_of, writes_operand, is_in_pair, unary_writes_half, plain_writes_half, writes_half}
-use Rattle.dcc_prog.specs.Machine.{operand_width}
-use Rattle.dcc_prog.specs.Trail.{instruction_in, is_general}
-use Rattle.dcc_prog.specs.FrameForm.{is_push_bp, is_mov_bp_sp, is_enter, begins_by_push, stands_enter, second_of, is_framed, is_sp_or_bp, names_sp_or_bp, uses_bp_address, is_sp_move, leaves_frame, copies_bp, makes_frame, is_frame_form}
+use Rattle.dcc_machine.specs.declared.instr.Unary.{Unary}
+use Rattle.dcc_machine.specs.declared.instr.Unary.TheVariants.{Mul, Imul, Div, Idiv}
+use Rattle.dcc_machine.specs.declared.instr.Plain.{Plain}
+use Rattle.dcc_machine.specs.declared.instr.Plain.TheVariants.{Cbw, Cwd, Xlat}
+use Rattle.dcc_machine.specs.declared.instr.Operand.{Operand}
+use Rattle.dcc_machine.specs.declared.instr.Operand.TheVariants.{Word, Byte}
+use Rattle.dcc_machine.specs.declared.instr.Op.{Op}
+use Rattle.dcc_machine.specs.declared.instr.Op.TheVariants.{Alu as AluOp, Unary as UnaryOp, Shift as ShiftOp, Mov, Xchg, Lea, Imul3, Push, Pop, Enter, Leave, Plain as PlainOp, Loop, LoopE, LoopNe, Call, Ret, Int21}
+use Rattle.dcc_machine.specs.Writes.{is_same_register, is_same_half, is_half_of, writes_operand, is_in_pair, unary_writes_half, plain_writes_half, writes_half}
+use Rattle.dcc_machine.specs.Machine.{operand_width, is_general}
+use Rattle.dcc_prog.specs.Trail.{instruction_in}
+use Rattle.dcc_machine.specs.SpAndBp.{is_push_bp, is_mov_bp_sp, is_enter, is_sp_or_bp, names_sp_or_bp, uses_bp_address}
+use Rattle.dcc_machine.specs.SpAndBp.{is_sp_move, leaves_frame, copies_bp}
+use Rattle.dcc_prog.specs.FrameForm.{begins_by_push, stands_enter, second_of, is_framed, makes_frame, is_frame_form}
 
 -- The forms.
 

@@ -5,22 +5,22 @@ use Rattle.std.specs.Prelude.{slice_get, if◌then◌else◌, ◌==◌, ◌||◌
 use Rattle.dcc_num.specs.declared.Width.TheVariants.{Byte as byte_width, Word as word_width}
 use Rattle.dcc_num.specs.Numbers.{signed_of, sign_extension_of}
 use Rattle.dcc_num.proofs.Differences.{wrapped_below}
-use Rattle.dcc_prog.specs.declared.cpu.Cpu.{Cpu}
-use Rattle.dcc_prog.specs.declared.cpu.Cpu.TheVariants.{I8086, I186}
-use Rattle.dcc_prog.specs.declared.image.Image.{Image}
+use Rattle.dcc_machine.specs.declared.cpu.Cpu.{Cpu}
+use Rattle.dcc_machine.specs.declared.cpu.Cpu.TheVariants.{I8086, I186}
+use Rattle.dcc_machine.specs.declared.image.Image.{Image}
 use Rattle.dcc_prog.specs.declared.procedure.Layout.{Layout}
-use Rattle.dcc_prog.specs.declared.instr.Op.{Op}
-use Rattle.dcc_prog.specs.declared.instr.Op.TheVariants.{Lea}
-use Rattle.dcc_prog.specs.declared.instr.Instr.{Instr}
-use Rattle.dcc_prog.specs.Bytes.{byte_at}
-use Rattle.dcc_prog.specs.Load.{load_segment}
-use Rattle.dcc_prog.specs.MzImage.{IsLoaded}
-use Rattle.dcc_prog.specs.Code.{code_of}
-use Rattle.dcc_prog.specs.Operands.{mod_field, has_direct_address, displacement_at}
-use Rattle.dcc_prog.specs.Table.{Row, Parts, row_parts, row_instruction, table, instruction_at}
+use Rattle.dcc_machine.specs.declared.instr.Op.{Op}
+use Rattle.dcc_machine.specs.declared.instr.Op.TheVariants.{Lea}
+use Rattle.dcc_machine.specs.declared.instr.Instr.{Instr}
+use Rattle.dcc_machine.specs.Bytes.{byte_at}
+use Rattle.dcc_machine.specs.Load.{load_segment}
+use Rattle.dcc_machine.specs.MzImage.{IsLoaded}
+use Rattle.dcc_machine.specs.Code.{code_of}
+use Rattle.dcc_machine.specs.Operands.{mod_field, has_direct_address, displacement_at}
+use Rattle.dcc_machine.specs.Table.{Row, Parts, row_parts, row_instruction, table, instruction_at}
 use Rattle.dcc_prog.specs.Trail.{code_within, instruction_in}
-use Rattle.dcc_prog.proofs.TableLaws.{instruction-row}
-use Rattle.dcc_prog.proofs.MzImageLaws.{All-loaded, word_at-lt}
+use Rattle.dcc_machine.proofs.TableLaws.{instruction-row}
+use Rattle.dcc_machine.proofs.MzImageLaws.{All-loaded, word_at-lt}
 
 abbrev IsByte : ℕ → Type 0
 IsByte b = b < 256

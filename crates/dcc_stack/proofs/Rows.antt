@@ -1,12 +1,12 @@
 -- What holds of the operation of each row of the table holds of each instruction.
 use Rattle.std.proofs.Common.{◌≡◌, ℕ, zero, suc, List, [], ◌∷◌, ◌++◌, Some, subst}
 use Rattle.std.specs.Prelude.{slice_get}
-use Rattle.dcc_prog.specs.declared.cpu.Cpu.{Cpu}
-use Rattle.dcc_prog.specs.declared.cpu.Cpu.TheVariants.{I8086, I186}
-use Rattle.dcc_prog.specs.declared.instr.Op.{Op}
-use Rattle.dcc_prog.specs.declared.instr.Instr.{Instr}
-use Rattle.dcc_prog.specs.Table.{Row, Parts, row_parts, row_instruction, table, instruction_at, arithmetic_rows, unary_rows, stack_rows, move_rows, control_rows, plain_rows, later_rows, rows_besides}
-use Rattle.dcc_prog.proofs.TableLaws.{instruction-row}
+use Rattle.dcc_machine.specs.declared.cpu.Cpu.{Cpu}
+use Rattle.dcc_machine.specs.declared.cpu.Cpu.TheVariants.{I8086, I186}
+use Rattle.dcc_machine.specs.declared.instr.Op.{Op}
+use Rattle.dcc_machine.specs.declared.instr.Instr.{Instr}
+use Rattle.dcc_machine.specs.Table.{Row, Parts, row_parts, row_instruction, table, instruction_at, arithmetic_rows, unary_rows, stack_rows, move_rows, control_rows, plain_rows, later_rows, rows_besides}
+use Rattle.dcc_machine.proofs.TableLaws.{instruction-row}
 
 abbrev IsRowOf : (Op → Type 0) → Row → Type 0
 IsRowOf P row = (parts : Parts) → P (row.operation parts)

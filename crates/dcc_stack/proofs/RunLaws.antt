@@ -8,26 +8,26 @@ use Rattle.std.proofs.Math.Nat.{mod-eq_of_lt}
 use Rattle.dcc_run.specs.End.{is_over}
 use Rattle.dcc_run.specs.System.{after}
 use Rattle.dcc_num.specs.declared.Reg.TheVariants.{Sp, Bp}
-use Rattle.dcc_prog.specs.declared.cpu.Cpu.{Cpu}
-use Rattle.dcc_prog.specs.declared.segment.TheConstants.{SS, DS}
-use Rattle.dcc_prog.specs.declared.image.Image.{Image}
+use Rattle.dcc_machine.specs.declared.cpu.Cpu.{Cpu}
+use Rattle.dcc_machine.specs.declared.segment.TheConstants.{SS, DS}
+use Rattle.dcc_machine.specs.declared.image.Image.{Image}
 use Rattle.dcc_prog.specs.declared.procedure.Layout.{Layout}
 use Rattle.dcc_prog.specs.declared.frame.Program.{Program}
-use Rattle.dcc_prog.specs.MzImage.{IsLoaded}
-use Rattle.dcc_prog.specs.Machine.{State, word_in, code_segment, start_state}
-use Rattle.dcc_prog.specs.Code.{HoldsCode}
-use Rattle.dcc_prog.specs.Step.{step}
-use Rattle.dcc_prog.specs.StateForm.{IsState}
+use Rattle.dcc_machine.specs.MzImage.{IsLoaded}
+use Rattle.dcc_machine.specs.Machine.{State, word_in, code_segment, start_state}
+use Rattle.dcc_machine.specs.Code.{HoldsCode}
+use Rattle.dcc_machine.specs.Step.{step}
+use Rattle.dcc_machine.specs.StateForm.{IsState}
 use Rattle.dcc_prog.specs.Layout.{HasLayout, offset_after, state_after}
 use Rattle.dcc_prog.specs.Trail.{start}
 use Rattle.dcc_prog.specs.Height.{entered}
 use Rattle.dcc_prog.specs.RunLaws.{begun}
 use Rattle.dcc_prog.specs.Clean.{Stack, Foul, top_in, sp_after, is_low, foul_of, stack_after, first_stack}
 use Rattle.dcc_prog.specs.Watch.{Stage, InProcedures, Watch, stage_after, next_instruction, next_foul, is_foul, moved, made, watch_step}
-use Rattle.dcc_prog.proofs.FetchLaws.{image-placed, start-holds, code-kept, code-part}
-use Rattle.dcc_prog.proofs.StartState.{starts-are}
-use Rattle.dcc_prog.proofs.StateKept.{states-kept}
-use Rattle.dcc_prog.proofs.LocationKept.{or-none}
+use Rattle.dcc_machine.proofs.FetchLaws.{image-placed, start-holds, code-kept, code-part}
+use Rattle.dcc_machine.proofs.StartState.{starts-are}
+use Rattle.dcc_machine.proofs.StateKept.{states-kept}
+use Rattle.dcc_machine.proofs.LocationKept.{or-none}
 use Rattle.dcc_prog.proofs.StackMarks.{none-marked}
 use Rattle.dcc_prog.proofs.PreludeSteps.{executed, executed-code, steps-from_start, state_after-is, at_offset}
 use Rattle.dcc_prog.proofs.PreludeOffsets.{prelude-short}

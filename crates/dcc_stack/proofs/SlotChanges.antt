@@ -7,24 +7,24 @@ use Rattle.std.proofs.lemmas.Int.{ints}
 use Rattle.std.proofs.lemmas.List.Elements.{All-contains}
 use Rattle.std.proofs.lemmas.Option.{slice_get_within, get_or_from_slice_get}
 use Rattle.dcc_num.specs.declared.Width.{Width}
-use Rattle.dcc_prog.specs.declared.cpu.Cpu.{Cpu}
-use Rattle.dcc_prog.specs.declared.image.Image.{Image}
+use Rattle.dcc_machine.specs.declared.cpu.Cpu.{Cpu}
+use Rattle.dcc_machine.specs.declared.image.Image.{Image}
 use Rattle.dcc_prog.specs.declared.procedure.Layout.{Layout}
 use Rattle.dcc_prog.specs.declared.procedure.Node.{Node}
 use Rattle.dcc_prog.specs.declared.procedure.Proc.{Proc}
 use Rattle.dcc_prog.specs.declared.frame.Frame.{Frame}
 use Rattle.dcc_prog.specs.declared.frame.Program.{Program}
-use Rattle.dcc_prog.specs.declared.instr.Ea.{Ea}
-use Rattle.dcc_prog.specs.declared.instr.Op.{Op}
-use Rattle.dcc_prog.specs.declared.instr.Instr.{Instr}
-use Rattle.dcc_prog.specs.Access.{bytes_in, is_direct}
+use Rattle.dcc_machine.specs.declared.instr.Ea.{Ea}
+use Rattle.dcc_machine.specs.declared.instr.Op.{Op}
+use Rattle.dcc_machine.specs.declared.instr.Instr.{Instr}
+use Rattle.dcc_machine.specs.Access.{bytes_in, is_direct}
 use Rattle.dcc_prog.specs.Trail.{StandsAt, IsNode, IsEntry}
 use Rattle.dcc_prog.specs.FrameForm.{is_framed}
 use Rattle.dcc_prog.specs.Frame.{Span, span_of, memory_operand, offset_in_frame, argument_word, own_bytes, IsDirectAccess, direct, IsSlot}
 use Rattle.dcc_prog.specs.Found.{IsNodeFound, IsFound}
 use Rattle.dcc_prog.specs.Clean.{LiveFrame, end_of}
 use Rattle.dcc_prog.proofs.FrameLaws.{arguments-once}
-use Rattle.dcc_prog.proofs.AlikeValues.{or-parts}
+use Rattle.dcc_machine.proofs.AlikeValues.{or-parts}
 use Rattle.dcc_stack.specs.Accepted.{IsProgramOfFile, IsFrameFor, IsInFrame, in_arguments, in_locals, AcceptedProgramsAreInForm}
 use Rattle.dcc_stack.specs.Standing.{Activation, StandsIn}
 use Rattle.dcc_stack.specs.Apart.{IsApart}

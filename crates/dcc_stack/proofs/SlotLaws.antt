@@ -4,8 +4,8 @@ use Rattle.std.specs.Prelude.{◌↔◌, if◌then◌else◌, slice_index, slice
 use Rattle.std.specs.List.{AllZip}
 use Rattle.std.proofs.lemmas.Bool.{false≢true}
 use Rattle.std.proofs.lemmas.List.Elements.{All-contains}
-use Rattle.dcc_prog.specs.declared.cpu.Cpu.{Cpu}
-use Rattle.dcc_prog.specs.declared.image.Image.{Image}
+use Rattle.dcc_machine.specs.declared.cpu.Cpu.{Cpu}
+use Rattle.dcc_machine.specs.declared.image.Image.{Image}
 use Rattle.dcc_prog.specs.declared.procedure.Layout.{Layout}
 use Rattle.dcc_prog.specs.declared.procedure.Proc.{Proc}
 use Rattle.dcc_prog.specs.declared.frame.Frame.{Frame}
@@ -13,7 +13,7 @@ use Rattle.dcc_prog.specs.declared.frame.Program.{Program}
 use Rattle.dcc_prog.specs.Trail.{IsEntry}
 use Rattle.dcc_prog.specs.FrameForm.{is_framed}
 use Rattle.dcc_prog.specs.Found.{IsFound}
-use Rattle.dcc_prog.specs.Machine.{State}
+use Rattle.dcc_machine.specs.Machine.{State}
 use Rattle.dcc_prog.specs.Clean.{LiveFrame, Stack, top_in, end_of, frame_in, is_marked, with_marks}
 use Rattle.dcc_stack.specs.Accepted.{IsProgramOfFile, IsFrameFor, AcceptedProgramsAreInForm}
 use Rattle.dcc_stack.specs.Slots.{IsGivenBack, gives_back, Typed, place_in, Carries, Couples, AreNested, activations_of, IsAlike, LiesBelow}

@@ -9,7 +9,7 @@ use Rattle.std.proofs.lemmas.List.{length-map, get_or-map}
 use Rattle.std.proofs.lemmas.List.Elements.{All-contains, All-append, All-map, All-weaker, Contains-append_left, Contains-append_right}
 use Rattle.std.proofs.lemmas.List.Folds.{list_any_at}
 use Rattle.std.proofs.lemmas.List.FromFn.{length-range_with_len, get_or-range_with_len}
-use Rattle.dcc_prog.specs.declared.image.Image.{Image}
+use Rattle.dcc_machine.specs.declared.image.Image.{Image}
 use Rattle.dcc_prog.specs.declared.procedure.Layout.{Layout}
 use Rattle.dcc_prog.specs.declared.frame.Cell.{Cell}
 use Rattle.dcc_prog.specs.declared.frame.Frame.{Frame}
@@ -18,7 +18,7 @@ use Rattle.dcc_prog.specs.Frame.{Span, argument_word, HasArguments, of_start, of
 use Rattle.dcc_prog.specs.Analysed.{bytes_of}
 use Rattle.dcc_prog.specs.Clean.{exposes}
 use Rattle.dcc_prog.proofs.FrameLaws.{arguments-once}
-use Rattle.dcc_prog.proofs.AlikeValues.{or-parts}
+use Rattle.dcc_machine.proofs.AlikeValues.{or-parts}
 use Rattle.dcc_stack.specs.Accepted.{IsFrameFor}
 use Rattle.dcc_stack.specs.Slots.{is_within, exposes_of, slots_of, is_placed, IsGivenBack, by_exposure}
 
@@ -170,7 +170,7 @@ module _ (image : Image) (program : Program) (entry : ℕ) (frame : Frame)
 
   -- a slot has one byte or two
   slot-some : (span : Span) → IsSlot image layout entry span → span.first <ℤ span.end
-  slot-some span (IsSlot.cell is) = is.run.ends
+  slot-some span (IsSlot.cell is) = is.extent.ends
   slot-some _ (IsSlot.argument has less) = omega (arith, ints)
 
   slot-small : (span : Span) → IsSlot image layout entry span → span.end ≤ℤ (span.first +ℤ pos 2)
@@ -259,7 +259,7 @@ module _ (image : Image) (program : Program) (entry : ℕ) (frame : Frame)
         let piece : IsPiece image layout entry (argument_word number) = IsPiece.argument f.arguments less in
         let low : (argument_word number).first ≤ℤ span.first =
         by_lt_z span.first (argument_word number).first
-        (λ before. absurd (is.run.apart_after (record {
+        (λ before. absurd (is.extent.apart_after (record {
           span = argument_word number;
           piece = piece;
           before = omega (arith, ints, before, is.small, at.1, has.0);
@@ -268,7 +268,7 @@ module _ (image : Image) (program : Program) (entry : ℕ) (frame : Frame)
         (λ le. le) in
         let high : span.first ≤ℤ (argument_word number).first =
         by_lt_z (argument_word number).first span.first
-        (λ after. absurd (is.run.apart_before (record {
+        (λ after. absurd (is.extent.apart_before (record {
           span = argument_word number;
           piece = piece;
           before = after;

@@ -6,27 +6,28 @@ use Rattle.std.proofs.Math.Nat.{mod-eq_of_lt}
 use Rattle.dcc_run.specs.End.{is_over}
 use Rattle.dcc_num.specs.declared.Reg.TheVariants.{Sp, Bp}
 use Rattle.dcc_num.specs.declared.Half.TheVariants.{Low}
-use Rattle.dcc_prog.specs.declared.cpu.Cpu.{Cpu}
-use Rattle.dcc_prog.specs.declared.segment.TheConstants.{CS, SS, DS}
-use Rattle.dcc_prog.specs.declared.image.Image.{Image}
+use Rattle.dcc_machine.specs.declared.cpu.Cpu.{Cpu}
+use Rattle.dcc_machine.specs.declared.segment.TheConstants.{CS, SS, DS}
+use Rattle.dcc_machine.specs.declared.image.Image.{Image}
 use Rattle.dcc_prog.specs.declared.procedure.Layout.{Layout}
 use Rattle.dcc_prog.specs.declared.frame.Program.{Program}
-use Rattle.dcc_prog.specs.declared.instr.Op.{Op}
-use Rattle.dcc_prog.specs.declared.instr.Op.TheVariants.{Push, Enter, Call, Ret}
-use Rattle.dcc_prog.specs.declared.instr.Instr.{Instr}
-use Rattle.dcc_prog.specs.Machine.{State, word_in, stack_segment, physical}
-use Rattle.dcc_prog.specs.Step.{code_bytes, op_step, step}
-use Rattle.dcc_prog.specs.StateForm.{IsState}
-use Rattle.dcc_prog.specs.Trail.{instruction_in, next_of, StandsAt, known_ah, op_successors, instr_successors, targets_of, successors, called as called_entry}
+use Rattle.dcc_machine.specs.declared.instr.Op.{Op}
+use Rattle.dcc_machine.specs.declared.instr.Op.TheVariants.{Push, Enter, Call, Ret}
+use Rattle.dcc_machine.specs.declared.instr.Instr.{Instr}
+use Rattle.dcc_machine.specs.Machine.{State, word_in, stack_segment, physical}
+use Rattle.dcc_machine.specs.Step.{code_bytes, op_step, step}
+use Rattle.dcc_machine.specs.StateForm.{IsState}
+use Rattle.dcc_machine.specs.Successors.{next_of, op_successors}
+use Rattle.dcc_prog.specs.Trail.{instruction_in, StandsAt, known_ah, instr_successors, targets_of, successors, called as called_entry}
 use Rattle.dcc_prog.specs.Height.{MovesHeight, entered}
 use Rattle.dcc_prog.specs.RunLaws.{HasPassed, begun, stepped, returned}
-use Rattle.dcc_prog.specs.Access.{found_accesses}
+use Rattle.dcc_machine.specs.Access.{found_accesses}
 use Rattle.dcc_prog.specs.Clean.{LiveFrame, Stack, top_in, is_marked, foul_of, frames_after, stack_after}
 use Rattle.dcc_prog.specs.CleanLaws.{moves_frames}
 use Rattle.dcc_prog.specs.Watch.{next_instruction}
-use Rattle.dcc_prog.proofs.FetchLaws.{image-placed}
-use Rattle.dcc_prog.proofs.StateKept.{same-state, states-kept}
-use Rattle.dcc_prog.proofs.LocationKept.{or-none, word-taken, word-other}
+use Rattle.dcc_machine.proofs.FetchLaws.{image-placed}
+use Rattle.dcc_machine.proofs.StateKept.{same-state, states-kept}
+use Rattle.dcc_machine.proofs.LocationKept.{or-none, word-taken, word-other}
 use Rattle.dcc_stack.specs.Accepted.{IsAt, IsForm, enters, returns, moves, keeps, IsProgramOfFile, IsNodeOf, AcceptedProgramsAreInForm}
 use Rattle.dcc_stack.specs.Standing.{Activation, word_at, HoldsBp, outside, StandsIn, Stand, called, HoldsSegments, StackStands}
 use Rattle.dcc_stack.specs.Apart.{is_pushing, DifferApart, CleanStepsWriteApart}

@@ -8,17 +8,17 @@ use Rattle.dcc_num.specs.declared.Reg.TheVariants.{Ax, Cx, Dx, Bx, Sp, Bp, Si, D
 use Rattle.dcc_num.specs.declared.Half.{Half}
 use Rattle.dcc_num.specs.declared.Half.TheVariants.{Low}
 use Rattle.dcc_num.specs.Numbers.{signed_of}
-use Rattle.dcc_prog.specs.declared.image.Image.{Image}
+use Rattle.dcc_machine.specs.declared.image.Image.{Image}
 use Rattle.dcc_prog.specs.declared.procedure.Layout.{Layout}
-use Rattle.dcc_prog.specs.declared.instr.Alu.TheVariants.{Add, Sub}
-use Rattle.dcc_prog.specs.declared.instr.Unary.TheVariants.{Inc, Dec}
-use Rattle.dcc_prog.specs.declared.instr.Operand.{Operand}
-use Rattle.dcc_prog.specs.declared.instr.Operand.TheVariants.{Word, Byte, Const}
-use Rattle.dcc_prog.specs.declared.instr.Op.{Op}
-use Rattle.dcc_prog.specs.declared.instr.Op.TheVariants.{Alu as AluOp, Unary as UnaryOp, Mov, Lea, Push, Pop, Enter, Leave, Call, Ret}
-use Rattle.dcc_prog.specs.Machine.{State, word_in}
-use Rattle.dcc_prog.specs.Writes.{is_half_of, writes_half}
-use Rattle.dcc_prog.specs.FrameForm.{is_sp_or_bp}
+use Rattle.dcc_machine.specs.declared.instr.Alu.TheVariants.{Add, Sub}
+use Rattle.dcc_machine.specs.declared.instr.Unary.TheVariants.{Inc, Dec}
+use Rattle.dcc_machine.specs.declared.instr.Operand.{Operand}
+use Rattle.dcc_machine.specs.declared.instr.Operand.TheVariants.{Word, Byte, Const}
+use Rattle.dcc_machine.specs.declared.instr.Op.{Op}
+use Rattle.dcc_machine.specs.declared.instr.Op.TheVariants.{Alu as AluOp, Unary as UnaryOp, Mov, Lea, Push, Pop, Enter, Leave, Call, Ret}
+use Rattle.dcc_machine.specs.Machine.{State, word_in}
+use Rattle.dcc_machine.specs.Writes.{is_half_of, writes_half}
+use Rattle.dcc_machine.specs.SpAndBp.{is_sp_or_bp}
 use Rattle.dcc_prog.specs.Height.{lowering_of, height_set_by, MovesHeight, push, pop, call, move, set, keep}
 use Rattle.dcc_prog.specs.Clean.{sp_after, lowered_by}
 use Rattle.dcc_prog.specs.CleanLaws.{moves_frames, tells_sp}

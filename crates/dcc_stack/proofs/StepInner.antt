@@ -4,25 +4,27 @@ use Rattle.std.specs.Prelude.{ℤ, pos, ◌+ℤ◌, ◌-ℤ◌, int_lt, ◌&&◌
 use Rattle.std.proofs.lemmas.Int.{ints}
 use Rattle.std.proofs.lemmas.List.{length-set}
 use Rattle.dcc_num.specs.declared.Reg.TheVariants.{Sp, Bp}
-use Rattle.dcc_prog.specs.declared.image.Image.{Image}
+use Rattle.dcc_machine.specs.declared.image.Image.{Image}
 use Rattle.dcc_prog.specs.declared.procedure.Layout.{Layout}
-use Rattle.dcc_prog.specs.declared.instr.Operand.{Operand}
-use Rattle.dcc_prog.specs.declared.instr.Operand.TheVariants.{Word}
-use Rattle.dcc_prog.specs.declared.instr.Op.{Op}
-use Rattle.dcc_prog.specs.declared.instr.Op.TheVariants.{Mov, Push, Pop, Enter, Leave, Call}
-use Rattle.dcc_prog.specs.declared.instr.Instr.{Instr}
-use Rattle.dcc_prog.specs.Machine.{State, word_in, with_word_in, stack_segment, word_at_offset}
-use Rattle.dcc_prog.specs.Operations.{after_push, top_word, with_sp_raised}
-use Rattle.dcc_prog.specs.Step.{op_step}
-use Rattle.dcc_prog.specs.StateForm.{IsState}
-use Rattle.dcc_prog.specs.WellFormed.{IsOperation}
-use Rattle.dcc_prog.specs.Trail.{instruction_in, next_of, StandsAt}
-use Rattle.dcc_prog.specs.FrameForm.{is_framed, is_mov_bp_sp, is_enter, stands_mov_bp_sp, stands_push_bp, stands_enter, second_of}
+use Rattle.dcc_machine.specs.declared.instr.Operand.{Operand}
+use Rattle.dcc_machine.specs.declared.instr.Operand.TheVariants.{Word}
+use Rattle.dcc_machine.specs.declared.instr.Op.{Op}
+use Rattle.dcc_machine.specs.declared.instr.Op.TheVariants.{Mov, Push, Pop, Enter, Leave, Call}
+use Rattle.dcc_machine.specs.declared.instr.Instr.{Instr}
+use Rattle.dcc_machine.specs.Machine.{State, word_in, with_word_in, stack_segment, word_at_offset}
+use Rattle.dcc_machine.specs.Operations.{after_push, top_word, with_sp_raised}
+use Rattle.dcc_machine.specs.Step.{op_step}
+use Rattle.dcc_machine.specs.StateForm.{IsState}
+use Rattle.dcc_machine.specs.WellFormed.{IsOperation}
+use Rattle.dcc_machine.specs.Successors.{next_of}
+use Rattle.dcc_prog.specs.Trail.{instruction_in, StandsAt}
+use Rattle.dcc_machine.specs.SpAndBp.{is_mov_bp_sp, is_enter}
+use Rattle.dcc_prog.specs.FrameForm.{is_framed, stands_mov_bp_sp, stands_push_bp, stands_enter, second_of}
 use Rattle.dcc_prog.specs.Height.{IsRemoved, MovesHeight, push, pop, call, move, set, keep}
 use Rattle.dcc_prog.specs.Clean.{top_in, sp_after, is_low}
 use Rattle.dcc_prog.specs.CleanLaws.{moves_frames}
-use Rattle.dcc_prog.proofs.TableLaws.{and_right}
-use Rattle.dcc_prog.proofs.LocationKept.{word-taken, word-other, or-none}
+use Rattle.dcc_machine.proofs.TableLaws.{and_right}
+use Rattle.dcc_machine.proofs.LocationKept.{word-taken, word-other, or-none}
 use Rattle.dcc_stack.specs.Accepted.{changes_frame, FrameStays, IsSetUp, IsForm, saves, points, enters, falls_back, falls_to, restores, leaves, pushes, pops, calls, returns, moves, keeps}
 use Rattle.dcc_stack.specs.Standing.{Activation, word_at, HoldsBp, outside, at_mov, inside}
 use Rattle.dcc_stack.proofs.StepMemory.{IsStackWord, word-read, pushed-sp, word-pushed}

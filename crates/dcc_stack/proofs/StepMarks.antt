@@ -4,11 +4,11 @@ use Rattle.std.specs.Prelude.{not, ◌&&◌, filter, flat_map, nat_le, if◌then
 use Rattle.std.specs.List.{filter_map, cons_option}
 use Rattle.std.proofs.lemmas.Bool.{cases_lt}
 use Rattle.std.proofs.lemmas.List.Elements.{Contains-append_left, Contains-append_right, Contains-append_cases}
-use Rattle.dcc_prog.specs.declared.image.Image.{Image}
+use Rattle.dcc_machine.specs.declared.image.Image.{Image}
 use Rattle.dcc_prog.specs.declared.procedure.Layout.{Layout}
-use Rattle.dcc_prog.specs.declared.instr.Op.{Op}
-use Rattle.dcc_prog.specs.Machine.{State}
-use Rattle.dcc_prog.specs.Access.{Reading, Writing, Access, addresses_of, written_in, written_by}
+use Rattle.dcc_machine.specs.declared.instr.Op.{Op}
+use Rattle.dcc_machine.specs.Machine.{State}
+use Rattle.dcc_machine.specs.Access.{Reading, Writing, Access, addresses_of, written_in, written_by}
 use Rattle.dcc_prog.specs.Clean.{stack_offset, is_reading, top_in, is_marked, written_after}
 use Rattle.dcc_prog.proofs.StackMarks.{head_or_rest, in_rest, at_head, marked-within, marks-go}
 use Rattle.dcc_stack.specs.Standing.{Activation}

@@ -6,22 +6,22 @@ use Rattle.std.proofs.lemmas.Bool.{cases_eq}
 use Rattle.std.proofs.lemmas.List.{get_or-set_same, get_or-set_other, length-set}
 use Rattle.dcc_run.specs.End.{is_over}
 use Rattle.dcc_num.specs.declared.Reg.TheVariants.{Sp}
-use Rattle.dcc_prog.specs.declared.cpu.Cpu.{Cpu}
-use Rattle.dcc_prog.specs.declared.image.Image.{Image}
+use Rattle.dcc_machine.specs.declared.cpu.Cpu.{Cpu}
+use Rattle.dcc_machine.specs.declared.image.Image.{Image}
 use Rattle.dcc_prog.specs.declared.procedure.Layout.{Layout}
 use Rattle.dcc_prog.specs.declared.frame.Program.{Program}
-use Rattle.dcc_prog.specs.declared.instr.Instr.{Instr}
-use Rattle.dcc_prog.specs.Table.{instruction_at}
-use Rattle.dcc_prog.specs.Machine.{State, word_in, stack_segment, physical, word_at_offset, with_word_at_offset}
-use Rattle.dcc_prog.specs.Operations.{after_push, with_sp_raised}
-use Rattle.dcc_prog.specs.Step.{code_bytes, step}
-use Rattle.dcc_prog.specs.StateForm.{IsState}
+use Rattle.dcc_machine.specs.declared.instr.Instr.{Instr}
+use Rattle.dcc_machine.specs.Table.{instruction_at}
+use Rattle.dcc_machine.specs.Machine.{State, word_in, stack_segment, physical, word_at_offset, with_word_at_offset}
+use Rattle.dcc_machine.specs.Operations.{after_push, with_sp_raised}
+use Rattle.dcc_machine.specs.Step.{code_bytes, step}
+use Rattle.dcc_machine.specs.StateForm.{IsState}
 use Rattle.dcc_prog.specs.Trail.{instruction_in}
-use Rattle.dcc_prog.specs.Access.{written_by, found_accesses, step_accesses}
+use Rattle.dcc_machine.specs.Access.{written_by, found_accesses, step_accesses}
 use Rattle.dcc_prog.specs.Clean.{Stack, foul_of, top_in}
 use Rattle.dcc_prog.specs.Watch.{next_instruction}
-use Rattle.dcc_prog.proofs.MemoryKept.{memory-kept}
-use Rattle.dcc_prog.proofs.LocationKept.{word-taken}
+use Rattle.dcc_machine.proofs.MemoryKept.{memory-kept}
+use Rattle.dcc_machine.proofs.LocationKept.{word-taken}
 use Rattle.dcc_prog.proofs.StackMarks.{head_or_rest, in_rest, at_head}
 use Rattle.dcc_stack.specs.Accepted.{IsProgramOfFile}
 use Rattle.dcc_stack.specs.Standing.{word_at, StackStands}

@@ -7,25 +7,25 @@ use Rattle.dcc_num.specs.declared.Width.TheVariants.{Byte as byte_width, Word as
 use Rattle.dcc_num.specs.declared.Reg.TheVariants.{Ax, Dx}
 use Rattle.dcc_num.specs.declared.Flags.{Flags}
 use Rattle.dcc_num.specs.declared.dos.TheConstants.{GETCHE, PUTC, GETCH, PUTS, EXIT}
-use Rattle.dcc_prog.specs.declared.cpu.Cpu.{Cpu}
-use Rattle.dcc_prog.specs.declared.instr.Plain.{Plain as PlainName}
-use Rattle.dcc_prog.specs.declared.instr.Plain.TheVariants.{Nop, Cbw, Cwd, Xlat, Clc, Stc, Cmc, Cli, Sti, Cld}
-use Rattle.dcc_prog.specs.declared.instr.Operand.{Operand}
-use Rattle.dcc_prog.specs.declared.instr.Operand.TheVariants.{Word, Byte, Seg, Mem, Const}
-use Rattle.dcc_prog.specs.declared.instr.Op.{Op}
-use Rattle.dcc_prog.specs.declared.instr.Op.TheVariants.{Alu, Unary, Shift, Mov, Xchg, Lea, Imul3, Push, Pop, Enter, Leave, Plain, Jump, Branch, Loop, LoopE, LoopNe, Jcxz, Table, Call, Ret, Int21}
-use Rattle.dcc_prog.specs.declared.instr.Instr.{Instr}
-use Rattle.dcc_prog.specs.Machine.{State, word_in, operand_value, operand_width, with_operand}
-use Rattle.dcc_prog.specs.Operands.{register, rm_operand, mod_field, reg_field, address, width_of}
-use Rattle.dcc_prog.specs.Table.{Parts, instruction_at, rm, rm8, rm16, reg, accumulator, destination}
-use Rattle.dcc_prog.specs.Operations.{with_end, with_flags, accumulator_in, upper_in, with_product, count_in, shift_result, top_word, with_sp_raised}
-use Rattle.dcc_prog.specs.Dos.{dos_step, dos_string, with_key, key_step, after_write}
-use Rattle.dcc_prog.specs.Step.{op_step}
-use Rattle.dcc_prog.specs.Writes.{writes_operand}
-use Rattle.dcc_prog.specs.Construct.{is_segment, is_system}
-use Rattle.dcc_prog.proofs.OperationForms.{alu_result, alu_written, alu-form, Outcome, in_operand, in_pair, in_fault, unary_outcome, outcome_step, unary-form}
-use Rattle.dcc_prog.proofs.DosLaws.{calls-leave}
-use Rattle.dcc_prog.proofs.LocationKept.{or-none}
+use Rattle.dcc_machine.specs.declared.cpu.Cpu.{Cpu}
+use Rattle.dcc_machine.specs.declared.instr.Plain.{Plain as PlainName}
+use Rattle.dcc_machine.specs.declared.instr.Plain.TheVariants.{Nop, Cbw, Cwd, Xlat, Clc, Stc, Cmc, Cli, Sti, Cld}
+use Rattle.dcc_machine.specs.declared.instr.Operand.{Operand}
+use Rattle.dcc_machine.specs.declared.instr.Operand.TheVariants.{Word, Byte, Seg, Mem, Const}
+use Rattle.dcc_machine.specs.declared.instr.Op.{Op}
+use Rattle.dcc_machine.specs.declared.instr.Op.TheVariants.{Alu, Unary, Shift, Mov, Xchg, Lea, Imul3, Push, Pop, Enter, Leave, Plain, Jump, Branch, Loop, LoopE, LoopNe, Jcxz, Table, Call, Ret, Int21}
+use Rattle.dcc_machine.specs.declared.instr.Instr.{Instr}
+use Rattle.dcc_machine.specs.Machine.{State, word_in, operand_value, operand_width, with_operand, is_segment}
+use Rattle.dcc_machine.specs.Operands.{register, rm_operand, mod_field, reg_field, address, width_of}
+use Rattle.dcc_machine.specs.Table.{Parts, instruction_at, rm, rm8, rm16, reg, accumulator, destination}
+use Rattle.dcc_machine.specs.Operations.{with_end, with_flags, accumulator_in, upper_in, with_product, count_in, shift_result, top_word, with_sp_raised}
+use Rattle.dcc_machine.specs.Dos.{dos_step, dos_string, with_key, key_step, after_write}
+use Rattle.dcc_machine.specs.Step.{op_step}
+use Rattle.dcc_machine.specs.Writes.{writes_operand}
+use Rattle.dcc_prog.specs.Construct.{is_system}
+use Rattle.dcc_machine.proofs.OperationForms.{alu_result, alu_written, alu-form, Outcome, in_operand, in_pair, in_fault, unary_outcome, outcome_step, unary-form}
+use Rattle.dcc_machine.proofs.DosLaws.{calls-leave}
+use Rattle.dcc_machine.proofs.LocationKept.{or-none}
 use Rattle.dcc_stack.proofs.Rows.{each-instruction}
 
 -- no operand that the operation may write is a segment register

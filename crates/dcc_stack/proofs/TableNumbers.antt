@@ -13,29 +13,31 @@ use Rattle.dcc_num.specs.Numbers.{limit_of, result_flags}
 use Rattle.dcc_num.specs.Sum.{difference_of}
 use Rattle.dcc_num.specs.Shift.{shl_of}
 use Rattle.dcc_num.specs.Logic.{exclusive_of}
-use Rattle.dcc_prog.specs.declared.cpu.Cpu.{Cpu}
-use Rattle.dcc_prog.specs.declared.image.Image.{Image}
+use Rattle.dcc_machine.specs.declared.cpu.Cpu.{Cpu}
+use Rattle.dcc_machine.specs.declared.image.Image.{Image}
 use Rattle.dcc_prog.specs.declared.procedure.Layout.{Layout}
-use Rattle.dcc_prog.specs.declared.instr.Alu.TheVariants.{Xor, Cmp}
-use Rattle.dcc_prog.specs.declared.instr.Shift.TheVariants.{Shl}
-use Rattle.dcc_prog.specs.declared.instr.Count.TheVariants.{One}
-use Rattle.dcc_prog.specs.declared.instr.Cond.TheVariants.{A, Be}
-use Rattle.dcc_prog.specs.declared.instr.Operand.{Operand}
-use Rattle.dcc_prog.specs.declared.instr.Operand.TheVariants.{Word, Byte, Const}
-use Rattle.dcc_prog.specs.declared.instr.Op.{Op}
-use Rattle.dcc_prog.specs.declared.instr.Op.TheVariants.{Alu as AluOp, Shift as ShiftOp, Mov, Branch, Call}
-use Rattle.dcc_prog.specs.declared.instr.Instr.{Instr}
-use Rattle.dcc_prog.specs.MzImage.{IsLoaded}
-use Rattle.dcc_prog.specs.Machine.{State, reg_number, word_in, half_of_word, operand_value, operand_width}
-use Rattle.dcc_prog.specs.Step.{op_step}
-use Rattle.dcc_prog.specs.WellFormed.{AreOperands}
-use Rattle.dcc_prog.specs.Writes.{is_same_register}
-use Rattle.dcc_prog.specs.Trail.{instruction_in, next_of, operation_in, is_general, moved_from, is_doubling, clears_upper, compared_with, al_compared_with, is_bounds_test, is_test_to, number_before_test, greatest_in, greatest_doubled, table_number}
-use Rattle.dcc_prog.specs.StateForm.{IsState}
+use Rattle.dcc_machine.specs.declared.instr.Alu.TheVariants.{Xor, Cmp}
+use Rattle.dcc_machine.specs.declared.instr.Shift.TheVariants.{Shl}
+use Rattle.dcc_machine.specs.declared.instr.Count.TheVariants.{One}
+use Rattle.dcc_machine.specs.declared.instr.Cond.TheVariants.{A, Be}
+use Rattle.dcc_machine.specs.declared.instr.Operand.{Operand}
+use Rattle.dcc_machine.specs.declared.instr.Operand.TheVariants.{Word, Byte, Const}
+use Rattle.dcc_machine.specs.declared.instr.Op.{Op}
+use Rattle.dcc_machine.specs.declared.instr.Op.TheVariants.{Alu as AluOp, Shift as ShiftOp, Mov, Branch, Call}
+use Rattle.dcc_machine.specs.declared.instr.Instr.{Instr}
+use Rattle.dcc_machine.specs.MzImage.{IsLoaded}
+use Rattle.dcc_machine.specs.Machine.{State, reg_number, word_in, half_of_word, operand_value, operand_width}
+use Rattle.dcc_machine.specs.Machine.{is_general}
+use Rattle.dcc_machine.specs.Step.{op_step}
+use Rattle.dcc_machine.specs.WellFormed.{AreOperands}
+use Rattle.dcc_machine.specs.Writes.{is_same_register}
+use Rattle.dcc_machine.specs.Successors.{next_of}
+use Rattle.dcc_prog.specs.Trail.{instruction_in, operation_in, moved_from, is_doubling, clears_upper, compared_with, al_compared_with, is_bounds_test, is_test_to, number_before_test, greatest_in, greatest_doubled, table_number}
+use Rattle.dcc_machine.specs.StateForm.{IsState}
 use Rattle.dcc_prog.specs.RunLaws.{HasPassed}
-use Rattle.dcc_prog.proofs.StateKept.{same-state, value-fits, of_width}
-use Rattle.dcc_prog.proofs.LocationKept.{same-word, word-taken}
-use Rattle.dcc_prog.proofs.AlikeValues.{and-parts}
+use Rattle.dcc_machine.proofs.StateKept.{same-state, value-fits, of_width}
+use Rattle.dcc_machine.proofs.LocationKept.{same-word, word-taken}
+use Rattle.dcc_machine.proofs.AlikeValues.{and-parts}
 use Rattle.dcc_stack.specs.Tables.{HoldsTwice}
 use Rattle.dcc_stack.proofs.TableSteps.{CameBy, came-by}
 

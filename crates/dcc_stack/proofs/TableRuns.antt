@@ -8,24 +8,25 @@ use Rattle.dcc_num.specs.declared.Reg.{Reg}
 use Rattle.dcc_num.specs.declared.Reg.TheVariants.{Ax}
 use Rattle.dcc_num.specs.declared.Half.TheVariants.{High}
 use Rattle.dcc_num.specs.declared.dos.TheConstants.{EXIT}
-use Rattle.dcc_prog.specs.declared.cpu.Cpu.{Cpu}
-use Rattle.dcc_prog.specs.declared.image.Image.{Image}
+use Rattle.dcc_machine.specs.declared.cpu.Cpu.{Cpu}
+use Rattle.dcc_machine.specs.declared.image.Image.{Image}
 use Rattle.dcc_prog.specs.declared.procedure.Layout.{Layout}
 use Rattle.dcc_prog.specs.declared.frame.Program.{Program}
-use Rattle.dcc_prog.specs.declared.refusal.construct.TheConstants.{INDIRECT_JUMP}
+use Rattle.dcc_prog.specs.declared.refusal.ConstructKind.TheVariants.{IndirectJump}
 use Rattle.dcc_prog.specs.declared.refusal.LimitName.TheVariants.{Entries}
-use Rattle.dcc_prog.specs.declared.instr.Op.TheVariants.{Table, Call, Ret}
-use Rattle.dcc_prog.specs.declared.instr.Instr.{Instr}
-use Rattle.dcc_prog.specs.Machine.{State, word_in, code_segment, byte_in, word_at_offset}
-use Rattle.dcc_prog.specs.Dos.{dos_step}
-use Rattle.dcc_prog.specs.Step.{op_step, step}
-use Rattle.dcc_prog.specs.Code.{code_of, HoldsCode}
-use Rattle.dcc_prog.specs.Trail.{code_within, instruction_in, next_of, StandsAt, known_ah, table_number, table_words, table_targets, targets_of, word_in_segment, is_exit, op_successors, instr_successors, successors, IsTrail, IsEntry}
+use Rattle.dcc_machine.specs.declared.instr.Op.TheVariants.{Table, Call, Ret}
+use Rattle.dcc_machine.specs.declared.instr.Instr.{Instr}
+use Rattle.dcc_machine.specs.Machine.{State, word_in, code_segment, byte_in, word_at_offset}
+use Rattle.dcc_machine.specs.Dos.{dos_step}
+use Rattle.dcc_machine.specs.Step.{op_step, step}
+use Rattle.dcc_machine.specs.Code.{code_of, HoldsCode}
+use Rattle.dcc_machine.specs.Successors.{next_of, is_exit, op_successors}
+use Rattle.dcc_prog.specs.Trail.{code_within, instruction_in, StandsAt, known_ah, table_number, table_words, table_targets, targets_of, word_in_segment, instr_successors, successors, IsTrail, IsEntry}
 use Rattle.dcc_prog.specs.Construct.{HasNumber, no_number, no_table, formless}
 use Rattle.dcc_prog.specs.Limit.{entries}
 use Rattle.dcc_prog.specs.RunLaws.{HasPassed}
-use Rattle.dcc_prog.specs.LocationLaws.{half_in}
-use Rattle.dcc_prog.proofs.FetchLaws.{image-placed, length-code_of}
+use Rattle.dcc_machine.specs.LocationLaws.{half_in}
+use Rattle.dcc_machine.proofs.FetchLaws.{image-placed, length-code_of}
 use Rattle.dcc_prog.proofs.PassedRuns.{ah-held}
 use Rattle.dcc_stack.specs.Accepted.{IsProgramOfFile}
 use Rattle.dcc_stack.specs.Tables.{RunsFollowTrails}
@@ -64,7 +65,7 @@ module _ (cpu : Cpu) (image : Image) (program : Program) (is : IsProgramOfFile c
 
       by : (o : Option ℕ) → table_number image layout register before ≡ o → HasTable before register table
       by None told =
-          absurd (is.is_program.procs.no_construct INDIRECT_JUMP at (record {
+          absurd (is.is_program.procs.no_construct IndirectJump at (record {
             entry = entry;
             is_entry = reached;
             node = record { before = before; trail = trail };
@@ -74,7 +75,7 @@ module _ (cpu : Cpu) (image : Image) (program : Program) (is : IsProgramOfFile c
         | inr many ↦ absurd (is.is_program.procs.no_limit Entries (number + 1)
             (entries reached (number-of (Some number) told) many))
         | inl few ↦ elim (cases_lt (length (code_within image layout)) (table + 2 * (number + 1))) [
-          | inl short ↦ absurd (is.is_program.procs.no_construct INDIRECT_JUMP at (record {
+          | inl short ↦ absurd (is.is_program.procs.no_construct IndirectJump at (record {
             entry = entry;
             is_entry = reached;
             node = record { before = before; trail = trail };

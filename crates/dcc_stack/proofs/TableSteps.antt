@@ -2,23 +2,24 @@
 use Rattle.std.proofs.Common.{◌≡◌, ℕ, false, List, ◌∷◌, drop, take, Option, Some, sym, ap, ◌∙◌, subst}
 use Rattle.std.specs.Prelude.{if◌then◌else◌, option_map}
 use Rattle.dcc_run.specs.End.{is_over}
-use Rattle.dcc_prog.specs.declared.image.Image.{Image}
+use Rattle.dcc_machine.specs.declared.image.Image.{Image}
 use Rattle.dcc_prog.specs.declared.procedure.Layout.{Layout}
-use Rattle.dcc_prog.specs.declared.instr.Op.{Op}
-use Rattle.dcc_prog.specs.declared.instr.Op.TheVariants.{Call}
-use Rattle.dcc_prog.specs.declared.instr.Instr.{Instr}
-use Rattle.dcc_prog.specs.MzImage.{IsLoaded}
-use Rattle.dcc_prog.specs.Table.{instruction_at}
-use Rattle.dcc_prog.specs.Machine.{State}
-use Rattle.dcc_prog.specs.Step.{code_bytes, op_step, instruction_step, step}
-use Rattle.dcc_prog.specs.Code.{code_of, HoldsCode}
-use Rattle.dcc_prog.specs.WellFormed.{IsOperation}
-use Rattle.dcc_prog.specs.Trail.{instruction_in, next_of, operation_in}
-use Rattle.dcc_prog.specs.StateForm.{IsState}
+use Rattle.dcc_machine.specs.declared.instr.Op.{Op}
+use Rattle.dcc_machine.specs.declared.instr.Op.TheVariants.{Call}
+use Rattle.dcc_machine.specs.declared.instr.Instr.{Instr}
+use Rattle.dcc_machine.specs.MzImage.{IsLoaded}
+use Rattle.dcc_machine.specs.Table.{instruction_at}
+use Rattle.dcc_machine.specs.Machine.{State}
+use Rattle.dcc_machine.specs.Step.{code_bytes, op_step, instruction_step, step}
+use Rattle.dcc_machine.specs.Code.{code_of, HoldsCode}
+use Rattle.dcc_machine.specs.WellFormed.{IsOperation}
+use Rattle.dcc_machine.specs.Successors.{next_of}
+use Rattle.dcc_prog.specs.Trail.{instruction_in, operation_in}
+use Rattle.dcc_machine.specs.StateForm.{IsState}
 use Rattle.dcc_prog.specs.RunLaws.{HasPassed, begun, stepped, returned}
-use Rattle.dcc_prog.proofs.FetchLaws.{image-placed, fetched-instruction}
-use Rattle.dcc_prog.proofs.WellFormedLaws.{instruction-operation}
-use Rattle.dcc_prog.proofs.StateKept.{code-bytes}
+use Rattle.dcc_machine.proofs.FetchLaws.{image-placed, fetched-instruction}
+use Rattle.dcc_machine.proofs.WellFormedLaws.{instruction-operation}
+use Rattle.dcc_machine.proofs.StateKept.{code-bytes}
 use Rattle.dcc_prog.proofs.PassedRuns.{passed-state}
 
 module _ (image : Image) (layout : Layout) (loaded : IsLoaded image) where

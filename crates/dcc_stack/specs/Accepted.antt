@@ -5,26 +5,27 @@ use Rattle.std.specs.Prelude.{map, Some, All, Contains}
 use Rattle.dcc_num.specs.declared.Width.{Width}
 use Rattle.dcc_num.specs.declared.Reg.TheVariants.{Sp, Bp}
 use Rattle.dcc_num.specs.declared.Half.{Half}
-use Rattle.dcc_prog.specs.declared.cpu.Cpu.{Cpu}
-use Rattle.dcc_prog.specs.declared.image.Image.{Image}
+use Rattle.dcc_machine.specs.declared.cpu.Cpu.{Cpu}
+use Rattle.dcc_machine.specs.declared.image.Image.{Image}
 use Rattle.dcc_prog.specs.declared.procedure.Layout.{Layout}
 use Rattle.dcc_prog.specs.declared.frame.Frame.{Frame}
 use Rattle.dcc_prog.specs.declared.frame.Program.{Program}
-use Rattle.dcc_prog.specs.declared.instr.Ea.{Ea}
-use Rattle.dcc_prog.specs.declared.instr.Operand.{Operand}
-use Rattle.dcc_prog.specs.declared.instr.Operand.TheVariants.{Word}
-use Rattle.dcc_prog.specs.declared.instr.Op.{Op}
-use Rattle.dcc_prog.specs.declared.instr.Op.TheVariants.{Mov, Lea, Push, Pop, Enter, Leave, Table, Call, Ret, Int21}
-use Rattle.dcc_prog.specs.declared.instr.Instr.{Instr}
-use Rattle.dcc_prog.specs.Access.{is_direct}
-use Rattle.dcc_prog.specs.Writes.{writes_half}
+use Rattle.dcc_machine.specs.declared.instr.Ea.{Ea}
+use Rattle.dcc_machine.specs.declared.instr.Operand.{Operand}
+use Rattle.dcc_machine.specs.declared.instr.Operand.TheVariants.{Word}
+use Rattle.dcc_machine.specs.declared.instr.Op.{Op}
+use Rattle.dcc_machine.specs.declared.instr.Op.TheVariants.{Mov, Lea, Push, Pop, Enter, Leave, Table, Call, Ret, Int21}
+use Rattle.dcc_machine.specs.declared.instr.Instr.{Instr}
+use Rattle.dcc_machine.specs.Access.{is_direct}
+use Rattle.dcc_machine.specs.Writes.{writes_half}
 use Rattle.dcc_prog.specs.Trail.{instruction_in, StandsAt, known_ah, table_number, successors, IsTrail, IsEntry}
-use Rattle.dcc_prog.specs.FrameForm.{is_framed, is_sp_or_bp, address_uses_bp, is_by_bp}
+use Rattle.dcc_machine.specs.SpAndBp.{is_sp_or_bp, address_uses_bp, is_by_bp}
+use Rattle.dcc_prog.specs.FrameForm.{is_framed}
 use Rattle.dcc_prog.specs.Height.{lowering_of, IsRemoved, MovesHeight, GivesHeight}
 use Rattle.dcc_prog.specs.Frame.{Span, span_of, memory_operand, own_bytes, IsDirectAccess, StartsExposure, HasArguments}
 use Rattle.dcc_prog.specs.Frame.{IsCell, HasExposedLocal, HasExposedArguments}
 use Rattle.dcc_prog.specs.Construct.{is_system}
-use Rattle.dcc_prog.specs.MzImage.{IsLoaded}
+use Rattle.dcc_machine.specs.MzImage.{IsLoaded}
 use Rattle.dcc_prog.specs.Clean.{frame_in}
 use Rattle.dcc_prog.specs.CleanLaws.{moves_frames}
 use Rattle.dcc_prog.specs.Analysed.{bytes_of, IsProgramOf}

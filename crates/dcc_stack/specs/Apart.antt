@@ -2,17 +2,17 @@
 use Rattle.std.specs.Prelude.{◌≡◌, ◌≤◌, ◌<◌, ◌⊎◌, ℕ, ◌+◌, ◌*◌, Bool, true, false, if◌then◌else◌, List, ◌∷◌, slice_index}
 use Rattle.std.specs.Prelude.{All, Contains, Some, None}
 use Rattle.dcc_run.specs.End.{is_over}
-use Rattle.dcc_prog.specs.declared.cpu.Cpu.{Cpu}
-use Rattle.dcc_prog.specs.declared.image.Image.{Image}
+use Rattle.dcc_machine.specs.declared.cpu.Cpu.{Cpu}
+use Rattle.dcc_machine.specs.declared.image.Image.{Image}
 use Rattle.dcc_prog.specs.declared.procedure.Layout.{Layout}
 use Rattle.dcc_prog.specs.declared.frame.Program.{Program}
-use Rattle.dcc_prog.specs.declared.instr.Op.{Op}
-use Rattle.dcc_prog.specs.declared.instr.Op.TheVariants.{Push, Enter, Call}
-use Rattle.dcc_prog.specs.declared.instr.Instr.{Instr}
-use Rattle.dcc_prog.specs.Machine.{State}
+use Rattle.dcc_machine.specs.declared.instr.Op.{Op}
+use Rattle.dcc_machine.specs.declared.instr.Op.TheVariants.{Push, Enter, Call}
+use Rattle.dcc_machine.specs.declared.instr.Instr.{Instr}
+use Rattle.dcc_machine.specs.Machine.{State}
 use Rattle.dcc_prog.specs.Trail.{instruction_in}
 use Rattle.dcc_prog.specs.FrameForm.{is_framed}
-use Rattle.dcc_prog.specs.Access.{written_by, found_accesses}
+use Rattle.dcc_machine.specs.Access.{written_by, found_accesses}
 use Rattle.dcc_prog.specs.Clean.{Stack, stack_offset, foul_of, top_in}
 use Rattle.dcc_prog.specs.Watch.{next_instruction}
 use Rattle.dcc_stack.specs.Accepted.{IsProgramOfFile}

@@ -4,17 +4,17 @@
 use Rattle.std.specs.Prelude.{◌≡◌, ◌≤◌, ◌<◌, ◌⊎◌, ◌↔◌, ℕ, ◌+◌, ◌*◌, ℤ, pos, ◌+ℤ◌, ◌-ℤ◌, ◌≤ℤ◌, ◌<ℤ◌, Bool, true, false}
 use Rattle.std.specs.Prelude.{List, ◌∷◌, length, map, slice_index, slice_set, Contains, Some}
 use Rattle.std.specs.List.{AllZip, filter_map}
-use Rattle.dcc_prog.specs.declared.cpu.Cpu.{Cpu}
-use Rattle.dcc_prog.specs.declared.image.Image.{Image}
+use Rattle.dcc_machine.specs.declared.cpu.Cpu.{Cpu}
+use Rattle.dcc_machine.specs.declared.image.Image.{Image}
 use Rattle.dcc_prog.specs.declared.procedure.Layout.{Layout}
 use Rattle.dcc_prog.specs.declared.procedure.Proc.{Proc}
 use Rattle.dcc_prog.specs.declared.frame.Frame.{Frame}
 use Rattle.dcc_prog.specs.declared.frame.Program.{Program}
-use Rattle.dcc_prog.specs.declared.instr.Op.{Op}
+use Rattle.dcc_machine.specs.declared.instr.Op.{Op}
 use Rattle.dcc_prog.specs.Trail.{StandsAt, IsNode, IsEntry}
 use Rattle.dcc_prog.specs.Frame.{Span, own_bytes, IsDirectAccess, IsPlaced}
-use Rattle.dcc_prog.specs.Machine.{State}
-use Rattle.dcc_prog.specs.Access.{Store, stored}
+use Rattle.dcc_machine.specs.Machine.{State}
+use Rattle.dcc_machine.specs.Access.{Store, stored}
 use Rattle.dcc_prog.specs.Clean.{LiveFrame, Stack, top_in, stack_offset, end_of, frame_in, is_marked, with_marks}
 use Rattle.dcc_stack.specs.Accepted.{IsProgramOfFile, IsInFrame}
 use Rattle.dcc_stack.specs.Standing.{Activation, StandsIn, Stand}

@@ -3,15 +3,16 @@
 -- saved BP where they were stored. Offsets are those of the data segment.
 use Rattle.std.specs.Prelude.{◌≡◌, ◌≤◌, ◌⊎◌, ℕ, ◌+◌, ◌-◌, ◌*◌, pos, true, false, List, [], ◌∷◌, map, slice_index, Some}
 use Rattle.dcc_num.specs.declared.Reg.TheVariants.{Sp, Bp}
-use Rattle.dcc_prog.specs.declared.image.Image.{Image}
+use Rattle.dcc_machine.specs.declared.image.Image.{Image}
 use Rattle.dcc_prog.specs.declared.procedure.Layout.{Layout}
-use Rattle.dcc_prog.specs.declared.instr.Operand.TheVariants.{Word}
-use Rattle.dcc_prog.specs.declared.instr.Op.TheVariants.{Mov, Call}
-use Rattle.dcc_prog.specs.declared.instr.Instr.{Instr}
-use Rattle.dcc_prog.specs.Machine.{State, word_in, stack_segment, data_segment}
-use Rattle.dcc_prog.specs.Code.{HoldsCode}
-use Rattle.dcc_prog.specs.StateForm.{IsState}
-use Rattle.dcc_prog.specs.Trail.{instruction_in, next_of, StandsAt}
+use Rattle.dcc_machine.specs.declared.instr.Operand.TheVariants.{Word}
+use Rattle.dcc_machine.specs.declared.instr.Op.TheVariants.{Mov, Call}
+use Rattle.dcc_machine.specs.declared.instr.Instr.{Instr}
+use Rattle.dcc_machine.specs.Machine.{State, word_in, stack_segment, data_segment}
+use Rattle.dcc_machine.specs.Code.{HoldsCode}
+use Rattle.dcc_machine.specs.StateForm.{IsState}
+use Rattle.dcc_machine.specs.Successors.{next_of}
+use Rattle.dcc_prog.specs.Trail.{instruction_in, StandsAt}
 use Rattle.dcc_prog.specs.FrameForm.{is_framed}
 use Rattle.dcc_prog.specs.RunLaws.{HasPassed}
 use Rattle.dcc_prog.specs.Clean.{LiveFrame, Stack, is_marked, top_in}

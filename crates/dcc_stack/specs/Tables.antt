@@ -3,14 +3,14 @@
 use Rattle.std.specs.Prelude.{◌≡◌, ◌≤◌, ℕ, ◌*◌, false, List, ◌∷◌, Contains, Some}
 use Rattle.dcc_run.specs.End.{is_over}
 use Rattle.dcc_num.specs.declared.Reg.{Reg}
-use Rattle.dcc_prog.specs.declared.cpu.Cpu.{Cpu}
-use Rattle.dcc_prog.specs.declared.image.Image.{Image}
+use Rattle.dcc_machine.specs.declared.cpu.Cpu.{Cpu}
+use Rattle.dcc_machine.specs.declared.image.Image.{Image}
 use Rattle.dcc_prog.specs.declared.frame.Program.{Program}
-use Rattle.dcc_prog.specs.declared.instr.Op.TheVariants.{Call, Ret}
-use Rattle.dcc_prog.specs.declared.instr.Instr.{Instr}
-use Rattle.dcc_prog.specs.Machine.{State, word_in}
-use Rattle.dcc_prog.specs.Step.{step}
-use Rattle.dcc_prog.specs.Code.{HoldsCode}
+use Rattle.dcc_machine.specs.declared.instr.Op.TheVariants.{Call, Ret}
+use Rattle.dcc_machine.specs.declared.instr.Instr.{Instr}
+use Rattle.dcc_machine.specs.Machine.{State, word_in}
+use Rattle.dcc_machine.specs.Step.{step}
+use Rattle.dcc_machine.specs.Code.{HoldsCode}
 use Rattle.dcc_prog.specs.Trail.{instruction_in, table_number, successors, IsTrail}
 use Rattle.dcc_prog.specs.RunLaws.{HasPassed}
 use Rattle.dcc_stack.specs.Accepted.{IsProgramOfFile, IsAt}

@@ -4,9 +4,9 @@ use Rattle.std.specs.List.{All}
 use Rattle.std.proofs.lemmas.List.{get_or-set_other}
 use Rattle.std.proofs.lemmas.List.Elements.{All-weaker}
 use Rattle.dcc_step.specs.declared.cache.Decoded.{Decoded}
-use Rattle.dcc_prog.specs.declared.cpu.Cpu.{Cpu}
-use Rattle.dcc_prog.specs.declared.segment.TheConstants.{CS}
-use Rattle.dcc_prog.specs.Table.{instruction_at}
+use Rattle.dcc_machine.specs.declared.cpu.Cpu.{Cpu}
+use Rattle.dcc_machine.specs.declared.segment.TheConstants.{CS}
+use Rattle.dcc_machine.specs.Table.{instruction_at}
 use Rattle.dcc_step.specs.Cache.{code_address, bytes_at, is_marked, IsMarkedFrom, IsDecoded, IsFreshIfKnown}
 
 -- a marked address is no other one

@@ -1,6 +1,6 @@
 -- The machine as code that executes a system with a console.
 use Rattle.std.proofs.Common.{refl}
-use Rattle.dcc_prog.proofs.StepLaws.{machine_lawful}
+use Rattle.dcc_machine.proofs.StepLaws.{machine_lawful}
 use Rattle.dcc_console.specs.Laws.{IsLawfulExecutor}
 use Rattle.dcc_step.specs.Stepped.{machine}
 

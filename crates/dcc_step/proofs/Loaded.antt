@@ -1,11 +1,11 @@
 -- The memory of a machine that is started.
 use Rattle.std.proofs.Common.{◌≡◌, ℕ, ◌+◌, ◌-◌, ◌≤◌, ◌^◌, List, [], ◌++◌, length, replicate, take, refl, ap, ◌∙◌, append_assoc, arith, length-append, vec_len}
 use Rattle.std.proofs.lemmas.List.{length-replicate, take_all}
-use Rattle.dcc_prog.specs.declared.image.Image.{Image}
-use Rattle.dcc_prog.specs.Load.{image_address}
-use Rattle.dcc_prog.specs.Machine.{loaded_memory}
-use Rattle.dcc_prog.specs.MzImage.{IsLoaded, relocation_count}
-use Rattle.dcc_prog.proofs.MzImageLaws.{length-relocated_image}
+use Rattle.dcc_machine.specs.declared.image.Image.{Image}
+use Rattle.dcc_machine.specs.Load.{image_address}
+use Rattle.dcc_machine.specs.Machine.{loaded_memory}
+use Rattle.dcc_machine.specs.MzImage.{IsLoaded, relocation_count}
+use Rattle.dcc_machine.proofs.MzImageLaws.{length-relocated_image}
 
 -- a load image fits into memory
 pub loaded_fits : (image : Image) → IsLoaded image → image_address + vec_len image.bytes ≤ 2 ^ 20

@@ -4,20 +4,20 @@ use Rattle.dcc_run.specs.End.{Running as running}
 use Rattle.dcc_num.specs.declared.Reg.{Reg}
 use Rattle.dcc_num.specs.declared.Width.{Width}
 use Rattle.dcc_num.specs.declared.Width.TheVariants.{Word as word_width}
-use Rattle.dcc_prog.specs.declared.cpu.Cpu.{Cpu}
-use Rattle.dcc_prog.specs.declared.instr.Alu.{Alu}
-use Rattle.dcc_prog.specs.declared.instr.Alu.TheVariants.{Add, Or, Adc, Sbb, And, Sub, Xor, Cmp, Test}
-use Rattle.dcc_prog.specs.declared.instr.Operand.{Operand}
-use Rattle.dcc_prog.specs.declared.instr.Operand.TheVariants.{Word}
-use Rattle.dcc_prog.specs.declared.instr.Op.TheVariants.{Int21}
-use Rattle.dcc_prog.specs.declared.instr.Instr.{Instr}
-use Rattle.dcc_prog.specs.Machine.{State}
-use Rattle.dcc_prog.specs.Operations.{with_result, with_flags, alu_step}
-use Rattle.dcc_prog.specs.Writes.{writes_operand}
-use Rattle.dcc_prog.specs.Table.{instruction_at}
-use Rattle.dcc_prog.specs.Step.{code_bytes, op_step, step}
-use Rattle.dcc_prog.proofs.ConsoleLaws.{op-keeps}
-use Rattle.dcc_console.specs.Scene.{scene}
+use Rattle.dcc_machine.specs.declared.cpu.Cpu.{Cpu}
+use Rattle.dcc_machine.specs.declared.instr.Alu.{Alu}
+use Rattle.dcc_machine.specs.declared.instr.Alu.TheVariants.{Add, Or, Adc, Sbb, And, Sub, Xor, Cmp, Test}
+use Rattle.dcc_machine.specs.declared.instr.Operand.{Operand}
+use Rattle.dcc_machine.specs.declared.instr.Operand.TheVariants.{Word}
+use Rattle.dcc_machine.specs.declared.instr.Op.TheVariants.{Int21}
+use Rattle.dcc_machine.specs.declared.instr.Instr.{Instr}
+use Rattle.dcc_machine.specs.Machine.{State}
+use Rattle.dcc_machine.specs.Operations.{with_result, with_flags, alu_step}
+use Rattle.dcc_machine.specs.Writes.{writes_operand}
+use Rattle.dcc_machine.specs.Table.{instruction_at}
+use Rattle.dcc_machine.specs.Step.{code_bytes, op_step, step}
+use Rattle.dcc_machine.proofs.ConsoleLaws.{op-keeps}
+use Rattle.dcc_console.specs.WithConsole.{beside_console}
 use Rattle.dcc_console.specs.Steps.{Makes}
 use Rattle.dcc_step.specs.declared.form.Form.{Form}
 use Rattle.dcc_step.specs.declared.form.Form.TheVariants.{Registers, Constant, Memory, Inc, Dec, Move, Set, Load, Store, Jump, Branch, Other}
@@ -116,7 +116,7 @@ quiet_step m moved new form len runs other found moved_is done =
     }
 
 pub quiet_makes : (m new : Core) (left taken : Option (List ℕ)) → IsQuietStep m new
-    → Makes machine (scene m left taken) (scene new left taken)
+    → Makes machine (beside_console m left taken) (beside_console new left taken)
 quiet_makes m new left taken quiet = made_quiet step m new left taken quiet.cpu quiet.leads
 
 pub quiet_leads : (m new : Core) → IsQuietStep m new → LeadsOnBytes step m new

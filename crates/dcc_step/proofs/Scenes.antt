@@ -10,14 +10,14 @@ use Rattle.dcc_num.specs.declared.Reg.TheVariants.{Ax}
 use Rattle.dcc_num.specs.declared.Half.TheVariants.{High}
 use Rattle.dcc_io.specs.Told.{append_told, prepend_told, AppendsProperPrefix}
 use Rattle.dcc_io.proofs.ToldLemmas.{append_told-nil, prepend_told-nil}
-use Rattle.dcc_prog.specs.declared.cpu.Cpu.{Cpu}
-use Rattle.dcc_prog.specs.Machine.{State, word_in, half_of_word}
-use Rattle.dcc_prog.specs.Operations.{with_end, with_al}
-use Rattle.dcc_prog.specs.Dos.{bytes_from, dos_string, key_step, dos_step, dos_call}
+use Rattle.dcc_machine.specs.declared.cpu.Cpu.{Cpu}
+use Rattle.dcc_machine.specs.Machine.{State, word_in, half_of_word}
+use Rattle.dcc_machine.specs.Operations.{with_end, with_al}
+use Rattle.dcc_machine.specs.Dos.{bytes_from, dos_string, key_step, dos_step, dos_call}
 use Rattle.dcc_console.specs.declared.fault.Fault.{Fault}
 use Rattle.dcc_console.specs.declared.fault.Fault.TheVariants.{Input, Output}
 use Rattle.dcc_console.specs.Key.{key_events, TakesKey, next_byte, no_byte, IsRefusedKey}
-use Rattle.dcc_console.specs.Scene.{Scene, scene, told_bytes}
+use Rattle.dcc_console.specs.WithConsole.{WithConsole, beside_console, told_bytes}
 use Rattle.dcc_console.specs.Steps.{Comes, Makes, IsRefusedWrite, Steps, refusal_of}
 use Rattle.dcc_console.proofs.KeyLaws.{key-taken}
 use Rattle.dcc_step.specs.Core.{Core, with_console, core_of, state_of, changed_by}
@@ -52,7 +52,7 @@ comes_by operation old new given rest happened kept is cpu s stands has =
 -- an operation that does the same beside any console, and leaves that
 pub made_quiet : (operation : Cpu → State → State) (old new : Core) (left taken : Option (List ℕ)) → new.cpu ≡ old.cpu
     → ((input : List ℕ) (events : List Event) → operation old.cpu (with_console old input events) ≡ with_console new input events)
-    → Makes (machine_by operation) (scene old left taken) (scene new left taken)
+    → Makes (machine_by operation) (beside_console old left taken) (beside_console new left taken)
 made_quiet operation old new left taken kept is = record {
   happened = [];
   took = sym (prepend_told-nil left);
@@ -63,9 +63,10 @@ made_quiet operation old new left taken kept is = record {
 }
 
 -- an operation that does, from one machine, what another does from another machine
-pub made_as : (f g : Cpu → State → State) (from old : Core) (left taken : Option (List ℕ)) (now : Scene Core) → old.cpu ≡ from.cpu
+pub made_as : (f g : Cpu → State → State) (from old : Core) (left taken : Option (List ℕ)) (now : WithConsole Core) → old.cpu ≡ from.cpu
     → ((input : List ℕ) (events : List Event) → g from.cpu (with_console from input events) ≡ f old.cpu (with_console old input events))
-    → Makes (machine_by f) (scene old left taken) now → Makes (machine_by g) (scene from left taken) now
+    → Makes (machine_by f) (beside_console old left taken) now
+    → Makes (machine_by g) (beside_console from left taken) now
 made_as f g from old left taken now kept same made = record {
   happened = made.happened;
   took = made.took;
@@ -85,13 +86,13 @@ made_as f g from old left taken now kept same made = record {
 -- as it was before
 pub refused_as : (f g : Cpu → State → State) (fault : Fault) (from old new : Core) (left taken left_now taken_now : Option (List ℕ))
     → ((input : List ℕ) (events : List Event) → g from.cpu (with_console from input events) ≡ f old.cpu (with_console old input events))
-    → Steps (machine_by f) (refusal_of fault) (scene old left taken) (scene new left_now taken_now)
-    → Steps (machine_by g) (refusal_of fault) (scene from left taken) (scene from left_now taken_now)
+    → Steps (machine_by f) (refusal_of fault) (beside_console old left taken) (beside_console new left_now taken_now)
+    → Steps (machine_by g) (refusal_of fault) (beside_console from left taken) (beside_console from left_now taken_now)
 refused_as f g Input from old new left taken left_now taken_now same refused = record {
   takes = λ w s byte rest stands has.
       ap (λ (t : State). t.input) (done_beside g w from s s.input stands refl ∙ same s.input s.events)
       ∙ refused.takes old.cpu (with_console old s.input s.events) byte rest refl has;
-  unchanged = ap (λ (v : Scene Core). scene from v.left v.taken) refused.unchanged;
+  unchanged = ap (λ (v : WithConsole Core). beside_console from v.left v.taken) refused.unchanged;
 }
 refused_as f g Output from old new left taken left_now taken_now same refused = record {
   happened = refused.happened;
@@ -141,18 +142,21 @@ leads_as f g from old now kept same led = record {
 
 -- a refused operation leaves the machine
 pub refused_core : (f : Cpu → State → State) (fault : Fault) (old new : Core) (left taken left_now taken_now : Option (List ℕ))
-    → Steps (machine_by f) (refusal_of fault) (scene old left taken) (scene new left_now taken_now) → new ≡ old
-refused_core f Input old new left taken left_now taken_now refused = ap (λ (v : Scene Core). v.code) refused.unchanged
+    → Steps (machine_by f) (refusal_of fault) (beside_console old left taken) (beside_console new left_now taken_now)
+    → new ≡ old
+refused_core f Input old new left taken left_now taken_now refused = ap (λ (v : WithConsole Core). v.code)
+    refused.unchanged
 refused_core f Output old new left taken left_now taken_now refused = refused.unchanged
 
 -- an operation that does what another does from one machine is refused where the other is, and leaves the machine
 pub refused_here : (f g : Cpu → State → State) (fault : Fault) (old new : Core) (left taken left_now taken_now : Option (List ℕ))
     → ((input : List ℕ) (events : List Event) → g old.cpu (with_console old input events) ≡ f old.cpu (with_console old input events))
-    → Steps (machine_by f) (refusal_of fault) (scene old left taken) (scene new left_now taken_now)
-    → Steps (machine_by g) (refusal_of fault) (scene old left taken) (scene new left_now taken_now)
+    → Steps (machine_by f) (refusal_of fault) (beside_console old left taken) (beside_console new left_now taken_now)
+    → Steps (machine_by g) (refusal_of fault) (beside_console old left taken) (beside_console new left_now taken_now)
 refused_here f g fault old new left taken left_now taken_now same refused =
     let kept : new ≡ old = refused_core f fault old new left taken left_now taken_now refused in
-    subst (λ k. Steps (machine_by g) (refusal_of fault) (scene old left taken) (scene k left_now taken_now)) (sym kept)
+    subst (λ k. Steps (machine_by g) (refusal_of fault) (beside_console old left taken) (beside_console k left_now
+    taken_now)) (sym kept)
     (refused_as f g fault old old new left taken left_now taken_now same refused)
 
 -- bytes that are written take nothing
@@ -163,7 +167,7 @@ untaken bytes left = sym (prepend_told-nil left) ∙ ap (λ l. prepend_told l le
 pub made_writing : (operation : Cpu → State → State) (m : Core) (bytes : List ℕ) (left taken taken_now : Option (List ℕ))
     → ((input : List ℕ) (events : List Event) → operation m.cpu (with_console m input events) ≡ with_console m input (events ++ writes bytes))
     → taken_now ≡ append_told taken bytes
-    → Makes (machine_by operation) (scene m left taken) (scene m left taken_now)
+    → Makes (machine_by operation) (beside_console m left taken) (beside_console m left taken_now)
 made_writing operation m bytes left taken taken_now is wrote = record {
   happened = writes bytes;
   took = untaken bytes left;
@@ -175,7 +179,7 @@ made_writing operation m bytes left taken taken_now is wrote = record {
 pub refused_writing : (operation : Cpu → State → State) (m : Core) (bytes : List ℕ) (left taken taken_now : Option (List ℕ))
     → ((input : List ℕ) (events : List Event) → operation m.cpu (with_console m input events) ≡ with_console m input (events ++ writes bytes))
     → AppendsProperPrefix taken taken_now bytes
-    → IsRefusedWrite (machine_by operation) (scene m left taken) (scene m left taken_now)
+    → IsRefusedWrite (machine_by operation) (beside_console m left taken) (beside_console m left taken_now)
 refused_writing operation m bytes left taken taken_now is part = record {
   happened = writes bytes;
   takes = λ w s rest stands has.
@@ -190,7 +194,7 @@ refused_writing operation m bytes left taken taken_now is part = record {
 -- a key was taken into AL
 pub key_made : (echo : Bool) (m new : Core) (key : ℕ) (left taken left_now taken_now : Option (List ℕ))
     → TakesKey echo left taken left_now taken_now key → new ≡ changed_by (with_al key) m
-    → Makes (machine_by (λ cpu. key_step echo)) (scene m left taken) (scene new left_now taken_now)
+    → Makes (machine_by (λ cpu. key_step echo)) (beside_console m left taken) (beside_console new left_now taken_now)
 key_made echo m new key left taken left_now taken_now (next_byte took wrote) is = record {
   happened = key_events echo key;
   took = took;
@@ -215,10 +219,11 @@ key_made echo m new _ left taken left_now taken_now (no_byte none took wrote) is
 -- a key was not taken, or not wholly written
 pub key_refused : (echo : Bool) (m : Core) (fault : Fault) (left taken left_now taken_now : Option (List ℕ))
     → IsRefusedKey echo left taken left_now taken_now fault
-    → Steps (machine_by (λ cpu. key_step echo)) (refusal_of fault) (scene m left taken) (scene m left_now taken_now)
+    → Steps (machine_by (λ cpu. key_step echo)) (refusal_of fault) (beside_console m left taken) (beside_console m
+    left_now taken_now)
 key_refused echo m Input left taken left_now taken_now refused = record {
   takes = λ w s byte rest stands has. ap (λ (t : State). t.input) (done_beside (λ cpu. key_step echo) w m s (byte ∷ rest) stands has);
-  unchanged = ap (λ l. scene m l taken_now) refused.same_left ∙ ap (scene m left) refused.same_taken;
+  unchanged = ap (λ l. beside_console m l taken_now) refused.same_left ∙ ap (beside_console m left) refused.same_taken;
 }
 key_refused echo m Output left taken left_now taken_now refused = record {
   happened = key_events echo refused.byte;

@@ -3,13 +3,13 @@ use Rattle.std.proofs.Common.{◌≡◌, ◌≢◌, ℕ, ◌+◌, ◌%◌, ◌�
 use Rattle.std.specs.Prelude.{if◌then◌else◌}
 use Rattle.dcc_run.specs.End.{End, Running as running, Outside as outside, is_over}
 use Rattle.dcc_run.specs.Event.{Event}
-use Rattle.dcc_prog.specs.declared.instr.Op.{Op}
-use Rattle.dcc_prog.specs.declared.instr.Op.TheVariants.{Int21}
-use Rattle.dcc_prog.specs.declared.instr.Instr.{Instr}
-use Rattle.dcc_prog.specs.Operations.{with_end}
-use Rattle.dcc_prog.specs.Table.{instruction_at}
-use Rattle.dcc_prog.specs.Step.{code_bytes, op_step, instruction_step, step}
-use Rattle.dcc_prog.proofs.ConsoleLaws.{op-keeps}
+use Rattle.dcc_machine.specs.declared.instr.Op.{Op}
+use Rattle.dcc_machine.specs.declared.instr.Op.TheVariants.{Int21}
+use Rattle.dcc_machine.specs.declared.instr.Instr.{Instr}
+use Rattle.dcc_machine.specs.Operations.{with_end}
+use Rattle.dcc_machine.specs.Table.{instruction_at}
+use Rattle.dcc_machine.specs.Step.{code_bytes, op_step, instruction_step, step}
+use Rattle.dcc_machine.proofs.ConsoleLaws.{op-keeps}
 use Rattle.dcc_step.specs.declared.ending.Ending.{Ending}
 use Rattle.dcc_step.specs.declared.ending.Ending.TheVariants.{Running, Exit, Divide, Outside}
 use Rattle.dcc_step.specs.declared.ending.Stepped.{Stepped}
@@ -17,7 +17,7 @@ use Rattle.dcc_step.specs.declared.ending.Stepped.TheVariants.{Running as goes_o
 use Rattle.dcc_console.specs.declared.fault.Fault.{Fault}
 use Rattle.dcc_console.specs.declared.fault.Fault.TheVariants.{Input, Output}
 use Rattle.dcc_console.specs.Counts.{CountsFaults}
-use Rattle.dcc_console.specs.Scene.{Scene, scene}
+use Rattle.dcc_console.specs.WithConsole.{WithConsole, beside_console}
 use Rattle.dcc_console.specs.Steps.{HasEnded, Makes, MakesSteps, made, Steps, Runs, refusal_of}
 use Rattle.dcc_step.specs.Core.{Core, with_console, core_of, state_of, changed_by}
 use Rattle.dcc_step.specs.Ending.{end_of, answer_of, fault_answer_of}
@@ -27,7 +27,7 @@ use Rattle.dcc_step.proofs.Scenes.{made_quiet, made_as, refused_as, refused_core
 -- an operation other than INT 21h
 pub operation_made : (op : Op) (at : ℕ) (m new : Core) (left taken : Option (List ℕ)) → op ≢ Int21
     → new ≡ changed_by (op_step m.cpu op at) m
-    → Makes (machine_by (λ cpu. op_step cpu op at)) (scene m left taken) (scene new left taken)
+    → Makes (machine_by (λ cpu. op_step cpu op at)) (beside_console m left taken) (beside_console new left taken)
 operation_made op at m new left taken other is =
     made_quiet (λ cpu. op_step cpu op at) m new left taken (ap (λ (k : Core). k.cpu) is)
     (λ input events. op-keeps m.cpu op at other input events (state_of m) ∙ ap (λ k. with_console k input events) (sym is))
@@ -54,12 +54,12 @@ answer_tells Divide = refl
 answer_tells (Outside at) = refl
 
 -- a step that was made answers how the run has ended
-pub answered : (e : Ending) (answer : Stepped) (before now : Scene Core) → answer ≡ answer_of e → Makes machine before now
+pub answered : (e : Ending) (answer : Stepped) (before now : WithConsole Core) → answer ≡ answer_of e → Makes machine before now
     → Steps machine (outcome_of answer) before now
 answered e answer before now is step_was_made =
     subst (λ o. Steps machine o before now) (sym (ap outcome_of is ∙ answer_made e)) step_was_made
 
-pub answered_run : (e : Ending) (answer : Stepped) (most : ℕ) (before now : Scene Core) → answer ≡ answer_of e
+pub answered_run : (e : Ending) (answer : Stepped) (most : ℕ) (before now : WithConsole Core) → answer ≡ answer_of e
     → MakesSteps machine most before now → Runs machine most (outcome_of answer) before now
 answered_run e answer most before now is run =
     subst (λ o. Runs machine most o before now) (sym (ap outcome_of is ∙ answer_made e)) run
@@ -113,7 +113,7 @@ answer_over read_fails other is = cc
 answer_over write_fails other is = cc
 
 -- a machine whose run has ended
-pub stays_over : (m : Core) (left taken : Option (List ℕ)) → is_over m.end ≡ true → Makes machine (scene m left taken) (scene m left taken)
+pub stays_over : (m : Core) (left taken : Option (List ℕ)) → is_over m.end ≡ true → Makes machine (beside_console m left taken) (beside_console m left taken)
 stays_over m left taken over =
     made_quiet step m m left taken refl
     (λ input events. ap (λ b. if b then with_console m input events else instruction_step m.cpu (instruction_at m.cpu m.ip (code_bytes (with_console m input events))) (with_console m input events)) over)
@@ -128,7 +128,7 @@ step_is m found runs is input events =
 
 pub step_outside : (m new : Core) (left taken : Option (List ℕ)) → m.end ≡ running → instruction_at m.cpu m.ip (code_bytes (state_of m)) ≡ None
     → new ≡ changed_by (with_end (outside m.ip) m.ip) m
-    → Makes machine (scene m left taken) (scene new left taken)
+    → Makes machine (beside_console m left taken) (beside_console new left taken)
 step_outside m new left taken runs none is =
     made_quiet step m new left taken (ap (λ (k : Core). k.cpu) is)
     (λ input events. step_is m None runs none input events ∙ ap (λ k. with_console k input events) (sym is))
@@ -137,41 +137,41 @@ step_outside m new left taken runs none is =
 abbrev pub moved_past : Instr → Core → Core
 moved_past instr m = record m { ip = (m.ip + instr.len) % 65536 }
 
-pub step_made : (m : Core) (instr : Instr) (left taken : Option (List ℕ)) (now : Scene Core) → m.end ≡ running
+pub step_made : (m : Core) (instr : Instr) (left taken : Option (List ℕ)) (now : WithConsole Core) → m.end ≡ running
     → instruction_at m.cpu m.ip (code_bytes (state_of m)) ≡ Some instr
-    → Makes (machine_by (λ cpu. op_step cpu instr.op m.ip)) (scene (moved_past instr m) left taken) now
-    → Makes machine (scene m left taken) now
+    → Makes (machine_by (λ cpu. op_step cpu instr.op m.ip)) (beside_console (moved_past instr m) left taken) now
+    → Makes machine (beside_console m left taken) now
 step_made m instr left taken now runs found done =
     made_as (λ cpu. op_step cpu instr.op m.ip) step m (moved_past instr m) left taken now refl (step_is m (Some instr) runs found) done
 
 pub step_refused : (m new : Core) (instr : Instr) (fault : Fault) (left taken left_now taken_now : Option (List ℕ)) → m.end ≡ running
     → instruction_at m.cpu m.ip (code_bytes (state_of m)) ≡ Some instr
-    → Steps (machine_by (λ cpu. op_step cpu instr.op m.ip)) (refusal_of fault) (scene (moved_past instr m) left taken) (scene new left_now taken_now)
-    → Steps machine (refusal_of fault) (scene m left taken) (scene m left_now taken_now)
+    → Steps (machine_by (λ cpu. op_step cpu instr.op m.ip)) (refusal_of fault) (beside_console (moved_past instr m) left taken) (beside_console new left_now taken_now)
+    → Steps machine (refusal_of fault) (beside_console m left taken) (beside_console m left_now taken_now)
 step_refused m new instr fault left taken left_now taken_now runs found refused =
     refused_as (λ cpu. op_step cpu instr.op m.ip) step fault m (moved_past instr m) new left taken left_now taken_now (step_is m (Some instr) runs found) refused
 
 -- a step is made, as the code has it: by the instruction's offset, and the machine with its instruction pointer moved
-pub step_made_at : (m old : Core) (at : ℕ) (instr : Instr) (left taken : Option (List ℕ)) (now : Scene Core) → m.end ≡ running
+pub step_made_at : (m old : Core) (at : ℕ) (instr : Instr) (left taken : Option (List ℕ)) (now : WithConsole Core) → m.end ≡ running
     → instruction_at m.cpu m.ip (code_bytes (state_of m)) ≡ Some instr
-    → Makes (machine_by (λ cpu. op_step cpu instr.op at)) (scene old left taken) now
-    → at ≡ m.ip → old ≡ moved_past instr m → Makes machine (scene m left taken) now
+    → Makes (machine_by (λ cpu. op_step cpu instr.op at)) (beside_console old left taken) now
+    → at ≡ m.ip → old ≡ moved_past instr m → Makes machine (beside_console m left taken) now
 step_made_at m old at instr left taken now runs found done here moved =
     step_made m instr left taken now runs found
-    (subst (λ k. Makes (machine_by (λ cpu. op_step cpu instr.op m.ip)) (scene k left taken) now) moved
-    (subst (λ a. Makes (machine_by (λ cpu. op_step cpu instr.op a)) (scene old left taken) now) here done))
+    (subst (λ k. Makes (machine_by (λ cpu. op_step cpu instr.op m.ip)) (beside_console k left taken) now) moved
+    (subst (λ a. Makes (machine_by (λ cpu. op_step cpu instr.op a)) (beside_console old left taken) now) here done))
 
 pub step_refused_at : (m old new back : Core) (at : ℕ) (instr : Instr) (fault : Fault) (left taken left_now taken_now : Option (List ℕ)) → m.end ≡ running
     → instruction_at m.cpu m.ip (code_bytes (state_of m)) ≡ Some instr
-    → Steps (machine_by (λ cpu. op_step cpu instr.op at)) (refusal_of fault) (scene old left taken) (scene new left_now taken_now)
+    → Steps (machine_by (λ cpu. op_step cpu instr.op at)) (refusal_of fault) (beside_console old left taken) (beside_console new left_now taken_now)
     → at ≡ m.ip → old ≡ moved_past instr m → (new ≡ moved_past instr m → back ≡ m)
-    → Steps machine (refusal_of fault) (scene m left taken) (scene back left_now taken_now)
+    → Steps machine (refusal_of fault) (beside_console m left taken) (beside_console back left_now taken_now)
 step_refused_at m old new back at instr fault left taken left_now taken_now runs found refused here moved put_back =
     let kept : new ≡ old = refused_core (λ cpu. op_step cpu instr.op at) fault old new left taken left_now taken_now refused in
-    subst (λ k. Steps machine (refusal_of fault) (scene m left taken) (scene k left_now taken_now)) (sym (put_back (kept ∙ moved)))
+    subst (λ k. Steps machine (refusal_of fault) (beside_console m left taken) (beside_console k left_now taken_now)) (sym (put_back (kept ∙ moved)))
     (step_refused m new instr fault left taken left_now taken_now runs found
-    (subst (λ k. Steps (machine_by (λ cpu. op_step cpu instr.op m.ip)) (refusal_of fault) (scene k left taken) (scene new left_now taken_now)) moved
-    (subst (λ a. Steps (machine_by (λ cpu. op_step cpu instr.op a)) (refusal_of fault) (scene old left taken) (scene new left_now taken_now)) here refused)))
+    (subst (λ k. Steps (machine_by (λ cpu. op_step cpu instr.op m.ip)) (refusal_of fault) (beside_console k left taken) (beside_console new left_now taken_now)) moved
+    (subst (λ a. Steps (machine_by (λ cpu. op_step cpu instr.op a)) (refusal_of fault) (beside_console old left taken) (beside_console new left_now taken_now)) here refused)))
 
 -- What is taken is a byte.
 
@@ -218,7 +218,7 @@ pub refused_end : (fault : Fault) → end_told (fault_answer_of fault) ≡ runni
 refused_end Input = refl
 refused_end Output = refl
 
-pub refused : (fault : Fault) (answer : Stepped) (before now : Scene Core) → answer ≡ fault_answer_of fault
+pub refused : (fault : Fault) (answer : Stepped) (before now : WithConsole Core) → answer ≡ fault_answer_of fault
     → Steps machine (refusal_of fault) before now → Steps machine (outcome_of answer) before now
 refused fault answer before now is was_refused =
     subst (λ o. Steps machine o before now) (sym (ap outcome_of is ∙ refused_outcome fault)) was_refused
@@ -239,7 +239,7 @@ outside_answers e answer m new left taken reads writes runs none is told end = r
 -- the answer of a step that was refused
 pub refused_answers : {T : Type 0} (fault : Fault) (answer : Stepped) (m back : Core) (left taken left_now taken_now : Option (List ℕ))
     (reads reads_now writes writes_now : ℕ) → m.end ≡ running → answer ≡ fault_answer_of fault
-    → Steps machine (refusal_of fault) (scene m left taken) (scene back left_now taken_now)
+    → Steps machine (refusal_of fault) (beside_console m left taken) (beside_console back left_now taken_now)
     → CountsFaults (IsErrOf {T = T} (Err fault) Input) (IsErrOf {T = T} (Err fault) Output) reads reads_now writes writes_now
     → StepAnswers answer (counted m left taken reads writes) (counted back left_now taken_now reads_now writes_now)
 refused_answers fault answer m back left taken left_now taken_now reads reads_now writes writes_now runs told was_refused counts =

@@ -1,8 +1,8 @@
 -- The string that call 09h writes.
 use Rattle.std.proofs.Common.{◌≡◌, ℕ, List, refl, ap, ◌∙◌}
 use Rattle.dcc_num.specs.declared.Reg.TheVariants.{Dx}
-use Rattle.dcc_prog.specs.Machine.{State, data_segment, word_in}
-use Rattle.dcc_prog.specs.Dos.{bytes_from, dos_string}
+use Rattle.dcc_machine.specs.Machine.{State, data_segment, word_in}
+use Rattle.dcc_machine.specs.Dos.{bytes_from, dos_string}
 use Rattle.dcc_console.specs.Strings.{string_room, string_in}
 
 string_is : (m : State) → string_in m.memory (data_segment m) (word_in m Dx) ≡ dos_string m

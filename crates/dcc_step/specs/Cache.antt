@@ -2,10 +2,10 @@
 use Rattle.std.specs.Prelude.{◌≡◌, ◌≢◌, ℕ, ◌+◌, ◌%◌, ◌<◌, true, false, Bool, List, [], ◌∷◌, get_or, slice_index, Some}
 use Rattle.std.specs.Prelude.{IfSome}
 use Rattle.std.specs.List.{All}
-use Rattle.dcc_prog.specs.declared.cpu.Cpu.{Cpu}
-use Rattle.dcc_prog.specs.Machine.{physical}
-use Rattle.dcc_prog.specs.Table.{instruction_at}
-use Rattle.dcc_prog.specs.WellFormed.{IsOperation}
+use Rattle.dcc_machine.specs.declared.cpu.Cpu.{Cpu}
+use Rattle.dcc_machine.specs.Machine.{physical}
+use Rattle.dcc_machine.specs.Table.{instruction_at}
+use Rattle.dcc_machine.specs.WellFormed.{IsOperation}
 use Rattle.dcc_step.specs.declared.form.Form.TheVariants.{Other}
 use Rattle.dcc_step.specs.declared.cache.Decoded.{Decoded}
 use Rattle.dcc_step.specs.Form.{op_of}

@@ -3,8 +3,8 @@ use Rattle.std.specs.Prelude.{ℕ, List, []}
 use Rattle.dcc_run.specs.End.{End}
 use Rattle.dcc_run.specs.Event.{Event}
 use Rattle.dcc_num.specs.declared.Flags.{Flags}
-use Rattle.dcc_prog.specs.declared.cpu.Cpu.{Cpu}
-use Rattle.dcc_prog.specs.Machine.{State}
+use Rattle.dcc_machine.specs.declared.cpu.Cpu.{Cpu}
+use Rattle.dcc_machine.specs.Machine.{State}
 
 -- a processor, and a state but for its console
 pub record Core : Type 0 where

@@ -7,14 +7,14 @@ use Rattle.dcc_num.specs.declared.Width.TheVariants.{Word as word_width}
 use Rattle.dcc_num.specs.declared.Flags.{Flags}
 use Rattle.dcc_num.specs.Sum.{sum_of, difference_of}
 use Rattle.dcc_num.specs.Logic.{conjunction_of, disjunction_of, exclusive_of}
-use Rattle.dcc_prog.specs.declared.instr.Alu.{Alu}
-use Rattle.dcc_prog.specs.declared.instr.Alu.TheVariants.{Add, Or as OrKind, Adc, Sbb, And, Sub, Xor, Cmp, Test}
-use Rattle.dcc_prog.specs.declared.instr.Unary.TheVariants.{Inc as inc_kind, Dec as dec_kind}
-use Rattle.dcc_prog.specs.declared.instr.Operand.TheVariants.{Word, Mem, Const}
-use Rattle.dcc_prog.specs.declared.instr.Op.{Op}
-use Rattle.dcc_prog.specs.declared.instr.Op.TheVariants.{Alu as AluOp, Unary as UnaryOp, Mov, Jump as JumpOp}
-use Rattle.dcc_prog.specs.declared.instr.Op.TheVariants.{Branch as BranchOp, Int21}
-use Rattle.dcc_prog.specs.Step.{step}
+use Rattle.dcc_machine.specs.declared.instr.Alu.{Alu}
+use Rattle.dcc_machine.specs.declared.instr.Alu.TheVariants.{Add, Or as OrKind, Adc, Sbb, And, Sub, Xor, Cmp, Test}
+use Rattle.dcc_machine.specs.declared.instr.Unary.TheVariants.{Inc as inc_kind, Dec as dec_kind}
+use Rattle.dcc_machine.specs.declared.instr.Operand.TheVariants.{Word, Mem, Const}
+use Rattle.dcc_machine.specs.declared.instr.Op.{Op}
+use Rattle.dcc_machine.specs.declared.instr.Op.TheVariants.{Alu as AluOp, Unary as UnaryOp, Mov, Jump as JumpOp}
+use Rattle.dcc_machine.specs.declared.instr.Op.TheVariants.{Branch as BranchOp, Int21}
+use Rattle.dcc_machine.specs.Step.{step}
 use Rattle.dcc_step.specs.Core.{Core, with_console}
 use Rattle.dcc_step.specs.declared.form.Form.{Form}
 use Rattle.dcc_step.specs.declared.form.Form.TheVariants.{Registers, Constant, Memory, Inc, Dec, Move, Set, Load, Store}

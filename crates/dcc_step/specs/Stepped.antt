@@ -1,12 +1,12 @@
 -- What steps of the machine leave, and what they answer.
 use Rattle.std.specs.Prelude.{◌≡◌, ◌<◌, ℕ, List, [], Option, slice_index}
 use Rattle.dcc_run.specs.End.{End, Running as running, Exit as exited, Divide as divided, Outside as outside}
-use Rattle.dcc_prog.specs.declared.cpu.Cpu.{Cpu}
-use Rattle.dcc_prog.specs.Machine.{State}
-use Rattle.dcc_prog.specs.Step as definition
+use Rattle.dcc_machine.specs.declared.cpu.Cpu.{Cpu}
+use Rattle.dcc_machine.specs.Machine.{State}
+use Rattle.dcc_machine.specs.Step as definition
 use Rattle.dcc_console.specs.Console.{Console, Executor}
 use Rattle.dcc_console.specs.Counts.{CountsFaults}
-use Rattle.dcc_console.specs.Scene.{Scene, scene}
+use Rattle.dcc_console.specs.WithConsole.{WithConsole, beside_console}
 use Rattle.dcc_console.specs.Steps.{Outcome, made, read_failed, write_failed, Steps, HasEnded}
 use Rattle.dcc_step.specs.Core.{Core, core_of, with_console}
 use Rattle.dcc_step.specs.declared.ending.Stepped.{Stepped}
@@ -56,19 +56,20 @@ end_told (Outside at) = outside at
 end_told InFault = running
 end_told OutFault = running
 
--- a scene, and how many reads of its input and writes to its output have failed
+-- a state beside its console, and how many reads of its input and writes to its output have failed
 pub record Counted (C : Type 0) : Type 0 where
-  pub scene : Scene C
+  pub state : WithConsole C
   pub reads : ℕ
   pub writes : ℕ
 
 abbrev pub counted : {C : Type 0} → C → Option (List ℕ) → Option (List ℕ) → ℕ → ℕ → Counted C
-counted code left taken reads writes = record { scene = scene code left taken; reads = reads; writes = writes }
+counted code left taken reads writes =
+    record { state = beside_console code left taken; reads = reads; writes = writes }
 
 -- What a step leaves, by what it answers. What is taken is a byte: where the step was made, the machine's step on an
 -- input of bytes leads here too. A fault is answered only where its count rose.
 pub record StepAnswers (answered : Stepped) (before now : Counted Core) : Type 0 where
-  pub step : Steps machine (outcome_of answered) before.scene now.scene
-  pub bytes : outcome_of answered ≡ made → LeadsOnBytes definition.step before.scene.code now.scene.code
-  pub answer : HasEnded machine now.scene.code (end_told answered)
+  pub step : Steps machine (outcome_of answered) before.state now.state
+  pub bytes : outcome_of answered ≡ made → LeadsOnBytes definition.step before.state.code now.state.code
+  pub answer : HasEnded machine now.state.code (end_told answered)
   pub faults : CountsFaults (answered ≡ InFault) (answered ≡ OutFault) before.reads now.reads before.writes now.writes

@@ -3,23 +3,23 @@
 ghost use Rattle.std.specs.Prelude.{◌≡◌, ◌<◌, ◌-◌, IfSome, Option, Some, None};
 ghost use Rattle.dcc_num.specs.Numbers.{limit_of};
 ghost use Rattle.dcc_num.specs.declared.Width.TheVariants.{Word as word_width};
-ghost use Rattle.dcc_prog.specs.declared.instr.Operand.TheVariants.{Word as word_operand};
-ghost use Rattle.dcc_prog.specs.Machine.{word_in, operand_value, operand_width};
-ghost use Rattle.dcc_prog.specs.Writes.{writes_operand};
+ghost use Rattle.dcc_machine.specs.declared.instr.Operand.TheVariants.{Word as word_operand};
+ghost use Rattle.dcc_machine.specs.Machine.{word_in, operand_value, operand_width};
+ghost use Rattle.dcc_machine.specs.Writes.{writes_operand};
 ghost use Rattle.dcc_step.specs.Form.{combined_of};
-ghost use Rattle.dcc_prog.specs.Operations.{with_result, accumulator_in, upper_in, with_pair, with_product};
-ghost use Rattle.dcc_prog.specs.Operations.{with_division, alu_step, unary_step, imul3_step, count_in, shift_result};
-ghost use Rattle.dcc_prog.specs.Operations.{shift_step};
-ghost use Rattle.dcc_prog.specs.WellFormed.{IsOperand, AreOperands, IsWordOperand};
+ghost use Rattle.dcc_machine.specs.Operations.{with_result, accumulator_in, upper_in, with_pair, with_product};
+ghost use Rattle.dcc_machine.specs.Operations.{with_division, alu_step, unary_step, imul3_step, count_in, shift_result};
+ghost use Rattle.dcc_machine.specs.Operations.{shift_step};
+ghost use Rattle.dcc_machine.specs.WellFormed.{IsOperand, AreOperands, IsWordOperand};
 ghost use Rattle.dcc_step.specs.Core.{state_of, changed_by};
 
 use crate::ending::Ending;
 use crate::machine::Machine;
+use dcc_machine::{Alu, Count, Operand, Shift, Unary};
 use dcc_num::{
     Flags, Half, NO_FLAGS, Reg, Width, add, and, dec, div, idiv, imul, inc, mul, neg, or, rcl1,
     rcr1, rol, ror, sar, shl, shr, sub, xor,
 };
-use dcc_prog::{Alu, Count, Operand, Shift, Unary};
 
 // NOT: the bits that are not in the operand.
 fn complement(w: Width, a: u16) -> u16

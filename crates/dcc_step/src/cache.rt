@@ -6,7 +6,7 @@ ghost use Rattle.dcc_step.specs.Cache.{IsDecoded};
 
 use crate::form::Form;
 use dcc_decode::decode_window;
-use dcc_prog::{Cpu, Instr};
+use dcc_machine::{Cpu, Instr};
 use std::alloc::{AllocError, Global};
 
 /// How many decoded instructions are kept; the one at an offset stands at the offset modulo this.

@@ -1,12 +1,12 @@
 //! The calls of INT 21h.
 
 ghost use Rattle.std.specs.Prelude.{◌≡◌, OnOk, IfErr, IsErrOf};
-ghost use Rattle.dcc_prog.specs.Operations.{with_al, with_end};
-ghost use Rattle.dcc_prog.specs.Dos.{key_step, dos_call};
+ghost use Rattle.dcc_machine.specs.Operations.{with_al, with_end};
+ghost use Rattle.dcc_machine.specs.Dos.{key_step, dos_call};
 ghost use Rattle.dcc_step.specs.Core.{state_of, changed_by};
 ghost use Rattle.dcc_step.specs.Ending.{end_of};
 ghost use Rattle.dcc_console.specs.Counts.{CountsFaults};
-ghost use Rattle.dcc_console.specs.Scene.{scene};
+ghost use Rattle.dcc_console.specs.WithConsole.{beside_console};
 ghost use Rattle.dcc_console.specs.Steps.{Makes, Steps, refusal_of};
 ghost use Rattle.dcc_step.specs.Stepped.{machine_by, LeadsOnBytes};
 
@@ -41,12 +41,12 @@ impl Machine {
         out: &mut O,
     ) -> Result<(), Fault>
         ensures made { OnOk result (Makes (machine_by (λ cpu. key_step echo))
-            (scene self.old (I.left input.old) (O.taken out.old))
-            (scene self.new (I.left input.new) (O.taken out.new))) }
+            (beside_console self.old (I.left input.old) (O.taken out.old))
+            (beside_console self.new (I.left input.new) (O.taken out.new))) }
         ensures bytes { OnOk result (LeadsOnBytes (λ cpu. key_step echo) self.old self.new) }
         ensures refused { IfErr result (λ fault. Steps (machine_by (λ cpu. key_step echo)) (refusal_of fault)
-            (scene self.old (I.left input.old) (O.taken out.old))
-            (scene self.new (I.left input.new) (O.taken out.new))) }
+            (beside_console self.old (I.left input.old) (O.taken out.old))
+            (beside_console self.new (I.left input.new) (O.taken out.new))) }
         ensures faults { CountsFaults (IsErrOf result Fault.Input) (IsErrOf result Fault.Output)
             (I.faults input.old) (I.faults input.new) (O.faults out.old) (O.faults out.new) }
     {
@@ -63,12 +63,12 @@ impl Machine {
         out: &mut O,
     ) -> Result<(), Fault>
         ensures made { OnOk result (Makes (machine_by (λ cpu. dos_call at))
-            (scene self.old (I.left input.old) (O.taken out.old))
-            (scene self.new (I.left input.new) (O.taken out.new))) }
+            (beside_console self.old (I.left input.old) (O.taken out.old))
+            (beside_console self.new (I.left input.new) (O.taken out.new))) }
         ensures bytes { OnOk result (LeadsOnBytes (λ cpu. dos_call at) self.old self.new) }
         ensures refused { IfErr result (λ fault. Steps (machine_by (λ cpu. dos_call at)) (refusal_of fault)
-            (scene self.old (I.left input.old) (O.taken out.old))
-            (scene self.new (I.left input.new) (O.taken out.new))) }
+            (beside_console self.old (I.left input.old) (O.taken out.old))
+            (beside_console self.new (I.left input.new) (O.taken out.new))) }
         ensures faults { CountsFaults (IsErrOf result Fault.Input) (IsErrOf result Fault.Output)
             (I.faults input.old) (I.faults input.new) (O.faults out.old) (O.faults out.new) }
     {

@@ -1,14 +1,14 @@
 //! Jumps, and operations without operands.
 
 ghost use Rattle.std.specs.Prelude.{◌≡◌};
-ghost use Rattle.dcc_prog.specs.Operations.{after_jump, after_jump_if, loop_step, table_step, with_carry, plain_step};
-ghost use Rattle.dcc_prog.specs.Operations.{lea_step, mov_step, xchg_step};
-ghost use Rattle.dcc_prog.specs.WellFormed.{AreOperands};
+ghost use Rattle.dcc_machine.specs.Operations.{after_jump, after_jump_if, loop_step, table_step, with_carry};
+ghost use Rattle.dcc_machine.specs.Operations.{plain_step, lea_step, mov_step, xchg_step};
+ghost use Rattle.dcc_machine.specs.WellFormed.{AreOperands};
 ghost use Rattle.dcc_step.specs.Core.{changed_by};
 
 use crate::machine::Machine;
+use dcc_machine::{Ea, Operand, Plain};
 use dcc_num::{Half, Reg, sign8};
-use dcc_prog::{Ea, Operand, Plain};
 
 impl Machine {
     /// Jumps to the target where `so` holds, else goes on to the next instruction.

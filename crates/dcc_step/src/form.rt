@@ -4,8 +4,8 @@ ghost use Rattle.std.specs.Prelude.{◌≡◌, ◌≢◌};
 ghost use Rattle.dcc_step.specs.declared.form.Form.TheVariants.{Other};
 ghost use Rattle.dcc_step.specs.Form.{op_of};
 
+use dcc_machine::{Alu, Cond, Ea, Op, Operand, Unary};
 use dcc_num::{Reg, Width};
-use dcc_prog::{Alu, Cond, Ea, Op, Operand, Unary};
 
 /// The form of an operation that a step makes on a short path, with its operands.
 #[derive(Clone, Copy)]

@@ -1,16 +1,16 @@
 //! The machine and its state.
 
 ghost use Rattle.std.specs.Prelude.{◌≡◌, ◌+◌, ◌<◌, ◌≤◌, ◌^◌, [], vec_len, slice_index, IfOk};
-ghost use Rattle.dcc_prog.specs.Load.{image_address};
-ghost use Rattle.dcc_prog.specs.Machine.{start_state, loaded_memory, word_in};
+ghost use Rattle.dcc_machine.specs.Load.{image_address};
+ghost use Rattle.dcc_machine.specs.Machine.{start_state, loaded_memory, word_in};
 ghost use Rattle.dcc_step.specs.Core.{core_of, state_of};
 ghost use Rattle.dcc_step.specs.Ending.{end_of};
 
 use crate::cache::{Decoded, first_cache};
 use crate::ending::Ending;
 use crate::marks::Marks;
+use dcc_machine::{Cpu, Image, LOAD_SEGMENT, PREFIX_SEGMENT};
 use dcc_num::{Flags, NO_FLAGS, Reg};
-use dcc_prog::{Cpu, Image, LOAD_SEGMENT, PREFIX_SEGMENT};
 use std::alloc::{AllocError, Global};
 use std::marker::Model;
 
@@ -49,7 +49,7 @@ impl Model for Machine {
     ghost use Rattle.std.specs.Prelude.{◌≡◌, ◌^◌, vec_len, slice_index};
     ghost use Rattle.std.specs.List.{All};
     ghost use Rattle.dcc_step.specs.Core.{Core};
-    ghost use Rattle.dcc_prog.specs.declared.segment.TheConstants.{CS};
+    ghost use Rattle.dcc_machine.specs.declared.segment.TheConstants.{CS};
     ghost use Rattle.dcc_step.specs.Cache.{IsDecoded, AreFresh};
 
     ghost Value = { Core };

@@ -2,17 +2,17 @@
 
 ghost use Rattle.std.specs.Prelude.{◌≡◌, ◌<◌, ◌^◌};
 ghost use Rattle.dcc_num.specs.Numbers.{limit_of};
-ghost use Rattle.dcc_prog.specs.declared.instr.Operand.TheVariants.{Seg as seg_operand, Mem as mem_operand};
+ghost use Rattle.dcc_machine.specs.declared.instr.Operand.TheVariants.{Seg as seg_operand, Mem as mem_operand};
 ghost use Rattle.dcc_num.specs.declared.Width.TheVariants.{Word as word_width};
-ghost use Rattle.dcc_prog.specs.Machine.{physical, byte_in, word_at_offset, with_byte_in, with_word_at_offset};
-ghost use Rattle.dcc_prog.specs.Machine.{with_word_in, code_segment, stack_segment, data_segment, part_of, offset_of};
-ghost use Rattle.dcc_prog.specs.Machine.{is_bp, segment_of, operand_value, with_operand, operand_width};
-ghost use Rattle.dcc_prog.specs.WellFormed.{IsOperand};
+ghost use Rattle.dcc_machine.specs.Machine.{physical, byte_in, word_at_offset, with_byte_in, with_word_at_offset};
+ghost use Rattle.dcc_machine.specs.Machine.{with_word_in, code_segment, stack_segment, data_segment, part_of};
+ghost use Rattle.dcc_machine.specs.Machine.{offset_of, is_bp, segment_of, operand_value, with_operand, operand_width};
+ghost use Rattle.dcc_machine.specs.WellFormed.{IsOperand};
 ghost use Rattle.dcc_step.specs.Core.{state_of, changed_by};
 
 use crate::machine::Machine;
+use dcc_machine::{CS, DS, Ea, Operand, SS};
 use dcc_num::{Half, Reg, Width};
-use dcc_prog::{CS, DS, Ea, Operand, SS};
 
 /// The physical address of an offset in a segment.
 pub(crate) fn physical_address(segment: u16, offset: u16) -> usize

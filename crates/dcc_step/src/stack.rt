@@ -1,14 +1,14 @@
 //! The stack, frames, calls and returns.
 
 ghost use Rattle.std.specs.Prelude.{◌≡◌, ◌-◌};
-ghost use Rattle.dcc_prog.specs.Operations.{top_word, with_sp_raised, after_push, push_step, pop_step, enter_step};
-ghost use Rattle.dcc_prog.specs.Operations.{leave_step, call_step, ret_step};
-ghost use Rattle.dcc_prog.specs.WellFormed.{IsWordOperand};
+ghost use Rattle.dcc_machine.specs.Operations.{top_word, with_sp_raised, after_push, push_step, pop_step, enter_step};
+ghost use Rattle.dcc_machine.specs.Operations.{leave_step, call_step, ret_step};
+ghost use Rattle.dcc_machine.specs.WellFormed.{IsWordOperand};
 ghost use Rattle.dcc_step.specs.Core.{state_of, changed_by};
 
 use crate::machine::Machine;
+use dcc_machine::Operand;
 use dcc_num::Reg;
-use dcc_prog::Operand;
 
 impl Machine {
     // The word at the top of the stack.

@@ -2,15 +2,15 @@
 
 ghost use Rattle.std.specs.Prelude.{◌≡◌, ◌≢◌, ℕ, true, false, IfSome, OnOk, IfErr, IsErrOf, Option, Some, None};
 ghost use Rattle.dcc_run.specs.End.{Running as running};
-ghost use Rattle.dcc_prog.specs.declared.instr.Op.{Op};
-ghost use Rattle.dcc_prog.specs.Table.{instruction_at};
-ghost use Rattle.dcc_prog.specs.Step.{code_byte, code_bytes, op_step};
-ghost use Rattle.dcc_prog.specs.WellFormed.{IsOperation};
+ghost use Rattle.dcc_machine.specs.declared.instr.Op.{Op};
+ghost use Rattle.dcc_machine.specs.Table.{instruction_at};
+ghost use Rattle.dcc_machine.specs.Step.{code_byte, code_bytes, op_step};
+ghost use Rattle.dcc_machine.specs.WellFormed.{IsOperation};
 ghost use Rattle.dcc_step.specs.Core.{state_of, changed_by};
 ghost use Rattle.dcc_step.specs.declared.form.Form.TheVariants.{Other};
 ghost use Rattle.dcc_step.specs.Form.{op_of, IsQuietStep};
 ghost use Rattle.dcc_console.specs.Counts.{CountsFaults};
-ghost use Rattle.dcc_console.specs.Scene.{scene};
+ghost use Rattle.dcc_console.specs.WithConsole.{beside_console};
 ghost use Rattle.dcc_console.specs.Steps.{Makes, Steps, HasEnded, Runs, refusal_of};
 ghost use Rattle.dcc_step.specs.Stepped.{machine, machine_by, counted, StepAnswers, LeadsOnBytes, outcome_of, end_told};
 
@@ -21,8 +21,8 @@ use crate::machine::Machine;
 use crate::operand::physical_address;
 use dcc_console::Fault;
 use dcc_io::{Sink, Source};
+use dcc_machine::{CS, Instr, Op};
 use dcc_num::{Reg, Width, dec, inc};
-use dcc_prog::{CS, Instr, Op};
 
 impl Machine {
     // The byte at so many bytes past the instruction pointer, whose offset wraps.
@@ -194,12 +194,12 @@ impl Machine {
     ) -> Result<(), Fault>
         requires { IsOperation op }
         ensures made { OnOk result (Makes (machine_by (λ cpu. op_step cpu op at))
-            (scene self.old (I.left input.old) (O.taken out.old))
-            (scene self.new (I.left input.new) (O.taken out.new))) }
+            (beside_console self.old (I.left input.old) (O.taken out.old))
+            (beside_console self.new (I.left input.new) (O.taken out.new))) }
         ensures bytes { OnOk result (LeadsOnBytes (λ cpu. op_step cpu op at) self.old self.new) }
         ensures refused { IfErr result (λ fault. Steps (machine_by (λ cpu. op_step cpu op at)) (refusal_of fault)
-            (scene self.old (I.left input.old) (O.taken out.old))
-            (scene self.new (I.left input.new) (O.taken out.new))) }
+            (beside_console self.old (I.left input.old) (O.taken out.old))
+            (beside_console self.new (I.left input.new) (O.taken out.new))) }
         ensures faults { CountsFaults (IsErrOf result Fault.Input) (IsErrOf result Fault.Output)
             (I.faults input.old) (I.faults input.new) (O.faults out.old) (O.faults out.new) }
     {
@@ -266,8 +266,8 @@ impl Machine {
     /// steps before the one that failed stay made.
     pub fn run<I: Source, O: Sink>(&mut self, input: &mut I, out: &mut O, most: u64) -> Stepped
         ensures run { Runs machine most (outcome_of result)
-            (scene self.old (I.left input.old) (O.taken out.old))
-            (scene self.new (I.left input.new) (O.taken out.new)) }
+            (beside_console self.old (I.left input.old) (O.taken out.old))
+            (beside_console self.new (I.left input.new) (O.taken out.new)) }
         ensures answer { HasEnded machine self.new (end_told result) }
         ensures faults { CountsFaults (result ≡ Stepped.InFault) (result ≡ Stepped.OutFault)
             (I.faults input.old) (I.faults input.new) (O.faults out.old) (O.faults out.new) }

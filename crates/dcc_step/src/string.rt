@@ -3,7 +3,7 @@
 ghost use Rattle.std.specs.Prelude.{◌≡◌, ◌≤◌, length, OnOk, OnErr};
 ghost use Rattle.dcc_io.specs.Count.{Rose};
 ghost use Rattle.dcc_io.specs.Told.{append_told, AppendsProperPrefix};
-ghost use Rattle.dcc_prog.specs.Dos.{dos_string};
+ghost use Rattle.dcc_machine.specs.Dos.{dos_string};
 ghost use Rattle.dcc_step.specs.Core.{state_of};
 
 use crate::machine::Machine;

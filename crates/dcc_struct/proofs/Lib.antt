@@ -1,2 +1,2 @@
-mod GotoStructured
+pub mod GotoStructured
 mod NestLaws

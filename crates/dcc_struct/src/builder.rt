@@ -11,7 +11,7 @@ use crate::table::Table;
 use crate::walk::Walk;
 use dcc_control::Item;
 use dcc_control::goto_plan::goto_plan;
-use dcc_interval::Sequence;
+use dcc_interval::Reduction;
 use dcc_ir::Graph;
 use dcc_plan_check::{MOST_NESTED, begins_returns, is_structured};
 use std::alloc::{AllocError, Global};
@@ -42,16 +42,20 @@ fn tested(alloc: Global, graph: &Graph, items: Vec<Item>) -> Result<Vec<Item>, A
     goto_plan(alloc, graph)
 }
 
-/// The structured plan of a graph with this derived sequence. A first walk tells which blocks need a label, and a
+/// The structured plan of a graph that is reduced so. A first walk tells which blocks need a label, and a
 /// second one has the plan. Where this were none of the graph, or had no step on a closed path, the plan with jumps
 /// stands in its place. A block with more statements than 32 bits can number and a choice with more than 65,536 places
 /// are told as want of memory.
-pub fn structured(alloc: Global, graph: &Graph, levels: &Sequence) -> Result<Vec<Item>, AllocError>
+pub fn structured(
+    alloc: Global,
+    graph: &Graph,
+    reduction: &Reduction,
+) -> Result<Vec<Item>, AllocError>
     requires { IsGraph (graph_of graph.now) }
     ensures structured { IfOk result (λ items. IsStructured (graph_of graph.now) (plan_of items.items)) }
     ensures paced { IfOk result (λ items. BeginsReturns (graph_of graph.now) (plan_of items.items)) }
 {
-    let layout = Layout::of(alloc, graph, levels)?;
+    let layout = Layout::of(alloc, graph, reduction)?;
     let labelled = labelled(alloc, graph, &layout)?;
     let mut walk = Walk::new(alloc, graph, &layout, &labelled)?;
     let items = walk.whole(MOST_NESTED)?;

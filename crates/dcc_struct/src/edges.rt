@@ -16,6 +16,15 @@ pub(crate) fn chooses(graph: &Graph, place: u32) -> bool {
     }
 }
 
+/// The block to which the one at a place goes, where it does nothing else.
+pub(crate) fn only_goes_to(graph: &Graph, place: u32) -> Option<u32> {
+    let block = graph.blocks.get(place as usize)?;
+    match &block.end {
+        End::Goto(to) if block.stmts.is_empty() => Some(*to),
+        _ => None,
+    }
+}
+
 /// The edges among the reached blocks of a graph.
 #[derive(Drop)]
 pub struct Edges {
@@ -103,6 +112,12 @@ impl Edges {
     /// An edge leads to the block from one of no lower number.
     pub fn is_returned_to(&self, block: usize) -> bool {
         self.sources.of(block).iter().any(|source| *source >= block)
+    }
+
+    /// The block at the place is the first one, or another block than this one has an edge to it.
+    pub fn is_entered_beside(&self, block: usize, place: u32) -> bool {
+        let to = self.numbers.at(place as usize);
+        to == 0 || self.sources.of(to).iter().any(|source| *source != block)
     }
 
     /// The only block with an edge to this one from a lower number, where there is one such edge.

@@ -3,12 +3,12 @@
 ghost use Rattle.dcc_ir.specs.Views.{graph_of};
 ghost use Rattle.dcc_ir.specs.WellFormed.{IsGraph};
 
-use crate::edges::{Edges, chooses};
+use crate::edges::{Edges, chooses, only_goes_to};
 use crate::exits::lift_exits;
 use crate::loops::{Loops, loops_of};
 use crate::table::{Lists, Table};
 use crate::tree::{Tree, tree_of};
-use dcc_interval::Sequence;
+use dcc_interval::Reduction;
 use dcc_ir::Graph;
 use std::alloc::{AllocError, Global};
 
@@ -26,6 +26,9 @@ pub struct Layout {
     pub after: Lists<u32>,
     /// For each block that begins a loop those that stand behind the loop.
     pub behind: Lists<u32>,
+    /// For each block the one to which the text comes from it without an item: itself, unless it does nothing but go to
+    /// a block to which others lead too, and no edge leads back to it. The text passes such blocks, and jumps to none.
+    pub goals: Table<u32>,
     /// For each block how long its text is with all that stands below it: so many statements and ends of blocks.
     pub lengths: Table<usize>,
 }
@@ -47,6 +50,7 @@ impl Layout {
             at_edge_of: Table::new(alloc, count, None)?,
             after: Lists::new(alloc, count)?,
             behind: Lists::new(alloc, count)?,
+            goals: Table::new(alloc, count, 0)?,
             lengths: Table::new(alloc, count, 0)?,
         })
     }
@@ -73,6 +77,26 @@ impl Layout {
         }
     }
 
+    // The block to which the text comes from a block without an item, where this is known of those of greater numbers.
+    fn goal(&self, graph: &Graph, known: &Known, number: usize) -> u32 {
+        let block = known.edges.place(number);
+        if number == 0 || known.edges.is_returned_to(number) {
+            return block;
+        }
+        match only_goes_to(graph, block) {
+            Some(to) if known.edges.is_entered_beside(number, to) => self.goals.at(to as usize),
+            _ => block,
+        }
+    }
+
+    // Notes to which block the text comes from each without an item.
+    fn find_goals(&mut self, graph: &Graph, known: &Known) {
+        for number in (0..known.edges.count()).rev() {
+            let goal = self.goal(graph, known, number);
+            self.goals.put(known.edges.place(number) as usize, goal);
+        }
+    }
+
     // Notes how long the text of each block is, once it is known what each stands below.
     fn measure(&mut self, graph: &Graph, known: &Known) {
         for number in (0..known.edges.count()).rev() {
@@ -90,11 +114,11 @@ impl Layout {
         }
     }
 
-    /// Where the blocks of a graph with this derived sequence stand.
-    pub fn of(alloc: Global, graph: &Graph, levels: &Sequence) -> Result<Layout, AllocError>
+    /// Where the blocks of a graph that is reduced so stand.
+    pub fn of(alloc: Global, graph: &Graph, reduction: &Reduction) -> Result<Layout, AllocError>
         requires { IsGraph (graph_of graph.now) }
     {
-        let known = Known::of(alloc, graph, levels)?;
+        let known = Known::of(alloc, graph, reduction)?;
         let mut layout = Layout::new(alloc, graph.blocks.len())?;
         for number in 0..known.edges.count() {
             let block = known.edges.place(number) as usize;
@@ -102,10 +126,12 @@ impl Layout {
             layout
                 .returns
                 .put(block, known.edges.is_returned_to(number));
+            layout.goals.put(block, known.edges.place(number));
         }
         for number in 1..known.edges.count() {
             layout.put(graph, &known, number)?;
         }
+        layout.find_goals(graph, &known);
         layout.measure(graph, &known);
         Ok(layout)
     }
@@ -120,12 +146,12 @@ struct Known {
 }
 
 impl Known {
-    // What is known of the blocks of a graph with this derived sequence.
-    fn of(alloc: Global, graph: &Graph, levels: &Sequence) -> Result<Known, AllocError>
+    // What is known of the blocks of a graph that is reduced so.
+    fn of(alloc: Global, graph: &Graph, reduction: &Reduction) -> Result<Known, AllocError>
         requires { IsGraph (graph_of graph.now) }
     {
         let edges = Edges::of(alloc, graph)?;
-        let loops = loops_of(alloc, &edges, levels)?;
+        let loops = loops_of(alloc, &edges, reduction)?;
         let mut tree = tree_of(alloc, &edges, &loops)?;
         lift_exits(alloc, graph, &edges, &loops, &mut tree)?;
         Ok(Known { edges, loops, tree })

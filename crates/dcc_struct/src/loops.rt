@@ -4,12 +4,11 @@ ghost use Rattle.std.specs.Prelude.{◌<◌, ◌≤◌, IfSome};
 
 use crate::edges::Edges;
 use crate::table::Table;
-use dcc_interval::{Interval, Sequence};
+use dcc_interval::Reduction;
 use std::alloc::{AllocError, Global};
 
-/// The loops of a graph. A header with an edge back from inside its interval, at a level of the derived sequence,
-/// begins a loop. The loop has the header, and the blocks of the interval from which such an edge is reached without
-/// passing it.
+/// The loops of a graph. A block with an edge back from the region that is entered at it begins a loop. The loop has
+/// this header, and the blocks of the region from which such an edge is reached without passing it.
 #[derive(Drop)]
 pub struct Loops {
     /// Which blocks are headers of loops.
@@ -43,15 +42,6 @@ impl Loops {
         self.headers.at(header) && self.around(block) != Some(header)
     }
 
-    // The outermost loop that holds the block, its own left out; else the block.
-    fn outermost(&self, block: usize) -> usize {
-        let mut at = block;
-        while let Some(header) = self.around(at) {
-            at = header;
-        }
-        at
-    }
-
     // The innermost loop around the block, itself among them, whose header has no greater number than this.
     fn held_by(&self, block: Option<usize>, limit: usize) -> Option<usize> {
         let mut at = block?;
@@ -78,50 +68,72 @@ impl Loops {
     }
 }
 
-// Loops as they are found, level by level.
+// Blocks that stand below others of lower numbers.
+#[derive(Drop)]
+struct Forest {
+    // For each block one that it stands below; itself where there is none.
+    above: Table<usize>,
+}
+
+impl Forest {
+    // None of so many blocks stands below another.
+    fn new(alloc: Global, count: usize) -> Result<Forest, AllocError> {
+        let mut above = Table::new(alloc, count, 0)?;
+        for block in 0..count {
+            above.put(block, block);
+        }
+        Ok(Forest { above })
+    }
+
+    // A block that this one stands below; itself where there is none.
+    fn above(&self, block: usize) -> usize
+        ensures { result ≤ block }
+    {
+        block.min(self.above.at(block))
+    }
+
+    // The block stands below none.
+    fn is_root(&self, block: usize) -> bool {
+        self.above(block) == block
+    }
+
+    // The block stands below the other one from now on.
+    fn put_below(&mut self, block: usize, above: usize) {
+        self.above.put(block, above);
+    }
+
+    // The block below none that this one is or stands below. What is passed is put nearer to it.
+    fn root(&mut self, block: usize) -> usize {
+        let mut at = block;
+        let mut next = self.above(at);
+        while next < at {
+            let far = self.above(next);
+            self.put_below(at, far);
+            at = far;
+            next = self.above(at);
+        }
+        at
+    }
+}
+
+// Loops as they are found, region by region.
 #[derive(Drop)]
 struct Finding<'a> {
     edges: &'a Edges,
     loops: Loops,
-    // For each block that heads no interval any more a block of lower number in its interval; else the block itself.
-    joined: Table<usize>,
+    // Each block stands below that at which its region is entered.
+    regions: Forest,
+    // Each block stands below the headers of the loops that hold it, its own left out.
+    outermost: Forest,
 }
 
 impl Finding<'_> {
-    // A block of no greater number in the interval of the block.
-    fn joined_to(&self, block: usize) -> usize
-        ensures { result ≤ block }
-    {
-        block.min(self.joined.at(block))
-    }
-
-    // The header of the interval that the block is in.
-    fn interval_of(&mut self, block: usize) -> usize {
-        let mut at = block;
-        let mut next = self.joined_to(at);
-        while next < at {
-            let above = self.joined_to(next);
-            self.joined.put(at, above);
-            at = above;
-            next = self.joined_to(at);
-        }
-        at
-    }
-
-    // The blocks that nodes stand for join the interval of one of them.
-    fn join(&mut self, blocks: &Table<usize>, nodes: &[u32], header: usize) {
-        for node in nodes {
-            let block = blocks.at(*node as usize);
-            self.joined.put(block, header.min(block));
-        }
-    }
-
-    // The blocks with an edge back to the header of an interval from inside it.
+    // The blocks with an edge back to a block from its region.
     fn edges_back(&mut self, alloc: Global, header: usize) -> Result<Vec<usize>, AllocError> {
         let edges = self.edges;
         let mut back = Vec::new(alloc);
         for source in edges.sources.of(header) {
-            if self.interval_of(*source) == header {
+            if self.regions.root(*source) == header {
                 back.push(*source)?;
             }
         }
@@ -136,9 +148,10 @@ impl Finding<'_> {
         block: usize,
         work: &mut Vec<usize>,
     ) -> Result<(), AllocError> {
-        let outer = self.loops.outermost(block);
+        let outer = self.outermost.root(block);
         if header < outer {
             self.loops.holders.put(outer, Some(header));
+            self.outermost.put_below(outer, header);
             for source in self.edges.sources.of(outer) {
                 work.push(*source)?;
             }
@@ -146,12 +159,11 @@ impl Finding<'_> {
         Ok(())
     }
 
-    // Finds what the loop of a header holds by now: no edge is followed twice.
+    // Finds the loop of the block at which a region is entered, once no other region will be joined into it: no edge
+    // is followed twice.
     fn find(&mut self, alloc: Global, header: usize) -> Result<(), AllocError> {
         let mut work = self.edges_back(alloc, header)?;
-        if !work.is_empty() {
-            self.loops.headers.put(header, true);
-        }
+        self.loops.headers.put(header, !work.is_empty());
         for _ in 0..self.edges.entries {
             let Some(block) = work.pop() else {
                 return Ok(());
@@ -160,64 +172,34 @@ impl Finding<'_> {
         }
         Ok(())
     }
-
-    // Finds the loops of a level, whose nodes stand for these blocks; then the blocks that its intervals stand for. An
-    // interval of one node has no edge back but one from the node to itself.
-    fn find_all(
-        &mut self,
-        alloc: Global,
-        blocks: &Table<usize>,
-        level: &Vec<Interval>,
-    ) -> Result<Table<usize>, AllocError> {
-        let mut headers = Table::new(alloc, level.len(), 0)?;
-        for (place, interval) in level.iter().enumerate() {
-            let header = blocks.at(interval.header as usize);
-            if interval.members.len() > 1 {
-                self.join(blocks, interval.members.as_slice(), header);
-                self.find(alloc, header)?;
-            }
-            headers.put(place, header);
-        }
-        Ok(headers)
-    }
 }
 
-// The block of each number.
-fn count_up(alloc: Global, count: usize) -> Result<Table<usize>, AllocError> {
-    let mut blocks = Table::new(alloc, count, 0)?;
-    for block in 0..count {
-        blocks.put(block, block);
-    }
-    Ok(blocks)
-}
-
-// Which blocks have an edge to themselves.
-fn repeated(alloc: Global, edges: &Edges) -> Result<Table<bool>, AllocError> {
-    let mut repeated = Table::new(alloc, edges.count(), false)?;
-    for block in 0..edges.count() {
-        repeated.put(block, edges.sources.of(block).contains(&block));
-    }
-    Ok(repeated)
-}
-
-/// The loops of a graph with these edges and this derived sequence.
+/// The loops of a graph with these edges that is reduced so.
 pub(crate) fn loops_of(
     alloc: Global,
     edges: &Edges,
-    sequence: &Sequence,
+    reduction: &Reduction,
 ) -> Result<Loops, AllocError> {
     let mut finding = Finding {
         edges,
         loops: Loops {
-            headers: repeated(alloc, edges)?,
+            headers: Table::new(alloc, edges.count(), false)?,
             holders: Table::new(alloc, edges.count(), None)?,
         },
-        joined: count_up(alloc, edges.count())?,
+        regions: Forest::new(alloc, edges.count())?,
+        outermost: Forest::new(alloc, edges.count())?,
     };
-    let mut blocks = Table::new(alloc, 0, 0)?;
-    for (turn, level) in sequence.levels.iter().enumerate() {
-        let nodes = if turn == 0 { &edges.numbers } else { &blocks };
-        blocks = finding.find_all(alloc, nodes, level)?;
+    for joining in &reduction.joinings {
+        let block = edges.numbers.at(joining.region);
+        finding.find(alloc, block)?;
+        finding
+            .regions
+            .put_below(block, edges.numbers.at(joining.into));
+    }
+    for block in 0..edges.count() {
+        if finding.regions.is_root(block) {
+            finding.find(alloc, block)?;
+        }
     }
     Ok(finding.loops)
 }

@@ -2,6 +2,7 @@
 
 ghost use Rattle.std.specs.Prelude.{◌<◌, IfSome};
 
+use crate::edges::only_goes_to;
 use crate::layout::Layout;
 use crate::table::{Lists, Table};
 use dcc_control::{Arm, Item};
@@ -161,7 +162,7 @@ impl<'a> Walk<'a> {
     }
 
     // How many items are left room for inside a block, where there is room for it: its loop and its test or choice take
-    // one each, and each block one at least.
+    // one each, and each block one at least. What its loop holds beside its test or choice has room for one more.
     fn room_inside(&self, block: u32, room: usize) -> Option<usize>
         ensures { IfSome result (λ left. left < room) }
     {
@@ -171,11 +172,7 @@ impl<'a> Walk<'a> {
         } else {
             1
         };
-        if room < taken {
-            None
-        } else {
-            Some(room - taken)
-        }
+        if room < taken { None } else { Some(room - 1) }
     }
 
     // Appends a jump to a block.
@@ -185,20 +182,29 @@ impl<'a> Walk<'a> {
         Ok(())
     }
 
+    // The block is known, and the text comes from it to this goal without an item.
+    fn leads_to(&self, block: Option<u32>, goal: u32) -> bool {
+        match block {
+            Some(block) => self.layout.goals.at(block as usize) == goal,
+            None => false,
+        }
+    }
+
     // Appends what leads to a block, where this needs an item.
     fn push_edge(&mut self, items: &mut Vec<Item>, to: u32, at: Context) -> Result<(), AllocError> {
-        if Some(to) == at.next {
+        let goal = self.layout.goals.at(to as usize);
+        if self.leads_to(at.next, goal) {
             return Ok(());
         }
-        if Some(to) == at.at_break {
+        if self.leads_to(at.at_break, goal) {
             items.push(Item::Break)?;
             return Ok(());
         }
-        if Some(to) == at.at_continue {
+        if self.leads_to(at.at_continue, goal) {
             items.push(Item::Continue)?;
             return Ok(());
         }
-        self.push_jump(items, to)
+        self.push_jump(items, goal)
     }
 
     // The block stands in the place of its edge from the other one.
@@ -257,11 +263,23 @@ impl<'a> Walk<'a> {
         Ok(())
     }
 
+    // Goes on behind a block that the text passes, which takes no room.
+    fn pass(&mut self, level: &mut Level, block: u32) -> Result<(), AllocError> {
+        self.placed.put(block as usize, true);
+        match only_goes_to(self.graph, block) {
+            Some(to) => self.push_way(level, block, to),
+            None => Ok(()),
+        }
+    }
+
     // Appends a block. Where no room is left for it a jump to it stands here, and it comes after all others.
     #[cycle(walk)]
     fn push_block(&mut self, level: &mut Level, block: u32, room: usize) -> Result<(), AllocError> {
         if self.placed.at(block as usize) {
             return self.push_jump(&mut level.items, block);
+        }
+        if self.layout.goals.at(block as usize) != block {
+            return self.pass(level, block);
         }
         let Some(left) = self.room_inside(block, room) else {
             self.late.push(block)?;
@@ -278,7 +296,8 @@ impl<'a> Walk<'a> {
         }
     }
 
-    // Appends the loop that a block begins. What stands behind it comes next.
+    // Appends the loop that a block begins, in which so much room is left beside its test or choice. What stands behind
+    // it comes next.
     #[cycle(walk)]
     fn push_loop(&mut self, level: &mut Level, block: u32, room: usize) -> Result<(), AllocError> {
         level.put_before(self.layout.behind.of(block as usize))?;
@@ -288,7 +307,7 @@ impl<'a> Walk<'a> {
             at_continue: Some(block),
         };
         let mut inside = Level::new(self.alloc, at);
-        self.push_body(&mut inside, block, room)?;
+        self.push_body(&mut inside, block, room.saturating_sub(1))?;
         self.push_coming(&mut inside, room)?;
         level.items.push(Item::For(block, inside.items))?;
         Ok(())

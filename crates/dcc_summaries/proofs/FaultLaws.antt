@@ -13,12 +13,12 @@ use Rattle.dcc_ir.specs.Run.{no_graph}
 use Rattle.dcc_ir.specs.WellFormed.{IsProgram}
 use Rattle.dcc_demand.specs.Wanted.{IsResult}
 use Rattle.dcc_sums.specs.Instance.{procedures_of}
-use Rattle.dcc_sums.specs.Sums.{AreJust, IsSum, AreSums, GivesOneValue, ReusesNone}
+use Rattle.dcc_sums.specs.Summaries.{AreJust, IsSummary, AreSummaries, GivesOneValue, ReusesNone}
 use Rattle.dcc_summaries.specs.declared.ways.Port.{Port}
 use Rattle.dcc_summaries.specs.declared.backwards.Found.{Found}
 use Rattle.dcc_summaries.specs.Points.{graph_in, site_in}
 use Rattle.dcc_summaries.specs.Found.{AreFound}
-use Rattle.dcc_summaries.specs.Summaries.{IsSumOf, GivesSeveral, sum_of, reuses, is_one_value}
+use Rattle.dcc_summaries.specs.Summaries.{IsSummaryOf, GivesSeveral, sum_of, reuses, is_one_value}
 use Rattle.dcc_summaries.proofs.PointLaws.{graph_read}
 use Rattle.dcc_summaries.proofs.SumLaws.{sum_is, none_reused, zipped, pushed}
 use Rattle.dcc_summaries.proofs.ValueLaws.{one_value, told_one}
@@ -35,9 +35,9 @@ module _ (p : IrProgram) (good : IsProgram (program_of p)) (found : Found) (are 
   same : summary_of sum ≡ sum_of found place (graph_in (program_of p) place)
   same = made ∙ ap (sum_of found place) there
 
-  pub good_sum : is_one_value sum.results.items ≡ true → IsSumOf (program_of p) place (summary_of sum)
+  pub good_sum : is_one_value sum.results.items ≡ true → IsSummaryOf (program_of p) place (summary_of sum)
   good_sum e = record {
-    just = subst (IsSum (program_of p) (graph_in (program_of p) place)) (sym same) (sum_is (program_of p) good found are place within);
+    just = subst (IsSummary (program_of p) (graph_in (program_of p) place)) (sym same) (sum_is (program_of p) good found are place within);
     one = one_value sum.results.items e;
   }
 
@@ -57,7 +57,7 @@ module _ (p : IrProgram) (good : IsProgram (program_of p)) (found : Found) (are 
 -- The summaries of the first graphs.
 
 abbrev pub AreFirst : Program → List Sum → Type 0
-AreFirst p sums = (k : ℕ) (x : Summary) → slice_get (map summary_of sums) k ≡ Some x → IsSumOf p k x
+AreFirst p sums = (k : ℕ) (x : Summary) → slice_get (map summary_of sums) k ≡ Some x → IsSummaryOf p k x
 
 none_there : {A P : Type 0} (k : ℕ) (x : A) → slice_get [] k ≡ Some x → P
 none_there zero x e = absurd (cc)
@@ -66,14 +66,14 @@ none_there (suc k) x e = absurd (cc)
 pub none_first : (p : Program) (sums : List Sum) → sums ≡ [] → AreFirst p sums
 none_first p sums e k x at = none_there k x (sym (ap (λ l. slice_get (map summary_of l) k) e) ∙ at)
 
-pub first_more : (p : Program) (sums more : List Sum) (sum : Sum) (place : ℕ) → length sums ≡ place → more ≡ sums ++ sum ∷ [] → AreFirst p sums → IsSumOf p place (summary_of sum) → AreFirst p more
+pub first_more : (p : Program) (sums more : List Sum) (sum : Sum) (place : ℕ) → length sums ≡ place → more ≡ sums ++ sum ∷ [] → AreFirst p sums → IsSummaryOf p place (summary_of sum) → AreFirst p more
 first_more p sums more sum place count e first new k x at =
     let size = length-map sums summary_of ∙ count in
-    pushed (IsSumOf p) (map summary_of sums) (summary_of sum) first (subst (λ n. IsSumOf p n (summary_of sum)) (sym size) new) k x
+    pushed (IsSummaryOf p) (map summary_of sums) (summary_of sum) first (subst (λ n. IsSummaryOf p n (summary_of sum)) (sym size) new) k x
     (sym (ap (λ l. slice_get l k) (ap (map summary_of) e ∙ map_push summary_of sums sum)) ∙ at)
 
-pub all_sums : (p : Program) (sums : List Sum) → length sums ≡ length p.graphs → AreFirst p sums → AreSums p (map summary_of sums)
-all_sums p sums count first = zipped (IsSum p) no_graph p.graphs (map summary_of sums) (let size = length-map sums summary_of in omega (arith, size, count)) (λ k y e. (first k y e).just)
+pub all_sums : (p : Program) (sums : List Sum) → length sums ≡ length p.graphs → AreFirst p sums → AreSummaries p (map summary_of sums)
+all_sums p sums count first = zipped (IsSummary p) no_graph p.graphs (map summary_of sums) (let size = length-map sums summary_of in omega (arith, size, count)) (λ k y e. (first k y e).just)
 
 pub all_one : (p : Program) (sums : List Sum) → AreFirst p sums → GivesOneValue (map summary_of sums)
 all_one p sums first k d inside = (first k (get_or (map summary_of sums) k d) (slice_get-get_or (map summary_of sums) k d inside)).one

@@ -1,8 +1,7 @@
 -- While what is wanted is followed: what is told of is wanted, and what of it has been followed has told all that follows.
 use Rattle.std.proofs.Common.{◌≡◌, ℕ, ◌+◌, ◌<◌, Bool, true, inl, inr, List, [], ◌∷◌, ◌++◌, length, map, flat_map, sym, ap, ◌∙◌, subst, true≢false, arith, Contains}
 use Rattle.std.specs.Prelude.{◌⊎◌, ◌↔◌}
-use Rattle.std.proofs.lemmas.List.{length-append}
-use Rattle.std.proofs.lemmas.List.Elements.{Contains-append_left, Contains-push, Contains-push_cases}
+use Rattle.std.proofs.lemmas.List.Elements.{Contains-append_left}
 use Rattle.dcc_ir.specs.declared.syntax.Loc.{Loc}
 use Rattle.dcc_ir.specs.Tree.{Program}
 use Rattle.dcc_ir.specs.Run.{graph_at}
@@ -22,10 +21,12 @@ use Rattle.dcc_summaries.specs.Setting.{setting_of}
 use Rattle.dcc_summaries.specs.declared.follow.Setting.{Setting as SettingOf}
 use Rattle.dcc_summaries.specs.declared.demand.Demand.{Demand as DemandOf}
 use Rattle.dcc_ir.specs.Views.{program_of}
+use Rattle.dcc_summaries.specs.Pending.{NoneWait, IsTaken}
 use Rattle.dcc_summaries.specs.Demands.{Demand, demand_of, no_demand, with_wants, want_at, wants_at, seeds}
 use Rattle.dcc_summaries.specs.Follow.{changed_in, followers, Setting}
 use Rattle.dcc_summaries.proofs.ListLaws.{from_map, in_flat, from_flat}
 use Rattle.dcc_summaries.proofs.PointLaws.{all_are, is_one}
+use Rattle.dcc_summaries.proofs.PendingLaws.{total, Waits, none_waits, nowhere, taken_less, taken_waited, waits_on, waited}
 use Rattle.dcc_summaries.proofs.KnownLaws.{left, HasWanted, all_wanted}
 use Rattle.dcc_summaries.proofs.SoundLaws.{mentioned, mentioned_at, makes_at, setting, entry_of, site_here, IsGood}
 use Rattle.dcc_summaries.proofs.SoundLaws.{followers_wanted}
@@ -65,12 +66,12 @@ module _ (p : Program) (good : IsProgram p) (changed : ℕ → Loc → Bool) (te
   pub record IsFinding (d : Demand) : Type 0 where
     pub sound : (x : Want) → d.told x ≡ true → IsGood p good x
     pub seeded : (x : Want) → Contains (seeds p (all_points p)) x → d.told x ≡ true
-    pub followed : (x : Want) → d.told x ≡ true → Contains d.pending x ⊎ ((y : Want) → Contains (followers s x) y → d.told y ≡ true)
-    pub waiting : (x : Want) → Contains d.pending x → d.told x ≡ true
+    pub followed : (x : Want) → d.told x ≡ true → Waits d.pending x ⊎ ((y : Want) → Contains (followers s x) y → d.told y ≡ true)
+    pub waiting : (x : Want) → Waits d.pending x → d.told x ≡ true
 
-  pub begun : IsFinding (with_wants no_demand (seeds p (all_points p)))
-  begun =
-      let has = all_wanted no_demand (seeds p (all_points p)) in
+  pub begun : (places : ℕ) → IsFinding (with_wants (no_demand places) (seeds p (all_points p)))
+  begun places =
+      let has = all_wanted (no_demand places) (seeds p (all_points p)) in
       record {
         sound = λ x t. elim (has.only x t) [
           | inl f ↦ absurd (true≢false (sym f))
@@ -82,13 +83,13 @@ module _ (p : Program) (good : IsProgram p) (changed : ℕ → Loc → Bool) (te
           | inr c ↦ inl c
         ];
         waiting = λ x c. elim (has.known x c) [
-          | inl f ↦ absurd (Contains-none x f)
+          | inl f ↦ absurd (none_waits places x f)
           | inr c' ↦ has.there x c'
         ];
       }
 
   -- One that waits is followed.
-  module _ (d : Demand) (finding : IsFinding d) (rest : List Want) (x : Want) (last : d.pending ≡ rest ++ x ∷ []) where
+  module _ (d : Demand) (finding : IsFinding d) (rest : List (List Want)) (x : Want) (takes : IsTaken d.pending rest x) where
     abbrev taken : Demand
     taken = record { told = d.told; pending = rest }
 
@@ -96,7 +97,7 @@ module _ (p : Program) (good : IsProgram p) (changed : ℕ → Loc → Bool) (te
     after = with_wants taken (followers s x)
 
     pub next_good : IsGood p good x
-    next_good = finding.sound x (finding.waiting x (subst (λ l. Contains l x) (sym last) (Contains-push rest x)))
+    next_good = finding.sound x (finding.waiting x (taken_waited d.pending rest x takes))
 
     following : HasWanted taken after (followers s x)
     following = all_wanted taken (followers s x)
@@ -112,32 +113,31 @@ module _ (p : Program) (good : IsProgram p) (changed : ℕ → Loc → Bool) (te
         | inr c ↦ inl c
         | inl f ↦ elim (finding.followed y f) [
           | inr all ↦ inr (λ z c. following.keeps z (all z c))
-          | inl c ↦ elim (Contains-push_cases rest x y (subst (λ l. Contains l y) last c)) [
+          | inl c ↦ elim (waits_on d.pending rest x takes y c) [
             | inl c' ↦ inl (following.waits y c')
             | inr e ↦ inr (λ z c'. following.there z (subst (λ w. Contains (followers s w) z) (sym e) c'))
           ]
         ]
       ];
       waiting = λ y c. elim (following.known y c) [
-        | inl f ↦ following.keeps y (finding.waiting y (subst (λ l. Contains l y) (sym last) (Contains-append_left rest (x ∷ []) y f)))
+        | inl f ↦ following.keeps y (finding.waiting y (waited d.pending rest x takes y f))
         | inr c' ↦ following.there y c'
       ];
     }
 
-    pub less_left : left (universe p) after + length after.pending < left (universe p) d + length d.pending
+    pub less_left : left (universe p) after + total after.pending < left (universe p) d + total d.pending
     less_left =
         let less = following.less (universe p) (λ y c. good_within y (followers_wanted p good changed tells preds are x next_good y c)) in
-        let size = length-append rest (x ∷ []) in
-        let count = ap length last in
-        omega (arith, less, size, count)
+        let size = taken_less d.pending rest x takes in
+        omega (arith, less, size)
 
   -- Where none waits, what is told of is just what is wanted.
-  pub found_all : (d : Demand) → IsFinding d → d.pending ≡ [] → (at : Point) (l : Loc) → at.graph < length p.graphs → (d.told (want_at at l) ≡ true) ↔ Wanted (procedures_of p) (entry_of p good at.graph) (position_of at) l
+  pub found_all : (d : Demand) → IsFinding d → NoneWait d.pending → (at : Point) (l : Loc) → at.graph < length p.graphs → (d.told (want_at at l) ≡ true) ↔ Wanted (procedures_of p) (entry_of p good at.graph) (position_of at) l
   found_all d finding none at l inside = (
     λ t. (finding.sound (want_at at l) t).1,
     λ w. all_told p good changed tells preds are d.told (λ x t. (finding.sound x t).0) finding.seeded
         (λ x t. elim (finding.followed x t) [
-          | inl c ↦ absurd (Contains-none x (subst (λ l'. Contains l' x) none c))
+          | inl c ↦ absurd (nowhere d.pending none x c)
           | inr all ↦ all
         ]) at.graph (position_of at) l inside w,
   )
@@ -166,15 +166,15 @@ module _ (s : SettingOf) where
         λ i. record { program = program; changed = changed_in change_lists; preds = pred_lists; calls = c i; returns = r i }
 
     -- one that waits was followed
-    module _ (before after : DemandOf) (finding : IsFinding program good (changed_in change_lists) tells pred_lists are (demand_of before)) (rest : List Want) (x : Want) (last : before.pending.items ≡ rest ++ x ∷ [])
+    module _ (before after : DemandOf) (finding : IsFinding program good (changed_in change_lists) tells pred_lists are (demand_of before)) (rest : List (List Want)) (x : Want) (takes : IsTaken (demand_of before).pending rest x)
         (is : demand_of after ≡ with_wants (record { told = (demand_of before).told; pending = rest }) (followers (setting_of s) x)) where
       same : demand_of after ≡ with_wants (record { told = (demand_of before).told; pending = rest }) (followers (setting program good (changed_in change_lists) tells pred_lists are) x)
       same = is ∙ ap (λ z. with_wants (record { told = (demand_of before).told; pending = rest }) (followers z x)) setting_same
 
       pub going_on : IsFinding program good (changed_in change_lists) tells pred_lists are (demand_of after)
       going_on = subst (IsFinding program good (changed_in change_lists) tells pred_lists are) (sym same)
-          (still_finding program good (changed_in change_lists) tells pred_lists are (demand_of before) finding rest x last)
+          (still_finding program good (changed_in change_lists) tells pred_lists are (demand_of before) finding rest x takes)
 
-      pub less : left (universe program) (demand_of after) + length after.pending.items < left (universe program) (demand_of before) + length before.pending.items
-      less = subst (λ (d : Demand). left (universe program) d + length d.pending < left (universe program) (demand_of before) + length before.pending.items) (sym same)
-          (less_left program good (changed_in change_lists) tells pred_lists are (demand_of before) finding rest x last)
+      pub less : left (universe program) (demand_of after) + total (demand_of after).pending < left (universe program) (demand_of before) + total (demand_of before).pending
+      less = subst (λ (d : Demand). left (universe program) d + total d.pending < left (universe program) (demand_of before) + total (demand_of before).pending) (sym same)
+          (less_left program good (changed_in change_lists) tells pred_lists are (demand_of before) finding rest x takes)

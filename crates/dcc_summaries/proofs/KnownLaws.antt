@@ -2,13 +2,14 @@
 use Rattle.std.proofs.Common.{◌≡◌, ℕ, ◌+◌, ◌≤◌, Bool, true, false, ◌&&◌, ◌||◌, not, inl, inr, List, [], ◌∷◌, ◌++◌, length, refl, sym, ap, ◌∙◌, subst, true≢false, arith, Contains}
 use Rattle.std.specs.Prelude.{◌⊎◌, ◌==◌, filter, if◌then◌else◌}
 use Rattle.std.proofs.lemmas.Bool.{and_parts, and_from, or_cases, or_left, or_right, eqb-true, eq-eqb}
-use Rattle.std.proofs.lemmas.List.{length-append}
-use Rattle.std.proofs.lemmas.List.Elements.{Contains-append_left, Contains-append_right, Contains-append_cases, Contains-push, Contains-push_cases}
+use Rattle.std.proofs.lemmas.List.Elements.{Contains-append_left, Contains-append_right, Contains-append_cases}
 use Rattle.dcc_ir.specs.Location.{same_location}
 use Rattle.dcc_ir.proofs.LocationLaws.{location_same, location_itself, Contains-here, Contains-none, Contains-cases}
 use Rattle.dcc_summaries.specs.declared.table.Want.{Want}
 use Rattle.dcc_summaries.specs.Table.{same_want}
+use Rattle.dcc_summaries.specs.Pending.{with_pending}
 use Rattle.dcc_summaries.specs.Demands.{Demand, with_want, with_wants}
+use Rattle.dcc_summaries.proofs.PendingLaws.{total, more_total, Waits, waits_still, waits_new, waits_known}
 
 -- Two of them are one where the test says so.
 
@@ -67,10 +68,10 @@ pub record HasWanted (before after : Demand) (xs : List Want) : Type 0 where
   pub keeps : (y : Want) → before.told y ≡ true → after.told y ≡ true
   pub there : (y : Want) → Contains xs y → after.told y ≡ true
   pub only : (y : Want) → after.told y ≡ true → (before.told y ≡ true) ⊎ Contains xs y
-  pub waits : (y : Want) → Contains before.pending y → Contains after.pending y
-  pub new : (y : Want) → after.told y ≡ true → (before.told y ≡ true) ⊎ Contains after.pending y
-  pub known : (y : Want) → Contains after.pending y → Contains before.pending y ⊎ Contains xs y
-  pub less : (all : List Want) → ((y : Want) → Contains xs y → Contains all y) → left all after + length after.pending ≤ left all before + length before.pending
+  pub waits : (y : Want) → Waits before.pending y → Waits after.pending y
+  pub new : (y : Want) → after.told y ≡ true → (before.told y ≡ true) ⊎ Waits after.pending y
+  pub known : (y : Want) → Waits after.pending y → Waits before.pending y ⊎ Contains xs y
+  pub less : (all : List Want) → ((y : Want) → Contains xs y → Contains all y) → left all after + total after.pending ≤ left all before + total before.pending
 
 none_wanted : (d : Demand) → HasWanted d d []
 none_wanted d = record {
@@ -95,7 +96,7 @@ told_already d x told = record {
 }
 
 abbrev more : Demand → Want → Demand
-more d x = record { told = λ y. same_want y x || d.told y; pending = d.pending ++ x ∷ [] }
+more d x = record { told = λ y. same_want y x || d.told y; pending = with_pending d.pending x.at.block x }
 
 told_anew : (d : Demand) (x : Want) → d.told x ≡ false → HasWanted d (more d x) (x ∷ [])
 told_anew d x untold = record {
@@ -105,19 +106,19 @@ told_anew d x untold = record {
     | inl s ↦ inr (subst (Contains (x ∷ [])) (sym (want_same y x s)) (Contains-here x []))
     | inr t' ↦ inl t'
   ];
-  waits = λ y c. Contains-append_left d.pending (x ∷ []) y c;
+  waits = λ y w. (w.0, waits_still d.pending x.at.block x y w.0 w.1);
   new = λ y t. elim (or_cases (same_want y x) (d.told y) t) [
-    | inl s ↦ inr (subst (Contains (d.pending ++ x ∷ [])) (sym (want_same y x s)) (Contains-push d.pending x))
+    | inl s ↦ inr (subst (Waits (with_pending d.pending x.at.block x)) (sym (want_same y x s)) (waits_new d.pending x.at.block x))
     | inr t' ↦ inl t'
   ];
-  known = λ y c. elim (Contains-push_cases d.pending x y c) [
+  known = λ y w. elim (waits_known d.pending x.at.block x y w.0 w.1) [
     | inl c' ↦ inl c'
     | inr e ↦ inr (subst (Contains (x ∷ [])) e (Contains-here x []))
   ];
   less = λ all within.
       let one = fewer_one (λ y. not ((more d x).told y)) (λ y. not (d.told y)) (λ y e. unless (same_want y x) (d.told y) e) all x (within x (Contains-here x []))
       (ap (λ b. not (b || d.told x)) (want_itself x)) (ap not untold) in
-      let size = length-append d.pending (x ∷ []) in
+      let size = more_total d.pending x.at.block x in
       omega (arith, one, size);
 }
   where

@@ -3,6 +3,7 @@ pub mod PointLaws
 pub mod TableLaws
 pub mod DemandLaws
 pub mod FollowLaws
+pub mod PendingLaws
 pub mod KnownLaws
 pub mod SoundLaws
 pub mod CompleteLaws

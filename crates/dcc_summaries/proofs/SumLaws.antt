@@ -20,7 +20,7 @@ use Rattle.dcc_demand.specs.Changes.{Changes, IsPreserved}
 use Rattle.dcc_demand.specs.Wanted.{Wanted, IsParam, IsResult}
 use Rattle.dcc_sums.specs.Points.{Position, next_of, Site, Executes, Ends, Nowhere, site_of, nexts_of}
 use Rattle.dcc_sums.specs.Instance.{passes, procedures_of}
-use Rattle.dcc_sums.specs.Sums.{AreJust, IsSum, IsReused, ReusesNone}
+use Rattle.dcc_sums.specs.Summaries.{AreJust, IsSummary, IsReused, ReusesNone}
 use Rattle.dcc_sums.proofs.SiteLaws.{here, goes_next, changes_pass}
 use Rattle.dcc_modref.proofs.StateLaws.{among_filter}
 use Rattle.dcc_modref.proofs.ProgramLaws.{one_more}
@@ -134,7 +134,7 @@ module _ (p : Program) (good : IsProgram p) (found : Found) (are : AreFound p fo
 
   -- The summary of a graph.
 
-  pub sum_is : (place : ℕ) → place < length p.graphs → IsSum p (graph_in p place) (sum_of found place (graph_in p place))
+  pub sum_is : (place : ℕ) → place < length p.graphs → IsSummary p (graph_in p place) (sum_of found place (graph_in p place))
   sum_is place inside =
       let graph = graph_in p place in
       record {

@@ -29,7 +29,7 @@ changed_list {A} lists k n v inside P here there =
       | inr o ↦ subst P (sym (get_or-set_other (lists_of lists) k n v.items [] o)) (there o)
     ])
 
-read_list : {A : Type 0} (lists : List (Vec A)) (k : ℕ) (v : Vec A) → k < length lists → v ≡ get_or lists k v → v.items ≡ get_or (lists_of lists) k []
+pub read_list : {A : Type 0} (lists : List (Vec A)) (k : ℕ) (v : Vec A) → k < length lists → v ≡ get_or lists k v → v.items ≡ get_or (lists_of lists) k []
 read_list {A} lists k v inside e = by lists k inside e
   where
     by : (lists : List (Vec A)) (k : ℕ) → k < length lists → v ≡ get_or lists k v → v.items ≡ get_or (lists_of lists) k []

@@ -12,7 +12,7 @@ use Rattle.dcc_ir.specs.declared.syntax.Loc.{Loc}
 use Rattle.dcc_ir.specs.declared.syntax.Loc.TheVariants.{Half, Flag, Cell, Temp}
 use Rattle.dcc_ir.specs.Location.{same_location}
 use Rattle.dcc_ir.proofs.LocationLaws.{location_same, location_itself}
-use Rattle.dcc_sums.specs.Sums.{IsHalfOf, AreOneValue}
+use Rattle.dcc_sums.specs.Summaries.{IsHalfOf, AreOneValue}
 use Rattle.dcc_summaries.specs.Summaries.{is_half_of, is_in_pair, is_one_value}
 
 all_are : (P : Loc → Type 0) (f : Loc → Bool) → ((l : Loc) → f l ≡ true → P l) → (xs : List Loc) → list_all f xs ≡ true → All P xs

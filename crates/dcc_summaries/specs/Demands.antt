@@ -1,5 +1,5 @@
 -- What is known to be wanted while the search goes on, and what becomes known.
-use Rattle.std.specs.Prelude.{Bool, false, ◌||◌, not, List, [], ◌∷◌, ◌++◌, map, flat_map, filter, if◌then◌else◌}
+use Rattle.std.specs.Prelude.{ℕ, Bool, false, ◌||◌, not, List, [], ◌∷◌, map, flat_map, filter, replicate, if◌then◌else◌}
 use Rattle.dcc_ir.specs.declared.syntax.Loc.{Loc}
 use Rattle.dcc_ir.specs.Tree.{Expr, Program}
 use Rattle.dcc_ir.specs.Use.{reads_of}
@@ -8,18 +8,20 @@ use Rattle.dcc_summaries.specs.declared.points.Point.{Point}
 use Rattle.dcc_summaries.specs.declared.table.Want.{Want}
 use Rattle.dcc_summaries.specs.declared.demand.Demand.{Demand as DemandOf}
 use Rattle.dcc_summaries.specs.Points.{site_in, used_at}
-use Rattle.dcc_summaries.specs.Table.{told_in, same_want}
+use Rattle.dcc_summaries.specs.Table.{lists_of, told_in, same_want}
+use Rattle.dcc_summaries.specs.Pending.{with_pending}
 
--- what is known to be wanted, and what of it hasn't been followed yet, the newest last
+-- what is known to be wanted, and what of it hasn't been followed yet, by lists
 pub record Demand : Type 0 where
   pub told : Want → Bool
-  pub pending : List Want
+  pub pending : List (List Want)
 
 abbrev pub demand_of : DemandOf → Demand
-demand_of d = record { told = told_in d.wants.rows.items; pending = d.pending.items }
+demand_of d = record { told = told_in d.wants.rows.items; pending = lists_of d.pending.lists.items }
 
-abbrev pub no_demand : Demand
-no_demand = record { told = λ x. false; pending = [] }
+-- nothing is known to be wanted; there are so many lists
+abbrev pub no_demand : ℕ → Demand
+no_demand places = record { told = λ x. false; pending = replicate places [] }
 
 abbrev pub want_at : Point → Loc → Want
 want_at at location = record { at = at; location = location }
@@ -31,7 +33,8 @@ wants_at at locations = map (want_at at) locations
 -- what is known after one more location is wanted before a point
 abbrev pub with_want : Demand → Want → Demand
 with_want d x =
-    if d.told x then d else record { told = λ y. same_want y x || d.told y; pending = d.pending ++ x ∷ [] }
+    if d.told x then d
+    else record { told = λ y. same_want y x || d.told y; pending = with_pending d.pending x.at.block x }
 
 abbrev pub with_wants : Demand → List Want → Demand
 with_wants d [] = d

@@ -1,6 +1,7 @@
 pub mod Points
 pub mod Table
 pub mod Ways
+pub mod Pending
 pub mod Demands
 pub mod Follow
 pub mod Setting

@@ -15,7 +15,7 @@ use Rattle.dcc_ir.specs.Location.{same_location}
 use Rattle.dcc_ir.specs.Passing.{passed}
 use Rattle.dcc_sums.specs.Points.{Position, Site, Executes}
 use Rattle.dcc_sums.specs.Instance.{passes, procedures_of}
-use Rattle.dcc_sums.specs.Sums.{AreJust, IsSum, IsReused, AreOneValue}
+use Rattle.dcc_sums.specs.Summaries.{AreJust, IsSummary, IsReused, AreOneValue}
 use Rattle.dcc_demand.specs.Wanted.{IsResult}
 use Rattle.dcc_summaries.specs.declared.points.Point.{Point}
 use Rattle.dcc_summaries.specs.declared.backwards.Found.{Found}
@@ -51,8 +51,8 @@ IsFault p (SeveralResults at) = GivesSeveral p at
 IsFault p Memory = Unit {0}
 
 -- the summary of the graph at that place, which gives one value at most
-pub record IsSumOf (p : Program) (place : ℕ) (sum : Summary) : Type 0 where
-  pub just : IsSum p (graph_in p place) sum
+pub record IsSummaryOf (p : Program) (place : ℕ) (sum : Summary) : Type 0 where
+  pub just : IsSummary p (graph_in p place) sum
   pub one : AreOneValue sum.results
 
 -- How code tells the summaries.

@@ -18,6 +18,15 @@ use dcc_ir::IrProgram;
 use dcc_modref::changes;
 use std::alloc::{AllocError, Global};
 
+// The most blocks that a graph of a program has.
+fn most_blocks(p: &IrProgram) -> usize {
+    let mut most = 0;
+    for graph in &p.graphs {
+        most = graph.blocks.len().max(most);
+    }
+    most
+}
+
 // All that is wanted, from what is used at the points of a program on.
 fn find(alloc: Global, setting: &Setting<'_>, points: &[Point]) -> Result<Wants, AllocError>
     requires program { IsProgram (program_of setting.now.program.now) }
@@ -29,9 +38,9 @@ fn find(alloc: Global, setting: &Setting<'_>, points: &[Point]) -> Result<Wants,
         ≡ all_returns (program_of setting.now.program.now) points.now }
     ensures { IfOk result (λ wants. AreWanted (program_of setting.now.program.now) wants) }
 {
-    let mut demand = Demand::new(alloc);
+    let mut demand = Demand::new(alloc, most_blocks(setting.program))?;
     demand.seed(alloc, setting.program, points)?;
-    while let Some(want) = demand.pending.pop() {
+    while let Some(want) = demand.pending.take() {
         demand.follow(alloc, setting, want)?;
     }
     Ok(demand.wants)

@@ -1,6 +1,6 @@
 //! What is known to be wanted, and what a part of a program makes wanted.
 
-ghost use Rattle.std.specs.Prelude.{◌≡◌, [], ◌∷◌, map, All, OnOk};
+ghost use Rattle.std.specs.Prelude.{◌≡◌, [], ◌∷◌, map, All, IfOk, OnOk};
 ghost use Rattle.dcc_ir.specs.Views.{expr_of, stmt_of, exit_of, program_of};
 ghost use Rattle.dcc_ir.specs.Use.{reads_of};
 ghost use Rattle.dcc_ir.specs.Demand.{makes_of};
@@ -9,6 +9,7 @@ ghost use Rattle.dcc_summaries.specs.Points.{IsPoint, used_at, site_seen};
 ghost use Rattle.dcc_summaries.specs.Demands.{demand_of, no_demand, with_want, with_wants, wants_at, argument_reads};
 ghost use Rattle.dcc_summaries.specs.Demands.{seeds};
 
+use crate::pending::Pending;
 use crate::points::{Point, Site, site_at};
 use crate::table::{Want, Wants};
 use dcc_ir::{End, Expr, IrProgram, Stmt};
@@ -19,8 +20,8 @@ use std::alloc::{AllocError, Global};
 #[derive(Drop)]
 pub struct Demand {
     pub wants: Wants,
-    /// What is known to be wanted and hasn't been followed yet, the newest last.
-    pub pending: Vec<Want>,
+    /// What is known to be wanted and hasn't been followed yet.
+    pub pending: Pending,
 }
 
 // Whether an expression is no more than a half or a flag that passes.
@@ -34,16 +35,17 @@ fn is_passing(e: &Expr) -> bool
 }
 
 impl Demand {
-    /// A demand in which nothing is known to be wanted.
-    pub fn new(alloc: Global) -> Demand
-        ensures { demand_of result ≡ no_demand }
+    /// A demand in which nothing is known to be wanted, in graphs of up to so many blocks.
+    pub fn new(alloc: Global, blocks: usize) -> Result<Demand, AllocError>
+        ensures { IfOk result (λ demand. demand_of demand ≡ no_demand blocks) }
     {
-        Demand {
+        let pending = Pending::new(alloc, blocks)?;
+        Ok(Demand {
             wants: Wants {
                 rows: Vec::new(alloc),
             },
-            pending: Vec::new(alloc),
-        }
+            pending,
+        })
     }
 
     /// Notes that a location is wanted before a point.
@@ -52,7 +54,7 @@ impl Demand {
     {
         if !self.wants.has(want) {
             self.wants.add(alloc, want)?;
-            self.pending.push(want)?;
+            self.pending.add(alloc, want)?;
         }
         Ok(())
     }

@@ -36,7 +36,7 @@ fn tells(changed: &[bool], entry: u16) -> bool
 }
 
 /// Whether the procedure of that entry changes the location, by a list for each half and flag that passes.
-pub fn is_changed(changed: &[Vec<bool>], entry: u16, location: Loc) -> bool
+pub(crate) fn is_changed(changed: &[Vec<bool>], entry: u16, location: Loc) -> bool
     requires { length changed.now ≡ 16 }
     ensures { result ≡ changed_in (map (λ v. v.items) changed.now) entry location }
 {

@@ -7,6 +7,7 @@
 mod backwards;
 mod demand;
 mod follow;
+mod pending;
 mod points;
 mod summaries;
 mod table;

@@ -65,7 +65,7 @@ impl Site<'_> {
 }
 
 /// What comes next at a point of a program.
-pub fn site_at<'a>(p: &'a IrProgram, at: Point) -> Site<'a>
+pub(crate) fn site_at<'a>(p: &'a IrProgram, at: Point) -> Site<'a>
     requires { IsPoint (program_of p.now) at }
     ensures { site_seen result ≡ site_in (program_of p.now) at }
 {

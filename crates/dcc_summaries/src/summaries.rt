@@ -5,13 +5,13 @@ ghost use Rattle.std.specs.List.{list_all};
 ghost use Rattle.dcc_ir.specs.Live.{block_in};
 ghost use Rattle.dcc_ir.specs.Location.{same_location};
 ghost use Rattle.dcc_ir.specs.Passing.{passed};
-ghost use Rattle.dcc_ir.specs.Views.{graph_of, program_of, summary_of, sums_of};
+ghost use Rattle.dcc_ir.specs.Views.{graph_of, program_of, summary_of, summaries_of};
 ghost use Rattle.dcc_ir.specs.WellFormed.{IsProgram};
-ghost use Rattle.dcc_sums.specs.Sums.{AreSums, ReusesNone, GivesOneValue};
+ghost use Rattle.dcc_sums.specs.Summaries.{AreSummaries, ReusesNone, GivesOneValue};
 ghost use Rattle.dcc_summaries.specs.Points.{IsPoint, site_in, graph_in};
 ghost use Rattle.dcc_summaries.specs.Found.{AreFound};
 ghost use Rattle.dcc_summaries.specs.Summaries as spec;
-ghost use Rattle.dcc_summaries.specs.Summaries.{IsFault, IsReusedAt, IsSumOf, changed_by, is_param, sum_of};
+ghost use Rattle.dcc_summaries.specs.Summaries.{IsFault, IsReusedAt, IsSummaryOf, changed_by, is_param, sum_of};
 ghost use Rattle.dcc_summaries.specs.Summaries.{reuses, reuses_one};
 
 use crate::backwards::{Found, find_all};
@@ -255,7 +255,7 @@ impl Found {
         requires program { IsProgram (program_of p.now) }
         requires found { AreFound (program_of p.now) self.now }
         requires place { place < length p.now.graphs.items }
-        ensures sum { IfOk result (λ sum. IsSumOf (program_of p.now) place (summary_of sum)) }
+        ensures sum { IfOk result (λ sum. IsSummaryOf (program_of p.now) place (summary_of sum)) }
         ensures fault { IfErr result (IsFault (program_of p.now)) }
     {
         let graph = &p.graphs[place];
@@ -271,8 +271,8 @@ impl Found {
     fn sums(&self, alloc: Global, p: &IrProgram) -> Result<Sums, SumsFault>
         requires program { IsProgram (program_of p.now) }
         requires found { AreFound (program_of p.now) self.now }
-        ensures sums { IfOk result (λ sums. AreSums (program_of p.now) (sums_of sums)) }
-        ensures one { IfOk result (λ sums. GivesOneValue (sums_of sums)) }
+        ensures sums { IfOk result (λ sums. AreSummaries (program_of p.now) (summaries_of sums)) }
+        ensures one { IfOk result (λ sums. GivesOneValue (summaries_of sums)) }
         ensures fault { IfErr result (IsFault (program_of p.now)) }
     {
         let mut of = Vec::new(alloc);
@@ -292,9 +292,9 @@ impl Found {
 /// memory runs out.
 pub fn sums(alloc: Global, p: &IrProgram) -> Result<Sums, SumsFault>
     requires { IsProgram (program_of p.now) }
-    ensures sums { IfOk result (λ sums. AreSums (program_of p.now) (sums_of sums)) }
+    ensures sums { IfOk result (λ sums. AreSummaries (program_of p.now) (summaries_of sums)) }
     ensures none { OnOk result (ReusesNone (program_of p.now)) }
-    ensures one { IfOk result (λ sums. GivesOneValue (sums_of sums)) }
+    ensures one { IfOk result (λ sums. GivesOneValue (summaries_of sums)) }
     ensures fault { IfErr result (IsFault (program_of p.now)) }
 {
     let found = find_all(alloc, p)?;

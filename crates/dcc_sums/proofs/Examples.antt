@@ -19,7 +19,7 @@ use Rattle.dcc_demand.specs.Wanted.{Wanted, IsWantedBy, IsParam, IsResult}
 use Rattle.dcc_demand.proofs.ChangeLaws.{changes-closed}
 use Rattle.dcc_sums.specs.Points.{Position, Executes, Ends, Nowhere, site_of}
 use Rattle.dcc_sums.specs.Instance.{action_of, procedures_of}
-use Rattle.dcc_sums.specs.Sums.{IsHalfOf, AreOneValue, GivesOneValue}
+use Rattle.dcc_sums.specs.Summaries.{IsHalfOf, AreOneValue, GivesOneValue}
 use Rattle.dcc_sums.specs.Localised.{localised}
 
 abbrev pub al : Loc

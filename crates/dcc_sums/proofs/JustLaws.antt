@@ -21,8 +21,8 @@ use Rattle.dcc_ir.proofs.LocationLaws.{Contains-later, Contains-none, Contains-c
 use Rattle.dcc_ir.proofs.ListLaws.{all_had}
 use Rattle.dcc_ir.proofs.ReachedLaws.{found_contained, named_again}
 use Rattle.dcc_ir.proofs.passes.FormLaws.{one_graph}
-use Rattle.dcc_sums.specs.Sums.{IsSum, AreSums}
-use Rattle.dcc_sums.specs.Localised.{sets_one_of, is_taken, is_given, sum_at, trim_by, localised, GivesJust, TakesJust, CallsJust, PassesJust}
+use Rattle.dcc_sums.specs.Summaries.{IsSummary, AreSummaries}
+use Rattle.dcc_sums.specs.Localised.{sets_one_of, is_taken, is_given, summary_at, trim_by, localised, GivesJust, TakesJust, CallsJust, PassesJust}
 use Rattle.dcc_sums.specs.Laws.{LocalisedPassesJust}
 use Rattle.dcc_sums.proofs.KeptLaws.{later}
 use Rattle.dcc_sums.proofs.ArgumentLaws.{words_as_many}
@@ -83,15 +83,15 @@ found_there graphs g differ c = go (graph_at graphs g.entry) refl
     go None e = absurd (missed graphs e c)
 
 -- The localised program.
-module _ (back : ℕ → List ℕ) (p : Program) (sums : List Summary) (formed : IsProgram p) (passes_all : PassesAll back p) (are : AreSums p sums) where
+module _ (back : ℕ → List ℕ) (p : Program) (sums : List Summary) (formed : IsProgram p) (passes_all : PassesAll back p) (are : AreSummaries p sums) where
   abbrev trim : Trim
   trim = trim_by p.graphs sums
 
   abbrev sum_of : ℕ → Summary
-  sum_of entry = sum_at p.graphs sums entry
+  sum_of entry = summary_at p.graphs sums entry
 
-  sum_is : (entry : ℕ) (g : Graph) → graph_at p.graphs entry ≡ Some g → IsSum p g (sum_of entry)
-  sum_is entry g found = sum_there (IsSum p) p.graphs sums entry g are found
+  sum_is : (entry : ℕ) (g : Graph) → graph_at p.graphs entry ≡ Some g → IsSummary p g (sum_of entry)
+  sum_is entry g found = sum_there (IsSummary p) p.graphs sums entry g are found
 
   -- what stays of arguments or params, where the graph with that entry takes these words
   stays : {A : Type 0} (f : Loc → A) (entry : ℕ) (g : Graph) (ws : List Param) (vs : List A) → graph_at p.graphs entry ≡ Some g → g.params ≡ ws ++ map param_of passed →

@@ -27,8 +27,8 @@ use Rattle.dcc_demand.specs.Trail.{IsTrail}
 use Rattle.dcc_demand.specs.Changes.{Changes}
 use Rattle.dcc_demand.specs.Wanted.{Wanted, IsParam}
 use Rattle.dcc_sums.specs.Points.{begin_of}
-use Rattle.dcc_sums.specs.Sums.{AreSums, ReusesNone}
-use Rattle.dcc_sums.specs.Localised.{is_taken, sum_at, localised}
+use Rattle.dcc_sums.specs.Summaries.{AreSummaries, ReusesNone}
+use Rattle.dcc_sums.specs.Localised.{is_taken, summary_at, localised}
 use Rattle.dcc_sums.specs.Laws.{LocalisedKeeps}
 use Rattle.dcc_sums.proofs.FormedLaws.{trimmed-formed}
 use Rattle.dcc_sums.proofs.GivenLaws.{fit_length}
@@ -55,7 +55,7 @@ block_there [] n b e = absurd (cc)
 block_there (x ∷ blocks) zero b e = some_same x b e
 block_there (x ∷ blocks) (suc n) b e = block_there blocks n b e
 
-module _ (back : ℕ → List ℕ) (p : Program) (sums : List Summary) (formed : IsProgram p) (passes_all : PassesAll back p) (are : AreSums p sums) (unused : ReusesNone p) where
+module _ (back : ℕ → List ℕ) (p : Program) (sums : List Summary) (formed : IsProgram p) (passes_all : PassesAll back p) (are : AreSummaries p sums) (unused : ReusesNone p) where
   there_is : (entry : ℕ) (old new : Graph) → graph_at p.graphs entry ≡ Some old → graph_at (localised sums p).graphs entry ≡ Some new → new ≡ trim_graph (trim p sums) old
   there_is entry old new found found' =
       some_same new (trim_graph (trim p sums) old) (sym found' ∙ changed_at (trim_graph (trim p sums)) p.graphs entry (λ g c. refl) ∙ ap (option_map (trim_graph (trim p sums))) found)
@@ -101,11 +101,11 @@ module _ (back : ℕ → List ℕ) (p : Program) (sums : List Summary) (formed :
       )
 
   -- what is wanted at the entry of a graph that takes it is taken
-  param_there : (entry : ℕ) (g : Graph) → graph_at p.graphs entry ≡ Some g → (l : Loc) → Contains passed l → Contains g.params (param_of l) → Wanted (P p) entry (begin_of 0) l → is_among (sum_at p.graphs sums entry).params l ≡ true
+  param_there : (entry : ℕ) (g : Graph) → graph_at p.graphs entry ≡ Some g → (l : Loc) → Contains passed l → Contains g.params (param_of l) → Wanted (P p) entry (begin_of 0) l → is_among (summary_at p.graphs sums entry).params l ≡ true
   param_there entry g found l passing takes w =
       let sum = sum_is back p sums formed passes_all are unused entry g found in
       let param : IsParam (P p) entry l = record { passes = contains_among passed l passing; wanted = w } in
-      contains_among (sum_at p.graphs sums entry).params l ((sum.params.exact l).1 (takes, subst (λ i. IsParam (P p) i l) (sym (found_entry p.graphs entry g found)) param))
+      contains_among (summary_at p.graphs sums entry).params l ((sum.params.exact l).1 (takes, subst (λ i. IsParam (P p) i l) (sym (found_entry p.graphs entry g found)) param))
 
   -- the values and the memory with which a graph and the trimmed one begin
   abbrev Alike : List Loc → (ℕ → Bool) → List Param → List ℕ → State → State → Type 0
@@ -114,7 +114,7 @@ module _ (back : ℕ → List ℕ) (p : Program) (sums : List Summary) (formed :
       × ((passing 0 (kept stays ps) (kept stays a) t).memory ≡ (passing 0 ps a s).memory)
 
   begun : (entry : ℕ) (old : Graph) → graph_at p.graphs entry ≡ Some old → (a : List ℕ) (s t : State) → length a ≡ length old.params → Open s t →
-      Alike (sum_at p.graphs sums entry).params ((trim p sums).takes entry) old.params a s t
+      Alike (summary_at p.graphs sums entry).params ((trim p sums).takes entry) old.params a s t
   begun entry old found a s t len alike = elim (kind back p sums formed passes_all are unused entry old found) [
     | inl bare ↦ subst (λ ps. Alike params ((trim p sums).takes entry) ps a s t) (sym bare.0) (λ l stay. alike.values l, alike.memory)
     | inr all ↦ (
@@ -128,7 +128,7 @@ module _ (back : ℕ → List ℕ) (p : Program) (sums : List Summary) (formed :
   ]
     where
       params : List Loc
-      params = (sum_at p.graphs sums entry).params
+      params = (summary_at p.graphs sums entry).params
 
   -- The graphs begin alike.
   begins : (entry : ℕ) (old : Graph) → graph_at p.graphs entry ≡ Some old → OwesBegin (pass p sums) entry old (trim_graph (trim p sums) old)

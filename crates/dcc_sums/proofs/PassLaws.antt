@@ -34,8 +34,8 @@ use Rattle.dcc_demand.proofs.SaveLaws.{preserved-is_held}
 use Rattle.dcc_demand.proofs.WantedLaws.{results-wanted}
 use Rattle.dcc_sums.specs.Points.{Position, Executes, Ends, site_of, is_return}
 use Rattle.dcc_sums.specs.Instance.{passes, is_passing, used_by, written_by, action_at}
-use Rattle.dcc_sums.specs.Sums.{IsSum, AreSums, ReusesNone}
-use Rattle.dcc_sums.specs.Localised.{is_taken, is_given, sum_at, trim_by}
+use Rattle.dcc_sums.specs.Summaries.{IsSummary, AreSummaries, ReusesNone}
+use Rattle.dcc_sums.specs.Localised.{is_taken, is_given, summary_at, trim_by}
 use Rattle.dcc_sums.proofs.GivenLaws.{fit_length, given-kept, given-dropped, given-alike, given-none, given-first, given-read}
 use Rattle.dcc_sums.proofs.TraceLaws.{Does, Traced, traced_next, stmt_does, end_does, call_does, temps_stay}
 use Rattle.dcc_sums.proofs.BeginLaws.{nothing}
@@ -80,7 +80,7 @@ module _ (p : Program) (sums : List Summary) where
     Inv = Meets;
   }
 
-module _ (back : ℕ → List ℕ) (p : Program) (sums : List Summary) (formed : IsProgram p) (passes_all : PassesAll back p) (are : AreSums p sums) (unused : ReusesNone p) where
+module _ (back : ℕ → List ℕ) (p : Program) (sums : List Summary) (formed : IsProgram p) (passes_all : PassesAll back p) (are : AreSummaries p sums) (unused : ReusesNone p) where
   known : (entry : ℕ) (g : Graph) → graph_at p.graphs entry ≡ Some g → Contains p.graphs g
   known entry g found = found_contained (λ x. x.entry == entry) p.graphs g found
 
@@ -91,8 +91,9 @@ module _ (back : ℕ → List ℕ) (p : Program) (sums : List Summary) (formed :
     | inr c ↦ inr (All-contains (λ (x : Graph). GraphPasses (back x.entry) x) (drop 1 p.graphs) g passes_all.graphs c)
   ]
 
-  pub sum_is : (entry : ℕ) (g : Graph) → graph_at p.graphs entry ≡ Some g → IsSum p g (sum_at p.graphs sums entry)
-  sum_is entry g found = sum_there (IsSum p) p.graphs sums entry g are found
+  pub sum_is : (entry : ℕ) (g : Graph) → graph_at p.graphs entry ≡ Some g
+      → IsSummary p g (summary_at p.graphs sums entry)
+  sum_is entry g found = sum_there (IsSummary p) p.graphs sums entry g are found
 
   -- From a point of a block.
   module _ (a : List ℕ) (point : Point) (found : graph_at p.graphs point.entry ≡ Some (graph_of p point.entry)) (first : Values) (began : Began (graph_of p point.entry) a first)
@@ -205,12 +206,12 @@ module _ (back : ℕ → List ℕ) (p : Program) (sums : List Summary) (formed :
           gives all = subst (RetPasses all.words (back g.entry)) is (All-contains (λ (b : Block). RetPasses all.words (back g.entry) b.exit) g.blocks block all.rets placed)
 
           result_same : (all : GraphPasses (back g.entry) g) (k : ℕ) (x : Expr) → slice_get (map Get passed ++ bytes_of all.words (back g.entry)) k ≡ Some x → (o : Option Loc) → slice_get passed k ≡ o →
-              is_given (sum_at p.graphs sums point.entry).results o ≡ true → value_in t x ≡ value_in s x
+              is_given (summary_at p.graphs sums point.entry).results o ≡ true → value_in t x ≡ value_in s x
           result_same all k x there None e stays = absurd (true≢false (sym stays))
           result_same all k x there (Some l) e stays =
               let same = some_same (Get l) x (sym (first_there Get passed (bytes_of all.words (back g.entry)) k l e) ∙ there) in
               let sum = sum_is point.entry g found in
-              let result = (sum.results.exact l).0 (among_contains (sum_at p.graphs sums point.entry).results l stays) in
+              let result = (sum.results.exact l).0 (among_contains (summary_at p.graphs sums point.entry).results l stays) in
               subst (λ y. value_in t y ≡ value_in s y) same
               (h.values l (results-wanted (P p) point.entry (at point.place n) l returns (subst (λ i. IsResult (P p) i l) (found_entry p.graphs point.entry g found) result)))
 
@@ -257,7 +258,7 @@ module _ (back : ℕ → List ℕ) (p : Program) (sums : List Summary) (formed :
       callee_passes : GraphPasses (back call.callee.entry) call.callee
       callee_passes = All-contains (λ (x : Graph). GraphPasses (back x.entry) x) (drop 1 p.graphs) call.callee passes_all.graphs (found_contained (λ x. x.entry == entry) (drop 1 p.graphs) call.callee call.named)
 
-      callee_sum : IsSum p call.callee (sum_at p.graphs sums entry)
+      callee_sum : IsSummary p call.callee (summary_at p.graphs sums entry)
       callee_sum = sum_is entry call.callee callee_found
 
       same_entry : call.callee.entry ≡ entry
@@ -277,8 +278,8 @@ module _ (back : ℕ → List ℕ) (p : Program) (sums : List Summary) (formed :
       enters =
           subst (λ es. map (value_in t) (kept ((trim p sums).takes entry) es) ≡ kept ((trim p sums).takes entry) (map (value_in s) es)) (sym taken)
           (kept_values (value_in s) (value_in t) ((trim p sums).takes entry) (words ++ map Get passed) (λ k e there stays.
-          arguments_stay (λ e. value_in t e ≡ value_in s e) (sum_at p.graphs sums entry).params callee_passes.words words passed as_many word_same half_same k e there
-          (subst (λ params. is_taken (sum_at p.graphs sums entry).params (slice_get params k) ≡ true) params_are stays)))
+          arguments_stay (λ e. value_in t e ≡ value_in s e) (summary_at p.graphs sums entry).params callee_passes.words words passed as_many word_same half_same k e there
+          (subst (λ params. is_taken (summary_at p.graphs sums entry).params (slice_get params k) ≡ true) params_are stays)))
         where
           word_same : (e : Expr) → Contains words e → value_in t e ≡ value_in s e
           word_same e c =
@@ -288,9 +289,9 @@ module _ (back : ℕ → List ℕ) (p : Program) (sums : List Summary) (formed :
               value-on (W n) s t h e (all_had (W n) (reads_of e) (λ l d.
               wanted_used p point.entry (at point.place n) (Executes stmt) comes l (contains_among (used_by stmt) l (contains_flat reads_of (filter (λ e. not (is_passing e)) arguments) e l chosen d))))
 
-          half_same : (l : Loc) → Contains passed l → is_among (sum_at p.graphs sums entry).params l ≡ true → value_in t (Get l) ≡ value_in s (Get l)
+          half_same : (l : Loc) → Contains passed l → is_among (summary_at p.graphs sums entry).params l ≡ true → value_in t (Get l) ≡ value_in s (Get l)
           half_same l c among =
-              let param = ((callee_sum.params.exact l).0 (among_contains (sum_at p.graphs sums entry).params l among)).1 in
+              let param = ((callee_sum.params.exact l).0 (among_contains (summary_at p.graphs sums entry).params l among)).1 in
               let there : IsParam (P p) entry l = subst (λ i. IsParam (P p) i l) same_entry param in
               h.values l (IsWantedBy.taken calls there.passes there.wanted)
 
@@ -308,8 +309,8 @@ module _ (back : ℕ → List ℕ) (p : Program) (sums : List Summary) (formed :
         abbrev gives : ℕ → Bool
         gives = (trim p sums).gives entry
 
-        result_place : (l : Loc) → passes l ≡ true → (k : ℕ) → slice_get results k ≡ Some l → gives k ≡ is_among (sum_at p.graphs sums entry).results l
-        result_place l is k e = ap (is_given (sum_at p.graphs sums entry).results) (at_first passed (map Temp ts) k l (temps_apart ts l is) e)
+        result_place : (l : Loc) → passes l ≡ true → (k : ℕ) → slice_get results k ≡ Some l → gives k ≡ is_among (summary_at p.graphs sums entry).results l
+        result_place l is k e = ap (is_given (summary_at p.graphs sums entry).results) (at_first passed (map Temp ts) k l (temps_apart ts l is) e)
 
         unwritten : (l : Loc) → (Contains (map Temp ts) l → ⊥) → (b : Bool) → is_among (written_by stmt) l ≡ b → b ≡ false
         unwritten l out true e = absurd (out (subst (λ ls. Contains ls l) (temps_stay g.pushed ts) (among_contains (written_by stmt) l e)))
@@ -322,7 +323,7 @@ module _ (back : ℕ → List ℕ) (p : Program) (sums : List Summary) (formed :
         after_same : (l : Loc) → W (suc n) l → with_values t.running.values (kept gives results) (kept gives r) l ≡ with_values s.running.values results r l
         after_same l w = go (passes l) refl
           where
-            passing : passes l ≡ true → (b : Bool) → is_among (sum_at p.graphs sums entry).results l ≡ b → with_values t.running.values (kept gives results) (kept gives r) l ≡ with_values s.running.values results r l
+            passing : passes l ≡ true → (b : Bool) → is_among (summary_at p.graphs sums entry).results l ≡ b → with_values t.running.values (kept gives results) (kept gives r) l ≡ with_values s.running.values results r l
             passing is true e =
                 given-kept l gives results r s.running.values t.running.values len (λ k there. result_place l is k there ∙ e)
                 (λ out. absurd (out (contains_left passed (map Temp ts) l (among_contains passed l is))))
@@ -331,7 +332,7 @@ module _ (back : ℕ → List ℕ) (p : Program) (sums : List Summary) (formed :
                 given-dropped l gives results r t.running.values len (λ k there. result_place l is k there ∙ e)
                 ∙ before_same l (temps_apart ts l is) unchanged w ∙ sym (keeps l is unchanged)
               where
-                unresulting : is_among (sum_at p.graphs sums entry).results l ≡ false → ¬ Changes (P p) entry l
+                unresulting : is_among (summary_at p.graphs sums entry).results l ≡ false → ¬ Changes (P p) entry l
                 unresulting e changes =
                     let result : IsResult (P p) entry l = record {
                       changes = changes;
@@ -342,7 +343,7 @@ module _ (back : ℕ → List ℕ) (p : Program) (sums : List Summary) (formed :
                       goes = goes_next p point.entry (at point.place n) stmt comes;
                       wanted = w;
                     } in
-                    true≢false (sym (contains_among (sum_at p.graphs sums entry).results l ((callee_sum.results.exact l).1 (subst (λ i. IsResult (P p) i l) (sym same_entry) result))) ∙ e)
+                    true≢false (sym (contains_among (summary_at p.graphs sums entry).results l ((callee_sum.results.exact l).1 (subst (λ i. IsResult (P p) i l) (sym same_entry) result))) ∙ e)
 
             other : passes l ≡ false → (b : Bool) → is_among (map Temp ts) l ≡ b → with_values t.running.values (kept gives results) (kept gives r) l ≡ with_values s.running.values results r l
             other is true e = absurd (unused point.entry (at point.place n) l (record {
@@ -363,7 +364,7 @@ module _ (back : ℕ → List ℕ) (p : Program) (sums : List Summary) (formed :
                 ∙ sym (given-none l results r s.running.values none_there)
 
             go : (b : Bool) → passes l ≡ b → with_values t.running.values (kept gives results) (kept gives r) l ≡ with_values s.running.values results r l
-            go true is = passing is (is_among (sum_at p.graphs sums entry).results l) refl
+            go true is = passing is (is_among (summary_at p.graphs sums entry).results l) refl
             go false is = other is (is_among (map Temp ts) l) refl
 
         resumes : Meets p sums a (next_point point) (with_values s.running.values results r) (with_values t.running.values (kept gives results) (kept gives r))

@@ -17,7 +17,7 @@ use Rattle.dcc_demand.specs.Changes.{Changes, ChangesWithin}
 use Rattle.dcc_demand.specs.Wanted.{Wanted, IsWantedBy}
 use Rattle.dcc_sums.specs.Points.{Position, begin_of, next_of, Site, Executes, Ends, site_at, site_of, nexts_of}
 use Rattle.dcc_sums.specs.Instance.{passes, is_half, is_pushed, used_by, written_by, effect_of, callee_of, action_at, procedures_of}
-use Rattle.dcc_sums.specs.Localised.{sum_at}
+use Rattle.dcc_sums.specs.Localised.{summary_at}
 use Rattle.dcc_sums.proofs.TraceLaws.{written_plain}
 
 -- Statements that are left.
@@ -51,12 +51,12 @@ first_or_rest [] x c = absurd (Contains-none x c)
 first_or_rest (y ∷ xs) x c = Contains-cases y xs x (Contains (take 1 (y ∷ xs)) x ⊎ Contains (drop 1 (y ∷ xs)) x) (λ e. inl (subst (Contains (y ∷ [])) e (Contains-here y []))) (λ d. inr d) c
 
 -- the summary that stands in the place of the graph with that entry
-pub sum_there : (R : Graph → Summary → Type 0) (graphs : List Graph) (sums : List Summary) (entry : ℕ) (g : Graph) → AllZip R graphs sums → graph_at graphs entry ≡ Some g → R g (sum_at graphs sums entry)
+pub sum_there : (R : Graph → Summary → Type 0) (graphs : List Graph) (sums : List Summary) (entry : ℕ) (g : Graph) → AllZip R graphs sums → graph_at graphs entry ≡ Some g → R g (summary_at graphs sums entry)
 sum_there R [] sums entry g all e = absurd (cc)
 sum_there R (x ∷ graphs) [] entry g all e = absurd all
 sum_there R (x ∷ graphs) (sum ∷ sums) entry g all e = go (x.entry == entry) (λ later. sum_there R graphs sums entry g all.1 later) e
   where
-    go : (b : Bool) → (graph_at graphs entry ≡ Some g → R g (sum_at graphs sums entry)) → cond b (Some x) (graph_at graphs entry) ≡ Some g → R g (if b then sum else sum_at graphs sums entry)
+    go : (b : Bool) → (graph_at graphs entry ≡ Some g → R g (summary_at graphs sums entry)) → cond b (Some x) (graph_at graphs entry) ≡ Some g → R g (if b then sum else summary_at graphs sums entry)
     go true later is = let same : x ≡ g = cc in subst (λ y. R y sum) same all.0
     go false later is = later is
 

@@ -17,7 +17,7 @@ use Rattle.dcc_ir.proofs.passes.FormLaws.{changed_at, same_entries}
 use Rattle.dcc_sums.proofs.KeptLaws.{later}
 use Rattle.dcc_ir.proofs.GraphLaws.{found_again}
 use Rattle.dcc_ir.proofs.passes.LocalLaws.{some_same}
-use Rattle.dcc_sums.specs.Localised.{sets_one_of, is_taken, sum_at, trim_by, localised}
+use Rattle.dcc_sums.specs.Localised.{sets_one_of, is_taken, summary_at, trim_by, localised}
 use mathlib.Core.Path.{fun_ext}
 
 -- Frames.
@@ -143,6 +143,6 @@ frame_stays p sums entry g g' found found' =
       local = refl;
       stack = ap (map (λ (q : Param). is_memory q.put)) (stack_stays (trim.takes g.entry) g.params (λ k q there stack.
           let params = ap (λ o. (graph_or_none o).params) (found_again p.graphs entry g found) in
-          ap (λ ps. is_taken (sum_at p.graphs sums g.entry).params (slice_get ps k)) params ∙ ap (is_taken (sum_at p.graphs sums g.entry).params) there
-          ∙ ap (λ b. b || sets_one_of (sum_at p.graphs sums g.entry).params q.put) stack));
+          ap (λ ps. is_taken (summary_at p.graphs sums g.entry).params (slice_get ps k)) params ∙ ap (is_taken (summary_at p.graphs sums g.entry).params) there
+          ∙ ap (λ b. b || sets_one_of (summary_at p.graphs sums g.entry).params q.put) stack));
     })

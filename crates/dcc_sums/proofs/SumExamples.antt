@@ -17,7 +17,7 @@ use Rattle.dcc_demand.proofs.SaveLaws.{lost_written}
 use Rattle.dcc_demand.proofs.WantedLaws.{wanted-least}
 use Rattle.dcc_sums.specs.Points.{Position, Site, Executes, Ends, Nowhere, site_of, nexts_of}
 use Rattle.dcc_sums.specs.Instance.{passes, action_at}
-use Rattle.dcc_sums.specs.Sums.{IsSum, AreSums, ReusesNone}
+use Rattle.dcc_sums.specs.Summaries.{IsSummary, AreSummaries, ReusesNone}
 use Rattle.dcc_sums.proofs.SiteLaws.{contained_map, changes_pass}
 use Rattle.dcc_sums.proofs.ArgumentLaws.{contains_filter}
 use Rattle.dcc_ir.specs.Location.{location_width}
@@ -325,14 +325,14 @@ needed_entry l entered = refl
 result_is : {i caller : ℕ} {call after : Position} {l : Loc} → IsCall caller call i → Edge caller call after → Needed caller after l → (i ≡ 32) × (al ≡ l)
 result_is the_call calls result = (refl, refl)
 
-caller_is : IsSum program caller caller_sum
+caller_is : IsSummary program caller caller_sum
 caller_is = record {
   params = record { order = refl; exact = λ l. (λ c. absurd (Contains-none l c), λ h. absurd (Contains-none (param_of l) h.0)) };
   results = record { order = refl; exact = λ l. (λ c. absurd (Contains-none l c), λ h. absurd (never_changed l h.changes)) };
   preserved = record { order = refl; exact = λ l. (λ c. (contains_among passed l c, never_changed l), λ h. among_contains passed l h.0) };
 }
 
-callee_is : IsSum program callee callee_sum
+callee_is : IsSummary program callee callee_sum
 callee_is = record {
   params = record {
     order = refl;
@@ -364,7 +364,7 @@ callee_is = record {
     apart l unchanged true e = absurd (unchanged (subst (Changes P 32) (sym (location_same l al e)) al_is_changed))
     apart l unchanged false e = refl
 
-are_sums : AreSums program sums
+are_sums : AreSummaries program sums
 are_sums = (caller_is, (callee_is, tt))
 
 -- No byte of an argument is given back.

@@ -6,8 +6,8 @@ use Rattle.dcc_ir.specs.Passing.{PassesAll}
 use Rattle.dcc_ir.specs.Keeps.{KeepsInOne, KeepsFrame}
 use Rattle.dcc_ir.specs.Run.{graph_at}
 use Rattle.dcc_ir.specs.Trimmed.{Trim, trimmed}
-use Rattle.dcc_sums.specs.Sums.{AreSums, ReusesNone}
-use Rattle.dcc_sums.specs.Localised.{sum_at, localised, PassesJust}
+use Rattle.dcc_sums.specs.Summaries.{AreSummaries, ReusesNone}
+use Rattle.dcc_sums.specs.Localised.{summary_at, localised, PassesJust}
 
 -- a well-formed program is well formed still where arguments and values given back have gone
 abbrev pub TrimmedIsFormed : Type 0
@@ -25,9 +25,9 @@ pub record IsKeptBy (p q : Program) : Type 0 where
 -- one in which just what is wanted passes.
 abbrev pub LocalisedKeeps : Type 0
 LocalisedKeeps = (back : ℕ → List ℕ) (p : Program) (sums : List Summary) → IsProgram p → PassesAll back p
-    → AreSums p sums → ReusesNone p → IsKeptBy p (localised sums p)
+    → AreSummaries p sums → ReusesNone p → IsKeptBy p (localised sums p)
 
 -- in the localised program just what is wanted passes
 abbrev pub LocalisedPassesJust : Type 0
 LocalisedPassesJust = (back : ℕ → List ℕ) (p : Program) (sums : List Summary) → IsProgram p → PassesAll back p
-    → AreSums p sums → PassesJust (sum_at p.graphs sums) (localised sums p)
+    → AreSummaries p sums → PassesJust (summary_at p.graphs sums) (localised sums p)

@@ -1,5 +1,5 @@
 pub mod Points
 pub mod Instance
-pub mod Sums
+pub mod Summaries
 pub mod Localised
 pub mod Laws

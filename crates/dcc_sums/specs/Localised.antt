@@ -15,13 +15,13 @@ use Rattle.dcc_ir.specs.Run.{graph_at}
 use Rattle.dcc_ir.specs.Flow.{graph_or_none}
 use Rattle.dcc_ir.specs.Trimmed.{Trim, trimmed}
 
-abbrev pub no_sum : Summary
-no_sum = record { params = []; results = []; preserved = [] }
+abbrev pub no_summary : Summary
+no_summary = record { params = []; results = []; preserved = [] }
 
 -- the summary of the graph with that entry
-abbrev pub sum_at : List Graph → List Summary → ℕ → Summary
-sum_at (graph ∷ graphs) (sum ∷ sums) entry = if graph.entry == entry then sum else sum_at graphs sums entry
-sum_at graphs sums entry = no_sum
+abbrev pub summary_at : List Graph → List Summary → ℕ → Summary
+summary_at (graph ∷ graphs) (sum ∷ sums) entry = if graph.entry == entry then sum else summary_at graphs sums entry
+summary_at graphs sums entry = no_summary
 
 -- the param sets one of the locations
 abbrev pub sets_one_of : List Loc → Put → Bool
@@ -42,8 +42,8 @@ is_given results None = false
 abbrev pub trim_by : List Graph → List Summary → Trim
 trim_by graphs sums = record {
   takes = λ entry k.
-      is_taken (sum_at graphs sums entry).params (slice_get (graph_or_none (graph_at graphs entry)).params k);
-  gives = λ entry k. is_given (sum_at graphs sums entry).results (slice_get passed k);
+      is_taken (summary_at graphs sums entry).params (slice_get (graph_or_none (graph_at graphs entry)).params k);
+  gives = λ entry k. is_given (summary_at graphs sums entry).results (slice_get passed k);
 }
 
 -- the program that is localised by the summaries

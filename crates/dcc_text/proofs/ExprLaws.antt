@@ -4,7 +4,7 @@ use Rattle.std.proofs.lemmas.Bool.Decides.{nat_tests}
 use Rattle.dcc_num.specs.Numbers.{residue_of}
 use Rattle.dcc_ir.specs.Tree as inner
 use Rattle.dcc_ir.specs.Use.{parts_of, got_by, addressed_by}
-use Rattle.dcc_ir.specs.Value.{width_of, signed_at, Scene, value_of, Fits}
+use Rattle.dcc_ir.specs.Value.{width_of, signed_at, Environment, value_of, Fits}
 use Rattle.dcc_ir.specs.WellFormed.{is_expr}
 use Rattle.dcc_ir.proofs.ListLaws.{all_parts}
 use Rattle.dcc_c.specs.declared.syntax.Base.{Base}
@@ -119,7 +119,7 @@ as-text scope way size n e x = record {
   tells = tells way size x.base x.k n x.is x.room x.fits x.means;
 }
 
-pub expressions-mean : (s : Spelling) (scene : Scene) (scope : Scope) (e : inner.Expr) (way : Way) (votes : Bool) → Fits scene → is_expr scene.bits e ≡ true → Shows s scene scope e
+pub expressions-mean : (s : Spelling) (scene : Environment) (scope : Scope) (e : inner.Expr) (way : Way) (votes : Bool) → Fits scene → is_expr scene.bits e ≡ true → Shows s scene scope e
     → IsText scope way (width_of scene.bits e) (value_of scene e) (text s way votes e)
 expressions-mean s scene scope e way votes fits formed shows =
     let x = stands s scope scene.values scene.base scene.memory shows.memory fits.bytes e (subst (λ bits. is_expr bits e ≡ true) shows.bits formed) (record {

@@ -7,7 +7,7 @@ use Rattle.dcc_ir.specs.declared.syntax.UnOp.TheVariants.{Neg, Not, IsZero}
 use Rattle.dcc_ir.specs.declared.syntax.BinOp.{BinOp}
 use Rattle.dcc_ir.specs.declared.syntax.BinOp.TheVariants.{Add, Sub, Mul, DivS, DivU, RemS, RemU, And, Or, Xor, Shl, Shr, Sar, Eq, LtS, LtU, LeS, LeU}
 use Rattle.dcc_ir.specs.Tree.{Expr, Const}
-use Rattle.dcc_ir.specs.Value.{is_comparison, is_test, faults_signed, signed_at, pattern_at, unary_value, binary_value, Scene, value_of}
+use Rattle.dcc_ir.specs.Value.{is_comparison, is_test, faults_signed, signed_at, pattern_at, unary_value, binary_value, Environment, value_of}
 use Rattle.dcc_ir.specs.WellFormed.{is_division, divides_safely}
 use Rattle.dcc_c.specs.Tree as tree
 use Rattle.dcc_c.specs.Value.{Scope}
@@ -88,7 +88,7 @@ signed-safe-by width n m is =
     never true = refl
     never false = refl
 
-pub divides-safely : (scene : Scene) (operator : BinOp) (width n : ℕ) (b : Expr) → (not (is_division operator) || divides_safely operator width b) ≡ true
+pub divides-safely : (scene : Environment) (operator : BinOp) (width n : ℕ) (b : Expr) → (not (is_division operator) || divides_safely operator width b) ≡ true
     → faults operator width n (value_of scene b) ≡ false
 divides-safely scene DivU width n (Const w m) is = unsigned-safe m _ is
 divides-safely scene RemU width n (Const w m) is = unsigned-safe m _ is

@@ -6,7 +6,7 @@ use Rattle.std.proofs.lemmas.Nat.{mod_below, pow_pos}
 use Rattle.dcc_ir.specs.declared.syntax.Loc.{Loc}
 use Rattle.dcc_ir.specs.Location.{location_width, same_location}
 use Rattle.dcc_ir.specs.Tree as inner
-use Rattle.dcc_ir.specs.Value.{width_of, Scene, value_of, with_bytes_at, Fits}
+use Rattle.dcc_ir.specs.Value.{width_of, Environment, value_of, with_bytes_at, Fits}
 use Rattle.dcc_ir.specs.WellFormed.{is_width, is_stored_width, is_expr}
 use Rattle.dcc_ir.specs.Dos.{dos_string}
 use Rattle.dcc_ir.specs.Run as inner_run
@@ -130,7 +130,7 @@ module _ (s : Spelling) (whole : Tree) (Before After : Loc → Type 0) (AreAlike
   abbrev pub scope_here : Scope
   scope_here = text_run.scope_of whole t
 
-  abbrev pub scene_here : Scene
+  abbrev pub scene_here : Environment
   scene_here = record { bits = s.bits; values = i.running.values; base = i.running.base; memory = i.memory }
 
   -- what an expression within gives

@@ -10,7 +10,8 @@ use Rattle.dcc_ir.specs.declared.syntax.BinOp.{BinOp}
 use Rattle.dcc_ir.specs.Location.{location_width, Values}
 use Rattle.dcc_ir.specs.Tree.{Expr, Const, Get, Load, Unary, Binary, Widen, Part, Join, Choose, Address}
 use Rattle.dcc_ir.specs.Use.{parts_of, got_by, addressed_by}
-use Rattle.dcc_ir.specs.Value.{is_comparison, is_test, width_of, bytes_at, Scene, value_of, unary_value, binary_value}
+use Rattle.dcc_ir.specs.Value.{is_comparison, is_test, width_of, bytes_at, Environment, value_of, unary_value}
+use Rattle.dcc_ir.specs.Value.{binary_value}
 use Rattle.dcc_ir.specs.WellFormed.{is_width, is_stored_width, is_division, divides_safely, is_expr}
 use Rattle.dcc_ir.proofs.ListLaws.{left_part}
 use Rattle.dcc_c.specs.declared.syntax.Base.TheVariants.{Uint}
@@ -60,7 +61,7 @@ stored-is width stored = by (width == 1) (width == 8) (width == 16) (width == 32
 
 module _ (s : Spelling) (scope : Scope) (values : Values) (base : ℕ) (memory : List ℕ) where
   -- what expressions read
-  abbrev pub scene : Scene
+  abbrev pub scene : Environment
   scene = record { bits = s.bits; values = values; base = base; memory = memory }
 
   -- the text has what an expression reads by itself

@@ -6,7 +6,7 @@ use Rattle.dcc_ir.specs.Fitting.{AreBytes}
 use Rattle.dcc_ir.specs.Measure.{depth_of}
 use Rattle.dcc_ir.specs.Run as inner_run
 use Rattle.dcc_ir.specs.Use.{exprs_of, writes_of}
-use Rattle.dcc_ir.specs.Value.{width_of, Scene, value_of, Fits}
+use Rattle.dcc_ir.specs.Value.{width_of, Environment, value_of, Fits}
 use Rattle.dcc_ir.specs.WellFormed.{is_expr, is_stmt}
 use Rattle.dcc_c.specs.Rules.{expr_depth}
 use Rattle.dcc_c.specs.Tree.{Tree}
@@ -22,7 +22,7 @@ use Rattle.dcc_text.specs.Holding.{Locations, Alike, IsSpelling, IsWithin, Holds
 -- Where a text has what a well-formed expression reads, the text of the expression has a type and gives the
 -- expression's value, in each way; it is never undefined and never faults.
 abbrev pub ExpressionsMean : Type 0
-ExpressionsMean = (s : Spelling) (scene : Scene) (scope : Scope) (e : inner.Expr) (way : Way) (votes : Bool)
+ExpressionsMean = (s : Spelling) (scene : Environment) (scope : Scope) (e : inner.Expr) (way : Way) (votes : Bool)
     → Fits scene → is_expr scene.bits e ≡ true → Shows s scene scope e
     → IsText scope way (width_of scene.bits e) (value_of scene e) (text s way votes e)
 

@@ -6,7 +6,7 @@ use Rattle.dcc_ir.specs.declared.syntax.Loc.{Loc}
 use Rattle.dcc_ir.specs.Location.{location_width, Values}
 use Rattle.dcc_ir.specs.Tree as inner
 use Rattle.dcc_ir.specs.Use.{reads_of, addresses_of}
-use Rattle.dcc_ir.specs.Value.{signed_at, Scene}
+use Rattle.dcc_ir.specs.Value.{signed_at, Environment}
 use Rattle.dcc_c.specs.declared.syntax.Base.{Base}
 use Rattle.dcc_c.specs.declared.syntax.CType.{CType}
 use Rattle.dcc_c.specs.Types.{bits_of, is_signed, plain, number_of_type}
@@ -58,7 +58,7 @@ pub record IsPlaced (s : Spelling) (base : ℕ) (variables : List Binding) (dist
   pub there : (at + placed.above) % 65536 ≡ (base + distance) % 65536
 
 -- The text has all that an expression reads: the variables of its locations, its addresses, and an equal memory.
-pub record Shows (s : Spelling) (scene : Scene) (scope : Scope) (e : inner.Expr) : Type 0 where
+pub record Shows (s : Spelling) (scene : Environment) (scope : Scope) (e : inner.Expr) : Type 0 where
   pub bits : scene.bits ≡ s.bits
   pub reads : All (IsHeld s scene.values scope.variables) (reads_of e)
   pub addresses : All (IsPlaced s scene.base scope.variables) (addresses_of e)

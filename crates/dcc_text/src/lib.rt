@@ -12,5 +12,5 @@ pub mod statement;
 pub mod variable;
 pub mod way;
 
-pub use spells::{Place, Spells};
+pub use spells::{NamedAddress, Spells};
 pub use way::Way;

@@ -33,7 +33,12 @@ pub fn binary(alloc: Global, operator: CBin, a: CExpr, b: CExpr) -> Result<CExpr
 }
 
 /// The first expression where the test is not 0, else the second.
-pub fn conditional(alloc: Global, test: CExpr, a: CExpr, b: CExpr) -> Result<CExpr, AllocError>
+pub(crate) fn conditional(
+    alloc: Global,
+    test: CExpr,
+    a: CExpr,
+    b: CExpr,
+) -> Result<CExpr, AllocError>
     ensures { IfOk result (λ r. expr_of r ≡ tree.Conditional (expr_of test) (expr_of a) (expr_of b)) }
 {
     let test = Box::new(alloc, test)?;
@@ -43,14 +48,14 @@ pub fn conditional(alloc: Global, test: CExpr, a: CExpr, b: CExpr) -> Result<CEx
 }
 
 /// A value as one of a type.
-pub fn cast_to(alloc: Global, ty: CType, e: CExpr) -> Result<CExpr, AllocError>
+pub(crate) fn cast_to(alloc: Global, ty: CType, e: CExpr) -> Result<CExpr, AllocError>
     ensures { IfOk result (λ r. expr_of r ≡ tree.Cast ty (expr_of e)) }
 {
     Ok(CExpr::Cast(ty, Box::new(alloc, e)?))
 }
 
 /// A value as one of a number type.
-pub fn cast(alloc: Global, base: Base, e: CExpr) -> Result<CExpr, AllocError>
+pub(crate) fn cast(alloc: Global, base: Base, e: CExpr) -> Result<CExpr, AllocError>
     ensures { IfOk result (λ r. expr_of r ≡ tree.Cast (plain base) (expr_of e)) }
 {
     cast_to(alloc, CType::plain(base), e)

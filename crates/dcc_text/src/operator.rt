@@ -14,7 +14,7 @@ use dcc_ir::{BinOp, UnOp};
 use std::alloc::{AllocError, Global};
 
 /// The way of an operator's operand, where the result is wanted in a way.
-pub fn operand_way(operator: UnOp, way: Way, width: u32) -> Way
+pub(crate) fn operand_way(operator: UnOp, way: Way, width: u32) -> Way
     ensures { way_of result ≡ spec.operand_way operator (way_of way) width }
 {
     match operator {
@@ -47,7 +47,7 @@ fn unary_text(alloc: Global, operator: UnOp, width: u32, a: CExpr) -> Result<CEx
 }
 
 /// The operator on the text of its operand, wanted in a way.
-pub fn unary_taken(
+pub(crate) fn unary_taken(
     alloc: Global,
     way: Way,
     operator: UnOp,
@@ -63,7 +63,7 @@ pub fn unary_taken(
 }
 
 /// The way of an operator's left operand, where the result is wanted in a way.
-pub fn left_way(operator: BinOp, way: Way, width: u32) -> Way
+pub(crate) fn left_way(operator: BinOp, way: Way, width: u32) -> Way
     ensures { way_of result ≡ spec.left_way operator (way_of way) width }
 {
     match operator {
@@ -83,7 +83,7 @@ fn is_shift(operator: BinOp) -> bool
 }
 
 /// The way of an operator's right operand, where the result is wanted in a way.
-pub fn right_way(operator: BinOp, way: Way, width: u32) -> Way
+pub(crate) fn right_way(operator: BinOp, way: Way, width: u32) -> Way
     ensures { way_of result ≡ spec.right_way operator (way_of way) width }
 {
     if is_shift(operator) {
@@ -94,7 +94,7 @@ pub fn right_way(operator: BinOp, way: Way, width: u32) -> Way
 }
 
 /// Whether an operator votes on the sign of its left operand.
-pub fn votes_left(operator: BinOp) -> bool
+pub(crate) fn votes_left(operator: BinOp) -> bool
     ensures { result ≡ spec.votes_left operator }
 {
     !matches!(
@@ -111,14 +111,14 @@ pub fn votes_left(operator: BinOp) -> bool
 }
 
 /// Whether an operator votes on the sign of its right operand.
-pub fn votes_right(operator: BinOp) -> bool
+pub(crate) fn votes_right(operator: BinOp) -> bool
     ensures { result ≡ spec.votes_right operator }
 {
     votes_left(operator) && !is_shift(operator)
 }
 
 /// The operator of the text.
-pub fn symbol(operator: BinOp) -> CBin
+pub(crate) fn symbol(operator: BinOp) -> CBin
     ensures { result ≡ spec.symbol operator }
 {
     match operator {
@@ -150,7 +150,7 @@ fn binary_result(operator: BinOp, way: Way, width: u32) -> Way
 }
 
 /// The operator on the texts of its operands, wanted in a way.
-pub fn binary_taken(
+pub(crate) fn binary_taken(
     alloc: Global,
     way: Way,
     operator: BinOp,

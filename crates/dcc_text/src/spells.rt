@@ -12,7 +12,7 @@ use std::alloc::{AllocError, Global};
 
 /// An address in the frame, by the name of what stands at or below it.
 #[derive(Drop)]
-pub struct Place {
+pub struct NamedAddress {
     /// The name of a variable with a place, or of an array.
     pub name: String,
     /// Whether the name is that of an array.
@@ -43,7 +43,7 @@ pub trait Spells {
         ensures { result ≡ (spelling self.now).settled location };
 
     /// What stands for the address at a distance from the base of the frame, in bytes.
-    fn place(&self, alloc: Global, distance: u16) -> Result<Option<Place>, AllocError>
+    fn place(&self, alloc: Global, distance: u16) -> Result<Option<NamedAddress>, AllocError>
         ensures { IfOk result (λ place. option_map placed_of place ≡ (spelling self.now).place distance) };
 
     /// The name of the function that stands for the graph with that entry.

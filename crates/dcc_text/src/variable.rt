@@ -10,7 +10,7 @@ ghost use Rattle.dcc_text.specs.Spelled as spec;
 ghost use Rattle.dcc_text.specs.Views.{placed_of, way_of};
 
 use crate::nodes::{binary, cast, cast_to, small, unary};
-use crate::spells::{Place, Spells};
+use crate::spells::{NamedAddress, Spells};
 use crate::way::{Way, unsigned_type};
 use dcc_c::{Base, CBin, CExpr, CType, CUn};
 use dcc_ir::{Expr, Loc};
@@ -122,7 +122,7 @@ pub fn variable<S: Spells>(
 }
 
 // The address of a variable with a place or of an array, as a number.
-fn address_of(alloc: Global, place: Place) -> Result<CExpr, AllocError>
+fn address_of(alloc: Global, place: NamedAddress) -> Result<CExpr, AllocError>
     ensures { IfOk result (λ r. expr_of r
         ≡ spec.placed (Some (record { name = string_bytes place.name; is_array = place.is_array; above = 0 }))) }
 {
@@ -135,7 +135,7 @@ fn address_of(alloc: Global, place: Place) -> Result<CExpr, AllocError>
 }
 
 /// An address in the frame.
-pub fn placed(alloc: Global, place: Option<Place>) -> Result<CExpr, AllocError>
+pub fn placed(alloc: Global, place: Option<NamedAddress>) -> Result<CExpr, AllocError>
     ensures { IfOk result (λ r. expr_of r ≡ spec.placed (option_map placed_of place)) }
 {
     let Some(place) = place else {
@@ -152,7 +152,7 @@ pub fn placed(alloc: Global, place: Option<Place>) -> Result<CExpr, AllocError>
 
 /// The number of so many bits in memory at an address whose low bits the expression gives. A pointer to such numbers is
 /// one as it stands.
-pub fn pointed<S: Spells>(
+pub(crate) fn pointed<S: Spells>(
     alloc: Global,
     s: &S,
     width: u8,

@@ -34,7 +34,7 @@ pub fn unsigned_type(width: u32) -> Base
 }
 
 /// The signed type that holds numbers of so many bits; a bit is held in a char.
-pub fn signed_type(width: u32) -> Base
+pub(crate) fn signed_type(width: u32) -> Base
     ensures { result ≡ spec.signed_type width }
 {
     if width <= 8 {
@@ -47,7 +47,7 @@ pub fn signed_type(width: u32) -> Base
 }
 
 /// The type in which operators reckon on numbers of so many bits, by sign.
-pub fn reckoning_type(signed: bool, width: u32) -> Base
+pub(crate) fn reckoning_type(signed: bool, width: u32) -> Base
     ensures { result ≡ spec.reckoning_type signed width }
 {
     if width <= 8 {

@@ -1,16 +1,18 @@
-//! Which texts have the shape that a procedure with one loop inside another asks for.
+//! Which texts have the shape that a procedure asks for.
 
 use crate::text_runs::BEFORE;
+use dcc_machine::{Cond, Instr, Op, Plain};
 use dcc_parse::parse;
-use dcc_prog::{Cond, Instr, Node, Op, Plain, Proc};
+use dcc_prog::{Node, Proc};
 use dcc_shape::has_shape;
 use indexmap::IndexMap;
 use smallvec::SmallVec;
 use std::alloc::Global;
 use std::test::Fail;
 
-// Statements, and whether they have the shape.
-static TEXTS: [(&str, bool); 12] = [
+// Statements, and whether they have the shape that the procedure with one loop inside another asks for. It has six
+// instructions, two of which branch, eight edges and two loop headers: at most four blocks, six labels and ten jumps.
+static TEXTS: [(&str, bool); 20] = [
     (
         "L_0005: for (;;) { if (i) { } else { L_0007: do { } while (i); } }",
         true,
@@ -50,7 +52,40 @@ static TEXTS: [(&str, bool); 12] = [
         "L_0005: if (i) { goto L_0009; } L_0007: if (i) { goto L_0007; } L_0009: goto L_0005;",
         false,
     ),
+    (
+        "L_0000: ; L_0003: ; L_0005: for (;;) { L_0007: do { } while (i); L_0009: ; L_000a: ; }",
+        true,
+    ),
+    (
+        "L_0000: ; L_0003: ; L_0004: ; L_0005: for (;;) { L_0007: do { } while (i); L_0009: ; L_000a: ; }",
+        false,
+    ),
+    (
+        "L_0005: for (;;) { L_0007: do { break; break; break; break; break; break; break; break; break; continue; } while (i); }",
+        true,
+    ),
+    (
+        "L_0005: for (;;) { L_0007: do { break; break; break; break; break; break; break; break; break; break; continue; } while (i); }",
+        false,
+    ),
+    ("L_0005: for (;;) { ; ; L_0007: do { } while (i); }", true),
+    (
+        "L_0005: for (;;) { ; ; ; L_0007: do { } while (i); }",
+        false,
+    ),
+    (
+        "L_0005: for (;;) { L_0007: do { } while (i); goto L_0009; L_0009: ; }",
+        true,
+    ),
+    (
+        "L_0005: for (;;) { L_0007: do { } while (i); goto L_0008; L_0008: ; }",
+        false,
+    ),
 ];
+
+// So many `if`s, each in the one before, around a loop without a label, and whether this has the shape that a chain of
+// 200 branches asks for: where 199 blocks stand around the loop, no label is asked.
+static DEPTHS: [(usize, bool); 3] = [(0, false), (198, false), (199, true)];
 
 // Adds an instruction of two bytes at an address, and those that may come next.
 fn add(
@@ -86,17 +121,67 @@ fn procedure(alloc: Global) -> Result<Proc, Fail> {
     Ok(Proc { entry: 0, nodes })
 }
 
+// A chain of 200 branches, each of which leads to the next alone, and an instruction at its end.
+fn chain(alloc: Global) -> Result<Proc, Fail> {
+    let mut nodes = IndexMap::new(alloc);
+    for i in 0..200_u16 {
+        let next = 2 * i + 2;
+        add(
+            alloc,
+            &mut nodes,
+            2 * i,
+            Op::Branch(Cond::Z, next),
+            &[next, next],
+        )?;
+    }
+    add(alloc, &mut nodes, 400, Op::Plain(Plain::Nop), &[])?;
+    Ok(Proc { entry: 0, nodes })
+}
+
+// Which procedure lacks the shape, where the text has one function with these statements.
+fn lacking(alloc: Global, procs: &[Proc], statements: &[u8]) -> Result<Option<usize>, Fail> {
+    let mut text = BEFORE.as_bytes().to_vec(alloc)?;
+    text.extend_from_slice(statements)?;
+    text.extend_from_slice("\n}\n".as_bytes())?;
+    let unit = parse(alloc, &text)?;
+    Ok(has_shape(alloc, procs, unit.funcs.as_slice())?)
+}
+
 #[test]
 fn texts_have_the_shape_or_lack_it(rt: HostRuntime) -> Result<(), Fail> {
     let alloc = rt.alloc();
     let procs = vec![in alloc; procedure(alloc)?]?;
     for (statements, has) in &TEXTS {
-        let mut text = BEFORE.as_bytes().to_vec(alloc)?;
-        text.extend_from_slice(statements.as_bytes())?;
-        text.extend_from_slice("\n}\n".as_bytes())?;
-        let unit = parse(alloc, &text)?;
-        let lacks = has_shape(alloc, procs.as_slice(), unit.funcs.as_slice())?;
+        let lacks = lacking(alloc, procs.as_slice(), statements.as_bytes())?;
         assert_eq!(rt; lacks.is_none(), *has, "{statements}");
     }
+    Ok(())
+}
+
+#[test]
+fn deep_texts_need_no_labels(rt: HostRuntime) -> Result<(), Fail> {
+    let alloc = rt.alloc();
+    let procs = vec![in alloc; chain(alloc)?]?;
+    for (depth, has) in &DEPTHS {
+        let mut statements = Vec::new(alloc);
+        for _ in 0..*depth {
+            statements.extend_from_slice("if (i) { ".as_bytes())?;
+        }
+        statements.extend_from_slice("for (;;) { }".as_bytes())?;
+        for _ in 0..*depth {
+            statements.extend_from_slice(" }".as_bytes())?;
+        }
+        let lacks = lacking(alloc, procs.as_slice(), &statements)?;
+        assert_eq!(rt; lacks.is_none(), *has, "{depth}");
+    }
+    Ok(())
+}
+
+#[test]
+fn each_procedure_has_a_function(rt: HostRuntime) -> Result<(), Fail> {
+    let alloc = rt.alloc();
+    let two = vec![in alloc; chain(alloc)?, chain(alloc)?]?;
+    assert_eq!(rt; lacking(alloc, two.as_slice(), &[])?, Some(1));
+    assert_eq!(rt; lacking(alloc, &[], &[])?, Some(0));
     Ok(())
 }

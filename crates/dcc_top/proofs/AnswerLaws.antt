@@ -3,10 +3,10 @@ use Rattle.std.proofs.Common.{◌≡◌, ℕ, List, [], Option, Some, refl, sym,
 use Rattle.std.specs.Prelude.{Result, Ok, Err, IfOk, OnErr}
 use Rattle.dcc_io.specs.declared.outside.Failed.{Failed}
 use Rattle.dcc_io.proofs.ToldLemmas.{append_told-nil}
-use Rattle.dcc_prog.specs.declared.cpu.Cpu.{Cpu}
-use Rattle.dcc_prog.specs.declared.image.Image.{Image}
-use Rattle.dcc_prog.specs.Machine.{start_state}
-use Rattle.dcc_prog.specs.MzImage.{IsImageOf}
+use Rattle.dcc_machine.specs.declared.cpu.Cpu.{Cpu}
+use Rattle.dcc_machine.specs.declared.image.Image.{Image}
+use Rattle.dcc_machine.specs.Machine.{start_state}
+use Rattle.dcc_machine.specs.MzImage.{IsImageOf}
 use Rattle.dcc_top.specs.declared.reply.Reply.{Reply}
 use Rattle.dcc_top.specs.Words.{Product, Text, Listing, job_to_make}
 use Rattle.dcc_top.specs.Answer.{Files, OfFile, IsMadeOf, AllowsImage, image_made, image_refused, Makes, AllowsProduct, made_of_file, unmade, refused, Allows, for_text, for_listing, IsCut, cut_text, cut_listing}
@@ -32,8 +32,8 @@ product-of_image : (product : Product) (cpu : Cpu) (told : Files) (name : List �
     AllowsProduct product cpu told name reply output
 product-of_image product cpu told name image _ output f (image_made m) =
     made_of_file (record { file = f.file; has = f.has; holds = makes-image product cpu f.file output image f.holds m })
-product-of_image product cpu told name image _ _ f (image_refused refusal h) =
-    unmade (refused refusal (record { file = f.file; has = f.has; holds = record { image = image; is_image = f.holds; refused = h } }))
+product-of_image product cpu told name image _ _ f (image_refused reason h) =
+    unmade (refused reason (record { file = f.file; has = f.has; holds = record { image = image; is_image = f.holds; refused = h } }))
 
 -- what is allowed for a file is allowed for the job that asks for its product, by which none of the input is read
 allowed-job : (product : Product) (cpu : Cpu) (told : Files) (name : List ℕ) (left : Option (List ℕ)) (reply : Reply) (output : List ℕ) → AllowsProduct product cpu told name reply output →

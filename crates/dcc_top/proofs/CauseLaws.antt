@@ -6,9 +6,9 @@ use Rattle.dcc_io.proofs.ToldLemmas.{append_told-nil}
 use Rattle.dcc_mz.specs.declared.fault.MzFault.{MzFault}
 use Rattle.dcc_mz.specs.Fault.{IsRefusal}
 use Rattle.dcc_run.specs.End.{End}
-use Rattle.dcc_prog.specs.declared.cpu.Cpu.{Cpu}
-use Rattle.dcc_prog.specs.declared.refusal.Refusal.{Refusal}
-use Rattle.dcc_prog.specs.MzImage.{FormatFault, IsFirstFault}
+use Rattle.dcc_machine.specs.declared.cpu.Cpu.{Cpu}
+use Rattle.dcc_pipe.specs.declared.no_text.NoText.{NoText}
+use Rattle.dcc_machine.specs.MzImage.{FormatFault, IsFirstFault}
 use Rattle.dcc_prog.specs.Refused.{IsSound, IsUnsound}
 use Rattle.dcc_machine_demand.specs.Refused.{IsAcceptedProgram, IsRefusedImage}
 use Rattle.dcc_reader.specs.declared.offence.ParseKind.{ParseKind}
@@ -16,7 +16,7 @@ use Rattle.dcc_parse.specs.Fault.{IsRefusal as IsTextRefusal}
 use Rattle.dcc_top.specs.declared.reply.Reply.{Reply}
 use Rattle.dcc_top.specs.declared.reply.Reply.TheVariants.{Done, Format, TextFault}
 use Rattle.dcc_top.specs.Words.{Job, Decompile, ListProcedures, Execute, ExecuteWatched, ExecuteText, Product, Text, Listing, job_to_make, Analyses, to_make, to_watch, name_of, file_of, IsExecution, LoadsImage}
-use Rattle.dcc_top.specs.Answer.{Files, OfFile, HasNoFile, no_file, file_fault, no_memory, HasNoImage, no_executable, misshapen, HasNoUnit, no_text, offends, IsUnmade, refused, no_image, AllowsProduct, made_of_file, unmade, Makes, IsRefusedAs, OfImages, Runs, Allows, no_job, for_text, for_listing, ran_file, ran_no_file, watched_file, watched_no_file, ran_text, ran_no_text, ShelfLacks, status_of, line_of, refusal_reply}
+use Rattle.dcc_top.specs.Answer.{Files, OfFile, HasNoFile, no_file, file_fault, no_memory, HasNoImage, no_executable, misshapen, HasNoUnit, no_text, offends, IsUnmade, refused, no_image, AllowsProduct, made_of_file, unmade, Makes, IsRefusedAs, OfImages, Runs, Allows, no_job, for_text, for_listing, ran_file, ran_no_file, watched_file, watched_no_file, ran_text, ran_no_text, ShelfLacks, status_of, line_of, reason_reply}
 use Rattle.dcc_top.specs.Call.{Call, Rises, Appends}
 use Rattle.dcc_top.specs.Causes.{IsAnswered, answered, found_no_memory, broke_off, IsCaused, HasRunFile, IsAbsent, IsUnreadable, HasFormatFault, HasRefusal, HasTextFault, Names, IsMissing, IsNoText, EndsSo, IsOutOfMemory, IsCutOff}
 use Rattle.dcc_top.specs.Headline.{HasText, HasListing}
@@ -24,8 +24,8 @@ use Rattle.dcc_top.specs.WatchedRun.{MeetsFoul}
 use Rattle.dcc_top.specs.Status.{IsOneOf, end_status}
 use Rattle.dcc_top.specs.Status as exit
 use Rattle.dcc_top.proofs.HeadlineLaws.{has-text, has-listing}
-use Rattle.dcc_top.proofs.StatusLaws.{apart, are_apart, image_faults, refusals, text_faults, unmade_statuses, unmade-status, product_statuses, product-status, watched_run-status, status-not_six, reply-at_3, reply-at_4, reply-at_5, reply-at_7, no_file-status, no_image-status, no_unit-status, refusal-status, run_statuses, run-status, text_run-status}
-use Rattle.dcc_top.proofs.NamedLaws.{name-of, file-name, IsAcceptedIn, IsRefusedIn, refused_statuses, accepted-one, refused-always as always-refused, job-misshapen, job-missing, text-refused, job-ended, watch-refused, watch-foul}
+use Rattle.dcc_top.proofs.StatusLaws.{apart, are_apart, image_faults, refusals, text_faults, unmade_statuses, unmade-status, product_statuses, product-status, watched_run-status, status-not_six, reply-at_3, reply-at_4, reply-at_5, reply-at_7, no_file-status, no_image-status, no_unit-status, reason-status, run_statuses, run-status, text_run-status}
+use Rattle.dcc_top.proofs.NamedLaws.{name-of, file-name, IsAcceptedIn, IsRefusedIn, accepted_statuses, refused_statuses, accepted-one, refused-always as always-refused, job-misshapen, job-missing, text-refused, job-ended, watch-refused, watch-foul}
 
 module _ (call : Call) where
   abbrev told : Files
@@ -280,8 +280,8 @@ module _ (call : Call) where
   names-file Listing name cpu = refl
 
   unmade-misshapen : (j : Option Job) (product : Product) (name : List ℕ) (cpu : Cpu) (reply : Reply) → file_of j ≡ Some name → IsUnmade product cpu told name reply → status_of reply ≡ 8 → IsMisshapen j reply
-  unmade-misshapen j product name cpu _ named (refused refusal f) is =
-      absurd (apart (status_of (refusal_reply refusal)) (8 ∷ []) refusals refl (inl is) (refusal-status refusal))
+  unmade-misshapen j product name cpu _ named (refused reason f) is =
+      absurd (apart (status_of (reason_reply reason)) (8 ∷ []) refusals refl (inl is) (reason-status reason))
   unmade-misshapen j product name cpu reply named (no_image h) is = misshapen-of j name reply named h is
 
   product-misshapen : (product : Product) (name : List ℕ) (cpu : Cpu) (reply : Reply) (output : List ℕ) → AllowsProduct product cpu told name reply output → status_of reply ≡ 8 →
@@ -350,20 +350,20 @@ module _ (call : Call) where
     product : Product
     name : List ℕ
     cpu : Cpu
-    refusal : Refusal
+    reason : NoText
     job : Job
     named : j ≡ Some job
     analyses : Analyses name cpu product job
-    reply_is : reply ≡ refusal_reply refusal
-    is_refused : OfFile told name (IsRefusedAs product cpu refusal)
+    reply_is : reply ≡ reason_reply reason
+    is_refused : OfFile told name (IsRefusedAs product cpu reason)
 
   unmade-down : (job : Job) (product : Product) (name : List ℕ) (cpu : Cpu) → Analyses name cpu product job → (reply : Reply) → IsUnmade product cpu told name reply → IsOneOf (status_of reply) exit.refusals →
       IsTurnedDown (Some job) reply
-  unmade-down job product name cpu analyses _ (refused refusal f) is = record {
+  unmade-down job product name cpu analyses _ (refused reason f) is = record {
     product = product;
     name = name;
     cpu = cpu;
-    refusal = refusal;
+    reason = reason;
     job = job;
     named = refl;
     analyses = analyses;
@@ -407,7 +407,7 @@ module _ (call : Call) where
         name = r.name;
         cpu = r.cpu;
         file = r.is_refused.file;
-        refusal = r.refusal;
+        reason = r.reason;
         job = r.job;
         named = r.named;
         analyses = r.analyses;
@@ -443,18 +443,16 @@ module _ (call : Call) where
       one-of (9 ∷ (10 ∷ exit.faults)) (inr (inr (inr (inl refl)))) (inr (inr (inr (inr (inl refl)))))
       (λ reply output h. watch-refused told before left n.files n.tells name steps cpu file (named-file (ExecuteWatched name steps cpu) file named n) each reply output (subst (λ x. Allowed x reply output) named h)) a
 
-  product-always : (product : Product) (name file : List ℕ) (cpu : Cpu) → Comes → call.job ≡ Some (job_to_make product name cpu) → (n : Names call file) → n.files name ≡ Some file → OfImages file (IsAcceptedIn product cpu) →
-      IsOneOf call.status (0 ∷ exit.faults)
-  product-always product name file cpu a named n has each =
-      of-product product name cpu (0 ∷ exit.faults) (inr (inr (inl refl))) (inr (inr (inr (inl refl)))) named a (accepted-one told name n.files n.tells product cpu file has each)
-
-  pub text-always : Comes → (name file : List ℕ) (cpu : Cpu) → call.job ≡ Some (Decompile name cpu) → Names call file → OfImages file (IsAcceptedProgram cpu) → IsOneOf call.status (0 ∷ exit.faults)
+  pub text-always : Comes → (name file : List ℕ) (cpu : Cpu) → call.job ≡ Some (Decompile name cpu) → Names call file → OfImages file (IsAcceptedProgram cpu)
+      → IsOneOf call.status (0 ∷ (12 ∷ exit.faults))
   text-always a name file cpu named n each =
-      product-always Text name file cpu a named n (named-file (Decompile name cpu) file named n) each
+      of-product Text name cpu (accepted_statuses Text) (inr (inr (inr (inl refl)))) (inr (inr (inr (inr (inl refl))))) named a
+      (accepted-one told name n.files n.tells Text cpu file (named-file (Decompile name cpu) file named n) each)
 
   pub listing-always : Comes → (name file : List ℕ) (cpu : Cpu) → call.job ≡ Some (ListProcedures name cpu) → Names call file → OfImages file (IsSound cpu) → IsOneOf call.status (0 ∷ exit.faults)
   listing-always a name file cpu named n each =
-      product-always Listing name file cpu a named n (named-file (ListProcedures name cpu) file named n) each
+      of-product Listing name cpu (accepted_statuses Listing) (inr (inr (inl refl))) (inr (inr (inr (inl refl)))) named a
+      (accepted-one told name n.files n.tells Listing cpu file (named-file (ListProcedures name cpu) file named n) each)
 
   -- The text is refused.
 
@@ -587,8 +585,8 @@ module _ (call : Call) where
   lacks-of_no_image name _ (misshapen f) is = absurd (omega (arith, is))
 
   lacks-of_unmade : (product : Product) (name : List ℕ) (cpu : Cpu) (reply : Reply) → IsUnmade product cpu told name reply → status_of reply ≡ 3 → ShelfLacks told name
-  lacks-of_unmade product name cpu _ (refused refusal f) is =
-      absurd (apart (status_of (refusal_reply refusal)) (3 ∷ []) refusals refl (inl is) (refusal-status refusal))
+  lacks-of_unmade product name cpu _ (refused reason f) is =
+      absurd (apart (status_of (reason_reply reason)) (3 ∷ []) refusals refl (inl is) (reason-status reason))
   lacks-of_unmade product name cpu reply (no_image h) is = lacks-of_no_image name reply h is
 
   lacks-of_product : (product : Product) (name : List ℕ) (cpu : Cpu) (reply : Reply) (output : List ℕ) → AllowsProduct product cpu told name reply output → status_of reply ≡ 3 → ShelfLacks told name

@@ -5,11 +5,11 @@ use Rattle.dcc_io.specs.declared.outside.Failed.{Failed}
 use Rattle.dcc_io.proofs.ToldLemmas.{append_told-nil}
 use Rattle.dcc_run.specs.End.{End}
 use Rattle.dcc_run.specs.Event.{written_by}
-use Rattle.dcc_prog.specs.declared.cpu.Cpu.{Cpu}
-use Rattle.dcc_prog.specs.declared.image.Image.{Image}
-use Rattle.dcc_prog.specs.Machine.{start_state}
-use Rattle.dcc_prog.specs.MzImage.{IsImageOf}
-use Rattle.dcc_console.specs.Scene.{Scene, scene}
+use Rattle.dcc_machine.specs.declared.cpu.Cpu.{Cpu}
+use Rattle.dcc_machine.specs.declared.image.Image.{Image}
+use Rattle.dcc_machine.specs.Machine.{start_state}
+use Rattle.dcc_machine.specs.MzImage.{IsImageOf}
+use Rattle.dcc_console.specs.WithConsole.{WithConsole, beside_console}
 use Rattle.dcc_console.specs.Steps.{HasEnded, MakesSteps, StopsShort, read_failed, write_failed}
 use Rattle.dcc_console.proofs.RanLaws.{Begins, has_run_when_told, stops_at_read_when_told, stops_at_write_when_told, writes_part}
 use Rattle.dcc_step.specs.Core.{Core, core_of}
@@ -31,7 +31,7 @@ begins : (cpu : Cpu) (core : Core) (image : Image) → BeginsAt cpu core image �
 begins cpu core image at = record { stands = λ input. sym at; left = λ input. refl; events = λ input. refl }
 
 -- a run that has ended, or goes on
-pub ran-ended : (cpu : Cpu) (image : Image) (steps : ℕ) (core : Core) (before taken : Option (List ℕ)) (now : Scene Core) (end : End) → BeginsAt cpu core image → MakesSteps machine steps (scene core before taken) now → HasEnded machine now.code end → Answers (Finishes (machine_of cpu image) steps before now.left) taken now.taken (end_reply steps end)
+pub ran-ended : (cpu : Cpu) (image : Image) (steps : ℕ) (core : Core) (before taken : Option (List ℕ)) (now : WithConsole Core) (end : End) → BeginsAt cpu core image → MakesSteps machine steps (beside_console core before taken) now → HasEnded machine now.code end → Answers (Finishes (machine_of cpu image) steps before now.left) taken now.taken (end_reply steps end)
 ran-ended cpu image steps core before taken now end at m is = record {
   output = written_by m.happened;
   wrote = m.wrote;
@@ -39,15 +39,15 @@ ran-ended cpu image steps core before taken now end at m is = record {
 }
 
 -- a read that failed after the steps that were made
-pub ran-to_read : (cpu : Cpu) (image : Image) (steps : ℕ) (core : Core) (before taken : Option (List ℕ)) (now : Scene Core) → BeginsAt cpu core image → StopsShort machine read_failed steps (scene core before taken) now → Answers (Finishes (machine_of cpu image) steps before now.left) taken now.taken InputFault
+pub ran-to_read : (cpu : Cpu) (image : Image) (steps : ℕ) (core : Core) (before taken : Option (List ℕ)) (now : WithConsole Core) → BeginsAt cpu core image → StopsShort machine read_failed steps (beside_console core before taken) now → Answers (Finishes (machine_of cpu image) steps before now.left) taken now.taken InputFault
 ran-to_read cpu image steps core before taken now at s = record {
   output = written_by s.made.happened;
-  wrote = ap (λ (u : Scene Core). u.taken) s.refused.unchanged ∙ s.made.wrote;
+  wrote = ap (λ (u : WithConsole Core). u.taken) s.refused.unchanged ∙ s.made.wrote;
   is_answer = stopped_at_read (stops_at_read_when_told machine cpu (start_state image) core (begins cpu core image at) steps before taken now machine_executes s);
 }
 
 -- a write that failed after the steps that were made
-pub broke-off : (cpu : Cpu) (image : Image) (steps : ℕ) (core : Core) (before taken : Option (List ℕ)) (now : Scene Core) → BeginsAt cpu core image → StopsShort machine write_failed steps (scene core before taken) now → CutsShort (IsCutRun (machine_of cpu image) steps (record { before = before; after = now.left }) (record { before = taken; after = now.taken })) taken now.taken
+pub broke-off : (cpu : Cpu) (image : Image) (steps : ℕ) (core : Core) (before taken : Option (List ℕ)) (now : WithConsole Core) → BeginsAt cpu core image → StopsShort machine write_failed steps (beside_console core before taken) now → CutsShort (IsCutRun (machine_of cpu image) steps (record { before = before; after = now.left }) (record { before = taken; after = now.taken })) taken now.taken
 broke-off cpu image steps core before taken now at s =
     let cut = writes_part machine cpu (start_state image) core (begins cpu core image at) steps before taken now machine_executes s in
     let stops = stops_at_write_when_told machine cpu (start_state image) core (begins cpu core image at) steps before taken now s in

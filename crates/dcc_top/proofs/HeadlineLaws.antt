@@ -1,7 +1,7 @@
 -- From what is made of a file to what is told of the output: its text, and the lines of its procedures.
 use Rattle.std.proofs.Common.{◌≡◌, ℕ, List, Option, ap, ◌∙◌}
 use Rattle.dcc_io.specs.Told.{append_told}
-use Rattle.dcc_prog.specs.declared.cpu.Cpu.{Cpu}
+use Rattle.dcc_machine.specs.declared.cpu.Cpu.{Cpu}
 use Rattle.dcc_top.specs.Answer.{Files, ShelfHas, Makes}
 use Rattle.dcc_top.specs.Headline.{HasText, HasListing}
 use Rattle.dcc_top.specs.Words.{Text, Listing}

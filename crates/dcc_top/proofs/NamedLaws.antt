@@ -6,16 +6,17 @@ use Rattle.dcc_mz.specs.Fault.{IsRefusal}
 use Rattle.dcc_run.specs.End.{End}
 use Rattle.dcc_run.specs.System.{end_after}
 use Rattle.dcc_run.specs.Watched.{state}
-use Rattle.dcc_prog.specs.declared.cpu.Cpu.{Cpu}
-use Rattle.dcc_prog.specs.declared.image.Image.{Image}
-use Rattle.dcc_prog.specs.declared.refusal.Refusal.{Refusal}
+use Rattle.dcc_machine.specs.declared.cpu.Cpu.{Cpu}
+use Rattle.dcc_machine.specs.declared.image.Image.{Image}
+use Rattle.dcc_pipe.specs.declared.no_text.NoText.{NoText}
+use Rattle.dcc_pipe.specs.declared.no_text.NoText.TheVariants.{Refused, NotYet as NotYetFor}
 use Rattle.dcc_prog.specs.declared.refusal.Refusal.TheVariants.{Construct as ConstructRefused, Limit as LimitRefused, Memory as MemoryRefused}
-use Rattle.dcc_prog.specs.MzImage.{IsImageOf, FormatFault, IsFirstFault, too_large, short, not_mz, bad_pages, header_past_image, bad_relocation, entry_outside}
+use Rattle.dcc_machine.specs.MzImage.{IsImageOf, FormatFault, IsFirstFault, too_large, short, not_mz, bad_pages, header_past_image, bad_relocation, entry_outside}
 use Rattle.dcc_prog.specs.Refused.{IsSound, IsUnsound}
-use Rattle.dcc_prog.specs.Step.{machine_system}
+use Rattle.dcc_machine.specs.Step.{machine_system}
 use Rattle.dcc_prog.specs.Clean.{Foul as FoulStep}
 use Rattle.dcc_prog.specs.Watch.{IsClean, is_foul, watched_machine, first_watch}
-use Rattle.dcc_prog.proofs.MzImageLaws.{not_both}
+use Rattle.dcc_machine.proofs.MzImageLaws.{not_both}
 use Rattle.dcc_prog.proofs.WatchLaws.{not_foul_before}
 use Rattle.dcc_watch.proofs.StepLaws.{foul-stopped}
 use Rattle.dcc_watch.specs.Executor.{is_stopped}
@@ -25,7 +26,7 @@ use Rattle.dcc_machine_demand.proofs.RefusedLaws.{accepted-is_not_refused}
 use Rattle.dcc_top.specs.declared.reply.Reply.{Reply}
 use Rattle.dcc_top.specs.Words.{Job, Decompile, ListProcedures, Execute, ExecuteWatched, ExecuteText, Product, Text, Listing, name_of, file_of, LoadsImage}
 use Rattle.dcc_top.specs.Execution.{Subject, machine_of, text_of, Finishes, ended, stopped_at_read, not_begun, FinishesOrStops, finishes, found_none}
-use Rattle.dcc_top.specs.Answer.{Files, OfFile, HasNoFile, no_file, file_fault, no_memory, HasNoImage, no_executable, misshapen, HasNoUnit, no_text, offends, IsMadeOf, Refuses, IsUnmade, refused, no_image, AllowsProduct, made_of_file, unmade, Makes, IsRefusedAs, OfImages, RunsFile, Watches, WatchesFile, RunsText, RunsUnit, Allows, for_text, for_listing, ran_file, ran_no_file, watched_file, watched_no_file, ran_text, ran_no_text, ShelfLacks, status_of, refusal_reply}
+use Rattle.dcc_top.specs.Answer.{Files, OfFile, HasNoFile, no_file, file_fault, no_memory, HasNoImage, no_executable, misshapen, HasNoUnit, no_text, offends, IsMadeOf, Refuses, IsUnmade, refused, no_image, AllowsProduct, made_of_file, unmade, Makes, IsRefusedAs, OfImages, RunsFile, Watches, WatchesFile, RunsText, RunsUnit, Allows, for_text, for_listing, ran_file, ran_no_file, watched_file, watched_no_file, ran_text, ran_no_text, ShelfLacks, status_of, refusal_reply, reason_reply}
 use Rattle.dcc_top.specs.Call.{Call}
 use Rattle.dcc_top.specs.WatchedRun.{IsFoulAfter, FinishesWatched, stayed_clean, met_foul, clean_to_read, lacked_memory, EndsClean, MeetsFoul}
 use Rattle.dcc_top.specs.Causes.{Names, IsNoText, EndsSo, file_ends, watched_ends, text_ends}
@@ -65,18 +66,43 @@ made-not_refused : (product : Product) (cpu : Cpu) (image : Image) (made : List 
 made-not_refused Text cpu image made m = accepted-is_not_refused.apart cpu image m.accepted
 made-not_refused Listing cpu image made m = sound-not_unsound cpu image m.sound
 
-accepted-by_memory : (product : Product) (cpu : Cpu) (image : Image) (refusal : Refusal) → IsAcceptedIn product cpu image → Refuses product cpu image refusal → refusal ≡ MemoryRefused
-accepted-by_memory Text cpu image refusal a h = accepted-is_not_refused.memory cpu image refusal a h
-accepted-by_memory Listing cpu image refusal a h = sound-memory cpu image refusal a h
+-- the statuses where nothing refuses the program
+abbrev pub accepted_statuses : Product → List ℕ
+accepted_statuses Text = 0 ∷ (12 ∷ (4 ∷ (6 ∷ (7 ∷ []))))
+accepted_statuses Listing = 0 ∷ (4 ∷ (6 ∷ (7 ∷ [])))
+
+faulty-accepted : (product : Product) (status : ℕ) → (status ≡ 4) ⊎ (status ≡ 7) → IsOneOf status (accepted_statuses product)
+faulty-accepted Text status (inl four) = inr (inr (inl four))
+faulty-accepted Text status (inr seven) = inr (inr (inr (inr (inl seven))))
+faulty-accepted Listing status (inl four) = inr (inl four)
+faulty-accepted Listing status (inr seven) = inr (inr (inr (inl seven)))
+
+done-accepted : (product : Product) → IsOneOf 0 (accepted_statuses product)
+done-accepted Text = inl refl
+done-accepted Listing = inl refl
+
+-- where nothing refuses the program, it is refused for want of memory alone, or its text for its shape
+accepted-reason : (product : Product) (cpu : Cpu) (image : Image) (reason : NoText) → IsAcceptedIn product cpu image → Refuses product cpu image reason
+    → IsOneOf (status_of (reason_reply reason)) (accepted_statuses product)
+accepted-reason Text cpu image (Refused refusal) a h =
+    faulty-accepted Text _ (inr (ap (λ r. status_of (refusal_reply r)) (accepted-is_not_refused.memory cpu image refusal a h)))
+accepted-reason Text cpu image (NotYetFor at) a h = inr (inl refl)
+accepted-reason Listing cpu image (Refused refusal) a h =
+    faulty-accepted Listing _ (inr (ap (λ r. status_of (refusal_reply r)) (sound-memory cpu image refusal a h)))
+accepted-reason Listing cpu image (NotYetFor at) a h = absurd h
 
 -- the statuses of a refusal, before those of faults
 abbrev pub refused_statuses : List ℕ
 refused_statuses = 9 ∷ (10 ∷ (4 ∷ (6 ∷ (7 ∷ []))))
 
-refused-one : (refusal : Refusal) → IsOneOf (status_of (refusal_reply refusal)) refused_statuses
-refused-one (ConstructRefused kind at) = inl refl
-refused-one (LimitRefused what count) = inr (inl refl)
-refused-one MemoryRefused = inr (inr (inr (inr (inl refl))))
+-- where something refuses the program, it isn't its shape that its text lacks
+refused-one : (product : Product) (cpu : Cpu) (image : Image) (reason : NoText) → IsRefusedIn product cpu image → Refuses product cpu image reason
+    → IsOneOf (status_of (reason_reply reason)) refused_statuses
+refused-one product cpu image (Refused (ConstructRefused kind at)) r h = inl refl
+refused-one product cpu image (Refused (LimitRefused what count)) r h = inr (inl refl)
+refused-one product cpu image (Refused MemoryRefused) r h = inr (inr (inr (inr (inl refl))))
+refused-one Text cpu image (NotYetFor at) r h = absurd (accepted-is_not_refused.apart cpu image h.accepted r)
+refused-one Listing cpu image (NotYetFor at) r h = absurd h
 
 faulty-refused : (status : ℕ) → (status ≡ 4) ⊎ (status ≡ 7) → IsOneOf status refused_statuses
 faulty-refused status (inl four) = inr (inr (inl four))
@@ -189,8 +215,8 @@ module _ (told : Files) (name : List ℕ) (files : List ℕ → Option (List ℕ
 
   unmade-misshapen : (product : Product) (cpu : Cpu) (file : List ℕ) (fault : FormatFault) → files name ≡ Some file → IsFirstFault file fault → (reply : Reply) → IsUnmade product cpu told name reply →
       IsOneOf (status_of reply) (8 ∷ (4 ∷ (6 ∷ (7 ∷ []))))
-  unmade-misshapen product cpu file fault has first _ (refused refusal f) =
-      let d = held file (IsRefusedAs product cpu refusal) has f in absurd (not_both file d.image fault d.is_image first)
+  unmade-misshapen product cpu file fault has first _ (refused reason f) =
+      let d = held file (IsRefusedAs product cpu reason) has f in absurd (not_both file d.image fault d.is_image first)
   unmade-misshapen product cpu file fault has first reply (no_image h) = misshapen-one file has reply h
 
   product-misshapen : (product : Product) (cpu : Cpu) (file : List ℕ) (fault : FormatFault) → files name ≡ Some file → IsFirstFault file fault → (reply : Reply) (output : List ℕ) →
@@ -200,7 +226,7 @@ module _ (told : Files) (name : List ℕ) (files : List ℕ → Option (List ℕ
   product-misshapen product cpu file fault has first reply _ (unmade h) = unmade-misshapen product cpu file fault has first reply h
 
   unmade-missing : (product : Product) (cpu : Cpu) → files name ≡ None → (reply : Reply) → IsUnmade product cpu told name reply → IsOneOf (status_of reply) (3 ∷ (4 ∷ (6 ∷ (7 ∷ []))))
-  unmade-missing product cpu lacks _ (refused refusal f) = absurd (not-held (IsRefusedAs product cpu refusal) lacks f)
+  unmade-missing product cpu lacks _ (refused reason f) = absurd (not-held (IsRefusedAs product cpu reason) lacks f)
   unmade-missing product cpu lacks reply (no_image h) = missing-image lacks reply h
 
   product-missing : (product : Product) (cpu : Cpu) → files name ≡ None → (reply : Reply) (output : List ℕ) → AllowsProduct product cpu told name reply output →
@@ -210,22 +236,35 @@ module _ (told : Files) (name : List ℕ) (files : List ℕ → Option (List ℕ
 
   -- the program is accepted, or it is refused
 
-  -- a program that is accepted is refused for the shelf's fault or want of memory alone
-  unmade-faulty : (product : Product) (cpu : Cpu) (file : List ℕ) → files name ≡ Some file → OfImages file (IsAcceptedIn product cpu) → (reply : Reply) → IsUnmade product cpu told name reply →
-      (status_of reply ≡ 4) ⊎ (status_of reply ≡ 7)
-  unmade-faulty product cpu file has a _ (refused refusal f) =
-      let d = held file (IsRefusedAs product cpu refusal) has f in
-      inr (ap (λ r. status_of (refusal_reply r)) (accepted-by_memory product cpu d.image refusal (a.each d.image d.is_image) d.refused))
-  unmade-faulty product cpu file has a reply (no_image h) = no_image-faulty file has a.image a.is_image reply h
+  -- no listing and no watched run is made of a sound program for the shelf's fault or want of memory alone
+  sound-faulty : (cpu : Cpu) (file : List ℕ) → files name ≡ Some file → OfImages file (IsSound cpu) → (reply : Reply) → IsUnmade Listing cpu told name reply
+      → (status_of reply ≡ 4) ⊎ (status_of reply ≡ 7)
+  sound-faulty cpu file has a _ (refused (Refused refusal) f) =
+      let d = held file (IsRefusedAs Listing cpu (Refused refusal)) has f in
+      inr (ap (λ r. status_of (refusal_reply r)) (sound-memory cpu d.image refusal (a.each d.image d.is_image) d.refused))
+  sound-faulty cpu file has a _ (refused (NotYetFor at) f) =
+      let d = held file (IsRefusedAs Listing cpu (NotYetFor at)) has f in absurd d.refused
+  sound-faulty cpu file has a reply (no_image h) = no_image-faulty file has a.image a.is_image reply h
+
+  -- nothing is made of a program that is accepted for the shelf's fault, want of memory or the shape of its text alone
+  unmade-accepted : (product : Product) (cpu : Cpu) (file : List ℕ) → files name ≡ Some file → OfImages file (IsAcceptedIn product cpu) → (reply : Reply) → IsUnmade product cpu told name reply →
+      IsOneOf (status_of reply) (accepted_statuses product)
+  unmade-accepted product cpu file has a _ (refused reason f) =
+      let d = held file (IsRefusedAs product cpu reason) has f in
+      accepted-reason product cpu d.image reason (a.each d.image d.is_image) d.refused
+  unmade-accepted product cpu file has a reply (no_image h) =
+      faulty-accepted product (status_of reply) (no_image-faulty file has a.image a.is_image reply h)
 
   pub accepted-one : (product : Product) (cpu : Cpu) (file : List ℕ) → files name ≡ Some file → OfImages file (IsAcceptedIn product cpu) → (reply : Reply) (output : List ℕ) →
-      AllowsProduct product cpu told name reply output → IsOneOf (status_of reply) (0 ∷ (4 ∷ (6 ∷ (7 ∷ []))))
-  accepted-one product cpu file has a _ output (made_of_file f) = inl refl
-  accepted-one product cpu file has a reply _ (unmade h) = faulty-one 0 (status_of reply) (unmade-faulty product cpu file has a reply h)
+      AllowsProduct product cpu told name reply output → IsOneOf (status_of reply) (accepted_statuses product)
+  accepted-one product cpu file has a _ output (made_of_file f) = done-accepted product
+  accepted-one product cpu file has a reply _ (unmade h) = unmade-accepted product cpu file has a reply h
 
   unmade-refused : (product : Product) (cpu : Cpu) (file : List ℕ) → files name ≡ Some file → OfImages file (IsRefusedIn product cpu) → (reply : Reply) → IsUnmade product cpu told name reply →
       IsOneOf (status_of reply) refused_statuses
-  unmade-refused product cpu file has a _ (refused refusal f) = refused-one refusal
+  unmade-refused product cpu file has a _ (refused reason f) =
+      let d = held file (IsRefusedAs product cpu reason) has f in
+      refused-one product cpu d.image reason (a.each d.image d.is_image) d.refused
   unmade-refused product cpu file has a reply (no_image h) =
       faulty-refused (status_of reply) (no_image-faulty file has a.image a.is_image reply h)
 
@@ -343,7 +382,7 @@ module _ (told : Files) (before left : Option (List ℕ)) (files : List ℕ → 
   watch-faulty : (name : List ℕ) (cpu : Cpu) (file : List ℕ) (first : ℕ) → files name ≡ Some file → OfImages file (IsSound cpu) → (reply : Reply) → IsUnmade Listing cpu told name reply →
       IsOneOf (status_of reply) (first ∷ (4 ∷ (5 ∷ (6 ∷ (7 ∷ [])))))
   watch-faulty name cpu file first has a reply h =
-      faulty-run told name files tells first (status_of reply) (unmade-faulty told name files tells Listing cpu file has a reply h)
+      faulty-run told name files tells first (status_of reply) (sound-faulty told name files tells cpu file has a reply h)
 
   all-sound : {P : Image → Type 0} (file : List ℕ) (cpu : Cpu) → ((image : Image) → P image → IsSound cpu image) → OfImages file P → OfImages file (IsSound cpu)
   all-sound file cpu sound a = record { image = a.image; is_image = a.is_image; each = λ other is. sound other (a.each other is) }

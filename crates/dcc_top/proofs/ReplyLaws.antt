@@ -5,9 +5,9 @@ use Rattle.std.specs.Prelude.{Result, Ok, Err, IfOk, OnErr, MatchResult, IsErrOf
 use Rattle.std.specs.Result.{IsErr}
 use Rattle.dcc_console.specs.Counts.{CountsFaults}
 use Rattle.dcc_io.specs.declared.outside.Failed.{Failed}
-use Rattle.dcc_prog.specs.declared.cpu.Cpu.{Cpu}
-use Rattle.dcc_prog.specs.declared.image.Image.{Image}
-use Rattle.dcc_prog.specs.MzImage.{IsImageOf}
+use Rattle.dcc_machine.specs.declared.cpu.Cpu.{Cpu}
+use Rattle.dcc_machine.specs.declared.image.Image.{Image}
+use Rattle.dcc_machine.specs.MzImage.{IsImageOf}
 use Rattle.dcc_run.proofs.PrefixLaws.{prefix_refl, prefix_nil}
 use Rattle.dcc_top.specs.declared.reply.Reply.{Reply}
 use Rattle.dcc_top.specs.declared.reply.Reply.TheVariants.{Usage, NoFile, FileFault, InputFault, Memory}

@@ -4,17 +4,18 @@ use Rattle.std.proofs.lemmas.Bool.{eq-eqb, or_right}
 use Rattle.std.specs.Prelude.{◌&&◌, ◌||◌, not, eqb}
 use Rattle.std.specs.Prelude.{Result, Ok, Err, IfOk}
 use Rattle.dcc_io.specs.declared.outside.Failed.{Failed}
-use Rattle.dcc_prog.specs.declared.cpu.Cpu.{Cpu}
-use Rattle.dcc_prog.specs.declared.image.Image.{Image}
+use Rattle.dcc_machine.specs.declared.cpu.Cpu.{Cpu}
+use Rattle.dcc_machine.specs.declared.image.Image.{Image}
 use Rattle.dcc_prog.specs.declared.frame.Program.{Program}
 use Rattle.dcc_run.specs.End.{End, Running, Exit, Divide, Outside as outside, Stuck as stuck}
-use Rattle.dcc_prog.specs.declared.refusal.Refusal.{Refusal}
+use Rattle.dcc_pipe.specs.declared.no_text.NoText.{NoText}
+use Rattle.dcc_pipe.specs.declared.no_text.NoText.TheVariants.{Refused, NotYet as NotYetFor}
 use Rattle.dcc_prog.specs.declared.refusal.Refusal.TheVariants.{Construct as ConstructRefused, Limit as LimitRefused, Memory as MemoryRefused}
-use Rattle.dcc_prog.proofs.TableLaws.{and_right}
+use Rattle.dcc_machine.proofs.TableLaws.{and_right}
 use Rattle.dcc_top.specs.declared.reply.Reply.{Reply}
 use Rattle.dcc_top.specs.declared.reply.Reply.TheVariants.{Done, NoFile, FileFault, InputFault, Memory}
 use Rattle.dcc_top.specs.Execution.{Subject, end_reply, Finishes, ended, stopped_at_read, not_begun, FinishesOrStops, finishes, found_none}
-use Rattle.dcc_top.specs.Answer.{Files, HasNoFile, no_file, file_fault, no_memory, HasNoImage, no_executable, misshapen, HasNoUnit, no_text, offends, AllowsImage, image_made, image_refused, IsUnmade, refused, no_image, AllowsProduct, made_of_file, unmade, AllowsWatched, image_watched, image_unwatched, status_of, refusal_reply}
+use Rattle.dcc_top.specs.Answer.{Files, HasNoFile, no_file, file_fault, no_memory, HasNoImage, no_executable, misshapen, HasNoUnit, no_text, offends, AllowsImage, image_made, image_refused, IsUnmade, refused, no_image, AllowsProduct, made_of_file, unmade, AllowsWatched, image_watched, image_unwatched, status_of, reason_reply}
 use Rattle.dcc_top.specs.WatchedRun.{FinishesWatched, stayed_clean, met_foul, clean_to_read, lacked_memory}
 use Rattle.dcc_top.specs.Status.{IsOneOf, end_status}
 use Rattle.dcc_top.specs.Words.{Product}
@@ -92,30 +93,32 @@ no_unit-status told name _ (offends f) = inl refl
 
 -- the statuses of a refusal
 abbrev pub refusals : List ℕ
-refusals = 7 ∷ (9 ∷ (10 ∷ []))
+refusals = 7 ∷ (9 ∷ (10 ∷ (12 ∷ [])))
 
-pub refusal-status : (refusal : Refusal) → IsOneOf (status_of (refusal_reply refusal)) refusals
-refusal-status (ConstructRefused kind at) = inr (inl refl)
-refusal-status (LimitRefused what count) = inr (inr (inl refl))
-refusal-status MemoryRefused = inl refl
+pub reason-status : (reason : NoText) → IsOneOf (status_of (reason_reply reason)) refusals
+reason-status (Refused (ConstructRefused kind at)) = inr (inl refl)
+reason-status (Refused (LimitRefused what count)) = inr (inr (inl refl))
+reason-status (Refused MemoryRefused) = inl refl
+reason-status (NotYetFor at) = inr (inr (inr (inl refl)))
 
 pub image-status : (product : Product) (cpu : Cpu) (image : Image) (reply : Reply) (output : List ℕ) → AllowsImage product cpu image reply output → IsOneOf (status_of reply) (0 ∷ refusals)
 image-status product cpu image _ output (image_made m) = inl refl
-image-status product cpu image _ _ (image_refused refusal h) = inr (refusal-status refusal)
+image-status product cpu image _ _ (image_refused reason h) = inr (reason-status reason)
 
 -- the statuses where nothing is made of an executable
 abbrev pub unmade_statuses : List ℕ
-unmade_statuses = 9 ∷ (10 ∷ (8 ∷ (3 ∷ (4 ∷ (7 ∷ [])))))
+unmade_statuses = 9 ∷ (10 ∷ (12 ∷ (8 ∷ (3 ∷ (4 ∷ (7 ∷ []))))))
 
-among-unmade : (refusal : Refusal) → IsOneOf (status_of (refusal_reply refusal)) unmade_statuses
-among-unmade (ConstructRefused kind at) = inl refl
-among-unmade (LimitRefused what count) = inr (inl refl)
-among-unmade MemoryRefused = inr (inr (inr (inr (inr (inl refl)))))
+among-unmade : (reason : NoText) → IsOneOf (status_of (reason_reply reason)) unmade_statuses
+among-unmade (Refused (ConstructRefused kind at)) = inl refl
+among-unmade (Refused (LimitRefused what count)) = inr (inl refl)
+among-unmade (Refused MemoryRefused) = inr (inr (inr (inr (inr (inr (inl refl))))))
+among-unmade (NotYetFor at) = inr (inr (inl refl))
 
 pub unmade-status : (product : Product) (cpu : Cpu) (told : Files) (name : List ℕ) (reply : Reply) → IsUnmade product cpu told name reply →
     IsOneOf (status_of reply) unmade_statuses
-unmade-status product cpu told name _ (refused refusal f) = among-unmade refusal
-unmade-status product cpu told name reply (no_image h) = inr (inr (no_image-status told name reply h))
+unmade-status product cpu told name _ (refused reason f) = among-unmade reason
+unmade-status product cpu told name reply (no_image h) = inr (inr (inr (no_image-status told name reply h)))
 
 -- the statuses of what is made of an executable
 abbrev pub product_statuses : List ℕ

@@ -9,7 +9,7 @@ use Rattle.dcc_c.specs.Run.{first_state}
 use Rattle.dcc_c.specs.Rules.{IsAllowed}
 use Rattle.dcc_c.specs.Text.{StandsFor}
 use Rattle.dcc_c.specs.Tree.{Tree, Function}
-use Rattle.dcc_console.specs.Scene.{Scene, scene}
+use Rattle.dcc_console.specs.WithConsole.{WithConsole, beside_console}
 use Rattle.dcc_console.specs.Steps.{HasEnded, MakesSteps, StopsShort, read_failed, write_failed, no_memory}
 use Rattle.dcc_console.proofs.RanLaws.{Begins, has_run_when_told, stops_when_told, stops_at_read_when_told, stops_at_write_when_told, writes_part, WritesPart}
 use Rattle.dcc_crun.specs.declared.run.CRun.{CRun}
@@ -38,7 +38,7 @@ begins run tree fill at text stands = record {
 }
 
 -- a run that has ended, or goes on
-pub text-ended : (tree : Tree) (fill steps : ℕ) (run : CRun) (before taken : Option (List ℕ)) (now : Scene CRun) (end : End) → BeginsUnit run tree fill → MakesSteps texts steps (scene run before taken) now → HasEnded texts now.code end → Answers (RunsUnit tree steps fill before now.left) taken now.taken (end_reply steps end)
+pub text-ended : (tree : Tree) (fill steps : ℕ) (run : CRun) (before taken : Option (List ℕ)) (now : WithConsole CRun) (end : End) → BeginsUnit run tree fill → MakesSteps texts steps (beside_console run before taken) now → HasEnded texts now.code end → Answers (RunsUnit tree steps fill before now.left) taken now.taken (end_reply steps end)
 text-ended tree fill steps run before taken now end at m is = record {
   output = written_by m.happened;
   wrote = m.wrote;
@@ -47,16 +47,16 @@ text-ended tree fill steps run before taken now end at m is = record {
 }
 
 -- a read that failed after the steps that were made
-pub text-to_read : (tree : Tree) (fill steps : ℕ) (run : CRun) (before taken : Option (List ℕ)) (now : Scene CRun) → BeginsUnit run tree fill → StopsShort texts read_failed steps (scene run before taken) now → Answers (RunsUnit tree steps fill before now.left) taken now.taken InputFault
+pub text-to_read : (tree : Tree) (fill steps : ℕ) (run : CRun) (before taken : Option (List ℕ)) (now : WithConsole CRun) → BeginsUnit run tree fill → StopsShort texts read_failed steps (beside_console run before taken) now → Answers (RunsUnit tree steps fill before now.left) taken now.taken InputFault
 text-to_read tree fill steps run before taken now at s = record {
   output = written_by s.made.happened;
-  wrote = ap (λ (u : Scene CRun). u.taken) s.refused.unchanged ∙ s.made.wrote;
+  wrote = ap (λ (u : WithConsole CRun). u.taken) s.refused.unchanged ∙ s.made.wrote;
   is_answer = λ text stands.
       finishes (stopped_at_read (stops_at_read_when_told texts tree (first_state tree stands.allowed.start fill) run (begins run tree fill at text stands) steps before taken now texts_execute s));
 }
 
 -- memory was wanting after the steps that were made
-pub text-found_none : (tree : Tree) (fill steps : ℕ) (run : CRun) (before taken : Option (List ℕ)) (now : Scene CRun) → BeginsUnit run tree fill → StopsShort texts no_memory steps (scene run before taken) now → Answers (RunsUnit tree steps fill before now.left) taken now.taken Memory
+pub text-found_none : (tree : Tree) (fill steps : ℕ) (run : CRun) (before taken : Option (List ℕ)) (now : WithConsole CRun) → BeginsUnit run tree fill → StopsShort texts no_memory steps (beside_console run before taken) now → Answers (RunsUnit tree steps fill before now.left) taken now.taken Memory
 text-found_none tree fill steps run before taken now at s = record {
   output = written_by s.made.happened;
   wrote = s.refused.same_taken ∙ s.made.wrote;
@@ -77,7 +77,7 @@ same-start : (tree : Tree) → (a b : IsAllowed tree) → a.start ≡ b.start
 same-start tree a b = let both : a.start ∷ a.others ≡ b.start ∷ b.others = sym a.first ∙ b.first in cc
 
 -- a write that failed after the steps that were made
-pub text-broke_off : (tree : Tree) (fill steps : ℕ) (run : CRun) (before taken : Option (List ℕ)) (now : Scene CRun) → (text : List ℕ) → StandsFor text tree → BeginsUnit run tree fill → StopsShort texts write_failed steps (scene run before taken) now → CutsShort (IsCutUnit tree steps fill (record { before = before; after = now.left }) (record { before = taken; after = now.taken })) taken now.taken
+pub text-broke_off : (tree : Tree) (fill steps : ℕ) (run : CRun) (before taken : Option (List ℕ)) (now : WithConsole CRun) → (text : List ℕ) → StandsFor text tree → BeginsUnit run tree fill → StopsShort texts write_failed steps (beside_console run before taken) now → CutsShort (IsCutUnit tree steps fill (record { before = before; after = now.left }) (record { before = taken; after = now.taken })) taken now.taken
 text-broke_off tree fill steps run before taken now text stands at s =
     let first = stands.allowed.start in
     let cut : WritesPart texts tree (first_state tree first fill) run (begins run tree fill at text stands) steps before taken now.taken =

@@ -2,12 +2,13 @@
 use Rattle.std.proofs.Common.{◌≡◌, ℕ, List, Option, Some, sym, subst}
 use Rattle.std.specs.Prelude.{Result, Ok, Err, IfOk, OnErr}
 use Rattle.dcc_io.specs.declared.outside.Failed.{Failed}
-use Rattle.dcc_prog.specs.declared.cpu.Cpu.{Cpu}
-use Rattle.dcc_prog.specs.declared.image.Image.{Image}
+use Rattle.dcc_machine.specs.declared.cpu.Cpu.{Cpu}
+use Rattle.dcc_machine.specs.declared.image.Image.{Image}
 use Rattle.dcc_prog.specs.declared.frame.Program.{Program}
 use Rattle.dcc_prog.specs.Analysed.{IsProgramOf}
-use Rattle.dcc_prog.specs.MzImage.{IsImageOf}
+use Rattle.dcc_machine.specs.MzImage.{IsImageOf}
 use Rattle.dcc_prog.specs.Refused.{IsSound}
+use Rattle.dcc_pipe.specs.declared.no_text.NoText.TheVariants.{Refused}
 use Rattle.dcc_top.specs.declared.reply.Reply.{Reply}
 use Rattle.dcc_top.specs.Words.{ExecuteWatched}
 use Rattle.dcc_top.specs.Answer.{Files, OfFile, refused, AllowsWatched, image_watched, image_unwatched, IsCutWatched, Allows, watched_file, watched_no_file, IsCut, cut_watched}
@@ -50,7 +51,7 @@ allowed-watched : (told : Files) (name : List ℕ) (steps : ℕ) (cpu : Cpu) (im
 allowed-watched told name steps cpu image before left reply output f (image_watched w) =
     watched_file (record { file = f.file; has = f.has; holds = record { image = image; is_image = f.holds; watches = w } })
 allowed-watched told name steps cpu image before left _ _ f (image_unwatched refusal h same) =
-    watched_no_file (refused refusal (record { file = f.file; has = f.has; holds = record { image = image; is_image = f.holds; refused = h } })) same
+    watched_no_file (refused (Refused refusal) (record { file = f.file; has = f.has; holds = record { image = image; is_image = f.holds; refused = h } })) same
 
 pub reply-of_watched : (told : Files) (name : List ℕ) (steps : ℕ) (cpu : Cpu) (image : Image) (before left out now : Option (List ℕ)) (result : Result Reply Failed) → OfFile told name (λ file. IsImageOf file image) →
     IfOk result (Answers (AllowsWatched cpu image steps before left) out now) → IfOk result (Answers (Allows told before left (Some (ExecuteWatched name steps cpu))) out now)

@@ -9,22 +9,22 @@ use Rattle.dcc_run.specs.Event.{written_by, taken_by}
 use Rattle.dcc_run.specs.System.{after}
 use Rattle.dcc_run.specs.Watched.{state}
 use Rattle.dcc_run.proofs.RunLaws.{after-add}
-use Rattle.dcc_prog.specs.declared.cpu.Cpu.{Cpu}
-use Rattle.dcc_prog.specs.declared.image.Image.{Image}
+use Rattle.dcc_machine.specs.declared.cpu.Cpu.{Cpu}
+use Rattle.dcc_machine.specs.declared.image.Image.{Image}
 use Rattle.dcc_prog.specs.declared.frame.Program.{Program}
-use Rattle.dcc_prog.specs.declared.instr.Instr.{Instr}
+use Rattle.dcc_machine.specs.declared.instr.Instr.{Instr}
 use Rattle.dcc_prog.specs.declared.procedure.Layout.{Layout}
 use Rattle.dcc_prog.specs.Analysed.{IsProgramOf}
 use Rattle.dcc_prog.specs.Clean.{Foul as FoulStep, first_stack}
-use Rattle.dcc_prog.specs.Machine.{State, start_state}
-use Rattle.dcc_prog.specs.MzImage.{IsImageOf}
+use Rattle.dcc_machine.specs.Machine.{State, start_state}
+use Rattle.dcc_machine.specs.MzImage.{IsImageOf}
 use Rattle.dcc_prog.specs.Refused.{IsSound}
-use Rattle.dcc_prog.specs.Step.{step}
+use Rattle.dcc_machine.specs.Step.{step}
 use Rattle.dcc_prog.specs.Watch.{Watch, Stage, AtStart, InPrelude, InProcedures, Stopped, stage_after, next_instruction, next_foul, is_foul, moved, made, watch_step, watched_machine, first_watch, IsClean}
 use Rattle.dcc_prog.proofs.WatchLaws.{machine_watchable, machine_after, or-true}
 use Rattle.dcc_prog.proofs.WatchedAlike.{watch-alike}
 use Rattle.dcc_console.specs.Ran.{TakesInput}
-use Rattle.dcc_console.specs.Scene.{Scene, scene}
+use Rattle.dcc_console.specs.WithConsole.{WithConsole, beside_console}
 use Rattle.dcc_console.specs.Steps.{HasEnded, MakesSteps, StopsShort, read_failed, write_failed}
 use Rattle.dcc_console.proofs.RanLaws.{Begins, has_run_when_told, stops_when_told, stops_at_read_when_told, stops_at_write_when_told, writes_part}
 use Rattle.dcc_step.specs.declared.ending.Stepped.{Stepped}
@@ -167,12 +167,12 @@ module _ (image : Image) (program : Program) where
   })
 
   -- the code stands for the state after the steps that were made
-  stands-after : (code : Watching) (steps : ℕ) (before taken : Option (List ℕ)) (now : Scene Watching) → StandsFirst code → MakesSteps watched steps (scene code before taken) now
+  stands-after : (code : Watching) (steps : ℕ) (before taken : Option (List ℕ)) (now : WithConsole Watching) → StandsFirst code → MakesSteps watched steps (beside_console code before taken) now
       → WhenTold before (λ input. watched.stands program now.code (watch_after steps input))
   stands-after code steps before taken now at m input told =
-      subst (λ b. (n : MakesSteps watched steps (scene code b taken) now) → watched.stands program now.code (watch_after steps input)) (sym told) by m
+      subst (λ b. (n : MakesSteps watched steps (beside_console code b taken) now) → watched.stands program now.code (watch_after steps input)) (sym told) by m
     where
-      by : MakesSteps watched steps (scene code (Some input) taken) now → watched.stands program now.code (watch_after steps input)
+      by : MakesSteps watched steps (beside_console code (Some input) taken) now → watched.stands program now.code (watch_after steps input)
       by n =
           let l : TellsRest input now.left (taken_by n.happened) = tells_rest input now.left (taken_by n.happened) n.took in
           (n.made program (first_watch image input) l.rest l.told ((begins code at).stands input) l.split).stands
@@ -186,8 +186,8 @@ module _ (image : Image) (program : Program) where
     machine-by n input going = machine_after program n (first_watch image input) going
 
     -- a run that has ended, or goes on
-    pub stayed-clean : (steps : ℕ) (code : Watching) (before taken : Option (List ℕ)) (now : Scene Watching) (stepped : Stepped) → StandsFirst code
-        → MakesSteps watched steps (scene code before taken) now → Tells (Clean stepped) now.code
+    pub stayed-clean : (steps : ℕ) (code : Watching) (before taken : Option (List ℕ)) (now : WithConsole Watching) (stepped : Stepped) → StandsFirst code
+        → MakesSteps watched steps (beside_console code before taken) now → Tells (Clean stepped) now.code
         → Answers (FinishesWatched cpu image steps before now.left) taken now.taken (end_reply steps (end_told stepped))
     stayed-clean steps code before taken now stepped at m tells =
         let ended : HasEnded watched now.code (end_told stepped) = λ w s stands. ap (λ (c : Core). c.end) stands.machine ∙ tells.0 in
@@ -212,8 +212,8 @@ module _ (image : Image) (program : Program) where
         }
 
     -- a step that is foul, after the steps that were made
-    pub met-foul : (steps : ℕ) (code : Watching) (before taken : Option (List ℕ)) (now : Scene Watching) (foul : FoulStep) → StandsFirst code
-        → MakesSteps watched steps (scene code before taken) now → now.code.stage ≡ Stopped foul
+    pub met-foul : (steps : ℕ) (code : Watching) (before taken : Option (List ℕ)) (now : WithConsole Watching) (foul : FoulStep) → StandsFirst code
+        → MakesSteps watched steps (beside_console code before taken) now → now.code.stage ≡ Stopped foul
         → Answers (FinishesWatched cpu image steps before now.left) taken now.taken (foul_reply foul)
     met-foul steps code before taken now foul at m stopped =
         let ended : HasEnded watched now.code now.code.machine.end = λ w s stands. ap (λ (c : Core). c.end) stands.machine in
@@ -238,14 +238,14 @@ module _ (image : Image) (program : Program) where
         }
 
     -- a read that failed after the steps that were made
-    pub clean-to_read : (steps : ℕ) (code : Watching) (before taken : Option (List ℕ)) (now : Scene Watching) → StandsFirst code
-        → StopsShort watched read_failed steps (scene code before taken) now
+    pub clean-to_read : (steps : ℕ) (code : Watching) (before taken : Option (List ℕ)) (now : WithConsole Watching) → StandsFirst code
+        → StopsShort watched read_failed steps (beside_console code before taken) now
         → Answers (FinishesWatched cpu image steps before now.left) taken now.taken InputFault
     clean-to_read steps code before taken now at s =
         let stops = stops_at_read_when_told watched program (first_watch image) code (begins code at) steps before taken now watch_executes s in
         record {
           output = written_by s.made.happened;
-          wrote = ap (λ (u : Scene Watching). u.taken) s.refused.unchanged ∙ s.made.wrote;
+          wrote = ap (λ (u : WithConsole Watching). u.taken) s.refused.unchanged ∙ s.made.wrote;
           is_answer = clean_to_read (λ input told.
               let h = stops input told in
               let w = watch_after h.stops.made input in
@@ -270,8 +270,8 @@ module _ (image : Image) (program : Program) where
   watched-nothing steps before out = record { output = []; wrote = sym (append_told-nil out); is_answer = lacked_memory refl }
 
   -- a write that failed after the steps that were made
-  pub watched-broke_off : (steps : ℕ) (code : Watching) (before taken : Option (List ℕ)) (now : Scene Watching) → StandsFirst code
-      → StopsShort watched write_failed steps (scene code before taken) now
+  pub watched-broke_off : (steps : ℕ) (code : Watching) (before taken : Option (List ℕ)) (now : WithConsole Watching) → StandsFirst code
+      → StopsShort watched write_failed steps (beside_console code before taken) now
       → CutsShort (IsCutRun (watch_of image program) steps (record { before = before; after = now.left }) (record { before = taken; after = now.taken })) taken now.taken
   watched-broke_off steps code before taken now at s =
       let cut = writes_part watched program (first_watch image) code (begins code at) steps before taken now watch_executes s in

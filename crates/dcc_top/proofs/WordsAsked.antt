@@ -12,7 +12,7 @@ use Rattle.dcc_top.specs.declared.words.Command.{Command}
 use Rattle.dcc_top.specs.declared.words.Command.TheVariants.{C, Procs, Run, Watch, RunC}
 use Rattle.dcc_top.specs.declared.words.OptionName.{OptionName}
 use Rattle.dcc_top.specs.declared.words.OptionName.TheVariants.{Steps, Fill, Cpu}
-use Rattle.dcc_prog.specs.declared.cpu.Cpu.{Cpu as Processor}
+use Rattle.dcc_machine.specs.declared.cpu.Cpu.{Cpu as Processor}
 use Rattle.dcc_top.proofs.WordsLaws.{by_kind, parts-at_kind}
 
 -- From the relation to the function.

@@ -8,11 +8,11 @@ use Rattle.dcc_mz.specs.declared.fault.MzFault.TheVariants.{Memory as NoMemory}
 use Rattle.dcc_io.specs.declared.outside.ShelfFault.{ShelfFault}
 use Rattle.dcc_io.specs.declared.outside.ShelfFault.TheVariants.{Absent, Failed as ShelfFailed, Memory as ShelfMemory}
 use Rattle.dcc_io.specs.Told.{WhenTold}
-use Rattle.dcc_prog.specs.declared.cpu.Cpu.{Cpu}
+use Rattle.dcc_machine.specs.declared.cpu.Cpu.{Cpu}
 use Rattle.dcc_prog.specs.declared.watch.FoulKind.{FoulKind}
 use Rattle.dcc_prog.specs.declared.watch.FoulKind.TheVariants.{Low, Hidden, Unwritten}
 use Rattle.dcc_prog.specs.declared.frame.Program.{Program}
-use Rattle.dcc_prog.specs.declared.image.Image.{Image}
+use Rattle.dcc_machine.specs.declared.image.Image.{Image}
 use Rattle.dcc_prog.specs.declared.refusal.LimitName.{LimitName}
 use Rattle.dcc_prog.specs.declared.refusal.LimitName.TheVariants.{Procedures, Instructions, Total, Cells, Entries}
 use Rattle.dcc_prog.specs.declared.refusal.LimitName.TheVariants.{Arguments}
@@ -20,9 +20,9 @@ use Rattle.dcc_prog.specs.declared.refusal.Refusal.{Refusal}
 use Rattle.dcc_prog.specs.declared.refusal.Refusal.TheVariants.{Construct as ConstructRefused, Limit as LimitRefused}
 use Rattle.dcc_prog.specs.declared.refusal.Refusal.TheVariants.{Memory as MemoryRefused}
 use Rattle.dcc_prog.specs.Analysed.{IsProgramOf}
-use Rattle.dcc_prog.specs.MzImage.{IsImageOf}
+use Rattle.dcc_prog.specs.Construct.{construct_number}
+use Rattle.dcc_machine.specs.MzImage.{IsImageOf}
 use Rattle.dcc_prog.specs.Refused.{IsRefusedByAnalysis, IsSound}
-use Rattle.dcc_machine_demand.specs.Refused.{IsRefusedFor}
 use Rattle.dcc_c.specs.Text.{StandsFor}
 use Rattle.dcc_c.specs.Tree.{Tree}
 use Rattle.dcc_reader.specs.declared.offence.ParseKind.{ParseKind}
@@ -31,10 +31,13 @@ use Rattle.dcc_parse.specs.declared.fault.ParseFault.{ParseFault}
 use Rattle.dcc_parse.specs.declared.fault.ParseFault.TheVariants.{At, Memory as ParseMemory}
 use Rattle.dcc_parse.specs.Fault.{IsRefusal as IsTextRefusal}
 use Rattle.dcc_pipe.specs.Decompiled.{IsTextOfImage}
+use Rattle.dcc_pipe.specs.Shaped.{HasNoTextFor}
+use Rattle.dcc_pipe.specs.declared.no_text.NoText.{NoText}
+use Rattle.dcc_pipe.specs.declared.no_text.NoText.TheVariants.{Refused, NotYet as NotYetFor}
 use Rattle.dcc_top.specs.declared.reply.Reply.{Reply}
 use Rattle.dcc_top.specs.declared.reply.Reply.TheVariants.{Done, Exited, Usage, NoFile, FileFault, InputFault, Memory}
-use Rattle.dcc_top.specs.declared.reply.Reply.TheVariants.{Format, Construct, Limit, TextFault, Unfinished}
-use Rattle.dcc_top.specs.declared.reply.Reply.TheVariants.{Divided, Outside, Foul, Stuck}
+use Rattle.dcc_top.specs.declared.reply.Reply.TheVariants.{Format, Construct, Limit, NotYet, TextFault}
+use Rattle.dcc_top.specs.declared.reply.Reply.TheVariants.{Unfinished, Divided, Outside, Foul, Stuck}
 use Rattle.dcc_top.specs.Change.{Change}
 use Rattle.dcc_top.specs.Execution.{machine_of, text_of, Finishes, FinishesOrStops, IsCutRun}
 use Rattle.dcc_top.specs.Listing.{IsListingOf}
@@ -71,6 +74,7 @@ status_of Memory = exit.no_memory
 status_of (Format fault) = exit.format
 status_of (Construct kind at) = exit.construct
 status_of (Limit what count) = exit.limit
+status_of (NotYet at) = exit.not_yet
 status_of (TextFault line kind) = exit.text_fault
 status_of (Unfinished steps) = exit.unfinished
 status_of Divided = exit.divided
@@ -90,9 +94,10 @@ line_of Memory = codes "dcc: memory\n"
 line_of (Format fault) =
     codes "dcc: format " ++ (decimal (number_of fault) ++ (codes " at " ++ (decimal (place_of fault) ++ codes "\n")))
 line_of (Construct kind at) =
-    codes "dcc: construct " ++ (decimal kind ++ (codes " at " ++ (hex_offset at ++ codes "\n")))
+    codes "dcc: construct " ++ (decimal (construct_number kind) ++ (codes " at " ++ (hex_offset at ++ codes "\n")))
 line_of (Limit what count) =
     codes "dcc: limit " ++ (limit_word what ++ (codes " " ++ (decimal count ++ codes "\n")))
+line_of (NotYet at) = codes "dcc: not yet at " ++ (hex_offset at ++ codes "\n")
 line_of (TextFault line kind) =
     codes "dcc: text " ++ (kind_word kind ++ (codes " at line " ++ (decimal line ++ codes "\n")))
 line_of (Unfinished steps) = codes "running after " ++ (decimal steps ++ codes " steps\n")
@@ -124,6 +129,11 @@ abbrev pub refusal_reply : Refusal → Reply
 refusal_reply (ConstructRefused kind at) = Construct kind at
 refusal_reply (LimitRefused what count) = Limit what count
 refusal_reply MemoryRefused = Memory
+
+-- the answer where nothing is made of an image
+abbrev pub reason_reply : NoText → Reply
+reason_reply (Refused refusal) = refusal_reply refusal
+reason_reply (NotYetFor at) = NotYet at
 
 -- Files.
 
@@ -172,17 +182,18 @@ abbrev pub IsMadeOf : Product → Cpu → Image → List ℕ → Type 0
 IsMadeOf Text cpu image made = IsTextOfImage cpu image made
 IsMadeOf Listing cpu image made = IsListingOf cpu image made
 
--- on this processor the image is refused, where this product is asked for
-abbrev pub Refuses : Product → Cpu → Image → Refusal → Type 0
-Refuses Text cpu image refusal = IsRefusedFor cpu image refusal
-Refuses Listing cpu image refusal = IsRefusedByAnalysis cpu image refusal
+-- on this processor the image is refused for this reason, where this product is asked for
+abbrev pub Refuses : Product → Cpu → Image → NoText → Type 0
+Refuses Text cpu image reason = HasNoTextFor cpu image reason
+Refuses Listing cpu image (Refused refusal) = IsRefusedByAnalysis cpu image refusal
+Refuses Listing cpu image (NotYetFor at) = ⊥
 
 -- the answer is allowed for an image of which the product is asked for on this processor, after these bytes
 pub data AllowsImage (product : Product) (cpu : Cpu) (image : Image) : Reply → List ℕ → Type 0 where
   image_made : {made : List ℕ} → IsMadeOf product cpu image made → AllowsImage product cpu image Done made
-  image_refused : (refusal : Refusal)
-      → Refuses product cpu image refusal
-      → AllowsImage product cpu image (refusal_reply refusal) []
+  image_refused : (reason : NoText)
+      → Refuses product cpu image reason
+      → AllowsImage product cpu image (reason_reply reason) []
 
 -- on this processor these bytes are what is asked for of the file's image
 pub record Makes (product : Product) (cpu : Cpu) (file made : List ℕ) : Type 0 where
@@ -190,11 +201,11 @@ pub record Makes (product : Product) (cpu : Cpu) (file made : List ℕ) : Type 0
   pub is_image : IsImageOf file image
   pub is_made : IsMadeOf product cpu image made
 
--- on this processor the file's image is refused, where this product is asked for
-pub record IsRefusedAs (product : Product) (cpu : Cpu) (refusal : Refusal) (file : List ℕ) : Type 0 where
+-- on this processor the file's image is refused for this reason, where this product is asked for
+pub record IsRefusedAs (product : Product) (cpu : Cpu) (reason : NoText) (file : List ℕ) : Type 0 where
   pub image : Image
   pub is_image : IsImageOf file image
-  pub refused : Refuses product cpu image refusal
+  pub refused : Refuses product cpu image reason
 
 -- The file has an image, and each of its images is as the fact says; they differ only in where their bytes are kept.
 pub record OfImages (file : List ℕ) (P : Image → Type 0) : Type 0 where
@@ -205,9 +216,9 @@ pub record OfImages (file : List ℕ) (P : Image → Type 0) : Type 0 where
 -- The answer says why the product isn't made of the file of this name on this processor: the program is refused, or
 -- there is no image.
 pub data IsUnmade (product : Product) (cpu : Cpu) (told : Files) (name : List ℕ) : Reply → Type 0 where
-  refused : (refusal : Refusal)
-      → OfFile told name (IsRefusedAs product cpu refusal)
-      → IsUnmade product cpu told name (refusal_reply refusal)
+  refused : (reason : NoText)
+      → OfFile told name (IsRefusedAs product cpu reason)
+      → IsUnmade product cpu told name (reason_reply reason)
   no_image : {reply : Reply} → HasNoImage told name reply → IsUnmade product cpu told name reply
 
 -- The answer is allowed for the file of this name, of which the product is asked for on this processor, after these

@@ -6,13 +6,13 @@ use Rattle.dcc_mz.specs.declared.fault.MzFault.{MzFault}
 use Rattle.dcc_mz.specs.Fault.{IsRefusal as IsFormatRefusal}
 use Rattle.dcc_run.specs.End.{End}
 use Rattle.dcc_run.specs.Prefix.{IsPrefix}
-use Rattle.dcc_prog.specs.declared.cpu.Cpu.{Cpu}
-use Rattle.dcc_prog.specs.declared.image.Image.{Image}
+use Rattle.dcc_machine.specs.declared.cpu.Cpu.{Cpu}
+use Rattle.dcc_machine.specs.declared.image.Image.{Image}
 use Rattle.dcc_prog.specs.declared.frame.Program.{Program}
-use Rattle.dcc_prog.specs.declared.refusal.Refusal.{Refusal}
+use Rattle.dcc_pipe.specs.declared.no_text.NoText.{NoText}
 use Rattle.dcc_prog.specs.Analysed.{IsProgramOf}
 use Rattle.dcc_prog.specs.Clean.{Foul as FoulStep}
-use Rattle.dcc_prog.specs.MzImage.{IsImageOf}
+use Rattle.dcc_machine.specs.MzImage.{IsImageOf}
 use Rattle.dcc_prog.specs.Refused.{IsSound}
 use Rattle.dcc_c.specs.Text.{StandsFor}
 use Rattle.dcc_c.specs.Tree.{Tree}
@@ -26,7 +26,7 @@ use Rattle.dcc_top.specs.Words.{requests_of, greatest_text}
 use Rattle.dcc_top.specs.Execution.{machine_of, text_of, ending_after, end_reply}
 use Rattle.dcc_top.specs.WatchedRun.{EndsClean, HasRunClean, StopsAtFoul, foul_reply}
 use Rattle.dcc_top.specs.Answer.{Allows, IsCut, IsRefusedAs, OfImages, Runs, ShelfHas, ShelfLacks, status_of, line_of}
-use Rattle.dcc_top.specs.Answer.{refusal_reply}
+use Rattle.dcc_top.specs.Answer.{reason_reply}
 use Rattle.dcc_top.specs.Call.{Call, Change, Requests, ShelfChange, SourceChange, SinkChange, Rises, Appends}
 use Rattle.dcc_top.specs.Call.{AppendsPart}
 use Rattle.dcc_top.specs.Delivery.{Answers, CutsShort, TellsReply}
@@ -220,21 +220,21 @@ pub record HasFormatFault (call : Call) : Type 0 where
   pub line : Appends call.errors (line_of (Format fault))
 
 -- The program that the words name is refused on their processor, where its text, its procedures or its watched run are
--- asked for, and the line tells why: a construct stands at the offset, the count passes its number, or an instruction
--- that is reached at the offset is of a form that is not built.
+-- asked for, and the line tells why: a construct stands at the offset, the count passes its number, or the text of the
+-- procedure with the offset as its entry lacks the shape that the procedure asks for.
 pub record HasRefusal (call : Call) : Type 0 where
   pub product : Product
   pub name : List ℕ
   pub cpu : Cpu
   pub file : List ℕ
-  pub refusal : Refusal
+  pub reason : NoText
   pub job : Job
   pub named : call.job ≡ Some job
   pub analyses : Analyses name cpu product job
   pub has : ShelfHas call.shelf.files name file
-  pub refused : IsRefusedAs product cpu refusal file
-  pub status_is : call.status ≡ status_of (refusal_reply refusal)
-  pub line : Appends call.errors (line_of (refusal_reply refusal))
+  pub refused : IsRefusedAs product cpu reason file
+  pub status_is : call.status ≡ status_of (reason_reply reason)
+  pub line : Appends call.errors (line_of (reason_reply reason))
 
 -- the text that the words name is refused, and the line tells what offends in it first, with its line
 pub record HasTextFault (call : Call) : Type 0 where

@@ -3,10 +3,10 @@ use Rattle.std.specs.Prelude.{◌≡◌, ℕ, List, [], Option}
 use Rattle.dcc_io.specs.Told.{WhenTold}
 use Rattle.dcc_run.specs.End.{End, Running as running, Exit as exited, Divide as divided}
 use Rattle.dcc_run.specs.End.{Outside as outside, Stuck as stuck}
-use Rattle.dcc_prog.specs.declared.cpu.Cpu.{Cpu}
-use Rattle.dcc_prog.specs.declared.image.Image.{Image}
-use Rattle.dcc_prog.specs.Machine.{State as MachineState, start_state}
-use Rattle.dcc_prog.specs.Step.{step}
+use Rattle.dcc_machine.specs.declared.cpu.Cpu.{Cpu}
+use Rattle.dcc_machine.specs.declared.image.Image.{Image}
+use Rattle.dcc_machine.specs.Machine.{State as MachineState, start_state}
+use Rattle.dcc_machine.specs.Step.{step}
 use Rattle.dcc_c.specs.Tree.{Tree, Function}
 use Rattle.dcc_c.specs.Run.{State as TextState, first_state}
 pub use Rattle.dcc_console.specs.Console.{Subject, state_after, output_after, ending_after}

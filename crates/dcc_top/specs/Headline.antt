@@ -1,11 +1,11 @@
 -- The headline: what `dcc c NAME --cpu CPU` promises where it answers 0; and what `dcc procs` does.
 use Rattle.std.specs.Prelude.{◌≡◌, ℕ, List, Option}
 use Rattle.dcc_io.specs.Told.{append_told}
-use Rattle.dcc_prog.specs.declared.cpu.Cpu.{Cpu}
-use Rattle.dcc_prog.specs.declared.image.Image.{Image}
+use Rattle.dcc_machine.specs.declared.cpu.Cpu.{Cpu}
+use Rattle.dcc_machine.specs.declared.image.Image.{Image}
 use Rattle.dcc_prog.specs.declared.frame.Program.{Program}
 use Rattle.dcc_prog.specs.Analysed.{IsProgramOf}
-use Rattle.dcc_prog.specs.MzImage.{IsImageOf}
+use Rattle.dcc_machine.specs.MzImage.{IsImageOf}
 use Rattle.dcc_prog.specs.Refused.{IsSound}
 use Rattle.dcc_pipe.specs.Decompiled.{IsDecompiled}
 use Rattle.dcc_top.specs.Answer.{Files, ShelfHas}

@@ -12,7 +12,7 @@ pub mod Call
 pub mod Delivery
 pub mod Causes
 pub mod Promises
-pub use Rattle.dcc_prog.specs.MzImage
+pub use Rattle.dcc_machine.specs.MzImage
 pub use Rattle.dcc_prog.specs.Analysed
 pub use Rattle.dcc_prog.specs.Refused
 pub use Rattle.dcc_c.specs.Views

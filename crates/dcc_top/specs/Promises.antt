@@ -2,8 +2,8 @@
 -- and what is asked and told.
 use Rattle.std.specs.Prelude.{◌≡◌, ◌≢◌, ◌⊎◌, ℕ, List, [], ◌∷◌, Some, None}
 use Rattle.dcc_run.specs.End.{End}
-use Rattle.dcc_prog.specs.declared.cpu.Cpu.{Cpu}
-use Rattle.dcc_prog.specs.MzImage.{FormatFault, IsFirstFault}
+use Rattle.dcc_machine.specs.declared.cpu.Cpu.{Cpu}
+use Rattle.dcc_machine.specs.MzImage.{FormatFault, IsFirstFault}
 use Rattle.dcc_prog.specs.Refused.{IsSound, IsUnsound}
 use Rattle.dcc_machine_demand.specs.Refused.{IsAcceptedProgram, IsRefusedImage}
 use Rattle.dcc_top.specs.declared.reply.Reply.TheVariants.{Memory}
@@ -20,7 +20,7 @@ use Rattle.dcc_top.specs.Status.{IsOneOf, end_status}
 use Rattle.dcc_top.specs.Status as exit
 
 -- `c` writes a text that does what the executable does on the processor of the words, and writes it wherever nothing in
--- the program is refused.
+-- the program is refused and the text has its shape.
 pub record KeepsText (call : Call) : Type 0 where
   pub text : (name : List ℕ) (cpu : Cpu)
       → call.job ≡ Some (Decompile name cpu)
@@ -30,7 +30,7 @@ pub record KeepsText (call : Call) : Type 0 where
       → call.job ≡ Some (Decompile name cpu)
       → Names call file
       → OfImages file (IsAcceptedProgram cpu)
-      → IsOneOf call.status (exit.done ∷ exit.faults)
+      → IsOneOf call.status (exit.done ∷ (exit.not_yet ∷ exit.faults))
 
 -- `procs` lists the procedures of the executable on the processor of the words, and lists them wherever no construct
 -- stands in the program and no count is too great.
@@ -91,7 +91,7 @@ pub record KeepsRefusals (call : Call) : Type 0 where
       → Names call file
       → IsFirstFault file fault
       → IsOneOf call.status (exit.format ∷ exit.faults)
-  -- the program is refused, for a construct or for a count
+  -- the program is refused, for a construct, for a count, or for the shape that its text lacks
   pub refused : IsOneOf call.status exit.refusals → HasRefusal call
   pub refused_always : (name file : List ℕ) (cpu : Cpu)
       → call.job ≡ Some (Decompile name cpu)

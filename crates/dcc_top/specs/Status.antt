@@ -36,6 +36,9 @@ limit = 10
 abbrev pub text_fault : ℕ
 text_fault = 11
 
+abbrev pub not_yet : ℕ
+not_yet = 12
+
 abbrev pub unfinished : ℕ
 unfinished = 20
 
@@ -61,7 +64,7 @@ run_faults = file_fault ∷ (input_fault ∷ (write_fault ∷ (no_memory ∷ [])
 
 -- the refusals of a program
 abbrev pub refusals : List ℕ
-refusals = construct ∷ (limit ∷ [])
+refusals = construct ∷ (limit ∷ (not_yet ∷ []))
 
 -- a run that has not ended by its exit
 abbrev pub stops : List ℕ
@@ -74,7 +77,7 @@ ends = done ∷ (unfinished ∷ (divided ∷ (outside ∷ [])))
 -- an answer after no output
 abbrev pub without_output : List ℕ
 without_output =
-    usage ∷ (no_file ∷ (file_fault ∷ (format ∷ (construct ∷ (limit ∷ (text_fault ∷ []))))))
+    usage ∷ (no_file ∷ (file_fault ∷ (format ∷ (construct ∷ (limit ∷ (text_fault ∷ (not_yet ∷ [])))))))
 
 -- the status is one of the list
 abbrev pub IsOneOf : ℕ → List ℕ → Type 0

@@ -2,7 +2,7 @@
 
 ghost use Rattle.std.specs.Prelude.{◌≤◌, ℕ, List, Option, Some, IfOk, OnErr};
 ghost use Rattle.dcc_io.specs.Count.{Rose};
-ghost use Rattle.dcc_prog.specs.MzImage.{IsLoaded};
+ghost use Rattle.dcc_machine.specs.MzImage.{IsLoaded};
 ghost use Rattle.dcc_pipe.specs.Decompiled.{IsTextOfImage};
 ghost use Rattle.dcc_top.specs.Answer.{AllowsImage};
 ghost use Rattle.dcc_top.specs.Call.{shelf_change, sink_change, unread};
@@ -13,9 +13,9 @@ ghost use Rattle.dcc_top.specs.Words.{Decompile, Text};
 use crate::fetch::fetch_image;
 use crate::reply::Reply;
 use dcc_io::{Failed, Shelf, Sink};
+use dcc_machine::{Cpu, Image};
 use dcc_pipe::decompile;
 use dcc_print::{PrintFault, print};
-use dcc_prog::{Cpu, Image};
 use std::alloc::Global;
 
 // Writes the text of the image for the processor, or answers why there is none. The error is a failed write.
@@ -28,7 +28,7 @@ fn write_text<O: Sink>(alloc: Global, image: &Image, cpu: Cpu, out: &mut O) -> R
 {
     let unit = match decompile(alloc, image, cpu) {
         Ok(unit) => unit,
-        Err(refusal) => return Ok(Reply::from(refusal)),
+        Err(reason) => return Ok(Reply::from(reason)),
     };
     match print(alloc, out, &unit) {
         Ok(()) => Ok(Reply::Done),
@@ -39,7 +39,7 @@ fn write_text<O: Sink>(alloc: Global, image: &Image, cpu: Cpu, out: &mut O) -> R
 
 /// Writes the text of the executable of this name for the processor, or answers why there is none; whatever the input
 /// is, none of it is read. The error is a failed write.
-pub fn text_reply<H: Shelf, O: Sink>(
+pub(crate) fn text_reply<H: Shelf, O: Sink>(
     alloc: Global,
     name: &str,
     cpu: Cpu,

@@ -3,7 +3,7 @@
 ghost use Rattle.std.specs.Prelude.{◌≡◌, Ok, IfOk, OnErr};
 ghost use Rattle.std.specs.Result.{IsErr};
 ghost use Rattle.dcc_console.specs.Counts.{CountsFaults};
-ghost use Rattle.dcc_prog.specs.MzImage.{IsLoaded};
+ghost use Rattle.dcc_machine.specs.MzImage.{IsLoaded};
 ghost use Rattle.dcc_top.specs.declared.reply.Reply.TheVariants.{InputFault};
 ghost use Rattle.dcc_top.specs.Change.{change};
 ghost use Rattle.dcc_top.specs.Delivery.{Answers, CutsShort};
@@ -11,7 +11,7 @@ ghost use Rattle.dcc_top.specs.Execution.{machine_of, Finishes, IsCutRun};
 
 use crate::reply::Reply;
 use dcc_io::{Failed, Sink, Source};
-use dcc_prog::{Cpu, Image};
+use dcc_machine::{Cpu, Image};
 use dcc_step::{Machine, Stepped};
 use std::alloc::Global;
 

@@ -2,7 +2,7 @@
 
 ghost use Rattle.std.specs.Prelude.{IfOk, IfErr};
 ghost use Rattle.dcc_c.specs.Views.{tree_of};
-ghost use Rattle.dcc_prog.specs.MzImage.{IsImageOf, IsLoaded};
+ghost use Rattle.dcc_machine.specs.MzImage.{IsImageOf, IsLoaded};
 ghost use Rattle.dcc_top.specs.Words.{greatest_file, greatest_text};
 ghost use Rattle.dcc_top.specs.Answer.{HasNoImage, HasNoUnit, IsReadAs, OfFile};
 ghost use Rattle.dcc_top.specs.Call.{shelf_change};
@@ -11,9 +11,9 @@ ghost use Rattle.dcc_top.specs.Causes.{AsksOnce};
 use crate::reply::Reply;
 use dcc_c::Unit;
 use dcc_io::{Fetched, Shelf};
+use dcc_machine::Image;
 use dcc_mz::{MzFault, load};
 use dcc_parse::{ParseKind, parse};
-use dcc_prog::Image;
 use std::alloc::Global;
 
 // The greatest length of an executable that is fetched, in bytes.
@@ -24,7 +24,11 @@ const GREATEST_TEXT: usize = 67_108_864;
 
 /// The image of the executable of this name. The error is the answer that says why there is none: the file could not be
 /// had, it fails a check of the format, or memory ran out.
-pub fn fetch_image<H: Shelf>(alloc: Global, name: &str, shelf: &mut H) -> Result<Image, Reply>
+pub(crate) fn fetch_image<H: Shelf>(
+    alloc: Global,
+    name: &str,
+    shelf: &mut H,
+) -> Result<Image, Reply>
     ensures image { IfOk result (λ image.
         OfFile (H.files shelf.old) name.now (λ file. IsImageOf file image)) }
     ensures loaded { IfOk result IsLoaded }
@@ -41,7 +45,7 @@ pub fn fetch_image<H: Shelf>(alloc: Global, name: &str, shelf: &mut H) -> Result
 
 /// The unit of the text of this name. The error is the answer that says why there is none: the file could not be had,
 /// it is no text, or memory ran out.
-pub fn fetch_unit<H: Shelf>(alloc: Global, name: &str, shelf: &mut H) -> Result<Unit, Reply>
+pub(crate) fn fetch_unit<H: Shelf>(alloc: Global, name: &str, shelf: &mut H) -> Result<Unit, Reply>
     ensures unit { IfOk result (λ unit.
         OfFile (H.files shelf.old) name.now (λ text. IsReadAs text (tree_of unit))) }
     ensures refused { IfErr result (HasNoUnit (H.files shelf.old) name.now) }

@@ -2,7 +2,7 @@
 
 ghost use Rattle.std.specs.Prelude.{◌≤◌, ℕ, List, Option, Some, IfOk, OnErr};
 ghost use Rattle.dcc_io.specs.Count.{Rose};
-ghost use Rattle.dcc_prog.specs.MzImage.{IsLoaded};
+ghost use Rattle.dcc_machine.specs.MzImage.{IsLoaded};
 ghost use Rattle.dcc_top.specs.Answer.{AllowsImage};
 ghost use Rattle.dcc_top.specs.Call.{shelf_change, sink_change, unread};
 ghost use Rattle.dcc_top.specs.Causes.{Replies};
@@ -14,8 +14,8 @@ use crate::fetch::fetch_image;
 use crate::listing::listing;
 use crate::reply::Reply;
 use dcc_io::{Failed, Shelf, Sink, put_all};
+use dcc_machine::{Cpu, Image};
 use dcc_pipe::analyse;
-use dcc_prog::{Cpu, Image};
 use std::alloc::Global;
 
 // Writes the procedures of the image for the processor, or answers why they are not listed. The error is a failed
@@ -47,7 +47,7 @@ fn write_listing<O: Sink>(
 
 /// Writes the procedures of the executable of this name for the processor, or answers why they are not listed;
 /// whatever the input is, none of it is read. The error is a failed write.
-pub fn listing_reply<H: Shelf, O: Sink>(
+pub(crate) fn listing_reply<H: Shelf, O: Sink>(
     alloc: Global,
     name: &str,
     cpu: Cpu,

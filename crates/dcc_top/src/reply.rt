@@ -3,12 +3,13 @@
 ghost use Rattle.std.specs.Prelude.{◌≡◌, Some, IfOk, IsOk, string_bytes};
 ghost use Rattle.dcc_top.specs.Answer.{status_of, line_of, limit_word, foul_word, shelf_reply, fault_reply};
 ghost use Rattle.dcc_top.specs.Answer.{parse_reply};
-ghost use Rattle.dcc_top.specs.Answer.{refusal_reply};
+ghost use Rattle.dcc_top.specs.Answer.{refusal_reply, reason_reply};
 
 use dcc_io::ShelfFault;
 use dcc_mz::MzFault;
 use dcc_parse::{ParseFault, ParseKind};
-use dcc_prog::{FoulKind, LimitName, Refusal};
+use dcc_pipe::NoText;
+use dcc_prog::{ConstructKind, FoulKind, LimitName, Refusal};
 use std::alloc::{AllocError, Global};
 use std::fmt;
 
@@ -33,7 +34,7 @@ pub enum Reply {
     Format(MzFault),
     /// A construct of this kind, for which nothing is written, stands at the offset in the code segment.
     Construct {
-        kind: u8,
+        kind: ConstructKind,
         at: u16,
     },
     /// This count of the program is above its greatest number.
@@ -41,6 +42,8 @@ pub enum Reply {
         what: LimitName,
         count: u32,
     },
+    /// The text of the procedure with this entry, an offset in the code segment, lacks the shape that it should have.
+    NotYet(u16),
     /// The text is refused for what offends first, in this line.
     TextFault {
         line: u32,
@@ -109,6 +112,17 @@ impl From<Refusal> for Reply {
     }
 }
 
+impl From<NoText> for Reply {
+    ghost from_gives = { λ reason reply. reply ≡ reason_reply reason };
+
+    fn from(reason: NoText) -> Reply {
+        match reason {
+            NoText::Refused(refusal) => Reply::from(refusal),
+            NoText::NotYet { at } => Reply::NotYet(at),
+        }
+    }
+}
+
 impl Reply {
     /// The exit status of the program.
     pub fn status(&self) -> u8
@@ -125,6 +139,7 @@ impl Reply {
             Reply::Construct { .. } => 9,
             Reply::Limit { .. } => 10,
             Reply::TextFault { .. } => 11,
+            Reply::NotYet(_) => 12,
             Reply::Unfinished(_) => 20,
             Reply::Divided => 21,
             Reply::Outside(_) => 22,
@@ -163,11 +178,15 @@ impl fmt::Display for Reply {
                 let place = fault.place();
                 writeln!(f, "dcc: format {number} at {place}")
             }
-            Reply::Construct { kind, at } => writeln!(f, "dcc: construct {kind} at {at:04X}"),
+            Reply::Construct { kind, at } => {
+                let told = kind.number();
+                writeln!(f, "dcc: construct {told} at {at:04X}")
+            }
             Reply::Limit { what, count } => {
                 let name = limit_word(what);
                 writeln!(f, "dcc: limit {name} {count}")
             }
+            Reply::NotYet(at) => writeln!(f, "dcc: not yet at {at:04X}"),
             Reply::TextFault { line, kind } => {
                 let word = kind.word();
                 writeln!(f, "dcc: text {word} at line {line}")

@@ -17,7 +17,7 @@ use std::alloc::Global;
 
 /// Runs the unit for at most so many steps, and answers how that finished. The error is a failed write of what the
 /// text puts out.
-pub fn execute_unit<I: Source, O: Sink>(
+pub(crate) fn execute_unit<I: Source, O: Sink>(
     alloc: Global,
     unit: &Unit,
     steps: u64,

@@ -4,7 +4,7 @@ ghost use Rattle.std.specs.Prelude.{◌≡◌, Ok, IfOk, OnErr};
 ghost use Rattle.std.specs.Result.{IsErr};
 ghost use Rattle.dcc_console.specs.Counts.{CountsFaults};
 ghost use Rattle.dcc_prog.specs.Analysed.{IsProgramOf};
-ghost use Rattle.dcc_prog.specs.MzImage.{IsLoaded};
+ghost use Rattle.dcc_machine.specs.MzImage.{IsLoaded};
 ghost use Rattle.dcc_top.specs.declared.reply.Reply.TheVariants.{InputFault};
 ghost use Rattle.dcc_top.specs.Answer.{AllowsWatched, IsCutWatched};
 ghost use Rattle.dcc_top.specs.Change.{change};
@@ -14,8 +14,9 @@ ghost use Rattle.dcc_top.specs.WatchedRun.{watch_of, FinishesWatched};
 
 use crate::reply::Reply;
 use dcc_io::{Failed, Sink, Source};
+use dcc_machine::{Cpu, Image};
 use dcc_pipe::analyse;
-use dcc_prog::{Cpu, Image, Program};
+use dcc_prog::Program;
 use dcc_step::Stepped;
 use dcc_watch::{Watch, Watched};
 use std::alloc::Global;
@@ -57,7 +58,7 @@ fn watch_program<I: Source, O: Sink>(
 
 /// Runs the image on the processor, watched, for at most so many steps, and answers how that finished, or why the
 /// program is refused. The error is a failed write of what the program puts out.
-pub fn watch_image<I: Source, O: Sink>(
+pub(crate) fn watch_image<I: Source, O: Sink>(
     alloc: Global,
     image: &Image,
     cpu: Cpu,

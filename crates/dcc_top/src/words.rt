@@ -13,7 +13,7 @@ ghost use Rattle.dcc_top.specs.Words.{AskForOneJob, Parts, command_of, is_number
 ghost use Rattle.dcc_top.specs.Words.{number_of, option_of, parts_of, set_value, value_in, steps_of, fill_of, cpu_of};
 ghost use Rattle.dcc_top.specs.WordsRead.{HasTwoFiles, job_read, kind_read, parts_read};
 
-use dcc_prog::Cpu;
+use dcc_machine::Cpu;
 
 /// The run of an executable.
 #[derive(Clone, Copy, PartialEq, Eq, Debug)]

@@ -12,7 +12,7 @@ use Rattle.dcc_value.specs.declared.expression.Slot.{Slot}
 use Rattle.dcc_value.specs.declared.expression.Slot.TheVariants.{Local as InFrame, Global as InGlobals}
 use Rattle.dcc_value.specs.declared.expression.Resolved.{Variable, AddressOf as AddressIn, Meaningless}
 use Rattle.dcc_value.specs.Evaluation.{storage_of, unnamed, binding_named, bindings_named}
-use Rattle.dcc_value.specs.Resolved.{Scene, slot_in, slot_target, Names, Fits, scope_over, index_named, slot_named, target_named, IsAlone, LandsIn, Stands}
+use Rattle.dcc_value.specs.Resolved.{Contents, slot_in, slot_target, Names, Fits, scope_over, index_named, slot_named, target_named, IsAlone, LandsIn, Stands}
 use Rattle.dcc_value.proofs.PlaceLaws.{Found, found, not_found, placed_at, name_found}
 
 -- an assignment to a variable of the call
@@ -62,14 +62,14 @@ global_lands names i b = cases b.is_array b.is_placed b.bits
     cases false false bits = tt
 
 -- what the variable with a name is, at its place
-record Seen (names : Names) (scene : Scene) (word : Word) (slot : Slot) : Type 0 where
+record Seen (names : Names) (scene : Contents) (word : Word) (slot : Slot) : Type 0 where
   b : Bound
   here : slot_in scene slot ≡ Some (unnamed b)
   in_scope : variable_in (scope_over names scene).variables word ≡ Some (binding_named word b)
   target : and_then (λ t. Gives (target_named names.locals t)) (slot_target slot (unnamed b)) ≡ variable_target word (binding_named word b)
   lands : LandsIn names.locals (slot_target slot (unnamed b))
 
-module _ (names : Names) (scene : Scene) (fits : Fits names scene) (word : Word) where
+module _ (names : Names) (scene : Contents) (fits : Fits names scene) (word : Word) where
   locals : List Binding
   locals = bindings_named names.locals scene.frame
 

@@ -13,7 +13,7 @@ use Rattle.dcc_c.specs.Value.{Unplaced, PlacedAt, Binding, declared_by, after_as
 use Rattle.dcc_c.specs.Value.{pointed_value, unary_value, both_values, truth_value, chosen, Scope, value_of, Target}
 use Rattle.dcc_c.specs.Value.{ToVariable, ToMemory, target_of}
 use Rattle.dcc_value.specs.declared.variable.Binding.{Binding as Bound}
-use Rattle.dcc_value.specs.declared.variable.Scene.{Scene as Seen}
+use Rattle.dcc_value.specs.declared.variable.Contents.{Contents as Seen}
 use Rattle.dcc_value.specs.declared.variable.Names.{Names as Given}
 use Rattle.dcc_value.specs.declared.variable.Declared.{Declared as Named}
 use Rattle.dcc_value.specs.declared.expression.Slot.{Slot}
@@ -26,21 +26,21 @@ use Rattle.dcc_value.specs.Evaluation.{typed, unnamed, bindings_named, declared_
 use Rattle.dcc_value.specs.Places.{first_place}
 
 -- what resolved expressions are evaluated over
-pub record Scene : Type 0 where
+pub record Contents : Type 0 where
   pub frame : List Bound
   pub globals : List Bound
   pub memory : List ℕ
 
-abbrev pub scene_of : Seen → Scene
-scene_of s = record { frame = s.frame.now; globals = s.globals.now; memory = s.memory.now }
+abbrev pub contents_of : Seen → Contents
+contents_of s = record { frame = s.frame.now; globals = s.globals.now; memory = s.memory.now }
 
 -- the variable at a place; its name says nothing of its value
-abbrev pub slot_in : Scene → Slot → Option Binding
+abbrev pub slot_in : Contents → Slot → Option Binding
 slot_in scene (InFrame i) = option_map (unnamed) (slice_get scene.frame i)
 slot_in scene (InGlobals i) = option_map (unnamed) (slice_get scene.globals i)
 
 -- the value of a resolved expression
-abbrev pub evaluated : Scene → Resolved → Outcome Value
+abbrev pub evaluated : Contents → Resolved → Outcome Value
 evaluated scene (Constant v) = Gives (typed v)
 evaluated scene (Variable slot) = and_then (variable_value scene.memory) (given (slot_in scene slot))
 evaluated scene (AddressOf slot) = and_then address_value (given (slot_in scene slot))
@@ -73,7 +73,7 @@ abbrev pub address_target : Value → Outcome Place
 address_target v = if v.type.pointer then Gives (Into (plain v.type.base) v.bits) else Undefined
 
 -- where an assignment to a resolved expression goes
-abbrev pub targeted : Scene → Resolved → Outcome Place
+abbrev pub targeted : Contents → Resolved → Outcome Place
 targeted scene (Variable slot) = and_then (slot_target slot) (given (slot_in scene slot))
 targeted scene (Load' _ a) = and_then address_target (evaluated scene a)
 targeted scene _ = Undefined
@@ -92,13 +92,13 @@ names_of n = record {
 }
 
 -- the variables are declared as the names are, and the global ones are in memory
-pub record Fits (names : Names) (scene : Scene) : Type 0 where
+pub record Fits (names : Names) (scene : Contents) : Type 0 where
   pub locals : map declared_by (bindings_named names.locals scene.frame) ≡ names.locals
   pub globals : map declared_by (bindings_named names.globals scene.globals) ≡ names.globals
   pub placed : list_all (λ (d : Declared). d.is_placed) names.globals ≡ true
 
 -- the named variables and the memory
-abbrev pub scope_over : Names → Scene → Scope
+abbrev pub scope_over : Names → Contents → Scope
 scope_over names scene = record {
   variables = bindings_named names.locals scene.frame ++ bindings_named names.globals scene.globals;
   memory = scene.memory;
@@ -147,11 +147,11 @@ LandsIn names Undefined = Unit {0}
 -- The resolved expression stands for the expression over the names: wherever the variables are declared as the names
 -- are, both have the same value and the same target.
 pub record Stands (names : Names) (e : Expr) (r : Resolved) : Type 0 where
-  pub value : (scene : Scene) → Fits names scene → evaluated scene r ≡ value_of (scope_over names scene) e
-  pub target : (scene : Scene) → Fits names scene →
+  pub value : (scene : Contents) → Fits names scene → evaluated scene r ≡ value_of (scope_over names scene) e
+  pub target : (scene : Contents) → Fits names scene →
       and_then (λ target. Gives (target_named names.locals target)) (targeted scene r)
       ≡ target_of (scope_over names scene) e
-  pub lands : (scene : Scene) → Fits names scene → LandsIn names.locals (targeted scene r)
+  pub lands : (scene : Contents) → Fits names scene → LandsIn names.locals (targeted scene r)
 
 -- the variables of a call after the target has taken the value
 abbrev pub variables_after : Target → Value → List Binding → List Binding

@@ -5,13 +5,13 @@ ghost use Rattle.dcc_c.specs.Tree.{Word};
 ghost use Rattle.dcc_c.specs.Typing.{Declared};
 ghost use Rattle.dcc_c.specs.Value.{given, declared_by, Unplaced, converted, after_assignment};
 ghost use Rattle.dcc_value.specs.Evaluation.{typed, outcome_of, itself, unnamed, binding_named, bindings_named};
-ghost use Rattle.dcc_value.specs.Resolved.{scene_of, slot_in, evaluated, slot_target, address_target, targeted};
+ghost use Rattle.dcc_value.specs.Resolved.{contents_of, slot_in, evaluated, slot_target, address_target, targeted};
 ghost use Rattle.dcc_value.specs.Resolved.{target_named, index_named, IsAlone, IsTargetIn, variables_after};
 ghost use Rattle.dcc_value.specs.Resolved.{memory_after};
 
 use crate::value::memory::store;
 use crate::value::{NoValue, Value, both_values, converted, is_zero, truth_value, unary_value};
-use crate::variable::{Binding, Scene, address_value, pointed_value, variable_value};
+use crate::variable::{Binding, Contents, address_value, pointed_value, variable_value};
 use dcc_c::{CBin, CType, CUn};
 
 /// The place of a variable.
@@ -60,8 +60,8 @@ pub enum Target {
 }
 
 // The variable at a place.
-fn slot_binding(scene: &Scene<'_>, slot: Slot) -> Result<Binding, NoValue>
-    ensures { outcome_of unnamed result ≡ given (slot_in (scene_of scene.now) slot) }
+fn slot_binding(scene: &Contents<'_>, slot: Slot) -> Result<Binding, NoValue>
+    ensures { outcome_of unnamed result ≡ given (slot_in (contents_of scene.now) slot) }
 {
     let b = match slot {
         Slot::Local(i) => scene.frame.get(i),
@@ -72,8 +72,8 @@ fn slot_binding(scene: &Scene<'_>, slot: Slot) -> Result<Binding, NoValue>
 
 impl Resolved {
     /// The value of the expression.
-    pub fn evaluate(&self, scene: &Scene<'_>) -> Result<Value, NoValue>
-        ensures { outcome_of typed result ≡ evaluated (scene_of scene.now) self.now }
+    pub fn evaluate(&self, scene: &Contents<'_>) -> Result<Value, NoValue>
+        ensures { outcome_of typed result ≡ evaluated (contents_of scene.now) self.now }
     {
         match self {
             Resolved::Constant(v) => Ok(*v),
@@ -117,8 +117,8 @@ impl Resolved {
     }
 
     /// Where an assignment to the expression goes.
-    pub fn target(&self, scene: &Scene<'_>) -> Result<Target, NoValue>
-        ensures { outcome_of itself result ≡ targeted (scene_of scene.now) self.now }
+    pub fn target(&self, scene: &Contents<'_>) -> Result<Target, NoValue>
+        ensures { outcome_of itself result ≡ targeted (contents_of scene.now) self.now }
     {
         match self {
             Resolved::Variable(slot) => variable_target(*slot, slot_binding(scene, *slot)?),

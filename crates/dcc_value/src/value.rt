@@ -161,7 +161,7 @@ fn moved(operator: CBin, ty: CType, at: u32, b: Base, n: u32) -> Result<Value, N
 }
 
 /// An operator on two values: a pointer is moved by a number, or compared with a pointer of its type.
-pub fn both_values(operator: CBin, a: Value, b: Value) -> Result<Value, NoValue>
+pub(crate) fn both_values(operator: CBin, a: Value, b: Value) -> Result<Value, NoValue>
     ensures { outcome_of typed result ≡ both_values operator (typed a) (typed b) }
 {
     match (a.ty.pointer, b.ty.pointer) {
@@ -173,7 +173,7 @@ pub fn both_values(operator: CBin, a: Value, b: Value) -> Result<Value, NoValue>
 }
 
 /// The truth of a number.
-pub fn truth_value(v: Value) -> Result<Value, NoValue>
+pub(crate) fn truth_value(v: Value) -> Result<Value, NoValue>
     ensures { outcome_of typed result ≡ truth_value (typed v) }
 {
     if v.ty.pointer {

@@ -60,7 +60,7 @@ pub struct Names<'a, 'l, 'g> {
 
 /// What expressions are evaluated over.
 #[derive(Clone, Copy)]
-pub struct Scene<'a> {
+pub struct Contents<'a> {
     /// The variables of the call: its parameters and then its local variables.
     pub frame: &'a [Binding],
     /// The global variables.
@@ -70,7 +70,7 @@ pub struct Scene<'a> {
 }
 
 /// The value of a variable: for an array the address of its first element.
-pub fn variable_value(memory: &[u8], b: Binding) -> Result<Value, NoValue>
+pub(crate) fn variable_value(memory: &[u8], b: Binding) -> Result<Value, NoValue>
     ensures { outcome_of typed result ≡ variable_value memory.now (unnamed b) }
 {
     match (b.is_placed, b.is_array) {
@@ -94,7 +94,7 @@ pub fn variable_value(memory: &[u8], b: Binding) -> Result<Value, NoValue>
 }
 
 /// The address of a variable that is no array and no pointer.
-pub fn address_value(b: Binding) -> Result<Value, NoValue>
+pub(crate) fn address_value(b: Binding) -> Result<Value, NoValue>
     ensures { outcome_of typed result ≡ address_value (unnamed b) }
 {
     if !b.is_placed || b.is_array || b.ty.pointer {
@@ -107,7 +107,7 @@ pub fn address_value(b: Binding) -> Result<Value, NoValue>
 }
 
 /// What stands at an address.
-pub fn pointed_value(memory: &[u8], v: Value) -> Result<Value, NoValue>
+pub(crate) fn pointed_value(memory: &[u8], v: Value) -> Result<Value, NoValue>
     ensures { outcome_of typed result ≡ pointed_value memory.now (typed v) }
 {
     if !v.ty.pointer {

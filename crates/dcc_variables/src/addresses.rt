@@ -9,7 +9,7 @@ ghost use Rattle.dcc_variables.specs.Variables as spec;
 use dcc_ir::{Block, End, Expr, Graph, Stmt};
 
 /// Whether the address at a distance from the frame's base is told from the parameter at a place.
-pub fn is_told_from(told: Option<usize>, distance: u16) -> bool
+pub(crate) fn is_told_from(told: Option<usize>, distance: u16) -> bool
     ensures { result ≡ spec.is_told_from told distance }
 {
     match told {
@@ -110,7 +110,7 @@ fn takes_address(told: Option<usize>, graph: &Graph) -> bool
 /// How many bytes the array of the frame has: the frame's local bytes in memory; where there are none, 1 if the graph
 /// takes an address that is told from no parameter, else 0. `told` is the place of the parameter from which addresses
 /// of arguments are told.
-pub fn frame_bytes(told: Option<usize>, graph: &Graph) -> u16
+pub(crate) fn frame_bytes(told: Option<usize>, graph: &Graph) -> u16
     ensures { result ≡ spec.frame_bytes told (graph_of graph.now) }
 {
     if graph.local != 0 {

@@ -20,7 +20,7 @@ use dcc_ir::plain::scene::{same_location, width_of};
 use dcc_ir::{End, Expr, Graph, Loc, Param, Put};
 use dcc_text::hex::name_at;
 use dcc_text::way::unsigned_type;
-use dcc_text::{Place, Spells};
+use dcc_text::{NamedAddress, Spells};
 use std::alloc::{AllocError, Global};
 
 /// The name of the function of a graph with this entry, which is not the first.
@@ -31,7 +31,7 @@ pub fn function_name(alloc: Global, entry: u16) -> Result<String, AllocError>
 }
 
 /// The name of the parameter at a place.
-pub fn parameter_name(alloc: Global, place: usize) -> Result<String, AllocError>
+pub(crate) fn parameter_name(alloc: Global, place: usize) -> Result<String, AllocError>
     requires { place + 1 < 2 ^ 64 }
     ensures { IfOk result (λ name. string_bytes name ≡ spec.parameter_name place) }
 {
@@ -44,7 +44,7 @@ fn argument_place(
     alloc: Global,
     told: Option<usize>,
     distance: u16,
-) -> Result<Option<Place>, AllocError>
+) -> Result<Option<NamedAddress>, AllocError>
     requires { shapes.is_told_from told distance ≡ true }
     ensures { IfOk result (λ place. option_map placed_of place
         ≡ option_map (λ place. spec.argument_place place distance) told) }
@@ -52,7 +52,7 @@ fn argument_place(
     let Some(place) = told else {
         return Ok(None);
     };
-    Ok(Some(Place {
+    Ok(Some(NamedAddress {
         name: parameter_name(alloc, place)?,
         is_array: false,
         above: distance - 2 * place as u16,
@@ -270,7 +270,7 @@ impl Spells for Head {
         self.variables.is_settled(location)
     }
 
-    fn place(&self, alloc: Global, distance: u16) -> Result<Option<Place>, AllocError> {
+    fn place(&self, alloc: Global, distance: u16) -> Result<Option<NamedAddress>, AllocError> {
         let told = memory_place(self.params.as_slice());
         if !is_told_from(told, distance) {
             return self.variables.place(alloc, distance);

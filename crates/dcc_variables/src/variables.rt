@@ -16,7 +16,7 @@ use dcc_flow::{all_mentioned, mentioned};
 use dcc_ir::{Graph, Loc, PASSED_LOCATIONS};
 use dcc_num::{FlagName, Half, Reg};
 use dcc_text::way::unsigned_type;
-use dcc_text::{Place, Spells};
+use dcc_text::{NamedAddress, Spells};
 use std::alloc::{AllocError, Global};
 
 // The halves of SP and BP.
@@ -243,12 +243,12 @@ impl Spells for Variables {
         false
     }
 
-    fn place(&self, alloc: Global, distance: u16) -> Result<Option<Place>, AllocError> {
+    fn place(&self, alloc: Global, distance: u16) -> Result<Option<NamedAddress>, AllocError> {
         if self.frame == 0 {
             return Ok(None);
         }
         let above = (u32::from(distance) + (4 + u32::from(self.frame))) % 65536;
-        Ok(Some(Place {
+        Ok(Some(NamedAddress {
             name: numbered_name(alloc, 17)?,
             is_array: true,
             above: above as u16,

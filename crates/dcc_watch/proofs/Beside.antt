@@ -7,13 +7,13 @@ use Rattle.std.proofs.lemmas.List.Elements.{filter_map-append, filter-append}
 use Rattle.std.proofs.lemmas.List.{append-nil, append_assoc}
 use Rattle.std.proofs.Math.Nat.{mod-eq_of_lt}
 use Rattle.dcc_prog.specs.declared.procedure.Layout.{Layout}
-use Rattle.dcc_prog.specs.declared.instr.Instr.{Instr}
+use Rattle.dcc_machine.specs.declared.instr.Instr.{Instr}
 use Rattle.dcc_num.specs.declared.Width.{Width}
-use Rattle.dcc_prog.specs.declared.instr.Ea.{Ea}
-use Rattle.dcc_prog.specs.declared.instr.Operand.{Operand}
-use Rattle.dcc_prog.specs.declared.instr.Operand.TheVariants.{Word, Byte, Seg, Mem, Const}
-use Rattle.dcc_prog.specs.Machine.{State}
-use Rattle.dcc_prog.specs.Access.{Access, Direction, address_in, addresses_of, operand_accesses}
+use Rattle.dcc_machine.specs.declared.instr.Ea.{Ea}
+use Rattle.dcc_machine.specs.declared.instr.Operand.{Operand}
+use Rattle.dcc_machine.specs.declared.instr.Operand.TheVariants.{Word, Byte, Seg, Mem, Const}
+use Rattle.dcc_machine.specs.Machine.{State}
+use Rattle.dcc_machine.specs.Access.{Access, Direction, address_in, addresses_of, operand_accesses}
 use Rattle.dcc_prog.specs.Clean.{stack_offset, is_other, is_reading, is_marked, with_marks}
 use Rattle.dcc_watch.specs.declared.frames.Live.{Live}
 use Rattle.dcc_watch.specs.Accesses.{is_beside, near}

@@ -8,7 +8,7 @@ use Rattle.std.proofs.lemmas.List.Folds.{find-append}
 use Rattle.std.proofs.lemmas.List.FromFn.{map-range_with_len_more, take-map-range_with_len, get_or-map-range_with_len, length-map-range_with_len}
 use Rattle.std.proofs.lemmas.Grind.{flat_map-append}
 use Rattle.dcc_prog.specs.declared.procedure.Layout.{Layout}
-use Rattle.dcc_prog.specs.Access.{Access as ToldAccess, address_in, addresses_of}
+use Rattle.dcc_machine.specs.Access.{Access as ToldAccess, address_in, addresses_of}
 use Rattle.dcc_prog.specs.Clean.{stack_offset, with_marks}
 use Rattle.dcc_watch.specs.declared.access.Access.{Access}
 use Rattle.dcc_watch.specs.Accesses.{access_of, accesses_of}

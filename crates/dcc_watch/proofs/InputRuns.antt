@@ -2,16 +2,16 @@
 use Rattle.std.proofs.Common.{◌≡◌, ℕ, zero, suc, Bool, true, false, List, [], ◌++◌, Option, Some, None, refl, sym, ap, ap₂, ◌∙◌, subst}
 use Rattle.std.specs.Prelude.{◌||◌, if◌then◌else◌}
 use Rattle.dcc_run.specs.End.{is_over}
-use Rattle.dcc_prog.specs.declared.cpu.Cpu.{Cpu}
-use Rattle.dcc_prog.specs.declared.image.Image.{Image}
+use Rattle.dcc_machine.specs.declared.cpu.Cpu.{Cpu}
+use Rattle.dcc_machine.specs.declared.image.Image.{Image}
 use Rattle.dcc_prog.specs.declared.frame.Program.{Program}
-use Rattle.dcc_prog.specs.Machine.{State}
-use Rattle.dcc_prog.specs.StateForm.{IsState}
-use Rattle.dcc_prog.specs.Step.{step}
+use Rattle.dcc_machine.specs.Machine.{State}
+use Rattle.dcc_machine.specs.StateForm.{IsState}
+use Rattle.dcc_machine.specs.Step.{step}
 use Rattle.dcc_prog.specs.Clean.{Foul}
 use Rattle.dcc_prog.specs.Watch.{Watch, Stage, AtStart, InPrelude, InProcedures, Stopped, stage_after, next_instruction, next_foul, is_foul, made, watch_step}
-use Rattle.dcc_prog.proofs.StartState.{starts-are}
-use Rattle.dcc_prog.proofs.StateKept.{states-kept}
+use Rattle.dcc_machine.proofs.StartState.{starts-are}
+use Rattle.dcc_machine.proofs.StateKept.{states-kept}
 use Rattle.dcc_prog.proofs.WatchLaws.{next-watch}
 use Rattle.dcc_stack.specs.Accepted.{IsProgramOfFile}
 use Rattle.dcc_stack.specs.Laws.{watch_after}

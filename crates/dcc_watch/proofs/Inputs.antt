@@ -6,16 +6,16 @@ use Rattle.dcc_run.specs.End.{Exit, Outside, is_over}
 use Rattle.dcc_run.specs.Event.{Event}
 use Rattle.dcc_num.specs.declared.Reg.TheVariants.{Ax, Dx}
 use Rattle.dcc_num.specs.declared.dos.TheConstants.{GETCHE, PUTC, GETCH, PUTS, EXIT, END_OF_INPUT}
-use Rattle.dcc_prog.specs.declared.cpu.Cpu.{Cpu}
-use Rattle.dcc_prog.specs.declared.instr.Op.{Op}
-use Rattle.dcc_prog.specs.declared.instr.Op.TheVariants.{Int21}
-use Rattle.dcc_prog.specs.declared.instr.Instr.{Instr}
-use Rattle.dcc_prog.specs.Machine.{State, word_in}
-use Rattle.dcc_prog.specs.Operations.{with_end}
-use Rattle.dcc_prog.specs.Dos.{dos_string, after_write, with_key, key_step}
-use Rattle.dcc_prog.specs.Table.{instruction_at}
-use Rattle.dcc_prog.specs.Step.{code_bytes, op_step, instruction_step, step}
-use Rattle.dcc_prog.proofs.ConsoleLaws.{op-keeps}
+use Rattle.dcc_machine.specs.declared.cpu.Cpu.{Cpu}
+use Rattle.dcc_machine.specs.declared.instr.Op.{Op}
+use Rattle.dcc_machine.specs.declared.instr.Op.TheVariants.{Int21}
+use Rattle.dcc_machine.specs.declared.instr.Instr.{Instr}
+use Rattle.dcc_machine.specs.Machine.{State, word_in}
+use Rattle.dcc_machine.specs.Operations.{with_end}
+use Rattle.dcc_machine.specs.Dos.{dos_string, after_write, with_key, key_step}
+use Rattle.dcc_machine.specs.Table.{instruction_at}
+use Rattle.dcc_machine.specs.Step.{code_bytes, op_step, instruction_step, step}
+use Rattle.dcc_machine.proofs.ConsoleLaws.{op-keeps}
 use Rattle.dcc_watch.proofs.Quiet.{quiet}
 
 -- Bytes.

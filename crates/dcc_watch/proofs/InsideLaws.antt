@@ -3,12 +3,12 @@
 use Rattle.std.proofs.Common.{◌≡◌, ℕ, ◌+◌, ◌-◌, ◌/◌, ◌<◌, length, Bool, true, false, List, ◌∷◌, map, Option, Some, None, refl, sym, ap, ◌∙◌, subst}
 use Rattle.std.specs.Prelude.{◌==◌, if◌then◌else◌}
 use Rattle.dcc_run.specs.End.{Running as running}
-use Rattle.dcc_prog.specs.declared.instr.Instr.{Instr}
-use Rattle.dcc_prog.specs.Table.{instruction_at}
-use Rattle.dcc_prog.specs.Step.{code_bytes, step as machine_step}
+use Rattle.dcc_machine.specs.declared.instr.Instr.{Instr}
+use Rattle.dcc_machine.specs.Table.{instruction_at}
+use Rattle.dcc_machine.specs.Step.{code_bytes, step as machine_step}
 use Rattle.dcc_prog.specs.Clean as told
 use Rattle.dcc_prog.specs.Watch as stage
-use Rattle.dcc_console.specs.Scene.{scene}
+use Rattle.dcc_console.specs.WithConsole.{beside_console}
 use Rattle.dcc_console.specs.Steps.{Steps}
 use Rattle.dcc_step.specs.declared.ending.Stepped.{Stepped}
 use Rattle.dcc_step.specs.Core.{Core, state_of}
@@ -41,11 +41,13 @@ view_after i m progress frames written = viewed i.layout i.shapes.items frames.r
 -- a step between values is one between equal values
 steps_between :
     (answer : Watched) (left taken left_now taken_now : Option (List ℕ)) {a b c d : Watching} → a ≡ b → c ≡ d
-    → Steps watched (outcome_of answer) (scene a left taken) (scene c left_now taken_now)
-    → Steps watched (outcome_of answer) (scene b left taken) (scene d left_now taken_now)
+    → Steps watched (outcome_of answer) (beside_console a left taken) (beside_console c left_now taken_now)
+    → Steps watched (outcome_of answer) (beside_console b left taken) (beside_console d left_now taken_now)
 steps_between answer left taken left_now taken_now {a} {b} {c} {d} first second step =
-    subst (λ (k : Watching). Steps watched (outcome_of answer) (scene b left taken) (scene k left_now taken_now)) second
-    (subst (λ (k : Watching). Steps watched (outcome_of answer) (scene k left taken) (scene c left_now taken_now)) first
+    subst (λ (k : Watching). Steps watched (outcome_of answer) (beside_console b left taken) (beside_console k left_now
+    taken_now)) second
+    (subst (λ (k : Watching). Steps watched (outcome_of answer) (beside_console k left taken) (beside_console c left_now
+    taken_now)) first
     step)
 
 -- the frames have room for as many as before
@@ -102,8 +104,8 @@ module _ (i : Inside) (m : Core) (found : Option Instr) (self : Watching) (h : S
   pub foul_step :
       (left taken : Option (List ℕ)) (foul : Foul) (answer : Watched) → Some (told_foul foul) ≡ foul_next
       → answer ≡ foul_answer foul
-      → Steps watched (outcome_of answer) (scene self left taken)
-      (scene (view_after i m (Stopped foul) i.stack.frames i.stack.written) left taken)
+      → Steps watched (outcome_of answer) (beside_console self left taken)
+      (beside_console (view_after i m (Stopped foul) i.stack.frames i.stack.written) left taken)
   foul_step left taken foul answer is answered =
       steps_between answer left taken left taken h.view refl
       (step_foul i.layout i.shapes.items i.stack.frames.room m i.progress i.stack.frames.live i.stack.written found
@@ -120,9 +122,10 @@ module _ (i : Inside) (m : Core) (found : Option Instr) (self : Watching) (h : S
   pub refused_step :
       (left taken left_now taken_now : Option (List ℕ)) (stepped : Stepped) (now : Core) → None ≡ foul_next
       → is_refused stepped ≡ true
-      → Steps step_told.machine (step_told.outcome_of stepped) (scene m left taken) (scene now left_now taken_now)
-      → Steps watched (outcome_of (Clean stepped)) (scene self left taken)
-      (scene (view_with i now) left_now taken_now)
+      → Steps step_told.machine (step_told.outcome_of stepped) (beside_console m left taken) (beside_console now
+      left_now taken_now)
+      → Steps watched (outcome_of (Clean stepped)) (beside_console self left taken)
+      (beside_console (view_with i now) left_now taken_now)
   refused_step left taken left_now taken_now stepped now clean is step =
       steps_between (Clean stepped) left taken left_now taken_now h.view refl
       (step_refused i.layout i.shapes.items i.stack.frames.room m i.progress i.stack.frames.live i.stack.written found
@@ -142,9 +145,10 @@ module _ (i : Inside) (m : Core) (found : Option Instr) (self : Watching) (h : S
       (left taken left_now taken_now : Option (List ℕ)) (stepped : Stepped) (now : Core) (frames : Kept)
       (written : List Bool) → frames.room ≡ i.stack.frames.room → None ≡ foul_next → is_refused stepped ≡ false
       → HaveFollowed now frames written
-      → Steps step_told.machine (step_told.outcome_of stepped) (scene m left taken) (scene now left_now taken_now)
-      → Steps watched (outcome_of (Clean stepped)) (scene self left taken)
-      (scene (view_after i now i.progress frames written) left_now taken_now)
+      → Steps step_told.machine (step_told.outcome_of stepped) (beside_console m left taken) (beside_console now
+      left_now taken_now)
+      → Steps watched (outcome_of (Clean stepped)) (beside_console self left taken)
+      (beside_console (view_after i now i.progress frames written) left_now taken_now)
   made_step left taken left_now taken_now stepped now frames written room clean is after step =
       steps_between (Clean stepped) left taken left_now taken_now h.view
       (same_room i now i.progress frames written room)
@@ -205,10 +209,10 @@ module _ (i : Inside) (self : Watching) (h : StandsFirst i self) where
 
   pub refused_first :
       (left taken left_now taken_now : Option (List ℕ)) (stepped : Stepped) (now : Core) → is_refused stepped ≡ true
-      → Steps step_told.machine (step_told.outcome_of stepped) (scene i.machine left taken)
-      (scene now left_now taken_now)
-      → Steps watched (outcome_of (Clean stepped)) (scene self left taken)
-      (scene (view_with i now) left_now taken_now)
+      → Steps step_told.machine (step_told.outcome_of stepped) (beside_console i.machine left taken)
+      (beside_console now left_now taken_now)
+      → Steps watched (outcome_of (Clean stepped)) (beside_console self left taken)
+      (beside_console (view_with i now) left_now taken_now)
   refused_first left taken left_now taken_now stepped now is step =
       steps_between (Clean stepped) left taken left_now taken_now h.view refl
       (first_refused i.layout i.shapes.items i.stack.frames.room i.machine i.progress i.stack.frames.live
@@ -218,10 +222,10 @@ module _ (i : Inside) (self : Watching) (h : StandsFirst i self) where
       (left taken left_now taken_now : Option (List ℕ)) (stepped : Stepped) (now : Core) (progress : Progress)
       (frames : Kept) (written : List Bool) → frames.room ≡ i.stack.frames.room → is_refused stepped ≡ false
       → stage_of progress frames.live written ≡ stage_then now
-      → Steps step_told.machine (step_told.outcome_of stepped) (scene i.machine left taken)
-      (scene now left_now taken_now)
-      → Steps watched (outcome_of (Clean stepped)) (scene self left taken)
-      (scene (view_after i now progress frames written) left_now taken_now)
+      → Steps step_told.machine (step_told.outcome_of stepped) (beside_console i.machine left taken)
+      (beside_console now left_now taken_now)
+      → Steps watched (outcome_of (Clean stepped)) (beside_console self left taken)
+      (beside_console (view_after i now progress frames written) left_now taken_now)
   made_first left taken left_now taken_now stepped now progress frames written room is after step =
       steps_between (Clean stepped) left taken left_now taken_now h.view
       (same_room i now progress frames written room)

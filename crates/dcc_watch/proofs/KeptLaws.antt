@@ -4,15 +4,15 @@ use Rattle.std.specs.Prelude.{◌==◌, if◌then◌else◌}
 use Rattle.std.proofs.lemmas.Bool.Decides.{nat_tests}
 use Rattle.dcc_run.specs.End.{Running as running}
 use Rattle.dcc_prog.specs.declared.procedure.Layout.{Layout}
-use Rattle.dcc_prog.specs.declared.instr.Instr.{Instr}
-use Rattle.dcc_prog.specs.Table.{instruction_at}
-use Rattle.dcc_prog.specs.Step.{code_bytes, step as machine_step}
-use Rattle.dcc_prog.specs.Machine.{State}
-use Rattle.dcc_prog.specs.Access.{Access, found_accesses}
+use Rattle.dcc_machine.specs.declared.instr.Instr.{Instr}
+use Rattle.dcc_machine.specs.Table.{instruction_at}
+use Rattle.dcc_machine.specs.Step.{code_bytes, step as machine_step}
+use Rattle.dcc_machine.specs.Machine.{State}
+use Rattle.dcc_machine.specs.Access.{Access, found_accesses}
 use Rattle.dcc_prog.specs.Clean.{top_in}
 use Rattle.dcc_prog.specs.Clean as told
 use Rattle.dcc_prog.specs.Watch as stage
-use Rattle.dcc_console.specs.Scene.{scene}
+use Rattle.dcc_console.specs.WithConsole.{beside_console}
 use Rattle.dcc_console.specs.Steps.{HasEnded, Makes, Steps}
 use Rattle.dcc_step.specs.declared.ending.Stepped.{Stepped}
 use Rattle.dcc_step.specs.Core.{Core, state_of}
@@ -98,15 +98,16 @@ module _ (layout : Layout) (shapes : List Shape) (room : ℕ) (m : Core) (progre
 
   pub step_foul : (left taken : Option (List ℕ)) → IsInside → (foul : Foul) (answer : Watched) → Some (told_foul foul) ≡ foul_in layout live written (state_of m) found
       → answer ≡ foul_answer foul
-      → Steps watched (outcome_of answer) (scene code left taken) (scene (viewed layout shapes room m (Stopped foul) live written) left taken)
+      → Steps watched (outcome_of answer) (beside_console code left taken) (beside_console (viewed layout shapes room m (Stopped foul) live written) left taken)
   step_foul left taken h foul answer is answered =
-      subst (λ a. Steps watched (outcome_of a) (scene code left taken) (scene (viewed layout shapes room m (Stopped foul) live written) left taken)) (sym answered)
+      subst (λ a. Steps watched (outcome_of a) (beside_console code left taken) (beside_console (viewed layout shapes room m (Stopped foul) live written) left taken)) (sym answered)
       (fouled code found (told_foul foul) left taken (going_in h) (next_in h (Some (told_foul foul)) is))
 
   pub step_refused : (left taken : Option (List ℕ)) → IsInside → (stepped : Stepped) (now : Core) (left_now taken_now : Option (List ℕ))
       → None ≡ foul_in layout live written (state_of m) found → is_refused stepped ≡ true
-      → Steps step_told.machine (step_told.outcome_of stepped) (scene m left taken) (scene now left_now taken_now)
-      → Steps watched (outcome_of (Clean stepped)) (scene code left taken) (scene (viewed layout shapes room now progress live written) left_now taken_now)
+      → Steps step_told.machine (step_told.outcome_of stepped) (beside_console m left taken) (beside_console now
+      left_now taken_now)
+      → Steps watched (outcome_of (Clean stepped)) (beside_console code left taken) (beside_console (viewed layout shapes room now progress live written) left_now taken_now)
   step_refused left taken h stepped now left_now taken_now clean is step =
       refused_so code found left taken left_now taken_now now stepped is (going_in h) (next_in h None clean) step
 
@@ -128,13 +129,15 @@ module _ (layout : Layout) (shapes : List Shape) (room : ℕ) (m : Core) (progre
       → None ≡ foul_in layout live written (state_of m) found → is_refused stepped ≡ false
       → stage.InProcedures (record { frames = map live_frame live_now; written = written_now })
       ≡ stage.stage_after layout found (state_of m) (state_of now) (stage.InProcedures (record { frames = map live_frame live; written = written }))
-      → Steps step_told.machine (step_told.outcome_of stepped) (scene m left taken) (scene now left_now taken_now)
-      → Steps watched (outcome_of (Clean stepped)) (scene code left taken) (scene (viewed layout shapes room now progress live_now written_now) left_now taken_now)
+      → Steps step_told.machine (step_told.outcome_of stepped) (beside_console m left taken) (beside_console now
+      left_now taken_now)
+      → Steps watched (outcome_of (Clean stepped)) (beside_console code left taken) (beside_console (viewed layout shapes room now progress live_now written_now) left_now taken_now)
   step_made left taken h stepped now live_now written_now left_now taken_now clean is after step =
       let new : Watching = viewed layout shapes room now progress live_now written_now in
-      let makes : Makes step_told.machine (scene m left taken) (scene now left_now taken_now) =
-      subst (λ o. Steps step_told.machine o (scene m left taken) (scene now left_now taken_now)) (made_unless stepped is) step in
-      subst (λ o. Steps watched o (scene code left taken) (scene new left_now taken_now)) (sym (made_unless stepped is))
+      let makes : Makes step_told.machine (beside_console m left taken) (beside_console now left_now taken_now) =
+      subst (λ o. Steps step_told.machine o (beside_console m left taken) (beside_console now left_now taken_now)) (made_unless stepped is) step in
+      subst (λ o. Steps watched o (beside_console code left taken) (beside_console new left_now taken_now)) (sym
+      (made_unless stepped is))
       (made_so code new found left taken left_now taken_now (going_in h) (next_in h None clean) (follows_in h now live_now written_now after) makes)
 
   -- a run comes to a foul step
@@ -209,8 +212,9 @@ module _ (layout : Layout) (shapes : List Shape) (room : ℕ) (m : Core) (progre
   going_first h = record { runs = h.runs; is_found = refl; unstopped = first_unstopped (stage_of progress live written) h.first }
 
   pub first_refused : (left taken : Option (List ℕ)) → IsFirst → (stepped : Stepped) (now : Core) (left_now taken_now : Option (List ℕ)) → is_refused stepped ≡ true
-      → Steps step_told.machine (step_told.outcome_of stepped) (scene m left taken) (scene now left_now taken_now)
-      → Steps watched (outcome_of (Clean stepped)) (scene first_code left taken) (scene (viewed layout shapes room now progress live written) left_now taken_now)
+      → Steps step_told.machine (step_told.outcome_of stepped) (beside_console m left taken) (beside_console now
+      left_now taken_now)
+      → Steps watched (outcome_of (Clean stepped)) (beside_console first_code left taken) (beside_console (viewed layout shapes room now progress live written) left_now taken_now)
   first_refused left taken h stepped now left_now taken_now is step =
       refused_so first_code there left taken left_now taken_now now stepped is (going_first h)
       (none_before first_code (first_cases (stage_of progress live written) h.first)) step
@@ -229,14 +233,15 @@ module _ (layout : Layout) (shapes : List Shape) (room : ℕ) (m : Core) (progre
       (left_now taken_now : Option (List ℕ)) → is_refused stepped ≡ false
       → stage_of progress_now live_now written_now
       ≡ (if now.ip == layout.start_ip then stage.InProcedures (told.first_stack layout (state_of now)) else stage.InPrelude)
-      → Steps step_told.machine (step_told.outcome_of stepped) (scene m left taken) (scene now left_now taken_now)
-      → Steps watched (outcome_of (Clean stepped)) (scene first_code left taken)
-      (scene (viewed layout shapes room now progress_now live_now written_now) left_now taken_now)
+      → Steps step_told.machine (step_told.outcome_of stepped) (beside_console m left taken) (beside_console now
+      left_now taken_now)
+      → Steps watched (outcome_of (Clean stepped)) (beside_console first_code left taken)
+      (beside_console (viewed layout shapes room now progress_now live_now written_now) left_now taken_now)
   first_made left taken h stepped now progress_now live_now written_now left_now taken_now is after step =
       let new : Watching = viewed layout shapes room now progress_now live_now written_now in
-      let makes : Makes step_told.machine (scene m left taken) (scene now left_now taken_now) =
-      subst (λ o. Steps step_told.machine o (scene m left taken) (scene now left_now taken_now)) (made_unless stepped is) step in
-      subst (λ o. Steps watched o (scene first_code left taken) (scene new left_now taken_now)) (sym (made_unless stepped is))
+      let makes : Makes step_told.machine (beside_console m left taken) (beside_console now left_now taken_now) =
+      subst (λ o. Steps step_told.machine o (beside_console m left taken) (beside_console now left_now taken_now)) (made_unless stepped is) step in
+      subst (λ o. Steps watched o (beside_console first_code left taken) (beside_console new left_now taken_now)) (sym (made_unless stepped is))
       (made_so first_code new there left taken left_now taken_now (going_first h)
       (none_before first_code (first_cases (stage_of progress live written) h.first))
       (follows_first h now progress_now live_now written_now after) makes)

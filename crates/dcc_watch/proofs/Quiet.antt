@@ -8,20 +8,20 @@ use Rattle.dcc_num.specs.declared.Reg.TheVariants.{Dx, Sp, Bp}
 use Rattle.dcc_num.specs.declared.dos.TheConstants.{PUTS, STRING_MOST}
 use Rattle.dcc_prog.specs.declared.procedure.Layout.{Layout}
 use Rattle.dcc_prog.specs.declared.frame.Program.{Program}
-use Rattle.dcc_prog.specs.declared.instr.Plain.{Plain as PlainKind}
-use Rattle.dcc_prog.specs.declared.instr.Plain.TheVariants.{Xlat}
-use Rattle.dcc_prog.specs.declared.instr.Ea.{Ea}
-use Rattle.dcc_prog.specs.declared.instr.Operand.{Operand}
-use Rattle.dcc_prog.specs.declared.instr.Operand.TheVariants.{Word, Byte, Seg, Mem, Const}
-use Rattle.dcc_prog.specs.declared.instr.Instr.{Instr}
-use Rattle.dcc_prog.specs.declared.instr.Op.{Op}
-use Rattle.dcc_prog.specs.declared.instr.Op.TheVariants.{Alu, Unary, Shift, Mov, Xchg, Lea, Imul3, Push, Pop, Enter, Leave, Plain, Call, Ret, Int21}
+use Rattle.dcc_machine.specs.declared.instr.Plain.{Plain as PlainKind}
+use Rattle.dcc_machine.specs.declared.instr.Plain.TheVariants.{Xlat}
+use Rattle.dcc_machine.specs.declared.instr.Ea.{Ea}
+use Rattle.dcc_machine.specs.declared.instr.Operand.{Operand}
+use Rattle.dcc_machine.specs.declared.instr.Operand.TheVariants.{Word, Byte, Seg, Mem, Const}
+use Rattle.dcc_machine.specs.declared.instr.Instr.{Instr}
+use Rattle.dcc_machine.specs.declared.instr.Op.{Op}
+use Rattle.dcc_machine.specs.declared.instr.Op.TheVariants.{Alu, Unary, Shift, Mov, Xchg, Lea, Imul3, Push, Pop, Enter, Leave, Plain, Call, Ret, Int21}
 use Rattle.dcc_prog.specs.declared.watch.FoulKind.TheVariants.{Low, Hidden, Unwritten}
-use Rattle.dcc_prog.specs.Machine.{State, word_in, part_of, offset_of, segment_of, byte_in, word_at_offset, with_byte_in, with_word_at_offset, operand_value, with_operand, data_segment}
-use Rattle.dcc_prog.specs.Operations.{with_sp_raised}
-use Rattle.dcc_prog.specs.Dos.{bytes_from, dos_string}
-use Rattle.dcc_prog.specs.Writes.{writes_operand}
-use Rattle.dcc_prog.specs.Access.{Access, Direction, Reading, Writing, bytes_in, kind_of, operand_accesses, result_accesses, writes_back, exchange_accesses, stack_access, push_access, other_read, dos_accesses, plain_accesses, accesses, found_accesses}
+use Rattle.dcc_machine.specs.Machine.{State, word_in, part_of, offset_of, segment_of, byte_in, word_at_offset, with_byte_in, with_word_at_offset, operand_value, with_operand, data_segment}
+use Rattle.dcc_machine.specs.Operations.{with_sp_raised}
+use Rattle.dcc_machine.specs.Dos.{bytes_from, dos_string}
+use Rattle.dcc_machine.specs.Writes.{writes_operand}
+use Rattle.dcc_machine.specs.Access.{Access, Direction, Reading, Writing, bytes_in, kind_of, operand_accesses, result_accesses, writes_back, exchange_accesses, stack_access, push_access, other_read, dos_accesses, plain_accesses, accesses, found_accesses}
 use Rattle.dcc_prog.specs.Clean.{Stack, foul_as, or_else, low_of, hidden_of, unwritten_of, foul_of, sp_after, top_in, frames_after, written_after, stack_after}
 use Rattle.dcc_prog.specs.Watch.{Stage, AtStart, InPrelude, InProcedures, Stopped, stage_after}
 use Rattle.dcc_watch.specs.declared.frames.Live.{Live}

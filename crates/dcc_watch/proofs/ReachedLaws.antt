@@ -3,14 +3,14 @@
 use Rattle.std.proofs.Common.{◌≡◌, ℕ, suc, ◌+◌, ◌-◌, ◌/◌, ◌<◌, true, List, [], ◌++◌, map, length, Option, Some, None, refl, sym, ap, ◌∙◌, subst, arith}
 use Rattle.std.proofs.lemmas.List.{length-map}
 use Rattle.dcc_run.specs.End.{is_over}
-use Rattle.dcc_prog.specs.declared.cpu.Cpu.{Cpu}
+use Rattle.dcc_machine.specs.declared.cpu.Cpu.{Cpu}
 use Rattle.dcc_prog.specs.declared.procedure.Layout.{Layout}
 use Rattle.dcc_prog.specs.declared.frame.Program.{Program}
-use Rattle.dcc_prog.specs.declared.instr.Instr.{Instr}
-use Rattle.dcc_prog.specs.declared.instr.Op.{Op}
-use Rattle.dcc_prog.specs.declared.instr.Op.TheVariants.{Call}
-use Rattle.dcc_prog.specs.Machine.{State}
-use Rattle.dcc_prog.specs.Step.{step}
+use Rattle.dcc_machine.specs.declared.instr.Instr.{Instr}
+use Rattle.dcc_machine.specs.declared.instr.Op.{Op}
+use Rattle.dcc_machine.specs.declared.instr.Op.TheVariants.{Call}
+use Rattle.dcc_machine.specs.Machine.{State}
+use Rattle.dcc_machine.specs.Step.{step}
 use Rattle.dcc_prog.specs.Clean.{Stack, Foul, foul_of}
 use Rattle.dcc_prog.specs.Watch.{Watch, InProcedures, Stopped, next_foul}
 use Rattle.dcc_prog.proofs.WatchLaws.{next-watch}

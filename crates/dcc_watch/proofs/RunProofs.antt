@@ -3,7 +3,7 @@ use Rattle.std.proofs.Common.{◌≡◌, ◌≢◌, ◌⊎◌, inl, inr, ℕ, ze
 use Rattle.std.specs.Prelude.{◌&&◌, not}
 use Rattle.dcc_run.specs.End.{End, Running as running, Exit as exited, Divide as divided, Outside as outside, Stuck, is_over}
 use Rattle.dcc_prog.specs.Watch as stage
-use Rattle.dcc_console.specs.Scene.{Scene, scene}
+use Rattle.dcc_console.specs.WithConsole.{WithConsole, beside_console}
 use Rattle.dcc_console.specs.Steps.{Makes, MakesSteps, Steps, Runs, made}
 use Rattle.dcc_console.proofs.Runs.{one_more}
 use Rattle.dcc_step.specs.declared.ending.Stepped.TheVariants.{Running, Exit, Divide, Outside, InFault, OutFault}
@@ -91,7 +91,7 @@ on_made (Clean OutFault) is = cc
 on_made (Foul at address kind) is = cc
 
 -- what stays makes any further steps
-still : (more count : ℕ) (before now : Scene Watching) → Makes watched now now → MakesSteps watched count before now → MakesSteps watched (count + more) before now
+still : (more count : ℕ) (before now : WithConsole Watching) → Makes watched now now → MakesSteps watched count before now → MakesSteps watched (count + more) before now
 still zero count before now same run =
     let all : count ≡ count + 0 = omega arith in
     subst (λ n. MakesSteps watched n before now) all run
@@ -99,19 +99,20 @@ still (suc more) count before now same run =
     let all : count + more + 1 ≡ count + suc more = omega arith in
     subst (λ n. MakesSteps watched n before now) all (one_more watched (count + more) before now now (still more count before now same run) same)
 
-ends : (count most : ℕ) (before mid : Scene Watching) (code : Watching) (left taken : Option (List ℕ)) → count < most
+ends : (count most : ℕ) (before mid : WithConsole Watching) (code : Watching) (left taken : Option (List ℕ))
+    → count < most
     → (is_over code.machine.end ≡ true) ⊎ (is_stopped code.stage ≡ true)
-    → MakesSteps watched count before mid → Makes watched mid (scene code left taken) → MakesSteps watched most before (scene code left taken)
+    → MakesSteps watched count before mid → Makes watched mid (beside_console code left taken) → MakesSteps watched most before (beside_console code left taken)
 ends count most before mid code left taken lt either run last =
     let all : count + 1 + (most - (count + 1)) ≡ most = omega arith in
-    subst (λ n. MakesSteps watched n before (scene code left taken)) all
-    (still (most - (count + 1)) (count + 1) before (scene code left taken) (stays code left taken either)
-    (one_more watched count before mid (scene code left taken) run last))
+    subst (λ n. MakesSteps watched n before (beside_console code left taken)) all
+    (still (most - (count + 1)) (count + 1) before (beside_console code left taken) (stays code left taken either)
+    (one_more watched count before mid (beside_console code left taken) run last))
 
 -- the last step of a run that doesn't go on
-pub run_stops : (answer : Watched) (count most : ℕ) (before mid : Scene Watching) (code : Watching) (left taken : Option (List ℕ)) → count < most
-    → goes_on answer ≡ false → MakesSteps watched count before mid → Steps watched (outcome_of answer) mid (scene code left taken) → Tells answer code
-    → Runs watched most (outcome_of answer) before (scene code left taken)
+pub run_stops : (answer : Watched) (count most : ℕ) (before mid : WithConsole Watching) (code : Watching) (left taken : Option (List ℕ)) → count < most
+    → goes_on answer ≡ false → MakesSteps watched count before mid → Steps watched (outcome_of answer) mid (beside_console code left taken) → Tells answer code
+    → Runs watched most (outcome_of answer) before (beside_console code left taken)
 run_stops (Clean Running) count most before mid code left taken lt is run last tells = cc
 run_stops (Clean (Exit number)) count most before mid code left taken lt is run last tells =
     ends count most before mid code left taken lt (inl (ap is_over tells.0)) run last

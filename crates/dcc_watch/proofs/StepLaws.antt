@@ -5,19 +5,19 @@ use Rattle.std.proofs.lemmas.List.{append-nil}
 use Rattle.dcc_run.specs.End.{Running as running, is_over}
 use Rattle.dcc_prog.specs.declared.procedure.Layout.{Layout}
 use Rattle.dcc_prog.specs.declared.frame.Program.{Program}
-use Rattle.dcc_prog.specs.declared.instr.Instr.{Instr}
-use Rattle.dcc_prog.specs.declared.instr.Op.{Op}
-use Rattle.dcc_prog.specs.declared.instr.Op.TheVariants.{Call, Ret}
-use Rattle.dcc_prog.specs.Machine.{State}
-use Rattle.dcc_prog.specs.Table.{instruction_at}
-use Rattle.dcc_prog.specs.Step.{step, code_bytes}
-use Rattle.dcc_prog.specs.Access.{found_accesses}
+use Rattle.dcc_machine.specs.declared.instr.Instr.{Instr}
+use Rattle.dcc_machine.specs.declared.instr.Op.{Op}
+use Rattle.dcc_machine.specs.declared.instr.Op.TheVariants.{Call, Ret}
+use Rattle.dcc_machine.specs.Machine.{State}
+use Rattle.dcc_machine.specs.Table.{instruction_at}
+use Rattle.dcc_machine.specs.Step.{step, code_bytes}
+use Rattle.dcc_machine.specs.Access.{found_accesses}
 use Rattle.dcc_prog.specs.Clean as told
 use Rattle.dcc_prog.specs.Clean.{top_in, frames_after, stack_after}
 use Rattle.dcc_prog.specs.Watch.{Watch, Stage, AtStart, InPrelude, InProcedures, Stopped, stage_after, next_instruction, next_foul, is_foul, moved, made as made_step, watch_step}
 use Rattle.dcc_io.proofs.ToldLemmas.{append_told-nil, prepend_told-nil}
 use Rattle.dcc_console.specs.Counts.{CountsFaults}
-use Rattle.dcc_console.specs.Scene.{Scene, scene, told_bytes}
+use Rattle.dcc_console.specs.WithConsole.{WithConsole, beside_console, told_bytes}
 use Rattle.dcc_console.specs.Steps.{Comes, Makes, IsRefusedRead, IsRefusedWrite, Steps, made}
 use Rattle.dcc_step.specs.declared.ending.Stepped.{Stepped}
 use Rattle.dcc_step.specs.declared.ending.Stepped.TheVariants.{Running, Exit, Divide, Outside, InFault, OutFault}
@@ -123,8 +123,8 @@ module _ (code now : Watching) (found : Option Instr) where
       subst (Stands program now) (sym (step-is code found None program w going next stands)) next_stands
 
   pub made_so : (left taken left_now taken_now : Option (List ℕ)) → IsGoing code found → NextIs code None → Follows
-      → Makes step_told.machine (scene code.machine left taken) (scene now.machine left_now taken_now)
-      → Makes watched (scene code left taken) (scene now left_now taken_now)
+      → Makes step_told.machine (beside_console code.machine left taken) (beside_console now.machine left_now taken_now)
+      → Makes watched (beside_console code left taken) (beside_console now left_now taken_now)
   made_so left taken left_now taken_now going next follows m = record {
     happened = m.happened;
     took = m.took;
@@ -140,17 +140,20 @@ module _ (code now : Watching) (found : Option Instr) where
   }
 
 module _ (code : Watching) (found : Option Instr) (left taken left_now taken_now : Option (List ℕ)) (m : Core) where
-  pub read_refused : IsGoing code found → NextIs code None → IsRefusedRead step_told.machine (scene code.machine left taken) (scene m left_now taken_now)
-      → IsRefusedRead watched (scene code left taken) (scene (record code { machine = m }) left_now taken_now)
+  pub read_refused : IsGoing code found → NextIs code None → IsRefusedRead step_told.machine (beside_console code.machine left taken) (beside_console m left_now taken_now)
+      → IsRefusedRead watched (beside_console code left taken) (beside_console (record code { machine = m }) left_now
+      taken_now)
   read_refused going next r = record {
     takes = λ program w byte rest stands has.
         ap (λ (u : Watch). u.machine.input) (step-is code found None program w going next stands)
         ∙ r.takes program.layout.cpu w.machine byte rest stands.machine has;
-    unchanged = ap (λ (s : Scene Core). scene (record code { machine = s.code }) s.left s.taken) r.unchanged;
+    unchanged = ap (λ (s : WithConsole Core). beside_console (record code { machine = s.code }) s.left s.taken)
+        r.unchanged;
   }
 
-  pub write_refused : IsGoing code found → NextIs code None → IsRefusedWrite step_told.machine (scene code.machine left taken) (scene m left_now taken_now)
-      → IsRefusedWrite watched (scene code left taken) (scene (record code { machine = m }) left_now taken_now)
+  pub write_refused : IsGoing code found → NextIs code None → IsRefusedWrite step_told.machine (beside_console code.machine left taken) (beside_console m left_now taken_now)
+      → IsRefusedWrite watched (beside_console code left taken) (beside_console (record code { machine = m }) left_now
+      taken_now)
   write_refused going next r = record {
     happened = r.happened;
     takes = λ program w rest stands has.
@@ -166,8 +169,8 @@ module _ (code : Watching) (found : Option Instr) (left taken left_now taken_now
 
   -- a step that the machine refused
   pub refused_so : (stepped : Stepped) → is_refused stepped ≡ true → IsGoing code found → NextIs code None
-      → Steps step_told.machine (step_told.outcome_of stepped) (scene code.machine left taken) (scene m left_now taken_now)
-      → Steps watched (step_told.outcome_of stepped) (scene code left taken) (scene (record code { machine = m }) left_now taken_now)
+      → Steps step_told.machine (step_told.outcome_of stepped) (beside_console code.machine left taken) (beside_console m left_now taken_now)
+      → Steps watched (step_told.outcome_of stepped) (beside_console code left taken) (beside_console (record code { machine = m }) left_now taken_now)
   refused_so InFault is going next r = read_refused going next r
   refused_so OutFault is going next r = write_refused going next r
   refused_so Running is going next r = cc
@@ -177,8 +180,8 @@ module _ (code : Watching) (found : Option Instr) (left taken left_now taken_now
 
 -- a step that was refused leaves the machine
 pub refused_kept : (stepped : Stepped) (m now : Core) (left taken left_now taken_now : Option (List ℕ)) → is_refused stepped ≡ true
-    → Steps step_told.machine (step_told.outcome_of stepped) (scene m left taken) (scene now left_now taken_now) → now ≡ m
-refused_kept InFault m now left taken left_now taken_now is r = ap (λ (s : Scene Core). s.code) r.unchanged
+    → Steps step_told.machine (step_told.outcome_of stepped) (beside_console m left taken) (beside_console now left_now taken_now) → now ≡ m
+refused_kept InFault m now left taken left_now taken_now is r = ap (λ (s : WithConsole Core). s.code) r.unchanged
 refused_kept OutFault m now left taken left_now taken_now is r = r.unchanged
 refused_kept Running m now left taken left_now taken_now is r = cc
 refused_kept (Exit number) m now left taken left_now taken_now is r = cc
@@ -214,7 +217,7 @@ stands_fouled code found foul going next program w stands =
     (record { layout = stands.layout; shapes = stands.shapes; machine = stands.machine; stage = refl })
 
 pub fouled : (code : Watching) (found : Option Instr) (foul : told.Foul) (left taken : Option (List ℕ)) → IsGoing code found → NextIs code (Some foul)
-    → Makes watched (scene code left taken) (scene (record code { stage = Stopped foul }) left taken)
+    → Makes watched (beside_console code left taken) (beside_console (record code { stage = Stopped foul }) left taken)
 fouled code found foul left taken going next = record {
   happened = [];
   took = sym (prepend_told-nil left);
@@ -244,7 +247,7 @@ staying code program w (inr stopped) stands =
 
 -- a run that has ended or was stopped stays
 pub stays : (code : Watching) (left taken : Option (List ℕ)) → (is_over code.machine.end ≡ true) ⊎ (is_stopped code.stage ≡ true)
-    → Makes watched (scene code left taken) (scene code left taken)
+    → Makes watched (beside_console code left taken) (beside_console code left taken)
 stays code left taken either = record {
   happened = [];
   took = sym (prepend_told-nil left);

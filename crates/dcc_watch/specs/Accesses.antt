@@ -1,13 +1,13 @@
 -- Accesses as the code keeps them.
 use Rattle.std.specs.Prelude.{◌+◌, ◌*◌, nat_le, Bool, true, false, not, ◌&&◌, ◌||◌, List, map}
 use Rattle.std.specs.List.{filter}
-use Rattle.dcc_prog.specs.declared.instr.Operand.{Operand}
-use Rattle.dcc_prog.specs.declared.instr.Operand.TheVariants.{Mem}
-use Rattle.dcc_prog.specs.declared.instr.Op.{Op}
-use Rattle.dcc_prog.specs.declared.instr.Op.TheVariants.{Alu, Unary, Shift, Mov, Xchg, Lea, Imul3, Jump, Branch, Loop}
-use Rattle.dcc_prog.specs.declared.instr.Op.TheVariants.{LoopE, LoopNe, Jcxz}
+use Rattle.dcc_machine.specs.declared.instr.Operand.{Operand}
+use Rattle.dcc_machine.specs.declared.instr.Operand.TheVariants.{Mem}
+use Rattle.dcc_machine.specs.declared.instr.Op.{Op}
+use Rattle.dcc_machine.specs.declared.instr.Op.TheVariants.{Alu, Unary, Shift, Mov, Xchg, Lea, Imul3, Jump, Branch}
+use Rattle.dcc_machine.specs.declared.instr.Op.TheVariants.{Loop, LoopE, LoopNe, Jcxz}
 use Rattle.dcc_prog.specs.declared.procedure.Layout.{Layout}
-use Rattle.dcc_prog.specs.Access as told
+use Rattle.dcc_machine.specs.Access as told
 use Rattle.dcc_watch.specs.declared.access.Direction.{Direction}
 use Rattle.dcc_watch.specs.declared.access.Direction.TheVariants.{Reading, Writing}
 use Rattle.dcc_watch.specs.declared.access.Kind.{Kind}

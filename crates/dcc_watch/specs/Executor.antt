@@ -1,9 +1,9 @@
 -- The watch as code that executes watched machines, and what its answers tell.
 use Rattle.std.specs.Prelude.{◌≡◌, ◌+◌, ◌-◌, ◌/◌, Bool, true, false, not, ◌&&◌, []}
 use Rattle.dcc_run.specs.End.{is_over}
-use Rattle.dcc_prog.specs.declared.image.Image.{Image}
+use Rattle.dcc_machine.specs.declared.image.Image.{Image}
 use Rattle.dcc_prog.specs.declared.frame.Program.{Program}
-use Rattle.dcc_prog.specs.Machine.{start_state}
+use Rattle.dcc_machine.specs.Machine.{start_state}
 use Rattle.dcc_prog.specs.Watch.{Watch, Stage, AtStart, InPrelude, InProcedures, Stopped, watched_machine}
 use Rattle.dcc_console.specs.Console.{Console, Executor}
 use Rattle.dcc_console.specs.Counts.{CountsFaults}
@@ -90,8 +90,8 @@ Tells (Foul at address kind) code = code.stage ≡ Stopped (record { at = at; ki
 
 -- What a step leaves, by its answer. A fault is answered only where its count rose.
 pub record StepAnswers (answered : Watched) (before now : machine.Counted Watching) : Type 0 where
-  pub step : Steps watched (outcome_of answered) before.scene now.scene
-  pub tells : Tells answered now.scene.code
+  pub step : Steps watched (outcome_of answered) before.state now.state
+  pub tells : Tells answered now.state.code
   pub faults : CountsFaults (answered ≡ Clean InFault) (answered
       ≡ Clean OutFault) before.reads now.reads before.writes now.writes
 

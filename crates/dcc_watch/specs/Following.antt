@@ -1,11 +1,11 @@
 -- What a step does to the frames and the marks that the code keeps.
 use Rattle.std.specs.Prelude.{ℕ, ◌+◌, Bool, true, false, List, ◌∷◌, drop, slice_index_or, Option, Some, None}
 use Rattle.dcc_prog.specs.declared.procedure.Layout.{Layout}
-use Rattle.dcc_prog.specs.declared.instr.Op.{Op}
-use Rattle.dcc_prog.specs.declared.instr.Op.TheVariants.{Call, Ret}
-use Rattle.dcc_prog.specs.declared.instr.Instr.{Instr}
-use Rattle.dcc_prog.specs.Access.{Access}
-use Rattle.dcc_prog.specs.Machine.{State}
+use Rattle.dcc_machine.specs.declared.instr.Op.{Op}
+use Rattle.dcc_machine.specs.declared.instr.Op.TheVariants.{Call, Ret}
+use Rattle.dcc_machine.specs.declared.instr.Instr.{Instr}
+use Rattle.dcc_machine.specs.Access.{Access}
+use Rattle.dcc_machine.specs.Machine.{State}
 use Rattle.dcc_prog.specs.Clean.{top_in, written_after}
 use Rattle.dcc_watch.specs.declared.shape.Shape.{Shape}
 use Rattle.dcc_watch.specs.declared.shape.TheConstants.{NO_SHAPE}

@@ -2,10 +2,10 @@
 use Rattle.std.specs.Prelude.{ℕ, Bool, not, List, Option, Some, None}
 use Rattle.std.specs.List.{find, filter, filter_map, flat_map}
 use Rattle.dcc_prog.specs.declared.procedure.Layout.{Layout}
-use Rattle.dcc_prog.specs.declared.instr.Instr.{Instr}
+use Rattle.dcc_machine.specs.declared.instr.Instr.{Instr}
 use Rattle.dcc_prog.specs.declared.watch.FoulKind.TheVariants.{Low, Hidden, Unwritten}
-use Rattle.dcc_prog.specs.Machine.{State}
-use Rattle.dcc_prog.specs.Access.{Access, addresses_of, found_accesses}
+use Rattle.dcc_machine.specs.Machine.{State}
+use Rattle.dcc_machine.specs.Access.{Access, addresses_of, found_accesses}
 use Rattle.dcc_prog.specs.Clean as told
 use Rattle.dcc_prog.specs.Clean.{stack_offset, is_other, is_reading, is_marked, top_in, sp_after, low_of, foul_as}
 use Rattle.dcc_prog.specs.Clean.{or_else}

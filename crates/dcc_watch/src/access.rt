@@ -1,7 +1,7 @@
 //! One access of an operation to memory.
 
 ghost use Rattle.std.specs.Prelude.{◌≡◌, ◌<◌, ◌^◌};
-ghost use Rattle.dcc_prog.specs.Access.{address_in};
+ghost use Rattle.dcc_machine.specs.Access.{address_in};
 ghost use Rattle.dcc_watch.specs.Accesses.{access_of, is_beside};
 
 use dcc_prog::Layout;

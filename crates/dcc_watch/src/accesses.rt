@@ -1,22 +1,23 @@
 //! The accesses of an operation that may touch the stack, at most four, in the order of the machine.
 
 ghost use Rattle.std.specs.Prelude.{◌≡◌, ℕ, ◌+◌, ◌<◌, ◌≤◌, [], ◌∷◌, ◌++◌, length, List, IfSome, if◌then◌else◌};
-ghost use Rattle.dcc_prog.specs.declared.instr.Op.TheVariants.{Alu as AluOp, Push as PushOp, Pop, Int21};
-ghost use Rattle.dcc_prog.specs.declared.instr.Operand.TheVariants.{Mem as in_memory};
-ghost use Rattle.dcc_prog.specs.Writes.{writes_operand};
-ghost use Rattle.dcc_prog.specs.Machine.{with_operand, operand_value};
-ghost use Rattle.dcc_prog.specs.Operations.{with_sp_raised};
-ghost use Rattle.dcc_prog.specs.Access as told;
-ghost use Rattle.dcc_prog.specs.Access.{is_direct, writes_back, operand_accesses, exchange_accesses, stack_access};
-ghost use Rattle.dcc_prog.specs.Access.{push_access, dos_accesses, plain_accesses, string_size, accesses};
-ghost use Rattle.dcc_prog.specs.Access.{found_accesses};
-ghost use Rattle.dcc_prog.specs.WellFormed.{IsOperand, AreOperands, IsOperation};
+ghost use Rattle.dcc_machine.specs.declared.instr.Op.TheVariants.{Alu as AluOp, Push as PushOp, Pop, Int21};
+ghost use Rattle.dcc_machine.specs.declared.instr.Operand.TheVariants.{Mem as in_memory};
+ghost use Rattle.dcc_machine.specs.Writes.{writes_operand};
+ghost use Rattle.dcc_machine.specs.Machine.{with_operand, operand_value};
+ghost use Rattle.dcc_machine.specs.Operations.{with_sp_raised};
+ghost use Rattle.dcc_machine.specs.Access as told;
+ghost use Rattle.dcc_machine.specs.Access.{is_direct, writes_back, operand_accesses, exchange_accesses, stack_access};
+ghost use Rattle.dcc_machine.specs.Access.{push_access, dos_accesses, plain_accesses, string_size, accesses};
+ghost use Rattle.dcc_machine.specs.Access.{found_accesses};
+ghost use Rattle.dcc_machine.specs.WellFormed.{IsOperand, AreOperands, IsOperation};
 ghost use Rattle.dcc_step.specs.Core.{state_of};
 ghost use Rattle.dcc_watch.specs.Accesses.{direction_of, kind_of, access_of, accesses_of, near, is_memory, may_access};
 
 use crate::access::{Access, Direction, Kind};
+use dcc_machine::{Alu, Ea, Instr, Op, Operand, Plain, Unary};
 use dcc_num::{Half, Reg, Width, dos};
-use dcc_prog::{Alu, Ea, Instr, Layout, Op, Operand, Plain, Unary};
+use dcc_prog::Layout;
 use dcc_step::Machine;
 use std::marker::Model;
 
@@ -40,7 +41,7 @@ pub(crate) struct Accesses {
 
 impl Model for Accesses {
     ghost use Rattle.std.specs.Prelude.{◌≤◌, List, take};
-    ghost use Rattle.dcc_prog.specs.Access as told;
+    ghost use Rattle.dcc_machine.specs.Access as told;
 
     ghost Value = { List told.Access };
 

@@ -1,7 +1,7 @@
 //! Whether the next step is clean.
 
 ghost use Rattle.std.specs.Prelude.{◌≡◌, option_map};
-ghost use Rattle.dcc_prog.specs.Access.{found_accesses};
+ghost use Rattle.dcc_machine.specs.Access.{found_accesses};
 ghost use Rattle.dcc_prog.specs.Clean.{top_in};
 ghost use Rattle.dcc_step.specs.Core.{state_of};
 ghost use Rattle.dcc_watch.specs.Accesses.{near};
@@ -11,7 +11,8 @@ ghost use Rattle.dcc_watch.specs.Ordered.{AreOrdered};
 use crate::places::{hidden, unwritten};
 use crate::sp::{low, sp_after};
 use crate::stack::{Before, Stack};
-use dcc_prog::{FoulKind, Instr, Layout};
+use dcc_machine::Instr;
+use dcc_prog::{FoulKind, Layout};
 use dcc_step::Machine;
 
 /// A step that is not clean.

@@ -2,7 +2,7 @@
 
 ghost use Rattle.std.specs.Prelude.{◌≡◌, ◌∷◌, [], not, true};
 ghost use Rattle.std.specs.List.{filter_map};
-ghost use Rattle.dcc_prog.specs.Access.{addresses_of};
+ghost use Rattle.dcc_machine.specs.Access.{addresses_of};
 ghost use Rattle.dcc_prog.specs.Clean.{stack_offset, is_marked, with_marks, stored_bytes};
 ghost use Rattle.dcc_watch.specs.Accesses.{access_of};
 ghost use Rattle.dcc_watch.specs.Shapes.{exposed_in};

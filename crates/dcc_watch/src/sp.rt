@@ -7,8 +7,9 @@ ghost use Rattle.dcc_prog.specs.Clean.{low_of, lowered_by, sp_after, top_in};
 ghost use Rattle.dcc_prog.specs.Height.{lowering_of};
 ghost use Rattle.dcc_step.specs.Core.{state_of};
 
+use dcc_machine::{Alu, Op, Operand, Unary};
 use dcc_num::Reg;
-use dcc_prog::{Alu, Layout, Op, Operand, Unary};
+use dcc_prog::Layout;
 use dcc_step::Machine;
 
 // The number that a word stands for in two's complement.

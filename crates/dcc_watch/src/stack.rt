@@ -12,7 +12,8 @@ use crate::marks::Marks;
 use crate::places::mark_stored;
 use crate::shape::Shape;
 use crate::sp::top;
-use dcc_prog::{Instr, Layout, Op};
+use dcc_machine::{Instr, Op};
+use dcc_prog::Layout;
 use dcc_step::Machine;
 
 /// The frames that live, and the bytes of the stack that are written.

@@ -2,10 +2,10 @@
 
 ghost use Rattle.std.specs.Prelude.{◌≡◌, ◌≢◌, IfOk, true};
 ghost use Rattle.dcc_run.specs.End.{Running as running};
-ghost use Rattle.dcc_prog.specs.MzImage.{IsLoaded};
+ghost use Rattle.dcc_machine.specs.MzImage.{IsLoaded};
 ghost use Rattle.dcc_prog.specs.Analysed.{IsProgramOf};
 ghost use Rattle.dcc_console.specs.Counts.{CountsFaults};
-ghost use Rattle.dcc_console.specs.Scene.{scene};
+ghost use Rattle.dcc_console.specs.WithConsole.{beside_console};
 ghost use Rattle.dcc_console.specs.Steps.{Runs, made};
 ghost use Rattle.dcc_step.specs.Stepped.{counted};
 ghost use Rattle.dcc_watch.specs.Executor.{watched, outcome_of, is_refused, foul_answer, Tells, StepAnswers};
@@ -19,7 +19,8 @@ use crate::shape::{Shape, shapes};
 use crate::stack::{Before, Stack, begin_first, follow};
 use crate::watched::Watched;
 use dcc_io::{Sink, Source};
-use dcc_prog::{Image, Layout, Program};
+use dcc_machine::Image;
+use dcc_prog::{Layout, Program};
 use dcc_step::{Ending, Machine, Stepped};
 use std::alloc::{AllocError, Global};
 use std::marker::Model;
@@ -199,8 +200,8 @@ impl Watch {
     /// step is foul, the steps before it stay made.
     pub fn run<I: Source, O: Sink>(&mut self, input: &mut I, out: &mut O, most: u64) -> Watched
         ensures run { Runs watched most (outcome_of result)
-            (scene self.old (I.left input.old) (O.taken out.old))
-            (scene self.new (I.left input.new) (O.taken out.new)) }
+            (beside_console self.old (I.left input.old) (O.taken out.old))
+            (beside_console self.new (I.left input.new) (O.taken out.new)) }
         ensures tells { Tells result self.new }
         ensures faults { CountsFaults (result ≡ Watched.Clean Stepped.InFault) (result ≡ Watched.Clean Stepped.OutFault)
             (I.faults input.old) (I.faults input.new) (O.faults out.old) (O.faults out.new) }

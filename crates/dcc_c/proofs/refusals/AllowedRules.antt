@@ -11,7 +11,7 @@ use Rattle.dcc_c.specs.Rules.{names_of, known_names, own_variables, all_differ, 
 use Rattle.dcc_c.specs.Kinds.{of_name, offence}
 use Rattle.dcc_c.specs.Partial.{WordAt, PartialVariable, PartialFunction, PartialText, PartialStmt, AssignOf, CallOf, IfOf, WhileOf, DoWhileOf, ForeverOf, SwitchOf, BreakOf, ContinueOf, GotoOf, LabelOf, EmptyOf, ReturnOf}
 use Rattle.dcc_c.specs.Known.{Known, known_functions}
-use Rattle.dcc_c.specs.Offences.{Scene, repeated, label_list, own_offences, inner_offences, lines_offences, body_offences}
+use Rattle.dcc_c.specs.Offences.{BodyContext, repeated, label_list, own_offences, inner_offences, lines_offences, body_offences}
 use Rattle.dcc_c.specs.TextOffences.{name_list, words_of, sizes_of, scene_of, function_offences, known_in}
 use Rattle.dcc_c.specs.Stripped.{plain_name, plain_stmt, plain_lines, plain_variable, plain_global, plain_function, plain_text}
 use Rattle.dcc_c.specs.Complete.{is_complete_stmt, is_complete_variable, is_complete_function}
@@ -24,7 +24,7 @@ use Rattle.dcc_c.proofs.refusals.WalkRules.{lines-all, lines-clean, append-all}
 use Rattle.dcc_c.proofs.refusals.BodyRules.{stmt-allowed, stmt-clean}
 use Rattle.dcc_c.proofs.refusals.KnownRules.{CompleteFunction, known_plain, known-all, name-words}
 use Rattle.dcc_c.proofs.refusals.FunctionRules.{append-differ, differ-append, sizes-there, there-sizes}
-use Rattle.dcc_c.proofs.refusals.SceneRules.{is-scene, knows}
+use Rattle.dcc_c.proofs.refusals.ContextRules.{is-scene, knows}
 
 -- `goto`s of statements, as a test of each statement
 goto_allowed : List Word → Stmt → Bool
@@ -80,7 +80,7 @@ module _ (text : PartialText) (globals : list_all is_complete_variable text.glob
         ∙ ap (λ l. names_of (map plain_variable f.params) ++ l) (name-words f.locals c.locals ∙ variables-map f.locals)
         ∙ sym (map-append (λ (v : Variable). v.name) (map plain_variable f.params) (map plain_variable f.locals))
 
-    scene : Scene
+    scene : BodyContext
     scene = scene_of (known_in text []) [] f
 
     labels-are : (word : Word) → is_among (words_of (label_list f.body) ++ []) word ≡ is_among (labels_in (plain_lines f.body)) word

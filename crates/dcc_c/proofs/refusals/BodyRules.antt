@@ -13,7 +13,7 @@ use Rattle.dcc_c.specs.Rules.{fits, is_number, call_fits, declared_in, is_word_b
 use Rattle.dcc_c.specs.Kinds.{of_name, of_type, offence, only_if}
 use Rattle.dcc_c.specs.Partial.{NumberAt, PartialExpr, place_of, PartialCall, PartialStmt, AssignOf, CallOf, IfOf, WhileOf, DoWhileOf, ForeverOf, SwitchOf, BreakOf, ContinueOf, GotoOf, LabelOf, EmptyOf, ReturnOf, PartialArms, no_cases, cases}
 use Rattle.dcc_c.specs.Known.{Known, known_as}
-use Rattle.dcc_c.specs.Offences.{Scene, is_switch_type, switch_offences, expr_offences, own_offences, case_offences, case_numbers, default_offences, inner_offences, arms_inner, test_offences, signature_offences, call_offences, place_if, arguments_inner, callee_offences}
+use Rattle.dcc_c.specs.Offences.{BodyContext, is_switch_type, switch_offences, expr_offences, own_offences, case_offences, case_numbers, default_offences, inner_offences, arms_inner, test_offences, signature_offences, call_offences, place_if, arguments_inner, callee_offences}
 use Rattle.dcc_c.specs.Stripped.{plain_expr, plain_numbers, plain_stmt, plain_lines, case_arms, default_arms}
 use Rattle.dcc_c.specs.Complete.{is_complete_expr, is_complete_place, is_complete_if, is_complete_place_if, is_complete_stmt, is_complete_lines, are_complete_arms}
 use Rattle.dcc_c.proofs.refusals.ExprRules.{none-both, none-only, true-false, both-empty, and-both, expr-typed, expr-clean}
@@ -23,7 +23,7 @@ use Rattle.dcc_c.proofs.refusals.WalkRules.{OwnClean}
 use Rattle.dcc_c.proofs.refusals.ListRules.{cases-differ, differ-cases}
 
 -- What a scene knows is what a function of a tree knows.
-pub record IsScene (tree : Tree) (f : Function) (scene : Scene) : Type 0 where
+pub record IsScene (tree : Tree) (f : Function) (scene : BodyContext) : Type 0 where
   pub names : scene.names ≡ declared_in tree f
   pub result : scene.result ≡ f.result
   pub has_result : scene.has_result ≡ is_some scene.result
@@ -32,7 +32,7 @@ pub record IsScene (tree : Tree) (f : Function) (scene : Scene) : Type 0 where
       (signature : Signature) × (k.signature ≡ Some signature) × (signature_in tree word ≡ Some signature)
 
 -- From the tree to the scene: the tree's functions are known, and are no variables' names.
-abbrev pub Knows : Tree → Scene → Type 0
+abbrev pub Knows : Tree → BodyContext → Type 0
 Knows tree scene = (word : Word) (signature : Signature) → signature_in tree word ≡ Some signature → HasSignature scene word signature
 
 not-empty : {A : Type 0} {x : A} {xs : List A} → x ∷ xs ≡ [] → ⊥
@@ -40,7 +40,7 @@ not-empty e = absurd cc
 
 -- Switches.
 
-switch-allowed : (scene : Scene) (e : PartialExpr) → is_complete_expr e ≡ true → switch_offences scene e true ≡ [] → is_switch_value scene.names (plain_expr e) ≡ true
+switch-allowed : (scene : BodyContext) (e : PartialExpr) → is_complete_expr e ≡ true → switch_offences scene e true ≡ [] → is_switch_value scene.names (plain_expr e) ≡ true
 switch-allowed scene e whole none =
     let both = none-both (expr_offences scene e) _ none in
     let t = expr-typed scene e whole both.0 in
@@ -48,7 +48,7 @@ switch-allowed scene e whole none =
     ∙ not-true (is_switch_type t.type) (none-only (true && not (is_switch_type t.type)) (offence of_type (place_of e))
     (ap (λ o. elim o [ Some type ↦ only_if (true && not (is_switch_type type)) (offence of_type (place_of e)) | None ↦ [] ]) (sym t.told) ∙ both.1))
 
-allowed-switch : (scene : Scene) (e : PartialExpr) → is_complete_expr e ≡ true → is_switch_value scene.names (plain_expr e) ≡ true → switch_offences scene e true ≡ []
+allowed-switch : (scene : BodyContext) (e : PartialExpr) → is_complete_expr e ≡ true → is_switch_value scene.names (plain_expr e) ≡ true → switch_offences scene e true ≡ []
 allowed-switch scene e whole fit = elim (type_of scene.names (plain_expr e)) as (λ o. type_of scene.names (plain_expr e) ≡ o →
     (elim o [ Some type ↦ not type.pointer && is_word_base (promoted_type type.base) | None ↦ false ]) ≡ true → switch_offences scene e true ≡ []) [
       | Some type ↦ λ is p. let c = expr-clean scene e type whole is in
@@ -103,11 +103,11 @@ default-one (cases numbers (Some at) body arms) e = default-none arms (alone (de
 
 -- A statement's own parts.
 
-bad-variable : (scene : Scene) (at : ℕ) (place : Option PartialExpr) (call : PartialCall) (d : Declared) → declared_as scene.names call.function.word ≡ Some d →
+bad-variable : (scene : BodyContext) (at : ℕ) (place : Option PartialExpr) (call : PartialCall) (d : Declared) → declared_as scene.names call.function.word ≡ Some d →
     callee_offences scene at place call ≡ [] → ⊥
 bad-variable scene at place call d e none = not-empty (ap (λ (o : Option Declared). if is_some o then offence of_type call.function.at ∷ [] else (elim (known_as scene.functions call.function.word) [ Some k ↦ signature_offences scene at place call k.signature | None ↦ offence of_name call.function.at ∷ [] ])) (sym e) ∙ none)
 
-bad-unknown : (scene : Scene) (at : ℕ) (place : Option PartialExpr) (call : PartialCall) → declared_as scene.names call.function.word ≡ None →
+bad-unknown : (scene : BodyContext) (at : ℕ) (place : Option PartialExpr) (call : PartialCall) → declared_as scene.names call.function.word ≡ None →
     known_as scene.functions call.function.word ≡ None → callee_offences scene at place call ≡ [] → ⊥
 bad-unknown scene at place call e found none = not-empty (ap (λ o. elim o [ Some k ↦ signature_offences scene at place call k.signature | None ↦ offence of_name call.function.at ∷ [] ]) (sym found)
     ∙ ap (λ (o : Option Declared). if is_some o then offence of_type call.function.at ∷ [] else (elim (known_as scene.functions call.function.word) [ Some k ↦ signature_offences scene at place call k.signature | None ↦ offence of_name call.function.at ∷ [] ])) (sym e) ∙ none)
@@ -118,7 +118,7 @@ allows_assignment names place e = elim (place_type names place) [ Some to ↦ fi
 abbrev call_allowed : List Declared → Option PartialExpr → PartialCall → Option Signature → Bool
 call_allowed names place call o = call_fits names (option_map plain_expr place) (map plain_expr call.arguments) o
 
-module _ (tree : Tree) (f : Function) (scene : Scene) (is : IsScene tree f scene) where
+module _ (tree : Tree) (f : Function) (scene : BodyContext) (is : IsScene tree f scene) where
   -- the names of the function, in place of the scene's
   in-names : (P : List Declared → Bool) → P scene.names ≡ true → P (declared_in tree f) ≡ true
   in-names P e = ap P (sym is.names) ∙ e

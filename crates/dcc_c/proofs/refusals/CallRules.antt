@@ -13,14 +13,14 @@ use Rattle.dcc_c.specs.Rules.{converts, fits, fit_all, result_fits, call_fits}
 use Rattle.dcc_c.specs.Kinds.{of_name, of_type, Offence, offence, only_if}
 use Rattle.dcc_c.specs.Partial.{WordAt, PartialExpr, Missing, NumberHere, NameHere, UnaryHere, BinaryOf, ConditionalOf, CastHere, is_missing, is_name_here, PartialCall}
 use Rattle.dcc_c.specs.Known.{Known, known_as}
-use Rattle.dcc_c.specs.Offences.{Scene, becomes, conversion, expr_offences, assigned_offences, arguments_inner, arguments_become, count_read, count_offends, result_offences, signature_offences, callee_offences, place_if, call_offences, return_offences}
+use Rattle.dcc_c.specs.Offences.{BodyContext, becomes, conversion, expr_offences, assigned_offences, arguments_inner, arguments_become, count_read, count_offends, result_offences, signature_offences, callee_offences, place_if, call_offences, return_offences}
 use Rattle.dcc_c.specs.Stripped.{plain_expr}
 use Rattle.dcc_c.specs.Complete.{is_complete_expr, is_complete_place, is_complete_place_if, is_complete_if}
 use Rattle.dcc_c.proofs.refusals.ExprRules.{none-both, none-only, true-false, both-empty, and-both, or-left, or-right}
 use Rattle.dcc_c.proofs.refusals.StmtRules.{place-placed, place-clean, fits-of, becomes-of, not-true}
 
 -- An assignment that fits.
-pub fitting-assignment : (scene : Scene) (place e : PartialExpr) → is_complete_place place ≡ true → is_complete_expr e ≡ true →
+pub fitting-assignment : (scene : BodyContext) (place e : PartialExpr) → is_complete_place place ≡ true → is_complete_expr e ≡ true →
     (elim (place_type scene.names (plain_expr place)) [ Some to ↦ fits scene.names to (plain_expr e) | None ↦ false ]) ≡ true →
     assigned_offences scene place (Some e) true ≡ []
 fitting-assignment scene place e placed whole fit = elim (place_type scene.names (plain_expr place)) as (λ o. place_type scene.names (plain_expr place) ≡ o →
@@ -60,7 +60,7 @@ pub not-longer : (n : ℕ) → nat_lt n n ≡ false
 not-longer n = le-ltb n n (omega arith)
 
 -- the arguments fit the parameters
-pub arguments-fit : (scene : Scene) (types : List CType) (es : List PartialExpr) → list_all is_complete_expr es ≡ true → length types ≡ length es →
+pub arguments-fit : (scene : BodyContext) (types : List CType) (es : List PartialExpr) → list_all is_complete_expr es ≡ true → length types ≡ length es →
     arguments_inner scene es ≡ [] → arguments_become scene true types es ≡ [] → fit_all scene.names types (map plain_expr es) ≡ true
 arguments-fit scene [] [] whole same inner own = refl
 arguments-fit scene [] (e ∷ es) whole same inner own = absurd cc
@@ -78,12 +78,12 @@ arguments-fit scene (type ∷ types) (e ∷ f ∷ es) whole same inner own =
       down e = cc
 
 -- nothing offends in arguments that fit
-pub record Fitting (scene : Scene) (types : List CType) (es : List PartialExpr) : Type 0 where
+pub record Fitting (scene : BodyContext) (types : List CType) (es : List PartialExpr) : Type 0 where
   pub same : length types ≡ length es
   pub inner : arguments_inner scene es ≡ []
   pub own : arguments_become scene true types es ≡ []
 
-pub fitting-arguments : (scene : Scene) (types : List CType) (es : List PartialExpr) → list_all is_complete_expr es ≡ true →
+pub fitting-arguments : (scene : BodyContext) (types : List CType) (es : List PartialExpr) → list_all is_complete_expr es ≡ true →
     fit_all scene.names types (map plain_expr es) ≡ true → Fitting scene types es
 fitting-arguments scene [] [] whole fit = record { same = refl; inner = refl; own = refl }
 fitting-arguments scene [] (e ∷ es) whole fit = absurd cc
@@ -105,7 +105,7 @@ fitting-arguments scene (type ∷ other ∷ types) (e ∷ f ∷ es) whole fit =
 -- Results.
 
 -- the result goes to the place
-pub result-fits : (scene : Scene) (at : ℕ) (place : Option PartialExpr) (function : WordAt) (result : Option CType) → is_complete_place_if place ≡ true →
+pub result-fits : (scene : BodyContext) (at : ℕ) (place : Option PartialExpr) (function : WordAt) (result : Option CType) → is_complete_place_if place ≡ true →
     place_if scene place ≡ [] → result_offences scene at place function result ≡ [] → result_fits scene.names (option_map plain_expr place) result ≡ true
 result-fits scene at None function result whole none own = refl
 result-fits scene at (Some place) function None whole none own = absurd cc
@@ -115,11 +115,11 @@ result-fits scene at (Some place) function (Some from) whole none own =
     ∙ not-true (converts from p.0) (none-only (not (converts from p.0)) (offence of_type function.at)
     (ap (λ o. conversion (Some from) o function.at) (sym p.1.told) ∙ own))
 
-pub record Resulting (scene : Scene) (at : ℕ) (place : Option PartialExpr) (function : WordAt) (result : Option CType) : Type 0 where
+pub record Resulting (scene : BodyContext) (at : ℕ) (place : Option PartialExpr) (function : WordAt) (result : Option CType) : Type 0 where
   pub none : place_if scene place ≡ []
   pub own : result_offences scene at place function result ≡ []
 
-pub fitting-result : (scene : Scene) (at : ℕ) (place : Option PartialExpr) (function : WordAt) (result : Option CType) → is_complete_place_if place ≡ true →
+pub fitting-result : (scene : BodyContext) (at : ℕ) (place : Option PartialExpr) (function : WordAt) (result : Option CType) → is_complete_place_if place ≡ true →
     result_fits scene.names (option_map plain_expr place) result ≡ true → Resulting scene at place function result
 fitting-result scene at None function result whole fit = record { none = refl; own = refl }
 fitting-result scene at (Some place) function None whole fit = absurd cc
@@ -135,7 +135,7 @@ fitting-result scene at (Some place) function (Some from) whole fit = elim (plac
 -- Calls.
 
 -- What of a call is allowed, where its function is known.
-pub record HasSignature (scene : Scene) (word : Word) (signature : Signature) : Type 0 where
+pub record HasSignature (scene : BodyContext) (word : Word) (signature : Signature) : Type 0 where
   pub no_variable : declared_as scene.names word ≡ None
   pub known : Known
   pub found : known_as scene.functions word ≡ Some known
@@ -154,7 +154,7 @@ counts-fit : (params : List CType) (call : PartialCall) → list_all is_complete
 counts-fit params call whole same =
     rw (read-all call.arguments whole) (rw same (rw (not-longer (length call.arguments)) (and-false call.closed)))
 
-callee-is : (scene : Scene) (at : ℕ) (place : Option PartialExpr) (call : PartialCall) (signature : Signature) → HasSignature scene call.function.word signature →
+callee-is : (scene : BodyContext) (at : ℕ) (place : Option PartialExpr) (call : PartialCall) (signature : Signature) → HasSignature scene call.function.word signature →
     callee_offences scene at place call ≡ signature_offences scene at place call (Some signature)
 callee-is scene at place call signature known =
     ap (λ (o : Option Declared). if is_some o then offence of_type call.function.at ∷ [] else (elim (known_as scene.functions call.function.word) [ Some k ↦ signature_offences scene at place call k.signature | None ↦ offence of_name call.function.at ∷ [] ])) known.no_variable
@@ -162,7 +162,8 @@ callee-is scene at place call signature known =
     ∙ ap (λ o. signature_offences scene at place call o) known.is
 
 -- the call of a known function in which nothing offends
-pub call-fits : (scene : Scene) (at : ℕ) (place : Option PartialExpr) (call : PartialCall) (signature : Signature) →
+pub call-fits : (scene : BodyContext) (at : ℕ) (place : Option PartialExpr) (call : PartialCall) (signature : Signature)
+    →
     is_complete_place_if place ≡ true → list_all is_complete_expr call.arguments ≡ true → call.closed ≡ true →
     HasSignature scene call.function.word signature →
     call_offences scene at place call ≡ [] → call_fits scene.names (option_map plain_expr place) (map plain_expr call.arguments) (Some signature) ≡ true
@@ -177,7 +178,8 @@ call-fits scene at place call signature placed whole closed known none =
     (arguments-fit scene signature.params call.arguments whole same second.0 (ap (λ c. arguments_become scene c signature.params call.arguments) (sym closed) ∙ fourth.1))
 
 -- nothing offends in a call that fits
-pub fitting-call : (scene : Scene) (at : ℕ) (place : Option PartialExpr) (call : PartialCall) (signature : Signature) →
+pub fitting-call : (scene : BodyContext) (at : ℕ) (place : Option PartialExpr) (call : PartialCall) (signature :
+    Signature) →
     is_complete_place_if place ≡ true → list_all is_complete_expr call.arguments ≡ true → call.closed ≡ true →
     HasSignature scene call.function.word signature →
     call_fits scene.names (option_map plain_expr place) (map plain_expr call.arguments) (Some signature) ≡ true → call_offences scene at place call ≡ []
@@ -197,7 +199,7 @@ allowed-known names place es (Some signature) e = (signature, refl)
 -- Returns.
 
 -- a `return` in a function with this result
-pub return-fits : (scene : Scene) (at : ℕ) (e : Option PartialExpr) → is_complete_if e ≡ true → scene.has_result ≡ is_some scene.result →
+pub return-fits : (scene : BodyContext) (at : ℕ) (e : Option PartialExpr) → is_complete_if e ≡ true → scene.has_result ≡ is_some scene.result →
     return_offences scene at e true ≡ [] →
     (elim e [ None ↦ not (is_some scene.result) | Some e ↦ (elim scene.result [ Some to ↦ fits scene.names to (plain_expr e) | None ↦ false ]) ]) ≡ true
 return-fits scene at None whole result none = ap not (sym result ∙ none-only scene.has_result (offence of_type at) none)
@@ -211,7 +213,7 @@ return-fits scene at (Some e) whole result none =
           (ap (λ (b : Bool). if b then becomes scene e true scene.result else only_if (not (is_missing e)) (offence of_type at)) (sym (result ∙ ap is_some is)) ∙ parts.1)))
     ] refl
 
-pub fitting-return : (scene : Scene) (at : ℕ) (e : Option PartialExpr) → is_complete_if e ≡ true → scene.has_result ≡ is_some scene.result →
+pub fitting-return : (scene : BodyContext) (at : ℕ) (e : Option PartialExpr) → is_complete_if e ≡ true → scene.has_result ≡ is_some scene.result →
     (elim e [ None ↦ not (is_some scene.result) | Some e ↦ (elim scene.result [ Some to ↦ fits scene.names to (plain_expr e) | None ↦ false ]) ]) ≡ true →
     return_offences scene at e true ≡ []
 fitting-return scene at None whole result fit = ap (λ b. only_if b (offence of_type at)) (result ∙ not-false (is_some scene.result) fit) where

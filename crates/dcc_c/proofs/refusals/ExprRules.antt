@@ -12,7 +12,7 @@ use Rattle.dcc_c.specs.Typing.{numbers_type, Declared, declared_as, type_of_name
 use Rattle.dcc_c.specs.Kinds.{of_name, of_type, Offence, offence, only_if}
 use Rattle.dcc_c.specs.Partial.{PartialExpr, Missing, NumberHere, NameHere, UnaryHere, BinaryOf, ConditionalOf, CastHere, place_of}
 use Rattle.dcc_c.specs.Known.{known_as}
-use Rattle.dcc_c.specs.Offences.{Scene, told_type, no_variable, value_offences, wants_number, wants_pointer, unary_offences, second_offends, binary_offences, arms_offences, address_offences, expr_offences, is_pointer}
+use Rattle.dcc_c.specs.Offences.{BodyContext, told_type, no_variable, value_offences, wants_number, wants_pointer, unary_offences, second_offends, binary_offences, arms_offences, address_offences, expr_offences, is_pointer}
 use Rattle.dcc_c.specs.Stripped.{plain_expr}
 use Rattle.dcc_c.specs.Complete.{is_complete_expr}
 
@@ -45,7 +45,7 @@ typed : (names : List Declared) (e : PartialExpr) (type : CType) → told_type n
 typed names e type told is = record { type = type; told = told; is = is }
 
 -- A name.
-name-typed : (scene : Scene) (at : ℕ) (word : Word) → value_offences scene at word false ≡ [] → IsTyped scene.names (NameHere at word false)
+name-typed : (scene : BodyContext) (at : ℕ) (word : Word) → value_offences scene at word false ≡ [] → IsTyped scene.names (NameHere at word false)
 name-typed scene at word e = elim (declared_as scene.names word) as (λ d. declared_as scene.names word ≡ d → (elim d [ Some d ↦ only_if (is_none (type_of_name d)) (offence of_type at) | None ↦ no_variable scene at word false ]) ≡ [] → IsTyped scene.names (NameHere at word false)) [
   | Some d ↦ λ is none. elim (type_of_name d) as (λ t. type_of_name d ≡ t → only_if (is_none t) (offence of_type at) ≡ [] → IsTyped scene.names (NameHere at word false)) [
     | Some type ↦ λ named _. typed scene.names (NameHere at word false) type (rw is named) (rw is named)
@@ -78,10 +78,10 @@ number-typed : (names : List Declared) (at : ℕ) (operator : CUn) (a : PartialE
 number-typed names at operator a t type told is e = typed names (UnaryHere at operator a) type
     (told ∙ ap (option_and_then (unary_type operator)) t.told ∙ e) (is ∙ ap (option_and_then (unary_type operator)) t.is ∙ e)
 
-pub no-pointer : (scene : Scene) (a : PartialExpr) (t : IsTyped scene.names a) → wants_number scene a ≡ [] → t.type.pointer ≡ false
+pub no-pointer : (scene : BodyContext) (a : PartialExpr) (t : IsTyped scene.names a) → wants_number scene a ≡ [] → t.type.pointer ≡ false
 no-pointer scene a t e = ap is_pointer (sym t.told) ∙ none-only (is_pointer (told_type scene.names a)) (offence of_type (place_of a)) e
 
-a-pointer : (scene : Scene) (a : PartialExpr) (t : IsTyped scene.names a) → wants_pointer scene a ≡ [] → t.type.pointer ≡ true
+a-pointer : (scene : BodyContext) (a : PartialExpr) (t : IsTyped scene.names a) → wants_pointer scene a ≡ [] → t.type.pointer ≡ true
 a-pointer scene a t e = elim t.type.pointer as (λ p. only_if (not p) (offence of_type (place_of a)) ≡ [] → p ≡ true) [
   | true ↦ λ _. refl
   | false ↦ λ bad. absurd cc
@@ -91,22 +91,23 @@ no-declared : (names : List Declared) (at : ℕ) (word : Word) → declared_as n
 no-declared names at word is t = no-some (sym (ap (option_and_then type_of_name) is) ∙ t.told)
 
 -- whatever is no name has a type, or offends
-told-offends : (scene : Scene) (a : PartialExpr) → (expr_offences scene a ≡ [] → IsTyped scene.names a) →
+told-offends : (scene : BodyContext) (a : PartialExpr) → (expr_offences scene a ≡ [] → IsTyped scene.names a) →
     expr_offences scene a ++ only_if (is_some (told_type scene.names a)) (offence of_type (place_of a)) ≡ [] → ⊥
 told-offends scene a typed-a e =
     let both = none-both (expr_offences scene a) (only_if (is_some (told_type scene.names a)) (offence of_type (place_of a))) e in
     let t = typed-a both.0 in
     true-false (ap is_some (sym t.told) ∙ none-only (is_some (told_type scene.names a)) (offence of_type (place_of a)) both.1)
 
-address-none : (scene : Scene) (place : ℕ) (word : Word) → declared_as scene.names word ≡ None → (inner : List Offence) →
+address-none : (scene : BodyContext) (place : ℕ) (word : Word) → declared_as scene.names word ≡ None → (inner : List Offence) →
     address_offences scene (NameHere place word false) inner ≡ inner ++ only_if (is_some (told_type scene.names (NameHere place word false))) (offence of_type place)
 address-none scene place word is inner = ap (λ o. elim o [ Some d ↦ only_if (is_none (type_of_address d)) (offence of_type place) | None ↦ inner ++ only_if (is_some (told_type scene.names (NameHere place word false))) (offence of_type place) ]) is
 
-address-some : (scene : Scene) (place : ℕ) (word : Word) (d : Declared) → declared_as scene.names word ≡ Some d → (inner : List Offence) →
+address-some : (scene : BodyContext) (place : ℕ) (word : Word) (d : Declared) → declared_as scene.names word ≡ Some d → (inner : List Offence) →
     address_offences scene (NameHere place word false) inner ≡ only_if (is_none (type_of_address d)) (offence of_type place)
 address-some scene place word d is inner = ap (λ o. elim o [ Some d ↦ only_if (is_none (type_of_address d)) (offence of_type place) | None ↦ inner ++ only_if (is_some (told_type scene.names (NameHere place word false))) (offence of_type place) ]) is
 
-address-declared : (scene : Scene) (at place : ℕ) (word : Word) (d : Declared) → declared_as scene.names word ≡ Some d →
+address-declared : (scene : BodyContext) (at place : ℕ) (word : Word) (d : Declared) → declared_as scene.names word
+    ≡ Some d →
     only_if (is_none (type_of_address d)) (offence of_type place) ≡ [] → IsTyped scene.names (UnaryHere at AddressOf (NameHere place word false))
 address-declared scene at place word d is e =
     let some = some-of (type_of_address d) (none-only (is_none (type_of_address d)) (offence of_type place) e) in
@@ -114,7 +115,7 @@ address-declared scene at place word d is e =
     (ap (option_and_then type_of_address) is ∙ some.1) (ap (option_and_then type_of_address) is ∙ some.1)
 
 -- the operand of `&`
-address-typed : (scene : Scene) (at : ℕ) (a : PartialExpr) → is_complete_expr a ≡ true →
+address-typed : (scene : BodyContext) (at : ℕ) (a : PartialExpr) → is_complete_expr a ≡ true →
     (expr_offences scene a ≡ [] → IsTyped scene.names a) →
     address_offences scene a (expr_offences scene a) ≡ [] → IsTyped scene.names (UnaryHere at AddressOf a)
 address-typed scene at Missing whole typed-a e = absurd cc
@@ -135,20 +136,20 @@ binary-some : (operator : CBin) (a b : CType) → is_comparison operator || is_s
     (type : CType) × (binary_type operator a b ≡ Some type)
 binary-some operator a b plain-operator p q = (plain (numbers_type operator a.base b.base), rw p (rw q refl))
 
-joined-typed : (scene : Scene) (operator : CBin) (a b : PartialExpr) (s : IsTyped scene.names a) (t : IsTyped scene.names b) (type : CType) →
+joined-typed : (scene : BodyContext) (operator : CBin) (a b : PartialExpr) (s : IsTyped scene.names a) (t : IsTyped scene.names b) (type : CType) →
     binary_type operator s.type t.type ≡ Some type → IsTyped scene.names (BinaryOf operator a b)
 joined-typed scene operator a b s t type e = typed scene.names (BinaryOf operator a b) type
     (ap (λ o. both_types operator o (told_type scene.names b)) s.told ∙ ap (both_types operator (Some s.type)) t.told ∙ e)
     (ap (λ o. both_types operator o (type_of scene.names (plain_expr b))) s.is ∙ ap (both_types operator (Some s.type)) t.is ∙ e)
 
-second-fits : (scene : Scene) (operator : CBin) (a b : PartialExpr) (s : IsTyped scene.names a) (t : IsTyped scene.names b) →
+second-fits : (scene : BodyContext) (operator : CBin) (a b : PartialExpr) (s : IsTyped scene.names a) (t : IsTyped scene.names b) →
     second_offends scene operator a b ≡ [] → (type : CType) × (binary_type operator s.type t.type ≡ Some type)
 second-fits scene operator a b s t e = some-of (binary_type operator s.type t.type)
     (ap (λ o. (is_some o && is_some (Some t.type)) && is_none (both_types operator o (Some t.type))) (sym s.told)
     ∙ ap (λ o. (is_some (told_type scene.names a) && is_some o) && is_none (both_types operator (told_type scene.names a) o)) (sym t.told)
     ∙ none-only ((is_some (told_type scene.names a) && is_some (told_type scene.names b)) && is_none (both_types operator (told_type scene.names a) (told_type scene.names b))) (offence of_type (place_of b)) e)
 
-binary-typed : (scene : Scene) (operator : CBin) (a b : PartialExpr) (s : IsTyped scene.names a) (t : IsTyped scene.names b) →
+binary-typed : (scene : BodyContext) (operator : CBin) (a b : PartialExpr) (s : IsTyped scene.names a) (t : IsTyped scene.names b) →
     binary_offences scene operator a b ≡ [] → IsTyped scene.names (BinaryOf operator a b)
 binary-typed scene operator a b s t e = elim (is_comparison operator || is_sum operator) as (λ q. is_comparison operator || is_sum operator ≡ q →
     (if q then second_offends scene operator a b else wants_number scene a ++ wants_number scene b) ≡ [] → IsTyped scene.names (BinaryOf operator a b)) [
@@ -160,7 +161,7 @@ binary-typed scene operator a b s t e = elim (is_comparison operator || is_sum o
 
 -- Conditionals.
 
-arms-typed : (scene : Scene) (a b c : PartialExpr) (r : IsTyped scene.names a) (s : IsTyped scene.names b) (t : IsTyped scene.names c) →
+arms-typed : (scene : BodyContext) (a b c : PartialExpr) (r : IsTyped scene.names a) (s : IsTyped scene.names b) (t : IsTyped scene.names c) →
     wants_number scene a ≡ [] → arms_offences scene b c ≡ [] → IsTyped scene.names (ConditionalOf a b c)
 arms-typed scene a b c r s t number arms =
     let some = some-of (both_arms_type (Some s.type) (Some t.type))
@@ -174,7 +175,7 @@ arms-typed scene a b c r s t number arms =
     ∙ ap (λ o. both_arms_type o (type_of scene.names (plain_expr c))) s.is ∙ ap (both_arms_type (Some s.type)) t.is ∙ some.1)
 
 -- A complete expression in which nothing offends has a type.
-pub expr-typed : (scene : Scene) (e : PartialExpr) → is_complete_expr e ≡ true → expr_offences scene e ≡ [] → IsTyped scene.names e
+pub expr-typed : (scene : BodyContext) (e : PartialExpr) → is_complete_expr e ≡ true → expr_offences scene e ≡ [] → IsTyped scene.names e
 expr-typed scene Missing whole none = absurd cc
 expr-typed scene (NumberHere at n base) whole none = typed scene.names (NumberHere at n base) (plain base) refl refl
 expr-typed scene (NameHere at word true) whole none = absurd cc
@@ -214,11 +215,11 @@ expr-typed scene (CastHere at type a) whole none =
     typed scene.names (CastHere at type a) type refl (ap (option_map (λ from. type)) t.is)
 
 -- From a type to no offence: nothing offends in an expression that has a type.
-pub record IsClean (scene : Scene) (e : PartialExpr) (type : CType) : Type 0 where
+pub record IsClean (scene : BodyContext) (e : PartialExpr) (type : CType) : Type 0 where
   pub none : expr_offences scene e ≡ []
   pub told : told_type scene.names e ≡ Some type
 
-clean : (scene : Scene) (e : PartialExpr) (type : CType) → expr_offences scene e ≡ [] → told_type scene.names e ≡ Some type → IsClean scene e type
+clean : (scene : BodyContext) (e : PartialExpr) (type : CType) → expr_offences scene e ≡ [] → told_type scene.names e ≡ Some type → IsClean scene e type
 clean scene e type none told = record { none = none; told = told }
 
 -- what an operation has a value for, and what its argument is then
@@ -229,17 +230,18 @@ then-some f (Some x) y e = (x, refl, e)
 pub both-empty : {A : Type 0} {xs ys : List A} → xs ≡ [] → ys ≡ [] → xs ++ ys ≡ []
 both-empty {ys = ys} e f = ap (λ l. l ++ ys) e ∙ f
 
-pub no-number : (scene : Scene) (a : PartialExpr) (type : CType) → told_type scene.names a ≡ Some type → type.pointer ≡ false → wants_number scene a ≡ []
+pub no-number : (scene : BodyContext) (a : PartialExpr) (type : CType) → told_type scene.names a ≡ Some type → type.pointer ≡ false → wants_number scene a ≡ []
 no-number scene a type told p = ap (λ q. only_if q (offence of_type (place_of a))) (ap is_pointer told ∙ p)
 
-name-clean : (scene : Scene) (at : ℕ) (word : Word) (called : Bool) (type : CType) → option_and_then type_of_name (declared_as scene.names word) ≡ Some type → IsClean scene (NameHere at word called) type
+name-clean : (scene : BodyContext) (at : ℕ) (word : Word) (called : Bool) (type : CType) → option_and_then type_of_name (declared_as scene.names word) ≡ Some type → IsClean scene (NameHere at word called) type
 name-clean scene at word called type e =
     let found = then-some type_of_name (declared_as scene.names word) type e in
     clean scene (NameHere at word called) type
     (ap (λ o. elim o [ Some d ↦ only_if (is_none (type_of_name d)) (offence of_type at) | None ↦ no_variable scene at word called ]) found.1
     ∙ ap (λ o. only_if (is_none o) (offence of_type at)) found.2) e
 
-number-clean : (scene : Scene) (at : ℕ) (operator : CUn) (a : PartialExpr) (type from : CType) → IsClean scene a from →
+number-clean : (scene : BodyContext) (at : ℕ) (operator : CUn) (a : PartialExpr) (type from : CType)
+    → IsClean scene a from →
     unary_type operator from ≡ Some type →
     expr_offences scene (UnaryHere at operator a) ≡ expr_offences scene a ++ unary_offences scene operator a →
     told_type scene.names (UnaryHere at operator a) ≡ option_and_then (unary_type operator) (told_type scene.names a) →
@@ -260,7 +262,7 @@ number-of operator from type e other = elim from.pointer as (λ p. from.pointer 
   ] refl
 ] refl
 
-pointed-clean : (scene : Scene) (a : PartialExpr) (from type : CType) → IsClean scene a from → unary_type Deref from ≡ Some type → wants_pointer scene a ≡ []
+pointed-clean : (scene : BodyContext) (a : PartialExpr) (from type : CType) → IsClean scene a from → unary_type Deref from ≡ Some type → wants_pointer scene a ≡ []
 pointed-clean scene a from type c e = ap (λ o. elim o [ Some type ↦ only_if (not type.pointer) (offence of_type (place_of a)) | None ↦ [] ]) c.told
     ∙ elim from.pointer as (λ p. (if p then Some (plain from.base) else None) ≡ Some type → only_if (not p) (offence of_type (place_of a)) ≡ []) [
       | true ↦ λ _. refl
@@ -273,7 +275,7 @@ both-some operator (Some a) (Some b) type e = (a, b, refl, refl, e)
 both-some operator (Some a) None type e = absurd cc
 both-some operator None q type e = absurd cc
 
-second-clean : (scene : Scene) (operator : CBin) (a b : PartialExpr) (s t type : CType) → told_type scene.names a ≡ Some s → told_type scene.names b ≡ Some t →
+second-clean : (scene : BodyContext) (operator : CBin) (a b : PartialExpr) (s t type : CType) → told_type scene.names a ≡ Some s → told_type scene.names b ≡ Some t →
     binary_type operator s t ≡ Some type → second_offends scene operator a b ≡ []
 second-clean scene operator a b s t type first second e =
     ap (λ q. only_if q (offence of_type (place_of b)))
@@ -298,7 +300,7 @@ plain-numbers operator s t type other e = elim s.pointer as (λ p. s.pointer ≡
   ] refl
 ] refl
 
-binary-clean : (scene : Scene) (operator : CBin) (a b : PartialExpr) (s t type : CType) → IsClean scene a s → IsClean scene b t →
+binary-clean : (scene : BodyContext) (operator : CBin) (a b : PartialExpr) (s t type : CType) → IsClean scene a s → IsClean scene b t →
     binary_type operator s t ≡ Some type → IsClean scene (BinaryOf operator a b) type
 binary-clean scene operator a b s t type c d e =
     let own : binary_offences scene operator a b ≡ [] = elim (is_comparison operator || is_sum operator) as (λ q. is_comparison operator || is_sum operator ≡ q →
@@ -322,7 +324,7 @@ tested-some (Some a) q type e = elim a.pointer as (λ p. a.pointer ≡ p → (if
   | false ↦ λ p is. (a, refl, p, is)
 ] refl e
 
-conditional-clean : (scene : Scene) (a b c : PartialExpr) (r s t type : CType) → IsClean scene a r → r.pointer ≡ false → IsClean scene b s → IsClean scene c t →
+conditional-clean : (scene : BodyContext) (a b c : PartialExpr) (r s t type : CType) → IsClean scene a r → r.pointer ≡ false → IsClean scene b s → IsClean scene c t →
     arms_type s t ≡ Some type → IsClean scene (ConditionalOf a b c) type
 conditional-clean scene a b c r s t type x p y z e =
     let arms : arms_offences scene b c ≡ [] = ap (λ q. only_if q (offence of_type (place_of c)))
@@ -338,7 +340,7 @@ cast-some to None type e = absurd cc
 cast-some to (Some from) type e = (from, refl, e)
 
 -- In a complete expression that has a type nothing offends, and the type is told.
-pub expr-clean : (scene : Scene) (e : PartialExpr) (type : CType) → is_complete_expr e ≡ true → type_of scene.names (plain_expr e) ≡ Some type → IsClean scene e type
+pub expr-clean : (scene : BodyContext) (e : PartialExpr) (type : CType) → is_complete_expr e ≡ true → type_of scene.names (plain_expr e) ≡ Some type → IsClean scene e type
 expr-clean scene Missing type whole e = absurd cc
 expr-clean scene (NumberHere at n base) type whole e = clean scene (NumberHere at n base) type refl e
 expr-clean scene (NameHere at word called) type whole e = name-clean scene at word called type e

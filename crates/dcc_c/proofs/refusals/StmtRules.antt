@@ -9,7 +9,7 @@ use Rattle.dcc_c.specs.Rules.{converts, fits, is_number}
 use Rattle.dcc_c.specs.Kinds.{of_name, of_type, Offence, offence, only_if}
 use Rattle.dcc_c.specs.Partial.{PartialExpr, Missing, NumberHere, NameHere, UnaryHere, BinaryOf, ConditionalOf, CastHere, place_of, is_name_here}
 use Rattle.dcc_c.specs.Known.{known_as}
-use Rattle.dcc_c.specs.Offences.{Scene, told_place, no_variable, wants_number, expr_offences, place_offences, conversion, becomes, assigned_offences, test_offences}
+use Rattle.dcc_c.specs.Offences.{BodyContext, told_place, no_variable, wants_number, expr_offences, place_offences, conversion, becomes, assigned_offences, test_offences}
 use Rattle.dcc_c.specs.Stripped.{plain_expr}
 use Rattle.dcc_c.specs.Complete.{is_complete_expr, is_complete_place}
 use Rattle.dcc_c.proofs.refusals.ExprRules.{none-both, none-only, no-some, both-empty, expr-typed, expr-clean, no-pointer, no-number, then-some}
@@ -17,7 +17,7 @@ use Rattle.dcc_c.proofs.refusals.ExprRules.{none-both, none-only, no-some, both-
 -- Places.
 
 -- nothing offends in the place, and it takes values of the type
-pub record IsPlaced (scene : Scene) (place : PartialExpr) (type : CType) : Type 0 where
+pub record IsPlaced (scene : BodyContext) (place : PartialExpr) (type : CType) : Type 0 where
   pub none : place_offences scene place ≡ []
   pub told : told_place scene.names place ≡ Some type
   pub is : place_type scene.names (plain_expr place) ≡ Some type
@@ -25,13 +25,13 @@ pub record IsPlaced (scene : Scene) (place : PartialExpr) (type : CType) : Type 
 some-variable : (d : Declared) (at : ℕ) → only_if d.is_array (offence of_type at) ≡ [] → type_of_variable d ≡ Some d.type
 some-variable d at e = rw (none-only d.is_array (offence of_type at) e) refl
 
-no-name : (scene : Scene) (at : ℕ) (word : Word) → no_variable scene at word false ≡ [] → ⊥
+no-name : (scene : BodyContext) (at : ℕ) (word : Word) → no_variable scene at word false ≡ [] → ⊥
 no-name scene at word e = elim (is_some (known_as scene.functions word)) as (λ known. (if known then only_if true (offence of_type at) else offence of_name at ∷ []) ≡ [] → ⊥) [
   | true ↦ λ bad. absurd cc
   | false ↦ λ bad. absurd cc
 ] e
 
-name-placed : (scene : Scene) (at : ℕ) (word : Word) → place_offences scene (NameHere at word false) ≡ [] →
+name-placed : (scene : BodyContext) (at : ℕ) (word : Word) → place_offences scene (NameHere at word false) ≡ [] →
     (type : CType) × IsPlaced scene (NameHere at word false) type
 name-placed scene at word none = elim (declared_as scene.names word) as (λ d. declared_as scene.names word ≡ d → (type : CType) × IsPlaced scene (NameHere at word false) type) [
   | Some d ↦ λ is. let told = ap (option_and_then type_of_variable) is ∙ some-variable d at (sym (offends is) ∙ none) in
@@ -43,7 +43,7 @@ name-placed scene at word none = elim (declared_as scene.names word) as (λ d. d
   offends is = ap (λ o. elim o [ Some d ↦ only_if d.is_array (offence of_type at) | None ↦ no_variable scene at word false ]) is
 
 -- a complete place in which nothing offends
-pub place-placed : (scene : Scene) (place : PartialExpr) → is_complete_place place ≡ true → place_offences scene place ≡ [] →
+pub place-placed : (scene : BodyContext) (place : PartialExpr) → is_complete_place place ≡ true → place_offences scene place ≡ [] →
     (type : CType) × IsPlaced scene place type
 place-placed scene (NameHere at word true) whole none = absurd cc
 place-placed scene (NameHere at word false) whole none = name-placed scene at word none
@@ -67,7 +67,7 @@ not-array d at type e = elim d.is_array as (λ a. (if a then None else Some d.ty
   | false ↦ λ _. refl
 ] e
 
-pub place-clean : (scene : Scene) (place : PartialExpr) (type : CType) → is_complete_place place ≡ true →
+pub place-clean : (scene : BodyContext) (place : PartialExpr) (type : CType) → is_complete_place place ≡ true →
     place_type scene.names (plain_expr place) ≡ Some type → IsPlaced scene place type
 place-clean scene (NameHere at word called) type whole e =
     let found = then-some type_of_variable (declared_as scene.names word) type e in
@@ -97,7 +97,7 @@ not-true true e = refl
 not-true false e = absurd cc
 
 -- the value becomes one of the type: nothing offends in it, and it fits
-pub fits-of : (scene : Scene) (e : PartialExpr) (to : CType) → is_complete_expr e ≡ true →
+pub fits-of : (scene : BodyContext) (e : PartialExpr) (to : CType) → is_complete_expr e ≡ true →
     expr_offences scene e ≡ [] → becomes scene e true (Some to) ≡ [] → fits scene.names to (plain_expr e) ≡ true
 fits-of scene e to whole none own =
     let t = expr-typed scene e whole none in
@@ -106,11 +106,11 @@ fits-of scene e to whole none own =
     (ap (λ o. conversion o (Some to) (place_of e)) (sym t.told) ∙ own))
 
 -- the value may become one of the type, as nothing offends in it
-pub record Becomes (scene : Scene) (e : PartialExpr) (to : CType) : Type 0 where
+pub record Becomes (scene : BodyContext) (e : PartialExpr) (to : CType) : Type 0 where
   pub none : expr_offences scene e ≡ []
   pub own : becomes scene e true (Some to) ≡ []
 
-pub becomes-of : (scene : Scene) (e : PartialExpr) (to : CType) → is_complete_expr e ≡ true →
+pub becomes-of : (scene : BodyContext) (e : PartialExpr) (to : CType) → is_complete_expr e ≡ true →
     fits scene.names to (plain_expr e) ≡ true → Becomes scene e to
 becomes-of scene e to whole fit = elim (type_of scene.names (plain_expr e)) as (λ o. type_of scene.names (plain_expr e) ≡ o → (elim o [ Some from ↦ converts from to | None ↦ false ]) ≡ true → Becomes scene e to) [
   | Some from ↦ λ is fit. let c = expr-clean scene e from whole is in
@@ -123,13 +123,13 @@ becomes-of scene e to whole fit = elim (type_of scene.names (plain_expr e)) as (
 
 -- Tests.
 
-pub number-of-test : (scene : Scene) (e : PartialExpr) → is_complete_expr e ≡ true → test_offences scene e true ≡ [] → is_number scene.names (plain_expr e) ≡ true
+pub number-of-test : (scene : BodyContext) (e : PartialExpr) → is_complete_expr e ≡ true → test_offences scene e true ≡ [] → is_number scene.names (plain_expr e) ≡ true
 number-of-test scene e whole none =
     let both = none-both (expr_offences scene e) (wants_number scene e) none in
     let t = expr-typed scene e whole both.0 in
     ap (λ o. elim o [ Some type ↦ not type.pointer | None ↦ false ]) t.is ∙ ap not (no-pointer scene e t both.1)
 
-pub test-of-number : (scene : Scene) (e : PartialExpr) → is_complete_expr e ≡ true → is_number scene.names (plain_expr e) ≡ true → test_offences scene e true ≡ []
+pub test-of-number : (scene : BodyContext) (e : PartialExpr) → is_complete_expr e ≡ true → is_number scene.names (plain_expr e) ≡ true → test_offences scene e true ≡ []
 test-of-number scene e whole number = elim (type_of scene.names (plain_expr e)) as (λ o. type_of scene.names (plain_expr e) ≡ o → (elim o [ Some type ↦ not type.pointer | None ↦ false ]) ≡ true → test_offences scene e true ≡ []) [
   | Some type ↦ λ is p. let c = expr-clean scene e type whole is in both-empty c.none (no-number scene e type c.told (not-false type.pointer p))
   | None ↦ λ _ bad. absurd cc
@@ -140,7 +140,7 @@ test-of-number scene e whole number = elim (type_of scene.names (plain_expr e)) 
 
 -- Assignments.
 
-pub assignment-fits : (scene : Scene) (place e : PartialExpr) → is_complete_place place ≡ true → is_complete_expr e ≡ true →
+pub assignment-fits : (scene : BodyContext) (place e : PartialExpr) → is_complete_place place ≡ true → is_complete_expr e ≡ true →
     assigned_offences scene place (Some e) true ≡ [] →
     (elim (place_type scene.names (plain_expr place)) [ Some to ↦ fits scene.names to (plain_expr e) | None ↦ false ]) ≡ true
 assignment-fits scene place e placed whole none =

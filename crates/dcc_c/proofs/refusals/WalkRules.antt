@@ -7,12 +7,12 @@ use Rattle.dcc_c.specs.Tree.{Stmt}
 use Rattle.dcc_c.specs.Parts.{stmts_in, inner_stmts, arm_stmts}
 use Rattle.dcc_c.specs.Kinds.{of_depth, Offence, offence, only_if}
 use Rattle.dcc_c.specs.Partial.{PartialStmt, AssignOf, CallOf, IfOf, WhileOf, DoWhileOf, ForeverOf, SwitchOf, BreakOf, ContinueOf, GotoOf, LabelOf, EmptyOf, ReturnOf, PartialLines, no_rows, row, PartialArms, no_cases, cases}
-use Rattle.dcc_c.specs.Offences.{Scene, own_offences, case_offences, case_numbers, default_offences, lines_offences, inner_offences, arms_inner}
+use Rattle.dcc_c.specs.Offences.{BodyContext, own_offences, case_offences, case_numbers, default_offences, lines_offences, inner_offences, arms_inner}
 use Rattle.dcc_c.specs.Stripped.{plain_stmt, plain_lines, case_arms, default_arms}
 use Rattle.dcc_c.specs.Complete.{is_complete_expr, is_complete_stmt, is_complete_lines, are_complete_arms, are_within, is_within, are_arms_within}
 use Rattle.dcc_c.proofs.refusals.ExprRules.{none-both, and-both, both-empty}
 
-module _ (P : Stmt → Bool) (scene : Scene)
+module _ (P : Stmt → Bool) (scene : BodyContext)
     (own-holds : (at blocks : ℕ) (stmt : PartialStmt) → is_complete_stmt stmt ≡ true → own_offences scene at stmt ≡ [] → inner_offences scene blocks stmt ≡ [] → P (plain_stmt stmt) ≡ true) where
   pub all-append : {A : Type 0} (P : A → Bool) (xs ys : List A) → list_all P xs ≡ true → list_all P ys ≡ true → list_all P (xs ++ ys) ≡ true
   all-append P [] ys e g = g
@@ -92,7 +92,7 @@ arm_heads (SwitchOf e done arms) = case_offences [] (case_numbers arms) ++ defau
 arm_heads stmt = []
 
 -- nothing offends in a statement's own parts
-pub record OwnClean (scene : Scene) (at : ℕ) (stmt : PartialStmt) : Type 0 where
+pub record OwnClean (scene : BodyContext) (at : ℕ) (stmt : PartialStmt) : Type 0 where
   pub own : own_offences scene at stmt ≡ []
   pub heads : arm_heads stmt ≡ []
 
@@ -103,7 +103,7 @@ append-all P (x ∷ xs) ys e =
     let others = append-all P xs ys parts.1 in
     (rw parts.0 others.0, others.1)
 
-module _ (P : Stmt → Bool) (scene : Scene)
+module _ (P : Stmt → Bool) (scene : BodyContext)
     (own-clean : (at : ℕ) (stmt : PartialStmt) → is_complete_stmt stmt ≡ true → P (plain_stmt stmt) ≡ true → OwnClean scene at stmt) where
   mutual
     pub lines-clean : (blocks : ℕ) (rows : PartialLines) → is_complete_lines rows ≡ true → are_within blocks rows ≡ true →

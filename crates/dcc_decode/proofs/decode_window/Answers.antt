@@ -1,5 +1,5 @@
 use Rattle.std.proofs.Common.{arith}
-use Rattle.dcc_prog.proofs.WellFormedLaws.{found-operation}
+use Rattle.dcc_machine.proofs.WellFormedLaws.{found-operation}
 use Rattle.dcc_decode.proofs.decode_window.Goals as goal
 
 pub returns-clause-operation : goal.returns-clause-operation

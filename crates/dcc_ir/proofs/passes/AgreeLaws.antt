@@ -9,7 +9,7 @@ use Rattle.dcc_run.proofs.KeptLaws.{right_part}
 use Rattle.dcc_ir.specs.declared.syntax.Loc.{Loc}
 use Rattle.dcc_ir.specs.Tree.{Expr, Const, Get, Load, Unary, Binary, Widen, Part, Join, Choose, Address, Stmt, Set, Fetch, Store, Div, Call, Dos}
 use Rattle.dcc_ir.specs.Location.{same_location, Values, with_value}
-use Rattle.dcc_ir.specs.Value.{Scene, value_of, unary_value, binary_value, bytes_at, division_of, division_at, width_of, pattern_at, signed_at}
+use Rattle.dcc_ir.specs.Value.{Environment, value_of, unary_value, binary_value, bytes_at, division_of, division_at, width_of, pattern_at, signed_at}
 use Rattle.dcc_ir.specs.Dos.{dos_string}
 use Rattle.dcc_ir.specs.Use.{parts_of, got_by, reads_of, exprs_of, writes_of}
 use Rattle.dcc_ir.specs.Demand.{uses_of, makes_of}
@@ -28,7 +28,7 @@ both_parts P xs ys all =
     (left_part P (flat_map got_by xs) (flat_map got_by ys) all', right_part P (flat_map got_by xs) (flat_map got_by ys) all')
 
 -- an expression has one value where what it reads is the same
-pub value_agrees : (s t : Scene) → t.bits ≡ s.bits → t.base ≡ s.base → t.memory ≡ s.memory → (e : Expr) → All (λ l. t.values l ≡ s.values l) (reads_of e) → value_of t e ≡ value_of s e
+pub value_agrees : (s t : Environment) → t.bits ≡ s.bits → t.base ≡ s.base → t.memory ≡ s.memory → (e : Expr) → All (λ l. t.values l ≡ s.values l) (reads_of e) → value_of t e ≡ value_of s e
 value_agrees s t bits base memory (Const width n) all = refl
 value_agrees s t bits base memory (Get location) all = All-head (λ l. t.values l ≡ s.values l) location [] all
 value_agrees s t bits base memory (Load width address) all = ap₂ (λ m n. bytes_at m (width / 8) n) memory (value_agrees s t bits base memory address all)

@@ -7,7 +7,7 @@ use Rattle.std.proofs.lemmas.Option.{slice_get-get_or}
 use Rattle.std.proofs.lemmas.List.Elements.{All-head, All-contains}
 use Rattle.std.proofs.Math.Dec.{eqb-suc-zero}
 use Rattle.dcc_run.specs.End.{Running, Stuck, is_over}
-use Rattle.dcc_run.specs.Place.{Place}
+use Rattle.dcc_run.specs.ProgramPoint.{ProgramPoint}
 use Rattle.dcc_run.specs.System.{after}
 use Rattle.dcc_run.specs.Watched.{Watched, IsQuiet, IsQuietUntil}
 use Rattle.dcc_run.specs.Shadows.{ComesTo, still_related, both_over, first_foul, Matches, kept_mark, only}
@@ -49,7 +49,7 @@ pub record Comes (p : Program) (n : ℕ) (Kind : Halt → Type 0) (from : Point)
   pub direct : n ≡ 0 → at ≡ from
 
 module _ (p q : Program) (is : IsProgram p) (fill : ℕ) where
-  abbrev first : Watched State Place
+  abbrev first : Watched State ProgramPoint
   first = only (has_block q) (watched_inner p fill)
 
   leaves_at : (point : Point) (s : State) → IsHere p point s → Leaves p (after_call s.running.rest) (frame_of s) (halt_of s)
@@ -184,7 +184,7 @@ first_all P [] some all = absurd (omega (arith, some))
 first_all P (g ∷ graphs) some all = All-head P g [] all
 
 module _ (p q : Program) (pass : Pass) (is : IsPass p q pass) (fill : ℕ) (small : fill < 65536) where
-  abbrev second : Watched State Place
+  abbrev second : Watched State ProgramPoint
   second = watched_inner q fill
 
   -- The runs go to one block.
@@ -380,7 +380,7 @@ module _ (p q : Program) (pass : Pass) (is : IsPass p q pass) (fill : ℕ) (smal
       let kept : kept_mark (has_block q) (Some (place_of s)) ≡ Some (place_of t) = ap (λ x. kept_mark (has_block q) (Some x)) places ∙ ap (λ b. cond b (Some (place_of t)) None) has in
       ap (λ b. cond b (Some (place_of t)) None) (other_at.begins ∙ sym at.begins) ∙ both s.running.begins kept
     where
-      place_of : State → Place
+      place_of : State → ProgramPoint
       place_of u = record { entry = u.running.graph.entry; at = u.running.block.at }
 
       both : (b : Bool) → kept_mark (has_block q) (Some (place_of s)) ≡ Some (place_of t) → cond b (Some (place_of t)) None ≡ kept_mark (has_block q) (cond b (Some (place_of s)) None)

@@ -62,7 +62,7 @@ pub fn signed(width: u8, a: u32) -> Option<i64>
 }
 
 /// The bits of a signed number.
-pub fn pattern(width: u8, z: i64) -> Option<u32>
+pub(crate) fn pattern(width: u8, z: i64) -> Option<u32>
     ensures { IfSome result (λ r. r ≡ pattern_at width z) }
 {
     let limit = limit(width)?;

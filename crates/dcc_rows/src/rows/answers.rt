@@ -254,6 +254,30 @@ fn a_procedure_of_too_many_instructions_is_refused(rt: HostRuntime) -> Result<()
     Ok(())
 }
 
+// JNZ to itself, then so many times JNZ to the one before, and a call that leaves: each jump ends a loop around those
+// before it.
+fn loops_around_a_loop(alloc: Global, count: usize) -> Result<Vec<u8>, AllocError> {
+    let mut code = Vec::new(alloc);
+    code.extend_from_slice(b"\x75\xFE")?;
+    for _ in 0..count {
+        code.extend_from_slice(b"\x75\xFC")?;
+    }
+    code.extend_from_slice(b"\xB8\x00\x4C\xCD\x21")?;
+    Ok(code)
+}
+
+#[test]
+fn a_text_that_would_lack_its_shape_is_not_written(rt: HostRuntime) -> Result<(), Fail> {
+    let alloc = rt.alloc();
+    let file = program(alloc, &loops_around_a_loop(alloc, 198)?)?;
+    let given = answered(alloc, &["c", "ROW1.EXE"], &file, NO_FAULTS)?;
+    assert_eq!(rt; given.status, 0);
+    let file = program(alloc, &loops_around_a_loop(alloc, 199)?)?;
+    let given = answered(alloc, &["c", "ROW1.EXE"], &file, NO_FAULTS)?;
+    check_refused(&rt, &given, 12, "dcc: not yet at 0005\n");
+    Ok(())
+}
+
 #[test]
 fn a_write_that_fails_leaves_a_part_of_the_answer(rt: HostRuntime) -> Result<(), Fail> {
     let second_of_text = Faults {

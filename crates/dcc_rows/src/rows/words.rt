@@ -1,6 +1,6 @@
 //! Words and their jobs. The values come from a reference reader apart from this one.
 
-use dcc_prog::Cpu;
+use dcc_machine::Cpu;
 use dcc_top::words::{Execution, Job, TextExecution, job_of};
 use std::alloc::{AllocError, Global};
 use std::test::Fail;

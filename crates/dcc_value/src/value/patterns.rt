@@ -60,7 +60,7 @@ fn same_sign(base: Base, a: u32, b: u32) -> bool
 }
 
 /// Whether the division has no quotient: the divisor is 0, or the least number is divided by -1.
-pub fn division_faults(base: Base, a: u32, b: u32) -> bool
+pub(crate) fn division_faults(base: Base, a: u32, b: u32) -> bool
     ensures value { result ≡ division_faults base a b }
     ensures some { result ≡ false → 0 < b }
 {
@@ -105,7 +105,7 @@ fn rank(base: Base, n: u32) -> u32
 }
 
 /// Whether the first number is the less one.
-pub fn is_less(base: Base, a: u32, b: u32) -> bool
+pub(crate) fn is_less(base: Base, a: u32, b: u32) -> bool
     ensures { result ≡ is_less base a b }
 {
     rank(base, a) < rank(base, b)
@@ -120,7 +120,7 @@ fn is_past(base: Base, of_count: Base, count: u32) -> bool
 }
 
 /// The bits moved up.
-pub fn shifted_left(base: Base, n: u32, of_count: Base, count: u32) -> u32
+pub(crate) fn shifted_left(base: Base, n: u32, of_count: Base, count: u32) -> u32
     ensures { result ≡ shifted_left base n of_count count }
 {
     if is_past(base, of_count, count) {
@@ -142,7 +142,7 @@ fn moved_down(base: Base, n: u32, of_count: Base, count: u32) -> u32
 }
 
 /// The bits moved down, with copies of the sign coming in: a negative number is moved as its complement.
-pub fn shifted_right(base: Base, n: u32, of_count: Base, count: u32) -> u32
+pub(crate) fn shifted_right(base: Base, n: u32, of_count: Base, count: u32) -> u32
     ensures { result ≡ shifted_right base n of_count count }
 {
     if base.is_negative(n) {

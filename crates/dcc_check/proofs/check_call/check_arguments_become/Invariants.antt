@@ -1,13 +1,13 @@
 use Rattle.std.proofs.Common.{◌≡◌, map, drop}
 use Rattle.dcc_c.specs.Kinds.{first_after}
-use Rattle.dcc_c.specs.Offences.{Scene, arguments_become}
+use Rattle.dcc_c.specs.Offences.{BodyContext, arguments_become}
 use Rattle.dcc_reader.specs.PartialViews.{expr_of}
 use Rattle.dcc_reader.specs.Told.{told}
-use Rattle.dcc_check.specs.Scenes.{IsScene}
+use Rattle.dcc_check.specs.Contexts.{IsContext}
 use Rattle.dcc_check.proofs.check_call.check_arguments_become.Given as goal
 
 -- with the arguments that are left, the first offence is that of all
 abbrev pub invariant-loop-i : goal.invariant-loop-i
-invariant-loop-i l = (s : Scene) → IsScene l.scene s →
+invariant-loop-i l = (s : BodyContext) → IsContext l.scene s →
     first_after (told l.first) (arguments_become s l.closed (drop l.i l.params) (map expr_of (drop l.i l.arguments)))
     ≡ first_after (told l.initial.first) (arguments_become s l.closed l.params (map expr_of l.arguments))

@@ -5,7 +5,7 @@ use Rattle.dcc_c.specs.Offences.{lines_offences}
 use Rattle.dcc_c.specs.Placement.{is_auto, is_register}
 use Rattle.dcc_c.specs.TextOffences.{declared_of, scene_of}
 use Rattle.dcc_reader.specs.PartialViews.{function_of, lines_of}
-use Rattle.dcc_check.specs.Scenes.{held}
+use Rattle.dcc_check.specs.Contexts.{held}
 use Rattle.dcc_reader.specs.Told.{told}
 use Rattle.dcc_check.proofs.WholeLaws.{variable-found, locals-first}
 use Rattle.dcc_check.proofs.text.check_statements.Goals as goal

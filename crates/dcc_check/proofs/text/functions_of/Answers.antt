@@ -3,7 +3,7 @@ use Rattle.std.specs.Prelude.{option_map}
 use Rattle.dcc_c.specs.Known.{known_as, known_dos, known_functions, heads_in}
 use Rattle.dcc_reader.specs.PartialViews.{function_of}
 use Rattle.dcc_check.specs.Declarations.{first_found, held_head}
-use Rattle.dcc_check.specs.Scenes.{head_of, signature_of}
+use Rattle.dcc_check.specs.Contexts.{head_of, signature_of}
 use Rattle.dcc_check.proofs.MapLaws.{none-held}
 use Rattle.dcc_check.proofs.WholeLaws.{three-lists}
 use Rattle.dcc_check.proofs.text.functions_of.Goals as goal

@@ -6,7 +6,7 @@ use Rattle.dcc_c.specs.Typing.{declared_as}
 use Rattle.dcc_reader.specs.PartialViews.{variable_of}
 use Rattle.dcc_check.specs.Declarations.{first_found}
 use Rattle.dcc_ctypes.specs.NameViews.{unnamed}
-use Rattle.dcc_check.specs.Scenes.{held}
+use Rattle.dcc_check.specs.Contexts.{held}
 use Rattle.dcc_check.proofs.MapLaws.{none-held}
 use Rattle.dcc_check.proofs.WholeLaws.{two-lists}
 use Rattle.dcc_check.proofs.text.locals_of.Goals as goal

@@ -1,7 +1,7 @@
 use Rattle.std.proofs.Common.{◌≡◌, ◌++◌, ◌≤◌, length, map, drop}
 use Rattle.dcc_c.specs.Value.{Gives, and_then}
 use Rattle.dcc_value.specs.Evaluation.{typed}
-use Rattle.dcc_value.specs.Resolved.{scene_of}
+use Rattle.dcc_value.specs.Resolved.{contents_of}
 use Rattle.dcc_crun.specs.Doing.{resolved_arguments}
 use Rattle.dcc_crun.proofs.moment.argument_values.Given as goal
 
@@ -9,7 +9,7 @@ use Rattle.dcc_crun.proofs.moment.argument_values.Given as goal
 abbrev pub invariant-loop-i : goal.invariant-loop-i
 invariant-loop-i l = record {
   within : l.i ≤ length l.procedure.params.items;
-  values : resolved_arguments (scene_of l.scene) (map (λ p. p.ty) l.procedure.params.items) l.arguments
+  values : resolved_arguments (contents_of l.scene) (map (λ p. p.ty) l.procedure.params.items) l.arguments
       ≡ and_then (λ vs. Gives (map typed l.values.items ++ vs))
-      (resolved_arguments (scene_of l.scene) (drop l.i (map (λ p. p.ty) l.procedure.params.items)) (drop l.i l.arguments));
+      (resolved_arguments (contents_of l.scene) (drop l.i (map (λ p. p.ty) l.procedure.params.items)) (drop l.i l.arguments));
 }

@@ -1,4 +1,4 @@
-use Rattle.dcc_prog.proofs.TableLaws.{later_processor}
+use Rattle.dcc_machine.proofs.TableLaws.{later_processor}
 use Rattle.dcc_decode.proofs.laws.later_processor.Goals as goal
 
 pub returns : goal.returns

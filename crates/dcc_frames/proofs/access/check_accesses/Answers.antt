@@ -6,9 +6,10 @@ use Rattle.dcc_frames.proofs.access.check_accesses.Goals as goal
 
 pub returns-then-not-is_allowed-clause-refused : goal.returns-then-not-is_allowed-clause-refused
 returns-then-not-is_allowed-clause-refused c =
-    told-at _ c.args.body.now.steps.items c.deref-step-items.result.now c.deref-step-items.ensures.value
+    rw c.fault_in-fault.ensures
+    (told-at _ c.args.body.now.steps.items c.deref-step-items.result.now c.deref-step-items.ensures.value
     c.loop-step.step-index _
-    c.loop-step-test.true _ (sym c.is_allowed.ensures ∙ c.if-not-is_allowed.true)
+    c.loop-step-test.true _ (sym c.is_allowed.ensures ∙ c.if-not-is_allowed.true))
 
 pub loop-step-preserved : goal.loop-step-preserved
 loop-step-preserved c =

@@ -1,12 +1,12 @@
 use Rattle.std.proofs.Common.{◌≡◌, ℕ, Option, None, All, nat_eq, refl, ap, ◌∙◌, subst, rules}
 use Rattle.indexmap.specs.IndexMap.{get}
 use Rattle.dcc_frames.specs.declared.bytes.Piece.{Piece}
-use Rattle.dcc_frames.specs.CellLists.{cells_from, long_user, IsOverfull, IsToldOfRuns}
+use Rattle.dcc_frames.specs.CellLists.{cells_from, long_user, IsOverfull, IsToldOfExtents}
 use Rattle.dcc_frames.specs.Starts.{starts_of, IsNear, IsLocalBy, IsArgumentBy}
 use Rattle.dcc_prog.specs.declared.refusal.Refusal.TheVariants.{Memory}
 use Rattle.dcc_prog.specs.Refused.{no_memory}
 use Rattle.dcc_frames.specs.Ready.{IsFrameRefusal}
-use Rattle.dcc_frames.proofs.Answered.{accesses-refused, calls-refused, are-sorted, runs-refused, cells-refused, frame-told}
+use Rattle.dcc_frames.proofs.Answered.{accesses-refused, calls-refused, are-sorted, extents-refused, cells-refused, frame-told}
 use Rattle.dcc_frames.proofs.frames.frame.Goals as goal
 
 pub returns-in_err-check_accesses-clause-refused : goal.returns-in_err-check_accesses-clause-refused
@@ -39,8 +39,8 @@ returns-in_err-sort-clause-refused c =
     let named : IsFrameRefusal c.args.body.now counts c.args.delta Memory = λ image layout ready. no_memory in
     search rules
 
-pub returns-in_err-runs-clause-refused : goal.returns-in_err-runs-clause-refused
-returns-in_err-runs-clause-refused c =
+pub returns-in_err-extents-clause-refused : goal.returns-in_err-extents-clause-refused
+returns-in_err-extents-clause-refused c =
     let counts : ℕ → Option ℕ = λ entry. get nat_eq c.args.counts.now entry in
     let named : IsFrameRefusal c.args.body.now counts c.args.delta Memory = λ image layout ready. no_memory in
     search rules
@@ -51,20 +51,20 @@ returns-in_err-starts-clause-refused c =
     let named : IsFrameRefusal c.args.body.now counts c.args.delta Memory = λ image layout ready. no_memory in
     search rules
 
-pub returns-in_err-check_runs-clause-refused : goal.returns-in_err-check_runs-clause-refused
-returns-in_err-check_runs-clause-refused c =
+pub returns-in_err-check_extents-clause-refused : goal.returns-in_err-check_extents-clause-refused
+returns-in_err-check_extents-clause-refused c =
     let s =
     are-sorted c.args.body.now (get nat_eq c.args.counts.now) c.lacks_addresses-lacks.result _
     c.sort.new.pieces.items c.in_ok-check_accesses.ensures.allowed c.in_ok-check_calls.ensures.enough
     c.in_ok-pieces.ensures c.in_ok-sort.ensures.permutation c.in_ok-sort.ensures.order in
-    let refusal = c.in_err-check_runs.field-0.0 in
+    let refusal = c.in_err-check_extents.field-0.0 in
     let named : IsFrameRefusal c.args.body.now (get nat_eq c.args.counts.now) c.args.delta refusal = λ image layout ready.
-    runs-refused image layout c.args.body.now (get nat_eq c.args.counts.now) c.args.delta ready
+    extents-refused image layout c.args.body.now (get nat_eq c.args.counts.now) c.args.delta ready
     c.lacks_addresses-lacks.result c.lacks_addresses-lacks.ensures c.sort.new.pieces.items s c.deref.result.now
-    c.in_ok-runs.runs.items c.deref.ensures.value c.in_ok-runs.ensures
+    c.in_ok-extents.extents.items c.deref.ensures.value c.in_ok-extents.ensures
     refusal
-    (subst (λ l. IsToldOfRuns c.lacks_addresses-lacks.result l refusal) c.deref-2.ensures.value
-    c.in_err-check_runs.ensures.refused) in
+    (subst (λ l. IsToldOfExtents c.lacks_addresses-lacks.result l refusal) c.deref-2.ensures.value
+    c.in_err-check_extents.ensures.refused) in
     search rules
 
 pub returns-in_err-cells_of-clause-refused : goal.returns-in_err-cells_of-clause-refused
@@ -77,7 +77,7 @@ returns-in_err-cells_of-clause-refused c =
     let named : IsFrameRefusal c.args.body.now (get nat_eq c.args.counts.now) c.args.delta refusal = λ image layout ready.
     cells-refused image layout c.args.body.now (get nat_eq c.args.counts.now) c.args.delta ready
     c.lacks_addresses-lacks.result c.lacks_addresses-lacks.ensures c.sort.new.pieces.items s c.deref.result.now
-    c.in_ok-runs.runs.items c.deref.ensures.value c.in_ok-runs.ensures
+    c.in_ok-extents.extents.items c.deref.ensures.value c.in_ok-extents.ensures
     refusal
     (subst (λ l. IsOverfull (cells_from l) refusal) c.deref-5.ensures.value c.in_err-cells_of.ensures.refused) in
     search rules
@@ -89,17 +89,17 @@ returns-clause-frame c = λ image layout ready.
     c.sort.new.pieces.items c.in_ok-check_accesses.ensures.allowed c.in_ok-check_calls.ensures.enough
     c.in_ok-pieces.ensures c.in_ok-sort.ensures.permutation c.in_ok-sort.ensures.order in
     let body = c.args.body.now in
-    let runs = c.in_ok-runs.runs.items in
+    let extents = c.in_ok-extents.extents.items in
     let none =
-    subst (All (λ (run : Piece). long_user c.lacks_addresses-lacks.result run ≡ None)) c.deref-2.ensures.value
-    c.in_ok-check_runs.ensures.none in
-    let starts : c.deref-6.result.now ≡ starts_of body.steps.items runs =
+    subst (All (λ (extent : Piece). long_user c.lacks_addresses-lacks.result extent ≡ None)) c.deref-2.ensures.value
+    c.in_ok-check_extents.ensures.none in
+    let starts : c.deref-6.result.now ≡ starts_of body.steps.items extents =
     c.deref-6.ensures.value ∙ c.in_ok-starts.ensures
     ∙ ap (λ l. starts_of l c.deref-4.result.now) c.deref-3.ensures.value
     ∙ ap (starts_of body.steps.items) c.deref-4.ensures.value in
     frame-told image layout c.args.body.now (get nat_eq c.args.counts.now) c.args.delta ready
     c.lacks_addresses-lacks.result c.lacks_addresses-lacks.ensures c.sort.new.pieces.items s c.deref.result.now
-    c.in_ok-runs.runs.items c.deref.ensures.value c.in_ok-runs.ensures none
+    c.in_ok-extents.extents.items c.deref.ensures.value c.in_ok-extents.ensures none
     (record {
       framed = body.framed;
       args = body.args;

@@ -1,6 +1,6 @@
 use Rattle.std.proofs.Common.{nat_eq, take}
 use Rattle.indexmap.specs.IndexMap.{get}
-use Rattle.dcc_prog.specs.declared.image.Image.{Image}
+use Rattle.dcc_machine.specs.declared.image.Image.{Image}
 use Rattle.dcc_prog.specs.declared.procedure.Layout.{Layout}
 use Rattle.dcc_frames.specs.Ready.{AreAllReady, AreFramesAt}
 use Rattle.dcc_frames.proofs.frames.frames.Given as goal

@@ -1,11 +1,11 @@
 use Rattle.std.proofs.Common.{◌<◌, ◌≤◌, length, subst, rules, arith}
-use Rattle.dcc_heights.specs.Search.{scene_of, IsArrived, IsArrivalFault}
+use Rattle.dcc_heights.specs.Search.{searched_procedure, IsArrived, IsArrivalFault}
 use Rattle.dcc_heights.proofs.Searching.{reached-start, start-fault, searched-none, searched-more, searched-all, few-reached}
 use Rattle.dcc_heights.proofs.search.search.Goals as goal
 
 pub loop-next-init : goal.loop-next-init
 loop-next-init c =
-    let scene = scene_of c.args.proc.now c.args.framed c.args.removed.now.entries in
+    let scene = searched_procedure c.args.proc.now c.args.framed c.args.removed.now.entries in
     let heights = c.arrive.new.heights.entries in
     let arrived =
     subst (λ old. IsArrived old heights scene.entry 0) c.new-heights.ensures.empty c.in_ok-arrive.ensures.arrived in
@@ -13,7 +13,7 @@ loop-next-init c =
 
 pub loop-next-preserved : goal.loop-next-preserved
 loop-next-preserved c =
-    let scene = scene_of c.args.proc.now c.args.framed c.args.removed.now.entries in
+    let scene = searched_procedure c.args.proc.now c.args.framed c.args.removed.now.entries in
     let old = c.loop-next.heights.entries in
     let inside : c.loop-next.next < length old =
     (let test = c.loop-next-test.true in let len = c.len.ensures.len in omega (arith, test, len)) in
@@ -22,7 +22,7 @@ loop-next-preserved c =
 
 pub loop-next-smaller : goal.loop-next-smaller
 loop-next-smaller c =
-    let scene = scene_of c.args.proc.now c.args.framed c.args.removed.now.entries in
+    let scene = searched_procedure c.args.proc.now c.args.framed c.args.removed.now.entries in
     let few =
     few-reached scene c.loop-next.heights.entries c.loop-next.invariant.are c.len.ensures.unique in
     let test = c.loop-next-test.true in
@@ -31,7 +31,7 @@ loop-next-smaller c =
 
 pub returns-in_err-arrive-clause-refused : goal.returns-in_err-arrive-clause-refused
 returns-in_err-arrive-clause-refused c =
-    let scene = scene_of c.args.proc.now c.args.framed c.args.removed.now.entries in
+    let scene = searched_procedure c.args.proc.now c.args.framed c.args.removed.now.entries in
     let fault =
     subst (λ old. IsArrivalFault old scene.entry 0 c.in_err-arrive.field-0.0) c.new-heights.ensures.empty
     c.in_err-arrive.ensures.refused in
@@ -40,7 +40,7 @@ returns-in_err-arrive-clause-refused c =
 
 pub returns-clause-found : goal.returns-clause-found
 returns-clause-found c =
-    let scene = scene_of c.args.proc.now c.args.framed c.args.removed.now.entries in
+    let scene = searched_procedure c.args.proc.now c.args.framed c.args.removed.now.entries in
     let past : length c.loop-next.heights.entries ≤ c.loop-next.next =
     (let test = c.loop-next-test.false in let len = c.len.ensures.len in omega (arith, test, len)) in
     searched-all scene c.loop-next.heights.entries c.loop-next.next c.loop-next.invariant past

@@ -1,5 +1,5 @@
 use Rattle.std.proofs.Common.{◌+◌, sym, ap, subst, refl, arith}
-use Rattle.dcc_prog.specs.Code.{code_of}
+use Rattle.dcc_machine.specs.Code.{code_of}
 use Rattle.dcc_prog.specs.Layout.{IsFormAt}
 use Rattle.dcc_prog.proofs.PreludeLaws.{form-inside}
 use Rattle.dcc_layout.proofs.Scanning.{scanned-start, scanned-passed, scanned-kept, scanned-end}

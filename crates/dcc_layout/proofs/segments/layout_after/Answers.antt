@@ -1,9 +1,9 @@
 use Rattle.std.proofs.Common.{◌≡◌, get_or, ◌<◌, inl, inr, sym, ◌∙◌, refl, arith}
 use Rattle.std.proofs.lemmas.Result.{OkIff-decides}
 use Rattle.dcc_num.specs.declared.Reg.TheVariants.{Sp}
-use Rattle.dcc_prog.specs.Machine.{word_in, stack_segment, data_segment}
+use Rattle.dcc_machine.specs.Machine.{word_in, stack_segment, data_segment}
 use Rattle.dcc_layout.specs.Registers.{state_of}
-use Rattle.dcc_prog.proofs.MzImageLaws.{length-loaded, code_len-loaded}
+use Rattle.dcc_machine.proofs.MzImageLaws.{length-loaded, code_len-loaded}
 use Rattle.dcc_layout.proofs.Casts.{same-number}
 use Rattle.dcc_layout.proofs.Values.{values-of, layout-of_values}
 use Rattle.dcc_layout.proofs.segments.layout_after.Goals as goal

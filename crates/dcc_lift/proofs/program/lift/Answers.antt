@@ -5,7 +5,7 @@ use Rattle.std.proofs.lemmas.List.Elements.{All-get_or}
 use Rattle.dcc_ir.specs.Views.{graph_of}
 use Rattle.dcc_simulation.specs.Procedures.{Procedure}
 use Rattle.dcc_lift.specs.KnownProcedures.{procedure_of, KnowsProcedure, KnowsProcedures}
-use Rattle.dcc_lift.specs.Blocks.{Scene}
+use Rattle.dcc_lift.specs.Blocks.{BlockSource}
 use Rattle.dcc_lift.specs.Translation.{IsGraphOf, scenes_of}
 use Rattle.dcc_lift.proofs.FewLaws.{few_in_frames}
 use Rattle.dcc_lift.proofs.LowLaws.{Table, HasLow, low_heights}
@@ -71,7 +71,7 @@ loop-number-preserved c =
     ap (λ (t : Table). t.entries) c.index-in-loop-number.ensures
     ∙ sym (get_or-map (λ (t : Table). t.entries) tables n table table.entries within) in
     let graph = graph_of c.in_ok-graph.field-0 in
-    let is = subst (λ (scene : Scene). IsGraphOf image layout scene graph)
+    let is = subst (λ (scene : BlockSource). IsGraphOf image layout scene graph)
     (ap₂ (λ ps before. scene_made layout (map procedure_of ps) before (procedure_of one) table.entries)
     c.as_slice.ensures.value c.before_of.ensures) c.in_ok-graph.ensures in
     let more = graph_more image layout all heights n (map graph_of c.loop-number.graphs.items) (procedure_of one)

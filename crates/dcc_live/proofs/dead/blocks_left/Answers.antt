@@ -2,7 +2,7 @@ use Rattle.std.proofs.Common.{◌≡◌, [], length, get_or, map, drop, reverse,
 use Rattle.std.proofs.lemmas.List.{length-map}
 use Rattle.dcc_ir.specs.Views.{block_of}
 use Rattle.dcc_flow.specs.Access.{block_access_in, block_access_of}
-use Rattle.dcc_live.specs.Wanted.{block_left}
+use Rattle.dcc_live.specs.Needed.{block_left}
 use Rattle.dcc_live.proofs.DeadLaws.{last_taken, block_step, mapped_at}
 use Rattle.dcc_live.proofs.dead.blocks_left.Goals as goal
 
@@ -27,8 +27,8 @@ loop-block-preserved c =
     let inv = c.loop-block.invariant in
     let taken = last_taken all rest fewer block is inv.le inv.front in
     let place : c.len-place.result ≡ length fewer = omega (arith, c.len-place.ensures) in
-    let places = c.args.wanted.now.places.items in
-    let at_end = c.args.wanted.now.at_end.items in
+    let places = c.args.needed.now.places.items in
+    let at_end = c.args.needed.now.at_end.items in
     let size : length at_end ≡ length all = omega (arith, c.requires.count, length-map c.args.blocks.items block_of) in
     let made = c.in_ok-staying.ensures.left ∙ ap (λ n. block_left places (get_or at_end n []) (block_of block)) place in
     record {

@@ -3,7 +3,7 @@ use Rattle.std.proofs.lemmas.List.{length_push}
 use Rattle.dcc_ir.specs.Views.{stmt_of}
 use Rattle.dcc_flow.specs.Access.{access_in, access_of}
 use Rattle.dcc_flow.specs.Marks.{members}
-use Rattle.dcc_live.specs.Wanted.{stays, before_one, before_all}
+use Rattle.dcc_live.specs.Needed.{stays, before_one, before_all}
 use Rattle.dcc_live.proofs.DeadLaws.{stmt_here, stmt_step, mapped_at}
 use Rattle.dcc_live.proofs.dead.stmts_left.Goals as goal
 

@@ -2,7 +2,7 @@ use Rattle.std.proofs.Common.{◌≡◌, ◌≤◌, length, map, take, drop, rev
 use Rattle.dcc_ir.specs.Views.{stmt_of}
 use Rattle.dcc_flow.specs.Access.{access_of}
 use Rattle.dcc_flow.specs.Marks.{members}
-use Rattle.dcc_live.specs.Wanted.{before_all, left_of}
+use Rattle.dcc_live.specs.Needed.{before_all, left_of}
 use Rattle.dcc_live.proofs.dead.stmts_left.Given as goal
 
 abbrev pub invariant-loop-stmt : goal.invariant-loop-stmt

@@ -1,5 +1,5 @@
 use Rattle.std.proofs.Common.{sym, ◌∙◌}
-use Rattle.dcc_prog.proofs.MzImageLaws.{image_or_fault, one_fault, not_both}
+use Rattle.dcc_machine.proofs.MzImageLaws.{image_or_fault, one_fault, not_both}
 use Rattle.dcc_mz.proofs.laws.a_file_has_one_answer.Goals as goal
 
 pub returns : goal.returns

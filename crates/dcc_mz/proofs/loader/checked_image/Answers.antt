@@ -1,6 +1,6 @@
 use Rattle.std.proofs.Common.{length, ap, ◌∙◌, arith}
-use Rattle.dcc_prog.specs.MzImage.{loaded_segment, relocation_count}
-use Rattle.dcc_prog.proofs.MzImageLaws.{length-relocated_image}
+use Rattle.dcc_machine.specs.MzImage.{loaded_segment, relocation_count}
+use Rattle.dcc_machine.proofs.MzImageLaws.{length-relocated_image}
 use Rattle.dcc_mz.proofs.loader.checked_image.Goals as goal
 
 pub returns-then-code_start-header-clause-refused :

@@ -1,8 +1,8 @@
 use Rattle.std.proofs.Common.{◌≡◌, ◌≤◌, ◌<◌, ◌+◌, ◌-◌, ◌/◌, ◌%◌, ℕ, List, [], ◌∷◌, ◌++◌, take, drop, length, refl, sym, arith, append-nil}
 use Rattle.std.proofs.lemmas.List.{take_all, drop_all, drop-drop, length-drop}
 use Rattle.std.proofs.Math.Nat.{mod-eq_of_lt}
-use Rattle.dcc_prog.specs.Bytes.{with_word_at}
-use Rattle.dcc_prog.proofs.MzImageLaws.{with_word_at-split}
+use Rattle.dcc_machine.specs.Bytes.{with_word_at}
+use Rattle.dcc_machine.proofs.MzImageLaws.{with_word_at-split}
 use Rattle.dcc_mz.proofs.relocation.move_word.Goals as goal
 
 -- what `write_u16` leaves of the end of an image, from an offset on

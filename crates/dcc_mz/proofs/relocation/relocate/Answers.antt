@@ -1,7 +1,7 @@
 use Rattle.std.proofs.Common.{List, length, ◌≡◌, ℕ, Option, Some, ap, ◌∙◌, subst, arith, below_more}
 use Rattle.std.specs.Prelude.{MatchOption}
-use Rattle.dcc_prog.specs.MzImage.{RelocationFits, relocated_place}
-use Rattle.dcc_prog.proofs.MzImageLaws.{length-relocated_image, relocated_image-more}
+use Rattle.dcc_machine.specs.MzImage.{RelocationFits, relocated_place}
+use Rattle.dcc_machine.proofs.MzImageLaws.{length-relocated_image, relocated_image-more}
 use Rattle.dcc_mz.proofs.relocation.relocate.Goals as goal
 
 -- the entry whose word has this place fits

@@ -1,5 +1,5 @@
 use Rattle.std.proofs.Common.{◌≡◌, ◌<◌, ℕ}
-use Rattle.dcc_prog.specs.MzImage.{RelocationFits, relocated_image}
+use Rattle.dcc_machine.specs.MzImage.{RelocationFits, relocated_image}
 use Rattle.dcc_mz.proofs.relocation.relocate.Given as goal
 
 -- the entries so far fit, and have moved their words

@@ -1,4 +1,4 @@
-use Rattle.dcc_num.proofs.Turns.{left_round}
+use Rattle.dcc_num.proofs.CarryRotations.{left_round}
 use Rattle.dcc_num.proofs.laws.rcl_comes_round.Goals as goal
 
 pub returns : goal.returns

@@ -1,5 +1,5 @@
-use Rattle.dcc_num.proofs.ShiftFlags.{left_turn_keeps}
+use Rattle.dcc_num.proofs.ShiftFlags.{rcl_keeps}
 use Rattle.dcc_num.proofs.laws.rcl_keeps_flags.Goals as goal
 
 pub returns : goal.returns
-returns c = left_turn_keeps
+returns c = rcl_keeps

@@ -1,4 +1,4 @@
-use Rattle.dcc_num.proofs.Turns.{right_round}
+use Rattle.dcc_num.proofs.CarryRotations.{right_round}
 use Rattle.dcc_num.proofs.laws.rcr_comes_round.Goals as goal
 
 pub returns : goal.returns

@@ -1,5 +1,5 @@
-use Rattle.dcc_num.proofs.ShiftFlags.{left_rotation_keeps}
+use Rattle.dcc_num.proofs.ShiftFlags.{rol_keeps}
 use Rattle.dcc_num.proofs.laws.rol_keeps_flags.Goals as goal
 
 pub returns : goal.returns
-returns c = left_rotation_keeps
+returns c = rol_keeps

@@ -1,5 +1,5 @@
-use Rattle.dcc_num.proofs.ShiftFlags.{right_rotation_keeps}
+use Rattle.dcc_num.proofs.ShiftFlags.{ror_keeps}
 use Rattle.dcc_num.proofs.laws.ror_keeps_flags.Goals as goal
 
 pub returns : goal.returns
-returns c = right_rotation_keeps
+returns c = ror_keeps

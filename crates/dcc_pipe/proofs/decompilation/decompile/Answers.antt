@@ -1,15 +1,15 @@
 use Rattle.std.proofs.Common.{sym, subst}
-use Rattle.std.proofs.lemmas.Result.{err_from_is_err_and}
-use Rattle.dcc_prog.specs.declared.refusal.construct.TheConstants.{ARGUMENT_REUSED, SEVERAL_RESULTS}
-use Rattle.dcc_prog.specs.Refused.{IsRefusedByAnalysis}
-use Rattle.dcc_machine_demand.specs.Asked.{IsOfSummaries}
-use Rattle.dcc_machine_demand.specs.Bodies.{bodies_of}
-use Rattle.dcc_machine_demand.specs.Refused.{by_analysis, by_summaries}
+use Rattle.std.proofs.lemmas.Result.{IfOk-weaker, IfErr-weaker, err_from_is_err_and}
+use Rattle.dcc_prog.specs.Analysed.{IsProgramOf}
+use Rattle.dcc_machine_demand.specs.Refused.{by_analysis}
 use Rattle.dcc_machine_demand.proofs.RefusedLaws.{accepted-is_not_refused}
 use Rattle.dcc_c.specs.Views.{tree_of}
 use Rattle.dcc_c.specs.Written.{written_form}
-use Rattle.dcc_prog.specs.Analysed.{IsProgramOf}
 use Rattle.dcc_pipe.specs.Agreement.{IsTextOf}
+use Rattle.dcc_pipe.specs.Shaped.{HasShape}
+use Rattle.dcc_pipe.specs.TypedFrames.{HasTypedFrames}
+use Rattle.dcc_pipe.proofs.RefusedLaws.{fault-refuses}
+use Rattle.dcc_pipe.proofs.ShapedLaws.{functions-as_many, lacking-unshaped}
 use Rattle.dcc_pipe.proofs.decompilation.decompile.Goals as goal
 
 pub returns-in_err-program-clause-refused : goal.returns-in_err-program-clause-refused
@@ -26,39 +26,61 @@ text_of-requires c =
       program = subst (λ cpu. IsProgramOf cpu image program) (sym is.runs_on) is;
     }
 
-pub returns-in-Err-ArgumentReused-clause-refused : goal.returns-in-Err-ArgumentReused-clause-refused
-returns-in-Err-ArgumentReused-clause-refused c =
-    let arm = c.in-Err-ArgumentReused in
-    let stands : IsOfSummaries (bodies_of c.in_ok-program.program) ARGUMENT_REUSED arm.at =
-    rw arm.field-0-is at arm.ensures.fault in
-    by_summaries c.in_ok-program.ensures.accepted
-    (record { program = c.in_ok-program.program; found = c.in_ok-program.ensures.program; stands = stands })
-
-pub returns-in-Err-SeveralResults-clause-refused : goal.returns-in-Err-SeveralResults-clause-refused
-returns-in-Err-SeveralResults-clause-refused c =
-    let arm = c.in-Err-SeveralResults in
-    let stands : IsOfSummaries (bodies_of c.in_ok-program.program) SEVERAL_RESULTS arm.at =
-    rw arm.field-0-is at arm.ensures.fault in
-    by_summaries c.in_ok-program.ensures.accepted
-    (record { program = c.in_ok-program.program; found = c.in_ok-program.ensures.program; stands = stands })
-
-pub returns-clause-refused : goal.returns-clause-refused
-returns-clause-refused c = by_analysis IsRefusedByAnalysis.no_memory
+pub shaped-requires : goal.shaped-requires
+shaped-requires c =
+    functions-as_many c.args.cpu c.args.image.now c.in_ok-program.program (tree_of c.in-Ok.unit).functions
+    c.in_ok-program.ensures.program c.in-Ok.ensures.typed.frames
 
 pub returns-in-Ok-clause-text : goal.returns-in-Ok-clause-text
 returns-in-Ok-clause-text c =
+    let image = c.args.image.now in
     let unit = tree_of c.in-Ok.unit in
-    subst (λ cpu. IsTextOf cpu c.args.image.now (written_form unit) unit) c.in_ok-program.ensures.program.runs_on
-    c.in-Ok.ensures.text
+    let text = subst (λ cpu. IsTextOf cpu image (written_form unit) unit) c.in_ok-program.ensures.program.runs_on
+    c.in-Ok.ensures.text in
+    IfOk-weaker c.shaped.result _ _
+    (λ after is. subst (λ unit. IsTextOf c.args.cpu image (written_form (tree_of unit)) (tree_of unit)) (sym is.0) text)
+    c.shaped.ensures.has
+
+pub returns-in-Ok-clause-typed : goal.returns-in-Ok-clause-typed
+returns-in-Ok-clause-typed c =
+    let typed : HasTypedFrames c.args.cpu c.args.image.now (tree_of c.in-Ok.unit) = record {
+      program = c.in_ok-program.program;
+      is_program = c.in_ok-program.ensures.program;
+      functions = c.in-Ok.ensures.typed;
+    } in
+    IfOk-weaker c.shaped.result _ _
+    (λ after is. subst (λ unit. HasTypedFrames c.args.cpu c.args.image.now (tree_of unit)) (sym is.0) typed)
+    c.shaped.ensures.has
+
+pub returns-in-Ok-clause-shaped : goal.returns-in-Ok-clause-shaped
+returns-in-Ok-clause-shaped c =
+    IfOk-weaker c.shaped.result _ (λ after. HasShape c.args.cpu c.args.image.now (tree_of after))
+    (λ after is. record {
+      program = c.in_ok-program.program;
+      is_program = c.in_ok-program.ensures.program;
+      functions = is.1;
+    })
+    c.shaped.ensures.has
 
 pub returns-in-Ok-clause-accepted : goal.returns-in-Ok-clause-accepted
 returns-in-Ok-clause-accepted c =
-    accepted-is_not_refused.accepted c.args.cpu c.args.image.now c.in_ok-program.program c.in_ok-program.ensures.program
-    c.in-Ok.ensures.none
+    IfOk-weaker c.shaped.result _ _
+    (λ after is. accepted-is_not_refused.accepted c.args.cpu c.args.image.now c.in_ok-program.program
+    c.in_ok-program.ensures.program c.in-Ok.ensures.none)
+    c.shaped.ensures.has
 
-pub returns-in-Ok-clause-typed : goal.returns-in-Ok-clause-typed
-returns-in-Ok-clause-typed c = record {
-  program = c.in_ok-program.program;
-  is_program = c.in_ok-program.ensures.program;
-  functions = c.in-Ok.ensures.typed;
-}
+pub returns-in-Ok-clause-refused : goal.returns-in-Ok-clause-refused
+returns-in-Ok-clause-refused c =
+    let image = c.args.image.now in
+    let program = c.in_ok-program.program in
+    let is = c.in_ok-program.ensures.program in
+    let unit = tree_of c.in-Ok.unit in
+    let text = subst (λ cpu. IsTextOf cpu image (written_form unit) unit) is.runs_on c.in-Ok.ensures.text in
+    let accepted = accepted-is_not_refused.accepted c.args.cpu image program is c.in-Ok.ensures.none in
+    IfErr-weaker c.shaped.result _ _ (lacking-unshaped c.args.cpu image program unit accepted is c.in-Ok.ensures.made text)
+    c.shaped.ensures.lacks
+
+pub returns-clause-refused : goal.returns-clause-refused
+returns-clause-refused c =
+    rw (c.refusal_of.ensures) (fault-refuses c.args.cpu c.args.image.now c.in_ok-program.program
+    c.in_ok-program.ensures.program c.in_ok-program.ensures.accepted c.in-Err.fault c.in-Err.ensures.fault)

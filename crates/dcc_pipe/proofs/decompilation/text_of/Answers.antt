@@ -1,7 +1,11 @@
+use Rattle.std.proofs.Common.{refl}
 use Rattle.std.proofs.lemmas.Result.{err_from_is_err_and}
+use Rattle.dcc_stack.specs.Accepted.{IsProgramOfFile}
 use Rattle.dcc_ir.specs.Views.{program_of}
+use Rattle.dcc_pipe.specs.WholeText.{whole_text}
 use Rattle.dcc_pipe.proofs.PipeLaws.{counted-tree, text-is}
 use Rattle.dcc_pipe.proofs.PreparedFits.{prepared-fits}
+use Rattle.dcc_pipe.proofs.StepPaces.{prepared-paced}
 use Rattle.dcc_pipe.proofs.RefusedLaws.{fault-construct, summed-none}
 use Rattle.dcc_pipe.proofs.TextableLaws.{lifted-has_the_form, prepared-follows}
 use Rattle.dcc_pipe.proofs.TypedLaws.{typed-tree}
@@ -27,9 +31,13 @@ returns-clause-text c =
     let q = program_of c.in_ok-prepared.prepared in
     let is = c.in_ok-prepared.ensures.ready in
     let fits = prepared-fits p q is c.in_ok-unit.ensures.few in
-    text-is image program c.requires.program q fits
-    (prepared-follows image program p q c.in_ok-lifted.ensures.lifted.lifted is) c.in_ok-number.field-0
-    (counted-tree q fits _ _ c.in_ok-unit.ensures.text c.in_ok-number.ensures)
+    let whole = c.in_ok-unit.ensures.text in
+    let file : IsProgramOfFile program.layout.cpu image program =
+    record { loaded = c.requires.loaded; is_program = c.requires.program } in
+    let pace = prepared-paced image program p q file c.in_ok-lifted.ensures.lifted is in
+    text-is image program c.requires.program whole.control q fits whole.controls
+    (prepared-follows image program p q c.in_ok-lifted.ensures.lifted.lifted is pace) c.in_ok-number.field-0
+    (counted-tree q fits _ _ whole c.in_ok-number.ensures)
 
 pub returns-clause-none : goal.returns-clause-none
 returns-clause-none c =
@@ -45,8 +53,24 @@ returns-clause-typed c =
     let is = c.in_ok-prepared.ensures.ready in
     typed-tree c.args.image.now c.args.program.now p q
     (record { loaded = c.requires.loaded; is_program = c.requires.program }) c.in_ok-lifted.ensures.lifted is
-    c.in_ok-unit.ensures.few _
+    c.in_ok-unit.ensures.few c.in_ok-unit.ensures.text.control _
     (counted-tree q (prepared-fits p q is c.in_ok-unit.ensures.few) _ _ c.in_ok-unit.ensures.text c.in_ok-number.ensures)
 
+pub returns-clause-made : goal.returns-clause-made
+returns-clause-made c =
+    let q = program_of c.in_ok-prepared.prepared in
+    let is = c.in_ok-prepared.ensures.ready in
+    let whole = c.in_ok-unit.ensures.text in
+    record {
+      lifted = program_of c.in_ok-lifted.lifted;
+      is_lifted = c.in_ok-lifted.ensures.lifted;
+      ready = q;
+      is_ready = is;
+      plain = whole_text whole.control q;
+      is_text = record { control = whole.control; controls = whole.controls; is = refl };
+      is = counted-tree q (prepared-fits (program_of c.in_ok-lifted.lifted) q is c.in_ok-unit.ensures.few) _ _ whole
+          c.in_ok-number.ensures;
+    }
+
 pub unit_of-requires : goal.unit_of-requires
-unit_of-requires c = c.in_ok-prepared.ensures.ready.simplified.textable.formed.graphs
+unit_of-requires c = c.in_ok-prepared.ensures.ready.simplified.textable.formed

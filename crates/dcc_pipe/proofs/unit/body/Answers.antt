@@ -4,8 +4,6 @@ use Rattle.dcc_ir.specs.Live.{is_among}
 use Rattle.dcc_ir.specs.Views.{graph_of}
 use Rattle.dcc_variables.specs.Functions.{openings_from}
 use Rattle.dcc_variables.specs.Views.{shape_in, spelling_in}
-use Rattle.dcc_control.specs.Complete.{completed}
-use Rattle.dcc_plan.specs.PlanText.{plan_text}
 use Rattle.dcc_control.specs.Views.{plan_of}
 use Rattle.dcc_pipe.proofs.UnitLaws.{body-is}
 use Rattle.dcc_pipe.proofs.unit.body.Goals as goal
@@ -16,11 +14,9 @@ returns c =
     let g = graph_of c.args.graph.now in
     let s = spelling_in head in
     IfOk-weaker c.joined.result _ _ (λ all joins.
-    body-is g (shape_in head.variables) head.params.items c.in_ok-wanted.wanted.items c.in_ok-first.first.items
+    body-is (plan_of c.args.plan.now) g (shape_in head.variables) head.params.items c.in_ok-wanted.wanted.items c.in_ok-first.first.items
     c.in_ok-first-2.first.items c.in_ok-second.second.items all.items c.requires.shape c.requires.params
     (c.in_ok-first.ensures
     ∙ ap (λ ls. openings_from s (is_among ls) 0 head.params.items) c.as_slice.ensures.value) c.in_ok-wanted.ensures
     c.in_ok-first-2.ensures
-    (c.in_ok-second.ensures
-    ∙ ap (plan_text s g) (ap plan_of c.as_slice-2.ensures.value ∙ c.in_ok-plan.ensures
-    ∙ ap completed c.in_ok-goto_plan.ensures)) joins) c.joined.ensures
+    c.in_ok-second.ensures joins) c.joined.ensures

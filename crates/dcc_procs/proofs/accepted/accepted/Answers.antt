@@ -1,7 +1,7 @@
 use Rattle.std.proofs.Common.{◌≡◌, Bool, true, false, not, ◌||◌, refl, sym, ap, ◌∙◌}
 use Rattle.dcc_prog.specs.Construct.{is_system, foreign}
 use Rattle.dcc_prog.specs.FrameForm.{is_frame_form}
-use Rattle.dcc_prog.specs.declared.refusal.construct.TheConstants.{OUTSIDE}
+use Rattle.dcc_prog.specs.declared.refusal.ConstructKind.TheVariants.{OutsideProfile}
 use Rattle.dcc_procs.proofs.Causes.{construct-here}
 use Rattle.dcc_procs.proofs.accepted.accepted.Goals as goal
 use Rattle.dcc_procs.proofs.accepted.accepted.Goals.{then-is_system-via-then-is_system, then-is_system-via-else-is_system+then-not-is_frame_form}
@@ -31,5 +31,5 @@ returns-then-is_system-clause-refused c =
       | then-is_system-via-else-is_system+then-not-is_frame_form w ↦
           or-second (is_system op) _ (ap not (sym w.is_frame_form.ensures ∙ w.if-not-is_frame_form.true))
     ] in
-    construct-here image layout c.args.entry c.args.at c.args.known c.requires.entry c.requires.witnessed OUTSIDE
+    construct-here image layout c.args.entry c.args.at c.args.known c.requires.entry c.requires.witnessed OutsideProfile
     (foreign (record { op = op; stands = (c.in-Some.instr, sym c.instruction_in.ensures.found ∙ c.in-Some.is, refl); foreign = is }))

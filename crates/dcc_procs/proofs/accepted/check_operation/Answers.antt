@@ -1,5 +1,5 @@
 use Rattle.std.proofs.Common.{◌≡◌, Ok, Err, Result, IfErr, OnErr, sym, ap, ◌∙◌, subst}
-use Rattle.dcc_prog.specs.declared.instr.Op.TheVariants.{Int21, Table, Call}
+use Rattle.dcc_machine.specs.declared.instr.Op.TheVariants.{Int21, Table, Call}
 use Rattle.dcc_prog.specs.declared.refusal.Refusal.{Refusal}
 use Rattle.dcc_prog.specs.Trail.{StandsAt}
 use Rattle.dcc_procs.proofs.Causes.{number-refused, table-refused, return-refused, call-refused}

@@ -1,5 +1,5 @@
 use Rattle.std.proofs.Common.{length, ap, ◌∙◌, arith, length-take}
-use Rattle.dcc_prog.proofs.FetchLaws.{image-placed, length-code_of}
+use Rattle.dcc_machine.proofs.FetchLaws.{image-placed, length-code_of}
 use Rattle.dcc_procs.proofs.code.code_of.Goals as goal
 
 pub slice_bounds-result-end : goal.slice_bounds-result-end

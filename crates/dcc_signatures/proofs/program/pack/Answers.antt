@@ -1,6 +1,6 @@
 use Rattle.std.proofs.Common.{sym, ap, subst}
 use Rattle.dcc_ir.specs.Views.{program_of}
-use Rattle.dcc_sums.specs.Localised.{sum_at}
+use Rattle.dcc_sums.specs.Localised.{summary_at}
 use Rattle.dcc_sums.specs.Laws.{IsKeptBy}
 use Rattle.dcc_signatures.specs.Laws.{PassesAtMostOne}
 use Rattle.dcc_signatures.proofs.PackLaws.{packed-keeps}
@@ -17,4 +17,4 @@ pub returns-clause-one : goal.returns-clause-one
 returns-clause-one c sums formed one =
     let p = program_of c.args.p in
     let same = ap (λ graphs. record p { graphs = graphs }) c.in_ok-graphs.ensures in
-    subst (PassesAtMostOne (sum_at p.graphs sums)) (sym same) (packed-passes_one p sums formed one)
+    subst (PassesAtMostOne (summary_at p.graphs sums)) (sym same) (packed-passes_one p sums formed one)

@@ -1,5 +1,6 @@
-use Rattle.std.proofs.Common.{◌≡◌, ◌-◌, ◌++◌, [], take, ap, sym, ◌∙◌, subst}
+use Rattle.std.proofs.Common.{ap, sym, ◌∙◌, subst}
 use Rattle.dcc_summaries.specs.Demands.{demand_of, no_demand, with_wants, seeds}
+use Rattle.dcc_summaries.specs.Table.{lists_of}
 use Rattle.dcc_summaries.specs.Follow.{changed_in}
 use Rattle.dcc_summaries.proofs.PointLaws.{listed_are}
 use Rattle.dcc_summaries.proofs.FollowLaws.{changes_told}
@@ -15,8 +16,9 @@ loop-want-init c good tells are =
     let s = c.args.setting.now in
     let p = program s in
     subst (IsFinding p good (changed_in (change_lists s)) tells (pred_lists s) are)
-    (sym (c.in_ok-seed.ensures ∙ ap (λ d. with_wants d (seeds p c.args.points.now)) c.new-demand.ensures ∙ ap (λ l. with_wants no_demand (seeds p l)) c.requires.points))
-    (begun p good (changed_in (change_lists s)) tells (pred_lists s) are)
+    (sym (c.in_ok-seed.ensures ∙ ap (λ d. with_wants d (seeds p c.args.points.now)) c.in_ok-demand.ensures
+    ∙ ap (λ l. with_wants (no_demand c.most_blocks.result) (seeds p l)) c.requires.points))
+    (begun p good (changed_in (change_lists s)) tells (pred_lists s) are c.most_blocks.result)
 
 pub follow-requires-clause-point : goal.follow-requires-clause-point
 follow-requires-clause-point c =
@@ -24,28 +26,26 @@ follow-requires-clause-point c =
     let p = program s in
     let tells = changes_told p (change_lists s) c.requires.changed in
     (next_good p c.requires.program (changed_in (change_lists s)) tells (pred_lists s) c.requires.preds (demand_of c.loop-want.demand) (c.loop-want.invariant c.requires.program tells c.requires.preds)
-    c.pop.new.self.items c.in-Some.want c.in-Some.ensures.items).0
+    (lists_of c.take.new.self.lists.items) c.in-Some.want c.in-Some.ensures).0
 
 pub loop-want-smaller : goal.loop-want-smaller
 loop-want-smaller c =
     let s = c.args.setting.now in
     let tells = changes_told (program s) (change_lists s) c.requires.changed in
     less s c.requires.program tells c.requires.preds c.args.points.now c.requires.points c.requires.calls c.requires.returns c.loop-want.demand c.follow.new.self
-    (c.loop-want.invariant c.requires.program tells c.requires.preds) c.pop.new.self.items c.in-Some.want c.in-Some.ensures.items c.in_ok-follow.ensures
+    (c.loop-want.invariant c.requires.program tells c.requires.preds) (lists_of c.take.new.self.lists.items) c.in-Some.want c.in-Some.ensures c.in_ok-follow.ensures
 
 pub loop-want-preserved : goal.loop-want-preserved
 loop-want-preserved c good tells are =
     going_on c.args.setting.now good tells are c.args.points.now c.requires.points c.requires.calls c.requires.returns c.loop-want.demand c.follow.new.self
-    (c.loop-want.invariant good tells are) c.pop.new.self.items c.in-Some.want c.in-Some.ensures.items c.in_ok-follow.ensures
+    (c.loop-want.invariant good tells are) (lists_of c.take.new.self.lists.items) c.in-Some.want c.in-Some.ensures c.in_ok-follow.ensures
 
 pub returns : goal.returns
 returns c =
     let s = c.args.setting.now in
     let p = program s in
     let tells = changes_told p (change_lists s) c.requires.changed in
-    let last : c.pop.new.self.items ≡ [] = c.in_default.ensures.rest ∙ ap (λ n. take (n - 1) c.loop-want.demand.pending.items) c.in_default.ensures.cases.0 in
-    let none : c.loop-want.demand.pending.items ≡ [] = c.in_default.ensures.items ∙ ap (λ l. l ++ []) last in
     record {
       exact = λ at l inside. found_all p c.requires.program (changed_in (change_lists s)) tells (pred_lists s) c.requires.preds (demand_of c.loop-want.demand)
-          (c.loop-want.invariant c.requires.program tells c.requires.preds) none at l inside;
+          (c.loop-want.invariant c.requires.program tells c.requires.preds) c.in_default.ensures at l inside;
     }

@@ -1,4 +1,4 @@
-use Rattle.dcc_prog.specs.MzImage.{IsImageOf}
+use Rattle.dcc_machine.specs.MzImage.{IsImageOf}
 use Rattle.dcc_top.specs.Answer.{HasNoImage, no_executable, shelf_reply, fault_reply}
 use Rattle.dcc_top.proofs.FetchedLaws.{of-whole, no_image-of_fault, no_image-of_front, no_file-of_fault, by-error}
 use Rattle.dcc_top.proofs.fetch.fetch_image.Goals as goal

@@ -1,5 +1,6 @@
 use Rattle.std.proofs.Common.{◌∙◌, subst, sym}
 use Rattle.dcc_prog.specs.declared.refusal.Refusal.TheVariants.{Memory as MemoryRefused}
+use Rattle.dcc_pipe.specs.declared.no_text.NoText.TheVariants.{Refused}
 use Rattle.dcc_prog.specs.Refused.{IsRefusedByAnalysis}
 use Rattle.dcc_top.specs.declared.reply.Reply.TheVariants.{Memory}
 use Rattle.dcc_top.specs.Answer.{AllowsImage, image_made, image_refused}
@@ -11,14 +12,14 @@ use Rattle.dcc_top.proofs.listing_job.write_listing.Goals as goal
 pub returns-in-Err-clause-answers : goal.returns-in-Err-clause-answers
 returns-in-Err-clause-answers g c =
     answers-nothing (AllowsImage Listing c.args.cpu c.args.image.now) _ c.from.result
-    (subst (λ reply. AllowsImage Listing c.args.cpu c.args.image.now reply _) (sym c.from.ensures) (image_refused c.in-Err.refusal c.in-Err.ensures.refused))
+    (subst (λ reply. AllowsImage Listing c.args.cpu c.args.image.now reply _) (sym c.from.ensures) (image_refused (Refused c.in-Err.refusal) c.in-Err.ensures.refused))
 
 pub listing-requires : goal.listing-requires
 listing-requires g c = program-whole c.args.cpu c.args.image.now c.in-Ok.program c.in-Ok.ensures.program
 
 pub returns-in_default-clause-answers : goal.returns-in_default-clause-answers
 returns-in_default-clause-answers g c =
-    answers-nothing (AllowsImage Listing c.args.cpu c.args.image.now) _ Memory (image_refused MemoryRefused IsRefusedByAnalysis.no_memory)
+    answers-nothing (AllowsImage Listing c.args.cpu c.args.image.now) _ Memory (image_refused (Refused MemoryRefused) IsRefusedByAnalysis.no_memory)
 
 pub returns-in-Ok-put_all-clause-answers : goal.returns-in-Ok-put_all-clause-answers
 returns-in-Ok-put_all-clause-answers g c = record {

@@ -1,7 +1,6 @@
 use Rattle.std.proofs.Common.{ℕ, sym, ◌∙◌}
 use Rattle.std.specs.Prelude.{not}
-use Rattle.dcc_prog.specs.Clean.{is_marked}
-use Rattle.dcc_prog.specs.Clean.{is_reading}
+use Rattle.dcc_prog.specs.Clean.{is_marked, is_reading}
 use Rattle.dcc_watch.proofs.Bytes.{none_of, found_of, none_in_all}
 use Rattle.dcc_watch.proofs.places.unwritten.Goals as goal
 

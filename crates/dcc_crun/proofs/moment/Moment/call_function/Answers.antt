@@ -7,7 +7,7 @@ use Rattle.dcc_value.specs.declared.variable.Binding.{Binding as Bound}
 use Rattle.dcc_value.specs.declared.expression.Resolved.{Resolved}
 use Rattle.dcc_prepare.specs.declared.program.Variable.{Variable}
 use Rattle.dcc_value.specs.Evaluation.{typed}
-use Rattle.dcc_value.specs.Resolved.{Scene, scene_of, target_named}
+use Rattle.dcc_value.specs.Resolved.{Contents, contents_of, target_named}
 use Rattle.dcc_prepare.specs.Points.{locals_declared}
 use Rattle.dcc_crun.specs.Doing.{scene_in, resolved_arguments, IsLed}
 use Rattle.dcc_crun.proofs.FunctionLaws.{called, not_called, function_arguments, values_stop, begins}
@@ -35,8 +35,8 @@ returns-in_err-values-clause-comes c line left taken =
       call.is ∙ ap (λ (o : Outcome (List Value)). on o line s next)
           (function_arguments c.args.self.now c.args.program.now c.args.row.now c.args.number c.args.target line procedure tree points s now call is
           ∙ ap (λ (g : List Bound). resolved_arguments (scene_in c.args.self.now g) (map (λ (p : Variable). p.ty) procedure.params.items) c.args.row.now.arguments.items) (sym c.deref.ensures.value)
-          ∙ ap (λ (sc : Scene). resolved_arguments sc (map (λ (p : Variable). p.ty) procedure.params.items) c.args.row.now.arguments.items) (sym c.scene.ensures)
-          ∙ ap (λ (rs : List Resolved). resolved_arguments (scene_of c.scene.result) (map (λ (p : Variable). p.ty) procedure.params.items) rs) (sym c.deref-2.ensures.value)),
+          ∙ ap (λ (sc : Contents). resolved_arguments sc (map (λ (p : Variable). p.ty) procedure.params.items) c.args.row.now.arguments.items) (sym c.scene.ensures)
+          ∙ ap (λ (rs : List Resolved). resolved_arguments (contents_of c.scene.result) (map (λ (p : Variable). p.ty) procedure.params.items) rs) (sym c.deref-2.ensures.value)),
     ))
 
 pub returns-clause-comes : goal.returns-clause-comes
@@ -46,8 +46,9 @@ returns-clause-comes c line left taken =
     let within : c.args.number < length c.args.program.now.procedures.items = omega (arith, c.args.program.now.procedures.ok.0, c.len.ensures) in
     let given : resolved_arguments (scene_in c.args.self.now c.args.program.now.globals.items) types c.args.row.now.arguments.items ≡ Gives (map typed c.in_ok-values.values.items) =
     ap (λ (g : List Bound). resolved_arguments (scene_in c.args.self.now g) types c.args.row.now.arguments.items) (sym c.deref.ensures.value)
-    ∙ ap (λ (sc : Scene). resolved_arguments sc types c.args.row.now.arguments.items) (sym c.scene.ensures)
-    ∙ ap (λ (rs : List Resolved). resolved_arguments (scene_of c.scene.result) types rs) (sym c.deref-2.ensures.value)
+    ∙ ap (λ (sc : Contents). resolved_arguments sc types c.args.row.now.arguments.items) (sym c.scene.ensures)
+    ∙ ap (λ (rs : List Resolved). resolved_arguments (contents_of c.scene.result) types rs) (sym
+    c.deref-2.ensures.value)
     ∙ c.in_ok-values.ensures in
     does_stood _ c.enter.new.self left taken
     (λ tree points s now call.

@@ -1,6 +1,6 @@
 use Rattle.std.proofs.Common.{refl, sym, ap, ◌∙◌, arith}
 use Rattle.dcc_crun.specs.Ending.{end_of}
-use Rattle.dcc_console.specs.Scene.{Scene, scene}
+use Rattle.dcc_console.specs.WithConsole.{WithConsole, beside_console}
 use Rattle.dcc_crun.specs.declared.run.CRun.{CRun}
 use Rattle.dcc_console.proofs.Runs.{ended_step}
 use Rattle.dcc_crun.specs.Stepped.{texts}
@@ -11,7 +11,8 @@ use Rattle.dcc_crun.proofs.run.CRun.step.Goals as goal
 pub returns-in_default : goal.returns-in_default
 returns-in_default g c =
     let end = c.args.self.now.moment.end in
-    let now : Scene CRun = scene c.args.self.now (g.I.Source.left c.args.input.now) (g.O.Sink.taken c.args.out.now) in
+    let now : WithConsole CRun = beside_console c.args.self.now (g.I.Source.left c.args.input.now) (g.O.Sink.taken
+    c.args.out.now) in
     record {
       step =
           answered end c.answer.result now now c.answer.ensures
@@ -25,9 +26,10 @@ returns-in_default g c =
 
 pub returns-in-Ok-clause-step : goal.returns-in-Ok-clause-step
 returns-in-Ok-clause-step g c =
-    let before : Scene CRun = scene c.args.self.now (g.I.Source.left c.args.input.now) (g.O.Sink.taken c.args.out.now) in
+    let before : WithConsole CRun = beside_console c.args.self.now (g.I.Source.left c.args.input.now) (g.O.Sink.taken c.args.out.now) in
     let run : CRun = record { program = c.args.self.now.program; moment = c.advance.new.self } in
-    let now : Scene CRun = scene run (g.I.Source.left c.advance.new.input) (g.O.Sink.taken c.advance.new.out) in
+    let now : WithConsole CRun = beside_console run (g.I.Source.left c.advance.new.input) (g.O.Sink.taken
+    c.advance.new.out) in
     answered c.advance.new.self.end c.answer-in-Ok.result before now c.answer-in-Ok.ensures
     (step_made c.args.self.now c.advance.new.self (g.I.Source.left c.args.input.now) (g.O.Sink.taken c.args.out.now)
     (g.I.Source.left c.advance.new.input) (g.O.Sink.taken c.advance.new.out) (ap end_of c.in-Running.is) c.in-Ok.ensures.made)
@@ -38,9 +40,10 @@ returns-in-Ok-clause-answer g c =
 
 pub returns-in-Err-clause-step : goal.returns-in-Err-clause-step
 returns-in-Err-clause-step g c =
-    let before : Scene CRun = scene c.args.self.now (g.I.Source.left c.args.input.now) (g.O.Sink.taken c.args.out.now) in
+    let before : WithConsole CRun = beside_console c.args.self.now (g.I.Source.left c.args.input.now) (g.O.Sink.taken c.args.out.now) in
     let run : CRun = record { program = c.args.self.now.program; moment = c.advance.new.self } in
-    let now : Scene CRun = scene run (g.I.Source.left c.advance.new.input) (g.O.Sink.taken c.advance.new.out) in
+    let now : WithConsole CRun = beside_console run (g.I.Source.left c.advance.new.input) (g.O.Sink.taken
+    c.advance.new.out) in
     refused c.in-Err.fault c.answer-in-Err.result before now c.answer-in-Err.ensures
     (step_refused c.in-Err.fault c.args.self.now c.advance.new.self (g.I.Source.left c.args.input.now) (g.O.Sink.taken c.args.out.now)
     (g.I.Source.left c.advance.new.input) (g.O.Sink.taken c.advance.new.out) (ap end_of c.in-Running.is) c.in-Err.ensures.refused c.in-Err.ensures.stays)

@@ -2,13 +2,13 @@ use Rattle.std.proofs.Common.{◌≡◌, ◌+◌, ◌<◌, ◌++◌, ◌∷◌, 
 use Rattle.std.proofs.lemmas.List.{take_more, map-append}
 use Rattle.dcc_ir.specs.Views.{block_of}
 use Rattle.dcc_lift.specs.Blocks.{AreBlocksAt}
-use Rattle.dcc_lift.specs.Known.{scene_of}
+use Rattle.dcc_lift.specs.Known.{source_of}
 use Rattle.dcc_lift.proofs.BegunLaws.{blocks-more}
 use Rattle.dcc_lift.proofs.outline.Outline.blocks.Goals as goal
 
 pub loop-at-preserved : goal.loop-at-preserved
 loop-at-preserved c =
-    let scene = scene_of c.args.self.now in
+    let scene = source_of c.args.self.now in
     let leaders = c.args.self.now.leaders.items in
     let i = c.loop-at.at-index in
     let value = c.deref-at-items.ensures.value in

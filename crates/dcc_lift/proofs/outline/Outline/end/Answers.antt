@@ -4,12 +4,12 @@ use Rattle.std.proofs.lemmas.List.{take_all}
 use Rattle.dcc_ir.specs.Views as views
 use Rattle.dcc_simulation.specs.Passed.{exit_of}
 use Rattle.dcc_lift.specs.Blocks.{node_in, nodes_in, node_exit, exit_at, block_place}
-use Rattle.dcc_lift.specs.Known.{scene_of}
+use Rattle.dcc_lift.specs.Known.{source_of}
 use Rattle.dcc_lift.proofs.outline.Outline.end.Goals as goal
 
 pub returns : goal.returns
 returns c =
-    let scene = scene_of c.args.self.now in
+    let scene = source_of c.args.self.now in
     let at = c.args.at in
     let node : node_in (nodes_in scene) at ≡ Some c.in-Some.node.now = ap (λ ns. node_in ns at) (sym c.requires.nodes)
     ∙ sym c.at.ensures ∙ ap option_copied c.in-Some.is in

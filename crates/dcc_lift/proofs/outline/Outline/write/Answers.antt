@@ -3,20 +3,20 @@ use Rattle.std.specs.Option.{option_copied}
 use Rattle.std.proofs.lemmas.List.{append-nil}
 use Rattle.dcc_ops.specs.Writing.{written}
 use Rattle.dcc_lift.specs.Blocks.{node_in, nodes_in, height_in, node_stmts, stmts_at}
-use Rattle.dcc_lift.specs.Known.{scene_of}
+use Rattle.dcc_lift.specs.Known.{source_of}
 use Rattle.dcc_lift.proofs.SceneLaws.{height_from_lookup, height_low}
 use Rattle.dcc_lift.proofs.outline.Outline.write.Goals as goal
 
 pub write-requires-clause-height : goal.write-requires-clause-height
 write-requires-clause-height c =
-    let heights = (scene_of c.args.self.now).heights in
+    let heights = (source_of c.args.self.now).heights in
     let found : height_in heights c.args.at ≡ Some c.in-Some-get.height.now =
     sym (c.get.ensures.value ∙ height_from_lookup heights c.args.at) ∙ ap option_copied c.in-Some-get.is in
     height_low heights c.args.at c.in-Some-get.height.now c.requires.scene.heights found
 
 pub returns-in-Some-get : goal.returns-in-Some-get
 returns-in-Some-get c =
-    let scene = scene_of c.args.self.now in
+    let scene = source_of c.args.self.now in
     let at = c.args.at in
     let found : height_in scene.heights at ≡ Some c.in-Some-get.height.now =
     sym (c.get.ensures.value ∙ height_from_lookup scene.heights at) ∙ ap option_copied c.in-Some-get.is in
@@ -27,7 +27,7 @@ returns-in-Some-get c =
 
 pub returns-in-None : goal.returns-in-None
 returns-in-None c =
-    let scene = scene_of c.args.self.now in
+    let scene = source_of c.args.self.now in
     let at = c.args.at in
     let none : height_in scene.heights at ≡ None = sym (c.get.ensures.value ∙ height_from_lookup scene.heights at)
     ∙ ap option_copied c.in-None.is in

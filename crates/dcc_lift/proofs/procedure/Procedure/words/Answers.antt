@@ -4,7 +4,7 @@ use Rattle.std.proofs.lemmas.List.{map-append}
 use Rattle.std.proofs.Math.Facts.{to_z-of_z}
 use Rattle.dcc_num.specs.declared.Width.TheVariants.{Word as word_width}
 use Rattle.dcc_ir.specs.Views.{expr_of}
-use Rattle.dcc_ops.specs.Place.{place_value}
+use Rattle.dcc_ops.specs.OperandPlace.{place_value}
 use Rattle.dcc_simulation.specs.Procedures.{frame_place}
 use Rattle.dcc_simulation.specs.Statements.{argument_value}
 use Rattle.dcc_lift.specs.KnownProcedures.{procedure_of}

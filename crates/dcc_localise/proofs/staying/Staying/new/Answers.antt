@@ -4,7 +4,7 @@ use Rattle.std.specs.Option.{option_copied}
 use Rattle.std.specs.List.{HoldsAt}
 use Rattle.std.proofs.lemmas.Option.{slice_get-map, slice_get_past, slice_get_read}
 use Rattle.dcc_ir.specs.Views.{graph_of, summary_of}
-use Rattle.dcc_localise.specs.Staying.{stays_at, stays_of, sum_or_none, places_of}
+use Rattle.dcc_localise.specs.Staying.{stays_at, stays_of, summary_or_none, places_of}
 use Rattle.dcc_localise.proofs.StayingLaws.{put, tells}
 use Rattle.dcc_localise.proofs.staying.Staying.new.Goals as goal
 
@@ -27,9 +27,9 @@ loop-place-preserved c =
     let inside : k < length graphs = omega (arith, c.loop-place-test.true, c.loop-place.auto.place, c.len-place.ensures) in
     let found : slice_get (map graph_of graphs) k ≡ Some (graph_of graph) =
     slice_get-map graph_of graphs k ∙ ap (option_map graph_of) (slice_get_read graphs (length graphs) k graph (omega arith) inside c.index-graph.ensures) in
-    let is : places_of stays ≡ stays_of (graph_of graph) (sum_or_none (slice_get (map summary_of sums) k)) =
+    let is : places_of stays ≡ stays_of (graph_of graph) (summary_or_none (slice_get (map summary_of sums) k)) =
     c.in_ok-stays.ensures
-    ∙ ap (λ s. stays_of (graph_of graph) (sum_or_none s)) (ap (option_map summary_of) (read c.deref.result.now k c.get.result c.get.ensures.lookup.1 c.get.ensures.lookup.3 ∙ ap (λ l. slice_get l k) c.deref.ensures.value) ∙ sym (slice_get-map summary_of sums k)) in
+    ∙ ap (λ s. stays_of (graph_of graph) (summary_or_none s)) (ap (option_map summary_of) (read c.deref.result.now k c.get.result c.get.ensures.lookup.1 c.get.ensures.lookup.3 ∙ ap (λ l. slice_get l k) c.deref.ensures.value) ∙ sym (slice_get-map summary_of sums k)) in
     put (map graph_of graphs) (map summary_of sums) k (graph_of graph) stays c.loop-place.by_entry.entries c.put.new.by_entry.entries found is
     c.in_ok-put.ensures.0 (λ entry. c.loop-place.invariant entry ∙ ap (λ n. stays_at (drop n (map graph_of graphs)) (drop n (map summary_of sums)) entry) next)
 

@@ -2,7 +2,7 @@ use Rattle.std.proofs.Common.{◌++◌, ◌∙◌, true, ap, append_assoc}
 use Rattle.std.proofs.lemmas.Result.{on_ok_weaker}
 use Rattle.dcc_num.specs.declared.Width.TheVariants.{Word as word_width}
 use Rattle.dcc_ir.specs.Tree.{Get}
-use Rattle.dcc_ops.specs.Place.{constant}
+use Rattle.dcc_ops.specs.OperandPlace.{constant}
 use Rattle.dcc_ops.specs.Placing.{place_of}
 use Rattle.dcc_ops.specs.Expressions.{product}
 use Rattle.dcc_ops.specs.Statements.{operands_taking, product_working, word_taking}

@@ -4,10 +4,10 @@ use Rattle.dcc_run.specs.End.{Exit}
 use Rattle.dcc_run.specs.Event.{writes}
 use Rattle.dcc_num.specs.declared.Half.TheVariants.{Low, High}
 use Rattle.dcc_num.specs.declared.Reg.TheVariants.{Ax, Dx}
-use Rattle.dcc_prog.specs.Machine.{half_of_word, word_in}
-use Rattle.dcc_prog.specs.Operations.{with_end}
-use Rattle.dcc_prog.specs.Dos.{dos_call, dos_string, key_step}
-use Rattle.dcc_console.specs.Scene.{Scene, scene}
+use Rattle.dcc_machine.specs.Machine.{half_of_word, word_in}
+use Rattle.dcc_machine.specs.Operations.{with_end}
+use Rattle.dcc_machine.specs.Dos.{dos_call, dos_string, key_step}
+use Rattle.dcc_console.specs.WithConsole.{WithConsole, beside_console}
 use Rattle.dcc_step.specs.Core.{Core, core_of, state_of, with_console}
 use Rattle.dcc_step.proofs.Scenes.{on_ok, made_as, refused_here, made_quiet, made_writing, refused_writing, leads_quiet, leads_as, numbered, no_call, string-keeps}
 use Rattle.dcc_step.proofs.machine.Machine.call_dos.Goals as goal
@@ -70,7 +70,7 @@ pub returns-in-1-clause-made : goal.returns-in-1-clause-made
 returns-in-1-clause-made g c =
     let m = c.args.self.now in
     let ah : 1 ≡ half_of_word High (word_in (state_of m) Ax) = sym c.in-1.is ∙ c.of.ensures ∙ ap (half_of_word High) c.reg-ax.ensures in
-    let now : Scene Core = scene c.read_key.new.self (g.I.Source.left c.read_key.new.input) (g.O.Sink.taken c.read_key.new.out) in
+    let now : WithConsole Core = beside_console c.read_key.new.self (g.I.Source.left c.read_key.new.input) (g.O.Sink.taken c.read_key.new.out) in
     on_ok c.read_key.result
     (made_as (λ cpu. key_step true) (λ cpu. dos_call c.args.at) m m (g.I.Source.left c.args.input.now) (g.O.Sink.taken c.args.out.now) now refl (numbered c.args.at 1 m ah))
     c.read_key.ensures.made
@@ -89,7 +89,7 @@ pub returns-in-8-clause-made : goal.returns-in-8-clause-made
 returns-in-8-clause-made g c =
     let m = c.args.self.now in
     let ah : 8 ≡ half_of_word High (word_in (state_of m) Ax) = sym c.in-8.is ∙ c.of.ensures ∙ ap (half_of_word High) c.reg-ax.ensures in
-    let now : Scene Core = scene c.read_key-in-8.new.self (g.I.Source.left c.read_key-in-8.new.input) (g.O.Sink.taken c.read_key-in-8.new.out) in
+    let now : WithConsole Core = beside_console c.read_key-in-8.new.self (g.I.Source.left c.read_key-in-8.new.input) (g.O.Sink.taken c.read_key-in-8.new.out) in
     on_ok c.read_key-in-8.result
     (made_as (λ cpu. key_step false) (λ cpu. dos_call c.args.at) m m (g.I.Source.left c.args.input.now) (g.O.Sink.taken c.args.out.now) now refl (numbered c.args.at 8 m ah))
     c.read_key-in-8.ensures.made

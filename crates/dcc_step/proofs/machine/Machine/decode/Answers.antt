@@ -1,7 +1,7 @@
 use Rattle.std.proofs.Common.{◌≡◌, ◌∙◌, ◌%◌, ap, sym, subst, set, slice_index}
 use Rattle.std.proofs.lemmas.List.Elements.{All-set}
-use Rattle.dcc_prog.specs.declared.segment.TheConstants.{CS}
-use Rattle.dcc_prog.specs.Step.{code_bytes}
+use Rattle.dcc_machine.specs.declared.segment.TheConstants.{CS}
+use Rattle.dcc_machine.specs.Step.{code_bytes}
 use Rattle.dcc_step.specs.Core.{Core, state_of}
 use Rattle.dcc_step.specs.Cache.{IsDecoded, IsMarkedFrom, IsFreshIfKnown, AreFresh, bytes_at}
 use Rattle.dcc_step.proofs.Freshness.{fresh_more}

@@ -1,6 +1,6 @@
 use Rattle.std.proofs.Common.{◌≡◌, sym, ap, ◌∙◌}
 use Rattle.dcc_run.specs.End.{Outside}
-use Rattle.dcc_prog.specs.Operations.{with_end}
+use Rattle.dcc_machine.specs.Operations.{with_end}
 use Rattle.dcc_step.specs.Core.{Core, changed_by}
 use Rattle.dcc_step.proofs.Steps.{moved_on, outside_answers, refused_answers, answered, answers, answer_made, no_fault, step_made_at, step_refused_at, leads_at}
 use Rattle.dcc_step.specs.Stepped.{outcome_of}

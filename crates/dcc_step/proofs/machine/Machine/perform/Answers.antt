@@ -1,6 +1,6 @@
 use Rattle.std.proofs.Common.{subst, sym, OnOk, IfErr}
-use Rattle.dcc_prog.specs.Step.{op_step}
-use Rattle.dcc_console.specs.Scene.{Scene, scene}
+use Rattle.dcc_machine.specs.Step.{op_step}
+use Rattle.dcc_console.specs.WithConsole.{WithConsole, beside_console}
 use Rattle.dcc_console.specs.Steps.{Makes, Steps, refusal_of}
 use Rattle.dcc_step.specs.Core.{Core}
 use Rattle.dcc_step.specs.Stepped.{machine_by, LeadsOnBytes}
@@ -14,14 +14,14 @@ returns-in_default-clause-made g c =
 
 pub returns-in-Int21-clause-made : goal.returns-in-Int21-clause-made
 returns-in-Int21-clause-made g c =
-    let before : Scene Core = scene c.args.self.now (g.I.Source.left c.args.input.now) (g.O.Sink.taken c.args.out.now) in
-    let now : Scene Core = scene c.call_dos.new.self (g.I.Source.left c.call_dos.new.input) (g.O.Sink.taken c.call_dos.new.out) in
+    let before : WithConsole Core = beside_console c.args.self.now (g.I.Source.left c.args.input.now) (g.O.Sink.taken c.args.out.now) in
+    let now : WithConsole Core = beside_console c.call_dos.new.self (g.I.Source.left c.call_dos.new.input) (g.O.Sink.taken c.call_dos.new.out) in
     subst (λ o. OnOk c.call_dos.result (Makes (machine_by (λ cpu. op_step cpu o c.args.at)) before now)) (sym c.in-Int21.is) c.call_dos.ensures.made
 
 pub returns-in-Int21-clause-refused : goal.returns-in-Int21-clause-refused
 returns-in-Int21-clause-refused g c =
-    let before : Scene Core = scene c.args.self.now (g.I.Source.left c.args.input.now) (g.O.Sink.taken c.args.out.now) in
-    let now : Scene Core = scene c.call_dos.new.self (g.I.Source.left c.call_dos.new.input) (g.O.Sink.taken c.call_dos.new.out) in
+    let before : WithConsole Core = beside_console c.args.self.now (g.I.Source.left c.args.input.now) (g.O.Sink.taken c.args.out.now) in
+    let now : WithConsole Core = beside_console c.call_dos.new.self (g.I.Source.left c.call_dos.new.input) (g.O.Sink.taken c.call_dos.new.out) in
     subst (λ o. IfErr c.call_dos.result (λ fault. Steps (machine_by (λ cpu. op_step cpu o c.args.at)) (refusal_of fault) before now)) (sym c.in-Int21.is)
     c.call_dos.ensures.refused
 

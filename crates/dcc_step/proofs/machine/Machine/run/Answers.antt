@@ -1,6 +1,6 @@
 use Rattle.std.proofs.Common.{◌≡◌, arith, subst, sym, ap}
 use Rattle.dcc_io.proofs.CountLemmas.{Rose-since}
-use Rattle.dcc_console.specs.Scene.{Scene, scene}
+use Rattle.dcc_console.specs.WithConsole.{WithConsole, beside_console}
 use Rattle.dcc_console.specs.Steps.{MakesSteps}
 use Rattle.dcc_console.proofs.Runs.{no_steps, one_more, last_step}
 use Rattle.dcc_step.specs.Core.{Core}
@@ -41,8 +41,8 @@ returns-in_default g c = record {
 pub returns-clause-run : goal.returns-clause-run
 returns-clause-run g c =
     let all : c.loop-count._count ≡ c.args.most = omega arith in
-    let before : Scene Core = scene c.args.self.now (g.I.Source.left c.args.input.now) (g.O.Sink.taken c.args.out.now) in
-    let now : Scene Core = scene c.loop-count.self (g.I.Source.left c.loop-count.input) (g.O.Sink.taken c.loop-count.out) in
+    let before : WithConsole Core = beside_console c.args.self.now (g.I.Source.left c.args.input.now) (g.O.Sink.taken c.args.out.now) in
+    let now : WithConsole Core = beside_console c.loop-count.self (g.I.Source.left c.loop-count.input) (g.O.Sink.taken c.loop-count.out) in
     answered_run c.self.inside.end c.answer.result c.args.most before now c.answer.ensures
     (subst (λ n. MakesSteps machine n before now) all c.loop-count.invariant.made)
 

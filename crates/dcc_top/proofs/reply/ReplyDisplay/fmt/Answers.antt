@@ -9,7 +9,14 @@ returns-in-Construct-clause-writes g c =
     let small : c.in-Construct.at < 2 ^ 16 = omega arith in
     let written : styled_digits_output c.in_radix.result c.laid_out.result ≡ Some (hex_offset c.in-Construct.at) =
     rw (c.laid_out.ensures, c.in_radix.ensures) (ap Some (hex_offset-padded c.in-Construct.at small)) in
-    rw c.in-Construct.is (rw written at c.writeln-in-Construct.ensures.writes)
+    rw c.in-Construct.is (rw (c.number-told.ensures, written) at c.writeln-in-Construct.ensures.writes)
+
+pub returns-in-NotYet-clause-writes : goal.returns-in-NotYet-clause-writes
+returns-in-NotYet-clause-writes g c =
+    let small : c.in-NotYet.at < 2 ^ 16 = omega arith in
+    let written : styled_digits_output c.in_radix-in-NotYet.result c.laid_out-in-NotYet.result ≡ Some (hex_offset c.in-NotYet.at) =
+    rw (c.laid_out-in-NotYet.ensures, c.in_radix-in-NotYet.ensures) (ap Some (hex_offset-padded c.in-NotYet.at small)) in
+    rw c.in-NotYet.is (rw written at c.writeln-in-NotYet.ensures.writes)
 
 pub returns-in-Outside-clause-writes : goal.returns-in-Outside-clause-writes
 returns-in-Outside-clause-writes g c =

@@ -1,6 +1,6 @@
 use Rattle.std.proofs.Common.{sym, ap, ◌∙◌, ◌++◌}
 use Rattle.std.specs.Prelude.{if◌then◌else◌, []}
-use Rattle.dcc_prog.specs.Access.{Reading, Writing, operand_accesses}
+use Rattle.dcc_machine.specs.Access.{Reading, Writing, operand_accesses}
 use Rattle.dcc_step.specs.Core.{state_of}
 use Rattle.dcc_watch.specs.Accesses.{near}
 use Rattle.dcc_watch.proofs.Beside.{near-three}

@@ -1,5 +1,5 @@
-use Rattle.dcc_prog.specs.Access.{Writing}
-use Rattle.dcc_prog.specs.Machine.{with_operand, operand_value}
+use Rattle.dcc_machine.specs.Access.{Writing}
+use Rattle.dcc_machine.specs.Machine.{with_operand, operand_value}
 use Rattle.dcc_step.specs.Core.{state_of}
 use Rattle.dcc_watch.proofs.Beside.{near_no_operand}
 use Rattle.dcc_watch.proofs.accesses.Accesses.add_exchanged.Goals as goal

@@ -1,5 +1,5 @@
 use Rattle.std.proofs.Common.{◌+◌, ◌%◌, [], sym, ap, ◌∙◌}
-use Rattle.dcc_prog.specs.Access.{found_accesses}
+use Rattle.dcc_machine.specs.Access.{found_accesses}
 use Rattle.dcc_step.specs.Core.{state_of}
 use Rattle.dcc_watch.specs.Accesses.{near}
 use Rattle.dcc_watch.proofs.Quiet.{accesses-beside}

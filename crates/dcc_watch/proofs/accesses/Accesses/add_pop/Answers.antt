@@ -1,6 +1,6 @@
 use Rattle.std.proofs.Common.{sym, ap, ◌∙◌, ◌∷◌, []}
-use Rattle.dcc_prog.specs.Access.{Reading, Writing, operand_accesses, stack_access}
-use Rattle.dcc_prog.specs.Operations.{with_sp_raised}
+use Rattle.dcc_machine.specs.Access.{Reading, Writing, operand_accesses, stack_access}
+use Rattle.dcc_machine.specs.Operations.{with_sp_raised}
 use Rattle.dcc_step.specs.Core.{state_of}
 use Rattle.dcc_watch.specs.Accesses.{access_of, near}
 use Rattle.dcc_watch.proofs.Beside.{near-both}

@@ -1,7 +1,7 @@
 use Rattle.std.proofs.Common.{◌≡◌, [], length, refl, sym, ap, ◌∙◌, subst, arith}
 use Rattle.dcc_prog.specs.declared.procedure.Layout.{Layout}
-use Rattle.dcc_prog.specs.Machine.{start_state}
-use Rattle.dcc_prog.proofs.MzImageLaws.{length-loaded}
+use Rattle.dcc_machine.specs.Machine.{start_state}
+use Rattle.dcc_machine.proofs.MzImageLaws.{length-loaded}
 use Rattle.dcc_step.specs.Core.{core_of}
 use Rattle.dcc_watch.specs.Kept.{Kept}
 use Rattle.dcc_watch.specs.Watching.{AllHaveShapes}

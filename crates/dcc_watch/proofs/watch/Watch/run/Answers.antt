@@ -1,6 +1,6 @@
 use Rattle.std.proofs.Common.{◌≡◌, arith, subst, sym, ◌∙◌}
 use Rattle.dcc_io.proofs.CountLemmas.{Rose-since}
-use Rattle.dcc_console.specs.Scene.{Scene, scene}
+use Rattle.dcc_console.specs.WithConsole.{WithConsole, beside_console}
 use Rattle.dcc_console.specs.Steps.{MakesSteps, Steps, Runs}
 use Rattle.dcc_console.proofs.Runs.{no_steps, one_more}
 use Rattle.dcc_watch.specs.Watching.{Watching}
@@ -20,8 +20,9 @@ loop-count-preserved g c = record {
   made =
       one_more watched c.loop-count._count _ _ _ c.loop-count.invariant.made
       (subst (λ o. Steps watched o
-      (scene c.loop-count.self (g.I.Source.left c.loop-count.input) (g.O.Sink.taken c.loop-count.out))
-      (scene c.step-answer.new.self (g.I.Source.left c.step-answer.new.input) (g.O.Sink.taken c.step-answer.new.out)))
+      (beside_console c.loop-count.self (g.I.Source.left c.loop-count.input) (g.O.Sink.taken c.loop-count.out))
+      (beside_console c.step-answer.new.self (g.I.Source.left c.step-answer.new.input) (g.O.Sink.taken
+      c.step-answer.new.out)))
       (on_made c.step-answer.result (sym c.goes_on.ensures ∙ c.if-not-goes_on.false)) c.step-answer.ensures.step);
   input_faults = omega (arith, c.step-answer.ensures.faults.input_faults);
   output_faults = omega (arith, c.step-answer.ensures.faults.output_faults);
@@ -44,8 +45,8 @@ returns-then-not-goes_on g c = record {
 pub returns-clause-run : goal.returns-clause-run
 returns-clause-run g c =
     let all : c.loop-count._count ≡ c.args.most = omega arith in
-    let before : Scene Watching = scene c.args.self.now (g.I.Source.left c.args.input.now) (g.O.Sink.taken c.args.out.now) in
-    let now : Scene Watching = scene c.loop-count.self (g.I.Source.left c.loop-count.input) (g.O.Sink.taken c.loop-count.out) in
+    let before : WithConsole Watching = beside_console c.args.self.now (g.I.Source.left c.args.input.now) (g.O.Sink.taken c.args.out.now) in
+    let now : WithConsole Watching = beside_console c.loop-count.self (g.I.Source.left c.loop-count.input) (g.O.Sink.taken c.loop-count.out) in
     subst (λ o. Runs watched c.args.most o before now) (sym c.answer.ensures.made)
     (subst (λ n. MakesSteps watched n before now) all c.loop-count.invariant.made)
 

@@ -1,5 +1,5 @@
 use Rattle.std.proofs.Common.{sym, ◌∙◌, subst, arith}
-use Rattle.dcc_console.specs.Scene.{scene}
+use Rattle.dcc_console.specs.WithConsole.{beside_console}
 use Rattle.dcc_console.specs.Steps.{Steps}
 use Rattle.dcc_watch.specs.Executor.{watched}
 use Rattle.dcc_watch.proofs.StepLaws.{stays}
@@ -9,7 +9,7 @@ use Rattle.dcc_watch.proofs.watch.Watch.step.Goals as goal
 pub returns-then-not-is_going : goal.returns-then-not-is_going
 returns-then-not-is_going g c = record {
   step =
-      subst (λ o. Steps watched o (scene c.args.self.now (g.I.Source.left c.args.input.now) (g.O.Sink.taken c.args.out.now)) (scene c.args.self.now (g.I.Source.left c.args.input.now) (g.O.Sink.taken c.args.out.now))) (sym c.answer.ensures.made)
+      subst (λ o. Steps watched o (beside_console c.args.self.now (g.I.Source.left c.args.input.now) (g.O.Sink.taken c.args.out.now)) (beside_console c.args.self.now (g.I.Source.left c.args.input.now) (g.O.Sink.taken c.args.out.now))) (sym c.answer.ensures.made)
       (stays c.args.self.now (g.I.Source.left c.args.input.now) (g.O.Sink.taken c.args.out.now) (not_going c.args.self.now (sym c.is_going.ensures ∙ c.if-not-is_going.true)));
   tells = c.answer.ensures.tells;
   faults = record {

@@ -1,0 +1,23 @@
+pub mod TableLaws
+pub mod StepLaws
+pub mod FetchLaws
+pub mod MzImageLaws
+pub mod ConsoleLaws
+pub mod WellFormedLaws
+pub mod MachineEnds
+pub mod OperationForms
+pub mod DosLaws
+pub mod AccessLaws
+pub mod MemoryKept
+pub mod ResultBounds
+pub mod StateKept
+pub mod StartState
+pub mod LocationKept
+pub mod AlikeValues
+pub mod ZeroingLaws
+pub mod AlikeHalves
+pub mod AlikeFlags
+pub mod AlikeUsed
+pub mod AlikeMade
+mod AccessExamples
+pub mod Examples

@@ -1,5 +1,0 @@
-use Rattle.dcc_prog.proofs.MemoryKept.{accesses-same}
-use Rattle.dcc_prog.proofs.laws.accesses_depend_on_reads.Goals as goal
-
-pub returns : goal.returns
-returns c = accesses-same

@@ -1,5 +1,0 @@
-use Rattle.dcc_prog.proofs.MemoryKept.{acts-either}
-use Rattle.dcc_prog.proofs.laws.bytes_are_alike_or_left.Goals as goal
-
-pub returns : goal.returns
-returns c = acts-either

@@ -1,5 +1,0 @@
-use Rattle.dcc_prog.proofs.MemoryKept.{memory-kept}
-use Rattle.dcc_prog.proofs.laws.memory_changes_at_writes_alone.Goals as goal
-
-pub returns : goal.returns
-returns c = memory-kept

@@ -1,5 +1,0 @@
-use Rattle.dcc_prog.proofs.AlikeMade.{one-location}
-use Rattle.dcc_prog.proofs.laws.one_location_changes_what_is_made_of_it.Goals as goal
-
-pub returns : goal.returns
-returns c = one-location

@@ -1,5 +1,0 @@
-use Rattle.dcc_prog.proofs.MemoryKept.{steps-act}
-use Rattle.dcc_prog.proofs.laws.steps_act_by_accesses.Goals as goal
-
-pub returns : goal.returns
-returns c = steps-act

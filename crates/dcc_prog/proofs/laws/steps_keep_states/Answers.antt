@@ -1,5 +1,0 @@
-use Rattle.dcc_prog.proofs.StateKept.{states-kept}
-use Rattle.dcc_prog.proofs.laws.steps_keep_states.Goals as goal
-
-pub returns : goal.returns
-returns c = states-kept

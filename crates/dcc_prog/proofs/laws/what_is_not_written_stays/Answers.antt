@@ -1,5 +1,0 @@
-use Rattle.dcc_prog.proofs.LocationKept.{locations-kept}
-use Rattle.dcc_prog.proofs.laws.what_is_not_written_stays.Goals as goal
-
-pub returns : goal.returns
-returns c = locations-kept
