@@ -16,6 +16,8 @@ PUT_KEY = bytes([0x8A, 0xD0, 0xB4, 0x02, 0xCD, 0x21])
 GET_KEY = bytes([0xB4, 0x08, 0xCD, 0x21])
 # A short jump surely goes as far.
 NEAR = 118
+# How many jumps a jump goes back.
+BACK = {"jumps back": 1, "jumps far back": NEAR // 2 - 1}
 
 
 def sized(line, is_short):
@@ -274,8 +276,13 @@ def structured_code(draw, size=4):
 
 
 def nested_code(count, kind):
-    """The lines of so many "tests" in each other, or "loops", or "whiles", which test first."""
+    """The lines of so many "tests" in each other, or "loops", or "whiles", which test first; or of "jumps back", each
+    to the one before, and "jumps far back", each as far as it reaches."""
     lines, behind = [], count
+    if kind in BACK:
+        for n in range(count):
+            lines += [("at", n), ("test", 0x75, max(0, n - BACK[kind]))]
+        return [*lines, ("put", EXIT)]
     if kind == "tests":
         for _ in range(count):
             lines.append(("test", 0x74, behind))

@@ -7,10 +7,10 @@ REFERENCE is a folder with a package dccref, which is no part of this repository
 that its executable asks for. PATH is a built dcc; where it doesn't stand, dcc is built and proved first.
 Each of N graphs (10,000) becomes an executable of one procedure: reducible or not, of up to 60 blocks, with tests that
 go to one block both ways, choices with shared cases, and tables of one word. `c` must give its text, whose labels,
-loops, jumps and numbers of statements must be as the graph asks. Of a graph without a text a small part that has none
-either is sought. Each of N programs (1,000) has loops, most have tests and choices, many several procedures. Executable
+loops, jumps and numbers of statements must be as the graph asks, and in which no statement stands twice. Of a graph
+without a text a small part that has none either is sought. Each of N programs (1,000) has loops, most have tests and choices, many several procedures. Executable
 and text run on the same inputs: the one output begins the other, and where both end, they end alike; of a few the
-events of both runs are compared too, by the reference. Last, tests and loops are nested up to 260 deep.
+events of both runs are compared too, by the reference. Last, tests and loops are nested up to 300 deep.
 Prints what is wrong, and how many there were of each kind; the status is 1 if something is wrong.
 """
 import argparse
@@ -29,6 +29,8 @@ RUNNING = 20
 # The steps of a graph's executable, and of a program's; a text takes a few for each.
 FEW, STEPS, MORE = 400, 4000, 40
 SMALLER = 400
+# Stores of blocks go to this offset of the data and those behind it.
+STORES = 0x4000
 
 
 class Shelf:
@@ -111,6 +113,20 @@ def plain_graph(ends):
     return code_of_graph(random.Random(0), ends)
 
 
+def not_once(shelf, lines):
+    """The blocks of a graph whose store, which no other block has, stands more than once in the text."""
+    stores = []
+    for line in lines:
+        stores.append(line)
+        if line[0] == "at":
+            stores.append(("put", b"\xA3" + (STORES + 2 * line[1]).to_bytes(2, "little")))
+    if shelf.decompiled(stores) != 0:
+        return []
+    text = shelf.text.read_bytes()
+    return [line[1] for line in lines
+            if line[0] == "at" and text.count(b"*(unsigned int *)%d = " % (STORES + 2 * line[1])) > 1]
+
+
 def graphs(shelf, draw, count, told):
     """Tells of the texts of so many graphs."""
     for _ in range(count):
@@ -130,6 +146,9 @@ def graphs(shelf, draw, count, told):
         fault = shelf.runs_differ(draw.randbytes(draw.randrange(12)), draw.choice([0, 65535]), FEW)
         if fault is not None:
             wrong(told, f"{ends}: {fault}")
+        twice = not_once(shelf, code_of_graph(draw, ends))
+        if twice:
+            wrong(told, f"{ends}: blocks {twice} stand twice")
 
 
 def structured(shelf, draw, count, told):
@@ -164,8 +183,8 @@ def structured(shelf, draw, count, told):
 
 def nests(shelf, told):
     """Tells of the texts of deep nests."""
-    for kind in ("tests", "loops", "whiles"):
-        for count in (99, 100, 101, 190, 198, 199, 200, 201, 202, 260):
+    for kind in ("tests", "loops", "whiles", "jumps back", "jumps far back"):
+        for count in (99, 100, 101, 190, 198, 199, 200, 201, 202, 220, 260, 300):
             status = shelf.decompiled(nested_code(count, kind))
             told[f"nests with status {status}"] += 1
             if status != 0:

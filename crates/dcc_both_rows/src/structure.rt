@@ -15,13 +15,22 @@ const CHOOSES: &[u8] =
     b"\xBB\x00\x00\x83\xFB\x03\x77\x19\xD1\xE3\x2E\xFF\xA7\x2A\x00\xB0\x01\xEB\x0A\xB0\x02\xEB\x06\xB0\x03\
         \xEB\x02\xB0\x04\xB4\x4C\xCD\x21\xB0\x09\xEB\xF8\x14\x00\x18\x00\x1C\x00\x20\x00";
 
+// Prints `y` where it reads an `a`, and `n` else; what it does with an `a` stands first.
+const TELLS_A: &[u8] = b"\xB4\x01\xCD\x21\x3C\x61\x75\x08\xB2\x79\xB4\x02\xCD\x21\xEB\x06\
+        \xB2\x6E\xB4\x02\xCD\x21\xB8\x00\x4C\xCD\x21";
+
+// Prints `n` where it reads no `a`, and `y` else; what it does without an `a` stands first, before the test.
+const TELLS_NO_A: &[u8] =
+    b"\xEB\x08\xB2\x6E\xB4\x02\xCD\x21\xEB\x0E\xB4\x01\xCD\x21\x3C\x61\x75\xF0\
+        \xB2\x79\xB4\x02\xCD\x21\xB8\x00\x4C\xCD\x21";
+
 // Jumps to itself.
 const STAYS: &[u8] = b"\xEB\xFE";
 
 // The code after the instructions that set DS, and how often each of these pieces stands in its text.
 type StructureRow = (&'static [u8], &'static [(&'static str, usize)]);
 
-static STRUCTURES: [StructureRow; 5] = [
+static STRUCTURES: [StructureRow; 7] = [
     // A recursion, and no loop. Its test guards the call, which is on the side of false.
     (
         FACTORIAL,
@@ -58,6 +67,23 @@ static STRUCTURES: [StructureRow; 5] = [
             ("goto ", 0),
             ("for (", 0),
             ("while (", 0),
+        ],
+    ),
+    // The sides of a test, in the order of their addresses: that of false first, and that of true.
+    (
+        TELLS_A,
+        &[
+            ("if (", 1),
+            ("v5 = 121;\n        dos_putc(v5);\n    } else {\n", 1),
+            ("goto ", 0),
+        ],
+    ),
+    (
+        TELLS_NO_A,
+        &[
+            ("if (", 1),
+            ("v5 = 110;\n        dos_putc(v5);\n    } else {\n", 1),
+            ("goto ", 0),
         ],
     ),
     // A loop with two entries is none of the text.

@@ -18,7 +18,7 @@ use Rattle.dcc_ir.specs.Live.{reads, block_in, follows}
 use Rattle.dcc_ir.specs.Joinable.{places_of, next_exprs}
 use Rattle.dcc_ir.specs.Flow.{targets}
 use Rattle.dcc_ir.specs.Run.{State, Activation, putting, passing, is_call, scene_of, value_in, setting, stmt_step}
-use Rattle.dcc_ir.specs.Local.{Point, next_of, after_call, after_calls, Halt, Over, Jumps, switch_halt, exit_halt, local_run, halt_of}
+use Rattle.dcc_ir.specs.Local.{Point, start_of, next_of, after_call, after_calls, Halt, Over, Jumps, switch_halt, exit_halt, local_run, halt_of}
 use Rattle.dcc_ir.specs.Passes.{with_values, EndAlike, Meet}
 use Rattle.dcc_ir.proofs.FitLaws.{both}
 use Rattle.dcc_ir.proofs.PathLaws.{decided}
@@ -34,7 +34,8 @@ use Rattle.dcc_flags.proofs.SpotLaws.{Spot, past, walked_more, walked_end, Fine,
 use Rattle.dcc_flags.proofs.PlanLaws.{Plan, stmts_at}
 use Rattle.dcc_flags.proofs.HoldLaws.{spot, plain, Holding, holding_set, holding_moves, own, own_bits, holding_results, holding_defined, stmts_fine, spot_fine, spot_whole, value_holds, drop_next, drop_all}
 use Rattle.dcc_flags.proofs.MeetLaws.{Both, Stays, stuck_both, step_value, step_both, written_plain, moves, by_kept}
-use Rattle.dcc_flags.proofs.PassLaws.{Invariant, at_graph, one_pass, BeginsIn, GoesIn, may_stand}
+use Rattle.dcc_passes.specs.OneGraph.{Invariant, one_pass, BeginsIn, GoesIn}
+use Rattle.dcc_passes.proofs.OneGraphLaws.{may-stand, form-fits}
 use Rattle.dcc_ir.proofs.passes.FormLaws.{width_more}
 use Rattle.dcc_ir.specs.Form.{GraphStays}
 use Rattle.dcc_ir.specs.Replaced.{IsKeptWith}
@@ -115,9 +116,9 @@ module _ (graph after : Graph) (kept : Kept) (is : IsGraph graph) (exact : (f : 
   abbrev pub inv : Invariant
   inv point v v' = Here point v v'
 
-  module _ (a : List ℕ) (point : Point) (entry_is : point.entry ≡ graph.entry) where
+  module _ (a : List ℕ) (point : Point) where
     abbrev Meets : Halt → Halt → Type 0
-    Meets h h' = Meet (one_pass graph.entry inv) a point 0 h h'
+    Meets h h' = Meet (one_pass (λ n. n) inv) a point 0 h h'
 
     abbrev b : ℕ
     b = point.place
@@ -133,22 +134,14 @@ module _ (graph after : Graph) (kept : Kept) (is : IsGraph graph) (exact : (f : 
       calls_old : after_call (drop k (olds b)) ≡ after_calls (suc point.calls) (olds b)
       calls_new : after_call (from_spot (at_spot b k) (drop k (olds b))) ≡ after_calls (suc point.calls) (news b)
 
-    there_holds : (q : Point) → q.entry ≡ point.entry → (v v' : Values) → Here q v v' → at_graph (q.entry == graph.entry) inv q v v'
-    there_holds q e v v' h = subst (λ x. at_graph x inv q v v') (sym (eq-eqb q.entry graph.entry (e ∙ entry_is))) h
-
     -- The end of the block.
 
     jumps : (k : ℕ) (place place' : ℕ) (s t : State) → rest_at graph b k ≡ [] → Contains (targets (block_in graph b).exit) place → place' ≡ place → Both graph after kept is exact plan b k s t → Meets (Jumps place s) (Jumps place' t)
     jumps k place place' s t at to same h = record {
       stands = sym same;
       outside = h.outside;
-      holds = subst (λ x. at_graph (point.entry == graph.entry) inv (record { entry = point.entry; place = x; calls = 0 }) s.running.values t.running.values) (sym same)
-          (there_holds (record { entry = point.entry; place = place; calls = 0 }) refl s.running.values t.running.values (record {
-            k = 0;
-            old_rest = refl;
-            new_rest = refl;
-            holds = gone;
-          }));
+      holds = subst (λ x. inv (record { entry = point.entry; place = x; calls = 0 }) s.running.values t.running.values) (sym same)
+          (record { k = 0; old_rest = refl; new_rest = refl; holds = gone });
     }
       where
         edge_in : (places : List ℕ) → Contains places place → list_any (λ x. x == place) places ≡ true
@@ -347,15 +340,15 @@ module _ (graph after : Graph) (kept : Kept) (is : IsGraph graph) (exact : (f : 
           depth = refl;
           outside = record { memory = st.alike.outside.memory; input = st.alike.outside.input; events = st.alike.outside.events; base = st.alike.outside.base };
           enters = same_values w.choices s t arguments (λ e c. step_value graph after kept is exact plan b k known stmt rest stays s t st.graph_is st.graph'_is st.fits st.alike e c (all_at (is_expr graph.bits) arguments e one.1 c));
-          resumes = λ r r' fit fit' leaves. there_holds (next_of point) refl (with_values s.running.values results r) (with_values t.running.values results r')
-              (subst (λ r'. Here (next_of point) (with_values s.running.values results r) (with_values t.running.values results r')) (sym leaves) (record {
+          resumes = λ r r' fit fit' leaves.
+              subst (λ r'. Here (next_of point) (with_values s.running.values results r) (with_values t.running.values results r')) (sym leaves) (record {
                 k = suc k;
                 old_rest = dropped ∙ ap after_call (sym at) ∙ st.calls_old;
                 new_rest = ap (from_spot (at_spot b (suc k))) dropped ∙ ap (λ x. from_spot x rest) spot_is ∙ ap (λ l. after_call (from_spot w l)) (sym at) ∙ st.calls_new;
                 holds = holding_results graph after kept is exact plan b (suc k) results r s.running.values t.running.values
                     (all_plain k known stmt rest stays results one.0 (λ l c. c))
                     (holding_moves graph after kept is exact plan b k s.running.values t.running.values (moves graph after kept is exact plan b k known stmt rest stays) st.alike.holds);
-              }));
+              });
         }
       where
         all_plain : (k : ℕ) (known : plan.known b ≡ true) (stmt : Stmt) (rest : List Stmt) → Stays graph after kept is exact plan b k stmt rest → (ls : List Loc) → list_all (is_location graph.bits) ls ≡ true → ((l : Loc) → Contains ls l → Contains (writes_of stmt) l) → All (λ l. plain graph after kept is exact plan l ≡ true) ls
@@ -400,8 +393,9 @@ module _ (graph after : Graph) (kept : Kept) (is : IsGraph graph) (exact : (f : 
   }
 
   -- From each point both go on.
-  pub goes_on : GoesIn graph after inv
-  goes_on p q fp fq a point s t entry_is together sg tg h =
+  pub goes_on : GoesIn (λ n. n) graph after inv
+  goes_on p q fp fq a point s t entry_is together sg tg =
+      let h = together.holds in
       let known = h.holds.known in
       let block : s.running.block ≡ block_in graph point.place = some_same s.running.block (block_in graph point.place)
       (sym together.first.at.block ∙ ap (λ (g : Graph). slice_get g.blocks point.place) sg ∙ plan.within point.place known) in
@@ -409,9 +403,9 @@ module _ (graph after : Graph) (kept : Kept) (is : IsGraph graph) (exact : (f : 
       let block' : t.running.block ≡ folded = some_same t.running.block folded (sym together.second.at.block ∙ ap (λ (g : Graph). slice_get g.blocks point.place) tg ∙ plan.placed point.place known) in
       let rest : s.running.rest ≡ drop h.k (olds point.place) = together.first.at.rest ∙ ap (λ (x : Block). after_calls point.calls x.stmts) block ∙ sym h.old_rest in
       let rest' : t.running.rest ≡ from_spot (at_spot point.place h.k) (drop h.k (olds point.place)) = together.second.at.rest ∙ ap (λ (x : Block). after_calls point.calls x.stmts) block' ∙ sym h.new_rest in
-      subst (λ l. Meet (one_pass graph.entry inv) a point 0 (local_run l s) (halt_of t)) (sym rest)
-      (subst (λ l. Meet (one_pass graph.entry inv) a point 0 (local_run (drop h.k (olds point.place)) s) (local_run l t)) (sym rest')
-      (block_meets a point entry_is (drop h.k (olds point.place)) h.k s t refl (record {
+      let meets = subst (λ l. Meet (one_pass (λ n. n) inv) a point 0 (local_run l s) (halt_of t)) (sym rest)
+      (subst (λ l. Meet (one_pass (λ n. n) inv) a point 0 (local_run (drop h.k (olds point.place)) s) (local_run l t)) (sym rest')
+      (block_meets a point (drop h.k (olds point.place)) h.k s t refl (record {
         graph_is = sg;
         graph'_is = tg;
         exit = ap (λ (x : Block). x.exit) block;
@@ -426,7 +420,8 @@ module _ (graph after : Graph) (kept : Kept) (is : IsGraph graph) (exact : (f : 
         };
         calls_old = ap after_call h.old_rest;
         calls_new = ap after_call h.new_rest;
-      })))
+      }))) in
+      (0, meets)
 
   -- Both runs begin alike.
 
@@ -497,15 +492,17 @@ module _ (graph after : Graph) (kept : Kept) (is : IsGraph graph) (exact : (f : 
           let all : after.bits ≡ graph.bits ++ (start.fresh ++ whole.0) = whole.1 ∙ ap (λ l. l ++ whole.0) start.bits ∙ append_assoc graph.bits start.fresh whole.0 in
           ap (λ bits. location_width bits (Temp n)) all ∙ width_more graph.bits (start.fresh ++ whole.0) (Temp n) ok
 
-  pub begins_alike : BeginsIn graph after inv
-  begins_alike fill base a s t fit outside opened opened' =
+  begins_alike : after.params ≡ graph.params → BeginsIn graph after inv
+  begins_alike params fill base a s t fit outside opened opened' =
       let o = pass_open 0 graph.params a s t is.params param_kept (record {
         memory = outside.memory;
         base = outside.base;
         holds = first_holds fill s.running.values t.running.values (λ l. ap (λ (x : Activation). x.values l) opened) (λ l. ap (λ (x : Activation). x.values l) opened');
       }) in
+      let s' = passing 0 graph.params a s in
+      subst (λ params. let t' = passing 0 params a t in (t'.memory ≡ s'.memory) × inv (start_of graph.entry) s'.running.values t'.running.values) (sym params)
       (o.memory, record { k = 0; old_rest = refl; new_rest = refl; holds = o.holds })
 
   -- The folded graph may stand in the place of the graph.
   pub folded_stands : GraphStays graph after → IsGraph after → (p : Program) → IsProgram p → Contains p.graphs graph → IsKeptWith after p
-  folded_stands stays fine p formed known = may_stand graph after inv stays fine begins_alike goes_on p formed known
+  folded_stands stays fine p formed known = may-stand (λ n. n) inv graph after (form-fits graph after stays fine) (begins_alike stays.params) goes_on p formed known

@@ -1,4 +1,3 @@
-pub mod PassLaws
 pub mod ExprLaws
 pub mod TakenLaws
 pub mod SpotLaws

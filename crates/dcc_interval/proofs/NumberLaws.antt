@@ -144,6 +144,11 @@ module _ (count : ℕ) (r : Regions) (are : AreRegions count r) where
 
 -- Two regions.
 
+-- the region x was joined into y
+pub record IsJoining (count : ℕ) (r : Regions) (x y : ℕ) (now : Regions) : Type 0 where
+  pub whole : AreRegions count now
+  pub joined : (n : ℕ) → n < count → region_at now n ≡ joined_at (region_at r) x y n
+
 module _ (count : ℕ) (r : Regions) (are : AreRegions count r) (x y : ℕ) (inside : x < count) (there : y < count)
     (is : region_at r x ≡ x) (other : region_at r y ≡ y) (off : ¬ (x ≡ y)) where
   abbrev one : ℕ
@@ -162,10 +167,10 @@ module _ (count : ℕ) (r : Regions) (are : AreRegions count r) (x y : ℕ) (ins
   joined_not n o = ap (λ b. if b then y else region_at r n) (ne_eqb (region_at r n) x o)
 
   -- the nodes of the one get the number of the other
-  pub first_whole : AreRegions count (renumbered r one two)
+  first_whole : AreRegions count (renumbered r one two)
   first_whole = renumbered_whole count r are one two (are.below x inside) (are.below y there) apart y there refl
 
-  pub first_joined : (n : ℕ) → n < count → region_at (renumbered r one two) n ≡ joined_at (region_at r) x y n
+  first_joined : (n : ℕ) → n < count → region_at (renumbered r one two) n ≡ joined_at (region_at r) x y n
   first_joined n here = elim (cases_eq (get_or r.numbers n 0) one) [
     | inl e ↦
         let was : region_at r n ≡ x = ap (λ g. get_or r.heads g 0) e ∙ is in
@@ -176,7 +181,7 @@ module _ (count : ℕ) (r : Regions) (are : AreRegions count r) (x y : ℕ) (ins
   ]
 
   -- the nodes of the other get the number of the one, whose region has the other's name then
-  abbrev pub second : Regions
+  abbrev second : Regions
   second = renamed (renumbered r two one) one y
 
   flip : ¬ (two ≡ one)
@@ -194,7 +199,7 @@ module _ (count : ℕ) (r : Regions) (are : AreRegions count r) (x y : ℕ) (ins
   number_now : get_or second.numbers y 0 ≡ one
   number_now = moves count r are two one (are.below y there) (are.below x inside) flip y there refl
 
-  pub second_whole : AreRegions count second
+  second_whole : AreRegions count second
   second_whole = record {
     numbers = renumber_whole.numbers;
     heads = length-set r.heads one y ∙ are.heads;
@@ -211,7 +216,7 @@ module _ (count : ℕ) (r : Regions) (are : AreRegions count r) (x y : ℕ) (ins
     ];
   }
 
-  pub second_joined : (n : ℕ) → n < count → region_at second n ≡ joined_at (region_at r) x y n
+  second_joined : (n : ℕ) → n < count → region_at second n ≡ joined_at (region_at r) x y n
   second_joined n here = elim (cases_eq (get_or r.numbers n 0) two) [
     | inl e ↦
         let was : region_at r n ≡ y = ap (λ g. get_or r.heads g 0) e ∙ other in
@@ -226,3 +231,13 @@ module _ (count : ℕ) (r : Regions) (are : AreRegions count r) (x y : ℕ) (ins
               ∙ sym (joined_not n (λ f. p (same_number count r are n x here f)))
         ]
   ]
+
+  -- what the code makes, where these are the numbers that it reads
+  pub first_made : (a b : ℕ) → a ≡ one → b ≡ two → (now : Regions) → now ≡ renumbered r a b → IsJoining count r x y now
+  first_made a b first last now is =
+      subst (IsJoining count r x y) (sym (is ∙ ap (λ g. renumbered r g b) first ∙ ap (renumbered r one) last)) (record { whole = first_whole; joined = first_joined })
+
+  pub second_made : (a b : ℕ) → a ≡ one → b ≡ two → (now : Regions) → now ≡ renumbered r b a → IsJoining count r x y (renamed now a y)
+  second_made a b first last now is =
+      let same = ap (λ (q : Regions). renamed q a y) is ∙ ap (λ g. renamed (renumbered r g a) a y) last ∙ ap (λ g. renamed (renumbered r two g) g y) first in
+      subst (IsJoining count r x y) (sym same) (record { whole = second_whole; joined = second_joined })

@@ -13,6 +13,7 @@ use Rattle.dcc_interval.specs.declared.reduce.Reducing.{Reducing as ReducingOf}
 use Rattle.dcc_interval.specs.Graphs.{IsReached, at_entry, along}
 use Rattle.dcc_interval.specs.Reducing.{regions_of, region_at, AreRegions, joined_at, MayJoin, HasEdgeBack, IsDone, comes_to, may_join, at_in, marked_in, IsReducing}
 use Rattle.dcc_interval.proofs.GrowthLaws.{some_passes, passes_at}
+use Rattle.dcc_interval.proofs.NumberLaws.{region_below}
 use Rattle.dcc_interval.proofs.JoinedLaws.{joined_same, joined_marked, joined_on, gone, was_own}
 
 -- Tests of lists.
@@ -75,8 +76,32 @@ below sources entry inside (along {m = m} {n = n} r e) = elim (cases_lt n (lengt
   | inr past ↦ absurd (false≢true (sym (ap (λ l. is_in l m) (get_or_past sources n [] past)) ∙ e))
 ]
 
-module _ (sources : List (List ℕ)) (entry : ℕ) (inside : entry < length sources) (r : ReducingOf) (h : IsReducing sources entry r)
-    (node : ℕ) (reached : IsReached (comes_to sources) entry node) (own : at_in r node ≡ node) where
+-- a reached node is in its own region
+pub record IsTry (sources : List (List ℕ)) (entry : ℕ) (r : ReducingOf) (node : ℕ) : Type 0 where
+  pub inside : entry < length sources
+  pub reducing : IsReducing sources entry r
+  pub reached : IsReached (comes_to sources) entry node
+  pub own : at_in r node ≡ node
+
+-- its region was joined
+pub record IsTried (sources : List (List ℕ)) (entry : ℕ) (r : ReducingOf) (node : ℕ) (now : ReducingOf) : Type 0 where
+  pub reducing : IsReducing sources entry now
+  pub gone : ¬ (at_in now node ≡ node)
+  pub fewer : (n : ℕ) → IsReached (comes_to sources) entry n → at_in now n ≡ n → at_in r n ≡ n
+
+module _ (sources : List (List ℕ)) (entry : ℕ) (r : ReducingOf) (node : ℕ) (given : IsTry sources entry r node) where
+  inside : entry < length sources
+  inside = given.inside
+
+  h : IsReducing sources entry r
+  h = given.reducing
+
+  reached : IsReached (comes_to sources) entry node
+  reached = given.reached
+
+  own : at_in r node ≡ node
+  own = given.own
+
   abbrev edge : ℕ → ℕ → Bool
   edge = comes_to sources
 
@@ -85,7 +110,7 @@ module _ (sources : List (List ℕ)) (entry : ℕ) (inside : entry < length sour
 
   -- the tests say what they are to
 
-  pub may_is : (into : ℕ) → may_join (at_in r) nodes node into ≡ true → MayJoin edge entry (at_in r) node into
+  may_is : (into : ℕ) → may_join (at_in r) nodes node into ≡ true → MayJoin edge entry (at_in r) node into
   may_is into t =
       let parts = may_parts (at_in r) nodes node into t in
       let m = some_passes (λ m. at_in r m == into) nodes parts.1 in
@@ -100,6 +125,13 @@ module _ (sources : List (List ℕ)) (entry : ℕ) (inside : entry < length sour
           | inr u ↦ inr (eqb-true (at_in r k) into u)
         ];
       }
+
+  -- the other region is one
+  pub into_is : (into : ℕ) → may_join (at_in r) nodes node into ≡ true → (into < length sources) × (at_in r into ≡ into)
+  into_is into t =
+      let may = may_is into t in
+      let from = region_below (length sources) (regions_of r.regions) h.whole may.from (below sources entry inside may.reached) in
+      (subst (λ k. k < length sources) may.comes from, subst (λ k. at_in r k ≡ k) may.comes (h.joined.own may.from may.reached))
 
   may_so : (into : ℕ) → MayJoin edge entry (at_in r) node into → may_join (at_in r) nodes node into ≡ true
   may_so into may =
@@ -163,7 +195,7 @@ module _ (sources : List (List ℕ)) (entry : ℕ) (inside : entry < length sour
       same_now : (n : ℕ) → IsReached edge entry n → at_in now n ≡ joined_at (at_in r) node into n
       same_now n s = joined n (below sources entry inside s)
 
-      pub join_on : IsReducing sources entry now
+      join_on : IsReducing sources entry now
       join_on = record {
         whole = whole;
         marks = marked_on.marks;
@@ -172,10 +204,13 @@ module _ (sources : List (List ℕ)) (entry : ℕ) (inside : entry < length sour
             (joined_on edge entry (at_in r) (marked_in marked) marked_on.joined node into reached own off (may_is into may) back_now);
       }
 
-      pub join_gone : ¬ (at_in now node ≡ node)
+      join_gone : ¬ (at_in now node ≡ node)
       join_gone e =
           gone edge entry (at_in r) (marked_in marked) marked_on.joined node into reached own off (may_is into may) (sym (same_now node reached) ∙ e)
 
-      pub join_fewer : (n : ℕ) → IsReached edge entry n → at_in now n ≡ n → at_in r n ≡ n
+      join_fewer : (n : ℕ) → IsReached edge entry n → at_in now n ≡ n → at_in r n ≡ n
       join_fewer n s e =
           was_own edge entry (at_in r) (marked_in marked) marked_on.joined node into reached own off (may_is into may) n s (sym (same_now n s) ∙ e)
+
+      pub try_on : IsTried sources entry r node now
+      try_on = record { reducing = join_on; gone = join_gone; fewer = join_fewer }

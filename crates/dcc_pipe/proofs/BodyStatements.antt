@@ -79,7 +79,7 @@ module _ (s : Spelling) (graph : inner.Graph) (test : Stmt → Bool) (pass : Tex
     item-passes marks = (pass.marked _, refl)
     item-passes jumps = (pass.jumped _, refl)
     item-passes (tests {b = b} {one = one} {other = other} {first = first} {second = second} p q) = (
-      pass.tested b (is_true_first one other) first second,
+      pass.tested b (is_true_first graph one other) first second,
       joined (stmts_in first) (stmts_in second) (plan-passes p) (plan-passes q),
     )
     item-passes (chooses {b = b} {bodies = bodies} arms) =

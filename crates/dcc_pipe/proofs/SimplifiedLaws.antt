@@ -33,7 +33,9 @@ use Rattle.dcc_live.specs.Dead.{IsWithoutUnneeded}
 use Rattle.dcc_flags.specs.Folded.{IsFolded}
 use Rattle.dcc_pipe.specs.Textable.{IsTextable}
 use Rattle.dcc_pipe.specs.Simplified.{IsSimplifiedGraph, HasEachChanged, IsSimplified}
-use Rattle.dcc_pipe.proofs.ReplacedLaws.{HasSameBlocks, StandsFor, stands-for, stands-trans, with_graphs, left-from, blocks-stay}
+use Rattle.dcc_passes.specs.Replaced.{StandsFor, with_graphs}
+use Rattle.dcc_passes.proofs.ReplacedLaws.{stands-trans, left-from}
+use Rattle.dcc_pipe.proofs.ReplacedLaws.{HasSameBlocks, same-blocks-trans, blocks-stay, blocks-stand}
 use mathlib.Core.Path.{fun_ext}
 
 -- What passes one after another leave.
@@ -155,13 +157,16 @@ none-deeper n (e ∷ es) less =
 
 -- Assignments that go.
 
+dead-blocks : (g h : inner.Graph) → IsWithoutUnneeded g h → HasSameBlocks g h
+dead-blocks g h is =
+    let left = is.without in
+    record { entry = left.entry; addresses = addresses-stay (needed g) g.blocks h.blocks left.blocks }
+
 -- a graph without assignments that nothing wants may stand in its place
 dead-stands : (g h : inner.Graph) → IsWithoutUnneeded g h → StandsFor g h
 dead-stands g h is =
-    let left = is.without in
-    stands-for g h
-    (record { entry = left.entry; addresses = addresses-stay (needed g) g.blocks h.blocks left.blocks })
-    (λ p formed there. kept_with p (needed g) g h formed there (needed-closed g) left)
+    blocks-stand g h (dead-blocks g h is)
+    (λ p formed there. kept_with p (needed g) g h formed there (needed-closed g) is.without)
 
 -- a graph without what nothing wants is no deeper: its expressions are the graph's
 dead-shallow : (depth : ℕ) (g h : inner.Graph) → IsWithoutUnneeded g h → IsShallow depth g → IsShallow depth h
@@ -176,12 +181,15 @@ reads-stay g h is reads = record {
 
 -- Flags that go.
 
-flags-stands : (g h : inner.Graph) → IsFolded g h → StandsFor g h
-flags-stands g h is =
+flags-blocks : (g h : inner.Graph) → IsFolded g h → HasSameBlocks g h
+flags-blocks g h is =
     let addresses =
     map_zipped (BlockStays g.bits h.bits) (λ (b : inner.Block). b.at) (λ (b : inner.Block). b.at)
     (λ b c stays. stays.at) g.blocks h.blocks is.form.blocks in
-    stands-for g h (record { entry = is.form.entry; addresses = addresses }) is.keeps
+    record { entry = is.form.entry; addresses = addresses }
+
+flags-stands : (g h : inner.Graph) → IsFolded g h → StandsFor g h
+flags-stands g h is = blocks-stand g h (flags-blocks g h is) is.keeps
 
 flags-shallow : (depth : ℕ) (g h : inner.Graph) → IsFolded g h → FlagsReadPlainly g → IsShallow depth g
     → IsShallow (2 * depth) h
@@ -195,6 +203,12 @@ graph-stands : (g h : inner.Graph) → IsSimplifiedGraph g h → StandsFor g h
 graph-stands g h is =
     stands-trans g is.wanted h (dead-stands g is.wanted is.first)
     (stands-trans is.wanted is.folded h (flags-stands is.wanted is.folded is.flags) (dead-stands is.folded h is.last))
+
+graph-blocks : (g h : inner.Graph) → IsSimplifiedGraph g h → HasSameBlocks g h
+graph-blocks g h is =
+    same-blocks-trans g is.wanted h (dead-blocks g is.wanted is.first)
+    (same-blocks-trans is.wanted is.folded h (flags-blocks is.wanted is.folded is.flags)
+    (dead-blocks is.folded h is.last))
 
 graph-shallow : (depth : ℕ) (g h : inner.Graph) → IsSimplifiedGraph g h → IsShallow depth g × FlagsReadPlainly g
     → IsShallow (2 * depth) h
@@ -227,5 +241,5 @@ program-simplified depth p q textable reads is =
       keeps = keeps;
       places = λ place.
           blocks-stay p q place
-          (weaker_zipped StandsFor HasSameBlocks (λ g h stands. stands.blocks) p.graphs q.graphs stand);
+          (weaker_zipped IsSimplifiedGraph HasSameBlocks graph-blocks p.graphs q.graphs is.graphs);
     }

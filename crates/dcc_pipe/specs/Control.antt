@@ -7,7 +7,9 @@ use Rattle.dcc_ir.specs.Flow.{graph_or_none}
 use Rattle.dcc_ir.specs.Live.{block_in}
 use Rattle.dcc_ir.specs.Run.{graph_at}
 use Rattle.dcc_c.specs.Grammar.{outermost}
+use Rattle.dcc_control.specs.Complete.{completed}
 use Rattle.dcc_control.specs.Plan.{Plan}
+use Rattle.dcc_control.specs.Told.{told_loops}
 use Rattle.dcc_control.specs.Valid.{IsPlanOf, has_step}
 use Rattle.dcc_plan_check.specs.Structured.{BeginsReturns}
 use Rattle.dcc_plan.specs.Allowed.{may_stand}
@@ -30,10 +32,17 @@ keeps_step control p place =
 
 -- Control.
 
--- The plan is one of the graph. Its items stand where a text may have them. Each closed path of the graph's reached
--- blocks holds one for which the text has a step.
+-- The plan is another one after each of its loops whose test stands first or last is told by this test, and after it
+-- is completed.
+pub record IsTold (plan : Plan) : Type 0 where
+  pub untold : Plan
+  pub is : plan ≡ completed (told_loops untold)
+
+-- The plan is one of the graph, and its loops are told by their tests. Its items stand where a text may have them. Each
+-- closed path of the graph's reached blocks holds one for which the text has a step.
 pub record IsControlOf (graph : Graph) (plan : Plan) : Type 0 where
   pub is_plan : IsPlanOf graph plan
+  pub told : IsTold plan
   pub stands : may_stand outermost false plan ≡ true
   pub returns : BeginsReturns graph plan
 

@@ -6,7 +6,7 @@ ghost use Rattle.dcc_ir.specs.WellFormed.{IsGraph};
 ghost use Rattle.dcc_control.specs.Valid.{IsPlanOf};
 ghost use Rattle.dcc_control.specs.Views.{plan_of};
 ghost use Rattle.dcc_plan_check.specs.Structured.{BeginsReturns};
-ghost use Rattle.dcc_pipe.specs.Control.{IsControlOf};
+ghost use Rattle.dcc_pipe.specs.Control.{IsControlOf, IsTold};
 
 use crate::allowed::may_stand;
 use dcc_control::Item;
@@ -23,6 +23,7 @@ use std::alloc::{AllocError, Global};
 fn structured_plan(alloc: Global, graph: &Graph) -> Result<Vec<Item>, AllocError>
     requires { IsGraph (graph_of graph.now) }
     ensures valid { IfOk result (λ plan. IsPlanOf (graph_of graph.now) (plan_of plan.items)) }
+    ensures told { IfOk result (λ plan. IsTold (plan_of plan.items)) }
     ensures returns { IfOk result (λ plan. BeginsReturns (graph_of graph.now) (plan_of plan.items)) }
 {
     let next = successors(alloc, graph)?;

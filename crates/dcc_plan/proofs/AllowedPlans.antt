@@ -2,11 +2,13 @@
 use Rattle.std.proofs.Common.{◌≡◌, ℕ, suc, ◌+◌, ◌*◌, ◌<◌, ◌≤◌, inl, inr, Bool, true, false, ◌==◌, List, [], ◌∷◌, ◌++◌, length, map, Option, Some, None, refl, sym, ap, ap₂, ◌∙◌, subst, true≢false, arith}
 use Rattle.std.specs.Prelude.{◌&&◌, ◌||◌, not, option_and_then, nat_le, nat_lt, if◌then◌else◌, is_some, get_or, slice_get, All}
 use Rattle.std.specs.List.{list_all, flat_map}
+use Rattle.std.specs.List.Sorted.{IsPermutation}
 use Rattle.std.proofs.lemmas.Bool.{cases_Bool, and_parts, and_from, or_left, not-true, eqb-true, le-leb, lt-ltb}
 use Rattle.std.proofs.lemmas.List.{append-nil, map-append}
 use Rattle.std.proofs.lemmas.List.Concat.{flat_map-append}
 use Rattle.std.proofs.lemmas.List.Elements.{All-get_or, All-contains, All-head}
 use Rattle.std.proofs.lemmas.List.Folds.{list_all-append, list_all_at}
+use Rattle.std.proofs.lemmas.List.Sorted.{list_any-IsPermutation, IsPermutation-refl, IsPermutation-append, IsPermutation-map, IsPermutation-trans}
 use Rattle.std.proofs.lemmas.Option.{slice_get_cases, slice_get_within, get_or_from_slice_get}
 use Rattle.dcc_run.proofs.KeptLaws.{right_part}
 use Rattle.dcc_ir.specs.Live.{block_in}
@@ -23,6 +25,7 @@ use Rattle.dcc_c.specs.Parts.{stmts_in, inner_stmts, arm_stmts, label_of, labels
 use Rattle.dcc_c.specs.Rules.{all_differ, declared_in, goto_of, is_switch_value, is_number, is_word_base, converts, fits, allows_stmt, shallow_stmt, expr_depth, cases_of, differ}
 use Rattle.dcc_c.specs.declared.syntax.CUn.TheVariants.{Not}
 use Rattle.dcc_c.specs.Typing.{unary_type}
+use Rattle.dcc_c.specs.Token.{same_bytes}
 use Rattle.dcc_c.specs.Tree as tree
 use Rattle.dcc_c.specs.Tree.{Word, Stmt, Function, Tree, Lines, no_lines, line}
 use Rattle.dcc_c.specs.Types.{plain, promoted_type, same_type}
@@ -42,7 +45,7 @@ use Rattle.dcc_plan.specs.PlanText as planned
 use Rattle.dcc_plan.specs.PlanText.{text_of_stmt, text_of_way, text_of_choice, text_of_return, is_true_first, side, IsPlanText, nothing, one_more, IsItemText, AreArmsText, no_more, next_arm}
 use Rattle.dcc_control.specs.Valid.{Context, outside, in_sides, IsValid, IsValidItem, AreValidArms}
 use Rattle.dcc_plan.proofs.Sides.{side-has, sides-marked}
-use Rattle.dcc_plan.proofs.LabelWords.{label, label-word, label-among, labels-apart}
+use Rattle.dcc_plan.proofs.LabelWords.{label, label-word, label-among, labels-apart, apart-permuted}
 
 -- a test that holds of all elements holds of each
 all-at : {X : Type 0} (p : X → Bool) (xs : List X) (i : ℕ) (d : X) → i < length xs → list_all p xs ≡ true → p (get_or xs i d) ≡ true
@@ -116,23 +119,27 @@ module _ (whole : Tree) (f : Function) (s : Spelling) (graph : inner.Graph) (lev
   passes-from : (stmt : Stmt) → allows_stmt whole f stmt ≡ true → shallow_stmt limit stmt ≡ true → list_all (is_among known) (goto_of stmt) ≡ true → passes stmt ≡ true
   passes-from stmt allowed low jumps = and_from (allows_stmt whole f stmt) (shallow_stmt limit stmt && list_all (is_among known) (goto_of stmt)) allowed (and_from (shallow_stmt limit stmt) (list_all (is_among known) (goto_of stmt)) low jumps)
 
+  -- the statements have the labels of these blocks, in any order
+  abbrev HaveLabels : List Stmt → List ℕ → Type 0
+  HaveLabels stmts bs = IsPermutation (map (label graph well) bs) (flat_map label_of stmts)
+
   -- Lines that are fine as the text of a plan, a statement as that of an item, and arms.
 
   record IsFine (around : Around) (labelled : Bool) (plan : Plan) (lines : Lines) : Type 0 where
     writable : are_writable_lines around labelled lines ≡ true
     pass : list_all passes (stmts_in lines) ≡ true
-    labels : labels_in lines ≡ map (label graph well) (marks plan)
+    labels : HaveLabels (stmts_in lines) (marks plan)
 
   record IsFineItem (around : Around) (i : Item) (stmt : Stmt) : Type 0 where
     writable : is_writable_stmt around stmt ≡ true
     marked : is_label stmt ≡ is_mark i
     pass : list_all passes (stmt ∷ inner_stmts stmt) ≡ true
-    labels : flat_map label_of (stmt ∷ inner_stmts stmt) ≡ map (label graph well) (item_marks i)
+    labels : HaveLabels (stmt ∷ inner_stmts stmt) (item_marks i)
 
   record AreFineArms (around : Around) (arms : Arms) (bodies : tree.Arms) : Type 0 where
     writable : are_writable_arms around bodies ≡ true
     pass : list_all passes (arm_stmts bodies) ≡ true
-    labels : flat_map label_of (arm_stmts bodies) ≡ map (label graph well) (arm_marks arms)
+    labels : HaveLabels (arm_stmts bodies) (arm_marks arms)
     cases : cases_of bodies ≡ all_cases arms
     some : has_arm bodies ≡ has_an_arm arms
 
@@ -140,9 +147,15 @@ module _ (whole : Tree) (f : Function) (s : Spelling) (graph : inner.Graph) (lev
   both-pass : (xs ys : List Stmt) → list_all passes xs ≡ true → list_all passes ys ≡ true → list_all passes (xs ++ ys) ≡ true
   both-pass xs ys first second = list_all-append passes xs ys ∙ and_from (list_all passes xs) (list_all passes ys) first second
 
-  both-labels : (xs ys : List Stmt) (ms ns : List ℕ) → flat_map label_of xs ≡ map (label graph well) ms → flat_map label_of ys ≡ map (label graph well) ns
-      → flat_map label_of (xs ++ ys) ≡ map (label graph well) (ms ++ ns)
-  both-labels xs ys ms ns first second = flat_map-append label_of xs ys ∙ ap₂ (λ ks ls. ks ++ ls) first second ∙ sym (map-append (label graph well) ms ns)
+  no-labels : (stmts : List Stmt) → flat_map label_of stmts ≡ [] → HaveLabels stmts []
+  no-labels stmts none = subst (IsPermutation []) (sym none) (IsPermutation-refl [])
+
+  both-labels : (xs ys : List Stmt) (ms ns : List ℕ) → HaveLabels xs ms → HaveLabels ys ns → HaveLabels (xs ++ ys) (ms ++ ns)
+  both-labels xs ys ms ns first second =
+      let name = label graph well in
+      subst (IsPermutation (map name (ms ++ ns))) (sym (flat_map-append label_of xs ys))
+      (subst (λ ls. IsPermutation ls (flat_map label_of xs ++ flat_map label_of ys)) (sym (map-append name ms ns))
+      (IsPermutation-append (map name ms) (flat_map label_of xs) (map name ns) (flat_map label_of ys) first second))
 
   -- Blocks.
 
@@ -194,7 +207,7 @@ module _ (whole : Tree) (f : Function) (s : Spelling) (graph : inner.Graph) (lev
           marked = stmt-no-label s stmt;
           pass = ap (λ inner. list_all passes (stmt_text s 2 stmt ∷ inner)) x.alone
               ∙ and_from (passes (stmt_text s 2 stmt)) true (passes-from (stmt_text s 2 stmt) x.allowed x.shallow (ap (list_all (is_among known)) x.no_goto)) refl;
-          labels = ap (λ inner. flat_map label_of (stmt_text s 2 stmt ∷ inner)) x.alone ∙ ap (λ ls. ls ++ []) x.no_label;
+          labels = no-labels (stmt_text s 2 stmt ∷ inner_stmts (stmt_text s 2 stmt)) (ap (λ inner. flat_map label_of (stmt_text s 2 stmt ∷ inner)) x.alone ∙ ap (λ ls. ls ++ []) x.no_label);
         }
 
     -- what is tested or chosen by
@@ -235,7 +248,7 @@ module _ (whole : Tree) (f : Function) (s : Spelling) (graph : inner.Graph) (lev
         }
 
     test-fine : (around : Around) (on : Bool) (one two p q : Plan) (first second : Lines) (test : inner.Expr) (yes_place no_place : ℕ) → block.exit ≡ inner.If test yes_place no_place
-        → IsFine (in_block around) false p first → IsFine (in_block around) false q second → marks p ++ marks q ≡ marks one ++ marks two
+        → IsFine (in_block around) false p first → IsFine (in_block around) false q second → IsPermutation (marks one ++ marks two) (marks p ++ marks q)
         → IsFineItem around (plan.If b one two) (tree.If (text_of_way s on block.exit) first second)
     test-fine around on one two p q first second test yes_place no_place is x y same =
         let z = way-fine on test yes_place no_place is in
@@ -245,7 +258,8 @@ module _ (whole : Tree) (f : Function) (s : Spelling) (graph : inner.Graph) (lev
           marked = refl;
           pass = and_from (passes (tree.If e first second)) (list_all passes (stmts_in first ++ stmts_in second)) (passes-from (tree.If e first second) z.number z.low refl)
               (both-pass (stmts_in first) (stmts_in second) x.pass y.pass);
-          labels = both-labels (stmts_in first) (stmts_in second) (marks p) (marks q) x.labels y.labels ∙ ap (map (label graph well)) same;
+          labels = IsPermutation-trans _ _ _ (IsPermutation-map (label graph well) (marks one ++ marks two) (marks p ++ marks q) same)
+              (both-labels (stmts_in first) (stmts_in second) (marks p) (marks q) x.labels y.labels);
         }
 
     while-fine : (around : Around) (on : Bool) (inner_plan : Plan) (body : Lines) (test : inner.Expr) (yes_place no_place : ℕ) → block.exit ≡ inner.If test yes_place no_place
@@ -288,7 +302,7 @@ module _ (whole : Tree) (f : Function) (s : Spelling) (graph : inner.Graph) (lev
               (and_from (differ (cases_of bodies)) true (ap differ x.cases ∙ apart) refl))
               (end-shallow e Low (only-of (IsLow levels) spelled.shallow (inner.Switch e places) e is refl)) refl)
               (ap (list_all passes) (append-nil (arm_stmts bodies)) ∙ x.pass);
-          labels = ap (flat_map label_of) (append-nil (arm_stmts bodies)) ∙ x.labels;
+          labels = subst (λ stmts. HaveLabels stmts (arm_marks arms)) (sym (append-nil (arm_stmts bodies))) x.labels;
         })
 
     return-fine : (around : Around) (values : List inner.Expr) → block.exit ≡ inner.Ret values → IsFineItem around (plan.Return b) (text_of_return s block.exit)
@@ -304,7 +318,7 @@ module _ (whole : Tree) (f : Function) (s : Spelling) (graph : inner.Graph) (lev
           writable = refl;
           marked = refl;
           pass = and_from (passes (tree.Return None)) true (passes-from (tree.Return None) (ap (λ r. not (is_some r)) none) refl refl) refl;
-          labels = refl;
+          labels = IsPermutation-refl [];
         }
         by [] (Some type) some formed may reads low = absurd (true≢false (sym may))
         by (e ∷ es) None none formed may reads low = absurd (true≢false (sym may))
@@ -318,7 +332,7 @@ module _ (whole : Tree) (f : Function) (s : Spelling) (graph : inner.Graph) (lev
                   (passes-from (tree.Return (Some v))
                   (ap (λ r. elim r [ Some to ↦ fits (declared_in whole f) to v | None ↦ false ]) some ∙ ap (λ t. elim t [ Some from ↦ converts from type | None ↦ false ]) z.typed
                   ∙ ap (λ p. if p then same_type (plain z.base) type else true) (not-true type.pointer may)) (end-shallow e Low (All-head (IsLow levels) e es low)) refl) refl;
-              labels = refl;
+              labels = IsPermutation-refl [];
             }
 
   -- The whole text.
@@ -330,7 +344,7 @@ module _ (whole : Tree) (f : Function) (s : Spelling) (graph : inner.Graph) (lev
   mutual
     fine : {plan : Plan} {lines : Lines} (around : Around) (labelled : Bool) (c : Context) → IsPlanText s graph plan lines → IsValid graph all plan c → may_stand around labelled plan ≡ true
         → IsFine around labelled plan lines
-    fine around labelled c nothing valid stands = record { writable = stands; pass = refl; labels = refl }
+    fine around labelled c nothing valid stands = record { writable = stands; pass = refl; labels = IsPermutation-refl [] }
     fine around labelled c (one_more {i = i} {stmt = stmt} {plan = plan} {lines = lines} is rest) valid stands =
         let (few, inside) = and_parts (nat_le around.blocks 200) (item_may_stand around i && may_stand around (is_mark i) plan) stands in
         let (here, later) = and_parts (item_may_stand around i) (may_stand around (is_mark i) plan) inside in
@@ -345,22 +359,22 @@ module _ (whole : Tree) (f : Function) (s : Spelling) (graph : inner.Graph) (lev
     item-fine : {i : Item} {stmt : Stmt} (around : Around) (c : Context) (rest : Plan) → IsItemText s graph i stmt → IsValidItem graph all i rest c → item_may_stand around i ≡ true
         → IsFineItem around i stmt
     item-fine around c rest (planned.does {b = b} {m = m}) (inside, less, l) stands = do-fine b inside around m less
-    item-fine around c rest (planned.marks {b = b}) (inside, l) stands = record { writable = label-word graph.blocks b; marked = refl; pass = refl; labels = refl }
+    item-fine around c rest (planned.marks {b = b}) (inside, l) stands = record { writable = label-word graph.blocks b; marked = refl; pass = refl; labels = IsPermutation-refl (label graph well b ∷ []) }
     item-fine around c rest (planned.jumps {b = b}) (inside, there) stands = record {
       writable = label-word graph.blocks b;
       marked = refl;
       pass = and_from (is_among known (label graph well b) && true) true (and_from (is_among known (label graph well b)) true (label-among graph well b (marks all) there) refl) refl;
-      labels = refl;
+      labels = IsPermutation-refl [];
     }
     item-fine around c rest (planned.tests {b = b} {one = one} {other = two} {first = first} {second = second} is also) (test, yes_place, no_place, exit, inside, first_leads, first_valid, second_leads, second_valid) stands =
         let (left, right) = and_parts (may_stand (in_block around) false one) (may_stand (in_block around) false two) stands in
-        let on = is_true_first one two in
+        let on = is_true_first graph one two in
         let may_be : (turn : Bool) → MayBe (in_block around) (in_sides graph rest c) (side turn one two) =
         λ turn. side-has (MayBe (in_block around) (in_sides graph rest c)) turn one two (first_valid, left) (second_valid, right) in
         let x = may_be on in
         let y = may_be (not on) in
         test-fine b inside around on one two (side on one two) (side (not on) one two) first second test yes_place no_place exit
-        (fine (in_block around) false _ is x.0 x.1) (fine (in_block around) false _ also y.0 y.1) (sides-marked one two)
+        (fine (in_block around) false _ is x.0 x.1) (fine (in_block around) false _ also y.0 y.1) (sides-marked on one two)
     item-fine around c rest (planned.chooses {b = b} {arms = arms} {bodies = bodies} are) (e, places, exit, inside, lead, valid) stands =
         let (some, others) = and_parts (has_an_arm arms) (differ (all_cases arms) && arms_may_stand (in_switch around) arms) stands in
         let (apart, stand) = and_parts (differ (all_cases arms)) (arms_may_stand (in_switch around) arms) others in
@@ -373,13 +387,13 @@ module _ (whole : Tree) (f : Function) (s : Spelling) (graph : inner.Graph) (lev
         while-fine b inside around on body lines test yes_place no_place exit (fine (in_loop around) false _ is valid stands)
     item-fine around c rest (planned.tests_last {on = on} {b = b} {head = head} {body = body} {lines = lines} is) (test, yes_place, no_place, exit, inside, _, starts, first, l, valid, leaves) stands =
         do-while-fine b inside around on head body lines test yes_place no_place exit (fine (in_loop around) false _ is valid stands)
-    item-fine around c rest planned.breaks valid stands = record { writable = stands; marked = refl; pass = refl; labels = refl }
-    item-fine around c rest planned.continues valid stands = record { writable = stands; marked = refl; pass = refl; labels = refl }
-    item-fine around c rest planned.does_nothing valid stands = record { writable = refl; marked = refl; pass = refl; labels = refl }
+    item-fine around c rest planned.breaks valid stands = record { writable = stands; marked = refl; pass = refl; labels = IsPermutation-refl [] }
+    item-fine around c rest planned.continues valid stands = record { writable = stands; marked = refl; pass = refl; labels = IsPermutation-refl [] }
+    item-fine around c rest planned.does_nothing valid stands = record { writable = refl; marked = refl; pass = refl; labels = IsPermutation-refl [] }
 
     arms-fine : {arms : Arms} {bodies : tree.Arms} (around : Around) (c : Context) → AreArmsText s graph arms bodies → AreValidArms graph all arms c → arms_may_stand around arms ≡ true
         → AreFineArms around arms bodies
-    arms-fine around c no_more valid stand = record { writable = refl; pass = refl; labels = refl; cases = refl; some = refl }
+    arms-fine around c no_more valid stand = record { writable = refl; pass = refl; labels = IsPermutation-refl []; cases = refl; some = refl }
     arms-fine around c (next_arm {cases = cases} {body = body} {arms = arms} {lines = lines} {bodies = bodies} is others) valid stand =
         let (few, inside) = and_parts (nat_le around.blocks 200) (are_cases cases && (may_stand around false body && arms_may_stand around arms)) stand in
         let (own, below) = and_parts (are_cases cases) (may_stand around false body && arms_may_stand around arms) inside in
@@ -416,6 +430,13 @@ all-given p give (x ∷ xs) is =
     let (here, later) = and_parts (list_all p (give x)) (list_all (λ x. list_all p (give x)) xs) is in
     list_all-append p (give x) (flat_map give xs) ∙ and_from (list_all p (give x)) (list_all p (flat_map give xs)) here (all-given p give xs later)
 
+-- tests that agree on each element agree on all
+all-alike : {X : Type 0} (p q : X → Bool) → ((x : X) → p x ≡ q x) → (xs : List X) → list_all p xs ≡ true → list_all q xs ≡ true
+all-alike p q alike [] is = refl
+all-alike p q alike (x ∷ xs) is =
+    let (here, later) = and_parts (p x) (list_all p xs) is in
+    and_from (q x) (list_all q xs) (sym (alike x) ∙ here) (all-alike p q alike xs later)
+
 pub texts-allowed : PlanTextsAreAllowed
 texts-allowed whole f s graph plan lines levels limit declared well spelled calls returned enough valid stands is =
     let x = fine whole f s graph levels limit declared well spelled calls returned enough plan outermost false outside is valid.valid stands in
@@ -425,10 +446,10 @@ texts-allowed whole f s graph plan lines levels limit declared well spelled call
     let others = second-of-all types (λ stmt. shallow_stmt limit stmt && jumps stmt) (stmts_in lines) x.pass in
     record {
       writable = x.writable;
-      labels = ap (λ ls. all_differ ls && list_all (is_among ls) (flat_map goto_of (stmts_in lines))) x.labels
-          ∙ and_from (all_differ names) (list_all (is_among names) (flat_map goto_of (stmts_in lines)))
-          (labels-apart graph well (marks plan) (marks-inside graph plan plan outside valid.valid) valid.labels)
-          (all-given (is_among names) goto_of (stmts_in lines) (second-of-all (shallow_stmt limit) jumps (stmts_in lines) others));
+      labels = and_from (all_differ (labels_in lines)) (list_all (is_among (labels_in lines)) (flat_map goto_of (stmts_in lines)))
+          (apart-permuted names (labels_in lines) x.labels (labels-apart graph well (marks plan) (marks-inside graph plan plan outside valid.valid) valid.labels))
+          (all-alike (is_among names) (is_among (labels_in lines)) (λ word. list_any-IsPermutation (same_bytes word) names (labels_in lines) x.labels) (flat_map goto_of (stmts_in lines))
+          (all-given (is_among names) goto_of (stmts_in lines) (second-of-all (shallow_stmt limit) jumps (stmts_in lines) others)));
       types = first-of-all types (λ stmt. shallow_stmt limit stmt && jumps stmt) (stmts_in lines) x.pass;
       depth = first-of-all (shallow_stmt limit) jumps (stmts_in lines) others;
     }

@@ -560,7 +560,7 @@ module _ (G : Premises) (graph : inner.Graph) (inside : Contains G.p.graphs grap
         by-end (plan.If a one other) item_stmt (planned.tests {first = first} {second = second} first_text second_text) same good' steps count =
             let here : b ≡ a = ap block_of (there ∙ same) in
             let item = subst (λ d. SoundItem s graph whole (plan.If d one other) x.later x.context) (sym here) good' in
-            let turn = planned.is_true_first one other in
+            let turn = planned.is_true_first graph one other in
             finished (inner.If item.0.0 item.0.1 item.0.2) item.0.3 refl
             (if-runs G graph inside extra last good unstuck b i t end exit-goes turn one other x.later x.context first second (runs x.lines x.rest) first_text second_text item later-stands x.at past
             (to-step (tree.If (text_of_way s turn (block_in graph a).exit) first second) steps ∙ ap (λ d. stmt_step text (tree.If (text_of_way s turn (block_in graph d).exit) first second) x.at past) (sym here))

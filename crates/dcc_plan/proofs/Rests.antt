@@ -3,6 +3,7 @@ use Rattle.std.proofs.Common.{◌≡◌, ℕ, suc, ◌+◌, ◌<◌, ◌≤◌, 
 use Rattle.std.specs.Prelude.{◌⊎◌, ◌||◌, not, if◌then◌else◌, slice_get}
 use Rattle.std.proofs.lemmas.Bool.{or_left, or_right, eq-eqb, eqb-true}
 use Rattle.std.proofs.lemmas.List.Folds.{list_any-append}
+use Rattle.std.proofs.lemmas.List.Sorted.{list_any-IsPermutation}
 use Rattle.std.proofs.lemmas.Option.{slice_get_cases}
 use Rattle.dcc_ir.specs.Tree as inner
 use Rattle.dcc_ir.specs.Live.{block_in}
@@ -577,10 +578,11 @@ module _ (s : Spelling) (graph : inner.Graph) (whole : Plan) where
           let most = suc (lines_count first + lines_count second + lines_count lines + left rest) in
           let has : (on : Bool) → Sound (planned.side on one other) (in_sides graph later c) =
           λ on. side-has (λ p. Sound p (in_sides graph later c)) on one other (valid.0.6, valid.1.0) (valid.0.8, valid.1.1) in
-          let on = planned.is_true_first one other in
+          let on = planned.is_true_first graph one other in
           let here = planned.side on one other in
           let there = planned.side (not on) one other in
-          subst (λ bs. Search limit most b (is_in b bs) (from_label_inside word stmt at lines rest)) (sides-marked one other)
+          subst (λ has. Search limit most b has (from_label_inside word stmt at lines rest))
+          (sym (list_any-IsPermutation (λ a. a == b) (marks one ++ marks other) (marks here ++ marks there) (sides-marked on one other)))
           (in-lists limit _ b (marks here) (marks there) _
           (in-either limit _ b (is_in b (marks here)) (is_in b (marks there)) _ _
           (wider most (omega arith) (search-plan here first (runs lines rest) _ text (has on) inside (omega (arith, few))))

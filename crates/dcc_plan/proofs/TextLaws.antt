@@ -4,11 +4,12 @@ use Rattle.std.specs.Prelude.{slice_get}
 use Rattle.dcc_ir.specs.Live.{block_in}
 use Rattle.dcc_ir.specs.Tree as inner
 use Rattle.dcc_c.specs.Numbered.{numbered_stmt, numbered_lines, numbered_arms}
-use Rattle.dcc_c.specs.Tree.{Empty}
+use Rattle.dcc_c.specs.Tree.{Lines, Empty}
 use Rattle.dcc_text.specs.Spelling.{Spelling}
 use Rattle.dcc_text.specs.Stmts.{stmt_text}
 use Rattle.dcc_control.specs.Plan.{Item, Do, Mark, Jump, If, Switch, Return, For, While, DoWhile, Break, Continue, Empty as Nothing, Plan, no_items, item, Arms, no_arms, arm}
-use Rattle.dcc_plan.specs.PlanText.{text_of_stmt, text_of_return, plan_text, item_text, arms_text, IsPlanText, nothing, one_more, IsItemText, does, marks, jumps, tests, chooses, returns, repeats, tests_first, tests_last, breaks, continues, does_nothing, AreArmsText, no_more, next_arm}
+use Rattle.dcc_plan.specs.PlanText.{text_of_stmt, text_of_return, is_true_first, plan_text, item_text, arms_text, IsPlanText, nothing, one_more, IsItemText, does, marks, jumps, tests, chooses, returns, repeats, tests_first, tests_last, breaks, continues, does_nothing, AreArmsText, no_more, next_arm}
+use Rattle.dcc_plan.proofs.Sides.{first-has, second-has}
 
 module _ (s : Spelling) (graph : inner.Graph) where
   -- a statement has no lines inside
@@ -34,6 +35,10 @@ module _ (s : Spelling) (graph : inner.Graph) where
   return-kept (inner.Ret values) depth at = refl
   return-kept inner.Stop depth at = refl
 
+  -- the lines are the text of the plan, whatever numbers they are given
+  abbrev IsNumbered : Plan → Lines → Type 0
+  IsNumbered plan lines = (depth at : ℕ) → IsPlanText s graph plan (numbered_lines depth at lines)
+
   mutual
     numbered-plan : (plan : Plan) (depth at : ℕ) → IsPlanText s graph plan (numbered_lines depth at (plan_text s graph plan))
     numbered-plan no_items depth at = nothing
@@ -43,9 +48,12 @@ module _ (s : Spelling) (graph : inner.Graph) where
     numbered-item (Do b m) depth at = subst (IsItemText s graph (Do b m)) (sym (do-kept b m depth at)) does
     numbered-item (Mark b) depth at = marks
     numbered-item (Jump b) depth at = jumps
-    numbered-item (If b no_items no_items) depth at = tests nothing nothing
-    numbered-item (If b no_items (item i plan)) depth at = tests (numbered-plan (item i plan) _ _) nothing
-    numbered-item (If b (item i plan) other) depth at = tests (numbered-plan (item i plan) _ _) (numbered-plan other _ _)
+    numbered-item (If b one other) depth at =
+        let on = is_true_first graph one other in
+        let body = plan_text s graph one in
+        let otherwise = plan_text s graph other in
+        tests (first-has IsNumbered on one other body otherwise (numbered-plan one) (numbered-plan other) _ _)
+        (second-has IsNumbered on one other body otherwise (numbered-plan one) (numbered-plan other) _ _)
     numbered-item (Switch b arms) depth at = chooses (numbered-arms arms _ _)
     numbered-item (Return b) depth at = subst (IsItemText s graph (Return b)) (sym (return-kept (block_in graph b).exit depth at)) returns
     numbered-item (For b body) depth at = repeats (numbered-plan body _ _)

@@ -15,13 +15,13 @@ use Rattle.dcc_c.proofs.RowLaws.{switch-tree, forever-tree, while-tree, do_while
 use Rattle.dcc_text.specs.Spelling.{Spelling}
 use Rattle.dcc_control.specs.declared.item.Item.{Item as TheItem, If as IfOf, Switch as SwitchOf, For as ForOf, While as WhileOf, DoWhile as DoWhileOf}
 use Rattle.dcc_control.specs.declared.item.Arm.{Arm as TheArm}
-use Rattle.dcc_plan.specs.PlanText.{text_of_way, text_of_choice, is_true_first, plan_text, item_text, arms_text}
+use Rattle.dcc_plan.specs.PlanText.{text_of_way, text_of_choice, may_be_first, is_true_first, plan_text, item_text, arms_text}
 use Rattle.dcc_control.specs.Views.{item_of, plan_of, arms_of}
 use Rattle.dcc_control.proofs.ItemRows.{if-item, switch-item, for-item, while-item, do-item}
 use Rattle.dcc_plan.proofs.TextRows.{lines_before, lines_before-append, bodies_before, bodies_before-append}
 
--- the side that comes first, by the items of the sides
-pub first-side : (one other : List TheItem) → (not (length one == 0) || length other == 0) ≡ is_true_first (plan_of one) (plan_of other)
+-- whether the side of true may stand first, by the items of the sides
+pub first-side : (one other : List TheItem) → (not (length one == 0) || length other == 0) ≡ may_be_first (plan_of one) (plan_of other)
 first-side [] [] = refl
 first-side [] (i ∷ items) = ne_eqb (length (i ∷ items)) 0 (λ none. omega arith)
 first-side (i ∷ items) other = ap (λ none. not none || length other == 0) (ne_eqb (length (i ∷ items)) 0 (λ none. omega arith))
@@ -32,7 +32,7 @@ module _ (s : Spelling) (graph : inner.Graph) where
   test_stmt on e body otherwise = tree.If e (if on then body else otherwise) (if on then otherwise else body)
 
   pub if-text : (i : TheItem) (b : ℕ) (one other : Vec TheItem Global) (on : Bool) (test : CExpr) (body otherwise : Vec Line Global) (made : CStmt)
-      → i ≡ IfOf b one other → on ≡ is_true_first (plan_of one.items) (plan_of other.items)
+      → i ≡ IfOf b one other → on ≡ is_true_first graph (plan_of one.items) (plan_of other.items)
       → expr_of test ≡ text_of_way s on (block_in graph b).exit → lines_of body.items ≡ plan_text s graph (plan_of one.items)
       → lines_of otherwise.items ≡ plan_text s graph (plan_of other.items)
       → stmt_of made ≡ test_stmt on (expr_of test) (lines_of body.items) (lines_of otherwise.items) → stmt_of made ≡ item_text s graph (item_of i)

@@ -1,5 +1,6 @@
 -- The text of a plan.
-use Rattle.std.specs.Prelude.{ℕ, Bool, true, false, not, if◌then◌else◌, List, slice_get, Some, None}
+use Rattle.std.specs.Prelude.{ℕ, nat_le, Bool, true, false, not, if◌then◌else◌, List, slice_get, Option, Some, None}
+use Rattle.std.specs.Prelude.{option_map}
 use Rattle.dcc_ir.specs.Tree as inner
 use Rattle.dcc_ir.specs.Live.{block_in}
 use Rattle.dcc_c.specs.declared.syntax.Base.TheVariants.{Int}
@@ -42,11 +43,39 @@ abbrev pub text_of_return : Spelling → inner.Exit → Stmt
 text_of_return s (inner.Ret values) = ret_text s values
 text_of_return s _ = Empty
 
--- Whether the text of a test has the side of true first. Where the side of false alone has items, its lines come first,
--- and the text tests the opposite: no text has an empty side and then an `else`.
-abbrev pub is_true_first : Plan → Plan → Bool
-is_true_first no_items (item i plan) = false
-is_true_first one other = true
+-- the block at which an item begins: jumps, `break`, `continue` and empty statements begin at none
+abbrev pub first_block : Item → Option ℕ
+first_block (plan.Do b m) = Some b
+first_block (plan.Mark b) = Some b
+first_block (plan.If b one other) = Some b
+first_block (plan.Switch b arms) = Some b
+first_block (plan.Return b) = Some b
+first_block (plan.For b body) = Some b
+first_block (plan.While on b body) = Some b
+first_block (plan.DoWhile on b head body) = Some head
+first_block _ = None
+
+-- the address of the block at which a plan begins
+abbrev pub begins_at : inner.Graph → Plan → Option ℕ
+begins_at graph no_items = None
+begins_at graph (item i plan) = option_map (λ b. (block_in graph b).at) (first_block i)
+
+-- whether the side of true may stand first: not where that of false alone has items, since no text has an empty side
+-- and then an `else`
+abbrev pub may_be_first : Plan → Plan → Bool
+may_be_first no_items (item i plan) = false
+may_be_first one other = true
+
+-- whether what begins at the first address stands before what begins at the second; where one has none, as told
+abbrev pub in_order : Option ℕ → Option ℕ → Bool → Bool
+in_order (Some first) (Some second) told = nat_le first second
+in_order first second told = told
+
+-- Whether the text of a test has the side of true first. The sides stand in the order of the addresses at which they
+-- begin. Where one of them begins at no block, that of true stands first if it may. With the side of false first the
+-- text tests the opposite.
+abbrev pub is_true_first : inner.Graph → Plan → Plan → Bool
+is_true_first graph one other = in_order (begins_at graph one) (begins_at graph other) (may_be_first one other)
 
 -- the side of a test for a truth value
 abbrev pub side : Bool → Plan → Plan → Plan
@@ -63,7 +92,7 @@ abbrev mutual
   item_text s graph (plan.Mark b) = Label (label_at graph.blocks b)
   item_text s graph (plan.Jump b) = Goto (label_at graph.blocks b)
   item_text s graph (plan.If b one other) =
-      let on = is_true_first one other in
+      let on = is_true_first graph one other in
       let body = plan_text s graph one in
       let otherwise = plan_text s graph other in
       If (text_of_way s on (block_in graph b).exit) (if on then body else otherwise) (if on then otherwise else body)
@@ -97,10 +126,10 @@ mutual
     marks : {b : ℕ} → IsItemText s graph (plan.Mark b) (Label (label_at graph.blocks b))
     jumps : {b : ℕ} → IsItemText s graph (plan.Jump b) (Goto (label_at graph.blocks b))
     tests : {b : ℕ} {one other : Plan} {first second : Lines}
-        → IsPlanText s graph (side (is_true_first one other) one other) first
-        → IsPlanText s graph (side (not (is_true_first one other)) one other) second
+        → IsPlanText s graph (side (is_true_first graph one other) one other) first
+        → IsPlanText s graph (side (not (is_true_first graph one other)) one other) second
         → IsItemText s graph (plan.If b one other)
-        (If (text_of_way s (is_true_first one other) (block_in graph b).exit) first second)
+        (If (text_of_way s (is_true_first graph one other) (block_in graph b).exit) first second)
     chooses : {b : ℕ} {arms : plan.Arms} {bodies : Arms} → AreArmsText s graph arms bodies
         → IsItemText s graph (plan.Switch b arms) (Switch (text_of_choice s (block_in graph b).exit) bodies no_arms)
     returns : {b : ℕ} → IsItemText s graph (plan.Return b) (text_of_return s (block_in graph b).exit)

@@ -144,11 +144,65 @@ fn return_at<S: Spells>(alloc: Global, s: &S, graph: &Graph, b: u32) -> Result<C
     }
 }
 
-// Whether the text of a test has the side of true first, and not the only side with items, that of false.
-fn is_true_first(one: &[Item], other: &[Item]) -> bool
-    ensures { result ≡ spec.is_true_first (plan_of one.now) (plan_of other.now) }
+// The block at which an item begins, where it begins at one.
+fn first_block(item: &Item) -> Option<u32>
+    ensures { result ≡ spec.first_block (item_of item.now) }
+{
+    match item {
+        Item::Do(b, _)
+        | Item::Mark(b)
+        | Item::If(b, _, _)
+        | Item::Switch(b, _)
+        | Item::Return(b)
+        | Item::For(b, _)
+        | Item::While(_, b, _)
+        | Item::DoWhile(_, _, b, _) => Some(*b),
+        Item::Jump(_) | Item::Break | Item::Continue | Item::Empty => None,
+    }
+}
+
+// The address of the block at a place in the graph.
+fn address_at(graph: &Graph, b: u32) -> u16
+    ensures { result ≡ (block_in (graph_of graph.now) b).at }
+{
+    match graph.blocks.get(b as usize) {
+        Some(block) => block.at,
+        None => 0,
+    }
+}
+
+// The address of the block at which a plan begins, where it begins at one.
+fn begins_at(graph: &Graph, items: &[Item]) -> Option<u16>
+    ensures { result ≡ spec.begins_at (graph_of graph.now) (plan_of items.now) }
+{
+    let b = first_block(items.first()?)?;
+    Some(address_at(graph, b))
+}
+
+// Whether the side of true may stand first: not where that of false alone has items.
+fn may_be_first(one: &[Item], other: &[Item]) -> bool
+    ensures { result ≡ spec.may_be_first (plan_of one.now) (plan_of other.now) }
 {
     !one.is_empty() || other.is_empty()
+}
+
+// Whether what begins at the first address stands before what begins at the second; where one has none, as told.
+fn in_order(first: Option<u16>, second: Option<u16>, told: bool) -> bool
+    ensures { result ≡ spec.in_order first second told }
+{
+    match (first, second) {
+        (Some(first), Some(second)) => first <= second,
+        _ => told,
+    }
+}
+
+// Whether the text of a test has the side of true first.
+fn is_true_first(graph: &Graph, one: &[Item], other: &[Item]) -> bool
+    ensures { result ≡ spec.is_true_first (graph_of graph.now) (plan_of one.now) (plan_of other.now) }
+{
+    let first = begins_at(graph, one);
+    let second = begins_at(graph, other);
+    in_order(first, second, may_be_first(one, other))
 }
 
 // The statement of a test that is for this truth, with the lines for true and the lines for false.
@@ -182,7 +236,7 @@ fn item_text<S: Spells>(
         Item::If(b, one, other) => {
             let body = plan_text(alloc, s, graph, one)?;
             let otherwise = plan_text(alloc, s, graph, other)?;
-            let on = is_true_first(one, other);
+            let on = is_true_first(graph, one, other);
             let test = way_at(alloc, s, graph, on, *b)?;
             Ok(if_stmt(on, test, body, otherwise))
         }

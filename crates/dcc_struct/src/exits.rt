@@ -14,7 +14,7 @@ struct Exits<'a> {
     edges: &'a Edges,
     loops: &'a Loops,
     tree: &'a mut Tree,
-    // For each header of a loop the first block below it outside its loop.
+    // For each header of a loop the block that comes next behind the loop.
     followers: Table<Option<usize>>,
     // How many blocks stand below each, itself among them.
     sizes: Table<usize>,
@@ -58,21 +58,17 @@ fn exits_of(
     Ok(exits)
 }
 
-// For each header of a loop the first block below it outside its loop.
-fn followers_of(
-    alloc: Global,
-    count: usize,
+/// The block comes behind the loop of the one that it stands below, where these blocks come next behind loops: it is
+/// not in this loop, and stands at no edge or comes next.
+pub(crate) fn is_behind(
     loops: &Loops,
     tree: &Tree,
-) -> Result<Table<Option<usize>>, AllocError> {
-    let mut followers = Table::new(alloc, count, None)?;
-    for block in 1..count {
-        let above = tree.above(block);
-        if loops.leaves_out(above, block) && followers.at(above).is_none() {
-            followers.put(above, Some(block));
-        }
-    }
-    Ok(followers)
+    followers: &Table<Option<usize>>,
+    block: usize,
+) -> bool {
+    let above = tree.above(block);
+    loops.leaves_out(above, block)
+        && (!tree.is_at_its_edge(block) || followers.at(above) == Some(block))
 }
 
 impl Exits<'_> {
@@ -88,9 +84,30 @@ impl Exits<'_> {
 
     // The block that this one stands below begins a loop, and this one stands inside it.
     fn is_in_loop(&self, block: usize) -> bool {
-        let above = self.tree.above(block);
-        let behind = self.followers.at(above) == Some(block) || !self.tree.is_at_its_edge(block);
-        self.loops.headers.at(above) && !(behind && self.loops.leaves_out(above, block))
+        self.loops.headers.at(self.tree.above(block))
+            && !is_behind(self.loops, self.tree, &self.followers, block)
+    }
+
+    // The one block outside a loop is in more of the loops around it than the other, or there is no other.
+    fn stays_further_in(&self, block: usize, other: Option<usize>) -> bool {
+        match other {
+            Some(other) => self.loops.loop_number(other) < self.loops.loop_number(block),
+            None => true,
+        }
+    }
+
+    // Notes which of the blocks below each header of a loop comes next behind the loop: of those to which `break` may
+    // lead the first one that is in most of the loops around.
+    fn find_followers(&mut self) {
+        for block in 1..self.edges.count() {
+            let above = self.tree.above(block);
+            if self.loops.leaves_out(above, block)
+                && !self.is_in_choice(block)
+                && self.stays_further_in(block, self.followers.at(above))
+            {
+                self.followers.put(above, Some(block));
+            }
+        }
     }
 
     // Between the end of a block and the loop of a header no choice and no other loop stands: `break` leaves this loop.
@@ -106,21 +123,32 @@ impl Exits<'_> {
         !self.chooses(block)
     }
 
-    // Of a loop's exits to which `break` leads, the one with the most blocks below it.
+    // The one exit of a loop is in more of the loops around it than the other, or in as many and has no fewer blocks
+    // below it.
+    fn is_greater(&self, one: usize, other: usize) -> bool {
+        let number = self.loops.loop_number(one);
+        let least = self.loops.loop_number(other);
+        least < number || number == least && self.sizes.at(other) <= self.sizes.at(one)
+    }
+
+    // Of a loop's exits to which `break` leads, the greatest one that is in more of the loops around than the block
+    // that comes next behind the loop so far.
     fn greatest(&self, exits: &[usize], header: usize) -> Option<usize> {
+        let follower = self.followers.at(header);
         let mut greatest = None;
-        let mut most = 0;
         for block in exits {
-            let size = self.sizes.at(*block);
-            if size >= most && self.may_break(self.tree.above(*block), header) {
+            let is_greater = match greatest {
+                Some(other) => self.is_greater(*block, other),
+                None => self.stays_further_in(*block, follower),
+            };
+            if is_greater && self.may_break(self.tree.above(*block), header) {
                 greatest = Some(*block);
-                most = size;
             }
         }
         greatest
     }
 
-    // The greatest exit of a loop comes to stand behind it.
+    // The greatest exit of a loop comes next behind it.
     fn lift(&mut self, exits: &[usize], header: usize) {
         if let Some(exit) = self.greatest(exits, header) {
             self.tree.put_below(exit, header);
@@ -129,31 +157,30 @@ impl Exits<'_> {
     }
 }
 
-/// Of each loop behind which no block stands one exit comes to stand there, from the inner loops on: of those with one
-/// edge, to which `break` leads, the one with the most blocks below it.
+/// For each header of a loop the block that comes next behind the loop: one that is in most of the loops around it. It
+/// is one that stands below the header, or else an exit that comes to stand there, from the inner loops on: of those
+/// with one edge, to which `break` leads, the one with the most blocks below it.
 pub(crate) fn lift_exits(
     alloc: Global,
     graph: &Graph,
     edges: &Edges,
     loops: &Loops,
     tree: &mut Tree,
-) -> Result<(), AllocError> {
+) -> Result<Table<Option<usize>>, AllocError> {
     let count = edges.count();
     let exits = exits_of(alloc, count, loops, tree)?;
-    let followers = followers_of(alloc, count, loops, tree)?;
     let sizes = sizes_of(alloc, count, tree)?;
     let mut lifting = Exits {
         graph,
         edges,
         loops,
         tree,
-        followers,
+        followers: Table::new(alloc, count, None)?,
         sizes,
     };
+    lifting.find_followers();
     for header in (0..count).rev() {
-        if lifting.followers.at(header).is_none() {
-            lifting.lift(exits.of(header), header);
-        }
+        lifting.lift(exits.of(header), header);
     }
-    Ok(())
+    Ok(lifting.followers)
 }

@@ -3,8 +3,8 @@
 ghost use Rattle.dcc_ir.specs.Views.{graph_of};
 ghost use Rattle.dcc_ir.specs.WellFormed.{IsGraph};
 
-use crate::edges::{Edges, chooses, only_goes_to};
-use crate::exits::lift_exits;
+use crate::edges::{Edges, only_goes_to};
+use crate::exits::{is_behind, lift_exits};
 use crate::loops::{Loops, loops_of};
 use crate::table::{Lists, Table};
 use crate::tree::{Tree, tree_of};
@@ -55,21 +55,13 @@ impl Layout {
         })
     }
 
-    // The block comes behind the loop of the one that it stands below, which it is not in: unless it stands at an edge,
-    // and another comes there or that one ends in a choice, where `break` leads elsewhere.
-    fn is_behind(&self, graph: &Graph, at_edge: bool, above: u32) -> bool {
-        !at_edge || self.behind.of(above as usize).is_empty() && !chooses(graph, above)
-    }
-
     // Notes where a block but the first stands.
-    fn put(&mut self, graph: &Graph, known: &Known, number: usize) -> Result<(), AllocError> {
+    fn put(&mut self, known: &Known, number: usize) -> Result<(), AllocError> {
         let block = known.edges.place(number);
-        let header = known.tree.above(number);
-        let above = known.edges.place(header);
-        let at_edge = known.tree.is_at_its_edge(number);
-        if known.loops.leaves_out(header, number) && self.is_behind(graph, at_edge, above) {
+        let above = known.edges.place(known.tree.above(number));
+        if is_behind(&known.loops, &known.tree, &known.followers, number) {
             self.behind.push(above as usize, block)
-        } else if at_edge {
+        } else if known.tree.is_at_its_edge(number) {
             self.at_edge_of.put(block as usize, Some(above));
             Ok(())
         } else {
@@ -129,7 +121,7 @@ impl Layout {
             layout.goals.put(block, known.edges.place(number));
         }
         for number in 1..known.edges.count() {
-            layout.put(graph, &known, number)?;
+            layout.put(&known, number)?;
         }
         layout.find_goals(graph, &known);
         layout.measure(graph, &known);
@@ -143,6 +135,8 @@ struct Known {
     edges: Edges,
     loops: Loops,
     tree: Tree,
+    // For each header of a loop the block that comes next behind the loop.
+    followers: Table<Option<usize>>,
 }
 
 impl Known {
@@ -153,7 +147,12 @@ impl Known {
         let edges = Edges::of(alloc, graph)?;
         let loops = loops_of(alloc, &edges, reduction)?;
         let mut tree = tree_of(alloc, &edges, &loops)?;
-        lift_exits(alloc, graph, &edges, &loops, &mut tree)?;
-        Ok(Known { edges, loops, tree })
+        let followers = lift_exits(alloc, graph, &edges, &loops, &mut tree)?;
+        Ok(Known {
+            edges,
+            loops,
+            tree,
+            followers,
+        })
     }
 }

@@ -37,6 +37,15 @@ impl Loops {
         }
     }
 
+    /// A number for the innermost loop that holds the block, its own left out: greater for a loop that stands in
+    /// another, and 0 where there is none.
+    pub fn loop_number(&self, block: usize) -> usize {
+        match self.around(block) {
+            Some(header) => header.saturating_add(1),
+            None => 0,
+        }
+    }
+
     /// The one block begins a loop that does not hold the other, which stands below it.
     pub fn leaves_out(&self, header: usize, block: usize) -> bool {
         self.headers.at(header) && self.around(block) != Some(header)

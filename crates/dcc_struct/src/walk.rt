@@ -10,6 +10,10 @@ use dcc_ir::{End, Graph};
 use indexmap::IndexSet;
 use std::alloc::{AllocError, Global};
 
+// How long the longer side of a test is at least that a guard keeps from standing deeper: it has a test with a side, or
+// a few statements.
+const LONG: usize = 4;
+
 /// Which blocks the text comes to behind a part, at `break` and at `continue`, where this is known.
 #[derive(Clone, Copy, PartialEq, Eq, Debug)]
 pub struct Context {
@@ -76,6 +80,13 @@ fn push_sides(
     Ok(())
 }
 
+// `continue` alone.
+fn continued(alloc: Global) -> Result<Vec<Item>, AllocError> {
+    let mut items = Vec::new(alloc);
+    items.push(Item::Continue)?;
+    Ok(items)
+}
+
 // Appends items.
 fn append(items: &mut Vec<Item>, more: Vec<Item>) -> Result<(), AllocError> {
     for item in more {
@@ -115,6 +126,13 @@ impl Targets {
         }
         Ok(targets)
     }
+}
+
+// How many items are left room for inside a block, where there is room for it: each block takes one at least.
+fn room_inside(room: usize) -> Option<usize>
+    ensures { IfSome result (λ left. left < room) }
+{
+    if room == 0 { None } else { Some(room - 1) }
 }
 
 /// A walk over the blocks of a graph, as they stand in its plan.
@@ -161,18 +179,10 @@ impl<'a> Walk<'a> {
         }
     }
 
-    // How many items are left room for inside a block, where there is room for it: its loop and its test or choice take
-    // one each, and each block one at least. What its loop holds beside its test or choice has room for one more.
-    fn room_inside(&self, block: u32, room: usize) -> Option<usize>
-        ensures { IfSome result (λ left. left < room) }
-    {
-        let begins_loop = self.layout.loops.at(block as usize);
-        let taken = if begins_loop && self.tests(block) {
-            2
-        } else {
-            1
-        };
-        if room < taken { None } else { Some(room - 1) }
+    // A loop stands for the block that begins it, where so many items are left room for inside: the block's test or
+    // choice stands in the loop and takes room too.
+    fn has_loop(&self, block: u32, room: usize) -> bool {
+        self.layout.loops.at(block as usize) && (0 < room || !self.tests(block))
     }
 
     // Appends a jump to a block.
@@ -231,6 +241,35 @@ impl<'a> Walk<'a> {
         }
     }
 
+    // On the short side of the test at the end of a block the next turn of the loop comes and nothing else, and the
+    // other side is long.
+    fn is_guard(&self, block: u32, short: u32, long: u32, at: Context) -> bool {
+        let goal = self.layout.goals.at(short as usize);
+        !self.is_at_edge(block, short)
+            && LONG <= self.length(block, long)
+            && self.leads_to(at.next, goal)
+            && self.leads_to(at.at_continue, goal)
+    }
+
+    // At the edge of a block to another no text stands.
+    fn is_bare(&self, from: u32, to: u32) -> bool {
+        !self.is_at_edge(from, to) || self.layout.goals.at(to as usize) != to
+    }
+
+    // From the end of a block the text goes to the same block either way, and no text stands at these edges.
+    fn is_one_way(&self, block: u32, one: u32, other: u32) -> bool {
+        let goal = self.layout.goals.at(one as usize);
+        self.is_bare(block, one)
+            && self.is_bare(block, other)
+            && self.layout.goals.at(other as usize) == goal
+    }
+
+    // Room is left for each block of the text that stands in the place of an edge: a block takes room for a loop and a
+    // test or choice at most, and the text is no shorter than its blocks are many.
+    fn surely_fits(&self, from: u32, to: u32, room: usize) -> bool {
+        self.length(from, to) < room / 2
+    }
+
     // No run comes past the statement, which is the last one of its block.
     fn stops_after(&self, block: u32, place: u32) -> bool {
         match self.graph.blocks.get(block as usize) {
@@ -272,7 +311,8 @@ impl<'a> Walk<'a> {
         }
     }
 
-    // Appends a block. Where no room is left for it a jump to it stands here, and it comes after all others.
+    // Appends a block. Where no room is left for it a jump to it stands here, and it comes after all others. Where
+    // there is room for it and none for its loop, jumps lead back to it. What stands behind its loop comes next.
     #[cycle(walk)]
     fn push_block(&mut self, level: &mut Level, block: u32, room: usize) -> Result<(), AllocError> {
         if self.placed.at(block as usize) {
@@ -281,7 +321,7 @@ impl<'a> Walk<'a> {
         if self.layout.goals.at(block as usize) != block {
             return self.pass(level, block);
         }
-        let Some(left) = self.room_inside(block, room) else {
+        let Some(left) = room_inside(room) else {
             self.late.push(block)?;
             return self.push_jump(&mut level.items, block);
         };
@@ -289,18 +329,17 @@ impl<'a> Walk<'a> {
         if self.marked.at(block as usize) {
             level.items.push(Item::Mark(block))?;
         }
-        if self.layout.loops.at(block as usize) {
+        level.put_before(self.layout.behind.of(block as usize))?;
+        if self.has_loop(block, left) {
             self.push_loop(level, block, left)
         } else {
             self.push_body(level, block, left)
         }
     }
 
-    // Appends the loop that a block begins, in which so much room is left beside its test or choice. What stands behind
-    // it comes next.
+    // Appends the loop that a block begins, in which so much room is left beside its test or choice.
     #[cycle(walk)]
     fn push_loop(&mut self, level: &mut Level, block: u32, room: usize) -> Result<(), AllocError> {
-        level.put_before(self.layout.behind.of(block as usize))?;
         let at = Context {
             next: Some(block),
             at_break: level.context().next,
@@ -338,8 +377,8 @@ impl<'a> Walk<'a> {
         }
     }
 
-    // Appends the test at the end of a block. Where the text never goes on behind its shorter side, or behind the
-    // longer one alone, the other side follows the test.
+    // Appends the test at the end of a block. Where both ways go to the same block, the way there follows a test that
+    // has nothing on its sides.
     #[cycle(walk)]
     fn push_test(
         &mut self,
@@ -349,27 +388,82 @@ impl<'a> Walk<'a> {
         other: u32,
         room: usize,
     ) -> Result<(), AllocError> {
-        let at = level.context();
+        if self.is_one_way(block, one, other) {
+            level.items.push(Item::If(block, Vec::new(self.alloc), Vec::new(self.alloc)))?;
+            return self.push_way(level, block, one);
+        }
         let turned = self.length(block, other) < self.length(block, one);
-        let short = if turned { other } else { one };
-        let long = if turned { one } else { other };
+        let (short, long) = if turned { (other, one) } else { (one, other) };
+        if self.is_guard(block, short, long, level.context()) {
+            return self.push_guard(level, block, turned, long, room);
+        }
+        self.push_ways(level, block, turned, (short, long), room)
+    }
+
+    // Appends the test at the end of a block by its shorter and its longer side. Where the text never goes on behind
+    // the shorter one, or behind the longer one alone, the other side follows the test. A shorter side in which no room
+    // was left for a block stays where it is that deep.
+    #[cycle(walk)]
+    fn push_ways(
+        &mut self,
+        level: &mut Level,
+        block: u32,
+        turned: bool,
+        (short, long): (u32, u32),
+        room: usize,
+    ) -> Result<(), AllocError> {
+        let at = level.context();
+        let waiting = self.late.len();
         let first = self.side(block, short, at, room)?;
+        let none = Vec::new(self.alloc);
         if self.leaves(first.as_slice()) {
-            push_sides(&mut level.items, block, turned, first, Vec::new(self.alloc))?;
+            push_sides(&mut level.items, block, turned, first, none)?;
             return self.push_way(level, block, long);
         }
+        let found_room = self.late.len() == waiting;
         let second = self.side(block, long, at, room)?;
-        if self.leaves(second.as_slice()) {
+        if found_room && self.leaves(second.as_slice()) {
+            push_sides(&mut level.items, block, turned, none, second)?;
+            return append(&mut level.items, first);
+        }
+        push_sides(&mut level.items, block, turned, first, second)
+    }
+
+    // Appends the test at the end of a block on whose shorter side the next turn of the loop comes and nothing else.
+    // Where the text never goes on behind the longer side, this side stands in the test. Else, and where room might be
+    // wanting in it, `continue` stands in the test and the longer side follows, less deep.
+    #[cycle(walk)]
+    fn push_guard(
+        &mut self,
+        level: &mut Level,
+        block: u32,
+        turned: bool,
+        long: u32,
+        room: usize,
+    ) -> Result<(), AllocError> {
+        let none = Vec::new(self.alloc);
+        if !self.surely_fits(block, long, room) {
             push_sides(
                 &mut level.items,
                 block,
                 turned,
-                Vec::new(self.alloc),
-                second,
+                continued(self.alloc)?,
+                none,
             )?;
-            return append(&mut level.items, first);
+            return self.push_way(level, block, long);
         }
-        push_sides(&mut level.items, block, turned, first, second)
+        let side = self.side(block, long, level.context(), room)?;
+        if self.leaves(side.as_slice()) {
+            return push_sides(&mut level.items, block, turned, none, side);
+        }
+        push_sides(
+            &mut level.items,
+            block,
+            turned,
+            continued(self.alloc)?,
+            none,
+        )?;
+        append(&mut level.items, side)
     }
 
     // What stands in the place of the edge of a block to another.
@@ -391,7 +485,8 @@ impl<'a> Walk<'a> {
         Ok(level.items)
     }
 
-    // The arms of the choice at the end of a block: one for each target, in the order of their first cases.
+    // The arms of the choice at the end of a block: one for each target for which something stands there, in the order
+    // of their first cases. Where no arm has its case, a choice goes on behind itself.
     #[cycle(walk)]
     fn arms(
         &mut self,
@@ -408,9 +503,11 @@ impl<'a> Walk<'a> {
         let targets = Targets::of(alloc, places)?;
         let mut arms = Vec::new(alloc);
         for (turn, target) in targets.blocks.as_slice().iter().enumerate() {
-            let cases = targets.cases.of(turn).to_vec(alloc)?;
             let body = self.side(from, *target, at, room)?;
-            arms.push(Arm { cases, body })?;
+            if !body.is_empty() {
+                let cases = targets.cases.of(turn).to_vec(alloc)?;
+                arms.push(Arm { cases, body })?;
+            }
         }
         Ok(arms)
     }

@@ -17,14 +17,12 @@ use Rattle.dcc_interval.proofs.TryLaws.{below}
 use Rattle.dcc_interval.proofs.ReducedLaws.{reducing_first, left_first, reduced_last}
 use Rattle.dcc_interval.proofs.reduce.reduced.Goals as goal
 
-pub sources-requires : goal.sources-requires
-sources-requires c =
+pub sources-requires-clause-reached : goal.sources-requires-clause-reached
+sources-requires-clause-reached c =
     let vs = c.args.next.now.items in
-    record {
-      within = c.requires.within;
-      reached = subst (λ l. All (λ n. n < length vs) l) (sym c.as_slice.ensures.value)
-          (reached_below (rows vs) c.args.entry (noted_of c.in_ok-found.found) (length vs) c.requires.within (omega (arith, c.requires.entry, length_rows vs)) c.in_ok-found.ensures (length_rows vs));
-    }
+    let below = reached_below (rows vs) c.args.entry (noted_of c.in_ok-found.found) (length vs) c.requires.within (omega (arith, c.requires.entry, length_rows vs))
+    c.in_ok-found.ensures (length_rows vs) in
+    subst (λ l. All (λ n. n < length vs) l) (sym c.as_slice.ensures.value) below
 
 pub finish-requires : goal.finish-requires
 finish-requires c =

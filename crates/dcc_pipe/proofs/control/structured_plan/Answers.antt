@@ -1,4 +1,4 @@
-use Rattle.std.proofs.Common.{◌≡◌, ap, ◌∙◌, sym, subst, length, arith}
+use Rattle.std.proofs.Common.{◌≡◌, refl, ap, ◌∙◌, sym, subst, length, arith}
 use Rattle.std.specs.Prelude.{IfOk}
 use Rattle.std.proofs.lemmas.Result.{IfOk-weaker}
 use Rattle.dcc_ir.specs.Views.{graph_of}
@@ -10,6 +10,7 @@ use Rattle.dcc_control.specs.Valid.{IsPlanOf}
 use Rattle.dcc_control.specs.Views.{plan_of}
 use Rattle.dcc_plan_check.specs.Structured.{BeginsReturns}
 use Rattle.dcc_struct.proofs.GotoStructured.{on-answer}
+use Rattle.dcc_pipe.specs.Control.{IsTold}
 use Rattle.dcc_pipe.proofs.ControlLaws.{told-valid, told-returns}
 use Rattle.dcc_pipe.proofs.control.structured_plan.Goals as goal
 
@@ -35,6 +36,7 @@ returns c =
     record {
       valid = on-answer (IsPlanOf graph) (completed (told_loops plan)) (told-valid graph plan structured.structured.valid)
           c.completed.result made;
+      told = on-answer IsTold (completed (told_loops plan)) (record { untold = plan; is = refl }) c.completed.result made;
       returns = on-answer (BeginsReturns graph) (completed (told_loops plan))
           (told-returns graph plan structured.structured.valid structured.paced) c.completed.result made;
     }

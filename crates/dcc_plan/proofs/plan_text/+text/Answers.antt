@@ -43,7 +43,7 @@ item_text-returns-in_ok-test-in-If g t c =
     let is_one = c.deref-in-If.ensures.value in
     let is_other = c.deref-in-If-2.ensures.value in
     let first = c.is_true_first-on.ensures
-    ∙ ap₂ (λ xs ys. spec.is_true_first (plan_of xs) (plan_of ys)) c.deref-in-If-3.ensures.value c.deref-in-If-4.ensures.value in
+    ∙ ap₂ (λ xs ys. spec.is_true_first graph (plan_of xs) (plan_of ys)) c.deref-in-If-3.ensures.value c.deref-in-If-4.ensures.value in
     if-text s graph _ c.in-If.b c.in-If.one c.in-If.other c.is_true_first-on.result c.in_ok-test-in-If.test
     c.in_ok-body-in-If.body c.in_ok-otherwise-in-If.otherwise c.if_stmt.result c.in-If.is first c.in_ok-test-in-If.ensures
     (c.in_ok-body-in-If.ensures ∙ ap (λ items. spec.plan_text s graph (plan_of items)) is_one)

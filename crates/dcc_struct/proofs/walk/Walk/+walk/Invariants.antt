@@ -16,6 +16,12 @@ decreases-push_body l = l.room * 8 + 8
 abbrev pub decreases-push_test : goal.decreases-push_test
 decreases-push_test l = l.room * 8 + 7
 
+abbrev pub decreases-push_ways : goal.decreases-push_ways
+decreases-push_ways l = l.room * 8 + 6
+
+abbrev pub decreases-push_guard : goal.decreases-push_guard
+decreases-push_guard l = l.room * 8 + 6
+
 abbrev pub decreases-side : goal.decreases-side
 decreases-side l = l.room * 8 + 5
 

@@ -1,7 +1,7 @@
 use Rattle.std.proofs.Common.{length, sym, ap, ◌∙◌}
 use Rattle.std.specs.Prelude.{◌==◌, ◌||◌, not}
 use Rattle.dcc_plan.proofs.WrittenItems.{first-side}
-use Rattle.dcc_plan.proofs.plan_text.is_true_first.Goals as goal
+use Rattle.dcc_plan.proofs.plan_text.may_be_first.Goals as goal
 
 pub returns-then-not-is_empty : goal.returns-then-not-is_empty
 returns-then-not-is_empty c =

@@ -1,0 +1,4 @@
+pub mod CodeLaws
+pub mod DrawLaws
+pub mod FileLaws
+pub mod OneFile

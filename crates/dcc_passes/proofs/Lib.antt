@@ -1,0 +1,7 @@
+pub mod RenamedLaws
+pub mod RenamingLaws
+pub mod WrittenLaws
+pub mod FollowLaws
+pub mod KindLaws
+pub mod OneGraphLaws
+pub mod ReplacedLaws

@@ -1,0 +1,5 @@
+pub mod AmongLaws
+pub mod ReducedLaws
+pub mod ResultLaws
+pub mod NormalLaws
+pub mod FactLaws

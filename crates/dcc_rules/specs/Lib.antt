@@ -1,0 +1,4 @@
+pub mod Simpler
+pub mod Forms
+pub mod Rules
+pub mod Views

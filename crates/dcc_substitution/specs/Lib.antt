@@ -1,0 +1,4 @@
+pub mod Available
+pub mod Substituted
+pub mod Fresh
+pub mod Laws
