@@ -16,8 +16,8 @@ image_of code words =
     let paragraphs = paragraphs_of code in
     first_code paragraphs ++ (code ++ (replicate (16 * paragraphs - (5 + length code)) 0 ++ flat_map word_bytes words))
 
--- the words of the header behind the letters MZ, and its one relocation, for a file of such a length whose code takes so
--- many paragraphs: the bytes in the last page, where 0 means a full one, and the pages of 512 bytes; the number of
+-- the words of the header behind the letters MZ, and its one relocation, for a file of such a length whose code takes
+-- so many paragraphs: the bytes in the last page, where 0 means a full one, and the pages of 512 bytes; the number of
 -- relocations; the paragraphs of the header; the least and the greatest memory behind the image; SS, where the data
 -- ends, and SP; the checksum; IP and CS; the offset of the relocation, and the overlay; the relocation's offset and
 -- segment, which name the word of the first instruction

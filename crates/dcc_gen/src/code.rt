@@ -48,8 +48,8 @@ fn push_around(code: &mut Vec<u8>, before: &[u8], word: u16, after: &[u8]) -> Re
     code.extend_from_slice(after)
 }
 
-// Appends a piece, behind which `left` further bytes of pieces stand, and behind these as many bytes before the entry of
-// each procedure as `ahead` tells.
+// Appends a piece, behind which `left` further bytes of pieces stand, and behind these as many bytes before the entry
+// of each procedure as `ahead` tells.
 fn push_piece(
     code: &mut Vec<u8>,
     piece: Piece,
@@ -139,7 +139,7 @@ fn push_procedure(code: &mut Vec<u8>, body: &[Piece]) -> Result<(), AllocError>
     code.extend_from_slice(&RETURN)
 }
 
-// The code behind the pieces of start: the exit and the procedures; and as many bytes as stand before the entry of each.
+// The code behind the pieces of start: the exit and the procedures; and how many bytes stand before the entry of each.
 fn rest(alloc: Global, bodies: &[Piece]) -> Result<(Vec<u8>, Vec<usize>), AllocError>
     requires bodies { length bodies.now ≡ 128 }
     requires in_range { All IsInRange bodies.now }

@@ -18,7 +18,7 @@ simpler-is-prop : (bits : List ℕ) (given other : Expr) → IsProp (IsSimplerUn
 simpler-is-prop bits given other = hlevel props
 
 -- a choice by a test that fails
-otherwise : (b x y : Bool) → b ≡ false → (if b then x else y) ≡ y
+pub otherwise : (b x y : Bool) → b ≡ false → (if b then x else y) ≡ y
 otherwise true x y e = cc
 otherwise false x y e = refl
 

@@ -3,3 +3,4 @@ pub mod ReducedLaws
 pub mod ResultLaws
 pub mod NormalLaws
 pub mod FactLaws
+pub mod ToldLaws

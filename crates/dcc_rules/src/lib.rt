@@ -1,6 +1,7 @@
 //! Stored rules that make expressions of the inner language simpler, and what simplifies by a list of them.
 #![tactic(auto)]
 
+pub mod laws;
 pub mod list;
 pub mod reduce;
 pub mod rule;

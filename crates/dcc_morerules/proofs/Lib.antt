@@ -1,0 +1,2 @@
+pub mod OppositeLaws
+pub mod ZeroLaws

@@ -1,0 +1,9 @@
+pub mod SameLaws
+pub mod WithinLaws
+pub mod FormLaws
+pub mod NumberLaws
+pub mod WideLaws
+pub mod OperandLaws
+pub mod HalfLaws
+pub mod ConstantLaws
+pub mod SumLaws

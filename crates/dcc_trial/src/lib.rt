@@ -1,0 +1,11 @@
+//! Trials: a program made at random, its text, and the runs of both.
+#![tactic(auto)]
+
+pub mod found;
+mod sides;
+mod telling;
+mod trying;
+
+pub use found::{Ending, NoTrial, Side, Trial};
+pub use telling::lines;
+pub use trying::trial;

@@ -1,0 +1,11 @@
+pub mod NameLaws
+pub mod StepLaws
+pub mod ClassLaws
+pub mod OriginLaws
+pub mod FormedLaws
+pub mod PlacedLaws
+pub mod SplitLaws
+pub mod TempLaws
+pub mod WalkLaws
+pub mod StandLaws
+pub mod BackLaws
