@@ -5,3 +5,4 @@ pub mod FollowLaws
 pub mod KindLaws
 pub mod OneGraphLaws
 pub mod ReplacedLaws
+pub mod TidiedLaws

@@ -11,6 +11,7 @@ use Rattle.dcc_passes.specs.OneGraph.{Invariant, FitsInPlace, BeginsIn, GoesIn}
 use Rattle.dcc_passes.specs.Kinds.{StaysInKind}
 use Rattle.dcc_passes.specs.Following.{Link, IsFollowedByGraph}
 use Rattle.dcc_passes.specs.Renamed.{Renaming, IsRenamed}
+use Rattle.dcc_passes.specs.Tidied.{IsTidied}
 
 -- what stands for a graph that stands for another stands for that one
 abbrev pub StandingComposes : Type 0
@@ -48,3 +49,11 @@ FollowedStands link = (before after : Graph) → StaysInKind before after → Is
 abbrev pub RenamedStands : Family → Renaming → Type 0
 RenamedStands family name = (before after : Graph) → IsClosed before family → IsRenamed family name before after
     → IsGraph after → StandsFor before after
+
+-- a well-formed graph is what is left of it by a pass that changes nothing
+abbrev pub TidiedItself : Type 0
+TidiedItself = (graph : Graph) → IsGraph graph → IsTidied graph graph
+
+-- what one pass leaves of what another leaves is what both leave
+abbrev pub TidiedComposes : Type 0
+TidiedComposes = (g h k : Graph) → IsTidied g h → IsTidied h k → IsTidied g k

@@ -4,4 +4,5 @@ pub mod Kinds
 pub mod Following
 pub mod Renaming
 pub mod Renamed
+pub mod Tidied
 pub mod Laws

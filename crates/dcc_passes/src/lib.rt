@@ -7,7 +7,7 @@ ghost use Rattle.dcc_passes.specs.OneGraph.{Invariant};
 ghost use Rattle.dcc_passes.specs.Laws.{StandingComposes, AllMayStand, OneMayStand, OneStands, FormsFit, KindsFit};
 ghost use Rattle.dcc_ir.specs.Families.{Family};
 ghost use Rattle.dcc_passes.specs.Renamed.{Renaming};
-ghost use Rattle.dcc_passes.specs.Laws.{FollowedStands, RenamedStands};
+ghost use Rattle.dcc_passes.specs.Laws.{FollowedStands, RenamedStands, TidiedItself, TidiedComposes};
 ghost use Rattle.dcc_passes.specs.Following.{Link};
 
 /// What stands for a graph that stands for another stands for that one.
@@ -69,4 +69,14 @@ pub trait SomeRenaming {
 /// it.
 pub fn renamed_stands<R: SomeRenaming>()
     ensures { RenamedStands R.family R.name }
+{}
+
+/// A well-formed graph is what is left of it by a pass that changes nothing.
+pub fn tidied_itself()
+    ensures { TidiedItself }
+{}
+
+/// What one pass leaves of what another leaves is what both leave.
+pub fn tidied_composes()
+    ensures { TidiedComposes }
 {}
