@@ -299,7 +299,7 @@ module _ (available : Availability) (before after : Graph) (right : IsRight befo
       calls = calls-substitute before.bits (available place) (right.widths place) block.stmts new.stmts pair.stmts;
     }
 
-  substituted-kind : StaysInKind before after
+  pub substituted-kind : StaysInKind before after
   substituted-kind = record {
     entry = ap (λ (g : Graph). g.entry) is.frame;
     params = ap₂ (λ bits params. map (param_kind bits) params) bits-same params-same;
