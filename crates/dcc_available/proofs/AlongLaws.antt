@@ -133,6 +133,7 @@ module _ (graph : Graph) (formed : IsGraph graph) where
           let is : x ≡ b = cc in
           subst (λ y. is_block graph.bits (length graph.blocks) y ≡ true) is (both (is_block graph.bits (length graph.blocks) x) (list_all (is_block graph.bits (length graph.blocks)) xs) all).0
       at-place (x ∷ xs) (suc k) b at all = at-place xs k b at (both (is_block graph.bits (length graph.blocks) x) (list_all (is_block graph.bits (length graph.blocks)) xs) all).1
+
       stmts-of : (stmts : List Stmt) → list_all (is_stmt graph.bits) stmts ≡ true → All (IsFormed graph.bits) stmts
       stmts-of [] all = All-nil (IsFormed graph.bits)
       stmts-of (stmt ∷ stmts) all =
@@ -159,15 +160,16 @@ module _ (graph : Graph) (formed : IsGraph graph) where
   stmts-right : (place : ℕ) (block : Block) → slice_get graph.blocks place ≡ Some block → (passed rest : List Stmt) → block.stmts ≡ passed ++ rest → AreRight graph (chained graph) place rest
   stmts-right place block placed passed [] split = tt
   stmts-right place block placed passed (stmt ∷ rest) split =
-      let further : block.stmts ≡ (passed ++ stmt ∷ []) ++ rest = split ∙ sym (append_assoc passed (stmt ∷ []) rest) in
-      (λ l e h.
-      let one : block ≡ h.block = some-same block h.block (sym placed ∙ h.placed) in
-      let front : h.passed ≡ passed ++ stmt ∷ [] = same-front h.passed (passed ++ stmt ∷ []) rest (sym h.split ∙ sym (ap (λ (b : Block). b.stmts) one) ∙ further) in
-      let history : h.lead ++ h.passed ≡ (h.lead ++ passed) ++ stmt ∷ [] = ap (λ xs. h.lead ++ xs) front ∙ sym (append_assoc h.lead passed (stmt ∷ [])) in
-      after-more (along (h.lead ++ passed)) (chained graph place (stmt ∷ rest)) stmt
-      (λ l' e' told. record { lead = h.lead; leads = h.leads; block = block; placed = placed; passed = passed; split = split; told = told })
-      l e (one-along (h.lead ++ passed) stmt l e (subst (λ xs. along xs l e) history h.told)),
-      stmts-right place block placed (passed ++ stmt ∷ []) rest further)
+      let further : block.stmts ≡ (passed ++ stmt ∷ []) ++ rest = split ∙ sym (append_assoc passed (stmt ∷ []) rest) in (
+        λ l e h.
+            let one : block ≡ h.block = some-same block h.block (sym placed ∙ h.placed) in
+            let front : h.passed ≡ passed ++ stmt ∷ [] = same-front h.passed (passed ++ stmt ∷ []) rest (sym h.split ∙ sym (ap (λ (b : Block). b.stmts) one) ∙ further) in
+            let history : h.lead ++ h.passed ≡ (h.lead ++ passed) ++ stmt ∷ [] = ap (λ xs. h.lead ++ xs) front ∙ sym (append_assoc h.lead passed (stmt ∷ [])) in
+            after-more (along (h.lead ++ passed)) (chained graph place (stmt ∷ rest)) stmt
+            (λ l' e' told. record { lead = h.lead; leads = h.leads; block = block; placed = placed; passed = passed; split = split; told = told })
+            l e (one-along (h.lead ++ passed) stmt l e (subst (λ xs. along xs l e) history h.told)),
+        stmts-right place block placed (passed ++ stmt ∷ []) rest further,
+      )
     where
       some-same : (b c : Block) → Some b ≡ Some c → b ≡ c
       some-same b c is = cc
@@ -184,16 +186,18 @@ module _ (graph : Graph) (formed : IsGraph graph) where
       let is : place ≡ from = only.only place block placed goes in
       let same : block ≡ last = some-same block last (sym placed ∙ ap (slice_get graph.blocks) is ∙ only.placed) in
       let crossed = one-along (lead ++ last.stmts) edge l e (subst (λ xs. along xs l e) (sym (append_assoc lead last.stmts (edge ∷ []))) told) in
-      let parts = edge-leaves (along (lead ++ last.stmts)) l e crossed in
-      (record {
-        lead = lead;
-        leads = subst (λ n. IsLead graph n lead) (sym is) before;
-        block = block;
-        placed = placed;
-        passed = block.stmts;
-        split = sym (append-nil block.stmts);
-        told = subst (λ (b : Block). along (lead ++ b.stmts) l e) (sym same) parts.0;
-      }, parts.1)
+      let parts = edge-leaves (along (lead ++ last.stmts)) l e crossed in (
+        record {
+          lead = lead;
+          leads = subst (λ n. IsLead graph n lead) (sym is) before;
+          block = block;
+          placed = placed;
+          passed = block.stmts;
+          split = sym (append-nil block.stmts);
+          told = subst (λ (b : Block). along (lead ++ b.stmts) l e) (sym same) parts.0;
+        },
+        parts.1,
+      )
     where
       some-same : (b c : Block) → Some b ≡ Some c → b ≡ c
       some-same b c is = cc

@@ -1,5 +1,5 @@
 -- What a walk knows after a statement was available before it, and the statement leaves it.
-use Rattle.std.proofs.Common.{◌≡◌, ℕ, zero, suc, ◌+◌, ◌<◌, ◌≤◌, Bool, true, false, ◌&&◌, ◌||◌, not, ◌⊎◌, inl, inr, List, [], ◌∷◌, ◌++◌, length, get_or, Some, refl, sym, ap, ap₂, ◌∙◌, subst, slice_get, slice_set, arith, true≢false, eqb-true, eq-eqb, ltb-true, Contains}
+use Rattle.std.proofs.Common.{◌≡◌, ℕ, zero, suc, ◌+◌, ◌<◌, ◌≤◌, Bool, true, false, ◌&&◌, ◌||◌, not, ◌⊎◌, inl, inr, List, [], ◌∷◌, ◌++◌, length, get_or, Some, refl, sym, ap, ap₂, ◌∙◌, subst, slice_get, slice_set, arith, true≢false, eqb-true, eq-eqb, ltb-true, flat_map, Contains}
 use Rattle.std.specs.Prelude.{◌==◌, nat_lt, nat_le, All, if◌then◌else◌}
 use Rattle.std.specs.List.{list_any}
 use Rattle.std.proofs.lemmas.List.Elements.{All-nil, All-cons, All-append, All-contains}
@@ -55,9 +55,10 @@ stamped-kept (Temp m ∷ places) now written at n less kept =
           absurd (now-late written n now at (omega arith) less (subst (λ k. is_kept (slice_set written k now) at n ≡ true) is rest.0))
       | inr f ↦
           let other : n ≡ m → ⊥ = λ e. true≢false (sym (eq-eqb m n (sym e)) ∙ f) in
-          let stamp : get_or (slice_set written m now) n 0 ≡ get_or written n 0 = get_or-set_other written m n now 0 other in
-          (ap₂ (λ k v. nat_lt n k && nat_le v at) (sym same) (sym stamp) ∙ rest.0,
-          λ c. Contains-cases (Temp m) places (Temp n) ⊥ (λ e. other (temp-same n m (sym e))) rest.1 c)
+          let stamp : get_or (slice_set written m now) n 0 ≡ get_or written n 0 = get_or-set_other written m n now 0 other in (
+            ap₂ (λ k v. nat_lt n k && nat_le v at) (sym same) (sym stamp) ∙ rest.0,
+            λ c. Contains-cases (Temp m) places (Temp n) ⊥ (λ e. other (temp-same n m (sym e))) rest.1 c,
+          )
     ]
   where
     temp-same : (a b : ℕ) → Temp a ≡ Temp b → a ≡ b
@@ -97,8 +98,8 @@ module _ (stmt : Stmt) (known : Known) (at n : ℕ) (less : at < length known.fa
   abbrev Left : Expr → Type 0
   Left e = IsLeft stmt known at n e
 
-  two-reads : (xs ys : List Expr) → All (Apart (writes_of stmt)) (flat_map-of xs) → All (Apart (writes_of stmt)) (flat_map-of ys) → All (Apart (writes_of stmt)) (flat_map-of (xs ++ ys))
-  two-reads xs ys p q = subst (All (Apart (writes_of stmt))) (sym (flat_map-append got_by xs ys)) (All-append (Apart (writes_of stmt)) (flat_map-of xs) (flat_map-of ys) p q)
+  two-reads : (xs ys : List Expr) → All (Apart (writes_of stmt)) (flat_map got_by xs) → All (Apart (writes_of stmt)) (flat_map got_by ys) → All (Apart (writes_of stmt)) (flat_map got_by (xs ++ ys))
+  two-reads xs ys p q = subst (All (Apart (writes_of stmt))) (sym (flat_map-append got_by xs ys)) (All-append (Apart (writes_of stmt)) (flat_map got_by xs) (flat_map got_by ys) p q)
 
   some-none : (f : Expr → Bool) (xs ys : List Expr) → list_any f xs ≡ false → list_any f ys ≡ false → list_any f (xs ++ ys) ≡ false
   some-none f xs ys p q = list_any-append f xs ys ∙ neither (list_any f xs) (list_any f ys) p q
@@ -177,6 +178,9 @@ module _ (stmt : Stmt) (known : Known) (at n : ℕ) (less : at < length known.fa
         addresses_none = λ is. absurd (true≢false (sym is ∙ called.0));
       }
 
+apart-both : (n : ℕ) (xs ys : List Expr) → All (λ l. l ≡ Temp n → ⊥) (flat_map got_by xs) → All (λ l. l ≡ Temp n → ⊥) (flat_map got_by ys) → All (λ l. l ≡ Temp n → ⊥) (flat_map got_by (xs ++ ys))
+apart-both n xs ys p q = subst (All (λ l. l ≡ Temp n → ⊥)) (sym (flat_map-append got_by xs ys)) (All-append (λ l. l ≡ Temp n → ⊥) (flat_map got_by xs) (flat_map got_by ys) p q)
+
 -- the expression doesn't read the temporary that took it
 pub still-apart : (stamps : Stamps) (at n : ℕ) (e : Expr) → is_still stamps at n e ≡ true → All (λ l. l ≡ Temp n → ⊥) (reads_of e)
 still-apart stamps at n (Const width k) still = All-nil (λ l. l ≡ Temp n → ⊥)
@@ -186,6 +190,7 @@ still-apart stamps at n (Get (Temp m)) still =
   where
     temp-same : (a b : ℕ) → Temp a ≡ Temp b → a ≡ b
     temp-same a b is = cc
+
     no-other : (a b : ℕ) → not (a == b) ≡ true → a ≡ b → ⊥
     no-other a b other is = true≢false (sym other ∙ ap not (eq-eqb a b is))
 still-apart stamps at n (Get (Half r h)) still = absurd (true≢false (sym still))
@@ -217,7 +222,7 @@ leaves-by (Div l v) e no_loads no_addresses = refl
 leaves-by (Call results entry arguments depth) e no_loads no_addresses = ap₂ (λ a b. not a && not b) (no_loads refl) (no_addresses refl)
 leaves-by (Dos number place argument) e no_loads no_addresses = refl
 
-placed : (facts : List Fact) (at : ℕ) (fact : Fact) → slice_get facts at ≡ Some fact → at < length facts
+pub placed : (facts : List Fact) (at : ℕ) (fact : Fact) → slice_get facts at ≡ Some fact → at < length facts
 placed [] at fact found = absurd (cc)
 placed (x ∷ xs) zero fact found = omega arith
 placed (x ∷ xs) (suc at) fact found = let less = placed xs at fact found in omega arith
@@ -231,18 +236,20 @@ told-past stmt known l e told =
     let two = both (nat_le known.begun told.at && is_kept (stamped (writes_of stmt) (length known.facts) known.stamps.written) told.at told.fact.temporary) (is_still (past stmt known).stamps told.at told.fact.temporary told.fact.value) told.holding in
     let one = both (nat_le known.begun told.at) (is_kept (stamped (writes_of stmt) (length known.facts) known.stamps.written) told.at told.fact.temporary) two.0 in
     let kept = stamped-kept (writes_of stmt) (length known.facts) known.stamps.written told.at told.fact.temporary less one.1 in
-    let is_left = still-left stmt known told.at told.fact.temporary less told.fact.value two.1 in
-    (record {
-      at = told.at;
-      fact = told.fact;
-      noted = told.noted;
-      place = told.place;
-      value = told.value;
-      holding = and_both (nat_le known.begun told.at && is_kept known.stamps.written told.at told.fact.temporary) (is_still known.stamps told.at told.fact.temporary told.fact.value)
-          (and_both (nat_le known.begun told.at) (is_kept known.stamps.written told.at told.fact.temporary) one.0 kept.0) is_left.before;
-    }, subst (Apart (writes_of stmt)) (sym told.place) kept.1,
-    subst (λ x. All (Apart (writes_of stmt)) (reads_of x)) (sym told.value) is_left.reads,
-    subst (λ x. leaves_outside stmt x ≡ true) (sym told.value) (leaves-by stmt told.fact.value is_left.loads_none is_left.addresses_none))
+    let is_left = still-left stmt known told.at told.fact.temporary less told.fact.value two.1 in (
+      record {
+        at = told.at;
+        fact = told.fact;
+        noted = told.noted;
+        place = told.place;
+        value = told.value;
+        holding = and_both (nat_le known.begun told.at && is_kept known.stamps.written told.at told.fact.temporary) (is_still known.stamps told.at told.fact.temporary told.fact.value)
+            (and_both (nat_le known.begun told.at) (is_kept known.stamps.written told.at told.fact.temporary) one.0 kept.0) is_left.before;
+      },
+      subst (Apart (writes_of stmt)) (sym told.place) kept.1,
+      subst (λ x. All (Apart (writes_of stmt)) (reads_of x)) (sym told.value) is_left.reads,
+      subst (λ x. leaves_outside stmt x ≡ true) (sym told.value) (leaves-by stmt told.fact.value is_left.loads_none is_left.addresses_none),
+    )
 
 -- what is told after a statement is available after it
 pub past-sound : (history : List Stmt) (stmt : Stmt) (known : Known) → IsSound known history → IsSound (past stmt known) (history ++ stmt ∷ [])

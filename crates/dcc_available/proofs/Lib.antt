@@ -3,3 +3,7 @@ pub mod AlongLaws
 pub mod KnownLaws
 pub mod RewrittenLaws
 pub mod TidiedLaws
+pub mod GraphLaws
+pub mod WithinLaws
+pub mod ChainLaws
+pub mod StepLaws

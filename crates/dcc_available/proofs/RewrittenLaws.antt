@@ -69,13 +69,13 @@ pub rewritten-put : (history stmts : List Stmt) (news news' : List Statement) (s
 rewritten-put history stmts news news' stmt new are sub shallow is = go (sets_itself (stmt_of new)) refl is
   where
     go : (b : Bool) → sets_itself (stmt_of new) ≡ b → news' ≡ (if b then news else news ++ new ∷ []) → AreRewritten history (stmts ++ stmt ∷ []) (map stmt_of news')
-    go true itself_ same =
-        let what = itself-set (stmt_of new) itself_ in
+    go true holding equal =
+        let what = itself-set (stmt_of new) holding in
         let was = set-of (along (history ++ stmts)) stmt (stmt_of new) sub what.0 (Get what.0) what.1 in
-        subst (λ xs. AreRewritten history (stmts ++ stmt ∷ []) (map stmt_of xs)) (sym same)
+        subst (λ xs. AreRewritten history (stmts ++ stmt ∷ []) (map stmt_of xs)) (sym equal)
         (subst (λ x. AreRewritten history (stmts ++ x ∷ []) (map stmt_of news)) (sym was.1) (rewritten-gone history stmts (map stmt_of news) what.0 was.0 are was.2))
-    go false other same =
-        subst (AreRewritten history (stmts ++ stmt ∷ [])) (sym (ap (map stmt_of) same ∙ mapped news new)) (rewritten-pair history stmts (map stmt_of news) stmt (stmt_of new) are sub shallow)
+    go false other equal =
+        subst (AreRewritten history (stmts ++ stmt ∷ [])) (sym (ap (map stmt_of) equal ∙ mapped news new)) (rewritten-pair history stmts (map stmt_of news) stmt (stmt_of new) are sub shallow)
       where
         mapped : (xs : List Statement) (x : Statement) → map stmt_of (xs ++ x ∷ []) ≡ map stmt_of xs ++ stmt_of x ∷ []
         mapped [] x = refl
@@ -110,9 +110,11 @@ block-stays graph place block = record { at = refl; stmts = stmts-stay block.stm
     stmts-stay : (stmts : List Stmt) → AreSubstitutes (chained graph place) stmts stmts
     stmts-stay [] = ended
     stmts-stay (stmt ∷ stmts) = two same (stmts-stay stmts)
+
     all-stay : (es : List Expr) → AllZip (IsSubstitute (chained graph place [])) es es
     all-stay [] = tt
     all-stay (e ∷ es) = (itself, all-stay es)
+
     exit-stays : (exit : Exit) → IsSubstituteExit (chained graph place []) exit exit
     exit-stays (Goto to) = goto
     exit-stays (If e one other) = test itself

@@ -1,8 +1,8 @@
 //! Expressions: copies, and bounds of their depth.
 
-ghost use Rattle.std.specs.Prelude.{◌≡◌, nat_le, IfOk};
+ghost use Rattle.std.specs.Prelude.{◌≡◌, IfOk};
 ghost use Rattle.dcc_ir.specs.Views.{expr_of};
-ghost use Rattle.dcc_available.specs.Shape.{is_within, is_simple};
+ghost use Rattle.dcc_available.specs.Shape as spec;
 
 use dcc_ir::{Expr, Loc};
 use std::alloc::{AllocError, Global};
@@ -43,7 +43,7 @@ pub fn copied(alloc: Global, e: &Expr) -> Result<Expr, AllocError>
 
 /// Whether an expression is at most so deep.
 pub fn is_within(e: &Expr, depth: usize) -> bool
-    ensures { result ≡ is_within (expr_of e.now) depth }
+    ensures { result ≡ spec.is_within (expr_of e.now) depth }
 {
     if depth == 0 {
         return false;

@@ -183,10 +183,10 @@ impl Known {
             None => return Ok(None),
         };
         match self.facts.get(at) {
-            Some(fact) if fact.temporary == temporary
-                && self.holds(at, fact)
-                && is_within(&fact.value, depth) =>
-            {
+            Some(fact)
+                if fact.temporary == temporary
+                    && self.holds(at, fact)
+                    && is_within(&fact.value, depth) => {
                 Ok(Some(copied(self.alloc, &fact.value)?))
             }
             _ => Ok(None),

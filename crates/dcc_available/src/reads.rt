@@ -84,7 +84,7 @@ impl Reads {
 }
 
 /// How often a graph reads each of its temporaries.
-pub fn reads(alloc: Global, g: &Graph) -> Result<Reads, AllocError> {
+pub fn count_reads(alloc: Global, g: &Graph) -> Result<Reads, AllocError> {
     let mut reads = Reads {
         counts: vec![in alloc; 0; g.bits.len()]?,
     };

@@ -22,7 +22,10 @@ fn sets_itself(stmt: &Stmt) -> bool
     ensures { result ≡ spec.sets_itself (stmt_of stmt.now) }
 {
     match stmt {
-        Stmt::Set { place, value: Expr::Get(location) } => *place == *location,
+        Stmt::Set {
+            place,
+            value: Expr::Get(location),
+        } => *place == *location,
         _ => false,
     }
 }
@@ -42,14 +45,16 @@ impl Known {
     fn note_set(&mut self, reads: &Reads, stmt: &Stmt) -> Result<(), AllocError>
         ensures { OnOk result (IsNoted (stmt_of stmt.now) (known_of self.old) (known_of self.new)) }
     {
-        match stmt {
-            Stmt::Set { place: Loc::Temp(temporary), value }
-                if reads.is_once(*temporary) || is_simple(value) =>
-            {
-                self.note(*temporary, value)
-            }
-            _ => Ok(()),
+        let Stmt::Set { place, value } = stmt else {
+            return Ok(());
+        };
+        let Loc::Temp(temporary) = *place else {
+            return Ok(());
+        };
+        if !reads.is_once(temporary) && !is_simple(value) {
+            return Ok(());
         }
+        self.note(temporary, value)
     }
 
     // The statement with what temporaries hold in the place of reads; what is known is that before it, and then that

@@ -10,7 +10,7 @@ ghost use Rattle.dcc_flow.specs.Edges.{rows, successors_of, ArePredecessors};
 ghost use Rattle.dcc_available.specs.Rows.{AreRewrittenRows, IsNext, ArePut};
 
 use crate::known::Known;
-use crate::reads::{Reads, reads};
+use crate::reads::{Reads, count_reads};
 use dcc_flow::preds;
 use dcc_ir::{Block, End, Graph};
 use std::alloc::{AllocError, Global};
@@ -130,7 +130,7 @@ fn rewritten_blocks(alloc: Global, g: &Graph) -> Result<Vec<Option<Block>>, Allo
     ensures rewritten { IfOk result (λ blocks. AreRewrittenRows (graph_of g.now) blocks.items) }
 {
     let preds = preds(alloc, g)?;
-    let reads = reads(alloc, g)?;
+    let reads = count_reads(alloc, g)?;
     let setting = Setting {
         graph: g,
         preds: &preds,

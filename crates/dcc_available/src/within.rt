@@ -1,6 +1,6 @@
 //! Expressions, statements and ends of blocks, with what temporaries hold in the place of reads.
 
-ghost use Rattle.std.specs.Prelude.{map, IfOk};
+ghost use Rattle.std.specs.Prelude.{◌≡◌, map, IfOk};
 ghost use Rattle.dcc_ir.specs.Tree.{Get as GetOf};
 ghost use Rattle.dcc_ir.specs.Use.{exprs_of, exit_exprs};
 ghost use Rattle.dcc_ir.specs.Views.{expr_of, stmt_of, exit_of};
@@ -16,17 +16,32 @@ use std::alloc::AllocError;
 /// How deep expressions may get.
 const DEPTH_MOST: usize = 32;
 
+// A copy of a list of locations.
+fn copied_places(places: &Vec<Loc>) -> Result<Vec<Loc>, AllocError>
+    ensures { IfOk result (λ copy. copy.items ≡ places.now.items) }
+{
+    places.clone()
+}
+
+// A copy of a list of blocks.
+fn copied_blocks(blocks: &Vec<u32>) -> Result<Vec<u32>, AllocError>
+    ensures { IfOk result (λ copy. copy.items ≡ blocks.now.items) }
+{
+    blocks.clone()
+}
+
 impl Known {
     // What stands for a read, at most so deep, or the read itself.
     fn read(&self, location: Loc, depth: usize) -> Result<Expr, AllocError>
         ensures { IfOk result (λ r. IsSubstituteWithin (known_of self.now) depth (GetOf location) (expr_of r)) }
     {
-        if let Loc::Temp(temporary) = location {
-            if let Some(value) = self.value(temporary, depth)? {
-                return Ok(value);
-            }
+        let Loc::Temp(temporary) = location else {
+            return Ok(Expr::Get(location));
+        };
+        match self.value(temporary, depth)? {
+            Some(value) => Ok(value),
+            None => Ok(Expr::Get(location)),
         }
-        Ok(Expr::Get(location))
     }
 
     // The expression with what temporaries hold in the place of reads, as far as it gets no deeper than that.
@@ -102,12 +117,20 @@ impl Known {
                 place: *place,
                 value: self.within(value, DEPTH_MOST)?,
             }),
-            Stmt::Load { place, width, address } => Ok(Stmt::Load {
+            Stmt::Load {
+                place,
+                width,
+                address,
+            } => Ok(Stmt::Load {
                 place: *place,
                 width: *width,
                 address: self.within(address, DEPTH_MOST)?,
             }),
-            Stmt::Store { width, address, value } => Ok(Stmt::Store {
+            Stmt::Store {
+                width,
+                address,
+                value,
+            } => Ok(Stmt::Store {
                 width: *width,
                 address: self.within(address, DEPTH_MOST)?,
                 value: self.within(value, DEPTH_MOST)?,
@@ -116,13 +139,22 @@ impl Known {
                 place: *place,
                 division: self.within_division(division)?,
             }),
-            Stmt::Call { results, entry, arguments, depth } => Ok(Stmt::Call {
-                results: results.clone()?,
+            Stmt::Call {
+                results,
+                entry,
+                arguments,
+                depth,
+            } => Ok(Stmt::Call {
+                results: copied_places(results)?,
                 entry: *entry,
                 arguments: self.within_all(arguments.as_slice())?,
                 depth: *depth,
             }),
-            Stmt::Dos { number, place, argument } => Ok(Stmt::Dos {
+            Stmt::Dos {
+                number,
+                place,
+                argument,
+            } => Ok(Stmt::Dos {
                 number: *number,
                 place: *place,
                 argument: match argument {
@@ -148,7 +180,7 @@ impl Known {
             }),
             End::Switch { value, blocks } => Ok(End::Switch {
                 value: self.within(value, DEPTH_MOST)?,
-                blocks: blocks.clone()?,
+                blocks: copied_blocks(blocks)?,
             }),
             End::Ret(values) => Ok(End::Ret(self.within_all(values.as_slice())?)),
             End::Stop => Ok(End::Stop),
