@@ -1,20 +1,19 @@
 -- What is available along the chains of a graph is so by a right table.
-use Rattle.std.proofs.Common.{◌≡◌, ℕ, zero, suc, ◌+◌, ◌<◌, Bool, true, false, ◌&&◌, not, List, [], ◌∷◌, ◌++◌, length, Some, refl, sym, ap, ap₂, ◌∙◌, subst, append_assoc, slice_get, arith, length-append, true≢false, eqb-true, Contains}
-use Rattle.std.specs.Prelude.{◌==◌, All, ◌≢◌}
+use Rattle.std.proofs.Common.{◌≡◌, ℕ, zero, suc, Bool, true, List, [], ◌∷◌, ◌++◌, length, Some, refl, sym, ap, ap₂, ◌∙◌, subst, append_assoc, slice_get, arith, length-append, eqb-true, Contains}
+use Rattle.std.specs.Prelude.{◌==◌, All}
 use Rattle.std.specs.List.{list_all}
 use Rattle.std.proofs.lemmas.List.{append-nil}
 use Rattle.std.proofs.lemmas.List.Elements.{All-nil, All-cons, All-head, All-tail, All-append}
 use Rattle.dcc_ir.specs.declared.syntax.Loc.{Loc}
-use Rattle.dcc_ir.specs.Tree.{Expr, Get, Stmt, Set, Call, Goto, Block, Graph}
+use Rattle.dcc_ir.specs.Tree.{Expr, Get, Stmt, Block, Graph}
 use Rattle.dcc_ir.specs.Location.{location_width}
 use Rattle.dcc_ir.specs.Value.{width_of}
-use Rattle.dcc_ir.specs.Use.{reads_of, writes_of, exprs_of}
+use Rattle.dcc_ir.specs.Use.{exprs_of}
 use Rattle.dcc_ir.specs.Flow.{targets}
 use Rattle.dcc_ir.specs.WellFormed.{is_location, is_expr, is_expr_of, is_stmt, is_exit, is_block, IsGraph}
 use Rattle.dcc_ir.proofs.FitLaws.{both}
-use Rattle.dcc_substitution.specs.Substitute.{IsSubstitute}
-use Rattle.dcc_substitution.specs.Available.{Availability, is_of_locations, leaves_outside, IsAvailableAfter, made, copied, left, AreRight, IsRight}
-use Rattle.dcc_available.specs.Along.{after_all, nothing, along, edge, IsOnlyEdge, IsLead, begins, goes_on, IsAvailableAlong, chained}
+use Rattle.dcc_substitution.specs.Available.{is_of_locations, IsAvailableAfter, made, copied, left, AreRight, IsRight}
+use Rattle.dcc_available.specs.Along.{after_all, nothing, along, edge, IsLead, begins, goes_on, IsAvailableAlong, chained}
 use Rattle.dcc_available.proofs.TreeLaws.{IsFit, substitute-more, expr-formed, width-stays, takes, substitute-takes}
 
 -- Statements one after another.

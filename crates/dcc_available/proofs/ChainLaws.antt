@@ -1,18 +1,16 @@
 -- Chains of blocks, as a walk goes along them.
-use Rattle.std.proofs.Common.{◌≡◌, ◌≢◌, ℕ, zero, suc, ◌+◌, ◌<◌, ◌≤◌, Bool, true, false, ◌||◌, List, [], ◌∷◌, ◌++◌, length, map, get_or, Option, Some, refl, sym, ap, ◌∙◌, subst, append_assoc, slice_get, slice_set, arith, true≢false, eqb-true, eq-eqb, Contains}
+use Rattle.std.proofs.Common.{◌≡◌, ◌≢◌, ℕ, zero, suc, ◌<◌, ◌≤◌, Bool, true, false, ◌||◌, List, [], ◌∷◌, ◌++◌, length, map, get_or, Option, Some, refl, sym, ap, ◌∙◌, subst, append_assoc, slice_get, slice_set, arith, true≢false, eqb-true, eq-eqb, Contains}
 use Rattle.std.specs.Prelude.{◌==◌, ◌&&◌, nat_le}
 use Rattle.std.proofs.lemmas.Bool.{leb-true}
-use Rattle.std.proofs.lemmas.List.{length-map}
-use Rattle.dcc_ir.specs.declared.syntax.Loc.{Loc}
-use Rattle.dcc_ir.specs.Tree.{Expr, Stmt, Goto, Block, Graph}
+use Rattle.dcc_ir.specs.Tree.{Stmt, Goto, Block, Graph}
 use Rattle.dcc_ir.specs.Flow.{targets}
 use Rattle.dcc_ir.proofs.FitLaws.{both}
 use Rattle.dcc_ir.proofs.GraphLaws.{or_there}
 use Rattle.dcc_ir.proofs.LocationLaws.{Contains-none, Contains-cases}
 use Rattle.std.specs.Global.{Vec}
 use Rattle.dcc_flow.specs.Edges.{rows, is_in, successors_of, leads as goes_to, ArePredecessors}
-use Rattle.dcc_available.specs.Along.{along, edge, IsOnlyEdge, IsLead, begins, goes_on}
-use Rattle.dcc_available.specs.Known.{Known, is_kept, is_still, IsTold, past}
+use Rattle.dcc_available.specs.Along.{edge, IsLead, begins, goes_on}
+use Rattle.dcc_available.specs.Known.{Known, is_kept, is_still, past}
 use Rattle.dcc_available.specs.Rewritten.{IsSound}
 use Rattle.dcc_available.specs.Rewritten.{IsRewritten}
 use Rattle.dcc_available.specs.Rows.{IsNext, IsRewrittenAt, AreRewrittenRows}

@@ -1,16 +1,15 @@
 -- Blocks that are put at their places in a graph.
-use Rattle.std.proofs.Common.{◌≡◌, ◌≢◌, ◌⊎◌, inl, inr, ℕ, zero, suc, ◌+◌, ◌<◌, ◌≤◌, Bool, true, false, List, [], ◌∷◌, ◌++◌, length, map, take, drop, Option, Some, None, refl, sym, ap, ◌∙◌, subst, slice_get, slice_set, arith, true≢false, eqb-true, eq-eqb}
-use Rattle.std.specs.Prelude.{◌==◌, replicate}
-use Rattle.std.proofs.lemmas.List.{length-map, length-set}
+use Rattle.std.proofs.Common.{◌≡◌, inl, inr, ℕ, zero, suc, List, [], ◌∷◌, length, map, Option, Some, None, refl, sym, ap, ◌∙◌, subst, slice_get, slice_set}
+use Rattle.std.specs.Prelude.{replicate}
+use Rattle.std.proofs.lemmas.List.{length-map}
 use Rattle.dcc_ir.specs.declared.syntax.Block.{Block as BlockOf}
 use Rattle.dcc_ir.specs.Tree.{Block, Graph}
 use Rattle.dcc_ir.specs.Use.{block_exprs, graph_exprs}
 use Rattle.dcc_ir.specs.Views.{block_of}
-use Rattle.dcc_ir.proofs.PathLaws.{decided}
 use Rattle.dcc_substitution.specs.Substituted.{IsSubstitutedBlock, IsSubstituted}
 use Rattle.dcc_available.specs.Along.{chained}
 use Rattle.dcc_available.specs.Within.{StayShallow}
-use Rattle.dcc_available.specs.Rows.{IsRewrittenAt, AreRewrittenRows, ArePut}
+use Rattle.dcc_available.specs.Rows.{AreRewrittenRows, ArePut}
 use Rattle.dcc_available.proofs.RewrittenLaws.{block-substituted, block-stays, block-shallow, stays-shallow, blocks-shallow}
 
 -- Lists with an element set.

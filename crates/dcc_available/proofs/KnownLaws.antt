@@ -1,5 +1,5 @@
 -- What a walk knows after a statement was available before it, and the statement leaves it.
-use Rattle.std.proofs.Common.{◌≡◌, ℕ, zero, suc, ◌+◌, ◌<◌, ◌≤◌, Bool, true, false, ◌&&◌, ◌||◌, not, ◌⊎◌, inl, inr, List, [], ◌∷◌, ◌++◌, length, get_or, Some, refl, sym, ap, ap₂, ◌∙◌, subst, slice_get, slice_set, arith, true≢false, eqb-true, eq-eqb, ltb-true, flat_map, Contains}
+use Rattle.std.proofs.Common.{◌≡◌, ℕ, zero, suc, ◌<◌, ◌≤◌, Bool, true, false, ◌&&◌, ◌||◌, not, inl, inr, List, [], ◌∷◌, ◌++◌, length, get_or, Some, refl, sym, ap, ap₂, ◌∙◌, subst, slice_get, slice_set, arith, true≢false, eqb-true, eq-eqb, ltb-true, flat_map, Contains}
 use Rattle.std.specs.Prelude.{◌==◌, nat_lt, nat_le, All, if◌then◌else◌}
 use Rattle.std.specs.List.{list_any}
 use Rattle.std.proofs.lemmas.List.Elements.{All-nil, All-cons, All-append, All-contains}
@@ -15,13 +15,12 @@ use Rattle.dcc_ir.specs.Joinable.{is_load}
 use Rattle.dcc_ir.specs.Use.{parts_of, got_by, reads_of, writes_of}
 use Rattle.dcc_ir.proofs.FitLaws.{both}
 use Rattle.dcc_ir.proofs.PathLaws.{decided}
-use Rattle.dcc_ir.proofs.LocationLaws.{Contains-none, Contains-cases, Contains-here}
+use Rattle.dcc_ir.proofs.LocationLaws.{Contains-none, Contains-cases}
 use Rattle.dcc_flow.proofs.FormedExprs.{and_both}
-use Rattle.dcc_substitution.specs.Available.{loads, is_address, addresses, is_of_locations, leaves_outside, IsAvailableAfter, made, left}
-use Rattle.dcc_substitution.specs.Substitute.{IsSubstitute}
+use Rattle.dcc_substitution.specs.Available.{loads, is_address, addresses, leaves_outside, made, left}
 use Rattle.dcc_substitution.specs.Substituted.{IsSubstituteStmt}
-use Rattle.dcc_available.specs.Along.{along, edge}
-use Rattle.dcc_available.specs.Known.{Fact, Stamps, Known, is_kept, is_kept_apart, is_still, is_holding, IsTold, stamped, stops_loads, past, with_fact}
+use Rattle.dcc_available.specs.Along.{along}
+use Rattle.dcc_available.specs.Known.{Fact, Stamps, Known, is_kept, is_still, IsTold, stamped, stops_loads, past}
 use Rattle.dcc_available.specs.Rewritten.{IsSound, IsNoted, nothing, noted}
 use Rattle.dcc_available.proofs.TreeLaws.{substitute-more, set-of}
 use Rattle.dcc_available.proofs.AlongLaws.{along-one}

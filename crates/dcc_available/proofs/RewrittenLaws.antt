@@ -1,26 +1,18 @@
 -- Blocks that were rewritten are the given ones with the expressions of available assignments in the place of reads.
-use Rattle.std.proofs.Common.{◌≡◌, ◌⊎◌, inl, inr, ℕ, zero, suc, ◌+◌, ◌<◌, ◌≤◌, Bool, true, false, ◌&&◌, List, [], ◌∷◌, ◌++◌, length, map, flat_map, Some, refl, sym, ap, ap₂, ◌∙◌, subst, append_assoc, slice_get, arith, true≢false, Contains}
-use Rattle.std.specs.Prelude.{◌==◌, max, All, if◌then◌else◌}
-use Rattle.std.specs.List.{AllZip, list_all, list_any}
+use Rattle.std.proofs.Common.{◌≡◌, ℕ, suc, ◌≤◌, Bool, true, false, List, [], ◌∷◌, ◌++◌, length, map, flat_map, Some, refl, sym, ap, ◌∙◌, subst, append_assoc, slice_get, arith, true≢false}
+use Rattle.std.specs.Prelude.{max, if◌then◌else◌}
+use Rattle.std.specs.List.{AllZip}
 use Rattle.std.proofs.lemmas.List.{append-nil}
-use Rattle.std.proofs.lemmas.List.Concat.{flat_map-append}
-use Rattle.std.proofs.lemmas.List.Folds.{list_all-append}
-use Rattle.std.proofs.lemmas.List.Elements.{All-nil, All-cons}
 use Rattle.dcc_ir.specs.declared.syntax.Loc.{Loc}
 use Rattle.dcc_ir.specs.declared.syntax.Stmt.{Stmt as Statement}
 use Rattle.dcc_ir.specs.Tree.{Expr, Const, Get, Load, Unary, Binary, Widen, Part, Join, Choose, Address, Stmt, Set, Fetch, Store, Div, Call, Dos, Exit, Goto, If, Switch, Ret, Stop, Block, Graph}
-use Rattle.dcc_ir.specs.Location.{same_location}
-use Rattle.dcc_ir.specs.Measure.{depth_of, deepest}
-use Rattle.dcc_ir.specs.Run.{is_call}
-use Rattle.dcc_ir.specs.Use.{exprs_of, exit_exprs, block_exprs, addresses_of}
+use Rattle.dcc_ir.specs.Measure.{deepest}
+use Rattle.dcc_ir.specs.Use.{exprs_of, exit_exprs, block_exprs}
 use Rattle.dcc_ir.specs.Views.{stmt_of}
-use Rattle.dcc_ir.specs.WellFormed.{is_stmt, is_exit, is_block, is_jump, jumps_after_call}
-use Rattle.dcc_ir.proofs.FitLaws.{both}
 use Rattle.dcc_ir.proofs.LocationLaws.{location_same}
-use Rattle.dcc_flow.proofs.FormedExprs.{and_both}
 use Rattle.dcc_substitution.specs.Substitute.{IsSubstitute, itself}
-use Rattle.dcc_substitution.specs.Substituted.{IsSubstituteStmt, set, fetch, store, div, call, dos, same, IsSubstituteExit, goto, test, switch, ret, stop, AreSubstitutes, done as ended, both as two, gone as left_out, IsSubstitutedBlock}
-use Rattle.dcc_available.specs.Along.{along, IsLead, IsAvailableAlong, chained}
+use Rattle.dcc_substitution.specs.Substituted.{IsSubstituteStmt, same, IsSubstituteExit, goto, test, switch, ret, stop, AreSubstitutes, done as ended, both as two, gone as left_out, IsSubstitutedBlock}
+use Rattle.dcc_available.specs.Along.{along, IsLead, chained}
 use Rattle.dcc_available.specs.Within.{StayShallow}
 use Rattle.dcc_available.specs.Rewritten.{AreRewritten, done, both as pair, gone, IsRewritten, sets_itself, IsPut}
 use Rattle.dcc_available.proofs.TreeLaws.{substitute-more, stmt-more, exit-more, set-of}

@@ -1,25 +1,21 @@
 -- A graph with the expressions of available assignments in the place of reads is well formed, and is plainer.
-use Rattle.std.proofs.Common.{◌≡◌, ℕ, zero, suc, ◌+◌, ◌<◌, Bool, true, false, ◌&&◌, ◌||◌, not, List, [], ◌∷◌, ◌++◌, length, map, flat_map, Some, refl, sym, ap, ap₂, ◌∙◌, subst, slice_get, arith, true≢false, Contains}
-use Rattle.std.specs.Prelude.{◌==◌, All, if◌then◌else◌}
+use Rattle.std.proofs.Common.{◌≡◌, ℕ, zero, suc, ◌<◌, Bool, true, ◌&&◌, ◌||◌, not, List, [], ◌∷◌, ◌++◌, length, map, flat_map, Some, refl, sym, ap, ap₂, ◌∙◌, subst, slice_get}
+use Rattle.std.specs.Prelude.{All, if◌then◌else◌}
 use Rattle.std.specs.List.{list_all, list_any}
 use Rattle.std.proofs.lemmas.List.Folds.{list_all-append}
 use Rattle.std.proofs.lemmas.List.Elements.{All-nil, All-cons, All-head, All-tail}
 use Rattle.dcc_ir.specs.declared.syntax.Loc.{Loc}
-use Rattle.dcc_ir.specs.Tree.{Expr, Get, Stmt, Set, Fetch, Store, Div, Call, Dos, Exit, Block, Graph}
-use Rattle.dcc_ir.specs.Location.{location_width}
-use Rattle.dcc_ir.specs.Value.{width_of}
+use Rattle.dcc_ir.specs.Tree.{Expr, Stmt, Set, Exit, Block, Graph}
 use Rattle.dcc_ir.specs.Run.{is_call}
-use Rattle.dcc_ir.specs.Use.{exprs_of, exit_exprs, block_exprs, graph_exprs, addresses_of}
-use Rattle.dcc_ir.specs.Flow.{targets}
+use Rattle.dcc_ir.specs.Use.{exprs_of, exit_exprs, block_exprs}
 use Rattle.dcc_ir.specs.WellFormed.{is_stmt, is_width, is_exit, is_block, is_jump, jumps_after_call, all_differ, is_put, IsGraph}
 use Rattle.dcc_ir.proofs.FitLaws.{both}
 use Rattle.dcc_flow.proofs.FormedExprs.{and_both}
 use Rattle.dcc_passes.specs.Tidied.{takes_addresses, takes_apart, IsTidied}
-use Rattle.dcc_substitution.specs.Available.{Availability, IsRight}
-use Rattle.dcc_substitution.specs.Substituted.{IsSubstituteStmt, set, fetch, store, div, call, dos, same, IsSubstituteExit, AreSubstitutes, done, both as two, gone, IsSubstitutedBlock, IsSubstituted}
+use Rattle.dcc_substitution.specs.Substituted.{IsSubstituteStmt, set, fetch, store, div, call, dos, same, AreSubstitutes, done, both as two, gone, IsSubstituted}
 use Rattle.dcc_substitution.proofs.SubstituteLaws.{jumps-substitute}
 use Rattle.dcc_substitution.proofs.SubstitutedLaws.{substituted-kind, substituted-stands}
-use Rattle.dcc_available.specs.Along.{edge, IsAvailableAlong, chained}
+use Rattle.dcc_available.specs.Along.{IsAvailableAlong, chained}
 use Rattle.dcc_available.proofs.TreeLaws.{IsFit, stmt-formed, exit-formed, takes, stmt-takes, exit-takes}
 use Rattle.dcc_available.proofs.AlongLaws.{TakesTested, along-takes, all-led, chained-fits, chained-right}
 

@@ -1,14 +1,14 @@
 -- Substitutes of well-formed expressions are well formed, and take no other addresses.
-use Rattle.std.proofs.Common.{◌≡◌, ℕ, ◌+◌, Bool, true, false, ◌&&◌, ◌||◌, not, List, [], ◌∷◌, ◌++◌, length, map, flat_map, Some, None, refl, sym, ap, ap₂, ◌∙◌, subst, true≢false}
+use Rattle.std.proofs.Common.{◌≡◌, ℕ, ◌+◌, Bool, true, false, ◌&&◌, ◌||◌, not, List, [], ◌∷◌, ◌++◌, length, flat_map, Some, None, refl, sym, ap, ap₂, ◌∙◌, subst, true≢false}
 use Rattle.std.specs.Prelude.{◌==◌, nat_lt, nat_le}
 use Rattle.std.specs.List.{list_all, AllZip}
 use Rattle.dcc_ir.specs.declared.syntax.Loc.{Loc}
 use Rattle.dcc_ir.specs.declared.syntax.BinOp.{BinOp}
-use Rattle.dcc_ir.specs.Tree.{Expr, Const, Get, Load, Unary, Binary, Widen, Part, Join, Choose, Address, Stmt, Set, Fetch, Store, Div, Call, Dos, Exit, Goto, If, Switch, Ret, Stop}
+use Rattle.dcc_ir.specs.Tree.{Expr, Binary, Stmt, Set, Exit}
 use Rattle.dcc_ir.specs.Location.{location_width}
 use Rattle.dcc_ir.specs.Value.{width_of}
 use Rattle.dcc_ir.specs.Use.{parts_of, addressed_by, addresses_of, exprs_of, exit_exprs}
-use Rattle.dcc_ir.specs.WellFormed.{is_width, is_stored_width, is_location, is_division, divides_safely, is_expr, is_expr_of, is_dividing, is_stmt, is_exit}
+use Rattle.dcc_ir.specs.WellFormed.{is_stored_width, is_location, is_division, divides_safely, is_expr, is_expr_of, is_dividing, is_stmt, is_exit}
 use Rattle.dcc_ir.proofs.FitLaws.{both}
 use Rattle.dcc_flow.proofs.FormedExprs.{and_both, binary_formed, make_binary, unary_formed, make_unary, join_formed, make_join, choose_formed, make_choose, load_formed, make_load, within_formed, make_within}
 use Rattle.dcc_substitution.specs.Substitute.{IsSubstitute, itself, read, load, unary, binary, widen, part, join, choose}

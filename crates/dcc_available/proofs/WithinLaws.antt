@@ -1,5 +1,5 @@
 -- Substitutes that get no deeper than a bound.
-use Rattle.std.proofs.Common.{◌≡◌, ℕ, zero, suc, ◌+◌, ◌-◌, ◌<◌, ◌≤◌, Bool, true, false, ◌&&◌, not, List, [], ◌∷◌, ◌++◌, length, map, take, Some, refl, sym, ap, ◌∙◌, subst, slice_get, arith, get_or, true≢false}
+use Rattle.std.proofs.Common.{◌≡◌, ℕ, zero, suc, ◌-◌, ◌≤◌, Bool, true, false, ◌&&◌, not, List, [], ◌∷◌, ◌++◌, Some, refl, sym, ap, ◌∙◌, subst, arith, true≢false}
 use Rattle.std.specs.Prelude.{max, ◌==◌}
 use Rattle.std.specs.List.{AllZip}
 use Rattle.std.specs.Prelude.{Result, IfOk, Option, None, option_map}
@@ -7,15 +7,13 @@ use Rattle.std.proofs.lemmas.Result.{IfOk-weaker}
 use Rattle.dcc_ir.specs.declared.syntax.Expr.{Expr as ExprOf}
 use Rattle.dcc_ir.specs.Views.{expr_of}
 use Rattle.dcc_ir.specs.declared.syntax.Loc.{Loc}
-use Rattle.dcc_ir.specs.declared.syntax.Loc.TheVariants.{Temp}
 use Rattle.dcc_ir.specs.declared.syntax.UnOp.{UnOp}
 use Rattle.dcc_ir.specs.declared.syntax.BinOp.{BinOp}
-use Rattle.dcc_ir.specs.Tree.{Expr, Const, Get, Load, Unary, Binary, Widen, Part, Join, Choose, Address, Stmt, Set, Fetch, Store, Div, Call, Dos, Exit, Goto, If, Switch, Ret, Stop}
+use Rattle.dcc_ir.specs.Tree.{Expr, Const, Get, Load, Unary, Binary, Widen, Part, Join, Choose, Address, Stmt, Dos}
 use Rattle.dcc_ir.specs.Measure.{depth_of, deepest}
-use Rattle.dcc_ir.specs.Use.{exprs_of, exit_exprs}
 use Rattle.dcc_ir.proofs.FitLaws.{both}
 use Rattle.dcc_substitution.specs.Substitute.{IsSubstitute, itself, read, load, unary, binary, widen, part, join, choose}
-use Rattle.dcc_substitution.specs.Substituted.{IsSubstituteStmt, set, fetch, store, div, call, dos, same, IsSubstituteExit, goto, test, switch, ret, stop}
+use Rattle.dcc_substitution.specs.Substituted.{IsSubstituteStmt, div, dos, same}
 use Rattle.dcc_available.specs.Shape.{is_within}
 use Rattle.dcc_available.specs.Known.{Known, IsTold}
 use Rattle.dcc_available.specs.Within.{StayShallow, IsSubstituteWithin, AreSubstitutesWithin, IsDividedAlike}

@@ -1,4 +1,4 @@
-use Rattle.std.proofs.Common.{◌≡◌, ◌+◌, ◌<◌, [], ◌∷◌, ◌++◌, length, map, take, sym, ap, ◌∙◌, subst, arith}
+use Rattle.std.proofs.Common.{◌≡◌, ◌+◌, ◌<◌, [], ◌∷◌, ◌++◌, length, map, take, sym, ap, ◌∙◌, subst}
 use Rattle.dcc_ir.specs.Views.{expr_of}
 use Rattle.dcc_available.specs.Known.{known_of}
 use Rattle.dcc_available.specs.Within.{AreSubstitutesWithin}

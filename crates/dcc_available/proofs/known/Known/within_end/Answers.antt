@@ -1,6 +1,6 @@
-use Rattle.std.proofs.Common.{◌≡◌, sym, ap, ap₂, ◌∙◌, subst, map}
+use Rattle.std.proofs.Common.{◌≡◌, sym, ap, subst, map}
 use Rattle.std.specs.List.{AllZip}
-use Rattle.dcc_ir.specs.Tree.{Exit, Goto, If, Switch, Ret, Stop}
+use Rattle.dcc_ir.specs.Tree.{Goto, If, Switch, Ret, Stop}
 use Rattle.dcc_ir.specs.Views.{expr_of, exit_of}
 use Rattle.dcc_substitution.specs.Substitute.{IsSubstitute}
 use Rattle.dcc_substitution.specs.Substituted.{IsSubstituteExit, goto, test, switch, ret, stop}

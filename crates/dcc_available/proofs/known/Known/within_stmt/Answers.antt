@@ -1,9 +1,9 @@
-use Rattle.std.proofs.Common.{◌≡◌, sym, ap, ap₂, ◌∙◌, subst, map}
+use Rattle.std.proofs.Common.{◌≡◌, sym, ap, subst, map}
 use Rattle.std.specs.List.{AllZip}
-use Rattle.dcc_ir.specs.Tree.{Stmt, Set, Fetch, Store, Call}
+use Rattle.dcc_ir.specs.Tree.{Set, Fetch, Store, Call}
 use Rattle.dcc_ir.specs.Views.{expr_of, stmt_of}
 use Rattle.dcc_substitution.specs.Substitute.{IsSubstitute}
-use Rattle.dcc_substitution.specs.Substituted.{IsSubstituteStmt, set, fetch, store, call, dos, same}
+use Rattle.dcc_substitution.specs.Substituted.{IsSubstituteStmt, set, fetch, store, call}
 use Rattle.dcc_available.specs.Known.{known_of, IsTold}
 use Rattle.dcc_available.proofs.WithinLaws.{dos_some, dos_none}
 use Rattle.dcc_available.proofs.known.Known.within_stmt.Goals as goal
