@@ -19,6 +19,7 @@ ghost use Rattle.dcc_pipe.specs.TypedFrames.{AreTypedFrames, HasTypedFrames};
 use crate::analysis::analyse;
 use crate::no_text::NoText;
 use crate::preparation::prepared;
+use crate::tidying::tidied;
 use crate::unit::unit_of;
 use dcc_c::Unit;
 use dcc_instruction_demand::lifted_relations_are_the_machines;
@@ -49,7 +50,8 @@ fn text_of(alloc: Global, image: &Image, program: &Program) -> Result<Unit, Sums
     faults_are_constructs();
     summed_programs_have_none();
     let prepared = prepared(alloc, lifted)?;
-    let unit = unit_of(alloc, &prepared)?;
+    let tidied = tidied(alloc, prepared)?;
+    let unit = unit_of(alloc, &tidied)?;
     Ok(number(alloc, unit)?)
 }
 

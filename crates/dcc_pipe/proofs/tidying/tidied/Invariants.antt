@@ -1,0 +1,12 @@
+use Rattle.std.proofs.Common.{map}
+use Rattle.std.specs.Prelude.{All}
+use Rattle.std.specs.List.{AllZip}
+use Rattle.dcc_ir.specs.Views.{graph_of}
+use Rattle.dcc_ir.specs.WellFormed.{IsGraph}
+use Rattle.dcc_pipe.specs.Tidied.{IsTidiedGraph}
+use Rattle.dcc_pipe.proofs.tidying.tidied.Given as goal
+
+abbrev pub invariant-loop-graph : goal.invariant-loop-graph
+invariant-loop-graph l =
+    AllZip IsTidiedGraph (map graph_of l.yielded) (map graph_of l.graphs.items)
+    × All IsGraph (map graph_of l.graph-iterator.rest.items)
