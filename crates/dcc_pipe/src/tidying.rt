@@ -29,7 +29,8 @@ fn passed(alloc: Global, graph: Graph) -> Result<Graph, AllocError>
 {
     let split = split(alloc, graph)?;
     let sets = loads_as_sets(alloc, split)?;
-    without_dead(alloc, sets)
+    let after = without_dead(alloc, sets)?;
+    Ok(after)
 }
 
 // The graph after the passes; as it is, where its text has an array of one byte for SP's address.
@@ -40,7 +41,8 @@ fn tidied_graph(alloc: Global, graph: Graph) -> Result<Graph, AllocError>
     if has_lone_byte(alloc, &graph)? {
         return Ok(graph);
     }
-    passed(alloc, graph)
+    let after = passed(alloc, graph)?;
+    Ok(after)
 }
 
 /// The program with what the passes leave of each graph in its place.

@@ -5,8 +5,8 @@ use Rattle.std.proofs.lemmas.List.{map-append}
 use Rattle.std.proofs.lemmas.List.Elements.{All-head, All-tail, AllZip-push}
 use Rattle.dcc_ir.specs.Views.{graph_of}
 use Rattle.dcc_ir.specs.WellFormed.{IsGraph}
-use Rattle.dcc_pipe.specs.Tidied.{IsTidiedGraph}
-use Rattle.dcc_pipe.proofs.tidying.tidied.Goals as goal
+use Rattle.dcc_tidy.specs.Tidied.{IsTidiedGraph}
+use Rattle.dcc_tidy.proofs.tidying.tidied_graphs.Goals as goal
 
 -- one more of each list
 pushed : {A B : Type 0} (f : A → B) (R : B → B → Type 0) (xs ys : List A) (x y : A) (more : List A)
@@ -25,7 +25,7 @@ tidied_graph-requires c =
 pub loop-graph-preserved : goal.loop-graph-preserved
 loop-graph-preserved c =
     let done = c.loop-graph.yielded in
-    let left = c.loop-graph.graphs.items in
+    let left = c.loop-graph.after.items in
     let graph = c.in-Some.graph in (
       pushed graph_of IsTidiedGraph done left graph c.in_ok-tidied_graph.field-0 c.push.new.self.items
           c.in_ok-push.ensures.items c.loop-graph.invariant.0 c.in_ok-tidied_graph.ensures,

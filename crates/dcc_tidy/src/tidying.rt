@@ -1,0 +1,76 @@
+//! Each graph after the passes that make it plainer.
+
+ghost use Rattle.std.specs.Prelude.{◌≡◌, IfOk, All, map};
+ghost use Rattle.std.specs.List.{AllZip};
+ghost use Rattle.dcc_ir.specs.Views.{graph_of};
+ghost use Rattle.dcc_ir.specs.WellFormed.{IsGraph};
+ghost use Rattle.dcc_live.specs.Dead.{IsWithoutUnneeded};
+ghost use Rattle.dcc_tidy.specs.Tidied as spec;
+ghost use Rattle.dcc_tidy.specs.Tidied.{MayStandInText, HasPassesDone, IsTidiedGraph};
+
+use dcc_ir::{Graph, Sums};
+use dcc_live::{drop_dead, live};
+use dcc_loads::loads_as_sets;
+use dcc_variables::Head;
+use dcc_webs::split;
+use std::alloc::{AllocError, Global};
+
+// Whether the graph's text has an array of one byte for SP's address.
+fn has_lone_byte(alloc: Global, graph: &Graph) -> Result<bool, AllocError>
+    ensures { IfOk result (λ has. has ≡ spec.has_lone_byte (graph_of graph.now)) }
+{
+    let head = Head::of(alloc, graph)?;
+    Ok(graph.local == 0 && head.variables.frame != 0)
+}
+
+// The graph without the assignments that nothing wants.
+fn without_dead(alloc: Global, graph: Graph) -> Result<Graph, AllocError>
+    requires { IsGraph (graph_of graph) }
+    ensures formed { IfOk result (λ after. IsGraph (graph_of after)) }
+    ensures without { IfOk result (λ after. IsWithoutUnneeded (graph_of graph) (graph_of after)) }
+{
+    let no_sums = Sums {
+        of: Vec::new(alloc),
+    };
+    let live = live(alloc, &graph, &no_sums)?;
+    drop_dead(alloc, graph, &live)
+}
+
+// What the passes leave of a graph, in their order.
+fn passed(alloc: Global, graph: Graph) -> Result<Graph, AllocError>
+    requires { IsGraph (graph_of graph) }
+    ensures stands { IfOk result (λ after. MayStandInText (graph_of graph) (graph_of after)) }
+    ensures done { IfOk result (λ after. HasPassesDone (graph_of graph) (graph_of after)) }
+{
+    let split = split(alloc, graph)?;
+    let sets = loads_as_sets(alloc, split)?;
+    let after = without_dead(alloc, sets)?;
+    Ok(after)
+}
+
+// The graph after the passes; as it is, where its text has an array of one byte for SP's address.
+fn tidied_graph(alloc: Global, graph: Graph) -> Result<Graph, AllocError>
+    requires { IsGraph (graph_of graph) }
+    ensures { IfOk result (λ after. IsTidiedGraph (graph_of graph) (graph_of after)) }
+{
+    if has_lone_byte(alloc, &graph)? {
+        return Ok(graph);
+    }
+    let after = passed(alloc, graph)?;
+    Ok(after)
+}
+
+/// What the passes leave of each graph, in its place: each web has a temporary of its own, loads are parts of
+/// assignments, and nothing is assigned that isn't wanted. A graph whose text has an array of one byte for SP's address
+/// stays as it is. That there are more temporaries than 32 bits can number is told as want of memory.
+pub fn tidied_graphs(alloc: Global, graphs: Vec<Graph>) -> Result<Vec<Graph>, AllocError>
+    requires { All IsGraph (map graph_of graphs.items) }
+    ensures { IfOk result
+        (λ after. AllZip IsTidiedGraph (map graph_of graphs.items) (map graph_of after.items)) }
+{
+    let mut after = Vec::new(alloc);
+    for graph in graphs {
+        after.push(tidied_graph(alloc, graph)?)?;
+    }
+    Ok(after)
+}
