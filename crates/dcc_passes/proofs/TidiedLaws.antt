@@ -27,15 +27,15 @@ module _ (bits bits' bits'' : List ℕ) where
     calls = second.calls ∙ first.calls;
   }
 
-  blocks-trans : (xs ys zs : List Block) → AllZip (BlockStaysInKind bits bits') xs ys
-      → AllZip (BlockStaysInKind bits' bits'') ys zs → AllZip (BlockStaysInKind bits bits'') xs zs
+  blocks-trans : (ds bs cs : List Block) → AllZip (BlockStaysInKind bits bits') ds bs
+      → AllZip (BlockStaysInKind bits' bits'') bs cs → AllZip (BlockStaysInKind bits bits'') ds cs
   blocks-trans [] [] [] first second = tt
-  blocks-trans [] [] (z ∷ zs) first second = absurd second
-  blocks-trans [] (y ∷ ys) zs first second = absurd first
-  blocks-trans (x ∷ xs) [] zs first second = absurd first
-  blocks-trans (x ∷ xs) (y ∷ ys) [] first second = absurd second
-  blocks-trans (x ∷ xs) (y ∷ ys) (z ∷ zs) first second =
-      (block-trans x y z first.0 second.0, blocks-trans xs ys zs first.1 second.1)
+  blocks-trans [] [] (c ∷ cs) first second = absurd second
+  blocks-trans [] (b ∷ bs) cs first second = absurd first
+  blocks-trans (a ∷ ds) [] cs first second = absurd first
+  blocks-trans (a ∷ ds) (b ∷ bs) [] first second = absurd second
+  blocks-trans (a ∷ ds) (b ∷ bs) (c ∷ cs) first second =
+      (block-trans a b c first.0 second.0, blocks-trans ds bs cs first.1 second.1)
 
 pub kinds-trans : (g h k : Graph) → StaysInKind g h → StaysInKind h k → StaysInKind g k
 kinds-trans g h k first second = record {
