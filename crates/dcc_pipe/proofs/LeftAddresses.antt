@@ -499,7 +499,7 @@ module _ (test : ℕ → Bool) where
 -- No address is told from no parameter, where all pass that test.
 
 module _ (told : Option ℕ) where
-  abbrev pub FromParameter : Expr → Type 0
+  abbrev FromParameter : Expr → Type 0
   FromParameter = Addressed (is_told_from told)
 
   none-untold : (es : List Expr) → list_all (is_told_from told) (flat_map addressed_by es) ≡ true
@@ -531,7 +531,7 @@ module _ (told : Option ℕ) where
       (exprs-untold (exprs_of stmt) (left_part FromParameter (exprs_of stmt) (flat_map exprs_of stmts) all))
       (stmts-untold stmts (right_part FromParameter (exprs_of stmt) (flat_map exprs_of stmts) all))
 
-  pub blocks-untold : (blocks : List Block) → All FromParameter (flat_map block_exprs blocks)
+  blocks-untold : (blocks : List Block) → All FromParameter (flat_map block_exprs blocks)
       → list_any (block_has_address told) blocks ≡ false
   blocks-untold [] all = refl
   blocks-untold (b ∷ blocks) all =

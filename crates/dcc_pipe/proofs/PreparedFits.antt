@@ -17,12 +17,14 @@ use Rattle.dcc_sums.specs.Localised.{summary_at}
 use Rattle.dcc_variables.specs.FunctionLaws.{HasFewNames}
 use Rattle.dcc_pipe.specs.Prepared.{has_ret, returns, IsPrepared}
 use Rattle.dcc_pipe.specs.Simplified.{HasEachChanged, IsSimplified}
-use Rattle.dcc_pipe.specs.Textable.{levels, text_levels}
-use Rattle.dcc_pipe.specs.Tidied.{IsTidiedGraph}
+use Rattle.dcc_tidy.specs.Tidied.{text_levels}
+use Rattle.dcc_pipe.specs.Textable.{levels}
+use Rattle.dcc_tidy.specs.Tidied.{IsTidiedGraph}
 use Rattle.dcc_pipe.specs.WholeText.{TakesFew, FitsText}
 use Rattle.dcc_pipe.proofs.SimplifiedLaws.{simplified-trans}
 use Rattle.dcc_pipe.proofs.TidiedFits.{tidied-fits}
-use Rattle.dcc_pipe.proofs.TidiedLaws.{each-tidied, program-tidied}
+use Rattle.dcc_pipe.proofs.TidiedLaws.{program-tidied}
+use Rattle.dcc_tidy.proofs.GraphLaws.{graphs-tidied}
 use Rattle.dcc_pipe.proofs.PassingLaws.{Takes, GivesFew, all-few}
 
 one-at_most : {A : Type 0} (width : A → ℕ) (xs : List A) → AtMostOne width xs → length xs ≤ 1
@@ -104,5 +106,5 @@ module _ (p q : Program) (is : IsPrepared p q) where
 
     pub prepared-fits : All HasFewNames r.graphs → FitsText r
     prepared-fits few =
-        tidied-fits q r (each-tidied q.graphs r.graphs is.simplified.textable.formed.graphs tidy.graphs)
+        tidied-fits q r (graphs-tidied q.graphs r.graphs is.simplified.textable.formed.graphs tidy.graphs)
         left-simplified.textable prepared-gives prepared-takes is.apart few

@@ -131,7 +131,7 @@ module _ (family : Family) where
       passes_zipped (IsBlockWithout family) (λ b. list_all P b.stmts) (λ b. list_all P b.stmts)
       (λ b c is. left-all P is.stmts) bs cs left all
 
-  pub exprs-stay : (Q : inner.Expr → Type 0) (bs cs : List inner.Block) → AllZip (IsBlockWithout family) bs cs
+  exprs-stay : (Q : inner.Expr → Type 0) (bs cs : List inner.Block) → AllZip (IsBlockWithout family) bs cs
       → All Q (flat_map block_exprs bs) → All Q (flat_map block_exprs cs)
   exprs-stay Q [] [] all holds = holds
   exprs-stay Q [] (c ∷ cs) all holds = absurd all
@@ -163,7 +163,7 @@ dead-blocks g h is =
     record { entry = left.entry; addresses = addresses-stay (needed g) g.blocks h.blocks left.blocks }
 
 -- a graph without assignments that nothing wants may stand in its place
-pub dead-stands : (g h : inner.Graph) → IsWithoutUnneeded g h → StandsFor g h
+dead-stands : (g h : inner.Graph) → IsWithoutUnneeded g h → StandsFor g h
 dead-stands g h is =
     blocks-stand g h (dead-blocks g h is)
     (λ p formed there. kept_with p (needed g) g h formed there (needed-closed g) is.without)

@@ -45,7 +45,7 @@ use Rattle.dcc_pipe.specs.Control.{Control, keeps_step, IsControlOf, AreControls
 use Rattle.dcc_pipe.specs.Following.{KeepsPaceWith}
 use Rattle.dcc_pipe.specs.Prepared.{IsPrepared}
 use Rattle.dcc_pipe.specs.Simplified.{IsSimplifiedGraph, HasEachChanged}
-use Rattle.dcc_pipe.specs.Tidied.{IsTidiedGraph}
+use Rattle.dcc_tidy.specs.Tidied.{IsTidiedGraph}
 use Rattle.dcc_pipe.proofs.CallBlocks.{first-at, call-has}
 use Rattle.dcc_pipe.proofs.HeldPaths.{closed-before}
 use Rattle.dcc_pipe.proofs.PassingLaws.{simplified-entry}
@@ -56,7 +56,8 @@ use Rattle.dcc_pipe.proofs.ReplacedLaws.{alike-at}
 use Rattle.dcc_pipe.proofs.ReturnLaws.{end_of, ends, trimmed-ends, packed-ends, simplified-ends}
 use Rattle.dcc_pipe.proofs.SimplifiedLaws.{all-both}
 use Rattle.dcc_pipe.proofs.StepPlaces.{step-there}
-use Rattle.dcc_pipe.proofs.TidiedLaws.{each-tidied, kind-ends}
+use Rattle.dcc_pipe.proofs.TidiedLaws.{kind-ends}
+use Rattle.dcc_tidy.proofs.GraphLaws.{graphs-tidied}
 
 -- Blocks with a step.
 
@@ -106,7 +107,7 @@ prepared-ends p q is entry =
 tidied-keeps : (p q r : Program) → IsPrepared p q → HasEachChanged IsTidiedGraph q r → KeepsReturns p r
 tidied-keeps p q r is tidy =
     let simplified = left-simplified p q is r tidy in
-    let each = each-tidied q.graphs r.graphs is.simplified.textable.formed.graphs tidy.graphs in record {
+    let each = graphs-tidied q.graphs r.graphs is.simplified.textable.formed.graphs tidy.graphs in record {
       formed = simplified.textable.formed.graphs;
       keeps = simplified.keeps;
       returning = λ entry.

@@ -5,7 +5,8 @@ use Rattle.dcc_prog.specs.declared.frame.Program.{Program}
 use Rattle.dcc_ir.specs.Tree as inner
 use Rattle.dcc_simulation.specs.Nodes.{procedures_in}
 use Rattle.dcc_lift.specs.Lifted.{IsLifted}
-use Rattle.dcc_pipe.specs.Textable.{lifted_levels, text_levels, IsTextable}
+use Rattle.dcc_tidy.specs.Tidied.{text_levels}
+use Rattle.dcc_pipe.specs.Textable.{lifted_levels, IsTextable}
 use Rattle.dcc_pipe.specs.Prepared.{HasLiftedForm, LiftedHasTheForm}
 use Rattle.dcc_pipe.specs.Simplified.{IsSimplified}
 use Rattle.dcc_ir.specs.Passing.{PassesAll}

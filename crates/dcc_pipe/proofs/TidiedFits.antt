@@ -23,8 +23,10 @@ use Rattle.dcc_passes.specs.Tidied.{are_different, takes_apart, IsTidied}
 use Rattle.dcc_plan.specs.Calls.{places, all_places, locations_differ}
 use Rattle.dcc_plan.specs.Programs as plan
 use Rattle.dcc_variables.specs.FunctionLaws.{HasFewNames}
-use Rattle.dcc_pipe.specs.Textable.{text_levels, TakesApart, IsTextable}
+use Rattle.dcc_tidy.specs.Tidied.{text_levels}
+use Rattle.dcc_pipe.specs.Textable.{TakesApart, IsTextable}
 use Rattle.dcc_pipe.specs.WholeText.{TakesFew, FitsText}
+use Rattle.dcc_tidy.proofs.KindLaws.{kind-widths, found-before, without-first}
 
 -- What returns give.
 
@@ -55,48 +57,6 @@ gives-stay g h is =
     is.blocks
 
 -- What calls take.
-
--- the graph of that entry in the one list is at the place of that in the other
-record IsFoundBefore (R : Graph → Graph → Type 0) (gs : List Graph) (entry : ℕ) (h : Graph) : Type 0 where
-  graph : Graph
-  found : graph_at gs entry ≡ Some graph
-  related : R graph h
-
-module _ (R : Graph → Graph → Type 0) (entries : (g h : Graph) → R g h → h.entry ≡ g.entry) (entry : ℕ) where
-  found-before : (gs hs : List Graph) → AllZip R gs hs → (h : Graph) → graph_at hs entry ≡ Some h
-      → IsFoundBefore R gs entry h
-  found-before [] [] all h found = absurd (cc)
-  found-before [] (x ∷ hs) all h found = absurd all
-  found-before (g ∷ gs) [] all h found = absurd all
-  found-before (g ∷ gs) (x ∷ hs) all h found =
-      by (g.entry == entry) refl (found-before gs hs all.1 h)
-      (ap (λ n. if n == entry then Some x else graph_at hs entry) (sym (entries g x all.0)) ∙ found)
-    where
-      by : (b : Bool) → (g.entry == entry) ≡ b → (graph_at hs entry ≡ Some h → IsFoundBefore R gs entry h)
-          → (if b then Some x else graph_at hs entry) ≡ Some h → IsFoundBefore R (g ∷ gs) entry h
-      by true is later here =
-          let same : x ≡ h = cc in record {
-            graph = g;
-            found = ap (λ c. if c then Some g else graph_at gs entry) is;
-            related = subst (R g) same all.0;
-          }
-      by false is later there =
-          let it = later there in record {
-            graph = it.graph;
-            found = ap (λ c. if c then Some g else graph_at gs entry) is ∙ it.found;
-            related = it.related;
-          }
-
-without-first : (R : Graph → Graph → Type 0) (xs ys : List Graph) → AllZip R xs ys → AllZip R (drop 1 xs) (drop 1 ys)
-without-first R [] [] all = tt
-without-first R [] (y ∷ ys) all = absurd all
-without-first R (x ∷ xs) [] all = absurd all
-without-first R (x ∷ xs) (y ∷ ys) all = all.1
-
-widths-stay : (g h : Graph) → StaysInKind g h → all_ret_widths h ≡ all_ret_widths g
-widths-stay g h is =
-    flat_zipped (BlockStaysInKind g.bits h.bits) (λ b. ret_widths g.bits b.exit) (λ b. ret_widths h.bits b.exit)
-    (λ b c pair. pair.given) g.blocks h.blocks is.blocks
 
 -- a call takes one value at most, of a graph that gives some
 abbrev FewOf : Program → CallKind → Type 0
@@ -166,7 +126,7 @@ module _ (p q : Program) (tidy : AllZip IsTidied p.graphs q.graphs) where
       let before =
       found-before IsTidied (λ g h is. is.kind.entry) kind.entry (drop 1 p.graphs) (drop 1 q.graphs)
       (without-first IsTidied p.graphs q.graphs tidy) callee named in
-      subst (λ widths. 0 < length widths) (sym (widths-stay before.graph callee before.related.kind))
+      subst (λ widths. 0 < length widths) (sym (kind-widths before.graph callee before.related.kind))
       (few.1 before.graph before.found some))
 
   abbrev Takes : Program → Block → Type 0

@@ -28,7 +28,7 @@ use Rattle.dcc_variables.specs.Functions.{function_name, function_names, paramet
 use Rattle.dcc_variables.specs.Variables.{Shape, is_told_from, takes_address, variable, frame_name, frame_array}
 use Rattle.dcc_pipe.specs.Prepared.{IsPrepared}
 use Rattle.dcc_pipe.specs.Simplified.{HasEachChanged}
-use Rattle.dcc_pipe.specs.Tidied.{IsTidiedGraph}
+use Rattle.dcc_tidy.specs.Tidied.{IsTidiedGraph}
 use Rattle.dcc_control.specs.Plan.{Plan}
 use Rattle.dcc_pipe.specs.Control.{Control}
 use Rattle.dcc_pipe.specs.WholeText.{whole_text}

@@ -40,7 +40,7 @@ use Rattle.dcc_plan.proofs.AllowedCalls.{function-word, calls-allowed, openings-
 use Rattle.dcc_plan.proofs.AllowedPlans.{texts-allowed}
 use Rattle.dcc_plan.proofs.SpelledGraphs.{spelled-graph}
 use Rattle.dcc_pipe.specs.Control.{Control, IsControlOf, AreControls}
-use Rattle.dcc_pipe.specs.Textable.{text_levels}
+use Rattle.dcc_tidy.specs.Tidied.{text_levels}
 use Rattle.dcc_pipe.specs.WholeText.{TakesFew, opened, before_lines, body_of, text_function, other_functions, whole_text}
 use Rattle.dcc_pipe.proofs.OpeningLines.{is_assignment, openings-assign}
 use Rattle.dcc_pipe.proofs.FunctionTables.{found-by_name}

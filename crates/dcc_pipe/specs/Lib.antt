@@ -1,7 +1,6 @@
 pub mod Textable
 pub mod Simplified
 pub mod Prepared
-pub mod Tidied
 pub mod Standing
 pub mod Control
 pub mod Following

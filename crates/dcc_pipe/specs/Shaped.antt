@@ -16,7 +16,7 @@ use Rattle.dcc_shape.specs.Shape.{HaveShape, LacksShape}
 use Rattle.dcc_pipe.specs.Agreement.{IsTextOf}
 use Rattle.dcc_pipe.specs.Prepared.{IsPrepared}
 use Rattle.dcc_pipe.specs.Simplified.{HasEachChanged}
-use Rattle.dcc_pipe.specs.Tidied.{IsTidiedGraph}
+use Rattle.dcc_tidy.specs.Tidied.{IsTidiedGraph}
 use Rattle.dcc_pipe.specs.WholeText.{IsWholeText}
 use Rattle.dcc_pipe.specs.declared.no_text.NoText.{NoText}
 use Rattle.dcc_pipe.specs.declared.no_text.NoText.TheVariants.{Refused, NotYet}

@@ -10,14 +10,10 @@ use Rattle.dcc_plan.specs.Calls.{all_places, locations_differ}
 abbrev pub lifted_levels : ℕ
 lifted_levels = 7
 
--- as many have those of what is prepared: without flags what is lifted has twice as many
+-- As many have those of what is prepared: without flags what is lifted has twice as many. Their text may have 32, since
+-- each takes at most 6 of the text's, and the division of bytes three more, of which the reader takes 200.
 abbrev pub levels : ℕ
 levels = 2 * lifted_levels
-
--- As many levels may an expression have for its text: each takes at most 6 of the text's, and the division of bytes
--- three more, of which the reader takes 200.
-abbrev pub text_levels : ℕ
-text_levels = 32
 
 -- no location takes two arguments
 abbrev pub TakesApart : Graph → Type 0

@@ -14,7 +14,8 @@ use Rattle.dcc_variables.specs.Globals.{globals_of}
 use Rattle.dcc_variables.specs.FunctionLaws.{HasFewNames}
 use Rattle.dcc_variables.specs.Functions.{function_name, function_spelling, function_of, openings}
 use Rattle.dcc_pipe.specs.Control.{Control, AreControls}
-use Rattle.dcc_pipe.specs.Textable.{text_levels, TakesApart, IsTextable}
+use Rattle.dcc_tidy.specs.Tidied.{text_levels}
+use Rattle.dcc_pipe.specs.Textable.{TakesApart, IsTextable}
 
 -- the bytes of arguments that are opened: those that are live where the graph begins
 abbrev pub opened : Graph → Loc → Bool

@@ -11,8 +11,8 @@ use dcc_ir::{Graph, IrProgram, Sums};
 use dcc_live::{drop_dead, live};
 use std::alloc::{AllocError, Global};
 
-/// The graph without the assignments that nothing wants.
-pub(crate) fn without_dead(alloc: Global, graph: Graph) -> Result<Graph, AllocError>
+// The graph without the assignments that nothing wants.
+fn without_dead(alloc: Global, graph: Graph) -> Result<Graph, AllocError>
     requires { IsGraph (graph_of graph) }
     ensures formed { IfOk result (λ after. IsGraph (graph_of after)) }
     ensures without { IfOk result (λ after. IsWithoutUnneeded (graph_of graph) (graph_of after)) }
