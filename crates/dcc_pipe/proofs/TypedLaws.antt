@@ -1,8 +1,7 @@
 -- The functions of a text keep in memory just what the frames of their procedures expose.
-use Rattle.std.proofs.Common.{◌≡◌, ℕ, zero, suc, ◌+◌, ◌≤◌, Bool, true, false, ◌==◌, List, [], ◌∷◌, ◌++◌, length, map, replicate, Option, Some, refl, sym, ap, ap₂, ◌∙◌, subst, true≢false, eqb-true, arith}
+use Rattle.std.proofs.Common.{◌≡◌, ℕ, ◌+◌, Bool, true, false, ◌==◌, List, [], ◌∷◌, ◌++◌, map, Option, Some, inl, inr, refl, sym, ap, ap₂, ◌∙◌, subst, true≢false, eqb-true}
 use Rattle.std.specs.Prelude.{filter, if◌then◌else◌, All, codes}
-use Rattle.std.specs.List.{AllZip, range_with_len}
-use Rattle.std.proofs.lemmas.List.{map-append}
+use Rattle.std.specs.List.{AllZip}
 use Rattle.std.proofs.lemmas.List.Elements.{All-head, All-tail}
 use Rattle.dcc_machine.specs.declared.image.Image.{Image}
 use Rattle.dcc_prog.specs.declared.frame.Program.{Program as Analysed}
@@ -18,7 +17,7 @@ use Rattle.dcc_sums.specs.Localised.{trim_by}
 use Rattle.dcc_simulation.specs.Nodes.{procedures_in}
 use Rattle.dcc_simulation.specs.Procedures.{Procedure}
 use Rattle.dcc_c.specs.declared.syntax.Base.TheVariants.{Uchar}
-use Rattle.dcc_c.specs.declared.syntax.Class.TheVariants.{Plain, Auto, Register}
+use Rattle.dcc_c.specs.declared.syntax.Class.TheVariants.{Auto}
 use Rattle.dcc_c.specs.Placement.{is_auto}
 use Rattle.dcc_c.specs.Types.{plain}
 use Rattle.dcc_c.specs.Numbered.{numbered}

@@ -118,21 +118,17 @@ module _ (told : Option ℕ) where
 
 -- a graph without local bytes whose text has no byte for SP's address takes no such address
 pub no-byte : (g : Graph) → has_lone_byte g ≡ false → g.local ≡ 0 → takes_address (memory_from 0 g.params) g ≡ false
-no-byte g none zero_local = by (takes_address told g) refl
+no-byte g none zero_local = by (takes_address (memory_from 0 g.params) g) refl
   where
-    told : Option ℕ
-    told = memory_from 0 g.params
-
     is-zero : (g.local == 0) ≡ true
     is-zero = eq-eqb g.local 0 zero_local
 
-    frame-is : (b : Bool) → takes_address told g ≡ b → (function_shape g).frame ≡ (if b then 1 else 0)
-    unfolding told
+    frame-is : (b : Bool) → takes_address (memory_from 0 g.params) g ≡ b → (function_shape g).frame ≡ (if b then 1 else 0)
     frame-is b is =
         ap (λ z. if z then (if takes_address (memory_from 0 g.params) g then 1 else 0) else g.local) is-zero
         ∙ ap (λ c. if c then 1 else 0) is
 
-    by : (b : Bool) → takes_address told g ≡ b → b ≡ false
+    by : (b : Bool) → takes_address (memory_from 0 g.params) g ≡ b → b ≡ false
     by false is = refl
     by true is =
         sym (ap₂ (λ z frame. z && not (frame == 0)) is-zero (frame-is true is)) ∙ none
