@@ -1,6 +1,6 @@
 -- A graph with assignments of loads for statements that load is well formed, and stands for the graph.
 use Rattle.std.proofs.Common.{◌≡◌, ℕ, suc, ◌≤◌, Bool, true, false, ◌&&◌, List, [], ◌∷◌, ◌++◌, map, flat_map, length, refl, sym, ap, ap₂, ◌∙◌, subst, eqb-true, eq-eqb, arith}
-use Rattle.std.specs.Prelude.{All, ◌==◌, ◌<◌, not, if◌then◌else◌}
+use Rattle.std.specs.Prelude.{All, ◌==◌, ◌||◌, ◌<◌, not, if◌then◌else◌}
 use Rattle.std.specs.List.{AllZip, list_all, list_any}
 use Rattle.std.proofs.lemmas.Bool.{and_parts, and_from}
 use Rattle.std.proofs.lemmas.List.{length-map}
@@ -61,7 +61,7 @@ call-stays (Dos number place argument) = refl
 
 calls-stay : (stmts : List Stmt) → list_any is_call (map as_set stmts) ≡ list_any is_call stmts
 calls-stay [] = refl
-calls-stay (stmt ∷ rest) = ap₂ (λ b c. if b then true else c) (call-stays stmt) (calls-stay rest)
+calls-stay (stmt ∷ rest) = ap₂ (λ b c. b || c) (call-stays stmt) (calls-stay rest)
 
 jumps-stay : (stmts : List Stmt) (exit : Exit)
     → jumps_after_call (map as_set stmts) exit ≡ jumps_after_call stmts exit
@@ -167,34 +167,32 @@ module _ (test : ℕ → Bool) where
   stmt-passes (Call results entry arguments depth) es = refl
   stmt-passes (Dos number place argument) es = refl
 
-  append-pass : (es : List Expr) {fs gs : List Expr} → all-pass fs ≡ all-pass gs → all-pass (es ++ fs) ≡ all-pass (es ++ gs)
-  append-pass [] same = same
-  append-pass (e ∷ es) same = ap (λ b. list_all test (addresses_of e) && b) (append-pass es same)
+  append-pass : (es fs gs : List Expr) → all-pass fs ≡ all-pass gs → all-pass (es ++ fs) ≡ all-pass (es ++ gs)
+  append-pass [] fs gs same = same
+  append-pass (e ∷ es) fs gs same = ap (λ b. list_all test (addresses_of e) && b) (append-pass es fs gs same)
+
+  append-twice : (xs ys zs : List Expr) → (xs ++ ys) ++ zs ≡ xs ++ (ys ++ zs)
+  append-twice [] ys zs = refl
+  append-twice (x ∷ xs) ys zs = ap (λ l. x ∷ l) (append-twice xs ys zs)
 
   stmts-pass : (stmts : List Stmt) (es : List Expr)
       → all-pass (flat_map exprs_of (map as_set stmts) ++ es) ≡ all-pass (flat_map exprs_of stmts ++ es)
   stmts-pass [] es = refl
   stmts-pass (stmt ∷ rest) es =
       ap all-pass (append-twice (exprs_of (as_set stmt)) (flat_map exprs_of (map as_set rest)) es)
-      ∙ append-pass (exprs_of (as_set stmt)) (stmts-pass rest es) ∙ stmt-passes stmt (flat_map exprs_of rest ++ es)
+      ∙ append-pass (exprs_of (as_set stmt)) (flat_map exprs_of (map as_set rest) ++ es) (flat_map exprs_of rest ++ es)
+      (stmts-pass rest es) ∙ stmt-passes stmt (flat_map exprs_of rest ++ es)
       ∙ ap all-pass (sym (append-twice (exprs_of stmt) (flat_map exprs_of rest) es))
-    where
-      append-twice : (xs ys zs : List Expr) → (xs ++ ys) ++ zs ≡ xs ++ (ys ++ zs)
-      append-twice [] ys zs = refl
-      append-twice (x ∷ xs) ys zs = ap (λ l. x ∷ l) (append-twice xs ys zs)
 
   blocks-pass : (blocks : List Block)
       → all-pass (flat_map block_exprs (map block_with_sets blocks)) ≡ all-pass (flat_map block_exprs blocks)
   blocks-pass [] = refl
   blocks-pass (b ∷ blocks) =
-      append-pass (block_exprs (block_with_sets b)) (blocks-pass blocks)
+      append-pass (block_exprs (block_with_sets b)) (flat_map block_exprs (map block_with_sets blocks))
+      (flat_map block_exprs blocks) (blocks-pass blocks)
       ∙ ap all-pass (append-twice (flat_map exprs_of (map as_set b.stmts)) (exit_exprs b.exit) (flat_map block_exprs blocks))
       ∙ stmts-pass b.stmts (exit_exprs b.exit ++ flat_map block_exprs blocks)
       ∙ ap all-pass (sym (append-twice (flat_map exprs_of b.stmts) (exit_exprs b.exit) (flat_map block_exprs blocks)))
-    where
-      append-twice : (xs ys zs : List Expr) → (xs ++ ys) ++ zs ≡ xs ++ (ys ++ zs)
-      append-twice [] ys zs = refl
-      append-twice (x ∷ xs) ys zs = ap (λ l. x ∷ l) (append-twice xs ys zs)
 
 -- Depth.
 
