@@ -6,6 +6,7 @@ use dcc_machine::Cpu;
 use dcc_mz::load;
 use dcc_pipe::decompile;
 use dcc_print::print;
+use dcc_rules::RuleList;
 use dcc_samples::files::{TWO_ENTRIES, program};
 use std::alloc::{AllocError, Global};
 use std::test::Fail;
@@ -13,10 +14,11 @@ use std::test::Fail;
 // Adds 1 to 255, and ends with 1 where that carries, else with 0.
 const CARRIES: &[u8] = b"\xB0\xFF\x04\x01\x72\x05\xB8\x00\x4C\xCD\x21\xB8\x01\x4C\xCD\x21";
 
-/// The unit of the program of some code.
+/// The unit of the program of some code, by no rules.
 pub(crate) fn decompiled(alloc: Global, code: &[u8]) -> Result<Unit, Fail> {
     let image = load(alloc, &program(alloc, code)?)?;
-    Ok(decompile(alloc, &image, Cpu::I8086)?)
+    let rules = RuleList::new(alloc);
+    Ok(decompile(alloc, &image, Cpu::I8086, &rules)?)
 }
 
 // Appends the labels among some lines.

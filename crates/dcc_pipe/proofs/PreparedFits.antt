@@ -99,12 +99,12 @@ module _ (p q : Program) (is : IsPrepared p q) where
       q.graphs each-few
 
   -- what is tidied of it has what its text needs
-  module _ (r : Program) (tidy : HasEachChanged IsTidiedGraph q r) where
+  module _ (ids : List ℕ) (r : Program) (tidy : HasEachChanged (IsTidiedGraph ids) q r) where
     pub left-simplified : IsSimplified text_levels p r
     left-simplified =
-        simplified-trans levels text_levels p q r is.simplified (program-tidied q r is.simplified.textable tidy)
+        simplified-trans levels text_levels p q r is.simplified (program-tidied ids q r is.simplified.textable tidy)
 
     pub prepared-fits : All HasFewNames r.graphs → FitsText r
     prepared-fits few =
-        tidied-fits q r (graphs-tidied q.graphs r.graphs is.simplified.textable.formed.graphs tidy.graphs)
+        tidied-fits q r (graphs-tidied ids q.graphs r.graphs is.simplified.textable.formed.graphs tidy.graphs)
         left-simplified.textable prepared-gives prepared-takes is.apart few

@@ -104,10 +104,11 @@ prepared-ends p q is entry =
     (all-changed HasEndsOf (trim_graph trim) (λ g. (refl, trimmed-ends trim g)) p.graphs) entry
 
 -- what is tidied of a prepared program keeps them
-tidied-keeps : (p q r : Program) → IsPrepared p q → HasEachChanged IsTidiedGraph q r → KeepsReturns p r
-tidied-keeps p q r is tidy =
-    let simplified = left-simplified p q is r tidy in
-    let each = graphs-tidied q.graphs r.graphs is.simplified.textable.formed.graphs tidy.graphs in record {
+tidied-keeps : (ids : List ℕ) (p q r : Program) → IsPrepared p q → HasEachChanged (IsTidiedGraph ids) q r
+    → KeepsReturns p r
+tidied-keeps ids p q r is tidy =
+    let simplified = left-simplified p q is ids r tidy in
+    let each = graphs-tidied ids q.graphs r.graphs is.simplified.textable.formed.graphs tidy.graphs in record {
       formed = simplified.textable.formed.graphs;
       keeps = simplified.keeps;
       returning = λ entry.
@@ -349,10 +350,10 @@ module _ (image : Image) (program : Analysed) (p q : Program) (is : IsTranslated
       (have-blocks image program p is)
 
 -- The machine keeps pace with what is tidied of what is prepared of a lifted program.
-pub tidied-paced : (image : Image) (program : Analysed) (p q r : Program)
+pub tidied-paced : (ids : List ℕ) (image : Image) (program : Analysed) (p q r : Program)
     → IsProgramOfFile program.layout.cpu image program → IsLiftOf image program p → IsPrepared p q
-    → HasEachChanged IsTidiedGraph q r → KeepsPaceWith image program r
-tidied-paced image program p q r of_file lift prepared tidy control controls =
+    → HasEachChanged (IsTidiedGraph ids) q r → KeepsPaceWith image program r
+tidied-paced ids image program p q r of_file lift prepared tidy control controls =
     let is : IsTranslated image program p = record { of_file = of_file; translation = lift.translation } in
     kept-paced image program p (keeps_step control r) is
-    (steps-hold image program p r is (tidied-keeps p q r prepared tidy) control controls)
+    (steps-hold image program p r is (tidied-keeps ids p q r prepared tidy) control controls)

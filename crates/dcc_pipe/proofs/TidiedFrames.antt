@@ -70,9 +70,10 @@ prepared-frame p g stands moves = record {
   addresses = λ none. inr (moves none);
 }
 
-pub tidied-frame : (p : Procedure) (g h : Graph) → IsGraph g → HasFrameFor p g → IsTidiedGraph g h → HasFrameFor p h
-tidied-frame p g h formed frame (stays lone same) = subst (HasFrameFor p) (sym same) frame
-tidied-frame p g h formed frame (tidied none may passed) =
+pub tidied-frame : (ids : List ℕ) (p : Procedure) (g h : Graph) → IsGraph g → HasFrameFor p g → IsTidiedGraph ids g h
+    → HasFrameFor p h
+tidied-frame ids p g h formed frame (stays lone same) = subst (HasFrameFor p) (sym same) frame
+tidied-frame ids p g h formed frame (tidied none may passed) =
     let kind = may.tidied.kind in
     let same = kind-memory g h kind in record {
       entry = kind.entry ∙ frame.entry;
@@ -84,14 +85,14 @@ tidied-frame p g h formed frame (tidied none may passed) =
           (none-taken (memory_from 0 g.params) g h may.tidied (no-byte g none (sym kind.local ∙ zero_local))));
     }
 
-pub all-frames : (ps : List Procedure) (gs hs : List Graph) → All IsGraph gs → AllZip StandsForProcedure ps gs
-    → AllZip MovesWhere ps gs → AllZip IsTidiedGraph gs hs → AllZip HasFrameFor ps hs
-all-frames [] [] [] formed stand move left = tt
-all-frames [] [] (h ∷ hs) formed stand move left = absurd left
-all-frames [] (g ∷ gs) hs formed stand move left = absurd stand
-all-frames (p ∷ ps) [] hs formed stand move left = absurd stand
-all-frames (p ∷ ps) (g ∷ gs) [] formed stand move left = absurd left
-all-frames (p ∷ ps) (g ∷ gs) (h ∷ hs) formed stand move left = (
-  tidied-frame p g h (All-head IsGraph g gs formed) (prepared-frame p g stand.0 move.0) left.0,
-  all-frames ps gs hs (All-tail IsGraph g gs formed) stand.1 move.1 left.1,
+pub all-frames : (ids : List ℕ) (ps : List Procedure) (gs hs : List Graph) → All IsGraph gs → AllZip StandsForProcedure ps gs
+    → AllZip MovesWhere ps gs → AllZip (IsTidiedGraph ids) gs hs → AllZip HasFrameFor ps hs
+all-frames ids [] [] [] formed stand move left = tt
+all-frames ids [] [] (h ∷ hs) formed stand move left = absurd left
+all-frames ids [] (g ∷ gs) hs formed stand move left = absurd stand
+all-frames ids (p ∷ ps) [] hs formed stand move left = absurd stand
+all-frames ids (p ∷ ps) (g ∷ gs) [] formed stand move left = absurd left
+all-frames ids (p ∷ ps) (g ∷ gs) (h ∷ hs) formed stand move left = (
+  tidied-frame ids p g h (All-head IsGraph g gs formed) (prepared-frame p g stand.0 move.0) left.0,
+  all-frames ids ps gs hs (All-tail IsGraph g gs formed) stand.1 move.1 left.1,
 )

@@ -22,10 +22,10 @@ use Rattle.dcc_pipe.proofs.SimplifiedLaws.{deepest-of, none-deeper, never-stuck}
 
 -- Graphs.
 
-graph-shallow : (g h : Graph) → IsTidiedGraph g h → IsShallow levels g → IsShallow text_levels h
-graph-shallow g h left shallow =
+graph-shallow : (ids : List ℕ) (g h : Graph) → IsTidiedGraph ids g h → IsShallow levels g → IsShallow text_levels h
+graph-shallow ids g h left shallow =
     let few = deepest-of levels (graph_exprs g) shallow in
-    none-deeper text_levels (graph_exprs h) (graph-depth g h left (omega (arith, few)))
+    none-deeper text_levels (graph_exprs h) (graph-depth ids g h left (omega (arith, few)))
 
 kind-blocks : (g h : Graph) → StaysInKind g h → HasSameBlocks g h
 kind-blocks g h is = record { entry = is.entry; addresses = kind-addresses g h is }
@@ -39,10 +39,10 @@ kind-ends g h is =
 
 -- Programs.
 
-pub program-tidied : (p q : Program) → IsTextable levels p → HasEachChanged IsTidiedGraph p q
+pub program-tidied : (ids : List ℕ) (p q : Program) → IsTextable levels p → HasEachChanged (IsTidiedGraph ids) p q
     → IsSimplified text_levels p q
-program-tidied p q textable is =
-    let each = graphs-tidied p.graphs q.graphs textable.formed.graphs is.graphs in
+program-tidied ids p q textable is =
+    let each = graphs-tidied ids p.graphs q.graphs textable.formed.graphs is.graphs in
     let stand = weaker_zipped IsTidied StandsFor (λ g h tidy. tidy.stands) p.graphs q.graphs each in
     let same : with_graphs p.image p.lo p.hi q.graphs ≡ q =
     λ i. record { graphs = q.graphs; image = sym is.image i; lo = sym is.lo i; hi = sym is.hi i } in
@@ -52,7 +52,7 @@ program-tidied p q textable is =
       textable = record {
         formed = subst IsProgram same left.formed;
         shallow =
-            all_zipped IsTidiedGraph (IsShallow levels) (IsShallow text_levels) graph-shallow p.graphs q.graphs is.graphs
+            all_zipped (IsTidiedGraph ids) (IsShallow levels) (IsShallow text_levels) (graph-shallow ids) p.graphs q.graphs is.graphs
             textable.shallow;
         never_stuck = never-stuck p q keeps.runs textable.never_stuck;
       };

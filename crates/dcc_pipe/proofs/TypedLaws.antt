@@ -145,11 +145,11 @@ names-are (p ∷ ps) [] frames = absurd frames
 names-are (p ∷ ps) (g ∷ gs) frames = ap (λ ws. codes "start" ∷ ws) (others-are ps gs frames.1)
 
 -- of the text of what is tidied of a prepared program
-pub typed-tree : (image : Image) (program : Analysed) (p q r : Program)
+pub typed-tree : (ids : List ℕ) (image : Image) (program : Analysed) (p q r : Program)
     → IsProgramOfFile program.layout.cpu image program → IsLiftOf image program p → IsPrepared p q
-    → HasEachChanged IsTidiedGraph q r → All IsGraph r.graphs → All HasFewNames r.graphs → (control : Control)
+    → HasEachChanged (IsTidiedGraph ids) q r → All IsGraph r.graphs → All HasFewNames r.graphs → (control : Control)
     (tree : Tree) → tree ≡ numbered (whole_text control r) → AreTypedFrames (procedures_in program) tree.functions
-typed-tree image program p q r file of is tidy formed few control tree same =
+typed-tree ids image program p q r file of is tidy formed few control tree same =
     let translated : IsTranslated image program p = record { of_file = file; translation = of.translation } in
     let stand = prepared-stands image program p q file of is in
     let move =
@@ -157,7 +157,7 @@ typed-tree image program p q r file of is tidy formed few control tree same =
     p.graphs q.graphs of.lifted.graphs (procedures-found image program p q file of is)
     (lifted-pass image program p translated) stand is.made.graphs in
     let frames =
-    all-frames (procedures_in program) q.graphs r.graphs is.simplified.textable.formed.graphs stand move tidy.graphs in
+    all-frames ids (procedures_in program) q.graphs r.graphs is.simplified.textable.formed.graphs stand move tidy.graphs in
     let functions = (numbered (whole_text control r)).functions in
     subst (λ (t : Tree). AreTypedFrames (procedures_in program) t.functions) (sym same)
     (record {

@@ -1,5 +1,5 @@
 -- Texts of the shape that procedures ask for, and images that have none.
-use Rattle.std.specs.Prelude.{◌≡◌, ℕ, Some, option_map, slice_get}
+use Rattle.std.specs.Prelude.{◌≡◌, ℕ, List, Some, option_map, slice_get}
 use Rattle.dcc_machine.specs.declared.cpu.Cpu.{Cpu}
 use Rattle.dcc_machine.specs.declared.image.Image.{Image}
 use Rattle.dcc_prog.specs.declared.frame.Program.{Program as Analysed}
@@ -41,7 +41,8 @@ pub record IsMadeOf (image : Image) (program : Analysed) (tree : Tree) : Type 0 
   pub ready : Program
   pub is_ready : IsPrepared lifted ready
   pub tidy : Program
-  pub is_tidy : HasEachChanged IsTidiedGraph ready tidy
+  pub ids : List ℕ
+  pub is_tidy : HasEachChanged (IsTidiedGraph ids) ready tidy
   pub plain : Tree
   pub is_text : IsWholeText tidy plain
   pub is : tree ≡ numbered plain

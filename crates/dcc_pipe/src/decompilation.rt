@@ -28,12 +28,18 @@ use dcc_lift::lift;
 use dcc_machine::{Cpu, Image};
 use dcc_print::number;
 use dcc_prog::{ConstructKind, Program, Refusal};
+use dcc_rules::RuleList;
 use dcc_shape::has_shape;
 use dcc_summaries::SumsFault;
 use std::alloc::Global;
 
-// The text of a program that is analysed, or what is at fault between its procedures.
-fn text_of(alloc: Global, image: &Image, program: &Program) -> Result<Unit, SumsFault>
+// The text of a program that is analysed, by these rules, or what is at fault between its procedures.
+fn text_of(
+    alloc: Global,
+    image: &Image,
+    program: &Program,
+    rules: &RuleList,
+) -> Result<Unit, SumsFault>
     requires loaded { IsLoaded image.now }
     requires program { IsProgramOf program.now.layout.cpu image.now program.now }
     ensures text { IfOk result
@@ -50,7 +56,7 @@ fn text_of(alloc: Global, image: &Image, program: &Program) -> Result<Unit, Sums
     faults_are_constructs();
     summed_programs_have_none();
     let prepared = prepared(alloc, lifted)?;
-    let tidied = tidied(alloc, prepared)?;
+    let tidied = tidied(alloc, prepared, rules)?;
     let unit = unit_of(alloc, &tidied)?;
     Ok(number(alloc, unit)?)
 }
@@ -87,7 +93,7 @@ fn shaped(alloc: Global, program: &Program, unit: Unit) -> Result<Unit, NoText>
     }
 }
 
-/// The text of a loaded program for a processor: its image outside the stack as arrays, and a function for each
+/// The text of a loaded program for a processor, its expressions made simpler by a list of rules: its image outside the stack as arrays, and a function for each
 /// procedure, with a variable for each half of a word register, each flag, each temporary and each half of a frame's
 /// cell that it needs, an array for the local bytes of the frame that are in memory, and loops, tests, choices and
 /// jumps, with the lines where statements stand in the written form. The written form stands for the unit's tree,
@@ -107,7 +113,12 @@ fn shaped(alloc: Global, program: &Program, unit: Unit) -> Result<Unit, NoText>
 /// may change an argument which is wanted after it, or a procedure that gives several values back. Where nothing
 /// refuses the program, the text that is made of it may still lack its shape: then the entry of the first procedure is
 /// told whose function does. Want of memory may refuse any program.
-pub fn decompile(alloc: Global, image: &Image, cpu: Cpu) -> Result<Unit, NoText>
+pub fn decompile(
+    alloc: Global,
+    image: &Image,
+    cpu: Cpu,
+    rules: &RuleList,
+) -> Result<Unit, NoText>
     requires { IsLoaded image.now }
     ensures text { IfOk result (λ unit. IsTextOf cpu image.now (written_form (tree_of unit)) (tree_of unit)) }
     ensures typed { IfOk result (λ unit. HasTypedFrames cpu image.now (tree_of unit)) }
@@ -116,7 +127,7 @@ pub fn decompile(alloc: Global, image: &Image, cpu: Cpu) -> Result<Unit, NoText>
     ensures refused { IfErr result (HasNoTextFor cpu image.now) }
 {
     let program = analyse(alloc, image, cpu)?;
-    match text_of(alloc, image, &program) {
+    match text_of(alloc, image, &program, rules) {
         Ok(unit) => shaped(alloc, &program, unit),
         Err(fault) => Err(NoText::Refused(refusal_of(fault))),
     }

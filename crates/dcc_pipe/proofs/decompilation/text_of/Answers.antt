@@ -2,6 +2,7 @@ use Rattle.std.proofs.Common.{refl}
 use Rattle.std.proofs.lemmas.Result.{err_from_is_err_and}
 use Rattle.dcc_stack.specs.Accepted.{IsProgramOfFile}
 use Rattle.dcc_ir.specs.Views.{program_of}
+use Rattle.dcc_rules.specs.Views.{numbers_of}
 use Rattle.dcc_pipe.specs.WholeText.{whole_text}
 use Rattle.dcc_pipe.proofs.PipeLaws.{counted-tree, text-is}
 use Rattle.dcc_pipe.proofs.PreparedFits.{left-simplified, prepared-fits}
@@ -35,13 +36,14 @@ returns-clause-text c =
     let r = program_of c.in_ok-tidied.tidied in
     let is = c.in_ok-prepared.ensures.ready in
     let tidy = c.in_ok-tidied.ensures in
-    let fits = prepared-fits p q is r tidy c.in_ok-unit.ensures.few in
+    let ids = numbers_of c.args.rules.now in
+    let fits = prepared-fits p q is ids r tidy c.in_ok-unit.ensures.few in
     let whole = c.in_ok-unit.ensures.text in
     let file : IsProgramOfFile program.layout.cpu image program =
     record { loaded = c.requires.loaded; is_program = c.requires.program } in
-    let pace = tidied-paced image program p q r file c.in_ok-lifted.ensures.lifted is tidy in
+    let pace = tidied-paced ids image program p q r file c.in_ok-lifted.ensures.lifted is tidy in
     text-is image program c.requires.program whole.control r fits whole.controls
-    (left-follows image program p r c.in_ok-lifted.ensures.lifted.lifted (left-simplified p q is r tidy) pace)
+    (left-follows image program p r c.in_ok-lifted.ensures.lifted.lifted (left-simplified p q is ids r tidy) pace)
     c.in_ok-number.field-0 (counted-tree r fits _ _ whole c.in_ok-number.ensures)
 
 pub returns-clause-none : goal.returns-clause-none
@@ -58,11 +60,12 @@ returns-clause-typed c =
     let r = program_of c.in_ok-tidied.tidied in
     let is = c.in_ok-prepared.ensures.ready in
     let tidy = c.in_ok-tidied.ensures in
+    let ids = numbers_of c.args.rules.now in
     let few = c.in_ok-unit.ensures.few in
-    typed-tree c.args.image.now c.args.program.now p q r
+    typed-tree ids c.args.image.now c.args.program.now p q r
     (record { loaded = c.requires.loaded; is_program = c.requires.program }) c.in_ok-lifted.ensures.lifted is tidy
-    (left-simplified p q is r tidy).textable.formed.graphs few c.in_ok-unit.ensures.text.control _
-    (counted-tree r (prepared-fits p q is r tidy few) _ _ c.in_ok-unit.ensures.text c.in_ok-number.ensures)
+    (left-simplified p q is ids r tidy).textable.formed.graphs few c.in_ok-unit.ensures.text.control _
+    (counted-tree r (prepared-fits p q is ids r tidy few) _ _ c.in_ok-unit.ensures.text c.in_ok-number.ensures)
 
 pub returns-clause-made : goal.returns-clause-made
 returns-clause-made c =
@@ -71,6 +74,7 @@ returns-clause-made c =
     let r = program_of c.in_ok-tidied.tidied in
     let is = c.in_ok-prepared.ensures.ready in
     let tidy = c.in_ok-tidied.ensures in
+    let ids = numbers_of c.args.rules.now in
     let whole = c.in_ok-unit.ensures.text in
     record {
       lifted = p;
@@ -78,14 +82,15 @@ returns-clause-made c =
       ready = q;
       is_ready = is;
       tidy = r;
+      ids = ids;
       is_tidy = tidy;
       plain = whole_text whole.control r;
       is_text = record { control = whole.control; controls = whole.controls; is = refl };
       is =
-          counted-tree r (prepared-fits p q is r tidy c.in_ok-unit.ensures.few) _ _ whole c.in_ok-number.ensures;
+          counted-tree r (prepared-fits p q is ids r tidy c.in_ok-unit.ensures.few) _ _ whole c.in_ok-number.ensures;
     }
 
 pub unit_of-requires : goal.unit_of-requires
 unit_of-requires c =
     (left-simplified (program_of c.in_ok-lifted.lifted) (program_of c.in_ok-prepared.prepared)
-    c.in_ok-prepared.ensures.ready (program_of c.in_ok-tidied.tidied) c.in_ok-tidied.ensures).textable.formed
+    c.in_ok-prepared.ensures.ready (numbers_of c.args.rules.now) (program_of c.in_ok-tidied.tidied) c.in_ok-tidied.ensures).textable.formed

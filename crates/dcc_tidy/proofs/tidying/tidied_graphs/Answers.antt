@@ -4,6 +4,7 @@ use Rattle.std.specs.List.{AllZip}
 use Rattle.std.proofs.lemmas.List.{map-append}
 use Rattle.std.proofs.lemmas.List.Elements.{All-head, All-tail, AllZip-push}
 use Rattle.dcc_ir.specs.Views.{graph_of}
+use Rattle.dcc_rules.specs.Views.{numbers_of}
 use Rattle.dcc_ir.specs.WellFormed.{IsGraph}
 use Rattle.dcc_tidy.specs.Tidied.{IsTidiedGraph}
 use Rattle.dcc_tidy.proofs.tidying.tidied_graphs.Goals as goal
@@ -27,7 +28,7 @@ loop-graph-preserved c =
     let done = c.loop-graph.yielded in
     let left = c.loop-graph.after.items in
     let graph = c.in-Some.graph in (
-      pushed graph_of IsTidiedGraph done left graph c.in_ok-tidied_graph.field-0 c.push.new.self.items
+      pushed graph_of (IsTidiedGraph (numbers_of c.args.rules.now)) done left graph c.in_ok-tidied_graph.field-0 c.push.new.self.items
           c.in_ok-push.ensures.items c.loop-graph.invariant.0 c.in_ok-tidied_graph.ensures,
       All-tail IsGraph (graph_of graph) (map graph_of c.next.new.self.rest.items)
           (subst (All IsGraph) (ap (map graph_of) c.in-Some.ensures.steps.0) c.loop-graph.invariant.1),
