@@ -13,22 +13,22 @@ use Rattle.dcc_pipe.proofs.TypedLaws.{typed-tree}
 use Rattle.dcc_pipe.proofs.decompilation.text_of.Goals as goal
 
 pub prepared-requires : goal.prepared-requires
-prepared-requires c =
+prepared-requires g c =
     lifted-has_the_form c.args.image.now c.args.program.now (program_of c.in_ok-lifted.lifted) c.requires.program
     c.in_ok-lifted.ensures.lifted.lifted
 
 pub returns-in_err-prepared-clause-fault : goal.returns-in_err-prepared-clause-fault
-returns-in_err-prepared-clause-fault c =
+returns-in_err-prepared-clause-fault g c =
     let p = err_from_is_err_and c.from_residual-in_err-prepared.result c.from_residual-in_err-prepared.ensures.1 in
     rw (p.1, p.2) (fault-construct c.args.image.now c.args.program.now (program_of c.in_ok-lifted.lifted)
     (record { loaded = c.requires.loaded; is_program = c.requires.program }) c.in_ok-lifted.ensures.lifted
     c.lifted_relations_are_the_machines.ensures c.faults_are_constructs.ensures _ c.in_err-prepared.ensures.fault)
 
 pub tidied-requires : goal.tidied-requires
-tidied-requires c = c.in_ok-prepared.ensures.ready.simplified.textable.formed.graphs
+tidied-requires g c = c.in_ok-prepared.ensures.ready.simplified.textable.formed.graphs
 
 pub returns-clause-text : goal.returns-clause-text
-returns-clause-text c =
+returns-clause-text g c =
     let image = c.args.image.now in
     let program = c.args.program.now in
     let p = program_of c.in_ok-lifted.lifted in
@@ -47,14 +47,14 @@ returns-clause-text c =
     c.in_ok-number.field-0 (counted-tree r fits _ _ whole c.in_ok-number.ensures)
 
 pub returns-clause-none : goal.returns-clause-none
-returns-clause-none c =
+returns-clause-none g c =
     let is = c.in_ok-prepared.ensures.ready in
     summed-none c.args.image.now c.args.program.now (program_of c.in_ok-lifted.lifted)
     (record { loaded = c.requires.loaded; is_program = c.requires.program }) c.in_ok-lifted.ensures.lifted
     c.lifted_relations_are_the_machines.ensures c.summed_programs_have_none.ensures is.sums is.known
 
 pub returns-clause-typed : goal.returns-clause-typed
-returns-clause-typed c =
+returns-clause-typed g c =
     let p = program_of c.in_ok-lifted.lifted in
     let q = program_of c.in_ok-prepared.prepared in
     let r = program_of c.in_ok-tidied.tidied in
@@ -68,7 +68,7 @@ returns-clause-typed c =
     (counted-tree r (prepared-fits p q is ids r tidy few) _ _ c.in_ok-unit.ensures.text c.in_ok-number.ensures)
 
 pub returns-clause-made : goal.returns-clause-made
-returns-clause-made c =
+returns-clause-made g c =
     let p = program_of c.in_ok-lifted.lifted in
     let q = program_of c.in_ok-prepared.prepared in
     let r = program_of c.in_ok-tidied.tidied in
@@ -91,6 +91,6 @@ returns-clause-made c =
     }
 
 pub unit_of-requires : goal.unit_of-requires
-unit_of-requires c =
+unit_of-requires g c =
     (left-simplified (program_of c.in_ok-lifted.lifted) (program_of c.in_ok-prepared.prepared)
     c.in_ok-prepared.ensures.ready (numbers_of c.args.rules.now) (program_of c.in_ok-tidied.tidied) c.in_ok-tidied.ensures).textable.formed

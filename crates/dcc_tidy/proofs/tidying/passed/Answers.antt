@@ -7,8 +7,8 @@ use Rattle.dcc_tidy.proofs.DeadLaws.{dead-tidied, dead-depth}
 use Rattle.dcc_tidy.proofs.tidying.passed.Goals as goal
 
 pub returns-clause-stands : goal.returns-clause-stands
-returns-clause-stands c =
-    let g = graph_of c.args.graph in
+returns-clause-stands g c =
+    let given = graph_of c.args.graph in
     let split = graph_of c.in_ok-split.split in
     let sets = graph_of c.in_ok-sets.sets in
     let plain = graph_of c.in_ok-plain.plain in
@@ -16,7 +16,7 @@ returns-clause-stands c =
     let after = graph_of c.in_ok-after.after in
     let last = c.in_ok-after.ensures.without in
     let shallow = dead-depth simple after last in record {
-      tidied = tidied-trans g split after c.in_ok-split.ensures.tidied
+      tidied = tidied-trans given split after c.in_ok-split.ensures.tidied
           (tidied-trans split sets after c.in_ok-sets.ensures.tidied
           (tidied-trans sets plain after c.in_ok-plain.ensures.tidied
           (tidied-trans plain simple after c.in_ok-last.ensures.tidied
@@ -34,7 +34,7 @@ returns-clause-stands c =
     }
 
 pub returns-clause-done : goal.returns-clause-done
-returns-clause-done c = record {
+returns-clause-done g c = record {
   split = graph_of c.in_ok-split.split;
   told = c.in_ok-split.ensures.told;
   temps = c.in_ok-split.ensures.temps;

@@ -3,15 +3,12 @@ use Rattle.dcc_ir.specs.Views.{graph_of}
 use Rattle.dcc_passes.proofs.TidiedLaws.{tidied-refl, tidied-trans}
 use Rattle.dcc_tidy.proofs.tidying.rounds.Goals as goal
 
-pub loop-initial : goal.loop-initial
-loop-initial c = (tidied-refl (graph_of c.args.graph) c.requires, omega arith)
-
 pub loop-preserved : goal.loop-preserved
-loop-preserved c = (
+loop-preserved g c = (
   tidied-trans (graph_of c.args.graph) (graph_of c.loop.left) (graph_of c.in_ok-round.field-0) c.loop.invariant.0
       c.in_ok-round.ensures.tidied,
   omega (arith, c.loop.invariant.1, c.in_ok-round.ensures.depth),
 )
 
 pub round-requires : goal.round-requires
-round-requires c = c.loop.invariant.0.formed
+round-requires g c = c.loop.invariant.0.formed

@@ -6,6 +6,6 @@ use Rattle.dcc_passes.specs.Tidied.{IsTidied}
 use Rattle.dcc_tidy.proofs.tidying.rounds.Given as goal
 
 abbrev pub invariant-loop : goal.invariant-loop
-invariant-loop l =
+invariant-loop g l =
     IsTidied (graph_of l.initial.left) (graph_of l.left)
     × (deepest (graph_exprs (graph_of l.left)) ≤ max 32 (deepest (graph_exprs (graph_of l.initial.left))))

@@ -19,12 +19,12 @@ pushed f R xs ys x y more made zipped is =
     (AllZip-push R (map f xs) (map f ys) (f x) (f y) zipped is))
 
 pub tidied_graph-requires : goal.tidied_graph-requires
-tidied_graph-requires c =
+tidied_graph-requires g c =
     All-head IsGraph (graph_of c.in-Some.graph) (map graph_of c.next.new.self.rest.items)
     (subst (All IsGraph) (ap (map graph_of) c.in-Some.ensures.steps.0) c.loop-graph.invariant.1)
 
 pub loop-graph-preserved : goal.loop-graph-preserved
-loop-graph-preserved c =
+loop-graph-preserved g c =
     let done = c.loop-graph.yielded in
     let left = c.loop-graph.after.items in
     let graph = c.in-Some.graph in (

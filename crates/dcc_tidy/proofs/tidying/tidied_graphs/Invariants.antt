@@ -8,6 +8,6 @@ use Rattle.dcc_tidy.specs.Tidied.{IsTidiedGraph}
 use Rattle.dcc_tidy.proofs.tidying.tidied_graphs.Given as goal
 
 abbrev pub invariant-loop-graph : goal.invariant-loop-graph
-invariant-loop-graph l =
+invariant-loop-graph g l =
     AllZip (IsTidiedGraph (numbers_of l.rules)) (map graph_of l.yielded) (map graph_of l.after.items)
     × All IsGraph (map graph_of l.graph-iterator.rest.items)
