@@ -86,10 +86,10 @@ HasEndsOf g h = (h.entry ≡ g.entry) × (ends h ≡ ends g)
 
 -- the second program keeps the first one's runs, its graphs are well formed, and their blocks return where the first
 -- one's do
-record KeepsReturns (p q : Program) : Type 0 where
-  formed : All IsGraph q.graphs
-  keeps : Keeps p q
-  returning : (entry : ℕ)
+pub record KeepsReturns (p q : Program) : Type 0 where
+  pub formed : All IsGraph q.graphs
+  pub keeps : Keeps p q
+  pub returning : (entry : ℕ)
       → ends (graph_or_none (graph_at q.graphs entry)) ≡ ends (graph_or_none (graph_at p.graphs entry))
 
 prepared-ends : (p q : Program) → IsPrepared p q → (entry : ℕ)
