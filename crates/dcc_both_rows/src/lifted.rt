@@ -87,18 +87,16 @@ fn a_flag_that_one_definition_gives_has_no_variable(rt: HostRuntime) -> Result<(
     assert_eq!(&rt; unit.globals.len(), 0);
     assert_eq!(&rt; unit.funcs.len(), 1);
     let variables = &unit.funcs[0].locals;
-    // AL has one, where the carry is told from.
-    assert!(&rt;
-        variables
-            .iter()
-            .any(|variable| variable.name.as_str() == "v1")
-    );
-    // These would be the carry, zero, sign and overflow.
-    for flag in ["v13", "v14", "v15", "v16"] {
+    // Each web has one: 255 and 1, what AL holds of them, the sum, the operands of the test for the carry, and both
+    // statuses. One more would be a flag's.
+    assert_eq!(&rt; variables.len(), 8);
+    // These would be the halves of registers, and the carry, zero, sign and overflow.
+    for number in 1..17 {
+        let name = format!(in alloc; "v{number}")?;
         assert!(&rt;
             !variables
                 .iter()
-                .any(|variable| variable.name.as_str() == flag)
+                .any(|variable| variable.name.as_str() == name.as_str())
         );
     }
     Ok(())
