@@ -5,9 +5,9 @@ use Rattle.std.proofs.Math.Path.{fun_ext}
 use Rattle.dcc_run.specs.End.{Stuck, is_over}
 use Rattle.dcc_ir.specs.declared.syntax.Loc.{Loc}
 use Rattle.dcc_ir.specs.Tree.{Expr, Load, Stmt, Set, Fetch, Store, Div, Call, Dos, Exit, Goto, If, Switch, Ret, Stop, Block, Graph}
-use Rattle.dcc_ir.specs.Location.{Values, with_value}
+use Rattle.dcc_ir.specs.Location.{with_value}
 use Rattle.dcc_ir.specs.Value.{Environment, value_of, division_of}
-use Rattle.dcc_ir.specs.Run.{Activation, State, scene_of, value_in, argument_in, stuck, stmt_step}
+use Rattle.dcc_ir.specs.Run.{Activation, State, scene_of, value_in, argument_in, stmt_step}
 use Rattle.dcc_ir.specs.Local.{Point, after_call, after_calls, Halt, Over, Jumps, switch_halt, exit_halt, local_run}
 use Rattle.dcc_ir.specs.Passes.{with_values, AgreeOutside, Meet}
 use Rattle.dcc_ir.proofs.passes.LocalLaws.{some_same, is_running, Frame, stmt-frame}

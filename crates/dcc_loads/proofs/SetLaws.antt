@@ -1,5 +1,5 @@
 -- A graph with assignments of loads for statements that load is well formed, and stands for the graph.
-use Rattle.std.proofs.Common.{◌≡◌, ℕ, suc, ◌≤◌, Bool, true, false, ◌&&◌, List, [], ◌∷◌, ◌++◌, map, flat_map, length, refl, sym, ap, ap₂, ◌∙◌, subst, eqb-true, eq-eqb, arith}
+use Rattle.std.proofs.Common.{◌≡◌, ℕ, suc, ◌≤◌, Bool, true, ◌&&◌, List, [], ◌∷◌, ◌++◌, map, flat_map, length, refl, sym, ap, ap₂, ◌∙◌, subst, eqb-true, eq-eqb, arith}
 use Rattle.std.specs.Prelude.{All, ◌==◌, ◌||◌, ◌<◌, not, if◌then◌else◌}
 use Rattle.std.specs.List.{AllZip, list_all, list_any}
 use Rattle.std.proofs.lemmas.Bool.{and_parts, and_from}
@@ -8,12 +8,12 @@ use Rattle.std.proofs.lemmas.List.Elements.{All-nil, All-cons, All-head, All-tai
 use Rattle.dcc_ir.specs.Tree.{Expr, Load, Stmt, Set, Fetch, Store, Div, Call, Dos, Exit, Block, Graph}
 use Rattle.dcc_ir.specs.Location.{location_width}
 use Rattle.dcc_ir.specs.Value.{width_of}
-use Rattle.dcc_ir.specs.Measure.{depth_of, deepest}
+use Rattle.dcc_ir.specs.Measure.{deepest}
 use Rattle.dcc_ir.specs.Use.{addresses_of, exprs_of, exit_exprs, block_exprs, graph_exprs}
 use Rattle.dcc_ir.specs.Run.{is_call}
 use Rattle.dcc_ir.specs.WellFormed.{is_location, is_stored_width, is_expr_of, is_expr, is_stmt, is_exit, is_block, is_jump, jumps_after_call, all_differ, IsGraph}
 use Rattle.dcc_passes.specs.Kinds.{call_kinds, BlockStaysInKind, StaysInKind}
-use Rattle.dcc_passes.specs.Tidied.{takes_addresses, IsTidied}
+use Rattle.dcc_passes.specs.Tidied.{IsTidied}
 use Rattle.dcc_passes.proofs.KindLaws.{kind-fits}
 use Rattle.dcc_passes.proofs.OneGraphLaws.{one-stands}
 use Rattle.dcc_loads.specs.Sets.{as_set, block_with_sets, with_sets}

@@ -93,14 +93,14 @@ fn shaped(alloc: Global, program: &Program, unit: Unit) -> Result<Unit, NoText>
     }
 }
 
-/// The text of a loaded program for a processor, its expressions made simpler by a list of rules: its image outside the stack as arrays, and a function for each
-/// procedure, with a variable for each half of a word register, each flag, each temporary and each half of a frame's
-/// cell that it needs, an array for the local bytes of the frame that are in memory, and loops, tests, choices and
-/// jumps, with the lines where statements stand in the written form. The written form stands for the unit's tree,
-/// whose run on every input and from every fill agrees with that of the program on the processor, as long as that is
-/// clean. The `auto` parameters and variables of a function are just the arguments and the local bytes that its
-/// procedure's frame exposes; where it exposes no local byte, there may be one if the procedure moves SP by ADD, SUB,
-/// INC or DEC, and the array of that byte is named in no load and no store, for its address alone.
+/// The text of a loaded program for a processor: its image outside the stack as arrays, and a function for each
+/// procedure, with variables for its values, an array for the local bytes of the frame that are in memory, and loops,
+/// tests, choices and jumps, with the lines where statements stand in the written form. Expressions are made simpler by
+/// the rules of a list; what is promised holds for every list. The written form stands for the unit's tree, whose run on
+/// every input and from every fill agrees with that of the program on the processor, as long as that is clean. The
+/// `auto` parameters and variables of a function are just the arguments and the local bytes that its procedure's frame
+/// exposes; where it exposes no local byte, there may be one if the procedure moves SP by ADD, SUB, INC or DEC, and the
+/// array of that byte is named in no load and no store, for its address alone.
 ///
 /// Each function has the shape that its procedure asks for. Its blocks, labels, jumps and empty statements are no more
 /// than the procedure's instructions, edges and loops give. Where the procedure has fewer than 190 branches and loops,

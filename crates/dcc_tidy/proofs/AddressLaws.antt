@@ -1,5 +1,5 @@
 -- Where a graph takes no address that is told from no parameter, what is tidied of it takes none.
-use Rattle.std.proofs.Common.{◌≡◌, ℕ, Bool, true, false, ◌&&◌, List, [], ◌∷◌, ◌++◌, flat_map, Option, refl, sym, ap, ap₂, ◌∙◌, eq-eqb}
+use Rattle.std.proofs.Common.{◌≡◌, ℕ, Bool, true, false, ◌&&◌, List, [], ◌∷◌, flat_map, Option, refl, sym, ap, ap₂, ◌∙◌, eq-eqb}
 use Rattle.std.specs.Prelude.{All, ◌==◌, not, if◌then◌else◌}
 use Rattle.std.specs.List.{list_all, list_any}
 use Rattle.std.proofs.lemmas.Bool.{and_parts, and_from, or_parts, or_from}
@@ -8,7 +8,7 @@ use Rattle.dcc_run.proofs.KeptLaws.{right_part}
 use Rattle.dcc_ir.specs.Tree.{Expr, Const, Get, Load, Unary, Binary, Widen, Part, Join, Choose, Address, Stmt, Block, Graph}
 use Rattle.dcc_ir.specs.Use.{parts_of, addressed_by, addresses_of, exprs_of, exit_exprs, block_exprs, graph_exprs}
 use Rattle.dcc_ir.proofs.ListLaws.{left_part}
-use Rattle.dcc_passes.specs.Tidied.{takes_addresses, IsTidied}
+use Rattle.dcc_passes.specs.Tidied.{IsTidied}
 use Rattle.dcc_variables.specs.Functions.{memory_from, function_shape}
 use Rattle.dcc_variables.specs.Variables.{is_told_from, is_address, has_address, stmt_has_address, block_has_address, takes_address}
 use Rattle.dcc_tidy.specs.Tidied.{has_lone_byte}

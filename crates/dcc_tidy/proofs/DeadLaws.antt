@@ -16,11 +16,11 @@ use Rattle.dcc_ir.specs.WellFormed.{is_jump, ret_widths, IsGraph}
 use Rattle.dcc_ir.proofs.FamilyLaws.{needed-closed}
 use Rattle.dcc_ir.proofs.ListLaws.{left_part}
 use Rattle.dcc_ir.proofs.passes.ReplaceLaws.{kept_with}
-use Rattle.dcc_ir.proofs.ZipLaws.{map_zipped, any_zipped, weaker_zipped}
+use Rattle.dcc_ir.proofs.ZipLaws.{any_zipped, weaker_zipped}
 use Rattle.dcc_live.specs.Dead.{IsWithoutUnneeded}
 use Rattle.dcc_passes.specs.Kinds.{param_kind, call_kinds, BlockStaysInKind, StaysInKind}
 use Rattle.dcc_passes.specs.Replaced.{StandsFor}
-use Rattle.dcc_passes.specs.Tidied.{takes_addresses, takes_apart, IsTidied}
+use Rattle.dcc_passes.specs.Tidied.{takes_apart, IsTidied}
 use Rattle.dcc_passes.proofs.ReplacedLaws.{stands-for}
 use Rattle.std.specs.Prelude.{◌==◌}
 

@@ -18,7 +18,7 @@ use Rattle.dcc_ir.specs.Use.{reads_of, exprs_of, writes_of}
 use Rattle.dcc_ir.specs.WellFormed.{is_jump, ret_widths}
 use Rattle.dcc_ir.proofs.ListLaws.{left_part}
 use Rattle.dcc_passes.specs.Kinds.{param_kind, call_kinds, BlockStaysInKind, StaysInKind}
-use Rattle.dcc_passes.specs.Renamed.{Renaming, HaveWidths, AreRenamed, IsRenamedBlock, IsRenamed}
+use Rattle.dcc_passes.specs.Renamed.{Renaming, AreRenamed, IsRenamedBlock, IsRenamed}
 use Rattle.dcc_passes.specs.Renaming.{renamed_stmt, renamed_exit, renamed_put, renamed_param, param_places}
 use Rattle.dcc_passes.proofs.RenamingLaws.{widths-renamed, targets-renamed, jumps-renamed}
 

@@ -1,7 +1,7 @@
 -- A graph that tells the locations of another apart takes the same addresses and is as deep; and where no location takes
 -- two arguments of that one, none does of this one.
 use Rattle.std.proofs.Common.{◌≡◌, ℕ, suc, Bool, true, false, ◌&&◌, List, [], ◌∷◌, ◌++◌, map, flat_map, Some, None, refl, sym, ap, ap₂, ◌∙◌, subst, true≢false}
-use Rattle.std.specs.Prelude.{max, not, option_to_list, option_map}
+use Rattle.std.specs.Prelude.{max, not}
 use Rattle.std.specs.List.{list_all}
 use Rattle.std.proofs.lemmas.Bool.{and_parts, and_from, not-true}
 use Rattle.std.proofs.lemmas.List.{map-append}

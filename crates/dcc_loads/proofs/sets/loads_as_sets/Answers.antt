@@ -1,5 +1,5 @@
 use Rattle.std.proofs.Common.{sym, subst, ◌≡◌, ◌≤◌, suc}
-use Rattle.dcc_ir.specs.Tree.{Graph, Block}
+use Rattle.dcc_ir.specs.Tree.{Graph}
 use Rattle.dcc_ir.specs.Views.{graph_of}
 use Rattle.dcc_ir.specs.Measure.{deepest}
 use Rattle.dcc_ir.specs.Use.{graph_exprs}

@@ -1,4 +1,4 @@
-use Rattle.std.proofs.Common.{sym, subst, arith}
+use Rattle.std.proofs.Common.{subst, arith}
 use Rattle.dcc_ir.specs.Views.{graph_of}
 use Rattle.dcc_ir.specs.Tree.{Graph}
 use Rattle.dcc_passes.specs.Tidied.{IsTidied}
