@@ -6,6 +6,7 @@ use dcc_machine::Cpu;
 use dcc_mz::load;
 use dcc_pipe::decompile;
 use dcc_print::print;
+use dcc_rules::RuleList;
 use dcc_samples::files::{TWO_ENTRIES, program};
 use std::alloc::{AllocError, Global};
 use std::test::Fail;
@@ -13,10 +14,11 @@ use std::test::Fail;
 // Adds 1 to 255, and ends with 1 where that carries, else with 0.
 const CARRIES: &[u8] = b"\xB0\xFF\x04\x01\x72\x05\xB8\x00\x4C\xCD\x21\xB8\x01\x4C\xCD\x21";
 
-/// The unit of the program of some code.
+/// The unit of the program of some code, by no rules.
 pub(crate) fn decompiled(alloc: Global, code: &[u8]) -> Result<Unit, Fail> {
     let image = load(alloc, &program(alloc, code)?)?;
-    Ok(decompile(alloc, &image, Cpu::I8086)?)
+    let rules = RuleList::new(alloc);
+    Ok(decompile(alloc, &image, Cpu::I8086, &rules)?)
 }
 
 // Appends the labels among some lines.
@@ -85,18 +87,16 @@ fn a_flag_that_one_definition_gives_has_no_variable(rt: HostRuntime) -> Result<(
     assert_eq!(&rt; unit.globals.len(), 0);
     assert_eq!(&rt; unit.funcs.len(), 1);
     let variables = &unit.funcs[0].locals;
-    // AL has one, where the carry is told from.
-    assert!(&rt;
-        variables
-            .iter()
-            .any(|variable| variable.name.as_str() == "v1")
-    );
-    // These would be the carry, zero, sign and overflow.
-    for flag in ["v13", "v14", "v15", "v16"] {
+    // Each web has one: 255 and 1, what AL holds of them, the sum, the operands of the test for the carry, and both
+    // statuses. One more would be a flag's.
+    assert_eq!(&rt; variables.len(), 8);
+    // These would be the halves of registers, and the carry, zero, sign and overflow.
+    for number in 1..17 {
+        let name = format!(in alloc; "v{number}")?;
         assert!(&rt;
             !variables
                 .iter()
-                .any(|variable| variable.name.as_str() == flag)
+                .any(|variable| variable.name.as_str() == name.as_str())
         );
     }
     Ok(())

@@ -74,7 +74,7 @@ static STRUCTURES: [StructureRow; 7] = [
         TELLS_A,
         &[
             ("if (", 1),
-            ("v5 = 121;\n        dos_putc(v5);\n    } else {\n", 1),
+            ("v23 = 121;\n        dos_putc(v23);\n    } else {\n", 1),
             ("goto ", 0),
         ],
     ),
@@ -82,7 +82,7 @@ static STRUCTURES: [StructureRow; 7] = [
         TELLS_NO_A,
         &[
             ("if (", 1),
-            ("v5 = 110;\n        dos_putc(v5);\n    } else {\n", 1),
+            ("v23 = 110;\n        dos_putc(v23);\n    } else {\n", 1),
             ("goto ", 0),
         ],
     ),

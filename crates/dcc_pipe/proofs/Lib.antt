@@ -22,6 +22,8 @@ pub mod PackedLaws
 pub mod PassingLaws
 pub mod ReturnLaws
 pub mod PreparedLaws
+pub mod TidiedLaws
+pub mod TidiedFits
 pub mod PreparedFits
 pub mod ArgumentsPlaced
 pub mod StandingParams
@@ -33,6 +35,7 @@ pub mod ExitAddresses
 pub mod GraphAddresses
 pub mod LeftAddresses
 pub mod MovesLaws
+pub mod TidiedFrames
 pub mod AccessTexts
 pub mod ByteTexts
 pub mod ArrayTexts

@@ -1,4 +1,4 @@
--- What is prepared has what its text needs.
+-- What is prepared has what its text needs, after it is tidied.
 use Rattle.std.proofs.Common.{◌≡◌, ℕ, ◌<◌, ◌≤◌, Bool, true, inl, inr, List, [], ◌∷◌, ◌++◌, length, flat_map, sym, subst, true≢false, arith}
 use Rattle.std.specs.Prelude.{All, ◌||◌}
 use Rattle.std.specs.List.{list_any}
@@ -16,7 +16,15 @@ use Rattle.dcc_plan.specs.Programs as plan
 use Rattle.dcc_sums.specs.Localised.{summary_at}
 use Rattle.dcc_variables.specs.FunctionLaws.{HasFewNames}
 use Rattle.dcc_pipe.specs.Prepared.{has_ret, returns, IsPrepared}
+use Rattle.dcc_pipe.specs.Simplified.{HasEachChanged, IsSimplified}
+use Rattle.dcc_tidy.specs.Tidied.{text_levels}
+use Rattle.dcc_pipe.specs.Textable.{levels}
+use Rattle.dcc_tidy.specs.Tidied.{IsTidiedGraph}
 use Rattle.dcc_pipe.specs.WholeText.{TakesFew, FitsText}
+use Rattle.dcc_pipe.proofs.SimplifiedLaws.{simplified-trans}
+use Rattle.dcc_pipe.proofs.TidiedFits.{tidied-fits}
+use Rattle.dcc_pipe.proofs.TidiedLaws.{program-tidied}
+use Rattle.dcc_tidy.proofs.GraphLaws.{graphs-tidied}
 use Rattle.dcc_pipe.proofs.PassingLaws.{Takes, GivesFew, all-few}
 
 one-at_most : {A : Type 0} (width : A → ℕ) (xs : List A) → AtMostOne width xs → length xs ≤ 1
@@ -42,7 +50,7 @@ returning-widths bits (b ∷ blocks) is = by b.exit is (λ later. returning-widt
     by (Switch e places) is later = later is
     by Stop is later = later is
 
-module _ (p q : Program) (is : IsPrepared p q) (few : All HasFewNames q.graphs) where
+module _ (p q : Program) (is : IsPrepared p q) where
   abbrev known : ℕ → Bool
   known = returns q
 
@@ -75,18 +83,28 @@ module _ (p q : Program) (is : IsPrepared p q) (few : All HasFewNames q.graphs) 
   each-few : All (GivesFew known) q.graphs
   each-few = all-few known (summary_at p.graphs is.sums) q (record { one = is.passes; returned = is.returned })
 
-  pub prepared-fits : FitsText q
-  prepared-fits = record {
-    textable = is.simplified.textable;
-    gives =
-        All-weaker (GivesFew known) (λ g. All plan.GivesFew g.blocks)
-        (λ g few. All-weaker (λ b. GivesAtMostOne g.bits b.exit) plan.GivesFew (gives-few g.bits) g.blocks few.rets) q.graphs
-        each-few;
-    takes =
-        All-weaker (GivesFew known) (λ g. All (λ b. All (TakesFew q) b.stmts) g.blocks)
-        (λ g few. All-weaker (λ b. All (Takes known g.bits) b.stmts) (λ b. All (TakesFew q) b.stmts)
-        (λ b stmts. All-weaker (Takes known g.bits) (TakesFew q) (takes-few g.bits) b.stmts stmts) g.blocks few.calls)
-        q.graphs each-few;
-    apart = is.apart;
-    few = few;
-  }
+  -- each return of what is prepared gives few values
+  pub prepared-gives : All (λ g. All plan.GivesFew g.blocks) q.graphs
+  prepared-gives =
+      All-weaker (GivesFew known) (λ g. All plan.GivesFew g.blocks)
+      (λ g few. All-weaker (λ b. GivesAtMostOne g.bits b.exit) plan.GivesFew (gives-few g.bits) g.blocks few.rets) q.graphs
+      each-few
+
+  -- and each call takes few
+  pub prepared-takes : All (λ g. All (λ b. All (TakesFew q) b.stmts) g.blocks) q.graphs
+  prepared-takes =
+      All-weaker (GivesFew known) (λ g. All (λ b. All (TakesFew q) b.stmts) g.blocks)
+      (λ g few. All-weaker (λ b. All (Takes known g.bits) b.stmts) (λ b. All (TakesFew q) b.stmts)
+      (λ b stmts. All-weaker (Takes known g.bits) (TakesFew q) (takes-few g.bits) b.stmts stmts) g.blocks few.calls)
+      q.graphs each-few
+
+  -- what is tidied of it has what its text needs
+  module _ (ids : List ℕ) (r : Program) (tidy : HasEachChanged (IsTidiedGraph ids) q r) where
+    pub left-simplified : IsSimplified text_levels p r
+    left-simplified =
+        simplified-trans levels text_levels p q r is.simplified (program-tidied ids q r is.simplified.textable tidy)
+
+    pub prepared-fits : All HasFewNames r.graphs → FitsText r
+    prepared-fits few =
+        tidied-fits q r (graphs-tidied ids q.graphs r.graphs is.simplified.textable.formed.graphs tidy.graphs)
+        left-simplified.textable prepared-gives prepared-takes is.apart few

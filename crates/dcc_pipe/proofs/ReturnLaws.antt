@@ -209,6 +209,10 @@ ret-widths bits (If test one other) = refl
 ret-widths bits (Switch e places) = refl
 ret-widths bits Stop = refl
 
+-- ends that give values of the same widths are returns alike
+pub ret-end : (bits bits' : List ℕ) (exit exit' : Exit) → ret_widths bits' exit' ≡ ret_widths bits exit → is_ret exit' ≡ is_ret exit
+ret-end bits bits' exit exit' given = ret-widths bits' exit' ∙ ap is_some_list given ∙ sym (ret-widths bits exit)
+
 without-ends : (family : Family) (g h : Graph) → IsGraphWithout family g h → ends h ≡ ends g
 without-ends family g h is =
     map_zipped (IsBlockWithout family) end_of end_of (λ b c pair. ap₂ (λ at ret. (at, ret)) pair.at (ap is_ret pair.exit))
@@ -217,8 +221,8 @@ without-ends family g h is =
 stays-ends : (g h : Graph) → GraphStays g h → ends h ≡ ends g
 stays-ends g h is =
     map_zipped (BlockStays g.bits h.bits) end_of end_of
-    (λ b c pair. ap₂ (λ at ret. (at, ret)) pair.at
-    (ret-widths h.bits c.exit ∙ ap is_some_list pair.given ∙ sym (ret-widths g.bits b.exit))) g.blocks h.blocks is.blocks
+    (λ b c pair. ap₂ (λ at ret. (at, ret)) pair.at (ret-end g.bits h.bits b.exit c.exit pair.given)) g.blocks h.blocks
+    is.blocks
 
 pub simplified-ends : (g h : Graph) → IsSimplifiedGraph g h → ends h ≡ ends g
 simplified-ends g h is =

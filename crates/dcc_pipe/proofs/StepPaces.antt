@@ -1,4 +1,4 @@
--- The machine keeps pace with what is prepared of a lifted program, at the places of blocks for which a text has a
+-- The machine keeps pace with what is left of a lifted program after all passes, at the places of blocks for which a text has a
 -- step: these hold the paths of procedures.
 use Rattle.std.proofs.Common.{◌≡◌, ◌≢◌, ◌<◌, ℕ, Bool, true, false, ◌&&◌, not, inl, inr, List, [], ◌∷◌, length, flat_map, get_or, Option, Some, None, Contains, All, refl, sym, ap, ◌∙◌, subst, eqb-true, arith}
 use Rattle.std.specs.Prelude.{◌==◌}
@@ -16,7 +16,7 @@ use Rattle.dcc_prog.specs.Found.{IsNodeFound, IsFound}
 use Rattle.dcc_prog.specs.Trail.{StandsAt, IsTrail, IsEntry}
 use Rattle.dcc_ir.specs.Ends.{is_ret}
 use Rattle.dcc_ir.specs.Flow.{Flow, graph_or_none, flow_of, flow_at, IsPath, Any, Reached, IsContraction}
-use Rattle.dcc_ir.specs.Keeps.{calls_of, block_or_none, calls_at}
+use Rattle.dcc_ir.specs.Keeps.{calls_of, block_or_none, calls_at, Keeps}
 use Rattle.dcc_ir.specs.Live.{block_in}
 use Rattle.dcc_ir.specs.Run.{graph_at, no_block}
 use Rattle.dcc_ir.specs.Tree.{Expr, Stmt, Exit, Ret, Block, Graph, Program}
@@ -38,19 +38,26 @@ use Rattle.dcc_sums.specs.Localised.{trim_by, localised}
 use Rattle.dcc_signatures.specs.Packed.{pack_graph, packed}
 use Rattle.dcc_ir.specs.Trimmed.{trim_graph}
 use Rattle.dcc_plan_check.specs.Structured.{BeginsReturns}
+use Rattle.dcc_passes.specs.Tidied.{IsTidied}
+use Rattle.dcc_stack.specs.Accepted.{IsProgramOfFile}
+use Rattle.dcc_lift.specs.Lifted.{IsLiftOf}
 use Rattle.dcc_pipe.specs.Control.{Control, keeps_step, IsControlOf, AreControls}
-use Rattle.dcc_pipe.specs.Following.{PreparedIsPaced}
+use Rattle.dcc_pipe.specs.Following.{KeepsPaceWith}
 use Rattle.dcc_pipe.specs.Prepared.{IsPrepared}
-use Rattle.dcc_pipe.specs.Simplified.{IsSimplifiedGraph}
+use Rattle.dcc_pipe.specs.Simplified.{IsSimplifiedGraph, HasEachChanged}
+use Rattle.dcc_tidy.specs.Tidied.{IsTidiedGraph}
 use Rattle.dcc_pipe.proofs.CallBlocks.{first-at, call-has}
 use Rattle.dcc_pipe.proofs.HeldPaths.{closed-before}
 use Rattle.dcc_pipe.proofs.PassingLaws.{simplified-entry}
 use Rattle.dcc_pipe.proofs.PlacePaths.{closed-holds}
+use Rattle.dcc_pipe.proofs.PreparedFits.{left-simplified}
 use Rattle.dcc_pipe.proofs.PreparedLaws.{all-changed}
 use Rattle.dcc_pipe.proofs.ReplacedLaws.{alike-at}
 use Rattle.dcc_pipe.proofs.ReturnLaws.{end_of, ends, trimmed-ends, packed-ends, simplified-ends}
 use Rattle.dcc_pipe.proofs.SimplifiedLaws.{all-both}
 use Rattle.dcc_pipe.proofs.StepPlaces.{step-there}
+use Rattle.dcc_pipe.proofs.TidiedLaws.{kind-ends}
+use Rattle.dcc_tidy.proofs.GraphLaws.{graphs-tidied}
 
 -- Blocks with a step.
 
@@ -72,14 +79,22 @@ graph-there : (o : Option Graph) (k : ℕ) → k < length (graph_or_none o).bloc
 graph-there None k inside = absurd (omega (arith, inside))
 graph-there (Some graph) k inside = refl
 
--- Where blocks of what is prepared return.
+-- Where blocks return of what is prepared, and of what is tidied of that.
 
 abbrev HasEndsOf : Graph → Graph → Type 0
 HasEndsOf g h = (h.entry ≡ g.entry) × (ends h ≡ ends g)
 
-ends-stay : (p q : Program) → IsPrepared p q → (entry : ℕ)
+-- the second program keeps the first one's runs, its graphs are well formed, and their blocks return where the first
+-- one's do
+pub record KeepsReturns (p q : Program) : Type 0 where
+  pub formed : All IsGraph q.graphs
+  pub keeps : Keeps p q
+  pub returning : (entry : ℕ)
+      → ends (graph_or_none (graph_at q.graphs entry)) ≡ ends (graph_or_none (graph_at p.graphs entry))
+
+prepared-ends : (p q : Program) → IsPrepared p q → (entry : ℕ)
     → ends (graph_or_none (graph_at q.graphs entry)) ≡ ends (graph_or_none (graph_at p.graphs entry))
-ends-stay p q is entry =
+prepared-ends p q is entry =
     let trim = trim_by p.graphs is.sums in
     let just = localised is.sums p in
     alike-at IsSimplifiedGraph ends simplified-entry simplified-ends (packed just).graphs q.graphs is.made.graphs entry
@@ -87,6 +102,19 @@ ends-stay p q is entry =
     (all-changed HasEndsOf pack_graph (λ g. (refl, packed-ends g)) just.graphs) entry
     ∙ alike-at HasEndsOf ends (λ g h both. both.0) (λ g h both. both.1) p.graphs just.graphs
     (all-changed HasEndsOf (trim_graph trim) (λ g. (refl, trimmed-ends trim g)) p.graphs) entry
+
+-- what is tidied of a prepared program keeps them
+tidied-keeps : (ids : List ℕ) (p q r : Program) → IsPrepared p q → HasEachChanged (IsTidiedGraph ids) q r
+    → KeepsReturns p r
+tidied-keeps ids p q r is tidy =
+    let simplified = left-simplified p q is ids r tidy in
+    let each = graphs-tidied ids q.graphs r.graphs is.simplified.textable.formed.graphs tidy.graphs in record {
+      formed = simplified.textable.formed.graphs;
+      keeps = simplified.keeps;
+      returning = λ entry.
+          alike-at IsTidied ends (λ g h is. is.kind.entry) (λ g h is. kind-ends g h is.kind) q.graphs r.graphs each entry
+          ∙ prepared-ends p q is entry;
+    }
 
 -- The flow graph of a procedure that is found, with a block of the prelude or without.
 
@@ -160,7 +188,7 @@ module _ (image : Image) (layout : Layout) (proc : Proc) (found : IsFound image 
         node-reached a node.before node.trail
 
 module _ (image : Image) (program : Analysed) (p q : Program) (is : IsTranslated image program p)
-    (prepared : IsPrepared p q) (control : Control) (controls : AreControls control q) where
+    (kept : KeepsReturns p q) (control : Control) (controls : AreControls control q) where
   open program use {layout}
 
   module _ (entry : ℕ) where
@@ -190,7 +218,7 @@ module _ (image : Image) (program : Analysed) (p q : Program) (is : IsTranslated
           (graph-there (graph_at q.graphs entry) k inside)
 
       formed : IsGraph graph
-      formed = All-contains IsGraph q.graphs graph prepared.simplified.textable.formed.graphs among
+      formed = All-contains IsGraph q.graphs graph kept.formed among
 
       returns : BeginsReturns graph (control graph)
       returns = (All-contains (λ g. IsControlOf g (control g)) q.graphs graph controls among).returns
@@ -223,7 +251,7 @@ module _ (image : Image) (program : Analysed) (p q : Program) (is : IsTranslated
         → is_ret block.exit ≡ true → keeps block.at ≡ true
     return-kept block has is =
         let before = (graph_or_none (graph_at p.graphs entry)).blocks in
-        let same = ends-stay p q prepared entry in
+        let same = kept.returning entry in
         let k = has.0 in
         let inside : k < length graph.blocks =
         subst (λ n. k < n) (sym (length-map before end_of) ∙ ap length (sym same) ∙ length-map graph.blocks end_of)
@@ -249,7 +277,7 @@ module _ (image : Image) (program : Analysed) (p q : Program) (is : IsTranslated
     whole : IsContraction wider (flow_at q proc.entry)
     whole =
         contraction_trans wider (flow_at p proc.entry) (flow_at q proc.entry) covers.is_flow (flow_of-flow before)
-        (flow_of-flow (graph proc.entry)) has.contraction (prepared.simplified.keeps.flow proc.entry)
+        (flow_of-flow (graph proc.entry)) has.contraction (kept.keeps.flow proc.entry)
 
     called-kept : (call : ℕ × Node) (target : ℕ) → IsNodeFound image layout proc.entry call
         → call.1.instr.op ≡ CallOp target → (flow_at p proc.entry).has call.0 ≡ true
@@ -260,7 +288,7 @@ module _ (image : Image) (program : Analysed) (p q : Program) (is : IsTranslated
         let reached =
         reached_still wider (flow_at p proc.entry) covers.is_flow (flow_of-flow before) has.contraction call.0
         (node-reached image layout proc found wider covers call.0 is_node.node.before is_node.node.trail) begins in
-        let stay = prepared.simplified.keeps.calls proc.entry in
+        let stay = kept.keeps.calls proc.entry in
         let there = stay.kept call.0 reached some in
         call-kept proc.entry call.0 there (λ none. some (sym (stay.same call.0 reached there) ∙ none))
 
@@ -321,7 +349,11 @@ module _ (image : Image) (program : Analysed) (p q : Program) (is : IsTranslated
       procs.found procs.reached)
       (have-blocks image program p is)
 
-pub prepared-paced : PreparedIsPaced
-prepared-paced image program p q of_file lift prepared control controls =
+-- The machine keeps pace with what is tidied of what is prepared of a lifted program.
+pub tidied-paced : (ids : List ℕ) (image : Image) (program : Analysed) (p q r : Program)
+    → IsProgramOfFile program.layout.cpu image program → IsLiftOf image program p → IsPrepared p q
+    → HasEachChanged (IsTidiedGraph ids) q r → KeepsPaceWith image program r
+tidied-paced ids image program p q r of_file lift prepared tidy control controls =
     let is : IsTranslated image program p = record { of_file = of_file; translation = lift.translation } in
-    kept-paced image program p (keeps_step control q) is (steps-hold image program p q is prepared control controls)
+    kept-paced image program p (keeps_step control r) is
+    (steps-hold image program p r is (tidied-keeps ids p q r prepared tidy) control controls)

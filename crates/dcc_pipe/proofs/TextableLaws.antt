@@ -5,8 +5,10 @@ use Rattle.dcc_prog.specs.declared.frame.Program.{Program}
 use Rattle.dcc_ir.specs.Tree as inner
 use Rattle.dcc_simulation.specs.Nodes.{procedures_in}
 use Rattle.dcc_lift.specs.Lifted.{IsLifted}
-use Rattle.dcc_pipe.specs.Textable.{lifted_levels, levels, IsTextable}
-use Rattle.dcc_pipe.specs.Prepared.{HasLiftedForm, LiftedHasTheForm, IsPrepared}
+use Rattle.dcc_tidy.specs.Tidied.{text_levels}
+use Rattle.dcc_pipe.specs.Textable.{lifted_levels, IsTextable}
+use Rattle.dcc_pipe.specs.Prepared.{HasLiftedForm, LiftedHasTheForm}
+use Rattle.dcc_pipe.specs.Simplified.{IsSimplified}
 use Rattle.dcc_ir.specs.Passing.{PassesAll}
 use Rattle.dcc_pipe.specs.Following.{KeepsPaceWith, IsFollowing}
 use Rattle.dcc_pipe.proofs.ArgumentsApart.{frames-small, graphs-apart}
@@ -32,10 +34,10 @@ lifted-has_the_form image program p is lifted = with_back lifted.passes
       reads = lifted.flag_reads;
     }
 
--- What is prepared of it follows the image, where the machine keeps pace with it.
-pub prepared-follows : (image : Image) (program : Program) (p q : inner.Program) → IsLifted image program p → IsPrepared p q
-    → KeepsPaceWith image program q → IsFollowing image program q
-prepared-follows image program p q lifted is pace = record {
-  runs = simplified-shadows image program levels p q is.simplified lifted.runs;
+-- What passes leave of it follows the image, where the machine keeps pace with that.
+pub left-follows : (image : Image) (program : Program) (p q : inner.Program) → IsLifted image program p
+    → IsSimplified text_levels p q → KeepsPaceWith image program q → IsFollowing image program q
+left-follows image program p q lifted is pace = record {
+  runs = simplified-shadows image program text_levels p q is lifted.runs;
   pace = pace;
 }

@@ -40,7 +40,7 @@ use Rattle.dcc_plan.proofs.AllowedCalls.{function-word, calls-allowed, openings-
 use Rattle.dcc_plan.proofs.AllowedPlans.{texts-allowed}
 use Rattle.dcc_plan.proofs.SpelledGraphs.{spelled-graph}
 use Rattle.dcc_pipe.specs.Control.{Control, IsControlOf, AreControls}
-use Rattle.dcc_pipe.specs.Textable.{levels}
+use Rattle.dcc_tidy.specs.Tidied.{text_levels}
 use Rattle.dcc_pipe.specs.WholeText.{TakesFew, opened, before_lines, body_of, text_function, other_functions, whole_text}
 use Rattle.dcc_pipe.proofs.OpeningLines.{is_assignment, openings-assign}
 use Rattle.dcc_pipe.proofs.FunctionTables.{found-by_name}
@@ -150,7 +150,7 @@ module _ (control : Control) (first : inner.Graph) (others : List inner.Graph) (
   all-names = ap (λ ws. codes "start" ∷ ws) (other-names others)
 
   module _ (well : IsProgram program) (few : All HasFewNames program.graphs)
-      (shallow : All (λ g. All (λ e. depth_of e ≤ levels) (graph_exprs g)) program.graphs)
+      (shallow : All (λ g. All (λ e. depth_of e ≤ text_levels) (graph_exprs g)) program.graphs)
       (takes : All (λ g. All (λ b. All (TakesFew program) b.stmts) g.blocks) program.graphs)
       (controls : AreControls control program) where
     functions-differ : rules.all_differ (map (λ f. f.name) tree.functions) ≡ true
@@ -171,13 +171,13 @@ module _ (control : Control) (first : inner.Graph) (others : List inner.Graph) (
       own-few : HasFewNames g
       own-few = All-contains HasFewNames program.graphs g few c
 
-      own-shallow : All (λ e. depth_of e ≤ levels) (graph_exprs g)
-      own-shallow = All-contains (λ g. All (λ e. depth_of e ≤ levels) (graph_exprs g)) program.graphs g shallow c
+      own-shallow : All (λ e. depth_of e ≤ text_levels) (graph_exprs g)
+      own-shallow = All-contains (λ g. All (λ e. depth_of e ≤ text_levels) (graph_exprs g)) program.graphs g shallow c
 
       declared : AreDeclared (declared_in tree f) (function_spelling g)
       declared = function-declared g own-few.variables own-few.params formed tree f refl refl
 
-      place : IsPlaceFor tree f g levels 200
+      place : IsPlaceFor tree f g text_levels 200
       place = record { declared = declared; enough = omega arith }
 
       other-there : (graphs : List inner.Graph) (h : inner.Graph) → Contains graphs h
@@ -206,14 +206,14 @@ module _ (control : Control) (first : inner.Graph) (others : List inner.Graph) (
           let there_is : Contains tree.functions callee =
           Contains-later (text_function (control first) (codes "start") first) (other_functions control others) callee
           (subst (λ n. Contains (other_functions control others) (text_function (control call.callee) (function_name n) call.callee)) at.1 (other-there others call.callee at.0)) in
-          let low = All-contains (λ b. All (λ e. depth_of e ≤ levels) (block_exprs b)) g.blocks b
-          (all_parts (λ e. depth_of e ≤ levels) block_exprs g.blocks own-shallow) inside in
-          calls-allowed program tree f callee g results entry arguments own 2 levels 200 place served.formed call refl
+          let low = All-contains (λ b. All (λ e. depth_of e ≤ text_levels) (block_exprs b)) g.blocks b
+          (all_parts (λ e. depth_of e ≤ text_levels) block_exprs g.blocks own-shallow) inside in
+          calls-allowed program tree f callee g results entry arguments own 2 text_levels 200 place served.formed call refl
           (found-by_name tree.functions functions-differ callee there_is) taken.0 (taken.1 call.callee call.named) served.written
           (record {
             named = All-weaker (IsWithin (function_spelling g) (has_name g)) (λ e. All (has_name g) (reads_of e)) (λ e within. within.reads) arguments served.within;
-            shallow = All-contains (λ stmt. All (λ e. depth_of e ≤ levels) (exprs_of stmt)) b.stmts stmt
-                (all_parts (λ e. depth_of e ≤ levels) exprs_of b.stmts (left_part (λ e. depth_of e ≤ levels) (flat_map exprs_of b.stmts) (exit_exprs b.exit) low)) there;
+            shallow = All-contains (λ stmt. All (λ e. depth_of e ≤ text_levels) (exprs_of stmt)) b.stmts stmt
+                (all_parts (λ e. depth_of e ≤ text_levels) exprs_of b.stmts (left_part (λ e. depth_of e ≤ text_levels) (flat_map exprs_of b.stmts) (exit_exprs b.exit) low)) there;
           })
       call-fits b inside (inner.Set location e) there is = absurd (true≢false (sym is))
       call-fits b inside (inner.Fetch location width address) there is = absurd (true≢false (sym is))
@@ -247,10 +247,10 @@ module _ (control : Control) (first : inner.Graph) (others : List inner.Graph) (
       body-allowed : AreAllowedLines tree f 200 (body_of (control g) g)
       body-allowed =
           opened-lines tree f (openings (opened g) g) (openings-assign (function_spelling g) (opened g) 0 g.params)
-          (openings-allowed tree f g (opened g) levels 200 place formed own-few refl (opened-named g formed))
+          (openings-allowed tree f g (opened g) text_levels 200 place formed own-few refl (opened-named g formed))
           (plan_text (function_spelling g) g (control g))
-          (texts-allowed tree f (function_spelling g) g (control g) (plan_text (function_spelling g) g (control g)) levels 200 declared formed
-          (spelled-graph (function_spelling g) g (mattering g) levels refl (mattering-matters g formed) (λ b location less is. is.0) own-shallow)
+          (texts-allowed tree f (function_spelling g) g (control g) (plan_text (function_spelling g) g (control g)) text_levels 200 declared formed
+          (spelled-graph (function_spelling g) g (mattering g) text_levels refl (mattering-matters g formed) (λ b location less is. is.0) own-shallow)
           calls-fit returns-fit (omega arith) own.is_plan own.stands
           (plain-text (function_spelling g) g (control g)))
 

@@ -1,11 +1,9 @@
 -- What a program is to an image from which it comes. This stands between the definitions and the proofs.
 use Rattle.dcc_machine.specs.declared.image.Image.{Image}
 use Rattle.dcc_prog.specs.declared.frame.Program.{Program as Analysed}
-use Rattle.dcc_stack.specs.Accepted.{IsProgramOfFile}
 use Rattle.dcc_ir.specs.Tree.{Program}
-use Rattle.dcc_lift.specs.Lifted.{ShadowsMachine, PacedAt, IsLiftOf}
+use Rattle.dcc_lift.specs.Lifted.{ShadowsMachine, PacedAt}
 use Rattle.dcc_pipe.specs.Control.{Control, AreControls, keeps_step}
-use Rattle.dcc_pipe.specs.Prepared.{IsPrepared}
 
 -- Whatever the control of the program's text, the machine keeps pace with the blocks for which the text has a step.
 abbrev pub KeepsPaceWith : Image → Analysed → Program → Type 0
@@ -16,8 +14,3 @@ KeepsPaceWith image program p =
 pub record IsFollowing (image : Image) (program : Analysed) (p : Program) : Type 0 where
   pub runs : ShadowsMachine image program p
   pub pace : KeepsPaceWith image program p
-
--- the machine keeps pace with what is prepared of a lifted program
-abbrev pub PreparedIsPaced : Type 0
-PreparedIsPaced = (image : Image) (program : Analysed) (p q : Program)
-    → IsProgramOfFile program.layout.cpu image program → IsLiftOf image program p → IsPrepared p q → KeepsPaceWith image program q

@@ -1,5 +1,5 @@
 -- Texts of the shape that procedures ask for, and images that have none.
-use Rattle.std.specs.Prelude.{◌≡◌, ℕ, Some, option_map, slice_get}
+use Rattle.std.specs.Prelude.{◌≡◌, ℕ, List, Some, option_map, slice_get}
 use Rattle.dcc_machine.specs.declared.cpu.Cpu.{Cpu}
 use Rattle.dcc_machine.specs.declared.image.Image.{Image}
 use Rattle.dcc_prog.specs.declared.frame.Program.{Program as Analysed}
@@ -15,6 +15,8 @@ use Rattle.dcc_c.specs.Written.{written_form}
 use Rattle.dcc_shape.specs.Shape.{HaveShape, LacksShape}
 use Rattle.dcc_pipe.specs.Agreement.{IsTextOf}
 use Rattle.dcc_pipe.specs.Prepared.{IsPrepared}
+use Rattle.dcc_pipe.specs.Simplified.{HasEachChanged}
+use Rattle.dcc_tidy.specs.Tidied.{IsTidiedGraph}
 use Rattle.dcc_pipe.specs.WholeText.{IsWholeText}
 use Rattle.dcc_pipe.specs.declared.no_text.NoText.{NoText}
 use Rattle.dcc_pipe.specs.declared.no_text.NoText.TheVariants.{Refused, NotYet}
@@ -31,15 +33,18 @@ pub record LacksShapeAt (program : Analysed) (tree : Tree) (at : ℕ) : Type 0 w
   pub lacks : LacksShape number program.procs.items tree.functions
   pub entry : option_map (λ (proc : Proc). proc.entry) (slice_get program.procs.items number) ≡ Some at
 
--- The tree is that of a text that is made of the program in the image: the program is lifted, what all passes leave of it
--- is written with a plan for each graph, and the lines are counted.
+-- The tree is that of a text that is made of the program in the image: the program is lifted and prepared, what all
+-- passes leave of it is written with a plan for each graph, and the lines are counted.
 pub record IsMadeOf (image : Image) (program : Analysed) (tree : Tree) : Type 0 where
   pub lifted : Program
   pub is_lifted : IsLiftOf image program lifted
   pub ready : Program
   pub is_ready : IsPrepared lifted ready
+  pub tidy : Program
+  pub ids : List ℕ
+  pub is_tidy : HasEachChanged (IsTidiedGraph ids) ready tidy
   pub plain : Tree
-  pub is_text : IsWholeText ready plain
+  pub is_text : IsWholeText tidy plain
   pub is : tree ≡ numbered plain
 
 -- Nothing refuses the image, and a text that is made of the program in it, and agrees with it, lacks its shape first in

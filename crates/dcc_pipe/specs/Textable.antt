@@ -10,8 +10,8 @@ use Rattle.dcc_plan.specs.Calls.{all_places, locations_differ}
 abbrev pub lifted_levels : ℕ
 lifted_levels = 7
 
--- As many levels may an expression have for its text: without flags what is lifted has twice as many. Each takes at
--- most 6 of the text's, and the division of bytes two more, of which the reader takes 200.
+-- As many have those of what is prepared: without flags what is lifted has twice as many. Their text may have 32, since
+-- each takes at most 6 of the text's, and the division of bytes three more, of which the reader takes 200.
 abbrev pub levels : ℕ
 levels = 2 * lifted_levels
 

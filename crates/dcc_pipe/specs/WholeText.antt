@@ -14,7 +14,8 @@ use Rattle.dcc_variables.specs.Globals.{globals_of}
 use Rattle.dcc_variables.specs.FunctionLaws.{HasFewNames}
 use Rattle.dcc_variables.specs.Functions.{function_name, function_spelling, function_of, openings}
 use Rattle.dcc_pipe.specs.Control.{Control, AreControls}
-use Rattle.dcc_pipe.specs.Textable.{levels, TakesApart, IsTextable}
+use Rattle.dcc_tidy.specs.Tidied.{text_levels}
+use Rattle.dcc_pipe.specs.Textable.{TakesApart, IsTextable}
 
 -- the bytes of arguments that are opened: those that are live where the graph begins
 abbrev pub opened : Graph → Loc → Bool
@@ -70,7 +71,7 @@ TakesFew p stmt = Unit {0}
 -- What a program needs for its text: returns give at most one value, and calls take at most one, of graphs that return;
 -- no location takes two arguments, and names have numbers.
 pub record FitsText (p : Program) : Type 0 where
-  pub textable : IsTextable levels p
+  pub textable : IsTextable text_levels p
   pub gives : All (λ g. All GivesFew g.blocks) p.graphs
   pub takes : All (λ g. All (λ b. All (TakesFew p) b.stmts) g.blocks) p.graphs
   pub apart : All TakesApart p.graphs

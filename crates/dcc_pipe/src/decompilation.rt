@@ -19,6 +19,7 @@ ghost use Rattle.dcc_pipe.specs.TypedFrames.{AreTypedFrames, HasTypedFrames};
 use crate::analysis::analyse;
 use crate::no_text::NoText;
 use crate::preparation::prepared;
+use crate::tidying::tidied;
 use crate::unit::unit_of;
 use dcc_c::Unit;
 use dcc_instruction_demand::lifted_relations_are_the_machines;
@@ -27,12 +28,18 @@ use dcc_lift::lift;
 use dcc_machine::{Cpu, Image};
 use dcc_print::number;
 use dcc_prog::{ConstructKind, Program, Refusal};
+use dcc_rules::RuleList;
 use dcc_shape::has_shape;
 use dcc_summaries::SumsFault;
 use std::alloc::Global;
 
-// The text of a program that is analysed, or what is at fault between its procedures.
-fn text_of(alloc: Global, image: &Image, program: &Program) -> Result<Unit, SumsFault>
+// The text of a program that is analysed, by these rules, or what is at fault between its procedures.
+fn text_of(
+    alloc: Global,
+    image: &Image,
+    program: &Program,
+    rules: &RuleList,
+) -> Result<Unit, SumsFault>
     requires loaded { IsLoaded image.now }
     requires program { IsProgramOf program.now.layout.cpu image.now program.now }
     ensures text { IfOk result
@@ -49,7 +56,8 @@ fn text_of(alloc: Global, image: &Image, program: &Program) -> Result<Unit, Sums
     faults_are_constructs();
     summed_programs_have_none();
     let prepared = prepared(alloc, lifted)?;
-    let unit = unit_of(alloc, &prepared)?;
+    let tidied = tidied(alloc, prepared, rules)?;
+    let unit = unit_of(alloc, &tidied)?;
     Ok(number(alloc, unit)?)
 }
 
@@ -86,13 +94,13 @@ fn shaped(alloc: Global, program: &Program, unit: Unit) -> Result<Unit, NoText>
 }
 
 /// The text of a loaded program for a processor: its image outside the stack as arrays, and a function for each
-/// procedure, with a variable for each half of a word register, each flag, each temporary and each half of a frame's
-/// cell that it needs, an array for the local bytes of the frame that are in memory, and loops, tests, choices and
-/// jumps, with the lines where statements stand in the written form. The written form stands for the unit's tree,
-/// whose run on every input and from every fill agrees with that of the program on the processor, as long as that is
-/// clean. The `auto` parameters and variables of a function are just the arguments and the local bytes that its
-/// procedure's frame exposes; where it exposes no local byte, there may be one if the procedure moves SP by ADD, SUB,
-/// INC or DEC, and the array of that byte is named in no load and no store, for its address alone.
+/// procedure, with variables for its values, an array for the local bytes of the frame that are in memory, and loops,
+/// tests, choices and jumps, with the lines where statements stand in the written form. Expressions are made simpler by
+/// the rules of a list; what is promised holds for every list. The written form stands for the unit's tree, whose run on
+/// every input and from every fill agrees with that of the program on the processor, as long as that is clean. The
+/// `auto` parameters and variables of a function are just the arguments and the local bytes that its procedure's frame
+/// exposes; where it exposes no local byte, there may be one if the procedure moves SP by ADD, SUB, INC or DEC, and the
+/// array of that byte is named in no load and no store, for its address alone.
 ///
 /// Each function has the shape that its procedure asks for. Its blocks, labels, jumps and empty statements are no more
 /// than the procedure's instructions, edges and loops give. Where the procedure has fewer than 190 branches and loops,
@@ -105,7 +113,12 @@ fn shaped(alloc: Global, program: &Program, unit: Unit) -> Result<Unit, NoText>
 /// may change an argument which is wanted after it, or a procedure that gives several values back. Where nothing
 /// refuses the program, the text that is made of it may still lack its shape: then the entry of the first procedure is
 /// told whose function does. Want of memory may refuse any program.
-pub fn decompile(alloc: Global, image: &Image, cpu: Cpu) -> Result<Unit, NoText>
+pub fn decompile(
+    alloc: Global,
+    image: &Image,
+    cpu: Cpu,
+    rules: &RuleList,
+) -> Result<Unit, NoText>
     requires { IsLoaded image.now }
     ensures text { IfOk result (λ unit. IsTextOf cpu image.now (written_form (tree_of unit)) (tree_of unit)) }
     ensures typed { IfOk result (λ unit. HasTypedFrames cpu image.now (tree_of unit)) }
@@ -114,7 +127,7 @@ pub fn decompile(alloc: Global, image: &Image, cpu: Cpu) -> Result<Unit, NoText>
     ensures refused { IfErr result (HasNoTextFor cpu image.now) }
 {
     let program = analyse(alloc, image, cpu)?;
-    match text_of(alloc, image, &program) {
+    match text_of(alloc, image, &program, rules) {
         Ok(unit) => shaped(alloc, &program, unit),
         Err(fault) => Err(NoText::Refused(refusal_of(fault))),
     }

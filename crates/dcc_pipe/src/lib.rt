@@ -9,6 +9,7 @@ pub mod laws;
 mod no_text;
 mod passes;
 mod preparation;
+mod tidying;
 mod unit;
 
 pub use analysis::analyse;

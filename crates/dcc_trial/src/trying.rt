@@ -9,11 +9,18 @@ use dcc_gen::make;
 use dcc_machine::Cpu;
 use dcc_mz::load;
 use dcc_pipe::{analyse, decompile};
+use dcc_rules::RuleList;
 use std::alloc::Global;
 
-/// Makes the program of a seed and of `size` pieces, 1 to 1,000, decompiles it for the 8086, and runs both sides on no
-/// input for at most so many steps each.
-pub fn trial(alloc: Global, seed: u64, size: u16, steps: u64) -> Result<Trial, NoTrial>
+/// Makes the program of a seed and of `size` pieces, 1 to 1,000, decompiles it for the 8086 by these rules, and runs
+/// both sides on no input for at most so many steps each.
+pub fn trial(
+    alloc: Global,
+    seed: u64,
+    size: u16,
+    steps: u64,
+    rules: &RuleList,
+) -> Result<Trial, NoTrial>
     requires some { 1 ≤ size }
     requires few { size ≤ 1000 }
     ensures trial { IfOk result (IsTrial seed size steps) }
@@ -21,7 +28,7 @@ pub fn trial(alloc: Global, seed: u64, size: u16, steps: u64) -> Result<Trial, N
 {
     let file = make(alloc, seed, size)?;
     let image = load(alloc, &file)?;
-    let unit = decompile(alloc, &image, Cpu::I8086)?;
+    let unit = decompile(alloc, &image, Cpu::I8086, rules)?;
     // What has a text is refused by no analysis, but for want of memory.
     let Ok(program) = analyse(alloc, &image, Cpu::I8086) else {
         return Err(NoTrial::Memory);

@@ -7,5 +7,7 @@ pub mod PlacedLaws
 pub mod SplitLaws
 pub mod TempLaws
 pub mod WalkLaws
+pub mod RenamedKinds
+pub mod ToldLaws
 pub mod StandLaws
 pub mod BackLaws

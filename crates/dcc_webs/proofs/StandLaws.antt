@@ -14,8 +14,12 @@ use Rattle.dcc_ir.specs.Families.{live}
 use Rattle.dcc_ir.proofs.FamilyLaws.{live-closed}
 use Rattle.dcc_flow.specs.Access.{block_access_of}
 use Rattle.dcc_flow.specs.Edges.{is_in, successors_of}
-use Rattle.dcc_passes.specs.Replaced.{StandsFor}
+use Rattle.dcc_ir.specs.Measure.{deepest}
+use Rattle.dcc_ir.specs.Use.{graph_exprs}
+use Rattle.dcc_passes.specs.Tidied.{IsTidied}
 use Rattle.dcc_passes.proofs.RenamedLaws.{renamed-stands}
+use Rattle.dcc_webs.proofs.RenamedKinds.{stays-in-kind}
+use Rattle.dcc_webs.proofs.ToldLaws.{addresses-told, depth-told, apart-told}
 use Rattle.dcc_webs.specs.Temporaries.{HasTempsAlone, TellsApart}
 use Rattle.dcc_ir.specs.declared.syntax.Param.{Param}
 use Rattle.dcc_passes.specs.Renaming.{renamed_param}
@@ -29,8 +33,9 @@ use Rattle.dcc_webs.proofs.TempLaws.{temps_alone}
 pub record Stands (graph after : Graph) : Type 0 where
   pub formed : IsGraph after
   pub temps : HasTempsAlone after
-  pub stands : StandsFor graph after
+  pub tidied : IsTidied graph after
   pub told : TellsApart graph after
+  pub depth : deepest (graph_exprs after) ≡ deepest (graph_exprs graph)
 
 pub split_stands : (graph : Graph) (lists : List (List Loc)) (facts : Facts) (after : GraphOf) → IsGraph graph → IsLive graph lists → AreFacts graph lists facts → AreWhole facts → IsSplitBy facts graph after
     → Stands graph (graph_of after)
@@ -38,11 +43,20 @@ split_stands graph lists facts after formed is_live are whole split =
     let over : Graph = graph_over split.temps.of.items facts split.temps.bits.items graph in
     let over_formed = is_formed graph lists is_live facts are whole split.temps split.temps_are formed in
     let renamed = is_renamed graph lists is_live facts are whole split.temps split.temps_are formed.begins in
+    let told = tells_apart graph lists is_live facts are whole split.temps split.temps_are formed.begins in
+    let named = name graph lists is_live facts are whole split.temps split.temps_are in
     subst (λ (g : Graph). Stands graph g) (sym split.is) (record {
       formed = over_formed;
       temps = temps_alone split.temps.of.items facts split.temps.bits.items graph;
-      stands = renamed-stands (live graph) (name graph lists is_live facts are whole split.temps split.temps_are) graph over (live-closed graph) renamed over_formed;
-      told = tells_apart graph lists is_live facts are whole split.temps split.temps_are formed.begins;
+      tidied = record {
+        formed = over_formed;
+        stands = renamed-stands (live graph) named graph over (live-closed graph) renamed over_formed;
+        kind = stays-in-kind (live graph) named graph over renamed;
+        addresses = addresses-told graph over told;
+        apart = apart-told graph over told;
+      };
+      told = told;
+      depth = depth-told graph over told;
     })
 
 -- the facts of a graph are whole

@@ -2,9 +2,12 @@
 
 ghost use Rattle.std.specs.Prelude.{◌≡◌, ◌<◌, ◌++◌, length, map, get_or, IfOk, OnOk};
 ghost use Rattle.dcc_ir.specs.Joinable.{places_of};
+ghost use Rattle.dcc_ir.specs.Measure.{deepest};
+ghost use Rattle.dcc_ir.specs.Use.{graph_exprs};
 ghost use Rattle.dcc_ir.specs.Views.{stmt_of, exit_of, block_of, graph_of};
 ghost use Rattle.dcc_ir.specs.WellFormed.{IsGraph};
 ghost use Rattle.dcc_passes.specs.Replaced.{StandsFor};
+ghost use Rattle.dcc_passes.specs.Tidied.{IsTidied};
 ghost use Rattle.dcc_passes.specs.Renaming.{renamed_exit, renamed_param, param_places};
 ghost use Rattle.dcc_flow.specs.Access.{access_in, access_of, block_access_of, accesses_of};
 ghost use Rattle.dcc_webs.specs.Names.{names_of, before_one, before_all, at_exit};
@@ -247,6 +250,8 @@ pub fn split(alloc: Global, g: Graph) -> Result<Graph, AllocError>
     ensures temps { IfOk result (λ after. HasTempsAlone (graph_of after)) }
     ensures told { IfOk result (λ after. TellsApart (graph_of g) (graph_of after)) }
     ensures stands { IfOk result (λ after. StandsFor (graph_of g) (graph_of after)) }
+    ensures tidied { IfOk result (λ after. IsTidied (graph_of g) (graph_of after)) }
+    ensures depth { IfOk result (λ after. deepest (graph_exprs (graph_of after)) ≡ deepest (graph_exprs (graph_of g))) }
 {
     let no_sums = Sums {
         of: Vec::new(alloc),

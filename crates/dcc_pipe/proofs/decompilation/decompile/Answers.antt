@@ -13,12 +13,12 @@ use Rattle.dcc_pipe.proofs.ShapedLaws.{functions-as_many, lacking-unshaped}
 use Rattle.dcc_pipe.proofs.decompilation.decompile.Goals as goal
 
 pub returns-in_err-program-clause-refused : goal.returns-in_err-program-clause-refused
-returns-in_err-program-clause-refused c =
+returns-in_err-program-clause-refused g c =
     let p = err_from_is_err_and c.from_residual.result c.from_residual.ensures.1 in
     rw (p.1, p.2) (by_analysis c.in_err-program.ensures.refused)
 
 pub text_of-requires : goal.text_of-requires
-text_of-requires c =
+text_of-requires g c =
     let image = c.args.image.now in
     let program = c.in_ok-program.program in
     let is = c.in_ok-program.ensures.program in record {
@@ -27,12 +27,12 @@ text_of-requires c =
     }
 
 pub shaped-requires : goal.shaped-requires
-shaped-requires c =
+shaped-requires g c =
     functions-as_many c.args.cpu c.args.image.now c.in_ok-program.program (tree_of c.in-Ok.unit).functions
     c.in_ok-program.ensures.program c.in-Ok.ensures.typed.frames
 
 pub returns-in-Ok-clause-text : goal.returns-in-Ok-clause-text
-returns-in-Ok-clause-text c =
+returns-in-Ok-clause-text g c =
     let image = c.args.image.now in
     let unit = tree_of c.in-Ok.unit in
     let text = subst (λ cpu. IsTextOf cpu image (written_form unit) unit) c.in_ok-program.ensures.program.runs_on
@@ -42,7 +42,7 @@ returns-in-Ok-clause-text c =
     c.shaped.ensures.has
 
 pub returns-in-Ok-clause-typed : goal.returns-in-Ok-clause-typed
-returns-in-Ok-clause-typed c =
+returns-in-Ok-clause-typed g c =
     let typed : HasTypedFrames c.args.cpu c.args.image.now (tree_of c.in-Ok.unit) = record {
       program = c.in_ok-program.program;
       is_program = c.in_ok-program.ensures.program;
@@ -53,7 +53,7 @@ returns-in-Ok-clause-typed c =
     c.shaped.ensures.has
 
 pub returns-in-Ok-clause-shaped : goal.returns-in-Ok-clause-shaped
-returns-in-Ok-clause-shaped c =
+returns-in-Ok-clause-shaped g c =
     IfOk-weaker c.shaped.result _ (λ after. HasShape c.args.cpu c.args.image.now (tree_of after))
     (λ after is. record {
       program = c.in_ok-program.program;
@@ -63,14 +63,14 @@ returns-in-Ok-clause-shaped c =
     c.shaped.ensures.has
 
 pub returns-in-Ok-clause-accepted : goal.returns-in-Ok-clause-accepted
-returns-in-Ok-clause-accepted c =
+returns-in-Ok-clause-accepted g c =
     IfOk-weaker c.shaped.result _ _
     (λ after is. accepted-is_not_refused.accepted c.args.cpu c.args.image.now c.in_ok-program.program
     c.in_ok-program.ensures.program c.in-Ok.ensures.none)
     c.shaped.ensures.has
 
 pub returns-in-Ok-clause-refused : goal.returns-in-Ok-clause-refused
-returns-in-Ok-clause-refused c =
+returns-in-Ok-clause-refused g c =
     let image = c.args.image.now in
     let program = c.in_ok-program.program in
     let is = c.in_ok-program.ensures.program in
@@ -81,6 +81,6 @@ returns-in-Ok-clause-refused c =
     c.shaped.ensures.lacks
 
 pub returns-clause-refused : goal.returns-clause-refused
-returns-clause-refused c =
+returns-clause-refused g c =
     rw (c.refusal_of.ensures) (fault-refuses c.args.cpu c.args.image.now c.in_ok-program.program
     c.in_ok-program.ensures.program c.in_ok-program.ensures.accepted c.in-Err.fault c.in-Err.ensures.fault)

@@ -2,75 +2,95 @@ use Rattle.std.proofs.Common.{refl}
 use Rattle.std.proofs.lemmas.Result.{err_from_is_err_and}
 use Rattle.dcc_stack.specs.Accepted.{IsProgramOfFile}
 use Rattle.dcc_ir.specs.Views.{program_of}
+use Rattle.dcc_rules.specs.Views.{numbers_of}
 use Rattle.dcc_pipe.specs.WholeText.{whole_text}
 use Rattle.dcc_pipe.proofs.PipeLaws.{counted-tree, text-is}
-use Rattle.dcc_pipe.proofs.PreparedFits.{prepared-fits}
-use Rattle.dcc_pipe.proofs.StepPaces.{prepared-paced}
+use Rattle.dcc_pipe.proofs.PreparedFits.{left-simplified, prepared-fits}
+use Rattle.dcc_pipe.proofs.StepPaces.{tidied-paced}
 use Rattle.dcc_pipe.proofs.RefusedLaws.{fault-construct, summed-none}
-use Rattle.dcc_pipe.proofs.TextableLaws.{lifted-has_the_form, prepared-follows}
+use Rattle.dcc_pipe.proofs.TextableLaws.{lifted-has_the_form, left-follows}
 use Rattle.dcc_pipe.proofs.TypedLaws.{typed-tree}
 use Rattle.dcc_pipe.proofs.decompilation.text_of.Goals as goal
 
 pub prepared-requires : goal.prepared-requires
-prepared-requires c =
+prepared-requires g c =
     lifted-has_the_form c.args.image.now c.args.program.now (program_of c.in_ok-lifted.lifted) c.requires.program
     c.in_ok-lifted.ensures.lifted.lifted
 
 pub returns-in_err-prepared-clause-fault : goal.returns-in_err-prepared-clause-fault
-returns-in_err-prepared-clause-fault c =
+returns-in_err-prepared-clause-fault g c =
     let p = err_from_is_err_and c.from_residual-in_err-prepared.result c.from_residual-in_err-prepared.ensures.1 in
     rw (p.1, p.2) (fault-construct c.args.image.now c.args.program.now (program_of c.in_ok-lifted.lifted)
     (record { loaded = c.requires.loaded; is_program = c.requires.program }) c.in_ok-lifted.ensures.lifted
     c.lifted_relations_are_the_machines.ensures c.faults_are_constructs.ensures _ c.in_err-prepared.ensures.fault)
 
+pub tidied-requires : goal.tidied-requires
+tidied-requires g c = c.in_ok-prepared.ensures.ready.simplified.textable.formed.graphs
+
 pub returns-clause-text : goal.returns-clause-text
-returns-clause-text c =
+returns-clause-text g c =
     let image = c.args.image.now in
     let program = c.args.program.now in
     let p = program_of c.in_ok-lifted.lifted in
     let q = program_of c.in_ok-prepared.prepared in
+    let r = program_of c.in_ok-tidied.tidied in
     let is = c.in_ok-prepared.ensures.ready in
-    let fits = prepared-fits p q is c.in_ok-unit.ensures.few in
+    let tidy = c.in_ok-tidied.ensures in
+    let ids = numbers_of c.args.rules.now in
+    let fits = prepared-fits p q is ids r tidy c.in_ok-unit.ensures.few in
     let whole = c.in_ok-unit.ensures.text in
     let file : IsProgramOfFile program.layout.cpu image program =
     record { loaded = c.requires.loaded; is_program = c.requires.program } in
-    let pace = prepared-paced image program p q file c.in_ok-lifted.ensures.lifted is in
-    text-is image program c.requires.program whole.control q fits whole.controls
-    (prepared-follows image program p q c.in_ok-lifted.ensures.lifted.lifted is pace) c.in_ok-number.field-0
-    (counted-tree q fits _ _ whole c.in_ok-number.ensures)
+    let pace = tidied-paced ids image program p q r file c.in_ok-lifted.ensures.lifted is tidy in
+    text-is image program c.requires.program whole.control r fits whole.controls
+    (left-follows image program p r c.in_ok-lifted.ensures.lifted.lifted (left-simplified p q is ids r tidy) pace)
+    c.in_ok-number.field-0 (counted-tree r fits _ _ whole c.in_ok-number.ensures)
 
 pub returns-clause-none : goal.returns-clause-none
-returns-clause-none c =
+returns-clause-none g c =
     let is = c.in_ok-prepared.ensures.ready in
     summed-none c.args.image.now c.args.program.now (program_of c.in_ok-lifted.lifted)
     (record { loaded = c.requires.loaded; is_program = c.requires.program }) c.in_ok-lifted.ensures.lifted
     c.lifted_relations_are_the_machines.ensures c.summed_programs_have_none.ensures is.sums is.known
 
 pub returns-clause-typed : goal.returns-clause-typed
-returns-clause-typed c =
+returns-clause-typed g c =
     let p = program_of c.in_ok-lifted.lifted in
     let q = program_of c.in_ok-prepared.prepared in
+    let r = program_of c.in_ok-tidied.tidied in
     let is = c.in_ok-prepared.ensures.ready in
-    typed-tree c.args.image.now c.args.program.now p q
-    (record { loaded = c.requires.loaded; is_program = c.requires.program }) c.in_ok-lifted.ensures.lifted is
-    c.in_ok-unit.ensures.few c.in_ok-unit.ensures.text.control _
-    (counted-tree q (prepared-fits p q is c.in_ok-unit.ensures.few) _ _ c.in_ok-unit.ensures.text c.in_ok-number.ensures)
+    let tidy = c.in_ok-tidied.ensures in
+    let ids = numbers_of c.args.rules.now in
+    let few = c.in_ok-unit.ensures.few in
+    typed-tree ids c.args.image.now c.args.program.now p q r
+    (record { loaded = c.requires.loaded; is_program = c.requires.program }) c.in_ok-lifted.ensures.lifted is tidy
+    (left-simplified p q is ids r tidy).textable.formed.graphs few c.in_ok-unit.ensures.text.control _
+    (counted-tree r (prepared-fits p q is ids r tidy few) _ _ c.in_ok-unit.ensures.text c.in_ok-number.ensures)
 
 pub returns-clause-made : goal.returns-clause-made
-returns-clause-made c =
+returns-clause-made g c =
+    let p = program_of c.in_ok-lifted.lifted in
     let q = program_of c.in_ok-prepared.prepared in
+    let r = program_of c.in_ok-tidied.tidied in
     let is = c.in_ok-prepared.ensures.ready in
+    let tidy = c.in_ok-tidied.ensures in
+    let ids = numbers_of c.args.rules.now in
     let whole = c.in_ok-unit.ensures.text in
     record {
-      lifted = program_of c.in_ok-lifted.lifted;
+      lifted = p;
       is_lifted = c.in_ok-lifted.ensures.lifted;
       ready = q;
       is_ready = is;
-      plain = whole_text whole.control q;
+      tidy = r;
+      ids = ids;
+      is_tidy = tidy;
+      plain = whole_text whole.control r;
       is_text = record { control = whole.control; controls = whole.controls; is = refl };
-      is = counted-tree q (prepared-fits (program_of c.in_ok-lifted.lifted) q is c.in_ok-unit.ensures.few) _ _ whole
-          c.in_ok-number.ensures;
+      is =
+          counted-tree r (prepared-fits p q is ids r tidy c.in_ok-unit.ensures.few) _ _ whole c.in_ok-number.ensures;
     }
 
 pub unit_of-requires : goal.unit_of-requires
-unit_of-requires c = c.in_ok-prepared.ensures.ready.simplified.textable.formed
+unit_of-requires g c =
+    (left-simplified (program_of c.in_ok-lifted.lifted) (program_of c.in_ok-prepared.prepared)
+    c.in_ok-prepared.ensures.ready (numbers_of c.args.rules.now) (program_of c.in_ok-tidied.tidied) c.in_ok-tidied.ensures).textable.formed

@@ -21,42 +21,42 @@ without-run seed size steps image (Format fault) has is = absurd is
 without-run seed size steps image (Refused why) has is = absurd is
 
 pub returns-in_err-file-clause-without : goal.returns-in_err-file-clause-without
-returns-in_err-file-clause-without c =
+returns-in_err-file-clause-without g c =
     let p = err_from_is_err_and c.from_residual.result c.from_residual.ensures.1 in rw (p.1, p.2) no_memory
 
 pub returns-in_err-image-clause-without : goal.returns-in_err-image-clause-without
-returns-in_err-image-clause-without c =
+returns-in_err-image-clause-without g c =
     let p = err_from_is_err_and c.from_residual-in_err-image.result c.from_residual-in_err-image.ensures.1 in
     rw (p.1, p.2) (no_image c.in_ok-file.ensures c.in_err-image.ensures.refused)
 
 pub returns-in_err-unit-clause-without : goal.returns-in_err-unit-clause-without
-returns-in_err-unit-clause-without c =
+returns-in_err-unit-clause-without g c =
     let p = err_from_is_err_and c.from_residual-in_err-unit.result c.from_residual-in_err-unit.ensures.1 in
     let has : HasImage c.args.seed c.args.size c.in_ok-image.image =
     record { file = c.in_ok-file.file.items; made = c.in_ok-file.ensures; is_image = c.in_ok-image.ensures.image } in
     rw (p.1, p.2) (no_text has c.in_err-unit.ensures.refused)
 
 pub returns-in_default-clause-without : goal.returns-in_default-clause-without
-returns-in_default-clause-without c = no_memory
+returns-in_default-clause-without g c = no_memory
 
 pub returns-in_err-text-clause-without : goal.returns-in_err-text-clause-without
-returns-in_err-text-clause-without c =
+returns-in_err-text-clause-without g c =
     let p = err_from_is_err_and c.from_residual-in_err-text.result c.from_residual-in_err-text.ensures.1 in rw (p.1, p.2) no_memory
 
 pub returns-in_err-machine-clause-without : goal.returns-in_err-machine-clause-without
-returns-in_err-machine-clause-without c =
+returns-in_err-machine-clause-without g c =
     let p = err_from_is_err_and c.from_residual-in_err-machine.result c.from_residual-in_err-machine.ensures.1 in
     let has : HasImage c.args.seed c.args.size c.in_ok-image.image =
     record { file = c.in_ok-file.file.items; made = c.in_ok-file.ensures; is_image = c.in_ok-image.ensures.image } in
     rw (p.1, p.2) (without-run c.args.seed c.args.size c.args.steps c.in_ok-image.image _ has c.in_err-machine.ensures.outside)
 
 pub returns-in_err-text_run-clause-without : goal.returns-in_err-text_run-clause-without
-returns-in_err-text_run-clause-without c =
+returns-in_err-text_run-clause-without g c =
     let p = err_from_is_err_and c.from_residual-in_err-text_run.result c.from_residual-in_err-text_run.ensures.1 in
     rw (p.1, p.2, c.in_err-text_run.ensures.memory) no_memory
 
 pub returns-clause-trial : goal.returns-clause-trial
-returns-clause-trial c =
+returns-clause-trial g c =
     let image = c.in_ok-image.image in
     let file = c.in_ok-file.file in
     let program = c.in-Ok.program in

@@ -30,4 +30,4 @@ returns c =
     let params = c.as_slice-2.ensures.value ∙ c.in_ok-params.ensures ∙ ap param_places c.as_slice.ensures.value in
     let whole = are_whole (graph_of c.args.g) lists facts c.in_ok-live.ensures (c.in_ok-accesses.ensures, refl, c.in_ok-preds.ensures, params) in
     let stands = split_stands (graph_of c.args.g) lists facts c.in_ok-after.after c.requires c.in_ok-live.ensures (c.in_ok-accesses.ensures, refl, c.in_ok-preds.ensures, params) whole c.in_ok-after.ensures in
-    record { formed = stands.formed; temps = stands.temps; told = stands.told; stands = stands.stands }
+    record { formed = stands.formed; temps = stands.temps; told = stands.told; stands = stands.tidied.stands; tidied = stands.tidied; depth = stands.depth }

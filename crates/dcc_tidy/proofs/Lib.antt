@@ -1,0 +1,4 @@
+pub mod DeadLaws
+pub mod KindLaws
+pub mod AddressLaws
+pub mod GraphLaws

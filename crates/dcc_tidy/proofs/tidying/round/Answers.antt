@@ -1,0 +1,18 @@
+use Rattle.std.proofs.Common.{arith}
+use Rattle.dcc_ir.specs.Views.{graph_of}
+use Rattle.dcc_passes.proofs.TidiedLaws.{tidied-trans}
+use Rattle.dcc_tidy.proofs.DeadLaws.{dead-tidied, dead-depth}
+use Rattle.dcc_tidy.proofs.tidying.round.Goals as goal
+
+pub returns-clause-tidied : goal.returns-clause-tidied
+returns-clause-tidied g c =
+    let given = graph_of c.args.graph in
+    let simple = graph_of c.in_ok-simple.simple in
+    let after = graph_of c.in_ok-after.after in
+    tidied-trans given simple after c.in_ok-simple.ensures.tidied
+    (dead-tidied simple after c.in_ok-after.ensures.formed c.in_ok-after.ensures.without)
+
+pub returns-clause-depth : goal.returns-clause-depth
+returns-clause-depth g c =
+    let left = dead-depth (graph_of c.in_ok-simple.simple) (graph_of c.in_ok-after.after) c.in_ok-after.ensures.without in
+    omega (arith, left, c.in_ok-simple.ensures.depth)

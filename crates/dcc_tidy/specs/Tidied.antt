@@ -1,0 +1,47 @@
+-- What tidying leaves of a graph.
+use Rattle.std.specs.Prelude.{◌≡◌, ℕ, ◌+◌, ◌==◌, ◌≤◌, Bool, true, false, ◌&&◌, not, List}
+use Rattle.dcc_ir.specs.Measure.{deepest}
+use Rattle.dcc_ir.specs.Tree.{Graph}
+use Rattle.dcc_ir.specs.Use.{graph_exprs}
+use Rattle.dcc_passes.specs.Tidied.{IsTidied}
+use Rattle.dcc_live.specs.Dead.{IsWithoutUnneeded}
+use Rattle.dcc_webs.specs.Temporaries.{HasTempsAlone, TellsApart}
+use Rattle.dcc_loads.specs.Sets.{with_sets}
+use Rattle.dcc_simplify.specs.Reshaped.{IsGraphAs}
+use Rattle.dcc_simplify.specs.Simplified.{IsSimplified}
+use Rattle.dcc_variables.specs.Functions.{function_shape}
+
+-- as many levels may an expression have for its text
+abbrev pub text_levels : ℕ
+text_levels = 32
+
+-- The graph has no local bytes in memory, and its text an array of one byte, since it takes an address of none of the
+-- arguments: that of SP.
+abbrev pub has_lone_byte : Graph → Bool
+has_lone_byte graph = (graph.local == 0) && not ((function_shape graph).frame == 0)
+
+-- The second graph may stand in the first one's place, and a text can have it where the first is 3 levels less deep than
+-- a text may be.
+pub record MayStandInText (before after : Graph) : Type 0 where
+  pub tidied : IsTidied before after
+  pub depth : deepest (graph_exprs before) + 3 ≤ text_levels → deepest (graph_exprs after) ≤ text_levels
+
+-- What the passes leave of a graph, one after another: each web has a temporary of its own; each statement that loads is
+-- an assignment of a load; rounds of passes follow; then no part of an expression has the form of a rule of these
+-- numbers, and each assignment that is left makes what is wanted after it.
+pub record HasPassesDone (ids : List ℕ) (before after : Graph) : Type 0 where
+  pub split : Graph
+  pub told : TellsApart before split
+  pub temps : HasTempsAlone split
+  pub plain : Graph
+  pub rounds : IsTidied (with_sets split) plain
+  pub simple : Graph
+  pub simplified : IsGraphAs (IsSimplified ids plain.bits) plain simple
+  pub last : IsWithoutUnneeded simple after
+
+-- The passes are done in each graph but in those whose text has an array of one byte for SP's address, which stay as
+-- they are: what names that array is told of their statements.
+pub data IsTidiedGraph (ids : List ℕ) (before after : Graph) : Type 0 where
+  stays : has_lone_byte before ≡ true → after ≡ before → IsTidiedGraph ids before after
+  tidied : has_lone_byte before ≡ false → MayStandInText before after → HasPassesDone ids before after
+      → IsTidiedGraph ids before after
