@@ -103,9 +103,9 @@ fn tidied_graph(alloc: Global, graph: Graph, rules: &RuleList) -> Result<Graph, 
 }
 
 /// What the passes leave of each graph, in its place: each web has a temporary of its own, loads are parts of
-/// assignments, values stand where they are read, no part of an expression has the form of one of the rules, and nothing is assigned that isn't wanted. A
-/// graph whose text has an array of one byte for SP's address stays as it is. That there are more temporaries than 32
-/// bits can number is told as want of memory.
+/// assignments, values stand where they are read, no part of an expression has the form of one of the rules, and nothing
+/// is assigned that isn't wanted. A graph whose text has an array of one byte for SP's address stays as it is. That there
+/// are more temporaries than 32 bits can number is told as want of memory.
 pub fn tidied_graphs(
     alloc: Global,
     graphs: Vec<Graph>,
