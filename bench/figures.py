@@ -1,7 +1,7 @@
 #!/usr/bin/env python3
 """Counts lines, variables, casts, jumps and depth pragmas of texts, beside those of a reference.
 
-bench/figures.py REFERENCE [--program PROGRAM] [--folder FOLDER] [COUNT [SEED]]
+bench/figures.py REFERENCE [COUNT [SEED]] [--program PROGRAM] [--folder FOLDER]
 
 REFERENCE is a folder with a Python package decompile, which is no part of this repository: called with a file it prints
 a text. PROGRAM is the built program, and crates/dcc/out/dcc where the option doesn't stand. COUNT random programs with
