@@ -16,17 +16,25 @@ use dcc_io::{Failed, Shelf, Sink};
 use dcc_machine::{Cpu, Image};
 use dcc_pipe::decompile;
 use dcc_print::{PrintFault, print};
+use dcc_rules::RuleList;
 use std::alloc::Global;
 
-// Writes the text of the image for the processor, or answers why there is none. The error is a failed write.
-fn write_text<O: Sink>(alloc: Global, image: &Image, cpu: Cpu, out: &mut O) -> Result<Reply, Failed>
+// Writes the text of the image for the processor, made by these rules, or answers why there is none. The error is a
+// failed write.
+fn write_text<O: Sink>(
+    alloc: Global,
+    image: &Image,
+    cpu: Cpu,
+    rules: &RuleList,
+    out: &mut O,
+) -> Result<Reply, Failed>
     requires { IsLoaded image.now }
     ensures answers { IfOk result (Answers (AllowsImage Text cpu image.now) (O.taken out.old) (O.taken out.new)) }
     ensures cut_short { OnErr result (CutsShort (IsTextOfImage cpu image.now) (O.taken out.old) (O.taken out.new)) }
     ensures output_faults { O.faults out.old ≤ O.faults out.new }
     ensures write_failed { OnErr result (Rose (O.faults out.old) (O.faults out.new)) }
 {
-    let unit = match decompile(alloc, image, cpu) {
+    let unit = match decompile(alloc, image, cpu, rules) {
         Ok(unit) => unit,
         Err(reason) => return Ok(Reply::from(reason)),
     };
@@ -37,12 +45,13 @@ fn write_text<O: Sink>(alloc: Global, image: &Image, cpu: Cpu, out: &mut O) -> R
     }
 }
 
-/// Writes the text of the executable of this name for the processor, or answers why there is none; whatever the input
-/// is, none of it is read. The error is a failed write.
+/// Writes the text of the executable of this name for the processor, made by these rules, or answers why there is none;
+/// whatever the input is, none of it is read. The error is a failed write.
 pub(crate) fn text_reply<H: Shelf, O: Sink>(
     alloc: Global,
     name: &str,
     cpu: Cpu,
+    rules: &RuleList,
     shelf: &mut H,
     out: &mut O,
 ) -> Result<Reply, Failed>
@@ -52,7 +61,7 @@ pub(crate) fn text_reply<H: Shelf, O: Sink>(
         (sink_change O.taken O.faults out.old out.new) result }
 {
     match fetch_image(alloc, name, shelf) {
-        Ok(image) => write_text(alloc, &image, cpu, out),
+        Ok(image) => write_text(alloc, &image, cpu, rules, out),
         Err(reply) => Ok(reply),
     }
 }

@@ -16,6 +16,7 @@ use crate::text_job::execute_unit;
 use crate::watch_job::watch_image;
 use crate::words::{Execution, Job, TextExecution, job_of};
 use dcc_io::{Failed, Shelf, Sink, Source};
+use dcc_rules::RuleList;
 use std::alloc::Global;
 
 // The answer of `run`. The error is a failed write of what the program puts out.
@@ -80,6 +81,7 @@ fn runc_reply<H: Shelf, I: Source, O: Sink>(
 fn reply_for<H: Shelf, I: Source, O: Sink>(
     alloc: Global,
     words: &Vec<String>,
+    rules: &RuleList,
     shelf: &mut H,
     input: &mut I,
     out: &mut O,
@@ -92,7 +94,7 @@ fn reply_for<H: Shelf, I: Source, O: Sink>(
 {
     match job_of(words) {
         None => Ok(Reply::Usage),
-        Some(Job::Decompile { file, cpu }) => text_reply(alloc, file, cpu, shelf, out),
+        Some(Job::Decompile { file, cpu }) => text_reply(alloc, file, cpu, rules, shelf, out),
         Some(Job::ListProcedures { file, cpu }) => listing_reply(alloc, file, cpu, shelf, out),
         Some(Job::Execute(run)) => run_reply(alloc, run, shelf, input, out),
         Some(Job::ExecuteWatched(run)) => watch_reply(alloc, run, shelf, input, out),
@@ -116,6 +118,7 @@ fn reply_for<H: Shelf, I: Source, O: Sink>(
 pub fn dcc<H: Shelf, I: Source, O: Sink, E: Sink>(
     alloc: Global,
     words: &Vec<String>,
+    rules: &RuleList,
     shelf: &mut H,
     input: &mut I,
     out: &mut O,
@@ -131,7 +134,7 @@ pub fn dcc<H: Shelf, I: Source, O: Sink, E: Sink>(
     }) }
     ensures input { ¬ IsExecution (job_in words.now.items) → input.new ≡ input.old }
 {
-    match reply_for(alloc, words, shelf, input, out) {
+    match reply_for(alloc, words, rules, shelf, input, out) {
         Ok(reply) => answer(alloc, &reply, err),
         Err(Failed) => WRITE_FAULT,
     }
