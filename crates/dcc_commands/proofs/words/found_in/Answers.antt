@@ -1,10 +1,9 @@
 use Rattle.std.proofs.Common.{map, string_bytes, ap, ◌∙◌, arith}
 use Rattle.std.proofs.lemmas.List.{length-map, nil_from_length}
-use Rattle.std.specs.Option.{option_copied, option_to_list}
-use Rattle.dcc_top.specs.Words.{kind_of}
-use Rattle.dcc_top.specs.WordsRead.{parts_read}
-use Rattle.dcc_top.proofs.WordsLaws.{step-word, stop-word, step-given, step-named, stop-missing, stop-unknown, all-answer, all-read, some-file, stop-named, stop-given}
-use Rattle.dcc_top.proofs.words.found_in.Goals as goal
+use Rattle.dcc_commands.specs.Words.{kind_of}
+use Rattle.dcc_commands.specs.WordsRead.{parts_read}
+use Rattle.dcc_commands.proofs.WordsLaws.{step-word, stop-word, step-given, step-named, stop-missing, stop-unknown, all-answer, all-read, stop-named, stop-given}
+use Rattle.dcc_commands.proofs.words.found_in.Goals as goal
 
 pub loop-word-smaller-in-Names : goal.loop-word-smaller-in-Names
 loop-word-smaller-in-Names c = omega (arith, c.in-Some.ensures.cases.1, c.in_ok-value-in-Names.ensures.cases.1)
@@ -14,15 +13,14 @@ loop-word-preserved-in-Positional c =
     let inv = rw c.in-Some.ensures.cases.0 at c.loop-word.invariant in
     step-word (parts_read c.loop-word.found) (parts_read c.in_ok-found-in-Positional.found) _ (string_bytes c.in-Some.word.now) (map string_bytes c.in-Some.rest.now) inv
     (c.in-Positional.ensures ∙ ap kind_of c.as_str-word.ensures.value)
-    (ap (λ o. option_to_list (option_copied o)) c.in_ok-found-in-Positional.ensures.0)
-    (rw c.as_str-word.ensures.value at c.in_ok-found-in-Positional.ensures.1)
+    (rw c.as_str-word.ensures.value at c.in_ok-found-in-Positional.ensures)
 
 pub returns-in_err-found-in-Positional : goal.returns-in_err-found-in-Positional
 returns-in_err-found-in-Positional c =
     let inv = rw c.in-Some.ensures.cases.0 at c.loop-word.invariant in
     let two = stop-word (parts_read c.loop-word.found) _ (string_bytes c.in-Some.word.now) (map string_bytes c.in-Some.rest.now) inv
     (c.in-Positional.ensures ∙ ap kind_of c.as_str-word.ensures.value)
-    (some-file c.loop-word.found.file c.in_err-found-in-Positional.ensures) in
+    c.in_err-found-in-Positional.ensures in
     rw c.from_residual.ensures two
 
 pub returns-in-End : goal.returns-in-End

@@ -1,8 +1,8 @@
 use Rattle.std.proofs.Common.{◌≡◌, map, string_bytes, length}
-use Rattle.dcc_top.specs.Words.{parts_of}
-use Rattle.dcc_top.specs.WordsRead.{parts_read}
-use Rattle.dcc_top.proofs.WordsLaws.{joined}
-use Rattle.dcc_top.proofs.words.found_in.Given as goal
+use Rattle.dcc_commands.specs.Words.{parts_of}
+use Rattle.dcc_commands.specs.WordsRead.{parts_read}
+use Rattle.dcc_commands.proofs.WordsLaws.{joined}
+use Rattle.dcc_commands.proofs.words.found_in.Given as goal
 
 -- the parts that were found come before those of the words that are left
 abbrev pub invariant-loop-word : goal.invariant-loop-word

@@ -1,6 +1,6 @@
 -- The command line: which words name which job.
-use Rattle.std.specs.Prelude.{◌≡◌, ◌↔◌, ℕ, Bool, true, ◌&&◌, not, nat_le, nat_lt, ◌==◌, if◌then◌else◌, List, [], ◌∷◌}
-use Rattle.std.specs.Prelude.{◌++◌, length, map, codes, Option, Some, None, is_some, String, string_bytes}
+use Rattle.std.specs.Prelude.{◌≡◌, ◌↔◌, ◌≤◌, ℕ, Bool, true, ◌&&◌, not, nat_le, nat_lt, ◌==◌, if◌then◌else◌, List, []}
+use Rattle.std.specs.Prelude.{◌∷◌, ◌++◌, length, map, codes, Option, Some, None, is_some, String, string_bytes}
 use Rattle.std.specs.declared.alloc.Global.{Global}
 use Rattle.std.specs.List.{list_all, position_or_len, before_first, after_first}
 use Rattle.std.specs.Option.{option_map, option_and_then}
@@ -9,17 +9,17 @@ use Rattle.std.specs.Str.{bytes_eq}
 use Rattle.std.specs.Str.Parse.{digits_value}
 use Rattle.dcc_machine.specs.declared.cpu.Cpu.{Cpu}
 use Rattle.dcc_machine.specs.declared.cpu.Cpu.TheVariants.{I8086, I186}
-use Rattle.dcc_top.specs.declared.words.Command.{Command}
-use Rattle.dcc_top.specs.declared.words.Command.TheVariants.{C, Procs, Run, Watch, RunC}
-use Rattle.dcc_top.specs.declared.words.OptionName.{OptionName}
-use Rattle.dcc_top.specs.declared.words.OptionName.TheVariants.{Steps, Fill, Cpu as CpuOption}
+use Rattle.dcc_commands.specs.declared.job.Product.{Product}
+use Rattle.dcc_commands.specs.declared.job.Product.TheVariants.{Text, Procedures, Listing}
+use Rattle.dcc_commands.specs.declared.words.Command.{Command}
+use Rattle.dcc_commands.specs.declared.words.Command.TheVariants.{Makes, Run, Watch, RunC, Trial}
+use Rattle.dcc_commands.specs.declared.words.OptionName.{OptionName}
+use Rattle.dcc_commands.specs.declared.words.OptionName.TheVariants.{Steps, Fill, Cpu as CpuOption}
 
 -- what the program is to do
 pub data Job : Type 0 where
-  -- write the text of the executable with this name, for this processor
-  Decompile : List ℕ → Cpu → Job
-  -- list the procedures of the executable with this name, for this processor
-  ListProcedures : List ℕ → Cpu → Job
+  -- make this of the executable with this name, for this processor
+  Make : Product → List ℕ → Cpu → Job
   -- run the executable with this name, for at most so many steps, on this processor
   Execute : List ℕ → ℕ → Cpu → Job
   -- run the executable with this name, for at most so many steps, on this processor, with each step's cleanness tested
@@ -27,30 +27,18 @@ pub data Job : Type 0 where
   ExecuteWatched : List ℕ → ℕ → Cpu → Job
   -- run the text with this name, for at most so many steps, with this fill
   ExecuteText : List ℕ → ℕ → ℕ → Job
-
--- what is made of an executable: its text, or the list of its procedures
-pub data Product : Type 0 where
-  Text : Product
-  Listing : Product
-
--- the job that makes the product of the executable with this name, for this processor
-abbrev pub job_to_make : Product → List ℕ → Cpu → Job
-job_to_make Text name cpu = Decompile name cpu
-job_to_make Listing name cpu = ListProcedures name cpu
-
--- The job analyses the executable with this name, for this processor, as far as the product needs: it makes the
--- product; or it runs the executable watched, for which the analyses of the list are made.
-pub data Analyses (name : List ℕ) (cpu : Cpu) : Product → Job → Type 0 where
-  to_make : (product : Product) → Analyses name cpu product (job_to_make product name cpu)
-  to_watch : (steps : ℕ) → Analyses name cpu Listing (ExecuteWatched name steps cpu)
+  -- try the program of this seed and this size, for at most so many steps
+  Try : ℕ → ℕ → ℕ → Job
 
 -- the first word, as a command
 abbrev pub command_word : Command → List ℕ
-command_word C = codes "c"
-command_word Procs = codes "procs"
+command_word (Makes Text) = codes "c"
+command_word (Makes Procedures) = codes "procs"
+command_word (Makes Listing) = codes "list"
 command_word Run = codes "run"
 command_word Watch = codes "watch"
 command_word RunC = codes "runc"
+command_word Trial = codes "trial"
 
 -- an option's name, as it is written
 abbrev pub option_word : OptionName → List ℕ
@@ -141,16 +129,29 @@ abbrev pub cpu_of : Option (List ℕ) → Option Cpu
 cpu_of None = Some I8086
 cpu_of (Some word) = cpu_named word
 
+-- the seed of a trial: 0 to 18446744073709551615 in at most 20 digits
+abbrev pub seed_of : List ℕ → Option ℕ
+seed_of word = number_of 20 18446744073709551615 word
+
+-- the number, where it is not 0
+abbrev pub nonzero : ℕ → Option ℕ
+nonzero n = if nat_lt 0 n then Some n else None
+
+-- the size of a trial: 1 to 1000 in at most 4 digits
+abbrev pub size_of : List ℕ → Option ℕ
+size_of word = option_and_then nonzero (number_of 4 1000 word)
+
+-- a size of a trial
+pub record IsSize (size : ℕ) : Type 0 where
+  pub some : 1 ≤ size
+  pub few : size ≤ 1000
+
 -- the words ask for this job
 pub data AskFor : List (List ℕ) → Job → Type 0 where
-  decompile : {words : List (List ℕ)} {file : List ℕ} {value : Option (List ℕ)} {cpu : Cpu}
+  make : {product : Product} {words : List (List ℕ)} {file : List ℕ} {value : Option (List ℕ)} {cpu : Cpu}
       → HasParts words (record { positional = file ∷ []; steps = None; fill = None; cpu = value })
       → cpu_of value ≡ Some cpu
-      → AskFor (command_word C ∷ words) (Decompile file cpu)
-  list_procedures : {words : List (List ℕ)} {file : List ℕ} {value : Option (List ℕ)} {cpu : Cpu}
-      → HasParts words (record { positional = file ∷ []; steps = None; fill = None; cpu = value })
-      → cpu_of value ≡ Some cpu
-      → AskFor (command_word Procs ∷ words) (ListProcedures file cpu)
+      → AskFor (command_word (Makes product) ∷ words) (Make product file cpu)
   execute : {words : List (List ℕ)} {file : List ℕ} {value other : Option (List ℕ)} {steps : ℕ} {cpu : Cpu}
       → HasParts words (record { positional = file ∷ []; steps = value; fill = None; cpu = other })
       → steps_of value ≡ Some steps
@@ -166,6 +167,13 @@ pub data AskFor : List (List ℕ) → Job → Type 0 where
       → steps_of value ≡ Some steps
       → fill_of other ≡ Some fill
       → AskFor (command_word RunC ∷ words) (ExecuteText file steps fill)
+  try : {words : List (List ℕ)} {first second third : List ℕ} {seed size steps : ℕ}
+      → HasParts words
+      (record { positional = first ∷ (second ∷ (third ∷ [])); steps = None; fill = None; cpu = None })
+      → seed_of first ≡ Some seed
+      → size_of second ≡ Some size
+      → steps_of (Some third) ≡ Some steps
+      → AskFor (command_word Trial ∷ words) (Try seed size steps)
 
 -- Which words name which job, as functions: the one job that the words ask for, if any.
 
@@ -190,11 +198,13 @@ option_of word =
 -- the command of this name
 abbrev pub command_of : List ℕ → Option Command
 command_of word =
-    if bytes_eq word (codes "c") then Some C
-    else if bytes_eq word (codes "procs") then Some Procs
+    if bytes_eq word (codes "c") then Some (Makes Text)
+    else if bytes_eq word (codes "procs") then Some (Makes Procedures)
+    else if bytes_eq word (codes "list") then Some (Makes Listing)
     else if bytes_eq word (codes "run") then Some Run
     else if bytes_eq word (codes "watch") then Some Watch
     else if bytes_eq word (codes "runc") then Some RunC
+    else if bytes_eq word (codes "trial") then Some Trial
     else None
 
 -- the kind of a word that begins with an option's name
@@ -244,28 +254,48 @@ parts_after (Some name) (value ∷ words) = with_value name value (parts_after N
 abbrev pub parts_of : List (List ℕ) → Option Parts
 parts_of words = parts_after None words
 
+-- the job, where the option doesn't stand
+abbrev pub without : Option (List ℕ) → Option Job → Option Job
+without None job = job
+without (Some value) job = None
+
+-- the job of the one positional word, and that of three
+abbrev pub with_one : (List ℕ → Option Job) → List (List ℕ) → Option Job
+with_one job (word ∷ []) = job word
+with_one job _ = None
+
+abbrev pub with_three : (List ℕ → List ℕ → List ℕ → Option Job) → List (List ℕ) → Option Job
+with_three job (first ∷ (second ∷ (third ∷ []))) = job first second third
+with_three job _ = None
+
 -- the job of `run` for a file, and that of `watch`
-abbrev pub run_job : (List ℕ → ℕ → Cpu → Job) → List ℕ → Option (List ℕ) → Option (List ℕ) → Option Job
-run_job job file value other =
-    option_and_then (λ steps. option_map (job file steps) (cpu_of other)) (steps_of value)
+abbrev pub run_job : (List ℕ → ℕ → Cpu → Job) → Option ℕ → Option Cpu → List ℕ → Option Job
+run_job job steps cpu file = option_and_then (λ n. option_map (job file n) cpu) steps
 
 -- the job of `runc` for a file
-abbrev pub text_job : List ℕ → Option (List ℕ) → Option (List ℕ) → Option Job
-text_job file value other =
-    option_and_then (λ steps. option_map (ExecuteText file steps) (fill_of other)) (steps_of value)
+abbrev pub text_job : Option ℕ → Option ℕ → List ℕ → Option Job
+text_job steps fill file = option_and_then (λ n. option_map (ExecuteText file n) fill) steps
 
--- the job of a command with these positional words, and these values of `--steps`, `--fill` and `--cpu`
-abbrev pub job_for : Command → List (List ℕ) → Option (List ℕ) → Option (List ℕ) → Option (List ℕ) → Option Job
-job_for C (file ∷ []) None None value = option_map (Decompile file) (cpu_of value)
-job_for Procs (file ∷ []) None None value = option_map (ListProcedures file) (cpu_of value)
-job_for Run (file ∷ []) value None other = run_job Execute file value other
-job_for Watch (file ∷ []) value None other = run_job ExecuteWatched file value other
-job_for RunC (file ∷ []) value other None = text_job file value other
-job_for _ _ _ _ _ = None
+-- the job of `trial`
+abbrev pub trial_job : Option ℕ → Option ℕ → Option ℕ → Option Job
+trial_job seed size steps =
+    option_and_then (λ s. option_and_then (λ n. option_map (Try s n) steps) size) seed
 
--- the job of a command with all parts of the words
+-- the job of a command with these parts of the words
 abbrev pub job_with : Command → Parts → Option Job
-job_with command parts = job_for command parts.positional parts.steps parts.fill parts.cpu
+job_with (Makes product) parts =
+    without parts.steps (without parts.fill
+    (with_one (λ file. option_map (Make product file) (cpu_of parts.cpu)) parts.positional))
+job_with Run parts =
+    without parts.fill (with_one (run_job Execute (steps_of parts.steps) (cpu_of parts.cpu)) parts.positional)
+job_with Watch parts =
+    without parts.fill (with_one (run_job ExecuteWatched (steps_of parts.steps) (cpu_of parts.cpu)) parts.positional)
+job_with RunC parts =
+    without parts.cpu (with_one (text_job (steps_of parts.steps) (fill_of parts.fill)) parts.positional)
+job_with Trial parts =
+    without parts.steps (without parts.fill (without parts.cpu
+    (with_three (λ seed size steps. trial_job (seed_of seed) (size_of size) (steps_of (Some steps)))
+    parts.positional)))
 
 -- the job of the words after the program's name, or none where they are no command
 unfoldable pub job_of : List (List ℕ) → Option Job
@@ -280,51 +310,3 @@ AskForOneJob = (words : List (List ℕ)) (job : Job) → (job_of words ≡ Some 
 -- the job of the words, as the program has them
 abbrev pub job_in : List (String Global) → Option Job
 job_in words = job_of (map string_bytes words)
-
--- the file that a job names
-abbrev pub name_of : Job → List ℕ
-name_of (Decompile file cpu) = file
-name_of (ListProcedures file cpu) = file
-name_of (Execute file steps cpu) = file
-name_of (ExecuteWatched file steps cpu) = file
-name_of (ExecuteText file steps fill) = file
-
-abbrev pub file_of : Option Job → Option (List ℕ)
-file_of job = option_map name_of job
-
--- the job is to run an executable or a text
-abbrev pub IsExecution : Option Job → Type 0
-IsExecution None = ⊥
-IsExecution (Some (Decompile file cpu)) = ⊥
-IsExecution (Some (ListProcedures file cpu)) = ⊥
-IsExecution (Some (Execute file steps cpu)) = Unit {0}
-IsExecution (Some (ExecuteWatched file steps cpu)) = Unit {0}
-IsExecution (Some (ExecuteText file steps fill)) = Unit {0}
-
--- the file of the job is an executable
-abbrev pub LoadsImage : Option Job → Type 0
-LoadsImage None = ⊥
-LoadsImage (Some (Decompile file cpu)) = Unit {0}
-LoadsImage (Some (ListProcedures file cpu)) = Unit {0}
-LoadsImage (Some (Execute file steps cpu)) = Unit {0}
-LoadsImage (Some (ExecuteWatched file steps cpu)) = Unit {0}
-LoadsImage (Some (ExecuteText file steps fill)) = ⊥
-
--- the greatest length of an executable that is fetched, and that of a text, in bytes
-abbrev pub greatest_file : ℕ
-greatest_file = 262144
-
-abbrev pub greatest_text : ℕ
-greatest_text = 67108864
-
-abbrev pub greatest_of : Job → ℕ
-greatest_of (Decompile file cpu) = greatest_file
-greatest_of (ListProcedures file cpu) = greatest_file
-greatest_of (Execute file steps cpu) = greatest_file
-greatest_of (ExecuteWatched file steps cpu) = greatest_file
-greatest_of (ExecuteText file steps fill) = greatest_text
-
--- what a job asks the shelf for: names, each with the greatest number of bytes
-abbrev pub requests_of : Option Job → List (List ℕ × ℕ)
-requests_of None = []
-requests_of (Some job) = (name_of job, greatest_of job) ∷ []

@@ -1,14 +1,14 @@
 -- The parts of the words, as they are found one after another.
-use Rattle.std.proofs.Common.{◌≡◌, ℕ, ◌≤◌, true, false, List, [], ◌∷◌, ◌++◌, length, Option, Some, None, refl, sym, ap, ◌∙◌, subst, Bor, length-append, append-nil, arith}
+use Rattle.std.proofs.Common.{◌≡◌, ℕ, ◌≤◌, true, false, List, [], ◌∷◌, ◌++◌, length, Option, Some, None, refl, sym, ap, ◌∙◌, subst, append_assoc, length-append, append-nil, arith}
 use Rattle.std.specs.Prelude.{is_some, IsSome, MatchOption, if◌then◌else◌}
-use Rattle.std.specs.Option.{option_map, option_and_then, option_copied, option_to_list}
-use Rattle.dcc_top.specs.Words.{Parts, only_positional, with_word, with_value, set_value, value_in, Kind, Positional, End, Names, Gives, Unknown, kind_of, with_kind, parts_after, parts_of, job_for, job_with}
-use Rattle.dcc_top.specs.WordsRead.{HasTwoFiles, parts_read}
-use Rattle.dcc_top.specs.declared.words.Found.{Found}
-use Rattle.dcc_top.specs.declared.words.Command.{Command}
-use Rattle.dcc_top.specs.declared.words.Command.TheVariants.{C, Procs, Run, Watch, RunC}
-use Rattle.dcc_top.specs.declared.words.OptionName.{OptionName}
-use Rattle.dcc_top.specs.declared.words.OptionName.TheVariants.{Steps, Fill, Cpu}
+use Rattle.std.specs.Option.{option_map, option_and_then}
+use Rattle.dcc_commands.specs.Words.{Job, Parts, only_positional, with_word, with_value, set_value, value_in, Kind, Positional, End, Names, Gives, Unknown, kind_of, with_kind, parts_after, parts_of, without, with_one, with_three, job_with}
+use Rattle.dcc_commands.specs.WordsRead.{HasFourWords, parts_read}
+use Rattle.dcc_commands.specs.declared.words.Found.{Found}
+use Rattle.dcc_commands.specs.declared.words.Command.{Command}
+use Rattle.dcc_commands.specs.declared.words.Command.TheVariants.{Makes, Run, Watch, RunC, Trial}
+use Rattle.dcc_commands.specs.declared.words.OptionName.{OptionName}
+use Rattle.dcc_commands.specs.declared.words.OptionName.TheVariants.{Steps, Fill, Cpu}
 
 -- one of two values of an option, where not both stand
 abbrev merged : Option (List ℕ) → Option (List ℕ) → Option (Option (List ℕ))
@@ -54,32 +54,33 @@ built-no_cpu words None fill = refl
 built-no_cpu words (Some steps) None = refl
 built-no_cpu words (Some steps) (Some fill) = refl
 
-built-two : (words : List (List ℕ)) (steps fill cpu : Option (Option (List ℕ))) → 2 ≤ length words
-    → HasTwoFiles (built words steps fill cpu)
-built-two words None fill cpu h = tt
-built-two words (Some steps) None cpu h = tt
-built-two words (Some steps) (Some fill) None h = tt
-built-two words (Some steps) (Some fill) (Some cpu) h = h
+built-four : (words : List (List ℕ)) (steps fill cpu : Option (Option (List ℕ))) → 4 ≤ length words
+    → HasFourWords (built words steps fill cpu)
+built-four words None fill cpu h = tt
+built-four words (Some steps) None cpu h = tt
+built-four words (Some steps) (Some fill) None h = tt
+built-four words (Some steps) (Some fill) (Some cpu) h = h
 
 -- one more positional word
-joined-word : (front : Parts) (word : List ℕ) (others : Option Parts) → front.positional ≡ [] →
-    joined front (option_map (with_word word) others) ≡ joined (record front { positional = word ∷ [] }) others
-joined-word front word None h = refl
-joined-word front word (Some parts) h =
-    ap (λ l. built (l ++ (word ∷ parts.positional)) (merged front.steps parts.steps) (merged front.fill parts.fill)
-    (merged front.cpu parts.cpu)) h
+joined-word : (front : Parts) (word : List ℕ) (others : Option Parts) →
+    joined front (option_map (with_word word) others)
+    ≡ joined (record front { positional = front.positional ++ word ∷ [] }) others
+joined-word front word None = refl
+joined-word front word (Some parts) =
+    ap (λ l. built l (merged front.steps parts.steps) (merged front.fill parts.fill) (merged front.cpu parts.cpu))
+    (sym (append_assoc front.positional (word ∷ []) parts.positional))
 
-two-words : (front : List (List ℕ)) (word : List ℕ) (back : List (List ℕ)) → 1 ≤ length front
-    → 2 ≤ length (front ++ (word ∷ back))
-two-words front word back h = simp length-append (omega arith)
+four-words : (front : List (List ℕ)) (word : List ℕ) (back : List (List ℕ)) → 3 ≤ length front
+    → 4 ≤ length (front ++ (word ∷ back))
+four-words front word back h = simp length-append (omega arith)
 
-joined-two : (front : Parts) (word : List ℕ) (others : Option Parts) → 1 ≤ length front.positional
-    → HasTwoFiles (joined front (option_map (with_word word) others))
-joined-two front word None h = tt
-joined-two front word (Some parts) h =
-    built-two (front.positional ++ (word ∷ parts.positional)) (merged front.steps parts.steps)
+joined-four : (front : Parts) (word : List ℕ) (others : Option Parts) → 3 ≤ length front.positional
+    → HasFourWords (joined front (option_map (with_word word) others))
+joined-four front word None h = tt
+joined-four front word (Some parts) h =
+    built-four (front.positional ++ (word ∷ parts.positional)) (merged front.steps parts.steps)
     (merged front.fill parts.fill) (merged front.cpu parts.cpu)
-    (two-words front.positional word parts.positional h)
+    (four-words front.positional word parts.positional h)
 
 -- one more option
 
@@ -147,24 +148,24 @@ joined-taken front name value (Some parts) h = elim (is_some (value_in name part
 -- The steps of the reader, from what was found so far, with the first word of those that are left.
 
 -- nothing more is read
-pub none-when : (parts : Option Parts) → parts ≡ None → HasTwoFiles parts
-none-when parts h = subst HasTwoFiles (sym h) tt
+pub none-when : (parts : Option Parts) → parts ≡ None → HasFourWords parts
+none-when parts h = subst HasFourWords (sym h) tt
 
 pub step-word : (found next : Parts) (all : Option Parts) (word : List ℕ) (words : List (List ℕ))
     → joined found (parts_of (word ∷ words)) ≡ all → Positional ≡ kind_of word →
-    found.positional ≡ [] → next ≡ record found { positional = word ∷ [] } → joined next (parts_of words) ≡ all
+    next ≡ record found { positional = found.positional ++ word ∷ [] } → joined next (parts_of words) ≡ all
 unfolding by_kind
-step-word found next all word words inv kind none is =
-    ap (λ p. joined p (parts_of words)) is ∙ sym (joined-word found word (parts_of words) none) ∙ ap (joined found)
+step-word found next all word words inv kind is =
+    ap (λ p. joined p (parts_of words)) is ∙ sym (joined-word found word (parts_of words)) ∙ ap (joined found)
     (sym (parts-at_kind word words Positional kind)) ∙ inv
 
 pub stop-word : (found : Parts) (all : Option Parts) (word : List ℕ) (words : List (List ℕ))
     → joined found (parts_of (word ∷ words)) ≡ all → Positional ≡ kind_of word →
-    1 ≤ length found.positional → HasTwoFiles all
+    3 ≤ length found.positional → HasFourWords all
 unfolding by_kind
 stop-word found all word words inv kind some =
-    subst HasTwoFiles (ap (joined found) (sym (parts-at_kind word words Positional kind)) ∙ inv)
-    (joined-two found word (parts_of words) some)
+    subst HasFourWords (ap (joined found) (sym (parts-at_kind word words Positional kind)) ∙ inv)
+    (joined-four found word (parts_of words) some)
 
 pub step-given : (found next : Parts) (all : Option Parts) (name : OptionName) (word value : List ℕ)
     (words : List (List ℕ)) → joined found (parts_of (word ∷ words)) ≡ all →
@@ -178,7 +179,7 @@ step-given found next all name word value words inv kind none is =
 pub stop-given : (found : Parts) (all : Option Parts) (name : OptionName) (word value : List ℕ)
     (words : List (List ℕ)) → joined found (parts_of (word ∷ words)) ≡ all →
     Gives name value ≡ kind_of word →
-    IsSome (value_in name found) → HasTwoFiles all
+    IsSome (value_in name found) → HasFourWords all
 unfolding by_kind
 stop-given found all name word value words inv kind some =
     none-when all (sym inv ∙ ap (joined found) (parts-at_kind word words (Gives name value) kind) ∙ joined-taken found
@@ -196,7 +197,7 @@ step-named found next all name word value words inv kind none is =
 pub stop-named : (found : Parts) (all : Option Parts) (name : OptionName) (word value : List ℕ)
     (words : List (List ℕ)) → joined found (parts_of (word ∷ (value ∷ words))) ≡ all →
     Names name ≡ kind_of word →
-    IsSome (value_in name found) → HasTwoFiles all
+    IsSome (value_in name found) → HasFourWords all
 unfolding by_kind
 stop-named found all name word value words inv kind some =
     none-when all (sym inv ∙ ap (joined found) (parts-at_kind word (value ∷ words) (Names name) kind) ∙ joined-taken
@@ -205,14 +206,14 @@ stop-named found all name word value words inv kind some =
 -- an option's value is missing
 pub stop-missing : (found : Parts) (all : Option Parts) (name : OptionName) (word : List ℕ) (words : List (List ℕ))
     → joined found (parts_of (word ∷ words)) ≡ all → Names name ≡ kind_of word →
-    length words ≡ 0 → HasTwoFiles all
+    length words ≡ 0 → HasFourWords all
 unfolding by_kind
 stop-missing found all name word [] inv kind h = none-when all
     (sym inv ∙ ap (joined found) (parts-at_kind word [] (Names name) kind))
 stop-missing found all name word (w ∷ ws) inv kind h = absurd (omega arith)
 
 pub stop-unknown : (found : Parts) (all : Option Parts) (word : List ℕ) (words : List (List ℕ))
-    → joined found (parts_of (word ∷ words)) ≡ all → Unknown ≡ kind_of word → HasTwoFiles all
+    → joined found (parts_of (word ∷ words)) ≡ all → Unknown ≡ kind_of word → HasFourWords all
 unfolding by_kind
 stop-unknown found all word words inv kind = none-when all (sym inv ∙ ap (joined found)
     (parts-at_kind word words Unknown kind))
@@ -245,30 +246,41 @@ all-read found all inv =
 -- what is answered after `--`
 pub all-answer : (found : Parts) (all : Option Parts) (word : List ℕ) (words : List (List ℕ)) (answer : Option Found)
     → joined found (parts_of (word ∷ words)) ≡ all → End ≡ kind_of word →
-    MatchOption answer (2 ≤ length (found.positional ++ words))
+    MatchOption answer (4 ≤ length (found.positional ++ words))
     (λ f. parts_read f ≡ record found { positional = found.positional ++ words }) →
-    MatchOption answer (HasTwoFiles all) (λ f. all ≡ Some (parts_read f))
-all-answer found all word words None inv kind h = subst HasTwoFiles (sym (all-end found all word words inv kind)) h
+    MatchOption answer (HasFourWords all) (λ f. all ≡ Some (parts_read f))
+all-answer found all word words None inv kind h = subst HasFourWords (sym (all-end found all word words inv kind)) h
 all-answer found all word words (Some f) inv kind h = all-end found all word words inv kind ∙ ap (λ p. Some p) (sym h)
 
--- a file that was found is a positional word
-pub some-file : (file : Option (Bor (List ℕ))) → IsSome file → 1 ≤ length (option_to_list (option_copied file))
-some-file None h = absurd (let f : ⊥ = cc in f)
-some-file (Some name) h = omega arith
+-- no command takes four positional words
+no-one : (job : List ℕ → Option Job) (words : List (List ℕ)) → 4 ≤ length words → with_one job words ≡ None
+no-one job [] h = absurd (omega arith)
+no-one job (a ∷ []) h = absurd (omega arith)
+no-one job (a ∷ (b ∷ ws)) h = refl
 
--- no command takes two positional words
-two-no_job : (command : Command) (words : List (List ℕ)) (steps fill cpu : Option (List ℕ)) → 2 ≤ length words
-    → job_for command words steps fill cpu ≡ None
-two-no_job command [] steps fill cpu h = absurd (omega arith)
-two-no_job command (a ∷ []) steps fill cpu h = absurd (omega arith)
-two-no_job C (a ∷ (b ∷ ws)) steps fill cpu h = refl
-two-no_job Procs (a ∷ (b ∷ ws)) steps fill cpu h = refl
-two-no_job Run (a ∷ (b ∷ ws)) steps fill cpu h = refl
-two-no_job Watch (a ∷ (b ∷ ws)) steps fill cpu h = refl
-two-no_job RunC (a ∷ (b ∷ ws)) steps fill cpu h = refl
+no-three : (job : List ℕ → List ℕ → List ℕ → Option Job) (words : List (List ℕ)) → 4 ≤ length words
+    → with_three job words ≡ None
+no-three job [] h = absurd (omega arith)
+no-three job (a ∷ []) h = absurd (omega arith)
+no-three job (a ∷ (b ∷ [])) h = absurd (omega arith)
+no-three job (a ∷ (b ∷ (c ∷ []))) h = absurd (omega arith)
+no-three job (a ∷ (b ∷ (c ∷ (d ∷ ws)))) h = refl
 
-pub two-no_command : (command : Option Command) (parts : Option Parts) → HasTwoFiles parts →
+without-none : (value : Option (List ℕ)) (job : Option Job) → job ≡ None → without value job ≡ None
+without-none None job h = h
+without-none (Some value) job h = refl
+
+four-no_job : (command : Command) (parts : Parts) → 4 ≤ length parts.positional → job_with command parts ≡ None
+four-no_job (Makes product) parts h =
+    without-none parts.steps _ (without-none parts.fill _ (no-one _ parts.positional h))
+four-no_job Run parts h = without-none parts.fill _ (no-one _ parts.positional h)
+four-no_job Watch parts h = without-none parts.fill _ (no-one _ parts.positional h)
+four-no_job RunC parts h = without-none parts.cpu _ (no-one _ parts.positional h)
+four-no_job Trial parts h =
+    without-none parts.steps _ (without-none parts.fill _ (without-none parts.cpu _ (no-three _ parts.positional h)))
+
+pub four-no_command : (command : Option Command) (parts : Option Parts) → HasFourWords parts →
     option_and_then (λ c. option_and_then (job_with c) parts) command ≡ None
-two-no_command None parts h = refl
-two-no_command (Some command) None h = refl
-two-no_command (Some command) (Some parts) h = two-no_job command parts.positional parts.steps parts.fill parts.cpu h
+four-no_command None parts h = refl
+four-no_command (Some command) None h = refl
+four-no_command (Some command) (Some parts) h = four-no_job command parts h

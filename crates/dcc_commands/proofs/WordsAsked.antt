@@ -7,13 +7,15 @@ use Rattle.std.specs.Str.{bytes_eq}
 use Rattle.std.proofs.lemmas.Bool.{eqb-true, ltb-true, lt-ltb}
 use Rattle.std.proofs.lemmas.List.Sums.{split_at_first, passes_at_first}
 use Rattle.std.proofs.lemmas.Slice.Eq.{bytes_eq-Decides}
-use Rattle.dcc_top.specs.Words.{Job, Decompile, ListProcedures, Execute, ExecuteWatched, ExecuteText, Parts, only_positional, with_word, with_value, set_value, value_in, is_positional, option_word, command_word, HasParts, no_word, positional_word, option_in_two, option_in_one, end_of_options, AskFor, decompile, list_procedures, execute, execute_watched, execute_text, steps_of, fill_of, cpu_of, Kind, Positional, End, Names, Gives, Unknown, option_of, command_of, named, given, is_equals, option_kind, kind_of, parts_after, parts_of, job_for, job_with, job_of}
-use Rattle.dcc_top.specs.declared.words.Command.{Command}
-use Rattle.dcc_top.specs.declared.words.Command.TheVariants.{C, Procs, Run, Watch, RunC}
-use Rattle.dcc_top.specs.declared.words.OptionName.{OptionName}
-use Rattle.dcc_top.specs.declared.words.OptionName.TheVariants.{Steps, Fill, Cpu}
+use Rattle.dcc_commands.specs.Words.{Job, Make, Execute, ExecuteWatched, ExecuteText, Try, Parts, only_positional, with_word, with_value, set_value, value_in, is_positional, option_word, command_word, HasParts, no_word, positional_word, option_in_two, option_in_one, end_of_options, AskFor, make, execute, execute_watched, execute_text, try, steps_of, fill_of, cpu_of, seed_of, size_of, Kind, Positional, End, Names, Gives, Unknown, option_of, command_of, named, given, is_equals, option_kind, kind_of, parts_after, parts_of, without, with_one, with_three, run_job, text_job, trial_job, job_with, job_of}
+use Rattle.dcc_commands.specs.declared.job.Product.{Product}
+use Rattle.dcc_commands.specs.declared.job.Product.TheVariants.{Text, Procedures, Listing}
+use Rattle.dcc_commands.specs.declared.words.Command.{Command}
+use Rattle.dcc_commands.specs.declared.words.Command.TheVariants.{Makes, Run, Watch, RunC, Trial}
+use Rattle.dcc_commands.specs.declared.words.OptionName.{OptionName}
+use Rattle.dcc_commands.specs.declared.words.OptionName.TheVariants.{Steps, Fill, Cpu}
 use Rattle.dcc_machine.specs.declared.cpu.Cpu.{Cpu as Processor}
-use Rattle.dcc_top.proofs.WordsLaws.{by_kind, parts-at_kind}
+use Rattle.dcc_commands.proofs.WordsLaws.{by_kind, parts-at_kind}
 
 -- From the relation to the function.
 
@@ -56,10 +58,14 @@ parts-is _ _ (end_of_options {words}) = parts-at_kind (codes "--") words End ref
 
 pub asked-is : (words : List (List ℕ)) (job : Job) → AskFor words job → job_of words ≡ Some job
 unfolding job_of
-asked-is _ _ (decompile {words} {file} {value} {cpu} parts is) =
-    ap (λ o. option_and_then (job_with C) o) (parts-is words _ parts) ∙ ap (λ o. option_map (Decompile file) o) is
-asked-is _ _ (list_procedures {words} {file} {value} {cpu} parts is) =
-    ap (λ o. option_and_then (job_with Procs) o) (parts-is words _ parts) ∙ ap (λ o. option_map (ListProcedures file) o) is
+asked-is _ _ (make {product = Text} {words} {file} {value} {cpu} parts is) =
+    ap (λ o. option_and_then (job_with (Makes Text)) o) (parts-is words _ parts) ∙ ap (λ o. option_map (Make Text file) o) is
+asked-is _ _ (make {product = Procedures} {words} {file} {value} {cpu} parts is) =
+    ap (λ o. option_and_then (job_with (Makes Procedures)) o) (parts-is words _ parts)
+    ∙ ap (λ o. option_map (Make Procedures file) o) is
+asked-is _ _ (make {product = Listing} {words} {file} {value} {cpu} parts is) =
+    ap (λ o. option_and_then (job_with (Makes Listing)) o) (parts-is words _ parts)
+    ∙ ap (λ o. option_map (Make Listing file) o) is
 asked-is _ _ (execute {words} {file} {value} {other} {steps} {cpu} parts is also) =
     ap (λ o. option_and_then (job_with Run) o) (parts-is words _ parts)
     ∙ ap (λ o. option_and_then (λ n. option_map (Execute file n) (cpu_of other)) o) is
@@ -72,6 +78,11 @@ asked-is _ _ (execute_text {words} {file} {value} {other} {steps} {fill} parts i
     ap (λ o. option_and_then (job_with RunC) o) (parts-is words _ parts)
     ∙ ap (λ o. option_and_then (λ n. option_map (ExecuteText file n) (fill_of other)) o) is
     ∙ ap (λ o. option_map (ExecuteText file steps) o) also
+asked-is _ _ (try {words} {first} {second} {third} {seed} {size} {steps} parts is sized also) =
+    ap (λ o. option_and_then (job_with Trial) o) (parts-is words _ parts)
+    ∙ ap (λ o. trial_job o (size_of second) (steps_of (Some third))) is
+    ∙ ap (λ o. trial_job (Some seed) o (steps_of (Some third))) sized
+    ∙ ap (λ o. option_map (Try seed size) o) also
 
 -- From the function to the relation.
 
@@ -99,17 +110,23 @@ option-from word name h = elim (chosen (bytes_eq word (codes "--steps")) Steps n
 ]
 
 command-from : (word : List ℕ) (c : Command) → command_of word ≡ Some c → word ≡ command_word c
-command-from word c h = elim (chosen (bytes_eq word (codes "c")) C c _ h) [
+command-from word c h = elim (chosen (bytes_eq word (codes "c")) (Makes Text) c _ h) [
   | inl a ↦ word-same word (codes "c") a.0 ∙ ap command_word a.1
-  | inr i ↦ elim (chosen (bytes_eq word (codes "procs")) Procs c _ i) [
+  | inr i ↦ elim (chosen (bytes_eq word (codes "procs")) (Makes Procedures) c _ i) [
     | inl a ↦ word-same word (codes "procs") a.0 ∙ ap command_word a.1
-    | inr j ↦ elim (chosen (bytes_eq word (codes "run")) Run c _ j) [
-      | inl a ↦ word-same word (codes "run") a.0 ∙ ap command_word a.1
-      | inr k ↦ elim (chosen (bytes_eq word (codes "watch")) Watch c _ k) [
-        | inl a ↦ word-same word (codes "watch") a.0 ∙ ap command_word a.1
-        | inr l ↦ elim (chosen (bytes_eq word (codes "runc")) RunC c _ l) [
-          | inl a ↦ word-same word (codes "runc") a.0 ∙ ap command_word a.1
-          | inr m ↦ nothing-chosen c m
+    | inr j ↦ elim (chosen (bytes_eq word (codes "list")) (Makes Listing) c _ j) [
+      | inl a ↦ word-same word (codes "list") a.0 ∙ ap command_word a.1
+      | inr k ↦ elim (chosen (bytes_eq word (codes "run")) Run c _ k) [
+        | inl a ↦ word-same word (codes "run") a.0 ∙ ap command_word a.1
+        | inr l ↦ elim (chosen (bytes_eq word (codes "watch")) Watch c _ l) [
+          | inl a ↦ word-same word (codes "watch") a.0 ∙ ap command_word a.1
+          | inr m ↦ elim (chosen (bytes_eq word (codes "runc")) RunC c _ m) [
+            | inl a ↦ word-same word (codes "runc") a.0 ∙ ap command_word a.1
+            | inr n ↦ elim (chosen (bytes_eq word (codes "trial")) Trial c _ n) [
+              | inl a ↦ word-same word (codes "trial") a.0 ∙ ap command_word a.1
+              | inr o ↦ nothing-chosen c o
+            ]
+          ]
         ]
       ]
     ]
@@ -204,82 +221,137 @@ pub parts-from : (words : List (List ℕ)) (parts : Parts) → parts_of words �
 unfolding Claim
 parts-from words parts h = words-from words None parts h
 
-text-asked : (words : List (List ℕ)) (job : Job) (file : List ℕ) (value : Option (List ℕ)) (cpu : Option Processor) → cpu_of value ≡ cpu → HasParts words
-    (record { positional = file ∷ []; steps = None; fill = None; cpu = value }) →
-    option_map (Decompile file) cpu ≡ Some job → AskFor (command_word C ∷ words) job
-text-asked words job file value None is has h = absurd (let f : ⊥ = cc in f)
-text-asked words job file value (Some cpu) is has h =
-    let same : Decompile file cpu ≡ job = cc in
-    subst (λ j. AskFor (command_word C ∷ words) j) same (decompile has is)
+-- Jobs.
 
-listing-asked : (words : List (List ℕ)) (job : Job) (file : List ℕ) (value : Option (List ℕ)) (cpu : Option Processor) → cpu_of value ≡ cpu → HasParts words
-    (record { positional = file ∷ []; steps = None; fill = None; cpu = value }) →
-    option_map (ListProcedures file) cpu ≡ Some job → AskFor (command_word Procs ∷ words) job
-listing-asked words job file value None is has h = absurd (let f : ⊥ = cc in f)
-listing-asked words job file value (Some cpu) is has h =
-    let same : ListProcedures file cpu ≡ job = cc in
-    subst (λ j. AskFor (command_word Procs ∷ words) j) same (list_procedures has is)
+-- the option doesn't stand
+without-from : (value : Option (List ℕ)) (job : Option Job) (j : Job) → without value job ≡ Some j
+    → (value ≡ None) × (job ≡ Some j)
+without-from None job j h = (refl, h)
+without-from (Some value) job j h = absurd (let f : ⊥ = cc in f)
 
-run-asked : (words : List (List ℕ)) (job : Job) (file : List ℕ) (value other : Option (List ℕ)) (steps : Option ℕ) (cpu : Option Processor) → steps_of value ≡ steps → cpu_of other ≡ cpu →
-    HasParts words (record { positional = file ∷ []; steps = value; fill = None; cpu = other }) →
-    option_and_then (λ n. option_map (Execute file n) cpu) steps ≡ Some job → AskFor (command_word Run ∷ words) job
+-- the one positional word, and three
+one-from : (job : List ℕ → Option Job) (words : List (List ℕ)) (j : Job) → with_one job words ≡ Some j
+    → (word : List ℕ) × (words ≡ word ∷ []) × (job word ≡ Some j)
+one-from job [] j h = absurd (let f : ⊥ = cc in f)
+one-from job (word ∷ []) j h = (word, refl, h)
+one-from job (a ∷ (b ∷ ws)) j h = absurd (let f : ⊥ = cc in f)
+
+record AreThree (job : List ℕ → List ℕ → List ℕ → Option Job) (words : List (List ℕ)) (j : Job) : Type 0 where
+  first : List ℕ
+  second : List ℕ
+  third : List ℕ
+  words_are : words ≡ first ∷ (second ∷ (third ∷ []))
+  job_is : job first second third ≡ Some j
+
+three-from : (job : List ℕ → List ℕ → List ℕ → Option Job) (words : List (List ℕ)) (j : Job)
+    → with_three job words ≡ Some j → AreThree job words j
+three-from job [] j h = absurd (let f : ⊥ = cc in f)
+three-from job (a ∷ []) j h = absurd (let f : ⊥ = cc in f)
+three-from job (a ∷ (b ∷ [])) j h = absurd (let f : ⊥ = cc in f)
+three-from job (a ∷ (b ∷ (c ∷ []))) j h =
+    record { first = a; second = b; third = c; words_are = refl; job_is = h }
+three-from job (a ∷ (b ∷ (c ∷ (d ∷ ws)))) j h = absurd (let f : ⊥ = cc in f)
+
+-- parts with these fields
+parts-with : (words : List (List ℕ)) (parts : Parts) (positional : List (List ℕ)) (steps fill cpu : Option (List ℕ))
+    → parts.positional ≡ positional → parts.steps ≡ steps → parts.fill ≡ fill → parts.cpu ≡ cpu → HasParts words parts
+    → HasParts words (record { positional = positional; steps = steps; fill = fill; cpu = cpu })
+parts-with words parts positional steps fill cpu p s f c has =
+    let first = subst (λ x. HasParts words (record
+        { positional = x; steps = parts.steps; fill = parts.fill; cpu = parts.cpu })) p has in
+    let second = subst (λ x. HasParts words (record
+        { positional = positional; steps = x; fill = parts.fill; cpu = parts.cpu })) s first in
+    let third = subst (λ x. HasParts words (record
+        { positional = positional; steps = steps; fill = x; cpu = parts.cpu })) f second in
+    subst (λ x. HasParts words (record { positional = positional; steps = steps; fill = fill; cpu = x })) c third
+
+make-asked : (words : List (List ℕ)) (job : Job) (product : Product) (file : List ℕ) (value : Option (List ℕ))
+    (cpu : Option Processor) → cpu_of value ≡ cpu
+    → HasParts words (record { positional = file ∷ []; steps = None; fill = None; cpu = value })
+    → option_map (Make product file) cpu ≡ Some job → AskFor (command_word (Makes product) ∷ words) job
+make-asked words job product file value None is has h = absurd (let f : ⊥ = cc in f)
+make-asked words job product file value (Some cpu) is has h =
+    let same : Make product file cpu ≡ job = cc in
+    subst (λ j. AskFor (command_word (Makes product) ∷ words) j) same (make has is)
+
+run-asked : (words : List (List ℕ)) (job : Job) (file : List ℕ) (value other : Option (List ℕ)) (steps : Option ℕ)
+    (cpu : Option Processor) → steps_of value ≡ steps → cpu_of other ≡ cpu
+    → HasParts words (record { positional = file ∷ []; steps = value; fill = None; cpu = other })
+    → run_job Execute steps cpu file ≡ Some job → AskFor (command_word Run ∷ words) job
 run-asked words job file value other None cpu is also has h = absurd (let f : ⊥ = cc in f)
 run-asked words job file value other (Some n) None is also has h = absurd (let f : ⊥ = cc in f)
 run-asked words job file value other (Some n) (Some cpu) is also has h =
     let same : Execute file n cpu ≡ job = cc in
     subst (λ j. AskFor (command_word Run ∷ words) j) same (execute has is also)
 
-watch-asked : (words : List (List ℕ)) (job : Job) (file : List ℕ) (value other : Option (List ℕ)) (steps : Option ℕ) (cpu : Option Processor) → steps_of value ≡ steps → cpu_of other ≡ cpu →
-    HasParts words (record { positional = file ∷ []; steps = value; fill = None; cpu = other }) →
-    option_and_then (λ n. option_map (ExecuteWatched file n) cpu) steps ≡ Some job → AskFor (command_word Watch ∷ words) job
+watch-asked : (words : List (List ℕ)) (job : Job) (file : List ℕ) (value other : Option (List ℕ)) (steps : Option ℕ)
+    (cpu : Option Processor) → steps_of value ≡ steps → cpu_of other ≡ cpu
+    → HasParts words (record { positional = file ∷ []; steps = value; fill = None; cpu = other })
+    → run_job ExecuteWatched steps cpu file ≡ Some job → AskFor (command_word Watch ∷ words) job
 watch-asked words job file value other None cpu is also has h = absurd (let f : ⊥ = cc in f)
 watch-asked words job file value other (Some n) None is also has h = absurd (let f : ⊥ = cc in f)
 watch-asked words job file value other (Some n) (Some cpu) is also has h =
     let same : ExecuteWatched file n cpu ≡ job = cc in
     subst (λ j. AskFor (command_word Watch ∷ words) j) same (execute_watched has is also)
 
-text_run-asked : (words : List (List ℕ)) (job : Job) (file : List ℕ) (value other : Option (List ℕ)) (steps fill : Option ℕ) → steps_of value ≡ steps → fill_of other ≡ fill →
-    HasParts words (record { positional = file ∷ []; steps = value; fill = other; cpu = None }) →
-    option_and_then (λ n. option_map (ExecuteText file n) fill) steps ≡ Some job → AskFor (command_word RunC ∷ words) job
+text_run-asked : (words : List (List ℕ)) (job : Job) (file : List ℕ) (value other : Option (List ℕ))
+    (steps fill : Option ℕ) → steps_of value ≡ steps → fill_of other ≡ fill
+    → HasParts words (record { positional = file ∷ []; steps = value; fill = other; cpu = None })
+    → text_job steps fill file ≡ Some job → AskFor (command_word RunC ∷ words) job
 text_run-asked words job file value other None fill is also has h = absurd (let f : ⊥ = cc in f)
 text_run-asked words job file value other (Some n) None is also has h = absurd (let f : ⊥ = cc in f)
 text_run-asked words job file value other (Some n) (Some w) is also has h =
     let same : ExecuteText file n w ≡ job = cc in
     subst (λ j. AskFor (command_word RunC ∷ words) j) same (execute_text has is also)
 
-job-asked : (words : List (List ℕ)) (job : Job) (c : Command) (positional : List (List ℕ)) (steps fill cpu : Option (List ℕ)) → HasParts words
-    (record { positional = positional; steps = steps; fill = fill; cpu = cpu }) →
-    job_for c positional steps fill cpu ≡ Some job → AskFor (command_word c ∷ words) job
-job-asked words job C (file ∷ []) None None cpu has h = text-asked words job file cpu (cpu_of cpu) refl has h
-job-asked words job C (file ∷ []) None (Some other) cpu has h = absurd (let f : ⊥ = cc in f)
-job-asked words job C (file ∷ []) (Some value) fill cpu has h = absurd (let f : ⊥ = cc in f)
-job-asked words job Procs (file ∷ []) None None cpu has h = listing-asked words job file cpu (cpu_of cpu) refl has h
-job-asked words job Procs (file ∷ []) None (Some other) cpu has h = absurd (let f : ⊥ = cc in f)
-job-asked words job Procs (file ∷ []) (Some value) fill cpu has h = absurd (let f : ⊥ = cc in f)
-job-asked words job Run (file ∷ []) steps None cpu has h =
-    run-asked words job file steps cpu (steps_of steps) (cpu_of cpu) refl refl has h
-job-asked words job Run (file ∷ []) steps (Some other) cpu has h = absurd (let f : ⊥ = cc in f)
-job-asked words job Watch (file ∷ []) steps None cpu has h =
-    watch-asked words job file steps cpu (steps_of steps) (cpu_of cpu) refl refl has h
-job-asked words job Watch (file ∷ []) steps (Some other) cpu has h = absurd (let f : ⊥ = cc in f)
-job-asked words job RunC (file ∷ []) steps fill None has h =
-    text_run-asked words job file steps fill (steps_of steps) (fill_of fill) refl refl has h
-job-asked words job RunC (file ∷ []) steps fill (Some cpu) has h = absurd (let f : ⊥ = cc in f)
-job-asked words job C [] steps fill cpu has h = absurd (let f : ⊥ = cc in f)
-job-asked words job Procs [] steps fill cpu has h = absurd (let f : ⊥ = cc in f)
-job-asked words job Run [] steps fill cpu has h = absurd (let f : ⊥ = cc in f)
-job-asked words job Watch [] steps fill cpu has h = absurd (let f : ⊥ = cc in f)
-job-asked words job RunC [] steps fill cpu has h = absurd (let f : ⊥ = cc in f)
-job-asked words job C (a ∷ (b ∷ ws)) steps fill cpu has h = absurd (let f : ⊥ = cc in f)
-job-asked words job Procs (a ∷ (b ∷ ws)) steps fill cpu has h = absurd (let f : ⊥ = cc in f)
-job-asked words job Run (a ∷ (b ∷ ws)) steps fill cpu has h = absurd (let f : ⊥ = cc in f)
-job-asked words job Watch (a ∷ (b ∷ ws)) steps fill cpu has h = absurd (let f : ⊥ = cc in f)
-job-asked words job RunC (a ∷ (b ∷ ws)) steps fill cpu has h = absurd (let f : ⊥ = cc in f)
+trial-asked : (words : List (List ℕ)) (job : Job) (first second third : List ℕ) (seed size steps : Option ℕ)
+    → seed_of first ≡ seed → size_of second ≡ size → steps_of (Some third) ≡ steps
+    → HasParts words (record { positional = first ∷ (second ∷ (third ∷ [])); steps = None; fill = None; cpu = None })
+    → trial_job seed size steps ≡ Some job → AskFor (command_word Trial ∷ words) job
+trial-asked words job first second third None size steps is sized also has h = absurd (let f : ⊥ = cc in f)
+trial-asked words job first second third (Some s) None steps is sized also has h = absurd (let f : ⊥ = cc in f)
+trial-asked words job first second third (Some s) (Some n) None is sized also has h = absurd (let f : ⊥ = cc in f)
+trial-asked words job first second third (Some s) (Some n) (Some k) is sized also has h =
+    let same : Try s n k ≡ job = cc in
+    subst (λ j. AskFor (command_word Trial ∷ words) j) same (try has is sized also)
+
+job-asked : (words : List (List ℕ)) (job : Job) (c : Command) (parts : Parts) → HasParts words parts
+    → job_with c parts ≡ Some job → AskFor (command_word c ∷ words) job
+job-asked words job (Makes product) parts has h =
+    let a = without-from parts.steps _ job h in
+    let b = without-from parts.fill _ job a.1 in
+    let one = one-from _ parts.positional job b.1 in
+    make-asked words job product one.0 parts.cpu (cpu_of parts.cpu) refl
+    (parts-with words parts (one.0 ∷ []) None None parts.cpu one.1 a.0 b.0 refl has) one.2
+job-asked words job Run parts has h =
+    let b = without-from parts.fill _ job h in
+    let one = one-from _ parts.positional job b.1 in
+    run-asked words job one.0 parts.steps parts.cpu (steps_of parts.steps) (cpu_of parts.cpu) refl refl
+    (parts-with words parts (one.0 ∷ []) parts.steps None parts.cpu one.1 refl b.0 refl has) one.2
+job-asked words job Watch parts has h =
+    let b = without-from parts.fill _ job h in
+    let one = one-from _ parts.positional job b.1 in
+    watch-asked words job one.0 parts.steps parts.cpu (steps_of parts.steps) (cpu_of parts.cpu) refl refl
+    (parts-with words parts (one.0 ∷ []) parts.steps None parts.cpu one.1 refl b.0 refl has) one.2
+job-asked words job RunC parts has h =
+    let d = without-from parts.cpu _ job h in
+    let one = one-from _ parts.positional job d.1 in
+    text_run-asked words job one.0 parts.steps parts.fill (steps_of parts.steps) (fill_of parts.fill) refl refl
+    (parts-with words parts (one.0 ∷ []) parts.steps parts.fill None one.1 refl refl d.0 has) one.2
+job-asked words job Trial parts has h =
+    let a = without-from parts.steps _ job h in
+    let b = without-from parts.fill _ job a.1 in
+    let d = without-from parts.cpu _ job b.1 in
+    let t = three-from _ parts.positional job d.1 in
+    trial-asked words job t.first t.second t.third (seed_of t.first) (size_of t.second) (steps_of (Some t.third))
+    refl refl refl
+    (parts-with words parts (t.first ∷ (t.second ∷ (t.third ∷ []))) None None None t.words_are a.0 b.0 d.0 has)
+    t.job_is
 
 parts-asked : (words : List (List ℕ)) (job : Job) (c : Command) (parts : Option Parts) → ((p : Parts) → parts ≡ Some p → HasParts words p) →
     option_and_then (job_with c) parts ≡ Some job → AskFor (command_word c ∷ words) job
 parts-asked words job c None have h = absurd (let f : ⊥ = cc in f)
-parts-asked words job c (Some parts) have h = job-asked words job c parts.positional parts.steps parts.fill parts.cpu (have parts refl) h
+parts-asked words job c (Some parts) have h = job-asked words job c parts (have parts refl) h
 
 command-asked : (word : List ℕ) (words : List (List ℕ)) (job : Job) (command : Option Command) → command_of word ≡ command →
     option_and_then (λ c. option_and_then (job_with c) (parts_of words)) command ≡ Some job → AskFor (word ∷ words) job

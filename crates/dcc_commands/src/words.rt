@@ -4,67 +4,34 @@
 //! place, each option at most once. An option is two words, `--steps N`, or one, `--steps=N`. After a word
 //! `--` that isn't an option's value every word is positional.
 
-ghost use Rattle.std.specs.Prelude.{◌≡◌, ◌≤◌, ◌+◌, ◌++◌, ◌∷◌, [], MatchOption, Some, None, IsSome, map, string_bytes};
-ghost use Rattle.std.specs.Prelude.{codes, length};
+ghost use Rattle.std.specs.Prelude.{◌≡◌, ◌≤◌, ◌+◌, ◌++◌, ◌∷◌, [], MatchOption, Some, None, IsSome, IfSome, map};
+ghost use Rattle.std.specs.Prelude.{string_bytes, codes, length};
 ghost use Rattle.std.specs.Char.{is_ascii_digit};
 ghost use Rattle.std.specs.List.{list_all};
 ghost use Rattle.std.specs.Option.{option_copied};
-ghost use Rattle.dcc_top.specs.Words.{AskForOneJob, Parts, command_of, is_number, is_positional, job_of, kind_of};
-ghost use Rattle.dcc_top.specs.Words.{number_of, option_of, parts_of, set_value, value_in, steps_of, fill_of, cpu_of};
-ghost use Rattle.dcc_top.specs.WordsRead.{HasTwoFiles, job_read, kind_read, parts_read};
+ghost use Rattle.dcc_commands.specs.declared.words.Command.TheVariants.{Makes, Run, Watch, RunC, Trial};
+ghost use Rattle.dcc_commands.specs.Words.{Execute, ExecuteWatched, ExecuteText, Try};
+ghost use Rattle.dcc_commands.specs.Words.{AskForOneJob, Parts, command_of, is_number, is_positional, job_of, job_with};
+ghost use Rattle.dcc_commands.specs.Words.{kind_of, number_of, option_of, parts_of, set_value, value_in, steps_of};
+ghost use Rattle.dcc_commands.specs.Words.{fill_of, cpu_of, seed_of, size_of, IsSize};
+ghost use Rattle.dcc_commands.specs.WordsRead.{HasFourWords, IsSized, job_read, kind_read, parts_read};
 
+use crate::job::{Attempt, Execution, Job, Product, TextExecution};
 use dcc_machine::Cpu;
-
-/// The run of an executable.
-#[derive(Clone, Copy, PartialEq, Eq, Debug)]
-pub struct Execution<'a> {
-    /// The executable's name.
-    pub file: &'a str,
-    /// The most steps of the run.
-    pub steps: u64,
-    /// The processor that makes them.
-    pub cpu: Cpu,
-}
-
-/// The run of a text.
-#[derive(Clone, Copy, PartialEq, Eq, Debug)]
-pub struct TextExecution<'a> {
-    /// The text's name.
-    pub file: &'a str,
-    /// The most steps of the run.
-    pub steps: u64,
-    /// What variables and the stack hold before they have a value.
-    pub fill: u16,
-}
-
-/// What the program is to do.
-#[derive(Clone, Copy, PartialEq, Eq, Debug)]
-pub enum Job<'a> {
-    /// Write the text of the executable of this name, for this processor.
-    Decompile { file: &'a str, cpu: Cpu },
-    /// List the procedures of the executable of this name, for this processor.
-    ListProcedures { file: &'a str, cpu: Cpu },
-    /// Run an executable.
-    Execute(Execution<'a>),
-    /// Run an executable with each step's cleanness tested before the step is made.
-    ExecuteWatched(Execution<'a>),
-    /// Run a text.
-    ExecuteText(TextExecution<'a>),
-}
 
 /// A command, by its first word.
 #[derive(Clone, Copy, PartialEq, Eq, Debug)]
 pub enum Command {
-    /// `c`
-    C,
-    /// `procs`
-    Procs,
+    /// `c`, `procs` or `list`, by what is made.
+    Makes(Product),
     /// `run`
     Run,
     /// `watch`
     Watch,
     /// `runc`
     RunC,
+    /// `trial`
+    Trial,
 }
 
 /// An option, by its name.
@@ -93,11 +60,24 @@ pub enum Kind<'a> {
     Unknown,
 }
 
-/// The words after the command: the one positional word and the options' values, as far as they stand.
+/// Positional words, of which no command takes more than three.
+#[derive(Clone, Copy)]
+pub enum Positions<'a> {
+    /// There is none.
+    Empty,
+    /// One.
+    One(&'a str),
+    /// Two, in their order.
+    Two(&'a str, &'a str),
+    /// Three, in their order.
+    Three(&'a str, &'a str, &'a str),
+}
+
+/// The words after the command: the positional words and the options' values, as far as they stand.
 #[derive(Clone, Copy)]
 pub struct Found<'a> {
-    /// The file's name.
-    pub file: Option<&'a str>,
+    /// The positional words.
+    pub positions: Positions<'a>,
     /// What `--steps` gives.
     pub steps: Option<&'a str>,
     /// What `--fill` gives.
@@ -122,20 +102,32 @@ const GREATEST_FILL: u64 = 65_535;
 
 const FILL_DIGITS: usize = 5;
 
+// The digits that may write the seed of a trial.
+const SEED_DIGITS: usize = 20;
+
+// The greatest size of a trial, and the digits that may write it.
+const GREATEST_SIZE: u64 = 1_000;
+
+const SIZE_DIGITS: usize = 4;
+
 // The command of this name.
 fn command_of(word: &str) -> Option<Command>
     ensures { result ≡ command_of word.now }
 {
     if word == "c" {
-        Some(Command::C)
+        Some(Command::Makes(Product::Text))
     } else if word == "procs" {
-        Some(Command::Procs)
+        Some(Command::Makes(Product::Procedures))
+    } else if word == "list" {
+        Some(Command::Makes(Product::Listing))
     } else if word == "run" {
         Some(Command::Run)
     } else if word == "watch" {
         Some(Command::Watch)
     } else if word == "runc" {
         Some(Command::RunC)
+    } else if word == "trial" {
+        Some(Command::Trial)
     } else {
         None
     }
@@ -238,6 +230,23 @@ fn fill_of(value: Option<&str>) -> Option<u16>
     }
 }
 
+// The seed of a trial.
+fn seed_of(word: &str) -> Option<u64>
+    ensures { result ≡ seed_of word.now }
+{
+    number_of(SEED_DIGITS, u64::MAX, word)
+}
+
+// The size of a trial.
+fn size_of(word: &str) -> Option<u16>
+    ensures { result ≡ size_of word.now }
+{
+    match number_of(SIZE_DIGITS, GREATEST_SIZE, word)? {
+        0 => None,
+        size => Some(size as u16),
+    }
+}
+
 // The processor that runs an executable.
 fn cpu_of(value: Option<&str>) -> Option<Cpu>
     ensures { result ≡ cpu_of (option_copied value.entry) }
@@ -250,19 +259,19 @@ fn cpu_of(value: Option<&str>) -> Option<Cpu>
 }
 
 impl<'a> Found<'a> {
-    // One more positional word: no command takes two.
+    // One more positional word: no command takes four.
     fn with_word(self, word: &'a str) -> Option<Found<'a>>
-        ensures { MatchOption result (IsSome self.entry.file)
-            (λ found. (self.entry.file ≡ None)
-            × (parts_read found ≡ record (parts_read self.entry) { positional = word.now ∷ [] })) }
+        ensures { MatchOption result (3 ≤ length (parts_read self.entry).positional)
+            (λ found. parts_read found
+            ≡ record (parts_read self.entry) { positional = (parts_read self.entry).positional ++ word.now ∷ [] }) }
     {
-        match self.file {
-            Some(_) => None,
-            None => Some(Found {
-                file: Some(word),
-                ..self
-            }),
-        }
+        let positions = match self.positions {
+            Positions::Empty => Positions::One(word),
+            Positions::One(a) => Positions::Two(a, word),
+            Positions::Two(a, b) => Positions::Three(a, b, word),
+            Positions::Three(..) => return None,
+        };
+        Some(Found { positions, ..self })
     }
 
     // The value of an option, where it stands.
@@ -301,14 +310,77 @@ impl<'a> Found<'a> {
 
     // The words after `--`, all positional.
     fn with_all(self, words: &'a [String]) -> Option<Found<'a>>
-        ensures { MatchOption result (2 ≤ length ((parts_read self.entry).positional ++ map string_bytes words.now))
+        ensures { MatchOption result (4 ≤ length ((parts_read self.entry).positional ++ map string_bytes words.now))
             (λ found. parts_read found ≡ record (parts_read self.entry) {
               positional = (parts_read self.entry).positional ++ map string_bytes words.now;
             }) }
     {
-        match words {
-            [] => Some(self),
-            [word] => self.with_word(word.as_str()),
+        let mut found = self;
+        for word in words {
+            found = found.with_word(word.as_str())?;
+        }
+        Some(found)
+    }
+
+    // The job to make this of an executable.
+    fn make(self, product: Product) -> Option<Job<'a>>
+        ensures { MatchOption result (job_with (Makes product) (parts_read self.entry) ≡ None)
+            (λ job. job_with (Makes product) (parts_read self.entry) ≡ Some (job_read job)) }
+    {
+        match (self.positions, self.steps, self.fill) {
+            (Positions::One(file), None, None) => Some(Job::Make {
+                product,
+                file,
+                cpu: cpu_of(self.cpu)?,
+            }),
+            _ => None,
+        }
+    }
+
+    // The run of an executable.
+    fn execution(self) -> Option<Execution<'a>>
+        ensures run { MatchOption result (job_with Run (parts_read self.entry) ≡ None)
+            (λ run. job_with Run (parts_read self.entry) ≡ Some (Execute run.file.now run.steps run.cpu)) }
+        ensures watch { MatchOption result (job_with Watch (parts_read self.entry) ≡ None)
+            (λ run. job_with Watch (parts_read self.entry) ≡ Some (ExecuteWatched run.file.now run.steps run.cpu)) }
+    {
+        match (self.positions, self.fill) {
+            (Positions::One(file), None) => Some(Execution {
+                file,
+                steps: steps_of(self.steps)?,
+                cpu: cpu_of(self.cpu)?,
+            }),
+            _ => None,
+        }
+    }
+
+    // The run of a text.
+    fn text_execution(self) -> Option<TextExecution<'a>>
+        ensures { MatchOption result (job_with RunC (parts_read self.entry) ≡ None)
+            (λ run. job_with RunC (parts_read self.entry) ≡ Some (ExecuteText run.file.now run.steps run.fill)) }
+    {
+        match (self.positions, self.cpu) {
+            (Positions::One(file), None) => Some(TextExecution {
+                file,
+                steps: steps_of(self.steps)?,
+                fill: fill_of(self.fill)?,
+            }),
+            _ => None,
+        }
+    }
+
+    // The trial of a program made at random.
+    fn attempt(self) -> Option<Attempt>
+        ensures job { MatchOption result (job_with Trial (parts_read self.entry) ≡ None)
+            (λ attempt. job_with Trial (parts_read self.entry) ≡ Some (Try attempt.seed attempt.size attempt.steps)) }
+        ensures sized { IfSome result (λ attempt. IsSize attempt.size) }
+    {
+        match (self.positions, self.steps, self.fill, self.cpu) {
+            (Positions::Three(seed, size, steps), None, None, None) => Some(Attempt {
+                seed: seed_of(seed)?,
+                size: size_of(size)?,
+                steps: steps_of(Some(steps))?,
+            }),
             _ => None,
         }
     }
@@ -316,11 +388,11 @@ impl<'a> Found<'a> {
 
 // What stands in the words after the command.
 fn found_in(words: &[String]) -> Option<Found<'_>>
-    ensures { MatchOption result (HasTwoFiles (parts_of (map string_bytes words.now)))
+    ensures { MatchOption result (HasFourWords (parts_of (map string_bytes words.now)))
         (λ found. parts_of (map string_bytes words.now) ≡ Some (parts_read found)) }
 {
     let mut found = Found {
-        file: None,
+        positions: Positions::Empty,
         steps: None,
         fill: None,
         cpu: None,
@@ -346,45 +418,27 @@ fn found_in(words: &[String]) -> Option<Found<'_>>
 
 /// The job of the words after the program's name; none where the words are no command.
 ///
-/// `c FILE` writes a text, and `procs FILE` lists procedures. `run FILE` runs an executable, for at most the steps of
-/// `--steps N`: 0 to 1000000000 in at most 10 digits, and 1000000 where the option doesn't stand. `watch FILE` is the
-/// same, up to the first step that isn't clean. The four are for the processor of `--cpu CPU`: 8086 or 186, and 8086
-/// where the option doesn't stand. `runc FILE` runs a text, for at most the steps of `--steps N` and with the fill of
-/// `--fill N`: 0 to 65535 in at most 5 digits, and 0 where the option doesn't stand.
+/// `c FILE` writes a text, `procs FILE` lists procedures, and `list FILE` lists an image in assembler's words. `run FILE`
+/// runs an executable, for at most the steps of `--steps N`: 0 to 1000000000 in at most 10 digits, and 1000000 where the
+/// option doesn't stand. `watch FILE` is the same, up to the first step that isn't clean. The five are for the processor
+/// of `--cpu CPU`: 8086 or 186, and 8086 where the option doesn't stand. `runc FILE` runs
+/// a text, for at most the steps of `--steps N` and with the fill of `--fill N`: 0 to 65535 in at most 5 digits, and 0
+/// where the option doesn't stand. `trial SEED SIZE STEPS` tries a program made at random: SEED is 0 to
+/// 18446744073709551615 in at most 20 digits, SIZE 1 to 1000 in at most 4, and STEPS as that of `--steps`.
 #[tactic(auto, unfolding(crate::specs::Words::job_of))]
 pub fn job_of(words: &[String]) -> Option<Job<'_>>
-    ensures { MatchOption result (job_of (map string_bytes words.now) ≡ None)
+    ensures job { MatchOption result (job_of (map string_bytes words.now) ≡ None)
         (λ job. job_of (map string_bytes words.now) ≡ Some (job_read job)) }
+    ensures sized { IfSome result IsSized }
 {
     let (command, rest) = words.split_first()?;
     let found = found_in(rest)?;
-    let file = found.file?;
-    let command = command_of(command.as_str())?;
-    match (command, found.steps, found.fill, found.cpu) {
-        (Command::C, None, None, cpu) => Some(Job::Decompile {
-            file,
-            cpu: cpu_of(cpu)?,
-        }),
-        (Command::Procs, None, None, cpu) => Some(Job::ListProcedures {
-            file,
-            cpu: cpu_of(cpu)?,
-        }),
-        (Command::Run, steps, None, cpu) => Some(Job::Execute(Execution {
-            file,
-            steps: steps_of(steps)?,
-            cpu: cpu_of(cpu)?,
-        })),
-        (Command::Watch, steps, None, cpu) => Some(Job::ExecuteWatched(Execution {
-            file,
-            steps: steps_of(steps)?,
-            cpu: cpu_of(cpu)?,
-        })),
-        (Command::RunC, steps, fill, None) => Some(Job::ExecuteText(TextExecution {
-            file,
-            steps: steps_of(steps)?,
-            fill: fill_of(fill)?,
-        })),
-        _ => None,
+    match command_of(command.as_str())? {
+        Command::Makes(product) => found.make(product),
+        Command::Run => Some(Job::Execute(found.execution()?)),
+        Command::Watch => Some(Job::ExecuteWatched(found.execution()?)),
+        Command::RunC => Some(Job::ExecuteText(found.text_execution()?)),
+        Command::Trial => Some(Job::Try(found.attempt()?)),
     }
 }
 

@@ -7,8 +7,8 @@ use Rattle.std.specs.List.{list_all}
 use Rattle.std.specs.Str.Parse.{digits_value, ParsesUnsigned}
 use Rattle.std.proofs.lemmas.Bool.{and_parts, and_right, lt-leb, leb-true}
 use Rattle.std.proofs.lemmas.Str.Parse.{IsNumeralModel, numerals_by_value, parse_digits}
-use Rattle.dcc_top.specs.Words.{is_number, number_of}
-use Rattle.dcc_top.proofs.words.number_of.Goals as goal
+use Rattle.dcc_commands.specs.Words.{is_number, number_of}
+use Rattle.dcc_commands.proofs.words.number_of.Goals as goal
 
 -- the words of digits, and their values
 own : IsNumeralModel (λ ds. list_all is_ascii_digit ds ≡ true) (digits_value 10)
