@@ -10,7 +10,7 @@ use Rattle.dcc_prog.specs.declared.frame.Frame.{Frame}
 use Rattle.dcc_prog.specs.declared.frame.Program.{Program}
 use Rattle.dcc_prog.specs.Analysed.{IsProgramOf}
 use Rattle.dcc_prog.specs.Refused.{IsSound}
-use Rattle.dcc_top.specs.Listing.{summary_of, summary_line, lines_of, listing_of, IsWhole, IsListingOf}
+use Rattle.dcc_top.specs.Procedures.{summary_of, summary_line, lines_of, procedure_lines, IsWhole, AreProcedureLinesOf}
 
 -- as long lists as the first one
 same-length : {X Y : Type 0} (R : X → Y → Type 0) (xs : List X) (ys : List Y) → AllZip R xs ys → length xs ≡ length ys
@@ -53,5 +53,5 @@ line-added procs frames removed i proc frame bytes before now line p_is f_is b_i
     rw add-one (added ∙ ap (λ l. l ++ line) so_far ∙ ap (λ l. lines_of (take i procs) frames removed ++ l) line_is
     ∙ sym (one-line_more procs frames removed i proc frame bytes p_is f_is b_is))
 
-pub listing-is : (cpu : Cpu) (image : Image) (program : Program) (lines : List ℕ) → IsSound cpu image → IsProgramOf cpu image program → lines ≡ listing_of program → IsListingOf cpu image lines
-listing-is cpu image program lines sound is listed = record { sound = sound; program = program; is_program = is; listed = listed }
+pub procedures-are : (cpu : Cpu) (image : Image) (program : Program) (lines : List ℕ) → IsSound cpu image → IsProgramOf cpu image program → lines ≡ procedure_lines program → AreProcedureLinesOf cpu image lines
+procedures-are cpu image program lines sound is listed = record { sound = sound; program = program; is_program = is; listed = listed }

@@ -8,7 +8,7 @@ use Rattle.dcc_prog.specs.declared.frame.Frame.{Frame}
 use Rattle.dcc_prog.specs.declared.frame.Program.{Program}
 use Rattle.dcc_prog.specs.Analysed.{IsProgramOf}
 use Rattle.dcc_prog.specs.Refused.{IsSound}
-use Rattle.dcc_top.specs.declared.listing.Summary.{Summary}
+use Rattle.dcc_top.specs.declared.procedures.Summary.{Summary}
 use Rattle.dcc_top.specs.Offset.{hex_offset}
 
 -- what is told of a procedure: its entry, how many instructions it has, how many argument words its frame, and how many
@@ -31,8 +31,8 @@ lines_of (proc ∷ procs) (frame ∷ frames) (bytes ∷ removed) =
     (summary_line (summary_of proc frame bytes) ++ codes "\n") ++ lines_of procs frames removed
 lines_of _ _ _ = []
 
-abbrev pub listing_of : Program → List ℕ
-listing_of program = lines_of program.procs.items program.cells.frames.items program.heights.ret.items
+abbrev pub procedure_lines : Program → List ℕ
+procedure_lines program = lines_of program.procs.items program.cells.frames.items program.heights.ret.items
 
 -- each procedure has its frame, and a number of bytes that its RET removes
 pub record IsWhole (program : Program) : Type 0 where
@@ -40,8 +40,8 @@ pub record IsWhole (program : Program) : Type 0 where
   pub removed : length program.procs.items ≡ length program.heights.ret.items
 
 -- on this processor nothing that the analyses tell stands in the image, and these are the lines of what they find
-pub record IsListingOf (cpu : Cpu) (image : Image) (lines : List ℕ) : Type 0 where
+pub record AreProcedureLinesOf (cpu : Cpu) (image : Image) (lines : List ℕ) : Type 0 where
   pub sound : IsSound cpu image
   pub program : Program
   pub is_program : IsProgramOf cpu image program
-  pub listed : lines ≡ listing_of program
+  pub listed : lines ≡ procedure_lines program

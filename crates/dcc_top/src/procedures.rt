@@ -1,7 +1,7 @@
 //! The procedures of a program, as `procs` lists them.
 
 ghost use Rattle.std.specs.Prelude.{◌≡◌, Some, IfOk, string_bytes};
-ghost use Rattle.dcc_top.specs.Listing.{summary_line, listing_of, IsWhole};
+ghost use Rattle.dcc_top.specs.Procedures.{summary_line, procedure_lines, IsWhole};
 
 use dcc_prog::Program;
 use std::alloc::{AllocError, Global};
@@ -35,9 +35,9 @@ impl fmt::Display for Summary {
 }
 
 /// The lines of a program: one for each procedure, the entry procedure first, and then the others by their entries.
-pub fn listing(alloc: Global, program: &Program) -> Result<String, AllocError>
+pub fn procedure_lines(alloc: Global, program: &Program) -> Result<String, AllocError>
     requires { IsWhole program.now }
-    ensures { IfOk result (λ lines. string_bytes lines ≡ listing_of program.now) }
+    ensures { IfOk result (λ lines. string_bytes lines ≡ procedure_lines program.now) }
 {
     let mut lines = String::new(alloc);
     for (i, proc) in program.procs.iter().enumerate() {

@@ -7,9 +7,9 @@ use Rattle.dcc_prog.specs.Refused.{IsRefusedByAnalysis}
 use Rattle.dcc_machine_demand.specs.Refused.{by_analysis}
 use Rattle.dcc_top.specs.declared.reply.Reply.TheVariants.{Memory}
 use Rattle.dcc_top.specs.Answer.{AllowsImage, image_made, image_refused}
-use Rattle.dcc_top.specs.Words.{Text}
+use Rattle.dcc_commands.specs.declared.job.Product.TheVariants.{Text}
 use Rattle.dcc_top.proofs.AnswerLaws.{answers-nothing, answers-unchanged}
-use Rattle.dcc_top.proofs.decompile_job.write_text.Goals as goal
+use Rattle.dcc_top.proofs.make_job.write_text.Goals as goal
 
 pub returns-in-Err-clause-answers : goal.returns-in-Err-clause-answers
 returns-in-Err-clause-answers g c =

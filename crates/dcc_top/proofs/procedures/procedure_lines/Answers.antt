@@ -1,9 +1,9 @@
 use Rattle.std.proofs.Common.{◌≡◌, ◌++◌, length, Some, slice_get, string_bytes, refl, ap, ◌∙◌, subst, arith}
 use Rattle.std.specs.Prelude.{codes}
 use Rattle.std.proofs.lemmas.Option.{slice_get_read}
-use Rattle.dcc_top.specs.Listing.{summary_of, summary_line}
-use Rattle.dcc_top.proofs.ListingLaws.{line-added}
-use Rattle.dcc_top.proofs.listing.listing.Goals as goal
+use Rattle.dcc_top.specs.Procedures.{summary_of, summary_line}
+use Rattle.dcc_top.proofs.ProceduresLaws.{line-added}
+use Rattle.dcc_top.proofs.procedures.procedure_lines.Goals as goal
 
 pub loop-i-preserved : goal.loop-i-preserved
 loop-i-preserved c =

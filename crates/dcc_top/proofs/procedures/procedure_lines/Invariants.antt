@@ -1,6 +1,6 @@
 use Rattle.std.proofs.Common.{◌≡◌, take, string_bytes}
-use Rattle.dcc_top.specs.Listing.{lines_of}
-use Rattle.dcc_top.proofs.listing.listing.Given as goal
+use Rattle.dcc_top.specs.Procedures.{lines_of}
+use Rattle.dcc_top.proofs.procedures.procedure_lines.Given as goal
 
 -- the lines of the procedures so far
 abbrev pub invariant-loop-i : goal.invariant-loop-i

@@ -2,7 +2,7 @@ use Rattle.std.proofs.Common.{◌≡◌, ap, Some, ◌<◌, ◌^◌, arith}
 use Rattle.std.specs.Fmt.{styled_digits_output}
 use Rattle.dcc_top.specs.Offset.{hex_offset}
 use Rattle.dcc_top.proofs.HexLaws.{hex_offset-padded}
-use Rattle.dcc_top.proofs.listing.SummaryDisplay.fmt.Goals as goal
+use Rattle.dcc_top.proofs.procedures.SummaryDisplay.fmt.Goals as goal
 
 pub returns-clause-writes : goal.returns-clause-writes
 returns-clause-writes g c =

@@ -1,7 +1,7 @@
 //! Words and their jobs. The values come from a reference reader apart from this one.
 
 use dcc_machine::Cpu;
-use dcc_top::words::{Execution, Job, TextExecution, job_of};
+use dcc_commands::{Attempt, Execution, Job, Product, TextExecution, job_of};
 use std::alloc::{AllocError, Global};
 use std::test::Fail;
 
@@ -14,12 +14,24 @@ fn words_of(alloc: Global, line: &str) -> Result<Vec<String>, AllocError> {
     Ok(words)
 }
 
+fn make(product: Product, file: &str, cpu: Cpu) -> Option<Job<'_>> {
+    Some(Job::Make { product, file, cpu })
+}
+
 fn c(file: &str, cpu: Cpu) -> Option<Job<'_>> {
-    Some(Job::Decompile { file, cpu })
+    make(Product::Text, file, cpu)
 }
 
 fn procs(file: &str, cpu: Cpu) -> Option<Job<'_>> {
-    Some(Job::ListProcedures { file, cpu })
+    make(Product::Procedures, file, cpu)
+}
+
+fn list(file: &str, cpu: Cpu) -> Option<Job<'_>> {
+    make(Product::Listing, file, cpu)
+}
+
+fn trial(seed: u64, size: u16, steps: u64) -> Option<Job<'static>> {
+    Some(Job::Try(Attempt { seed, size, steps }))
 }
 
 fn run_on(file: &str, steps: u64, cpu: Cpu) -> Option<Job<'_>> {
@@ -51,6 +63,17 @@ fn commands_have_a_job(rt: HostRuntime) -> Result<(), Fail> {
         ("c --cpu=186 -- --cpu", c("--cpu", Cpu::I186)),
         ("procs F", procs("F", Cpu::I8086)),
         ("procs --cpu=186 -- -F", procs("-F", Cpu::I186)),
+        ("list F", list("F", Cpu::I8086)),
+        ("list --cpu 186 F", list("F", Cpu::I186)),
+        ("trial 0 1 0", trial(0, 1, 0)),
+        ("trial 7 400 100000", trial(7, 400, 100_000)),
+        ("trial -- 7 1000 1000000000", trial(7, 1_000, 1_000_000_000)),
+        ("trial 7 -- 0001 0000000000", trial(7, 1, 0)),
+        (
+            "trial 18446744073709551615 1 1",
+            trial(18_446_744_073_709_551_615, 1, 1),
+        ),
+        ("trial 00000000000000000007 1 1 --", trial(7, 1, 1)),
         ("run F", run("F", 1_000_000)),
         ("run -", run("-", 1_000_000)),
         ("run a --", run("a", 1_000_000)),
@@ -84,7 +107,7 @@ fn commands_have_a_job(rt: HostRuntime) -> Result<(), Fail> {
 }
 
 // Words that are no command.
-static OTHER_WORDS: [&str; 56] = [
+static OTHER_WORDS: [&str; 79] = [
     "",
     "help",
     "--help",
@@ -141,6 +164,29 @@ static OTHER_WORDS: [&str; 56] = [
     "run --cpu 186",
     "runc F --cpu 186",
     "runc --cpu=8086 F",
+    "list",
+    "list a b",
+    "list a b c",
+    "list F --steps 1",
+    "list F --fill 1",
+    "list F --cpu 80186",
+    "list -F",
+    "trial",
+    "trial 7",
+    "trial 7 1",
+    "trial 7 1 1 1",
+    "trial -- 7 1 1 1",
+    "trial 7 0 1",
+    "trial 7 0000 1",
+    "trial 7 1001 1",
+    "trial 7 00001 1",
+    "trial 7 1 1000000001",
+    "trial 7 1 00000000001",
+    "trial 18446744073709551616 1 1",
+    "trial 000000000000000000007 1 1",
+    "trial x 1 1",
+    "trial 7 1 1 --steps 1",
+    "trial 7 1 1 --cpu 8086",
 ];
 
 #[test]
