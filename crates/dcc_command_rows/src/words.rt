@@ -1,7 +1,7 @@
 //! Words and their jobs. The values come from a reference reader apart from this one.
 
-use dcc_machine::Cpu;
 use dcc_commands::{Attempt, Execution, Job, Product, TextExecution, job_of};
+use dcc_machine::Cpu;
 use std::alloc::{AllocError, Global};
 use std::test::Fail;
 

@@ -258,11 +258,11 @@ parts-with : (words : List (List ℕ)) (parts : Parts) (positional : List (List 
     → HasParts words (record { positional = positional; steps = steps; fill = fill; cpu = cpu })
 parts-with words parts positional steps fill cpu p s f c has =
     let first = subst (λ x. HasParts words (record
-        { positional = x; steps = parts.steps; fill = parts.fill; cpu = parts.cpu })) p has in
+    { positional = x; steps = parts.steps; fill = parts.fill; cpu = parts.cpu })) p has in
     let second = subst (λ x. HasParts words (record
-        { positional = positional; steps = x; fill = parts.fill; cpu = parts.cpu })) s first in
+    { positional = positional; steps = x; fill = parts.fill; cpu = parts.cpu })) s first in
     let third = subst (λ x. HasParts words (record
-        { positional = positional; steps = steps; fill = x; cpu = parts.cpu })) f second in
+    { positional = positional; steps = steps; fill = x; cpu = parts.cpu })) f second in
     subst (λ x. HasParts words (record { positional = positional; steps = steps; fill = fill; cpu = x })) c third
 
 make-asked : (words : List (List ℕ)) (job : Job) (product : Product) (file : List ℕ) (value : Option (List ℕ))

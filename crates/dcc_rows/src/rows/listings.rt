@@ -125,13 +125,15 @@ fn procedures_are_listed_and_have_a_text(rt: HostRuntime) -> Result<(), Fail> {
 }
 
 // The listing of the program that prints A.
-const PRINTS_A_LISTING: &str = "; dcc list 1 8086 0110\n; prelude\n0000:\n    mov ax,0x0111\n    mov ds,ax\n\
+const PRINTS_A_LISTING: &str =
+    "; dcc list 1 8086 0110\n; prelude\n0000:\n    mov ax,0x0111\n    mov ds,ax\n\
     ; start nodes 5 args 0 ret 0\n0005:\n    mov dl,0x41\n    mov ah,0x02\n    int 0x21\n    mov ax,0x4C03\n    int 0x21\n";
 
 // An instruction in another encoding than the standard one, and bytes that no instruction has.
 const ODD_CODE: &[u8] = b"\x29\xC0\xB4\x4C\xCD\x21";
 
-const ODD_LISTING: &str = "; dcc list 1 8086 0110\n; prelude\n0000:\n    mov ax,0x0111\n    mov ds,ax\n\
+const ODD_LISTING: &str =
+    "; dcc list 1 8086 0110\n; prelude\n0000:\n    mov ax,0x0111\n    mov ds,ax\n\
     ; start nodes 3 args 0 ret 0\n0005:\n    odd 29 C0 sub ax,ax\n    mov ah,0x4C\n    int 0x21\n    db 00 00 00 00 00\n";
 
 #[test]

@@ -28,12 +28,7 @@ fn rows() -> &'static [Row] {
 fn trials_are_those_of_the_reference(rt: HostRuntime) -> Result<(), Fail> {
     for (words, head, tail) in rows() {
         let [seed, size, steps] = *words;
-        let given = answered(
-            rt.alloc(),
-            &["trial", seed, size, steps],
-            b"",
-            NO_FAULTS,
-        )?;
+        let given = answered(rt.alloc(), &["trial", seed, size, steps], b"", NO_FAULTS)?;
         assert_eq!(rt; given.err.as_slice(), b"".as_slice(), "{head}");
         assert!(rt; given.out.as_slice().starts_with(head.as_bytes()), "{head}");
         assert!(rt; given.out.as_slice().ends_with(tail.as_bytes()), "{tail}");
