@@ -1,26 +1,31 @@
 -- A graph that follows another statement by statement goes on as the other does.
-use Rattle.std.proofs.Common.{◌≡◌, ℕ, zero, suc, Bool, true, false, List, [], ◌∷◌, ◌++◌, Option, Some, None, refl, sym, ap, ap₂, ◌∙◌, subst, true≢false, slice_get, map, Contains, eqb-true}
+use Rattle.std.proofs.Common.{◌≡◌, ℕ, zero, suc, Bool, true, false, List, [], ◌∷◌, ◌++◌, Option, Some, None, refl, sym, ap, ap₂, ◌∙◌, subst, true≢false, length, slice_get, map, Contains, eqb-true}
 use Rattle.std.specs.Prelude.{if◌then◌else◌, ◌==◌}
+use Rattle.std.specs.List.{list_all}
+use Rattle.std.proofs.lemmas.List.Elements.{All-contains}
 use Rattle.dcc_run.specs.Event.{Event, Wrote, Took, MetEnd, writes}
 use Rattle.dcc_run.specs.End.{End, Exit as ExitWith, Divide, Stuck, is_over}
 use Rattle.dcc_ir.specs.declared.syntax.Loc.{Loc}
-use Rattle.dcc_ir.specs.Tree.{Stmt, Set, Fetch, Store, Div, Call, Dos, Exit, Goto, If, Switch, Ret, Stop, Block, Graph}
+use Rattle.dcc_ir.specs.Tree.{Stmt, Set, Fetch, Store, Div, Call, Dos, Exit, Goto, If, Switch, Ret, Stop, Block, Graph, Program}
 use Rattle.dcc_ir.specs.Location.{location_width}
 use Rattle.dcc_ir.specs.Value.{division_of}
 use Rattle.dcc_ir.specs.Dos.{dos_string}
 use Rattle.dcc_ir.specs.Demand.{is_assignment}
-use Rattle.dcc_ir.specs.WellFormed.{IsGraph}
+use Rattle.dcc_ir.specs.WellFormed.{is_stmt, is_exit, is_block, IsGraph, IsProgram}
+use Rattle.dcc_ir.specs.Fitting.{StateFits}
 use Rattle.dcc_ir.specs.Flow.{targets}
-use Rattle.dcc_ir.specs.Run.{State, scene_of, value_in, ended, stuck, setting, dividing, happening, writing, taking, keyed, argument_in, dos_step, stmt_step, is_call}
+use Rattle.dcc_ir.specs.Run.{State, graph_at, scene_of, value_in, ended, stuck, setting, dividing, happening, writing, taking, keyed, argument_in, dos_step, stmt_step, is_call}
 use Rattle.dcc_ir.specs.Local.{Point, after_call, after_calls, Halt, Over, Jumps, switch_halt, exit_halt, local_run}
 use Rattle.dcc_ir.specs.Passes.{with_values, FitIn, AgreeOutside, EndAlike, Meet}
+use Rattle.dcc_ir.proofs.FitLaws.{both as and-both}
+use Rattle.dcc_ir.proofs.FitStates.{IsFit, scene-fits, stmt-fit}
 use Rattle.dcc_ir.proofs.LocationLaws.{Contains-here, Contains-later}
-use Rattle.dcc_ir.proofs.ReachedLaws.{contained}
+use Rattle.dcc_ir.proofs.ReachedLaws.{contained, found_contained, all_at}
 use Rattle.dcc_ir.proofs.passes.LocalLaws.{some_same, is_running, Frame, stmt-frame}
 use Rattle.dcc_passes.specs.Replaced.{StandsFor}
 use Rattle.dcc_passes.specs.Kinds.{StaysInKind}
 use Rattle.dcc_passes.specs.OneGraph.{one_pass, GoesIn}
-use Rattle.dcc_passes.specs.Following.{Bond, Link, Anywhere, TakeAlike, takes_key, DoAlike, EndsAlike, RunAlike, IsFollowedBy, done, both, calls, goes, comes, IsFollowedByBlock, linked, IsFollowedByGraph}
+use Rattle.dcc_passes.specs.Following.{Bond, Link, Anywhere, TakeAlike, takes_key, DoAlike, EndsAlike, RunAlike, IsFollowedBy, done, both, calls, goes, comes, joins, IsFollowedByBlock, linked, IsFollowedByGraph}
 use Rattle.dcc_passes.proofs.OneGraphLaws.{one-stands}
 use Rattle.dcc_passes.proofs.KindLaws.{kind-fits}
 
@@ -203,6 +208,47 @@ assignment-changes (Div x e) s is = absurd (true≢false (sym is))
 assignment-changes (Call r n a d) s is = absurd (true≢false (sym is))
 assignment-changes (Dos n p a) s is = absurd (true≢false (sym is))
 
+-- What fits.
+
+-- what a state holds that fits
+is-fit : (s : State) → StateFits s → IsFit s
+is-fit s h = record {
+  values = h.running.values;
+  memory = record { len = h.running.len; bytes = h.running.bytes };
+  console = record { left = h.input; written = h.written; taken = h.taken };
+}
+
+-- the first of well-formed statements keeps what fits
+first-fits : (graph : Graph) (stmt : Stmt) (rest : List Stmt) (s : State) → s.running.graph ≡ graph → list_all (is_stmt graph.bits) (stmt ∷ rest) ≡ true → IsFit s → IsFit (stmt_step stmt s)
+first-fits graph stmt rest s runs formed fit =
+    stmt-fit stmt s (subst (λ (g : Graph). is_stmt g.bits stmt ≡ true) (sym runs) (and-both (is_stmt graph.bits stmt) (list_all (is_stmt graph.bits) rest) formed).0) fit
+
+rest-formed : (graph : Graph) (stmt : Stmt) (rest : List Stmt) → list_all (is_stmt graph.bits) (stmt ∷ rest) ≡ true → list_all (is_stmt graph.bits) rest ≡ true
+rest-formed graph stmt rest formed = (and-both (is_stmt graph.bits stmt) (list_all (is_stmt graph.bits) rest) formed).1
+
+-- what is left of well-formed statements after calls is well formed
+formed-after-call : (graph : Graph) (stmts : List Stmt) → list_all (is_stmt graph.bits) stmts ≡ true → list_all (is_stmt graph.bits) (after_call stmts) ≡ true
+formed-after-call graph [] formed = formed
+formed-after-call graph (Set x e ∷ rest) formed = formed-after-call graph rest (rest-formed graph (Set x e) rest formed)
+formed-after-call graph (Fetch x width a ∷ rest) formed = formed-after-call graph rest (rest-formed graph (Fetch x width a) rest formed)
+formed-after-call graph (Store width a e ∷ rest) formed = formed-after-call graph rest (rest-formed graph (Store width a e) rest formed)
+formed-after-call graph (Div x e ∷ rest) formed = formed-after-call graph rest (rest-formed graph (Div x e) rest formed)
+formed-after-call graph (Call r n a d ∷ rest) formed = rest-formed graph (Call r n a d) rest formed
+formed-after-call graph (Dos n p a ∷ rest) formed = formed-after-call graph rest (rest-formed graph (Dos n p a) rest formed)
+
+formed-after-calls : (graph : Graph) (n : ℕ) (stmts : List Stmt) → list_all (is_stmt graph.bits) stmts ≡ true → list_all (is_stmt graph.bits) (after_calls n stmts) ≡ true
+formed-after-calls graph zero stmts formed = formed
+formed-after-calls graph (suc n) stmts formed = formed-after-call graph (after_calls n stmts) (formed-after-calls graph n stmts formed)
+
+-- the statements that are left at a point of a well-formed program are well formed
+left-formed : (p : Program) → IsProgram p → (entry place n : ℕ) (graph : Graph) (block : Block) → graph_at p.graphs entry ≡ Some graph → slice_get graph.blocks place ≡ Some block
+    → list_all (is_stmt graph.bits) (after_calls n block.stmts) ≡ true
+left-formed p well entry place n graph block found placed =
+    let known = found_contained (λ (g : Graph). g.entry == entry) p.graphs graph found in
+    let fine = All-contains IsGraph p.graphs graph well.graphs known in
+    let formed = all_at (is_block graph.bits (length graph.blocks)) graph.blocks block fine.blocks (contained graph.blocks place block placed) in
+    formed-after-calls graph n block.stmts (and-both (list_all (is_stmt graph.bits) block.stmts) (is_exit graph.bits (length graph.blocks) block.exit) formed).0
+
 -- What is left after calls.
 
 module _ (before after : Graph) (link : List Stmt → Bond) where
@@ -219,6 +265,9 @@ module _ (before after : Graph) (link : List Stmt → Bond) where
       subst (λ zs. Follows zs (after_call rest')) (sym (no-call-passed stmt rest (assignment-is-no-call stmt is))) (follows-after_call rest rest' w)
   follows-after_call xs ys (comes {stmt' = stmt'} {rest = rest} {rest' = rest'} is left w) =
       subst (Follows (after_call rest)) (sym (no-call-passed stmt' rest' (assignment-is-no-call stmt' is))) (follows-after_call rest rest' w)
+  follows-after_call xs ys (joins {stmt = stmt} {next = next} {stmt' = stmt'} {rest = rest} {rest' = rest'} is is-next is' joined w) =
+      subst (λ zs. Follows zs (after_call (stmt' ∷ rest'))) (sym (no-call-passed stmt (next ∷ rest) (assignment-is-no-call stmt is) ∙ no-call-passed next rest (assignment-is-no-call next is-next)))
+      (subst (Follows (after_call rest)) (sym (no-call-passed stmt' rest' (assignment-is-no-call stmt' is'))) (follows-after_call rest rest' w))
 
   follows-after_calls : (n : ℕ) (xs ys : List Stmt) → Follows xs ys → Follows (after_calls n xs) (after_calls n ys)
   follows-after_calls zero xs ys w = w
@@ -231,13 +280,23 @@ module _ (before after : Graph) (link : Link) (entry : after.entry ≡ before.en
   abbrev Meets : Halt → Halt → Type 0
   Meets = Meet (one_pass (λ k. k) (linked before after link)) a point 0
 
-  record Stand (xs : List Stmt) (s t : State) : Type 0 where
-    alike : RunAlike before after (link point.place xs) s t
+  record Stand (xs ys : List Stmt) (s t : State) : Type 0 where
+    first : s.running.graph ≡ before
+    second : t.running.graph ≡ after
+    outside : AgreeOutside s t
+    holds : link point.place xs (scene_of s) t.running.values
+    fit : IsFit s
+    fit' : IsFit t
+    formed : list_all (is_stmt before.bits) xs ≡ true
+    formed' : list_all (is_stmt after.bits) ys ≡ true
     running : is_over s.end ≡ false
     end : t.end ≡ s.end
     here : s.running.block ≡ block
     there : t.running.block ≡ new
     follows : after_call xs ≡ after_calls (suc point.calls) block.stmts
+
+  run-alike : (xs ys : List Stmt) (s t : State) → Stand xs ys s t → RunAlike before after (link point.place xs) s t
+  run-alike xs ys s t st = record { first = st.first; second = st.second; outside = st.outside; first_fits = scene-fits s st.fit; second_fits = scene-fits t st.fit'; holds = st.holds }
 
   entries : (s t : State) → s.running.graph ≡ before → t.running.graph ≡ after → t.running.graph.entry ≡ s.running.graph.entry
   entries s t first second = ap (λ (g : Graph). g.entry) second ∙ entry ∙ sym (ap (λ (g : Graph). g.entry) first)
@@ -299,22 +358,25 @@ module _ (before after : Graph) (link : Link) (entry : after.entry ≡ before.en
   go-on s t halt halt' true over on e = over
   go-on s t halt halt' false over on e = on e
 
-  walk : (xs ys : List Stmt) → IsFollowedBy before after (link point.place) xs ys → (s t : State) → Stand xs s t → Meets (local_run xs s) (local_run ys t)
+  walk : (xs ys : List Stmt) → IsFollowedBy before after (link point.place) xs ys → (s t : State) → Stand xs ys s t → Meets (local_run xs s) (local_run ys t)
   walk xs ys done s t st =
+      let alike = run-alike [] [] s t st in
       subst (λ exit. Meets (exit_halt exit s) (exit_halt t.running.block.exit t)) (sym (ap (λ (b : Block). b.exit) st.here))
       (subst (λ exit. Meets (exit_halt block.exit s) (exit_halt exit t)) (sym (ap (λ (b : Block). b.exit) st.there))
-      (exits block.exit new.exit refl s t st.alike (is.exit s t st.alike)))
+      (exits block.exit new.exit refl s t alike (is.exit s t alike)))
   walk xs ys (both {stmt = stmt} {stmt' = stmt'} {rest = rest} {rest' = rest'} plain plain' alike w) s t st =
       let s' = stmt_step stmt s in
       let t' = stmt_step stmt' t in
-      let next = steps-alike (link point.place rest) stmt stmt' s t st.alike.outside st.end (entries s t st.alike.first st.alike.second) (alike s t st.alike) in
+      let next = steps-alike (link point.place rest) stmt stmt' s t st.outside st.end (entries s t st.first st.second) (alike s t (run-alike (stmt ∷ rest) (stmt' ∷ rest') s t st)) in
       let on = λ (e : is_over s'.end ≡ false). walk rest rest' w s' t' (record {
-        alike = record {
-          first = ap (λ (f : Frame). f.graph) (stmt-frame stmt s) ∙ st.alike.first;
-          second = ap (λ (f : Frame). f.graph) (stmt-frame stmt' t) ∙ st.alike.second;
-          outside = next.outside;
-          holds = next.holds e;
-        };
+        first = ap (λ (f : Frame). f.graph) (stmt-frame stmt s) ∙ st.first;
+        second = ap (λ (f : Frame). f.graph) (stmt-frame stmt' t) ∙ st.second;
+        outside = next.outside;
+        holds = next.holds e;
+        fit = first-fits before stmt rest s st.first st.formed st.fit;
+        fit' = first-fits after stmt' rest' t st.second st.formed' st.fit';
+        formed = rest-formed before stmt rest st.formed;
+        formed' = rest-formed after stmt' rest' st.formed';
         running = e;
         end = next.end;
         here = ap (λ (f : Frame). f.block) (stmt-frame stmt s) ∙ st.here;
@@ -325,42 +387,46 @@ module _ (before after : Graph) (link : Link) (entry : after.entry ≡ before.en
       (subst (λ halt. Meets (if is_over s'.end then Over s' else local_run rest s') halt) (sym (no-call-runs stmt' rest' t plain'))
       (subst (λ b. Meets (if is_over s'.end then Over s' else local_run rest s') (if b then Over t' else local_run rest' t')) (sym (ap is_over next.end))
       (go-on s' t' (local_run rest s') (local_run rest' t') (is_over s'.end) (record { end = next.end; events = next.outside.events }) on refl)))
-  walk xs ys (calls {results = results} {results' = results'} {rest = rest} {rest' = rest'} passed given w) s t st = record {
-    at_once = refl;
-    entry = refl;
-    depth = refl;
-    outside = record { memory = st.alike.outside.memory; input = st.alike.outside.input; events = st.alike.outside.events; base = st.alike.outside.base };
-    enters = passed s t st.alike;
-    resumes = λ r r' fit fit' leaves there found.
-        let v = s.running.values in
-        let v' = t.running.values in
-        let same : there ≡ block = some_same there block (sym found ∙ placed) in
-        let fits = subst (λ (g : Graph). FitIn (map (location_width g.bits) results) r) st.alike.first fit in
-        let Given = λ (l : List Stmt) (q : List ℕ). Anywhere (link point.place l) before.bits (with_values v results r) (with_values v' results' q) in
-        subst (λ (b : Block). Given (after_calls (suc point.calls) b.stmts) r') (sym same)
-        (subst (λ l. Given l r') st.follows (subst (λ q. Given rest q) (sym leaves) (given s t r st.alike fits)));
-  }
+  walk xs ys (calls {results = results} {results' = results'} {entry = callee} {depth = depth} {arguments = arguments} {arguments' = arguments'} {rest = rest} {rest' = rest'} passed given w) s t st =
+      let alike = run-alike (Call results callee arguments depth ∷ rest) (Call results' callee arguments' depth ∷ rest') s t st in
+      record {
+        at_once = refl;
+        entry = refl;
+        depth = refl;
+        outside = record { memory = st.outside.memory; input = st.outside.input; events = st.outside.events; base = st.outside.base };
+        enters = passed s t alike;
+        resumes = λ r r' fit fit' leaves there found.
+            let v = s.running.values in
+            let v' = t.running.values in
+            let same : there ≡ block = some_same there block (sym found ∙ placed) in
+            let fits = subst (λ (g : Graph). FitIn (map (location_width g.bits) results) r) st.first fit in
+            let Given = λ (l : List Stmt) (q : List ℕ). Anywhere (link point.place l) before.bits (with_values v results r) (with_values v' results' q) in
+            subst (λ (b : Block). Given (after_calls (suc point.calls) b.stmts) r') (sym same)
+            (subst (λ l. Given l r') st.follows (subst (λ q. Given rest q) (sym leaves) (given s t r alike fits)));
+      }
   walk xs ys (goes {stmt = stmt} {rest = rest} {rest' = rest'} assigns left w) s t st =
       let s' = stmt_step stmt s in
       let c = assignment-changes stmt s assigns in
       let plain = assignment-is-no-call stmt assigns in
       let on : is_over s'.end ≡ false = ap is_over c.end ∙ st.running in
       let f = stmt-frame stmt s in
-      let o = st.alike.outside in
+      let o = st.outside in
       subst (λ halt. Meets halt (local_run rest' t)) (sym (no-call-runs stmt rest s plain))
       (subst (λ b. Meets (if b then Over s' else local_run rest s') (local_run rest' t)) (sym on)
       (walk rest rest' w s' t (record {
-        alike = record {
-          first = ap (λ (f : Frame). f.graph) f ∙ st.alike.first;
-          second = st.alike.second;
-          outside = record {
-            memory = o.memory ∙ sym c.memory;
-            input = o.input ∙ sym c.input;
-            events = o.events ∙ sym c.events;
-            base = o.base ∙ sym (ap (λ (f : Frame). f.base) f);
-          };
-          holds = left s t st.alike;
+        first = ap (λ (f : Frame). f.graph) f ∙ st.first;
+        second = st.second;
+        outside = record {
+          memory = o.memory ∙ sym c.memory;
+          input = o.input ∙ sym c.input;
+          events = o.events ∙ sym c.events;
+          base = o.base ∙ sym (ap (λ (f : Frame). f.base) f);
         };
+        holds = left s t (run-alike (stmt ∷ rest) rest' s t st);
+        fit = first-fits before stmt rest s st.first st.formed st.fit;
+        fit' = st.fit';
+        formed = rest-formed before stmt rest st.formed;
+        formed' = st.formed';
         running = on;
         end = st.end ∙ sym c.end;
         here = ap (λ (f : Frame). f.block) f ∙ st.here;
@@ -373,27 +439,74 @@ module _ (before after : Graph) (link : Link) (entry : after.entry ≡ before.en
       let plain = assignment-is-no-call stmt' assigns in
       let on : is_over t'.end ≡ false = ap is_over c.end ∙ ap is_over st.end ∙ st.running in
       let f = stmt-frame stmt' t in
-      let o = st.alike.outside in
+      let o = st.outside in
       subst (λ halt. Meets (local_run rest s) halt) (sym (no-call-runs stmt' rest' t plain))
       (subst (λ b. Meets (local_run rest s) (if b then Over t' else local_run rest' t')) (sym on)
       (walk rest rest' w s t' (record {
-        alike = record {
-          first = st.alike.first;
-          second = ap (λ (f : Frame). f.graph) f ∙ st.alike.second;
-          outside = record {
-            memory = c.memory ∙ o.memory;
-            input = c.input ∙ o.input;
-            events = c.events ∙ o.events;
-            base = ap (λ (f : Frame). f.base) f ∙ o.base;
-          };
-          holds = left s t st.alike;
+        first = st.first;
+        second = ap (λ (f : Frame). f.graph) f ∙ st.second;
+        outside = record {
+          memory = c.memory ∙ o.memory;
+          input = c.input ∙ o.input;
+          events = c.events ∙ o.events;
+          base = ap (λ (f : Frame). f.base) f ∙ o.base;
         };
+        holds = left s t (run-alike rest (stmt' ∷ rest') s t st);
+        fit = st.fit;
+        fit' = first-fits after stmt' rest' t st.second st.formed' st.fit';
+        formed = st.formed;
+        formed' = rest-formed after stmt' rest' st.formed';
         running = st.running;
         end = c.end ∙ st.end;
         here = st.here;
         there = ap (λ (f : Frame). f.block) f ∙ st.there;
         follows = st.follows;
       })))
+  walk xs ys (joins {stmt = stmt} {next = next} {stmt' = stmt'} {rest = rest} {rest' = rest'} assigns assigns-next assigns' joined w) s t st =
+      let u = stmt_step stmt s in
+      let s' = stmt_step next u in
+      let t' = stmt_step stmt' t in
+      let a = assignment-changes stmt s assigns in
+      let b = assignment-changes next u assigns-next in
+      let c = assignment-changes stmt' t assigns' in
+      let plain = assignment-is-no-call stmt assigns in
+      let plain-next = assignment-is-no-call next assigns-next in
+      let plain' = assignment-is-no-call stmt' assigns' in
+      let on-u : is_over u.end ≡ false = ap is_over a.end ∙ st.running in
+      let on : is_over s'.end ≡ false = ap is_over b.end ∙ on-u in
+      let on' : is_over t'.end ≡ false = ap is_over c.end ∙ ap is_over st.end ∙ st.running in
+      let f = stmt-frame stmt s in
+      let g = stmt-frame next u in
+      let f' = stmt-frame stmt' t in
+      let o = st.outside in
+      let in-u : u.running.graph ≡ before = ap (λ (f : Frame). f.graph) f ∙ st.first in
+      let formed-u = rest-formed before stmt (next ∷ rest) st.formed in
+      subst (λ halt. Meets halt (local_run (stmt' ∷ rest') t)) (sym (no-call-runs stmt (next ∷ rest) s plain))
+      (subst (λ b. Meets (if b then Over u else local_run (next ∷ rest) u) (local_run (stmt' ∷ rest') t)) (sym on-u)
+      (subst (λ halt. Meets halt (local_run (stmt' ∷ rest') t)) (sym (no-call-runs next rest u plain-next))
+      (subst (λ b. Meets (if b then Over s' else local_run rest s') (local_run (stmt' ∷ rest') t)) (sym on)
+      (subst (λ halt. Meets (local_run rest s') halt) (sym (no-call-runs stmt' rest' t plain'))
+      (subst (λ b. Meets (local_run rest s') (if b then Over t' else local_run rest' t')) (sym on')
+      (walk rest rest' w s' t' (record {
+        first = ap (λ (f : Frame). f.graph) g ∙ in-u;
+        second = ap (λ (f : Frame). f.graph) f' ∙ st.second;
+        outside = record {
+          memory = c.memory ∙ o.memory ∙ sym a.memory ∙ sym b.memory;
+          input = c.input ∙ o.input ∙ sym a.input ∙ sym b.input;
+          events = c.events ∙ o.events ∙ sym a.events ∙ sym b.events;
+          base = ap (λ (f : Frame). f.base) f' ∙ o.base ∙ sym (ap (λ (f : Frame). f.base) f) ∙ sym (ap (λ (f : Frame). f.base) g);
+        };
+        holds = joined s t (run-alike (stmt ∷ next ∷ rest) (stmt' ∷ rest') s t st);
+        fit = first-fits before next rest u in-u formed-u (first-fits before stmt (next ∷ rest) s st.first st.formed st.fit);
+        fit' = first-fits after stmt' rest' t st.second st.formed' st.fit';
+        formed = rest-formed before next rest formed-u;
+        formed' = rest-formed after stmt' rest' st.formed';
+        running = on;
+        end = c.end ∙ st.end ∙ sym a.end ∙ sym b.end;
+        here = ap (λ (f : Frame). f.block) g ∙ ap (λ (f : Frame). f.block) f ∙ st.here;
+        there = ap (λ (f : Frame). f.block) f' ∙ st.there;
+        follows = sym (no-call-passed stmt (next ∷ rest) plain ∙ no-call-passed next rest plain-next) ∙ st.follows;
+      })))))))
 
 -- The whole graph.
 
@@ -407,15 +520,19 @@ module _ (before after : Graph) (link : Link) (entry : after.entry ≡ before.en
         let w = follows-after_calls before after (link point.place) point.calls s.running.block.stmts t.running.block.stmts pair.stmts in
         let rests = subst (λ r. IsFollowedBy before after (link point.place) r t.running.rest) (sym together.first.at.rest)
         (subst (IsFollowedBy before after (link point.place) (after_calls point.calls s.running.block.stmts)) (sym together.second.at.rest) w) in
+        let left = left-formed p formed point.entry point.place point.calls s.running.graph s.running.block together.first.at.graph together.first.at.block in
+        let left' = left-formed q formed' point.entry point.place point.calls t.running.graph t.running.block together.second.at.graph together.second.at.block in
         walk before after link entry a point s.running.block t.running.block placed pair s.running.rest t.running.rest rests s t (record {
-          alike = record {
-            first = first;
-            second = second;
-            outside = together.outside;
-            holds = subst (λ r. link point.place r (scene_of s) t.running.values) (sym together.first.at.rest)
+          first = first;
+          second = second;
+          outside = together.outside;
+          holds = subst (λ r. link point.place r (scene_of s) t.running.values) (sym together.first.at.rest)
                 (subst (λ (g : Graph). link point.place (after_calls point.calls s.running.block.stmts) (record (scene_of s) { bits = g.bits }) t.running.values) (sym first)
                 (together.holds s.running.block placed s.running.base s.memory));
-          };
+          fit = is-fit s together.first.fits;
+          fit' = is-fit t together.second.fits;
+          formed = subst (λ (g : Graph). list_all (is_stmt g.bits) s.running.rest ≡ true) first (subst (λ r. list_all (is_stmt s.running.graph.bits) r ≡ true) (sym together.first.at.rest) left);
+          formed' = subst (λ (g : Graph). list_all (is_stmt g.bits) t.running.rest ≡ true) second (subst (λ r. list_all (is_stmt t.running.graph.bits) r ≡ true) (sym together.second.at.rest) left');
           running = together.first.running;
           end = is_running t.end together.second.running ∙ sym (is_running s.end together.first.running);
           here = refl;

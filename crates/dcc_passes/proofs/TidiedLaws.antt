@@ -1,5 +1,5 @@
 -- Passes that make a graph plainer, one after another.
-use Rattle.std.proofs.Common.{◌≡◌, ℕ, List, [], ◌∷◌, Some, refl, ◌∙◌, absurd}
+use Rattle.std.proofs.Common.{◌≡◌, ℕ, List, [], ◌∷◌, Some, refl, ◌∙◌}
 use Rattle.std.specs.Prelude.{All}
 use Rattle.std.specs.List.{AllZip}
 use Rattle.dcc_ir.specs.declared.syntax.Loc.{Loc}
@@ -27,15 +27,15 @@ module _ (bits bits' bits'' : List ℕ) where
     calls = second.calls ∙ first.calls;
   }
 
-  blocks-trans : (as bs cs : List Block) → AllZip (BlockStaysInKind bits bits') as bs
-      → AllZip (BlockStaysInKind bits' bits'') bs cs → AllZip (BlockStaysInKind bits bits'') as cs
+  blocks-trans : (ds bs cs : List Block) → AllZip (BlockStaysInKind bits bits') ds bs
+      → AllZip (BlockStaysInKind bits' bits'') bs cs → AllZip (BlockStaysInKind bits bits'') ds cs
   blocks-trans [] [] [] first second = tt
   blocks-trans [] [] (c ∷ cs) first second = absurd second
   blocks-trans [] (b ∷ bs) cs first second = absurd first
-  blocks-trans (a ∷ as) [] cs first second = absurd first
-  blocks-trans (a ∷ as) (b ∷ bs) [] first second = absurd second
-  blocks-trans (a ∷ as) (b ∷ bs) (c ∷ cs) first second =
-      (block-trans a b c first.0 second.0, blocks-trans as bs cs first.1 second.1)
+  blocks-trans (a ∷ ds) [] cs first second = absurd first
+  blocks-trans (a ∷ ds) (b ∷ bs) [] first second = absurd second
+  blocks-trans (a ∷ ds) (b ∷ bs) (c ∷ cs) first second =
+      (block-trans a b c first.0 second.0, blocks-trans ds bs cs first.1 second.1)
 
 pub kinds-trans : (g h k : Graph) → StaysInKind g h → StaysInKind h k → StaysInKind g k
 kinds-trans g h k first second = record {

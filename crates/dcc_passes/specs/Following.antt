@@ -6,7 +6,7 @@ use Rattle.dcc_ir.specs.declared.syntax.Loc.{Loc}
 use Rattle.dcc_ir.specs.Tree.{Expr, Stmt, Set, Fetch, Store, Div, Call, Dos, Exit, Goto, If, Switch, Ret, Stop, Block}
 use Rattle.dcc_ir.specs.Tree.{Graph}
 use Rattle.dcc_ir.specs.Location.{location_width, Values, with_value}
-use Rattle.dcc_ir.specs.Value.{bytes_at, with_bytes_at, Environment, division_of}
+use Rattle.dcc_ir.specs.Value.{bytes_at, with_bytes_at, Environment, division_of, Fits}
 use Rattle.dcc_ir.specs.Demand.{is_assignment}
 use Rattle.dcc_ir.specs.Flow.{targets}
 use Rattle.dcc_ir.specs.Run.{State, scene_of, value_in, argument_in, stmt_step, is_call}
@@ -74,15 +74,19 @@ EndsAlike s t Stop Stop = Unit {0}
 EndsAlike s t _ _ = ⊥
 
 module _ (before after : Graph) where
-  -- the states run the two graphs, have the same outside of the locations, and what is told holds of their values
+  -- the states run the two graphs, have the same outside of the locations, and what is told holds of their values; what
+  -- each holds fits its widths
   pub record RunAlike (Holds : Bond) (s t : State) : Type 0 where
     pub first : s.running.graph ≡ before
     pub second : t.running.graph ≡ after
     pub outside : AgreeOutside s t
+    pub first_fits : Fits (scene_of s)
+    pub second_fits : Fits (scene_of t)
     pub holds : Holds (scene_of s) t.running.values
 
   -- The second statements do what the first ones do. A call has the same arguments and gives back into other places; an
-  -- assignment of the first ones may go, and one of the second ones may come, where it leaves what holds.
+  -- assignment of the first ones may go, and one of the second ones may come, where it leaves what holds; and one may
+  -- stand for two.
   pub data IsFollowedBy (link : List Stmt → Bond) : List Stmt → List Stmt → Type 0 where
     done : IsFollowedBy link [] []
     both :
@@ -111,6 +115,12 @@ module _ (before after : Graph) where
         → is_assignment stmt' ≡ true
         → ((s t : State) → RunAlike (link rest) s t → link rest (scene_of s) (stmt_step stmt' t).running.values)
         → IsFollowedBy link rest rest' → IsFollowedBy link rest (stmt' ∷ rest')
+    joins :
+        {stmt next stmt' : Stmt} {rest rest' : List Stmt}
+        → is_assignment stmt ≡ true → is_assignment next ≡ true → is_assignment stmt' ≡ true
+        → ((s t : State) → RunAlike (link (stmt ∷ next ∷ rest)) s t
+        → link rest (scene_of (stmt_step next (stmt_step stmt s))) (stmt_step stmt' t).running.values)
+        → IsFollowedBy link rest rest' → IsFollowedBy link (stmt ∷ next ∷ rest) (stmt' ∷ rest')
 
   -- the second graph's block at the place follows the first one's
   pub record IsFollowedByBlock (link : Link) (place : ℕ) (block new : Block) : Type 0 where

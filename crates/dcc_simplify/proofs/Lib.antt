@@ -1,0 +1,5 @@
+pub mod ZipLaws
+pub mod MeaningLaws
+pub mod StandLaws
+pub mod AddsLaws
+pub mod TidyLaws
