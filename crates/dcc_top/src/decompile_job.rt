@@ -16,6 +16,7 @@ use dcc_io::{Failed, Shelf, Sink};
 use dcc_machine::{Cpu, Image};
 use dcc_pipe::decompile;
 use dcc_print::{PrintFault, print};
+use dcc_rules::RuleList;
 use std::alloc::Global;
 
 // Writes the text of the image for the processor, or answers why there is none. The error is a failed write.
@@ -26,7 +27,8 @@ fn write_text<O: Sink>(alloc: Global, image: &Image, cpu: Cpu, out: &mut O) -> R
     ensures output_faults { O.faults out.old ≤ O.faults out.new }
     ensures write_failed { OnErr result (Rose (O.faults out.old) (O.faults out.new)) }
 {
-    let unit = match decompile(alloc, image, cpu) {
+    let rules = RuleList::new(alloc);
+    let unit = match decompile(alloc, image, cpu, &rules) {
         Ok(unit) => unit,
         Err(reason) => return Ok(Reply::from(reason)),
     };
