@@ -6,7 +6,7 @@ use Rattle.std.proofs.lemmas.List.Elements.{All-head, All-contains}
 use Rattle.std.proofs.lemmas.List.Folds.{list_any-append}
 use Rattle.dcc_ir.specs.declared.syntax.Loc.{Loc}
 use Rattle.dcc_ir.specs.Tree.{Expr, Const, Get, Load, Unary, Binary, Widen, Part, Join, Choose, Address, Stmt, Set}
-use Rattle.dcc_ir.specs.Location.{same_location, Values, with_value}
+use Rattle.dcc_ir.specs.Location.{same_location, location_width, Values, with_value}
 use Rattle.dcc_ir.specs.Value.{Environment, value_of, unary_value, binary_value, bytes_at, width_of, pattern_at, signed_at}
 use Rattle.dcc_ir.specs.Use.{parts_of, reads_of, writes_of}
 use Rattle.dcc_ir.specs.Joinable.{is_load}
@@ -14,6 +14,7 @@ use Rattle.dcc_ir.proofs.FitLaws.{both}
 use Rattle.dcc_ir.proofs.ListLaws.{all_had}
 use Rattle.dcc_ir.proofs.LocationLaws.{location_same, location_itself, Contains-none, Contains-cases}
 use Rattle.dcc_passes.proofs.RenamingLaws.{in-both}
+use Rattle.dcc_substitution.proofs.SubstituteLaws.{value-substitute}
 use Rattle.dcc_substitution.specs.Available.{loads, is_address, addresses, is_of_locations, leaves_outside, IsAvailableAfter, made, copied, left, Holds}
 
 -- An expression whose value stays.
@@ -117,14 +118,14 @@ one-written x l other c = Contains-cases x [] l ⊥ (λ is. other (sym is)) (Con
 
 -- what is available after a statement holds after it
 pub holds-after : (stmt : Stmt) (Before After : Loc → Expr → Type 0) → ((l : Loc) (e : Expr) → After l e → IsAvailableAfter stmt Before l e)
-    → (s t : Environment) → Changes stmt s t → Holds Before s → Holds After t
-holds-after stmt Before After right s t change holds l e has = go (right l e has)
+    → (s t : Environment) → Changes stmt s t → ((l : Loc) (e : Expr) → Before l e → width_of s.bits e ≡ location_width s.bits l) → Holds Before s → Holds After t
+holds-after stmt Before After right s t change widths holds l e has = go (right l e has)
   where
     go : IsAvailableAfter stmt Before l e → t.values l ≡ value_of t e
-    go (made is apart) =
+    go (made {value = value} is sub apart) =
         let leaves : leaves_outside stmt e ≡ true = ap (λ x. leaves_outside x e) is in
         let reads = all_had (λ r. t.values r ≡ s.values r) (reads_of e) (λ r c. change.left r (λ w. one-written l r (λ same. apart (subst (Contains (reads_of e)) same c)) (subst (λ x. Contains (writes_of x) r) is w))) in
-        change.sets l e is ∙ sym (value-still s t change.bits e (change.memory e leaves) (change.base e leaves) reads)
+        change.sets l value is ∙ sym (value-substitute s Before widths holds value e sub) ∙ sym (value-still s t change.bits e (change.memory e leaves) (change.base e leaves) reads)
     go (copied {to = to} is same apart) =
         let kept = change.left l (λ w. one-written to l (λ eq. apart (sym eq)) (subst (λ x. Contains (writes_of x) l) is w)) in
         kept ∙ sym (change.sets to (Get l) is) ∙ ap (value_of t) (sym same)

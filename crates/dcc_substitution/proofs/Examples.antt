@@ -12,7 +12,8 @@ use Rattle.dcc_ir.specs.WellFormed.{jumps_after_call, IsGraph}
 use Rattle.dcc_ir.proofs.LocationLaws.{Contains-here, Contains-none, Contains-cases}
 use Rattle.dcc_passes.specs.Replaced.{StandsFor}
 use Rattle.dcc_substitution.specs.Available.{Availability, IsAvailableAfter, made, copied, left, AreRight, IsRight}
-use Rattle.dcc_substitution.specs.Substituted.{read, dos, same, stop, done, both, IsSubstitutedBlock, IsSubstituted}
+use Rattle.dcc_substitution.specs.Substitute.{itself, read}
+use Rattle.dcc_substitution.specs.Substituted.{dos, same, stop, done, both, IsSubstitutedBlock, IsSubstituted}
 use Rattle.dcc_substitution.proofs.SubstitutedLaws.{substituted-stands}
 
 -- a byte of the memory, a copy of it, and the copy is written
@@ -44,7 +45,7 @@ not-itself c = Contains-cases (Temp 0) [] (Temp 1) ⊥ (λ is. true≢false (ap 
 copy-right : (location : Loc) (e : Expr) → copied_last 0 (written ∷ []) location e → IsAvailableAfter copy (copied_last 0 (copy ∷ written ∷ [])) location e
 copy-right location e is =
     subst (λ l. IsAvailableAfter copy (copied_last 0 (copy ∷ written ∷ [])) l e) (sym is.1)
-    (subst (IsAvailableAfter copy (copied_last 0 (copy ∷ written ∷ [])) (Temp 1)) (sym is.2) (made refl not-itself))
+    (subst (IsAvailableAfter copy (copied_last 0 (copy ∷ written ∷ [])) (Temp 1)) (sym is.2) (made refl itself not-itself))
 
 longer : (rest : List Stmt) → (length rest == 1) ≡ false → ¬ rest ≡ written ∷ []
 longer rest other is = true≢false (sym (ap (λ l. length l == 1) is) ∙ other)
@@ -108,13 +109,13 @@ copy-goes = substituted-stands copied_last (graph_of written) (graph_of written_
 
 -- A near miss: after a store what a Load gave is no longer available.
 stores-hide : (Before : Loc → Expr → Type 0) → ¬ IsAvailableAfter (Store 8 (Const 16 512) (Const 8 65)) Before (Temp 0) (Load 8 (Const 16 512))
-stores-hide Before (made is apart) = absurd (cc)
+stores-hide Before (made is sub apart) = absurd (cc)
 stores-hide Before (copied is reads apart) = absurd (cc)
 stores-hide Before (left held out reads leaves) = true≢false (sym leaves)
 
 -- Another one: what reads the location that it sets isn't made available.
 itself-hides : (Before : Loc → Expr → Type 0) → ¬ IsAvailableAfter copy Before (Temp 1) (Get (Temp 1))
-itself-hides Before (made is apart) = apart (Contains-here (Temp 1) [])
+itself-hides Before (made is sub apart) = apart (Contains-here (Temp 1) [])
 itself-hides Before (copied {to = to} is reads apart) =
     let one : Temp 0 ≡ Temp 1 = cc in
     true≢false (ap (λ l. same_location (Temp 0) l) one)

@@ -7,8 +7,8 @@ use Rattle.dcc_run.specs.End.{Running as GoesOn, Exit as ExitWith, is_over}
 use Rattle.dcc_run.specs.System.{after}
 use Rattle.dcc_ir.specs.declared.syntax.Loc.{Loc}
 use Rattle.dcc_ir.specs.Tree.{Expr, Stmt, Set, Fetch, Store, Div, Call, Dos, Exit, Goto, If, Switch, Ret, Stop, Block, Graph, Program}
-use Rattle.dcc_ir.specs.Location.{Values, with_value, filled}
-use Rattle.dcc_ir.specs.Value.{Environment, value_of, division_of}
+use Rattle.dcc_ir.specs.Location.{location_width, Values, with_value, filled}
+use Rattle.dcc_ir.specs.Value.{width_of, Environment, value_of, division_of}
 use Rattle.dcc_ir.specs.Dos.{dos_string}
 use Rattle.dcc_ir.specs.WellFormed.{IsProgram}
 use Rattle.dcc_ir.specs.Fitting.{AreBytes}
@@ -128,6 +128,9 @@ module _ (available : Availability) (g : Graph) (right : IsRight g available) wh
     over-or rest true u halt h = tt
     over-or rest false u halt h = h
 
+    widths-there : (s : State) → s.running.graph ≡ g → (rest : List Stmt) (l : Loc) (e : Expr) → available place rest l e → width_of s.running.graph.bits e ≡ location_width s.running.graph.bits l
+    widths-there s graph rest l e told = subst (λ (x : Graph). width_of x.bits e ≡ location_width x.bits l) (sym graph) (right.widths place rest l e told)
+
     local-halts : (stmts : List Stmt) (s : State) → s.running.block ≡ block → s.running.graph ≡ g → AreRight g available place stmts → Here stmts s → Halts (after_call stmts) (local_run stmts s)
     unfolding Halts
     local-halts [] s same graph are h = subst (λ (b : Block). Halts [] (exit_halt b.exit s)) (sym same) (exit-halts [] block.exit refl s h)
@@ -136,14 +139,15 @@ module _ (available : Availability) (g : Graph) (right : IsRight g available) wh
       λ r base memory.
           let next : Environment = record { bits = g.bits; values = with_values s.running.values results r; base = base; memory = memory } in
           holds-after (Call results entry arguments depth) (available place (Call results entry arguments depth ∷ rest)) (available place rest) are.0 (scene_of s) next
-          (call-changes results entry depth arguments (scene_of s) next (sym (ap (λ (x : Graph). x.bits) graph)) (λ l out. given-other s.running.values results r l out)) h,
+          (call-changes results entry depth arguments (scene_of s) next (sym (ap (λ (x : Graph). x.bits) graph)) (λ l out. given-other s.running.values results r l out))
+          (widths-there s graph (Call results entry arguments depth ∷ rest)) h,
     )
     local-halts (stmt ∷ rest) s same graph are h =
         let next = stmt_step stmt s in
         let f = stmt-frame stmt s in
         over-or (after_call rest) (is_over next.end) next (local_run rest next)
         (local-halts rest next (ap (λ (x : Frame). x.block) f ∙ same) (ap (λ (x : Frame). x.graph) f ∙ graph) are.1
-        (holds-after stmt (available place (stmt ∷ rest)) (available place rest) are.0 (scene_of s) (scene_of next) (stmt-did stmt s) h))
+        (holds-after stmt (available place (stmt ∷ rest)) (available place rest) are.0 (scene_of s) (scene_of next) (stmt-did stmt s) (widths-there s graph (stmt ∷ rest)) h))
 
   -- States.
 

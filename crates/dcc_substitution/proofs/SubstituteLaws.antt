@@ -10,7 +10,8 @@ use Rattle.dcc_ir.specs.Flow.{targets}
 use Rattle.dcc_ir.specs.WellFormed.{is_jump, ret_widths}
 use Rattle.dcc_passes.specs.Kinds.{call_kinds, BlockStaysInKind}
 use Rattle.dcc_substitution.specs.Available.{Holds}
-use Rattle.dcc_substitution.specs.Substituted.{IsSubstitute, itself, read, load, unary, binary, widen, part, join, choose, IsSubstituteStmt, set, fetch, store, div, call, dos, same, IsSubstituteExit, goto, test, switch, ret, stop, AreSubstitutes, done, both, gone}
+use Rattle.dcc_substitution.specs.Substitute.{IsSubstitute, itself, read, load, unary, binary, widen, part, join, choose}
+use Rattle.dcc_substitution.specs.Substituted.{IsSubstituteStmt, set, fetch, store, div, call, dos, same, IsSubstituteExit, goto, test, switch, ret, stop, AreSubstitutes, done, both, gone}
 
 -- blocks of one kind, place by place
 pub kinds-zipped : (bits bits' : List ℕ) (bs cs : List Block) → length cs ≡ length bs

@@ -22,7 +22,8 @@ use Rattle.dcc_passes.specs.OneGraph.{BeginsIn}
 use Rattle.dcc_passes.specs.Following.{Link, Bond, TakeAlike, DoAlike, EndsAlike, RunAlike, IsFollowedBy, done, both as step, calls, goes, IsFollowedByBlock, linked, IsFollowedByGraph}
 use Rattle.dcc_passes.proofs.FollowLaws.{followed-stands}
 use Rattle.dcc_substitution.specs.Available.{Availability, loads, addresses, is_of_locations, IsAvailableAfter, AreRight, IsRight, Holds}
-use Rattle.dcc_substitution.specs.Substituted.{IsSubstitute, itself, IsSubstituteStmt, set, fetch, store, div, call, dos, same as unchanged, IsSubstituteExit, goto, test, switch, ret, stop, AreSubstitutes, done as ended, both as two, gone, IsSubstitutedBlock, IsSubstituted}
+use Rattle.dcc_substitution.specs.Substitute.{IsSubstitute, itself}
+use Rattle.dcc_substitution.specs.Substituted.{IsSubstituteStmt, set, fetch, store, div, call, dos, same as unchanged, IsSubstituteExit, goto, test, switch, ret, stop, AreSubstitutes, done as ended, both as two, gone, IsSubstitutedBlock, IsSubstituted}
 use Rattle.dcc_substitution.proofs.AvailableLaws.{value-anywhere, Changes, with-other, with-itself, not-so, holds-after}
 use Rattle.dcc_substitution.proofs.SubstituteLaws.{kinds-zipped, rets-substitute, targets-substitute, jumps-substitute, calls-substitute, value-substitute}
 
@@ -130,7 +131,8 @@ module _ (available : Availability) (before after : Graph) (right : IsRight befo
       After = link place rest
 
       after-holds : (next : Environment) → Changes stmt (scene_of s) next → Holds (Is rest) next
-      after-holds next changes = holds-after stmt (Is (stmt ∷ rest)) (Is rest) step_right (scene_of s) next changes h.holds.holds
+      after-holds next changes = holds-after stmt (Is (stmt ∷ rest)) (Is rest) step_right (scene_of s) next changes
+          (λ l e told. subst (λ (g : Graph). width_of g.bits e ≡ location_width g.bits l) (sym h.first) (right.widths place (stmt ∷ rest) l e told)) h.holds.holds
 
       -- both take one value
       take-both : (x : Loc) (n n' : ℕ) → n' ≡ n → Changes stmt (scene_of s) (record (scene_of s) { values = with_value s.running.values x n })
@@ -297,7 +299,7 @@ module _ (available : Availability) (before after : Graph) (right : IsRight befo
       calls = calls-substitute before.bits (available place) (right.widths place) block.stmts new.stmts pair.stmts;
     }
 
-  substituted-kind : StaysInKind before after
+  pub substituted-kind : StaysInKind before after
   substituted-kind = record {
     entry = ap (λ (g : Graph). g.entry) is.frame;
     params = ap₂ (λ bits params. map (param_kind bits) params) bits-same params-same;

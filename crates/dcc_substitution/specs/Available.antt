@@ -9,6 +9,7 @@ use Rattle.dcc_ir.specs.Value.{width_of, Environment, value_of}
 use Rattle.dcc_ir.specs.Use.{parts_of, reads_of, writes_of}
 use Rattle.dcc_ir.specs.Joinable.{is_load}
 use Rattle.dcc_ir.specs.Flow.{targets}
+use Rattle.dcc_substitution.specs.Substitute.{IsSubstitute}
 
 -- which assignments are available before the last statements of the block at a place: each by the location that it
 -- sets and the expression of which that holds the value
@@ -37,11 +38,12 @@ leaves_outside (Store width address value) e = not (loads e)
 leaves_outside (Call results entry arguments depth) e = is_of_locations e
 leaves_outside stmt e = true
 
--- An assignment is available after a statement: the statement makes it, by a value that doesn't read what it sets; or
--- the statement copies the location, so that it holds what the copy holds; or it was available, and the statement
--- leaves the location and what the expression reads.
+-- An assignment is available after a statement: the statement makes it, by a value, or by what may stand in the place of
+-- its value, that doesn't read what it sets; or the statement copies the location, so that it holds what the copy holds;
+-- or it was available, and the statement leaves the location and what the expression reads.
 pub data IsAvailableAfter (stmt : Stmt) (Before : Loc → Expr → Type 0) (location : Loc) (e : Expr) : Type 0 where
-  made : stmt ≡ Set location e → ¬ Contains (reads_of e) location → IsAvailableAfter stmt Before location e
+  made : {value : Expr} → stmt ≡ Set location value → IsSubstitute Before value e → ¬ Contains (reads_of e) location
+      → IsAvailableAfter stmt Before location e
   copied : {to : Loc} → stmt ≡ Set to (Get location) → e ≡ Get to → to ≢ location
       → IsAvailableAfter stmt Before location e
   left : Before location e → ¬ Contains (writes_of stmt) location

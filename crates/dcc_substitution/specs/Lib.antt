@@ -1,3 +1,4 @@
+pub mod Substitute
 pub mod Available
 pub mod Substituted
 pub mod Fresh

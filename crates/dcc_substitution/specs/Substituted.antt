@@ -1,31 +1,12 @@
 -- Graphs in which the expressions of available assignments stand in the place of reads.
-use Rattle.std.specs.Prelude.{◌≡◌, ℕ, Bool, List, [], ◌∷◌, length, slice_get, Option, Some}
+use Rattle.std.specs.Prelude.{◌≡◌, ℕ, List, [], ◌∷◌, length, slice_get, Option, Some}
 use Rattle.std.specs.List.{AllZip}
 use Rattle.dcc_ir.specs.declared.syntax.Loc.{Loc}
-use Rattle.dcc_ir.specs.declared.syntax.UnOp.{UnOp}
 use Rattle.dcc_ir.specs.declared.syntax.BinOp.{BinOp}
-use Rattle.dcc_ir.specs.Tree.{Expr, Get, Load, Unary, Binary, Widen, Part, Join, Choose, Stmt, Set, Fetch, Store, Div}
-use Rattle.dcc_ir.specs.Tree.{Call, Dos, Exit, Goto, If, Switch, Ret, Stop, Block, Graph}
+use Rattle.dcc_ir.specs.Tree.{Expr, Get, Binary, Stmt, Set, Fetch, Store, Div, Call, Dos, Exit, Goto, If, Switch, Ret}
+use Rattle.dcc_ir.specs.Tree.{Stop, Block, Graph}
+use Rattle.dcc_substitution.specs.Substitute.{IsSubstitute}
 use Rattle.dcc_substitution.specs.Available.{Availability}
-
--- the second expression is the first one, in which some reads have become expressions of which the location is told to
--- hold the value
-pub data IsSubstitute (Is : Loc → Expr → Type 0) : Expr → Expr → Type 0 where
-  itself : {e : Expr} → IsSubstitute Is e e
-  read : {location : Loc} {e : Expr} → Is location e → IsSubstitute Is (Get location) e
-  load : {width : ℕ} {a a' : Expr} → IsSubstitute Is a a' → IsSubstitute Is (Load width a) (Load width a')
-  unary : {operator : UnOp} {width : ℕ} {a a' : Expr} → IsSubstitute Is a a'
-      → IsSubstitute Is (Unary operator width a) (Unary operator width a')
-  binary : {operator : BinOp} {width : ℕ} {a a' b b' : Expr} → IsSubstitute Is a a' → IsSubstitute Is b b'
-      → IsSubstitute Is (Binary operator width a b) (Binary operator width a' b')
-  widen : {signed : Bool} {width : ℕ} {a a' : Expr} → IsSubstitute Is a a'
-      → IsSubstitute Is (Widen signed width a) (Widen signed width a')
-  part : {width first : ℕ} {a a' : Expr} → IsSubstitute Is a a'
-      → IsSubstitute Is (Part width first a) (Part width first a')
-  join : {high high' low low' : Expr} → IsSubstitute Is high high' → IsSubstitute Is low low'
-      → IsSubstitute Is (Join high low) (Join high' low')
-  choose : {test test' a a' b b' : Expr} → IsSubstitute Is test test' → IsSubstitute Is a a' → IsSubstitute Is b b'
-      → IsSubstitute Is (Choose test a b) (Choose test' a' b')
 
 -- the second statement is the first one with substitutes for its expressions; of a Div, for both operands
 pub data IsSubstituteStmt (Is : Loc → Expr → Type 0) : Stmt → Stmt → Type 0 where

@@ -12,6 +12,7 @@ ghost use Rattle.dcc_live.specs.Dead.{IsWithoutUnneeded};
 ghost use Rattle.dcc_tidy.specs.Tidied as spec;
 ghost use Rattle.dcc_tidy.specs.Tidied.{MayStandInText, HasPassesDone, IsTidiedGraph};
 
+use dcc_available::substitute;
 use dcc_ir::{Graph, Sums};
 use dcc_live::{drop_dead, live};
 use dcc_loads::loads_as_sets;
@@ -45,8 +46,8 @@ fn without_dead(alloc: Global, graph: Graph) -> Result<Graph, AllocError>
 /// So many rounds of passes a graph goes through.
 const ROUNDS: u32 = 4;
 
-// What one round leaves of a graph: its expressions are made simpler, reads give way to what is available, copies to one
-// temporary, and then the assignments go that nothing wants.
+// What one round leaves of a graph: its expressions are made simpler, reads give way to what is available, and then the
+// assignments go that nothing wants.
 fn round(alloc: Global, graph: Graph, rules: &RuleList) -> Result<Graph, AllocError>
     requires { IsGraph (graph_of graph) }
     ensures tidied { IfOk result (λ after. IsTidied (graph_of graph) (graph_of after)) }
@@ -54,7 +55,8 @@ fn round(alloc: Global, graph: Graph, rules: &RuleList) -> Result<Graph, AllocEr
         ≤ max 32 (deepest (graph_exprs (graph_of graph)))) }
 {
     let simple = simplified(alloc, graph, rules)?;
-    let after = without_dead(alloc, simple)?;
+    let rewritten = substitute(alloc, simple)?;
+    let after = without_dead(alloc, rewritten)?;
     Ok(after)
 }
 
@@ -101,9 +103,9 @@ fn tidied_graph(alloc: Global, graph: Graph, rules: &RuleList) -> Result<Graph, 
 }
 
 /// What the passes leave of each graph, in its place: each web has a temporary of its own, loads are parts of
-/// assignments, no part of an expression has the form of one of the rules, and nothing is assigned that isn't wanted. A
-/// graph whose text has an array of one byte for SP's address stays as it is. That there are more temporaries than 32
-/// bits can number is told as want of memory.
+/// assignments, values stand where they are read, no part of an expression has the form of one of the rules, and nothing
+/// is assigned that isn't wanted. A graph whose text has an array of one byte for SP's address stays as it is. That there
+/// are more temporaries than 32 bits can number is told as want of memory.
 pub fn tidied_graphs(
     alloc: Global,
     graphs: Vec<Graph>,

@@ -8,11 +8,20 @@ pub returns-clause-tidied : goal.returns-clause-tidied
 returns-clause-tidied g c =
     let given = graph_of c.args.graph in
     let simple = graph_of c.in_ok-simple.simple in
+    let rewritten = graph_of c.in_ok-rewritten.rewritten in
     let after = graph_of c.in_ok-after.after in
     tidied-trans given simple after c.in_ok-simple.ensures.tidied
-    (dead-tidied simple after c.in_ok-after.ensures.formed c.in_ok-after.ensures.without)
+    (tidied-trans simple rewritten after c.in_ok-rewritten.ensures.tidied
+    (dead-tidied rewritten after c.in_ok-after.ensures.formed c.in_ok-after.ensures.without))
 
 pub returns-clause-depth : goal.returns-clause-depth
 returns-clause-depth g c =
-    let left = dead-depth (graph_of c.in_ok-simple.simple) (graph_of c.in_ok-after.after) c.in_ok-after.ensures.without in
-    omega (arith, left, c.in_ok-simple.ensures.depth)
+    let left =
+    dead-depth (graph_of c.in_ok-rewritten.rewritten) (graph_of c.in_ok-after.after) c.in_ok-after.ensures.without in
+    omega (arith, left, c.in_ok-simple.ensures.depth, c.in_ok-rewritten.ensures.depth)
+
+pub substitute-requires : goal.substitute-requires
+substitute-requires g c = c.in_ok-simple.ensures.tidied.formed
+
+pub without_dead-requires : goal.without_dead-requires
+without_dead-requires g c = c.in_ok-rewritten.ensures.tidied.formed

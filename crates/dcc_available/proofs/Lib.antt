@@ -1,0 +1,9 @@
+pub mod TreeLaws
+pub mod AlongLaws
+pub mod KnownLaws
+pub mod RewrittenLaws
+pub mod TidiedLaws
+pub mod GraphLaws
+pub mod WithinLaws
+pub mod ChainLaws
+pub mod StepLaws
