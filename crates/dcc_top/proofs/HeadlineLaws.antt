@@ -70,8 +70,8 @@ has-trial seed size steps before after lines told appended = record {
   lines = lines;
   are_lines = told.are_lines;
   agrees = λ clean. elim told.are_lines.tells [
-    | inl yes ↦ yes.1
-    | inr no ↦ absurd (no.0 (outputs-comparable seed size steps told.trial told.is_trial clean))
+    | inl comparable ↦ comparable.1
+    | inr apart ↦ absurd (apart.0 (outputs-comparable seed size steps told.trial told.is_trial clean))
   ];
   appended = appended;
 }

@@ -20,12 +20,12 @@ pub(crate) fn write_trial<O: Sink>(
     rules: &RuleList,
     out: &mut O,
 ) -> Result<Reply, Failed>
-    requires { IsSize attempt.entry.size }
+    requires { IsSize attempt.size }
     ensures answers { IfOk result (Answers
-        (AllowsTrial attempt.entry.seed attempt.entry.size attempt.entry.steps)
+        (AllowsTrial attempt.seed attempt.size attempt.steps)
         (O.taken out.old) (O.taken out.new)) }
     ensures cut_short { OnErr result (CutsShort
-        (TellsTrial attempt.entry.seed attempt.entry.size attempt.entry.steps)
+        (TellsTrial attempt.seed attempt.size attempt.steps)
         (O.taken out.old) (O.taken out.new)) }
     ensures output_faults { O.faults out.old ≤ O.faults out.new }
     ensures write_failed { OnErr result (Rose (O.faults out.old) (O.faults out.new)) }
