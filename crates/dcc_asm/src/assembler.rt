@@ -1,10 +1,92 @@
 //! The assembler.
 
-ghost use Rattle.std.specs.Prelude.{IfOk, IfErr};
-ghost use Rattle.dcc_asm.specs.Fault.{IsAssembled, IsFaultOf};
+ghost use Rattle.std.specs.Prelude.{◌≡◌, ◌≤◌, ℕ, List, ◌++◌, ◌∷◌, [], length, IfOk, IfErr, MatchOption, IsOkUnless, ¬◌};
+ghost use Rattle.dcc_list.specs.Text.{IsLine, text_of};
+ghost use Rattle.dcc_asm.specs.Fault.{IsAssembled, IsFaultOf, text_most};
+ghost use Rattle.dcc_asm.specs.Steps.{IsHeading, AreGiven, IsFaultOfLines};
 
 use crate::fault::{ListFault, ListKind};
-use std::alloc::Global;
+use crate::step::push_line;
+use dcc_list::push_head;
+use dcc_machine::Cpu;
+use dcc_spelled::word_value;
+use std::alloc::{AllocError, Global};
+
+// The greatest number of bytes of a text.
+const TEXT_MOST: usize = 67_108_864;
+
+/// The first line of a listing and the text behind it.
+#[derive(Clone, Copy)]
+pub struct Heading<'a> {
+    /// The processor.
+    pub cpu: Cpu,
+    /// The code segment.
+    pub cs: u16,
+    /// What stands behind the first line.
+    pub rest: &'a [u8],
+}
+
+// The first line, where it tells this processor and a code segment, whose digits stand at a place.
+fn heading_for<'a>(
+    alloc: Global,
+    text: &'a [u8],
+    cpu: Cpu,
+    place: usize,
+) -> Result<Option<Heading<'a>>, AllocError> {
+    let cs = word_value(text, place);
+    let mut head = Vec::new(alloc);
+    push_head(&mut head, cpu, cs)?;
+    match text.strip_prefix(head.as_slice()) {
+        Some(rest) => Ok(Some(Heading { cpu, cs, rest })),
+        None => Ok(None),
+    }
+}
+
+// The first line, where it tells a processor and a code segment.
+fn heading_of<'a>(alloc: Global, text: &'a [u8]) -> Result<Option<Heading<'a>>, AllocError>
+    ensures { IfOk result (IsHeading text.now) }
+{
+    match heading_for(alloc, text, Cpu::I8086, 18)? {
+        Some(heading) => Ok(Some(heading)),
+        None => heading_for(alloc, text, Cpu::I186, 17),
+    }
+}
+
+// The first line of the text and what stands behind it.
+fn first_line<'a>(text: &'a [u8]) -> Option<(&'a [u8], &'a [u8])>
+    ensures { MatchOption result (IsLine text.now)
+        (λ found. IsLine found.0.now × (text.now ≡ text_of (found.0.now ∷ []) ++ found.1.now)) }
+{
+    match text.iter().position(|byte| *byte == b'\n') {
+        Some(place) => Some((&text[..place], &text[place + 1..])),
+        None => None,
+    }
+}
+
+// The bytes that the lines behind the first one give.
+fn assemble_lines(alloc: Global, heading: Heading<'_>) -> Result<Vec<u8>, ListFault>
+    requires few { length heading.rest.now ≤ text_most }
+    ensures given { IfOk result (λ bytes. AreGiven heading.cpu heading.cs heading.rest.now bytes.items) }
+    ensures refused { IfErr result (IsFaultOfLines heading.cpu heading.cs heading.rest.now) }
+{
+    let mut image = Vec::new(alloc);
+    let mut left = heading.rest;
+    let mut number: u32 = 2;
+    while !left.is_empty() {
+        let Some((line, rest)) = first_line(left) else {
+            return Err(ListFault::At {
+                line: number,
+                kind: ListKind::Word,
+            });
+        };
+        if let Some(kind) = push_line(alloc, heading.cpu, heading.cs, &mut image, line)? {
+            return Err(ListFault::At { line: number, kind });
+        }
+        left = rest;
+        number += 1;
+    }
+    Ok(image)
+}
 
 /// The bytes of a listing.
 ///
@@ -15,10 +97,17 @@ pub fn assemble(alloc: Global, text: &Vec<u8>) -> Result<Vec<u8>, ListFault>
     ensures assembled { IfOk result (λ bytes. IsAssembled text.now.items bytes.items) }
     ensures refused { IfErr result (IsFaultOf text.now.items) }
 {
-    let _ = alloc;
-    let _ = text;
-    Err(ListFault::At {
-        line: 1,
-        kind: ListKind::Head,
-    })
+    if text.len() > TEXT_MOST {
+        return Err(ListFault::At {
+            line: 0,
+            kind: ListKind::Length,
+        });
+    }
+    match heading_of(alloc, text.as_slice())? {
+        Some(heading) => assemble_lines(alloc, heading),
+        None => Err(ListFault::At {
+            line: 1,
+            kind: ListKind::Head,
+        }),
+    }
 }

@@ -3,7 +3,10 @@
 
 mod assembler;
 pub mod fault;
+mod known;
 pub mod laws;
+mod line;
+mod step;
 
 pub use assembler::assemble;
 pub use fault::{ListFault, ListKind};

@@ -27,7 +27,7 @@ use Rattle.dcc_machine.proofs.ResultBounds.{sign_extension-below, sign_extension
 use Rattle.dcc_encode.specs.declared.shape.Head.{Head}
 use Rattle.dcc_encode.specs.declared.shape.Head.TheVariants.{Opcode, TwoBytes, ThreeBytes}
 use Rattle.dcc_encode.specs.declared.shape.Shape.{Shape}
-use Rattle.dcc_list.specs.Laws.{EncodingsAreDrafts}
+use Rattle.dcc_encode.specs.Laws.{EncodingsAreDrafts}
 use Rattle.dcc_encode.specs.Shapes.{table_modrm, operand_displacement, displacement_of_two, displacement_in, moved_constant, constant_in, distance, shapes, size_of, low_bytes, draft, drafts, shape_length}
 
 -- Shapes ------------------------------------------------------------------------------------

@@ -4,7 +4,7 @@ use Rattle.std.specs.Cmp.Lexicographic.{slice_cmp, nat_list_cmp_total, texts_tie
 use Rattle.std.proofs.lemmas.Bool.{cases_lt}
 use Rattle.std.proofs.lemmas.Bool.Decides.{nat_tests}
 use Rattle.dcc_encode.specs.Encoding.{is_preferred}
-use Rattle.dcc_list.specs.Laws.{StandardEncodingIsUnique}
+use Rattle.dcc_encode.specs.Laws.{StandardEncodingIsUnique}
 
 -- the order of lists of bytes
 abbrev order : List ℕ → List ℕ → Ordering

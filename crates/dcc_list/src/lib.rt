@@ -6,4 +6,4 @@ mod lister;
 mod marks;
 mod people;
 
-pub use lister::listing;
+pub use lister::{listing, push_head};

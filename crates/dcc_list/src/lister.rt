@@ -176,8 +176,8 @@ fn cpu_name(cpu: Cpu) -> &'static str
     }
 }
 
-// Appends the first line.
-fn push_head(text: &mut Vec<u8>, cpu: Cpu, cs: u16) -> Result<(), AllocError>
+/// Appends the first line, which tells the processor and the code segment.
+pub fn push_head(text: &mut Vec<u8>, cpu: Cpu, cs: u16) -> Result<(), AllocError>
     ensures { OnOk result (text.new.items ≡ text.old.items ++ text_of (head_line cpu cs ∷ [])) }
 {
     text.extend_from_slice(b"; dcc list 1 ")?;

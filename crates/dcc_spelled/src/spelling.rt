@@ -12,7 +12,7 @@ use dcc_machine::{Alu, Cond, Count, Ea, Op, Operand, Plain, Shift, Unary};
 use dcc_num::{Half, Reg, Width};
 use std::alloc::AllocError;
 
-fn alu_name(operation: Alu) -> &'static str
+pub fn alu_name(operation: Alu) -> &'static str
     ensures { result.now ≡ alu_name operation }
 {
     match operation {
@@ -28,7 +28,7 @@ fn alu_name(operation: Alu) -> &'static str
     }
 }
 
-fn unary_name(operation: Unary) -> &'static str
+pub fn unary_name(operation: Unary) -> &'static str
     ensures { result.now ≡ unary_name operation }
 {
     match operation {
@@ -43,7 +43,7 @@ fn unary_name(operation: Unary) -> &'static str
     }
 }
 
-fn shift_name(operation: Shift) -> &'static str
+pub fn shift_name(operation: Shift) -> &'static str
     ensures { result.now ≡ shift_name operation }
 {
     match operation {
@@ -57,7 +57,7 @@ fn shift_name(operation: Shift) -> &'static str
     }
 }
 
-fn plain_name(operation: Plain) -> &'static str
+pub fn plain_name(operation: Plain) -> &'static str
     ensures { result.now ≡ plain_name operation }
 {
     match operation {
@@ -74,7 +74,7 @@ fn plain_name(operation: Plain) -> &'static str
     }
 }
 
-fn branch_name(condition: Cond) -> &'static str
+pub fn branch_name(condition: Cond) -> &'static str
     ensures { result.now ≡ branch_name condition }
 {
     match condition {

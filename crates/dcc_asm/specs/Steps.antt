@@ -1,0 +1,58 @@
+-- What a line and the lines from some place on are assembled to. This stands between the definitions and the code; no
+-- public contract rests on it.
+use Rattle.std.specs.Prelude.{◌≡◌, ◌<◌, ◌≤◌, ℕ, ◌+◌, List, ◌∷◌, ◌++◌, length, Option, Some, None}
+use Rattle.dcc_machine.specs.declared.cpu.Cpu.{Cpu}
+use Rattle.dcc_list.specs.Text.{Gives, text_of, IsLine, Begins, head_line}
+use Rattle.dcc_asm.specs.declared.assembler.Heading.{Heading}
+use Rattle.dcc_asm.specs.declared.fault.ListKind.{ListKind}
+use Rattle.dcc_asm.specs.declared.fault.ListKind.TheVariants.{Word}
+use Rattle.dcc_asm.specs.declared.fault.ListFault.{ListFault}
+use Rattle.dcc_asm.specs.declared.fault.ListFault.TheVariants.{At, Memory}
+use Rattle.dcc_asm.specs.Fault.{bytes_most, Offends, HasHead}
+
+-- the line gives what the image gets
+pub record Grows (cpu : Cpu) (cs : ℕ) (old new line : List ℕ) : Type 0 where
+  pub bytes : List ℕ
+  pub gives : Gives cpu cs (length old) line bytes
+  pub grown : new ≡ old ++ bytes
+  pub fits : length new ≤ bytes_most
+
+-- the image gets what the line gives, or the line offends so
+abbrev pub IsDone : Cpu → ℕ → List ℕ → List ℕ → List ℕ → Option ListKind → Type 0
+IsDone cpu cs old new line None = Grows cpu cs old new line
+IsDone cpu cs old new line (Some kind) = Offends cpu cs (length old) line kind
+
+-- the first line of the text, where it tells a processor and a code segment, and the rest of the text
+abbrev pub IsHeading : List ℕ → Option Heading → Type 0
+IsHeading text None = ¬ HasHead text
+IsHeading text (Some heading) = text ≡ text_of (head_line heading.cpu heading.cs ∷ []) ++ heading.rest.now
+
+-- lines that give bytes, of which none offends
+pub record Passes (cpu : Cpu) (cs : ℕ) (text : List ℕ) (lines : List (List ℕ)) (bytes rest : List ℕ) : Type 0 where
+  pub begins : Begins cpu cs lines bytes
+  pub bytes_fit : length bytes ≤ bytes_most
+  pub text_is : text ≡ text_of lines ++ rest
+
+-- the lines of the text give these bytes
+pub record AreGiven (cpu : Cpu) (cs : ℕ) (text bytes : List ℕ) : Type 0 where
+  pub lines : List (List ℕ)
+  pub passes : Passes cpu cs text lines bytes []
+
+-- the line of the text that offends first, counted from 2
+pub data OffendsFirst (cpu : Cpu) (cs : ℕ) (text : List ℕ) : ℕ → ListKind → Type 0 where
+  line :
+      {lines : List (List ℕ)} {bytes line rest : List ℕ} {kind : ListKind}
+      → Passes cpu cs text lines bytes (text_of (line ∷ []) ++ rest)
+      → IsLine line
+      → Offends cpu cs (length bytes) line kind
+      → OffendsFirst cpu cs text (2 + length lines) kind
+  unended :
+      {lines : List (List ℕ)} {bytes rest : List ℕ}
+      → Passes cpu cs text lines bytes rest
+      → IsLine rest
+      → 0 < length rest
+      → OffendsFirst cpu cs text (2 + length lines) Word
+
+abbrev pub IsFaultOfLines : Cpu → ℕ → List ℕ → ListFault → Type 0
+IsFaultOfLines cpu cs text (At line kind) = OffendsFirst cpu cs text line kind
+IsFaultOfLines cpu cs text Memory = Unit {0}
