@@ -5,7 +5,7 @@ use Rattle.std.specs.Prelude.{◌≡◌, ◌<◌, ◌≤◌, ℕ, ◌+◌, ◌-�
 use Rattle.std.specs.Prelude.{List, [], ◌∷◌, take, drop, length, Option, Some, None, option_map}
 use Rattle.std.specs.List.{position_or_len}
 use Rattle.dcc_machine.specs.declared.instr.Op.{Op}
-use Rattle.dcc_spelled.specs.Reading.{byte_of, digit_value, word_value, operation_in}
+use Rattle.dcc_reread.specs.Reading.{byte_of, digit_value, word_value, operation_in}
 use Rattle.dcc_list.specs.Text.{AreBytes, place_line, bytes_line, operation_line, odd_line}
 use Rattle.dcc_asm.specs.declared.line.Line.{Line}
 use Rattle.dcc_asm.specs.declared.line.Line.TheVariants.{Place, Bytes, Operation, Odd}

@@ -9,7 +9,7 @@ use crate::fault::{ListFault, ListKind};
 use crate::step::push_line;
 use dcc_list::push_head;
 use dcc_machine::Cpu;
-use dcc_spelled::word_value;
+use dcc_reread::word_value;
 use std::alloc::{AllocError, Global};
 
 // The greatest number of bytes of a text.

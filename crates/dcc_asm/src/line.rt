@@ -6,7 +6,8 @@ ghost use Rattle.dcc_asm.specs.Form.{form_of, form_line, read_form, pairs, IsSiz
 ghost use Rattle.dcc_asm.specs.Form.{is_bytes_line, is_odd_line};
 
 use dcc_machine::Op;
-use dcc_spelled::{before, behind, byte_of, digit_value, operation_in, push_bytes, push_spelling, push_word, word_value};
+use dcc_reread::{before, behind, byte_of, digit_value, operation_in, word_value};
+use dcc_spelled::{push_bytes, push_spelling, push_word};
 use std::alloc::{AllocError, Global};
 
 /// What a line tells that is no line for people.

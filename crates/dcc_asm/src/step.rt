@@ -12,7 +12,7 @@ use crate::known::is_known;
 use crate::line::{Line, line_in};
 use dcc_encode::{is_encoding, standard};
 use dcc_machine::{Cpu, LOAD_SEGMENT, Op};
-use dcc_spelled::byte_of;
+use dcc_reread::byte_of;
 use std::alloc::{AllocError, Global};
 
 /// The greatest number of bytes of an image.

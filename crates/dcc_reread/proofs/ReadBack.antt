@@ -1,5 +1,5 @@
 -- An operation is read back from its spelling. So two operations of one spelling are one.
-use Rattle.std.proofs.Common.{◌≡◌, ℕ, zero, suc, ◌+◌, ◌-◌, ◌*◌, ◌/◌, ◌%◌, ◌<◌, Bool, true, false, List, [], ◌∷◌, ◌++◌, length, take, drop, codes, refl, sym, ap, ◌∙◌, subst, arith}
+use Rattle.std.proofs.Common.{◌≡◌, ℕ, zero, suc, ◌+◌, ◌-◌, ◌*◌, ◌/◌, ◌%◌, ◌<◌, Bool, true, false, List, [], ◌∷◌, ◌++◌, length, take, drop, codes, refl, sym, ap, ◌∙◌, subst, add-one, arith}
 use Rattle.std.specs.Prelude.{Option, Some, None, ◌==◌, if◌then◌else◌}
 use Rattle.std.specs.Fmt.{digit_glyph}
 use Rattle.std.specs.List.{join_with_byte}
@@ -30,13 +30,13 @@ use Rattle.dcc_machine.specs.declared.instr.Op.TheVariants.{Alu as AluOp, Unary 
 use Rattle.dcc_machine.specs.declared.instr.Op.TheVariants.{Lea, Imul3, Push, Pop, Enter, Leave, Plain as PlainOp, Jump}
 use Rattle.dcc_machine.specs.declared.instr.Op.TheVariants.{Branch, Loop, LoopE, LoopNe, Jcxz, Table, Call, Ret, Int21}
 use Rattle.dcc_machine.specs.WellFormed.{IsOperand, IsOperation}
-use Rattle.dcc_spelled.specs.declared.mnemonic.Mnemonic.{Mnemonic}
-use Rattle.dcc_spelled.specs.declared.mnemonic.Mnemonic.TheVariants as name
+use Rattle.dcc_reread.specs.declared.mnemonic.Mnemonic.{Mnemonic}
+use Rattle.dcc_reread.specs.declared.mnemonic.Mnemonic.TheVariants as name
 use Rattle.dcc_spelled.specs.Hex.{hex_byte, hex_word}
 use Rattle.dcc_spelled.specs.Spelling.{register_name, half_name, word_constant, brackets, operand, count_name, table_word, spelling}
-use Rattle.dcc_spelled.specs.Mnemonics.{mnemonic_name}
-use Rattle.dcc_spelled.specs.Reading.{byte_of, digit_value, byte_value, word_value, word_register_of, address_of, brackets_length, operand_of, first_length, first_of, behind_first, second_of, count_of, operation_of, operation_in, word_register_at}
-use Rattle.dcc_spelled.proofs.Forms.{AreRegisters, none, bx, bp, si, di, bx_si, bx_di, bp_si, bp_di, IsAddress, HasHalves, IsPlace, IsValue, IsCount, IsInForm, value-of}
+use Rattle.dcc_reread.specs.Mnemonics.{mnemonic_name}
+use Rattle.dcc_reread.specs.Reading.{byte_of, digit_value, byte_value, word_value, word_register_of, address_of, brackets_length, operand_of, first_length, first_of, behind_first, second_of, count_of, operation_of, operation_in, word_register_at}
+use Rattle.dcc_reread.proofs.Forms.{AreRegisters, none, bx, bp, si, di, bx_si, bx_di, bp_si, bp_di, IsAddress, HasHalves, IsPlace, IsValue, IsCount, IsInForm, value-of}
 
 -- Numbers ------------------------------------------------------------------------------------
 
@@ -60,11 +60,14 @@ take-all : (xs ys : List ℕ) → take (length xs) (xs ++ ys) ≡ xs
 take-all [] ys = refl
 take-all (x ∷ xs) ys = ap (λ (r : List ℕ). x ∷ r) (take-all xs ys)
 
-drop-all : (xs : List ℕ) (y : ℕ) (ys : List ℕ) → drop (length xs + 1) (xs ++ (y ∷ ys)) ≡ ys
-drop-all [] y ys = refl
-drop-all (x ∷ xs) y ys = drop-all xs y ys
+drop-more : (xs : List ℕ) (y : ℕ) (ys : List ℕ) → drop (suc (length xs)) (xs ++ (y ∷ ys)) ≡ ys
+drop-more [] y ys = refl
+drop-more (x ∷ xs) y ys = drop-more xs y ys
 
-append-none : (xs : List ℕ) → xs ++ [] ≡ xs
+drop-all : (xs : List ℕ) (y : ℕ) (ys : List ℕ) → drop (length xs + 1) (xs ++ (y ∷ ys)) ≡ ys
+drop-all xs y ys = ap (λ n. drop n (xs ++ (y ∷ ys))) (add-one (length xs)) ∙ drop-more xs y ys
+
+pub append-none : (xs : List ℕ) → xs ++ [] ≡ xs
 append-none [] = refl
 append-none (x ∷ xs) = ap (λ (r : List ℕ). x ∷ r) (append-none xs)
 
@@ -88,28 +91,28 @@ with_displacement : (base index : Option Reg) {m n : ℕ} → m ≡ n
     → ◌≡◌ {A = Ea} (record { base = base; index = index; disp = m }) (record { base = base; index = index; disp = n })
 with_displacement base index e = ap (λ d. record { base = base; index = index; disp = d }) e
 
-registers-back : (base index : Option Reg) (disp : ℕ) (rest : List ℕ) → AreRegisters base index → disp < 65536 → IsReadBack base index disp rest
-registers-back None None zero rest none l = record { address = refl; size = refl }
-registers-back None None (suc n) rest none l = record { address = with_displacement None None (word-back (suc n) l); size = refl }
-registers-back (Some Bx) None zero rest bx l = record { address = refl; size = refl }
-registers-back (Some Bx) None (suc n) rest bx l = record { address = with_displacement (Some Bx) None (word-back (suc n) l); size = refl }
-registers-back (Some Bp) None zero rest bp l = record { address = refl; size = refl }
-registers-back (Some Bp) None (suc n) rest bp l = record { address = with_displacement (Some Bp) None (word-back (suc n) l); size = refl }
-registers-back None (Some Si) zero rest si l = record { address = refl; size = refl }
-registers-back None (Some Si) (suc n) rest si l = record { address = with_displacement None (Some Si) (word-back (suc n) l); size = refl }
-registers-back None (Some Di) zero rest di l = record { address = refl; size = refl }
-registers-back None (Some Di) (suc n) rest di l = record { address = with_displacement None (Some Di) (word-back (suc n) l); size = refl }
-registers-back (Some Bx) (Some Si) zero rest bx_si l = record { address = refl; size = refl }
-registers-back (Some Bx) (Some Si) (suc n) rest bx_si l = record { address = with_displacement (Some Bx) (Some Si) (word-back (suc n) l); size = refl }
-registers-back (Some Bx) (Some Di) zero rest bx_di l = record { address = refl; size = refl }
-registers-back (Some Bx) (Some Di) (suc n) rest bx_di l = record { address = with_displacement (Some Bx) (Some Di) (word-back (suc n) l); size = refl }
-registers-back (Some Bp) (Some Si) zero rest bp_si l = record { address = refl; size = refl }
-registers-back (Some Bp) (Some Si) (suc n) rest bp_si l = record { address = with_displacement (Some Bp) (Some Si) (word-back (suc n) l); size = refl }
-registers-back (Some Bp) (Some Di) zero rest bp_di l = record { address = refl; size = refl }
-registers-back (Some Bp) (Some Di) (suc n) rest bp_di l = record { address = with_displacement (Some Bp) (Some Di) (word-back (suc n) l); size = refl }
+registers-back : {base index : Option Reg} → AreRegisters base index → (disp : ℕ) (rest : List ℕ) → disp < 65536 → IsReadBack base index disp rest
+registers-back none zero rest l = record { address = refl; size = refl }
+registers-back none (suc n) rest l = record { address = with_displacement None None (word-back (suc n) l); size = refl }
+registers-back bx zero rest l = record { address = refl; size = refl }
+registers-back bx (suc n) rest l = record { address = with_displacement (Some Bx) None (word-back (suc n) l); size = refl }
+registers-back bp zero rest l = record { address = refl; size = refl }
+registers-back bp (suc n) rest l = record { address = with_displacement (Some Bp) None (word-back (suc n) l); size = refl }
+registers-back si zero rest l = record { address = refl; size = refl }
+registers-back si (suc n) rest l = record { address = with_displacement None (Some Si) (word-back (suc n) l); size = refl }
+registers-back di zero rest l = record { address = refl; size = refl }
+registers-back di (suc n) rest l = record { address = with_displacement None (Some Di) (word-back (suc n) l); size = refl }
+registers-back bx_si zero rest l = record { address = refl; size = refl }
+registers-back bx_si (suc n) rest l = record { address = with_displacement (Some Bx) (Some Si) (word-back (suc n) l); size = refl }
+registers-back bx_di zero rest l = record { address = refl; size = refl }
+registers-back bx_di (suc n) rest l = record { address = with_displacement (Some Bx) (Some Di) (word-back (suc n) l); size = refl }
+registers-back bp_si zero rest l = record { address = refl; size = refl }
+registers-back bp_si (suc n) rest l = record { address = with_displacement (Some Bp) (Some Si) (word-back (suc n) l); size = refl }
+registers-back bp_di zero rest l = record { address = refl; size = refl }
+registers-back bp_di (suc n) rest l = record { address = with_displacement (Some Bp) (Some Di) (word-back (suc n) l); size = refl }
 
 brackets-back : (ea : Ea) (rest : List ℕ) → IsAddress ea → IsReadBack ea.base ea.index ea.disp rest
-brackets-back ea rest h = registers-back ea.base ea.index ea.disp rest h.registers h.small
+brackets-back ea rest h = registers-back h.registers ea.disp rest h.small
 
 address-alone : (ea : Ea) → IsAddress ea → address_of (brackets ea) ≡ ea
 address-alone ea h = subst (λ (t : List ℕ). address_of t ≡ ea) (append-none (brackets ea)) (brackets-back ea [] h).address
@@ -371,14 +374,14 @@ no_comma (Mem byte_width ea) is h = refl
 no_comma (Mem word_width ea) is h = refl
 no_comma (Const width n) is h = absurd h
 
-product : (a : Operand) → IsOperand a → IsPlace a → operation_of (name.Unary Imul) (operand a) ≡ UnaryOp Imul (operand_of (operand a))
-product a is h =
+imul-alone : (a : Operand) → IsOperand a → IsPlace a → operation_of (name.Unary Imul) (operand a) ≡ UnaryOp Imul (operand_of (operand a))
+imul-alone a is h =
     ap (λ b. if b
     then Imul3 (word_register_at (operand a) 0) (first_of (drop 3 (operand a))) (word_value (behind_first (drop 3 (operand a))) 2)
     else UnaryOp Imul (operand_of (operand a))) (no_comma a is h)
 
 unary-back : (operation : Unary) (a : Operand) → IsOperand a → IsPlace a → operation_in (spelling (UnaryOp operation a)) ≡ Some (UnaryOp operation a)
-unary-back Imul a is h = named (name.Unary Imul) (operand a) ∙ ap Some (product a is h ∙ ap (UnaryOp Imul) (operand-back a is (value-of a h)))
+unary-back Imul a is h = named (name.Unary Imul) (operand a) ∙ ap Some (imul-alone a is h ∙ ap (UnaryOp Imul) (operand-back a is (value-of a h)))
 unary-back Inc a is h = named (name.Unary Inc) (operand a) ∙ ap (λ x. Some (UnaryOp Inc x)) (operand-back a is (value-of a h))
 unary-back Dec a is h = named (name.Unary Dec) (operand a) ∙ ap (λ x. Some (UnaryOp Dec x)) (operand-back a is (value-of a h))
 unary-back Neg a is h = named (name.Unary Neg) (operand a) ∙ ap (λ x. Some (UnaryOp Neg x)) (operand-back a is (value-of a h))

@@ -1,6 +1,6 @@
 //! Laws of spellings. The functions do nothing: their contracts are proved for every operation of the table.
 
-ghost use Rattle.dcc_spelled.specs.Laws.{SpellingIsReadBack, SpellingIsUnique};
+ghost use Rattle.dcc_reread.specs.Laws.{SpellingIsReadBack, SpellingIsUnique};
 
 /// An operation of the table is read back from its spelling.
 pub fn spelling_is_read_back()

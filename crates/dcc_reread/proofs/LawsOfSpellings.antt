@@ -6,10 +6,10 @@ use Rattle.dcc_machine.specs.Bytes.{byte_at}
 use Rattle.dcc_machine.specs.WellFormed.{IsOperation}
 use Rattle.dcc_machine.proofs.WellFormedLaws.{instruction-operation}
 use Rattle.dcc_spelled.specs.Spelling.{spelling}
-use Rattle.dcc_spelled.specs.Reading.{operation_in}
-use Rattle.dcc_spelled.specs.Laws.{IsOfTable, SpellingIsReadBack, SpellingIsUnique}
-use Rattle.dcc_spelled.proofs.Forms.{IsInForm, operation-in_form}
-use Rattle.dcc_spelled.proofs.ReadBack.{read-back}
+use Rattle.dcc_reread.specs.Reading.{operation_in}
+use Rattle.dcc_reread.specs.Laws.{IsOfTable, SpellingIsReadBack, SpellingIsUnique}
+use Rattle.dcc_reread.proofs.Forms.{IsInForm, operation-in_form}
+use Rattle.dcc_reread.proofs.ReadBack.{read-back}
 
 past-end : (bytes : List ℕ) (i : ℕ) → length bytes ≤ i → byte_at bytes i ≡ 0
 past-end [] i l = refl

@@ -1,13 +1,13 @@
 //! Reading a spelling back, by the bytes at a few places. What is read from a text that is no spelling doesn't matter,
 //! since the spelling of what was read is compared with the text.
 
-ghost use Rattle.std.specs.Prelude.{◌≡◌, ◌<◌, ◌≤◌, slice_index, drop, take, IfSome};
-ghost use Rattle.dcc_spelled.specs.Reading.{digit_value, byte_value, word_value, register_of_letter, word_register_of};
-ghost use Rattle.dcc_spelled.specs.Reading.{segment_of_letter, register_of, has_second, displacement_place};
-ghost use Rattle.dcc_spelled.specs.Reading.{displacement_at, brackets_length, word_register_at, base_of, index_of};
-ghost use Rattle.dcc_spelled.specs.Reading.{address_of, operand_of, first_length, first_of, behind_first, second_of};
-ghost use Rattle.dcc_spelled.specs.Reading.{count_of, unary_of, jump_of, return_of, operation_of, name_length};
-ghost use Rattle.dcc_spelled.specs.Reading.{operation_in, begins_with_index, constant_of};
+ghost use Rattle.std.specs.Prelude.{◌≡◌, ◌<◌, ◌≤◌, ◌==◌, position, slice_index, drop, take, IfSome};
+ghost use Rattle.dcc_reread.specs.Reading.{digit_value, byte_value, word_value, register_of_letter, word_register_of};
+ghost use Rattle.dcc_reread.specs.Reading.{segment_of_letter, register_of, has_second, displacement_place};
+ghost use Rattle.dcc_reread.specs.Reading.{displacement_at, brackets_length, word_register_at, base_of, index_of};
+ghost use Rattle.dcc_reread.specs.Reading.{address_of, operand_of, first_length, first_of, behind_first, second_of};
+ghost use Rattle.dcc_reread.specs.Reading.{count_of, unary_of, jump_of, return_of, operation_of, name_length};
+ghost use Rattle.dcc_reread.specs.Reading.{operation_in, begins_with_index, constant_of, product_of};
 
 use crate::mnemonic::{Mnemonic, mnemonic_of};
 use dcc_machine::{Count, Ea, Op, Operand, Unary};
@@ -238,7 +238,11 @@ fn operand_of(text: &[u8]) -> Operand
     if byte_of(text, 0) == b'0' {
         constant_of(text)
     } else if byte_of(text, 4) == b' ' {
-        let width = if byte_of(text, 0) == b'w' { Width::Word } else { Width::Byte };
+        let width = if byte_of(text, 0) == b'w' {
+            Width::Word
+        } else {
+            Width::Byte
+        };
         Operand::Mem(width, address_of(behind(text, 5)))
     } else {
         register_of(byte_of(text, 0), byte_of(text, 1))
@@ -286,23 +290,28 @@ fn count_of(text: &[u8]) -> Count
     }
 }
 
-// An operation on one operand, or the product with a constant.
+// A product: of one operand, or of an operand and a constant.
+fn product_of(text: &[u8]) -> Op
+    ensures { result ≡ product_of text.now }
+{
+    if byte_of(text, 2) == b',' {
+        let rest = behind(text, 3);
+        Op::Imul3(
+            word_register_at(text, 0),
+            first_of(rest),
+            word_value(behind_first(rest), 2),
+        )
+    } else {
+        Op::Unary(Unary::Imul, operand_of(text))
+    }
+}
+
+// An operation on one operand.
 fn unary_of(operation: Unary, text: &[u8]) -> Op
     ensures { result ≡ unary_of operation text.now }
 {
     match operation {
-        Unary::Imul => {
-            if byte_of(text, 2) == b',' {
-                let rest = behind(text, 3);
-                Op::Imul3(
-                    word_register_at(text, 0),
-                    first_of(rest),
-                    word_value(behind_first(rest), 2),
-                )
-            } else {
-                Op::Unary(Unary::Imul, operand_of(text))
-            }
-        }
+        Unary::Imul => product_of(text),
         _ => Op::Unary(operation, operand_of(text)),
     }
 }
@@ -357,11 +366,19 @@ fn operation_of(mnemonic: Mnemonic, text: &[u8]) -> Op
     }
 }
 
+// The place of the first space.
+fn space_in(text: &[u8]) -> Option<usize>
+    ensures { result ≡ position (λ byte. byte == 32) text.now }
+{
+    text.iter().position(|byte| *byte == b' ')
+}
+
 // Where the mnemonic ends: at the first space, or at the text's end.
+#[tactic(auto, using(crate::proofs::Places::place_of))]
 fn name_length(text: &[u8]) -> usize
     ensures { result ≡ name_length text.now }
 {
-    match text.iter().position(|byte| *byte == b' ') {
+    match space_in(text) {
         Some(place) => place,
         None => text.len(),
     }

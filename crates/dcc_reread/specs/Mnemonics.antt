@@ -2,11 +2,11 @@
 use Rattle.std.specs.Prelude.{ℕ, List, Option, find, codes}
 use Rattle.std.specs.Str.{bytes_eq}
 use Rattle.dcc_spelled.specs.Spelling.{alu_name, unary_name, shift_name, plain_name, branch_name}
-use Rattle.dcc_spelled.specs.declared.mnemonic.Mnemonic.{Mnemonic}
-use Rattle.dcc_spelled.specs.declared.mnemonic.Mnemonic.TheVariants.{Alu, Unary, Shift, Mov, Xchg, Lea, Push, Pop}
-use Rattle.dcc_spelled.specs.declared.mnemonic.Mnemonic.TheVariants.{Enter, Leave, Plain, Jmp, Branch, Loop, LoopE}
-use Rattle.dcc_spelled.specs.declared.mnemonic.Mnemonic.TheVariants.{LoopNe, Jcxz, Call, Ret, Int}
-use Rattle.dcc_spelled.specs.declared.mnemonic.TheConstants.{MNEMONICS}
+use Rattle.dcc_reread.specs.declared.mnemonic.Mnemonic.{Mnemonic}
+use Rattle.dcc_reread.specs.declared.mnemonic.Mnemonic.TheVariants.{Alu, Unary, Shift, Mov, Xchg, Lea, Push, Pop}
+use Rattle.dcc_reread.specs.declared.mnemonic.Mnemonic.TheVariants.{Enter, Leave, Plain, Jmp, Branch, Loop, LoopE}
+use Rattle.dcc_reread.specs.declared.mnemonic.Mnemonic.TheVariants.{LoopNe, Jcxz, Call, Ret, Int}
+use Rattle.dcc_reread.specs.declared.mnemonic.TheConstants.{MNEMONICS}
 
 abbrev pub mnemonic_name : Mnemonic → List ℕ
 mnemonic_name (Alu operation) = alu_name operation

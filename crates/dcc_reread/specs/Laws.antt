@@ -5,7 +5,7 @@ use Rattle.dcc_machine.specs.declared.instr.Op.{Op}
 use Rattle.dcc_machine.specs.declared.instr.Instr.{Instr}
 use Rattle.dcc_machine.specs.Table.{instruction_at}
 use Rattle.dcc_spelled.specs.Spelling.{spelling}
-use Rattle.dcc_spelled.specs.Reading.{operation_in}
+use Rattle.dcc_reread.specs.Reading.{operation_in}
 
 -- some processor decodes some bytes at some offset to the operation
 pub record IsOfTable (op : Op) : Type 0 where

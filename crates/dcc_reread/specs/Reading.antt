@@ -17,11 +17,11 @@ use Rattle.dcc_machine.specs.declared.instr.Operand.{Operand}
 use Rattle.dcc_machine.specs.declared.instr.Operand.TheVariants.{Word, Byte, Seg, Mem, Const}
 use Rattle.dcc_machine.specs.declared.instr.Op as machine
 use Rattle.dcc_machine.specs.declared.instr.Op.TheVariants as op
-use Rattle.dcc_spelled.specs.declared.mnemonic.Mnemonic.{Mnemonic}
-use Rattle.dcc_spelled.specs.declared.mnemonic.Mnemonic.TheVariants.{Alu, Unary as UnaryName, Shift, Mov, Xchg, Lea, Push}
-use Rattle.dcc_spelled.specs.declared.mnemonic.Mnemonic.TheVariants.{Pop, Enter, Leave, Plain, Jmp, Branch, Loop, LoopE}
-use Rattle.dcc_spelled.specs.declared.mnemonic.Mnemonic.TheVariants.{LoopNe, Jcxz, Call, Ret, Int}
-use Rattle.dcc_spelled.specs.Mnemonics.{mnemonic_of}
+use Rattle.dcc_reread.specs.declared.mnemonic.Mnemonic.{Mnemonic}
+use Rattle.dcc_reread.specs.declared.mnemonic.Mnemonic.TheVariants.{Alu, Unary as UnaryName, Shift, Mov, Xchg, Lea, Push}
+use Rattle.dcc_reread.specs.declared.mnemonic.Mnemonic.TheVariants.{Pop, Enter, Leave, Plain, Jmp, Branch, Loop, LoopE}
+use Rattle.dcc_reread.specs.declared.mnemonic.Mnemonic.TheVariants.{LoopNe, Jcxz, Call, Ret, Int}
+use Rattle.dcc_reread.specs.Mnemonics.{mnemonic_of}
 
 -- Numbers ------------------------------------------------------------------------------------
 
@@ -157,12 +157,16 @@ count_of text = if length text == 1 then One else if length text == 2 then Cl el
 
 -- Operations ---------------------------------------------------------------------------------
 
--- an operation on one operand, or the product with a constant
-abbrev pub unary_of : Unary → List ℕ → machine.Op
-unary_of Imul text =
+-- a product: of one operand, or of an operand and a constant
+abbrev pub product_of : List ℕ → machine.Op
+product_of text =
     if byte_of text 2 == 44
     then op.Imul3 (word_register_at text 0) (first_of (drop 3 text)) (word_value (behind_first (drop 3 text)) 2)
     else op.Unary Imul (operand_of text)
+
+-- an operation on one operand
+abbrev pub unary_of : Unary → List ℕ → machine.Op
+unary_of Imul text = product_of text
 unary_of operation text = op.Unary operation (operand_of text)
 
 -- a jump to a target, or through a table

@@ -1,5 +1,0 @@
-use Rattle.dcc_spelled.proofs.LawsOfSpellings.{spelling_read_back}
-use Rattle.dcc_spelled.proofs.laws.spelling_is_read_back.Goals as goal
-
-pub returns : goal.returns
-returns c = spelling_read_back

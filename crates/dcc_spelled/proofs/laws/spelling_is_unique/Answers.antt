@@ -1,5 +1,0 @@
-use Rattle.dcc_spelled.proofs.LawsOfSpellings.{spelling_unique}
-use Rattle.dcc_spelled.proofs.laws.spelling_is_unique.Goals as goal
-
-pub returns : goal.returns
-returns c = spelling_unique
