@@ -1,12 +1,12 @@
 -- Laws of the assembler, for every text, image and program.
-use Rattle.std.specs.Prelude.{◌≡◌, ℕ, List}
+use Rattle.std.specs.Prelude.{◌≡◌, ◌≤◌, ℕ, List, length}
 use Rattle.dcc_machine.specs.declared.image.Image.{Image}
 use Rattle.dcc_machine.specs.MzImage.{IsLoaded}
 use Rattle.dcc_prog.specs.declared.frame.Program.{Program}
 use Rattle.dcc_list.specs.Text.{StandsFor}
 use Rattle.dcc_list.specs.Listed.{IsListing}
 use Rattle.dcc_asm.specs.declared.fault.ListKind.{ListKind}
-use Rattle.dcc_asm.specs.Fault.{IsAssembled, IsFirstFault}
+use Rattle.dcc_asm.specs.Fault.{text_most, IsAssembled, IsFirstFault}
 
 -- a text is a listing of one list of bytes at most
 abbrev pub BytesAreUnique : Type 0
@@ -23,8 +23,8 @@ abbrev pub AssembledHasNoFault : Type 0
 AssembledHasNoFault =
     (text bytes : List ℕ) (line : ℕ) (kind : ListKind) → IsAssembled text bytes → ¬ IsFirstFault text line kind
 
--- the listing of a program's image is assembled to the image's bytes
+-- the listing of a program's image is assembled to the image's bytes, unless it is too long
 abbrev pub ListingIsAssembled : Type 0
 ListingIsAssembled =
     (image : Image) (program : Program) (text : List ℕ) → IsLoaded image → IsListing image program text
-    → IsAssembled text image.bytes.items
+    → length text ≤ text_most → IsAssembled text image.bytes.items

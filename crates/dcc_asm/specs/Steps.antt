@@ -2,13 +2,33 @@
 -- public contract rests on it.
 use Rattle.std.specs.Prelude.{◌≡◌, ◌<◌, ◌≤◌, ℕ, ◌+◌, List, ◌∷◌, ◌++◌, length, Option, Some, None}
 use Rattle.dcc_machine.specs.declared.cpu.Cpu.{Cpu}
-use Rattle.dcc_list.specs.Text.{Gives, text_of, IsLine, Begins, head_line}
+use Rattle.dcc_machine.specs.declared.instr.Op.{Op}
+use Rattle.dcc_machine.specs.declared.instr.Op.TheVariants.{Jump, Branch, Loop, LoopE, LoopNe, Jcxz, Call}
+use Rattle.smallvec.specs.SmallVec.{SmallVec}
+use Rattle.dcc_encode.specs.Encoding.{IsStandard}
+use Rattle.dcc_list.specs.Text.{IsOffset, Gives, text_of, IsLine, Begins, head_line}
 use Rattle.dcc_asm.specs.declared.assembler.Heading.{Heading}
 use Rattle.dcc_asm.specs.declared.fault.ListKind.{ListKind}
 use Rattle.dcc_asm.specs.declared.fault.ListKind.TheVariants.{Word}
 use Rattle.dcc_asm.specs.declared.fault.ListFault.{ListFault}
 use Rattle.dcc_asm.specs.declared.fault.ListFault.TheVariants.{At, Memory}
-use Rattle.dcc_asm.specs.Fault.{bytes_most, Offends, HasHead}
+use Rattle.dcc_asm.specs.Fault.{bytes_most, IsEncodable, Offends, HasHead}
+
+-- the target of a jump or a call, which its bytes count from the next instruction
+abbrev pub target_of : Op → Option ℕ
+target_of (Jump target) = Some target
+target_of (Branch condition target) = Some target
+target_of (Loop target) = Some target
+target_of (LoopE target) = Some target
+target_of (LoopNe target) = Some target
+target_of (Jcxz target) = Some target
+target_of (Call target) = Some target
+target_of op = None
+
+-- the operation has no encoding at the place, or this is its standard one
+abbrev pub IsStandardAt : Cpu → ℕ → ℕ → Op → Option (SmallVec ℕ) → Type 0
+IsStandardAt cpu cs place op None = ¬ IsEncodable cpu cs place op
+IsStandardAt cpu cs place op (Some bytes) = (at : ℕ) × (IsOffset cs place at) × (IsStandard cpu at op bytes.items)
 
 -- the line gives what the image gets
 pub record Grows (cpu : Cpu) (cs : ℕ) (old new line : List ℕ) : Type 0 where
@@ -37,6 +57,13 @@ pub record Passes (cpu : Cpu) (cs : ℕ) (text : List ℕ) (lines : List (List �
 pub record AreGiven (cpu : Cpu) (cs : ℕ) (text bytes : List ℕ) : Type 0 where
   pub lines : List (List ℕ)
   pub passes : Passes cpu cs text lines bytes []
+
+-- so far the lines of the text have given the image, and the next line has this number
+pub record Reads (cpu : Cpu) (cs : ℕ) (text image left : List ℕ) (number : ℕ) : Type 0 where
+  pub lines : List (List ℕ)
+  pub passes : Passes cpu cs text lines image left
+  pub number_is : number ≡ 2 + length lines
+  pub room : number + length left ≤ 2 + length text
 
 -- the line of the text that offends first, counted from 2
 pub data OffendsFirst (cpu : Cpu) (cs : ℕ) (text : List ℕ) : ℕ → ListKind → Type 0 where

@@ -17,7 +17,7 @@ pub fn assembled_has_no_fault()
     ensures { AssembledHasNoFault }
 {}
 
-/// The listing of a program's image is assembled to the image's bytes.
+/// The listing of a program's image is assembled to the image's bytes, unless it is too long.
 pub fn listing_is_assembled()
     ensures { ListingIsAssembled }
 {}

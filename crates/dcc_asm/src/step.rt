@@ -5,12 +5,12 @@ ghost use Rattle.dcc_encode.specs.Encoding.{IsEncoding, IsStandard};
 ghost use Rattle.dcc_list.specs.Text.{IsOffset, Gives, operation_line, odd_line};
 ghost use Rattle.dcc_asm.specs.Fault.{bytes_most, IsOdd, IsKnown, Offends};
 ghost use Rattle.dcc_asm.specs.Form.{form_of, form_line, read_form, IsSized, Tells, operation, odd};
-ghost use Rattle.dcc_asm.specs.Steps.{IsDone};
+ghost use Rattle.dcc_asm.specs.Steps.{IsDone, IsStandardAt};
 
 use crate::fault::ListKind;
 use crate::known::is_known;
 use crate::line::{Line, line_in};
-use dcc_encode::{is_encoding, standard};
+use dcc_encode::{Bytes, is_encoding, standard};
 use dcc_machine::{Cpu, LOAD_SEGMENT, Op};
 use dcc_reread::byte_of;
 use std::alloc::{AllocError, Global};
@@ -23,7 +23,7 @@ const OFFSETS: usize = 65536;
 
 // Whether the image's byte of this place has the offset.
 fn is_offset(cs: u16, place: usize, at: u16) -> bool
-    requires { place ≤ 262144 }
+    requires { place ≤ bytes_most }
     ensures { IsTrue result ↔ IsOffset cs place at }
 {
     usize::from(at) + usize::from(cs) * 16 == place + usize::from(LOAD_SEGMENT) * 16
@@ -31,7 +31,7 @@ fn is_offset(cs: u16, place: usize, at: u16) -> bool
 
 // The offset of the image's byte of this place, where the segment has the byte.
 fn offset_of(cs: u16, place: usize) -> Option<u16>
-    requires { place ≤ 262144 }
+    requires { place ≤ bytes_most }
     ensures { MatchOption result ((at : ℕ) → IsOffset cs place at → 65536 ≤ at) (IsOffset cs place) }
 {
     let address = place + usize::from(LOAD_SEGMENT) * 16;
@@ -56,6 +56,23 @@ fn push_all(cpu: Cpu, cs: u16, image: &mut Vec<u8>, bytes: &[u8]) -> Result<Opti
     Ok(None)
 }
 
+// The standard encoding of an operation at a place. None where it has no encoding there.
+fn standard_at(
+    alloc: Global,
+    cpu: Cpu,
+    cs: u16,
+    place: usize,
+    op: Op,
+) -> Result<Option<Bytes>, AllocError>
+    requires { place ≤ bytes_most }
+    ensures { IfOk result (IsStandardAt cpu cs place op) }
+{
+    match offset_of(cs, place) {
+        Some(at) => standard(alloc, op, at, cpu),
+        None => Ok(None),
+    }
+}
+
 // Appends the standard encoding of an operation.
 fn push_operation(
     alloc: Global,
@@ -68,15 +85,15 @@ fn push_operation(
     requires read { read_form (operation_line op) ≡ Some (operation op) }
     ensures { IfOk result (IsDone cpu cs image.old.items image.new.items (operation_line op)) }
 {
-    if let Some(at) = offset_of(cs, image.len())
-        && let Some(bytes) = standard(alloc, op, at, cpu)?
-    {
-        return push_all(cpu, cs, image, bytes.as_slice());
-    }
-    if is_known(alloc, op)? {
-        Ok(Some(ListKind::Range))
-    } else {
-        Ok(Some(ListKind::Word))
+    match standard_at(alloc, cpu, cs, image.len(), op)? {
+        Some(bytes) => push_all(cpu, cs, image, bytes.as_slice()),
+        None => {
+            if is_known(alloc, op)? {
+                Ok(Some(ListKind::Range))
+            } else {
+                Ok(Some(ListKind::Word))
+            }
+        }
     }
 }
 
@@ -99,7 +116,7 @@ fn is_odd(
     bytes: &[u8],
     op: Op,
 ) -> Result<bool, AllocError>
-    requires { place ≤ 262144 }
+    requires { place ≤ bytes_most }
     ensures { IfOk result (λ answer. IsTrue answer ↔ IsOdd cpu cs place bytes.now op) }
 {
     match offset_of(cs, place) {

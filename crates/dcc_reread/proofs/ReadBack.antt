@@ -56,7 +56,7 @@ word-back n l = omega (arith, byte-back (n / 256), byte-back n)
 
 -- Lists --------------------------------------------------------------------------------------
 
-take-all : (xs ys : List ℕ) → take (length xs) (xs ++ ys) ≡ xs
+pub take-all : (xs ys : List ℕ) → take (length xs) (xs ++ ys) ≡ xs
 take-all [] ys = refl
 take-all (x ∷ xs) ys = ap (λ (r : List ℕ). x ∷ r) (take-all xs ys)
 
@@ -64,7 +64,7 @@ drop-more : (xs : List ℕ) (y : ℕ) (ys : List ℕ) → drop (suc (length xs))
 drop-more [] y ys = refl
 drop-more (x ∷ xs) y ys = drop-more xs y ys
 
-drop-all : (xs : List ℕ) (y : ℕ) (ys : List ℕ) → drop (length xs + 1) (xs ++ (y ∷ ys)) ≡ ys
+pub drop-all : (xs : List ℕ) (y : ℕ) (ys : List ℕ) → drop (length xs + 1) (xs ++ (y ∷ ys)) ≡ ys
 drop-all xs y ys = ap (λ n. drop n (xs ++ (y ∷ ys))) (add-one (length xs)) ∙ drop-more xs y ys
 
 pub append-none : (xs : List ℕ) → xs ++ [] ≡ xs

@@ -4,8 +4,8 @@ ghost use Rattle.std.specs.Prelude.{◌≡◌, find};
 ghost use Rattle.std.specs.Str.{bytes_eq};
 ghost use Rattle.dcc_reread.specs.Mnemonics.{mnemonic_name, mnemonic_of};
 
-use dcc_spelled::{alu_name, branch_name, plain_name, shift_name, unary_name};
 use dcc_machine::{Alu, Cond, Plain, Shift, Unary};
+use dcc_spelled::{alu_name, branch_name, plain_name, shift_name, unary_name};
 
 /// What a mnemonic names; IMUL with three operands and the jump through a table have the names of others.
 #[derive(Clone, Copy)]

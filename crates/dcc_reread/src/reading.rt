@@ -1,7 +1,7 @@
 //! Reading a spelling back, by the bytes at a few places. What is read from a text that is no spelling doesn't matter,
 //! since the spelling of what was read is compared with the text.
 
-ghost use Rattle.std.specs.Prelude.{◌≡◌, ◌<◌, ◌≤◌, ◌==◌, position, slice_index, drop, take, IfSome};
+ghost use Rattle.std.specs.Prelude.{◌≡◌, ◌+◌, ◌<◌, ◌≤◌, ◌==◌, position, slice_index, drop, take, IfSome};
 ghost use Rattle.dcc_reread.specs.Reading.{digit_value, byte_value, word_value, register_of_letter, word_register_of};
 ghost use Rattle.dcc_reread.specs.Reading.{segment_of_letter, register_of, has_second, displacement_place};
 ghost use Rattle.dcc_reread.specs.Reading.{displacement_at, brackets_length, word_register_at, base_of, index_of};
@@ -374,7 +374,6 @@ fn space_in(text: &[u8]) -> Option<usize>
 }
 
 // Where the mnemonic ends: at the first space, or at the text's end.
-#[tactic(auto, using(crate::proofs::Places::place_of))]
 fn name_length(text: &[u8]) -> usize
     ensures { result ≡ name_length text.now }
 {
@@ -384,16 +383,24 @@ fn name_length(text: &[u8]) -> usize
     }
 }
 
+// What stands behind a place.
+fn behind_place<'a>(text: &'a [u8], place: usize) -> &'a [u8]
+    ensures { result.now ≡ drop (place + 1) text.now }
+{
+    if place < text.len() {
+        &text[place + 1..]
+    } else {
+        &[]
+    }
+}
+
 /// The operation whose spelling may be the text; each other operation has another spelling.
 pub fn operation_in(text: &[u8]) -> Option<Op>
     ensures { result ≡ operation_in text.now }
 {
     let end = name_length(text);
-    let mnemonic = mnemonic_of(before(text, end))?;
-    let operands = if end < text.len() {
-        &text[end + 1..]
-    } else {
-        &[]
-    };
-    Some(operation_of(mnemonic, operands))
+    match mnemonic_of(before(text, end)) {
+        Some(mnemonic) => Some(operation_of(mnemonic, behind_place(text, end))),
+        None => None,
+    }
 }

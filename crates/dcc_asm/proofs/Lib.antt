@@ -1,0 +1,6 @@
+pub mod Known
+pub mod LineLaws
+pub mod ReadForm
+pub mod RunLaws
+pub mod StepLaws
+pub mod TextLaws
