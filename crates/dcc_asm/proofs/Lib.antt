@@ -1,4 +1,5 @@
-pub mod Known
+pub mod HeadLaws
+pub mod KnownLaws
 pub mod LineLaws
 pub mod ReadForm
 pub mod RunLaws

@@ -10,7 +10,7 @@ use Rattle.dcc_reread.specs.Reading.{byte_of}
 use Rattle.dcc_list.specs.Text.{IsOffset, AreBytes, Gives, comment_line, comment, at_place, bytes as gives_bytes, standard as gives_standard, odd as gives_odd}
 use Rattle.dcc_asm.specs.declared.fault.ListKind.{ListKind}
 use Rattle.dcc_asm.specs.declared.fault.ListKind.TheVariants.{Length, Word, Range, Odd, Place}
-use Rattle.dcc_asm.specs.Fault.{bytes_most, IsKnown, IsEncodable, IsOdd, Offends, word, place as offends_place, range, odd as offends_odd, length as too_many, HasForm, comment as comment_form, place as place_form, bytes as bytes_form, operation as operation_form, odd as odd_line_form}
+use Rattle.dcc_asm.specs.Fault.{bytes_most, IsKnown, IsEncodable, IsOdd, Offends, no_form as word, other_place as offends_place, no_encoding as range, not_odd as offends_odd, too_many, HasForm, comment as comment_form, place as place_form, bytes as bytes_form, operation as operation_form, odd as odd_line_form}
 use Rattle.dcc_asm.specs.Form.{Form, place, bytes, operation, odd, form_line, IsValid}
 use Rattle.dcc_asm.proofs.ReadForm.{forms-same, form-no_comment}
 use Rattle.dcc_asm.proofs.StepLaws.{offset-same}
@@ -64,15 +64,15 @@ not-both line words form valid e f =
 pub gives-unique : (cpu : Cpu) (cs here : ℕ) (line told others : List ℕ) → Gives cpu cs here line told → Gives cpu cs here line others → told ≡ others
 gives-unique cpu cs here line told others g h = elim (gives-view cpu cs here line told g) [
   | for_people words e none ↦ elim (gives-view cpu cs here line others h) [
-      | for_people words e also ↦ none ∙ sym also
-      | of_form form valid f given ↦ absurd (not-both line words form valid e f)
-    ]
+    | for_people words e also ↦ none ∙ sym also
+    | of_form form valid f given ↦ absurd (not-both line words form valid e f)
+  ]
   | of_form form valid e given ↦ elim (gives-view cpu cs here line others h) [
-      | for_people words f none ↦ absurd (not-both line words form valid f e)
-      | of_form other also f more ↦
-          let same : other ≡ form = forms-same other form also valid (sym f ∙ e) in
-          given-same cpu cs here form told others given (subst (λ x. GivesOf cpu cs here x others) same more)
-    ]
+    | for_people words f none ↦ absurd (not-both line words form valid f e)
+    | of_form other also f more ↦
+        let same : other ≡ form = forms-same other form also valid (sym f ∙ e) in
+        given-same cpu cs here form told others given (subst (λ x. GivesOf cpu cs here x others) same more)
+  ]
 ]
 
 -- How a form offends -------------------------------------------------------------------------
@@ -139,20 +139,20 @@ pub offends-not_gives : (cpu : Cpu) (cs here : ℕ) (line : List ℕ) (kind : Li
 offends-not_gives cpu cs here line kind told l o g fits = elim (offends-view cpu cs here line kind l o) [
   | no_form none e ↦ none (gives-has cpu cs here line told g)
   | by_form form valid e by ↦ elim (gives-view cpu cs here line told g) [
-      | for_people words f none ↦ not-both line words form valid f e
-      | of_form other also f given ↦
-          let same : other ≡ form = forms-same other form also valid (sym f ∙ e) in
-          gives-not_offends cpu cs here form kind told by (subst (λ x. GivesOf cpu cs here x told) same given)
-    ]
+    | for_people words f none ↦ not-both line words form valid f e
+    | of_form other also f given ↦
+        let same : other ≡ form = forms-same other form also valid (sym f ∙ e) in
+        gives-not_offends cpu cs here form kind told by (subst (λ x. GivesOf cpu cs here x told) same given)
+  ]
   | by_length form valid e long k ↦ elim (gives-view cpu cs here line told g) [
-      | for_people words f none ↦ not-both line words form valid f e
-      | of_form other also f given ↦
-          let same : other ≡ form = forms-same other form also valid (sym f ∙ e) in
-          let one : told ≡ long.told = given-same cpu cs here form told long.told (subst (λ x. GivesOf cpu cs here x told) same given) long.given in
-          let size : length told ≡ length long.told = ap length one in
-          let past = long.past in
-          omega arith
-    ]
+    | for_people words f none ↦ not-both line words form valid f e
+    | of_form other also f given ↦
+        let same : other ≡ form = forms-same other form also valid (sym f ∙ e) in
+        let one : told ≡ long.told = given-same cpu cs here form told long.told (subst (λ x. GivesOf cpu cs here x told) same given) long.given in
+        let size : length told ≡ length long.told = ap length one in
+        let past = long.past in
+        omega arith
+  ]
 ]
 
 -- a line offends in one way
@@ -160,24 +160,24 @@ pub offends-same : (cpu : Cpu) (cs here : ℕ) (line : List ℕ) (kind other : L
     → Offends cpu cs here line kind → Offends cpu cs here line other → kind ≡ other
 offends-same cpu cs here line kind other l o p = elim (offends-view cpu cs here line kind l o) [
   | no_form none e ↦ elim (offends-view cpu cs here line other l p) [
-      | no_form also f ↦ e ∙ sym f
-      | by_form form valid f by ↦ absurd (none (line-has line form valid f))
-      | by_length form valid f long k ↦ absurd (none (line-has line form valid f))
-    ]
+    | no_form also f ↦ e ∙ sym f
+    | by_form form valid f by ↦ absurd (none (line-has line form valid f))
+    | by_length form valid f long k ↦ absurd (none (line-has line form valid f))
+  ]
   | by_form form valid e by ↦ elim (offends-view cpu cs here line other l p) [
-      | no_form none f ↦ absurd (none (line-has line form valid e))
-      | by_form known also f more ↦
-          let same : known ≡ form = forms-same known form also valid (sym f ∙ e) in
-          kinds-same cpu cs here form kind other by (subst (λ x. OffendsBy cpu cs here x other) same more)
-      | by_length known also f long k ↦
-          let same : known ≡ form = forms-same known form also valid (sym f ∙ e) in
-          absurd (gives-not_offends cpu cs here form kind long.told by (subst (λ x. GivesOf cpu cs here x long.told) same long.given))
-    ]
+    | no_form none f ↦ absurd (none (line-has line form valid e))
+    | by_form known also f more ↦
+        let same : known ≡ form = forms-same known form also valid (sym f ∙ e) in
+        kinds-same cpu cs here form kind other by (subst (λ x. OffendsBy cpu cs here x other) same more)
+    | by_length known also f long k ↦
+        let same : known ≡ form = forms-same known form also valid (sym f ∙ e) in
+        absurd (gives-not_offends cpu cs here form kind long.told by (subst (λ x. GivesOf cpu cs here x long.told) same long.given))
+  ]
   | by_length form valid e long k ↦ elim (offends-view cpu cs here line other l p) [
-      | no_form none f ↦ absurd (none (line-has line form valid e))
-      | by_form known also f by ↦
-          let same : form ≡ known = forms-same form known valid also (sym e ∙ f) in
-          absurd (gives-not_offends cpu cs here known other long.told by (subst (λ x. GivesOf cpu cs here x long.told) same long.given))
-      | by_length known also f more m ↦ k ∙ sym m
-    ]
+    | no_form none f ↦ absurd (none (line-has line form valid e))
+    | by_form known also f by ↦
+        let same : form ≡ known = forms-same form known valid also (sym e ∙ f) in
+        absurd (gives-not_offends cpu cs here known other long.told by (subst (λ x. GivesOf cpu cs here x long.told) same long.given))
+    | by_length known also f more m ↦ k ∙ sym m
+  ]
 ]

@@ -11,8 +11,8 @@ use Rattle.dcc_asm.specs.declared.fault.ListKind.{ListKind}
 use Rattle.dcc_asm.specs.declared.fault.ListKind.TheVariants.{Word}
 use Rattle.dcc_asm.specs.declared.fault.ListFault.{ListFault}
 use Rattle.dcc_asm.specs.declared.fault.ListFault.TheVariants.{At, Memory}
-use Rattle.dcc_asm.specs.Fault.{text_most, bytes_most, IsAssembled, IsFaultOf, IsFirstFault, BeginsWith, Offends, line as first_line, unended as first_unended}
-use Rattle.dcc_asm.specs.Steps.{Grows, Passes, AreGiven, Reads, OffendsFirst, line, unended, IsFaultOfLines}
+use Rattle.dcc_asm.specs.Fault.{text_most, bytes_most, IsAssembled, IsFaultOf, IsFirstFault, BeginsWith, Offends, at_line as first_line, unended as first_unended}
+use Rattle.dcc_asm.specs.Steps.{Grows, Passes, AreGiven, Reads, OffendsFirst, at_line as line, unended, IsFaultOfLines}
 use Rattle.dcc_asm.specs.Laws.{ListingIsAssembled}
 use Rattle.dcc_asm.proofs.TextLaws.{first-of}
 
@@ -94,7 +94,7 @@ pub reads-offends : (cpu : Cpu) (cs : ℕ) (text image left l rest : List ℕ) (
     → IsLine l → left ≡ text_of (l ∷ []) ++ rest → Offends cpu cs (length image) l kind → OffendsFirst cpu cs text number kind
 reads-offends cpu cs text image left l rest number kind h is e o =
     subst (λ n. OffendsFirst cpu cs text n kind) (sym h.number_is)
-    (line (subst (λ (x : List ℕ). Passes cpu cs text h.lines image x) e h.passes) is o)
+    (line rest (subst (λ (x : List ℕ). Passes cpu cs text h.lines image x) e h.passes) is o)
 
 -- bytes stand behind the last line feed
 pub reads-unended : (cpu : Cpu) (cs : ℕ) (text image left : List ℕ) (number : ℕ) → Reads cpu cs text image left number
@@ -134,8 +134,8 @@ begins cpu cs text rest tail told lines fits e h = record {
 
 offends-first : (cpu : Cpu) (cs : ℕ) (text rest : List ℕ) (number : ℕ) (kind : ListKind) → length text ≤ text_most → text ≡ text_of (head_line cpu cs ∷ []) ++ rest
     → OffendsFirst cpu cs rest number kind → IsFirstFault text number kind
-offends-first cpu cs text rest number kind fits e (line {lines = lines} {bytes = told} {line = l} {rest = more} h is o) =
-    first_line (begins cpu cs text rest (text_of (l ∷ []) ++ more) told lines fits e h) is o
+offends-first cpu cs text rest number kind fits e (line {lines = lines} {bytes = told} {line = l} more h is o) =
+    first_line more (begins cpu cs text rest (text_of (l ∷ []) ++ more) told lines fits e h) is o
 offends-first cpu cs text rest number kind fits e (unended {lines = lines} {bytes = told} {rest = tail} h is some) =
     first_unended (begins cpu cs text rest tail told lines fits e h) is some
 

@@ -3,7 +3,6 @@ use Rattle.std.proofs.Common.{◌≡◌, ℕ, zero, suc, ◌+◌, ◌*◌, ◌<�
 use Rattle.std.specs.Prelude.{Option, Some, None, MatchOption, ◌==◌}
 use Rattle.std.proofs.lemmas.Bool.Decides.{nat_tests}
 use Rattle.std.proofs.lemmas.List.{get_or_default, length-append}
-
 use Rattle.smallvec.specs.SmallVec.{SmallVec}
 use Rattle.dcc_machine.specs.declared.cpu.Cpu.{Cpu}
 use Rattle.dcc_machine.specs.declared.cpu.Cpu.TheVariants.{I8086, I186}
@@ -15,10 +14,10 @@ use Rattle.dcc_list.specs.Text.{IsOffset, AreBytes, Gives, comment_line, operati
 use Rattle.dcc_asm.specs.declared.line.Line.{Line}
 use Rattle.dcc_asm.specs.declared.fault.ListKind.{ListKind}
 use Rattle.dcc_asm.specs.declared.fault.ListKind.TheVariants.{Length, Word, Range, Odd, Place}
-use Rattle.dcc_asm.specs.Fault.{bytes_most, IsKnown, IsEncodable, IsOdd, Offends, word, place as offends_place, range, odd as offends_odd, length as too_many, HasForm}
+use Rattle.dcc_asm.specs.Fault.{bytes_most, IsKnown, IsEncodable, IsOdd, Offends, no_form as word, other_place as offends_place, no_encoding as range, not_odd as offends_odd, too_many, HasForm}
 use Rattle.dcc_asm.specs.Form.{Form, form_of, form_line, read_form, operation, odd, Tells, IsReading, IsValid}
 use Rattle.dcc_asm.specs.Steps.{target_of, IsStandardAt, Grows, IsDone}
-use Rattle.dcc_asm.proofs.Known.{known-target, known-first}
+use Rattle.dcc_asm.proofs.KnownLaws.{known-target, known-first}
 use Rattle.dcc_asm.proofs.ReadForm.{no-form, none-form}
 
 -- Offsets ------------------------------------------------------------------------------------

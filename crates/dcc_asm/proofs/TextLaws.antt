@@ -8,7 +8,7 @@ use Rattle.dcc_reread.proofs.ReadBack.{word-back}
 use Rattle.dcc_list.specs.Text.{Gives, GivesInTurn, none, next, text_of, IsLine, head_line, Begins, StandsFor}
 use Rattle.dcc_asm.specs.declared.fault.ListKind.{ListKind}
 use Rattle.dcc_asm.specs.declared.fault.ListKind.TheVariants.{Length, Head, Word}
-use Rattle.dcc_asm.specs.Fault.{text_most, bytes_most, IsAssembled, Offends, HasHead, BeginsWith, IsFirstFault, too_long, head, line, unended}
+use Rattle.dcc_asm.specs.Fault.{text_most, bytes_most, IsAssembled, Offends, HasHead, BeginsWith, IsFirstFault, too_long, no_head as head, at_line as line, unended}
 use Rattle.dcc_asm.specs.Laws.{BytesAreUnique, FaultIsUnique, AssembledHasNoFault}
 use Rattle.dcc_asm.proofs.LineLaws.{gives-unique, offends-not_gives, offends-same}
 
@@ -216,7 +216,7 @@ begins-runs text cpu cs lines told rest h = record { begins = h.begins; text_is 
 fault-view : (text : List ℕ) (number : ℕ) (kind : ListKind) → IsFirstFault text number kind → FaultView text number kind
 fault-view text number kind (too_long past) = long past refl refl
 fault-view text number kind (head fits without) = no_head fits without refl refl
-fault-view text number kind (line {cpu = cpu} {cs = cs} {lines = lines} {bytes = told} {line = l} {rest = rest} h is o) =
+fault-view text number kind (line {cpu = cpu} {cs = cs} {lines = lines} {bytes = told} {line = l} rest h is o) =
     stopped cpu cs lines told (text_of (l ∷ []) ++ rest) h.text_fits (begins-runs text cpu cs lines told (text_of (l ∷ []) ++ rest) h) h.bytes_fit
     (at_line l rest (first-of l [] rest) is o) refl
 fault-view text number kind (unended {cpu = cpu} {cs = cs} {lines = lines} {bytes = told} {rest = rest} h is some) =
@@ -256,22 +256,22 @@ stopped-same text cpu cs lines told rest kind cpu' cs' lines' told' rest' kind' 
 pub fault_unique : FaultIsUnique
 fault_unique text number other kind also h k = elim (fault-view text number kind h) [
   | long past n e ↦ elim (fault-view text other also k) [
-      | long past m f ↦ (n ∙ sym m, e ∙ sym f)
-      | no_head fits without m f ↦ absurd (omega arith)
-      | stopped cpu cs lines told rest fits r most s m ↦ absurd (omega arith)
-    ]
+    | long past m f ↦ (n ∙ sym m, e ∙ sym f)
+    | no_head fits without m f ↦ absurd (omega arith)
+    | stopped cpu cs lines told rest fits r most s m ↦ absurd (omega arith)
+  ]
   | no_head fits without n e ↦ elim (fault-view text other also k) [
-      | long past m f ↦ absurd (omega arith)
-      | no_head fits without m f ↦ (n ∙ sym m, e ∙ sym f)
-      | stopped cpu cs lines told rest fits r most s m ↦ absurd (without (runs-head text cpu cs lines told rest r))
-    ]
+    | long past m f ↦ absurd (omega arith)
+    | no_head fits without m f ↦ (n ∙ sym m, e ∙ sym f)
+    | stopped cpu cs lines told rest fits r most s m ↦ absurd (without (runs-head text cpu cs lines told rest r))
+  ]
   | stopped cpu cs lines told rest fits r most s n ↦ elim (fault-view text other also k) [
-      | long past m f ↦ absurd (omega arith)
-      | no_head fits without m f ↦ absurd (without (runs-head text cpu cs lines told rest r))
-      | stopped cpu' cs' lines' told' rest' fits' r' most' s' m ↦
-          let same = stopped-same text cpu cs lines told rest kind cpu' cs' lines' told' rest' also r most s r' most' s' in
-          (n ∙ ap (λ x. 2 + x) same.0 ∙ sym m, same.1)
-    ]
+    | long past m f ↦ absurd (omega arith)
+    | no_head fits without m f ↦ absurd (without (runs-head text cpu cs lines told rest r))
+    | stopped cpu' cs' lines' told' rest' fits' r' most' s' m ↦
+        let same = stopped-same text cpu cs lines told rest kind cpu' cs' lines' told' rest' also r most s r' most' s' in
+        (n ∙ ap (λ x. 2 + x) same.0 ∙ sym m, same.1)
+  ]
 ]
 
 -- no line offends in a text that is assembled

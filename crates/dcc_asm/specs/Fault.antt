@@ -1,5 +1,5 @@
 -- Which bytes a text is assembled to, and why a text isn't assembled: the first line that offends, and how.
-use Rattle.std.specs.Prelude.{◌≡◌, ◌<◌, ◌≤◌, ℕ, ◌+◌, List, ◌∷◌, ◌++◌, length, codes}
+use Rattle.std.specs.Prelude.{◌≡◌, ◌<◌, ◌≤◌, ℕ, ◌+◌, List, [], ◌∷◌, ◌++◌, length}
 use Rattle.dcc_machine.specs.declared.cpu.Cpu.{Cpu}
 use Rattle.dcc_machine.specs.declared.instr.Op.{Op}
 use Rattle.dcc_encode.specs.Encoding.{IsEncoding, IsStandard}
@@ -63,16 +63,16 @@ pub record IsOdd (cpu : Cpu) (cs place : ℕ) (bytes : List ℕ) (op : Op) : Typ
 -- that no line has, by a place where the next byte doesn't stand, by an operation that has no encoding there, by bytes
 -- that aren't another encoding of the operation, or by bytes that are too many
 pub data Offends (cpu : Cpu) (cs place : ℕ) : List ℕ → ListKind → Type 0 where
-  word : {line : List ℕ} → ¬ HasForm line → Offends cpu cs place line Word
-  place : {at : ℕ} → at < 65536 → ¬ IsOffset cs place at → Offends cpu cs place (place_line at) Place
-  range : {op : Op} → IsKnown op → ¬ IsEncodable cpu cs place op → Offends cpu cs place (operation_line op) Range
-  odd :
+  no_form : {line : List ℕ} → ¬ HasForm line → Offends cpu cs place line Word
+  other_place : {at : ℕ} → at < 65536 → ¬ IsOffset cs place at → Offends cpu cs place (place_line at) Place
+  no_encoding : {op : Op} → IsKnown op → ¬ IsEncodable cpu cs place op → Offends cpu cs place (operation_line op) Range
+  not_odd :
       {bytes : List ℕ} {op : Op}
       → AreBytes bytes
       → IsKnown op
       → ¬ IsOdd cpu cs place bytes op
       → Offends cpu cs place (odd_line bytes op) Odd
-  length :
+  too_many :
       {line bytes : List ℕ}
       → Gives cpu cs place line bytes
       → bytes_most < place + length bytes
@@ -98,9 +98,9 @@ pub record BeginsWith (text : List ℕ) (cpu : Cpu) (cs : ℕ) (lines : List (Li
 -- 0, and bytes behind the last line feed are no line of any form
 pub data IsFirstFault (text : List ℕ) : ℕ → ListKind → Type 0 where
   too_long : text_most < length text → IsFirstFault text 0 Length
-  head : length text ≤ text_most → ¬ HasHead text → IsFirstFault text 1 Head
-  line :
-      {cpu : Cpu} {cs : ℕ} {lines : List (List ℕ)} {bytes line rest : List ℕ} {kind : ListKind}
+  no_head : length text ≤ text_most → ¬ HasHead text → IsFirstFault text 1 Head
+  at_line :
+      {cpu : Cpu} {cs : ℕ} {lines : List (List ℕ)} {bytes line : List ℕ} {kind : ListKind} (rest : List ℕ)
       → BeginsWith text cpu cs lines bytes (text_of (line ∷ []) ++ rest)
       → IsLine line
       → Offends cpu cs (length bytes) line kind
@@ -114,5 +114,5 @@ pub data IsFirstFault (text : List ℕ) : ℕ → ListKind → Type 0 where
 
 -- the fault says why the text isn't assembled; want of memory has no cause in it
 abbrev pub IsFaultOf : List ℕ → ListFault → Type 0
-IsFaultOf text (At line kind) = IsFirstFault text line kind
+IsFaultOf text (At number kind) = IsFirstFault text number kind
 IsFaultOf text Memory = Unit {0}

@@ -1,7 +1,8 @@
 -- What a line and the lines from some place on are assembled to. This stands between the definitions and the code; no
 -- public contract rests on it.
-use Rattle.std.specs.Prelude.{◌≡◌, ◌<◌, ◌≤◌, ℕ, ◌+◌, List, ◌∷◌, ◌++◌, length, Option, Some, None}
+use Rattle.std.specs.Prelude.{◌≡◌, ◌<◌, ◌≤◌, ℕ, ◌+◌, List, [], ◌∷◌, ◌++◌, length, Option, Some, None}
 use Rattle.dcc_machine.specs.declared.cpu.Cpu.{Cpu}
+use Rattle.dcc_machine.specs.declared.cpu.Cpu.TheVariants.{I8086, I186}
 use Rattle.dcc_machine.specs.declared.instr.Op.{Op}
 use Rattle.dcc_machine.specs.declared.instr.Op.TheVariants.{Jump, Branch, Loop, LoopE, LoopNe, Jcxz, Call}
 use Rattle.smallvec.specs.SmallVec.{SmallVec}
@@ -42,6 +43,16 @@ abbrev pub IsDone : Cpu → ℕ → List ℕ → List ℕ → List ℕ → Optio
 IsDone cpu cs old new line None = Grows cpu cs old new line
 IsDone cpu cs old new line (Some kind) = Offends cpu cs (length old) line kind
 
+-- where the digits of the code segment stand in the first line
+abbrev pub digits_place : Cpu → ℕ
+digits_place I8086 = 18
+digits_place I186 = 17
+
+-- the first line of the text, where it tells this processor and a code segment, and the rest of the text
+abbrev pub IsHeadingFor : Cpu → List ℕ → Option Heading → Type 0
+IsHeadingFor cpu text None = (cs : ℕ) (rest : List ℕ) → cs < 65536 → ¬ (text ≡ text_of (head_line cpu cs ∷ []) ++ rest)
+IsHeadingFor cpu text (Some heading) = text ≡ text_of (head_line heading.cpu heading.cs ∷ []) ++ heading.rest.now
+
 -- the first line of the text, where it tells a processor and a code segment, and the rest of the text
 abbrev pub IsHeading : List ℕ → Option Heading → Type 0
 IsHeading text None = ¬ HasHead text
@@ -67,8 +78,8 @@ pub record Reads (cpu : Cpu) (cs : ℕ) (text image left : List ℕ) (number : �
 
 -- the line of the text that offends first, counted from 2
 pub data OffendsFirst (cpu : Cpu) (cs : ℕ) (text : List ℕ) : ℕ → ListKind → Type 0 where
-  line :
-      {lines : List (List ℕ)} {bytes line rest : List ℕ} {kind : ListKind}
+  at_line :
+      {lines : List (List ℕ)} {bytes line : List ℕ} {kind : ListKind} (rest : List ℕ)
       → Passes cpu cs text lines bytes (text_of (line ∷ []) ++ rest)
       → IsLine line
       → Offends cpu cs (length bytes) line kind
@@ -81,5 +92,5 @@ pub data OffendsFirst (cpu : Cpu) (cs : ℕ) (text : List ℕ) : ℕ → ListKin
       → OffendsFirst cpu cs text (2 + length lines) Word
 
 abbrev pub IsFaultOfLines : Cpu → ℕ → List ℕ → ListFault → Type 0
-IsFaultOfLines cpu cs text (At line kind) = OffendsFirst cpu cs text line kind
+IsFaultOfLines cpu cs text (At number kind) = OffendsFirst cpu cs text number kind
 IsFaultOfLines cpu cs text Memory = Unit {0}

@@ -1,9 +1,9 @@
 //! The assembler.
 
-ghost use Rattle.std.specs.Prelude.{◌≡◌, ◌≤◌, ℕ, List, ◌++◌, ◌∷◌, [], length, IfOk, IfErr, MatchOption, IsOkUnless, ¬◌};
+ghost use Rattle.std.specs.Prelude.{◌≡◌, ◌≢◌, ◌<◌, ◌≤◌, ℕ, List, ◌++◌, ◌∷◌, [], length, IfOk, IfErr, MatchOption};
 ghost use Rattle.dcc_list.specs.Text.{IsLine, text_of};
 ghost use Rattle.dcc_asm.specs.Fault.{IsAssembled, IsFaultOf, text_most};
-ghost use Rattle.dcc_asm.specs.Steps.{IsHeading, AreGiven, IsFaultOfLines};
+ghost use Rattle.dcc_asm.specs.Steps.{digits_place, IsHeadingFor, IsHeading, AreGiven, IsFaultOfLines};
 
 use crate::fault::{ListFault, ListKind};
 use crate::step::push_line;
@@ -26,17 +26,36 @@ pub struct Heading<'a> {
     pub rest: &'a [u8],
 }
 
-// The first line, where it tells this processor and a code segment, whose digits stand at a place.
+// Where the digits of the code segment stand in the first line.
+fn digits_place(cpu: Cpu) -> usize
+    ensures place { result ≡ digits_place cpu }
+    ensures small { result < 1000 }
+{
+    match cpu {
+        Cpu::I8086 => 18,
+        Cpu::I186 => 17,
+    }
+}
+
+// What stands behind the head of a text.
+fn behind_head<'a>(text: &'a [u8], head: &[u8]) -> Option<&'a [u8]>
+    ensures { MatchOption result ((rest : List ℕ) → text.now ≢ head.now ++ rest) (λ rest. text.now ≡ head.now ++ rest.now) }
+{
+    text.strip_prefix(head)
+}
+
+// The first line, where it tells this processor and a code segment.
 fn heading_for<'a>(
     alloc: Global,
     text: &'a [u8],
     cpu: Cpu,
-    place: usize,
-) -> Result<Option<Heading<'a>>, AllocError> {
-    let cs = word_value(text, place);
+) -> Result<Option<Heading<'a>>, AllocError>
+    ensures { IfOk result (IsHeadingFor cpu text.now) }
+{
+    let cs = word_value(text, digits_place(cpu));
     let mut head = Vec::new(alloc);
     push_head(&mut head, cpu, cs)?;
-    match text.strip_prefix(head.as_slice()) {
+    match behind_head(text, head.as_slice()) {
         Some(rest) => Ok(Some(Heading { cpu, cs, rest })),
         None => Ok(None),
     }
@@ -46,9 +65,9 @@ fn heading_for<'a>(
 fn heading_of<'a>(alloc: Global, text: &'a [u8]) -> Result<Option<Heading<'a>>, AllocError>
     ensures { IfOk result (IsHeading text.now) }
 {
-    match heading_for(alloc, text, Cpu::I8086, 18)? {
+    match heading_for(alloc, text, Cpu::I8086)? {
         Some(heading) => Ok(Some(heading)),
-        None => heading_for(alloc, text, Cpu::I186, 17),
+        None => heading_for(alloc, text, Cpu::I186),
     }
 }
 
@@ -64,13 +83,13 @@ fn first_line<'a>(text: &'a [u8]) -> Option<(&'a [u8], &'a [u8])>
 }
 
 // The bytes that the lines behind the first one give.
-fn assemble_lines(alloc: Global, heading: Heading<'_>) -> Result<Vec<u8>, ListFault>
-    requires few { length heading.rest.now ≤ text_most }
-    ensures given { IfOk result (λ bytes. AreGiven heading.cpu heading.cs heading.rest.now bytes.items) }
-    ensures refused { IfErr result (IsFaultOfLines heading.cpu heading.cs heading.rest.now) }
+fn assemble_lines(alloc: Global, cpu: Cpu, cs: u16, text: &[u8]) -> Result<Vec<u8>, ListFault>
+    requires { length text.now ≤ text_most }
+    ensures given { IfOk result (λ bytes. AreGiven cpu cs text.now bytes.items) }
+    ensures refused { IfErr result (IsFaultOfLines cpu cs text.now) }
 {
     let mut image = Vec::new(alloc);
-    let mut left = heading.rest;
+    let mut left = text;
     let mut number: u32 = 2;
     while !left.is_empty() {
         let Some((line, rest)) = first_line(left) else {
@@ -79,7 +98,7 @@ fn assemble_lines(alloc: Global, heading: Heading<'_>) -> Result<Vec<u8>, ListFa
                 kind: ListKind::Word,
             });
         };
-        if let Some(kind) = push_line(alloc, heading.cpu, heading.cs, &mut image, line)? {
+        if let Some(kind) = push_line(alloc, cpu, cs, &mut image, line)? {
             return Err(ListFault::At { line: number, kind });
         }
         left = rest;
@@ -104,7 +123,7 @@ pub fn assemble(alloc: Global, text: &Vec<u8>) -> Result<Vec<u8>, ListFault>
         });
     }
     match heading_of(alloc, text.as_slice())? {
-        Some(heading) => assemble_lines(alloc, heading),
+        Some(heading) => assemble_lines(alloc, heading.cpu, heading.cs, heading.rest),
         None => Err(ListFault::At {
             line: 1,
             kind: ListKind::Head,

@@ -1,6 +1,6 @@
 //! What a line tells.
 
-ghost use Rattle.std.specs.Prelude.{◌≡◌, ◌++◌, ◌≤◌, IfOk, OnOk, IsTrue, ◌↔◌, option_map};
+ghost use Rattle.std.specs.Prelude.{◌≡◌, ◌++◌, ◌≤◌, IfOk, OnOk, IsTrue, ◌↔◌, option_map, position, nat_le};
 ghost use Rattle.std.specs.Option.{MatchOption};
 ghost use Rattle.dcc_asm.specs.Form.{form_of, form_line, read_form, pairs, IsSized, IsReading, spelling_place, odd_form};
 ghost use Rattle.dcc_asm.specs.Form.{is_bytes_line, is_odd_line};
@@ -50,11 +50,18 @@ fn is_odd_line(line: &[u8]) -> bool
     byte_of(line, 4) == b'o' && byte_of(line, 5) == b'd'
 }
 
+// The place of the first lower-case letter.
+fn letter_in(text: &[u8]) -> Option<usize>
+    ensures { result ≡ position (λ byte. nat_le 97 byte) text.now }
+{
+    text.iter().position(|byte| 97 <= *byte)
+}
+
 // Where the spelling begins behind bytes: at the first lower-case letter.
 fn spelling_place(text: &[u8]) -> usize
     ensures { result ≡ spelling_place text.now }
 {
-    match text.iter().position(|byte| *byte >= 97) {
+    match letter_in(text) {
         Some(place) => place,
         None => text.len(),
     }

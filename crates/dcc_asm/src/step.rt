@@ -1,6 +1,6 @@
 //! One line of a listing after another.
 
-ghost use Rattle.std.specs.Prelude.{◌≡◌, ◌≤◌, ◌<◌, ℕ, ◌++◌, IfOk, IsTrue, ◌↔◌, MatchOption, length, Some};
+ghost use Rattle.std.specs.Prelude.{◌≡◌, ◌≤◌, ◌<◌, ℕ, List, IfOk, IsTrue, ◌↔◌, MatchOption, length, Some};
 ghost use Rattle.dcc_encode.specs.Encoding.{IsEncoding, IsStandard};
 ghost use Rattle.dcc_list.specs.Text.{IsOffset, Gives, operation_line, odd_line};
 ghost use Rattle.dcc_asm.specs.Fault.{bytes_most, IsOdd, IsKnown, Offends};
@@ -44,7 +44,12 @@ fn offset_of(cs: u16, place: usize) -> Option<u16>
 }
 
 // Appends the bytes that a line gives, where they aren't too many.
-fn push_all(cpu: Cpu, cs: u16, image: &mut Vec<u8>, bytes: &[u8]) -> Result<Option<ListKind>, AllocError>
+fn push_all(
+    cpu: Cpu,
+    cs: u16,
+    image: &mut Vec<u8>,
+    bytes: &[u8],
+) -> Result<Option<ListKind>, AllocError>
     requires few { length image.old.items ≤ bytes_most }
     ensures { IfOk result (λ told. (line : List ℕ) → Gives cpu cs (length image.old.items) line bytes.now
         → IsDone cpu cs image.old.items image.new.items line told) }

@@ -41,15 +41,15 @@ two-bytes a b h k (suc (suc i)) d l = absurd (omega arith)
 short-known : (opcode : ℕ) (make : ℕ → Op) → IsShort opcode make → (t : ℕ) → t < 65536 → IsKnown (make t)
 short-known opcode make h t l = elim (cases_lt t 65535) [
   | inl below ↦ record {
-      cpu = I8086;
-      at = t;
-      bytes = opcode ∷ 254 ∷ [];
-      encoding = record {
-        decoded = h.itself t ∙ ap (λ n. Some (record { op = make n; len = 2 })) (back t l);
-        within = omega arith;
-        are_bytes = two-bytes opcode 254 h.small (omega arith);
-      };
-    }
+    cpu = I8086;
+    at = t;
+    bytes = opcode ∷ 254 ∷ [];
+    encoding = record {
+      decoded = h.itself t ∙ ap (λ n. Some (record { op = make n; len = 2 })) (back t l);
+      within = omega arith;
+      are_bytes = two-bytes opcode 254 h.small (omega arith);
+    };
+  }
   | inr above ↦
       let last : 65535 ≡ t = omega arith in
       let known : IsKnown (make 65535) = record {
@@ -139,33 +139,33 @@ call-known t l = elim (cases_lt t 65534) [
         };
       }
   | inr above ↦ elim (cases_lt t 65535) [
-      | inl below ↦
-          let one : 65534 ≡ t = omega arith in
-          let known : IsKnown (Call 65534) = record {
-            cpu = I8086;
-            at = 0;
-            bytes = 0xe8 ∷ 251 ∷ 255 ∷ [];
-            encoding = record {
-              decoded = call-before_last;
-              within = omega arith;
-              are_bytes = three-bytes 0xe8 251 255 (omega arith) (omega arith) (omega arith);
-            };
-          } in
-          subst (λ n. IsKnown (Call n)) one known
-      | inr last ↦
-          let one : 65535 ≡ t = omega arith in
-          let known : IsKnown (Call 65535) = record {
-            cpu = I8086;
-            at = 0;
-            bytes = 0xe8 ∷ 252 ∷ 255 ∷ [];
-            encoding = record {
-              decoded = call-last;
-              within = omega arith;
-              are_bytes = three-bytes 0xe8 252 255 (omega arith) (omega arith) (omega arith);
-            };
-          } in
-          subst (λ n. IsKnown (Call n)) one known
-    ]
+    | inl below ↦
+        let one : 65534 ≡ t = omega arith in
+        let known : IsKnown (Call 65534) = record {
+          cpu = I8086;
+          at = 0;
+          bytes = 0xe8 ∷ 251 ∷ 255 ∷ [];
+          encoding = record {
+            decoded = call-before_last;
+            within = omega arith;
+            are_bytes = three-bytes 0xe8 251 255 (omega arith) (omega arith) (omega arith);
+          };
+        } in
+        subst (λ n. IsKnown (Call n)) one known
+    | inr last ↦
+        let one : 65535 ≡ t = omega arith in
+        let known : IsKnown (Call 65535) = record {
+          cpu = I8086;
+          at = 0;
+          bytes = 0xe8 ∷ 252 ∷ 255 ∷ [];
+          encoding = record {
+            decoded = call-last;
+            within = omega arith;
+            are_bytes = three-bytes 0xe8 252 255 (omega arith) (omega arith) (omega arith);
+          };
+        } in
+        subst (λ n. IsKnown (Call n)) one known
+  ]
 ]
 
 -- Other operations ---------------------------------------------------------------------------
@@ -379,9 +379,11 @@ known-first op none k =
       | I186 ↦ λ e. e
     ] in
     let there = later k.cpu k.encoding.decoded in
-    let within = k.encoding.within in
-    (k.bytes, record {
-      decoded = moved I186 k.at 0 op size k.bytes apart there;
-      within = omega arith;
-      are_bytes = k.encoding.are_bytes;
-    })
+    let within = k.encoding.within in (
+      k.bytes,
+      record {
+        decoded = moved I186 k.at 0 op size k.bytes apart there;
+        within = omega arith;
+        are_bytes = k.encoding.are_bytes;
+      },
+    )
