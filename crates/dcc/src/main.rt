@@ -3,6 +3,14 @@
 #![tactic(auto)]
 
 use dcc_io::{DirShelf, StdSink, StdSource, Stream, put_all};
+use dcc_morerules::{rule_41, rule_44, rule_45, rule_46, rule_47, rule_54, rule_59};
+use dcc_rules::{Rule, RuleList};
+use dcc_stdrules::{
+    rule_1, rule_2, rule_3, rule_4, rule_5, rule_6, rule_7, rule_8, rule_9, rule_10, rule_11,
+    rule_12, rule_13, rule_14, rule_15, rule_16, rule_17, rule_18, rule_19, rule_20, rule_21,
+    rule_22, rule_23, rule_24, rule_25, rule_26, rule_27, rule_28, rule_29, rule_30, rule_31,
+    rule_32, rule_33, rule_34, rule_35, rule_36, rule_37, rule_38, rule_39, rule_40,
+};
 use dcc_top::top;
 use std::alloc::Global;
 use std::env::{self, Env};
@@ -35,15 +43,36 @@ fn without_words(status: u8, err: &mut StdSink) -> u8 {
     status
 }
 
+// Puts rules at the end of a list, each with its number; where there is no memory for one, the program says so and ends.
+macro_rules! push_all {
+    ($rules:ident, $err:ident: $($id:literal $rule:ident),*) => {
+        $(
+            if $rules.push(Rule::new($id, $rule)).is_err() {
+                return ExitCode::from(without_words(MEMORY, &mut $err));
+            }
+        )*
+    };
+}
+
 fn main(rt: HostRuntime) -> ExitCode {
     let alloc: Global = rt.alloc();
     let mut err = StdSink::new(Stream::Error(rt.stderr()));
+    let mut rules = RuleList::new(alloc);
+    push_all!(rules, err: 1 rule_1, 2 rule_2, 3 rule_3, 4 rule_4, 5 rule_5, 6 rule_6, 7 rule_7, 8 rule_8);
+    push_all!(rules, err: 9 rule_9, 10 rule_10, 11 rule_11, 12 rule_12, 13 rule_13, 14 rule_14, 15 rule_15);
+    push_all!(rules, err: 16 rule_16, 17 rule_17, 18 rule_18, 19 rule_19, 20 rule_20, 21 rule_21, 22 rule_22);
+    push_all!(rules, err: 23 rule_23, 24 rule_24, 25 rule_25, 26 rule_26, 27 rule_27, 28 rule_28, 29 rule_29);
+    push_all!(rules, err: 30 rule_30, 31 rule_31, 32 rule_32, 33 rule_33, 34 rule_34, 35 rule_35, 36 rule_36);
+    push_all!(rules, err: 37 rule_37, 38 rule_38, 39 rule_39, 40 rule_40, 41 rule_41, 44 rule_44, 45 rule_45);
+    push_all!(rules, err: 46 rule_46, 47 rule_47, 54 rule_54, 59 rule_59);
     let status = match words(&rt) {
         Ok(words) => {
             let mut input = StdSource::new(rt.stdin());
             let mut out = StdSink::new(Stream::Output(rt.stdout()));
             let mut shelf = DirShelf::new(alloc, rt);
-            top::dcc(alloc, &words, &mut shelf, &mut input, &mut out, &mut err)
+            top::dcc(
+                alloc, &words, &rules, &mut shelf, &mut input, &mut out, &mut err,
+            )
         }
         Err(status) => without_words(status, &mut err),
     };

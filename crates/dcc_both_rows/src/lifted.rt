@@ -81,23 +81,12 @@ fn lines_are_those_of_the_printed_text(rt: HostRuntime) -> Result<(), Fail> {
 }
 
 #[test]
-fn a_flag_that_one_definition_gives_has_no_variable(rt: HostRuntime) -> Result<(), Fail> {
+fn values_that_are_read_once_have_no_variables(rt: HostRuntime) -> Result<(), Fail> {
     let alloc = rt.alloc();
     let unit = decompiled(alloc, CARRIES)?;
     assert_eq!(&rt; unit.globals.len(), 0);
     assert_eq!(&rt; unit.funcs.len(), 1);
-    let variables = &unit.funcs[0].locals;
-    // Each web has one: 255 and 1, what AL holds of them, the sum, the operands of the test for the carry, and both
-    // statuses. One more would be a flag's.
-    assert_eq!(&rt; variables.len(), 8);
-    // These would be the halves of registers, and the carry, zero, sign and overflow.
-    for number in 1..17 {
-        let name = format!(in alloc; "v{number}")?;
-        assert!(&rt;
-            !variables
-                .iter()
-                .any(|variable| variable.name.as_str() == name.as_str())
-        );
-    }
+    // Values stand where they are read, those of AL and of the carry too.
+    assert!(&rt; unit.funcs[0].locals.is_empty());
     Ok(())
 }

@@ -74,7 +74,7 @@ static STRUCTURES: [StructureRow; 7] = [
         TELLS_A,
         &[
             ("if (", 1),
-            ("v23 = 121;\n        dos_putc(v23);\n    } else {\n", 1),
+            ("        dos_putc(121);\n    } else {\n", 1),
             ("goto ", 0),
         ],
     ),
@@ -82,7 +82,7 @@ static STRUCTURES: [StructureRow; 7] = [
         TELLS_NO_A,
         &[
             ("if (", 1),
-            ("v23 = 110;\n        dos_putc(v23);\n    } else {\n", 1),
+            ("        dos_putc(110);\n    } else {\n", 1),
             ("goto ", 0),
         ],
     ),

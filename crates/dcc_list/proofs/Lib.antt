@@ -1,10 +1,6 @@
 pub mod Advancing
-pub mod Best
-pub mod Covered
 pub mod MarkLaws
-pub mod Orders
 pub mod PeopleLaws
 pub mod Ready
-pub mod Sameness
 pub mod Standing
 pub mod Unbroken

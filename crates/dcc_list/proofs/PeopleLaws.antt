@@ -5,7 +5,7 @@ use Rattle.dcc_prog.specs.declared.frame.Frame.{Frame}
 use Rattle.std.proofs.lemmas.Bool.Decides.{nat_tests}
 use Rattle.dcc_machine.specs.declared.image.Image.{Image}
 use Rattle.dcc_prog.specs.declared.frame.Program.{Program}
-use Rattle.dcc_list.specs.Hex.{hex_word}
+use Rattle.dcc_spelled.specs.Hex.{hex_word}
 use Rattle.dcc_list.specs.Text.{place_line, text_of}
 use Rattle.dcc_list.specs.Listed.{procedure_line, procedure_lines, headings, is_labelled, lines_for_people}
 

@@ -19,14 +19,14 @@ use Rattle.dcc_machine.proofs.TableLaws.{and_both, instruction-length, instructi
 use Rattle.dcc_prog.specs.declared.procedure.Proc.{Proc}
 use Rattle.dcc_prog.specs.declared.frame.Frame.{Frame}
 use Rattle.dcc_prog.specs.declared.frame.Program.{Program}
-use Rattle.dcc_list.specs.Hex.{hex_word, hex_bytes}
-use Rattle.dcc_list.specs.Spelling.{spelling}
-use Rattle.dcc_list.specs.Encoding.{IsEncoding}
+use Rattle.dcc_spelled.specs.Hex.{hex_word, hex_bytes}
+use Rattle.dcc_spelled.specs.Spelling.{spelling}
+use Rattle.dcc_encode.specs.Encoding.{IsEncoding}
 use Rattle.dcc_list.specs.Text.{IsOffset, comment_line, place_line, bytes_line, AreBytes, Gives, comment, at_place, bytes, standard, odd, GivesInTurn, none, next, IsLine}
 use Rattle.dcc_list.specs.Listed.{data_offset, procedure_name, procedure_line, procedure_lines, headings, is_labelled, lines_for_people, offset_of, people_at, IsInstructionLine, Lists}
 use Rattle.dcc_list.specs.Listed.{at_end, instruction as listed_instruction, bytes as listed_bytes, standard as standard_line, odd as odd_instruction}
 use Rattle.dcc_list.specs.Laws.{ListingStandsForImage}
-use Rattle.dcc_list.proofs.Covered.{all-append}
+use Rattle.dcc_encode.proofs.Covered.{all-append}
 use Rattle.dcc_list.proofs.Unbroken.{no_feed, Unbroken, joined, is_line, word-unbroken, bytes-unbroken, decimal-unbroken, glyph-unbroken, spelling-unbroken}
 
 -- Offsets -----------------------------------------------------------------------------------

@@ -28,8 +28,8 @@ use Rattle.dcc_machine.specs.declared.instr.Op.TheVariants.{Alu as AluOp, Unary 
 use Rattle.dcc_machine.specs.declared.instr.Op.TheVariants.{Lea, Imul3, Push, Pop, Enter, Leave, Plain as PlainOp, Jump}
 use Rattle.dcc_machine.specs.declared.instr.Op.TheVariants.{Branch, Loop, LoopE, LoopNe, Jcxz, Table, Call, Ret, Int21}
 use Rattle.dcc_machine.proofs.TableLaws.{and_left, and_right, and_both}
-use Rattle.dcc_list.specs.Hex.{hex_byte, hex_word, hex_bytes}
-use Rattle.dcc_list.specs.Spelling.{alu_name, unary_name, shift_name, plain_name, branch_name, mnemonic, register_name, half_name, segment_name, byte_constant, word_constant, displacement_parts, register_part, registers_of, brackets, operand, count_name, table_word, operands, with_operands, spelling}
+use Rattle.dcc_spelled.specs.Hex.{hex_byte, hex_word, hex_bytes}
+use Rattle.dcc_spelled.specs.Spelling.{alu_name, unary_name, shift_name, plain_name, branch_name, mnemonic, register_name, half_name, segment_name, byte_constant, word_constant, displacement_parts, register_part, registers_of, brackets, operand, count_name, table_word, operands, with_operands, spelling}
 use Rattle.dcc_list.specs.Text.{IsLine}
 
 -- the byte is no line feed

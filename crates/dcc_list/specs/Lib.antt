@@ -1,9 +1,4 @@
-pub mod Hex
-pub mod Spelling
-pub mod Encoding
-pub mod EncodingViews
 pub mod Text
 pub mod Listed
 pub mod MarkViews
-pub mod Shapes
 pub mod Laws

@@ -20,7 +20,7 @@ use Rattle.dcc_prog.specs.declared.procedure.Proc.{Proc}
 use Rattle.dcc_prog.specs.declared.frame.Frame.{Frame}
 use Rattle.dcc_prog.specs.declared.frame.Program.{Program}
 use Rattle.dcc_prog.specs.Layout.{IsPrelude}
-use Rattle.dcc_list.specs.Encoding.{IsStandard}
+use Rattle.dcc_encode.specs.Encoding.{IsStandard}
 use Rattle.dcc_list.specs.Text.{comment_line, place_line, bytes_line, operation_line, odd_line, head_line, text_of}
 
 -- What stands at an offset -------------------------------------------------------------------

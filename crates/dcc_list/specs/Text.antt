@@ -5,9 +5,9 @@ use Rattle.dcc_machine.specs.declared.cpu.Cpu.{Cpu}
 use Rattle.dcc_machine.specs.declared.cpu.Cpu.TheVariants.{I8086, I186}
 use Rattle.dcc_machine.specs.declared.instr.Op.{Op}
 use Rattle.dcc_machine.specs.Load.{load_segment}
-use Rattle.dcc_list.specs.Hex.{hex_word, hex_bytes}
-use Rattle.dcc_list.specs.Spelling.{spelling}
-use Rattle.dcc_list.specs.Encoding.{IsEncoding, IsStandard}
+use Rattle.dcc_spelled.specs.Hex.{hex_word, hex_bytes}
+use Rattle.dcc_spelled.specs.Spelling.{spelling}
+use Rattle.dcc_encode.specs.Encoding.{IsEncoding, IsStandard}
 
 -- Places and offsets -------------------------------------------------------------------------
 

@@ -5,20 +5,19 @@ ghost use Rattle.std.specs.Prelude.{MatchOption, IfSome, IsTrue, ◌↔◌, fals
 ghost use Rattle.dcc_machine.specs.declared.instr.Instr.{Instr as TheInstr};
 ghost use Rattle.dcc_machine.specs.MzImage.{IsLoaded};
 ghost use Rattle.dcc_prog.specs.Analysed.{IsProgramOf};
-ghost use Rattle.dcc_list.specs.Encoding.{IsStandard};
+ghost use Rattle.dcc_encode.specs.Encoding.{IsStandard};
 ghost use Rattle.dcc_list.specs.Text.{cpu_name, head_line, bytes_line, operation_line, odd_line, text_of};
 ghost use Rattle.dcc_list.specs.Listed.{IsListing, IsInstructionLine, AreBetween, offset_of, begins_line, listed_at};
 ghost use Rattle.dcc_list.specs.Listed.{people_at};
 ghost use Rattle.dcc_list.specs.MarkViews.{IsWhole, IsSized, AreMarks, AppendsLine, IsReady, StandsThere, Advances};
 
-use crate::encoding::standard;
-use crate::hex::{push_bytes, push_word};
 use crate::marks::Marks;
 use crate::people::{is_labelled, push_lines};
-use crate::spelling::push_spelling;
 use dcc_decode::decode;
+use dcc_encode::standard;
 use dcc_machine::{Cpu, Image, Instr, LOAD_SEGMENT, Op};
 use dcc_prog::Program;
+use dcc_spelled::{push_bytes, push_spelling, push_word};
 use std::alloc::{AllocError, Global};
 
 // The greatest number of bytes in a line of bytes.
@@ -177,8 +176,8 @@ fn cpu_name(cpu: Cpu) -> &'static str
     }
 }
 
-// Appends the first line.
-fn push_head(text: &mut Vec<u8>, cpu: Cpu, cs: u16) -> Result<(), AllocError>
+/// Appends the first line, which tells the processor and the code segment.
+pub fn push_head(text: &mut Vec<u8>, cpu: Cpu, cs: u16) -> Result<(), AllocError>
     ensures { OnOk result (text.new.items ≡ text.old.items ++ text_of (head_line cpu cs ∷ [])) }
 {
     text.extend_from_slice(b"; dcc list 1 ")?;

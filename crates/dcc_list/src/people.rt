@@ -9,10 +9,10 @@ ghost use Rattle.dcc_list.specs.Listed.{procedure_name, procedure_line, procedur
 ghost use Rattle.dcc_list.specs.Listed.{headings, is_labelled, lines_for_people};
 ghost use Rattle.dcc_list.specs.MarkViews.{IsWhole, AreMarks};
 
-use crate::hex::push_word;
 use crate::marks::Marks;
 use dcc_machine::Image;
 use dcc_prog::{Proc, Program};
+use dcc_spelled::push_word;
 use std::alloc::{AllocError, Global};
 
 // A hexadecimal digit in lower case.

@@ -7,7 +7,7 @@ use Rattle.dcc_ir.specs.Tree.{Graph}
 use Rattle.dcc_ir.specs.WellFormed.{IsGraph}
 use Rattle.dcc_control.specs.Complete.{completed}
 use Rattle.dcc_control.specs.GotoPlan.{jump, do_all, target_arms, places_from, goto_exit, goto_blocks, goto_plan}
-use Rattle.dcc_control.specs.Plan.{Do, Mark, Jump, If, Switch, Return, Plan, no_items, item, Arms, arm}
+use Rattle.dcc_control.specs.Plan.{Do, Mark, Jump, If, Switch, Return, Plan, item, Arms, arm}
 use Rattle.dcc_control.specs.Told.{told_loops, told_arms}
 use Rattle.dcc_control.specs.Valid.{IsPlanOf, has_step}
 use Rattle.dcc_control.proofs.CompleteLaws.{steps-same, completed-valid}

@@ -4,7 +4,7 @@ use Rattle.std.specs.Prelude.{◌||◌, if◌then◌else◌}
 use Rattle.std.specs.List.{AllZip, list_any}
 use Rattle.dcc_run.specs.ProgramPoint.{ProgramPoint}
 use Rattle.dcc_ir.specs.Tree.{Block, Graph, Program}
-use Rattle.dcc_ir.specs.Flow.{flow_of, graph_or_none}
+use Rattle.dcc_ir.specs.Flow.{graph_or_none}
 use Rattle.dcc_ir.specs.Run.{graph_at}
 use Rattle.dcc_ir.specs.Keeps.{has_block}
 use Rattle.dcc_ir.specs.Replaced.{MayReplace}

@@ -1,6 +1,6 @@
 -- What is tidied of a prepared program has what its text needs.
-use Rattle.std.proofs.Common.{◌≡◌, ℕ, ◌<◌, ◌≤◌, Bool, true, false, List, [], ◌∷◌, ◌++◌, length, map, flat_map, drop, Option, Some, None, refl, sym, ap, ap₂, ◌∙◌, subst, true≢false, arith}
-use Rattle.std.specs.Prelude.{All, ◌==◌, ◌&&◌, not, if◌then◌else◌}
+use Rattle.std.proofs.Common.{◌≡◌, ℕ, ◌<◌, ◌≤◌, List, [], ◌∷◌, ◌++◌, length, map, flat_map, drop, Some, refl, sym, ap, ap₂, ◌∙◌, subst}
+use Rattle.std.specs.Prelude.{All, ◌&&◌, not}
 use Rattle.std.specs.List.{AllZip}
 use Rattle.std.proofs.lemmas.List.{length-map}
 use Rattle.std.proofs.lemmas.List.Elements.{All-nil, All-cons, All-head, All-tail, All-append, All-weaker}
@@ -12,11 +12,11 @@ use Rattle.dcc_ir.specs.Joinable.{places_of}
 use Rattle.dcc_ir.specs.Live.{is_among}
 use Rattle.dcc_ir.specs.Location.{location_width}
 use Rattle.dcc_ir.specs.Run.{graph_at}
-use Rattle.dcc_ir.specs.Tree.{Expr, Stmt, Set, Fetch, Store, Div, Call, Dos, Exit, Goto, If, Switch, Ret, Stop, Block, Graph, Program}
+use Rattle.dcc_ir.specs.Tree.{Stmt, Set, Fetch, Store, Div, Call, Dos, Exit, Goto, If, Switch, Ret, Stop, Block, Graph, Program}
 use Rattle.dcc_ir.specs.Value.{width_of}
-use Rattle.dcc_ir.specs.WellFormed.{ret_widths, all_ret_widths, IsGraph}
+use Rattle.dcc_ir.specs.WellFormed.{ret_widths, all_ret_widths}
 use Rattle.dcc_ir.proofs.ListLaws.{all_parts}
-use Rattle.dcc_ir.proofs.ZipLaws.{all_zipped, flat_zipped}
+use Rattle.dcc_ir.proofs.ZipLaws.{all_zipped}
 use Rattle.dcc_passes.specs.Kinds.{CallKind, call_kinds, BlockStaysInKind, StaysInKind}
 use Rattle.dcc_passes.specs.Renaming.{param_places}
 use Rattle.dcc_passes.specs.Tidied.{are_different, takes_apart, IsTidied}
@@ -122,12 +122,15 @@ apart-stays g h tidy apart = apart-same h ∙ tidy.apart (sym (apart-same g) ∙
 
 module _ (p q : Program) (tidy : AllZip IsTidied p.graphs q.graphs) where
   few-after : (kind : CallKind) → FewOf p kind → FewOf q kind
-  few-after kind few = (few.0, λ callee named some.
-      let before =
-      found-before IsTidied (λ g h is. is.kind.entry) kind.entry (drop 1 p.graphs) (drop 1 q.graphs)
-      (without-first IsTidied p.graphs q.graphs tidy) callee named in
-      subst (λ widths. 0 < length widths) (sym (kind-widths before.graph callee before.related.kind))
-      (few.1 before.graph before.found some))
+  few-after kind few = (
+    few.0,
+    λ callee named some.
+        let before =
+        found-before IsTidied (λ g h is. is.kind.entry) kind.entry (drop 1 p.graphs) (drop 1 q.graphs)
+        (without-first IsTidied p.graphs q.graphs tidy) callee named in
+        subst (λ widths. 0 < length widths) (sym (kind-widths before.graph callee before.related.kind))
+        (few.1 before.graph before.found some),
+  )
 
   abbrev Takes : Program → Block → Type 0
   Takes r b = All (TakesFew r) b.stmts

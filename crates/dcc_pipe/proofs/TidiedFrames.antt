@@ -1,6 +1,6 @@
 -- What is tidied of a graph has the frame of its procedure, as the graph has.
-use Rattle.std.proofs.Common.{◌≡◌, ℕ, zero, suc, ◌+◌, ◌≤◌, Bool, true, false, ◌&&◌, ◌||◌, List, [], ◌∷◌, ◌++◌, length, map, flat_map, replicate, Option, Some, None, inl, inr, refl, sym, ap, ap₂, ◌∙◌, subst, eq-eqb, arith}
-use Rattle.std.specs.Prelude.{All, ◌==◌, ◌⊎◌, not, if◌then◌else◌}
+use Rattle.std.proofs.Common.{◌≡◌, ℕ, zero, suc, ◌+◌, ◌≤◌, false, List, [], ◌∷◌, ◌++◌, length, map, replicate, inl, inr, refl, sym, ap, ap₂, ◌∙◌, subst, arith}
+use Rattle.std.specs.Prelude.{All, ◌⊎◌, if◌then◌else◌}
 use Rattle.std.specs.List.{AllZip, range_with_len}
 use Rattle.std.proofs.lemmas.List.{map-append}
 use Rattle.std.proofs.lemmas.List.Elements.{All-head, All-tail}
@@ -13,7 +13,7 @@ use Rattle.dcc_simulation.specs.Procedures.{Procedure}
 use Rattle.dcc_variables.specs.Functions.{parameter_class, memory_from}
 use Rattle.dcc_variables.specs.Variables.{is_told_from, takes_address}
 use Rattle.dcc_pipe.specs.Standing.{IsLocated, StandsForProcedure}
-use Rattle.dcc_tidy.specs.Tidied.{has_lone_byte, IsTidiedGraph, stays, tidied}
+use Rattle.dcc_tidy.specs.Tidied.{IsTidiedGraph, stays, tidied}
 use Rattle.dcc_pipe.specs.TypedFrames.{argument_class, moves_sp, param_classes}
 use Rattle.dcc_pipe.proofs.LeftAddresses.{AllTold}
 use Rattle.dcc_pipe.proofs.MovesLaws.{MovesWhere}

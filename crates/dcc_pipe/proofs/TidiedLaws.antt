@@ -1,6 +1,5 @@
 -- What is tidied of a prepared program keeps the runs and the blocks, and has what a text needs of each graph.
-use Rattle.std.proofs.Common.{◌≡◌, ℕ, ◌+◌, ◌≤◌, List, [], ap₂, sym, subst, arith}
-use Rattle.dcc_run.specs.ProgramPoint.{ProgramPoint}
+use Rattle.std.proofs.Common.{◌≡◌, ℕ, List, [], ap₂, sym, subst, arith}
 use Rattle.dcc_ir.specs.Keeps.{Keeps}
 use Rattle.dcc_ir.specs.Tree.{Graph, Program}
 use Rattle.dcc_ir.specs.Use.{graph_exprs}

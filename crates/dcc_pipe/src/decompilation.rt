@@ -113,12 +113,7 @@ fn shaped(alloc: Global, program: &Program, unit: Unit) -> Result<Unit, NoText>
 /// may change an argument which is wanted after it, or a procedure that gives several values back. Where nothing
 /// refuses the program, the text that is made of it may still lack its shape: then the entry of the first procedure is
 /// told whose function does. Want of memory may refuse any program.
-pub fn decompile(
-    alloc: Global,
-    image: &Image,
-    cpu: Cpu,
-    rules: &RuleList,
-) -> Result<Unit, NoText>
+pub fn decompile(alloc: Global, image: &Image, cpu: Cpu, rules: &RuleList) -> Result<Unit, NoText>
     requires { IsLoaded image.now }
     ensures text { IfOk result (λ unit. IsTextOf cpu image.now (written_form (tree_of unit)) (tree_of unit)) }
     ensures typed { IfOk result (λ unit. HasTypedFrames cpu image.now (tree_of unit)) }

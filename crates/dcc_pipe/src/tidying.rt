@@ -13,11 +13,7 @@ use dcc_tidy::tidied_graphs;
 use std::alloc::{AllocError, Global};
 
 /// The program with what the passes leave of each graph in its place, by these rules.
-pub(crate) fn tidied(
-    alloc: Global,
-    p: IrProgram,
-    rules: &RuleList,
-) -> Result<IrProgram, AllocError>
+pub(crate) fn tidied(alloc: Global, p: IrProgram, rules: &RuleList) -> Result<IrProgram, AllocError>
     requires { All IsGraph (program_of p).graphs }
     ensures { IfOk result
         (λ after. HasEachChanged (IsTidiedGraph (numbers_of rules.now)) (program_of p) (program_of after)) }

@@ -5,5 +5,5 @@ mod answers;
 mod listings;
 mod runs;
 mod texts;
+mod trials;
 mod watches;
-mod words;

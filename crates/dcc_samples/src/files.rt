@@ -3,6 +3,7 @@
 ghost use Rattle.std.specs.Prelude.{◌≤◌, IfOk};
 
 use dcc_io::{MemShelf, MemSink, MemSource};
+use dcc_rules::RuleList;
 use dcc_top::top::dcc;
 use std::alloc::{AllocError, Global};
 
@@ -118,7 +119,7 @@ pub struct Answer {
     pub err: Vec<u8>,
 }
 
-/// Calls the top call with the words, where the shelf has one file, ROW1.EXE, of these bytes, and the
+/// Calls the top call with the words and no rules, where the shelf has one file, ROW1.EXE, of these bytes, and the
 /// input has these. The input gives one byte a read, and the streams take at most 8 bytes a write.
 pub fn answered_on(
     alloc: Global,
@@ -137,7 +138,10 @@ pub fn answered_on(
     let mut input = MemSource::new(input.to_vec(alloc)?, [faults.read].to_vec(alloc)?, 1);
     let mut out = MemSink::new(alloc, [faults.out].to_vec(alloc)?, 8);
     let mut err = MemSink::new(alloc, [faults.err].to_vec(alloc)?, 8);
-    let status = dcc(alloc, &command, &mut shelf, &mut input, &mut out, &mut err);
+    let rules = RuleList::new(alloc);
+    let status = dcc(
+        alloc, &command, &rules, &mut shelf, &mut input, &mut out, &mut err,
+    );
     Ok(Answer {
         status,
         out: out.taken().clone()?,

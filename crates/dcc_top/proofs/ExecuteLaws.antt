@@ -17,7 +17,7 @@ use Rattle.dcc_step.specs.Stepped.{machine}
 use Rattle.dcc_step.proofs.Laws.{machine_executes}
 use Rattle.dcc_top.specs.declared.reply.Reply.{Reply}
 use Rattle.dcc_top.specs.declared.reply.Reply.TheVariants.{Memory, InputFault}
-use Rattle.dcc_top.specs.Words.{Execute}
+use Rattle.dcc_commands.specs.Words.{Execute}
 use Rattle.dcc_top.specs.Answer.{Files, OfFile, Allows, ran_file, IsCut, cut_run}
 use Rattle.dcc_top.specs.Change.{Change}
 use Rattle.dcc_top.specs.Delivery.{Answers, CutsShort}

@@ -7,11 +7,10 @@ pub mod WatchedJobLaws
 pub mod AnswerLaws
 pub mod ReplyLaws
 pub mod HeadlineLaws
+pub mod TrialLaws
 pub mod NamedLaws
 pub mod CauseLaws
 pub mod WatchedCauses
 pub mod PromiseLaws
 pub mod HexLaws
-pub mod ListingLaws
-pub mod WordsLaws
-pub mod WordsAsked
+pub mod ProceduresLaws

@@ -24,9 +24,12 @@ use Rattle.dcc_prog.proofs.RefusedLaws.{sound-not_unsound, sound-memory}
 use Rattle.dcc_machine_demand.specs.Refused.{IsAcceptedProgram, IsRefusedImage}
 use Rattle.dcc_machine_demand.proofs.RefusedLaws.{accepted-is_not_refused}
 use Rattle.dcc_top.specs.declared.reply.Reply.{Reply}
-use Rattle.dcc_top.specs.Words.{Job, Decompile, ListProcedures, Execute, ExecuteWatched, ExecuteText, Product, Text, Listing, name_of, file_of, LoadsImage}
+use Rattle.dcc_commands.specs.declared.job.Product.{Product}
+use Rattle.dcc_commands.specs.declared.job.Product.TheVariants.{Text, Procedures, Listing}
+use Rattle.dcc_commands.specs.Words.{Job, Make, Execute, ExecuteWatched, ExecuteText, Try}
+use Rattle.dcc_top.specs.Jobs.{file_in, file_of, LoadsImage}
 use Rattle.dcc_top.specs.Execution.{Subject, machine_of, text_of, Finishes, ended, stopped_at_read, not_begun, FinishesOrStops, finishes, found_none}
-use Rattle.dcc_top.specs.Answer.{Files, OfFile, HasNoFile, no_file, file_fault, no_memory, HasNoImage, no_executable, misshapen, HasNoUnit, no_text, offends, IsMadeOf, Refuses, IsUnmade, refused, no_image, AllowsProduct, made_of_file, unmade, Makes, IsRefusedAs, OfImages, RunsFile, Watches, WatchesFile, RunsText, RunsUnit, Allows, for_text, for_listing, ran_file, ran_no_file, watched_file, watched_no_file, ran_text, ran_no_text, ShelfLacks, status_of, refusal_reply, reason_reply}
+use Rattle.dcc_top.specs.Answer.{Files, OfFile, HasNoFile, no_file, file_fault, no_memory, HasNoImage, no_executable, misshapen, HasNoUnit, no_text, offends, IsMadeOf, Refuses, IsUnmade, refused, no_image, AllowsProduct, made_of_file, unmade, Makes, IsRefusedAs, OfImages, RunsFile, Watches, WatchesFile, RunsText, RunsUnit, Allows, for_product, for_trial, ran_file, ran_no_file, watched_file, watched_no_file, ran_text, ran_no_text, ShelfLacks, status_of, refusal_reply, reason_reply}
 use Rattle.dcc_top.specs.Call.{Call}
 use Rattle.dcc_top.specs.WatchedRun.{IsFoulAfter, FinishesWatched, stayed_clean, met_foul, clean_to_read, lacked_memory, EndsClean, MeetsFoul}
 use Rattle.dcc_top.specs.Causes.{Names, IsNoText, EndsSo, file_ends, watched_ends, text_ends}
@@ -56,29 +59,36 @@ refusal-not_image file image NoMemory is r = r
 -- nothing refuses the image, where this is asked for; or something does
 abbrev pub IsAcceptedIn : Product → Cpu → Image → Type 0
 IsAcceptedIn Text cpu image = IsAcceptedProgram cpu image
+IsAcceptedIn Procedures cpu image = IsSound cpu image
 IsAcceptedIn Listing cpu image = IsSound cpu image
 
 abbrev pub IsRefusedIn : Product → Cpu → Image → Type 0
 IsRefusedIn Text cpu image = IsRefusedImage cpu image
+IsRefusedIn Procedures cpu image = IsUnsound cpu image
 IsRefusedIn Listing cpu image = IsUnsound cpu image
 
 made-not_refused : (product : Product) (cpu : Cpu) (image : Image) (made : List ℕ) → IsMadeOf product cpu image made → ¬ IsRefusedIn product cpu image
 made-not_refused Text cpu image made m = accepted-is_not_refused.apart cpu image m.accepted
+made-not_refused Procedures cpu image made m = sound-not_unsound cpu image m.sound
 made-not_refused Listing cpu image made m = sound-not_unsound cpu image m.sound
 
 -- the statuses where nothing refuses the program
 abbrev pub accepted_statuses : Product → List ℕ
 accepted_statuses Text = 0 ∷ (12 ∷ (4 ∷ (6 ∷ (7 ∷ []))))
+accepted_statuses Procedures = 0 ∷ (4 ∷ (6 ∷ (7 ∷ [])))
 accepted_statuses Listing = 0 ∷ (4 ∷ (6 ∷ (7 ∷ [])))
 
 faulty-accepted : (product : Product) (status : ℕ) → (status ≡ 4) ⊎ (status ≡ 7) → IsOneOf status (accepted_statuses product)
 faulty-accepted Text status (inl four) = inr (inr (inl four))
 faulty-accepted Text status (inr seven) = inr (inr (inr (inr (inl seven))))
+faulty-accepted Procedures status (inl four) = inr (inl four)
+faulty-accepted Procedures status (inr seven) = inr (inr (inr (inl seven)))
 faulty-accepted Listing status (inl four) = inr (inl four)
 faulty-accepted Listing status (inr seven) = inr (inr (inr (inl seven)))
 
 done-accepted : (product : Product) → IsOneOf 0 (accepted_statuses product)
 done-accepted Text = inl refl
+done-accepted Procedures = inl refl
 done-accepted Listing = inl refl
 
 -- where nothing refuses the program, it is refused for want of memory alone, or its text for its shape
@@ -87,6 +97,9 @@ accepted-reason : (product : Product) (cpu : Cpu) (image : Image) (reason : NoTe
 accepted-reason Text cpu image (Refused refusal) a h =
     faulty-accepted Text _ (inr (ap (λ r. status_of (refusal_reply r)) (accepted-is_not_refused.memory cpu image refusal a h)))
 accepted-reason Text cpu image (NotYetFor at) a h = inr (inl refl)
+accepted-reason Procedures cpu image (Refused refusal) a h =
+    faulty-accepted Procedures _ (inr (ap (λ r. status_of (refusal_reply r)) (sound-memory cpu image refusal a h)))
+accepted-reason Procedures cpu image (NotYetFor at) a h = absurd h
 accepted-reason Listing cpu image (Refused refusal) a h =
     faulty-accepted Listing _ (inr (ap (λ r. status_of (refusal_reply r)) (sound-memory cpu image refusal a h)))
 accepted-reason Listing cpu image (NotYetFor at) a h = absurd h
@@ -102,6 +115,7 @@ refused-one product cpu image (Refused (ConstructRefused kind at)) r h = inl ref
 refused-one product cpu image (Refused (LimitRefused what count)) r h = inr (inl refl)
 refused-one product cpu image (Refused MemoryRefused) r h = inr (inr (inr (inr (inl refl))))
 refused-one Text cpu image (NotYetFor at) r h = absurd (accepted-is_not_refused.apart cpu image h.accepted r)
+refused-one Procedures cpu image (NotYetFor at) r h = absurd h
 refused-one Listing cpu image (NotYetFor at) r h = absurd h
 
 faulty-refused : (status : ℕ) → (status ≡ 4) ⊎ (status ≡ 7) → IsOneOf status refused_statuses
@@ -237,13 +251,13 @@ module _ (told : Files) (name : List ℕ) (files : List ℕ → Option (List ℕ
   -- the program is accepted, or it is refused
 
   -- no listing and no watched run is made of a sound program for the shelf's fault or want of memory alone
-  sound-faulty : (cpu : Cpu) (file : List ℕ) → files name ≡ Some file → OfImages file (IsSound cpu) → (reply : Reply) → IsUnmade Listing cpu told name reply
+  sound-faulty : (cpu : Cpu) (file : List ℕ) → files name ≡ Some file → OfImages file (IsSound cpu) → (reply : Reply) → IsUnmade Procedures cpu told name reply
       → (status_of reply ≡ 4) ⊎ (status_of reply ≡ 7)
   sound-faulty cpu file has a _ (refused (Refused refusal) f) =
-      let d = held file (IsRefusedAs Listing cpu (Refused refusal)) has f in
+      let d = held file (IsRefusedAs Procedures cpu (Refused refusal)) has f in
       inr (ap (λ r. status_of (refusal_reply r)) (sound-memory cpu d.image refusal (a.each d.image d.is_image) d.refused))
   sound-faulty cpu file has a _ (refused (NotYetFor at) f) =
-      let d = held file (IsRefusedAs Listing cpu (NotYetFor at)) has f in absurd d.refused
+      let d = held file (IsRefusedAs Procedures cpu (NotYetFor at)) has f in absurd d.refused
   sound-faulty cpu file has a reply (no_image h) = no_image-faulty file has a.image a.is_image reply h
 
   -- nothing is made of a program that is accepted for the shelf's fault, want of memory or the shape of its text alone
@@ -293,44 +307,47 @@ module _ (told : Files) (name : List ℕ) (files : List ℕ → Option (List ℕ
 -- What is allowed for a job, where the shelf tells the file of its name.
 
 module _ (told : Files) (before left : Option (List ℕ)) (files : List ℕ → Option (List ℕ)) (tells : told ≡ Some files) where
-  pub job-misshapen : (job : Job) (file : List ℕ) (fault : FormatFault) → files (name_of job) ≡ Some file → LoadsImage (Some job) → IsFirstFault file fault → (reply : Reply) (output : List ℕ) →
-      Allows told before left (Some job) reply output → IsOneOf (status_of reply) (8 ∷ (4 ∷ (6 ∷ (7 ∷ []))))
-  job-misshapen _ file fault has loads first reply output (for_text {name = name} {cpu = cpu} h same) =
-      product-misshapen told name files tells Text cpu file fault has first reply output h
-  job-misshapen _ file fault has loads first reply output (for_listing {name = name} {cpu = cpu} h same) =
-      product-misshapen told name files tells Listing cpu file fault has first reply output h
-  job-misshapen _ file fault has loads first reply output (ran_file {name = name} {steps = steps} {cpu = cpu} f) =
-      let r = held told name files tells file (λ x. RunsFile cpu x steps before left reply output) has f in
-      absurd (not_both file r.image fault r.is_image first)
-  job-misshapen _ file fault has loads first reply _ (ran_no_file {name = name} h same) =
-      misshapen-one told name files tells file has reply h
-  job-misshapen _ file fault has loads first reply output (watched_file {name = name} {steps = steps} {cpu = cpu} f) =
-      let r = held told name files tells file (λ x. WatchesFile cpu x steps before left reply output) has f in
-      absurd (not_both file r.image fault r.is_image first)
-  job-misshapen _ file fault has loads first reply _ (watched_no_file {name = name} {cpu = cpu} h same) =
-      unmade-misshapen told name files tells Listing cpu file fault has first reply h
-  job-misshapen _ file fault has loads first reply output (ran_text f) = absurd loads
-  job-misshapen _ file fault has loads first reply _ (ran_no_text h same) = absurd loads
+  -- what the shelf has under the name that is known, it has under the job's own
+  own : (name other : List ℕ) (held : Option (List ℕ)) → Some name ≡ Some other → files other ≡ held → files name ≡ held
+  own name other held same is = ap files (name-of name other same) ∙ is
 
-  pub job-missing : (job : Job) → files (name_of job) ≡ None → (reply : Reply) (output : List ℕ) → Allows told before left (Some job) reply output → IsOneOf (status_of reply)
+  pub job-misshapen : (job : Job) (other file : List ℕ) (fault : FormatFault) → file_in job ≡ Some other → files other ≡ Some file → LoadsImage (Some job) → IsFirstFault file fault → (reply : Reply) (output : List ℕ) →
+      Allows told before left (Some job) reply output → IsOneOf (status_of reply) (8 ∷ (4 ∷ (6 ∷ (7 ∷ []))))
+  job-misshapen _ other file fault is has loads first reply output (for_product {product = product} {name = name} {cpu = cpu} h same) =
+      product-misshapen told name files tells product cpu file fault (own name other (Some file) is has) first reply output h
+  job-misshapen _ other file fault is has loads first reply output (ran_file {name = name} {steps = steps} {cpu = cpu} f) =
+      let r = held told name files tells file (λ x. RunsFile cpu x steps before left reply output) (own name other (Some file) is has) f in
+      absurd (not_both file r.image fault r.is_image first)
+  job-misshapen _ other file fault is has loads first reply _ (ran_no_file {name = name} h same) =
+      misshapen-one told name files tells file (own name other (Some file) is has) reply h
+  job-misshapen _ other file fault is has loads first reply output (watched_file {name = name} {steps = steps} {cpu = cpu} f) =
+      let r = held told name files tells file (λ x. WatchesFile cpu x steps before left reply output) (own name other (Some file) is has) f in
+      absurd (not_both file r.image fault r.is_image first)
+  job-misshapen _ other file fault is has loads first reply _ (watched_no_file {name = name} {cpu = cpu} h same) =
+      unmade-misshapen told name files tells Procedures cpu file fault (own name other (Some file) is has) first reply h
+  job-misshapen _ other file fault is has loads first reply output (ran_text f) = absurd loads
+  job-misshapen _ other file fault is has loads first reply _ (ran_no_text h same) = absurd loads
+  job-misshapen _ other file fault is has loads first reply output (for_trial sized h same) = absurd loads
+
+  pub job-missing : (job : Job) (other : List ℕ) → file_in job ≡ Some other → files other ≡ None → (reply : Reply) (output : List ℕ) → Allows told before left (Some job) reply output → IsOneOf (status_of reply)
       (3 ∷ (4 ∷ (6 ∷ (7 ∷ []))))
-  job-missing _ lacks reply output (for_text {name = name} {cpu = cpu} h same) =
-      product-missing told name files tells Text cpu lacks reply output h
-  job-missing _ lacks reply output (for_listing {name = name} {cpu = cpu} h same) =
-      product-missing told name files tells Listing cpu lacks reply output h
-  job-missing _ lacks reply output (ran_file {name = name} {steps = steps} {cpu = cpu} f) =
-      absurd (not-held told name files tells (λ x. RunsFile cpu x steps before left reply output) lacks f)
-  job-missing _ lacks reply _ (ran_no_file {name = name} h same) = missing-image told name files tells lacks reply h
-  job-missing _ lacks reply output (watched_file {name = name} {steps = steps} {cpu = cpu} f) =
-      absurd (not-held told name files tells (λ x. WatchesFile cpu x steps before left reply output) lacks f)
-  job-missing _ lacks reply _ (watched_no_file {name = name} {cpu = cpu} h same) =
-      unmade-missing told name files tells Listing cpu lacks reply h
-  job-missing _ lacks reply output (ran_text {name = name} {steps = steps} {fill = fill} f) =
-      absurd (not-held told name files tells (λ x. RunsText x steps fill before left reply output) lacks f)
-  job-missing _ lacks reply _ (ran_no_text {name = name} (no_text h) same) =
-      missing told name files tells lacks reply h
-  job-missing _ lacks _ _ (ran_no_text {name = name} (offends f) same) =
-      absurd (not-held told name files tells _ lacks f)
+  job-missing _ other is lacks reply output (for_product {product = product} {name = name} {cpu = cpu} h same) =
+      product-missing told name files tells product cpu (own name other None is lacks) reply output h
+  job-missing _ other is lacks reply output (ran_file {name = name} {steps = steps} {cpu = cpu} f) =
+      absurd (not-held told name files tells (λ x. RunsFile cpu x steps before left reply output) (own name other None is lacks) f)
+  job-missing _ other is lacks reply _ (ran_no_file {name = name} h same) =
+      missing-image told name files tells (own name other None is lacks) reply h
+  job-missing _ other is lacks reply output (watched_file {name = name} {steps = steps} {cpu = cpu} f) =
+      absurd (not-held told name files tells (λ x. WatchesFile cpu x steps before left reply output) (own name other None is lacks) f)
+  job-missing _ other is lacks reply _ (watched_no_file {name = name} {cpu = cpu} h same) =
+      unmade-missing told name files tells Procedures cpu (own name other None is lacks) reply h
+  job-missing _ other is lacks reply output (ran_text {name = name} {steps = steps} {fill = fill} f) =
+      absurd (not-held told name files tells (λ x. RunsText x steps fill before left reply output) (own name other None is lacks) f)
+  job-missing _ other is lacks reply _ (ran_no_text {name = name} (no_text h) same) =
+      missing told name files tells (own name other None is lacks) reply h
+  job-missing _ other is lacks _ _ (ran_no_text {name = name} (offends f) same) =
+      absurd (not-held told name files tells _ (own name other None is lacks) f)
+  job-missing _ other is lacks reply output (for_trial sized h same) = absurd (let none : ⊥ = cc in none)
 
   -- the text is refused
   pub text-refused : (name : List ℕ) (steps fill : ℕ) (file : List ℕ) → files name ≡ Some file → IsNoText file → (reply : Reply) (output : List ℕ) → Allows told before left
@@ -376,10 +393,10 @@ module _ (told : Files) (before left : Option (List ℕ)) (files : List ℕ → 
       let r = held told name files tells file (λ x. WatchesFile cpu x steps before left reply output) has f in
       absurd (sound-not_unsound cpu r.image r.watches.sound (a.each r.image r.is_image))
   watch-refused name steps cpu file has a reply _ (watched_no_file h same) =
-      unmade-refused told name files tells Listing cpu file has a reply h
+      unmade-refused told name files tells Procedures cpu file has a reply h
 
   -- a watched run is made where nothing refuses the program, but for the faults that yield to nothing
-  watch-faulty : (name : List ℕ) (cpu : Cpu) (file : List ℕ) (first : ℕ) → files name ≡ Some file → OfImages file (IsSound cpu) → (reply : Reply) → IsUnmade Listing cpu told name reply →
+  watch-faulty : (name : List ℕ) (cpu : Cpu) (file : List ℕ) (first : ℕ) → files name ≡ Some file → OfImages file (IsSound cpu) → (reply : Reply) → IsUnmade Procedures cpu told name reply →
       IsOneOf (status_of reply) (first ∷ (4 ∷ (5 ∷ (6 ∷ (7 ∷ [])))))
   watch-faulty name cpu file first has a reply h =
       faulty-run told name files tells first (status_of reply) (sound-faulty told name files tells cpu file has a reply h)
@@ -394,7 +411,7 @@ module _ (told : Files) (before left : Option (List ℕ)) (files : List ℕ → 
       watched-clean cpu r.image steps before left bytes end told_left (a.each r.image r.is_image) reply output r.watches
 
   watch-unmade_ended : (name : List ℕ) (steps : ℕ) (cpu : Cpu) (file bytes : List ℕ) (end : End) → files name ≡ Some file → EndsSo file bytes (ExecuteWatched name steps cpu) end → (reply : Reply) →
-      IsUnmade Listing cpu told name reply → IsOneOf (status_of reply) (end_status end ∷ (4 ∷ (5 ∷ (6 ∷ (7 ∷ [])))))
+      IsUnmade Procedures cpu told name reply → IsOneOf (status_of reply) (end_status end ∷ (4 ∷ (5 ∷ (6 ∷ (7 ∷ [])))))
   watch-unmade_ended name steps cpu file bytes _ has (watched_ends {end = end} a) reply h =
       watch-faulty name cpu file (end_status end) has (all-sound file cpu (λ image e. e.sound) a) reply h
 
@@ -407,28 +424,28 @@ module _ (told : Files) (before left : Option (List ℕ)) (files : List ℕ → 
   watch-foul name steps cpu file bytes has told_left a reply _ (watched_no_file h same) =
       watch-faulty name cpu file 23 has (all-sound file cpu (λ image m. m.sound) a) reply h
 
-  no-text_end : (name : List ℕ) (cpu : Cpu) (file bytes : List ℕ) (end : End) → EndsSo file bytes (Decompile name cpu) end → ⊥
-  no-text_end name cpu file bytes end e = elim e [ ]
+  no-made_end : (product : Product) (name : List ℕ) (cpu : Cpu) (file bytes : List ℕ) (end : End) → EndsSo file bytes (Make product name cpu) end → ⊥
+  no-made_end product name cpu file bytes end e = elim e [ ]
 
-  no-listing_end : (name : List ℕ) (cpu : Cpu) (file bytes : List ℕ) (end : End) → EndsSo file bytes (ListProcedures name cpu) end → ⊥
-  no-listing_end name cpu file bytes end e = elim e [ ]
+  no-trial_end : (seed size steps : ℕ) (file bytes : List ℕ) (end : End) → EndsSo file bytes (Try seed size steps) end → ⊥
+  no-trial_end seed size steps file bytes end e = elim e [ ]
 
   -- the run that a job asks for ends as the definition says
-  pub job-ended : (job : Job) (file bytes : List ℕ) (end : End) → files (name_of job) ≡ Some file → before ≡ Some bytes → EndsSo file bytes job end → (reply : Reply) (output : List ℕ) →
+  pub job-ended : (job : Job) (other file bytes : List ℕ) (end : End) → file_in job ≡ Some other → files other ≡ Some file → before ≡ Some bytes → EndsSo file bytes job end → (reply : Reply) (output : List ℕ) →
       Allows told before left (Some job) reply output → IsOneOf (status_of reply) (end_status end ∷ (4 ∷ (5 ∷ (6 ∷ (7 ∷ [])))))
-  job-ended _ file bytes end has told_left e reply output (for_text {name = name} {cpu = cpu} h same) =
-      absurd (no-text_end name cpu file bytes end e)
-  job-ended _ file bytes end has told_left e reply output (for_listing {name = name} {cpu = cpu} h same) =
-      absurd (no-listing_end name cpu file bytes end e)
-  job-ended _ file bytes end has told_left e reply output (ran_file {name = name} {steps = steps} {cpu = cpu} f) =
-      run-of_file name steps cpu file bytes end has told_left e reply output f
-  job-ended _ file bytes end has told_left e reply _ (ran_no_file {name = name} {steps = steps} {cpu = cpu} h same) =
-      no_image-ended name steps cpu file bytes end has e reply h
-  job-ended _ file bytes end has told_left e reply output (watched_file {name = name} {steps = steps} {cpu = cpu} f) =
-      watch-ended name steps cpu file bytes end has told_left e reply output f
-  job-ended _ file bytes end has told_left e reply _ (watched_no_file {name = name} {steps = steps} {cpu = cpu} h same) =
-      watch-unmade_ended name steps cpu file bytes end has e reply h
-  job-ended _ file bytes end has told_left e reply output (ran_text {name = name} {steps = steps} {fill = fill} f) =
-      text-ended name steps fill file bytes end has told_left e reply output f
-  job-ended _ file bytes end has told_left e reply _ (ran_no_text {name = name} {steps = steps} {fill = fill} h same) =
-      no_unit-ended name steps fill file bytes end has e reply h
+  job-ended _ other file bytes end is has told_left e reply output (for_product {product = product} {name = name} {cpu = cpu} h same) =
+      absurd (no-made_end product name cpu file bytes end e)
+  job-ended _ other file bytes end is has told_left e reply output (ran_file {name = name} {steps = steps} {cpu = cpu} f) =
+      run-of_file name steps cpu file bytes end (own name other (Some file) is has) told_left e reply output f
+  job-ended _ other file bytes end is has told_left e reply _ (ran_no_file {name = name} {steps = steps} {cpu = cpu} h same) =
+      no_image-ended name steps cpu file bytes end (own name other (Some file) is has) e reply h
+  job-ended _ other file bytes end is has told_left e reply output (watched_file {name = name} {steps = steps} {cpu = cpu} f) =
+      watch-ended name steps cpu file bytes end (own name other (Some file) is has) told_left e reply output f
+  job-ended _ other file bytes end is has told_left e reply _ (watched_no_file {name = name} {steps = steps} {cpu = cpu} h same) =
+      watch-unmade_ended name steps cpu file bytes end (own name other (Some file) is has) e reply h
+  job-ended _ other file bytes end is has told_left e reply output (ran_text {name = name} {steps = steps} {fill = fill} f) =
+      text-ended name steps fill file bytes end (own name other (Some file) is has) told_left e reply output f
+  job-ended _ other file bytes end is has told_left e reply _ (ran_no_text {name = name} {steps = steps} {fill = fill} h same) =
+      no_unit-ended name steps fill file bytes end (own name other (Some file) is has) e reply h
+  job-ended _ other file bytes end is has told_left e reply output (for_trial {seed = seed} {size = size} {steps = steps} sized h same) =
+      absurd (no-trial_end seed size steps file bytes end e)

@@ -11,7 +11,7 @@ use Rattle.dcc_top.specs.Delivery.{TellsReply}
 use Rattle.dcc_top.specs.Promises.{KeepsPromises}
 use Rattle.dcc_top.proofs.StatusLaws.{status-not_six}
 use Rattle.dcc_top.proofs.WatchedCauses.{watched-clean, watched-foul}
-use Rattle.dcc_top.proofs.CauseLaws.{usage, usage-always, text, listing, exited, ran, ran-always, foul-always, read-failed, format, format-always, absent, absent-always, unreadable, program-refused, refused-always, listing_refused-always, watch_refused-always, text-always, listing-always, text-fault, text_fault-always, nothing, out-of_memory, cut-off, write-failed}
+use Rattle.dcc_top.proofs.CauseLaws.{usage, usage-always, text, procedures, listing, trial, trial-always, exited, ran, ran-always, foul-always, read-failed, format, format-always, absent, absent-always, unreadable, program-refused, refused-always, procedures_refused-always, listing_refused-always, watch_refused-always, text-always, procedures-always, listing-always, text-fault, text_fault-always, nothing, out-of_memory, cut-off, write-failed}
 
 module _ (call : Call) where
   -- all that holds of what a call comes to, with what it has asked
@@ -19,7 +19,9 @@ module _ (call : Call) where
       (call.status ≡ 6 → AsksAll call.job call.shelf.asked ⊎ AppendsPart call.errors (line_of Memory)) → KeepsPromises call
   promises a prefix asked cut = record {
     text = record { text = text call a; text_always = text-always call a };
+    procedures = record { procedures = procedures call a; procedures_always = procedures-always call a };
     listing = record { listing = listing call a; listing_always = listing-always call a };
+    trial = record { trial = trial call a; trial_always = trial-always call a };
     runs = record {
       exited = exited call a;
       ran = ran call a;
@@ -34,6 +36,7 @@ module _ (call : Call) where
       format_always = format-always call a;
       refused = program-refused call a;
       refused_always = refused-always call a;
+      procedures_refused_always = procedures_refused-always call a;
       listing_refused_always = listing_refused-always call a;
       watch_refused_always = watch_refused-always call a;
       text_fault = text-fault call a;

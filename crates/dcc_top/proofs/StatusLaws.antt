@@ -1,5 +1,5 @@
 -- The statuses of answers.
-use Rattle.std.proofs.Common.{◌≡◌, ℕ, Bool, true, false, inl, inr, List, [], ◌∷◌, Option, refl, sym, ap, ◌∙◌, subst, arith}
+use Rattle.std.proofs.Common.{◌≡◌, ◌⊎◌, ℕ, Bool, true, false, inl, inr, List, [], ◌∷◌, Option, refl, sym, ap, ◌∙◌, subst, arith}
 use Rattle.std.proofs.lemmas.Bool.{eq-eqb, or_right}
 use Rattle.std.specs.Prelude.{◌&&◌, ◌||◌, not, eqb}
 use Rattle.std.specs.Prelude.{Result, Ok, Err, IfOk}
@@ -11,14 +11,18 @@ use Rattle.dcc_run.specs.End.{End, Running, Exit, Divide, Outside as outside, St
 use Rattle.dcc_pipe.specs.declared.no_text.NoText.{NoText}
 use Rattle.dcc_pipe.specs.declared.no_text.NoText.TheVariants.{Refused, NotYet as NotYetFor}
 use Rattle.dcc_prog.specs.declared.refusal.Refusal.TheVariants.{Construct as ConstructRefused, Limit as LimitRefused, Memory as MemoryRefused}
+use Rattle.dcc_mz.specs.declared.fault.MzFault.{MzFault}
+use Rattle.dcc_mz.specs.declared.fault.MzFault.TheVariants.{Memory as NoImageMemory}
+use Rattle.dcc_trial.specs.declared.found.NoTrial.{NoTrial}
+use Rattle.dcc_trial.specs.declared.found.NoTrial.TheVariants.{Format as NoFormat, Refused as Untextable, Outside as RanOutside, Memory as TrialMemory}
 use Rattle.dcc_machine.proofs.TableLaws.{and_right}
 use Rattle.dcc_top.specs.declared.reply.Reply.{Reply}
 use Rattle.dcc_top.specs.declared.reply.Reply.TheVariants.{Done, NoFile, FileFault, InputFault, Memory}
 use Rattle.dcc_top.specs.Execution.{Subject, end_reply, Finishes, ended, stopped_at_read, not_begun, FinishesOrStops, finishes, found_none}
-use Rattle.dcc_top.specs.Answer.{Files, HasNoFile, no_file, file_fault, no_memory, HasNoImage, no_executable, misshapen, HasNoUnit, no_text, offends, AllowsImage, image_made, image_refused, IsUnmade, refused, no_image, AllowsProduct, made_of_file, unmade, AllowsWatched, image_watched, image_unwatched, status_of, reason_reply}
+use Rattle.dcc_top.specs.Answer.{Files, HasNoFile, no_file, file_fault, no_memory, HasNoImage, no_executable, misshapen, HasNoUnit, no_text, offends, AllowsImage, image_made, image_refused, IsUnmade, refused, no_image, AllowsProduct, made_of_file, unmade, AllowsWatched, image_watched, image_unwatched, AllowsTrial, tried, untried, status_of, fault_reply, reason_reply, no_trial_reply}
 use Rattle.dcc_top.specs.WatchedRun.{FinishesWatched, stayed_clean, met_foul, clean_to_read, lacked_memory}
 use Rattle.dcc_top.specs.Status.{IsOneOf, end_status}
-use Rattle.dcc_top.specs.Words.{Product}
+use Rattle.dcc_commands.specs.declared.job.Product.{Product}
 use Rattle.dcc_top.specs.Delivery.{Answers}
 
 -- Lists of statuses.
@@ -128,6 +132,33 @@ pub product-status : (product : Product) (cpu : Cpu) (told : Files) (name : List
     IsOneOf (status_of reply) product_statuses
 product-status product cpu told name _ output (made_of_file f) = inl refl
 product-status product cpu told name reply _ (unmade h) = inr (unmade-status product cpu told name reply h)
+
+-- the statuses where there is no trial
+abbrev pub untried_statuses : List ℕ
+untried_statuses = 8 ∷ (22 ∷ refusals)
+
+pub fault-status : (fault : MzFault) → (status_of (fault_reply fault) ≡ 8) ⊎ (status_of (fault_reply fault) ≡ 7)
+fault-status NoImageMemory = inr refl
+fault-status _ = inl refl
+
+among-untried : (n : ℕ) → (n ≡ 8) ⊎ (n ≡ 7) → IsOneOf n untried_statuses
+among-untried n (inl eight) = inl eight
+among-untried n (inr seven) = inr (inr (inl seven))
+
+pub untried-status : (reason : NoTrial) → IsOneOf (status_of (no_trial_reply reason)) untried_statuses
+untried-status (NoFormat fault) = among-untried (status_of (fault_reply fault)) (fault-status fault)
+untried-status (Untextable reason) = inr (inr (reason-status reason))
+untried-status (RanOutside at) = inr (inl refl)
+untried-status TrialMemory = inr (inr (inl refl))
+
+-- the statuses of a trial
+abbrev pub trial_statuses : List ℕ
+trial_statuses = 0 ∷ untried_statuses
+
+pub trial-status : (seed size steps : ℕ) (reply : Reply) (output : List ℕ) → AllowsTrial seed size steps reply output
+    → IsOneOf (status_of reply) trial_statuses
+trial-status seed size steps _ output (tried t) = inl refl
+trial-status seed size steps _ _ (untried reason h) = inr (untried-status reason)
 
 -- the status of a run that has ended
 pub end-status : (steps : ℕ) (end : End) → status_of (end_reply steps end) ≡ end_status end

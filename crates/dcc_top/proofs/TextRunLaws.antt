@@ -22,7 +22,7 @@ use Rattle.dcc_top.specs.Answer.{Files, OfFile, Allows, ran_text, IsCut, cut_tex
 use Rattle.dcc_top.specs.Change.{Change}
 use Rattle.dcc_top.specs.Delivery.{Answers, CutsShort}
 use Rattle.dcc_top.specs.Execution.{text_of, IsCutRun, end_reply, ended, stopped_at_read, not_begun, finishes, found_none}
-use Rattle.dcc_top.specs.Words.{ExecuteText}
+use Rattle.dcc_commands.specs.Words.{ExecuteText}
 
 -- the run stands at the start of the tree's first function, on every input
 abbrev pub BeginsUnit : CRun → Tree → ℕ → Type 0

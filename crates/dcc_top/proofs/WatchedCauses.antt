@@ -7,10 +7,11 @@ use Rattle.dcc_machine.specs.MzImage.{IsImageOf}
 use Rattle.dcc_prog.specs.Analysed.{IsProgramOf}
 use Rattle.dcc_prog.specs.Refused.{IsSound}
 use Rattle.dcc_top.specs.declared.reply.Reply.{Reply}
-use Rattle.dcc_top.specs.Words.{Job, ExecuteWatched, IsExecution, name_of}
+use Rattle.dcc_commands.specs.Words.{Job, ExecuteWatched, Try}
+use Rattle.dcc_top.specs.Jobs.{IsExecution, file_in}
 use Rattle.dcc_top.specs.Answer.{Runs, WatchesFile, ShelfHas, status_of, line_of}
 use Rattle.dcc_top.specs.Call.{Call, Appends}
-use Rattle.dcc_top.specs.Causes.{IsAnswered, HasRunFile, HasCleanRun, HasFoulStep}
+use Rattle.dcc_top.specs.Causes.{IsAnswered, HasRunFile, HasCleanRun, HasFoulStep, IsUntried}
 use Rattle.dcc_top.specs.Execution.{end_reply}
 use Rattle.dcc_top.specs.WatchedRun.{FinishesWatched, stayed_clean, met_foul, clean_to_read, lacked_memory}
 use Rattle.dcc_top.specs.Status.{IsOneOf}
@@ -22,6 +23,9 @@ use Rattle.dcc_top.proofs.CauseLaws.{exited, ran}
 same-job : (a b : Job) → Some a ≡ Some b → a ≡ b
 same-job a b same = cc
 
+same-name : (a b : List ℕ) → Some a ≡ Some b → a ≡ b
+same-name a b same = cc
+
 -- a run of an executable that has ended, or goes on, has put something out or not
 ends-run : (status : ℕ) → IsOneOf status exit.ends → IsOneOf status (exit.done ∷ exit.stops)
 ends-run status (inl done) = inl done
@@ -32,9 +36,12 @@ ends-run status (inr (inr (inr (inr none)))) = absurd none
 
 module _ (call : Call) (name : List ℕ) (steps : ℕ) (cpu : Cpu)
     (named : call.job ≡ Some (ExecuteWatched name steps cpu)) where
+  is-no_trial : IsUntried call → ⊥
+  is-no_trial w = let both : Some (Try w.seed w.size w.steps) ≡ Some (ExecuteWatched name steps cpu) = sym w.named ∙ named in cc
+
   run-of : IsAnswered call → IsOneOf call.status (exit.done ∷ exit.stops) → HasRunFile call
   run-of a (inl done) = exited call a (subst IsExecution (sym named) tt) done
-  run-of a (inr stops) = ran call a stops
+  run-of a (inr stops) = elim (ran call a stops) [ inl r ↦ r | inr w ↦ absurd (is-no_trial w) ]
 
   -- the watched run of the file that the words name
   record IsWatched : Type 0 where
@@ -55,7 +62,7 @@ module _ (call : Call) (name : List ℕ) (steps : ℕ) (cpu : Cpu)
         file = r.file;
         reply = r.reply;
         output = r.output;
-        has = subst (λ j. ShelfHas call.shelf.files (name_of j) r.file) same r.has;
+        has = subst (λ n. ShelfHas call.shelf.files n r.file) (same-name r.name name (sym r.is_name ∙ ap file_in same)) r.has;
         watches = subst (λ j. Runs j r.file call.input.left.before call.input.left.after r.reply r.output) same r.ran;
         status_is = r.status_is;
         appended = r.appended;

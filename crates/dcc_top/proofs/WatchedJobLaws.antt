@@ -10,7 +10,7 @@ use Rattle.dcc_machine.specs.MzImage.{IsImageOf}
 use Rattle.dcc_prog.specs.Refused.{IsSound}
 use Rattle.dcc_pipe.specs.declared.no_text.NoText.TheVariants.{Refused}
 use Rattle.dcc_top.specs.declared.reply.Reply.{Reply}
-use Rattle.dcc_top.specs.Words.{ExecuteWatched}
+use Rattle.dcc_commands.specs.Words.{ExecuteWatched}
 use Rattle.dcc_top.specs.Answer.{Files, OfFile, refused, AllowsWatched, image_watched, image_unwatched, IsCutWatched, Allows, watched_file, watched_no_file, IsCut, cut_watched}
 use Rattle.dcc_top.specs.Change.{Change}
 use Rattle.dcc_top.specs.Delivery.{Answers, CutsShort}

@@ -14,8 +14,8 @@ use Rattle.dcc_prog.specs.declared.watch.FoulKind.TheVariants.{Low, Hidden, Unwr
 use Rattle.dcc_prog.specs.declared.frame.Program.{Program}
 use Rattle.dcc_machine.specs.declared.image.Image.{Image}
 use Rattle.dcc_prog.specs.declared.refusal.LimitName.{LimitName}
-use Rattle.dcc_prog.specs.declared.refusal.LimitName.TheVariants.{Procedures, Instructions, Total, Cells, Entries}
-use Rattle.dcc_prog.specs.declared.refusal.LimitName.TheVariants.{Arguments}
+use Rattle.dcc_prog.specs.declared.refusal.LimitName.TheVariants.{Procedures as ProcedureCount, Instructions, Total}
+use Rattle.dcc_prog.specs.declared.refusal.LimitName.TheVariants.{Cells, Entries, Arguments}
 use Rattle.dcc_prog.specs.declared.refusal.Refusal.{Refusal}
 use Rattle.dcc_prog.specs.declared.refusal.Refusal.TheVariants.{Construct as ConstructRefused, Limit as LimitRefused}
 use Rattle.dcc_prog.specs.declared.refusal.Refusal.TheVariants.{Memory as MemoryRefused}
@@ -34,22 +34,31 @@ use Rattle.dcc_pipe.specs.Decompiled.{IsTextOfImage}
 use Rattle.dcc_pipe.specs.Shaped.{HasNoTextFor}
 use Rattle.dcc_pipe.specs.declared.no_text.NoText.{NoText}
 use Rattle.dcc_pipe.specs.declared.no_text.NoText.TheVariants.{Refused, NotYet as NotYetFor}
+use Rattle.dcc_list.specs.Listed.{IsListing}
+use Rattle.dcc_trial.specs.declared.found.Trial.{Trial}
+use Rattle.dcc_trial.specs.declared.found.NoTrial.{NoTrial}
+use Rattle.dcc_trial.specs.declared.found.NoTrial.TheVariants.{Format as NoFormat, Refused as Untextable}
+use Rattle.dcc_trial.specs.declared.found.NoTrial.TheVariants.{Outside as RanOutside, Memory as TrialMemory}
+use Rattle.dcc_trial.specs.Lines.{AreLinesOf}
+use Rattle.dcc_trial.specs.Trial.{IsTrial, IsWithout}
+use Rattle.dcc_commands.specs.declared.job.Product.{Product}
+use Rattle.dcc_commands.specs.declared.job.Product.TheVariants.{Text, Procedures, Listing}
+use Rattle.dcc_commands.specs.Words.{Job, Make, Execute, ExecuteWatched, ExecuteText, Try, IsSize}
 use Rattle.dcc_top.specs.declared.reply.Reply.{Reply}
 use Rattle.dcc_top.specs.declared.reply.Reply.TheVariants.{Done, Exited, Usage, NoFile, FileFault, InputFault, Memory}
 use Rattle.dcc_top.specs.declared.reply.Reply.TheVariants.{Format, Construct, Limit, NotYet, TextFault}
 use Rattle.dcc_top.specs.declared.reply.Reply.TheVariants.{Unfinished, Divided, Outside, Foul, Stuck}
 use Rattle.dcc_top.specs.Change.{Change}
 use Rattle.dcc_top.specs.Execution.{machine_of, text_of, Finishes, FinishesOrStops, IsCutRun}
-use Rattle.dcc_top.specs.Listing.{IsListingOf}
+use Rattle.dcc_top.specs.Procedures.{AreProcedureLinesOf}
 use Rattle.dcc_top.specs.Offset.{hex_offset}
 use Rattle.dcc_top.specs.Status as exit
 use Rattle.dcc_top.specs.WatchedRun.{watch_of, FinishesWatched}
-use Rattle.dcc_top.specs.Words.{Job, Decompile, ListProcedures, Execute, ExecuteWatched, ExecuteText, Product, Text}
-use Rattle.dcc_top.specs.Words.{Listing, greatest_text}
+use Rattle.dcc_top.specs.Jobs.{greatest_text}
 
 -- the name of a count, as it is told
 abbrev pub limit_word : LimitName → List ℕ
-limit_word Procedures = codes "procedures"
+limit_word ProcedureCount = codes "procedures"
 limit_word Instructions = codes "instructions"
 limit_word Total = codes "total"
 limit_word Cells = codes "cells"
@@ -82,7 +91,7 @@ status_of (Outside at) = exit.outside
 status_of (Foul at address kind) = exit.foul
 status_of (Stuck line) = exit.stuck
 
--- the line on the error stream; none where the text or the list is written
+-- the line on the error stream; none where what is made is written
 abbrev pub line_of : Reply → List ℕ
 line_of Done = []
 line_of (Exited code) = codes "exit " ++ (decimal code ++ codes "\n")
@@ -135,6 +144,13 @@ abbrev pub reason_reply : NoText → Reply
 reason_reply (Refused refusal) = refusal_reply refusal
 reason_reply (NotYetFor at) = NotYet at
 
+-- the answer where there is no trial
+abbrev pub no_trial_reply : NoTrial → Reply
+no_trial_reply (NoFormat fault) = fault_reply fault
+no_trial_reply (Untextable reason) = reason_reply reason
+no_trial_reply (RanOutside at) = Outside at
+no_trial_reply TrialMemory = Memory
+
 -- Files.
 
 -- the bytes of the file of each name, where the shelf tells them
@@ -177,14 +193,26 @@ pub data HasNoUnit (told : Files) (name : List ℕ) : Reply → Type 0 where
 
 -- What is made of an executable.
 
--- on this processor these bytes are what is asked for of the image: its text, or the lines of its procedures
+-- on this processor nothing that the analyses tell stands in the image, and the text is the listing, in assembler's
+-- words, of the image and of what they find
+pub record IsListingOf (cpu : Cpu) (image : Image) (text : List ℕ) : Type 0 where
+  pub sound : IsSound cpu image
+  pub program : Program
+  pub is_program : IsProgramOf cpu image program
+  pub listed : IsListing image program text
+
+-- on this processor these bytes are what is asked for of the image: its text, the lines of its procedures, or its
+-- listing in assembler's words
 abbrev pub IsMadeOf : Product → Cpu → Image → List ℕ → Type 0
 IsMadeOf Text cpu image made = IsTextOfImage cpu image made
+IsMadeOf Procedures cpu image made = AreProcedureLinesOf cpu image made
 IsMadeOf Listing cpu image made = IsListingOf cpu image made
 
 -- on this processor the image is refused for this reason, where this product is asked for
 abbrev pub Refuses : Product → Cpu → Image → NoText → Type 0
 Refuses Text cpu image reason = HasNoTextFor cpu image reason
+Refuses Procedures cpu image (Refused refusal) = IsRefusedByAnalysis cpu image refusal
+Refuses Procedures cpu image (NotYetFor at) = ⊥
 Refuses Listing cpu image (Refused refusal) = IsRefusedByAnalysis cpu image refusal
 Refuses Listing cpu image (NotYetFor at) = ⊥
 
@@ -328,26 +356,37 @@ pub record IsCutText (text : List ℕ) (steps fill : ℕ) (input output : Change
 
 -- the answer is one for the run that the job asks for, on the file with these bytes
 abbrev pub Runs : Job → List ℕ → Option (List ℕ) → Option (List ℕ) → Reply → List ℕ → Type 0
-Runs (Decompile name cpu) file before left reply output = ⊥
-Runs (ListProcedures name cpu) file before left reply output = ⊥
+Runs (Make product name cpu) file before left reply output = ⊥
 Runs (Execute name steps cpu) file before left reply output = RunsFile cpu file steps before left reply output
 Runs (ExecuteWatched name steps cpu) file before left reply output =
     WatchesFile cpu file steps before left reply output
 Runs (ExecuteText name steps fill) file before left reply output = RunsText file steps fill before left reply output
+Runs (Try seed size steps) file before left reply output = ⊥
+
+-- Trials.
+
+-- the lines are those of a trial of the program of the seed and the size, for so many steps
+pub record TellsTrial (seed size steps : ℕ) (lines : List ℕ) : Type 0 where
+  pub trial : Trial
+  pub is_trial : IsTrial seed size steps trial
+  pub are_lines : AreLinesOf trial lines
+
+-- the answer is allowed for the trial, after these bytes
+pub data AllowsTrial (seed size steps : ℕ) : Reply → List ℕ → Type 0 where
+  tried : {lines : List ℕ} → TellsTrial seed size steps lines → AllowsTrial seed size steps Done lines
+  untried : (reason : NoTrial)
+      → IsWithout seed size steps reason
+      → AllowsTrial seed size steps (no_trial_reply reason) []
 
 -- All jobs.
 
 -- The answer is allowed for the job, which itself has written this output by then.
 pub data Allows (told : Files) (before left : Option (List ℕ)) : Option Job → Reply → List ℕ → Type 0 where
   no_job : left ≡ before → Allows told before left None Usage []
-  for_text : {name : List ℕ} {cpu : Cpu} {reply : Reply} {output : List ℕ}
-      → AllowsProduct Text cpu told name reply output
+  for_product : {product : Product} {name : List ℕ} {cpu : Cpu} {reply : Reply} {output : List ℕ}
+      → AllowsProduct product cpu told name reply output
       → left ≡ before
-      → Allows told before left (Some (Decompile name cpu)) reply output
-  for_listing : {name : List ℕ} {cpu : Cpu} {reply : Reply} {output : List ℕ}
-      → AllowsProduct Listing cpu told name reply output
-      → left ≡ before
-      → Allows told before left (Some (ListProcedures name cpu)) reply output
+      → Allows told before left (Some (Make product name cpu)) reply output
   ran_file : {name : List ℕ} {steps : ℕ} {cpu : Cpu} {reply : Reply} {output : List ℕ}
       → OfFile told name (λ file. RunsFile cpu file steps before left reply output)
       → Allows told before left (Some (Execute name steps cpu)) reply output
@@ -359,7 +398,7 @@ pub data Allows (told : Files) (before left : Option (List ℕ)) : Option Job �
       → OfFile told name (λ file. WatchesFile cpu file steps before left reply output)
       → Allows told before left (Some (ExecuteWatched name steps cpu)) reply output
   watched_no_file : {name : List ℕ} {steps : ℕ} {cpu : Cpu} {reply : Reply}
-      → IsUnmade Listing cpu told name reply
+      → IsUnmade Procedures cpu told name reply
       → left ≡ before
       → Allows told before left (Some (ExecuteWatched name steps cpu)) reply []
   ran_text : {name : List ℕ} {steps fill : ℕ} {reply : Reply} {output : List ℕ}
@@ -369,19 +408,19 @@ pub data Allows (told : Files) (before left : Option (List ℕ)) : Option Job �
       → HasNoUnit told name reply
       → left ≡ before
       → Allows told before left (Some (ExecuteText name steps fill)) reply []
+  for_trial : {seed size steps : ℕ} {reply : Reply} {output : List ℕ}
+      → IsSize size
+      → AllowsTrial seed size steps reply output
+      → left ≡ before
+      → Allows told before left (Some (Try seed size steps)) reply output
 
--- The job was cut off by a failed write, where these bytes were due: the text of the file or the lines of its
--- procedures, and then nothing of the input was taken; or what a run puts out, and then no more was taken than the run
--- had come to.
+-- The job was cut off by a failed write, where these bytes were due: what is made of the file or the lines of a trial,
+-- and then nothing of the input was taken; or what a run puts out, and then no more was taken than the run had come to.
 pub data IsCut (told : Files) (input output : Change (Option (List ℕ))) : Option Job → List ℕ → Type 0 where
-  cut_text : {name due : List ℕ} {cpu : Cpu}
+  cut_product : {product : Product} {name due : List ℕ} {cpu : Cpu}
       → input.after ≡ input.before
-      → OfFile told name (λ file. Makes Text cpu file due)
-      → IsCut told input output (Some (Decompile name cpu)) due
-  cut_listing : {name due : List ℕ} {cpu : Cpu}
-      → input.after ≡ input.before
-      → OfFile told name (λ file. Makes Listing cpu file due)
-      → IsCut told input output (Some (ListProcedures name cpu)) due
+      → OfFile told name (λ file. Makes product cpu file due)
+      → IsCut told input output (Some (Make product name cpu)) due
   cut_run : {name due : List ℕ} {steps : ℕ} {cpu : Cpu}
       → OfFile told name (λ file. IsCutFile cpu file steps input output due)
       → IsCut told input output (Some (Execute name steps cpu)) due
@@ -391,3 +430,7 @@ pub data IsCut (told : Files) (input output : Change (Option (List ℕ))) : Opti
   cut_text_run : {name due : List ℕ} {steps fill : ℕ}
       → OfFile told name (λ text. IsCutText text steps fill input output due)
       → IsCut told input output (Some (ExecuteText name steps fill)) due
+  cut_trial : {due : List ℕ} {seed size steps : ℕ}
+      → input.after ≡ input.before
+      → TellsTrial seed size steps due
+      → IsCut told input output (Some (Try seed size steps)) due

@@ -4,7 +4,7 @@ use Rattle.dcc_io.specs.Count.{Rose}
 use Rattle.dcc_io.specs.Told.{append_told, AppendsProperPrefix}
 use Rattle.dcc_top.specs.Answer.{Files}
 pub use Rattle.dcc_top.specs.Change.{Change, change, same}
-use Rattle.dcc_top.specs.Words.{Job}
+use Rattle.dcc_commands.specs.Words.{Job}
 
 -- the count has risen in the call
 abbrev pub Rises : Change ℕ → Type 0
@@ -28,6 +28,11 @@ shelf_change files asked absences faults before after = record {
   absences = change absences before after;
   faults = change faults before after;
 }
+
+-- a shelf of which nothing was asked
+abbrev pub unasked : Files → Requests → ℕ → ℕ → ShelfChange
+unasked files asked absences faults =
+    record { files = files; asked = same asked; absences = same absences; faults = same faults }
 
 -- An input: the bytes that are left, where they are told; how often a read has failed.
 pub record SourceChange : Type 0 where

@@ -4,15 +4,20 @@ use Rattle.std.specs.Prelude.{Result, IfOk, OnErr, MatchResult, IsErrOf}
 use Rattle.dcc_io.specs.declared.outside.Failed.{Failed}
 use Rattle.dcc_mz.specs.declared.fault.MzFault.{MzFault}
 use Rattle.dcc_mz.specs.Fault.{IsRefusal as IsFormatRefusal}
-use Rattle.dcc_run.specs.End.{End}
+use Rattle.dcc_run.specs.End.{End, Outside}
 use Rattle.dcc_run.specs.Prefix.{IsPrefix}
+use Rattle.dcc_run.specs.System.{end_after}
 use Rattle.dcc_machine.specs.declared.cpu.Cpu.{Cpu}
+use Rattle.dcc_machine.specs.declared.cpu.Cpu.TheVariants.{I8086}
 use Rattle.dcc_machine.specs.declared.image.Image.{Image}
 use Rattle.dcc_prog.specs.declared.frame.Program.{Program}
 use Rattle.dcc_pipe.specs.declared.no_text.NoText.{NoText}
 use Rattle.dcc_prog.specs.Analysed.{IsProgramOf}
 use Rattle.dcc_prog.specs.Clean.{Foul as FoulStep}
+use Rattle.dcc_machine.specs.Machine.{start_state}
 use Rattle.dcc_machine.specs.MzImage.{IsImageOf}
+use Rattle.dcc_machine.specs.Step.{machine_system}
+use Rattle.dcc_machine_demand.specs.Refused.{IsAcceptedProgram}
 use Rattle.dcc_prog.specs.Refused.{IsSound}
 use Rattle.dcc_c.specs.Text.{StandsFor}
 use Rattle.dcc_c.specs.Tree.{Tree}
@@ -21,12 +26,15 @@ use Rattle.dcc_parse.specs.Fault.{IsRefusal as IsTextRefusal}
 use Rattle.dcc_top.specs.declared.reply.Reply.{Reply}
 use Rattle.dcc_top.specs.declared.reply.Reply.TheVariants.{Done, NoFile, FileFault, InputFault, Memory, Format}
 use Rattle.dcc_top.specs.declared.reply.Reply.TheVariants.{TextFault}
-use Rattle.dcc_top.specs.Words.{Job, Execute, ExecuteWatched, ExecuteText, Product, Analyses, name_of, file_of}
-use Rattle.dcc_top.specs.Words.{requests_of, greatest_text}
+use Rattle.dcc_trial.specs.declared.found.NoTrial.{NoTrial}
+use Rattle.dcc_trial.specs.Trial.{HasImage, IsWithout}
+use Rattle.dcc_commands.specs.declared.job.Product.{Product}
+use Rattle.dcc_commands.specs.Words.{Job, Execute, ExecuteWatched, ExecuteText, Try}
+use Rattle.dcc_top.specs.Jobs.{Analyses, file_in, file_of, requests_of, greatest_text}
 use Rattle.dcc_top.specs.Execution.{machine_of, text_of, ending_after, end_reply}
 use Rattle.dcc_top.specs.WatchedRun.{EndsClean, HasRunClean, StopsAtFoul, foul_reply}
 use Rattle.dcc_top.specs.Answer.{Allows, IsCut, IsRefusedAs, OfImages, Runs, ShelfHas, ShelfLacks, status_of, line_of}
-use Rattle.dcc_top.specs.Answer.{reason_reply}
+use Rattle.dcc_top.specs.Answer.{reason_reply, no_trial_reply}
 use Rattle.dcc_top.specs.Call.{Call, Change, Requests, ShelfChange, SourceChange, SinkChange, Rises, Appends}
 use Rattle.dcc_top.specs.Call.{AppendsPart}
 use Rattle.dcc_top.specs.Delivery.{Answers, CutsShort, TellsReply}
@@ -118,11 +126,13 @@ pub data IsAnswered (call : Call) : Type 0 where
 -- it took.
 pub record HasRunFile (call : Call) : Type 0 where
   pub job : Job
+  pub name : List ℕ
   pub file : List ℕ
   pub reply : Reply
   pub output : List ℕ
   pub named : call.job ≡ Some job
-  pub has : ShelfHas call.shelf.files (name_of job) file
+  pub is_name : file_in job ≡ Some name
+  pub has : ShelfHas call.shelf.files name file
   pub ran : Runs job file call.input.left.before call.input.left.after reply output
   pub status_is : call.status ≡ status_of reply
   pub appended : Appends call.output output
@@ -219,8 +229,8 @@ pub record HasFormatFault (call : Call) : Type 0 where
   pub first : IsFormatRefusal file fault
   pub line : Appends call.errors (line_of (Format fault))
 
--- The program that the words name is refused on their processor, where its text, its procedures or its watched run are
--- asked for, and the line tells why: a construct stands at the offset, the count passes its number, or the text of the
+-- The program that the words name is refused on their processor, where its text, its procedures, its listing or its
+-- watched run are asked for, and the line tells why: a construct stands at the offset, the count passes its number, or the text of the
 -- procedure with the offset as its entry lacks the shape that the procedure asks for.
 pub record HasRefusal (call : Call) : Type 0 where
   pub product : Product
@@ -235,6 +245,25 @@ pub record HasRefusal (call : Call) : Type 0 where
   pub refused : IsRefusedAs product cpu reason file
   pub status_is : call.status ≡ status_of (reason_reply reason)
   pub line : Appends call.errors (line_of (reason_reply reason))
+
+-- There is no trial, and the line tells why: the image of the program of the seed and the size has no text, or the
+-- machine's run of it comes to what is no instruction.
+pub record IsUntried (call : Call) : Type 0 where
+  pub seed : ℕ
+  pub size : ℕ
+  pub steps : ℕ
+  pub reason : NoTrial
+  pub named : call.job ≡ Some (Try seed size steps)
+  pub without : IsWithout seed size steps reason
+  pub status_is : call.status ≡ status_of (no_trial_reply reason)
+  pub line : Appends call.errors (line_of (no_trial_reply reason))
+
+-- nothing keeps the program of the seed and the size from its trial: nothing refuses its image, and the machine's run of
+-- so many steps doesn't come to what is no instruction
+pub record IsTryable (seed size steps : ℕ) : Type 0 where
+  pub accepted : (image : Image) → HasImage seed size image → IsAcceptedProgram I8086 image
+  pub inside : (image : Image) (at : ℕ) → HasImage seed size image
+      → end_after (machine_system I8086) steps (start_state image []) ≢ Outside at
 
 -- the text that the words name is refused, and the line tells what offends in it first, with its line
 pub record HasTextFault (call : Call) : Type 0 where

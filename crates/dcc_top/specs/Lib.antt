@@ -1,10 +1,9 @@
-pub mod Words
-pub mod WordsRead
+pub mod Jobs
 pub mod Change
 pub mod Execution
 pub mod Status
 pub mod Offset
-pub mod Listing
+pub mod Procedures
 pub mod WatchedRun
 pub mod Answer
 pub mod Headline

@@ -1,5 +1,5 @@
--- What the program promises of each call: the text of `c`, the list of `procs`, runs, watched runs, refusals, faults,
--- and what is asked and told.
+-- What the program promises of each call: the text of `c`, the lists of `procs` and `list`, the lines of `trial`, runs,
+-- watched runs, refusals, faults, and what is asked and told.
 use Rattle.std.specs.Prelude.{◌≡◌, ◌≢◌, ◌⊎◌, ℕ, List, [], ◌∷◌, Some, None}
 use Rattle.dcc_run.specs.End.{End}
 use Rattle.dcc_machine.specs.declared.cpu.Cpu.{Cpu}
@@ -8,13 +8,16 @@ use Rattle.dcc_prog.specs.Refused.{IsSound, IsUnsound}
 use Rattle.dcc_machine_demand.specs.Refused.{IsAcceptedProgram, IsRefusedImage}
 use Rattle.dcc_top.specs.declared.reply.Reply.TheVariants.{Memory}
 use Rattle.dcc_top.specs.WatchedRun.{MeetsFoul}
-use Rattle.dcc_top.specs.Words.{Job, Decompile, ListProcedures, ExecuteWatched, ExecuteText, IsExecution, LoadsImage}
+use Rattle.dcc_commands.specs.declared.job.Product.TheVariants.{Text, Procedures, Listing}
+use Rattle.dcc_commands.specs.Words.{Job, Make, ExecuteWatched, ExecuteText, Try}
+use Rattle.dcc_top.specs.Jobs.{IsExecution, LoadsImage}
 use Rattle.dcc_top.specs.Answer.{OfImages, line_of}
 use Rattle.dcc_top.specs.Call.{Call, Rises, AppendsPart}
-use Rattle.dcc_top.specs.Headline.{HasText, HasListing}
+use Rattle.dcc_top.specs.Headline.{HasText, HasProcedures, HasListing, HasTrial}
 use Rattle.dcc_top.specs.Causes.{IsAnswered, HasRunFile, EndsSo, HasCleanRun, HasFoulStep}
 use Rattle.dcc_top.specs.Causes.{Names, IsMissing, IsAbsent, IsUnreadable}
 use Rattle.dcc_top.specs.Causes.{HasFormatFault, HasRefusal, HasTextFault, IsNoText, IsOutOfMemory, IsCutOff}
+use Rattle.dcc_top.specs.Causes.{IsUntried, IsTryable}
 use Rattle.dcc_top.specs.Causes.{AsksPrefix, AsksAll}
 use Rattle.dcc_top.specs.Status.{IsOneOf, end_status}
 use Rattle.dcc_top.specs.Status as exit
@@ -23,32 +26,57 @@ use Rattle.dcc_top.specs.Status as exit
 -- the program is refused and the text has its shape.
 pub record KeepsText (call : Call) : Type 0 where
   pub text : (name : List ℕ) (cpu : Cpu)
-      → call.job ≡ Some (Decompile name cpu)
+      → call.job ≡ Some (Make Text name cpu)
       → call.status ≡ exit.done
       → HasText cpu call.shelf.files name call.output.taken.before call.output.taken.after
   pub text_always : (name file : List ℕ) (cpu : Cpu)
-      → call.job ≡ Some (Decompile name cpu)
+      → call.job ≡ Some (Make Text name cpu)
       → Names call file
       → OfImages file (IsAcceptedProgram cpu)
       → IsOneOf call.status (exit.done ∷ (exit.not_yet ∷ exit.faults))
 
 -- `procs` lists the procedures of the executable on the processor of the words, and lists them wherever no construct
 -- stands in the program and no count is too great.
-pub record KeepsListing (call : Call) : Type 0 where
-  pub listing : (name : List ℕ) (cpu : Cpu)
-      → call.job ≡ Some (ListProcedures name cpu)
+pub record KeepsProcedures (call : Call) : Type 0 where
+  pub procedures : (name : List ℕ) (cpu : Cpu)
+      → call.job ≡ Some (Make Procedures name cpu)
       → call.status ≡ exit.done
-      → HasListing cpu call.shelf.files name call.output.taken.before call.output.taken.after
-  pub listing_always : (name file : List ℕ) (cpu : Cpu)
-      → call.job ≡ Some (ListProcedures name cpu)
+      → HasProcedures cpu call.shelf.files name call.output.taken.before call.output.taken.after
+  pub procedures_always : (name file : List ℕ) (cpu : Cpu)
+      → call.job ≡ Some (Make Procedures name cpu)
       → Names call file
       → OfImages file (IsSound cpu)
       → IsOneOf call.status (exit.done ∷ exit.faults)
 
+-- `list` lists the image of the executable in assembler's words for the processor of the words, wherever no construct
+-- stands in the program and no count is too great.
+pub record KeepsListing (call : Call) : Type 0 where
+  pub listing : (name : List ℕ) (cpu : Cpu)
+      → call.job ≡ Some (Make Listing name cpu)
+      → call.status ≡ exit.done
+      → HasListing cpu call.shelf.files name call.output.taken.before call.output.taken.after
+  pub listing_always : (name file : List ℕ) (cpu : Cpu)
+      → call.job ≡ Some (Make Listing name cpu)
+      → Names call file
+      → OfImages file (IsSound cpu)
+      → IsOneOf call.status (exit.done ∷ exit.faults)
+
+-- `trial` tells of the program of its seed and its size, of its text, and of the runs of both, wherever nothing keeps
+-- the program from its trial and the text has its shape. It asks nothing of the shelf, which has no part in its faults.
+pub record KeepsTrial (call : Call) : Type 0 where
+  pub trial : (seed size steps : ℕ)
+      → call.job ≡ Some (Try seed size steps)
+      → call.status ≡ exit.done
+      → HasTrial seed size steps call.output.taken.before call.output.taken.after
+  pub trial_always : (seed size steps : ℕ)
+      → call.job ≡ Some (Try seed size steps)
+      → IsTryable seed size steps
+      → IsOneOf call.status (exit.done ∷ (exit.not_yet ∷ (exit.write_fault ∷ (exit.no_memory ∷ []))))
+
 -- What `run`, `watch` and `runc` put out and take, and how the run has ended, are those of the file.
 pub record KeepsRuns (call : Call) : Type 0 where
   pub exited : IsExecution call.job → call.status ≡ exit.done → HasRunFile call
-  pub ran : IsOneOf call.status exit.stops → HasRunFile call
+  pub ran : IsOneOf call.status exit.stops → HasRunFile call ⊎ IsUntried call
   pub ran_always : (job : Job) (file bytes : List ℕ) (end : End)
       → call.job ≡ Some job
       → Names call file
@@ -92,15 +120,21 @@ pub record KeepsRefusals (call : Call) : Type 0 where
       → IsFirstFault file fault
       → IsOneOf call.status (exit.format ∷ exit.faults)
   -- the program is refused, for a construct, for a count, or for the shape that its text lacks
-  pub refused : IsOneOf call.status exit.refusals → HasRefusal call
+  pub refused : IsOneOf call.status exit.refusals → HasRefusal call ⊎ IsUntried call
   pub refused_always : (name file : List ℕ) (cpu : Cpu)
-      → call.job ≡ Some (Decompile name cpu)
+      → call.job ≡ Some (Make Text name cpu)
       → Names call file
       → OfImages file (IsRefusedImage cpu)
       → IsOneOf call.status (exit.construct ∷ (exit.limit ∷ exit.faults))
   -- `procs` is refused wherever a construct stands that the analyses tell or a count is too great, and for nothing else
+  pub procedures_refused_always : (name file : List ℕ) (cpu : Cpu)
+      → call.job ≡ Some (Make Procedures name cpu)
+      → Names call file
+      → OfImages file (IsUnsound cpu)
+      → IsOneOf call.status (exit.construct ∷ (exit.limit ∷ exit.faults))
+  -- `list` is refused wherever a construct stands that the analyses tell or a count is too great, and for nothing else
   pub listing_refused_always : (name file : List ℕ) (cpu : Cpu)
-      → call.job ≡ Some (ListProcedures name cpu)
+      → call.job ≡ Some (Make Listing name cpu)
       → Names call file
       → OfImages file (IsUnsound cpu)
       → IsOneOf call.status (exit.construct ∷ (exit.limit ∷ exit.faults))
@@ -145,7 +179,9 @@ pub record KeepsAnswer (call : Call) : Type 0 where
 -- what the program promises of a call
 pub record KeepsPromises (call : Call) : Type 0 where
   pub text : KeepsText call
+  pub procedures : KeepsProcedures call
   pub listing : KeepsListing call
+  pub trial : KeepsTrial call
   pub runs : KeepsRuns call
   pub watch : KeepsWatch call
   pub refusals : KeepsRefusals call

@@ -3,7 +3,7 @@
 ghost use Rattle.std.specs.Prelude.{IfOk, IfErr};
 ghost use Rattle.dcc_c.specs.Views.{tree_of};
 ghost use Rattle.dcc_machine.specs.MzImage.{IsImageOf, IsLoaded};
-ghost use Rattle.dcc_top.specs.Words.{greatest_file, greatest_text};
+ghost use Rattle.dcc_top.specs.Jobs.{greatest_file, greatest_text};
 ghost use Rattle.dcc_top.specs.Answer.{HasNoImage, HasNoUnit, IsReadAs, OfFile};
 ghost use Rattle.dcc_top.specs.Call.{shelf_change};
 ghost use Rattle.dcc_top.specs.Causes.{AsksOnce};

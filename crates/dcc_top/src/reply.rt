@@ -2,21 +2,21 @@
 
 ghost use Rattle.std.specs.Prelude.{◌≡◌, Some, IfOk, IsOk, string_bytes};
 ghost use Rattle.dcc_top.specs.Answer.{status_of, line_of, limit_word, foul_word, shelf_reply, fault_reply};
-ghost use Rattle.dcc_top.specs.Answer.{parse_reply};
-ghost use Rattle.dcc_top.specs.Answer.{refusal_reply, reason_reply};
+ghost use Rattle.dcc_top.specs.Answer.{parse_reply, refusal_reply, reason_reply, no_trial_reply};
 
 use dcc_io::ShelfFault;
 use dcc_mz::MzFault;
 use dcc_parse::{ParseFault, ParseKind};
 use dcc_pipe::NoText;
 use dcc_prog::{ConstructKind, FoulKind, LimitName, Refusal};
+use dcc_trial::NoTrial;
 use std::alloc::{AllocError, Global};
 use std::fmt;
 
 /// An answer of the program.
 #[derive(Clone, Copy, PartialEq, Eq, Debug)]
 pub enum Reply {
-    /// The text of the executable is written, or the list of its procedures.
+    /// What is made of the executable is written, or the lines of the trial.
     Done,
     /// The run ended with this exit code.
     Exited(u8),
@@ -123,6 +123,19 @@ impl From<NoText> for Reply {
     }
 }
 
+impl From<NoTrial> for Reply {
+    ghost from_gives = { λ reason reply. reply ≡ no_trial_reply reason };
+
+    fn from(reason: NoTrial) -> Reply {
+        match reason {
+            NoTrial::Format(fault) => Reply::from(fault),
+            NoTrial::Refused(why) => Reply::from(why),
+            NoTrial::Outside(at) => Reply::Outside(at),
+            NoTrial::Memory => Reply::Memory,
+        }
+    }
+}
+
 impl Reply {
     /// The exit status of the program.
     pub fn status(&self) -> u8
@@ -148,8 +161,7 @@ impl Reply {
         }
     }
 
-    /// The line on the error stream. There is none where the text or the list is written, and no memory is
-    /// taken then.
+    /// The line on the error stream. There is none where what is made is written, and no memory is taken then.
     pub fn line(&self, alloc: Global) -> Result<String, AllocError>
         ensures line { IfOk result (λ line. string_bytes line ≡ line_of self.now) }
         ensures done { self.now ≡ Reply.Done → IsOk result }

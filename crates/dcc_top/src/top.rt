@@ -1,21 +1,23 @@
 //! The top call.
 
 ghost use Rattle.std.specs.Prelude.{◌≡◌, Some};
-ghost use Rattle.dcc_top.specs.Words.{Execute, ExecuteText, ExecuteWatched, IsExecution, job_in};
+ghost use Rattle.dcc_commands.specs.Words.{Execute, ExecuteText, ExecuteWatched};
+ghost use Rattle.dcc_top.specs.Jobs.{IsExecution, job_in};
 ghost use Rattle.dcc_top.specs.Call.{shelf_change, source_change, sink_change};
 ghost use Rattle.dcc_top.specs.Causes.{Replies};
 ghost use Rattle.dcc_top.specs.Promises.{KeepsPromises};
 
-use crate::decompile_job::text_reply;
 use crate::deliver::{WRITE_FAULT, answer};
 use crate::execute::execute;
 use crate::fetch::{fetch_image, fetch_unit};
-use crate::listing_job::listing_reply;
+use crate::make_job::make_reply;
 use crate::reply::Reply;
 use crate::text_job::execute_unit;
+use crate::trial_job::write_trial;
 use crate::watch_job::watch_image;
-use crate::words::{Execution, Job, TextExecution, job_of};
+use dcc_commands::{Execution, Job, TextExecution, job_of};
 use dcc_io::{Failed, Shelf, Sink, Source};
+use dcc_rules::RuleList;
 use std::alloc::Global;
 
 // The answer of `run`. The error is a failed write of what the program puts out.
@@ -75,11 +77,11 @@ fn runc_reply<H: Shelf, I: Source, O: Sink>(
     }
 }
 
-// The answer for the words. The error is a failed write of a text, of a list or of what is put out by
-// what is run.
+// The answer for the words, texts made by these rules. The error is a failed write of what is made, or of what is put out by what is run.
 fn reply_for<H: Shelf, I: Source, O: Sink>(
     alloc: Global,
     words: &Vec<String>,
+    rules: &RuleList,
     shelf: &mut H,
     input: &mut I,
     out: &mut O,
@@ -92,11 +94,13 @@ fn reply_for<H: Shelf, I: Source, O: Sink>(
 {
     match job_of(words) {
         None => Ok(Reply::Usage),
-        Some(Job::Decompile { file, cpu }) => text_reply(alloc, file, cpu, shelf, out),
-        Some(Job::ListProcedures { file, cpu }) => listing_reply(alloc, file, cpu, shelf, out),
+        Some(Job::Make { product, file, cpu }) => make_reply(
+            alloc, product, file, cpu, rules, shelf, out,
+        ),
         Some(Job::Execute(run)) => run_reply(alloc, run, shelf, input, out),
         Some(Job::ExecuteWatched(run)) => watch_reply(alloc, run, shelf, input, out),
         Some(Job::ExecuteText(run)) => runc_reply(alloc, run, shelf, input, out),
+        Some(Job::Try(attempt)) => write_trial(alloc, attempt, rules, out),
     }
 }
 
@@ -116,6 +120,7 @@ fn reply_for<H: Shelf, I: Source, O: Sink>(
 pub fn dcc<H: Shelf, I: Source, O: Sink, E: Sink>(
     alloc: Global,
     words: &Vec<String>,
+    rules: &RuleList,
     shelf: &mut H,
     input: &mut I,
     out: &mut O,
@@ -131,7 +136,7 @@ pub fn dcc<H: Shelf, I: Source, O: Sink, E: Sink>(
     }) }
     ensures input { ¬ IsExecution (job_in words.now.items) → input.new ≡ input.old }
 {
-    match reply_for(alloc, words, shelf, input, out) {
+    match reply_for(alloc, words, rules, shelf, input, out) {
         Ok(reply) => answer(alloc, &reply, err),
         Err(Failed) => WRITE_FAULT,
     }

@@ -2,6 +2,7 @@
 #![tactic(auto)]
 
 pub mod found;
+pub mod laws;
 mod sides;
 mod telling;
 mod trying;

@@ -1,7 +1,7 @@
-//! What `procs` lists of programs, and what refuses them there and for `c`. The lines come from a reference of the
-//! analyses apart from this one.
+//! What `procs` and `list` list of programs, and what refuses them there and for `c`. The lines come from a reference of
+//! the analyses, of encodings and of spellings apart from this one.
 
-use dcc_samples::files::{Faults, NO_FAULTS, answered, program};
+use dcc_samples::files::{Faults, NO_FAULTS, PRINTS_A, answered, program};
 use std::alloc::{AllocError, Global};
 use std::test::Fail;
 
@@ -124,6 +124,34 @@ fn procedures_are_listed_and_have_a_text(rt: HostRuntime) -> Result<(), Fail> {
     Ok(())
 }
 
+// The listing of the program that prints A.
+const PRINTS_A_LISTING: &str =
+    "; dcc list 1 8086 0110\n; prelude\n0000:\n    mov ax,0x0111\n    mov ds,ax\n\
+    ; start nodes 5 args 0 ret 0\n0005:\n    mov dl,0x41\n    mov ah,0x02\n    int 0x21\n    mov ax,0x4C03\n    int 0x21\n";
+
+// An instruction in another encoding than the standard one, and bytes that no instruction has.
+const ODD_CODE: &[u8] = b"\x29\xC0\xB4\x4C\xCD\x21";
+
+const ODD_LISTING: &str =
+    "; dcc list 1 8086 0110\n; prelude\n0000:\n    mov ax,0x0111\n    mov ds,ax\n\
+    ; start nodes 3 args 0 ret 0\n0005:\n    odd 29 C0 sub ax,ax\n    mov ah,0x4C\n    int 0x21\n    db 00 00 00 00 00\n";
+
+#[test]
+fn images_are_listed_in_words(rt: HostRuntime) -> Result<(), Fail> {
+    let alloc = rt.alloc();
+    let files = [
+        (PRINTS_A.as_slice().to_vec(alloc)?, PRINTS_A_LISTING),
+        (program(alloc, ODD_CODE)?, ODD_LISTING),
+    ];
+    for (file, listing) in &files {
+        let given = answered(alloc, &["list", "ROW1.EXE"], file, NO_FAULTS)?;
+        assert_eq!(rt; given.err.as_slice(), b"".as_slice(), "{listing}");
+        assert_eq!(rt; given.out.as_slice(), listing.as_bytes(), "{listing}");
+        assert_eq!(rt; given.status, 0, "{listing}");
+    }
+    Ok(())
+}
+
 // The code after the instructions that set DS, the status and the line.
 type RefusalRow = (&'static [u8], u8, &'static str);
 
@@ -202,7 +230,7 @@ fn what_refuses_the_list_refuses_the_text(rt: HostRuntime) -> Result<(), Fail> {
     let alloc = rt.alloc();
     for (code, status, line) in refusals() {
         let file = program(alloc, code)?;
-        for command in ["procs", "c"] {
+        for command in ["procs", "list", "c"] {
             let given = answered(alloc, &[command, "ROW1.EXE"], &file, NO_FAULTS)?;
             assert_eq!(rt; given.err.as_slice(), line.as_bytes(), "{command}: {line}");
             assert_eq!(rt; given.status, *status, "{command}: {line}");

@@ -1,6 +1,6 @@
 use Rattle.std.proofs.Common.{◌≡◌, subst, sym, ◌∙◌}
-use Rattle.dcc_list.specs.Encoding.{IsStandard}
-use Rattle.dcc_list.proofs.Orders.{standard_is_unique}
+use Rattle.dcc_encode.specs.Encoding.{IsStandard}
+use Rattle.dcc_encode.proofs.Orders.{standard_is_unique}
 use Rattle.dcc_list.proofs.lister.is_standard.Goals as goal
 
 pub returns-in-Some : goal.returns-in-Some

@@ -2,7 +2,7 @@ use Rattle.std.proofs.Common.{List, ℕ, refl}
 use Rattle.dcc_c.specs.Views.{tree_of}
 use Rattle.dcc_top.specs.declared.reply.Reply.{Reply}
 use Rattle.dcc_top.specs.declared.reply.Reply.TheVariants.{InputFault}
-use Rattle.dcc_top.specs.Words.{ExecuteText}
+use Rattle.dcc_commands.specs.Words.{ExecuteText}
 use Rattle.dcc_top.specs.Answer.{RunsUnit, ran_no_text, status_of}
 use Rattle.dcc_top.specs.Status.{IsOneOf}
 use Rattle.dcc_top.proofs.StatusLaws.{text_faults, no_unit-status, run_statuses, text_run-status, other-than}
@@ -29,7 +29,7 @@ returns-in-Ok g c =
     let tree = tree_of c.in-Ok.unit in
     let e = c.execute_unit.ensures in
     replies-run (RunsUnit tree text.steps text.fill _ _) run_statuses (run g c) refl refl
-    (ExecuteText text.file.now text.steps text.fill) _ _ _ c.execute_unit.result c.in-Ok.unit c.in-Ok.ensures.asks e.ran
+    (ExecuteText text.file.now text.steps text.fill) text.file.now 67108864 refl _ _ _ c.execute_unit.result c.in-Ok.unit c.in-Ok.ensures.asks e.ran
     (reply-of_text files text.file.now text.steps text.fill tree _ _ _ _ c.execute_unit.result c.in-Ok.ensures.unit
     e.ran)
     (cut-of_text files text.file.now text.steps text.fill tree _ _ c.execute_unit.result c.in-Ok.ensures.unit
@@ -41,6 +41,6 @@ returns-in-Err g c =
     let files = g.H.Shelf.files c.args.shelf.now in
     let name = c.args.run.file.now in
     let reply = c.in-Err.reply in
-    replies-unfetched (ExecuteText name c.args.run.steps c.args.run.fill) _ _ _ _ _ reply c.in-Err.ensures.asks
+    replies-unfetched (ExecuteText name c.args.run.steps c.args.run.fill) name 67108864 refl _ _ _ _ _ reply c.in-Err.ensures.asks
     (ran_no_text c.in-Err.ensures.refused refl)
     (other-than reply InputFault text_faults refl (no_unit-status files name reply c.in-Err.ensures.refused))

@@ -1,0 +1,4 @@
+pub mod Best
+pub mod Covered
+pub mod Orders
+pub mod Sameness

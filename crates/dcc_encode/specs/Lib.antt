@@ -1,0 +1,4 @@
+pub mod Encoding
+pub mod EncodingViews
+pub mod Shapes
+pub mod Laws

@@ -1,5 +1,0 @@
-use Rattle.dcc_list.proofs.Covered.{encodings_are_drafts}
-use Rattle.dcc_list.proofs.laws.encodings_are_drafts.Goals as goal
-
-pub returns : goal.returns
-returns c = encodings_are_drafts

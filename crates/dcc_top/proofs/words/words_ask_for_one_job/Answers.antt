@@ -1,5 +1,0 @@
-use Rattle.dcc_top.proofs.WordsAsked.{asked-is, asked-from}
-use Rattle.dcc_top.proofs.words.words_ask_for_one_job.Goals as goal
-
-pub returns : goal.returns
-returns c words job = (asked-from words job, asked-is words job)
