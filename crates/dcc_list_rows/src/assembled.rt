@@ -16,7 +16,13 @@ fn check_bytes(rt: &impl Abort, alloc: Global, text: &[u8], bytes: &[u8]) -> Res
 }
 
 // This line of the text offends first, and so.
-fn check_fault(rt: &impl Abort, alloc: Global, text: &[u8], line: u32, kind: ListKind) -> Result<(), Fail> {
+fn check_fault(
+    rt: &impl Abort,
+    alloc: Global,
+    text: &[u8],
+    line: u32,
+    kind: ListKind,
+) -> Result<(), Fail> {
     let answer = assemble(alloc, &text.to_vec(alloc)?);
     assert!(rt; answer.is_err());
     if let Err(fault) = answer {
@@ -40,8 +46,8 @@ fn lines_give_bytes(rt: HostRuntime) -> Result<(), Fail> {
         alloc,
         b"; dcc list 1 8086 0110\n    mov word [bx+si+0x0012],0x0003\n    lea ax,[bp]\n    jmp cs:[bx+0x0000]\n    imul al\n    jz 0x000D\n    ret 0x0002\n",
         &[
-            0xC7, 0x40, 0x12, 0x03, 0x00, 0x8D, 0x46, 0x00, 0x2E, 0xFF, 0xA7, 0x00, 0x00, 0xF6, 0xE8, 0x74, 0xFC,
-            0xC2, 0x02, 0x00,
+            0xC7, 0x40, 0x12, 0x03, 0x00, 0x8D, 0x46, 0x00, 0x2E, 0xFF, 0xA7, 0x00, 0x00, 0xF6,
+            0xE8, 0x74, 0xFC, 0xC2, 0x02, 0x00,
         ],
     )
 }
@@ -55,7 +61,13 @@ fn offsets_count_from_the_code_segment(rt: HostRuntime) -> Result<(), Fail> {
         b"; dcc list 1 8086 0111\n    db 00 00 00 00 00 00 00 00 00 00 00 00 00 00 00 00\n0000:\n    jmp 0x0000\n",
         &[0, 0, 0, 0, 0, 0, 0, 0, 0, 0, 0, 0, 0, 0, 0, 0, 0xEB, 0xFE],
     )?;
-    check_fault(&rt, alloc, b"; dcc list 1 8086 0111\n    nop\n", 2, ListKind::Range)
+    check_fault(
+        &rt,
+        alloc,
+        b"; dcc list 1 8086 0111\n    nop\n",
+        2,
+        ListKind::Range,
+    )
 }
 
 #[test]
@@ -64,16 +76,76 @@ fn the_first_fault_is_told(rt: HostRuntime) -> Result<(), Fail> {
     check_fault(&rt, alloc, b"", 1, ListKind::Head)?;
     check_fault(&rt, alloc, b"; dcc list 1 8086 0110", 1, ListKind::Head)?;
     check_fault(&rt, alloc, b"; dcc list 1 8087 0110\n", 1, ListKind::Head)?;
-    check_fault(&rt, alloc, b"; dcc list 1 8086 0110\n    nop ; words\n    none\n", 2, ListKind::Word)?;
-    check_fault(&rt, alloc, b"; dcc list 1 8086 0110\n    nop\n    nop", 3, ListKind::Word)?;
-    check_fault(&rt, alloc, b"; dcc list 1 8086 0110\n    add 0x0001,ax\n", 2, ListKind::Word)?;
-    check_fault(&rt, alloc, b"; dcc list 1 8086 0110\n    db\n", 2, ListKind::Word)?;
-    check_fault(&rt, alloc, b"; dcc list 1 8086 0110\n    odd sub ax,ax\n", 2, ListKind::Word)?;
-    check_fault(&rt, alloc, b"; dcc list 1 8086 0110\n    push 0x0001\n", 2, ListKind::Range)?;
-    check_fault(&rt, alloc, b"; dcc list 1 8086 0110\n    jz 0x0200\n", 2, ListKind::Range)?;
-    check_fault(&rt, alloc, b"; dcc list 1 8086 0110\n    odd 2B C0 sub ax,ax\n", 2, ListKind::Odd)?;
-    check_fault(&rt, alloc, b"; dcc list 1 8086 0110\n    odd 29 C1 sub ax,ax\n", 2, ListKind::Odd)?;
-    check_fault(&rt, alloc, b"; dcc list 1 8086 0110\n    nop\n0002:\n", 3, ListKind::Place)
+    check_fault(
+        &rt,
+        alloc,
+        b"; dcc list 1 8086 0110\n    nop ; words\n    none\n",
+        2,
+        ListKind::Word,
+    )?;
+    check_fault(
+        &rt,
+        alloc,
+        b"; dcc list 1 8086 0110\n    nop\n    nop",
+        3,
+        ListKind::Word,
+    )?;
+    check_fault(
+        &rt,
+        alloc,
+        b"; dcc list 1 8086 0110\n    add 0x0001,ax\n",
+        2,
+        ListKind::Word,
+    )?;
+    check_fault(
+        &rt,
+        alloc,
+        b"; dcc list 1 8086 0110\n    db\n",
+        2,
+        ListKind::Word,
+    )?;
+    check_fault(
+        &rt,
+        alloc,
+        b"; dcc list 1 8086 0110\n    odd sub ax,ax\n",
+        2,
+        ListKind::Word,
+    )?;
+    check_fault(
+        &rt,
+        alloc,
+        b"; dcc list 1 8086 0110\n    push 0x0001\n",
+        2,
+        ListKind::Range,
+    )?;
+    check_fault(
+        &rt,
+        alloc,
+        b"; dcc list 1 8086 0110\n    jz 0x0200\n",
+        2,
+        ListKind::Range,
+    )?;
+    check_fault(
+        &rt,
+        alloc,
+        b"; dcc list 1 8086 0110\n    odd 2B C0 sub ax,ax\n",
+        2,
+        ListKind::Odd,
+    )?;
+    check_fault(
+        &rt,
+        alloc,
+        b"; dcc list 1 8086 0110\n    odd 29 C1 sub ax,ax\n",
+        2,
+        ListKind::Odd,
+    )?;
+    check_fault(
+        &rt,
+        alloc,
+        b"; dcc list 1 8086 0110\n    nop\n0002:\n",
+        3,
+        ListKind::Place,
+    )
 }
 
 #[test]

@@ -527,8 +527,8 @@ module _ (before after : Graph) (link : Link) (entry : after.entry ≡ before.en
           second = second;
           outside = together.outside;
           holds = subst (λ r. link point.place r (scene_of s) t.running.values) (sym together.first.at.rest)
-                (subst (λ (g : Graph). link point.place (after_calls point.calls s.running.block.stmts) (record (scene_of s) { bits = g.bits }) t.running.values) (sym first)
-                (together.holds s.running.block placed s.running.base s.memory));
+              (subst (λ (g : Graph). link point.place (after_calls point.calls s.running.block.stmts) (record (scene_of s) { bits = g.bits }) t.running.values) (sym first)
+              (together.holds s.running.block placed s.running.base s.memory));
           fit = is-fit s together.first.fits;
           fit' = is-fit t together.second.fits;
           formed = subst (λ (g : Graph). list_all (is_stmt g.bits) s.running.rest ≡ true) first (subst (λ r. list_all (is_stmt s.running.graph.bits) r ≡ true) (sym together.first.at.rest) left);

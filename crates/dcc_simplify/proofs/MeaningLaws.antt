@@ -48,8 +48,7 @@ module _ (bits : List ℕ) (As : Expr → Expr → Type 0) (sound : (e e' : Expr
       let two = both (kind && is_expr_of bits width a) (is_expr_of bits width b) ok in
       let one = both kind (is_expr_of bits width a) two.0 in
       let m = wide-means width a a' h one.1 in
-      let n = wide-means width b b' k two.1 in
-      (
+      let n = wide-means width b b' k two.1 in (
         divides m.0 n.0,
         both_hold (kind && is_expr_of bits width a') (is_expr_of bits width b') (both_hold kind (is_expr_of bits width a') one.0 m.1) n.1,
       )
@@ -125,8 +124,7 @@ module _ (bits : List ℕ) (As : Expr → Expr → Type 0) (sound : (e e' : Expr
   exit-means count exit exit' (tests {test = e} {test' = e'} {one = one} {other = other} h) ok =
       let two = both (is_expr_of bits 1 e && nat_lt one count) (nat_lt other count) ok in
       let first = both (is_expr_of bits 1 e) (nat_lt one count) two.0 in
-      let m = wide-means 1 e e' h first.0 in
-      (
+      let m = wide-means 1 e e' h first.0 in (
         tests m.0,
         both_hold (is_expr_of bits 1 e' && nat_lt one count) (nat_lt other count) (both_hold (is_expr_of bits 1 e') (nat_lt one count) m.1 first.1) two.1,
       )
@@ -134,8 +132,7 @@ module _ (bits : List ℕ) (As : Expr → Expr → Type 0) (sound : (e e' : Expr
       let all = list_all (λ place. nat_lt place count) places in
       let two = both (is_expr_of bits 16 e && nat_le (length places) 65536) all ok in
       let first = both (is_expr_of bits 16 e) (nat_le (length places) 65536) two.0 in
-      let m = wide-means 16 e e' h first.0 in
-      (
+      let m = wide-means 16 e e' h first.0 in (
         switches m.0,
         both_hold (is_expr_of bits 16 e' && nat_le (length places) 65536) all (both_hold (is_expr_of bits 16 e') (nat_le (length places) 65536) m.1 first.1) two.1,
       )
@@ -148,8 +145,7 @@ module _ (bits : List ℕ) (As : Expr → Expr → Type 0) (sound : (e e' : Expr
   block-means count b c h ok =
       let two = both (list_all (is_stmt bits) b.stmts) (is_exit bits count b.exit) ok in
       let m = stmts-mean b.stmts c.stmts h.stmts two.0 in
-      let n = exit-means count b.exit c.exit h.exit two.1 in
-      (
+      let n = exit-means count b.exit c.exit h.exit two.1 in (
         record { at = h.at; stmts = m.0; exit = n.0 },
         both_hold (list_all (is_stmt bits) c.stmts) (is_exit bits count c.exit) m.1 n.1,
       )

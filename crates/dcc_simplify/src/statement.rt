@@ -8,7 +8,7 @@ ghost use Rattle.dcc_simplify.specs.Reshaped.{IsDivisionAs, IsArgumentAs, IsStmt
 ghost use Rattle.dcc_simplify.specs.Simplified.{IsSimplified};
 
 use dcc_ir::{End, Expr, Stmt};
-use dcc_rules::{simplify, RuleList};
+use dcc_rules::{RuleList, simplify};
 use std::alloc::{AllocError, Global};
 
 /// What expressions are made simpler by: the rules, and the bits of the temporaries.
