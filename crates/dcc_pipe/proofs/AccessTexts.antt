@@ -242,7 +242,7 @@ module _ (g : inner.Graph) (formed : IsGraph g) (word : Word) (apart : IsApart g
 
   -- the opposite comparison
   turned-away : (e c : Expr) → IsTurned e c → Away e → Away c
-  turned-away (Binary operator a b) (Binary other a' b') (turns o) x = x
+  turned-away e c (turns operator other a b o) x = x
 
   unary-away : (operator : UnOp) (width : ℕ) (e : Expr) → Away e → Away (unary_text operator width e)
   unary-away Neg width e x = x

@@ -249,9 +249,9 @@ module _ (whole : Tree) (f : Function) (s : Spelling) (graph : inner.Graph) (lev
         }) (λ c o. fine-turned (text s Exact false test) c o (by true z low))
 
         fine-turned : (e c : tree.Expr) → IsTurned e c → IsFineTest e → IsFineTest c
-        fine-turned (tree.Binary operator a b) (tree.Binary other a' b') (turns o) x = record {
+        fine-turned e c (turns operator other a b o) x = record {
           writable = x.writable;
-          number = ap (λ t. elim t [ Some type ↦ not type.pointer | None ↦ false ]) (turned-type (declared_in whole f) (tree.Binary operator a b) (tree.Binary other a b) (turns o)) ∙ x.number;
+          number = ap (λ t. elim t [ Some type ↦ not type.pointer | None ↦ false ]) (turned-type (declared_in whole f) (tree.Binary operator a b) (tree.Binary other a b) (turns operator other a b o)) ∙ x.number;
           low = x.low;
         }
 

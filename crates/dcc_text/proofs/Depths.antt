@@ -51,7 +51,7 @@ binary-has d names others operator a b x y = record { shallow = omega (arith, ma
 
 -- the opposite comparison
 pub turned-has : (d : ℕ) (names : List Word) (e c : Expr) → IsTurned e c → Has d names e → Has d names c
-turned-has d names (Binary operator a b) (Binary other a' b') (turns o) x = record { shallow = x.shallow; reads = x.reads }
+turned-has d names e c (turns operator other a b o) x = record { shallow = x.shallow; reads = x.reads }
 
 -- with a number at the right
 numbered-has : (d : ℕ) (names : List Word) (operator : CBin) (e : Expr) (n : ℕ) (base : Base) → Has (suc d) names e → Has (suc (suc d)) names (Binary operator e (Number n base))

@@ -1,9 +1,9 @@
 -- Comparisons and their opposites.
-use Rattle.std.proofs.Common.{◌≡◌, ℕ, Bool, true, false, Some, None, refl, sym, ap, ◌∙◌, subst, inl, inr, cases_Bool}
+use Rattle.std.proofs.Common.{◌≡◌, ℕ, Bool, true, false, Some, None, refl, sym, ap, ◌∙◌, subst}
 use Rattle.std.specs.Prelude.{not, ◌==◌, if◌then◌else◌, List, map, Option, option_map}
 use Rattle.std.specs.Int.{from_bool}
 use Rattle.dcc_c.specs.declared.syntax.Base.{Base}
-use Rattle.dcc_c.specs.declared.syntax.Base.TheVariants.{Int}
+use Rattle.dcc_c.specs.declared.syntax.Base.TheVariants.{Int, Uint}
 use Rattle.dcc_c.specs.declared.syntax.CBin.{CBin}
 use Rattle.dcc_c.specs.declared.syntax.CBin.TheVariants.{Eq, Ne, Lt, Le, Gt, Ge}
 use Rattle.dcc_c.specs.declared.syntax.CType.{CType}
@@ -39,7 +39,7 @@ opposite-is operator other is = absurd cc
 
 -- the second expression is the opposite comparison of the operands
 pub data IsTurned : Expr → Expr → Type 0 where
-  turns : {operator other : CBin} {a b : Expr} → Opposite operator other → IsTurned (Binary operator a b) (Binary other a b)
+  turns : (operator other : CBin) (a b : Expr) → Opposite operator other → IsTurned (Binary operator a b) (Binary other a b)
 
 -- What holds of the opposite comparison, and of what is made of an expression else, holds of the one of both that stands.
 pub turned-cases : (P : Expr → Type 0) (make : Expr → Expr) (e : Expr) → P (make e) → ((c : Expr) → IsTurned e c → P c) → P (turned_or make e)
@@ -48,7 +48,7 @@ turned-cases P make (Binary operator a b) made opposite = by (opposite_symbol op
     by : (o : Option CBin) → opposite_symbol operator ≡ o
         → P (elim (option_map (λ other. Binary other a b) o) [ Some c ↦ c | None ↦ make (Binary operator a b) ])
     by None is = made
-    by (Some other) is = opposite (Binary other a b) (turns (opposite-is operator other is))
+    by (Some other) is = opposite (Binary other a b) (turns operator other a b (opposite-is operator other is))
 turned-cases P make e made opposite = made
 
 -- Values.
@@ -82,29 +82,53 @@ by-pointers P true false same p p' n n' u x y = u
 by-pointers P false true same p p' n n' u x y = u
 by-pointers P false false same p p' n n' u x y = y
 
-both-apart : {operator other : CBin} → Opposite operator other → (v w : Value) → AreOpposite (both_values operator v w) (both_values other v w)
-both-apart equal v w = by-pointers AreOpposite v.type.pointer w.type.pointer (same_type v.type w.type) _ _ _ _ undefined (compared-apart equal _ _ _) (compared-apart equal _ _ _)
-both-apart unequal v w = by-pointers AreOpposite v.type.pointer w.type.pointer (same_type v.type w.type) _ _ _ _ undefined (compared-apart unequal _ _ _) (compared-apart unequal _ _ _)
-both-apart less v w = by-pointers AreOpposite v.type.pointer w.type.pointer (same_type v.type w.type) _ _ _ _ undefined (compared-apart less _ _ _) (compared-apart less _ _ _)
-both-apart not_less v w = by-pointers AreOpposite v.type.pointer w.type.pointer (same_type v.type w.type) _ _ _ _ undefined (compared-apart not_less _ _ _) (compared-apart not_less _ _ _)
-both-apart not_greater v w = by-pointers AreOpposite v.type.pointer w.type.pointer (same_type v.type w.type) _ _ _ _ undefined (compared-apart not_greater _ _ _) (compared-apart not_greater _ _ _)
-both-apart greater v w = by-pointers AreOpposite v.type.pointer w.type.pointer (same_type v.type w.type) _ _ _ _ undefined (compared-apart greater _ _ _) (compared-apart greater _ _ _)
+module _ (v w : Value) where
+  abbrev common : Base
+  common = common_type v.type.base w.type.base
+
+  abbrev first : ℕ
+  first = convert v.type.base common v.bits
+
+  abbrev second : ℕ
+  second = convert w.type.base common w.bits
+
+  -- what a comparison of the values comes to
+  abbrev comparing : CBin → Outcome Value
+  comparing operator =
+      if v.type.pointer then (
+      if w.type.pointer then (if same_type v.type w.type then compared operator Uint v.bits w.bits else Undefined) else Undefined
+      ) else if w.type.pointer then Undefined else compared operator common first second
+
+  comparing-apart : (operator other : CBin) → Opposite operator other → AreOpposite (comparing operator) (comparing other)
+  comparing-apart operator other o =
+      by-pointers AreOpposite v.type.pointer w.type.pointer (same_type v.type w.type)
+      (compared operator Uint v.bits w.bits) (compared other Uint v.bits w.bits)
+      (compared operator common first second) (compared other common first second)
+      undefined (compared-apart o Uint v.bits w.bits) (compared-apart o common first second)
+
+  both-apart : {operator other : CBin} → Opposite operator other → AreOpposite (both_values operator v w) (both_values other v w)
+  both-apart equal = comparing-apart Eq Ne equal
+  both-apart unequal = comparing-apart Ne Eq unequal
+  both-apart less = comparing-apart Lt Ge less
+  both-apart not_less = comparing-apart Ge Lt not_less
+  both-apart not_greater = comparing-apart Le Gt not_greater
+  both-apart greater = comparing-apart Gt Le greater
 
 outcomes-apart : {operator other : CBin} → Opposite operator other → (x y : Outcome Value)
     → AreOpposite (and_then (λ v. and_then (both_values operator v) y) x) (and_then (λ v. and_then (both_values other v) y) x)
-outcomes-apart o (Gives v) (Gives w) = both-apart o v w
+outcomes-apart o (Gives v) (Gives w) = both-apart v w o
 outcomes-apart o (Gives v) Divides = divides
 outcomes-apart o (Gives v) Undefined = undefined
 outcomes-apart o Divides y = divides
 outcomes-apart o Undefined y = undefined
 
 values-apart : (scope : Scope) (e c : Expr) → IsTurned e c → AreOpposite (value_of scope e) (value_of scope c)
-values-apart scope (Binary operator a b) (Binary other c d) (turns equal) = outcomes-apart equal (value_of scope a) (value_of scope b)
-values-apart scope (Binary operator a b) (Binary other c d) (turns unequal) = outcomes-apart unequal (value_of scope a) (value_of scope b)
-values-apart scope (Binary operator a b) (Binary other c d) (turns less) = outcomes-apart less (value_of scope a) (value_of scope b)
-values-apart scope (Binary operator a b) (Binary other c d) (turns not_less) = outcomes-apart not_less (value_of scope a) (value_of scope b)
-values-apart scope (Binary operator a b) (Binary other c d) (turns not_greater) = outcomes-apart not_greater (value_of scope a) (value_of scope b)
-values-apart scope (Binary operator a b) (Binary other c d) (turns greater) = outcomes-apart greater (value_of scope a) (value_of scope b)
+values-apart scope e c (turns operator other a b equal) = outcomes-apart equal (value_of scope a) (value_of scope b)
+values-apart scope e c (turns operator other a b unequal) = outcomes-apart unequal (value_of scope a) (value_of scope b)
+values-apart scope e c (turns operator other a b less) = outcomes-apart less (value_of scope a) (value_of scope b)
+values-apart scope e c (turns operator other a b not_less) = outcomes-apart not_less (value_of scope a) (value_of scope b)
+values-apart scope e c (turns operator other a b not_greater) = outcomes-apart not_greater (value_of scope a) (value_of scope b)
+values-apart scope e c (turns operator other a b greater) = outcomes-apart greater (value_of scope a) (value_of scope b)
 
 -- Types.
 
@@ -119,7 +143,7 @@ types-same o (Some x) None = refl
 types-same o None y = refl
 
 pub turned-type : (names : List Declared) (e c : Expr) → IsTurned e c → type_of names c ≡ type_of names e
-turned-type names (Binary operator a b) (Binary other c d) (turns o) = types-same o (type_of names a) (type_of names b)
+turned-type names e c (turns operator other a b o) = types-same o (type_of names a) (type_of names b)
 
 -- Numbers.
 
@@ -141,7 +165,8 @@ module _ (scope : Scope) where
   pub turned-number : (e c : Expr) (base : Base) (k : ℕ) → IsTurned e c → IsNumber scope base k e → Turns scope base k c
   turned-number e c base k o x = by (value_of scope e) (value_of scope c) (values-apart scope e c o) x.valued refl
     where
-      names : List Declared = map declared_by scope.variables
+      names : List Declared
+      names = map declared_by scope.variables
 
       by : (p q : Outcome Value) → AreOpposite p q → p ≡ Gives (number base k) → value_of scope c ≡ q → Turns scope base k c
       by p q (truths b) gives there =

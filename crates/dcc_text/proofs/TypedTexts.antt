@@ -102,8 +102,12 @@ module _ (names : List Declared) where
 
   -- the opposite comparison
   turned-is : (width : ℕ) (a c : tree.Expr) → IsTurned a c → Is width a → Is width c
-  turned-is width (tree.Binary operator a b) (tree.Binary other a' b') (turns o) x =
-      record x { typed = turned-type names (tree.Binary operator a b) (tree.Binary other a b) (turns o) ∙ x.typed }
+  turned-is width e c (turns operator other a b o) x = record {
+    writable = x.writable;
+    base = x.base;
+    typed = turned-type names (tree.Binary operator a b) (tree.Binary other a b) (turns operator other a b o) ∙ x.typed;
+    narrow = x.narrow;
+  }
 
   bit-read-is : (way : Way) (votes settled : Bool) (type : CType) (e : tree.Expr) → Is 1 e → Is 1 (bit_read way votes settled type e)
   bit-read-is Low votes settled type e x = x

@@ -160,7 +160,7 @@ module _ (s : Spelling) (word : Word) (others : (distance : ℕ) (p : Placed) �
 
   -- the opposite comparison
   turned-none : (e c : Expr) → IsTurned e c → None-taken e → None-taken c
-  turned-none (Binary operator a b) (Binary other a' b') (turns o) x = x
+  turned-none e c (turns operator other a b o) x = x
 
   unary-none : (operator : UnOp) (width : ℕ) (e : Expr) → None-taken e → None-taken (unary_text operator width e)
   unary-none Neg width e x = x
