@@ -42,7 +42,8 @@ use Rattle.dcc_c.specs.Tree.{Word, Expr, Number, Name, Unary, Binary, Cast, Stmt
 use Rattle.dcc_c.specs.Types.{is_signed, plain, same_type}
 use Rattle.dcc_text.specs.Holding.{IsWithin}
 use Rattle.dcc_text.specs.Names.{names_in, place_name, read_names}
-use Rattle.dcc_text.specs.Spelled.{Way, Low, Exact, Signed, unsigned_type, signed_type, reckoning_type, small, cut, signed_reading, cut_to, taken, constant, as_char, bit_read, variable, placed, pointer, operand_way, unary_text, left_way, right_way, symbol, unary_result, binary_result, votes_left, votes_right, moved_down, joined, text, byte_quotient, byte_remainder, division_text, text_division}
+use Rattle.dcc_text.specs.Spelled.{Way, Low, Exact, Signed, unsigned_type, signed_type, reckoning_type, small, cut, signed_reading, cut_to, taken, constant, as_char, bit_read, variable, placed, pointer, operand_way, flipped, turned_or, unary_text, left_way, right_way, symbol, unary_result, binary_result, votes_left, votes_right, moved_down, joined, text, byte_quotient, byte_remainder, division_text, text_division}
+use Rattle.dcc_text.proofs.Opposites.{IsTurned, turns, turned-cases}
 use Rattle.dcc_text.specs.Spelling.{Placed, Spelling}
 use Rattle.dcc_text.specs.Stmts.{place_of, wanted_way, stmt_text}
 use Rattle.dcc_text.proofs.Depths.{pointer-has, text-has, depth-some}
@@ -239,10 +240,15 @@ module _ (g : inner.Graph) (formed : IsGraph g) (word : Word) (apart : IsApart g
       let none = either p.is_array (Name p.name) (Unary AddressOf (Name p.name)) refl refl in
       either (p.above == 0) at (Binary Plus at (Number p.above Uint)) none (both-away Plus at (Number p.above Uint) none refl)
 
+  -- the opposite comparison
+  turned-away : (e c : Expr) → IsTurned e c → Away e → Away c
+  turned-away e c (turns operator other a b o) x = x
+
   unary-away : (operator : UnOp) (width : ℕ) (e : Expr) → Away e → Away (unary_text operator width e)
   unary-away Neg width e x = x
   unary-away Not width e x =
-      either (width == 1) (Binary BitXor e (small 1)) (Unary Complement e) (both-away BitXor e (small 1) x refl) x
+      either (width == 1) (turned_or flipped e) (Unary Complement e)
+      (turned-cases Away flipped e (both-away BitXor e (small 1) x refl) (λ c o. turned-away e c o x)) x
   unary-away IsZero width e x = both-away Equal e (small 0) x refl
 
   moved-away : (first : ℕ) (e : Expr) → Away e → Away (moved_down first e)

@@ -27,7 +27,7 @@ use Rattle.dcc_c.specs.declared.syntax.CUn.TheVariants.{Not}
 use Rattle.dcc_c.specs.Typing.{unary_type}
 use Rattle.dcc_c.specs.Token.{same_bytes}
 use Rattle.dcc_c.specs.Tree as tree
-use Rattle.dcc_c.specs.Tree.{Word, Stmt, Function, Tree, Lines, no_lines, line}
+use Rattle.dcc_c.specs.Tree.{Word, Unary, Stmt, Function, Tree, Lines, no_lines, line}
 use Rattle.dcc_c.specs.Types.{plain, promoted_type, same_type}
 use Rattle.dcc_c.proofs.Writable.{is_label, are_cases, is_writable_expr, is_writable_stmt, are_writable_lines, are_writable_arms}
 use Rattle.dcc_text.specs.Allowed.{AreDeclared, IsAllowedExpr, IsAllowedStmt}
@@ -36,6 +36,7 @@ use Rattle.dcc_text.specs.Spelling.{Spelling}
 use Rattle.dcc_text.specs.Stmts.{stmt_text}
 use Rattle.dcc_text.proofs.AllowedStmts.{IsNamed, AreNamed, IsLow, stmt-allowed}
 use Rattle.dcc_text.proofs.Depths.{shallow}
+use Rattle.dcc_text.proofs.Opposites.{IsTurned, turns, turned-cases, turned-type}
 use Rattle.dcc_text.proofs.TypedTexts.{text-allowed}
 use Rattle.dcc_variables.specs.Functions.{ret_text}
 use Rattle.dcc_plan.specs.Allowed.{has_an_arm, may_stand, item_may_stand, arms_may_stand, may_give, may_return, CallsFit, ReturnsFit, IsSpelled, PlanTextsAreAllowed}
@@ -240,11 +241,18 @@ module _ (whole : Tree) (f : Function) (s : Spelling) (graph : inner.Graph) (lev
       where
         by : (on : Bool) → IsAllowedExpr (declared_in whole f) 1 (text s Exact false test) → IsLow levels test → IsFineTest (text_of_way s on (inner.If test yes_place no_place))
         by true z low = record { writable = z.writable; number = ap (λ t. elim t [ Some type ↦ not type.pointer | None ↦ false ]) z.typed; low = end-shallow test Exact low }
-        by false z low = record {
+        by false z low = turned-cases IsFineTest (Unary Not) (text s Exact false test) (record {
           writable = z.writable;
           number = ap (λ t. elim (option_and_then (unary_type Not) t) [ Some type ↦ not type.pointer | None ↦ false ]) z.typed;
           low = and_from (nat_le (suc (expr_depth (text s Exact false test))) limit) true
               (le-leb (suc (expr_depth (text s Exact false test))) limit (omega (arith, enough, low, shallow s test Exact false))) refl;
+        }) (λ c o. fine-turned (text s Exact false test) c o (by true z low))
+
+        fine-turned : (e c : tree.Expr) → IsTurned e c → IsFineTest e → IsFineTest c
+        fine-turned e c (turns operator other a b o) x = record {
+          writable = x.writable;
+          number = ap (λ t. elim t [ Some type ↦ not type.pointer | None ↦ false ]) (turned-type (declared_in whole f) (tree.Binary operator a b) (tree.Binary other a b) (turns operator other a b o)) ∙ x.number;
+          low = x.low;
         }
 
     test-fine : (around : Around) (on : Bool) (one two p q : Plan) (first second : Lines) (test : inner.Expr) (yes_place no_place : ℕ) → block.exit ≡ inner.If test yes_place no_place

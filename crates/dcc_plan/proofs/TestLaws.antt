@@ -1,6 +1,7 @@
 -- What tests and choices at ends of blocks give in the text.
 use Rattle.std.proofs.Common.{◌≡◌, ℕ, zero, suc, ◌<◌, inl, inr, Bool, true, false, ◌==◌, refl, sym, ap, ◌∙◌, subst, true≢false, arith}
 use Rattle.std.specs.Prelude.{◌⊎◌, not}
+use Rattle.std.specs.Int.{from_bool}
 use Rattle.std.proofs.lemmas.Bool.{and_parts, eqb-true}
 use Rattle.dcc_ir.specs.Run as inner_run
 use Rattle.dcc_ir.specs.Tree as inner
@@ -10,7 +11,7 @@ use Rattle.dcc_c.specs.declared.syntax.Base.{Base}
 use Rattle.dcc_c.specs.declared.syntax.Base.TheVariants.{Uchar, Int, Uint}
 use Rattle.dcc_c.specs.declared.syntax.CUn.TheVariants.{Not}
 use Rattle.dcc_c.specs.Run as text_run
-use Rattle.dcc_c.specs.Tree.{Tree}
+use Rattle.dcc_c.specs.Tree.{Tree, Expr, Unary}
 use Rattle.dcc_c.specs.Types.{plain, convert, promoted_type}
 use Rattle.dcc_c.specs.Value as text_value
 use Rattle.dcc_c.specs.Value.{Value, number, converted, truth, is_zero, and_then, unary_value, Gives}
@@ -19,6 +20,7 @@ use Rattle.dcc_text.specs.Spelled.{Way, Low, Exact, text}
 use Rattle.dcc_text.specs.Holding.{Locations, Alike, IsWithin, Holds}
 use Rattle.dcc_text.proofs.Sizes.{Size, bit, word, bits, kept}
 use Rattle.dcc_text.proofs.Ways.{Text, carries, word-cast}
+use Rattle.dcc_text.proofs.Opposites.{IsTurned, turned-cases, turned-number}
 use Rattle.dcc_text.proofs.Texts.{stands, same-size}
 use Rattle.dcc_text.proofs.Assignments.{shown-within}
 use Rattle.dcc_plan.specs.PlanText.{text_of_way}
@@ -65,16 +67,37 @@ module _ (s : Spelling) (tree : Tree) (Has : Locations) (AreAlike : Alike) (i : 
     pub gives : text_value.value_of (text_run.scope_of tree t) (text_of_way s on (inner.If e one other)) ≡ Gives value
     pub zero : is_zero value ≡ comes_to_zero on (inner_run.value_in i e)
 
+  -- the expression comes to 0 where a test comes to another number
+  record IsOpposite (n : ℕ) (c : Expr) : Type 0 where
+    pub value : Value
+    pub gives : text_value.value_of (text_run.scope_of tree t) c ≡ Gives value
+    pub zero : is_zero value ≡ not (n == 0)
+
+  told-zero : (b : Bool) → (from_bool (not b) == 0) ≡ not (from_bool b == 0)
+  told-zero true = refl
+  told-zero false = refl
+
+  -- so the opposite of a comparison does
+  by-turned : (n : ℕ) (a c : Expr) → IsTurned a c → Text (text_run.scope_of tree t) Exact bit n a → IsOpposite n c
+  by-turned n a c o x =
+      let z = turned-number (text_run.scope_of tree t) a c x.base x.k o x.number_is in record {
+        value = number Int (from_bool (not z.told));
+        gives = z.opposite.valued;
+        zero = told-zero z.told ∙ ap (λ k. not (k == 0)) (sym z.is ∙ x.means);
+      }
+
   pub way-gives : (on : Bool) (e : inner.Expr) (one other : ℕ) → is_expr_of s.bits 1 e ≡ true → IsWithin s Has e → Turns on e one other
   way-gives true e one other formed within =
       let x = test-gives e formed within in record { value = number x.base x.k; gives = x.gives; zero = ap (λ k. k == 0) x.is }
   way-gives false e one other formed within =
       let x = text-of e bit Exact formed within in
-      let same = promoted-bit x.base x.k (inner_run.value_in i e) x.is x.means x.fits in record {
+      let same = promoted-bit x.base x.k (inner_run.value_in i e) x.is x.means x.fits in
+      let z = turned-cases (IsOpposite (inner_run.value_in i e)) (Unary Not) (text s Exact false e) (record {
         value = truth (convert x.base (promoted_type x.base) x.k == 0);
         gives = ap (and_then (unary_value Not)) x.number_is.valued;
         zero = truth-opposite (convert x.base (promoted_type x.base) x.k == 0) ∙ ap (λ k. not (k == 0)) same;
-      }
+      }) (λ c o. by-turned (inner_run.value_in i e) (text s Exact false e) c o x) in
+      record { value = z.value; gives = z.gives; zero = z.zero }
 
   -- a choice is by the value
   pub record Chooses (e : inner.Expr) : Type 0 where

@@ -8,7 +8,7 @@ use Rattle.dcc_c.specs.declared.syntax.CUn.TheVariants.{Not}
 use Rattle.dcc_c.specs.Tree.{Expr, Number, Unary, Stmt, If, While, DoWhile, Forever, Switch, Break, Continue, Goto}
 use Rattle.dcc_c.specs.Tree.{Label, Empty, Lines, no_lines, line, Arms, no_arms, arm}
 use Rattle.dcc_text.specs.Spelling.{Spelling}
-use Rattle.dcc_text.specs.Spelled.{Low, Exact, text}
+use Rattle.dcc_text.specs.Spelled.{Low, Exact, text, turned_or}
 use Rattle.dcc_text.specs.Stmts.{stmt_text}
 use Rattle.dcc_variables.specs.Functions.{ret_text}
 use Rattle.dcc_plan.specs.Labels.{label_at}
@@ -31,7 +31,7 @@ text_of_test s _ = Number 0 Int
 -- the test, or its opposite, that comes to a truth value where the test comes to this one
 abbrev pub text_of_way : Spelling → Bool → inner.Exit → Expr
 text_of_way s true exit = text_of_test s exit
-text_of_way s false exit = Unary Not (text_of_test s exit)
+text_of_way s false exit = turned_or (Unary Not) (text_of_test s exit)
 
 -- the value that a block's end chooses by: a `switch` takes it modulo 65536
 abbrev pub text_of_choice : Spelling → inner.Exit → Expr

@@ -16,6 +16,7 @@ use dcc_control::{Arm, Item};
 use dcc_ir::{Block, End, Expr, Graph};
 use dcc_text::expression::expr_text;
 use dcc_text::hex::name_at;
+use dcc_text::operator::turned;
 use dcc_text::statement::stmt_text;
 use dcc_text::{Spells, Way};
 use std::alloc::{AllocError, Global};
@@ -96,9 +97,11 @@ fn way_at<S: Spells>(
 {
     let test = test_at(alloc, s, graph, b)?;
     if on {
-        Ok(test)
-    } else {
-        Ok(CExpr::Un(CUn::Not, Box::new(alloc, test)?))
+        return Ok(test);
+    }
+    match turned(test) {
+        Ok(opposite) => Ok(opposite),
+        Err(test) => Ok(CExpr::Un(CUn::Not, Box::new(alloc, test)?)),
     }
 }
 

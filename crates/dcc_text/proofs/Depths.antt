@@ -17,8 +17,9 @@ use Rattle.dcc_c.specs.Rules.{expr_depth}
 use Rattle.dcc_c.specs.Types.{is_signed, plain, pointer_to, same_type}
 use Rattle.dcc_c.specs.Tree.{Word, Expr, Number, Name, Unary, Binary, Cast}
 use Rattle.dcc_text.specs.Spelling.{Placed, Spelling}
-use Rattle.dcc_text.specs.Spelled.{Way, Low, Exact, Signed, unsigned_type, cut, signed_reading, cut_to, taken, constant, as_char, bit_read, variable, placed, pointer, operand_way, unary_text, unary_result, left_way, right_way, votes_left, votes_right, binary_result, text}
+use Rattle.dcc_text.specs.Spelled.{Way, Low, Exact, Signed, unsigned_type, cut, signed_reading, cut_to, taken, constant, as_char, bit_read, variable, placed, pointer, operand_way, flipped, unary_text, unary_result, left_way, right_way, votes_left, votes_right, binary_result, text}
 use Rattle.dcc_text.specs.Names.{names_in, place_name, read_names}
+use Rattle.dcc_text.proofs.Opposites.{IsTurned, turns, turned-cases}
 
 -- at most so many levels, and these names
 pub record Has (depth : ℕ) (names : List Word) (e : Expr) : Type 0 where
@@ -47,6 +48,10 @@ max-below a b c first second = omega (arith, first, second)
 
 binary-has : (d : ℕ) (names others : List Word) (operator : CBin) (a b : Expr) → Has d names a → Has d others b → Has (suc d) (names ++ others) (Binary operator a b)
 binary-has d names others operator a b x y = record { shallow = omega (arith, max-below (expr_depth a) (expr_depth b) d x.shallow y.shallow); reads = ap₂ (λ n m. n ++ m) x.reads y.reads }
+
+-- the opposite comparison
+pub turned-has : (d : ℕ) (names : List Word) (e c : Expr) → IsTurned e c → Has d names e → Has d names c
+turned-has d names e c (turns operator other a b o) x = record { shallow = x.shallow; reads = x.reads }
 
 -- with a number at the right
 numbered-has : (d : ℕ) (names : List Word) (operator : CBin) (e : Expr) (n : ℕ) (base : Base) → Has (suc d) names e → Has (suc (suc d)) names (Binary operator e (Number n base))
@@ -135,7 +140,10 @@ module _ (s : Spelling) where
 
   unary-text-has : (operator : UnOp) (width d : ℕ) (names : List Word) (e : Expr) → Has (suc d) names e → Has (suc (suc d)) names (unary_text operator width e)
   unary-text-has Neg width d names e x = unary-has (suc d) names _ e x
-  unary-text-has Not width d names e x = either-has (width == 1) (suc (suc d)) names _ _ (numbered-has d names _ e 1 Int x) (unary-has (suc d) names _ e x)
+  unary-text-has Not width d names e x =
+      either-has (width == 1) (suc (suc d)) names _ _
+      (turned-cases (Has (suc (suc d)) names) flipped e (numbered-has d names _ e 1 Int x) (λ c o. deeper (suc d) (suc (suc d)) names c (omega arith) (turned-has (suc d) names e c o x)))
+      (unary-has (suc d) names _ e x)
   unary-text-has IsZero width d names e x = numbered-has d names _ e 0 Int x
 
   pub depth-some : (e : inner.Expr) → 1 ≤ depth_of e

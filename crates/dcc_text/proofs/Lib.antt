@@ -7,6 +7,7 @@ pub mod Ways
 pub mod Wide
 pub mod Sums
 pub mod Operands
+pub mod Opposites
 pub mod Turns
 pub mod Comparisons
 pub mod Shifts

@@ -1,6 +1,7 @@
 -- Numbers with the other sign, complements, and the test for 0.
-use Rattle.std.proofs.Common.{◌≡◌, ℕ, ◌-◌, ◌%◌, ◌^◌, ◌<◌, true, refl, ap, ◌∙◌, subst, arith}
-use Rattle.std.specs.Prelude.{bit_xor}
+use Rattle.std.proofs.Common.{◌≡◌, ℕ, ◌-◌, ◌%◌, ◌^◌, ◌<◌, Bool, true, false, refl, sym, ap, ap₂, ◌∙◌, subst, arith}
+use Rattle.std.specs.Prelude.{bit_xor, not}
+use Rattle.std.specs.Int.{from_bool}
 use Rattle.dcc_ir.specs.declared.syntax.UnOp.TheVariants.{Neg, Not}
 use Rattle.dcc_ir.specs.Value as inner
 use Rattle.dcc_c.specs.declared.syntax.Base.TheVariants.{Int}
@@ -10,13 +11,14 @@ use Rattle.dcc_c.specs.Types.{convert}
 use Rattle.dcc_c.specs.Arithmetic.{negated, complement}
 use Rattle.dcc_c.specs.Tree.{Expr, Unary, Binary}
 use Rattle.dcc_c.specs.Value.{Scope}
-use Rattle.dcc_text.specs.Spelled.{Way, Low, Exact, Signed, small, carried, bitwise, operand_way, unary_text}
+use Rattle.dcc_text.specs.Spelled.{Way, Low, Exact, Signed, small, carried, bitwise, operand_way, unary_text, flipped}
 use Rattle.dcc_text.proofs.Sizes.{Size, bit, byte, word, long, bits}
 use Rattle.dcc_text.proofs.Meanings.{IsNumber, small-number}
 use Rattle.dcc_text.proofs.Reckoning.{negated-number, complement-number}
 use Rattle.dcc_text.proofs.Ways.{Text, from-number, lowered}
 use Rattle.dcc_text.proofs.Wide.{is_wide, wide-bits, wide-promoted, wide-kept, wide-number, wide-text, narrow-promoted, int-kept, int-room}
 use Rattle.dcc_text.proofs.Operands.{exact-text}
+use Rattle.dcc_text.proofs.Opposites.{IsTurned, turned-number, turned-cases}
 use Rattle.dcc_text.proofs.Sums.{xor-text}
 
 module _ (scope : Scope) where
@@ -83,18 +85,39 @@ module _ (scope : Scope) where
   neg-text way long n a x = wide-negated way long n a refl x
 
   -- one bit, turned over
-  flipped : (n : ℕ) → n < 2 → bit_xor n 1 ≡ 1 - n
-  flipped n fits = grind arith
+  other-bit : (n : ℕ) → n < 2 → bit_xor n 1 ≡ 1 - n
+  other-bit n fits = grind arith
+
+  low : (b : Bool) → convert Int Int (from_bool b) % 2 ≡ from_bool b
+  low true = refl
+  low false = refl
+
+  exact : (n : ℕ) (c : Expr) (b : Bool) → n ≡ from_bool b → IsNumber scope Int (from_bool (not b)) c → Text scope Exact bit (1 - n) c
+  exact n c true is x = exact-text scope bit Int (1 - n) c refl (omega (arith, is)) (subst (λ k. IsNumber scope Int k c) (omega (arith, is)) x)
+  exact n c false is x = exact-text scope bit Int (1 - n) c refl (omega (arith, is)) (subst (λ k. IsNumber scope Int k c) (omega (arith, is)) x)
 
   one-bit : (way : Way) → Text scope (bitwise way 1) bit 1 (small 1)
   one-bit Low = lowered scope Exact bit 1 (small 1) (exact-text scope bit Int 1 (small 1) refl (omega arith) (small-number scope 1 (omega arith)))
   one-bit Exact = exact-text scope bit Int 1 (small 1) refl (omega arith) (small-number scope 1 (omega arith))
   one-bit Signed = exact-text scope bit Int 1 (small 1) refl (omega arith) (small-number scope 1 (omega arith))
 
+  -- the opposite of a comparison is the other bit
+  opposite-text : (way : Way) (n : ℕ) (a c : Expr) → IsTurned a c → Text scope (bitwise way 1) bit n a → Text scope (bitwise way 1) bit (1 - n) c
+  opposite-text Low n a c o x =
+      let z = turned-number scope a c x.base x.k o x.number_is in
+      let same = sym x.means ∙ ap₂ (λ b k. convert b Int k % 2) z.is_int z.is ∙ low z.told in
+      lowered scope Exact bit (1 - n) c (exact n c z.told same z.opposite)
+  opposite-text Exact n a c o x =
+      let z = turned-number scope a c x.base x.k o x.number_is in exact n c z.told (sym x.means ∙ z.is) z.opposite
+  opposite-text Signed n a c o x =
+      let z = turned-number scope a c x.base x.k o x.number_is in exact n c z.told (sym x.means ∙ z.is) z.opposite
+
   pub not-text : (way : Way) (size : Size) (n : ℕ) (a : Expr) → Text scope (operand_way Not way (bits size)) size n a
       → Text scope (operand_way Not way (bits size)) size (inner.unary_value Not (bits size) n) (unary_text Not (bits size) a)
   not-text way bit n a x =
-      subst (λ k. Text scope (bitwise way 1) bit k (Binary Xor a (small 1))) (flipped n x.fits) (xor-text scope way bit n 1 a (small 1) x (one-bit way))
+      turned-cases (Text scope (bitwise way 1) bit (1 - n)) flipped a
+      (subst (λ k. Text scope (bitwise way 1) bit k (Binary Xor a (small 1))) (other-bit n x.fits) (xor-text scope way bit n 1 a (small 1) x (one-bit way)))
+      (λ c o. opposite-text way n a c o x)
   not-text way byte n a x =
       let j = convert x.base Int x.k in
       let is = subst (λ t. IsNumber scope t (complement t (convert x.base t x.k)) (Unary Complement a)) (narrow-promoted Low byte x.base refl x.is) (complement-number scope x.base x.k a x.number_is) in

@@ -1,5 +1,5 @@
 -- The text of each expression is allowed where its names are declared.
-use Rattle.std.proofs.Common.{◌≡◌, ℕ, ◌+◌, ◌^◌, ◌<◌, ◌≤◌, inl, inr, Bool, true, false, ◌==◌, List, [], ◌∷◌, ◌++◌, Option, Some, None, refl, sym, ap, subst, true≢false, arith}
+use Rattle.std.proofs.Common.{◌≡◌, ℕ, ◌+◌, ◌^◌, ◌<◌, ◌≤◌, inl, inr, Bool, true, false, ◌==◌, List, [], ◌∷◌, ◌++◌, Option, Some, None, refl, sym, ap, ◌∙◌, subst, true≢false, arith}
 use Rattle.std.specs.Prelude.{◌&&◌, ◌||◌, not, nat_lt, nat_le, if◌then◌else◌, option_and_then, All}
 use Rattle.std.proofs.lemmas.Bool.{cases_Bool, and_parts, or_cases, eqb-true, ltb-true, leb-true}
 use Rattle.std.proofs.lemmas.List.Elements.{All-head, All-tail}
@@ -27,9 +27,10 @@ use Rattle.dcc_c.specs.Typing.{Declared, declared_as, type_of_name, type_of_addr
 use Rattle.dcc_c.proofs.TypeLaws.{same_type-decides}
 use Rattle.dcc_text.specs.Allowed.{IsDeclaredPlace, AreDeclared, IsAllowedExpr, ExpressionsAreAllowed}
 use Rattle.dcc_text.specs.Spelling.{Placed, Spelling}
-use Rattle.dcc_text.specs.Spelled.{Way, Low, Exact, Signed, unsigned_type, reckoning_type, small, as_char, bit_read, variable, taken, placed, pointer, operand_way, unary_result, unary_text, left_way, right_way, binary_result, votes_left, votes_right, symbol, joined, constant, text}
+use Rattle.dcc_text.specs.Spelled.{Way, Low, Exact, Signed, unsigned_type, reckoning_type, small, as_char, bit_read, variable, taken, placed, pointer, operand_way, unary_result, flipped, unary_text, left_way, right_way, binary_result, votes_left, votes_right, symbol, joined, constant, text}
 use Rattle.dcc_text.specs.Meaning.{is_type_for}
 use Rattle.dcc_text.proofs.Sizes.{Size, bit, byte, word, long, bits, size-of}
+use Rattle.dcc_text.proofs.Opposites.{IsTurned, turns, turned-cases, turned-type}
 use Rattle.dcc_text.proofs.Texts.{stored-is}
 use Rattle.dcc_text.proofs.Typings.{is_narrow, IsTyped, number-typed, plain-is, narrow-is, either, number-is, small-is, cast-typed, cast-is, minus-is, complement-is, deref-is, binary-is, truth-is, choice-is, cut-to-is, taken-is, constant-is, unsigned-narrow, reckoning-narrow}
 
@@ -99,6 +100,15 @@ module _ (names : List Declared) where
   by-small : (operator : CBin) (width n : ℕ) (e : tree.Expr) → n < 32768 → Is width e → Is width (tree.Binary operator e (small n))
   by-small operator width n e few x = binary-is names width operator e (small n) x (small-is names width n few)
 
+  -- the opposite comparison
+  turned-is : (width : ℕ) (a c : tree.Expr) → IsTurned a c → Is width a → Is width c
+  turned-is width e c (turns operator other a b o) x = record {
+    writable = x.writable;
+    base = x.base;
+    typed = turned-type names (tree.Binary operator a b) (tree.Binary other a b) (turns operator other a b o) ∙ x.typed;
+    narrow = x.narrow;
+  }
+
   bit-read-is : (way : Way) (votes settled : Bool) (type : CType) (e : tree.Expr) → Is 1 e → Is 1 (bit_read way votes settled type e)
   bit-read-is Low votes settled type e x = x
   bit-read-is Signed true settled type e x =
@@ -167,7 +177,8 @@ module _ (names : List Declared) where
 
     unary-text-is : (operator : UnOp) (width : ℕ) (a : tree.Expr) → Is width a → Is (if is_test operator then 1 else width) (unary_text operator width a)
     unary-text-is Neg width a x = minus-is names width a x
-    unary-text-is Not width a x = either names width (width == 1) _ _ (by-small Xor width 1 a (omega arith) x) (complement-is names width a x)
+    unary-text-is Not width a x =
+        either names width (width == 1) _ _ (turned-cases (Is width) flipped a (by-small Xor width 1 a (omega arith) x) (λ c o. turned-is width a c o x)) (complement-is names width a x)
     unary-text-is IsZero width a x = truth-is names 1 width Equal a (small 0) (λ c d. refl) x (small-is names width 0 (omega arith))
 
     binary-text-is : (operator : BinOp) (width : ℕ) (a b : tree.Expr) → Is width a → Is width b → Is (if is_comparison operator then 1 else width) (tree.Binary (symbol operator) a b)

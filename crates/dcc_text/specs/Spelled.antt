@@ -1,6 +1,6 @@
 -- The expressions of a graph as expressions of a text, in three ways.
 use Rattle.std.specs.Prelude.{ℕ, ◌+◌, ◌-◌, ◌^◌, ◌==◌, nat_lt, nat_le, Bool, true, false, ◌&&◌, not, if◌then◌else◌}
-use Rattle.std.specs.Prelude.{Option, Some, None}
+use Rattle.std.specs.Prelude.{Option, Some, None, option_map}
 use Rattle.dcc_ir.specs.declared.syntax.UnOp.{UnOp}
 use Rattle.dcc_ir.specs.declared.syntax.UnOp.TheVariants.{Neg, Not, IsZero}
 use Rattle.dcc_ir.specs.declared.syntax.BinOp.{BinOp}
@@ -15,6 +15,7 @@ use Rattle.dcc_c.specs.declared.syntax.CType.{CType}
 use Rattle.dcc_c.specs.declared.syntax.CUn.TheVariants.{Minus, Complement, Deref, AddressOf}
 use Rattle.dcc_c.specs.declared.syntax.CBin.{CBin}
 use Rattle.dcc_c.specs.declared.syntax.CBin.TheVariants.{Or as BitOr, Xor as BitXor, And as BitAnd, Eq as Equal, Lt, Le}
+use Rattle.dcc_c.specs.declared.syntax.CBin.TheVariants.{Ne as Unequal, Gt, Ge}
 use Rattle.dcc_c.specs.declared.syntax.CBin.TheVariants.{Shl as ShiftLeft, Shr as ShiftRight, Add as Plus, Sub as Less}
 use Rattle.dcc_c.specs.declared.syntax.CBin.TheVariants.{Mul as Times, Div as Over, Rem as Rest}
 use Rattle.dcc_c.specs.Types.{is_signed, plain, pointer_to, same_type}
@@ -148,9 +149,32 @@ operand_way Neg way width = carried way width
 operand_way Not way width = if width == 1 then bitwise way 1 else carried way width
 operand_way IsZero way width = compared width
 
+-- the comparison that is true of two numbers where this one is false
+abbrev pub opposite_symbol : CBin → Option CBin
+opposite_symbol Equal = Some Unequal
+opposite_symbol Unequal = Some Equal
+opposite_symbol Lt = Some Ge
+opposite_symbol Ge = Some Lt
+opposite_symbol Le = Some Gt
+opposite_symbol Gt = Some Le
+opposite_symbol operator = None
+
+-- where the expression is a comparison, the opposite one of the operands
+abbrev pub turned : Expr → Option Expr
+turned (Binary operator a b) = option_map (λ other. Binary other a b) (opposite_symbol operator)
+turned e = None
+
+-- the opposite comparison, or else what is made of the expression
+abbrev pub turned_or : (Expr → Expr) → Expr → Expr
+turned_or make e = elim (turned e) [ Some opposite ↦ opposite | None ↦ make e ]
+
+-- the other bit
+abbrev pub flipped : Expr → Expr
+flipped e = Binary BitXor e (small 1)
+
 abbrev pub unary_text : UnOp → ℕ → Expr → Expr
 unary_text Neg width a = Unary Minus a
-unary_text Not width a = if width == 1 then Binary BitXor a (small 1) else Unary Complement a
+unary_text Not width a = if width == 1 then turned_or flipped a else Unary Complement a
 unary_text IsZero width a = Binary Equal a (small 0)
 
 -- the way in which the left operand of an operator is taken, where the result is wanted in a way; `right_way`: the

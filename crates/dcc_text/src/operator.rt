@@ -1,6 +1,6 @@
 //! The operators of a graph in a text: the ways of their operands and results, and which operands they vote on.
 
-ghost use Rattle.std.specs.Prelude.{◌≡◌, if◌then◌else◌, IfOk};
+ghost use Rattle.std.specs.Prelude.{◌≡◌, if◌then◌else◌, IfOk, IfErr, Some, None};
 ghost use Rattle.dcc_ir.specs.Value.{is_comparison, is_test};
 ghost use Rattle.dcc_c.specs.Tree as tree;
 ghost use Rattle.dcc_c.specs.Views.{expr_of};
@@ -34,13 +34,52 @@ fn unary_result(operator: UnOp, way: Way, width: u32) -> Way
     }
 }
 
+// The comparison that is true of two numbers where this one is false.
+fn opposite_symbol(operator: CBin) -> Option<CBin>
+    ensures { result ≡ spec.opposite_symbol operator }
+{
+    match operator {
+        CBin::Eq => Some(CBin::Ne),
+        CBin::Ne => Some(CBin::Eq),
+        CBin::Lt => Some(CBin::Ge),
+        CBin::Ge => Some(CBin::Lt),
+        CBin::Le => Some(CBin::Gt),
+        CBin::Gt => Some(CBin::Le),
+        _ => None,
+    }
+}
+
+/// The opposite of a comparison. The error is an expression that is none, as it is.
+pub fn turned(e: CExpr) -> Result<CExpr, CExpr>
+    ensures turned { IfOk result (λ r. spec.turned (expr_of e) ≡ Some (expr_of r)) }
+    ensures none { IfErr result (λ r. spec.turned (expr_of e) ≡ None × r ≡ e) }
+{
+    match e {
+        CExpr::Bin(operator, a, b) => match opposite_symbol(operator) {
+            Some(other) => Ok(CExpr::Bin(other, a, b)),
+            None => Err(CExpr::Bin(operator, a, b)),
+        },
+        e => Err(e),
+    }
+}
+
+// The other bit: the opposite of a comparison, or else the exclusive or with 1.
+fn flipped(alloc: Global, e: CExpr) -> Result<CExpr, AllocError>
+    ensures { IfOk result (λ r. expr_of r ≡ spec.turned_or spec.flipped (expr_of e)) }
+{
+    match turned(e) {
+        Ok(opposite) => Ok(opposite),
+        Err(e) => binary(alloc, CBin::Xor, e, small(1)),
+    }
+}
+
 // The operator on the text of its operand.
 fn unary_text(alloc: Global, operator: UnOp, width: u32, a: CExpr) -> Result<CExpr, AllocError>
     ensures { IfOk result (λ r. expr_of r ≡ spec.unary_text operator width (expr_of a)) }
 {
     match operator {
         UnOp::Neg => unary(alloc, CUn::Minus, a),
-        UnOp::Not if width == 1 => binary(alloc, CBin::Xor, a, small(1)),
+        UnOp::Not if width == 1 => flipped(alloc, a),
         UnOp::Not => unary(alloc, CUn::Complement, a),
         UnOp::IsZero => binary(alloc, CBin::Eq, a, small(0)),
     }

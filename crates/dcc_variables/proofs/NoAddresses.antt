@@ -26,7 +26,8 @@ use Rattle.dcc_c.specs.Placement.{is_address_of, takes_address}
 use Rattle.dcc_c.specs.Token.{same_bytes}
 use Rattle.dcc_c.specs.Tree.{Word, Expr, Number, Name, Unary, Binary, Conditional, Cast, Stmt, Assign, Lines}
 use Rattle.dcc_c.specs.Types.{is_signed, plain, pointer_to, same_type}
-use Rattle.dcc_text.specs.Spelled.{Way, Low, Exact, Signed, unsigned_type, signed_type, reckoning_type, small, cut, signed_reading, cut_to, taken, constant, as_char, bit_read, variable, placed, pointer, operand_way, unary_text, left_way, right_way, symbol, unary_result, binary_result, votes_left, votes_right, moved_down, joined, text, byte_quotient, byte_remainder, division_text, text_division}
+use Rattle.dcc_text.specs.Spelled.{Way, Low, Exact, Signed, unsigned_type, signed_type, reckoning_type, small, cut, signed_reading, cut_to, taken, constant, as_char, bit_read, variable, placed, pointer, operand_way, flipped, turned_or, unary_text, left_way, right_way, symbol, unary_result, binary_result, votes_left, votes_right, moved_down, joined, text, byte_quotient, byte_remainder, division_text, text_division}
+use Rattle.dcc_text.proofs.Opposites.{IsTurned, turns, turned-cases}
 use Rattle.dcc_text.specs.Spelling.{Placed, Spelling}
 use Rattle.dcc_text.specs.Stmts.{place_of, assigned, wanted_way, setting, stmt_text}
 use Rattle.dcc_variables.specs.Variables.{frame_bytes}
@@ -157,9 +158,15 @@ module _ (s : Spelling) (word : Word) (others : (distance : ℕ) (p : Placed) �
   pointer-none width (inner.Choose test a b) e x = x
   pointer-none width (inner.Address distance) e x = x
 
+  -- the opposite comparison
+  turned-none : (e c : Expr) → IsTurned e c → None-taken e → None-taken c
+  turned-none e c (turns operator other a b o) x = x
+
   unary-none : (operator : UnOp) (width : ℕ) (e : Expr) → None-taken e → None-taken (unary_text operator width e)
   unary-none Neg width e x = x
-  unary-none Not width e x = either (width == 1) (Binary BitXor e (small 1)) (Unary Complement e) (both BitXor e (small 1) x refl) x
+  unary-none Not width e x =
+      either (width == 1) (turned_or flipped e) (Unary Complement e)
+      (turned-cases None-taken flipped e (both BitXor e (small 1) x refl) (λ c o. turned-none e c o x)) x
   unary-none IsZero width e x = both Equal e (small 0) x refl
 
   moved-none : (first : ℕ) (e : Expr) → None-taken e → None-taken (moved_down first e)
