@@ -276,6 +276,8 @@ four-no_job (Makes product) parts h =
 four-no_job Run parts h = without-none parts.fill _ (no-one _ parts.positional h)
 four-no_job Watch parts h = without-none parts.fill _ (no-one _ parts.positional h)
 four-no_job RunC parts h = without-none parts.cpu _ (no-one _ parts.positional h)
+four-no_job Asm parts h =
+    without-none parts.steps _ (without-none parts.fill _ (without-none parts.cpu _ (no-one _ parts.positional h)))
 four-no_job Trial parts h =
     without-none parts.steps _ (without-none parts.fill _ (without-none parts.cpu _ (no-three _ parts.positional h)))
 
