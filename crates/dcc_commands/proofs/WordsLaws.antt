@@ -6,7 +6,7 @@ use Rattle.dcc_commands.specs.Words.{Job, Parts, only_positional, with_word, wit
 use Rattle.dcc_commands.specs.WordsRead.{HasFourWords, parts_read}
 use Rattle.dcc_commands.specs.declared.words.Found.{Found}
 use Rattle.dcc_commands.specs.declared.words.Command.{Command}
-use Rattle.dcc_commands.specs.declared.words.Command.TheVariants.{Makes, Run, Watch, RunC, Trial}
+use Rattle.dcc_commands.specs.declared.words.Command.TheVariants.{Makes, Run, Watch, RunC, Asm, Trial}
 use Rattle.dcc_commands.specs.declared.words.OptionName.{OptionName}
 use Rattle.dcc_commands.specs.declared.words.OptionName.TheVariants.{Steps, Fill, Cpu}
 

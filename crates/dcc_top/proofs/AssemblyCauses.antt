@@ -5,7 +5,7 @@ use Rattle.dcc_asm.specs.declared.fault.ListKind.{ListKind}
 use Rattle.dcc_asm.specs.Fault.{IsAssembled, IsFirstFault}
 use Rattle.dcc_top.specs.declared.reply.Reply.{Reply}
 use Rattle.dcc_top.specs.declared.reply.Reply.TheVariants.{ListingFault}
-use Rattle.dcc_commands.specs.Words.{Job, Assemble, Execute, ExecuteWatched, ExecuteText}
+use Rattle.dcc_commands.specs.Words.{Job, Execute, ExecuteWatched, ExecuteText, Assemble}
 use Rattle.dcc_top.specs.Answer.{OfFile, AllowsAssembly, assembled, unassembled, IsUnassembled, no_listing, misspelled, Allows, no_job, for_product, ran_file, ran_no_file, watched_file, watched_no_file, ran_text, ran_no_text, for_assembly, for_trial, status_of, line_of}
 use Rattle.dcc_commands.specs.declared.job.Product.TheVariants.{Procedures}
 use Rattle.dcc_top.specs.Call.{Call, Appends}
@@ -15,7 +15,7 @@ use Rattle.dcc_top.specs.Status.{IsOneOf}
 use Rattle.dcc_top.specs.Status as exit
 use Rattle.dcc_top.proofs.StatusLaws.{apart, image_faults, no_image-status, no_file-status, text_faults, no_unit-status, product_statuses, product-status, unmade_statuses, unmade-status, run_statuses, listing_faults, unassembled-status, trial_statuses, trial-status}
 use Rattle.dcc_top.proofs.NamedLaws.{assembly-done, assembly-refused}
-use Rattle.dcc_top.proofs.CauseLaws.{told, before, left, Allowed, Comes, IsTold, told-at, one-of, named-file, runs-status}
+use Rattle.dcc_top.proofs.CauseLaws.{told, Allowed, Comes, IsTold, told-at, one-of, named-file, runs-status}
 
 module _ (call : Call) where
   -- what is allowed for the bytes of a listing

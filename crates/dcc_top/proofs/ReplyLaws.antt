@@ -5,7 +5,6 @@ use Rattle.std.specs.Prelude.{Result, Ok, Err, IfOk, OnErr, MatchResult, IsErrOf
 use Rattle.std.specs.Result.{IsErr}
 use Rattle.dcc_console.specs.Counts.{CountsFaults}
 use Rattle.dcc_io.specs.declared.outside.Failed.{Failed}
-use Rattle.dcc_io.specs.Told.{append_told}
 use Rattle.dcc_machine.specs.declared.cpu.Cpu.{Cpu}
 use Rattle.dcc_machine.specs.declared.image.Image.{Image}
 use Rattle.dcc_machine.specs.MzImage.{IsImageOf}
