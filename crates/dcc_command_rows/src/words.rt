@@ -50,6 +50,10 @@ fn runc(file: &str, steps: u64, fill: u16) -> Option<Job<'_>> {
     Some(Job::ExecuteText(TextExecution { file, steps, fill }))
 }
 
+fn asm(file: &str) -> Option<Job<'_>> {
+    Some(Job::Assemble(file))
+}
+
 #[test]
 fn commands_have_a_job(rt: HostRuntime) -> Result<(), Fail> {
     let rows = [
@@ -98,6 +102,9 @@ fn commands_have_a_job(rt: HostRuntime) -> Result<(), Fail> {
         ("runc --fill=00007 F", runc("F", 1_000_000, 7)),
         ("runc F --fill 0 --steps 7", runc("F", 7, 0)),
         ("runc --steps=0 F --fill=1", runc("F", 0, 1)),
+        ("asm F", asm("F")),
+        ("asm -", asm("-")),
+        ("asm -- --cpu", asm("--cpu")),
     ];
     for (line, job) in rows {
         let words = words_of(rt.alloc(), line)?;
@@ -107,7 +114,7 @@ fn commands_have_a_job(rt: HostRuntime) -> Result<(), Fail> {
 }
 
 // Words that are no command.
-static OTHER_WORDS: [&str; 79] = [
+static OTHER_WORDS: [&str; 86] = [
     "",
     "help",
     "--help",
@@ -171,6 +178,13 @@ static OTHER_WORDS: [&str; 79] = [
     "list F --fill 1",
     "list F --cpu 80186",
     "list -F",
+    "asm",
+    "asm a b",
+    "asm a b c",
+    "asm -F",
+    "asm F --steps 1",
+    "asm F --fill=1",
+    "asm F --cpu 186",
     "trial",
     "trial 7",
     "trial 7 1",

@@ -7,11 +7,11 @@ use Rattle.std.specs.Str.{bytes_eq}
 use Rattle.std.proofs.lemmas.Bool.{eqb-true, ltb-true, lt-ltb}
 use Rattle.std.proofs.lemmas.List.Sums.{split_at_first, passes_at_first}
 use Rattle.std.proofs.lemmas.Slice.Eq.{bytes_eq-Decides}
-use Rattle.dcc_commands.specs.Words.{Job, Make, Execute, ExecuteWatched, ExecuteText, Try, Parts, only_positional, with_word, with_value, set_value, value_in, is_positional, option_word, command_word, HasParts, no_word, positional_word, option_in_two, option_in_one, end_of_options, AskFor, make, execute, execute_watched, execute_text, try, steps_of, fill_of, cpu_of, seed_of, size_of, Kind, Positional, End, Names, Gives, Unknown, option_of, command_of, named, given, is_equals, option_kind, kind_of, parts_after, parts_of, without, with_one, with_three, run_job, text_job, trial_job, job_with, job_of}
+use Rattle.dcc_commands.specs.Words.{Job, Make, Execute, ExecuteWatched, ExecuteText, Assemble, Try, Parts, only_positional, with_word, with_value, set_value, value_in, is_positional, option_word, command_word, HasParts, no_word, positional_word, option_in_two, option_in_one, end_of_options, AskFor, make, execute, execute_watched, execute_text, assemble, try, steps_of, fill_of, cpu_of, seed_of, size_of, Kind, Positional, End, Names, Gives, Unknown, option_of, command_of, named, given, is_equals, option_kind, kind_of, parts_after, parts_of, without, with_one, with_three, run_job, text_job, trial_job, job_with, job_of}
 use Rattle.dcc_commands.specs.declared.job.Product.{Product}
 use Rattle.dcc_commands.specs.declared.job.Product.TheVariants.{Text, Procedures, Listing}
 use Rattle.dcc_commands.specs.declared.words.Command.{Command}
-use Rattle.dcc_commands.specs.declared.words.Command.TheVariants.{Makes, Run, Watch, RunC, Trial}
+use Rattle.dcc_commands.specs.declared.words.Command.TheVariants.{Makes, Run, Watch, RunC, Asm, Trial}
 use Rattle.dcc_commands.specs.declared.words.OptionName.{OptionName}
 use Rattle.dcc_commands.specs.declared.words.OptionName.TheVariants.{Steps, Fill, Cpu}
 use Rattle.dcc_machine.specs.declared.cpu.Cpu.{Cpu as Processor}
@@ -78,6 +78,7 @@ asked-is _ _ (execute_text {words} {file} {value} {other} {steps} {fill} parts i
     ap (λ o. option_and_then (job_with RunC) o) (parts-is words _ parts)
     ∙ ap (λ o. option_and_then (λ n. option_map (ExecuteText file n) (fill_of other)) o) is
     ∙ ap (λ o. option_map (ExecuteText file steps) o) also
+asked-is _ _ (assemble {words} parts) = ap (λ o. option_and_then (job_with Asm) o) (parts-is words _ parts)
 asked-is _ _ (try {words} {first} {second} {third} {seed} {size} {steps} parts is sized also) =
     ap (λ o. option_and_then (job_with Trial) o) (parts-is words _ parts)
     ∙ ap (λ o. trial_job o (size_of second) (steps_of (Some third))) is
@@ -122,9 +123,12 @@ command-from word c h = elim (chosen (bytes_eq word (codes "c")) (Makes Text) c 
           | inl a ↦ word-same word (codes "watch") a.0 ∙ ap command_word a.1
           | inr m ↦ elim (chosen (bytes_eq word (codes "runc")) RunC c _ m) [
             | inl a ↦ word-same word (codes "runc") a.0 ∙ ap command_word a.1
-            | inr n ↦ elim (chosen (bytes_eq word (codes "trial")) Trial c _ n) [
-              | inl a ↦ word-same word (codes "trial") a.0 ∙ ap command_word a.1
-              | inr o ↦ nothing-chosen c o
+            | inr n ↦ elim (chosen (bytes_eq word (codes "asm")) Asm c _ n) [
+              | inl a ↦ word-same word (codes "asm") a.0 ∙ ap command_word a.1
+              | inr o ↦ elim (chosen (bytes_eq word (codes "trial")) Trial c _ o) [
+                | inl a ↦ word-same word (codes "trial") a.0 ∙ ap command_word a.1
+                | inr p ↦ nothing-chosen c p
+              ]
             ]
           ]
         ]
@@ -304,6 +308,12 @@ text_run-asked words job file value other (Some n) (Some w) is also has h =
     let same : ExecuteText file n w ≡ job = cc in
     subst (λ j. AskFor (command_word RunC ∷ words) j) same (execute_text has is also)
 
+assembly-asked : (words : List (List ℕ)) (job : Job) (file : List ℕ) → HasParts words (only_positional (file ∷ []))
+    → Some (Assemble file) ≡ Some job → AskFor (command_word Asm ∷ words) job
+assembly-asked words job file has h =
+    let same : Assemble file ≡ job = cc in
+    subst (λ j. AskFor (command_word Asm ∷ words) j) same (assemble has)
+
 trial-asked : (words : List (List ℕ)) (job : Job) (first second third : List ℕ) (seed size steps : Option ℕ)
     → seed_of first ≡ seed → size_of second ≡ size → steps_of (Some third) ≡ steps
     → HasParts words (record { positional = first ∷ (second ∷ (third ∷ [])); steps = None; fill = None; cpu = None })
@@ -338,6 +348,12 @@ job-asked words job RunC parts has h =
     let one = one-from _ parts.positional job d.1 in
     text_run-asked words job one.0 parts.steps parts.fill (steps_of parts.steps) (fill_of parts.fill) refl refl
     (parts-with words parts (one.0 ∷ []) parts.steps parts.fill None one.1 refl refl d.0 has) one.2
+job-asked words job Asm parts has h =
+    let a = without-from parts.steps _ job h in
+    let b = without-from parts.fill _ job a.1 in
+    let d = without-from parts.cpu _ job b.1 in
+    let one = one-from _ parts.positional job d.1 in
+    assembly-asked words job one.0 (parts-with words parts (one.0 ∷ []) None None None one.1 a.0 b.0 d.0 has) one.2
 job-asked words job Trial parts has h =
     let a = without-from parts.steps _ job h in
     let b = without-from parts.fill _ job a.1 in

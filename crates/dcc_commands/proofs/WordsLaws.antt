@@ -6,7 +6,7 @@ use Rattle.dcc_commands.specs.Words.{Job, Parts, only_positional, with_word, wit
 use Rattle.dcc_commands.specs.WordsRead.{HasFourWords, parts_read}
 use Rattle.dcc_commands.specs.declared.words.Found.{Found}
 use Rattle.dcc_commands.specs.declared.words.Command.{Command}
-use Rattle.dcc_commands.specs.declared.words.Command.TheVariants.{Makes, Run, Watch, RunC, Trial}
+use Rattle.dcc_commands.specs.declared.words.Command.TheVariants.{Makes, Run, Watch, RunC, Asm, Trial}
 use Rattle.dcc_commands.specs.declared.words.OptionName.{OptionName}
 use Rattle.dcc_commands.specs.declared.words.OptionName.TheVariants.{Steps, Fill, Cpu}
 
@@ -276,6 +276,8 @@ four-no_job (Makes product) parts h =
 four-no_job Run parts h = without-none parts.fill _ (no-one _ parts.positional h)
 four-no_job Watch parts h = without-none parts.fill _ (no-one _ parts.positional h)
 four-no_job RunC parts h = without-none parts.cpu _ (no-one _ parts.positional h)
+four-no_job Asm parts h =
+    without-none parts.steps _ (without-none parts.fill _ (without-none parts.cpu _ (no-one _ parts.positional h)))
 four-no_job Trial parts h =
     without-none parts.steps _ (without-none parts.fill _ (without-none parts.cpu _ (no-three _ parts.positional h)))
 

@@ -12,7 +12,7 @@ use Rattle.dcc_machine.specs.declared.cpu.Cpu.TheVariants.{I8086, I186}
 use Rattle.dcc_commands.specs.declared.job.Product.{Product}
 use Rattle.dcc_commands.specs.declared.job.Product.TheVariants.{Text, Procedures, Listing}
 use Rattle.dcc_commands.specs.declared.words.Command.{Command}
-use Rattle.dcc_commands.specs.declared.words.Command.TheVariants.{Makes, Run, Watch, RunC, Trial}
+use Rattle.dcc_commands.specs.declared.words.Command.TheVariants.{Makes, Run, Watch, RunC, Asm, Trial}
 use Rattle.dcc_commands.specs.declared.words.OptionName.{OptionName}
 use Rattle.dcc_commands.specs.declared.words.OptionName.TheVariants.{Steps, Fill, Cpu as CpuOption}
 
@@ -27,6 +27,8 @@ pub data Job : Type 0 where
   ExecuteWatched : List ℕ → ℕ → Cpu → Job
   -- run the text with this name, for at most so many steps, with this fill
   ExecuteText : List ℕ → ℕ → ℕ → Job
+  -- assemble the listing with this name to the bytes of its image
+  Assemble : List ℕ → Job
   -- try the program of this seed and this size, for at most so many steps
   Try : ℕ → ℕ → ℕ → Job
 
@@ -38,6 +40,7 @@ command_word (Makes Listing) = codes "list"
 command_word Run = codes "run"
 command_word Watch = codes "watch"
 command_word RunC = codes "runc"
+command_word Asm = codes "asm"
 command_word Trial = codes "trial"
 
 -- an option's name, as it is written
@@ -167,6 +170,9 @@ pub data AskFor : List (List ℕ) → Job → Type 0 where
       → steps_of value ≡ Some steps
       → fill_of other ≡ Some fill
       → AskFor (command_word RunC ∷ words) (ExecuteText file steps fill)
+  assemble : {words : List (List ℕ)} {file : List ℕ}
+      → HasParts words (only_positional (file ∷ []))
+      → AskFor (command_word Asm ∷ words) (Assemble file)
   try : {words : List (List ℕ)} {first second third : List ℕ} {seed size steps : ℕ}
       → HasParts words
       (record { positional = first ∷ (second ∷ (third ∷ [])); steps = None; fill = None; cpu = None })
@@ -204,6 +210,7 @@ command_of word =
     else if bytes_eq word (codes "run") then Some Run
     else if bytes_eq word (codes "watch") then Some Watch
     else if bytes_eq word (codes "runc") then Some RunC
+    else if bytes_eq word (codes "asm") then Some Asm
     else if bytes_eq word (codes "trial") then Some Trial
     else None
 
@@ -292,6 +299,9 @@ job_with Watch parts =
     without parts.fill (with_one (run_job ExecuteWatched (steps_of parts.steps) (cpu_of parts.cpu)) parts.positional)
 job_with RunC parts =
     without parts.cpu (with_one (text_job (steps_of parts.steps) (fill_of parts.fill)) parts.positional)
+job_with Asm parts =
+    without parts.steps (without parts.fill (without parts.cpu
+    (with_one (λ file. Some (Assemble file)) parts.positional)))
 job_with Trial parts =
     without parts.steps (without parts.fill (without parts.cpu
     (with_three (λ seed size steps. trial_job (seed_of seed) (size_of size) (steps_of (Some steps)))

@@ -3,7 +3,7 @@ use Rattle.std.specs.Prelude.{◌≤◌, ℕ, List, [], ◌∷◌, length, Optio
 use Rattle.std.specs.Option.{option_copied}
 use Rattle.dcc_commands.specs.declared.job.Job.{Job as ReadJob}
 use Rattle.dcc_commands.specs.declared.job.Job.TheVariants.{Make as ReadMake}
-use Rattle.dcc_commands.specs.declared.job.Job.TheVariants.{Execute as ReadExecute, Try as ReadTry}
+use Rattle.dcc_commands.specs.declared.job.Job.TheVariants.{Execute as ReadExecute, Assemble as ReadAssemble, Try as ReadTry}
 use Rattle.dcc_commands.specs.declared.job.Job.TheVariants.{ExecuteText as ReadExecuteText}
 use Rattle.dcc_commands.specs.declared.job.Job.TheVariants.{ExecuteWatched as ReadExecuteWatched}
 use Rattle.dcc_commands.specs.declared.words.Kind.{Kind as ReadKind}
@@ -13,7 +13,7 @@ use Rattle.dcc_commands.specs.declared.words.Kind.TheVariants.{Unknown as ReadUn
 use Rattle.dcc_commands.specs.declared.words.Positions.{Positions}
 use Rattle.dcc_commands.specs.declared.words.Positions.TheVariants.{Empty, One, Two, Three}
 use Rattle.dcc_commands.specs.declared.words.Found.{Found}
-use Rattle.dcc_commands.specs.Words.{Job, Make, Execute, ExecuteWatched, ExecuteText, Try, IsSize, Kind}
+use Rattle.dcc_commands.specs.Words.{Job, Make, Execute, ExecuteWatched, ExecuteText, Assemble, Try, IsSize, Kind}
 use Rattle.dcc_commands.specs.Words.{Positional, End, Names, Gives, Unknown, Parts}
 
 -- the job that a value of the program names
@@ -22,6 +22,7 @@ job_read (ReadMake product file cpu) = Make product file.now cpu
 job_read (ReadExecute run) = Execute run.file.now run.steps run.cpu
 job_read (ReadExecuteWatched run) = ExecuteWatched run.file.now run.steps run.cpu
 job_read (ReadExecuteText run) = ExecuteText run.file.now run.steps run.fill
+job_read (ReadAssemble file) = Assemble file.now
 job_read (ReadTry attempt) = Try attempt.seed attempt.size attempt.steps
 
 -- the size of a trial is one

@@ -61,6 +61,8 @@ pub enum Job<'a> {
     ExecuteWatched(Execution<'a>),
     /// Run a text.
     ExecuteText(TextExecution<'a>),
+    /// Assemble the listing of this name to the bytes of its image.
+    Assemble(&'a str),
     /// Try a program made at random.
     Try(Attempt),
 }

@@ -9,8 +9,8 @@ ghost use Rattle.std.specs.Prelude.{string_bytes, codes, length};
 ghost use Rattle.std.specs.Char.{is_ascii_digit};
 ghost use Rattle.std.specs.List.{list_all};
 ghost use Rattle.std.specs.Option.{option_copied};
-ghost use Rattle.dcc_commands.specs.declared.words.Command.TheVariants.{Makes, Run, Watch, RunC, Trial};
-ghost use Rattle.dcc_commands.specs.Words.{Execute, ExecuteWatched, ExecuteText, Try};
+ghost use Rattle.dcc_commands.specs.declared.words.Command.TheVariants.{Makes, Run, Watch, RunC, Asm, Trial};
+ghost use Rattle.dcc_commands.specs.Words.{Execute, ExecuteWatched, ExecuteText, Assemble, Try};
 ghost use Rattle.dcc_commands.specs.Words.{AskForOneJob, Parts, command_of, is_number, is_positional, job_of, job_with};
 ghost use Rattle.dcc_commands.specs.Words.{kind_of, number_of, option_of, parts_of, set_value, value_in, steps_of};
 ghost use Rattle.dcc_commands.specs.Words.{fill_of, cpu_of, seed_of, size_of, IsSize};
@@ -30,6 +30,8 @@ pub enum Command {
     Watch,
     /// `runc`
     RunC,
+    /// `asm`
+    Asm,
     /// `trial`
     Trial,
 }
@@ -126,6 +128,8 @@ fn command_of(word: &str) -> Option<Command>
         Some(Command::Watch)
     } else if word == "runc" {
         Some(Command::RunC)
+    } else if word == "asm" {
+        Some(Command::Asm)
     } else if word == "trial" {
         Some(Command::Trial)
     } else {
@@ -369,6 +373,17 @@ impl<'a> Found<'a> {
         }
     }
 
+    // The name of the listing that is to be assembled.
+    fn listing(self) -> Option<&'a str>
+        ensures { MatchOption result (job_with Asm (parts_read self.entry) ≡ None)
+            (λ file. job_with Asm (parts_read self.entry) ≡ Some (Assemble file.now)) }
+    {
+        match (self.positions, self.steps, self.fill, self.cpu) {
+            (Positions::One(file), None, None, None) => Some(file),
+            _ => None,
+        }
+    }
+
     // The trial of a program made at random.
     fn attempt(self) -> Option<Attempt>
         ensures job { MatchOption result (job_with Trial (parts_read self.entry) ≡ None)
@@ -423,7 +438,7 @@ fn found_in(words: &[String]) -> Option<Found<'_>>
 /// option doesn't stand. `watch FILE` is the same, up to the first step that isn't clean. The five are for the processor
 /// of `--cpu CPU`: 8086 or 186, and 8086 where the option doesn't stand. `runc FILE` runs
 /// a text, for at most the steps of `--steps N` and with the fill of `--fill N`: 0 to 65535 in at most 5 digits, and 0
-/// where the option doesn't stand. `trial SEED SIZE STEPS` tries a program made at random: SEED is 0 to
+/// where the option doesn't stand. `asm FILE` assembles a listing. `trial SEED SIZE STEPS` tries a program made at random: SEED is 0 to
 /// 18446744073709551615 in at most 20 digits, SIZE 1 to 1000 in at most 4, and STEPS as that of `--steps`.
 #[tactic(auto, unfolding(crate::specs::Words::job_of))]
 pub fn job_of(words: &[String]) -> Option<Job<'_>>
@@ -438,6 +453,7 @@ pub fn job_of(words: &[String]) -> Option<Job<'_>>
         Command::Run => Some(Job::Execute(found.execution()?)),
         Command::Watch => Some(Job::ExecuteWatched(found.execution()?)),
         Command::RunC => Some(Job::ExecuteText(found.text_execution()?)),
+        Command::Asm => Some(Job::Assemble(found.listing()?)),
         Command::Trial => Some(Job::Try(found.attempt()?)),
     }
 }

@@ -2,6 +2,7 @@
 //! this one.
 
 mod answers;
+mod assemblies;
 mod listings;
 mod runs;
 mod texts;

@@ -19,9 +19,9 @@ use Rattle.dcc_top.specs.declared.reply.Reply.{Reply}
 use Rattle.dcc_top.specs.declared.reply.Reply.TheVariants.{Done, Format, TextFault}
 use Rattle.dcc_commands.specs.declared.job.Product.{Product}
 use Rattle.dcc_commands.specs.declared.job.Product.TheVariants.{Text, Procedures, Listing}
-use Rattle.dcc_commands.specs.Words.{Job, Make, Execute, ExecuteWatched, ExecuteText, Try, IsSize}
+use Rattle.dcc_commands.specs.Words.{Job, Make, Execute, ExecuteWatched, ExecuteText, Assemble, Try, IsSize}
 use Rattle.dcc_top.specs.Jobs.{Analyses, to_make, to_watch, file_in, file_of, IsExecution, LoadsImage}
-use Rattle.dcc_top.specs.Answer.{Files, OfFile, HasNoFile, no_file, file_fault, no_memory, HasNoImage, no_executable, misshapen, HasNoUnit, no_text, offends, IsUnmade, refused, no_image, AllowsProduct, made_of_file, unmade, Makes, IsRefusedAs, OfImages, Runs, TellsTrial, AllowsTrial, tried, untried, Allows, no_job, for_product, for_trial, ran_file, ran_no_file, watched_file, watched_no_file, ran_text, ran_no_text, ShelfLacks, status_of, line_of, reason_reply, no_trial_reply}
+use Rattle.dcc_top.specs.Answer.{Files, OfFile, HasNoFile, no_file, file_fault, no_memory, HasNoImage, no_executable, misshapen, HasNoUnit, no_text, offends, IsUnmade, refused, no_image, AllowsProduct, made_of_file, unmade, Makes, IsRefusedAs, OfImages, Runs, TellsTrial, AllowsTrial, tried, untried, AllowsAssembly, assembled, unassembled, no_listing, misspelled, Allows, no_job, for_product, for_assembly, for_trial, ran_file, ran_no_file, watched_file, watched_no_file, ran_text, ran_no_text, ShelfLacks, status_of, line_of, reason_reply, no_trial_reply}
 use Rattle.dcc_top.specs.Call.{Call, Rises, Appends}
 use Rattle.dcc_top.specs.Causes.{IsAnswered, answered, found_no_memory, broke_off, IsCaused, HasRunFile, IsAbsent, IsUnreadable, HasFormatFault, HasRefusal, HasTextFault, Names, IsMissing, IsNoText, EndsSo, IsOutOfMemory, IsCutOff, IsUntried, IsTryable}
 use Rattle.dcc_top.specs.Headline.{HasText, HasProcedures, HasListing, HasTrial}
@@ -29,35 +29,35 @@ use Rattle.dcc_top.specs.WatchedRun.{MeetsFoul}
 use Rattle.dcc_top.specs.Status.{IsOneOf, end_status}
 use Rattle.dcc_top.specs.Status as exit
 use Rattle.dcc_top.proofs.HeadlineLaws.{has-text, has-procedures, has-listing, has-trial}
-use Rattle.dcc_top.proofs.StatusLaws.{apart, are_apart, image_faults, refusals, text_faults, unmade_statuses, unmade-status, product_statuses, product-status, watched_run-status, status-not_six, reply-at_3, reply-at_4, reply-at_5, reply-at_7, no_file-status, no_image-status, no_unit-status, reason-status, run_statuses, run-status, text_run-status, untried_statuses, untried-status, trial_statuses, trial-status}
+use Rattle.dcc_top.proofs.StatusLaws.{apart, are_apart, image_faults, refusals, text_faults, unmade_statuses, unmade-status, product_statuses, product-status, watched_run-status, status-not_six, reply-at_3, reply-at_4, reply-at_5, reply-at_7, no_file-status, no_image-status, no_unit-status, reason-status, run_statuses, run-status, text_run-status, assembly_statuses, assembly-status, untried_statuses, untried-status, trial_statuses, trial-status}
 use Rattle.dcc_top.proofs.TrialLaws.{no_format_fault, tryable-one}
 use Rattle.dcc_top.proofs.NamedLaws.{file-name, IsAcceptedIn, IsRefusedIn, accepted_statuses, refused_statuses, accepted-one, refused-always as always-refused, job-misshapen, job-missing, text-refused, job-ended, watch-refused, watch-foul}
 
 module _ (call : Call) where
-  abbrev told : Files
+  abbrev pub told : Files
   told = call.shelf.files
 
-  abbrev before : Option (List ℕ)
+  abbrev pub before : Option (List ℕ)
   before = call.input.left.before
 
-  abbrev left : Option (List ℕ)
+  abbrev pub left : Option (List ℕ)
   left = call.input.left.after
 
-  abbrev Allowed : Option Job → Reply → List ℕ → Type 0
+  abbrev pub Allowed : Option Job → Reply → List ℕ → Type 0
   Allowed = Allows told before left
 
-  abbrev Comes : Type 0
+  abbrev pub Comes : Type 0
   Comes = IsAnswered call
 
   -- an answer that was told whole
-  record IsTold : Type 0 where
-    reply : Reply
-    output : List ℕ
-    allowed : Allowed call.job reply output
-    cause : IsCaused call reply
-    status_is : call.status ≡ status_of reply
-    out : Appends call.output output
-    line : Appends call.errors (line_of reply)
+  pub record IsTold : Type 0 where
+    pub reply : Reply
+    pub output : List ℕ
+    pub allowed : Allowed call.job reply output
+    pub cause : IsCaused call reply
+    pub status_is : call.status ≡ status_of reply
+    pub out : Appends call.output output
+    pub line : Appends call.errors (line_of reply)
 
   -- at any other status than those of a failed write and of want of memory an answer was told whole
   is-told : Comes → call.status ≢ 6 → call.status ≢ 7 → IsTold
@@ -75,7 +75,7 @@ module _ (call : Call) where
   is-told (found_no_memory reply gives not (inr t)) not_six not_seven = absurd (not_six t.0)
   is-told (broke_off due is_due broke) not_six not_seven = absurd (not_six broke.status_is)
 
-  told-at : (n : ℕ) → call.status ≡ n → n ≢ 6 → n ≢ 7 → Comes → IsTold
+  pub told-at : (n : ℕ) → call.status ≡ n → n ≢ 6 → n ≢ 7 → Comes → IsTold
   told-at n is not_six not_seven a = is-told a (λ e. not_six (sym is ∙ e)) (λ e. not_seven (sym is ∙ e))
 
   -- at a status of a list without those of a failed write and of want of memory an answer was told whole
@@ -85,7 +85,7 @@ module _ (call : Call) where
 
   -- the status is one of some, where those of the allowed answers are, with that of a failed write and of want of
   -- memory
-  one-of : (ns : List ℕ) → IsOneOf 6 ns → IsOneOf 7 ns → ((reply : Reply) (output : List ℕ) → Allowed call.job reply output → IsOneOf (status_of reply) ns) → Comes → IsOneOf call.status ns
+  pub one-of : (ns : List ℕ) → IsOneOf 6 ns → IsOneOf 7 ns → ((reply : Reply) (output : List ℕ) → Allowed call.job reply output → IsOneOf (status_of reply) ns) → Comes → IsOneOf call.status ns
   one-of ns six seven each (answered reply gives cause (inl t)) =
       subst (λ n. IsOneOf n ns) (sym t.0) (each reply gives.output gives.is_answer)
   one-of ns six seven each (answered reply gives cause (inr t)) = subst (λ n. IsOneOf n ns) (sym t.0) six
@@ -94,13 +94,14 @@ module _ (call : Call) where
   one-of ns six seven each (broke_off due is_due broke) = subst (λ n. IsOneOf n ns) (sym broke.status_is) six
 
   -- the statuses of a run
-  runs-status : (j : Job) (file : List ℕ) (reply : Reply) (output : List ℕ) → Runs j file before left reply output → IsOneOf (status_of reply) run_statuses
+  pub runs-status : (j : Job) (file : List ℕ) (reply : Reply) (output : List ℕ) → Runs j file before left reply output → IsOneOf (status_of reply) run_statuses
   runs-status (Make product name cpu) file reply output h = absurd h
   runs-status (Execute name steps cpu) file reply output h = run-status _ steps before left reply output h.finishes
   runs-status (ExecuteWatched name steps cpu) file reply output h =
       watched_run-status cpu h.image steps before left reply output h.watches.finishes
   runs-status (ExecuteText name steps fill) file reply output h =
       text_run-status _ steps before left reply output (h.runs file h.is_read.stands)
+  runs-status (Assemble name) file reply output h = absurd h
   runs-status (Try seed size steps) file reply output h = absurd h
 
   -- There is no trial.
@@ -159,6 +160,8 @@ module _ (call : Call) where
       absurd (apart (status_of reply) (2 ∷ []) run_statuses refl is (runs-status (ExecuteText name steps fill) f.file reply output f.holds))
   usage-of _ reply _ (ran_no_text {name = name} h same) is =
       absurd (apart (status_of reply) (2 ∷ []) text_faults refl is (no_unit-status told name reply h))
+  usage-of _ reply output (for_assembly {name = name} h same) is =
+      absurd (apart (status_of reply) (2 ∷ []) assembly_statuses refl is (assembly-status told name reply output h))
   usage-of _ reply output (for_trial {seed = seed} {size = size} {steps = steps} sized h same) is =
       absurd (no-trial seed size steps reply output (2 ∷ []) refl h is)
 
@@ -284,6 +287,8 @@ module _ (call : Call) where
       inl (record { asked = ExecuteText name steps fill; name = name; named = refl; is_name = refl; ran = f })
   ended-of _ reply _ (ran_no_text {name = name} h same) is =
       absurd (apart (status_of reply) exit.stops text_faults refl is (no_unit-status told name reply h))
+  ended-of _ reply output (for_assembly {name = name} h same) is =
+      absurd (apart (status_of reply) exit.stops assembly_statuses refl is (assembly-status told name reply output h))
   ended-of _ reply output (for_trial {seed = seed} {size = size} {steps = steps} sized h same) is =
       inr (untried-of seed size steps reply output h (not-done (status_of reply) exit.stops refl is))
 
@@ -310,6 +315,7 @@ module _ (call : Call) where
       record { asked = ExecuteText name steps fill; name = name; named = refl; is_name = refl; ran = f }
   exited-of _ reply _ (ran_no_text {name = name} h same) execution is =
       absurd (apart (status_of reply) (0 ∷ []) text_faults refl is (no_unit-status told name reply h))
+  exited-of _ reply output (for_assembly h same) execution is = absurd execution
   exited-of _ reply output (for_trial sized h same) execution is = absurd execution
 
   pub exited : Comes → IsExecution call.job → call.status ≡ 0 → HasRunFile call
@@ -318,7 +324,7 @@ module _ (call : Call) where
       has-run_file t (exited-of call.job t.reply t.output t.allowed execution (inl (sym t.status_is ∙ is)))
 
   -- the file of the name that the job asks for
-  named-file : (j : Job) (name file : List ℕ) → call.job ≡ Some j → file_in j ≡ Some name → (n : Names call file) → n.files name ≡ Some file
+  pub named-file : (j : Job) (name file : List ℕ) → call.job ≡ Some j → file_in j ≡ Some name → (n : Names call file) → n.files name ≡ Some file
   named-file j name file named is n = ap n.files (file-name name (ap file_of named ∙ is) n) ∙ n.has
 
   pub ran-always : Comes → (j : Job) (file bytes : List ℕ) (end : End) → call.job ≡ Some j → Names call file → before ≡ Some bytes → EndsSo file bytes j end → IsOneOf call.status
@@ -376,6 +382,8 @@ module _ (call : Call) where
       absurd (apart (status_of reply) (8 ∷ []) run_statuses refl (inl is) (runs-status (ExecuteText name steps fill) f.file reply output f.holds))
   format-of _ reply _ (ran_no_text {name = name} h same) is =
       absurd (apart (status_of reply) (8 ∷ []) text_faults refl (inl is) (no_unit-status told name reply h))
+  format-of _ reply output (for_assembly {name = name} h same) is =
+      absurd (apart (status_of reply) (8 ∷ []) assembly_statuses refl (inl is) (assembly-status told name reply output h))
   format-of _ reply output (for_trial {seed = seed} {size = size} {steps = steps} sized h same) is =
       absurd (no_format_fault seed size steps reply output sized h is)
 
@@ -466,6 +474,8 @@ module _ (call : Call) where
       absurd (apart (status_of reply) exit.refusals run_statuses refl is (runs-status (ExecuteText name steps fill) f.file reply output f.holds))
   refusal-of _ reply _ (ran_no_text {name = name} h same) is =
       absurd (apart (status_of reply) exit.refusals text_faults refl is (no_unit-status told name reply h))
+  refusal-of _ reply output (for_assembly {name = name} h same) is =
+      absurd (apart (status_of reply) exit.refusals assembly_statuses refl is (assembly-status told name reply output h))
   refusal-of _ reply output (for_trial {seed = seed} {size = size} {steps = steps} sized h same) is =
       inr (untried-of seed size steps reply output h (not-done (status_of reply) exit.refusals refl is))
 
@@ -574,6 +584,8 @@ module _ (call : Call) where
       absurd (apart (status_of reply) (11 ∷ []) run_statuses refl (inl is) (runs-status (ExecuteText name steps fill) f.file reply output f.holds))
   offended-of _ reply _ (ran_no_text {name = name} {steps = steps} {fill = fill} h same) is =
       unit-offended name steps fill reply h is
+  offended-of _ reply output (for_assembly {name = name} h same) is =
+      absurd (apart (status_of reply) (11 ∷ []) assembly_statuses refl (inl is) (assembly-status told name reply output h))
   offended-of _ reply output (for_trial {seed = seed} {size = size} {steps = steps} sized h same) is =
       absurd (no-trial seed size steps reply output (11 ∷ []) refl h (inl is))
 
@@ -611,6 +623,11 @@ module _ (call : Call) where
       absurd (apart 0 (0 ∷ []) exit.without_output refl (inl refl) is)
   trial-none seed size steps _ _ (untried reason h) is = refl
 
+  assembly-none : (name : List ℕ) (reply : Reply) (output : List ℕ) → AllowsAssembly told name reply output → IsOneOf (status_of reply) exit.without_output → output ≡ []
+  assembly-none name _ output (assembled f) is =
+      absurd (apart 0 (0 ∷ []) exit.without_output refl (inl refl) is)
+  assembly-none name _ _ (unassembled h) is = refl
+
   -- no job has put anything out at a refusal
   output-none : (j : Option Job) (reply : Reply) (output : List ℕ) → Allowed j reply output → IsOneOf (status_of reply) exit.without_output → output ≡ []
   output-none _ _ _ (no_job same) is = refl
@@ -624,6 +641,7 @@ module _ (call : Call) where
   output-none _ reply output (ran_text {name = name} {steps = steps} {fill = fill} f) is =
       absurd (apart (status_of reply) exit.without_output run_statuses refl is (runs-status (ExecuteText name steps fill) f.file reply output f.holds))
   output-none _ _ _ (ran_no_text h same) is = refl
+  output-none _ reply output (for_assembly {name = name} h same) is = assembly-none name reply output h is
   output-none _ reply output (for_trial {seed = seed} {size = size} {steps = steps} sized h same) is =
       trial-none seed size steps reply output h is
 
@@ -674,6 +692,11 @@ module _ (call : Call) where
   lacks-of_no_image name reply (no_executable h) is = lacks-of_no_file name reply h is
   lacks-of_no_image name _ (misshapen f) is = absurd (omega (arith, is))
 
+  lacks-of_assembly : (name : List ℕ) (reply : Reply) (output : List ℕ) → AllowsAssembly told name reply output → status_of reply ≡ 3 → ShelfLacks told name
+  lacks-of_assembly name _ output (assembled f) is = absurd (omega (arith, is))
+  lacks-of_assembly name reply _ (unassembled (no_listing h)) is = lacks-of_no_file name reply h is
+  lacks-of_assembly name _ _ (unassembled (misspelled f)) is = absurd (omega (arith, is))
+
   lacks-of_unmade : (product : Product) (name : List ℕ) (cpu : Cpu) (reply : Reply) → IsUnmade product cpu told name reply → status_of reply ≡ 3 → ShelfLacks told name
   lacks-of_unmade product name cpu _ (refused reason f) is =
       absurd (apart (status_of (reason_reply reason)) (3 ∷ []) refusals refl (inl is) (reason-status reason))
@@ -699,6 +722,8 @@ module _ (call : Call) where
   absent-of _ reply _ (ran_no_text {name = name} (no_text h) same) is =
       (name, refl, lacks-of_no_file name reply h is)
   absent-of _ _ _ (ran_no_text (offends f) same) is = absurd (omega (arith, is))
+  absent-of _ reply output (for_assembly {name = name} h same) is =
+      (name, refl, lacks-of_assembly name reply output h is)
   absent-of _ reply output (for_trial {seed = seed} {size = size} {steps = steps} sized h same) is =
       absurd (no-trial seed size steps reply output (3 ∷ []) refl h (inl is))
 
@@ -715,6 +740,7 @@ module _ (call : Call) where
   named-of (Some (Execute name steps cpu)) reply output h is = (name, refl)
   named-of (Some (ExecuteWatched name steps cpu)) reply output h is = (name, refl)
   named-of (Some (ExecuteText name steps fill)) reply output h is = (name, refl)
+  named-of (Some (Assemble name)) reply output h is = (name, refl)
   named-of (Some (Try seed size steps)) reply output (for_trial sized h same) is =
       absurd (no-trial seed size steps reply output (4 ∷ []) refl h (inl is))
 

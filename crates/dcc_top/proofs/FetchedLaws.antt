@@ -1,4 +1,4 @@
--- From what the shelf answers to the image or the unit, or to why there is none.
+-- From what the shelf answers to the image, the unit or the bytes of a listing, or to why there is none.
 use Rattle.std.proofs.Common.{◌≡◌, ℕ, ◌<◌, ◌≤◌, inl, inr, List, [], ◌∷◌, ◌++◌, length, Some, None, refl, sym, subst, arith, length-append}
 use Rattle.std.specs.Prelude.{take, Result, Ok, Err, IfErr, IsErrAnd, IsErrOf}
 use Rattle.dcc_io.specs.declared.outside.Fetched.{Fetched}
@@ -14,9 +14,13 @@ use Rattle.dcc_reader.specs.declared.offence.ParseKind.TheVariants.{Length}
 use Rattle.dcc_parse.specs.declared.fault.ParseFault.{ParseFault}
 use Rattle.dcc_parse.specs.declared.fault.ParseFault.TheVariants.{At, Memory as ParseMemory}
 use Rattle.dcc_parse.specs.Fault.{IsRefusal as IsTextRefusal, IsFaultOf}
+use Rattle.dcc_asm.specs.declared.fault.ListKind.TheVariants.{Length as ListLength}
+use Rattle.dcc_asm.specs.declared.fault.ListFault.{ListFault}
+use Rattle.dcc_asm.specs.declared.fault.ListFault.TheVariants.{At as ListedAt, Memory as ListMemory}
+use Rattle.dcc_asm.specs.Fault.{IsFirstFault, too_long as too_long_listed, IsFaultOf as IsListingFaultOf}
 use Rattle.dcc_top.specs.declared.reply.Reply.{Reply}
-use Rattle.dcc_top.specs.declared.reply.Reply.TheVariants.{NoFile, FileFault, Memory, Format, TextFault}
-use Rattle.dcc_top.specs.Answer.{Files, OfFile, shelf_reply, fault_reply, parse_reply, HasNoFile, no_file, file_fault, no_memory, HasNoImage, no_executable, misshapen, HasNoUnit, no_text, offends}
+use Rattle.dcc_top.specs.declared.reply.Reply.TheVariants.{NoFile, FileFault, Memory, Format, TextFault, ListingFault}
+use Rattle.dcc_top.specs.Answer.{Files, OfFile, shelf_reply, fault_reply, parse_reply, listing_reply, HasNoFile, no_file, file_fault, no_memory, HasNoImage, no_executable, misshapen, HasNoUnit, no_text, offends, IsUnassembled, no_listing, misspelled}
 use Rattle.dcc_top.specs.Call.{ShelfChange, Rises}
 use Rattle.dcc_top.specs.Causes.{AsksOnce}
 
@@ -58,6 +62,11 @@ pub no_unit-of_fault : (told : Files) (name given : List ℕ) (most : ℕ) (faul
 no_unit-of_fault told name given most (At line kind) gave h = offends (of-whole told name given most _ gave h)
 no_unit-of_fault told name given most ParseMemory gave h = no_text no_memory
 
+-- why the bytes that were given are not assembled is why the file of the name is not
+pub unassembled-of_fault : (told : Files) (name given : List ℕ) (most : ℕ) (fault : ListFault) → GaveWhole told name most given → IsListingFaultOf given fault → IsUnassembled told name (listing_reply fault)
+unassembled-of_fault told name given most (ListedAt line kind) gave h = misspelled (of-whole told name given most _ gave h)
+unassembled-of_fault told name given most ListMemory gave h = no_listing no_memory
+
 -- why the shelf gave no file
 pub no_file-of_fault : (told : Files) (name given : List ℕ) (most : ℕ) (fault : ShelfFault) → WhenTold told (λ files. Fetches (files name) most (Err fault) given) → HasNoFile told name
     (shelf_reply fault)
@@ -72,6 +81,10 @@ no_image-of_front told name given gave len =
 pub no_unit-of_front : (told : Files) (name given : List ℕ) → GaveFront told name 67108864 given → length given ≡ 67108864 → HasNoUnit told name (TextFault 0 Length)
 no_unit-of_front told name given gave len =
     offends (of-front told name given 67108864 (λ text. IsTextRefusal text 0 Length) gave len (λ bytes long. record { refused = too_long long; no_tree = λ short tree stands. omega (arith, long, short) }))
+
+pub unassembled-of_front : (told : Files) (name given : List ℕ) → GaveFront told name 67108864 given → length given ≡ 67108864 → IsUnassembled told name (ListingFault 0 ListLength)
+unassembled-of_front told name given gave len =
+    misspelled (of-front told name given 67108864 (λ text. IsFirstFault text 0 ListLength) gave len (λ bytes long. too_long_listed long))
 
 -- what holds of the answer that `?` makes holds of the error
 pub by-error : {T : Type 0} (result : Result T Reply) (reply : Reply) (P : Reply → Type 0) → IsErrAnd result (λ r. r ≡ reply) → P reply → IfErr result P
@@ -106,6 +119,13 @@ pub asks-offended : {T : Type 0} (name : List ℕ) (most : ℕ) (shelf : ShelfCh
 asks-offended {T = T} name most shelf fetched (At line kind) asked =
     asks-found {T = T} name most shelf fetched (Err (TextFault line kind)) asked (λ bad. cc) (λ bad. cc)
 asks-offended {T = T} name most shelf fetched ParseMemory asked =
+    asks-found {T = T} name most shelf fetched (Err Memory) asked (λ bad. cc) (λ bad. cc)
+
+pub asks-misspelled : {T : Type 0} (name : List ℕ) (most : ℕ) (shelf : ShelfChange) (fetched : Fetched) (fault : ListFault) → Records shelf.asked.before shelf.asked.after (name, most) (Ok fetched) →
+    AsksOnce {T = T} name most shelf (Err (listing_reply fault))
+asks-misspelled {T = T} name most shelf fetched (ListedAt line kind) asked =
+    asks-found {T = T} name most shelf fetched (Err (ListingFault line kind)) asked (λ bad. cc) (λ bad. cc)
+asks-misspelled {T = T} name most shelf fetched ListMemory asked =
     asks-found {T = T} name most shelf fetched (Err Memory) asked (λ bad. cc) (λ bad. cc)
 
 -- the shelf gave nothing

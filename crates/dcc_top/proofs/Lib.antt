@@ -11,6 +11,7 @@ pub mod TrialLaws
 pub mod NamedLaws
 pub mod CauseLaws
 pub mod WatchedCauses
+pub mod AssemblyCauses
 pub mod PromiseLaws
 pub mod HexLaws
 pub mod ProceduresLaws

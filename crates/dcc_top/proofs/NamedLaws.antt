@@ -23,16 +23,18 @@ use Rattle.dcc_watch.specs.Executor.{is_stopped}
 use Rattle.dcc_prog.proofs.RefusedLaws.{sound-not_unsound, sound-memory}
 use Rattle.dcc_machine_demand.specs.Refused.{IsAcceptedProgram, IsRefusedImage}
 use Rattle.dcc_machine_demand.proofs.RefusedLaws.{accepted-is_not_refused}
+use Rattle.dcc_asm.specs.Fault.{IsAssembled, IsFirstFault as IsFirstOffence}
+use Rattle.dcc_asm.proofs.TextLaws.{assembled_no_fault}
 use Rattle.dcc_top.specs.declared.reply.Reply.{Reply}
 use Rattle.dcc_commands.specs.declared.job.Product.{Product}
 use Rattle.dcc_commands.specs.declared.job.Product.TheVariants.{Text, Procedures, Listing}
-use Rattle.dcc_commands.specs.Words.{Job, Make, Execute, ExecuteWatched, ExecuteText, Try}
+use Rattle.dcc_commands.specs.Words.{Job, Make, Execute, ExecuteWatched, ExecuteText, Assemble, Try}
 use Rattle.dcc_top.specs.Jobs.{file_in, file_of, LoadsImage}
 use Rattle.dcc_top.specs.Execution.{Subject, machine_of, text_of, Finishes, ended, stopped_at_read, not_begun, FinishesOrStops, finishes, found_none}
-use Rattle.dcc_top.specs.Answer.{Files, OfFile, HasNoFile, no_file, file_fault, no_memory, HasNoImage, no_executable, misshapen, HasNoUnit, no_text, offends, IsMadeOf, Refuses, IsUnmade, refused, no_image, AllowsProduct, made_of_file, unmade, Makes, IsRefusedAs, OfImages, RunsFile, Watches, WatchesFile, RunsText, RunsUnit, Allows, for_product, for_trial, ran_file, ran_no_file, watched_file, watched_no_file, ran_text, ran_no_text, ShelfLacks, status_of, refusal_reply, reason_reply}
+use Rattle.dcc_top.specs.Answer.{Files, OfFile, HasNoFile, no_file, file_fault, no_memory, HasNoImage, no_executable, misshapen, HasNoUnit, no_text, offends, IsUnassembled, no_listing, misspelled, AllowsAssembly, assembled, unassembled, IsMadeOf, Refuses, IsUnmade, refused, no_image, AllowsProduct, made_of_file, unmade, Makes, IsRefusedAs, OfImages, RunsFile, Watches, WatchesFile, RunsText, RunsUnit, Allows, for_product, for_assembly, for_trial, ran_file, ran_no_file, watched_file, watched_no_file, ran_text, ran_no_text, ShelfLacks, status_of, refusal_reply, reason_reply}
 use Rattle.dcc_top.specs.Call.{Call}
 use Rattle.dcc_top.specs.WatchedRun.{IsFoulAfter, FinishesWatched, stayed_clean, met_foul, clean_to_read, lacked_memory, EndsClean, MeetsFoul}
-use Rattle.dcc_top.specs.Causes.{Names, IsNoText, EndsSo, file_ends, watched_ends, text_ends}
+use Rattle.dcc_top.specs.Causes.{Names, IsNoText, IsNoListing, EndsSo, file_ends, watched_ends, text_ends}
 use Rattle.dcc_top.specs.Status.{IsOneOf, end_status}
 use Rattle.dcc_top.proofs.AnswerLaws.{same-start}
 use Rattle.dcc_top.proofs.StatusLaws.{end-status}
@@ -289,6 +291,27 @@ module _ (told : Files) (name : List ℕ) (files : List ℕ → Option (List ℕ
       absurd (made-not_refused product cpu d.image output d.is_made (a.each d.image d.is_image))
   refused-always product cpu file has a reply _ (unmade h) = unmade-refused product cpu file has a reply h
 
+  -- the listing is assembled, or it is refused
+
+  assembly-missing : files name ≡ None → (reply : Reply) (output : List ℕ) → AllowsAssembly told name reply output → IsOneOf (status_of reply) (3 ∷ (4 ∷ (6 ∷ (7 ∷ []))))
+  assembly-missing lacks _ output (assembled f) = absurd (not-held (λ x. IsAssembled x output) lacks f)
+  assembly-missing lacks reply _ (unassembled (no_listing h)) = missing lacks reply h
+  assembly-missing lacks _ _ (unassembled (misspelled {line = line} {kind = kind} f)) =
+      absurd (not-held (λ x. IsFirstOffence x line kind) lacks f)
+
+  pub assembly-done : (text bytes : List ℕ) → files name ≡ Some text → IsAssembled text bytes → (reply : Reply) (output : List ℕ) → AllowsAssembly told name reply output →
+      IsOneOf (status_of reply) (0 ∷ (4 ∷ (6 ∷ (7 ∷ []))))
+  assembly-done text bytes has is _ output (assembled f) = inl refl
+  assembly-done text bytes has is reply _ (unassembled (no_listing h)) = faulty-one 0 (status_of reply) (faulty text has reply h)
+  assembly-done text bytes has is _ _ (unassembled (misspelled {line = line} {kind = kind} f)) =
+      absurd (assembled_no_fault text bytes line kind is (held text (λ x. IsFirstOffence x line kind) has f))
+
+  pub assembly-refused : (text : List ℕ) → files name ≡ Some text → IsNoListing text → (reply : Reply) (output : List ℕ) → AllowsAssembly told name reply output →
+      IsOneOf (status_of reply) (25 ∷ (4 ∷ (6 ∷ (7 ∷ []))))
+  assembly-refused text has none _ output (assembled f) = absurd (none output (held text (λ x. IsAssembled x output) has f))
+  assembly-refused text has none reply _ (unassembled (no_listing h)) = faulty-one 25 (status_of reply) (faulty text has reply h)
+  assembly-refused text has none _ _ (unassembled (misspelled f)) = inl refl
+
   -- runs
 
   pub file-ended : (cpu : Cpu) (file : List ℕ) (image : Image) (steps : ℕ) (bytes : List ℕ) (before left : Option (List ℕ)) → files name ≡ Some file → IsImageOf file image → before ≡ Some bytes → (reply : Reply)
@@ -327,6 +350,7 @@ module _ (told : Files) (before left : Option (List ℕ)) (files : List ℕ → 
       unmade-misshapen told name files tells Procedures cpu file fault (own name other (Some file) is has) first reply h
   job-misshapen _ other file fault is has loads first reply output (ran_text f) = absurd loads
   job-misshapen _ other file fault is has loads first reply _ (ran_no_text h same) = absurd loads
+  job-misshapen _ other file fault is has loads first reply output (for_assembly h same) = absurd loads
   job-misshapen _ other file fault is has loads first reply output (for_trial sized h same) = absurd loads
 
   pub job-missing : (job : Job) (other : List ℕ) → file_in job ≡ Some other → files other ≡ None → (reply : Reply) (output : List ℕ) → Allows told before left (Some job) reply output → IsOneOf (status_of reply)
@@ -347,6 +371,8 @@ module _ (told : Files) (before left : Option (List ℕ)) (files : List ℕ → 
       missing told name files tells (own name other None is lacks) reply h
   job-missing _ other is lacks _ _ (ran_no_text {name = name} (offends f) same) =
       absurd (not-held told name files tells _ (own name other None is lacks) f)
+  job-missing _ other is lacks reply output (for_assembly {name = name} h same) =
+      assembly-missing told name files tells (own name other None is lacks) reply output h
   job-missing _ other is lacks reply output (for_trial sized h same) = absurd (let none : ⊥ = cc in none)
 
   -- the text is refused
@@ -427,6 +453,9 @@ module _ (told : Files) (before left : Option (List ℕ)) (files : List ℕ → 
   no-made_end : (product : Product) (name : List ℕ) (cpu : Cpu) (file bytes : List ℕ) (end : End) → EndsSo file bytes (Make product name cpu) end → ⊥
   no-made_end product name cpu file bytes end e = elim e [ ]
 
+  no-assembly_end : (name file bytes : List ℕ) (end : End) → EndsSo file bytes (Assemble name) end → ⊥
+  no-assembly_end name file bytes end e = elim e [ ]
+
   no-trial_end : (seed size steps : ℕ) (file bytes : List ℕ) (end : End) → EndsSo file bytes (Try seed size steps) end → ⊥
   no-trial_end seed size steps file bytes end e = elim e [ ]
 
@@ -447,5 +476,7 @@ module _ (told : Files) (before left : Option (List ℕ)) (files : List ℕ → 
       text-ended name steps fill file bytes end (own name other (Some file) is has) told_left e reply output f
   job-ended _ other file bytes end is has told_left e reply _ (ran_no_text {name = name} {steps = steps} {fill = fill} h same) =
       no_unit-ended name steps fill file bytes end (own name other (Some file) is has) e reply h
+  job-ended _ other file bytes end is has told_left e reply output (for_assembly {name = name} h same) =
+      absurd (no-assembly_end name file bytes end e)
   job-ended _ other file bytes end is has told_left e reply output (for_trial {seed = seed} {size = size} {steps = steps} sized h same) =
       absurd (no-trial_end seed size steps file bytes end e)

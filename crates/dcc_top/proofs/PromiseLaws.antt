@@ -11,6 +11,7 @@ use Rattle.dcc_top.specs.Delivery.{TellsReply}
 use Rattle.dcc_top.specs.Promises.{KeepsPromises}
 use Rattle.dcc_top.proofs.StatusLaws.{status-not_six}
 use Rattle.dcc_top.proofs.WatchedCauses.{watched-clean, watched-foul}
+use Rattle.dcc_top.proofs.AssemblyCauses.{has-assembled, assembled-always, listing-fault, listing_fault-always}
 use Rattle.dcc_top.proofs.CauseLaws.{usage, usage-always, text, procedures, listing, trial, trial-always, exited, ran, ran-always, foul-always, read-failed, format, format-always, absent, absent-always, unreadable, program-refused, refused-always, procedures_refused-always, listing_refused-always, watch_refused-always, text-always, procedures-always, listing-always, text-fault, text_fault-always, nothing, out-of_memory, cut-off, write-failed}
 
 module _ (call : Call) where
@@ -21,6 +22,7 @@ module _ (call : Call) where
     text = record { text = text call a; text_always = text-always call a };
     procedures = record { procedures = procedures call a; procedures_always = procedures-always call a };
     listing = record { listing = listing call a; listing_always = listing-always call a };
+    assembly = record { assembled = has-assembled call a; assembled_always = assembled-always call a };
     trial = record { trial = trial call a; trial_always = trial-always call a };
     runs = record {
       exited = exited call a;
@@ -41,6 +43,8 @@ module _ (call : Call) where
       watch_refused_always = watch_refused-always call a;
       text_fault = text-fault call a;
       text_fault_always = text_fault-always call a;
+      listing_fault = listing-fault call a;
+      listing_fault_always = listing_fault-always call a;
       nothing = nothing call a;
     };
     faults = record {

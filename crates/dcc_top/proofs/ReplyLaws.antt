@@ -8,14 +8,15 @@ use Rattle.dcc_io.specs.declared.outside.Failed.{Failed}
 use Rattle.dcc_machine.specs.declared.cpu.Cpu.{Cpu}
 use Rattle.dcc_machine.specs.declared.image.Image.{Image}
 use Rattle.dcc_machine.specs.MzImage.{IsImageOf}
+use Rattle.dcc_asm.specs.Fault.{IsAssembled}
 use Rattle.dcc_run.proofs.PrefixLaws.{prefix_refl, prefix_nil}
 use Rattle.dcc_top.specs.declared.reply.Reply.{Reply}
-use Rattle.dcc_top.specs.declared.reply.Reply.TheVariants.{Usage, NoFile, FileFault, InputFault, Memory}
+use Rattle.dcc_top.specs.declared.reply.Reply.TheVariants.{Done, Usage, NoFile, FileFault, InputFault, Memory}
 use Rattle.dcc_commands.specs.declared.job.Product.{Product}
-use Rattle.dcc_commands.specs.Words.{Job, Make, Try, IsSize}
-use Rattle.dcc_top.specs.Jobs.{greatest_file, requests_in, requests_of}
-use Rattle.dcc_top.specs.Answer.{Files, Allows, no_job, for_trial, IsCut, cut_trial, HasNoImage, OfFile, AllowsImage, IsMadeOf, AllowsTrial, TellsTrial, status_of}
-use Rattle.dcc_top.specs.Call.{ShelfChange, SourceChange, SinkChange, Change, same, Requests, Rises, unasked, unread, unwritten}
+use Rattle.dcc_commands.specs.Words.{Job, Make, Assemble, Try, IsSize}
+use Rattle.dcc_top.specs.Jobs.{greatest_file, greatest_text, requests_in, requests_of}
+use Rattle.dcc_top.specs.Answer.{Files, Allows, no_job, for_assembly, for_trial, IsCut, cut_assembly, cut_trial, assembled, HasNoImage, OfFile, AllowsImage, IsMadeOf, AllowsTrial, TellsTrial, status_of}
+use Rattle.dcc_top.specs.Call.{ShelfChange, SourceChange, SinkChange, Change, same, Requests, Rises, Appends, AppendsPart, unasked, unread, unwritten}
 use Rattle.dcc_top.specs.Causes.{AsksAll, AsksPrefix, AsksOnce, Replies}
 use Rattle.dcc_top.specs.Delivery.{Answers, CutsShort}
 use Rattle.dcc_top.specs.Status.{IsOneOf}
@@ -158,6 +159,31 @@ pub replies-no_image : {T : Type 0} (job : Job) (name : List ℕ) → requests_i
 replies-no_image {T = T} job name is shelf left read_faults taken write_faults reply asks none allowed =
     replies-unfetched {T = T} job name greatest_file is shelf left read_faults taken write_faults reply asks allowed
     (other-than reply InputFault image_faults refl (no_image-status shelf.files name reply none))
+
+-- the listing was fetched and assembled, and its bytes were written, or a part of them
+pub replies-assembled : {T : Type 0} (name bytes : List ℕ) (shelf : ShelfChange) (left : Option (List ℕ))
+    (read_faults : ℕ) (output : SinkChange) (x : T)
+    → AsksOnce name greatest_text shelf (Ok x)
+    → OfFile shelf.files name (λ text. IsAssembled text bytes)
+    → Appends output bytes
+    → output.faults.before ≤ output.faults.after
+    → Replies (Some (Assemble name)) shelf (unread left read_faults) output (Ok Done)
+replies-assembled name bytes shelf left read_faults output x asks is_assembled wrote counts =
+    replies-fetched (Assemble name) name greatest_text refl shelf (unread left read_faults) output (Ok Done) x asks
+    (record { output = bytes; wrote = wrote; is_answer = for_assembly (assembled is_assembled) refl })
+    tt (λ bad. cc) (λ bad. cc) (λ bad. cc) counts tt
+
+pub replies-part_assembled : {T : Type 0} (name bytes : List ℕ) (shelf : ShelfChange) (left : Option (List ℕ))
+    (read_faults : ℕ) (output : SinkChange) (failed : Failed) (x : T)
+    → AsksOnce name greatest_text shelf (Ok x)
+    → OfFile shelf.files name (λ text. IsAssembled text bytes)
+    → AppendsPart output bytes
+    → output.faults.before ≤ output.faults.after
+    → Rises output.faults
+    → Replies (Some (Assemble name)) shelf (unread left read_faults) output (Err failed)
+replies-part_assembled name bytes shelf left read_faults output failed x asks is_assembled part counts rose =
+    replies-fetched (Assemble name) name greatest_text refl shelf (unread left read_faults) output (Err failed) x asks
+    tt (record { due = bytes; is_due = cut_assembly refl is_assembled; part = part }) tt tt tt counts rose
 
 -- a trial was made, or there is none; nothing is asked of the shelf, and nothing is read
 trial-allowed : (files : Files) (left : Option (List ℕ)) (seed size steps : ℕ) → IsSize size

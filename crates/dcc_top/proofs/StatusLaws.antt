@@ -19,7 +19,7 @@ use Rattle.dcc_machine.proofs.TableLaws.{and_right}
 use Rattle.dcc_top.specs.declared.reply.Reply.{Reply}
 use Rattle.dcc_top.specs.declared.reply.Reply.TheVariants.{Done, NoFile, FileFault, InputFault, Memory}
 use Rattle.dcc_top.specs.Execution.{Subject, end_reply, Finishes, ended, stopped_at_read, not_begun, FinishesOrStops, finishes, found_none}
-use Rattle.dcc_top.specs.Answer.{Files, HasNoFile, no_file, file_fault, no_memory, HasNoImage, no_executable, misshapen, HasNoUnit, no_text, offends, AllowsImage, image_made, image_refused, IsUnmade, refused, no_image, AllowsProduct, made_of_file, unmade, AllowsWatched, image_watched, image_unwatched, AllowsTrial, tried, untried, status_of, fault_reply, reason_reply, no_trial_reply}
+use Rattle.dcc_top.specs.Answer.{Files, HasNoFile, no_file, file_fault, no_memory, HasNoImage, no_executable, misshapen, HasNoUnit, no_text, offends, IsUnassembled, no_listing, misspelled, AllowsAssembly, assembled, unassembled, AllowsImage, image_made, image_refused, IsUnmade, refused, no_image, AllowsProduct, made_of_file, unmade, AllowsWatched, image_watched, image_unwatched, AllowsTrial, tried, untried, status_of, fault_reply, reason_reply, no_trial_reply}
 use Rattle.dcc_top.specs.WatchedRun.{FinishesWatched, stayed_clean, met_foul, clean_to_read, lacked_memory}
 use Rattle.dcc_top.specs.Status.{IsOneOf, end_status}
 use Rattle.dcc_commands.specs.declared.job.Product.{Product}
@@ -94,6 +94,21 @@ text_faults = 11 ∷ (3 ∷ (4 ∷ (7 ∷ [])))
 pub no_unit-status : (told : Files) (name : List ℕ) (reply : Reply) → HasNoUnit told name reply → IsOneOf (status_of reply) text_faults
 no_unit-status told name reply (no_text h) = inr (no_file-status told name reply h)
 no_unit-status told name _ (offends f) = inl refl
+
+-- the statuses of a listing that is not assembled, and those of the job
+abbrev pub listing_faults : List ℕ
+listing_faults = 25 ∷ (3 ∷ (4 ∷ (7 ∷ [])))
+
+pub unassembled-status : (told : Files) (name : List ℕ) (reply : Reply) → IsUnassembled told name reply → IsOneOf (status_of reply) listing_faults
+unassembled-status told name reply (no_listing h) = inr (no_file-status told name reply h)
+unassembled-status told name _ (misspelled f) = inl refl
+
+abbrev pub assembly_statuses : List ℕ
+assembly_statuses = 0 ∷ listing_faults
+
+pub assembly-status : (told : Files) (name : List ℕ) (reply : Reply) (output : List ℕ) → AllowsAssembly told name reply output → IsOneOf (status_of reply) assembly_statuses
+assembly-status told name _ output (assembled f) = inl refl
+assembly-status told name reply _ (unassembled h) = inr (unassembled-status told name reply h)
 
 -- the statuses of a refusal
 abbrev pub refusals : List ℕ

@@ -35,6 +35,11 @@ use Rattle.dcc_pipe.specs.Shaped.{HasNoTextFor}
 use Rattle.dcc_pipe.specs.declared.no_text.NoText.{NoText}
 use Rattle.dcc_pipe.specs.declared.no_text.NoText.TheVariants.{Refused, NotYet as NotYetFor}
 use Rattle.dcc_list.specs.Listed.{IsListing}
+use Rattle.dcc_asm.specs.declared.fault.ListFault.{ListFault}
+use Rattle.dcc_asm.specs.declared.fault.ListFault.TheVariants.{At as ListedAt, Memory as ListMemory}
+use Rattle.dcc_asm.specs.declared.fault.ListKind.{ListKind}
+use Rattle.dcc_asm.specs.declared.fault.ListKind.TheVariants.{Length, Head, Word, Range, Odd, Place}
+use Rattle.dcc_asm.specs.Fault.{IsAssembled, IsFirstFault}
 use Rattle.dcc_trial.specs.declared.found.Trial.{Trial}
 use Rattle.dcc_trial.specs.declared.found.NoTrial.{NoTrial}
 use Rattle.dcc_trial.specs.declared.found.NoTrial.TheVariants.{Format as NoFormat, Refused as Untextable}
@@ -43,10 +48,10 @@ use Rattle.dcc_trial.specs.Lines.{AreLinesOf}
 use Rattle.dcc_trial.specs.Trial.{IsTrial, IsWithout}
 use Rattle.dcc_commands.specs.declared.job.Product.{Product}
 use Rattle.dcc_commands.specs.declared.job.Product.TheVariants.{Text, Procedures, Listing}
-use Rattle.dcc_commands.specs.Words.{Job, Make, Execute, ExecuteWatched, ExecuteText, Try, IsSize}
+use Rattle.dcc_commands.specs.Words.{Job, Make, Execute, ExecuteWatched, ExecuteText, Assemble, Try, IsSize}
 use Rattle.dcc_top.specs.declared.reply.Reply.{Reply}
 use Rattle.dcc_top.specs.declared.reply.Reply.TheVariants.{Done, Exited, Usage, NoFile, FileFault, InputFault, Memory}
-use Rattle.dcc_top.specs.declared.reply.Reply.TheVariants.{Format, Construct, Limit, NotYet, TextFault}
+use Rattle.dcc_top.specs.declared.reply.Reply.TheVariants.{Format, Construct, Limit, NotYet, TextFault, ListingFault}
 use Rattle.dcc_top.specs.declared.reply.Reply.TheVariants.{Unfinished, Divided, Outside, Foul, Stuck}
 use Rattle.dcc_top.specs.Change.{Change}
 use Rattle.dcc_top.specs.Execution.{machine_of, text_of, Finishes, FinishesOrStops, IsCutRun}
@@ -71,6 +76,15 @@ foul_word Low = codes "low"
 foul_word Hidden = codes "hidden"
 foul_word Unwritten = codes "unwritten"
 
+-- the word for the way in which a line of a listing offends
+abbrev pub listing_word : ListKind → List ℕ
+listing_word Length = codes "length"
+listing_word Head = codes "head"
+listing_word Word = codes "word"
+listing_word Range = codes "range"
+listing_word Odd = codes "odd"
+listing_word Place = codes "place"
+
 -- the exit status
 abbrev pub status_of : Reply → ℕ
 status_of Done = exit.done
@@ -85,6 +99,7 @@ status_of (Construct kind at) = exit.construct
 status_of (Limit what count) = exit.limit
 status_of (NotYet at) = exit.not_yet
 status_of (TextFault line kind) = exit.text_fault
+status_of (ListingFault line kind) = exit.listing_fault
 status_of (Unfinished steps) = exit.unfinished
 status_of Divided = exit.divided
 status_of (Outside at) = exit.outside
@@ -109,6 +124,8 @@ line_of (Limit what count) =
 line_of (NotYet at) = codes "dcc: not yet at " ++ (hex_offset at ++ codes "\n")
 line_of (TextFault line kind) =
     codes "dcc: text " ++ (kind_word kind ++ (codes " at line " ++ (decimal line ++ codes "\n")))
+line_of (ListingFault line kind) =
+    codes "dcc: listing " ++ (listing_word kind ++ (codes " at line " ++ (decimal line ++ codes "\n")))
 line_of (Unfinished steps) = codes "running after " ++ (decimal steps ++ codes " steps\n")
 line_of Divided = codes "divide\n"
 line_of (Outside at) = codes "outside at " ++ (hex_offset at ++ codes "\n")
@@ -132,6 +149,11 @@ fault_reply fault = Format fault
 abbrev pub parse_reply : ParseFault → Reply
 parse_reply (At line kind) = TextFault line kind
 parse_reply ParseMemory = Memory
+
+-- the answer where a listing is not assembled
+abbrev pub listing_reply : ListFault → Reply
+listing_reply (ListedAt line kind) = ListingFault line kind
+listing_reply ListMemory = Memory
 
 -- the answer where a program is refused
 abbrev pub refusal_reply : Refusal → Reply
@@ -190,6 +212,13 @@ pub data HasNoUnit (told : Files) (name : List ℕ) : Reply → Type 0 where
   offends : {line : ℕ} {kind : ParseKind}
       → OfFile told name (λ text. IsTextRefusal text line kind)
       → HasNoUnit told name (TextFault line kind)
+
+-- The answer says why no bytes are assembled of the file of this name: it could not be had, or a line of it offends.
+pub data IsUnassembled (told : Files) (name : List ℕ) : Reply → Type 0 where
+  no_listing : {reply : Reply} → HasNoFile told name reply → IsUnassembled told name reply
+  misspelled : {line : ℕ} {kind : ListKind}
+      → OfFile told name (λ text. IsFirstFault text line kind)
+      → IsUnassembled told name (ListingFault line kind)
 
 -- What is made of an executable.
 
@@ -361,7 +390,17 @@ Runs (Execute name steps cpu) file before left reply output = RunsFile cpu file 
 Runs (ExecuteWatched name steps cpu) file before left reply output =
     WatchesFile cpu file steps before left reply output
 Runs (ExecuteText name steps fill) file before left reply output = RunsText file steps fill before left reply output
+Runs (Assemble name) file before left reply output = ⊥
 Runs (Try seed size steps) file before left reply output = ⊥
+
+-- Listings.
+
+-- The answer is allowed for the file of this name, which is assembled, after these bytes.
+pub data AllowsAssembly (told : Files) (name : List ℕ) : Reply → List ℕ → Type 0 where
+  assembled : {bytes : List ℕ}
+      → OfFile told name (λ text. IsAssembled text bytes)
+      → AllowsAssembly told name Done bytes
+  unassembled : {reply : Reply} → IsUnassembled told name reply → AllowsAssembly told name reply []
 
 -- Trials.
 
@@ -408,14 +447,19 @@ pub data Allows (told : Files) (before left : Option (List ℕ)) : Option Job �
       → HasNoUnit told name reply
       → left ≡ before
       → Allows told before left (Some (ExecuteText name steps fill)) reply []
+  for_assembly : {name : List ℕ} {reply : Reply} {output : List ℕ}
+      → AllowsAssembly told name reply output
+      → left ≡ before
+      → Allows told before left (Some (Assemble name)) reply output
   for_trial : {seed size steps : ℕ} {reply : Reply} {output : List ℕ}
       → IsSize size
       → AllowsTrial seed size steps reply output
       → left ≡ before
       → Allows told before left (Some (Try seed size steps)) reply output
 
--- The job was cut off by a failed write, where these bytes were due: what is made of the file or the lines of a trial,
--- and then nothing of the input was taken; or what a run puts out, and then no more was taken than the run had come to.
+-- The job was cut off by a failed write, where these bytes were due: what is made or assembled of the file or the lines
+-- of a trial, and then nothing of the input was taken; or what a run puts out, and then no more was taken than the run
+-- had come to.
 pub data IsCut (told : Files) (input output : Change (Option (List ℕ))) : Option Job → List ℕ → Type 0 where
   cut_product : {product : Product} {name due : List ℕ} {cpu : Cpu}
       → input.after ≡ input.before
@@ -430,6 +474,10 @@ pub data IsCut (told : Files) (input output : Change (Option (List ℕ))) : Opti
   cut_text_run : {name due : List ℕ} {steps fill : ℕ}
       → OfFile told name (λ text. IsCutText text steps fill input output due)
       → IsCut told input output (Some (ExecuteText name steps fill)) due
+  cut_assembly : {name due : List ℕ}
+      → input.after ≡ input.before
+      → OfFile told name (λ text. IsAssembled text due)
+      → IsCut told input output (Some (Assemble name)) due
   cut_trial : {due : List ℕ} {seed size steps : ℕ}
       → input.after ≡ input.before
       → TellsTrial seed size steps due

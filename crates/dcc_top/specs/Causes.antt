@@ -23,13 +23,15 @@ use Rattle.dcc_c.specs.Text.{StandsFor}
 use Rattle.dcc_c.specs.Tree.{Tree}
 use Rattle.dcc_reader.specs.declared.offence.ParseKind.{ParseKind}
 use Rattle.dcc_parse.specs.Fault.{IsRefusal as IsTextRefusal}
+use Rattle.dcc_asm.specs.declared.fault.ListKind.{ListKind}
+use Rattle.dcc_asm.specs.Fault.{IsAssembled, IsFirstFault}
 use Rattle.dcc_top.specs.declared.reply.Reply.{Reply}
 use Rattle.dcc_top.specs.declared.reply.Reply.TheVariants.{Done, NoFile, FileFault, InputFault, Memory, Format}
-use Rattle.dcc_top.specs.declared.reply.Reply.TheVariants.{TextFault}
+use Rattle.dcc_top.specs.declared.reply.Reply.TheVariants.{TextFault, ListingFault}
 use Rattle.dcc_trial.specs.declared.found.NoTrial.{NoTrial}
 use Rattle.dcc_trial.specs.Trial.{HasImage, IsWithout}
 use Rattle.dcc_commands.specs.declared.job.Product.{Product}
-use Rattle.dcc_commands.specs.Words.{Job, Execute, ExecuteWatched, ExecuteText, Try}
+use Rattle.dcc_commands.specs.Words.{Job, Execute, ExecuteWatched, ExecuteText, Assemble, Try}
 use Rattle.dcc_top.specs.Jobs.{Analyses, file_in, file_of, requests_of, greatest_text}
 use Rattle.dcc_top.specs.Execution.{machine_of, text_of, ending_after, end_reply}
 use Rattle.dcc_top.specs.WatchedRun.{EndsClean, HasRunClean, StopsAtFoul, foul_reply}
@@ -281,6 +283,21 @@ pub record HasTextFault (call : Call) : Type 0 where
 -- no tree stands for the text, or it is too long
 abbrev pub IsNoText : List ℕ → Type 0
 IsNoText text = ((tree : Tree) → ¬ StandsFor text tree) ⊎ (greatest_text < length text)
+
+-- the listing that the words name is refused, and the line tells which of its lines offends first, and how
+pub record HasListingFault (call : Call) : Type 0 where
+  pub name : List ℕ
+  pub text : List ℕ
+  pub line : ℕ
+  pub kind : ListKind
+  pub named : call.job ≡ Some (Assemble name)
+  pub has : ShelfHas call.shelf.files name text
+  pub first : IsFirstFault text line kind
+  pub line_is : Appends call.errors (line_of (ListingFault line kind))
+
+-- the text stands for no bytes, or it or they pass a limit
+abbrev pub IsNoListing : List ℕ → Type 0
+IsNoListing text = (bytes : List ℕ) → ¬ IsAssembled text bytes
 
 -- Want of memory, and writes that failed.
 

@@ -1,4 +1,4 @@
--- The headline: what `dcc c NAME --cpu CPU` promises where it answers 0; and what `procs`, `list` and `trial` do.
+-- The headline: what `dcc c NAME --cpu CPU` promises where it answers 0; and what `procs`, `list`, `asm` and `trial` do.
 use Rattle.std.specs.Prelude.{◌≡◌, ℕ, List, [], Option, codes}
 use Rattle.dcc_io.specs.Told.{append_told}
 use Rattle.dcc_machine.specs.declared.cpu.Cpu.{Cpu}
@@ -11,6 +11,7 @@ use Rattle.dcc_prog.specs.Refused.{IsSound}
 use Rattle.dcc_prog.specs.Watch.{IsClean}
 use Rattle.dcc_pipe.specs.Decompiled.{IsDecompiled}
 use Rattle.dcc_list.specs.Listed.{IsListing}
+use Rattle.dcc_asm.specs.Fault.{IsAssembled}
 use Rattle.dcc_trial.specs.declared.found.Trial.{Trial}
 use Rattle.dcc_trial.specs.Lines.{AreLinesOf}
 use Rattle.dcc_trial.specs.Trial.{IsTrial}
@@ -52,6 +53,14 @@ pub record HasListing (cpu : Cpu) (told : Files) (name : List ℕ) (before after
   pub text : List ℕ
   pub listed : IsListing image program text
   pub appended : after ≡ append_told before text
+
+-- The bytes for which the listing of this name stands were appended to the output; it and they are within their limits.
+pub record HasAssembled (told : Files) (name : List ℕ) (before after : Option (List ℕ)) : Type 0 where
+  pub text : List ℕ
+  pub bytes : List ℕ
+  pub has : ShelfHas told name text
+  pub assembled : IsAssembled text bytes
+  pub appended : after ≡ append_told before bytes
 
 -- The six lines of a trial were appended to the output: of the program of this seed and this size, of its text, and of
 -- the runs of both on no input, for so many steps each. The last line says that neither of what the two have put out

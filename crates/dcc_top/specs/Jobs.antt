@@ -4,7 +4,7 @@ use Rattle.std.specs.declared.alloc.Global.{Global}
 use Rattle.dcc_machine.specs.declared.cpu.Cpu.{Cpu}
 use Rattle.dcc_commands.specs.declared.job.Product.{Product}
 use Rattle.dcc_commands.specs.declared.job.Product.TheVariants.{Procedures}
-use Rattle.dcc_commands.specs.Words.{Job, Make, Execute, ExecuteWatched, ExecuteText, Try, job_of}
+use Rattle.dcc_commands.specs.Words.{Job, Make, Execute, ExecuteWatched, ExecuteText, Assemble, Try, job_of}
 
 -- the job of the words, as the program has them
 abbrev pub job_in : List (String Global) → Option Job
@@ -22,6 +22,7 @@ file_in (Make product file cpu) = Some file
 file_in (Execute file steps cpu) = Some file
 file_in (ExecuteWatched file steps cpu) = Some file
 file_in (ExecuteText file steps fill) = Some file
+file_in (Assemble file) = Some file
 file_in (Try seed size steps) = None
 
 abbrev pub file_of : Option Job → Option (List ℕ)
@@ -35,6 +36,7 @@ IsExecution (Some (Make product file cpu)) = ⊥
 IsExecution (Some (Execute file steps cpu)) = Unit {0}
 IsExecution (Some (ExecuteWatched file steps cpu)) = Unit {0}
 IsExecution (Some (ExecuteText file steps fill)) = Unit {0}
+IsExecution (Some (Assemble file)) = ⊥
 IsExecution (Some (Try seed size steps)) = ⊥
 
 -- the file of the job is an executable
@@ -44,9 +46,10 @@ LoadsImage (Some (Make product file cpu)) = Unit {0}
 LoadsImage (Some (Execute file steps cpu)) = Unit {0}
 LoadsImage (Some (ExecuteWatched file steps cpu)) = Unit {0}
 LoadsImage (Some (ExecuteText file steps fill)) = ⊥
+LoadsImage (Some (Assemble file)) = ⊥
 LoadsImage (Some (Try seed size steps)) = ⊥
 
--- the greatest length of an executable that is fetched, and that of a text, in bytes
+-- the greatest length of an executable that is fetched, and that of a text or a listing, in bytes
 abbrev pub greatest_file : ℕ
 greatest_file = 262144
 
@@ -59,6 +62,7 @@ requests_in (Make product file cpu) = (file, greatest_file) ∷ []
 requests_in (Execute file steps cpu) = (file, greatest_file) ∷ []
 requests_in (ExecuteWatched file steps cpu) = (file, greatest_file) ∷ []
 requests_in (ExecuteText file steps fill) = (file, greatest_text) ∷ []
+requests_in (Assemble file) = (file, greatest_text) ∷ []
 requests_in (Try seed size steps) = []
 
 abbrev pub requests_of : Option Job → List (List ℕ × ℕ)

@@ -1,23 +1,24 @@
--- What the program promises of each call: the text of `c`, the lists of `procs` and `list`, the lines of `trial`, runs,
--- watched runs, refusals, faults, and what is asked and told.
+-- What the program promises of each call: the text of `c`, the lists of `procs` and `list`, the bytes of `asm`, the lines
+-- of `trial`, runs, watched runs, refusals, faults, and what is asked and told.
 use Rattle.std.specs.Prelude.{◌≡◌, ◌≢◌, ◌⊎◌, ℕ, List, [], ◌∷◌, Some, None}
 use Rattle.dcc_run.specs.End.{End}
 use Rattle.dcc_machine.specs.declared.cpu.Cpu.{Cpu}
 use Rattle.dcc_machine.specs.MzImage.{FormatFault, IsFirstFault}
 use Rattle.dcc_prog.specs.Refused.{IsSound, IsUnsound}
 use Rattle.dcc_machine_demand.specs.Refused.{IsAcceptedProgram, IsRefusedImage}
+use Rattle.dcc_asm.specs.Fault.{IsAssembled}
 use Rattle.dcc_top.specs.declared.reply.Reply.TheVariants.{Memory}
 use Rattle.dcc_top.specs.WatchedRun.{MeetsFoul}
 use Rattle.dcc_commands.specs.declared.job.Product.TheVariants.{Text, Procedures, Listing}
-use Rattle.dcc_commands.specs.Words.{Job, Make, ExecuteWatched, ExecuteText, Try}
+use Rattle.dcc_commands.specs.Words.{Job, Make, ExecuteWatched, ExecuteText, Assemble, Try}
 use Rattle.dcc_top.specs.Jobs.{IsExecution, LoadsImage}
 use Rattle.dcc_top.specs.Answer.{OfImages, line_of}
 use Rattle.dcc_top.specs.Call.{Call, Rises, AppendsPart}
-use Rattle.dcc_top.specs.Headline.{HasText, HasProcedures, HasListing, HasTrial}
+use Rattle.dcc_top.specs.Headline.{HasText, HasProcedures, HasListing, HasAssembled, HasTrial}
 use Rattle.dcc_top.specs.Causes.{IsAnswered, HasRunFile, EndsSo, HasCleanRun, HasFoulStep}
 use Rattle.dcc_top.specs.Causes.{Names, IsMissing, IsAbsent, IsUnreadable}
 use Rattle.dcc_top.specs.Causes.{HasFormatFault, HasRefusal, HasTextFault, IsNoText, IsOutOfMemory, IsCutOff}
-use Rattle.dcc_top.specs.Causes.{IsUntried, IsTryable}
+use Rattle.dcc_top.specs.Causes.{HasListingFault, IsNoListing, IsUntried, IsTryable}
 use Rattle.dcc_top.specs.Causes.{AsksPrefix, AsksAll}
 use Rattle.dcc_top.specs.Status.{IsOneOf, end_status}
 use Rattle.dcc_top.specs.Status as exit
@@ -59,6 +60,18 @@ pub record KeepsListing (call : Call) : Type 0 where
       → call.job ≡ Some (Make Listing name cpu)
       → Names call file
       → OfImages file (IsSound cpu)
+      → IsOneOf call.status (exit.done ∷ exit.faults)
+
+-- `asm` writes the bytes for which the listing stands, wherever there are some and neither it nor they pass a limit.
+pub record KeepsAssembly (call : Call) : Type 0 where
+  pub assembled : (name : List ℕ)
+      → call.job ≡ Some (Assemble name)
+      → call.status ≡ exit.done
+      → HasAssembled call.shelf.files name call.output.taken.before call.output.taken.after
+  pub assembled_always : (name text bytes : List ℕ)
+      → call.job ≡ Some (Assemble name)
+      → Names call text
+      → IsAssembled text bytes
       → IsOneOf call.status (exit.done ∷ exit.faults)
 
 -- `trial` tells of the program of its seed and its size, of its text, and of the runs of both, wherever nothing keeps
@@ -106,7 +119,7 @@ pub record KeepsWatch (call : Call) : Type 0 where
       → OfImages file (MeetsFoul cpu steps bytes)
       → IsOneOf call.status (exit.foul ∷ exit.run_faults)
 
--- Words, files, programs and texts are refused for what is told of them, and wherever there is that to tell; then
+-- Words, files, programs, texts and listings are refused for what is told of them, and wherever there is that to tell; then
 -- nothing is put out.
 pub record KeepsRefusals (call : Call) : Type 0 where
   -- the words are no command
@@ -152,6 +165,13 @@ pub record KeepsRefusals (call : Call) : Type 0 where
       → Names call file
       → IsNoText file
       → IsOneOf call.status (exit.text_fault ∷ exit.faults)
+  -- the listing is refused: it stands for no bytes, or a limit is passed
+  pub listing_fault : call.status ≡ exit.listing_fault → HasListingFault call
+  pub listing_fault_always : (name text : List ℕ)
+      → call.job ≡ Some (Assemble name)
+      → Names call text
+      → IsNoListing text
+      → IsOneOf call.status (exit.listing_fault ∷ exit.faults)
   -- a refusal puts nothing out
   pub nothing : IsOneOf call.status exit.without_output → call.output.taken.after ≡ call.output.taken.before
 
@@ -181,6 +201,7 @@ pub record KeepsPromises (call : Call) : Type 0 where
   pub text : KeepsText call
   pub procedures : KeepsProcedures call
   pub listing : KeepsListing call
+  pub assembly : KeepsAssembly call
   pub trial : KeepsTrial call
   pub runs : KeepsRuns call
   pub watch : KeepsWatch call

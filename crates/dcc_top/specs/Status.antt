@@ -2,7 +2,7 @@
 use Rattle.std.specs.Prelude.{◌≡◌, ◌⊎◌, ℕ, List, [], ◌∷◌}
 use Rattle.dcc_run.specs.End.{End, Running, Exit, Divide, Outside, Stuck}
 
--- the text is written, or the run ended by its exit
+-- what is made is written, or the run ended by its exit
 abbrev pub done : ℕ
 done = 0
 
@@ -54,6 +54,9 @@ foul = 23
 abbrev pub stuck : ℕ
 stuck = 24
 
+abbrev pub listing_fault : ℕ
+listing_fault = 25
+
 -- The faults that may come in the place of any answer: of the shelf, of a write, and want of memory; for a run one of
 -- the input too.
 abbrev pub faults : List ℕ
@@ -77,7 +80,8 @@ ends = done ∷ (unfinished ∷ (divided ∷ (outside ∷ [])))
 -- an answer after no output
 abbrev pub without_output : List ℕ
 without_output =
-    usage ∷ (no_file ∷ (file_fault ∷ (format ∷ (construct ∷ (limit ∷ (text_fault ∷ (not_yet ∷ [])))))))
+    usage
+    ∷ (no_file ∷ (file_fault ∷ (format ∷ (construct ∷ (limit ∷ (text_fault ∷ (not_yet ∷ (listing_fault ∷ []))))))))
 
 -- the status is one of the list
 abbrev pub IsOneOf : ℕ → List ℕ → Type 0

@@ -1,14 +1,16 @@
-//! Fetching what the words name: the image of an executable, or the unit of a text.
+//! Fetching what the words name: the image of an executable, the unit of a text, or the bytes of a listing.
 
 ghost use Rattle.std.specs.Prelude.{IfOk, IfErr};
 ghost use Rattle.dcc_c.specs.Views.{tree_of};
 ghost use Rattle.dcc_machine.specs.MzImage.{IsImageOf, IsLoaded};
 ghost use Rattle.dcc_top.specs.Jobs.{greatest_file, greatest_text};
-ghost use Rattle.dcc_top.specs.Answer.{HasNoImage, HasNoUnit, IsReadAs, OfFile};
+ghost use Rattle.dcc_asm.specs.Fault.{IsAssembled};
+ghost use Rattle.dcc_top.specs.Answer.{HasNoImage, HasNoUnit, IsReadAs, IsUnassembled, OfFile};
 ghost use Rattle.dcc_top.specs.Call.{shelf_change};
 ghost use Rattle.dcc_top.specs.Causes.{AsksOnce};
 
 use crate::reply::Reply;
+use dcc_asm::{ListKind, assemble};
 use dcc_c::Unit;
 use dcc_io::{Fetched, Shelf};
 use dcc_machine::Image;
@@ -19,7 +21,7 @@ use std::alloc::Global;
 // The greatest length of an executable that is fetched, in bytes.
 const GREATEST_FILE: usize = 262_144;
 
-// The greatest length of a text that is fetched, in bytes.
+// The greatest length of a text or a listing that is fetched, in bytes.
 const GREATEST_TEXT: usize = 67_108_864;
 
 /// The image of the executable of this name. The error is the answer that says why there is none: the file could not be
@@ -58,6 +60,29 @@ pub(crate) fn fetch_unit<H: Shelf>(alloc: Global, name: &str, shelf: &mut H) -> 
         Fetched::Longer => Err(Reply::TextFault {
             line: 0,
             kind: ParseKind::Length,
+        }),
+    }
+}
+
+/// The bytes for which the listing of this name stands. The error is the answer that says why there are none: the file
+/// could not be had, a line of it offends, or memory ran out.
+pub(crate) fn fetch_assembled<H: Shelf>(
+    alloc: Global,
+    name: &str,
+    shelf: &mut H,
+) -> Result<Vec<u8>, Reply>
+    ensures assembled { IfOk result (λ bytes.
+        OfFile (H.files shelf.old) name.now (λ text. IsAssembled text bytes.items)) }
+    ensures refused { IfErr result (IsUnassembled (H.files shelf.old) name.now) }
+    ensures asks { AsksOnce name.now greatest_text
+        (shelf_change H.files H.asked H.absences H.faults shelf.old shelf.new) result }
+{
+    let mut text = Vec::new(alloc);
+    match shelf.fetch(alloc, name, GREATEST_TEXT, &mut text)? {
+        Fetched::Whole => Ok(assemble(alloc, &text)?),
+        Fetched::Longer => Err(Reply::ListingFault {
+            line: 0,
+            kind: ListKind::Length,
         }),
     }
 }

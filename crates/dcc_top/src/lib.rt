@@ -1,6 +1,7 @@
 //! The top call: words, files and answers.
 #![tactic(auto)]
 
+pub mod assemble_job;
 pub mod deliver;
 pub mod execute;
 pub mod fetch;

@@ -1,9 +1,11 @@
 //! What the program answers: a status, and a line on the error stream.
 
 ghost use Rattle.std.specs.Prelude.{◌≡◌, Some, IfOk, IsOk, string_bytes};
-ghost use Rattle.dcc_top.specs.Answer.{status_of, line_of, limit_word, foul_word, shelf_reply, fault_reply};
-ghost use Rattle.dcc_top.specs.Answer.{parse_reply, refusal_reply, reason_reply, no_trial_reply};
+ghost use Rattle.dcc_top.specs.Answer.{status_of, line_of, limit_word, foul_word, listing_word, shelf_reply};
+ghost use Rattle.dcc_top.specs.Answer.{fault_reply};
+ghost use Rattle.dcc_top.specs.Answer.{parse_reply, listing_reply, refusal_reply, reason_reply, no_trial_reply};
 
+use dcc_asm::{ListFault, ListKind};
 use dcc_io::ShelfFault;
 use dcc_mz::MzFault;
 use dcc_parse::{ParseFault, ParseKind};
@@ -16,7 +18,7 @@ use std::fmt;
 /// An answer of the program.
 #[derive(Clone, Copy, PartialEq, Eq, Debug)]
 pub enum Reply {
-    /// What is made of the executable is written, or the lines of the trial.
+    /// What is made of the executable is written, or the bytes of the listing, or the lines of the trial.
     Done,
     /// The run ended with this exit code.
     Exited(u8),
@@ -48,6 +50,11 @@ pub enum Reply {
     TextFault {
         line: u32,
         kind: ParseKind,
+    },
+    /// The listing is refused for what offends first, in this line.
+    ListingFault {
+        line: u32,
+        kind: ListKind,
     },
     /// The run goes on after this number of steps.
     Unfinished(u64),
@@ -96,6 +103,17 @@ impl From<ParseFault> for Reply {
         match fault {
             ParseFault::At { line, kind } => Reply::TextFault { line, kind },
             ParseFault::Memory => Reply::Memory,
+        }
+    }
+}
+
+impl From<ListFault> for Reply {
+    ghost from_gives = { λ fault reply. reply ≡ listing_reply fault };
+
+    fn from(fault: ListFault) -> Reply {
+        match fault {
+            ListFault::At { line, kind } => Reply::ListingFault { line, kind },
+            ListFault::Memory => Reply::Memory,
         }
     }
 }
@@ -158,6 +176,7 @@ impl Reply {
             Reply::Outside(_) => 22,
             Reply::Foul { .. } => 23,
             Reply::Stuck(_) => 24,
+            Reply::ListingFault { .. } => 25,
         }
     }
 
@@ -203,6 +222,10 @@ impl fmt::Display for Reply {
                 let word = kind.word();
                 writeln!(f, "dcc: text {word} at line {line}")
             }
+            Reply::ListingFault { line, kind } => {
+                let word = listing_word(kind);
+                writeln!(f, "dcc: listing {word} at line {line}")
+            }
             Reply::Unfinished(steps) => writeln!(f, "running after {steps} steps"),
             Reply::Divided => writeln!(f, "divide"),
             Reply::Outside(at) => writeln!(f, "outside at {at:04X}"),
@@ -237,5 +260,19 @@ fn foul_word(kind: FoulKind) -> &'static str
         FoulKind::Low => "low",
         FoulKind::Hidden => "hidden",
         FoulKind::Unwritten => "unwritten",
+    }
+}
+
+// The word for the way in which a line of a listing offends.
+fn listing_word(kind: ListKind) -> &'static str
+    ensures { result.now ≡ listing_word kind }
+{
+    match kind {
+        ListKind::Length => "length",
+        ListKind::Head => "head",
+        ListKind::Word => "word",
+        ListKind::Range => "range",
+        ListKind::Odd => "odd",
+        ListKind::Place => "place",
     }
 }

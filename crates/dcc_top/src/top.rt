@@ -7,6 +7,7 @@ ghost use Rattle.dcc_top.specs.Call.{shelf_change, source_change, sink_change};
 ghost use Rattle.dcc_top.specs.Causes.{Replies};
 ghost use Rattle.dcc_top.specs.Promises.{KeepsPromises};
 
+use crate::assemble_job::assemble_reply;
 use crate::deliver::{WRITE_FAULT, answer};
 use crate::execute::execute;
 use crate::fetch::{fetch_image, fetch_unit};
@@ -77,7 +78,8 @@ fn runc_reply<H: Shelf, I: Source, O: Sink>(
     }
 }
 
-// The answer for the words, texts made by these rules. The error is a failed write of what is made, or of what is put out by what is run.
+// The answer for the words, texts made by these rules. The error is a failed write of what is made, or of what is put
+// out by what is run.
 fn reply_for<H: Shelf, I: Source, O: Sink>(
     alloc: Global,
     words: &Vec<String>,
@@ -100,23 +102,28 @@ fn reply_for<H: Shelf, I: Source, O: Sink>(
         Some(Job::Execute(run)) => run_reply(alloc, run, shelf, input, out),
         Some(Job::ExecuteWatched(run)) => watch_reply(alloc, run, shelf, input, out),
         Some(Job::ExecuteText(run)) => runc_reply(alloc, run, shelf, input, out),
+        Some(Job::Assemble(file)) => assemble_reply(alloc, file, shelf, out),
         Some(Job::Try(attempt)) => write_trial(alloc, attempt, rules, out),
     }
 }
 
 /// Does what the words after the program's name say, and answers the exit status.
 ///
-/// `c FILE` writes the text of the executable FILE to `out`, and `procs FILE` the list of its procedures. `run FILE`
-/// runs it, on the input and to the output, for at most the steps of `--steps N`; `watch FILE` runs it so up to the first
-/// step that isn't clean. These take the program as one of the processor of `--cpu CPU`. `runc FILE` runs the text FILE,
-/// with the fill of `--fill N`. No other words are a command.
+/// `c FILE` writes the text of the executable FILE to `out`, made by the rules, `procs FILE` the list of its procedures,
+/// and `list FILE` the listing of its image in assembler's words. `run FILE` runs it, on the input and to the output,
+/// for at most the steps of `--steps N`; `watch FILE` runs it so up to the first step that isn't clean. These five take
+/// the program as one of the processor of `--cpu CPU`. `runc FILE` runs the text FILE, for at most the steps of
+/// `--steps N` and with the fill of `--fill N`. `asm FILE` writes the bytes for which the listing FILE stands.
+/// `trial SEED SIZE STEPS` makes a program at random, runs it and its text, and writes six lines on both. No other words
+/// are a command.
 ///
-/// Statuses: 0 where the text or the list is written or the run has ended by its exit; 2 usage, 3 no file, 4 the file
-/// could not be read, 5 the input could not, 6 a write failed, 7 memory ran out, 8 the file is no executable, 9 a
-/// construct stands in the program for which nothing is written, 10 a count of the program is too great, 11 the file is
-/// no text, 20 the run goes on after the steps that were asked for, 21 it ended by a divide fault, 22 it came to what
-/// is no instruction, 23 the next step isn't clean, 24 the text has no step there. A status other than 0 and 6 has its
-/// line on `err`, and the exit of a run too.
+/// Statuses: 0 where what is made, listed, assembled or told is written or the run has ended by its exit; 2 usage, 3 no
+/// file, 4 the file could not be read, 5 the input could not, 6 a write failed, 7 memory ran out, 8 the file is no
+/// executable, 9 a construct stands in the program for which nothing is written, 10 a count of the program is too
+/// great, 11 the file is no text, 12 the text would lack the shape that its procedures ask for, 20 the run goes on
+/// after the steps that were asked for, 21 it ended by a divide fault, 22 it came to what is no instruction, 23 the
+/// next step isn't clean, 24 the text has no step there, 25 the file is no listing or a limit is passed. A status other
+/// than 0 and 6 has its line on `err`, and the exit of a run too.
 pub fn dcc<H: Shelf, I: Source, O: Sink, E: Sink>(
     alloc: Global,
     words: &Vec<String>,

@@ -15,7 +15,7 @@ fn check_refused(rt: &impl Abort, given: &Answer, status: u8, line: &str) {
 // Words, the number of the fetch that fails, the status and the line.
 type WordsRow = (&'static [&'static str], u64, u8, &'static str);
 
-static WORDS: [WordsRow; 23] = [
+static WORDS: [WordsRow; 26] = [
     (&[], 0, 2, "dcc: usage\n"),
     (&["c"], 0, 2, "dcc: usage\n"),
     (&["help"], 0, 2, "dcc: usage\n"),
@@ -49,6 +49,9 @@ static WORDS: [WordsRow; 23] = [
     (&["procs", "ROW1.EXE", "--steps", "1"], 0, 2, "dcc: usage\n"),
     (&["procs", "ROW2.EXE"], 0, 3, "dcc: no file\n"),
     (&["procs", "ROW1.EXE"], 1, 4, "dcc: file fault\n"),
+    (&["asm", "ROW1.EXE", "--cpu", "186"], 0, 2, "dcc: usage\n"),
+    (&["asm", "ROW2.LST"], 0, 3, "dcc: no file\n"),
+    (&["asm", "ROW1.EXE"], 1, 4, "dcc: file fault\n"),
 ];
 
 fn words() -> &'static [WordsRow] {

@@ -39,3 +39,8 @@ pub returns-in-Some-ExecuteWatched-clause-replies : goal.returns-in-Some-Execute
 returns-in-Some-ExecuteWatched-clause-replies g c =
     let job = rw (c.deref.ensures.value, c.in-Some-ExecuteWatched.field-0-is) at c.in-Some-ExecuteWatched.ensures.job in
     rw job c.watch_reply.ensures
+
+pub returns-in-Some-Assemble-clause-replies : goal.returns-in-Some-Assemble-clause-replies
+returns-in-Some-Assemble-clause-replies g c =
+    let job = rw (c.deref.ensures.value, c.in-Some-Assemble.field-0-is) at c.in-Some-Assemble.ensures.job in
+    rw job (c.assemble_reply.ensures (g.I.Source.left c.args.input.now) (g.I.Source.faults c.args.input.now))
