@@ -34,7 +34,7 @@ use Rattle.dcc_c.specs.declared.syntax.Base.TheVariants.{Schar, Uchar, Int, Uint
 use Rattle.dcc_c.specs.declared.syntax.CBin.{CBin}
 use Rattle.dcc_c.specs.declared.syntax.CBin.TheVariants.{And as BitAnd, Or as BitOr, Xor as BitXor, Eq as Equal, Shl as ShiftLeft, Shr as ShiftRight, Add as Plus, Sub as Less, Mul as Times, Div as Over, Rem as Rest}
 use Rattle.dcc_c.specs.declared.syntax.CType.{CType}
-use Rattle.dcc_c.specs.declared.syntax.CUn.TheVariants.{Minus, Complement, Deref, AddressOf}
+use Rattle.dcc_c.specs.declared.syntax.CUn.TheVariants.{Minus, Complement, Not as Opposite, Deref, AddressOf}
 use Rattle.dcc_c.specs.Numbered.{numbered_lines}
 use Rattle.dcc_c.specs.Parts.{stmts_in, exprs_of as exprs_in_text}
 use Rattle.dcc_c.specs.Token.{same_bytes}
@@ -435,7 +435,9 @@ module _ (g : inner.Graph) (formed : IsGraph g) (word : Word) (apart : IsApart g
   way-away : (on : Bool) (exit : inner.Exit) → list_all loads_by_halves (exit_exprs exit) ≡ true
       → All Named (exit_exprs exit) → Away (text_of_way s on exit)
   way-away true exit is named = test-away exit is named
-  way-away false exit is named = test-away exit is named
+  way-away false exit is named =
+      turned-cases Away (Unary Opposite) (text_of_test s exit) (test-away exit is named)
+      (λ c o. turned-away (text_of_test s exit) c o (test-away exit is named))
 
   choice-away : (exit : inner.Exit) → list_all loads_by_halves (exit_exprs exit) ≡ true → All Named (exit_exprs exit)
       → Away (text_of_choice s exit)

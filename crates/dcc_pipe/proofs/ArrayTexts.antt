@@ -29,7 +29,7 @@ use Rattle.dcc_flags.specs.Kinds.{is_frame_sum, takes_frame_sum}
 use Rattle.dcc_c.specs.declared.syntax.Base.TheVariants.{Int, Uint}
 use Rattle.dcc_c.specs.declared.syntax.CBin.{CBin}
 use Rattle.dcc_c.specs.declared.syntax.CBin.TheVariants.{Add as Plus, Sub as Less, Mul as Times, Div as Over, Rem as Rest}
-use Rattle.dcc_c.specs.declared.syntax.CUn.TheVariants.{AddressOf}
+use Rattle.dcc_c.specs.declared.syntax.CUn.TheVariants.{Not, AddressOf}
 use Rattle.dcc_c.specs.Token.{same_bytes}
 use Rattle.dcc_c.specs.Numbered.{numbered_lines}
 use Rattle.dcc_c.specs.Parts.{stmts_in}
@@ -41,6 +41,7 @@ use Rattle.dcc_text.specs.Names.{names_in, place_name, read_names}
 use Rattle.dcc_text.specs.Spelled.{Way, Low, Exact, Signed, small, constant, placed, pointer, taken, left_way, symbol, text, byte_quotient, byte_remainder, division_text, text_division}
 use Rattle.dcc_text.specs.Spelling.{Placed, Spelling}
 use Rattle.dcc_text.specs.Stmts.{place_of, wanted_way, stmt_text}
+use Rattle.dcc_text.proofs.Opposites.{IsTurned, turns, turned-cases}
 use Rattle.dcc_text.proofs.Depths.{read-alike}
 use Rattle.dcc_variables.specs.FunctionLaws.{HasFewNames, has_name, IsServedStmt, IsServedByFunction}
 use Rattle.dcc_variables.specs.Functions.{parameter_name, memory_from, name_or, place_from, argument_place, function_shape, function_spelling, opening, put_openings, openings_from, openings, low_byte, high_byte}
@@ -430,9 +431,15 @@ module _ (g : inner.Graph) (formed : IsGraph g) (few : HasFewNames g) (body : Li
     test-free (inner.Ret values) good = refl
     test-free inner.Stop good = refl
 
+    -- the opposite comparison
+    turned-free : (e c : Expr) → IsTurned e c → Free e → Free c
+    turned-free e c (turns operator other a b o) x = x
+
     way-free : (on : Bool) (exit : inner.Exit) → All AreGood (exit_exprs exit) → Free (text_of_way s on exit)
     way-free true exit good = test-free exit good
-    way-free false exit good = test-free exit good
+    way-free false exit good =
+        turned-cases Free (Unary Not) (text_of_test s exit) (test-free exit good)
+        (λ c o. turned-free (text_of_test s exit) c o (test-free exit good))
 
     choice-free : (exit : inner.Exit) → All AreGood (exit_exprs exit) → Free (text_of_choice s exit)
     choice-free (inner.Switch e places) good = text-free e Low false (All-head AreGood e [] good)

@@ -16,9 +16,11 @@ use Rattle.dcc_c.specs.declared.syntax.Class.TheVariants.{Plain, Auto}
 use Rattle.dcc_c.specs.Parts.{stmts_in}
 use Rattle.dcc_c.specs.Placement.{is_auto, takes_address}
 use Rattle.dcc_c.specs.Token.{same_bytes}
-use Rattle.dcc_c.specs.Tree.{Word, Stmt, Lines, Variable}
+use Rattle.dcc_c.specs.declared.syntax.CUn.TheVariants.{Not}
+use Rattle.dcc_c.specs.Tree.{Word, Expr, Unary, Stmt, Lines, Variable}
 use Rattle.dcc_text.specs.Spelled.{Low, Exact}
 use Rattle.dcc_text.specs.Spelling.{Spelling}
+use Rattle.dcc_text.proofs.Opposites.{IsTurned, turns, turned-cases}
 use Rattle.dcc_variables.specs.Addresses.{has_address_of, stmt_has_address_of, TakesNoAddress, IsNoMemoryName}
 use Rattle.dcc_variables.specs.Functions.{parameter_name, is_taken_whole, place_from, place_in, parameter_class, parameter, parameters_from, parameters, memory_from, function_spelling, openings, BeginsWith}
 use Rattle.dcc_variables.proofs.FramePlaces.{memory-within}
@@ -47,9 +49,15 @@ module _ (graph : inner.Graph) (word : Word) (apart : IsNoMemoryName graph word)
   test-free (inner.Ret values) = refl
   test-free inner.Stop = refl
 
+  -- the opposite comparison
+  turned-free : (e c : Expr) → IsTurned e c → has_address_of word e ≡ false → has_address_of word c ≡ false
+  turned-free e c (turns operator other a b o) x = x
+
   way-free : (on : Bool) (exit : inner.Exit) → has_address_of word (text_of_way s on exit) ≡ false
   way-free true exit = test-free exit
-  way-free false exit = test-free exit
+  way-free false exit =
+      turned-cases (λ e. has_address_of word e ≡ false) (Unary Not) (text_of_test s exit) (test-free exit)
+      (λ c o. turned-free (text_of_test s exit) c o (test-free exit))
 
   choice-free : (exit : inner.Exit) → has_address_of word (text_of_choice s exit) ≡ false
   choice-free (inner.Switch e places) = none.expressions e Low false
