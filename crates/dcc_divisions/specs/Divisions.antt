@@ -9,23 +9,26 @@ use Rattle.dcc_ir.specs.Families.{live}
 use Rattle.dcc_ir.specs.Use.{reads_of, writes_of}
 use Rattle.dcc_substitution.specs.Available.{leaves_outside}
 
--- both operators divide signed numbers, or both divide unsigned ones: for the quotient or for the remainder
-abbrev pub divide_alike : BinOp → BinOp → Bool
-divide_alike DivS DivS = true
-divide_alike DivS RemS = true
-divide_alike RemS DivS = true
-divide_alike RemS RemS = true
-divide_alike DivU DivU = true
-divide_alike DivU RemU = true
-divide_alike RemU DivU = true
-divide_alike RemU RemU = true
-divide_alike operator other = false
+-- the operator divides signed numbers, for the quotient or for the remainder
+abbrev pub divides_signed : BinOp → Bool
+divides_signed DivS = true
+divides_signed RemS = true
+divides_signed operator = false
 
--- the two divide the same operands alike, so that one faults where the other does
+-- the operator divides unsigned numbers, for the quotient or for the remainder
+abbrev pub divides_unsigned : BinOp → Bool
+divides_unsigned DivU = true
+divides_unsigned RemU = true
+divides_unsigned operator = false
+
+-- the two divide the same operands, both signed ones or both unsigned ones, so that one faults where the other does
 pub data FaultAlike : Expr → Expr → Type 0 where
-  alike :
-      {operator other : BinOp} {width : ℕ} {a b : Expr} → divide_alike operator other ≡ true
+  signed :
+      {operator other : BinOp} {width : ℕ} {a b : Expr} → divides_signed operator ≡ true → divides_signed other ≡ true
       → FaultAlike (Binary operator width a b) (Binary other width a b)
+  unsigned :
+      {operator other : BinOp} {width : ℕ} {a b : Expr} → divides_unsigned operator ≡ true
+      → divides_unsigned other ≡ true → FaultAlike (Binary operator width a b) (Binary other width a b)
 
 -- the statement writes nothing that the expression reads
 pub record Leaves (stmt : Stmt) (e : Expr) : Type 0 where

@@ -1,13 +1,19 @@
 -- What stands between the definitions and the code. No public contract rests on it.
-use Rattle.std.specs.Prelude.{◌≡◌, ◌⊎◌, ℕ, Bool, true, false, List, [], map, flat_map, reverse, get_or, slice_get, Some}
+use Rattle.std.specs.Prelude.{◌≡◌, ◌⊎◌, ℕ, Bool, true, false, ◌&&◌, ◌||◌, List, [], map, flat_map, reverse, get_or, slice_get, Some}
 use Rattle.dcc_ir.specs.declared.syntax.Loc.{Loc}
 use Rattle.dcc_ir.specs.declared.syntax.Stmt.{Stmt as Statement}
+use Rattle.dcc_ir.specs.declared.syntax.BinOp.{BinOp}
 use Rattle.dcc_ir.specs.Tree.{Expr, Stmt, Div, Block, Graph}
 use Rattle.dcc_ir.specs.Families.{live}
 use Rattle.dcc_ir.specs.Use.{reads_of, exit_exprs}
 use Rattle.dcc_ir.specs.Views.{stmt_of}
 use Rattle.dcc_flow.specs.Marks.{empty, with_all}
-use Rattle.dcc_divisions.specs.Divisions.{IsDivided, DividesFirst}
+use Rattle.dcc_divisions.specs.Divisions.{divides_signed, divides_unsigned, IsDivided, DividesFirst}
+
+-- both operators divide signed numbers, or both divide unsigned ones
+abbrev pub divide_alike : BinOp → BinOp → Bool
+divide_alike operator other =
+    divides_signed operator && divides_signed other || divides_unsigned operator && divides_unsigned other
 
 -- the statements, the last one first
 abbrev pub backward : List Statement → List Stmt

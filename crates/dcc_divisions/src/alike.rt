@@ -8,27 +8,38 @@ ghost use Rattle.dcc_ir.specs.Views.{expr_of, stmt_of};
 ghost use Rattle.dcc_substitution.specs.Available as available;
 ghost use Rattle.dcc_divisions.specs.Divisions as spec;
 ghost use Rattle.dcc_divisions.specs.Divisions.{FaultAlike, Leaves, IsDivided, DividesFirst};
-ghost use Rattle.dcc_divisions.specs.Walk.{backward};
+ghost use Rattle.dcc_divisions.specs.Walk.{backward, divide_alike};
 
 use dcc_ir::plain::scene::same_location;
 use dcc_ir::{BinOp, Expr, Loc, Stmt};
 use dcc_stdrules::same::same_expr;
 
-// Whether both operators divide signed numbers, or both divide unsigned ones.
-fn divide_alike(operator: BinOp, other: BinOp) -> bool
-    ensures { result ≡ spec.divide_alike operator other }
+// Whether an operator divides signed numbers.
+fn divides_signed(operator: BinOp) -> bool
+    ensures { result ≡ spec.divides_signed operator }
 {
     match operator {
-        BinOp::DivS | BinOp::RemS => match other {
-            BinOp::DivS | BinOp::RemS => true,
-            _ => false,
-        },
-        BinOp::DivU | BinOp::RemU => match other {
-            BinOp::DivU | BinOp::RemU => true,
-            _ => false,
-        },
+        BinOp::DivS | BinOp::RemS => true,
         _ => false,
     }
+}
+
+// Whether an operator divides unsigned numbers.
+fn divides_unsigned(operator: BinOp) -> bool
+    ensures { result ≡ spec.divides_unsigned operator }
+{
+    match operator {
+        BinOp::DivU | BinOp::RemU => true,
+        _ => false,
+    }
+}
+
+// Whether both operators divide signed numbers, or both divide unsigned ones.
+fn divide_alike(operator: BinOp, other: BinOp) -> bool
+    ensures { result ≡ divide_alike operator other }
+{
+    divides_signed(operator) && divides_signed(other)
+        || divides_unsigned(operator) && divides_unsigned(other)
 }
 
 // Whether one division faults where the other does.
