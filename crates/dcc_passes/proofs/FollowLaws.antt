@@ -411,16 +411,17 @@ module _ (before after : Graph) (link : Link) (entry : after.entry ≡ before.en
       (walk rest rest' w)
   walk xs ys (steps {stmt = stmt} {stmt' = stmt'} {rest = rest} {rest' = rest'} plain plain' stepped w) s t st =
       step-on stmt stmt' rest rest' s t st plain plain' (stepped s t (run-alike (stmt ∷ rest) (stmt' ∷ rest') s t st) st.end) (walk rest rest' w)
-  walk xs ys (drops {location = x} {e = e} {rest = rest} {rest' = rest'} faults left w) s t st = go (division_of (scene_of s) e) refl
+  walk xs ys (drops {location = x} {e = e} {rest = rest} {rest' = rest'} faults left w) s t st = go (division_of (scene_of s) e) refl (λ u at. walk rest rest' w u t at)
     where
       alike : RunAlike before after (link point.place (Div x e ∷ rest)) s t
       alike = run-alike (Div x e ∷ rest) rest' s t st
 
-      go : (o : Option ℕ) → division_of (scene_of s) e ≡ o → Meets (if is_over (dividing x o s).end then Over (dividing x o s) else local_run rest (dividing x o s)) (local_run rest' t)
-      go None is = fault-on rest' s t st.outside (faults s t alike is)
-      go (Some n) is =
+      go : (o : Option ℕ) → division_of (scene_of s) e ≡ o → ((u : State) → Stand rest rest' u t → Meets (local_run rest u) (local_run rest' t))
+          → Meets (if is_over (dividing x o s).end then Over (dividing x o s) else local_run rest (dividing x o s)) (local_run rest' t)
+      go None is later = fault-on rest' s t st.outside (faults s t alike is)
+      go (Some n) is later =
           subst (λ b. Meets (if b then Over (setting x n s) else local_run rest (setting x n s)) (local_run rest' t)) (sym st.running)
-          (walk rest rest' w (setting x n s) t (record {
+          (later (setting x n s) (record {
             first = st.first;
             second = st.second;
             outside = record { memory = st.outside.memory; input = st.outside.input; events = st.outside.events; base = st.outside.base };
