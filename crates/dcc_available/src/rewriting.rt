@@ -40,6 +40,12 @@ fn put(stmts: &mut Vec<Stmt>, stmt: Stmt) -> Result<(), AllocError>
     Ok(())
 }
 
+// Whether reads of a temporary that was set to the expression may become that: a constant or another temporary, what is
+// read once, or a sum that each read takes.
+fn is_wanted(reads: &Reads, temporary: u32, value: &Expr) -> bool {
+    is_simple(value) || reads.is_once(temporary) || reads.takes(temporary, value)
+}
+
 impl Known {
     // Notes what a temporary was just set to, where reads of it may become that.
     fn note_set(&mut self, reads: &Reads, stmt: &Stmt) -> Result<(), AllocError>
@@ -51,7 +57,7 @@ impl Known {
         let Loc::Temp(temporary) = *place else {
             return Ok(());
         };
-        if !reads.is_once(temporary) && !is_simple(value) {
+        if !is_wanted(reads, temporary, value) {
             return Ok(());
         }
         self.note(temporary, value)

@@ -123,25 +123,44 @@ fn put(blocks: Vec<Block>, news: Vec<Option<Block>>) -> Vec<Block>
     blocks
 }
 
-// The rewritten blocks of a graph.
+// The rewritten blocks of a graph, by how its temporaries are read.
+fn rewritten_by(
+    alloc: Global,
+    g: &Graph,
+    preds: &Vec<Vec<usize>>,
+    reads: &Reads,
+) -> Result<Vec<Option<Block>>, AllocError>
+    requires { ArePredecessors (successors_of (graph_of g.now)) (rows preds.now.items) }
+    ensures count { IfOk result (λ blocks. length blocks.items ≡ length g.now.blocks.items) }
+    ensures rewritten { IfOk result (λ blocks. AreRewrittenRows (graph_of g.now) blocks.items) }
+{
+    let setting = Setting {
+        graph: g,
+        preds,
+        reads,
+    };
+    setting.rewritten(alloc)
+}
+
+// The rewritten blocks of a graph. Where a sum isn't available at each read that takes it, both would stay: then the
+// blocks are rewritten anew without it.
 fn rewritten_blocks(alloc: Global, g: &Graph) -> Result<Vec<Option<Block>>, AllocError>
     requires { IsGraph (graph_of g.now) }
     ensures count { IfOk result (λ blocks. length blocks.items ≡ length g.now.blocks.items) }
     ensures rewritten { IfOk result (λ blocks. AreRewrittenRows (graph_of g.now) blocks.items) }
 {
     let preds = preds(alloc, g)?;
-    let reads = count_reads(alloc, g)?;
-    let setting = Setting {
-        graph: g,
-        preds: &preds,
-        reads: &reads,
-    };
-    setting.rewritten(alloc)
+    let mut reads = count_reads(alloc, g)?;
+    let news = rewritten_by(alloc, g, &preds, &reads)?;
+    if !reads.keep_gone(alloc, g, &news)? {
+        return Ok(news);
+    }
+    rewritten_by(alloc, g, &preds, &reads)
 }
 
 /// The graph in which reads of temporaries become what available assignments give them: constants and other
-/// temporaries, and for the only read of a temporary the expression that it was set to, along each chain of blocks.
-/// Expressions get at most 32 deep by it. Sets of temporaries that are no longer read stay.
+/// temporaries, for the only read of a temporary the expression that it was set to, and a sum with a number where each
+/// read stands beside a number, along each chain of blocks. Expressions get at most 32 deep by it. Sets of temporaries that are no longer read stay.
 pub fn substitute(alloc: Global, g: Graph) -> Result<Graph, AllocError>
     requires { IsGraph (graph_of g) }
     ensures tidied { IfOk result (λ after. IsTidied (graph_of g) (graph_of after)) }

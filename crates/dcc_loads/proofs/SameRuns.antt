@@ -13,8 +13,8 @@ use Rattle.dcc_ir.specs.Passes.{with_values, AgreeOutside, Meet}
 use Rattle.dcc_ir.proofs.passes.LocalLaws.{some_same, is_running, Frame, stmt-frame}
 use Rattle.dcc_ir.proofs.passes.SameLaws.{taken_same}
 use Rattle.dcc_passes.specs.OneGraph.{Invariant, one_pass, BeginsIn, GoesIn}
-use Rattle.dcc_passes.specs.Following.{Bond, TakeAlike, DoAlike}
-use Rattle.dcc_passes.proofs.FollowLaws.{Stepped, steps-alike}
+use Rattle.dcc_passes.specs.Following.{Bond, TakeAlike, DoAlike, Stepped}
+use Rattle.dcc_passes.proofs.FollowLaws.{steps-alike}
 use Rattle.dcc_loads.specs.Sets.{as_set, block_with_sets, with_sets}
 
 -- all locations hold the same

@@ -6,7 +6,7 @@ use Rattle.std.proofs.lemmas.List.Elements.{All-contains}
 use Rattle.dcc_run.specs.Event.{Event, Wrote, Took, MetEnd, writes}
 use Rattle.dcc_run.specs.End.{End, Exit as ExitWith, Divide, Stuck, is_over}
 use Rattle.dcc_ir.specs.declared.syntax.Loc.{Loc}
-use Rattle.dcc_ir.specs.Tree.{Stmt, Set, Fetch, Store, Div, Call, Dos, Exit, Goto, If, Switch, Ret, Stop, Block, Graph, Program}
+use Rattle.dcc_ir.specs.Tree.{Expr, Stmt, Set, Fetch, Store, Div, Call, Dos, Exit, Goto, If, Switch, Ret, Stop, Block, Graph, Program}
 use Rattle.dcc_ir.specs.Location.{location_width}
 use Rattle.dcc_ir.specs.Value.{division_of}
 use Rattle.dcc_ir.specs.Dos.{dos_string}
@@ -25,18 +25,15 @@ use Rattle.dcc_ir.proofs.passes.LocalLaws.{some_same, is_running, Frame, stmt-fr
 use Rattle.dcc_passes.specs.Replaced.{StandsFor}
 use Rattle.dcc_passes.specs.Kinds.{StaysInKind}
 use Rattle.dcc_passes.specs.OneGraph.{one_pass, GoesIn}
-use Rattle.dcc_passes.specs.Following.{Bond, Link, Anywhere, TakeAlike, takes_key, DoAlike, EndsAlike, RunAlike, IsFollowedBy, done, both, calls, goes, comes, joins, IsFollowedByBlock, linked, IsFollowedByGraph}
+use Rattle.dcc_passes.specs.Following.{Bond, Link, Anywhere, TakeAlike, takes_key, DoAlike, EndsAlike, Stepped, FaultsFirst, RunAlike, IsFollowedBy, done, both, steps, calls, goes, drops, comes, joins, IsFollowedByBlock, linked, IsFollowedByGraph}
 use Rattle.dcc_passes.proofs.OneGraphLaws.{one-stands}
 use Rattle.dcc_passes.proofs.KindLaws.{kind-fits}
 
 -- Statements.
 
 module _ (After : Bond) where
-  -- two states after statements that do the same
-  pub record Stepped (s t : State) : Type 0 where
-    pub outside : AgreeOutside s t
-    pub end : t.end ≡ s.end
-    pub holds : is_over s.end ≡ false → After (scene_of s) t.running.values
+  abbrev Steps : State → State → Type 0
+  Steps = Stepped After
 
   record Same (s t : State) : Type 0 where
     memory : t.memory ≡ s.memory
@@ -45,7 +42,7 @@ module _ (After : Bond) where
     base : t.running.base ≡ s.running.base
     end : t.end ≡ s.end
 
-  valued : (s t : State) → Same s t → After (scene_of s) t.running.values → Stepped s t
+  valued : (s t : State) → Same s t → After (scene_of s) t.running.values → Steps s t
   valued s t h holds = record {
     outside = record { memory = h.memory; input = h.input; events = h.events; base = h.base };
     end = h.end;
@@ -58,25 +55,25 @@ module _ (After : Bond) where
   happened : (events : List Event) (s t : State) → Same s t → Same (happening events s) (happening events t)
   happened events s t h = record { memory = h.memory; input = h.input; events = ap (λ l. l ++ events) h.events; base = h.base; end = h.end }
 
-  over : (end end' : End) (s t : State) → is_over end ≡ true → end' ≡ end → Same s t → Stepped (ended end s) (ended end' t)
+  over : (end end' : End) (s t : State) → is_over end ≡ true → end' ≡ end → Same s t → Steps (ended end s) (ended end' t)
   over end end' s t is same h = record {
     outside = record { memory = h.memory; input = h.input; events = h.events; base = h.base };
     end = same;
     holds = λ on. absurd (true≢false (sym is ∙ on));
   }
 
-  if-both : (b : Bool) (s s' t t' : State) → (b ≡ true → Stepped s t) → (b ≡ false → Stepped s' t') → Stepped (if b then s else s') (if b then t else t')
+  if-both : (b : Bool) (s s' t t' : State) → (b ≡ true → Steps s t) → (b ≡ false → Steps s' t') → Steps (if b then s else s') (if b then t else t')
   if-both true s s' t t' h k = h refl
   if-both false s s' t t' h k = k refl
 
   divided : (x x' : Loc) (n : Option ℕ) (s t : State) → Same s t → ((n : ℕ) → After (scene_of (setting x n s)) (setting x' n t).running.values)
-      → Stepped (dividing x n s) (dividing x' n t)
+      → Steps (dividing x n s) (dividing x' n t)
   divided x x' (Some n) s t h holds = valued (setting x n s) (setting x' n t) (set-same x x' n n s t h) (holds n)
   divided x x' None s t h holds = over Divide Divide s t refl refl h
 
   -- a byte goes to both places, and then events happen
   taken : (place place' : Option Loc) (byte : ℕ) (events : List Event) (s t : State) → Same s t
-      → TakeAlike After (scene_of s) t.running.values place place' → Stepped (happening events (taking place byte s)) (happening events (taking place' byte t))
+      → TakeAlike After (scene_of s) t.running.values place place' → Steps (happening events (taking place byte s)) (happening events (taking place' byte t))
   taken (Some x) (Some x') byte events s t h holds =
       valued (happening events (setting x byte s)) (happening events (setting x' byte t)) (happened events (setting x byte s) (setting x' byte t) (set-same x x' byte byte s t h)) (holds byte)
   taken None None byte events s t h holds = valued (happening events s) (happening events t) (happened events s t h) holds
@@ -84,7 +81,7 @@ module _ (After : Bond) where
   taken None (Some x') byte events s t h holds = absurd holds
 
   key-taken : (echo : Bool) (place place' : Option Loc) (input : List ℕ) (s t : State) → Same s t
-      → TakeAlike After (scene_of s) t.running.values place place' → Stepped (keyed echo place input s) (keyed echo place' input t)
+      → TakeAlike After (scene_of s) t.running.values place place' → Steps (keyed echo place input s) (keyed echo place' input t)
   key-taken echo place place' [] s t h holds = taken place place' 0x1A (MetEnd ∷ []) s t h holds
   key-taken echo place place' (byte ∷ input) s t h holds =
       taken place place' byte (Took byte ∷ (if echo then Wrote byte ∷ [] else [])) (record s { input = input }) (record t { input = input })
@@ -92,31 +89,31 @@ module _ (After : Bond) where
 
   dos-same : (number n : ℕ) (place place' : Option Loc) (s t : State) → t.running.graph.entry ≡ s.running.graph.entry → Same s t
       → TakeAlike After (scene_of s) t.running.values place place' → (takes_key number ≡ false → After (scene_of s) t.running.values)
-      → Stepped (dos_step number place n s) (dos_step number place' n t)
+      → Steps (dos_step number place n s) (dos_step number place' n t)
   dos-same number n place place' s t entry h take keep =
       if-both (number == 0x02) _ _ _ _ (λ e. wrote (n ∷ []) (ap takes_key (eqb-true number 0x02 e)))
       (λ _. if-both (number == 0x4C) _ _ _ _ (λ e. over (ExitWith n) (ExitWith n) s t refl refl h)
       (λ _. if-both (number == 0x01) _ _ _ _ (λ e. key true)
       (λ _. if-both (number == 0x08) _ _ _ _ (λ e. key false)
       (λ _. if-both (number == 0x09) _ _ _ _
-      (λ e. subst (λ m. Stepped (writing (dos_string s.memory n) s) (writing (dos_string m n) t)) (sym h.memory) (wrote (dos_string s.memory n) (ap takes_key (eqb-true number 0x09 e))))
+      (λ e. subst (λ m. Steps (writing (dos_string s.memory n) s) (writing (dos_string m n) t)) (sym h.memory) (wrote (dos_string s.memory n) (ap takes_key (eqb-true number 0x09 e))))
       (λ _. over (Stuck s.running.graph.entry) (Stuck t.running.graph.entry) s t refl (ap Stuck entry) h)))))
     where
-      wrote : (bytes : List ℕ) → takes_key number ≡ false → Stepped (writing bytes s) (writing bytes t)
+      wrote : (bytes : List ℕ) → takes_key number ≡ false → Steps (writing bytes s) (writing bytes t)
       wrote bytes other = valued (writing bytes s) (writing bytes t) (happened (writes bytes) s t h) (keep other)
 
-      key : (echo : Bool) → Stepped (keyed echo place s.input s) (keyed echo place' t.input t)
-      key echo = subst (λ input. Stepped (keyed echo place s.input s) (keyed echo place' input t)) (sym h.input) (key-taken echo place place' s.input s t h take)
+      key : (echo : Bool) → Steps (keyed echo place s.input s) (keyed echo place' t.input t)
+      key echo = subst (λ input. Steps (keyed echo place s.input s) (keyed echo place' input t)) (sym h.input) (key-taken echo place place' s.input s t h take)
 
   -- after two statements that do the same the states have the same outside of the locations
   pub steps-alike : (stmt stmt' : Stmt) (s t : State) → AgreeOutside s t → t.end ≡ s.end → t.running.graph.entry ≡ s.running.graph.entry
-      → DoAlike After s t stmt stmt' → Stepped (stmt_step stmt s) (stmt_step stmt' t)
+      → DoAlike After s t stmt stmt' → Steps (stmt_step stmt s) (stmt_step stmt' t)
   steps-alike stmt stmt' s t outside end entry alike = go stmt stmt' alike
     where
       h : Same s t
       h = record { memory = outside.memory; input = outside.input; events = outside.events; base = outside.base; end = end }
 
-      go : (stmt stmt' : Stmt) → DoAlike After s t stmt stmt' → Stepped (stmt_step stmt s) (stmt_step stmt' t)
+      go : (stmt stmt' : Stmt) → DoAlike After s t stmt stmt' → Steps (stmt_step stmt s) (stmt_step stmt' t)
       go (Set x e) (Set x' e') d = valued _ _ (set-same x x' _ _ s t h) d
       go (Fetch x width a) (Fetch x' width' a') d = valued _ _ (set-same x x' _ _ s t h) d
       go (Store width a e) (Store width' a' e') d = record {
@@ -130,10 +127,10 @@ module _ (After : Bond) where
         holds = λ on. d.3;
       }
       go (Div x e) (Div x' e') d =
-          subst (λ n. Stepped (dividing x (division_of (scene_of s) e) s) (dividing x' n t)) (sym d.0) (divided x x' (division_of (scene_of s) e) s t h d.1)
+          subst (λ n. Steps (dividing x (division_of (scene_of s) e) s) (dividing x' n t)) (sym d.0) (divided x x' (division_of (scene_of s) e) s t h d.1)
       go (Dos number place argument) (Dos number' place' argument') d =
-          subst (λ m. Stepped (dos_step number place (argument_in s argument) s) (dos_step m place' (argument_in t argument') t)) (sym d.0)
-          (subst (λ n. Stepped (dos_step number place (argument_in s argument) s) (dos_step number place' n t)) (sym d.1)
+          subst (λ m. Steps (dos_step number place (argument_in s argument) s) (dos_step m place' (argument_in t argument') t)) (sym d.0)
+          (subst (λ n. Steps (dos_step number place (argument_in s argument) s) (dos_step number place' n t)) (sym d.1)
           (dos-same number (argument_in s argument) place place' s t entry h d.2 d.3))
       go (Set x e) (Fetch x' width' a') d = absurd d
       go (Set x e) (Store width' a' e') d = absurd d
@@ -260,7 +257,11 @@ module _ (before after : Graph) (link : List Stmt → Bond) where
   follows-after_call xs ys (both {stmt = stmt} {stmt' = stmt'} {rest = rest} {rest' = rest'} plain plain' alike w) =
       subst (λ zs. Follows zs (after_call (stmt' ∷ rest'))) (sym (no-call-passed stmt rest plain))
       (subst (Follows (after_call rest)) (sym (no-call-passed stmt' rest' plain')) (follows-after_call rest rest' w))
+  follows-after_call xs ys (steps {stmt = stmt} {stmt' = stmt'} {rest = rest} {rest' = rest'} plain plain' stepped w) =
+      subst (λ zs. Follows zs (after_call (stmt' ∷ rest'))) (sym (no-call-passed stmt rest plain))
+      (subst (Follows (after_call rest)) (sym (no-call-passed stmt' rest' plain')) (follows-after_call rest rest' w))
   follows-after_call xs ys (calls passed given w) = w
+  follows-after_call xs ys (drops {rest = rest} {rest' = rest'} faults left w) = follows-after_call rest rest' w
   follows-after_call xs ys (goes {stmt = stmt} {rest = rest} {rest' = rest'} is left w) =
       subst (λ zs. Follows zs (after_call rest')) (sym (no-call-passed stmt rest (assignment-is-no-call stmt is))) (follows-after_call rest rest' w)
   follows-after_call xs ys (comes {stmt' = stmt'} {rest = rest} {rest' = rest'} is left w) =
@@ -358,17 +359,15 @@ module _ (before after : Graph) (link : Link) (entry : after.entry ≡ before.en
   go-on s t halt halt' true over on e = over
   go-on s t halt halt' false over on e = on e
 
-  walk : (xs ys : List Stmt) → IsFollowedBy before after (link point.place) xs ys → (s t : State) → Stand xs ys s t → Meets (local_run xs s) (local_run ys t)
-  walk xs ys done s t st =
-      let alike = run-alike [] [] s t st in
-      subst (λ exit. Meets (exit_halt exit s) (exit_halt t.running.block.exit t)) (sym (ap (λ (b : Block). b.exit) st.here))
-      (subst (λ exit. Meets (exit_halt block.exit s) (exit_halt exit t)) (sym (ap (λ (b : Block). b.exit) st.there))
-      (exits block.exit new.exit refl s t alike (is.exit s t alike)))
-  walk xs ys (both {stmt = stmt} {stmt' = stmt'} {rest = rest} {rest' = rest'} plain plain' alike w) s t st =
+  -- after two statements that are no calls, what follows meets
+  step-on : (stmt stmt' : Stmt) (rest rest' : List Stmt) (s t : State) → Stand (stmt ∷ rest) (stmt' ∷ rest') s t → is_call stmt ≡ false → is_call stmt' ≡ false
+      → Stepped (link point.place rest) (stmt_step stmt s) (stmt_step stmt' t)
+      → ((s' t' : State) → Stand rest rest' s' t' → Meets (local_run rest s') (local_run rest' t'))
+      → Meets (local_run (stmt ∷ rest) s) (local_run (stmt' ∷ rest') t)
+  step-on stmt stmt' rest rest' s t st plain plain' next later =
       let s' = stmt_step stmt s in
       let t' = stmt_step stmt' t in
-      let next = steps-alike (link point.place rest) stmt stmt' s t st.outside st.end (entries s t st.first st.second) (alike s t (run-alike (stmt ∷ rest) (stmt' ∷ rest') s t st)) in
-      let on = λ (e : is_over s'.end ≡ false). walk rest rest' w s' t' (record {
+      let on = λ (e : is_over s'.end ≡ false). later s' t' (record {
         first = ap (λ (f : Frame). f.graph) (stmt-frame stmt s) ∙ st.first;
         second = ap (λ (f : Frame). f.graph) (stmt-frame stmt' t) ∙ st.second;
         outside = next.outside;
@@ -387,6 +386,56 @@ module _ (before after : Graph) (link : Link) (entry : after.entry ≡ before.en
       (subst (λ halt. Meets (if is_over s'.end then Over s' else local_run rest s') halt) (sym (no-call-runs stmt' rest' t plain'))
       (subst (λ b. Meets (if is_over s'.end then Over s' else local_run rest s') (if b then Over t' else local_run rest' t')) (sym (ap is_over next.end))
       (go-on s' t' (local_run rest s') (local_run rest' t') (is_over s'.end) (record { end = next.end; events = next.outside.events }) on refl)))
+
+  -- where a division faults, the second statements do at once
+  fault-on : (ys : List Stmt) (s t : State) → AgreeOutside s t → FaultsFirst ys t → Meets (Over (ended Divide s)) (local_run ys t)
+  fault-on (Div x f ∷ ys) s t outside faults =
+      subst (λ o. Meets (Over (ended Divide s)) (if is_over (dividing x o t).end then Over (dividing x o t) else local_run ys (dividing x o t)))
+      (sym faults) (record { end = refl; events = outside.events })
+  fault-on [] s t outside faults = absurd faults
+  fault-on (Set x f ∷ ys) s t outside faults = absurd faults
+  fault-on (Fetch x width a ∷ ys) s t outside faults = absurd faults
+  fault-on (Store width a f ∷ ys) s t outside faults = absurd faults
+  fault-on (Call r n a d ∷ ys) s t outside faults = absurd faults
+  fault-on (Dos n p a ∷ ys) s t outside faults = absurd faults
+
+  walk : (xs ys : List Stmt) → IsFollowedBy before after (link point.place) xs ys → (s t : State) → Stand xs ys s t → Meets (local_run xs s) (local_run ys t)
+  walk xs ys done s t st =
+      let alike = run-alike [] [] s t st in
+      subst (λ exit. Meets (exit_halt exit s) (exit_halt t.running.block.exit t)) (sym (ap (λ (b : Block). b.exit) st.here))
+      (subst (λ exit. Meets (exit_halt block.exit s) (exit_halt exit t)) (sym (ap (λ (b : Block). b.exit) st.there))
+      (exits block.exit new.exit refl s t alike (is.exit s t alike)))
+  walk xs ys (both {stmt = stmt} {stmt' = stmt'} {rest = rest} {rest' = rest'} plain plain' alike w) s t st =
+      step-on stmt stmt' rest rest' s t st plain plain'
+      (steps-alike (link point.place rest) stmt stmt' s t st.outside st.end (entries s t st.first st.second) (alike s t (run-alike (stmt ∷ rest) (stmt' ∷ rest') s t st)))
+      (walk rest rest' w)
+  walk xs ys (steps {stmt = stmt} {stmt' = stmt'} {rest = rest} {rest' = rest'} plain plain' stepped w) s t st =
+      step-on stmt stmt' rest rest' s t st plain plain' (stepped s t (run-alike (stmt ∷ rest) (stmt' ∷ rest') s t st) st.end) (walk rest rest' w)
+  walk xs ys (drops {location = x} {e = e} {rest = rest} {rest' = rest'} faults left w) s t st = go (division_of (scene_of s) e) refl (λ u at. walk rest rest' w u t at)
+    where
+      alike : RunAlike before after (link point.place (Div x e ∷ rest)) s t
+      alike = run-alike (Div x e ∷ rest) rest' s t st
+
+      go : (o : Option ℕ) → division_of (scene_of s) e ≡ o → ((u : State) → Stand rest rest' u t → Meets (local_run rest u) (local_run rest' t))
+          → Meets (if is_over (dividing x o s).end then Over (dividing x o s) else local_run rest (dividing x o s)) (local_run rest' t)
+      go None is later = fault-on rest' s t st.outside (faults s t alike is)
+      go (Some n) is later =
+          subst (λ b. Meets (if b then Over (setting x n s) else local_run rest (setting x n s)) (local_run rest' t)) (sym st.running)
+          (later (setting x n s) (record {
+            first = st.first;
+            second = st.second;
+            outside = record { memory = st.outside.memory; input = st.outside.input; events = st.outside.events; base = st.outside.base };
+            holds = left s t n alike is;
+            fit = subst (λ o. IsFit (dividing x o s)) is (first-fits before (Div x e) rest s st.first st.formed st.fit);
+            fit' = st.fit';
+            formed = rest-formed before (Div x e) rest st.formed;
+            formed' = st.formed';
+            running = st.running;
+            end = st.end;
+            here = st.here;
+            there = st.there;
+            follows = st.follows;
+          }))
   walk xs ys (calls {results = results} {results' = results'} {entry = callee} {depth = depth} {arguments = arguments} {arguments' = arguments'} {rest = rest} {rest' = rest'} passed given w) s t st =
       let alike = run-alike (Call results callee arguments depth ∷ rest) (Call results' callee arguments' depth ∷ rest') s t st in
       record {

@@ -2,6 +2,7 @@
 -- begin and after calls it holds whatever the base and the memory, since a pass tells of values alone there.
 use Rattle.std.specs.Prelude.{◌≡◌, ℕ, ◌/◌, ◌==◌, Bool, true, false, ◌||◌, List, [], ◌∷◌, map, Contains, slice_get}
 use Rattle.std.specs.Prelude.{Option, Some, None}
+use Rattle.dcc_run.specs.End.{is_over}
 use Rattle.dcc_ir.specs.declared.syntax.Loc.{Loc}
 use Rattle.dcc_ir.specs.Tree.{Expr, Stmt, Set, Fetch, Store, Div, Call, Dos, Exit, Goto, If, Switch, Ret, Stop, Block}
 use Rattle.dcc_ir.specs.Tree.{Graph}
@@ -73,6 +74,18 @@ EndsAlike s t (Ret values) (Ret values') = map (value_in t) values' ≡ map (val
 EndsAlike s t Stop Stop = Unit {0}
 EndsAlike s t _ _ = ⊥
 
+-- After a statement both states have the same end and the same outside of the locations; where the runs go on, what is
+-- told holds of the values.
+pub record Stepped (After : Bond) (s t : State) : Type 0 where
+  pub outside : AgreeOutside s t
+  pub end : t.end ≡ s.end
+  pub holds : is_over s.end ≡ false → After (scene_of s) t.running.values
+
+-- the first of the statements is a division that faults in the state
+abbrev pub FaultsFirst : List Stmt → State → Type 0
+FaultsFirst (Div location e ∷ rest) t = division_of (scene_of t) e ≡ None
+FaultsFirst stmts t = ⊥
+
 module _ (before after : Graph) where
   -- the states run the two graphs, have the same outside of the locations, and what is told holds of their values; what
   -- each holds fits its widths
@@ -86,13 +99,20 @@ module _ (before after : Graph) where
 
   -- The second statements do what the first ones do. A call has the same arguments and gives back into other places; an
   -- assignment of the first ones may go, and one of the second ones may come, where it leaves what holds; and one may
-  -- stand for two.
+  -- stand for two. A division may go that leaves what holds where it comes to a number, if the second ones fault at once
+  -- where it faults.
   pub data IsFollowedBy (link : List Stmt → Bond) : List Stmt → List Stmt → Type 0 where
     done : IsFollowedBy link [] []
     both :
         {stmt stmt' : Stmt} {rest rest' : List Stmt}
         → is_call stmt ≡ false → is_call stmt' ≡ false
         → ((s t : State) → RunAlike (link (stmt ∷ rest)) s t → DoAlike (link rest) s t stmt stmt')
+        → IsFollowedBy link rest rest' → IsFollowedBy link (stmt ∷ rest) (stmt' ∷ rest')
+    steps :
+        {stmt stmt' : Stmt} {rest rest' : List Stmt}
+        → is_call stmt ≡ false → is_call stmt' ≡ false
+        → ((s t : State) → RunAlike (link (stmt ∷ rest)) s t → t.end ≡ s.end
+        → Stepped (link rest) (stmt_step stmt s) (stmt_step stmt' t))
         → IsFollowedBy link rest rest' → IsFollowedBy link (stmt ∷ rest) (stmt' ∷ rest')
     calls :
         {results results' : List Loc} {entry depth : ℕ} {arguments arguments' : List Expr} {rest rest' : List Stmt}
@@ -110,6 +130,13 @@ module _ (before after : Graph) where
         → ((s t : State) → RunAlike (link (stmt ∷ rest)) s t
         → link rest (scene_of (stmt_step stmt s)) t.running.values)
         → IsFollowedBy link rest rest' → IsFollowedBy link (stmt ∷ rest) rest'
+    drops :
+        {location : Loc} {e : Expr} {rest rest' : List Stmt}
+        → ((s t : State) → RunAlike (link (Div location e ∷ rest)) s t → division_of (scene_of s) e ≡ None
+        → FaultsFirst rest' t)
+        → ((s t : State) (n : ℕ) → RunAlike (link (Div location e ∷ rest)) s t → division_of (scene_of s) e ≡ Some n
+        → link rest (record (scene_of s) { values = with_value s.running.values location n }) t.running.values)
+        → IsFollowedBy link rest rest' → IsFollowedBy link (Div location e ∷ rest) rest'
     comes :
         {stmt' : Stmt} {rest rest' : List Stmt}
         → is_assignment stmt' ≡ true

@@ -82,7 +82,7 @@ call-did : (results : List Loc) (entry depth : ℕ) (arguments : List Expr) (s :
 call-did results entry depth arguments s = call-changes results entry depth arguments (scene_of s) (scene_of s) refl (λ l out. refl)
 
 -- a statement changes what it writes alone
-stmt-did : (stmt : Stmt) (s : State) → Changes stmt (scene_of s) (scene_of (stmt_step stmt s))
+pub stmt-did : (stmt : Stmt) (s : State) → Changes stmt (scene_of s) (scene_of (stmt_step stmt s))
 stmt-did (Set x e) s = set-did x e (scene_of s)
 stmt-did (Fetch x width a) s = one-changes (Fetch x width a) x _ (scene_of s) refl (λ l v is. absurd (cc))
 stmt-did (Store width a e) s = store-changes width a e (scene_of s) _
