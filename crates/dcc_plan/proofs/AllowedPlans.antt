@@ -239,21 +239,24 @@ module _ (whole : Tree) (f : Function) (s : Spelling) (graph : inner.Graph) (lev
         let z = end-expr test Exact 1 (and_parts (is_expr_of s.bits 1 test) (nat_lt yes_place (length graph.blocks)) tested).0 (only-of (AreNamed s) spelled.reads (inner.If test yes_place no_place) test is refl) in
         subst (λ exit. IsFineTest (text_of_way s on exit)) (sym is) (by on z (only-of (IsLow levels) spelled.shallow (inner.If test yes_place no_place) test is refl))
       where
-        by : (on : Bool) → IsAllowedExpr (declared_in whole f) 1 (text s Exact false test) → IsLow levels test → IsFineTest (text_of_way s on (inner.If test yes_place no_place))
-        by true z low = record { writable = z.writable; number = ap (λ t. elim t [ Some type ↦ not type.pointer | None ↦ false ]) z.typed; low = end-shallow test Exact low }
-        by false z low = turned-cases IsFineTest (Unary Not) (text s Exact false test) (record {
-          writable = z.writable;
-          number = ap (λ t. elim (option_and_then (unary_type Not) t) [ Some type ↦ not type.pointer | None ↦ false ]) z.typed;
-          low = and_from (nat_le (suc (expr_depth (text s Exact false test))) limit) true
-              (le-leb (suc (expr_depth (text s Exact false test))) limit (omega (arith, enough, low, shallow s test Exact false))) refl;
-        }) (λ c o. fine-turned (text s Exact false test) c o (by true z low))
-
         fine-turned : (e c : tree.Expr) → IsTurned e c → IsFineTest e → IsFineTest c
         fine-turned e c (turns operator other a b o) x = record {
           writable = x.writable;
           number = ap (λ t. elim t [ Some type ↦ not type.pointer | None ↦ false ]) (turned-type (declared_in whole f) (tree.Binary operator a b) (tree.Binary other a b) (turns operator other a b o)) ∙ x.number;
           low = x.low;
         }
+
+        itself : IsAllowedExpr (declared_in whole f) 1 (text s Exact false test) → IsLow levels test → IsFineTest (text s Exact false test)
+        itself z low = record { writable = z.writable; number = ap (λ t. elim t [ Some type ↦ not type.pointer | None ↦ false ]) z.typed; low = end-shallow test Exact low }
+
+        by : (on : Bool) → IsAllowedExpr (declared_in whole f) 1 (text s Exact false test) → IsLow levels test → IsFineTest (text_of_way s on (inner.If test yes_place no_place))
+        by true z low = itself z low
+        by false z low = turned-cases IsFineTest (Unary Not) (text s Exact false test) (record {
+          writable = z.writable;
+          number = ap (λ t. elim (option_and_then (unary_type Not) t) [ Some type ↦ not type.pointer | None ↦ false ]) z.typed;
+          low = and_from (nat_le (suc (expr_depth (text s Exact false test))) limit) true
+              (le-leb (suc (expr_depth (text s Exact false test))) limit (omega (arith, enough, low, shallow s test Exact false))) refl;
+        }) (λ c o. fine-turned (text s Exact false test) c o (itself z low))
 
     test-fine : (around : Around) (on : Bool) (one two p q : Plan) (first second : Lines) (test : inner.Expr) (yes_place no_place : ℕ) → block.exit ≡ inner.If test yes_place no_place
         → IsFine (in_block around) false p first → IsFine (in_block around) false q second → IsPermutation (marks one ++ marks two) (marks p ++ marks q)
