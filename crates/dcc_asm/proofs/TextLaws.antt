@@ -202,6 +202,21 @@ bytes_unique text told others h k =
       | second_ends l t more is e g fits ↦ absurd (not-empty l more e)
     ]
 
+-- two readings of one text as a listing
+pub record AreOneReading (cpu : Cpu) (cs : ℕ) (lines : List (List ℕ)) (other : Cpu) (others : ℕ) (also : List (List ℕ)) : Type 0 where
+  pub cpus : cpu ≡ other
+  pub segments : cs ≡ others
+  pub lines_are : lines ≡ also
+
+pub one-reading : (text told others : List ℕ) (h : StandsFor text told) (k : StandsFor text others) → AreOneReading h.cpu h.cs h.lines k.cpu k.cs k.lines
+one-reading text told others h k =
+    let both = two-runs text h.cpu h.cs h.lines told [] k.cpu k.cs k.lines others [] (stands-runs text told h) (stands-runs text others k) in
+    elim both.compared [
+      | are_same p q r ↦ record { cpus = both.cpus; segments = both.segments; lines_are = p }
+      | first_ends l t more is e g fits ↦ absurd (not-empty l more e)
+      | second_ends l t more is e g fits ↦ absurd (not-empty l more e)
+    ]
+
 -- the faults of a text, with the lines before them as a run
 data FaultView (text : List ℕ) (number : ℕ) (kind : ListKind) : Type 0 where
   long : text_most < length text → number ≡ 0 → kind ≡ Length → FaultView text number kind
