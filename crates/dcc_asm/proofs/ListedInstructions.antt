@@ -26,7 +26,7 @@ use Rattle.dcc_encode.specs.Encoding.{IsEncoding}
 use Rattle.dcc_list.specs.Text.{IsOffset, AreBytes, Gives, StandsFor, bytes_line, bytes as gives_bytes}
 use Rattle.dcc_list.specs.Listed.{is_among, offsets_from, has_node, is_listed, lines_for_people, offset_of, people_at, listed_at, labelled_at, begins_line, IsInstructionLine, Lists, at_end, instruction as listed_instruction, bytes as listed_bytes, standard as standard_line, odd as odd_instruction, IsListing}
 use Rattle.dcc_list.proofs.Ready.{in_code}
-use Rattle.dcc_list.proofs.Standing.{IsQuiet, people-quiet, people-at-quiet, line-given, part_bytes, instruction_within, offset_of-is, listing_stands}
+use Rattle.dcc_list.proofs.Standing.{IsQuiet, people-quiet, people-at-quiet, line-given, part_bytes, instruction_within, offset_of-is, listing-begins}
 use Rattle.dcc_asm.specs.Instructions.{IsAmong, IsInstructionOf, of_prelude, of_procedure, TellsInstruction, standard as tells_standard, odd as tells_odd, TellInstruction, HasInstruction, HasInstructionLine, IsInside}
 use Rattle.dcc_asm.specs.Laws.{ProgramHasOneInstruction, InstructionLinesAreOfProgram, InstructionsHaveLines}
 use Rattle.dcc_asm.proofs.StepLaws.{offset-same}
@@ -334,12 +334,22 @@ lines-have image program prelude loaded at here is small within known place line
 
 -- Whole listings -----------------------------------------------------------------------------
 
+-- the listing is one of the image's bytes, with its own lines
+abbrev reading : (image : Image) (program : Program) (text : List ℕ) → IsLoaded image → (is : IsListing image program text) → StandsFor text image.bytes.items
+reading image program text loaded is = record {
+  cpu = program.layout.cpu;
+  cs = image.cs;
+  lines = is.lines;
+  begins = listing-begins image program text loaded is;
+  text_is = is.text_is;
+}
+
 -- what a line of the listing tells stands in the code
 listing-stands : (image : Image) (program : Program) (text : List ℕ) → IsLoaded image → (is : IsListing image program text)
     → (at : ℕ) (op : Op) (told : List ℕ) → HasInstruction text at op told → Stands image program is.prelude at op told
 listing-stands image program text loaded is at op told h =
     lines-stand image program is.prelude loaded 0 is.lines is.lists at op told
-    (told-in text image.bytes.items at op told (listing_stands image program text loaded is) h)
+    (told-in text image.bytes.items at op told (reading image program text loaded is) h)
 
 pub lines_of_program : InstructionLinesAreOfProgram
 lines_of_program image program text at instr loaded found is h =
@@ -374,7 +384,6 @@ in-image image loaded cpu at instr stands =
 pub instructions_have_lines : InstructionsHaveLines
 instructions_have_lines image program text at instr loaded found is h outside =
     let cpu = program.layout.cpu in
-    let reading = listing_stands image program text loaded is in
     let stands = instruction-stands image program at instr found h in
     let there = in-image image loaded cpu at instr stands in
     let line = lines-have image program is.prelude loaded at there.place there.offset there.small there.within
@@ -382,7 +391,7 @@ instructions_have_lines image program text at instr loaded found is h outside =
     (λ start op told t low high. outside (record {
       start = start;
       instr = record { op = op; len = length told };
-      has = record { bytes = told; length_is = refl; has = record { image = image.bytes.items; stands = reading; told = t } };
+      has = record { bytes = told; length_is = refl; has = record { image = image.bytes.items; stands = reading image program text loaded is; told = t } };
       behind = low;
       before = high;
     })) in
@@ -396,7 +405,7 @@ instructions_have_lines image program text at instr loaded found is h outside =
       length_is = len_is;
       has = record {
         image = image.bytes.items;
-        stands = reading;
+        stands = reading image program text loaded is;
         told = subst (λ o. TellInstruction cpu image.cs at o told 0 is.lines) op_is (line.1).1;
       };
     }

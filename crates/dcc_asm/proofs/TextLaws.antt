@@ -142,6 +142,10 @@ record HeadsSame (cpu other : Cpu) (cs others : ℕ) (rest more : List ℕ) : Ty
   segments : cs ≡ others
   rests : rest ≡ more
 
+-- the digits 8 and 1, with which the names of the processors begin
+digits-apart : (a b : ℕ) → a ≡ b → a ≡ 56 → b ≡ 49 → ⊥
+digits-apart a b e f g = omega arith
+
 heads-same : (cpu other : Cpu) (cs others : ℕ) (rest more : List ℕ) → cs < 65536 → others < 65536
     → head_line cpu cs ++ (10 ∷ rest) ≡ head_line other others ++ (10 ∷ more) → HeadsSame cpu other cs others rest more
 heads-same I8086 I8086 cs others rest more h k e = record {
@@ -155,9 +159,11 @@ heads-same I186 I186 cs others rest more h k e = record {
   rests = ap (λ (t : List ℕ). drop 22 t) e;
 }
 heads-same I8086 I186 cs others rest more h k e =
-    let apart : 56 ≡ 49 = ap (λ (t : List ℕ). byte_of t 13) e in absurd (omega arith)
+    absurd (digits-apart (byte_of (head_line I8086 cs ++ (10 ∷ rest)) 13) (byte_of (head_line I186 others ++ (10 ∷ more)) 13)
+    (ap (λ (t : List ℕ). byte_of t 13) e) refl refl)
 heads-same I186 I8086 cs others rest more h k e =
-    let apart : 49 ≡ 56 = ap (λ (t : List ℕ). byte_of t 13) e in absurd (omega arith)
+    absurd (digits-apart (byte_of (head_line I8086 others ++ (10 ∷ more)) 13) (byte_of (head_line I186 cs ++ (10 ∷ rest)) 13)
+    (sym (ap (λ (t : List ℕ). byte_of t 13) e)) refl refl)
 
 -- Whole texts --------------------------------------------------------------------------------
 

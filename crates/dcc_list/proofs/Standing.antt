@@ -22,8 +22,8 @@ use Rattle.dcc_prog.specs.declared.frame.Program.{Program}
 use Rattle.dcc_spelled.specs.Hex.{hex_word, hex_bytes}
 use Rattle.dcc_spelled.specs.Spelling.{spelling}
 use Rattle.dcc_encode.specs.Encoding.{IsEncoding}
-use Rattle.dcc_list.specs.Text.{IsOffset, comment_line, place_line, bytes_line, AreBytes, Gives, comment, at_place, bytes, standard, odd, GivesInTurn, none, next, IsLine}
-use Rattle.dcc_list.specs.Listed.{data_offset, procedure_name, procedure_line, procedure_lines, headings, is_labelled, lines_for_people, offset_of, people_at, IsInstructionLine, Lists}
+use Rattle.dcc_list.specs.Text.{IsOffset, comment_line, place_line, bytes_line, AreBytes, Gives, comment, at_place, bytes, standard, odd, GivesInTurn, none, next, IsLine, Begins}
+use Rattle.dcc_list.specs.Listed.{data_offset, procedure_name, procedure_line, procedure_lines, headings, is_labelled, lines_for_people, offset_of, people_at, IsInstructionLine, Lists, IsListing}
 use Rattle.dcc_list.specs.Listed.{at_end, instruction as listed_instruction, bytes as listed_bytes, standard as standard_line, odd as odd_instruction}
 use Rattle.dcc_list.specs.Laws.{ListingStandsForImage}
 use Rattle.dcc_encode.proofs.Covered.{all-append}
@@ -259,18 +259,23 @@ all-lines [] h k d l = absurd (omega arith)
 all-lines (line ∷ lines) h zero d l = is_line line h.0
 all-lines (line ∷ lines) h (suc k) d l = all-lines lines h.1 k d (omega arith)
 
-pub listing_stands : ListingStandsForImage
-listing_stands image program text loaded is =
+-- the lines of the listing give the image's bytes
+pub listing-begins : (image : Image) (program : Program) (text : List ℕ) → IsLoaded image → (is : IsListing image program text)
+    → Begins program.layout.cpu image.cs is.lines image.bytes.items
+listing-begins image program text loaded is =
     let given = lists-given image program is.prelude loaded 0 is.lines is.lists in
     let cs = loaded.is_image.cs in
     record {
-      cpu = program.layout.cpu;
-      cs = image.cs;
-      lines = is.lines;
-      begins = record {
-        segment = omega (arith, cs);
-        unbroken = all-lines is.lines given.unbroken;
-        give = given.gives;
-      };
-      text_is = is.text_is;
+      segment = omega (arith, cs);
+      unbroken = all-lines is.lines given.unbroken;
+      give = given.gives;
     }
+
+pub listing_stands : ListingStandsForImage
+listing_stands image program text loaded is = record {
+  cpu = program.layout.cpu;
+  cs = image.cs;
+  lines = is.lines;
+  begins = listing-begins image program text loaded is;
+  text_is = is.text_is;
+}
