@@ -36,3 +36,23 @@ def write_all(folder):
     """Writes each program into the folder."""
     for name, code in PROGRAMS.items():
         (folder / name).write_bytes(program(bytes.fromhex(code)))
+
+
+def chain(count, size, frame):
+    """Procedures of that many instructions, each of which calls the next; with frames and locals, or without."""
+    parts = []
+    for place in range(count):
+        begin = b"\x55\x8B\xEC\x83\xEC\x7E" if frame and place else b""
+        leave = b"\xB4\x4C\xCD\x21" if place == 0 else b"\x8B\xE5\x5D\xC3" if frame else b"\x40\xC3"
+        fixed = (3 if begin else 0) + 1 + (2 if len(leave) == 2 or place == 0 else 3)
+        call = b"\xE8\0\0" if place < count - 1 else b"\x90"
+        body = [bytes([0x8B, 0x46, 0x82 + step % 62 * 2]) if begin else b"\x90" for step in range(size - fixed)]
+        parts.append((begin, call, b"".join(body) + leave))
+    sizes = [len(begin) + len(call) + len(rest) for begin, call, rest in parts]
+    code = b""
+    for place, (begin, call, rest) in enumerate(parts):
+        if place < count - 1:
+            # The next procedure follows this one.
+            call = b"\xE8" + (sizes[place] - len(begin) - 3).to_bytes(2, "little")
+        code += begin + call + rest
+    return code

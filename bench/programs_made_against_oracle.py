@@ -1,14 +1,15 @@
 #!/usr/bin/env python3
 """Compares the files that `make` gives with those of a reference, byte for byte.
 
-bench/programs_made_against_oracle.py REFERENCE [COUNT [SEED]]
+bench/programs_made_against_oracle.py REFERENCE [COUNT [SEED [PROGRAM]]]
 
 REFERENCE is a folder with a Python package dccref, which is no part of this repository: its module gen gives the file
-of a seed and a size. The crates are run before their proof. Prints each seed and size whose file is another one; the
-status is 1 if there is one.
+of a seed and a size. PROGRAM is SHOW below as it was built before; where no word stands, it is run over the crates
+before their proof. Prints each seed and size whose file is another one; the status is 1 if there is one.
 """
 import pathlib
 import random
+import subprocess
 import sys
 import tempfile
 
@@ -57,9 +58,12 @@ def main():
     draw = random.Random(int(sys.argv[3]) if len(sys.argv) > 3 else 1)
     rows = [(0, 1), (7, 400), (1, 1000), (2 ** 64 - 1, 1000)]
     rows += [(draw.getrandbits(draw.choice([8, 32, 64])), draw.randint(1, 1000)) for _ in range(count)]
-    with tempfile.TemporaryDirectory() as name:
-        words = [f"{seed}:{size}" for seed, size in rows]
-        lines = tried(pathlib.Path(name), "made_show", SHOW, "dcc_gen anyhow", words, ("made ",))
+    words = [f"{seed}:{size}" for seed, size in rows]
+    if len(sys.argv) > 4:
+        lines = subprocess.run([sys.argv[4], *words], capture_output=True, text=True, check=True).stdout.splitlines()
+    else:
+        with tempfile.TemporaryDirectory() as name:
+            lines = tried(pathlib.Path(name), "made_show", SHOW, "dcc_gen anyhow", words, ("made ",))
     wrong = [row for row, line in zip(rows, lines) if bytes.fromhex(line.split()[1]) != make(*row)]
     for seed, size in wrong:
         print(f"another file: seed {seed}, size {size}")

@@ -8,7 +8,8 @@ give the operation of some bytes, and its spelling as a listing of `dcc list` ha
 that the first two bytes of an instruction and some further bytes give, on the processor that has more of them, goes to
 NASM; relative jumps from the offset at which their line stands. NASM's words differ in four places, which are put into
 its own: a segment before an address stands within its brackets, `xlat` is `xlatb`, ENTER has its level, and a
-conditional jump says that it is short.
+conditional jump says that it is short. NASM takes the exchange of AX with itself for NOP, and of other exchanges it
+may choose the one the other way round.
 Prints each spelling that NASM refuses, or of which its bytes decode to another operation; the status is 1 if there is
 one.
 """
@@ -35,7 +36,9 @@ def for_nasm(spelling):
 
 
 def is_alike(op, other):
-    """Whether two operations are one, an exchange being the same both ways."""
+    """Whether two operations are one, an exchange being the same both ways, and NOP that of AX with itself."""
+    if op == ("Xchg", ("Word", "Ax"), ("Word", "Ax")):
+        return other == ("Plain", "Nop")
     return op == other or op[0] == other[0] == "Xchg" and op[1:] == other[:0:-1]
 
 

@@ -19,7 +19,7 @@ import tempfile
 from collections import Counter
 from concurrent.futures import ThreadPoolExecutor
 
-from listings_against_oracle import allowed
+from procs_lines_against_oracle import allowed
 from procs_show import ROOT, file_of
 from random_procedures import code_of
 from random_stacks import stack_code

@@ -1,5 +1,7 @@
 pub mod HeadLaws
+pub mod InstructionLaws
 pub mod KnownLaws
+pub mod ListedInstructions
 pub mod LineLaws
 pub mod ReadForm
 pub mod RunLaws

@@ -28,12 +28,12 @@ data GivesView (cpu : Cpu) (cs here : ℕ) (line told : List ℕ) : Type 0 where
   for_people : (words : List ℕ) → line ≡ comment_line words → told ≡ [] → GivesView cpu cs here line told
   of_form : (form : Form) → IsValid form → line ≡ form_line form → GivesOf cpu cs here form told → GivesView cpu cs here line told
 
-encoding-bytes : (cpu : Cpu) (at : ℕ) (op : Op) (told : List ℕ) → IsEncoding cpu at op told → AreBytes told
+pub encoding-bytes : (cpu : Cpu) (at : ℕ) (op : Op) (told : List ℕ) → IsEncoding cpu at op told → AreBytes told
 encoding-bytes cpu at op told e =
     let size = instruction-length cpu at told (record { op = op; len = length told }) e.decoded in
     record { some = size.0; each = e.are_bytes }
 
-encoding-known : (cpu : Cpu) (at : ℕ) (op : Op) (told : List ℕ) → IsEncoding cpu at op told → IsKnown op
+pub encoding-known : (cpu : Cpu) (at : ℕ) (op : Op) (told : List ℕ) → IsEncoding cpu at op told → IsKnown op
 encoding-known cpu at op told e = record { cpu = cpu; at = at; bytes = told; encoding = e }
 
 gives-view : (cpu : Cpu) (cs here : ℕ) (line told : List ℕ) → Gives cpu cs here line told → GivesView cpu cs here line told

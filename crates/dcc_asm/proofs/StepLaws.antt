@@ -37,8 +37,8 @@ encoding-within cpu at op told e =
 pub standard-told : (cpu : Cpu) (cs place at : ℕ) (op : Op) (found : Option (SmallVec ℕ)) → IsOffset cs place at
     → MatchOption found ((told : List ℕ) → ¬ IsEncoding cpu at op told) (λ told. IsStandard cpu at op told.items)
     → IsStandardAt cpu cs place op found
-standard-told cpu cs place at op None o h e =
-    let same : e.at ≡ at = offset-same cs place e.at at e.is_offset o in
+standard-told cpu cs place at op None o h =
+    λ e. let same : e.at ≡ at = offset-same cs place e.at at e.is_offset o in
     h e.bytes (subst (λ n. IsEncoding cpu n op e.bytes) same e.encoding)
 standard-told cpu cs place at op (Some told) o h = (at, o, h)
 

@@ -142,6 +142,10 @@ record HeadsSame (cpu other : Cpu) (cs others : ℕ) (rest more : List ℕ) : Ty
   segments : cs ≡ others
   rests : rest ≡ more
 
+-- the digits 8 and 1, with which the names of the processors begin
+digits-apart : (a b : ℕ) → a ≡ b → a ≡ 56 → b ≡ 49 → ⊥
+digits-apart a b e f g = omega arith
+
 heads-same : (cpu other : Cpu) (cs others : ℕ) (rest more : List ℕ) → cs < 65536 → others < 65536
     → head_line cpu cs ++ (10 ∷ rest) ≡ head_line other others ++ (10 ∷ more) → HeadsSame cpu other cs others rest more
 heads-same I8086 I8086 cs others rest more h k e = record {
@@ -155,9 +159,11 @@ heads-same I186 I186 cs others rest more h k e = record {
   rests = ap (λ (t : List ℕ). drop 22 t) e;
 }
 heads-same I8086 I186 cs others rest more h k e =
-    let apart : 56 ≡ 49 = ap (λ (t : List ℕ). byte_of t 13) e in absurd (omega arith)
+    absurd (digits-apart (byte_of (head_line I8086 cs ++ (10 ∷ rest)) 13) (byte_of (head_line I186 others ++ (10 ∷ more)) 13)
+    (ap (λ (t : List ℕ). byte_of t 13) e) refl refl)
 heads-same I186 I8086 cs others rest more h k e =
-    let apart : 49 ≡ 56 = ap (λ (t : List ℕ). byte_of t 13) e in absurd (omega arith)
+    absurd (digits-apart (byte_of (head_line I8086 others ++ (10 ∷ more)) 13) (byte_of (head_line I186 cs ++ (10 ∷ rest)) 13)
+    (sym (ap (λ (t : List ℕ). byte_of t 13) e)) refl refl)
 
 -- Whole texts --------------------------------------------------------------------------------
 
@@ -198,6 +204,21 @@ bytes_unique text told others h k =
     let both = two-runs text h.cpu h.cs h.lines told [] k.cpu k.cs k.lines others [] (stands-runs text told h) (stands-runs text others k) in
     elim both.compared [
       | are_same p q r ↦ q
+      | first_ends l t more is e g fits ↦ absurd (not-empty l more e)
+      | second_ends l t more is e g fits ↦ absurd (not-empty l more e)
+    ]
+
+-- two readings of one text as a listing
+pub record AreOneReading (cpu : Cpu) (cs : ℕ) (lines : List (List ℕ)) (other : Cpu) (others : ℕ) (also : List (List ℕ)) : Type 0 where
+  pub cpus : cpu ≡ other
+  pub segments : cs ≡ others
+  pub lines_are : lines ≡ also
+
+pub one-reading : (text told others : List ℕ) (h : StandsFor text told) (k : StandsFor text others) → AreOneReading h.cpu h.cs h.lines k.cpu k.cs k.lines
+one-reading text told others h k =
+    let both = two-runs text h.cpu h.cs h.lines told [] k.cpu k.cs k.lines others [] (stands-runs text told h) (stands-runs text others k) in
+    elim both.compared [
+      | are_same p q r ↦ record { cpus = both.cpus; segments = both.segments; lines_are = p }
       | first_ends l t more is e g fits ↦ absurd (not-empty l more e)
       | second_ends l t more is e g fits ↦ absurd (not-empty l more e)
     ]

@@ -1,4 +1,5 @@
 pub mod Fault
 pub mod Form
 pub mod Steps
+pub mod Instructions
 pub mod Laws

@@ -74,7 +74,7 @@ proc-stands image layout at (proc ∷ procs) found h = elim (either (has_node at
 ]
 
 -- an instruction of the code below an end is one of the code
-in_code : (cpu : Cpu) (code : List ℕ) (end at : ℕ) (instr : Instr) → instruction_at cpu at (drop at (take end code)) ≡ Some instr
+pub in_code : (cpu : Cpu) (code : List ℕ) (end at : ℕ) (instr : Instr) → instruction_at cpu at (drop at (take end code)) ≡ Some instr
     → instruction_at cpu at (drop at code) ≡ Some instr
 in_code cpu code end at instr found =
     let bounds = instruction-length cpu at (drop at (take end code)) instr found in

@@ -22,8 +22,8 @@ use Rattle.dcc_prog.specs.declared.frame.Program.{Program}
 use Rattle.dcc_spelled.specs.Hex.{hex_word, hex_bytes}
 use Rattle.dcc_spelled.specs.Spelling.{spelling}
 use Rattle.dcc_encode.specs.Encoding.{IsEncoding}
-use Rattle.dcc_list.specs.Text.{IsOffset, comment_line, place_line, bytes_line, AreBytes, Gives, comment, at_place, bytes, standard, odd, GivesInTurn, none, next, IsLine}
-use Rattle.dcc_list.specs.Listed.{data_offset, procedure_name, procedure_line, procedure_lines, headings, is_labelled, lines_for_people, offset_of, people_at, IsInstructionLine, Lists}
+use Rattle.dcc_list.specs.Text.{IsOffset, comment_line, place_line, bytes_line, AreBytes, Gives, comment, at_place, bytes, standard, odd, GivesInTurn, none, next, IsLine, Begins}
+use Rattle.dcc_list.specs.Listed.{data_offset, procedure_name, procedure_line, procedure_lines, headings, is_labelled, lines_for_people, offset_of, people_at, IsInstructionLine, Lists, IsListing}
 use Rattle.dcc_list.specs.Listed.{at_end, instruction as listed_instruction, bytes as listed_bytes, standard as standard_line, odd as odd_instruction}
 use Rattle.dcc_list.specs.Laws.{ListingStandsForImage}
 use Rattle.dcc_encode.proofs.Covered.{all-append}
@@ -44,7 +44,7 @@ offset_of-is cs place at e =
 
 -- Encodings in the image ----------------------------------------------------------------------
 
-part_bytes : (xs : List ℕ) (place count : ℕ) → All (λ b. b < 256) xs → All (λ b. b < 256) (take count (drop place xs))
+pub part_bytes : (xs : List ℕ) (place count : ℕ) → All (λ b. b < 256) xs → All (λ b. b < 256) (take count (drop place xs))
 part_bytes xs place count are = All-take (λ b. b < 256) count (drop place xs) (All-drop (λ b. b < 256) place xs are)
 
 -- the bytes of an instruction in the code
@@ -102,9 +102,10 @@ instruction_within image loaded place cpu at instr offset stands =
 
 -- Lines that give nothing ---------------------------------------------------------------------
 
-record IsQuiet (cpu : Cpu) (cs place : ℕ) (line : List ℕ) : Type 0 where
-  gives : Gives cpu cs place line []
-  unbroken : Unbroken line
+-- a line that gives no bytes
+pub record IsQuiet (cpu : Cpu) (cs place : ℕ) (line : List ℕ) : Type 0 where
+  pub gives : Gives cpu cs place line []
+  pub unbroken : Unbroken line
 
 comment-quiet : (cpu : Cpu) (cs place : ℕ) (words : List ℕ) → Unbroken words → IsQuiet cpu cs place (comment_line words)
 comment-quiet cpu cs place words h = record { gives = comment; unbroken = joined (codes ";") words refl h }
@@ -166,7 +167,7 @@ placed-quiet : (cpu : Cpu) (cs place : ℕ) (b : Bool) (lines : List (List ℕ))
 placed-quiet cpu cs place true lines h = h
 placed-quiet cpu cs place false lines h = tt
 
-people-quiet : (image : Image) (program : Program) (cpu : Cpu) (place at : ℕ) → offset_of image.cs place ≡ Some at
+pub people-quiet : (image : Image) (program : Program) (cpu : Cpu) (place at : ℕ) → offset_of image.cs place ≡ Some at
     → AllByRecursion (IsQuiet cpu image.cs place) (lines_for_people image program at)
 people-quiet image program cpu place at e =
     let is = offset_of-is image.cs place at e in
@@ -175,7 +176,7 @@ people-quiet image program cpu place at e =
     (all-append (IsQuiet cpu image.cs place) (headings image program at) (place_line at ∷ [])
     (headings-quiet image program at cpu image.cs place) (own, tt))
 
-people-at-quiet : (image : Image) (program : Program) (cpu : Cpu) (place : ℕ) (offset : Option ℕ) → offset_of image.cs place ≡ offset
+pub people-at-quiet : (image : Image) (program : Program) (cpu : Cpu) (place : ℕ) (offset : Option ℕ) → offset_of image.cs place ≡ offset
     → AllByRecursion (IsQuiet cpu image.cs place) (people_at image program offset)
 people-at-quiet image program cpu place None e = tt
 people-at-quiet image program cpu place (Some at) e = people-quiet image program cpu place at e
@@ -200,7 +201,7 @@ line-front : (cpu : Cpu) (cs place : ℕ) (line bs : List ℕ) (others : List (L
     → IsGiven cpu cs (place + length bs) others rest → IsGiven cpu cs place (line ∷ others) (bs ++ rest)
 line-front cpu cs place line bs others rest g u h = record { gives = next g h.gives; unbroken = (u, h.unbroken) }
 
-line-given : (cpu : Cpu) (cs place at : ℕ) (op : Op) (bs line : List ℕ) → IsInstructionLine cpu at op bs line → IsOffset cs place at
+pub line-given : (cpu : Cpu) (cs place at : ℕ) (op : Op) (bs line : List ℕ) → IsInstructionLine cpu at op bs line → IsOffset cs place at
     → IsEncoding cpu at op bs → Gives cpu cs place line bs × Unbroken line
 line-given cpu cs place at op bs line (standard_line s) is e =
     (standard is s, joined (codes "    ") (spelling op) refl (spelling-unbroken op))
@@ -258,18 +259,23 @@ all-lines [] h k d l = absurd (omega arith)
 all-lines (line ∷ lines) h zero d l = is_line line h.0
 all-lines (line ∷ lines) h (suc k) d l = all-lines lines h.1 k d (omega arith)
 
-pub listing_stands : ListingStandsForImage
-listing_stands image program text loaded is =
+-- the lines of the listing give the image's bytes
+pub listing-begins : (image : Image) (program : Program) (text : List ℕ) → IsLoaded image → (is : IsListing image program text)
+    → Begins program.layout.cpu image.cs is.lines image.bytes.items
+listing-begins image program text loaded is =
     let given = lists-given image program is.prelude loaded 0 is.lines is.lists in
     let cs = loaded.is_image.cs in
     record {
-      cpu = program.layout.cpu;
-      cs = image.cs;
-      lines = is.lines;
-      begins = record {
-        segment = omega (arith, cs);
-        unbroken = all-lines is.lines given.unbroken;
-        give = given.gives;
-      };
-      text_is = is.text_is;
+      segment = omega (arith, cs);
+      unbroken = all-lines is.lines given.unbroken;
+      give = given.gives;
     }
+
+pub listing_stands : ListingStandsForImage
+listing_stands image program text loaded is = record {
+  cpu = program.layout.cpu;
+  cs = image.cs;
+  lines = is.lines;
+  begins = listing-begins image program text loaded is;
+  text_is = is.text_is;
+}
