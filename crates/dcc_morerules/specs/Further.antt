@@ -1,5 +1,6 @@
 -- Forms of rules above 40, and what takes their place.
-use Rattle.std.specs.Prelude.{◌≡◌, ℕ, ◌+◌, ◌==◌, Bool, true, false, ◌&&◌, ◌||◌, if◌then◌else◌, Option, Some, None, is_some, unwrap_or}
+use Rattle.std.specs.Prelude.{◌≡◌, ℕ, ◌+◌, ◌==◌, Bool, true, false, ◌&&◌, ◌||◌, if◌then◌else◌, Option, Some, None, is_some, unwrap_or, option_map, Result, IfOk}
+use Rattle.std.specs.declared.alloc.AllocError.{AllocError}
 use Rattle.std.specs.Option.{option_or}
 use denote.Ref.{Bor}
 use Rattle.dcc_ir.specs.declared.syntax.Expr.{Expr as Expression}
@@ -13,6 +14,10 @@ use Rattle.dcc_ir.specs.Forms.{same_unary, same_binary, same_expr}
 -- the tree of an expression that is lent
 abbrev pub shared : Bor Expression → Expr
 shared e = expr_of e.now
+
+-- a call answers this
+abbrev pub Gives : Result (Option Expression) AllocError → Option Expr → Type 0
+Gives result expected = IfOk result (λ answer. option_map expr_of answer ≡ expected)
 
 -- the opposite of a comparison by this operator
 abbrev pub is_opposite : BinOp → Expr → Bool

@@ -2,7 +2,9 @@
 #![tactic(auto)]
 
 pub mod opposites;
+pub mod tests;
 pub mod zeros;
 
 pub use opposites::{rule_41, rule_44, rule_45, rule_46, rule_47};
+pub use tests::{rule_42, rule_43, rule_48, rule_60, rule_61, rule_62};
 pub use zeros::{rule_54, rule_59};
