@@ -4,9 +4,9 @@ use Rattle.std.specs.declared.alloc.AllocError.{AllocError}
 use Rattle.std.specs.Option.{option_or}
 use denote.Ref.{Bor}
 use Rattle.dcc_ir.specs.declared.syntax.Expr.{Expr as Expression}
-use Rattle.dcc_ir.specs.declared.syntax.UnOp.TheVariants.{Neg, Not}
+use Rattle.dcc_ir.specs.declared.syntax.UnOp.TheVariants.{Not}
 use Rattle.dcc_ir.specs.declared.syntax.BinOp.{BinOp}
-use Rattle.dcc_ir.specs.declared.syntax.BinOp.TheVariants.{Sub, Xor}
+use Rattle.dcc_ir.specs.declared.syntax.BinOp.TheVariants.{Xor}
 use Rattle.dcc_ir.specs.Views.{expr_of}
 use Rattle.dcc_ir.specs.Tree.{Expr, Const, Unary, Binary, Widen, Join}
 use Rattle.dcc_ir.specs.Forms.{same_unary, same_binary, same_expr}
@@ -49,13 +49,3 @@ is_below_zero e = false
 abbrev pub at_double_width : Expr → Expr
 at_double_width (Join (Const w n) x) = Widen false (w + w) x
 at_double_width e = e
-
--- 0 less an expression
-abbrev pub is_zero_less : Expr → Bool
-is_zero_less (Binary k w (Const v n) x) = same_binary k Sub && n == 0
-is_zero_less e = false
-
--- the negative expression
-abbrev pub negative : Expr → Expr
-negative (Binary k w (Const v n) x) = Unary Neg w x
-negative e = e
