@@ -11,9 +11,18 @@ ghost use Rattle.dcc_morerules.specs.Arithmetic.{moves_up, base_of, times_of, su
 use crate::tests::is_width;
 use dcc_ir::{BinOp, Expr, UnOp};
 use dcc_stdrules::copy::copied;
+use dcc_stdrules::moved::Sums;
 use dcc_stdrules::same::{same_binary, same_expr, same_unary};
+use dcc_stdrules::sums::summed;
 use dcc_stdrules::values::{limit, value, wrapped};
 use std::alloc::{AllocError, Global};
+
+/// Rewrites `(x - c) + d` to x plus or minus one constant.
+pub fn rule_57(alloc: Global, bits: &[u8], e: &Expr) -> Result<Option<Expr>, AllocError>
+    ensures { MeetsRuleUnder 57 bits.now e.now result }
+{
+    summed(alloc, Sums::Returned, e)
+}
 
 // What 0 to the left of an operator on bits leaves.
 fn zero_beside(alloc: Global, e: &Expr) -> Result<Option<Expr>, AllocError>
