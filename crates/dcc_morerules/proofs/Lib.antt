@@ -1,2 +1,6 @@
+pub mod SizeLaws
+pub mod GivenLaws
 pub mod OppositeLaws
+pub mod TestLaws
 pub mod ZeroLaws
+pub mod ArithmeticLaws

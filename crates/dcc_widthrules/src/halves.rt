@@ -110,8 +110,8 @@ fn is_bitwise(operator: BinOp) -> bool
 
 // The bits of a byte from that place on, and beside them those by which the operator leaves the other byte as it is.
 fn word_of(operator: BinOp, first: u8, byte: u32) -> u32
-    requires { first ≤ 8 }
-    requires { byte < 256 }
+    requires place { first ≤ 8 }
+    requires byte { byte < 256 }
     ensures { result ≡ word_of operator first byte }
 {
     let rest = if same_binary(operator, BinOp::And) {
