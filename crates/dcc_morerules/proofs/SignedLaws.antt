@@ -17,11 +17,15 @@ pub data IsAmong (h : ℕ) : ℤ → Type 0 where
 pub twice : (w : ℕ) → 0 < w → 2 ^ w ≡ 2 ^ (w - 1) + 2 ^ (w - 1)
 twice (suc w) some = omega arith
 
-pub among_signed : (w a : ℕ) → 0 < w → a < 2 ^ w → IsAmong (2 ^ (w - 1)) (signed_at w a)
-among_signed w a some s = elim (cases_lt a (2 ^ (w - 1))) [
+at_most_twice : (w : ℕ) → 2 ^ w ≤ 2 ^ (w - 1) + 2 ^ (w - 1)
+at_most_twice 0 = omega arith
+at_most_twice (suc w) = omega arith
+
+pub among_signed : (w a : ℕ) → a < 2 ^ w → IsAmong (2 ^ (w - 1)) (signed_at w a)
+among_signed w a s = elim (cases_lt a (2 ^ (w - 1))) [
   | inl low ↦ subst (λ b. IsAmong (2 ^ (w - 1)) (if b then pos a -ℤ pos (2 ^ w) else pos a)) (sym (lt-leb (2 ^ (w - 1)) a low)) (above a low)
   | inr high ↦
-      let few : 2 ^ w - suc a < 2 ^ (w - 1) = omega (arith, high, s, twice w some) in
+      let few : 2 ^ w - suc a < 2 ^ (w - 1) = omega (arith, high, s, at_most_twice w) in
       subst (λ b. IsAmong (2 ^ (w - 1)) (if b then pos a -ℤ pos (2 ^ w) else pos a)) (sym (le-leb (2 ^ (w - 1)) a high))
       (subst (λ z. IsAmong (2 ^ (w - 1)) z) (sym (below a (2 ^ w) s)) (below_zero (2 ^ w - suc a) few))
 ]
@@ -58,5 +62,5 @@ halved_twice (negsuc n) c d = ap negsuc (shr-shr n c d)
 pub moved_down_twice : (w a c d : ℕ) → 0 < w → a < 2 ^ w
     → pattern_at w (halved_of (signed_at w (pattern_at w (halved_of (signed_at w a) c))) d) ≡ pattern_at w (halved_of (signed_at w a) (c + d))
 moved_down_twice w a c d some s =
-    ap (λ z. pattern_at w (halved_of z d)) (stands_for w (halved_of (signed_at w a) c) some (among_halved (2 ^ (w - 1)) (signed_at w a) c (among_signed w a some s)))
+    ap (λ z. pattern_at w (halved_of z d)) (stands_for w (halved_of (signed_at w a) c) some (among_halved (2 ^ (w - 1)) (signed_at w a) c (among_signed w a s)))
     ∙ ap (pattern_at w) (halved_twice (signed_at w a) c d)

@@ -194,7 +194,7 @@ struct Multiple<'a> {
 }
 
 // Of what the expression is a multiple, and which.
-fn multiple(e: &Expr) -> Multiple<'_>
+fn as_multiple(e: &Expr) -> Multiple<'_>
     ensures base { expr_of result.base.now ≡ base_of (expr_of e.now) }
     ensures times { result.times ≡ times_of (expr_of e.now) }
 {
@@ -225,8 +225,8 @@ fn sum_of_multiples(alloc: Global, e: &Expr) -> Result<Option<Expr>, AllocError>
     if !same_binary(*operator, BinOp::Add) || !is_width(*width) {
         return Ok(None);
     }
-    let left = multiple(left);
-    let right = multiple(right);
+    let left = as_multiple(left);
+    let right = as_multiple(right);
     if !same_expr(left.base, right.base) || (left.times == 1 && right.times == 1) {
         return Ok(None);
     }
