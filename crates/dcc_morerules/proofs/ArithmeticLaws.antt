@@ -171,12 +171,12 @@ up_and_down w c a s =
     let e : w ≡ k + c = omega (arith, s) in
     let some : 0 < 2 ^ c = pow_pos c in
     let mask : (2 ^ w - 1) / 2 ^ c ≡ 2 ^ k - 1 =
-        ap (λ n. (2 ^ n - 1) / 2 ^ c) e ∙ ap (λ n. (n - 1) / 2 ^ c) (pow-add 2 k c) ∙ ap (λ n. n / 2 ^ c) (less (2 ^ k) (2 ^ c) (pow_pos k) some)
-        ∙ shr_high (2 ^ k - 1) c (2 ^ c - 1) (omega (arith, some)) in
+    ap (λ n. (2 ^ n - 1) / 2 ^ c) e ∙ ap (λ n. (n - 1) / 2 ^ c) (pow-add 2 k c) ∙ ap (λ n. n / 2 ^ c) (less (2 ^ k) (2 ^ c) (pow_pos k) some)
+    ∙ shr_high (2 ^ k - 1) c (2 ^ c - 1) (omega (arith, some)) in
     let up : a * 2 ^ c % 2 ^ w / 2 ^ c ≡ a % 2 ^ k =
-        ap (λ n. a * 2 ^ c % 2 ^ n / 2 ^ c) e ∙ ap (λ n. n / 2 ^ c) (mod-pow-add (a * 2 ^ c) k c)
-        ∙ ap (λ n. (n % 2 ^ k * 2 ^ c + a * 2 ^ c % 2 ^ c) / 2 ^ c) (shl-shr a c) ∙ ap (λ n. (a % 2 ^ k * 2 ^ c + n) / 2 ^ c) (mul-mod_left a (2 ^ c))
-        ∙ shr_high (a % 2 ^ k) c 0 some in
+    ap (λ n. a * 2 ^ c % 2 ^ n / 2 ^ c) e ∙ ap (λ n. n / 2 ^ c) (mod-pow-add (a * 2 ^ c) k c)
+    ∙ ap (λ n. (n % 2 ^ k * 2 ^ c + a * 2 ^ c % 2 ^ c) / 2 ^ c) (shl-shr a c) ∙ ap (λ n. (a % 2 ^ k * 2 ^ c + n) / 2 ^ c) (mul-mod_left a (2 ^ c))
+    ∙ shr_high (a % 2 ^ k) c 0 some in
     ap (λ n. bit_and a n) mask ∙ and_mask a k ∙ sym up
   where
     less : (n m : ℕ) → 0 < n → 0 < m → n * m - 1 ≡ (n - 1) * m + (m - 1)

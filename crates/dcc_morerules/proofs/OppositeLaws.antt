@@ -72,7 +72,7 @@ pub record AreOpposite (f g : BinOp) : Type 0 where
   pub plain : is_division g ≡ false
   pub value : (w a b : ℕ) → 2 ^ 1 - 1 - binary_value f w a b ≡ binary_value g w b a
 
-one_bit : (h : UnOp) → (if is_test h then 1 else 1) ≡ 1
+one_bit : (h : UnOp) → ◌≡◌ {A = ℕ} (if is_test h then 1 else 1) 1
 one_bit Neg = refl
 one_bit Not = refl
 one_bit IsZero = refl

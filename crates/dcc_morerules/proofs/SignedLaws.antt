@@ -10,8 +10,8 @@ use Rattle.dcc_stdrules.proofs.NumberLaws.{below}
 
 -- a signed number is among those of h values with a sign and h without
 pub data IsAmong (h : ℕ) : ℤ → Type 0 where
-  pub above : (n : ℕ) → n < h → IsAmong h (pos n)
-  pub below_zero : (n : ℕ) → n < h → IsAmong h (negsuc n)
+  above : (n : ℕ) → n < h → IsAmong h (pos n)
+  below_zero : (n : ℕ) → n < h → IsAmong h (negsuc n)
 
 -- a width of at least one bit has twice as many numbers as one of a bit less
 pub twice : (w : ℕ) → 0 < w → 2 ^ w ≡ 2 ^ (w - 1) + 2 ^ (w - 1)

@@ -137,18 +137,18 @@ equal_two x y a b scene t = elim (either (same_expr x a && same_expr y b) (same_
       ∙ ap from_bool (turned_test (value_of scene b) (value_of scene a))
 ]
 
-equal_or_less_simpler : (bits : List ℕ) (less at_most : BinOp) → IsOrder less at_most → (p q o : Expr) → equal_or_less less at_most p q ≡ Some o
+equal_or_less_simpler : (bits : List ℕ) (strict at_most : BinOp) → IsOrder strict at_most → (p q o : Expr) → equal_or_less strict at_most p q ≡ Some o
     → IsSimplerUnder bits (Binary Or 1 p q) o
-equal_or_less_simpler bits less at_most order (Binary f w x y) (Binary g v a b) o e =
-    let t = told (same_binary f Eq && same_binary g less && w == v && are_same_two x y a b) (Binary at_most v a b) o e in
-    let three = both (same_binary f Eq && same_binary g less && w == v) (are_same_two x y a b) t.0 in
-    let two = both (same_binary f Eq && same_binary g less) (w == v) three.0 in
-    let one = both (same_binary f Eq) (same_binary g less) two.0 in
+equal_or_less_simpler bits strict at_most order (Binary f w x y) (Binary g v a b) o e =
+    let t = told (same_binary f Eq && same_binary g strict && w == v && are_same_two x y a b) (Binary at_most v a b) o e in
+    let three = both (same_binary f Eq && same_binary g strict && w == v) (are_same_two x y a b) t.0 in
+    let two = both (same_binary f Eq && same_binary g strict) (w == v) three.0 in
+    let one = both (same_binary f Eq) (same_binary g strict) two.0 in
     subst (λ (k : Expr). IsSimplerUnder bits (Binary Or 1 (Binary f w x y) (Binary g v a b)) k) t.1
     (subst (λ (k : BinOp). IsSimplerUnder bits (Binary Or 1 (Binary k w x y) (Binary g v a b)) (Binary at_most v a b)) (sym (binary_same f Eq one.0))
-    (subst (λ (k : BinOp). IsSimplerUnder bits (Binary Or 1 (Binary Eq w x y) (Binary k v a b)) (Binary at_most v a b)) (sym (binary_same g less one.1))
-    (order_simpler bits less at_most v (Binary Eq w x y) a b order (λ scene. equal_two x y a b scene three.1))))
-equal_or_less_simpler bits less at_most order p q o e = cc
+    (subst (λ (k : BinOp). IsSimplerUnder bits (Binary Or 1 (Binary Eq w x y) (Binary k v a b)) (Binary at_most v a b)) (sym (binary_same g strict one.1))
+    (order_simpler bits strict at_most v (Binary Eq w x y) a b order (λ scene. equal_two x y a b scene three.1))))
+equal_or_less_simpler bits strict at_most order p q o e = cc
 
 zero_or_negative_simpler : (bits : List ℕ) (p q o : Expr) → zero_or_negative p q ≡ Some o → IsSimplerUnder bits (Binary Or 1 p q) o
 zero_or_negative_simpler bits (Unary f w x) (Binary g v y (Const u n)) o e =
@@ -282,9 +282,9 @@ after_sum_simpler bits (Binary k w (Binary f v x (Const u c)) (Const t d)) o e =
     let p = chosen (same_binary k Eq && is_width w) (option_map (λ g. Binary Eq w x (Const w (binary_value g w d c))) (undoing f)) o e in
     let one = both (same_binary k Eq) (is_width w) p.0 in
     let m = mapped (λ g. Binary Eq w x (Const w (binary_value g w d c))) (undoing f) o p.1 in
-    subst (λ (y : Expr). IsSimplerUnder bits (Binary k w (Binary f v x (Const u c)) (Const t d)) y) m.1.1
+    subst (λ (y : Expr). IsSimplerUnder bits (Binary k w (Binary f v x (Const u c)) (Const t d)) y) m.2
     (subst (λ (h : BinOp). IsSimplerUnder bits (Binary h w (Binary f v x (Const u c)) (Const t d)) (Binary Eq w x (Const w (binary_value m.0 w d c)))) (sym (binary_same k Eq one.0))
-    (after_sum_at bits f m.0 w v u t c d x (undoes f m.0 m.1.0)))
+    (after_sum_at bits f m.0 w v u t c d x (undoes f m.0 m.1)))
 after_sum_simpler bits e o is = cc
 
 pub meets_48 : (bits : List ℕ) (e : Expression) (r : Answer) → Gives r (equal_after_sum (expr_of e)) → MeetsRuleUnder 48 bits e r
@@ -324,9 +324,12 @@ zero_of_two bits f v w x y plain law =
     (within_through (Unary IsZero v (Binary f w x y)) (Binary f w x y) y (within_unary IsZero v (Binary f w x y)) (within_right f w x y)) (omega arith) (omega arith) (omega arith)
     (λ scene s t. law (value_of scene x) (value_of scene y) s t)
 
+zero_plus : (n : ℕ) → 0 + n ≡ n
+zero_plus n = omega arith
+
 no_difference : (m a b : ℕ) → a < m → b < m → ((a + m - b) % m == 0) ≡ (a == b)
 no_difference m a b s t = one_test ((a + m - b) % m) 0 a b
-    (λ e. sym (difference_undone m a b s t) ∙ ap (λ k. (k + b) % m) e ∙ mod-eq_of_lt t)
+    (λ e. sym (difference_undone m a b s t) ∙ ap (λ k. (k + b) % m) e ∙ ap (λ k. k % m) (zero_plus b) ∙ mod-eq_of_lt t)
     (λ e. ap (λ k. (k + m - b) % m) e ∙ ap (λ k. k % m) (same b m) ∙ mod_self m)
   where
     same : (b m : ℕ) → b + m - b ≡ m
@@ -339,7 +342,7 @@ no_xor a b = one_test (bit_xor a b) 0 a b
 
 no_sum : (m a c : ℕ) → a < m → c < m → ((a + c) % m == 0) ≡ (a == (m - c) % m)
 no_sum m a c s t = one_test ((a + c) % m) 0 a ((m - c) % m)
-    (λ e. sym (sum_undone m a c s t) ∙ ap (λ k. (k + m - c) % m) e)
+    (λ e. sym (sum_undone m a c s t) ∙ ap (λ k. (k + m - c) % m) e ∙ ap (λ k. (k - c) % m) (zero_plus m))
     (λ e. ap (λ k. (k + c) % m) e ∙ mod-add-mod (m - c) m c ∙ ap (λ k. k % m) (same m c t) ∙ mod_self m)
   where
     same : (m c : ℕ) → c < m → m - c + c ≡ m
@@ -371,7 +374,7 @@ zero_operator bits f v w x y o e = cc
 zero_difference_simpler : (bits : List ℕ) (e o : Expr) → zero_difference e ≡ Some o → IsSimplerUnder bits e o
 zero_difference_simpler bits (Unary h v (Binary f w x y)) o e =
     let t = chosen (same_unary h IsZero && nat_lt 1 v)
-        (if same_binary f Sub || same_binary f Xor then Some (equality w x y) else if same_binary f Add then equal_to_negative w x y else None) o e in
+    (if same_binary f Sub || same_binary f Xor then Some (equality w x y) else if same_binary f Add then equal_to_negative w x y else None) o e in
     let p = both (same_unary h IsZero) (nat_lt 1 v) t.0 in
     subst (λ (k : UnOp). IsSimplerUnder bits (Unary k v (Binary f w x y)) o) (sym (unary_same h IsZero p.0)) (zero_operator bits f v w x y o t.1)
 zero_difference_simpler bits e o is = cc
@@ -409,9 +412,9 @@ zero_truth_simpler bits (Unary h v (Binary f w x y)) o e =
     let t = chosen (same_unary h IsZero && v == 1) (option_map (λ g. Binary g w y x) (opposite_of f)) o e in
     let p = both (same_unary h IsZero) (v == 1) t.0 in
     let m = mapped (λ g. Binary g w y x) (opposite_of f) o t.1 in
-    subst (λ (z : Expr). IsSimplerUnder bits (Unary h v (Binary f w x y)) z) m.1.1
+    subst (λ (z : Expr). IsSimplerUnder bits (Unary h v (Binary f w x y)) z) m.2
     (subst (λ (k : UnOp). IsSimplerUnder bits (Unary k v (Binary f w x y)) (Binary m.0 w y x)) (sym (unary_same h IsZero p.0))
-    (subst (λ k. IsSimplerUnder bits (Unary IsZero k (Binary f w x y)) (Binary m.0 w y x)) (sym (eqb-true v 1 p.1)) (zero_comparison bits f m.0 w x y m.1.0)))
+    (subst (λ k. IsSimplerUnder bits (Unary IsZero k (Binary f w x y)) (Binary m.0 w y x)) (sym (eqb-true v 1 p.1)) (zero_comparison bits f m.0 w x y m.1)))
 zero_truth_simpler bits e o is = cc
 
 pub meets_62 : (bits : List ℕ) (e : Expression) (r : Answer) → Gives r (zero_truth (expr_of e)) → MeetsRuleUnder 62 bits e r

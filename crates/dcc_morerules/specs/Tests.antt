@@ -15,10 +15,10 @@ are_same_two x y a b = (same_expr x a && same_expr y b) || (same_expr x b && sam
 
 -- two expressions are equal, or one is less than the other: it is at most the other
 abbrev pub equal_or_less : BinOp → BinOp → Expr → Expr → Option Expr
-equal_or_less less at_most (Binary f w x y) (Binary g v a b) =
-    if same_binary f Eq && same_binary g less && w == v && are_same_two x y a b then Some (Binary at_most v a b)
+equal_or_less strict at_most (Binary f w x y) (Binary g v a b) =
+    if same_binary f Eq && same_binary g strict && w == v && are_same_two x y a b then Some (Binary at_most v a b)
     else None
-equal_or_less less at_most e e' = None
+equal_or_less strict at_most e e' = None
 
 -- an expression is 0, or it is negative: it is at most 0
 abbrev pub zero_or_negative : Expr → Expr → Option Expr

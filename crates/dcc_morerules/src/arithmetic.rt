@@ -2,6 +2,7 @@
 
 ghost use Rattle.std.specs.Prelude.{◌≡◌, option_map};
 ghost use Rattle.std.specs.Option.{option_or};
+ghost use Rattle.dcc_ir.specs.Forms.{is_shift};
 ghost use Rattle.dcc_ir.specs.Views.{expr_of};
 ghost use Rattle.dcc_rules.specs.Rules.{MeetsRuleUnder};
 ghost use Rattle.dcc_morerules.specs.Further.{Gives};

@@ -31,12 +31,12 @@ fn are_same_two(x: &Expr, y: &Expr, a: &Expr, b: &Expr) -> bool
 // What holds where an equality or a comparison of the same holds.
 fn equal_or_less(
     alloc: Global,
-    less: BinOp,
+    strict: BinOp,
     at_most: BinOp,
     equality: &Expr,
     test: &Expr,
 ) -> Result<Option<Expr>, AllocError>
-    ensures { Gives result (equal_or_less less at_most (expr_of equality.now) (expr_of test.now)) }
+    ensures { Gives result (equal_or_less strict at_most (expr_of equality.now) (expr_of test.now)) }
 {
     let Expr::Bin(equal, width, x, y) = equality else {
         return Ok(None);
@@ -44,7 +44,7 @@ fn equal_or_less(
     let Expr::Bin(operator, compared, left, right) = test else {
         return Ok(None);
     };
-    if !same_binary(*equal, BinOp::Eq) || !same_binary(*operator, less) {
+    if !same_binary(*equal, BinOp::Eq) || !same_binary(*operator, strict) {
         return Ok(None);
     }
     if *width != *compared || !are_same_two(x, y, left, right) {
@@ -58,11 +58,11 @@ fn equal_or_less(
 // What holds where one of two tests holds, an equality and a comparison of the same in some order.
 fn either_order(
     alloc: Global,
-    less: BinOp,
+    strict: BinOp,
     at_most: BinOp,
     e: &Expr,
 ) -> Result<Option<Expr>, AllocError>
-    ensures { Gives result (either_test (equal_or_less less at_most) (expr_of e.now)) }
+    ensures { Gives result (either_test (equal_or_less strict at_most) (expr_of e.now)) }
 {
     let Expr::Bin(operator, width, first, second) = e else {
         return Ok(None);
@@ -70,10 +70,10 @@ fn either_order(
     if !same_binary(*operator, BinOp::Or) || *width != 1 {
         return Ok(None);
     }
-    if let Some(joined) = equal_or_less(alloc, less, at_most, first, second)? {
+    if let Some(joined) = equal_or_less(alloc, strict, at_most, first, second)? {
         return Ok(Some(joined));
     }
-    equal_or_less(alloc, less, at_most, second, first)
+    equal_or_less(alloc, strict, at_most, second, first)
 }
 
 /// Rewrites `x == y || x < y`, signed, and its mirrors to `x <= y`.
