@@ -1,5 +1,5 @@
 -- The rules on sums, multiples and shifts.
-use Rattle.std.proofs.Common.{◌≡◌, ◌≢◌, ℕ, suc, ◌+◌, ◌-◌, ◌*◌, ◌/◌, ◌%◌, ◌^◌, ◌<◌, ◌≤◌, max, Bool, true, false, ◌&&◌, ◌||◌, not, ◌⊎◌, inl, inr, List, Option, Some, None, refl, sym, ap, ◌∙◌, subst, arith, true≢false, eqb-true, ltb-true, lit<}
+use Rattle.std.proofs.Common.{◌≡◌, ◌≢◌, ℕ, zero, suc, ◌+◌, ◌-◌, ◌*◌, ◌/◌, ◌%◌, ◌^◌, ◌<◌, ◌≤◌, max, Bool, true, false, ◌&&◌, ◌||◌, not, ◌⊎◌, inl, inr, List, Option, Some, None, refl, sym, ap, ◌∙◌, subst, arith, true≢false, eqb-true, ltb-true, lit<}
 use Rattle.std.specs.Prelude.{if◌then◌else◌, ◌==◌, nat_lt, bit_and}
 use Rattle.std.specs.Option.{option_or}
 use Rattle.std.specs.Int.Bits.{and_zero_l, or_zero_l, xor_zero_l}
@@ -180,7 +180,12 @@ up_and_down w c a s =
     ap (λ n. bit_and a n) mask ∙ and_mask a k ∙ sym up
   where
     less : (n m : ℕ) → 0 < n → 0 < m → n * m - 1 ≡ (n - 1) * m + (m - 1)
-    less (suc n) m some more = omega (arith, more)
+    less n m some more =
+        let is : n ≡ n - 1 + 1 = omega (arith, some) in
+        subst (λ k. k * m - 1 ≡ (n - 1) * m + (m - 1)) (sym is) (plain (n - 1) m more)
+      where
+        plain : (k m : ℕ) → 0 < m → (k + 1) * m - 1 ≡ k * m + (m - 1)
+        plain k m more = omega (arith, more)
 
 shifted_back_simpler : (bits : List ℕ) (e o : Expr) → shifted_back e ≡ Some o → IsSimplerUnder bits e o
 shifted_back_simpler bits (Binary f w (Binary g v x (Const u c)) (Const t d)) o e =
@@ -203,10 +208,13 @@ meets_65 bits e r h = meets_given 65 bits e r (shifted_back (expr_of e)) (omega 
 
 -- a number is moved up twice
 up_twice : (m a c d : ℕ) → a * 2 ^ (c + d) % m ≡ a * 2 ^ c % m * 2 ^ d % m
-up_twice m a c d = sym (mul-mod_first (a * 2 ^ c) (2 ^ d) m ∙ ap (λ k. k % m) (omega (arith, pow-add 2 c d)))
+up_twice m a c d = sym (mul-mod_first (a * 2 ^ c) (2 ^ d) m ∙ ap (λ k. k % m) (together a (2 ^ c) (2 ^ d) ∙ ap (λ k. a * k) (sym (pow-add 2 c d))))
+  where
+    together : (a m n : ℕ) → a * m * n ≡ a * (m * n)
+    together a m n = omega arith
 
 below_power : (n : ℕ) → n < 2 ^ n
-below_power 0 = omega arith
+below_power zero = omega arith
 below_power (suc n) = omega (arith, below_power n)
 
 twice_law : (f : BinOp) → is_shift f ≡ true → (w a c d : ℕ) → 0 < w → a < 2 ^ w → binary_value f w a (c + d) ≡ binary_value f w (binary_value f w a c) d

@@ -1,5 +1,5 @@
 -- Signed numbers of a width: their bits stand for them, and numbers that are moved down stay among them.
-use Rattle.std.proofs.Common.{◌≡◌, ℕ, suc, ◌+◌, ◌-◌, ◌*◌, ◌/◌, ◌%◌, ◌^◌, ◌<◌, ◌≤◌, Bool, true, false, inl, inr, refl, sym, ap, ◌∙◌, subst, arith, ltb-true, lit<, ℤ, pos, negsuc}
+use Rattle.std.proofs.Common.{◌≡◌, ℕ, zero, suc, ◌+◌, ◌-◌, ◌*◌, ◌/◌, ◌%◌, ◌^◌, ◌<◌, ◌≤◌, Bool, true, false, inl, inr, refl, sym, ap, ◌∙◌, subst, arith, ltb-true, lit<, ℤ, pos, negsuc}
 use Rattle.std.specs.Prelude.{if◌then◌else◌, nat_le, ◌-ℤ◌}
 use Rattle.std.proofs.lemmas.Bool.{cases_lt, le-leb, lt-leb}
 use Rattle.std.proofs.lemmas.Nat.{pow_pos, shr-shr, shr_le}
@@ -15,11 +15,12 @@ pub data IsAmong (h : ℕ) : ℤ → Type 0 where
 
 -- a width of at least one bit has twice as many numbers as one of a bit less
 pub twice : (w : ℕ) → 0 < w → 2 ^ w ≡ 2 ^ (w - 1) + 2 ^ (w - 1)
-twice (suc w) some = omega arith
+twice zero some = elim some [ ]
+twice (suc w) some = let e : suc w - 1 ≡ w = omega arith in subst (λ k. 2 ^ suc w ≡ 2 ^ k + 2 ^ k) (sym e) (omega arith)
 
 at_most_twice : (w : ℕ) → 2 ^ w ≤ 2 ^ (w - 1) + 2 ^ (w - 1)
-at_most_twice 0 = omega arith
-at_most_twice (suc w) = omega arith
+at_most_twice zero = omega arith
+at_most_twice (suc w) = let e : suc w - 1 ≡ w = omega arith in subst (λ k. 2 ^ suc w ≤ 2 ^ k + 2 ^ k) (sym e) (omega arith)
 
 pub among_signed : (w a : ℕ) → a < 2 ^ w → IsAmong (2 ^ (w - 1)) (signed_at w a)
 among_signed w a s = elim (cases_lt a (2 ^ (w - 1))) [
@@ -31,15 +32,15 @@ among_signed w a s = elim (cases_lt a (2 ^ (w - 1))) [
 ]
 
 pub among_more : (h k : ℕ) (z : ℤ) → h ≤ k → IsAmong h z → IsAmong k z
-among_more h k (pos n) more (above n s) = above n (omega (arith, more, s))
-among_more h k (negsuc n) more (below_zero n s) = below_zero n (omega (arith, more, s))
+among_more h k z more (above n s) = above n (omega (arith, more, s))
+among_more h k z more (below_zero n s) = below_zero n (omega (arith, more, s))
 
 -- the bits of a signed number stand for it
 pub stands_for : (w : ℕ) (z : ℤ) → 0 < w → IsAmong (2 ^ (w - 1)) z → signed_at w (pattern_at w z) ≡ z
-stands_for w (pos n) some (above n s) =
+stands_for w z some (above n s) =
     let whole : n < 2 ^ w = omega (arith, s, twice w some) in
     ap (signed_at w) (mod-eq_of_lt whole) ∙ ap (λ b. if b then pos n -ℤ pos (2 ^ w) else pos n) (lt-leb (2 ^ (w - 1)) n s)
-stands_for w (negsuc n) some (below_zero n s) =
+stands_for w z some (below_zero n s) =
     let whole : n < 2 ^ w = omega (arith, s, twice w some) in
     let k : ℕ = 2 ^ w - 1 - n in
     let high : 2 ^ (w - 1) ≤ k = omega (arith, s, twice w some) in
@@ -50,8 +51,8 @@ stands_for w (negsuc n) some (below_zero n s) =
 
 -- a signed number that is moved down
 pub among_halved : (h : ℕ) (z : ℤ) (c : ℕ) → IsAmong h z → IsAmong h (halved_of z c)
-among_halved h (pos n) c (above n s) = above (n / 2 ^ c) (omega (arith, s, shr_le n c))
-among_halved h (negsuc n) c (below_zero n s) = below_zero (n / 2 ^ c) (omega (arith, s, shr_le n c))
+among_halved h z c (above n s) = above (n / 2 ^ c) (omega (arith, s, shr_le n c))
+among_halved h z c (below_zero n s) = below_zero (n / 2 ^ c) (omega (arith, s, shr_le n c))
 
 -- twice moved down is once by the sum
 pub halved_twice : (z : ℤ) (c d : ℕ) → halved_of (halved_of z c) d ≡ halved_of z (c + d)
