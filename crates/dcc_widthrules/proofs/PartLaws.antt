@@ -34,6 +34,10 @@ use Rattle.dcc_widthrules.proofs.BitLaws.{low_again, part_of_parts, part_of_high
 pub part_bound : (bits : List ℕ) (w n : ℕ) (x : Expr) → is_expr bits (Part w n x) ≡ true → n + w ≤ width_of bits x
 part_bound bits w n x ok = leb-true (n + w) (width_of bits x) (both (is_width w && is_expr bits x) (nat_le (n + w) (width_of bits x)) ok).1
 
+-- so for a part from the lowest bit on
+pub low_bound : (bits : List ℕ) (w : ℕ) (x : Expr) → is_expr bits (Part w 0 x) ≡ true → w ≤ width_of bits x
+low_bound bits w x ok = omega (arith, part_bound bits w 0 x ok)
+
 pub formed_part : (bits : List ℕ) (w n : ℕ) (x : Expr) → is_width w ≡ true → is_expr bits x ≡ true → n + w ≤ width_of bits x → is_expr bits (Part w n x) ≡ true
 formed_part bits w n x width ok within =
     both_hold (is_width w && is_expr bits x) (nat_le (n + w) (width_of bits x)) (both_hold (is_width w) (is_expr bits x) width ok) (le-leb (n + w) (width_of bits x) within)
@@ -157,7 +161,7 @@ wide_at bits w v signed x more =
     simpler_within bits (Part w 0 (Widen signed v x)) (Widen signed w x) (widen_within w 0 signed w (Widen signed v x) x (within_widen signed v x)) (λ widths ok.
     let outer = part_parts bits w 0 (Widen signed v x) ok in
     let inner = widen_parts bits signed v x outer.operand in
-    let bound : w ≤ v = part_bound bits w 0 (Widen signed v x) ok in
+    let bound : w ≤ v = low_bound bits w (Widen signed v x) ok in
     record {
       formed = formed_widened bits signed w x outer.width inner.operand more;
       width = refl;
@@ -219,7 +223,7 @@ masked_at bits w v u c x all =
     (part_within w 0 w 0 (Binary And v x (Const u c)) x (within_left And v x (Const u c))) (λ widths ok.
     let outer = part_parts bits w 0 (Binary And v x (Const u c)) ok in
     let inner = operated bits And v x (Const u c) outer.operand in
-    let bound : w ≤ v = part_bound bits w 0 (Binary And v x (Const u c)) ok in
+    let bound : w ≤ v = low_bound bits w (Binary And v x (Const u c)) ok in
     record {
       formed = formed_part bits w 0 x outer.width inner.left (omega (arith, bound, inner.left_width));
       width = refl;
@@ -316,7 +320,7 @@ narrowed_at bits f w v x y a b narrow p q =
           let outer = part_parts bits w 0 (Binary f v x y) ok in
           let inner = operated bits f v x y outer.operand in
           let all : width_of bits (Binary f v x y) ≡ v = ap (λ c. if c then 1 else v) plain.0 in
-          let bound : w ≤ v = subst (λ k. w ≤ k) all (part_bound bits w 0 (Binary f v x y) ok) in
+          let bound : w ≤ v = subst (λ k. w ≤ k) all (low_bound bits w (Binary f v x y) ok) in
           record {
             formed = formed_two bits f w a b plain.1
                 (record { width = outer.width; left = p.formed inner.left; right = q.formed inner.right; left_width = p.width; right_width = q.width });
