@@ -3,7 +3,10 @@
 #![tactic(auto)]
 
 use dcc_io::{DirShelf, StdSink, StdSource, Stream, put_all};
-use dcc_morerules::{rule_41, rule_44, rule_45, rule_46, rule_47, rule_54, rule_59};
+use dcc_morerules::{
+    rule_41, rule_42, rule_43, rule_44, rule_45, rule_46, rule_47, rule_48, rule_54, rule_57,
+    rule_58, rule_59, rule_60, rule_61, rule_62, rule_65, rule_67, rule_68,
+};
 use dcc_rules::{Rule, RuleList};
 use dcc_stdrules::{
     rule_1, rule_2, rule_3, rule_4, rule_5, rule_6, rule_7, rule_8, rule_9, rule_10, rule_11,
@@ -12,6 +15,9 @@ use dcc_stdrules::{
     rule_32, rule_33, rule_34, rule_35, rule_36, rule_37, rule_38, rule_39, rule_40,
 };
 use dcc_top::top;
+use dcc_widthrules::{
+    rule_50, rule_51, rule_52, rule_53, rule_55, rule_56, rule_63, rule_64, rule_66,
+};
 use std::alloc::Global;
 use std::env::{self, Env};
 use std::io::ErrorKind;
@@ -63,8 +69,11 @@ fn main(rt: HostRuntime) -> ExitCode {
     push_all!(rules, err: 16 rule_16, 17 rule_17, 18 rule_18, 19 rule_19, 20 rule_20, 21 rule_21, 22 rule_22);
     push_all!(rules, err: 23 rule_23, 24 rule_24, 25 rule_25, 26 rule_26, 27 rule_27, 28 rule_28, 29 rule_29);
     push_all!(rules, err: 30 rule_30, 31 rule_31, 32 rule_32, 33 rule_33, 34 rule_34, 35 rule_35, 36 rule_36);
-    push_all!(rules, err: 37 rule_37, 38 rule_38, 39 rule_39, 40 rule_40, 41 rule_41, 44 rule_44, 45 rule_45);
-    push_all!(rules, err: 46 rule_46, 47 rule_47, 54 rule_54, 59 rule_59);
+    push_all!(rules, err: 37 rule_37, 38 rule_38, 39 rule_39, 40 rule_40, 41 rule_41, 42 rule_42, 43 rule_43);
+    push_all!(rules, err: 44 rule_44, 45 rule_45, 46 rule_46, 47 rule_47, 48 rule_48, 50 rule_50, 51 rule_51);
+    push_all!(rules, err: 52 rule_52, 53 rule_53, 54 rule_54, 55 rule_55, 56 rule_56, 57 rule_57, 58 rule_58);
+    push_all!(rules, err: 59 rule_59, 60 rule_60, 61 rule_61, 62 rule_62, 63 rule_63, 64 rule_64, 65 rule_65);
+    push_all!(rules, err: 66 rule_66, 67 rule_67, 68 rule_68);
     let status = match words(&rt) {
         Ok(words) => {
             let mut input = StdSource::new(rt.stdin());

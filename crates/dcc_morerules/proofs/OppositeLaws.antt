@@ -36,49 +36,7 @@ use Rattle.dcc_stdrules.proofs.FormLaws.{call_meets_further}
 use Rattle.dcc_stdrules.proofs.OperandLaws.{Answer, Operated, operated, fits_in}
 use Rattle.dcc_stdrules.proofs.HalfLaws.{UnaryParts, unary_parts, simpler_within}
 use Rattle.dcc_morerules.specs.Further.{is_opposite, turned, without, xor_twice}
-
--- Sizes.
-
--- 1 for true
-abbrev counted : Bool → ℕ
-counted b = cond b 1 0
-
-abbrev root_truth : Expr → ℕ
-root_truth e = cond (is_truth e) 1 0
-
-truths_of_two : (f : BinOp) (w : ℕ) (a b : Expr) → truths_of (Binary f w a b) ≡ counted (is_comparison f) + (truths_of a + truths_of b)
-truths_of_two f w a b =
-    sum_by-cons root_truth (Binary f w a b) (parts_of a ++ parts_of b) ∙ ap (λ k. counted (is_comparison f) + k) (sum_by-append root_truth (parts_of a) (parts_of b))
-
-truths_of_one : (f : UnOp) (w : ℕ) (a : Expr) → truths_of (Unary f w a) ≡ counted (is_test f) + truths_of a
-truths_of_one f w a = sum_by-cons root_truth (Unary f w a) (parts_of a)
-
-nodes_of_two : (f : BinOp) (w : ℕ) (a b : Expr) → nodes_of (Binary f w a b) ≡ suc (nodes_of a + nodes_of b)
-nodes_of_two f w a b = ap suc (length-append (parts_of a) (parts_of b))
-
--- an operator on what stands in the given expression
-pub beside : (given a b : Expr) (f : BinOp) (w : ℕ) → IsWithin given a → IsWithin given b → suc (max (depth_of a) (depth_of b)) ≤ depth_of given
-    → truths_of (Binary f w a b) ≤ truths_of given → AddsNothing given (Binary f w a b)
-beside given a b f w p q shallow few = record {
-  depth = shallow;
-  truths = few;
-  reads =
-      ap (λ l. list_all (is_among (reads_of given)) l) (flat_map-append got_by (parts_of a) (parts_of b))
-      ∙ among_one same_location (reads_of given) (reads_of a) (reads_of b) p.adds.reads q.adds.reads;
-  addresses =
-      ap (λ l. list_all (is_distance_among (addresses_of given)) l) (flat_map-append addressed_by (parts_of a) (parts_of b))
-      ∙ among_one (λ x y. x == y) (addresses_of given) (addresses_of a) (addresses_of b) p.adds.addresses q.adds.addresses;
-}
-
--- a well-formed operator that is no division
-pub formed_two : (bits : List ℕ) (f : BinOp) (w : ℕ) (a b : Expr) → is_division f ≡ false → Operated bits w a b → is_expr bits (Binary f w a b) ≡ true
-formed_two bits f w a b plain h =
-    let f1 = both_hold (is_width w) (is_expr bits a) h.width h.left in
-    let f2 = both_hold (is_width w && is_expr bits a) (is_expr bits b) f1 h.right in
-    let f3 = both_hold (is_width w && is_expr bits a && is_expr bits b) (width_of bits a == w) f2 (eq-eqb (width_of bits a) w h.left_width) in
-    let f4 = both_hold (is_width w && is_expr bits a && is_expr bits b && (width_of bits a == w)) (width_of bits b == w) f3 (eq-eqb (width_of bits b) w h.right_width) in
-    both_hold (is_width w && is_expr bits a && is_expr bits b && (width_of bits a == w) && (width_of bits b == w)) (not (is_division f) || divides_safely f w b) f4
-    (ap (λ c. not c || divides_safely f w b) plain)
+use Rattle.dcc_morerules.proofs.SizeLaws.{counted, truths_of_one, truths_of_two, nodes_of_two, beside, formed_two, swap, turned_operands}
 
 -- Opposites of comparisons.
 
@@ -108,33 +66,50 @@ not_less_or_same_signed (negsuc a) (pos b) = refl
 not_less_or_same_signed (negsuc a) (negsuc b) = not_less_or_same b a
 
 -- two operators of which one is the opposite of the other with its operands turned
-record AreOpposite (f g : BinOp) : Type 0 where
-  first : is_comparison f ≡ true
-  second : is_comparison g ≡ true
-  plain : is_division g ≡ false
-  value : (w a b : ℕ) → 2 ^ 1 - 1 - binary_value f w a b ≡ binary_value g w b a
+pub record AreOpposite (f g : BinOp) : Type 0 where
+  pub first : is_comparison f ≡ true
+  pub second : is_comparison g ≡ true
+  pub plain : is_division g ≡ false
+  pub value : (w a b : ℕ) → 2 ^ 1 - 1 - binary_value f w a b ≡ binary_value g w b a
 
-opposite_at : (bits : List ℕ) (f g : BinOp) (w : ℕ) (x y : Expr) → AreOpposite f g → IsSimplerUnder bits (Unary Not 1 (Binary f w x y)) (Binary g w y x)
-opposite_at bits f g w x y h =
-    let given : Expr = Unary Not 1 (Binary f w x y) in
-    let in_x : IsWithin given x = within_through given (Binary f w x y) x (within_unary Not 1 (Binary f w x y)) (within_left f w x y) in
-    let in_y : IsWithin given y = within_through given (Binary f w x y) y (within_unary Not 1 (Binary f w x y)) (within_right f w x y) in
-    let root_f : counted (is_comparison f) ≡ 1 = ap counted h.first in
-    let root_g : counted (is_comparison g) ≡ 1 = ap counted h.second in
-    let root_not : counted (is_test Not) ≡ 0 = refl in
+one_bit : (h : UnOp) → ◌≡◌ {A = ℕ} (if is_test h then 1 else 1) 1
+one_bit Neg = refl
+one_bit Not = refl
+one_bit IsZero = refl
+
+-- the operator that gives the opposite of a bit goes, and the comparison with it
+pub opposite_at : (bits : List ℕ) (h : UnOp) (f g : BinOp) (w : ℕ) (x y : Expr) → AreOpposite f g
+    → ((a b : ℕ) → unary_value h 1 (binary_value f w a b) ≡ 2 ^ 1 - 1 - binary_value f w a b) → IsSimplerUnder bits (Unary h 1 (Binary f w x y)) (Binary g w y x)
+opposite_at bits h f g w x y opposite turns =
+    let given : Expr = Unary h 1 (Binary f w x y) in
+    let in_x : IsWithin given x = within_through given (Binary f w x y) x (within_unary h 1 (Binary f w x y)) (within_left f w x y) in
+    let in_y : IsWithin given y = within_through given (Binary f w x y) y (within_unary h 1 (Binary f w x y)) (within_right f w x y) in
+    let root_f : counted (is_comparison f) ≡ 1 = ap counted opposite.first in
+    let root_g : counted (is_comparison g) ≡ 1 = ap counted opposite.second in
     record {
       meaning = λ widths ok.
-          let o = operated bits f w x y (unary_parts bits Not 1 (Binary f w x y) ok).operand in
-          let swapped : Operated bits w y x = record { width = o.width; left = o.right; right = o.left; left_width = o.right_width; right_width = o.left_width } in
+          let o = operated bits f w x y (unary_parts bits h 1 (Binary f w x y) ok).operand in
           record {
-            formed = formed_two bits g w y x h.plain swapped;
-            width = ap (λ c. if c then 1 else w) h.second;
-            value = λ scene is fits. sym (h.value w (value_of scene x) (value_of scene y));
+            formed = formed_two bits g w y x opposite.plain (swap bits w x y o);
+            width = ap (λ c. if c then 1 else w) opposite.second ∙ sym (one_bit h);
+            value = λ scene is fits. sym (turns (value_of scene x) (value_of scene y) ∙ opposite.value w (value_of scene x) (value_of scene y));
           };
       nodes = omega (arith, nodes_of_two f w x y, nodes_of_two g w y x);
       adds = beside given y x g w in_y in_x (omega arith)
-          (omega (arith, truths_of_two f w x y, truths_of_two g w y x, truths_of_one Not 1 (Binary f w x y), root_f, root_g, root_not));
+          (omega (arith, truths_of_two f w x y, truths_of_two g w y x, truths_of_one h 1 (Binary f w x y), root_f, root_g));
     }
+
+pub less_opposite : AreOpposite LtS LeS
+less_opposite = record { first = refl; second = refl; plain = refl; value = λ w a b. not_less_signed (signed_at w a) (signed_at w b) }
+
+pub less_opposite_unsigned : AreOpposite LtU LeU
+less_opposite_unsigned = record { first = refl; second = refl; plain = refl; value = λ w a b. not_less a b }
+
+pub at_most_opposite : AreOpposite LeS LtS
+at_most_opposite = record { first = refl; second = refl; plain = refl; value = λ w a b. not_less_or_same_signed (signed_at w a) (signed_at w b) }
+
+pub at_most_opposite_unsigned : AreOpposite LeU LtU
+at_most_opposite_unsigned = record { first = refl; second = refl; plain = refl; value = λ w a b. not_less_or_same a b }
 
 opposite_simpler : (bits : List ℕ) (f g : BinOp) → AreOpposite f g → (e : Expr) → is_opposite f e ≡ true → IsSimplerUnder bits e (turned g e)
 opposite_simpler bits f g h (Unary n v (Binary k w x y)) t =
@@ -142,7 +117,7 @@ opposite_simpler bits f g h (Unary n v (Binary k w x y)) t =
     let one = both (same_unary n Not) (v == 1) two.0 in
     subst (λ (m : UnOp). IsSimplerUnder bits (Unary m v (Binary k w x y)) (Binary g w y x)) (sym (unary_same n Not one.0))
     (subst (λ m. IsSimplerUnder bits (Unary Not m (Binary k w x y)) (Binary g w y x)) (sym (eqb-true v 1 one.1))
-    (subst (λ (m : BinOp). IsSimplerUnder bits (Unary Not 1 (Binary m w x y)) (Binary g w y x)) (sym (binary_same k f two.1)) (opposite_at bits f g w x y h)))
+    (subst (λ (m : BinOp). IsSimplerUnder bits (Unary Not 1 (Binary m w x y)) (Binary g w y x)) (sym (binary_same k f two.1)) (opposite_at bits Not f g w x y h (λ a b. refl))))
 opposite_simpler bits f g h (Unary n v (Const v2 n2)) t = absurd (true≢false (sym t))
 opposite_simpler bits f g h (Unary n v (Get l2)) t = absurd (true≢false (sym t))
 opposite_simpler bits f g h (Unary n v (Load v2 y2)) t = absurd (true≢false (sym t))
@@ -167,16 +142,16 @@ meets_opposite id bits e r f g past h answers =
     call_meets_further id bits e r (is_opposite f (expr_of e)) (turned g (expr_of e)) past (opposite_simpler bits f g h (expr_of e)) answers
 
 pub meets_44 : (bits : List ℕ) (e : Expression) (r : Answer) → Answers r (is_opposite LtS (expr_of e)) (turned LeS (expr_of e)) → MeetsRuleUnder 44 bits e r
-meets_44 bits e r h = meets_opposite 44 bits e r LtS LeS (omega arith) (record { first = refl; second = refl; plain = refl; value = λ w a b. not_less_signed (signed_at w a) (signed_at w b) }) h
+meets_44 bits e r h = meets_opposite 44 bits e r LtS LeS (omega arith) less_opposite h
 
 pub meets_45 : (bits : List ℕ) (e : Expression) (r : Answer) → Answers r (is_opposite LtU (expr_of e)) (turned LeU (expr_of e)) → MeetsRuleUnder 45 bits e r
-meets_45 bits e r h = meets_opposite 45 bits e r LtU LeU (omega arith) (record { first = refl; second = refl; plain = refl; value = λ w a b. not_less a b }) h
+meets_45 bits e r h = meets_opposite 45 bits e r LtU LeU (omega arith) less_opposite_unsigned h
 
 pub meets_46 : (bits : List ℕ) (e : Expression) (r : Answer) → Answers r (is_opposite LeS (expr_of e)) (turned LtS (expr_of e)) → MeetsRuleUnder 46 bits e r
-meets_46 bits e r h = meets_opposite 46 bits e r LeS LtS (omega arith) (record { first = refl; second = refl; plain = refl; value = λ w a b. not_less_or_same_signed (signed_at w a) (signed_at w b) }) h
+meets_46 bits e r h = meets_opposite 46 bits e r LeS LtS (omega arith) at_most_opposite h
 
 pub meets_47 : (bits : List ℕ) (e : Expression) (r : Answer) → Answers r (is_opposite LeU (expr_of e)) (turned LtU (expr_of e)) → MeetsRuleUnder 47 bits e r
-meets_47 bits e r h = meets_opposite 47 bits e r LeU LtU (omega arith) (record { first = refl; second = refl; plain = refl; value = λ w a b. not_less_or_same a b }) h
+meets_47 bits e r h = meets_opposite 47 bits e r LeU LtU (omega arith) at_most_opposite_unsigned h
 
 -- An exclusive or that undoes another.
 
@@ -192,9 +167,6 @@ left_of_xor bits w v given a c d o within parts width keeps value =
     let outer = parts ok in
     let inner = keeps (operated bits Xor v c d outer.right) in
     record { formed = inner.0; width = inner.1 ∙ outer.right_width ∙ sym width; value = λ scene is fits. sym (value scene) })
-
-swap : (bits : List ℕ) (w : ℕ) (a b : Expr) → Operated bits w a b → Operated bits w b a
-swap bits w a b o = record { width = o.width; left = o.right; right = o.left; left_width = o.right_width; right_width = o.left_width }
 
 -- what is left of the right operand without the left one
 right_rest : (bits : List ℕ) (w : ℕ) (a b o : Expr) → without a b ≡ Some o → IsSimplerUnder bits (Binary Xor w a b) o
@@ -249,27 +221,9 @@ right_rest bits w a (Join y2 z2) o e = cc
 right_rest bits w a (Choose q2 y2 z2) o e = cc
 right_rest bits w a (Address d2) o e = cc
 
--- operands turned: the same with them
-turned_xor : (bits : List ℕ) (w : ℕ) (a b o : Expr) → IsSimplerUnder bits (Binary Xor w b a) o → IsSimplerUnder bits (Binary Xor w a b) o
-turned_xor bits w a b o h = record {
-  meaning = λ widths ok.
-      let m = h.meaning widths (formed_two bits Xor w b a refl (swap bits w a b (operated bits Xor w a b ok))) in
-      record { formed = m.formed; width = m.width; value = λ scene is fits. m.value scene is fits ∙ xor_comm (value_of scene b) (value_of scene a) };
-  nodes = omega (arith, h.nodes, nodes_of_two Xor w a b, nodes_of_two Xor w b a);
-  adds = record {
-    depth = omega (arith, h.adds.depth);
-    truths = omega (arith, h.adds.truths, truths_of_two Xor w a b, truths_of_two Xor w b a);
-    reads = among_through same_location location_same (reads_of (Binary Xor w a b)) (reads_of (Binary Xor w b a)) (reads_of o) back.reads h.adds.reads;
-    addresses = among_through (λ x y. x == y) number_same (addresses_of (Binary Xor w a b)) (addresses_of (Binary Xor w b a)) (addresses_of o) back.addresses h.adds.addresses;
-  };
-}
-  where
-    back : AddsNothing (Binary Xor w a b) (Binary Xor w b a)
-    back = beside (Binary Xor w a b) b a Xor w (within_right Xor w a b) (within_left Xor w a b) (omega arith) (omega (arith, truths_of_two Xor w a b, truths_of_two Xor w b a))
-
 either_rest : (bits : List ℕ) (w : ℕ) (a b o : Expr) (p q : Option Expr) → without a b ≡ p → without b a ≡ q → option_or p q ≡ Some o → IsSimplerUnder bits (Binary Xor w a b) o
 either_rest bits w a b o (Some x) q is_p is_q e = let got : x ≡ o = cc in right_rest bits w a b o (is_p ∙ ap (λ y. Some y) got)
-either_rest bits w a b o None q is_p is_q e = turned_xor bits w a b o (right_rest bits w b a o (is_q ∙ e))
+either_rest bits w a b o None q is_p is_q e = turned_operands bits Xor w a b o refl xor_comm (right_rest bits w b a o (is_q ∙ e))
 
 xor_simpler : (bits : List ℕ) (e o : Expr) → xor_twice e ≡ Some o → IsSimplerUnder bits e o
 xor_simpler bits (Binary k w a b) o e = elim (decided (same_binary k Xor)) [

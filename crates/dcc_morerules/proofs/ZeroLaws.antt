@@ -1,4 +1,4 @@
--- The rules on 0 beside an expression.
+-- The rule on 0 beside an expression.
 use Rattle.std.proofs.Common.{◌≡◌, ℕ, suc, ◌+◌, ◌-◌, ◌*◌, ◌/◌, ◌%◌, ◌^◌, ◌<◌, ◌≤◌, max, Bool, true, false, ◌&&◌, ◌||◌, not, inl, inr, List, [], ◌∷◌, refl, sym, ap, ◌∙◌, subst, arith, true≢false, eqb-true}
 use Rattle.std.specs.Prelude.{if◌then◌else◌, ◌==◌, nat_lt}
 use Rattle.std.proofs.lemmas.Bool.{lt-ltb, eq-eqb}
@@ -21,7 +21,7 @@ use Rattle.dcc_stdrules.proofs.SameLaws.{binary_same}
 use Rattle.dcc_stdrules.proofs.FormLaws.{call_meets_further}
 use Rattle.dcc_stdrules.proofs.OperandLaws.{Answer, Operated, operated}
 use Rattle.dcc_stdrules.proofs.HalfLaws.{JoinParts, join_parts}
-use Rattle.dcc_morerules.specs.Further.{is_below_zero, at_double_width, is_zero_less, negative}
+use Rattle.dcc_morerules.specs.Further.{is_below_zero, at_double_width}
 
 -- 0 beside an expression.
 
@@ -74,48 +74,3 @@ widened_simpler bits (Address d2) t = absurd (true≢false (sym t))
 
 pub meets_54 : (bits : List ℕ) (e : Expression) (r : Answer) → Answers r (is_below_zero (expr_of e)) (at_double_width (expr_of e)) → MeetsRuleUnder 54 bits e r
 meets_54 bits e r h = call_meets_further 54 bits e r (is_below_zero (expr_of e)) (at_double_width (expr_of e)) (omega arith) (widened_simpler bits (expr_of e)) h
-
--- 0 less an expression.
-
-negative_at : (bits : List ℕ) (w v : ℕ) (x : Expr) → IsSimplerUnder bits (Binary Sub w (Const v 0) x) (Unary Neg w x)
-negative_at bits w v x = record {
-  meaning = λ widths ok.
-      let h = operated bits Sub w (Const v 0) x ok in
-      record {
-        formed = both_hold (is_width w && is_expr bits x) (width_of bits x == w) (both_hold (is_width w) (is_expr bits x) h.width h.right) (eq-eqb (width_of bits x) w h.right_width);
-        width = refl;
-        value = λ scene is fits. plain (2 ^ w) (value_of scene x);
-      };
-  nodes = omega arith;
-  adds = record { depth = omega arith; truths = (adds_nothing_to_itself x).truths; reads = (adds_nothing_to_itself x).reads; addresses = (adds_nothing_to_itself x).addresses };
-}
-  where
-    plain : (m v : ℕ) → (m - v) % m ≡ (0 + m - v) % m
-    plain m v = ap (λ k. (k - v) % m) (omega arith)
-
-negative_simpler : (bits : List ℕ) (e : Expr) → is_zero_less e ≡ true → IsSimplerUnder bits e (negative e)
-negative_simpler bits (Binary k w (Const v n) x) t =
-    let p = both (same_binary k Sub) (n == 0) t in
-    subst (λ (f : BinOp). IsSimplerUnder bits (Binary f w (Const v n) x) (Unary Neg w x)) (sym (binary_same k Sub p.0))
-    (subst (λ m. IsSimplerUnder bits (Binary Sub w (Const v m) x) (Unary Neg w x)) (sym (eqb-true n 0 p.1)) (negative_at bits w v x))
-negative_simpler bits (Binary k w (Get l2) x) t = absurd (true≢false (sym t))
-negative_simpler bits (Binary k w (Load v2 y2) x) t = absurd (true≢false (sym t))
-negative_simpler bits (Binary k w (Unary g2 v2 y2) x) t = absurd (true≢false (sym t))
-negative_simpler bits (Binary k w (Binary g2 v2 y2 z2) x) t = absurd (true≢false (sym t))
-negative_simpler bits (Binary k w (Widen s2 v2 y2) x) t = absurd (true≢false (sym t))
-negative_simpler bits (Binary k w (Part v2 m2 y2) x) t = absurd (true≢false (sym t))
-negative_simpler bits (Binary k w (Join y2 z2) x) t = absurd (true≢false (sym t))
-negative_simpler bits (Binary k w (Choose q2 y2 z2) x) t = absurd (true≢false (sym t))
-negative_simpler bits (Binary k w (Address d2) x) t = absurd (true≢false (sym t))
-negative_simpler bits (Const v2 n2) t = absurd (true≢false (sym t))
-negative_simpler bits (Get l2) t = absurd (true≢false (sym t))
-negative_simpler bits (Load v2 y2) t = absurd (true≢false (sym t))
-negative_simpler bits (Unary g2 v2 y2) t = absurd (true≢false (sym t))
-negative_simpler bits (Widen s2 v2 y2) t = absurd (true≢false (sym t))
-negative_simpler bits (Part v2 m2 y2) t = absurd (true≢false (sym t))
-negative_simpler bits (Join y2 z2) t = absurd (true≢false (sym t))
-negative_simpler bits (Choose q2 y2 z2) t = absurd (true≢false (sym t))
-negative_simpler bits (Address d2) t = absurd (true≢false (sym t))
-
-pub meets_59 : (bits : List ℕ) (e : Expression) (r : Answer) → Answers r (is_zero_less (expr_of e)) (negative (expr_of e)) → MeetsRuleUnder 59 bits e r
-meets_59 bits e r h = call_meets_further 59 bits e r (is_zero_less (expr_of e)) (negative (expr_of e)) (omega arith) (negative_simpler bits (expr_of e)) h

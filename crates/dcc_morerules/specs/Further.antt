@@ -1,11 +1,12 @@
 -- Forms of rules above 40, and what takes their place.
-use Rattle.std.specs.Prelude.{◌≡◌, ℕ, ◌+◌, ◌==◌, Bool, true, false, ◌&&◌, ◌||◌, if◌then◌else◌, Option, Some, None, is_some, unwrap_or}
+use Rattle.std.specs.Prelude.{◌≡◌, ℕ, ◌+◌, ◌==◌, Bool, true, false, ◌&&◌, ◌||◌, if◌then◌else◌, Option, Some, None, is_some, unwrap_or, option_map, Result, IfOk}
+use Rattle.std.specs.declared.alloc.AllocError.{AllocError}
 use Rattle.std.specs.Option.{option_or}
 use denote.Ref.{Bor}
 use Rattle.dcc_ir.specs.declared.syntax.Expr.{Expr as Expression}
-use Rattle.dcc_ir.specs.declared.syntax.UnOp.TheVariants.{Neg, Not}
+use Rattle.dcc_ir.specs.declared.syntax.UnOp.TheVariants.{Not}
 use Rattle.dcc_ir.specs.declared.syntax.BinOp.{BinOp}
-use Rattle.dcc_ir.specs.declared.syntax.BinOp.TheVariants.{Sub, Xor}
+use Rattle.dcc_ir.specs.declared.syntax.BinOp.TheVariants.{Xor}
 use Rattle.dcc_ir.specs.Views.{expr_of}
 use Rattle.dcc_ir.specs.Tree.{Expr, Const, Unary, Binary, Widen, Join}
 use Rattle.dcc_ir.specs.Forms.{same_unary, same_binary, same_expr}
@@ -13,6 +14,10 @@ use Rattle.dcc_ir.specs.Forms.{same_unary, same_binary, same_expr}
 -- the tree of an expression that is lent
 abbrev pub shared : Bor Expression → Expr
 shared e = expr_of e.now
+
+-- a call answers this
+abbrev pub Gives : Result (Option Expression) AllocError → Option Expr → Type 0
+Gives result expected = IfOk result (λ answer. option_map expr_of answer ≡ expected)
 
 -- the opposite of a comparison by this operator
 abbrev pub is_opposite : BinOp → Expr → Bool
@@ -44,13 +49,3 @@ is_below_zero e = false
 abbrev pub at_double_width : Expr → Expr
 at_double_width (Join (Const w n) x) = Widen false (w + w) x
 at_double_width e = e
-
--- 0 less an expression
-abbrev pub is_zero_less : Expr → Bool
-is_zero_less (Binary k w (Const v n) x) = same_binary k Sub && n == 0
-is_zero_less e = false
-
--- the negative expression
-abbrev pub negative : Expr → Expr
-negative (Binary k w (Const v n) x) = Unary Neg w x
-negative e = e

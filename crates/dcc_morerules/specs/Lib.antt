@@ -1,1 +1,3 @@
 pub mod Further
+pub mod Tests
+pub mod Arithmetic

@@ -1,13 +1,12 @@
-//! The rules on 0 beside an expression: 54 and 59.
+//! The rule on 0 beside an expression: 54.
 
 ghost use Rattle.dcc_ir.specs.Views.{expr_of};
 ghost use Rattle.dcc_rules.specs.Rules.{MeetsRuleUnder};
 ghost use Rattle.dcc_stdrules.specs.Rewriting.{Answers};
-ghost use Rattle.dcc_morerules.specs.Further.{is_below_zero, at_double_width, is_zero_less, negative};
+ghost use Rattle.dcc_morerules.specs.Further.{is_below_zero, at_double_width};
 
-use dcc_ir::{BinOp, Expr, UnOp};
+use dcc_ir::Expr;
 use dcc_stdrules::copy::copied;
-use dcc_stdrules::same::same_binary;
 use std::alloc::{AllocError, Global};
 
 // The expression of a byte or a word that stands below 0, at its double width.
@@ -33,29 +32,4 @@ pub fn rule_54(alloc: Global, bits: &[u8], e: &Expr) -> Result<Option<Expr>, All
     ensures { MeetsRuleUnder 54 bits.now e.now result }
 {
     widened(alloc, e)
-}
-
-// The negative of what is subtracted from 0.
-fn negated(alloc: Global, e: &Expr) -> Result<Option<Expr>, AllocError>
-    ensures { Answers result (is_zero_less (expr_of e.now)) (negative (expr_of e.now)) }
-{
-    let Expr::Bin(operator, width, left, right) = e else {
-        return Ok(None);
-    };
-    let left: &Expr = left;
-    let Expr::Const(_, number) = left else {
-        return Ok(None);
-    };
-    if !same_binary(*operator, BinOp::Sub) || *number != 0 {
-        return Ok(None);
-    }
-    let right = copied(alloc, right)?;
-    Ok(Some(Expr::unary(alloc, UnOp::Neg, *width, right)?))
-}
-
-/// Rewrites `0 - x` to `-x`.
-pub fn rule_59(alloc: Global, bits: &[u8], e: &Expr) -> Result<Option<Expr>, AllocError>
-    ensures { MeetsRuleUnder 59 bits.now e.now result }
-{
-    negated(alloc, e)
 }

@@ -288,7 +288,7 @@ wide_low w wide v more s =
         less : (k m v : ℕ) → v < m → (k + 1) * m - 1 - (m - suc v) ≡ k * m + v
         less k m v s = omega (arith, s)
 
-narrowed_value : (signed : Bool) (w wide v : ℕ) → w ≤ wide → v < 2 ^ w → (if signed then pattern_at wide (signed_at w v) else v) % 2 ^ w ≡ v
+pub narrowed_value : (signed : Bool) (w wide v : ℕ) → w ≤ wide → v < 2 ^ w → (if signed then pattern_at wide (signed_at w v) else v) % 2 ^ w ≡ v
 narrowed_value true w wide v more s = wide_low w wide v more s
 narrowed_value false w wide v more s = mod-eq_of_lt s
 

@@ -2,6 +2,7 @@
 use Rattle.std.proofs.Common.{◌≡◌, ℕ, suc, ◌+◌, ◌-◌, ◌*◌, ◌/◌, ◌%◌, ◌^◌, ◌<◌, ◌≤◌, max, Bool, true, false, ◌&&◌, ◌||◌, not, ◌⊎◌, inl, inr, ◌↔◌, List, [], ◌∷◌, ◌++◌, length, Option, Some, None, Result, Ok, Err, IfOk, IfSome, option_map, rules, refl, sym, ap, ◌∙◌, subst, arith, length-append, true≢false, eqb-true, ltb-true}
 use Rattle.std.specs.Prelude.{if◌then◌else◌, ◌==◌, nat_lt}
 use Rattle.std.proofs.lemmas.Bool.{lt-ltb, eq-eqb}
+use Rattle.std.proofs.Math.Nat.{mod-add-mod}
 use Rattle.std.specs.declared.alloc.AllocError.{AllocError}
 use Rattle.dcc_ir.specs.declared.syntax.Expr.{Expr as Expression}
 use Rattle.dcc_ir.specs.declared.syntax.BinOp.{BinOp}
@@ -19,7 +20,7 @@ use Rattle.dcc_rules.specs.Forms.{has_form_under}
 use Rattle.dcc_rules.specs.Rules.{AnswersUnder, MeetsRuleUnder}
 use Rattle.dcc_rules.proofs.AmongLaws.{both_hold}
 use Rattle.dcc_stdrules.specs.declared.moved.Sums.{Sums}
-use Rattle.dcc_stdrules.specs.declared.moved.Sums.TheVariants.{Added, Subtracted, Mixed}
+use Rattle.dcc_stdrules.specs.declared.moved.Sums.TheVariants.{Added, Subtracted, Mixed, Returned}
 use Rattle.dcc_stdrules.specs.declared.moved.Moved.{Moved}
 use Rattle.dcc_stdrules.specs.Sums.{outer_of, inner_of, adds_or_subtracts, IsMoved, IsSummed, AnswersSums}
 use Rattle.dcc_stdrules.proofs.SameLaws.{binary_same}
@@ -40,11 +41,13 @@ outer_plain : (sums : Sums) → (is_comparison (outer_of sums) ≡ false) × (is
 outer_plain Added = (refl, refl)
 outer_plain Subtracted = (refl, refl)
 outer_plain Mixed = (refl, refl)
+outer_plain Returned = (refl, refl)
 
 inner_plain : (sums : Sums) → (is_comparison (inner_of sums) ≡ false) × (is_division (inner_of sums) ≡ false)
 inner_plain Added = (refl, refl)
 inner_plain Subtracted = (refl, refl)
 inner_plain Mixed = (refl, refl)
+inner_plain Returned = (refl, refl)
 
 operator_width : (f : BinOp) (w : ℕ) → is_comparison f ≡ false → (if is_comparison f then 1 else w) ≡ w
 operator_width f w plain = ap (λ c. if c then 1 else w) plain
@@ -97,14 +100,16 @@ summed_simpler bits sums w c d x moved m =
 
 -- What a rule on sums answers meets it.
 
+sums_simpler : (bits : List ℕ) (sums : Sums) (given other : Expr) → IsSummed sums given other → IsSimplerUnder bits given other
+sums_simpler bits sums given other s =
+    subst (λ (y : Expr). IsSimplerUnder bits given y) (sym s.made)
+    (subst (λ (y : Expr). IsSimplerUnder bits y (Binary s.moved.operator s.width s.operand (Const s.width s.moved.number))) (sym s.is)
+    (summed_simpler bits sums s.width s.c s.d s.operand s.moved s.sum))
+
 sums_meet : (id : ℕ) (bits : List ℕ) (sums : Sums) (given : Expr) (answer : Option Expr) → has_form_under id bits given ≡ is_sum_of_sum (outer_of sums) (inner_of sums) given
     → AnswersSums sums given answer → AnswersUnder id bits given answer
 sums_meet id bits sums given answer form m = record {
-  simpler = λ other e.
-      let s = m.summed other e in
-      subst (λ (y : Expr). IsSimplerUnder bits given y) (sym s.made)
-      (subst (λ (y : Expr). IsSimplerUnder bits y (Binary s.moved.operator s.width s.operand (Const s.width s.moved.number))) (sym s.is)
-      (summed_simpler bits sums s.width s.c s.d s.operand s.moved s.sum));
+  simpler = λ other e. sums_simpler bits sums given other (m.summed other e);
   form = λ low high. ((λ e. form ∙ m.form.0 e), (λ e. m.form.1 (sym form ∙ e)));
 }
 
@@ -112,6 +117,15 @@ call_sums : (id : ℕ) (bits : List ℕ) (sums : Sums) (e : Expression) (r : Ans
     → IfOk r (λ answer. AnswersSums sums (expr_of e) (option_map expr_of answer)) → MeetsRuleUnder id bits e r
 call_sums id bits sums e (Err x) form h = tt
 call_sums id bits sums e (Ok o) form h = sums_meet id bits sums (expr_of e) (option_map expr_of o) form h
+
+-- a rule whose number has no form
+pub further_sums : (id : ℕ) (bits : List ℕ) (sums : Sums) (e : Expression) (r : Answer) → 40 < id
+    → IfOk r (λ answer. AnswersSums sums (expr_of e) (option_map expr_of answer)) → MeetsRuleUnder id bits e r
+further_sums id bits sums e (Err x) past h = tt
+further_sums id bits sums e (Ok o) past h = record {
+  simpler = λ other f. sums_simpler bits sums (expr_of e) other (h.summed other f);
+  form = λ low high. absurd (omega (arith, past, high));
+}
 
 pub meets_30 : (bits : List ℕ) (e : Expression) (r : Answer) → IfOk r (λ answer. AnswersSums Added (expr_of e) (option_map expr_of answer)) → MeetsRuleUnder 30 bits e r
 meets_30 bits e r h = call_sums 30 bits Added e r refl h
@@ -132,6 +146,7 @@ sum_form : (sums : Sums) (w c d : ℕ) (x : Expr) → is_sum_of_sum (outer_of su
 sum_form Added w c d x = both_hold (w == w && w == w) (w == w) (both_hold (w == w) (w == w) (eq-eqb w w refl) (eq-eqb w w refl)) (eq-eqb w w refl)
 sum_form Subtracted w c d x = both_hold (w == w && w == w) (w == w) (both_hold (w == w) (w == w) (eq-eqb w w refl) (eq-eqb w w refl)) (eq-eqb w w refl)
 sum_form Mixed w c d x = both_hold (w == w && w == w) (w == w) (both_hold (w == w) (w == w) (eq-eqb w w refl) (eq-eqb w w refl)) (eq-eqb w w refl)
+sum_form Returned w c d x = both_hold (w == w && w == w) (w == w) (both_hold (w == w) (w == w) (eq-eqb w w refl) (eq-eqb w w refl)) (eq-eqb w w refl)
 
 -- a sum of a sum
 pub some_sum : (sums : Sums) (given : Expr) (f g : BinOp) (w v : ℕ) (x l r other : Expr) (c d : ℕ) (moved : Moved) → given ≡ Binary f w (Binary g v x l) r
@@ -150,3 +165,22 @@ some_sum sums given f g w v x l r other c d moved is out inn same is_c is_d m ma
           let q : other ≡ o = cc in
           record { width = w; operand = x; c = c; d = d; moved = moved; is = p; sum = m; made = sym q ∙ made };
     }
+
+-- A number is subtracted, and another one added: in the other order.
+
+swapped : (m v c d : ℕ) → c < m → ((v + d) % m + m - c) % m ≡ ((v + m - c) % m + d) % m
+swapped m v c d s =
+    let first : ((v + d) % m + m - c) % m ≡ (v + d + m - c) % m =
+    ap (λ k. k % m) (minus ((v + d) % m) m c s) ∙ mod-add-mod (v + d) m (m - c) ∙ ap (λ k. k % m) (sym (minus (v + d) m c s)) in
+    let second : ((v + m - c) % m + d) % m ≡ (v + m - c + d) % m = mod-add-mod (v + m - c) m d in
+    first ∙ ap (λ k. k % m) (omega (arith, s)) ∙ sym second
+  where
+    minus : (a m c : ℕ) → c < m → a + m - c ≡ a + (m - c)
+    minus a m c s = omega (arith, s)
+
+pub other_first : (w c d : ℕ) (moved : Moved) → IsMoved Mixed w d c moved → IsMoved Returned w c d moved
+other_first w c d moved m = record {
+  operator = m.operator;
+  fits = λ width small_c small_d. m.fits width small_d small_c;
+  value = λ width small_c small_d v s. m.value width small_d small_c v s ∙ swapped (2 ^ w) v c d small_c;
+}

@@ -7,7 +7,7 @@ use Rattle.dcc_ir.specs.Value.{binary_value}
 use Rattle.dcc_ir.specs.WellFormed.{is_width}
 use Rattle.dcc_ir.specs.Forms.{same_binary, is_sum_of_sum}
 use Rattle.dcc_stdrules.specs.declared.moved.Sums.{Sums}
-use Rattle.dcc_stdrules.specs.declared.moved.Sums.TheVariants.{Added, Subtracted, Mixed}
+use Rattle.dcc_stdrules.specs.declared.moved.Sums.TheVariants.{Added, Subtracted, Mixed, Returned}
 use Rattle.dcc_stdrules.specs.declared.moved.Moved.{Moved}
 
 -- the outer and the inner operator
@@ -15,11 +15,13 @@ abbrev pub outer_of : Sums → BinOp
 outer_of Added = Add
 outer_of Subtracted = Sub
 outer_of Mixed = Sub
+outer_of Returned = Add
 
 abbrev pub inner_of : Sums → BinOp
 inner_of Added = Add
 inner_of Subtracted = Sub
 inner_of Mixed = Add
+inner_of Returned = Sub
 
 -- the operator adds or subtracts
 abbrev pub adds_or_subtracts : BinOp → Bool

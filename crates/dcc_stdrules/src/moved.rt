@@ -15,6 +15,8 @@ pub enum Sums {
     Subtracted,
     /// A number is added to x, and another one subtracted from the sum.
     Mixed,
+    /// A number is subtracted from x, and another one added to the difference.
+    Returned,
 }
 
 /// An operator that adds or subtracts, and the number to its right.
@@ -70,13 +72,20 @@ fn mixed(width: u8, c: u32, d: u32) -> Moved
     }
 }
 
+// A number that is subtracted and one that is added, as one: as if the second came first.
+fn returned(width: u8, c: u32, d: u32) -> Moved
+    ensures { IsMoved Sums.Returned width c d result }
+{
+    mixed(width, d, c)
+}
+
 impl Sums {
     /// The operator of the sum.
     pub fn outer(self) -> BinOp
         ensures { result ≡ outer_of self }
     {
         match self {
-            Sums::Added => BinOp::Add,
+            Sums::Added | Sums::Returned => BinOp::Add,
             Sums::Subtracted | Sums::Mixed => BinOp::Sub,
         }
     }
@@ -87,7 +96,7 @@ impl Sums {
     {
         match self {
             Sums::Added | Sums::Mixed => BinOp::Add,
-            Sums::Subtracted => BinOp::Sub,
+            Sums::Subtracted | Sums::Returned => BinOp::Sub,
         }
     }
 
@@ -99,6 +108,7 @@ impl Sums {
             Sums::Added => added(width, c, d),
             Sums::Subtracted => subtracted(width, c, d),
             Sums::Mixed => mixed(width, c, d),
+            Sums::Returned => returned(width, c, d),
         }
     }
 }

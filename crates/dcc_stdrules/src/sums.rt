@@ -12,8 +12,8 @@ use crate::same::same_binary;
 use dcc_ir::Expr;
 use std::alloc::{AllocError, Global};
 
-// The sum with one constant, where the expression is such a sum of a sum.
-fn summed(alloc: Global, sums: Sums, e: &Expr) -> Result<Option<Expr>, AllocError>
+/// The sum with one constant, where the expression is such a sum of a sum.
+pub fn summed(alloc: Global, sums: Sums, e: &Expr) -> Result<Option<Expr>, AllocError>
     ensures { IfOk result (λ answer. AnswersSums sums (expr_of e.now) (option_map expr_of answer)) }
 {
     let Expr::Bin(outer, width, left, right) = e else {

@@ -1,0 +1,3 @@
+pub mod BitLaws
+pub mod PartLaws
+pub mod HalfLaws
