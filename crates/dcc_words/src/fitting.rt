@@ -1,0 +1,142 @@
+//! Whether pairs may become words.
+
+ghost use Rattle.std.specs.Prelude.{◌≡◌, ◌⊎◌, true, map, All, Contains, IfOk};
+ghost use Rattle.std.specs.List.{list_all};
+ghost use Rattle.dcc_ir.specs.Views.{stmt_of, block_of, graph_of};
+ghost use Rattle.dcc_ir.specs.declared.syntax.Loc.{Loc as Location};
+ghost use Rattle.dcc_ir.specs.WellFormed.{IsGraph};
+ghost use Rattle.dcc_ir.specs.Joinable.{places_of};
+ghost use Rattle.dcc_ir.specs.Use.{writes_of};
+ghost use Rattle.dcc_ir.specs.Live.{is_among};
+ghost use Rattle.dcc_passes.specs.Renaming.{param_places};
+ghost use Rattle.dcc_words.specs.Words as spec;
+ghost use Rattle.dcc_words.specs.Words.{are_halves, MayBecomeWords};
+ghost use Rattle.dcc_words.specs.Roles.{role_of};
+
+use crate::roles::{Pair, Role, Roles};
+use dcc_ir::{Block, Graph, Loc, Param, Put, Stmt};
+use dcc_live::live_at_start;
+use std::alloc::{AllocError, Global};
+
+impl Roles {
+    // Whether an argument goes to no half but together with the other half of its word.
+    fn takes_whole(&self, put: Put) -> bool
+        ensures { result ≡ spec.takes_whole (role_of self.now) put }
+    {
+        match put {
+            Put::Memory => true,
+            Put::One(location) => self.role(location).is_alone(),
+            Put::Two(low, high) => match (self.role(low), self.role(high)) {
+                (Role::Alone, Role::Alone) => true,
+                (Role::Low(word), Role::High(other)) => word == other,
+                _ => false,
+            },
+        }
+    }
+
+    // Whether all arguments do so.
+    fn take_whole(&self, params: &[Param]) -> bool
+        ensures { result ≡ list_all (λ p. spec.takes_whole (role_of self.now) p.put) params.now }
+    {
+        for param in params {
+            if !self.takes_whole(param.put) {
+                return false;
+            }
+        }
+        true
+    }
+
+    // Whether no location is a half.
+    fn are_alone(&self, locations: &[Loc]) -> bool
+        ensures { result ≡ list_all (λ l. spec.is_alone (role_of self.now l)) locations.now }
+    {
+        for location in locations {
+            if !self.role(*location).is_alone() {
+                return false;
+            }
+        }
+        true
+    }
+
+    // Whether a statement writes no half but by a Set.
+    fn writes_whole(&self, stmt: &Stmt) -> bool
+        ensures { result ≡ spec.writes_whole (role_of self.now) (stmt_of stmt.now) }
+    {
+        match stmt {
+            Stmt::Set { .. } | Stmt::Store { .. } => true,
+            Stmt::Load { place, .. } | Stmt::Div { place, .. } => self.role(*place).is_alone(),
+            Stmt::Call { results, .. } => self.are_alone(results.as_slice()),
+            Stmt::Dos { place, .. } => match place {
+                Some(location) => self.role(*location).is_alone(),
+                None => true,
+            },
+        }
+    }
+
+    // Whether all statements of a block do so.
+    fn block_writes_whole(&self, stmts: &Vec<Stmt>) -> bool
+        ensures { result ≡ list_all (spec.writes_whole (role_of self.now)) (map stmt_of stmts.now.items) }
+    {
+        for stmt in stmts {
+            if !self.writes_whole(stmt) {
+                return false;
+            }
+        }
+        true
+    }
+
+    // Whether all statements of all blocks do so.
+    fn write_whole(&self, blocks: &Vec<Block>) -> bool
+        ensures { result ≡ list_all (λ b. list_all (spec.writes_whole (role_of self.now)) b.stmts) (map block_of blocks.now.items) }
+    {
+        for block in blocks {
+            if !self.block_writes_whole(&block.stmts) {
+                return false;
+            }
+        }
+        true
+    }
+
+    // Whether each of the locations stays, or takes an argument.
+    fn are_given(&self, locations: &[Loc], params: &[Param]) -> bool
+        ensures { result ≡ true → All (λ l. (spec.is_alone (role_of self.now l) ≡ true) ⊎ Contains (param_places params.now) l) locations.now }
+    {
+        for location in locations {
+            if !self.role(*location).is_alone() && !takes(params, *location) {
+                return false;
+            }
+        }
+        true
+    }
+
+    /// Whether the pairs may become words.
+    pub fn may_become_words(&self, alloc: Global, g: &Graph, pairs: &[Pair]) -> Result<bool, AllocError>
+        requires formed { IsGraph (graph_of g.now) }
+        requires halves { list_all (are_halves g.now.bits.items) pairs.now ≡ true }
+        requires roles { (l : Location) → role_of self.now l ≡ spec.role_in pairs.now g.now.bits.items l }
+        ensures { IfOk result (λ may. may ≡ true → MayBecomeWords pairs.now (graph_of g.now)) }
+    {
+        let live = live_at_start(alloc, g)?;
+        let params = g.params.as_slice();
+        Ok(self.take_whole(params)
+            && self.are_given(live.as_slice(), params)
+            && self.write_whole(&g.blocks))
+    }
+}
+
+// Whether a location takes an argument.
+fn takes(params: &[Param], location: Loc) -> bool
+    ensures { result ≡ is_among (param_places params.now) location }
+{
+    for param in params {
+        let is = match param.put {
+            Put::Memory => false,
+            Put::One(one) => location == one,
+            Put::Two(low, high) => location == low || location == high,
+        };
+        if is {
+            return true;
+        }
+    }
+    false
+}
