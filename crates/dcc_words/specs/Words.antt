@@ -1,7 +1,7 @@
 -- Graphs in which pairs of temporaries of 8 bits are words: what each of the two held is a half of the word.
-use Rattle.std.specs.Prelude.{◌≡◌, ◌≢◌, ℕ, suc, ◌==◌, Bool, true, false, ◌&&◌, ◌⊎◌, List, [], ◌∷◌, ◌++◌, length, map}
+use Rattle.std.specs.Prelude.{◌≡◌, ℕ, suc, ◌==◌, Bool, true, false, ◌&&◌, ◌||◌, List, [], ◌∷◌, ◌++◌, length, map}
 use Rattle.std.specs.Prelude.{if◌then◌else◌, Contains}
-use Rattle.std.specs.List.{AllZip, list_all}
+use Rattle.std.specs.List.{AllZip, list_all, list_any}
 use Rattle.dcc_ir.specs.declared.syntax.Loc.{Loc}
 use Rattle.dcc_ir.specs.declared.syntax.Loc.TheVariants.{Temp}
 use Rattle.dcc_ir.specs.declared.syntax.Put.{Put}
@@ -9,9 +9,10 @@ use Rattle.dcc_ir.specs.declared.syntax.Put.TheVariants.{Memory, One, Two}
 use Rattle.dcc_ir.specs.declared.syntax.Param.{Param}
 use Rattle.dcc_ir.specs.Tree.{Expr, Get, Part, Join, Stmt, Set, Block, Graph}
 use Rattle.dcc_ir.specs.Location.{same_location, location_width}
+use Rattle.dcc_ir.specs.Joinable.{places_of}
+use Rattle.dcc_ir.specs.Live.{is_among}
 use Rattle.dcc_ir.specs.Use.{reads_of, writes_of}
 use Rattle.dcc_live.specs.Start.{begins_live}
-use Rattle.dcc_passes.specs.Renaming.{param_places}
 use Rattle.dcc_words.specs.declared.roles.Pair.{Pair}
 use Rattle.dcc_words.specs.declared.roles.Role.{Role}
 use Rattle.dcc_words.specs.declared.roles.Role.TheVariants.{Alone, Low, High}
@@ -122,13 +123,17 @@ module _ (role : Loc → Role) where
 abbrev pub are_halves : List ℕ → Pair → Bool
 are_halves bits pair = (location_width bits (Temp pair.low) == 8) && (location_width bits (Temp pair.high) == 8)
 
+-- one of the params takes its argument in the location
+abbrev pub takes_argument : List Param → Loc → Bool
+takes_argument params location = list_any (λ p. is_among (places_of p.put) location) params
+
 -- The pairs may become words: the halves have 8 bits, take arguments together and are written by Sets alone; and one
 -- that is live where the graph begins takes an argument.
 pub record MayBecomeWords (pairs : List Pair) (graph : Graph) : Type 0 where
   pub halves : list_all (are_halves graph.bits) pairs ≡ true
   pub params : list_all (λ p. takes_whole (role_in pairs graph.bits) p.put) graph.params ≡ true
   pub start : (location : Loc) → begins_live graph location ≡ true
-      → (is_alone (role_in pairs graph.bits location) ≡ true) ⊎ Contains (param_places graph.params) location
+      → (is_alone (role_in pairs graph.bits location) || takes_argument graph.params location) ≡ true
   pub written : list_all (λ b. list_all (writes_whole (role_in pairs graph.bits)) b.stmts) graph.blocks ≡ true
 
 -- The second graph is the first one, with words for the pairs.

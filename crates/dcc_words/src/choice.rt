@@ -309,14 +309,14 @@ impl<'a> Choice<'a> {
         Ok(())
     }
 
-    // Tries the pairs that are copied from or to pairs that become words.
+    // Tries the pairs that are copied from or to pairs that become words; there are no more of these than temporaries.
     fn spread(&mut self, alloc: Global) -> Result<(), AllocError> {
-        let mut next = 0;
-        while next < self.pairs.len() {
-            let pair = self.pairs[next];
+        for next in 0..self.halves.len() {
+            let Some(pair) = self.pairs.get(next).copied() else {
+                break;
+            };
             self.try_copies(alloc, pair)?;
             self.try_copied(alloc, pair)?;
-            next += 1;
         }
         Ok(())
     }

@@ -1,16 +1,14 @@
 //! Whether pairs may become words.
 
-ghost use Rattle.std.specs.Prelude.{◌≡◌, ◌⊎◌, true, map, All, Contains, IfOk};
+ghost use Rattle.std.specs.Prelude.{◌≡◌, ◌||◌, true, map, IfOk};
 ghost use Rattle.std.specs.List.{list_all};
 ghost use Rattle.dcc_ir.specs.Views.{stmt_of, block_of, graph_of};
 ghost use Rattle.dcc_ir.specs.declared.syntax.Loc.{Loc as Location};
 ghost use Rattle.dcc_ir.specs.WellFormed.{IsGraph};
 ghost use Rattle.dcc_ir.specs.Joinable.{places_of};
-ghost use Rattle.dcc_ir.specs.Use.{writes_of};
 ghost use Rattle.dcc_ir.specs.Live.{is_among};
-ghost use Rattle.dcc_passes.specs.Renaming.{param_places};
 ghost use Rattle.dcc_words.specs.Words as spec;
-ghost use Rattle.dcc_words.specs.Words.{are_halves, MayBecomeWords};
+ghost use Rattle.dcc_words.specs.Words.{are_halves, takes_argument, MayBecomeWords};
 ghost use Rattle.dcc_words.specs.Roles.{role_of};
 
 use crate::roles::{Pair, Role, Roles};
@@ -99,10 +97,10 @@ impl Roles {
 
     // Whether each of the locations stays, or takes an argument.
     fn are_given(&self, locations: &[Loc], params: &[Param]) -> bool
-        ensures { result ≡ true → All (λ l. (spec.is_alone (role_of self.now l) ≡ true) ⊎ Contains (param_places params.now) l) locations.now }
+        ensures { result ≡ list_all (λ l. spec.is_alone (role_of self.now l) || takes_argument params.now l) locations.now }
     {
         for location in locations {
-            if !self.role(*location).is_alone() && !takes(params, *location) {
+            if !(self.role(*location).is_alone() || takes(params, *location)) {
                 return false;
             }
         }
@@ -124,17 +122,23 @@ impl Roles {
     }
 }
 
+// Whether a location takes an argument that goes there.
+fn put_takes(put: Put, location: Loc) -> bool
+    ensures { result ≡ is_among (places_of put) location }
+{
+    match put {
+        Put::Memory => false,
+        Put::One(one) => location == one,
+        Put::Two(low, high) => location == low || location == high,
+    }
+}
+
 // Whether a location takes an argument.
 fn takes(params: &[Param], location: Loc) -> bool
-    ensures { result ≡ is_among (param_places params.now) location }
+    ensures { result ≡ takes_argument params.now location }
 {
     for param in params {
-        let is = match param.put {
-            Put::Memory => false,
-            Put::One(one) => location == one,
-            Put::Two(low, high) => location == low || location == high,
-        };
-        if is {
+        if put_takes(param.put, location) {
             return true;
         }
     }

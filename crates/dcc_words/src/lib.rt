@@ -6,9 +6,10 @@
 
 mod choice;
 mod fitting;
+mod graph;
 mod rewriting;
 mod roles;
 mod seeds;
-mod words;
 
-pub use words::words;
+
+pub use graph::words;

@@ -360,11 +360,13 @@ impl Rewriter<'_> {
     }
 
     /// The params over words.
-    pub fn params(&self, params: &mut Vec<Param>)
-        ensures { params.new.items ≡ map (param_in_words (role_of self.now.roles.now)) params.old.items }
+    pub fn params(&self, params: Vec<Param>) -> Result<Vec<Param>, AllocError>
+        ensures { IfOk result (λ after. after.items ≡ map (param_in_words (role_of self.now.roles.now)) params.items) }
     {
-        for i in 0..params.len() {
-            params[i] = self.param(params[i]);
+        let mut after = Vec::new(self.alloc);
+        for param in params {
+            after.push(self.param(param))?;
         }
+        Ok(after)
     }
 }

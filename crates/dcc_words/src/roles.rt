@@ -1,10 +1,9 @@
 //! Which temporaries become halves of which words.
 
-ghost use Rattle.std.specs.Prelude.{◌≡◌, ◌≤◌, ◌+◌, ◌^◌, true, length, drop, IfOk, OnOk};
+ghost use Rattle.std.specs.Prelude.{◌≡◌, true, IfOk};
 ghost use Rattle.std.specs.List.{list_all};
 ghost use Rattle.dcc_ir.specs.declared.syntax.Loc.{Loc as Location};
 ghost use Rattle.dcc_words.specs.Words as spec;
-ghost use Rattle.dcc_words.specs.Words.{are_halves, role_among};
 ghost use Rattle.dcc_words.specs.Roles.{role_of};
 
 use dcc_ir::Loc;
@@ -62,7 +61,7 @@ impl Roles {
 
     /// What locations become where the temporaries have these bits and the pairs become words, each a further temporary.
     pub fn new(alloc: Global, bits: &[u8], pairs: &[Pair]) -> Result<Roles, AllocError>
-        requires { list_all (are_halves bits.now) pairs.now ≡ true }
+        requires { list_all (spec.are_halves bits.now) pairs.now ≡ true }
         ensures { IfOk result (λ roles. (location : Location) → role_of roles location ≡ spec.role_in pairs.now bits.now location) }
     {
         let mut of = vec![in alloc; Role::Alone; bits.len()]?;
@@ -78,12 +77,19 @@ impl Roles {
     }
 }
 
+// Whether both have 8 bits.
+fn are_halves(bits: &[u8], pair: Pair) -> bool
+    ensures { result ≡ spec.are_halves bits.now pair }
+{
+    Loc::Temp(pair.low).width(bits) == 8 && Loc::Temp(pair.high).width(bits) == 8
+}
+
 /// Whether all are pairs of temporaries of 8 bits.
 pub fn are_all_halves(bits: &[u8], pairs: &[Pair]) -> bool
-    ensures { result ≡ list_all (are_halves bits.now) pairs.now }
+    ensures { result ≡ list_all (spec.are_halves bits.now) pairs.now }
 {
     for pair in pairs {
-        if Loc::Temp(pair.low).width(bits) != 8 || Loc::Temp(pair.high).width(bits) != 8 {
+        if !are_halves(bits, *pair) {
             return false;
         }
     }

@@ -1,6 +1,6 @@
 //! The graph in which pairs of temporaries are words.
 
-ghost use Rattle.std.specs.Prelude.{◌≡◌, ◌≤◌, ◌+◌, IfOk};
+ghost use Rattle.std.specs.Prelude.{◌≡◌, ◌≤◌, ◌+◌, ◌++◌, map, IfOk};
 ghost use Rattle.dcc_ir.specs.Views.{graph_of};
 ghost use Rattle.dcc_ir.specs.WellFormed.{IsGraph};
 ghost use Rattle.dcc_ir.specs.Measure.{deepest};
@@ -19,11 +19,16 @@ use dcc_ir::Graph;
 use std::alloc::{AllocError, Global};
 
 // The bits of the temporaries, and of the words after them.
-fn with_words(bits: &mut Vec<u8>, count: usize) -> Result<(), AllocError> {
-    for _ in 0..count {
-        bits.push(16)?;
+fn with_words(alloc: Global, bits: Vec<u8>, pairs: &[Pair]) -> Result<Vec<u8>, AllocError>
+    ensures { IfOk result (λ after. after.items ≡ bits.items ++ map (λ pair. 16) pairs.now) }
+{
+    let mut words = Vec::new(alloc);
+    for _ in pairs {
+        words.push(16)?;
     }
-    Ok(())
+    let mut after = bits;
+    after.extend_from_slice(words.as_slice())?;
+    Ok(after)
 }
 
 // The graph with words for pairs that may become words.
@@ -33,10 +38,8 @@ fn rewritten(alloc: Global, g: Graph, roles: &Roles, pairs: &[Pair]) -> Result<G
 {
     let by = Rewriter { alloc, roles };
     let blocks = by.blocks(g.blocks)?;
-    let mut params = g.params;
-    by.params(&mut params);
-    let mut bits = g.bits;
-    with_words(&mut bits, pairs.len())?;
+    let params = by.params(g.params)?;
+    let bits = with_words(alloc, g.bits, pairs)?;
     Ok(Graph {
         blocks,
         params,
