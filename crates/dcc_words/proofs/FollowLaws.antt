@@ -9,6 +9,8 @@ use Rattle.std.proofs.lemmas.List.Elements.{All-contains, All-append, Contains-a
 use Rattle.std.proofs.lemmas.Option.{get_or_from_slice_get}
 use Rattle.dcc_ir.specs.declared.syntax.Loc.{Loc}
 use Rattle.dcc_ir.specs.declared.syntax.Loc.TheVariants.{Temp}
+use Rattle.dcc_ir.specs.declared.syntax.Put.{Put}
+use Rattle.dcc_ir.specs.declared.syntax.Put.TheVariants.{Memory, One, Two}
 use Rattle.dcc_ir.specs.declared.syntax.Param.{Param}
 use Rattle.dcc_ir.specs.Joinable.{places_of}
 use Rattle.dcc_ir.specs.Tree.{Expr, Const, Get, Load, Unary, Binary, Widen, Part, Join, Choose, Address, Stmt, Set, Fetch, Store, Div, Call, Dos, Exit, Goto, If, Switch, Ret, Stop, Block, Graph}
@@ -30,16 +32,16 @@ use Rattle.dcc_ir.proofs.ListLaws.{all_had}
 use Rattle.dcc_ir.proofs.ReachedLaws.{contained, all_at}
 use Rattle.dcc_flow.proofs.FormedExprs.{reads_placed}
 use Rattle.dcc_passes.specs.OneGraph.{BeginsIn}
-use Rattle.dcc_passes.specs.Following.{Link, TakeAlike, takes_key, DoAlike, EndsAlike, RunAlike, IsFollowedBy, done as followed, both as step, calls, joins, IsFollowedByBlock, linked, IsFollowedByGraph}
+use Rattle.dcc_passes.specs.Following.{Link, Bond, TakeAlike, takes_key, DoAlike, EndsAlike, RunAlike, IsFollowedBy, done as followed, both as step, calls, joins, IsFollowedByBlock, linked, IsFollowedByGraph}
 use Rattle.dcc_passes.specs.Renaming.{param_places}
 use Rattle.dcc_live.specs.Start.{begins_live}
 use Rattle.dcc_words.specs.declared.roles.Pair.{Pair}
 use Rattle.dcc_words.specs.declared.roles.Role.{Role}
 use Rattle.dcc_words.specs.declared.roles.Role.TheVariants.{Alone, Low, High}
 use Rattle.dcc_words.specs.Reading.{read_by, stmt_read_by, exit_read_by}
-use Rattle.dcc_words.specs.Words.{role_in, is_alone, half_of, set_word, reading_as, reading, in_words, set_as, stmt_in_words, IsSetOfBoth, lower_first, upper_first, AreInWords, done, each, both, IsBlockInWords, param_in_words, takes_whole, writes_whole, takes_argument}
+use Rattle.dcc_words.specs.Words.{role_in, is_alone, half_of, set_word, reading_as, reading, in_words, set_as, stmt_in_words, IsSetOfBoth, lower_first, upper_first, AreInWords, done, each, both, IsBlockInWords, param_in_words, takes_whole, writes_whole, goes_to, takes_argument}
 use Rattle.dcc_words.proofs.RoleLaws.{IsWord, AreRoles}
-use Rattle.dcc_words.proofs.HeldLaws.{held, reading-held, alone-is, low-part, high-part, taken-here, taken-other, put-alone, put-low, put-high, put-both, given-held, passing-held, passing-outside}
+use Rattle.dcc_words.proofs.HeldLaws.{held, reading-held, alone-is, low-part, high-part, taken-here, taken-other, put-alone, put-low, put-high, put-both, low-not-high, given-held, passing-held, passing-outside}
 use Rattle.dcc_words.proofs.ReadLaws.{IsPlain, ReadsSame, value-read, values-read, division-read}
 use Rattle.dcc_words.proofs.StmtLaws.{reading-plain, reading-wide, expr-formed, expr-wide}
 
@@ -50,11 +52,19 @@ or-cases false b is = inr is
 both_read : (P : Loc → Type 0) (xs ys : List Expr) → All P (flat_map got_by xs) → All P (flat_map got_by ys) → All P (flat_map got_by (xs ++ ys))
 both_read P xs ys p q = subst (All P) (sym (flat_map-append got_by xs ys)) (All-append P (flat_map got_by xs) (flat_map got_by ys) p q)
 
+goes-among : (l : Loc) (put : Put) → goes_to l put ≡ true → is_among (places_of put) l ≡ true
+goes-among l Memory is = is
+goes-among l (One place) is = ap (λ b. b || false) is
+goes-among l (Two low high) is = elim (or-cases (same_location l low) (same_location l high) is) [
+  | inl here ↦ ap (λ b. b || (same_location l high || false)) here
+  | inr there ↦ or_there (same_location l low) (same_location l high || false) (ap (λ b. b || false) there)
+]
+
 -- what takes an argument is among what does
 takes-contains : (params : List Param) (l : Loc) → takes_argument params l ≡ true → Contains (param_places params) l
 takes-contains [] l is = absurd (true≢false (sym is))
-takes-contains (p ∷ params) l is = elim (or-cases (is_among (places_of p.put) l) (takes_argument params l) is) [
-  | inl here ↦ Contains-append_left (places_of p.put) (param_places params) l (among_contains (places_of p.put) l here)
+takes-contains (p ∷ params) l is = elim (or-cases (goes_to l p.put) (takes_argument params l) is) [
+  | inl here ↦ Contains-append_left (places_of p.put) (param_places params) l (among_contains (places_of p.put) l (goes-among l p.put here))
   | inr later ↦ Contains-append_right (places_of p.put) (param_places params) l (takes-contains params l later)
 ]
 
@@ -199,7 +209,7 @@ module _ (before after : Graph) (role : Loc → Role) (are : AreRoles before.bit
         (values-same rest s t h es p.1 (λ l c. lives l (Contains-append_right (reads_of e) (flat_map reads_of es) l c)))
 
     -- the value of an expression over words fits the width that it had
-    value-less : (Holds : _) (s t : State) → RunAlike before after Holds s t → (e : Expr) (width : ℕ) → is_expr_of before.bits width e ≡ true
+    value-less : (Holds : Bond) (s t : State) → RunAlike before after Holds s t → (e : Expr) (width : ℕ) → is_expr_of before.bits width e ≡ true
         → value_in t (in_words role e) < 2 ^ width
     value-less Holds s t h e width formed =
         let p = and_parts (is_expr before.bits e) (width_of before.bits e == width) formed in
@@ -281,7 +291,7 @@ module _ (before after : Graph) (role : Loc → Role) (are : AreRoles before.bit
       first-value : value_in t (in_words role e) ≡ value_in s e
       first-value = value-one (Set x e) (Set y f ∷ rest) s t h e refl (and_parts (is_expr before.bits e) (width_of before.bits e == 8) expr-of).0
 
-      between : State
+      abbrev between : State
       between = record s { running = record s.running { values = with_value s.running.values x (value_in s e) } }
 
       -- the second value doesn't hang on what the first one is
@@ -311,7 +321,7 @@ module _ (before after : Graph) (role : Loc → Role) (are : AreRoles before.bit
           ap (λ (k : Graph). width_of k.bits (in_words role g)) h.second ∙ expr-wide before.bits after.bits role are g q.0
           ∙ eqb-true (width_of before.bits g) 8 q.1
 
-      both-taken : Values
+      abbrev both-taken : Values
       both-taken = with_value (with_value s.running.values x (value_in s e)) y (value_in between f)
 
       neither : (l : Loc) → Here l → Lives rest l → (l ≡ x → ⊥) → (l ≡ y → ⊥)
@@ -332,7 +342,7 @@ module _ (before after : Graph) (role : Loc → Role) (are : AreRoles before.bit
       lower-joined word is is' l at lives =
           let E = value_in t (in_words role e) in
           let F = value_in t (in_words role f) in
-          let differ = λ (same : x ≡ y). (let a = sym is ∙ ap role same ∙ is' in absurd (cc)) in
+          let differ = λ (same : x ≡ y). low-not-high before.bits after.bits role are x y word word is is' same in
           ap (λ w. held (role l) (with_value t.running.values (Temp word) (F * 2 ^ w + E)) l) (low-width e expr-of)
           ∙ put-both before.bits after.bits role are x y word 0 (F * 2 ^ 8 + E) s.running.values t.running.values both-taken is is'
           (low-part F E first-small ∙ first-value ∙ sym (at-x differ)) (high-part F E second-small first-small ∙ second-value ∙ sym at-y) l at
@@ -343,7 +353,7 @@ module _ (before after : Graph) (role : Loc → Role) (are : AreRoles before.bit
       upper-joined word is is' l at lives =
           let E = value_in t (in_words role e) in
           let F = value_in t (in_words role f) in
-          let differ = λ (same : x ≡ y). (let a = sym is' ∙ ap role same ∙ is in absurd (cc)) in
+          let differ = λ (same : x ≡ y). low-not-high before.bits after.bits role are y x word word is is' (sym same) in
           ap (λ w. held (role l) (with_value t.running.values (Temp word) (E * 2 ^ w + F)) l) (low-width f expr-of')
           ∙ put-both before.bits after.bits role are y x word 0 (E * 2 ^ 8 + F) s.running.values t.running.values both-taken is is'
           (low-part E F second-small ∙ second-value ∙ sym at-y) (high-part E F first-small second-small ∙ first-value ∙ sym (at-x differ)) l at

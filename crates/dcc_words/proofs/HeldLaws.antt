@@ -48,10 +48,10 @@ high-part h l less less' = omega (arith, less, less')
 part-less : (n : ℕ) → n % 2 ^ 8 < 2 ^ 8
 part-less n = omega arith
 
-taken-here : (v : Values) (x : Loc) (n : ℕ) (l : Loc) → l ≡ x → with_value v x n l ≡ n
+pub taken-here : (v : Values) (x : Loc) (n : ℕ) (l : Loc) → l ≡ x → with_value v x n l ≡ n
 taken-here v x n l same = ap (λ b. if b then n else v l) (subst (λ y. same_location l y ≡ true) same (location_itself l))
 
-taken-other : (v : Values) (x : Loc) (n : ℕ) (l : Loc) → (l ≡ x → ⊥) → with_value v x n l ≡ v l
+pub taken-other : (v : Values) (x : Loc) (n : ℕ) (l : Loc) → (l ≡ x → ⊥) → with_value v x n l ≡ v l
 taken-other v x n l other = elim (decided (same_location l x)) [
   | inl t ↦ absurd (other (location_same l x t))
   | inr f ↦ ap (λ b. if b then n else v l) f
@@ -81,6 +81,24 @@ module _ (bits bits' : List ℕ) (role : Loc → Role) (are : AreRoles bits bits
   other-word : (l x : Loc) (word : ℕ) → IsWord bits bits' word → Here x → Temp word ≡ x → ⊥
   other-word l x word is here same = is.fresh x here (sym same)
 
+  alone-not-low : (l : Loc) (w : ℕ) → role l ≡ Alone → role l ≡ Low w → ⊥
+  alone-not-low l w h k = let same = sym h ∙ k in absurd (cc)
+
+  alone-not-high : (l : Loc) (w : ℕ) → role l ≡ Alone → role l ≡ High w → ⊥
+  alone-not-high l w h k = let same = sym h ∙ k in absurd (cc)
+
+  pub low-not-high : (l m : Loc) (w w' : ℕ) → role l ≡ Low w → role m ≡ High w' → l ≡ m → ⊥
+  low-not-high l m w w' h k is = let same = sym h ∙ ap role is ∙ k in absurd (cc)
+
+  low-same : (l : Loc) (w w' : ℕ) → role l ≡ Low w → role l ≡ Low w' → w ≡ w'
+  low-same l w w' h k = let same = sym h ∙ k in cc
+
+  high-same : (l : Loc) (w w' : ℕ) → role l ≡ High w → role l ≡ High w' → w ≡ w'
+  high-same l w w' h k = let same = sym h ∙ k in cc
+
+  temp-same : (w w' : ℕ) → Temp w ≡ Temp w' → w ≡ w'
+  temp-same w w' same = cc
+
   -- after one that is no half has taken a value
   pub put-alone : (x : Loc) (n n' : ℕ) (v v' : Values) → role x ≡ Alone → Here x → n' ≡ n → (l : Loc) → Here l
       → ((l ≡ x → ⊥) → held (role l) v' l ≡ v l) → held (role l) (with_value v' x n') l ≡ with_value v x n l
@@ -102,28 +120,28 @@ module _ (bits bits' : List ℕ) (role : Loc → Role) (are : AreRoles bits bits
       → (role l ≡ Low word → n / 2 ^ 0 % 2 ^ 8 ≡ u l) → (role l ≡ High word → n / 2 ^ 8 % 2 ^ 8 ≡ u l)
       → ((role l ≡ Low word → ⊥) → (role l ≡ High word → ⊥) → held (role l) v' l ≡ u l)
       → held (role l) (with_value v' (Temp word) n) l ≡ u l
-  put-word word n v' is u l here low high else = go (role l) refl
+  put-word word n v' is u l here low high others = go (role l) refl
     where
       go : (r : Role) → role l ≡ r → held (role l) (with_value v' (Temp word) n) l ≡ u l
       go Alone is' =
           ap (λ r. held r (with_value v' (Temp word) n) l) is' ∙ taken-other v' (Temp word) n l (is.fresh l here)
-          ∙ sym (ap (λ r. held r v' l) is') ∙ else (λ e. absurd (let a = is' in cc)) (λ e. absurd (let a = is' in cc))
+          ∙ sym (ap (λ r. held r v' l) is') ∙ others (λ e. alone-not-low l word is' e) (λ e. alone-not-high l word is' e)
       go (Low w) is' = same-number w word _
           (λ same.
           ap (λ r. held r (with_value v' (Temp word) n) l) is' ∙ ap (λ m. m / 2 ^ 0 % 2 ^ 8) (taken-here v' (Temp word) n (Temp w) (ap Temp same))
           ∙ low (is' ∙ ap Low same))
           (λ other.
           ap (λ r. held r (with_value v' (Temp word) n) l) is'
-          ∙ ap (λ m. m / 2 ^ 0 % 2 ^ 8) (taken-other v' (Temp word) n (Temp w) (λ e. other (let a = e in cc)))
-          ∙ sym (ap (λ r. held r v' l) is') ∙ else (λ e. other (let a = is' in let b = e in cc)) (λ e. absurd (let a = is' in cc)))
+          ∙ ap (λ m. m / 2 ^ 0 % 2 ^ 8) (taken-other v' (Temp word) n (Temp w) (λ e. other (temp-same w word e)))
+          ∙ sym (ap (λ r. held r v' l) is') ∙ others (λ e. other (low-same l w word is' e)) (λ e. low-not-high l l w word is' e refl))
       go (High w) is' = same-number w word _
           (λ same.
           ap (λ r. held r (with_value v' (Temp word) n) l) is' ∙ ap (λ m. m / 2 ^ 8 % 2 ^ 8) (taken-here v' (Temp word) n (Temp w) (ap Temp same))
           ∙ high (is' ∙ ap High same))
           (λ other.
           ap (λ r. held r (with_value v' (Temp word) n) l) is'
-          ∙ ap (λ m. m / 2 ^ 8 % 2 ^ 8) (taken-other v' (Temp word) n (Temp w) (λ e. other (let a = e in cc)))
-          ∙ sym (ap (λ r. held r v' l) is') ∙ else (λ e. absurd (let a = is' in cc)) (λ e. other (let a = is' in let b = e in cc)))
+          ∙ ap (λ m. m / 2 ^ 8 % 2 ^ 8) (taken-other v' (Temp word) n (Temp w) (λ e. other (temp-same w word e)))
+          ∙ sym (ap (λ r. held r v' l) is') ∙ others (λ e. low-not-high l l word w e is' refl) (λ e. other (high-same l w word is' e)))
 
   -- after the lower half of a word has taken a value, where the upper one stays
   pub put-low : (x : Loc) (word n : ℕ) (v v' : Values) → role x ≡ Low word → n < 2 ^ 8 → (l : Loc) → Here l
@@ -135,7 +153,7 @@ module _ (bits bits' : List ℕ) (role : Loc → Role) (are : AreRoles bits bits
       put-word word (h * 2 ^ 8 + n) v' (are.low_word x word is) (with_value v x n) l here
       (λ low. low-part h n less ∙ sym (taken-here v x n l (are.low_one l x word low is)))
       (λ high.
-      let other = λ (same : l ≡ x). (let a = sym high ∙ ap role same ∙ is in absurd (cc)) in
+      let other = λ (same : l ≡ x). low-not-high x l word word is high (sym same) in
       high-part h n small less ∙ sym (ap (λ r. held r v' l) high) ∙ holds other ∙ sym (taken-other v x n l other))
       (λ none none'. let other = λ (same : l ≡ x). none (ap role same ∙ is) in holds other ∙ sym (taken-other v x n l other))
 
@@ -148,7 +166,7 @@ module _ (bits bits' : List ℕ) (role : Loc → Role) (are : AreRoles bits bits
       let small = part-less (v' (Temp word) / 2 ^ 0) in
       put-word word (n * 2 ^ 8 + m) v' (are.high_word x word is) (with_value v x n) l here
       (λ low.
-      let other = λ (same : l ≡ x). (let a = sym low ∙ ap role same ∙ is in absurd (cc)) in
+      let other = λ (same : l ≡ x). low-not-high l x word word low is same in
       low-part n m small ∙ sym (ap (λ r. held r v' l) low) ∙ holds other ∙ sym (taken-other v x n l other))
       (λ high. high-part n m less small ∙ sym (taken-here v x n l (are.high_one l x word high is)))
       (λ none none'. let other = λ (same : l ≡ x). none' (ap role same ∙ is) in holds other ∙ sym (taken-other v x n l other))
@@ -220,8 +238,8 @@ module _ (bits bits' : List ℕ) (role : Loc → Role) (are : AreRoles bits bits
       (put-both low high word 0 n v v' (with_value (with_value v low (n % 256)) high (n / 256)) a b
       (low-taken word a b) (high-taken word a b) l here
       (λ other-low other-high. (
-      holds (out other-low other-high),
-      taken-other (with_value v low (n % 256)) high (n / 256) l other-high ∙ taken-other v low (n % 256) l other-low,
+        holds (out other-low other-high),
+        taken-other (with_value v low (n % 256)) high (n / 256) l other-high ∙ taken-other v low (n % 256) l other-low,
       ))))
     where
       v : Values
@@ -242,7 +260,7 @@ module _ (bits bits' : List ℕ) (role : Loc → Role) (are : AreRoles bits bits
           (λ d. Contains-cases high [] l ⊥ (λ same. other-high (sym same)) (Contains-none l) d) c
 
       differ : (word : ℕ) → role low ≡ Low word → role high ≡ High word → low ≡ high → ⊥
-      differ word a b same = let d = sym a ∙ ap role same ∙ b in absurd (cc)
+      differ word a b same = low-not-high low high word word a b same
 
       low-taken : (word : ℕ) → role low ≡ Low word → role high ≡ High word
           → n / 2 ^ 0 % 2 ^ 8 ≡ with_value (with_value v low (n % 256)) high (n / 256) low

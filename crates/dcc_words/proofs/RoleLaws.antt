@@ -1,10 +1,11 @@
 -- What locations become where pairs become words: halves have 8 bits and words 16, each word has one half of either kind,
 -- and no word is a location of the graph.
-use Rattle.std.proofs.Common.{◌≡◌, ◌≢◌, ℕ, zero, suc, ◌+◌, ◌<◌, ◌≤◌, Bool, true, false, ◌&&◌, not, List, [], ◌∷◌, ◌++◌, length, map, get_or, slice_get, slice_set, inl, inr, Some, refl, sym, ap, ◌∙◌, subst, true≢false, nat_lt, arith, eqb-true}
+use Rattle.std.proofs.Common.{◌≡◌, ◌≢◌, ℕ, zero, suc, ◌+◌, ◌<◌, ◌≤◌, Bool, true, false, ◌&&◌, not, List, [], ◌∷◌, ◌++◌, length, map, get_or, slice_get, slice_set, drop, ◌-◌, inl, inr, Some, refl, sym, ap, ◌∙◌, subst, true≢false, nat_lt, arith, eqb-true}
 use Rattle.std.specs.Prelude.{if◌then◌else◌, ◌==◌}
 use Rattle.std.specs.List.{list_all}
 use Rattle.std.proofs.lemmas.Bool.{and_parts, and_from}
 use Rattle.std.proofs.lemmas.List.{get_or_append_left, get_or-append-add, length-append, get_or-set_same, get_or-set_other, length-set}
+use Rattle.std.proofs.Math.Seq.{drop-cons}
 use Rattle.std.proofs.lemmas.Option.{slice_get_within, get_or_from_slice_get}
 use Rattle.dcc_ir.specs.declared.syntax.Loc.{Loc}
 use Rattle.dcc_ir.specs.declared.syntax.Loc.TheVariants.{Half, Flag, Cell, Temp}
@@ -178,15 +179,21 @@ module _ (bits : List ℕ) (pairs : List Pair) (halves : list_all (are_halves bi
     width_stays = width-stays bits pairs;
   }
 
+-- within the list the default plays no part
+get_or-default : {A : Type 0} (xs : List A) (k : ℕ) (d e : A) → k < length xs → get_or xs k e ≡ get_or xs k d
+get_or-default [] k d e less = absurd (omega (arith, less))
+get_or-default (x ∷ xs) zero d e less = refl
+get_or-default (x ∷ xs) (suc k) d e less = get_or-default xs k d e (omega (arith, less))
+
 -- How code keeps roles: those of one pair more.
 
 set-here : (of : List Role) (n m : ℕ) (role : Role) → n < length of → get_or (slice_set of n role) m Alone ≡ (if m == n then role else get_or of m Alone)
 set-here of n m role inside = elim (decided (m == n)) [
   | inl t ↦
-    let same = eqb-true m n t in
-    ap (λ k. get_or (slice_set of n role) k Alone) same ∙ get_or-set_same of n role Alone inside ∙ sym (ap (λ b. if b then role else get_or of m Alone) t)
+      let same = eqb-true m n t in
+      ap (λ k. get_or (slice_set of n role) k Alone) same ∙ get_or-set_same of n role Alone inside ∙ sym (ap (λ b. if b then role else get_or of m Alone) t)
   | inr f ↦
-    get_or-set_other of n m role Alone (λ same. true≢false (sym (ap (λ k. k == n) same ∙ itself n) ∙ f)) ∙ sym (ap (λ b. if b then role else get_or of m Alone) f)
+      get_or-set_other of n m role Alone (λ same. true≢false (sym (ap (λ k. k == n) same ∙ itself n) ∙ f)) ∙ sym (ap (λ b. if b then role else get_or of m Alone) f)
 ]
   where
     itself : (n : ℕ) → (n == n) ≡ true
@@ -227,3 +234,34 @@ half-below bits n wide = elim (decided (nat_lt n (length bits))) [
 
     no : get_or bits n 0 ≡ 0 → ⊥
     no zero_is = absurd (omega (arith, zero_is, wide))
+
+-- the roles of one pair more, from the last of the list on
+pub roles-step : (bits : List ℕ) (pairs : List Pair) (of : List Role) (k : ℕ) (d : Pair) (word : ℕ) → list_all (are_halves bits) pairs ≡ true → length of ≡ length bits
+    → 0 < k → k ≤ length pairs → word ≡ length bits + (k - 1) → ((l : Loc) → role_at of l ≡ role_among (drop k pairs) (length bits + k) l) → (l : Loc)
+    → role_at (slice_set (slice_set of (get_or pairs (k - 1) d).high (High word)) (get_or pairs (k - 1) d).low (Low word)) l
+    ≡ role_among (drop (k - 1) pairs) (length bits + (k - 1)) l
+roles-step bits pairs of k d word halves count some inside is are l =
+    role-step of pair (drop k pairs) word (omega (arith, count, half-below bits pair.low (eqb-true (location_width bits (Temp pair.low)) 8 p.0)))
+    (omega (arith, count, half-below bits pair.high (eqb-true (location_width bits (Temp pair.high)) 8 p.1)))
+    (λ x. are x ∙ ap (λ n. role_among (drop k pairs) n x) next) l
+    ∙ ap (λ n. role_among (pair ∷ drop k pairs) n l) is ∙ ap (λ ps. role_among ps (length bits + (k - 1)) l) (sym front)
+  where
+    pair : Pair
+    pair = get_or pairs (k - 1) d
+
+    less : k - 1 < length pairs
+    less = omega (arith, some, inside)
+
+    p : ((location_width bits (Temp pair.low) == 8) ≡ true) × ((location_width bits (Temp pair.high) == 8) ≡ true)
+    p =
+        and_parts (location_width bits (Temp pair.low) == 8) (location_width bits (Temp pair.high) == 8)
+        (all_at (are_halves bits) pairs pair halves (k - 1, less, get_or-default pairs (k - 1) d pair less))
+
+    next : length bits + k ≡ suc word
+    next = omega (arith, is, some)
+
+    one : suc (k - 1) ≡ k
+    one = omega (arith, some)
+
+    front : drop (k - 1) pairs ≡ pair ∷ drop k pairs
+    front = drop-cons pairs (k - 1) d less ∙ ap (λ n. pair ∷ drop n pairs) one

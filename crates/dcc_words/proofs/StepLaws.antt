@@ -60,6 +60,8 @@ module _ (role : Loc → Role) (all : List Stmt) (rest fewer left : List Stateme
         subst (AreInWords role (first ∷ stmt_of stmt ∷ w.0)) (ap (λ s. s ∷ map stmt_of (reverse after)) (sym is-new) ∙ sym shown) (both set w.2),
       )
 
+-- where the last statement is written, fewer are left
+module _ (role : Loc → Role) (rest fewer left : List Statement) (stmt new : Statement) where
   pub fewer-left : rest ≡ fewer ++ stmt ∷ [] → IsLastOf role (map stmt_of fewer) (stmt_of stmt) (map stmt_of left) (stmt_of new) → length left < length rest
   fewer-left is last = go (map stmt_of left) (stmt_of new) refl last
     where
@@ -86,8 +88,8 @@ zip-pushed f R xs ys x y more made zipped is =
     (AllZip-push R (map f xs) (map f ys) (f x) (f y) zipped is))
 
 -- what isn't among the locations isn't one of them
-pub not-among : (ls : List Loc) (l : Loc) (b : Bool) → b ≡ is_among ls l → b ≡ false → Contains ls l → ⊥
-not-among ls l b is none c = true≢false (sym (contains_among ls l c) ∙ sym is ∙ none)
+pub not-among : (ls : List Loc) (l : Loc) → is_among ls l ≡ false → Contains ls l → ⊥
+not-among ls l none c = true≢false (sym (contains_among ls l c) ∙ none)
 
 -- What the tests tell.
 

@@ -10,6 +10,7 @@ use Rattle.std.proofs.lemmas.List.Elements.{All-nil, All-cons, All-head, All-tai
 use Rattle.std.proofs.lemmas.List.Folds.{list_all-append}
 use Rattle.dcc_ir.proofs.PathLaws.{decided}
 use Rattle.dcc_flow.proofs.FormedExprs.{make_join}
+use Rattle.dcc_ir.specs.declared.syntax.BinOp.{BinOp}
 use Rattle.dcc_ir.specs.declared.syntax.Loc.{Loc}
 use Rattle.dcc_ir.specs.declared.syntax.Loc.TheVariants.{Temp}
 use Rattle.dcc_ir.specs.Tree.{Expr, Const, Get, Load, Unary, Binary, Widen, Part, Join, Choose, Address, Stmt, Set, Fetch, Store, Div, Call, Dos, Exit, Ret, Goto, If, Switch, Stop, Block}
@@ -21,7 +22,7 @@ use Rattle.dcc_ir.specs.Flow.{targets}
 use Rattle.dcc_ir.specs.Run.{is_call}
 use Rattle.dcc_ir.specs.WellFormed.{is_location, is_width, is_stored_width, divides_safely, is_expr, is_expr_of, is_dividing, is_byte_place, is_dos, is_stmt, is_exit, is_block, is_jump, jumps_after_call, ret_widths}
 use Rattle.dcc_flow.specs.Mentions.{stmt_mentions, block_mentions}
-use Rattle.dcc_passes.specs.Kinds.{call_kinds, BlockStaysInKind}
+use Rattle.dcc_passes.specs.Kinds.{CallKind, call_kinds, BlockStaysInKind}
 use Rattle.dcc_webs.specs.Temporaries.{is_temp}
 use Rattle.dcc_words.specs.declared.roles.Role.{Role}
 use Rattle.dcc_words.specs.declared.roles.Role.TheVariants.{Alone, Low, High}
@@ -39,7 +40,7 @@ reading-plain role = record {
   divided = λ scene l. divided (role l) scene l;
 }
   where
-    safe : (r : Role) → (operator : _) (width : ℕ) (l : Loc) → divides_safely operator width (reading_as r l) ≡ false
+    safe : (r : Role) → (operator : BinOp) (width : ℕ) (l : Loc) → divides_safely operator width (reading_as r l) ≡ false
     safe Alone operator width l = refl
     safe (Low word) operator width l = refl
     safe (High word) operator width l = refl
@@ -463,10 +464,10 @@ module _ (bits bits' : List ℕ) (role : Loc → Role) (are : AreRoles bits bits
   stmts-formed stmts news (each {stmt = stmt} {rest = rest} {rest' = rest'} w) is =
       let p = and_parts (is_stmt bits stmt) (list_all (is_stmt bits) rest) is in
       and_from (is_stmt bits' (stmt_in_words role stmt)) (list_all (is_stmt bits') rest') (stmt-formed stmt p.0) (stmts-formed rest rest' w p.1)
-  stmts-formed stmts news (both {stmt = stmt} {next = next} {new = new} {rest = rest} {rest' = rest'} both w) is =
+  stmts-formed stmts news (both {stmt = stmt} {next = next} {new = new} {rest = rest} {rest' = rest'} set w) is =
       let p = and_parts (is_stmt bits stmt) (list_all (is_stmt bits) (next ∷ rest)) is in
       let q = and_parts (is_stmt bits next) (list_all (is_stmt bits) rest) p.1 in
-      and_from (is_stmt bits' new) (list_all (is_stmt bits') rest') (both-formed stmt next new both p.0 q.0) (stmts-formed rest rest' w q.1)
+      and_from (is_stmt bits' new) (list_all (is_stmt bits') rest') (both-formed stmt next new set p.0 q.0) (stmts-formed rest rest' w q.1)
 
   pub blocks-formed : (count : ℕ) (blocks news : List Block) → AllZip (IsBlockInWords role) blocks news → list_all (is_block bits count) blocks ≡ true → list_all (is_block bits' count) news ≡ true
   blocks-formed count [] [] all is = refl
@@ -499,7 +500,7 @@ module _ (bits bits' : List ℕ) (role : Loc → Role) (are : AreRoles bits bits
   stmt-kinds (Div x e) is = refl
   stmt-kinds (Dos number place argument) is = refl
 
-  both-kinds : (stmt next new : Stmt) → IsSetOfBoth role stmt next new → (ks : List _) → call_kinds bits' new ++ ks ≡ call_kinds bits stmt ++ (call_kinds bits next ++ ks)
+  both-kinds : (stmt next new : Stmt) → IsSetOfBoth role stmt next new → (ks : List CallKind) → call_kinds bits' new ++ ks ≡ call_kinds bits stmt ++ (call_kinds bits next ++ ks)
   both-kinds stmt next new (lower_first is is' unread) ks = refl
   both-kinds stmt next new (upper_first is is' unread) ks = refl
 
@@ -508,10 +509,10 @@ module _ (bits bits' : List ℕ) (role : Loc → Role) (are : AreRoles bits bits
   stmts-kinds stmts news (each {stmt = stmt} {rest = rest} {rest' = rest'} w) is =
       let p = and_parts (is_stmt bits stmt) (list_all (is_stmt bits) rest) is in
       ap₂ (λ xs ys. xs ++ ys) (stmt-kinds stmt p.0) (stmts-kinds rest rest' w p.1)
-  stmts-kinds stmts news (both {stmt = stmt} {next = next} {new = new} {rest = rest} {rest' = rest'} both w) is =
+  stmts-kinds stmts news (both {stmt = stmt} {next = next} {new = new} {rest = rest} {rest' = rest'} set w) is =
       let p = and_parts (is_stmt bits stmt) (list_all (is_stmt bits) (next ∷ rest)) is in
       let q = and_parts (is_stmt bits next) (list_all (is_stmt bits) rest) p.1 in
-      ap (λ ks. call_kinds bits' new ++ ks) (stmts-kinds rest rest' w q.1) ∙ both-kinds stmt next new both (flat_map (call_kinds bits) rest)
+      ap (λ ks. call_kinds bits' new ++ ks) (stmts-kinds rest rest' w q.1) ∙ both-kinds stmt next new set (flat_map (call_kinds bits) rest)
 
   rets-wide : (count : ℕ) (exit : Exit) → is_exit bits count exit ≡ true → ret_widths bits' (exit_read_by (reading role) exit) ≡ ret_widths bits exit
   rets-wide count (Ret values) is = ap (λ ns. ns ∷ []) (exprs-wide values is)

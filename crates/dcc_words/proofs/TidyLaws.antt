@@ -53,13 +53,13 @@ module _ (bits bits' : List ℕ) (role : Loc → Role) (are : AreRoles bits bits
       whole-cases bits bits' role are low high (Fine (put_as (role low) low high)) whole
       (λ a b.
       subst (λ r. Fine (put_as r low high)) (sym a) (
-      and_from (is_location bits' low && is_location bits' high && (location_width bits' low == 8)) (location_width bits' high == 8)
-      (and_from (is_location bits' low && is_location bits' high) (location_width bits' low == 8)
-      (and_from (is_location bits' low) (is_location bits' high) (are.stays low r.0) (are.stays high r.1))
-      (ap (λ n. n == 8) (are.width_stays low r.0) ∙ q.1))
-      (ap (λ n. n == 8) (are.width_stays high r.1) ∙ p.1),
-      refl,
-      refl,
+        and_from (is_location bits' low && is_location bits' high && (location_width bits' low == 8)) (location_width bits' high == 8)
+            (and_from (is_location bits' low && is_location bits' high) (location_width bits' low == 8)
+            (and_from (is_location bits' low) (is_location bits' high) (are.stays low r.0) (are.stays high r.1))
+            (ap (λ n. n == 8) (are.width_stays low r.0) ∙ q.1))
+            (ap (λ n. n == 8) (are.width_stays high r.1) ∙ p.1),
+        refl,
+        refl,
       ))
       (λ word a b. subst (λ r. Fine (put_as r low high)) (sym a) ((are.low_word low word a).placed, (are.low_word low word a).wide, refl))
 
@@ -82,7 +82,7 @@ module _ (bits bits' : List ℕ) (role : Loc → Role) (are : AreRoles bits bits
       ap₂ (λ k ks. k ∷ ks) (ap₂ (λ m n. record { stack = p.stack; memory = m; width = n }) fine.2 fine.1) (params-kinds params w.1 f.1)
 
   -- where what a location takes goes: the lower half's goes to the word
-  went : Role → Loc → Loc
+  abbrev went : Role → Loc → Loc
   went (Low word) l = Temp word
   went Alone l = l
   went (High word) l = l
@@ -91,11 +91,9 @@ module _ (bits bits' : List ℕ) (role : Loc → Role) (are : AreRoles bits bits
   Here l = is_location bits l ≡ true
 
   went-apart : (l m : Loc) → Here l → Here m → went (role l) l ≡ went (role m) m → l ≡ m
-  unfolding went
   went-apart l m here here' same = go (role l) (role m) refl refl same
     where
       go : (a b : Role) → role l ≡ a → role m ≡ b → went a l ≡ went b m → l ≡ m
-      unfolding went
       go (Low w) (Low w') h k same = let e : w ≡ w' = cc in are.low_one l m w' (h ∙ ap Low e) k
       go (Low w) Alone h k same = absurd ((are.low_word l w h).fresh m here' (sym same))
       go (Low w) (High w') h k same = absurd ((are.low_word l w h).fresh m here' (sym same))
@@ -120,7 +118,6 @@ module _ (bits bits' : List ℕ) (role : Loc → Role) (are : AreRoles bits bits
   first-took xs ys x t = record { from = t.from; among = Contains-append_left xs ys t.from t.among; here = t.here; is = t.is }
 
   alone-took : (places : List Loc) (x : Loc) → Contains places x → Here x → role x ≡ Alone → Took places x
-  unfolding went
   alone-took places x c here alone = record { from = x; among = c; here = here; is = ap (λ r. went r x) alone }
 
   two-here : (low high : Loc) → is_put bits (Two low high) ≡ true → Here low × Here high
@@ -130,7 +127,6 @@ module _ (bits bits' : List ℕ) (role : Loc → Role) (are : AreRoles bits bits
       and_parts (is_location bits low) (is_location bits high) q.0
 
   put-took : (put : Put) → takes_whole role put ≡ true → is_put bits put ≡ true → (x : Loc) → Contains (places_of (put_in_words role put)) x → Took (places_of put) x
-  unfolding went
   put-took Memory whole is x c = absurd (Contains-none x c)
   put-took (One y) whole is x c =
       alone-took (y ∷ []) x c (subst Here (only y x c) is) (subst (λ z. role z ≡ Alone) (only y x c) (alone-is (role y) whole))
@@ -194,7 +190,6 @@ module _ (bits bits' : List ℕ) (role : Loc → Role) (are : AreRoles bits bits
           → list_all (λ p. is_put bits p.put) params ≡ true → are_different (places_of put ++ param_places params) ≡ true
           → (are_different (param_places params) ≡ true → are_different (after_places params) ≡ true)
           → are_different (places_of (put_in_words role put) ++ after_places params) ≡ true
-      unfolding went
       go Memory whole is wholes alls differ later = later differ
       go (One x) whole is wholes alls differ later =
           let p = and_parts (not (is_among (param_places params) x)) (are_different (param_places params)) differ in
@@ -245,15 +240,13 @@ module _ (bits bits' : List ℕ) (role : Loc → Role) (are : AreRoles bits bits
 -- Graphs.
 
 module _ (pairs : List Pair) (before after : Graph) (formed : IsGraph before) (may : MayBecomeWords pairs before) (is : IsWithWords pairs before after) where
-  role : Loc → Role
+  abbrev role : Loc → Role
   role = role_in pairs before.bits
 
   are : AreRoles before.bits after.bits role
-  unfolding role
   are = subst (λ bits. AreRoles before.bits bits (role_in pairs before.bits)) (sym is.bits) (roles-are before.bits pairs may.halves)
 
   with-formed : IsGraph after
-  unfolding role
   with-formed =
       let count = counts-stay role before.blocks after.blocks is.blocks in
       record {
@@ -274,7 +267,6 @@ module _ (pairs : List Pair) (before after : Graph) (formed : IsGraph before) (m
       }
 
   with-kind : StaysInKind before after
-  unfolding role
   with-kind = record {
     entry = is.entry;
     params = ap (map (param_kind after.bits)) is.params ∙ params-kinds before.bits after.bits role are before.params may.params formed.params;
@@ -284,7 +276,6 @@ module _ (pairs : List Pair) (before after : Graph) (formed : IsGraph before) (m
   }
 
   pub with-tidied : IsTidied before after
-  unfolding role
   with-tidied = record {
     formed = with-formed;
     stands = followed-stands before after (words-link before after role are) with-kind with-formed
@@ -297,11 +288,9 @@ module _ (pairs : List Pair) (before after : Graph) (formed : IsGraph before) (m
   }
 
   pub with-depth : deepest (graph_exprs after) ≤ deepest (graph_exprs before) + 2
-  unfolding role
   with-depth = blocks-depth role (deepest (graph_exprs before)) before.blocks after.blocks is.blocks (omega arith)
 
   pub with-temps : HasTempsAlone before → HasTempsAlone after
-  unfolding role
   with-temps all =
       let p = and_parts (list_all is_temp (param_places before.params)) (list_all is_temp (graph_mentions before))
       (sym (list_all-append is_temp (param_places before.params) (graph_mentions before)) ∙ all) in

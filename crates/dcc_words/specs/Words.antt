@@ -9,8 +9,6 @@ use Rattle.dcc_ir.specs.declared.syntax.Put.TheVariants.{Memory, One, Two}
 use Rattle.dcc_ir.specs.declared.syntax.Param.{Param}
 use Rattle.dcc_ir.specs.Tree.{Expr, Get, Part, Join, Stmt, Set, Block, Graph}
 use Rattle.dcc_ir.specs.Location.{same_location, location_width}
-use Rattle.dcc_ir.specs.Joinable.{places_of}
-use Rattle.dcc_ir.specs.Live.{is_among}
 use Rattle.dcc_ir.specs.Use.{reads_of, writes_of}
 use Rattle.dcc_live.specs.Start.{begins_live}
 use Rattle.dcc_words.specs.declared.roles.Pair.{Pair}
@@ -123,9 +121,15 @@ module _ (role : Loc → Role) where
 abbrev pub are_halves : List ℕ → Pair → Bool
 are_halves bits pair = (location_width bits (Temp pair.low) == 8) && (location_width bits (Temp pair.high) == 8)
 
+-- the argument goes to the location
+abbrev pub goes_to : Loc → Put → Bool
+goes_to location Memory = false
+goes_to location (One place) = same_location location place
+goes_to location (Two low high) = same_location location low || same_location location high
+
 -- one of the params takes its argument in the location
 abbrev pub takes_argument : List Param → Loc → Bool
-takes_argument params location = list_any (λ p. is_among (places_of p.put) location) params
+takes_argument params location = list_any (λ p. goes_to location p.put) params
 
 -- The pairs may become words: the halves have 8 bits, take arguments together and are written by Sets alone; and one
 -- that is live where the graph begins takes an argument.

@@ -3,6 +3,9 @@
 //! A pair that is read, taken or set as one word is tried, and then the pairs that are copied half by half from or to one
 //! that was taken. Nothing rests on the choice: that the pairs may become words is tested of the graph.
 
+ghost use Rattle.dcc_ir.specs.Views.{graph_of};
+ghost use Rattle.dcc_ir.specs.WellFormed.{IsGraph};
+
 use crate::rewriting::reads;
 use crate::roles::Pair;
 use crate::seeds::seeds_of;
@@ -218,9 +221,10 @@ impl<'a> Choice<'a> {
 
     // Whether the pair becomes a word.
     fn fits(&self, pair: Pair) -> bool {
-        let (Some(low), Some(high)) =
-            (self.half(Loc::Temp(pair.low)), self.half(Loc::Temp(pair.high)))
-        else {
+        let (Some(low), Some(high)) = (
+            self.half(Loc::Temp(pair.low)),
+            self.half(Loc::Temp(pair.high)),
+        ) else {
             return false;
         };
         let is_taken = match (low.taken, high.taken) {
@@ -265,7 +269,11 @@ impl<'a> Choice<'a> {
     }
 
     // The sites of the first list beside ones of the second, and those.
-    fn beside(alloc: Global, ones: &[Site], others: &[Site]) -> Result<Vec<(Site, Site)>, AllocError> {
+    fn beside(
+        alloc: Global,
+        ones: &[Site],
+        others: &[Site],
+    ) -> Result<Vec<(Site, Site)>, AllocError> {
         let mut sites = Vec::new(alloc);
         let mut k = 0;
         for one in ones {
@@ -281,8 +289,15 @@ impl<'a> Choice<'a> {
 
     // Tries the pairs that are copied half by half to a pair.
     fn try_copies(&mut self, alloc: Global, pair: Pair) -> Result<(), AllocError> {
-        let sites = match (self.half(Loc::Temp(pair.low)), self.half(Loc::Temp(pair.high))) {
-            (Some(low), Some(high)) => Self::beside(alloc, low.copies.as_slice(), high.copies.as_slice())?,
+        let sites = match (
+            self.half(Loc::Temp(pair.low)),
+            self.half(Loc::Temp(pair.high)),
+        ) {
+            (Some(low), Some(high)) => Self::beside(
+                alloc,
+                low.copies.as_slice(),
+                high.copies.as_slice(),
+            )?,
             _ => return Ok(()),
         };
         for (one, other) in sites {
@@ -295,8 +310,15 @@ impl<'a> Choice<'a> {
 
     // Tries the pairs of which a pair is a copy half by half.
     fn try_copied(&mut self, alloc: Global, pair: Pair) -> Result<(), AllocError> {
-        let sites = match (self.half(Loc::Temp(pair.low)), self.half(Loc::Temp(pair.high))) {
-            (Some(low), Some(high)) => Self::beside(alloc, low.sets.as_slice(), high.sets.as_slice())?,
+        let sites = match (
+            self.half(Loc::Temp(pair.low)),
+            self.half(Loc::Temp(pair.high)),
+        ) {
+            (Some(low), Some(high)) => Self::beside(
+                alloc,
+                low.sets.as_slice(),
+                high.sets.as_slice(),
+            )?,
             _ => return Ok(()),
         };
         for (one, other) in sites {
@@ -323,7 +345,9 @@ impl<'a> Choice<'a> {
 }
 
 /// The pairs of temporaries of a graph that are used as words.
-pub fn pairs_of(alloc: Global, g: &Graph) -> Result<Vec<Pair>, AllocError> {
+pub fn pairs_of(alloc: Global, g: &Graph) -> Result<Vec<Pair>, AllocError>
+    requires { IsGraph (graph_of g.now) }
+{
     let live = live_at_start(alloc, g)?;
     let mut choice = Choice::new(alloc, g)?;
     choice.note_graph(live.as_slice())?;

@@ -1,12 +1,11 @@
 //! Whether pairs may become words.
 
-ghost use Rattle.std.specs.Prelude.{◌≡◌, ◌||◌, true, map, IfOk};
+ghost use Rattle.std.specs.Prelude.{◌≡◌, ◌&&◌, ◌||◌, true, map, IfOk};
 ghost use Rattle.std.specs.List.{list_all};
 ghost use Rattle.dcc_ir.specs.Views.{stmt_of, block_of, graph_of};
 ghost use Rattle.dcc_ir.specs.declared.syntax.Loc.{Loc as Location};
 ghost use Rattle.dcc_ir.specs.WellFormed.{IsGraph};
-ghost use Rattle.dcc_ir.specs.Joinable.{places_of};
-ghost use Rattle.dcc_ir.specs.Live.{is_among};
+ghost use Rattle.dcc_ir.specs.Location.{same_location};
 ghost use Rattle.dcc_words.specs.Words as spec;
 ghost use Rattle.dcc_words.specs.Words.{are_halves, takes_argument, MayBecomeWords};
 ghost use Rattle.dcc_words.specs.Roles.{role_of};
@@ -15,6 +14,13 @@ use crate::roles::{Pair, Role, Roles};
 use dcc_ir::{Block, Graph, Loc, Param, Put, Stmt};
 use dcc_live::live_at_start;
 use std::alloc::{AllocError, Global};
+
+// Whether all three hold.
+fn are_all(one: bool, other: bool, third: bool) -> bool
+    ensures { result ≡ (one && other && third) }
+{
+    one && other && third
+}
 
 impl Roles {
     // Whether an argument goes to no half but together with the other half of its word.
@@ -108,7 +114,12 @@ impl Roles {
     }
 
     /// Whether the pairs may become words.
-    pub fn may_become_words(&self, alloc: Global, g: &Graph, pairs: &[Pair]) -> Result<bool, AllocError>
+    pub fn may_become_words(
+        &self,
+        alloc: Global,
+        g: &Graph,
+        pairs: &[Pair],
+    ) -> Result<bool, AllocError>
         requires formed { IsGraph (graph_of g.now) }
         requires halves { list_all (are_halves g.now.bits.items) pairs.now ≡ true }
         requires roles { (l : Location) → role_of self.now l ≡ spec.role_in pairs.now g.now.bits.items l }
@@ -116,20 +127,28 @@ impl Roles {
     {
         let live = live_at_start(alloc, g)?;
         let params = g.params.as_slice();
-        Ok(self.take_whole(params)
-            && self.are_given(live.as_slice(), params)
-            && self.write_whole(&g.blocks))
+        let takes = self.take_whole(params);
+        let given = self.are_given(live.as_slice(), params);
+        let writes = self.write_whole(&g.blocks);
+        Ok(are_all(takes, given, writes))
     }
 }
 
-// Whether a location takes an argument that goes there.
-fn put_takes(put: Put, location: Loc) -> bool
-    ensures { result ≡ is_among (places_of put) location }
+// Whether the two are one.
+fn is_same(location: Loc, other: Loc) -> bool
+    ensures { result ≡ same_location location other }
+{
+    location == other
+}
+
+// Whether an argument goes to the location.
+fn goes_to(location: Loc, put: Put) -> bool
+    ensures { result ≡ spec.goes_to location put }
 {
     match put {
         Put::Memory => false,
-        Put::One(one) => location == one,
-        Put::Two(low, high) => location == low || location == high,
+        Put::One(place) => is_same(location, place),
+        Put::Two(low, high) => is_same(location, low) || is_same(location, high),
     }
 }
 
@@ -138,7 +157,7 @@ fn takes(params: &[Param], location: Loc) -> bool
     ensures { result ≡ takes_argument params.now location }
 {
     for param in params {
-        if put_takes(param.put, location) {
+        if goes_to(location, param.put) {
             return true;
         }
     }

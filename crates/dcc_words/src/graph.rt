@@ -18,23 +18,31 @@ use crate::roles::{Pair, Roles, are_all_halves};
 use dcc_ir::Graph;
 use std::alloc::{AllocError, Global};
 
-// The bits of the temporaries, and of the words after them.
-fn with_words(alloc: Global, bits: Vec<u8>, pairs: &[Pair]) -> Result<Vec<u8>, AllocError>
-    ensures { IfOk result (λ after. after.items ≡ bits.items ++ map (λ pair. 16) pairs.now) }
+// The bits of the words.
+fn word_bits(alloc: Global, pairs: Vec<Pair>) -> Result<Vec<u8>, AllocError>
+    ensures { IfOk result (λ words. words.items ≡ map (λ pair. 16) pairs.items) }
 {
     let mut words = Vec::new(alloc);
-    for _ in pairs {
-        words.push(16)?;
+    for pair in pairs {
+        words.push(pair.word_bits())?;
     }
+    Ok(words)
+}
+
+// The bits of the temporaries, and of the words after them.
+fn with_words(alloc: Global, bits: Vec<u8>, pairs: Vec<Pair>) -> Result<Vec<u8>, AllocError>
+    ensures { IfOk result (λ after. after.items ≡ bits.items ++ map (λ pair. 16) pairs.items) }
+{
+    let words = word_bits(alloc, pairs)?;
     let mut after = bits;
     after.extend_from_slice(words.as_slice())?;
     Ok(after)
 }
 
 // The graph with words for pairs that may become words.
-fn rewritten(alloc: Global, g: Graph, roles: &Roles, pairs: &[Pair]) -> Result<Graph, AllocError>
-    requires { (l : Location) → role_of roles.now l ≡ spec.role_in pairs.now g.bits.items l }
-    ensures { IfOk result (λ after. IsWithWords pairs.now (graph_of g) (graph_of after)) }
+fn rewritten(alloc: Global, g: Graph, roles: &Roles, pairs: Vec<Pair>) -> Result<Graph, AllocError>
+    requires { (l : Location) → role_of roles.now l ≡ spec.role_in pairs.items g.bits.items l }
+    ensures { IfOk result (λ after. IsWithWords pairs.items (graph_of g) (graph_of after)) }
 {
     let by = Rewriter { alloc, roles };
     let blocks = by.blocks(g.blocks)?;
@@ -60,12 +68,11 @@ pub fn words(alloc: Global, g: Graph) -> Result<Graph, AllocError>
     ensures temps { IfOk result (λ after. HasTempsAlone (graph_of g) → HasTempsAlone (graph_of after)) }
 {
     let pairs = pairs_of(alloc, &g)?;
-    let pairs = pairs.as_slice();
-    if !are_all_halves(g.bits.as_slice(), pairs) {
+    if !are_all_halves(g.bits.as_slice(), pairs.as_slice()) {
         return Ok(g);
     }
-    let roles = Roles::new(alloc, g.bits.as_slice(), pairs)?;
-    if !roles.may_become_words(alloc, &g, pairs)? {
+    let roles = Roles::new(alloc, g.bits.as_slice(), pairs.as_slice())?;
+    if !roles.may_become_words(alloc, &g, pairs.as_slice())? {
         return Ok(g);
     }
     rewritten(alloc, g, &roles, pairs)

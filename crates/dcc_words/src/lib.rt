@@ -11,5 +11,4 @@ mod rewriting;
 mod roles;
 mod seeds;
 
-
 pub use graph::words;

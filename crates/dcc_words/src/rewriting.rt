@@ -244,13 +244,7 @@ impl Rewriter<'_> {
     }
 
     // One Set of a word for two Sets of its halves, of which the second doesn't read what the first one sets.
-    fn joined_sets(
-        &self,
-        first: Loc,
-        e: Expr,
-        second: Loc,
-        f: Expr,
-    ) -> Result<Joined, AllocError>
+    fn joined_sets(&self, first: Loc, e: Expr, second: Loc, f: Expr) -> Result<Joined, AllocError>
         ensures { IfOk result (IsJoined (role_of self.now.roles.now) (SetOf first (expr_of e)) (SetOf second (expr_of f))) }
     {
         if !reads(&f, first) {
@@ -285,9 +279,13 @@ impl Rewriter<'_> {
         ensures { IfOk result (IsJoined (role_of self.now.roles.now) (stmt_of first) (stmt_of second)) }
     {
         match (first, second) {
-            (Stmt::Set { place, value }, Stmt::Set { place: next, value: f }) => {
-                self.joined_sets(place, value, next, f)
-            }
+            (
+                Stmt::Set { place, value },
+                Stmt::Set {
+                    place: next,
+                    value: f,
+                },
+            ) => { self.joined_sets(place, value, next, f) }
             (first, second) => Ok(Joined::Two(first, second)),
         }
     }

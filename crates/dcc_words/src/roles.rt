@@ -1,6 +1,6 @@
 //! Which temporaries become halves of which words.
 
-ghost use Rattle.std.specs.Prelude.{◌≡◌, true, IfOk};
+ghost use Rattle.std.specs.Prelude.{◌≡◌, ◌+◌, true, IfOk};
 ghost use Rattle.std.specs.List.{list_all};
 ghost use Rattle.dcc_ir.specs.declared.syntax.Loc.{Loc as Location};
 ghost use Rattle.dcc_words.specs.Words as spec;
@@ -16,6 +16,15 @@ pub struct Pair {
     pub low: u32,
     /// The one that becomes the upper half.
     pub high: u32,
+}
+
+impl Pair {
+    /// How many bits the word has.
+    pub fn word_bits(self) -> u8
+        ensures { result ≡ 16 }
+    {
+        16
+    }
 }
 
 /// What a location becomes.
@@ -69,12 +78,20 @@ impl Roles {
         while k > 0 {
             k -= 1;
             let pair = pairs[k];
-            let word = u32::try_from(bits.len() + k).map_err(|_| AllocError)?;
+            let word = numbered(bits.len(), k)?;
             of[pair.high as usize] = Role::High(word);
             of[pair.low as usize] = Role::Low(word);
         }
         Ok(Roles { of })
     }
+}
+
+// The number of the word at a place, after so many temporaries; that 32 bits can't number it is told as want of memory.
+fn numbered(count: usize, place: usize) -> Result<u32, AllocError>
+    ensures { IfOk result (λ word. word ≡ count + place) }
+{
+    let number = count.checked_add(place).ok_or(AllocError)?;
+    u32::try_from(number).map_err(|_| AllocError)
 }
 
 // Whether both have 8 bits.

@@ -84,7 +84,14 @@ fn first_bit(value: &Expr) -> Option<u8> {
 
 // Notes the pair that two Sets, one behind the other, set to the parts of a word.
 fn note_parts(seeds: &mut Vec<Pair>, stmt: &Stmt, next: &Stmt) -> Result<(), AllocError> {
-    let (Stmt::Set { place, value }, Stmt::Set { place: other, value: then }) = (stmt, next) else {
+    let (
+        Stmt::Set { place, value },
+        Stmt::Set {
+            place: other,
+            value: then,
+        },
+    ) = (stmt, next)
+    else {
         return Ok(());
     };
     match (first_bit(value), first_bit(then)) {
