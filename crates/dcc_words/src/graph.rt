@@ -75,5 +75,6 @@ pub fn words(alloc: Global, g: Graph) -> Result<Graph, AllocError>
     if !roles.may_become_words(alloc, &g, pairs.as_slice())? {
         return Ok(g);
     }
-    rewritten(alloc, g, &roles, pairs)
+    let after = rewritten(alloc, g, &roles, pairs)?;
+    Ok(after)
 }
