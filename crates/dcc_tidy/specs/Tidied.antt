@@ -7,6 +7,7 @@ use Rattle.dcc_passes.specs.Tidied.{IsTidied}
 use Rattle.dcc_live.specs.Dead.{IsWithoutUnneeded}
 use Rattle.dcc_webs.specs.Temporaries.{HasTempsAlone, TellsApart}
 use Rattle.dcc_loads.specs.Sets.{with_sets}
+use Rattle.dcc_words.specs.Words.{ReadsWords}
 use Rattle.dcc_simplify.specs.Reshaped.{IsGraphAs}
 use Rattle.dcc_simplify.specs.Simplified.{IsSimplified}
 use Rattle.dcc_variables.specs.Functions.{function_shape}
@@ -27,14 +28,17 @@ pub record MayStandInText (before after : Graph) : Type 0 where
   pub depth : deepest (graph_exprs before) + 3 ≤ text_levels → deepest (graph_exprs after) ≤ text_levels
 
 -- What the passes leave of a graph, one after another: each web has a temporary of its own; each statement that loads is
--- an assignment of a load; rounds of passes follow; then no part of an expression has the form of a rule of these
--- numbers, and each assignment that is left makes what is wanted after it.
+-- an assignment of a load; pairs of temporaries that are used as words are words; rounds of passes follow; then no part
+-- of an expression has the form of a rule of these numbers, and each assignment that is left makes what is wanted after
+-- it.
 pub record HasPassesDone (ids : List ℕ) (before after : Graph) : Type 0 where
   pub split : Graph
   pub told : TellsApart before split
   pub temps : HasTempsAlone split
+  pub words : Graph
+  pub reads : ReadsWords (with_sets split) words
   pub plain : Graph
-  pub rounds : IsTidied (with_sets split) plain
+  pub rounds : IsTidied words plain
   pub simple : Graph
   pub simplified : IsGraphAs (IsSimplified ids plain.bits) plain simple
   pub last : IsWithoutUnneeded simple after

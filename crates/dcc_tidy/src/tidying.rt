@@ -21,6 +21,7 @@ use dcc_rules::RuleList;
 use dcc_simplify::simplified;
 use dcc_variables::Head;
 use dcc_webs::split;
+use dcc_words::words;
 use std::alloc::{AllocError, Global};
 
 // Whether the graph's text has an array of one byte for SP's address.
@@ -85,7 +86,8 @@ fn passed(alloc: Global, graph: Graph, rules: &RuleList) -> Result<Graph, AllocE
 {
     let split = split(alloc, graph)?;
     let sets = loads_as_sets(alloc, split)?;
-    let plain = rounds(alloc, sets, rules)?;
+    let words = words(alloc, sets)?;
+    let plain = rounds(alloc, words, rules)?;
     let last = simplified(alloc, plain, rules)?;
     let after = without_dead(alloc, last)?;
     Ok(after)
