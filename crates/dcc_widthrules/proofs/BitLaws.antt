@@ -1,6 +1,6 @@
 -- Parts of numbers: of parts, of widened and joined numbers, and of what operators make.
-use Rattle.std.proofs.Common.{◌≡◌, ℕ, suc, ◌+◌, ◌-◌, ◌*◌, ◌/◌, ◌%◌, ◌^◌, ◌<◌, ◌≤◌, Bool, true, false, ◌&&◌, ◌||◌, not, inl, inr, refl, sym, ap, ◌∙◌, subst, arith, true≢false, lit<, ℤ, pos, negsuc}
-use Rattle.std.specs.Prelude.{if◌then◌else◌, nat_le, bit_and, bit_or, bit_xor, ◌-ℤ◌}
+use Rattle.std.proofs.Common.{◌≡◌, ℕ, ◌+◌, ◌-◌, ◌*◌, ◌/◌, ◌%◌, ◌^◌, ◌<◌, ◌≤◌, Bool, true, false, ◌||◌, not, refl, sym, ap, ◌∙◌, subst, arith, true≢false, lit<, ℤ, pos, negsuc}
+use Rattle.std.specs.Prelude.{if◌then◌else◌, ◌-ℤ◌}
 use Rattle.std.proofs.lemmas.Bool.{lt-leb}
 use Rattle.std.proofs.lemmas.Nat.{pow_pos, pow-add, mod_below, mod-mul-add, shr-shr, shr_high, shr_split, mod-pow-add, mul-mod, and_mod, or_mod, xor_mod, and_block, or_block, xor_block}
 use Rattle.std.proofs.Math.Nat.{add-mod_right, add-mul-mod_self_right, mod-eq_of_lt, div-eq_of_lt, mod-add-mod, add-mod-mod, pow-le-pow_right}

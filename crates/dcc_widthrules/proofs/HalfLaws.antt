@@ -1,34 +1,33 @@
 -- The rules on widened and joined expressions.
-use Rattle.std.proofs.Common.{◌≡◌, ℕ, suc, ◌+◌, ◌-◌, ◌*◌, ◌/◌, ◌%◌, ◌^◌, ◌<◌, ◌≤◌, max, Bool, true, false, ◌&&◌, ◌||◌, not, ◌⊎◌, inl, inr, List, Option, Some, None, refl, sym, ap, ◌∙◌, subst, arith, length-append, true≢false, eqb-true, ltb-true, lit<}
+use Rattle.std.proofs.Common.{◌≡◌, ℕ, suc, ◌+◌, ◌-◌, ◌*◌, ◌/◌, ◌%◌, ◌^◌, ◌<◌, ◌≤◌, Bool, true, false, ◌&&◌, ◌||◌, not, ◌⊎◌, inl, inr, List, Option, Some, None, refl, sym, ap, ◌∙◌, subst, arith, length-append, true≢false, eqb-true, ltb-true, lit<}
 use Rattle.std.specs.Prelude.{if◌then◌else◌, ◌==◌, nat_lt}
 use Rattle.std.specs.Option.{option_or}
-use Rattle.std.proofs.lemmas.Nat.{pow_pos, mod_below, shr_split, shr_below}
+use Rattle.std.proofs.lemmas.Nat.{pow_pos, mod_below}
 use Rattle.std.specs.Int.Bits.{or_zero_r, xor_zero_r}
 use Rattle.dcc_ir.specs.declared.syntax.Expr.{Expr as Expression}
 use Rattle.dcc_ir.specs.declared.syntax.BinOp.{BinOp}
 use Rattle.dcc_ir.specs.declared.syntax.BinOp.TheVariants.{And, Or, Xor}
 use Rattle.dcc_ir.specs.Views.{expr_of}
-use Rattle.dcc_ir.specs.Tree.{Expr, Const, Get, Load, Unary, Binary, Widen, Part, Join, Choose, Address}
-use Rattle.dcc_ir.specs.Value.{is_comparison, width_of, binary_value, Environment, value_of, Fits}
-use Rattle.dcc_ir.specs.WellFormed.{is_width, is_division, is_expr}
+use Rattle.dcc_ir.specs.Tree.{Expr, Const, Binary, Widen, Part, Join}
+use Rattle.dcc_ir.specs.Value.{is_comparison, width_of, binary_value, Environment, value_of}
+use Rattle.dcc_ir.specs.WellFormed.{is_division, is_expr}
 use Rattle.dcc_ir.specs.Use.{parts_of}
-use Rattle.dcc_ir.specs.Measure.{nodes_of, depth_of, truths_of}
-use Rattle.dcc_ir.specs.Forms.{same_binary, same_expr}
+use Rattle.dcc_ir.specs.Measure.{nodes_of, depth_of}
+use Rattle.dcc_ir.specs.Forms.{same_expr}
 use Rattle.dcc_ir.proofs.FitLaws.{both}
-use Rattle.dcc_rules.specs.Simpler.{MeansSame, KeepsMeaning, AddsNothing, IsSimplerUnder}
+use Rattle.dcc_rules.specs.Simpler.{IsSimplerUnder}
 use Rattle.dcc_rules.specs.Rules.{MeetsRuleUnder}
-use Rattle.dcc_rules.proofs.ReducedLaws.{adds_nothing_to_itself, has_a_node}
-use Rattle.dcc_stdrules.proofs.SameLaws.{binary_same, expr_same}
+use Rattle.dcc_stdrules.proofs.SameLaws.{expr_same}
 use Rattle.dcc_stdrules.proofs.NumberLaws.{and_ones}
-use Rattle.dcc_stdrules.proofs.WithinLaws.{IsWithin, within_through, within_left, within_part, within_widen, within_high, within_low, is_deep, beside_constant, beside_constant_nodes}
-use Rattle.dcc_stdrules.proofs.OperandLaws.{Answer, Operated, operated, fits_in}
-use Rattle.dcc_stdrules.proofs.HalfLaws.{simpler_within, PartParts, part_parts, JoinParts, join_parts, WidenParts, widen_parts, narrowed_value}
+use Rattle.dcc_stdrules.proofs.WithinLaws.{IsWithin, within_through, within_part, within_widen, within_high, within_low, is_deep, beside_constant, beside_constant_nodes}
+use Rattle.dcc_stdrules.proofs.OperandLaws.{Answer, operated, fits_in}
+use Rattle.dcc_stdrules.proofs.HalfLaws.{simpler_within, part_parts, join_parts, widen_parts, narrowed_value}
 use Rattle.dcc_morerules.specs.Further.{Gives}
-use Rattle.dcc_morerules.proofs.SizeLaws.{nodes_of_two, formed_two}
-use Rattle.dcc_morerules.proofs.GivenLaws.{meets_given, chosen, told}
+use Rattle.dcc_morerules.proofs.SizeLaws.{formed_two}
+use Rattle.dcc_morerules.proofs.GivenLaws.{meets_given, told}
 use Rattle.dcc_morerules.proofs.TestLaws.{formed_number}
 use Rattle.dcc_widthrules.specs.Halves.{widened_once, joined_widened, joined_neighbours, is_bitwise, word_of, changed_half, changed_word}
-use Rattle.dcc_widthrules.proofs.BitLaws.{widened, widened_again, halves, neighbours, low_of_widened_narrow, block_law}
+use Rattle.dcc_widthrules.proofs.BitLaws.{widened, widened_again, halves, neighbours, block_law}
 use Rattle.dcc_widthrules.proofs.PartLaws.{part_bound, formed_part, formed_widened, in_scene, from_lowest}
 
 -- Widened twice.

@@ -1,27 +1,26 @@
 -- The rules on parts.
-use Rattle.std.proofs.Common.{◌≡◌, ℕ, suc, ◌+◌, ◌-◌, ◌*◌, ◌/◌, ◌%◌, ◌^◌, ◌<◌, ◌≤◌, max, Bool, true, false, ◌&&◌, ◌||◌, not, ◌⊎◌, inl, inr, List, Option, Some, None, refl, sym, ap, ◌∙◌, subst, arith, true≢false, eqb-true, ltb-true}
+use Rattle.std.proofs.Common.{◌≡◌, ℕ, ◌+◌, ◌-◌, ◌*◌, ◌/◌, ◌%◌, ◌^◌, ◌<◌, ◌≤◌, Bool, true, false, ◌&&◌, not, List, Option, Some, None, refl, sym, ap, ◌∙◌, subst, arith, true≢false, eqb-true, ltb-true}
 use Rattle.std.specs.Prelude.{if◌then◌else◌, ◌==◌, nat_lt, nat_le, bit_and}
 use Rattle.std.proofs.lemmas.Bool.{lt-ltb, le-leb, leb-true}
 use Rattle.std.proofs.lemmas.Nat.{pow_pos, mod_below, mod-mul-add, and_mask, and_mod}
-use Rattle.std.proofs.Math.Nat.{mod-eq_of_lt}
 use Rattle.dcc_ir.specs.declared.syntax.Expr.{Expr as Expression}
 use Rattle.dcc_ir.specs.declared.syntax.BinOp.{BinOp}
 use Rattle.dcc_ir.specs.declared.syntax.BinOp.TheVariants.{Add, Sub, Mul, And, Or, Xor}
 use Rattle.dcc_ir.specs.Views.{expr_of}
-use Rattle.dcc_ir.specs.Tree.{Expr, Const, Get, Load, Unary, Binary, Widen, Part, Join, Choose, Address}
+use Rattle.dcc_ir.specs.Tree.{Expr, Const, Binary, Widen, Part, Join}
 use Rattle.dcc_ir.specs.Value.{is_comparison, width_of, binary_value, Environment, value_of, Fits}
 use Rattle.dcc_ir.specs.WellFormed.{is_width, is_division, is_expr}
-use Rattle.dcc_ir.specs.Measure.{nodes_of, depth_of, truths_of}
+use Rattle.dcc_ir.specs.Measure.{nodes_of, truths_of}
 use Rattle.dcc_ir.specs.Forms.{ones, same_binary}
 use Rattle.dcc_ir.proofs.FitLaws.{both}
-use Rattle.dcc_rules.specs.Simpler.{MeansSame, KeepsMeaning, AddsNothing, IsSimplerUnder}
+use Rattle.dcc_rules.specs.Simpler.{AddsNothing, IsSimplerUnder}
 use Rattle.dcc_rules.specs.Rules.{MeetsRuleUnder}
 use Rattle.dcc_rules.proofs.AmongLaws.{both_hold}
-use Rattle.dcc_rules.proofs.ReducedLaws.{adds_through, adds_nothing_to_itself}
+use Rattle.dcc_rules.proofs.ReducedLaws.{adds_through}
 use Rattle.dcc_stdrules.proofs.SameLaws.{binary_same}
-use Rattle.dcc_stdrules.proofs.WithinLaws.{IsWithin, within_through, within_left, within_right, within_part, within_widen, within_high, within_low, is_deep, constant_within}
-use Rattle.dcc_stdrules.proofs.OperandLaws.{Answer, Operated, operated, fits_in}
-use Rattle.dcc_stdrules.proofs.HalfLaws.{simpler_within, PartParts, part_parts, JoinParts, join_parts, WidenParts, widen_parts, narrowed_value}
+use Rattle.dcc_stdrules.proofs.WithinLaws.{IsWithin, within_through, within_left, within_right, within_part, within_widen, within_high, within_low, constant_within}
+use Rattle.dcc_stdrules.proofs.OperandLaws.{Answer, operated, fits_in}
+use Rattle.dcc_stdrules.proofs.HalfLaws.{simpler_within, part_parts, join_parts, widen_parts, narrowed_value}
 use Rattle.dcc_morerules.specs.Further.{Gives}
 use Rattle.dcc_morerules.proofs.SizeLaws.{truths_of_two, nodes_of_two, beside, formed_two}
 use Rattle.dcc_morerules.proofs.GivenLaws.{meets_given, chosen, told}

@@ -1,5 +1,5 @@
 -- Widened and joined expressions, and shorter expressions for them.
-use Rattle.std.specs.Prelude.{◌≡◌, ℕ, ◌+◌, ◌-◌, ◌*◌, ◌^◌, ◌==◌, nat_lt, Bool, true, false, ◌&&◌, ◌||◌, not, if◌then◌else◌, List, Option, Some, None}
+use Rattle.std.specs.Prelude.{ℕ, ◌+◌, ◌-◌, ◌*◌, ◌^◌, ◌==◌, nat_lt, Bool, true, false, ◌&&◌, ◌||◌, not, if◌then◌else◌, List, Option, Some, None}
 use Rattle.std.specs.Option.{option_or}
 use Rattle.dcc_ir.specs.declared.syntax.BinOp.{BinOp}
 use Rattle.dcc_ir.specs.declared.syntax.BinOp.TheVariants.{And, Or, Xor}
