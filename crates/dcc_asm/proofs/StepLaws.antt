@@ -1,8 +1,9 @@
 -- What each line gives, and how it offends.
 use Rattle.std.proofs.Common.{◌≡◌, ℕ, zero, suc, ◌+◌, ◌*◌, ◌<◌, ◌≤◌, Bool, true, false, List, [], ◌∷◌, ◌++◌, length, take, drop, get_or, Fits, w8, All, codes, refl, sym, ap, ◌∙◌, subst, arith}
-use Rattle.std.specs.Prelude.{Option, Some, None, MatchOption, ◌==◌}
+use Rattle.std.specs.Prelude.{Option, Some, None, MatchOption, ◌==◌, Result, Ok, Err, IfOk}
 use Rattle.std.proofs.lemmas.Bool.Decides.{nat_tests}
 use Rattle.std.proofs.lemmas.List.{get_or_default, length-append}
+use Rattle.std.specs.declared.alloc.AllocError.{AllocError}
 use Rattle.smallvec.specs.SmallVec.{SmallVec}
 use Rattle.dcc_machine.specs.declared.cpu.Cpu.{Cpu}
 use Rattle.dcc_machine.specs.declared.cpu.Cpu.TheVariants.{I8086, I186}
@@ -15,7 +16,7 @@ use Rattle.dcc_asm.specs.declared.line.Line.{Line}
 use Rattle.dcc_asm.specs.declared.fault.ListKind.{ListKind}
 use Rattle.dcc_asm.specs.declared.fault.ListKind.TheVariants.{Length, Word, Range, Odd, Place}
 use Rattle.dcc_asm.specs.Fault.{bytes_most, IsKnown, IsEncodable, IsOdd, Offends, no_form as word, other_place as offends_place, no_encoding as range, not_odd as offends_odd, too_many, HasForm}
-use Rattle.dcc_asm.specs.Form.{Form, form_of, form_line, read_form, operation, odd, Tells, IsReading, IsValid}
+use Rattle.dcc_asm.specs.Form.{Form, place, bytes, form_of, form_line, read_form, operation, odd, Tells, IsReading, IsValid}
 use Rattle.dcc_asm.specs.Steps.{target_of, IsStandardAt, Grows, IsDone}
 use Rattle.dcc_asm.proofs.KnownLaws.{known-target, known-first}
 use Rattle.dcc_asm.proofs.ReadForm.{no-form, none-form}
@@ -129,3 +130,42 @@ odd-gives cpu cs place told op h = gives_odd h.is_offset h.encoding h.other
 -- a line that has no form and isn't for people
 pub word-done : (cpu : Cpu) (cs : ℕ) (old new line : List ℕ) → byte_of line 0 == 59 ≡ false → IsReading line None → IsDone cpu cs old new line (Some Word)
 word-done cpu cs old new line other none = word (none-form line other none)
+
+-- What a line tells ---------------------------------------------------------------------------
+
+pub place-stays : (cpu : Cpu) (cs : ℕ) (old : List ℕ) (form : Form) (at : ℕ) → form ≡ place at → length old ≤ bytes_most → at < 65536
+    → IsOffset cs (length old) at → IsDone cpu cs old old (form_line form) None
+place-stays cpu cs old form at e fits small is =
+    subst (λ f. IsDone cpu cs old old (form_line f) None) (sym e) (stays cpu cs old (form_line (place at)) fits (at_place small is))
+
+pub place-offends : (cpu : Cpu) (cs : ℕ) (old new : List ℕ) (form : Form) (at : ℕ) → form ≡ place at → at < 65536
+    → ¬ IsOffset cs (length old) at → IsDone cpu cs old new (form_line form) (Some Place)
+place-offends cpu cs old new form at e small other =
+    subst (λ f. IsDone cpu cs old new (form_line f) (Some Place)) (sym e) (offends_place small other)
+
+pub bytes-give : (cpu : Cpu) (cs here : ℕ) (form : Form) (told : List ℕ) → form ≡ bytes told → Tells (form_line form) form
+    → All (λ byte. byte < 256) told → Gives cpu cs here (form_line form) told
+bytes-give cpu cs here form told e tells each =
+    let sized = (subst (λ f. Tells (form_line f) f) e tells).is_sized in
+    subst (λ f. Gives cpu cs here (form_line f) told) (sym e) (gives_bytes (record { some = sized.0; each = each }) sized.1)
+
+pub told-read : (form known : Form) → form ≡ known → Tells (form_line form) form → read_form (form_line known) ≡ Some known
+told-read form known e tells = (subst (λ f. Tells (form_line f) f) e tells).is_read
+
+-- what is done of a form is done of the line that has it
+pub done-as : {cpu : Cpu} {cs : ℕ} {old new : List ℕ} (form known : Form) (result : Result (Option ListKind) AllocError) → form ≡ known
+    → IfOk result (IsDone cpu cs old new (form_line known)) → IfOk result (IsDone cpu cs old new (form_line form))
+done-as form known (Ok kind) e h = subst (λ f. IsDone _ _ _ _ (form_line f) kind) (sym e) h
+done-as form known (Err error) e h = tt
+
+-- Answers of calls ---------------------------------------------------------------------------
+
+pub never : (b : Bool) → b ≡ false → b ≡ true → ⊥
+never b h k = let f : ⊥ = cc in f
+
+-- bytes that the line gives were appended, or are too many
+pub done-by : {cpu : Cpu} {cs : ℕ} {old new told line : List ℕ} (result : Result (Option ListKind) AllocError)
+    → IfOk result (λ kind. (line : List ℕ) → Gives cpu cs (length old) line told → IsDone cpu cs old new line kind)
+    → Gives cpu cs (length old) line told → IfOk result (IsDone cpu cs old new line)
+done-by (Ok kind) h gives = h _ gives
+done-by (Err error) h gives = tt

@@ -123,8 +123,8 @@ fn push_line(text: &mut Vec<u8>, line: &Line) -> Result<(), AllocError>
     }
 }
 
-// Whether two lists of bytes are one.
-fn is_same(bytes: &[u8], others: &[u8]) -> bool
+/// Whether two lists of bytes are one.
+pub(crate) fn is_same(bytes: &[u8], others: &[u8]) -> bool
     ensures { IsTrue result ↔ (bytes.now ≡ others.now) }
 {
     bytes == others
