@@ -20,7 +20,7 @@ use Rattle.dcc_asm.specs.Form.{Form, place, bytes, operation, odd, form_of, form
 
 -- Digits -------------------------------------------------------------------------------------
 
-digit-no_space : (d : ℕ) → digit_glyph true d == 32 ≡ false
+pub digit-no_space : (d : ℕ) → digit_glyph true d == 32 ≡ false
 digit-no_space d = grind (arith, nat_tests)
 
 digit-no_comment : (d : ℕ) → digit_glyph true d == 59 ≡ false

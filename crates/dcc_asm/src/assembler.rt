@@ -98,17 +98,21 @@ fn assemble_lines(alloc: Global, cpu: Cpu, cs: u16, text: &[u8]) -> Result<Vec<u
     let mut left = text;
     let mut number: u32 = 2;
     while !left.is_empty() {
-        let Some((line, rest)) = first_line(left) else {
-            return Err(ListFault::At {
-                line: number,
-                kind: ListKind::Word,
-            });
-        };
-        if let Some(kind) = push_line(alloc, cpu, cs, &mut image, line)? {
-            return Err(ListFault::At { line: number, kind });
+        match first_line(left) {
+            Some((line, rest)) => {
+                if let Some(kind) = push_line(alloc, cpu, cs, &mut image, line)? {
+                    return Err(ListFault::At { line: number, kind });
+                }
+                left = rest;
+                number += 1;
+            }
+            None => {
+                return Err(ListFault::At {
+                    line: number,
+                    kind: ListKind::Word,
+                });
+            }
         }
-        left = rest;
-        number += 1;
     }
     Ok(image)
 }

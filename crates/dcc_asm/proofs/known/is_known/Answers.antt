@@ -1,10 +1,11 @@
-use Rattle.std.proofs.Common.{refl, sym, ◌∙◌}
+use Rattle.std.proofs.Common.{refl, sym, ◌∙◌, arith}
 use Rattle.dcc_asm.proofs.KnownLaws.{known-target, known-first}
 use Rattle.dcc_asm.proofs.known.is_known.Goals as goal
 
 pub returns-in-Some : goal.returns-in-Some
 returns-in-Some c = (
-  λ yes. known-target c.args.op c.in-Some._target (sym c.target_of.ensures ∙ c.in-Some.is) ?,
+  λ yes. known-target c.args.op c.in-Some._target (sym c.target_of.ensures ∙ c.in-Some.is)
+      (let fits = rw c.in-Some.is at c.target_of.type_inv in omega (arith, fits)),
   λ known. refl,
 )
 
