@@ -1,5 +1,5 @@
 -- The first line.
-use Rattle.std.proofs.Common.{◌≡◌, ℕ, ◌+◌, ◌<◌, List, [], ◌∷◌, ◌++◌, length, take, drop, Option, Some, None, Result, Ok, Err, IfOk, refl, sym, ap, ◌∙◌, subst, arith}
+use Rattle.std.proofs.Common.{◌≡◌, ℕ, ◌+◌, ◌<◌, List, [], ◌∷◌, ◌++◌, length, take, drop, Option, Some, None, Result, Ok, Err, IfOk, refl, sym, ap, ◌∙◌, arith}
 use Rattle.std.proofs.lemmas.List.{take-append-drop, length-append}
 use Rattle.std.specs.declared.alloc.AllocError.{AllocError}
 use Rattle.dcc_machine.specs.declared.cpu.Cpu.{Cpu}
@@ -8,7 +8,6 @@ use Rattle.dcc_reread.specs.Reading.{word_value}
 use Rattle.dcc_reread.proofs.ReadBack.{word-back}
 use Rattle.dcc_list.specs.Text.{text_of, head_line}
 use Rattle.dcc_asm.specs.declared.assembler.Heading.{Heading}
-use Rattle.dcc_asm.specs.Fault.{HasHead}
 use Rattle.dcc_asm.specs.Steps.{digits_place, IsHeadingFor, IsHeading}
 
 -- What stands behind a head -------------------------------------------------------------------

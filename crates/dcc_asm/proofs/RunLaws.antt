@@ -1,10 +1,10 @@
 -- Line after line, and the whole text.
-use Rattle.std.proofs.Common.{◌≡◌, ℕ, zero, suc, ◌+◌, ◌<◌, ◌≤◌, Bool, true, false, List, [], ◌∷◌, ◌++◌, length, take, drop, Some, None, All, codes, refl, sym, ap, ◌∙◌, subst, inl, inr, append_assoc, arith}
+use Rattle.std.proofs.Common.{◌≡◌, ℕ, zero, suc, ◌+◌, ◌<◌, ◌≤◌, false, List, [], ◌∷◌, ◌++◌, length, Some, None, All, refl, sym, ap, ◌∙◌, subst, append_assoc, arith}
 use Rattle.std.specs.Prelude.{Option, Result, Ok, Err, IfErr, ◌==◌}
 use Rattle.std.proofs.lemmas.List.{length-append}
 use Rattle.std.proofs.lemmas.List.Elements.{All-append}
 use Rattle.dcc_machine.specs.declared.cpu.Cpu.{Cpu}
-use Rattle.dcc_list.specs.Text.{Gives, GivesInTurn, none, next, text_of, IsLine, head_line, Begins, StandsFor}
+use Rattle.dcc_list.specs.Text.{Gives, GivesInTurn, none, next, text_of, IsLine, head_line}
 use Rattle.dcc_machine.proofs.MzImageLaws.{length-loaded}
 use Rattle.dcc_list.proofs.PeopleLaws.{text_of-append}
 use Rattle.dcc_list.proofs.Standing.{listing_stands}
@@ -12,7 +12,7 @@ use Rattle.dcc_asm.specs.declared.fault.ListKind.{ListKind}
 use Rattle.dcc_asm.specs.declared.fault.ListKind.TheVariants.{Word}
 use Rattle.dcc_asm.specs.declared.fault.ListFault.{ListFault}
 use Rattle.dcc_asm.specs.declared.fault.ListFault.TheVariants.{At, Memory}
-use Rattle.dcc_asm.specs.Fault.{text_most, bytes_most, IsAssembled, IsFaultOf, IsFirstFault, BeginsWith, Offends, at_line as first_line, unended as first_unended}
+use Rattle.dcc_asm.specs.Fault.{text_most, IsAssembled, IsFaultOf, IsFirstFault, BeginsWith, Offends, at_line as first_line, unended as first_unended}
 use Rattle.dcc_asm.specs.Steps.{IsDone, Grows, Passes, AreGiven, Reads, OffendsFirst, at_line as line, unended, IsFaultOfLines}
 use Rattle.dcc_asm.specs.Laws.{ListingIsAssembled}
 use Rattle.dcc_asm.proofs.TextLaws.{first-of}

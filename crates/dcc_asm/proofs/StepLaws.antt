@@ -1,24 +1,20 @@
 -- What each line gives, and how it offends.
-use Rattle.std.proofs.Common.{◌≡◌, ℕ, zero, suc, ◌+◌, ◌*◌, ◌/◌, ◌<◌, ◌≤◌, Bool, true, false, List, [], ◌∷◌, ◌++◌, length, take, drop, get_or, Fits, w8, All, codes, refl, sym, ap, ◌∙◌, subst, arith}
+use Rattle.std.proofs.Common.{◌≡◌, ℕ, zero, suc, ◌+◌, ◌/◌, ◌<◌, ◌≤◌, Bool, true, false, List, [], ◌∷◌, ◌++◌, length, drop, get_or, Fits, w8, All, refl, sym, ap, ◌∙◌, subst, arith}
 use Rattle.std.specs.Prelude.{Option, Some, None, MatchOption, ◌==◌, Result, Ok, Err, IfOk, ◌-◌, ◌%◌, not, nat_lt, if◌then◌else◌, option_map}
-use Rattle.std.proofs.lemmas.Bool.Decides.{nat_tests}
 use Rattle.std.proofs.lemmas.List.{get_or_default, length-append}
 use Rattle.std.specs.declared.alloc.AllocError.{AllocError}
 use Rattle.smallvec.specs.SmallVec.{SmallVec}
 use Rattle.dcc_machine.specs.declared.cpu.Cpu.{Cpu}
-use Rattle.dcc_machine.specs.declared.cpu.Cpu.TheVariants.{I8086, I186}
 use Rattle.dcc_machine.specs.declared.instr.Op.{Op}
 use Rattle.dcc_machine.proofs.TableLaws.{instruction-length}
 use Rattle.dcc_encode.specs.Encoding.{IsEncoding, IsStandard}
 use Rattle.dcc_reread.specs.Reading.{byte_of, digit_value, word_value, operation_in}
 use Rattle.dcc_list.specs.Text.{IsOffset, AreBytes, Gives, comment_line, place_line, bytes_line, operation_line, odd_line, comment, at_place, bytes as gives_bytes, standard as gives_standard, odd as gives_odd}
-use Rattle.dcc_asm.specs.declared.line.Line.{Line}
 use Rattle.dcc_asm.specs.declared.fault.ListKind.{ListKind}
-use Rattle.dcc_asm.specs.declared.fault.ListKind.TheVariants.{Length, Word, Range, Odd, Place}
-use Rattle.dcc_asm.specs.Fault.{bytes_most, IsKnown, IsEncodable, IsOdd, Offends, no_form as word, other_place as offends_place, no_encoding as range, not_odd as offends_odd, too_many, HasForm}
-use Rattle.dcc_asm.specs.Form.{Form, place as form_place, bytes as form_bytes, pairs, is_bytes_line, is_odd_line, odd_form, form_of, form_line, read_form, operation, odd, Tells, IsReading, IsValid}
-use Rattle.dcc_asm.specs.Steps.{target_of, IsStandardAt, Grows, IsDone}
-use Rattle.dcc_asm.proofs.KnownLaws.{known-target, known-first}
+use Rattle.dcc_asm.specs.declared.fault.ListKind.TheVariants.{Word, Range, Odd, Place}
+use Rattle.dcc_asm.specs.Fault.{bytes_most, IsKnown, IsEncodable, IsOdd, no_form as word, other_place as offends_place, no_encoding as range, not_odd as offends_odd}
+use Rattle.dcc_asm.specs.Form.{Form, place as form_place, bytes as form_bytes, pairs, is_bytes_line, is_odd_line, odd_form, form_line, read_form, operation, odd, Tells, IsReading}
+use Rattle.dcc_asm.specs.Steps.{IsStandardAt, IsDone}
 use Rattle.dcc_asm.proofs.ReadForm.{digit-no_space, no-form, none-form}
 
 -- Offsets ------------------------------------------------------------------------------------

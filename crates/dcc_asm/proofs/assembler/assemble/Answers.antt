@@ -1,4 +1,4 @@
-use Rattle.std.proofs.Common.{◌≡◌, ◌≤◌, List, ℕ, length, sym, ◌∙◌, subst, arith}
+use Rattle.std.proofs.Common.{◌≤◌, List, ℕ, length, sym, ◌∙◌, subst, arith}
 use Rattle.dcc_asm.specs.Fault.{text_most, HasHead, too_long, no_head}
 use Rattle.dcc_asm.proofs.RunLaws.{faults-first}
 use Rattle.dcc_asm.proofs.assembler.assemble.Goals as goal

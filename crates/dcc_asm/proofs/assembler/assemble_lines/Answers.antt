@@ -1,4 +1,4 @@
-use Rattle.std.proofs.Common.{List, ℕ, [], sym, subst, arith}
+use Rattle.std.proofs.Common.{List, ℕ, sym, subst, arith}
 use Rattle.dcc_asm.specs.Steps.{Reads}
 use Rattle.dcc_asm.proofs.RunLaws.{reads-first, reads-more, reads-offends, reads-unended, grown-by, some-left}
 use Rattle.dcc_asm.proofs.assembler.assemble_lines.Goals as goal

@@ -1,6 +1,3 @@
-use Rattle.std.proofs.Common.{subst}
-use Rattle.dcc_machine.specs.declared.cpu.Cpu.TheVariants.{I8086}
-use Rattle.dcc_asm.specs.Steps.{IsHeadingFor}
 use Rattle.dcc_asm.proofs.HeadLaws.{heading-by}
 use Rattle.dcc_asm.proofs.assembler.heading_of.Goals as goal
 

@@ -1,4 +1,4 @@
-use Rattle.std.proofs.Common.{◌≡◌, ℕ, length, sym, subst, arith}
+use Rattle.std.proofs.Common.{◌≡◌, length, subst, arith}
 use Rattle.dcc_list.specs.Text.{odd_line}
 use Rattle.dcc_asm.specs.Fault.{IsOdd}
 use Rattle.dcc_asm.proofs.StepLaws.{bytes-each, odd-gives, odd-done, odd-word, never, done-by}

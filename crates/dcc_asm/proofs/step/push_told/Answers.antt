@@ -1,6 +1,6 @@
 use Rattle.std.proofs.Common.{◌≡◌, List, ℕ, length, sym, ap, ◌∙◌, subst, arith}
 use Rattle.dcc_list.specs.Text.{IsOffset}
-use Rattle.dcc_asm.specs.Form.{Form, bytes, operation, odd, form_of, form_line}
+use Rattle.dcc_asm.specs.Form.{bytes, operation, odd, form_of, form_line}
 use Rattle.dcc_asm.proofs.StepLaws.{told-read, place-stays, place-offends, bytes-give, never, done-by}
 use Rattle.dcc_asm.proofs.step.push_told.Goals as goal
 
