@@ -1,14 +1,13 @@
 -- The instructions that a listing tells: at different offsets, and apart from one another.
-use Rattle.std.proofs.Common.{◌≡◌, ℕ, zero, suc, ◌+◌, ◌*◌, ◌<◌, ◌≤◌, List, [], ◌∷◌, ◌++◌, length, refl, sym, ap, ◌∙◌, subst, inl, inr, arith}
+use Rattle.std.proofs.Common.{◌≡◌, ℕ, ◌+◌, ◌*◌, ◌<◌, ◌≤◌, List, [], ◌∷◌, length, refl, ap, subst, inl, inr, arith}
 use Rattle.std.specs.Prelude.{◌⊎◌}
 use Rattle.dcc_machine.specs.declared.cpu.Cpu.{Cpu}
 use Rattle.dcc_machine.specs.declared.instr.Op.{Op}
-use Rattle.dcc_machine.specs.declared.instr.Instr.{Instr}
 use Rattle.dcc_machine.specs.Load.{load_segment}
 use Rattle.dcc_encode.specs.Encoding.{IsEncoding}
 use Rattle.dcc_list.specs.Text.{IsOffset, AreBytes, Gives, StandsFor, bytes_line, operation_line, odd_line, standard as gives_standard, odd as gives_odd}
-use Rattle.dcc_asm.specs.Form.{Form, bytes, operation, odd, form_line}
-use Rattle.dcc_asm.specs.Instructions.{TellsInstruction, standard as tells_standard, odd as tells_odd, TellInstruction, HasInstruction, HasInstructionLine, IsInside}
+use Rattle.dcc_asm.specs.Form.{bytes, operation, odd}
+use Rattle.dcc_asm.specs.Instructions.{TellsInstruction, standard as tells_standard, odd as tells_odd, TellInstruction, HasInstruction}
 use Rattle.dcc_asm.specs.Laws.{InstructionLinesAreApart}
 use Rattle.dcc_asm.proofs.ReadForm.{forms-same}
 use Rattle.dcc_asm.proofs.StepLaws.{offset-same}

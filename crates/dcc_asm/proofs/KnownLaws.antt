@@ -1,5 +1,5 @@
 -- Which operations some processor has: each jump, and what the later processor has at the first offset.
-use Rattle.std.proofs.Common.{◌≡◌, ℕ, zero, suc, ◌+◌, ◌%◌, ◌<◌, ◌≤◌, Bool, true, false, List, [], ◌∷◌, ◌++◌, length, All, refl, sym, ap, ◌∙◌, subst, inl, inr, arith}
+use Rattle.std.proofs.Common.{◌≡◌, ℕ, zero, suc, ◌+◌, ◌%◌, ◌<◌, Bool, true, false, List, [], ◌∷◌, ◌++◌, length, All, refl, ap, ◌∙◌, subst, inl, inr, arith}
 use Rattle.std.specs.Prelude.{◌⊎◌, slice_get, Option, Some, None}
 use Rattle.std.proofs.lemmas.Bool.{cases_lt}
 use Rattle.dcc_num.specs.Numbers.{sign_extension_of, signed_of}
@@ -11,7 +11,7 @@ use Rattle.dcc_machine.specs.declared.instr.Op.{Op}
 use Rattle.dcc_machine.specs.declared.instr.Op.TheVariants.{Jump, Branch, Loop, LoopE, LoopNe, Jcxz, Call}
 use Rattle.dcc_machine.specs.declared.instr.Instr.{Instr}
 use Rattle.dcc_machine.specs.Bytes.{word_at}
-use Rattle.dcc_machine.specs.Table.{Row, Parts, row_parts, row_instruction, row_length, matches, table, instruction_at, arithmetic_rows, unary_rows, stack_rows, move_rows, control_rows, plain_rows, later_rows, rows_besides}
+use Rattle.dcc_machine.specs.Table.{Row, Parts, row_parts, row_length, table, instruction_at, arithmetic_rows, unary_rows, stack_rows, move_rows, control_rows, plain_rows, later_rows, rows_besides}
 use Rattle.dcc_machine.proofs.TableLaws.{instruction-row, instruction-of_row, later_processor}
 use Rattle.dcc_encode.specs.Encoding.{IsEncoding}
 use Rattle.dcc_asm.specs.Fault.{IsKnown}

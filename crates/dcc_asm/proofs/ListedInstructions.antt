@@ -1,5 +1,5 @@
 -- The instruction lines of a program's listing tell the program's instructions, each but those inside others.
-use Rattle.std.proofs.Common.{◌≡◌, ℕ, zero, suc, ◌+◌, ◌-◌, ◌*◌, ◌<◌, ◌≤◌, Bool, true, false, List, [], ◌∷◌, ◌++◌, length, take, drop, Option, Some, None, All, refl, sym, ap, ◌∙◌, subst, inl, inr, add-zero, arith, min, length-drop, length-take}
+use Rattle.std.proofs.Common.{◌≡◌, ℕ, zero, suc, ◌+◌, ◌-◌, ◌*◌, ◌<◌, ◌≤◌, Bool, true, false, List, [], ◌∷◌, ◌++◌, length, take, drop, Some, None, All, refl, sym, ap, ◌∙◌, subst, inl, inr, add-zero, arith, min, length-drop, length-take}
 use Rattle.std.specs.Prelude.{◌⊎◌, ◌==◌, ◌||◌, ◌&&◌, nat_le, nat_lt, if◌then◌else◌, Contains, slice_index_or}
 use Rattle.std.specs.List.{AllByRecursion, list_any}
 use Rattle.std.proofs.lemmas.Bool.Decides.{nat_tests}
@@ -12,9 +12,8 @@ use Rattle.dcc_machine.specs.Code.{code_of}
 use Rattle.dcc_machine.specs.Load.{load_segment}
 use Rattle.dcc_machine.specs.MzImage.{IsLoaded}
 use Rattle.dcc_machine.specs.Table.{instruction_at}
-use Rattle.dcc_machine.proofs.MzImageLaws.{cs-loaded, code_len-loaded, length-loaded, All-loaded}
+use Rattle.dcc_machine.proofs.MzImageLaws.{cs-loaded, code_len-loaded, All-loaded}
 use Rattle.dcc_machine.proofs.TableLaws.{instruction-length}
-use Rattle.dcc_prog.specs.declared.procedure.Layout.{Layout}
 use Rattle.dcc_prog.specs.declared.procedure.Node.{Node}
 use Rattle.dcc_prog.specs.declared.procedure.Proc.{Proc}
 use Rattle.dcc_prog.specs.declared.frame.Program.{Program}
@@ -23,11 +22,11 @@ use Rattle.dcc_prog.specs.Found.{IsFound, IsNodeFound}
 use Rattle.dcc_prog.specs.Layout.{IsRun, IsPrelude}
 use Rattle.dcc_prog.proofs.PreludeLaws.{prelude-once}
 use Rattle.dcc_encode.specs.Encoding.{IsEncoding}
-use Rattle.dcc_list.specs.Text.{IsOffset, AreBytes, Gives, StandsFor, bytes_line, bytes as gives_bytes}
+use Rattle.dcc_list.specs.Text.{IsOffset, AreBytes, StandsFor, bytes_line, bytes as gives_bytes}
 use Rattle.dcc_list.specs.Listed.{is_among, offsets_from, has_node, is_listed, lines_for_people, offset_of, people_at, listed_at, labelled_at, begins_line, IsInstructionLine, Lists, at_end, instruction as listed_instruction, bytes as listed_bytes, standard as standard_line, odd as odd_instruction, IsListing}
 use Rattle.dcc_list.proofs.Ready.{in_code}
 use Rattle.dcc_list.proofs.Standing.{IsQuiet, people-quiet, people-at-quiet, line-given, part_bytes, instruction_within, offset_of-is, listing-begins}
-use Rattle.dcc_asm.specs.Instructions.{IsAmong, IsInstructionOf, of_prelude, of_procedure, TellsInstruction, standard as tells_standard, odd as tells_odd, TellInstruction, HasInstruction, HasInstructionLine, IsInside}
+use Rattle.dcc_asm.specs.Instructions.{IsAmong, IsInstructionOf, of_prelude, of_procedure, TellsInstruction, standard as tells_standard, odd as tells_odd, TellInstruction, HasInstruction}
 use Rattle.dcc_asm.specs.Laws.{ProgramHasOneInstruction, InstructionLinesAreOfProgram, InstructionsHaveLines}
 use Rattle.dcc_asm.proofs.StepLaws.{offset-same}
 use Rattle.dcc_asm.proofs.LineLaws.{gives-unique}

@@ -1,26 +1,25 @@
 -- What a line tells is read back from it. So a line tells one thing at most.
-use Rattle.std.proofs.Common.{◌≡◌, ℕ, zero, suc, ◌+◌, ◌-◌, ◌*◌, ◌/◌, ◌%◌, ◌<◌, ◌≤◌, Bool, true, false, List, [], ◌∷◌, ◌++◌, length, take, drop, get_or, Fits, w8, All, codes, refl, sym, ap, ◌∙◌, subst, arith}
+use Rattle.std.proofs.Common.{◌≡◌, ℕ, suc, ◌+◌, ◌-◌, ◌/◌, ◌%◌, ◌<◌, Bool, true, false, List, [], ◌∷◌, ◌++◌, length, take, drop, All, refl, sym, ap, ◌∙◌, subst, arith}
 use Rattle.std.specs.Prelude.{Option, Some, None, ◌==◌, ◌&&◌, not, nat_le, if◌then◌else◌, cond, option_map}
 use Rattle.std.specs.Fmt.{digit_glyph}
-use Rattle.std.specs.List.{list_all, position_or_len, prefix_len}
+use Rattle.std.specs.List.{list_all, prefix_len}
 use Rattle.std.proofs.lemmas.Bool.Decides.{nat_tests}
-use Rattle.std.proofs.lemmas.List.{get_or_default}
 use Rattle.dcc_machine.specs.declared.instr.Op.{Op}
 use Rattle.dcc_machine.proofs.TableLaws.{and_both}
-use Rattle.dcc_spelled.specs.Hex.{hex_byte, hex_word, hex_bytes}
+use Rattle.dcc_spelled.specs.Hex.{hex_bytes}
 use Rattle.dcc_spelled.specs.Spelling.{spelling}
 use Rattle.dcc_reread.specs.Reading.{byte_of, word_value, operation_in}
 use Rattle.dcc_reread.proofs.LawsOfSpellings.{spelling_read_back}
 use Rattle.dcc_reread.proofs.Named.{spelling-text}
 use Rattle.dcc_reread.proofs.ReadBack.{byte-back, word-back, take-all, drop-all}
-use Rattle.dcc_list.specs.Text.{AreBytes, comment_line, place_line, bytes_line, operation_line, odd_line}
+use Rattle.dcc_list.specs.Text.{comment_line, place_line, operation_line}
 use Rattle.dcc_asm.specs.declared.line.Line.{Line}
 use Rattle.dcc_asm.specs.Fault.{IsKnown, HasForm, comment as comment_form, place as place_form, bytes as bytes_form, operation as operation_form, odd as odd_line_form}
-use Rattle.dcc_asm.specs.Form.{Form, place, bytes, operation, odd, form_of, form_line, IsValid, IsSized, pairs, is_bytes_line, is_odd_line, spelling_place, odd_form, read_form, Tells, IsReading}
+use Rattle.dcc_asm.specs.Form.{Form, place, bytes, operation, odd, form_of, form_line, IsValid, IsSized, pairs, is_bytes_line, is_odd_line, spelling_place, odd_form, read_form, IsReading}
 
 -- Digits -------------------------------------------------------------------------------------
 
-digit-no_space : (d : ℕ) → digit_glyph true d == 32 ≡ false
+pub digit-no_space : (d : ℕ) → digit_glyph true d == 32 ≡ false
 digit-no_space d = grind (arith, nat_tests)
 
 digit-no_comment : (d : ℕ) → digit_glyph true d == 59 ≡ false

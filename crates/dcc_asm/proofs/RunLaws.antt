@@ -1,9 +1,10 @@
 -- Line after line, and the whole text.
-use Rattle.std.proofs.Common.{◌≡◌, ℕ, zero, suc, ◌+◌, ◌<◌, ◌≤◌, Bool, true, false, List, [], ◌∷◌, ◌++◌, length, take, drop, Some, None, All, codes, refl, sym, ap, ◌∙◌, subst, inl, inr, append_assoc, arith}
+use Rattle.std.proofs.Common.{◌≡◌, ℕ, zero, suc, ◌+◌, ◌<◌, ◌≤◌, false, List, [], ◌∷◌, ◌++◌, length, Some, None, All, refl, sym, ap, ◌∙◌, subst, append_assoc, arith}
+use Rattle.std.specs.Prelude.{Option, Result, Ok, Err, IfErr, ◌==◌}
 use Rattle.std.proofs.lemmas.List.{length-append}
 use Rattle.std.proofs.lemmas.List.Elements.{All-append}
 use Rattle.dcc_machine.specs.declared.cpu.Cpu.{Cpu}
-use Rattle.dcc_list.specs.Text.{Gives, GivesInTurn, none, next, text_of, IsLine, head_line, Begins, StandsFor}
+use Rattle.dcc_list.specs.Text.{Gives, GivesInTurn, none, next, text_of, IsLine, head_line}
 use Rattle.dcc_machine.proofs.MzImageLaws.{length-loaded}
 use Rattle.dcc_list.proofs.PeopleLaws.{text_of-append}
 use Rattle.dcc_list.proofs.Standing.{listing_stands}
@@ -11,8 +12,8 @@ use Rattle.dcc_asm.specs.declared.fault.ListKind.{ListKind}
 use Rattle.dcc_asm.specs.declared.fault.ListKind.TheVariants.{Word}
 use Rattle.dcc_asm.specs.declared.fault.ListFault.{ListFault}
 use Rattle.dcc_asm.specs.declared.fault.ListFault.TheVariants.{At, Memory}
-use Rattle.dcc_asm.specs.Fault.{text_most, bytes_most, IsAssembled, IsFaultOf, IsFirstFault, BeginsWith, Offends, at_line as first_line, unended as first_unended}
-use Rattle.dcc_asm.specs.Steps.{Grows, Passes, AreGiven, Reads, OffendsFirst, at_line as line, unended, IsFaultOfLines}
+use Rattle.dcc_asm.specs.Fault.{text_most, IsAssembled, IsFaultOf, IsFirstFault, BeginsWith, Offends, at_line as first_line, unended as first_unended}
+use Rattle.dcc_asm.specs.Steps.{IsDone, Grows, Passes, AreGiven, Reads, OffendsFirst, at_line as line, unended, IsFaultOfLines}
 use Rattle.dcc_asm.specs.Laws.{ListingIsAssembled}
 use Rattle.dcc_asm.proofs.TextLaws.{first-of}
 
@@ -82,6 +83,16 @@ rest-less left l rest e =
     let feed : length (text_of (l ∷ [])) ≡ length l + 1 = length-append l (10 ∷ []) in
     omega arith
 
+pub some-left : (left : List ℕ) → false ≡ (length left == 0) → 0 < length left
+some-left [] h = let f : ⊥ = cc in absurd f
+some-left (b ∷ left) h = omega arith
+
+-- what a line gives that doesn't offend
+pub grown-by : (cpu : Cpu) (cs : ℕ) (old new line : List ℕ) (found : Option ListKind) → ((kind : ListKind) → found ≡ Some kind → ⊥)
+    → IsDone cpu cs old new line found → Grows cpu cs old new line
+grown-by cpu cs old new l None never h = h
+grown-by cpu cs old new l (Some kind) never h = absurd (never kind refl)
+
 -- all lines have been read
 pub reads-done : (cpu : Cpu) (cs : ℕ) (text image left : List ℕ) (number : ℕ) → Reads cpu cs text image left number → left ≡ [] → AreGiven cpu cs text image
 reads-done cpu cs text image left number h e = record {
@@ -143,6 +154,11 @@ pub fault-first : (cpu : Cpu) (cs : ℕ) (text rest : List ℕ) (fault : ListFau
     → IsFaultOfLines cpu cs rest fault → IsFaultOf text fault
 fault-first cpu cs text rest (At number kind) fits e h = offends-first cpu cs text rest number kind fits e h
 fault-first cpu cs text rest Memory fits e h = tt
+
+pub faults-first : {T : Type 0} (cpu : Cpu) (cs : ℕ) (text rest : List ℕ) (result : Result T ListFault) → length text ≤ text_most
+    → text ≡ text_of (head_line cpu cs ∷ []) ++ rest → IfErr result (IsFaultOfLines cpu cs rest) → IfErr result (IsFaultOf text)
+faults-first cpu cs text rest (Ok told) fits e h = tt
+faults-first cpu cs text rest (Err fault) fits e h = fault-first cpu cs text rest fault fits e h
 
 -- the listing of a program's image
 pub listing_assembled : ListingIsAssembled

@@ -1,24 +1,21 @@
 -- What each line gives, and how it offends.
-use Rattle.std.proofs.Common.{◌≡◌, ℕ, zero, suc, ◌+◌, ◌*◌, ◌<◌, ◌≤◌, Bool, true, false, List, [], ◌∷◌, ◌++◌, length, take, drop, get_or, Fits, w8, All, codes, refl, sym, ap, ◌∙◌, subst, arith}
-use Rattle.std.specs.Prelude.{Option, Some, None, MatchOption, ◌==◌}
-use Rattle.std.proofs.lemmas.Bool.Decides.{nat_tests}
+use Rattle.std.proofs.Common.{◌≡◌, ℕ, zero, suc, ◌+◌, ◌/◌, ◌<◌, ◌≤◌, Bool, true, false, List, [], ◌∷◌, ◌++◌, length, drop, get_or, Fits, w8, All, refl, sym, ap, ◌∙◌, subst, arith}
+use Rattle.std.specs.Prelude.{Option, Some, None, MatchOption, ◌==◌, Result, Ok, Err, IfOk, ◌-◌, ◌%◌, not, nat_lt, if◌then◌else◌, option_map}
 use Rattle.std.proofs.lemmas.List.{get_or_default, length-append}
+use Rattle.std.specs.declared.alloc.AllocError.{AllocError}
 use Rattle.smallvec.specs.SmallVec.{SmallVec}
 use Rattle.dcc_machine.specs.declared.cpu.Cpu.{Cpu}
-use Rattle.dcc_machine.specs.declared.cpu.Cpu.TheVariants.{I8086, I186}
 use Rattle.dcc_machine.specs.declared.instr.Op.{Op}
 use Rattle.dcc_machine.proofs.TableLaws.{instruction-length}
 use Rattle.dcc_encode.specs.Encoding.{IsEncoding, IsStandard}
-use Rattle.dcc_reread.specs.Reading.{byte_of}
-use Rattle.dcc_list.specs.Text.{IsOffset, AreBytes, Gives, comment_line, operation_line, odd_line, comment, at_place, bytes as gives_bytes, standard as gives_standard, odd as gives_odd}
-use Rattle.dcc_asm.specs.declared.line.Line.{Line}
+use Rattle.dcc_reread.specs.Reading.{byte_of, digit_value, word_value, operation_in}
+use Rattle.dcc_list.specs.Text.{IsOffset, AreBytes, Gives, comment_line, place_line, bytes_line, operation_line, odd_line, comment, at_place, bytes as gives_bytes, standard as gives_standard, odd as gives_odd}
 use Rattle.dcc_asm.specs.declared.fault.ListKind.{ListKind}
-use Rattle.dcc_asm.specs.declared.fault.ListKind.TheVariants.{Length, Word, Range, Odd, Place}
-use Rattle.dcc_asm.specs.Fault.{bytes_most, IsKnown, IsEncodable, IsOdd, Offends, no_form as word, other_place as offends_place, no_encoding as range, not_odd as offends_odd, too_many, HasForm}
-use Rattle.dcc_asm.specs.Form.{Form, form_of, form_line, read_form, operation, odd, Tells, IsReading, IsValid}
-use Rattle.dcc_asm.specs.Steps.{target_of, IsStandardAt, Grows, IsDone}
-use Rattle.dcc_asm.proofs.KnownLaws.{known-target, known-first}
-use Rattle.dcc_asm.proofs.ReadForm.{no-form, none-form}
+use Rattle.dcc_asm.specs.declared.fault.ListKind.TheVariants.{Word, Range, Odd, Place}
+use Rattle.dcc_asm.specs.Fault.{bytes_most, IsKnown, IsEncodable, IsOdd, no_form as word, other_place as offends_place, no_encoding as range, not_odd as offends_odd}
+use Rattle.dcc_asm.specs.Form.{Form, place as form_place, bytes as form_bytes, pairs, is_bytes_line, is_odd_line, odd_form, form_line, read_form, operation, odd, Tells, IsReading}
+use Rattle.dcc_asm.specs.Steps.{IsStandardAt, IsDone}
+use Rattle.dcc_asm.proofs.ReadForm.{digit-no_space, no-form, none-form}
 
 -- Offsets ------------------------------------------------------------------------------------
 
@@ -129,3 +126,89 @@ odd-gives cpu cs place told op h = gives_odd h.is_offset h.encoding h.other
 -- a line that has no form and isn't for people
 pub word-done : (cpu : Cpu) (cs : ℕ) (old new line : List ℕ) → byte_of line 0 == 59 ≡ false → IsReading line None → IsDone cpu cs old new line (Some Word)
 word-done cpu cs old new line other none = word (none-form line other none)
+
+-- What a line tells ---------------------------------------------------------------------------
+
+digit-small : (digit : ℕ) → digit_value digit < 16
+digit-small digit = picked (nat_lt digit 58) (digit - 48) (digit - 55)
+  where
+    picked : (b : Bool) (x y : ℕ) → (if b then x % 16 else y % 16) < 16
+    picked true x y = omega arith
+    picked false x y = omega arith
+
+pairs-small : (text : List ℕ) → All (λ byte. byte < 256) (pairs text)
+pairs-small [] k d l = absurd (omega arith)
+pairs-small (a ∷ []) k d l = absurd (omega arith)
+pairs-small (a ∷ b ∷ []) k d l = absurd (omega arith)
+pairs-small (a ∷ b ∷ e ∷ rest) zero d l =
+    let high = digit-small b in let low = digit-small e in omega (arith, high, low)
+pairs-small (a ∷ b ∷ e ∷ rest) (suc k) d l = pairs-small rest k d (omega arith)
+
+word-small : (text : List ℕ) (at : ℕ) → word_value text at < 65536
+word-small text at =
+    let a = digit-small (byte_of text at) in
+    let b = digit-small (byte_of text (at + 1)) in
+    let e = digit-small (byte_of text (at + 2)) in
+    let f = digit-small (byte_of text (at + 2 + 1)) in
+    omega (arith, a, b, e, f)
+
+place-small : (at : ℕ) → read_form (place_line at) ≡ Some (form_place at) → at < 65536
+place-small at e =
+    let first : Some (form_place (word_value (place_line at) 0)) ≡ read_form (place_line at) =
+    sym (ap (λ b. if not b then Some (form_place (word_value (place_line at) 0)) else rest) (digit-no_space (at / 256 / 16 % 16))) in
+    let same : Some (form_place (word_value (place_line at) 0)) ≡ Some (form_place at) = first ∙ e in
+    let one : word_value (place_line at) 0 ≡ at = cc in
+    subst (λ n. n < 65536) one (word-small (place_line at) 0)
+  where
+    rest : Option Form
+    rest =
+        if is_bytes_line (place_line at) then Some (form_bytes (pairs (drop 6 (place_line at))))
+        else if is_odd_line (place_line at) then odd_form (drop 7 (place_line at))
+        else option_map operation (operation_in (drop 4 (place_line at)))
+
+bytes-small : (told : List ℕ) → read_form (bytes_line told) ≡ Some (form_bytes told) → All (λ byte. byte < 256) told
+bytes-small [] e = λ k d l. absurd (omega arith)
+bytes-small (b ∷ told) e =
+    let same : pairs (drop 6 (bytes_line (b ∷ told))) ≡ b ∷ told = cc in
+    subst (All (λ byte. byte < 256)) same (pairs-small (drop 6 (bytes_line (b ∷ told))))
+
+-- what a line tells that has this form
+told-as : (form known : Form) → form ≡ known → Tells (form_line form) form → Tells (form_line known) known
+told-as form known e tells = subst (λ f. Tells (form_line f) f) e tells
+
+pub told-read : (form known : Form) → form ≡ known → Tells (form_line form) form → read_form (form_line known) ≡ Some known
+told-read form known e tells = (told-as form known e tells).is_read
+
+pub place-stays : (cpu : Cpu) (cs : ℕ) (old : List ℕ) (form : Form) (at : ℕ) → form ≡ form_place at → Tells (form_line form) form
+    → length old ≤ bytes_most → IsOffset cs (length old) at → IsDone cpu cs old old (form_line form) None
+place-stays cpu cs old form at e tells fits is =
+    let small = place-small at (told-read form (form_place at) e tells) in
+    subst (λ f. IsDone cpu cs old old (form_line f) None) (sym e) (stays cpu cs old (place_line at) fits (at_place small is))
+
+pub place-offends : (cpu : Cpu) (cs : ℕ) (old new : List ℕ) (form : Form) (at : ℕ) → form ≡ form_place at → Tells (form_line form) form
+    → ¬ IsOffset cs (length old) at → IsDone cpu cs old new (form_line form) (Some Place)
+place-offends cpu cs old new form at e tells other =
+    let small = place-small at (told-read form (form_place at) e tells) in
+    subst (λ f. IsDone cpu cs old new (form_line f) (Some Place)) (sym e) (offends_place small other)
+
+pub bytes-give : (cpu : Cpu) (cs here : ℕ) (form : Form) (told : List ℕ) → form ≡ form_bytes told → Tells (form_line form) form
+    → Gives cpu cs here (form_line form) told
+bytes-give cpu cs here form told e tells =
+    let is = told-as form (form_bytes told) e tells in
+    let are : AreBytes told = record { some = is.is_sized.0; each = bytes-small told is.is_read } in
+    subst (λ f. Gives cpu cs here (form_line f) told) (sym e) (gives_bytes are is.is_sized.1)
+
+pub tells-itself : (text : List ℕ) (form : Form) → Tells text form → Tells (form_line form) form
+tells-itself text form h = subst (λ (t : List ℕ). Tells t form) h.is_line h
+
+-- Answers of calls ---------------------------------------------------------------------------
+
+pub never : (b : Bool) → b ≡ false → b ≡ true → ⊥
+never b h k = let f : ⊥ = cc in f
+
+-- bytes that the line gives were appended, or are too many
+pub done-by : (cpu : Cpu) (cs : ℕ) (old new told line : List ℕ) (result : Result (Option ListKind) AllocError)
+    → IfOk result (λ kind. (line : List ℕ) → Gives cpu cs (length old) line told → IsDone cpu cs old new line kind)
+    → Gives cpu cs (length old) line told → IfOk result (IsDone cpu cs old new line)
+done-by cpu cs old new told line (Ok kind) h gives = h line gives
+done-by cpu cs old new told line (Err error) h gives = tt

@@ -1,5 +1,5 @@
 -- A text is assembled to one list of bytes at most, or one line of it offends first, in one way.
-use Rattle.std.proofs.Common.{◌≡◌, ℕ, zero, suc, ◌+◌, ◌<◌, ◌≤◌, Bool, true, false, List, [], ◌∷◌, ◌++◌, length, take, drop, get_or, slice_index_or, Some, None, All, Contains, codes, refl, sym, ap, ◌∙◌, subst, inl, inr, append_assoc, arith}
+use Rattle.std.proofs.Common.{◌≡◌, ℕ, suc, ◌+◌, ◌<◌, ◌≤◌, List, [], ◌∷◌, ◌++◌, length, drop, All, refl, sym, ap, ◌∙◌, subst, append_assoc, arith}
 use Rattle.std.proofs.lemmas.List.{length-append}
 use Rattle.dcc_machine.specs.declared.cpu.Cpu.{Cpu}
 use Rattle.dcc_machine.specs.declared.cpu.Cpu.TheVariants.{I8086, I186}
@@ -8,7 +8,7 @@ use Rattle.dcc_reread.proofs.ReadBack.{word-back}
 use Rattle.dcc_list.specs.Text.{Gives, GivesInTurn, none, next, text_of, IsLine, head_line, Begins, StandsFor}
 use Rattle.dcc_asm.specs.declared.fault.ListKind.{ListKind}
 use Rattle.dcc_asm.specs.declared.fault.ListKind.TheVariants.{Length, Head, Word}
-use Rattle.dcc_asm.specs.Fault.{text_most, bytes_most, IsAssembled, Offends, HasHead, BeginsWith, IsFirstFault, too_long, no_head as head, at_line as line, unended}
+use Rattle.dcc_asm.specs.Fault.{text_most, bytes_most, Offends, HasHead, BeginsWith, IsFirstFault, too_long, no_head as head, at_line as line, unended}
 use Rattle.dcc_asm.specs.Laws.{BytesAreUnique, FaultIsUnique, AssembledHasNoFault}
 use Rattle.dcc_asm.proofs.LineLaws.{gives-unique, offends-not_gives, offends-same}
 

@@ -6,6 +6,7 @@ ghost use Rattle.dcc_asm.specs.Fault.{IsAssembled, IsFaultOf, text_most};
 ghost use Rattle.dcc_asm.specs.Steps.{digits_place, IsHeadingFor, IsHeading, AreGiven, IsFaultOfLines};
 
 use crate::fault::{ListFault, ListKind};
+use crate::line::is_same;
 use crate::step::push_line;
 use dcc_list::push_head;
 use dcc_machine::Cpu;
@@ -41,7 +42,12 @@ fn digits_place(cpu: Cpu) -> usize
 fn behind_head<'a>(text: &'a [u8], head: &[u8]) -> Option<&'a [u8]>
     ensures { MatchOption result ((rest : List ℕ) → text.now ≢ head.now ++ rest) (λ rest. text.now ≡ head.now ++ rest.now) }
 {
-    text.strip_prefix(head)
+    let size = head.len();
+    if size <= text.len() && is_same(&text[..size], head) {
+        Some(&text[size..])
+    } else {
+        None
+    }
 }
 
 // The first line, where it tells this processor and a code segment.
@@ -92,17 +98,21 @@ fn assemble_lines(alloc: Global, cpu: Cpu, cs: u16, text: &[u8]) -> Result<Vec<u
     let mut left = text;
     let mut number: u32 = 2;
     while !left.is_empty() {
-        let Some((line, rest)) = first_line(left) else {
-            return Err(ListFault::At {
-                line: number,
-                kind: ListKind::Word,
-            });
-        };
-        if let Some(kind) = push_line(alloc, cpu, cs, &mut image, line)? {
-            return Err(ListFault::At { line: number, kind });
+        match first_line(left) {
+            Some((line, rest)) => {
+                if let Some(kind) = push_line(alloc, cpu, cs, &mut image, line)? {
+                    return Err(ListFault::At { line: number, kind });
+                }
+                left = rest;
+                number += 1;
+            }
+            None => {
+                return Err(ListFault::At {
+                    line: number,
+                    kind: ListKind::Word,
+                });
+            }
         }
-        left = rest;
-        number += 1;
     }
     Ok(image)
 }

@@ -123,8 +123,8 @@ fn push_line(text: &mut Vec<u8>, line: &Line) -> Result<(), AllocError>
     }
 }
 
-// Whether two lists of bytes are one.
-fn is_same(bytes: &[u8], others: &[u8]) -> bool
+/// Whether two lists of bytes are one.
+pub(crate) fn is_same(bytes: &[u8], others: &[u8]) -> bool
     ensures { IsTrue result ↔ (bytes.now ≡ others.now) }
 {
     bytes == others
@@ -150,16 +150,30 @@ fn is_sized(line: &Line) -> bool
     }
 }
 
+// Whether the text is the line that tells this, with bytes that are neither none nor too many.
+fn is_told(alloc: Global, line: &Line, text: &[u8]) -> Result<bool, AllocError>
+    ensures { IfOk result (λ answer. IsTrue answer
+        ↔ (IsSized (form_of line.now) × (text.now ≡ form_line (form_of line.now)))) }
+{
+    if is_sized(line) {
+        is_written(alloc, line, text)
+    } else {
+        Ok(false)
+    }
+}
+
 /// What a line tells that is no line for people. None where it has no form.
 pub fn line_in(alloc: Global, text: &[u8]) -> Result<Option<Line>, AllocError>
     ensures { IfOk result (IsReading text.now) }
 {
-    let Some(line) = read(alloc, text)? else {
-        return Ok(None);
-    };
-    if is_sized(&line) && is_written(alloc, &line, text)? {
-        Ok(Some(line))
-    } else {
-        Ok(None)
+    match read(alloc, text)? {
+        Some(line) => {
+            if is_told(alloc, &line, text)? {
+                Ok(Some(line))
+            } else {
+                Ok(None)
+            }
+        }
+        None => Ok(None),
     }
 }

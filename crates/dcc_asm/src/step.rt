@@ -9,7 +9,7 @@ ghost use Rattle.dcc_asm.specs.Steps.{IsDone, IsStandardAt};
 
 use crate::fault::ListKind;
 use crate::known::is_known;
-use crate::line::{Line, line_in};
+use crate::line::{Line, is_same, line_in};
 use dcc_encode::{Bytes, is_encoding, standard};
 use dcc_machine::{Cpu, LOAD_SEGMENT, Op};
 use dcc_reread::byte_of;
@@ -107,7 +107,7 @@ fn is_standard(alloc: Global, cpu: Cpu, at: u16, op: Op, bytes: &[u8]) -> Result
     ensures { IfOk result (λ answer. IsTrue answer ↔ IsStandard cpu at op bytes.now) }
 {
     match standard(alloc, op, at, cpu)? {
-        Some(best) => Ok(best.as_slice() == bytes),
+        Some(best) => Ok(is_same(best.as_slice(), bytes)),
         None => Ok(false),
     }
 }
