@@ -13,7 +13,6 @@ ghost use Rattle.dcc_tidy.specs.Tidied as spec;
 ghost use Rattle.dcc_tidy.specs.Tidied.{MayStandInText, HasPassesDone, IsTidiedGraph};
 
 use dcc_available::substitute;
-use dcc_divisions::drop_divisions;
 use dcc_ir::{Graph, Sums};
 use dcc_live::{drop_dead, live};
 use dcc_loads::loads_as_sets;
@@ -58,8 +57,7 @@ fn round(alloc: Global, graph: Graph, rules: &RuleList) -> Result<Graph, AllocEr
 {
     let simple = simplified(alloc, graph, rules)?;
     let rewritten = substitute(alloc, simple)?;
-    let divided = drop_divisions(alloc, rewritten)?;
-    let after = without_dead(alloc, divided)?;
+    let after = without_dead(alloc, rewritten)?;
     Ok(after)
 }
 

@@ -1,4 +1,0 @@
-pub mod FaultLaws
-pub mod StandLaws
-pub mod LeftLaws
-pub mod WalkLaws
