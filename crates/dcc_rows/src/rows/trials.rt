@@ -7,7 +7,7 @@ use std::test::Fail;
 // The words after `trial`, the lines before the length of the text, and the lines after it.
 type Row = ([&'static str; 3], &'static str, &'static str);
 
-static ROWS: [Row; 2] = [
+static ROWS: [Row; 3] = [
     (
         ["0", "1", "0"],
         "file 720\nprocedures 9\ntext ",
@@ -17,6 +17,11 @@ static ROWS: [Row; 2] = [
         ["0", "1", "100000"],
         "file 720\nprocedures 9\ntext ",
         "\nmachine 9 exit 0\nc 9 exit 0\nprefix yes\n",
+    ),
+    (
+        ["7", "400", "100000"],
+        "file 2128\nprocedures 9\ntext ",
+        "\nmachine 107 exit 0\nc 107 exit 0\nprefix yes\n",
     ),
 ];
 
