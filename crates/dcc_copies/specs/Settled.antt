@@ -9,6 +9,7 @@ use Rattle.dcc_ir.specs.Use.{reads_of, exprs_of, exit_exprs}
 use Rattle.dcc_ir.specs.Flow.{targets}
 use Rattle.dcc_ir.specs.WellFormed.{is_location}
 use Rattle.dcc_passes.specs.Renaming.{renamed_stmt, renamed_exit}
+use Rattle.dcc_webs.specs.Temporaries.{is_temp}
 use Rattle.dcc_copies.specs.Held.{Held, is_own_copy, held_after, held_after_all}
 
 -- The graph with names for locations.
@@ -49,11 +50,12 @@ module _ (name : Loc → Loc) where
     pub goes : (to : ℕ) → Contains (targets block.exit) to → (location : Loc) → begins to location ≡ true
         → held_after_all name block.stmts (begins place) location ≡ true
 
-  -- A name has its location's width. Where the graph begins, just those locations are held that are their own names.
+  -- A name has its location's width, and is a temporary where that is one. Where the graph begins, no locations are held
+  -- but those that are their own names.
   pub record IsRight (graph : Graph) : Type 0 where
     pub widths : (location : Loc) → location_width graph.bits (name location) ≡ location_width graph.bits location
-    pub places : (location : Loc) → is_location graph.bits location ≡ true
-        → is_location graph.bits (name location) ≡ true
+    pub places : (location : Loc) → is_location graph.bits (name location) ≡ is_location graph.bits location
+    pub temps : (location : Loc) → is_temp (name location) ≡ is_temp location
     pub begins : ℕ → Held
     pub start : (location : Loc) → begins 0 location ≡ true → name location ≡ location
     pub blocks : (place : ℕ) (block : Block) → slice_get graph.blocks place ≡ Some block

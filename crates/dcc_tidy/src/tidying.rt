@@ -13,6 +13,7 @@ ghost use Rattle.dcc_tidy.specs.Tidied as spec;
 ghost use Rattle.dcc_tidy.specs.Tidied.{MayStandInText, HasPassesDone, IsTidiedGraph};
 
 use dcc_available::substitute;
+use dcc_copies::settle_copies;
 use dcc_ir::{Graph, Sums};
 use dcc_live::{drop_dead, live};
 use dcc_loads::loads_as_sets;
@@ -56,7 +57,8 @@ fn round(alloc: Global, graph: Graph, rules: &RuleList) -> Result<Graph, AllocEr
 {
     let simple = simplified(alloc, graph, rules)?;
     let rewritten = substitute(alloc, simple)?;
-    let after = without_dead(alloc, rewritten)?;
+    let wanted = without_dead(alloc, rewritten)?;
+    let after = settle_copies(alloc, wanted)?;
     Ok(after)
 }
 

@@ -1,0 +1,5 @@
+pub mod HeldLaws
+pub mod FollowLaws
+pub mod FormLaws
+pub mod TreeLaws
+pub mod SettledLaws
