@@ -3,3 +3,4 @@ pub mod FollowLaws
 pub mod FormLaws
 pub mod TreeLaws
 pub mod SettledLaws
+pub mod HolderLaws

@@ -61,6 +61,20 @@ struct Candidate {
     copy: usize,
 }
 
+impl Candidate {
+    // What the name of its source holds where that block of the chain begins: behind the copy also its own value.
+    fn entry(&self, to: u32, number: usize) -> Entry {
+        let second = if self.copy < number { to } else { self.from };
+        Entry {
+            place: to,
+            pair: Pair {
+                first: self.from,
+                second,
+            },
+        }
+    }
+}
+
 /// What a walk along chains knows of the temporaries.
 #[derive(Drop)]
 struct Walk {
@@ -235,17 +249,12 @@ impl Walk {
             let last = known.last.max(candidate.copy);
             if known.since == known.reads && last.saturating_sub(known.block) <= EDGES_MOST {
                 choice.name(candidate.from, known.to);
-                for number in known.block + 1..last + 1 {
-                    let second = if candidate.copy < number {
-                        known.to
-                    } else {
-                        candidate.from
-                    };
-                    let pair = Pair {
-                        first: candidate.from,
-                        second,
-                    };
-                    choice.hold(chain[number], Entry { place: known.to, pair })?;
+                let mut number = last;
+                while number > known.block {
+                    if let Some(place) = chain.get(number) {
+                        choice.hold(*place, candidate.entry(known.to, number))?;
+                    }
+                    number -= 1;
                 }
             }
         }
@@ -268,9 +277,12 @@ pub fn choose(alloc: Global, g: &Graph) -> Result<Choice, AllocError>
     let mut choice = Choice::new(alloc, g)?;
     for chain in chains(alloc, g)? {
         walk.begun = walk.now;
-        for number in 0..chain.len() {
-            let place = chain[number];
-            walk.pass(&g.blocks[place], &accesses[place], number)?;
+        let mut number: usize = 0;
+        for place in &chain {
+            if let (Some(block), Some(access)) = (g.blocks.get(*place), accesses.get(*place)) {
+                walk.pass(block, access, number)?;
+            }
+            number = number.saturating_add(1);
         }
         walk.settle(chain.as_slice(), &mut choice)?;
     }

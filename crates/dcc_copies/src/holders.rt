@@ -1,13 +1,19 @@
 //! Which locations are held by their names, along the statements of a block.
 
-ghost use Rattle.std.specs.Prelude.{◌≡◌, true, IfOk};
+ghost use Rattle.std.specs.Prelude.{◌≡◌, ◌<◌, true, [], ◌∷◌, length, map, IfOk};
 ghost use Rattle.std.specs.List.{list_all};
+ghost use Rattle.dcc_ir.specs.Tree.{Set as SetOf, Get as GetOf};
+ghost use Rattle.dcc_ir.specs.Use.{writes_of};
 ghost use Rattle.dcc_ir.specs.Views.{stmt_of};
-ghost use Rattle.dcc_copies.specs.Held.{Held, with_written, all_written, held_after};
+ghost use Rattle.dcc_flow.specs.Access.{access_in, access_of};
+ghost use Rattle.dcc_copies.specs.Held.{with_written, all_written, with_copied, held_after};
+ghost use Rattle.dcc_copies.specs.Settled.{stmt_reads};
 ghost use Rattle.dcc_copies.specs.Holders as spec;
-ghost use Rattle.dcc_copies.specs.Holders.{holders_of, name_by, held_by, IsSound, IsPlain};
+ghost use Rattle.dcc_copies.specs.Holders.{holders_of, with_pair, name_by, held_by, IsSound, IsPlain, IsPassed};
+ghost use Rattle.dcc_copies.specs.Holders.{AreRead, Covers};
 
 use crate::names::Names;
+use dcc_flow::Access;
 use dcc_ir::{Expr, Loc, Stmt};
 use std::alloc::{AllocError, Global};
 
@@ -27,31 +33,59 @@ pub struct Entry {
 
 /// For each name the temporaries of that name that it holds.
 #[derive(Drop)]
-pub struct Holders<'a> {
-    pub names: &'a Names,
+pub struct Holders {
     /// For each name two temporaries that it holds.
     pub pairs: Vec<Pair>,
     /// The names that may hold others than their own temporary alone.
     pub noted: Vec<u32>,
 }
 
-/// The temporary, twice.
-pub fn alone(temporary: u32) -> Pair {
+// The temporary, twice.
+fn alone(temporary: u32) -> Pair
+    ensures { result ≡ record { first = temporary; second = temporary } }
+{
     Pair {
         first: temporary,
         second: temporary,
     }
 }
 
-impl Holders<'_> {
-    /// Whether a location is held by its name.
-    pub fn holds(&self, location: Loc) -> bool
-        ensures { result ≡ spec.is_held (holders_of self.now) location }
+// Whether a name has an entry.
+fn has_entry(entries: &[Entry], place: u32) -> bool
+    ensures { result ≡ spec.has_entry entries.now place }
+{
+    for entry in entries {
+        if entry.place == place {
+            return true;
+        }
+    }
+    false
+}
+
+impl Holders {
+    /// Each name holds its own temporary alone.
+    pub fn new(alloc: Global, count: usize) -> Result<Holders, AllocError>
+        ensures { IfOk result (λ holders. IsPlain (holders_of holders)) }
+    {
+        let mut pairs = Vec::new(alloc);
+        for place in 0..count {
+            let place = u32::try_from(place).map_err(|_| AllocError)?;
+            pairs.push(alone(place))?;
+        }
+        Ok(Holders {
+            pairs,
+            noted: Vec::new(alloc),
+        })
+    }
+
+    /// Whether a location is a temporary that is held by its name.
+    pub fn holds(&self, names: &Names, location: Loc) -> bool
+        ensures { result ≡ spec.is_held names.now.of.items (holders_of self.now) location }
     {
         let Loc::Temp(temporary) = location else {
-            return true;
+            return false;
         };
-        let place = self.names.number(temporary);
+        let place = names.number(temporary);
         match self.pairs.get(place as usize) {
             Some(pair) => pair.first == temporary || pair.second == temporary,
             None => place == temporary,
@@ -59,11 +93,11 @@ impl Holders<'_> {
     }
 
     /// Whether the locations are held by their names.
-    pub fn hold_all(&self, locations: &[Loc]) -> bool
-        ensures { result ≡ list_all (spec.is_held (holders_of self.now)) locations.now }
+    pub fn hold_all(&self, names: &Names, locations: &[Loc]) -> bool
+        ensures { result ≡ list_all (spec.is_held names.now.of.items (holders_of self.now)) locations.now }
     {
         for location in locations {
-            if !self.holds(*location) {
+            if !self.holds(names, *location) {
                 return false;
             }
         }
@@ -71,28 +105,39 @@ impl Holders<'_> {
     }
 
     // A name holds these temporaries; whether there is such a name.
-    fn put(&mut self, place: u32, pair: Pair) -> Result<bool, AllocError> {
-        match self.pairs.get_mut(place as usize) {
-            Some(slot) => {
-                *slot = pair;
-                self.noted.push(place)?;
-                Ok(true)
-            }
-            None => Ok(false),
+    fn put(&mut self, place: u32, pair: Pair) -> Result<bool, AllocError>
+        ensures there { IfOk result (λ there. there ≡ true → place < length self.old.pairs.items) }
+        ensures put { IfOk result (λ there. there ≡ true
+            → holders_of self.new ≡ with_pair place pair (holders_of self.old)) }
+    {
+        if place as usize >= self.pairs.len() {
+            return Ok(false);
         }
+        self.pairs[place as usize] = pair;
+        self.noted.push(place)?;
+        Ok(true)
     }
 
     // Each name holds its own temporary alone.
-    fn clear(&mut self) {
+    fn clear(&mut self)
+        requires { IsPlain (holders_of self.old) }
+        ensures plain { IsPlain (holders_of self.new) }
+        ensures none { self.new.noted.items ≡ [] }
+    {
         while let Some(place) = self.noted.pop() {
-            if let Some(slot) = self.pairs.get_mut(place as usize) {
-                *slot = alone(place);
+            if (place as usize) < self.pairs.len() {
+                self.pairs[place as usize] = alone(place);
             }
         }
     }
 
     /// The names hold what the entries tell, and else their own temporary alone; whether there are such names.
-    pub fn begin(&mut self, entries: &[Entry]) -> Result<bool, AllocError> {
+    pub fn begin(&mut self, names: &Names, entries: &[Entry]) -> Result<bool, AllocError>
+        requires { IsPlain (holders_of self.old) }
+        ensures plain { IfOk result (λ there. there ≡ true → IsPlain (holders_of self.new)) }
+        ensures sound { IfOk result (λ there. there ≡ true
+            → IsSound names.now.of.items (holders_of self.new) (held_by names.now.of.items entries.now)) }
+    {
         self.clear();
         let mut at = entries.len();
         while at > 0 {
@@ -104,58 +149,115 @@ impl Holders<'_> {
         Ok(true)
     }
 
-    // A location is written; whether there is its name.
-    fn write(&mut self, location: Loc) -> Result<bool, AllocError> {
+    // A location is written; whether it is a temporary that has a name.
+    fn write(&mut self, names: &Names, location: Loc) -> Result<bool, AllocError>
+        ensures { IfOk result (λ there. there ≡ true → IsPassed names.now.of.items (holders_of self.old)
+            (holders_of self.new) (with_written (name_by names.now.of.items) location)) }
+    {
         match location {
-            Loc::Temp(temporary) => self.put(self.names.number(temporary), alone(temporary)),
-            Loc::Half(..) | Loc::Flag(_) | Loc::Cell(..) => Ok(true),
+            Loc::Temp(temporary) => self.put(names.number(temporary), alone(temporary)),
+            Loc::Half(..) | Loc::Flag(_) | Loc::Cell(..) => Ok(false),
         }
     }
 
-    // Locations are written; whether there are their names.
-    fn write_all(&mut self, locations: &[Loc]) -> Result<bool, AllocError> {
+    // Locations are written; whether they are temporaries that have names.
+    fn write_all(&mut self, names: &Names, locations: &[Loc]) -> Result<bool, AllocError>
+        ensures { IfOk result (λ there. there ≡ true → IsPassed names.now.of.items (holders_of self.old)
+            (holders_of self.new) (all_written (name_by names.now.of.items) locations.now)) }
+    {
         for location in locations {
-            if !self.write(*location)? {
+            if !self.write(names, *location)? {
                 return Ok(false);
             }
         }
         Ok(true)
     }
 
-    // A location that is held is copied to one of the same name; whether there is the name.
-    fn copy(&mut self, to: Loc, from: Loc) -> Result<bool, AllocError> {
+    // A location that is held is copied to one of the same name; whether both are temporaries that have it.
+    fn copy(&mut self, names: &Names, to: Loc, from: Loc) -> Result<bool, AllocError>
+        requires own { name_by names.now.of.items to ≡ name_by names.now.of.items from }
+        requires held { spec.is_held names.now.of.items (holders_of self.old) from ≡ true }
+        ensures { IfOk result (λ there. there ≡ true → IsPassed names.now.of.items (holders_of self.old)
+            (holders_of self.new) (with_copied (SetOf to (GetOf from)))) }
+    {
         match (to, from) {
             (Loc::Temp(second), Loc::Temp(first)) => {
-                self.put(self.names.number(first), Pair { first, second })
+                self.put(names.number(first), Pair { first, second })
             }
-            _ => Ok(true),
+            _ => Ok(false),
         }
     }
 
-    /// From what is held before a statement, which writes these locations, to what is held after it; whether there are
-    /// the names of what it writes.
-    pub fn pass(&mut self, stmt: &Stmt, writes: &[Loc]) -> Result<bool, AllocError> {
+    // From what is held before a statement, which reads what is held, to what is held after it; whether there are the
+    // names of what it writes.
+    fn pass(
+        &mut self,
+        names: &Names,
+        stmt: &Stmt,
+        writes: &[Loc],
+    ) -> Result<bool, AllocError>
+        requires writes { writes.now ≡ writes_of (stmt_of stmt.now) }
+        requires held { list_all (spec.is_held names.now.of.items (holders_of self.old)) (stmt_reads (stmt_of stmt.now))
+            ≡ true }
+        ensures { IfOk result (λ there. there ≡ true → IsPassed names.now.of.items (holders_of self.old)
+            (holders_of self.new) (held_after (name_by names.now.of.items) (stmt_of stmt.now))) }
+    {
         match stmt {
             Stmt::Set {
                 place,
                 value: Expr::Get(from),
-            } if self.names.name(*place) == self.names.name(*from) => self.copy(*place, *from),
-            _ => self.write_all(writes),
+            } if names.name(*place) == names.name(*from) => self.copy(names, *place, *from),
+            _ => self.write_all(names, writes),
         }
     }
 
+    // Whether a statement reads what is held; then from what is held before it to what is held after it.
+    fn step(&mut self, names: &Names, stmt: &Stmt, access: &Access) -> Result<bool, AllocError>
+        requires { access_in access.now ≡ access_of (stmt_of stmt.now) }
+        ensures { IfOk result (λ right. right ≡ true
+            → AreRead names.now.of.items (holders_of self.old) (holders_of self.new) (stmt_of stmt.now ∷ [])) }
+    {
+        if !self.hold_all(names, access.reads.as_slice()) {
+            return Ok(false);
+        }
+        self.pass(names, stmt, access.writes.as_slice())
+    }
+
+    /// Whether statements read what is held; then from what is held before them to what is held after them.
+    pub fn steps(
+        &mut self,
+        names: &Names,
+        stmts: &[Stmt],
+        accesses: &[Access],
+    ) -> Result<bool, AllocError>
+        requires { map access_in accesses.now ≡ map access_of (map stmt_of stmts.now) }
+        ensures { IfOk result (λ right. right ≡ true
+            → AreRead names.now.of.items (holders_of self.old) (holders_of self.new) (map stmt_of stmts.now)) }
+    {
+        for at in 0..stmts.len() {
+            if !self.step(names, &stmts[at], &accesses[at])? {
+                return Ok(false);
+            }
+        }
+        Ok(true)
+    }
+
     // Whether a name holds its own temporary.
-    fn holds_own(&self, place: u32) -> bool {
+    fn holds_own(&self, place: u32) -> bool
+        ensures { result ≡ spec.is_own (holders_of self.now) place }
+    {
         match self.pairs.get(place as usize) {
             Some(pair) => pair.first == place || pair.second == place,
             None => true,
         }
     }
 
-    /// Whether each name holds its own temporary.
-    pub fn is_whole(&self) -> bool {
+    // Whether the names that were noted and have no entry hold their own temporary.
+    fn hold_others(&self, entries: &[Entry]) -> bool
+        ensures { result ≡ list_all (spec.is_own_or_entered (holders_of self.now) entries.now) self.now.noted.items }
+    {
         for place in &self.noted {
-            if !self.holds_own(*place) {
+            if !self.holds_own(*place) && !has_entry(entries, *place) {
                 return false;
             }
         }
@@ -163,9 +265,12 @@ impl Holders<'_> {
     }
 
     // Whether the names hold both temporaries of each entry.
-    fn holds_entries(&self, entries: &[Entry]) -> bool {
+    fn hold_entries(&self, names: &Names, entries: &[Entry]) -> bool
+        ensures { result ≡ list_all (spec.is_entry_held names.now.of.items (holders_of self.now)) entries.now }
+    {
         for entry in entries {
-            if !self.holds(Loc::Temp(entry.pair.first)) || !self.holds(Loc::Temp(entry.pair.second)) {
+            let first = self.holds(names, Loc::Temp(entry.pair.first));
+            if !first || !self.holds(names, Loc::Temp(entry.pair.second)) {
                 return false;
             }
         }
@@ -173,22 +278,10 @@ impl Holders<'_> {
     }
 
     /// Whether the names hold what the entries tell, and else their own temporary.
-    pub fn holds_all(&self, entries: &[Entry]) -> bool {
-        for place in &self.noted {
-            if !self.holds_own(*place) && !has_entry(entries, *place) {
-                return false;
-            }
-        }
-        self.holds_entries(entries)
+    pub fn covers(&self, names: &Names, entries: &[Entry]) -> bool
+        requires { IsPlain (holders_of self.now) }
+        ensures { result ≡ true → Covers names.now.of.items (holders_of self.now) entries.now }
+    {
+        self.hold_others(entries) && self.hold_entries(names, entries)
     }
-}
-
-// Whether a name has an entry.
-fn has_entry(entries: &[Entry], place: u32) -> bool {
-    for entry in entries {
-        if entry.place == place {
-            return true;
-        }
-    }
-    false
 }

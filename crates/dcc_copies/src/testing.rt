@@ -1,15 +1,16 @@
 //! Whether names are right: whatever is read is held by its name.
 
-ghost use Rattle.std.specs.Prelude.{◌≡◌, true, IfOk};
-ghost use Rattle.dcc_ir.specs.Views.{graph_of};
-ghost use Rattle.dcc_ir.specs.WellFormed.{IsGraph};
-ghost use Rattle.dcc_copies.specs.Settled.{IsRight};
-ghost use Rattle.dcc_copies.specs.Holders.{name_by};
+ghost use Rattle.std.specs.Prelude.{◌≡◌, ◌<◌, true, [], length, All, IfOk};
+ghost use Rattle.dcc_ir.specs.Views.{block_of, graph_of, exit_of};
+ghost use Rattle.dcc_flow.specs.Access.{block_access_in, block_access_of};
+ghost use Rattle.dcc_copies.specs.Settled.{IsRight, IsRightBlock};
+ghost use Rattle.dcc_copies.specs.Holders.{holders_of, name_by, entries_at, IsPlain};
+ghost use Rattle.dcc_copies.specs.Choice.{begins_of, begins_by, HaveWidths, BeginPlain, LeadsRight};
 
-use crate::holders::{Entry, Holders, alone};
+use crate::holders::{Entry, Holders};
 use crate::names::Names;
-use dcc_flow::{Access, BlockAccess, accesses};
-use dcc_ir::{Block, End, Graph, Stmt};
+use dcc_flow::{BlockAccess, accesses};
+use dcc_ir::{Block, End, Graph};
 use std::alloc::{AllocError, Global};
 
 /// Names, and for each block what they hold where it begins.
@@ -26,7 +27,7 @@ impl Choice {
     pub fn new(alloc: Global, g: &Graph) -> Result<Choice, AllocError> {
         let mut of = Vec::new(alloc);
         for temporary in 0..g.bits.len() {
-            of.push(temporary as u32)?;
+            of.push(u32::try_from(temporary).map_err(|_| AllocError)?)?;
         }
         let mut begins = Vec::new(alloc);
         for _ in 0..g.blocks.len() {
@@ -56,7 +57,9 @@ impl Choice {
     }
 
     // What the names hold where a block begins.
-    fn entries(&self, place: usize) -> &[Entry] {
+    fn entries(&self, place: usize) -> &[Entry]
+        ensures { result.now ≡ entries_at (begins_of self.now) place }
+    {
         match self.begins.get(place) {
             Some(entries) => entries.as_slice(),
             None => &[],
@@ -64,12 +67,16 @@ impl Choice {
     }
 
     // Whether no name holds anything but its own temporary where a block begins.
-    fn begins_plain(&self, place: u32) -> bool {
+    fn begins_plain(&self, place: u32) -> bool
+        ensures { result ≡ true → BeginPlain (begins_of self.now) place }
+    {
         self.entries(place as usize).is_empty()
     }
 
     // Whether this is so of each of the blocks.
-    fn all_begin_plain(&self, places: &[u32]) -> bool {
+    fn all_begin_plain(&self, places: &[u32]) -> bool
+        ensures { result ≡ true → All (BeginPlain (begins_of self.now)) places.now }
+    {
         for place in places {
             if !self.begins_plain(*place) {
                 return false;
@@ -79,63 +86,59 @@ impl Choice {
     }
 
     // Whether the names hold at the end of a block what they hold where the blocks begin to which it goes.
-    fn leads_right(&self, holders: &Holders<'_>, end: &End) -> bool {
+    fn leads_right(&self, holders: &Holders, end: &End) -> bool
+        requires { IsPlain (holders_of holders.now) }
+        ensures { result ≡ true
+            → LeadsRight self.now.names.of.items (begins_of self.now) (holders_of holders.now) (exit_of end.now) }
+    {
         match end {
-            End::Goto(to) => holders.holds_all(self.entries(*to as usize)),
+            End::Goto(to) => holders.covers(&self.names, self.entries(*to as usize)),
             End::If { one, other, .. } => {
-                holders.is_whole() && self.begins_plain(*one) && self.begins_plain(*other)
+                self.begins_plain(*one)
+                    && self.begins_plain(*other)
+                    && holders.covers(&self.names, &[])
             }
             End::Switch { blocks, .. } => {
-                holders.is_whole() && self.all_begin_plain(blocks.as_slice())
+                self.all_begin_plain(blocks.as_slice()) && holders.covers(&self.names, &[])
             }
             End::Ret(_) | End::Stop => true,
         }
     }
 
-    // Whether the names hold what the statements read.
-    fn stmts_are_right(
-        &self,
-        holders: &mut Holders<'_>,
-        stmts: &[Stmt],
-        accesses: &[Access],
-    ) -> Result<bool, AllocError> {
-        let mut at = 0;
-        for stmt in stmts {
-            let Some(access) = accesses.get(at) else {
-                return Ok(false);
-            };
-            if !holders.hold_all(access.reads.as_slice())
-                || !holders.pass(stmt, access.writes.as_slice())? {
-                return Ok(false);
-            }
-            at += 1;
-        }
-        Ok(true)
-    }
-
     // Whether the names hold what the block at a place reads, and what is asked where it leads.
     fn block_is_right(
         &self,
-        holders: &mut Holders<'_>,
+        holders: &mut Holders,
         place: usize,
         block: &Block,
         access: &BlockAccess,
-    ) -> Result<bool, AllocError> {
-        let stmts = block.stmts.as_slice();
-        let right = holders.begin(self.entries(place))?
-            && self.stmts_are_right(holders, stmts, access.stmts.as_slice())?
-            && holders.hold_all(access.last.as_slice())
-            && self.leads_right(holders, &block.end);
-        Ok(right)
+    ) -> Result<bool, AllocError>
+        requires plain { IsPlain (holders_of holders.old) }
+        requires access { block_access_in access.now ≡ block_access_of (block_of block.now) }
+        ensures plain { IfOk result (λ right. right ≡ true → IsPlain (holders_of holders.new)) }
+        ensures right { IfOk result (λ right. right ≡ true → IsRightBlock (name_by self.now.names.of.items)
+            (begins_by self.now.names.of.items (begins_of self.now)) place (block_of block.now)) }
+    {
+        if !holders.begin(&self.names, self.entries(place))? {
+            return Ok(false);
+        }
+        if !holders.steps(&self.names, block.stmts.as_slice(), access.stmts.as_slice())? {
+            return Ok(false);
+        }
+        Ok(holders.hold_all(&self.names, access.last.as_slice())
+            && self.leads_right(holders, &block.end))
     }
 
     // Whether the names have the widths of their temporaries.
-    fn has_widths(&self, bits: &[u8]) -> bool {
+    fn has_widths(&self, bits: &[u8]) -> bool
+        ensures { result ≡ true → HaveWidths self.now.names.of.items bits.now }
+    {
         if self.names.of.len() != bits.len() {
             return false;
         }
         for temporary in 0..bits.len() {
-            if bits.get(self.names.of[temporary] as usize) != Some(&bits[temporary]) {
+            let name = self.names.of[temporary] as usize;
+            if name >= bits.len() || bits[name] != bits[temporary] {
                 return false;
             }
         }
@@ -150,15 +153,7 @@ impl Choice {
             return Ok(false);
         }
         let accesses = accesses(alloc, g)?;
-        let mut pairs = Vec::new(alloc);
-        for temporary in 0..g.bits.len() {
-            pairs.push(alone(temporary as u32))?;
-        }
-        let mut holders = Holders {
-            names: &self.names,
-            pairs,
-            noted: Vec::new(alloc),
-        };
+        let mut holders = Holders::new(alloc, g.bits.len())?;
         for place in 0..g.blocks.len() {
             if !self.block_is_right(&mut holders, place, &g.blocks[place], &accesses[place])? {
                 return Ok(false);
