@@ -4,3 +4,5 @@ pub mod FormLaws
 pub mod TreeLaws
 pub mod SettledLaws
 pub mod HolderLaws
+pub mod LoopLaws
+pub mod ChoiceLaws

@@ -10,6 +10,12 @@ use Rattle.dcc_ir.specs.Use.{writes_of}
 abbrev pub Held : Type 0
 Held = Loc → Bool
 
+-- a location was copied to another one of the same name: the name holds the value of the second where it held that of the
+-- first
+abbrev pub with_copied : Stmt → Held → Held
+with_copied (Set to (Get from)) held l = held (if same_location l to then from else l)
+with_copied stmt held l = held l
+
 module _ (name : Loc → Loc) where
   -- the statement copies a location to one of the same name
   abbrev pub is_own_copy : Stmt → Bool
@@ -24,12 +30,6 @@ module _ (name : Loc → Loc) where
   abbrev pub all_written : List Loc → Held → Held
   all_written [] held = held
   all_written (x ∷ xs) held = all_written xs (with_written x held)
-
-  -- a location was copied to another one of the same name: the name holds the value of the second where it held that of
-  -- the first
-  abbrev pub with_copied : Stmt → Held → Held
-  with_copied (Set to (Get from)) held l = held (if same_location l to then from else l)
-  with_copied stmt held l = held l
 
   -- after a statement
   abbrev pub held_after : Stmt → Held → Held
