@@ -246,10 +246,10 @@ impl Walk {
     fn settle(&mut self, chain: &[usize], choice: &mut Choice) -> Result<(), AllocError> {
         while let Some(candidate) = self.candidates.pop() {
             let known = self.of(candidate.from);
-            let last = known.last.max(candidate.copy);
-            if known.since == known.reads && last.saturating_sub(known.block) <= EDGES_MOST {
+            let edges = known.last.saturating_sub(known.block);
+            if known.since == known.reads && edges <= EDGES_MOST {
                 choice.name(candidate.from, known.to);
-                let mut number = last;
+                let mut number = known.last;
                 while number > known.block {
                     if let Some(place) = chain.get(number) {
                         choice.hold(*place, candidate.entry(known.to, number))?;

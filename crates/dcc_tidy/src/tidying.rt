@@ -47,8 +47,8 @@ fn without_dead(alloc: Global, graph: Graph) -> Result<Graph, AllocError>
 /// So many rounds of passes a graph goes through.
 const ROUNDS: u32 = 4;
 
-// What one round leaves of a graph: its expressions are made simpler, reads give way to what is available, and then the
-// assignments go that nothing wants.
+// What one round leaves of a graph: its expressions are made simpler, reads give way to what is available, the
+// assignments go that nothing wants, and copies let their source write.
 fn round(alloc: Global, graph: Graph, rules: &RuleList) -> Result<Graph, AllocError>
     requires { IsGraph (graph_of graph) }
     ensures tidied { IfOk result (λ after. IsTidied (graph_of graph) (graph_of after)) }
