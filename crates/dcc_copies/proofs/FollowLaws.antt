@@ -180,22 +180,17 @@ module _ (name : Loc → Loc) (before : Graph) (formed : IsGraph before) (right 
     stmts-follow : (passed rest : List Stmt) → (block_in before place).stmts ≡ passed ++ rest → reads_are_held name rest (now place passed) ≡ true
         → list_all (is_stmt before.bits) rest ≡ true → IsFollowedBy before after (shares place) rest (settled_stmts name rest)
     stmts-follow passed [] is held fine = done
-    stmts-follow passed (stmt ∷ rest) is held fine = by (is_own_copy name stmt) refl
+    stmts-follow passed (stmt ∷ rest) is held fine =
+        let reads = and_parts (list_all (now place passed) (stmt_reads stmt)) (reads_are_held name rest (held_after name stmt (now place passed))) held in
+        let parts = and_parts (is_stmt before.bits stmt) (list_all (is_stmt before.bits) rest) fine in
+        by (is_own_copy name stmt) refl parts.0 reads.0
+        (stmts-follow (passed ++ stmt ∷ []) rest (is ∙ sym (append_assoc passed (stmt ∷ []) rest))
+        (subst (λ (h : Held). reads_are_held name rest h ≡ true) (sym (held-next name passed stmt (right.begins place))) reads.1) parts.1)
       where
-        reads : (list_all (now place passed) (stmt_reads stmt) ≡ true) × (reads_are_held name rest (held_after name stmt (now place passed)) ≡ true)
-        reads = and_parts (list_all (now place passed) (stmt_reads stmt)) (reads_are_held name rest (held_after name stmt (now place passed))) held
-
-        parts : (is_stmt before.bits stmt ≡ true) × (list_all (is_stmt before.bits) rest ≡ true)
-        parts = and_parts (is_stmt before.bits stmt) (list_all (is_stmt before.bits) rest) fine
-
-        later : IsFollowedBy before after (shares place) rest (settled_stmts name rest)
-        later =
-            stmts-follow (passed ++ stmt ∷ []) rest (is ∙ sym (append_assoc passed (stmt ∷ []) rest))
-            (subst (λ (h : Held). reads_are_held name rest h ≡ true) (sym (held-next name passed stmt (right.begins place))) reads.1) parts.1
-
         -- a copy of a location to its own name goes
-        gone : IsOwnCopy name stmt → IsFollowedBy before after (shares place) (stmt ∷ rest) (settled_stmts name rest)
-        gone copy =
+        gone : IsOwnCopy name stmt → IsFollowedBy before after (shares place) rest (settled_stmts name rest)
+            → IsFollowedBy before after (shares place) (stmt ∷ rest) (settled_stmts name rest)
+        gone copy later =
             let is' = is ∙ ap (λ x. passed ++ x ∷ rest) copy.is in
             subst (λ x. IsFollowedBy before after (shares place) (x ∷ rest) (settled_stmts name rest)) (sym copy.is)
             (goes refl
@@ -205,24 +200,26 @@ module _ (name : Loc → Loc) (before : Graph) (formed : IsGraph before) (right 
 
         -- another statement stays
         stays : (x : Stmt) → (block_in before place).stmts ≡ passed ++ x ∷ rest → is_own_copy name x ≡ false → is_stmt before.bits x ≡ true
-            → list_all (now place passed) (stmt_reads x) ≡ true → IsFollowedBy before after (shares place) (x ∷ rest) (renamed_stmt name name x ∷ settled_stmts name rest)
-        stays (Call results entry arguments depth) is other fine held =
+            → list_all (now place passed) (stmt_reads x) ≡ true → IsFollowedBy before after (shares place) rest (settled_stmts name rest)
+            → IsFollowedBy before after (shares place) (x ∷ rest) (renamed_stmt name name x ∷ settled_stmts name rest)
+        stays (Call results entry arguments depth) is other fine held later =
             calls
             (λ s t h. values-renamed (scene_of s) (scene_of t) h.outside.base h.outside.memory name arguments
             (exprs-same passed (Call results entry arguments depth) rest is s t h held))
             (λ s t r h fit base memory. plain passed (Call results entry arguments depth) rest is other _ _
             (given-same name before.bits results r (now place passed) s.running.values t.running.values fit (h.holds passed is)))
             later
-        stays (Set x e) is other fine held = both refl refl (does-alike passed (Set x e) rest is other fine held refl) later
-        stays (Fetch x width a) is other fine held = both refl refl (does-alike passed (Fetch x width a) rest is other fine held refl) later
-        stays (Store width a e) is other fine held = both refl refl (does-alike passed (Store width a e) rest is other fine held refl) later
-        stays (Div x e) is other fine held = both refl refl (does-alike passed (Div x e) rest is other fine held refl) later
-        stays (Dos number to argument) is other fine held = both refl refl (does-alike passed (Dos number to argument) rest is other fine held refl) later
+        stays (Set x e) is other fine held later = both refl refl (does-alike passed (Set x e) rest is other fine held refl) later
+        stays (Fetch x width a) is other fine held later = both refl refl (does-alike passed (Fetch x width a) rest is other fine held refl) later
+        stays (Store width a e) is other fine held later = both refl refl (does-alike passed (Store width a e) rest is other fine held refl) later
+        stays (Div x e) is other fine held later = both refl refl (does-alike passed (Div x e) rest is other fine held refl) later
+        stays (Dos number to argument) is other fine held later = both refl refl (does-alike passed (Dos number to argument) rest is other fine held refl) later
 
-        by : (b : Bool) → is_own_copy name stmt ≡ b
+        by : (b : Bool) → is_own_copy name stmt ≡ b → is_stmt before.bits stmt ≡ true → list_all (now place passed) (stmt_reads stmt) ≡ true
+            → IsFollowedBy before after (shares place) rest (settled_stmts name rest)
             → IsFollowedBy before after (shares place) (stmt ∷ rest) (if b then settled_stmts name rest else renamed_stmt name name stmt ∷ settled_stmts name rest)
-        by true own = gone (own-form name stmt own)
-        by false other = stays stmt is other parts.0 reads.0
+        by true own fine held later = gone (own-form name stmt own) later
+        by false other fine held later = stays stmt is other fine held later
 
     -- Ends of blocks.
 
@@ -256,17 +253,17 @@ module _ (name : Loc → Loc) (before : Graph) (formed : IsGraph before) (right 
 
   shares-begin : BeginsIn before after (linked before after shares)
   shares-begin fill base a s t fit outside opened opened' =
-      let open = taken_same 0 before.params a s t (record {
+      let opens = taken_same 0 before.params a s t (record {
         values = λ l. ap (λ (x : Activation). x.values l) opened' ∙ sym (ap (λ (x : Activation). x.values l) opened);
         memory = outside.memory;
         base = outside.base;
       }) in (
-        open.memory,
+        opens.memory,
         λ block found at memory passed begun l has.
             let here : block_in before 0 ≡ block = get_or_from_slice_get before.blocks 0 block no_block found in
             let none : passed ≡ [] = none-passed block.stmts passed (sym (ap (λ (b : Block). b.stmts) here) ∙ begun) in
             let own : name l ≡ l = right.start l (subst (λ p. now 0 p l ≡ true) none has) in
-            subst (λ x. (passing 0 before.params a t).running.values x ≡ (passing 0 before.params a s).running.values l) (sym own) (open.values l),
+            subst (λ x. (passing 0 before.params a t).running.values x ≡ (passing 0 before.params a s).running.values l) (sym own) (opens.values l),
       )
 
   shares-follow : IsFollowedByGraph before after shares

@@ -50,29 +50,31 @@ module _ (name : Loc → Loc) where
   -- what is told of settled statements, by what it tells of a renamed one and of one that goes
   pub settled-calls : (stmts : List Stmt) → list_any is_call (settled_stmts name stmts) ≡ list_any is_call stmts
   settled-calls [] = refl
-  settled-calls (stmt ∷ rest) = by (is_own_copy name stmt) refl
+  settled-calls (stmt ∷ rest) = by (is_own_copy name stmt) refl (settled-calls rest)
     where
       by : (b : Bool) → is_own_copy name stmt ≡ b
+          → list_any is_call (settled_stmts name rest) ≡ list_any is_call rest
           → list_any is_call (if b then settled_stmts name rest else renamed_stmt name name stmt ∷ settled_stmts name rest)
           ≡ (is_call stmt || list_any is_call rest)
-      by true own = settled-calls rest ∙ sym (ap (λ b. b || list_any is_call rest) (own-no-call name stmt own))
-      by false other = ap₂ (λ b c. b || c) (renamed-call name stmt) (settled-calls rest)
+      by true own later = later ∙ sym (ap (λ b. b || list_any is_call rest) (own-no-call name stmt own))
+      by false other later = ap₂ (λ b c. b || c) (renamed-call name stmt) later
 
   settled-jumps : (stmts : List Stmt) (exit : Exit)
       → jumps_after_call (settled_stmts name stmts) (renamed_exit name exit) ≡ jumps_after_call stmts exit
   settled-jumps [] exit = refl
-  settled-jumps (stmt ∷ rest) exit = by (is_own_copy name stmt) refl
+  settled-jumps (stmt ∷ rest) exit = by (is_own_copy name stmt) refl (settled-jumps rest exit)
     where
       by : (b : Bool) → is_own_copy name stmt ≡ b
+          → jumps_after_call (settled_stmts name rest) (renamed_exit name exit) ≡ jumps_after_call rest exit
           → jumps_after_call (if b then settled_stmts name rest else renamed_stmt name name stmt ∷ settled_stmts name rest)
           (renamed_exit name exit) ≡ jumps_after_call (stmt ∷ rest) exit
-      by true own =
-          settled-jumps rest exit
+      by true own later =
+          later
           ∙ sym (ap (λ b. if b then not (list_any is_call rest) && is_jump exit else jumps_after_call rest exit)
           (own-no-call name stmt own))
-      by false other =
+      by false other later =
           ap₂ (λ b c. if b then not (list_any is_call (settled_stmts name rest)) && is_jump (renamed_exit name exit) else c)
-          (renamed-call name stmt) (settled-jumps rest exit)
+          (renamed-call name stmt) later
           ∙ ap₂ (λ c j. if is_call stmt then not c && j else jumps_after_call rest exit) (settled-calls rest)
           (jumps-renamed name exit)
 
@@ -93,18 +95,17 @@ module _ (name : Loc → Loc) (bits : List ℕ) (wide : (l : Loc) → location_w
   stmts-formed : (stmts : List Stmt) → list_all (is_stmt bits) stmts ≡ true
       → list_all (is_stmt bits) (settled_stmts name stmts) ≡ true
   stmts-formed [] formed = refl
-  stmts-formed (stmt ∷ rest) formed = by (is_own_copy name stmt)
+  stmts-formed (stmt ∷ rest) formed =
+      let parts = and_parts (is_stmt bits stmt) (list_all (is_stmt bits) rest) formed in
+      by (is_own_copy name stmt) parts.0 (stmts-formed rest parts.1)
     where
-      parts : (is_stmt bits stmt ≡ true) × (list_all (is_stmt bits) rest ≡ true)
-      parts = and_parts (is_stmt bits stmt) (list_all (is_stmt bits) rest) formed
-
-      by : (b : Bool)
+      by : (b : Bool) → is_stmt bits stmt ≡ true → list_all (is_stmt bits) (settled_stmts name rest) ≡ true
           → list_all (is_stmt bits) (if b then settled_stmts name rest else renamed_stmt name name stmt ∷ settled_stmts name rest)
           ≡ true
-      by true = stmts-formed rest parts.1
-      by false =
+      by true here later = later
+      by false here later =
           and_from (is_stmt bits (renamed_stmt name name stmt)) (list_all (is_stmt bits) (settled_stmts name rest))
-          (renamed-formed stmt ∙ parts.0) (stmts-formed rest parts.1)
+          (renamed-formed stmt ∙ here) later
 
   blocks-formed : (count : ℕ) (blocks : List Block) → list_all (is_block bits count) blocks ≡ true
       → list_all (is_block bits count) (map (settled_block name) blocks) ≡ true
@@ -138,14 +139,15 @@ module _ (name : Loc → Loc) (bits : List ℕ) (wide : (l : Loc) → location_w
   stmts-kinds : (stmts : List Stmt)
       → flat_map (call_kinds bits) (settled_stmts name stmts) ≡ flat_map (call_kinds bits) stmts
   stmts-kinds [] = refl
-  stmts-kinds (stmt ∷ rest) = by (is_own_copy name stmt) refl
+  stmts-kinds (stmt ∷ rest) = by (is_own_copy name stmt) refl (stmts-kinds rest)
     where
       by : (b : Bool) → is_own_copy name stmt ≡ b
+          → flat_map (call_kinds bits) (settled_stmts name rest) ≡ flat_map (call_kinds bits) rest
           → flat_map (call_kinds bits) (if b then settled_stmts name rest else renamed_stmt name name stmt ∷ settled_stmts name rest)
           ≡ call_kinds bits stmt ++ flat_map (call_kinds bits) rest
-      by true own =
-          stmts-kinds rest ∙ ap (λ ks. ks ++ flat_map (call_kinds bits) rest) (sym (own-no-kind name bits stmt own))
-      by false other = ap₂ (λ xs ys. xs ++ ys) (renamed-kinds stmt) (stmts-kinds rest)
+      by true own later =
+          later ∙ ap (λ ks. ks ++ flat_map (call_kinds bits) rest) (sym (own-no-kind name bits stmt own))
+      by false other later = ap₂ (λ xs ys. xs ++ ys) (renamed-kinds stmt) later
 
   rets-same : (exit : Exit) → ret_widths bits (renamed_exit name exit) ≡ ret_widths bits exit
   rets-same (Goto place) = refl

@@ -3,7 +3,8 @@ use Rattle.std.proofs.Common.{◌≡◌, ℕ, zero, suc, ◌<◌, ◌≤◌, Boo
 use Rattle.std.specs.Prelude.{if◌then◌else◌, ◌==◌}
 use Rattle.std.specs.List.{list_any, list_all}
 use Rattle.std.proofs.lemmas.Bool.{and_parts, and_from}
-use Rattle.std.proofs.lemmas.List.Elements.{Contains-append_left, Contains-append_right}
+use Rattle.std.proofs.lemmas.List.Elements.{Contains-append_left, Contains-append_right, Contains-append_cases}
+use Rattle.std.proofs.lemmas.Option.{slice_get_within}
 use Rattle.dcc_ir.specs.declared.syntax.Loc.{Loc}
 use Rattle.dcc_ir.specs.declared.syntax.Loc.TheVariants.{Half, Flag, Cell, Temp}
 use Rattle.dcc_ir.specs.Tree.{Get, Stmt, Set}
@@ -40,15 +41,15 @@ contains-any (m ∷ ns) n any =
     two-of (m == n) (list_any (λ k. k == n) ns) (Contains (m ∷ ns) n) any
     (λ e. subst (λ k. Contains (m ∷ ns) k) (eqb-true m n e) (Contains-here m ns)) (λ later. Contains-later m ns n (contains-any ns n later))
 
+or-later : (a b : Bool) → b ≡ true → (a || b) ≡ true
+or-later true b is = refl
+or-later false b is = is
+
 any-contains : (ns : List ℕ) (n : ℕ) → Contains ns n → list_any (λ m. m == n) ns ≡ true
 any-contains [] n c = absurd (Contains-none n c)
 any-contains (m ∷ ns) n c =
     Contains-cases m ns n (list_any (λ k. k == n) (m ∷ ns) ≡ true) (λ same. ap (λ b. b || list_any (λ k. k == n) ns) (eq-eqb m n same))
-    (λ later. or-later (m == n) (any-contains ns n later)) c
-  where
-    or-later : (b : Bool) → list_any (λ k. k == n) ns ≡ true → (b || list_any (λ k. k == n) ns) ≡ true
-    or-later true any = refl
-    or-later false any = any
+    (λ later. or-later (m == n) (list_any (λ k. k == n) ns) (any-contains ns n later)) c
 
 unequal : (a b : ℕ) → (a == b) ≡ false → a ≡ b → ⊥
 unequal a b other same = true≢false (sym (eq-eqb a b same) ∙ other)
@@ -194,26 +195,26 @@ module _ (names : List ℕ) where
     where
       own : number n ≡ n
       own = eqb-true (number n) n is
-  covers-by h all (entry ∷ entries) plain others held n left is = by (number n == entry.place) refl
+  covers-by h all (entry ∷ entries) plain others held n left is =
+      let parts = and_parts (is_entry_held names h entry) (list_all (is_entry_held names h) entries) held in
+      by (number n == entry.place) refl parts.0 (λ other.
+      covers-by h all entries plain others parts.1 n (later other)
+      (sym (ap (λ b. if b then is_of (Some entry.pair) entry.place n else number_held_by names entries n) other) ∙ is))
     where
-      parts : (is_entry_held names h entry ≡ true) × (list_all (is_entry_held names h) entries ≡ true)
-      parts = and_parts (is_entry_held names h entry) (list_all (is_entry_held names h) entries) held
+      later : (number n == entry.place) ≡ false → number n ≡ n → has_entry all n ≡ true → has_entry entries n ≡ true
+      later other own e =
+          two-of (entry.place == n) (has_entry entries n) (has_entry entries n ≡ true) (left own e)
+          (λ at. absurd (unequal (number n) entry.place other (own ∙ sym (eqb-true entry.place n at)))) (λ f. f)
 
-      here : (is_held names h (Temp entry.pair.first) ≡ true) × (is_held names h (Temp entry.pair.second) ≡ true)
-      here = and_parts (is_held names h (Temp entry.pair.first)) (is_held names h (Temp entry.pair.second)) parts.0
-
-      by : (b : Bool) → (number n == entry.place) ≡ b → is_held names h (Temp n) ≡ true
-      by true same =
+      by : (b : Bool) → (number n == entry.place) ≡ b → is_entry_held names h entry ≡ true
+          → ((number n == entry.place) ≡ false → is_held names h (Temp n) ≡ true) → is_held names h (Temp n) ≡ true
+      by true same held-entry others =
+          let here = and_parts (is_held names h (Temp entry.pair.first)) (is_held names h (Temp entry.pair.second)) held-entry in
           two-of (entry.pair.first == n) (entry.pair.second == n) (is_held names h (Temp n) ≡ true)
           (sym (ap (λ b. if b then is_of (Some entry.pair) entry.place n else number_held_by names entries n) same) ∙ is)
           (λ e. subst (λ k. is_held names h (Temp k) ≡ true) (eqb-true entry.pair.first n e) here.0)
           (λ e. subst (λ k. is_held names h (Temp k) ≡ true) (eqb-true entry.pair.second n e) here.1)
-      by false other = covers-by h all entries plain others parts.1 n later (sym (ap (λ b. if b then is_of (Some entry.pair) entry.place n else number_held_by names entries n) other) ∙ is)
-        where
-          later : number n ≡ n → has_entry all n ≡ true → has_entry entries n ≡ true
-          later own e =
-              two-of (entry.place == n) (has_entry entries n) (has_entry entries n ≡ true) (left own e)
-              (λ at. absurd (unequal (number n) entry.place other (own ∙ sym (eqb-true entry.place n at)))) (λ f. f)
+      by false other held-entry others = others other
 
   pub covers : (h : Holders) (entries : List Entry) → IsPlain h → list_all (is_own_or_entered h entries) h.noted ≡ true
       → list_all (is_entry_held names h) entries ≡ true → Covers names h entries
@@ -221,6 +222,65 @@ module _ (names : List ℕ) where
   covers h entries plain others held (Half r k) is = absurd (true≢false (sym is))
   covers h entries plain others held (Flag f) is = absurd (true≢false (sym is))
   covers h entries plain others held (Cell c k) is = absurd (true≢false (sym is))
+
+-- What is plain.
+
+-- a name holds its own temporary alone again
+pub cleared : (pairs : List Pair) (noted fewer : List ℕ) (place : ℕ) → noted ≡ fewer ++ place ∷ [] → place < length pairs
+    → IsPlain (record { pairs = pairs; noted = noted })
+    → IsPlain (record { pairs = slice_set pairs place (record { first = place; second = place }); noted = fewer })
+cleared pairs noted fewer place is there plain place' pair found out = by (place' == place) refl
+  where
+    alone : Pair
+    alone = record { first = place; second = place }
+
+    some-pair : (a b : Pair) → Some a ≡ Some b → a ≡ b
+    some-pair a b same = cc
+
+    by : (b : Bool) → (place' == place) ≡ b → (pair.first ≡ place') × (pair.second ≡ place')
+    by true same =
+        let here : place' ≡ place = eqb-true place' place same in
+        let it : alone ≡ pair = some-pair alone pair (sym (set-here pairs place alone there) ∙ ap (slice_get (slice_set pairs place alone)) (sym here) ∙ found) in
+        (sym (ap (λ (p : Pair). p.first) it) ∙ sym here, sym (ap (λ (p : Pair). p.second) it) ∙ sym here)
+    by false other =
+        plain place' pair (sym (set-other pairs place place' alone (unequal place' place other)) ∙ found)
+        (λ c. elim (Contains-append_cases fewer (place ∷ []) place' (subst (λ l. Contains l place') is c)) [
+          | inl among ↦ out among
+          | inr last ↦ Contains-cases place [] place' ⊥ (λ e. unequal place' place other (sym e)) (λ none. Contains-none place' none) last
+        ])
+
+-- one that there isn't is noted no more
+pub forgotten : (pairs : List Pair) (noted fewer : List ℕ) (place : ℕ) → noted ≡ fewer ++ place ∷ [] → length pairs ≤ place
+    → IsPlain (record { pairs = pairs; noted = noted }) → IsPlain (record { pairs = pairs; noted = fewer })
+forgotten pairs noted fewer place is past plain place' pair found out =
+    let inside = slice_get_within pairs place' pair found in
+    plain place' pair found
+    (λ c. elim (Contains-append_cases fewer (place ∷ []) place' (subst (λ l. Contains l place') is c)) [
+      | inl among ↦ out among
+      | inr last ↦ Contains-cases place [] place' ⊥ (λ e. absurd (omega (arith, e, inside, past))) (λ none. Contains-none place' none) last
+    ])
+
+-- one name more
+pub alone-more : (pairs : List Pair) → ((place : ℕ) (pair : Pair) → slice_get pairs place ≡ Some pair → (pair.first ≡ place) × (pair.second ≡ place))
+    → (place : ℕ) (pair : Pair) → slice_get (pairs ++ record { first = length pairs; second = length pairs } ∷ []) place ≡ Some pair
+    → (pair.first ≡ place) × (pair.second ≡ place)
+alone-more pairs alone place pair found = by (slice_get_cases-at pairs place pair found)
+  where
+    slice_get_cases-at : (pairs : List Pair) (place : ℕ) (pair : Pair) {last : Pair} → slice_get (pairs ++ last ∷ []) place ≡ Some pair
+        → (slice_get pairs place ≡ Some pair) ⊎ ((place ≡ length pairs) × (last ≡ pair))
+    slice_get_cases-at [] zero pair found = inr (refl, cc)
+    slice_get_cases-at [] (suc place) pair found = absurd (cc)
+    slice_get_cases-at (x ∷ pairs) zero pair found = inl found
+    slice_get_cases-at (x ∷ pairs) (suc place) pair found =
+        elim (slice_get_cases-at pairs place pair found) [
+          | inl there ↦ inl there
+          | inr at ↦ inr (ap suc at.0, at.1)
+        ]
+
+    by : (slice_get pairs place ≡ Some pair) ⊎ ((place ≡ length pairs) × (record { first = length pairs; second = length pairs } ≡ pair))
+        → (pair.first ≡ place) × (pair.second ≡ place)
+    by (inl there) = alone place pair there
+    by (inr at) = (sym (ap (λ (p : Pair). p.first) at.1) ∙ sym at.0, sym (ap (λ (p : Pair). p.second) at.1) ∙ sym at.0)
 
 -- Statements.
 

@@ -1,14 +1,14 @@
 -- Steps of loops.
-use Rattle.std.proofs.Common.{◌≡◌, ℕ, ◌+◌, ◌<◌, Bool, true, false, ◌&&◌, ◌||◌, List, [], ◌∷◌, ◌++◌, length, get_or, map, take, drop, refl, sym, ap, ◌∙◌}
+use Rattle.std.proofs.Common.{◌≡◌, ℕ, zero, suc, ◌+◌, ◌<◌, Bool, true, false, ◌&&◌, ◌||◌, List, [], ◌∷◌, ◌++◌, length, get_or, map, take, drop, refl, sym, ap, ◌∙◌, arith}
 use Rattle.std.specs.Prelude.{if◌then◌else◌}
 use Rattle.std.specs.List.{list_all, list_any}
 use Rattle.std.proofs.lemmas.Bool.{and_from}
-use Rattle.std.proofs.lemmas.List.{append-nil}
+use Rattle.std.proofs.lemmas.List.{append-nil, length-map}
 use Rattle.std.proofs.lemmas.List.Folds.{list_all_more}
 use Rattle.dcc_ir.specs.declared.syntax.Loc.{Loc}
 use Rattle.dcc_ir.specs.Tree.{Stmt}
 use Rattle.dcc_passes.specs.Renaming.{renamed_stmt}
-use Rattle.dcc_copies.specs.Held.{is_own_copy}
+use Rattle.dcc_copies.specs.Held.{Held, is_own_copy, with_written, all_written}
 use Rattle.dcc_copies.specs.Settled.{settled_stmts}
 
 pub all-more : {X : Type 0} (test : X → Bool) (xs : List X) (i : ℕ) (x : X) → i < length xs → x ≡ get_or xs i x → list_all test (take i xs) ≡ true
@@ -20,13 +20,13 @@ all-more test xs i x within is had more =
 pub settled-more : (name : Loc → Loc) (stmts : List Stmt) (stmt : Stmt)
     → settled_stmts name (stmts ++ stmt ∷ []) ≡ settled_stmts name stmts ++ settled_stmts name (stmt ∷ [])
 settled-more name [] stmt = refl
-settled-more name (first ∷ stmts) stmt = by (is_own_copy name first)
+settled-more name (first ∷ stmts) stmt = by (is_own_copy name first) (settled-more name stmts stmt)
   where
-    by : (b : Bool)
+    by : (b : Bool) → settled_stmts name (stmts ++ stmt ∷ []) ≡ settled_stmts name stmts ++ settled_stmts name (stmt ∷ [])
         → (if b then settled_stmts name (stmts ++ stmt ∷ []) else renamed_stmt name name first ∷ settled_stmts name (stmts ++ stmt ∷ []))
         ≡ (if b then settled_stmts name stmts else renamed_stmt name name first ∷ settled_stmts name stmts) ++ settled_stmts name (stmt ∷ [])
-    by true = settled-more name stmts stmt
-    by false = ap (λ l. renamed_stmt name name first ∷ l) (settled-more name stmts stmt)
+    by true later = later
+    by false later = ap (λ l. renamed_stmt name name first ∷ l) later
 
 pub settled-stays : (name : Loc → Loc) (stmts : List Stmt) (stmt : Stmt) → is_own_copy name stmt ≡ false
     → settled_stmts name (stmts ++ stmt ∷ []) ≡ settled_stmts name stmts ++ renamed_stmt name name stmt ∷ []
@@ -38,3 +38,34 @@ pub settled-goes : (name : Loc → Loc) (stmts : List Stmt) (stmt : Stmt) → is
 settled-goes name stmts stmt own =
     settled-more name stmts stmt ∙ ap (λ b. settled_stmts name stmts ++ (if b then [] else renamed_stmt name name stmt ∷ [])) own
     ∙ append-nil (settled_stmts name stmts)
+
+-- Lists.
+
+pub drop-here : {X : Type 0} (xs : List X) (k : ℕ) (x : X) → k < length xs → x ≡ get_or xs k x → drop k xs ≡ x ∷ drop (suc k) xs
+drop-here [] k x less is = absurd (omega (arith, less))
+drop-here (y ∷ xs) zero x less is = ap (λ z. z ∷ xs) (sym is)
+drop-here (y ∷ xs) (suc k) x less is = drop-here xs k x (omega (arith, less)) is
+
+pub taken-more : {X Y : Type 0} (f : X → Y) (xs : List X) (i : ℕ) (x : X) → x ≡ get_or xs i x → i < length xs
+    → map f (take (i + 1) xs) ≡ map f (take i xs) ++ f x ∷ []
+taken-more f [] i x is less = absurd (omega (arith, less))
+taken-more f (y ∷ xs) zero x is less = ap (λ z. f z ∷ []) (sym is)
+taken-more f (y ∷ xs) (suc i) x is less = ap (λ l. f y ∷ l) (taken-more f xs i x is (omega (arith, less)))
+
+pub mapped-same : {A B C : Type 0} (f : A → C) (g : B → C) (xs : List A) (ys : List B) → map f xs ≡ map g ys → (k : ℕ) (x : A) (y : B)
+    → k < length ys → x ≡ get_or xs k x → y ≡ get_or ys k y → f x ≡ g y
+mapped-same f g xs [] same k x y less isx isy = absurd (omega (arith, less))
+mapped-same f g [] (b ∷ ys) same k x y less isx isy = absurd (cc)
+mapped-same f g (a ∷ xs) (b ∷ ys) same zero x y less isx isy =
+    let heads : f a ≡ g b = cc in ap f isx ∙ heads ∙ ap g (sym isy)
+mapped-same f g (a ∷ xs) (b ∷ ys) same (suc k) x y less isx isy =
+    mapped-same f g xs ys (cc) k x y (omega (arith, less)) isx isy
+
+pub mapped-count : {A B C : Type 0} (f : A → C) (g : B → C) (xs : List A) (ys : List B) → map f xs ≡ map g ys → length xs ≡ length ys
+mapped-count f g xs ys same = sym (length-map xs f) ∙ ap length same ∙ length-map ys g
+
+-- one location more
+pub written-more : (name : Loc → Loc) (xs : List Loc) (x : Loc) (held : Held)
+    → all_written name (xs ++ x ∷ []) held ≡ with_written name x (all_written name xs held)
+written-more name [] x held = refl
+written-more name (y ∷ xs) x held = written-more name xs x (with_written name y held)

@@ -107,14 +107,12 @@ module _ (name : Loc → Loc) where
 
     stmts-named : (stmts : List Stmt) → All Q (flat_map exprs_of stmts) → All Q (flat_map exprs_of (settled_stmts name stmts))
     stmts-named [] all = all
-    stmts-named (stmt ∷ rest) all = by (is_own_copy name stmt)
+    stmts-named (stmt ∷ rest) all =
+        by (is_own_copy name stmt) (stmts-named rest (right_part Q (exprs_of stmt) (flat_map exprs_of rest) all))
       where
-        later : All Q (flat_map exprs_of (settled_stmts name rest))
-        later = stmts-named rest (right_part Q (exprs_of stmt) (flat_map exprs_of rest) all)
-
-        by : (b : Bool) → All Q (flat_map exprs_of (if b then settled_stmts name rest else renamed_stmt name name stmt ∷ settled_stmts name rest))
-        by true = later
-        by false =
+        by : (b : Bool) → All Q (flat_map exprs_of (settled_stmts name rest)) → All Q (flat_map exprs_of (if b then settled_stmts name rest else renamed_stmt name name stmt ∷ settled_stmts name rest))
+        by true later = later
+        by false later =
             All-append Q (exprs_of (renamed_stmt name name stmt)) (flat_map exprs_of (settled_stmts name rest))
             (subst (All Q) (sym (stmt-exprs stmt)) (each-named (exprs_of stmt) (left_part Q (exprs_of stmt) (flat_map exprs_of rest) all))) later
 
@@ -174,16 +172,15 @@ module _ (name : Loc → Loc) where
 
     stmts-are : (stmts : List Stmt) → All-are (flat_map stmt_mentions stmts) → All-are (flat_map stmt_mentions (settled_stmts name stmts))
     stmts-are [] all = refl
-    stmts-are (stmt ∷ rest) all = by (is_own_copy name stmt)
+    stmts-are (stmt ∷ rest) all =
+        let parts = parts-are (stmt_mentions stmt) (flat_map stmt_mentions rest) all in
+        by (is_own_copy name stmt) parts.0 (stmts-are rest parts.1)
       where
-        parts : (list_all p (stmt_mentions stmt) ≡ true) × (list_all p (flat_map stmt_mentions rest) ≡ true)
-        parts = parts-are (stmt_mentions stmt) (flat_map stmt_mentions rest) all
-
-        by : (b : Bool) → All-are (flat_map stmt_mentions (if b then settled_stmts name rest else renamed_stmt name name stmt ∷ settled_stmts name rest))
-        by true = stmts-are rest parts.1
-        by false =
+        by : (b : Bool) → All-are (stmt_mentions stmt) → All-are (flat_map stmt_mentions (settled_stmts name rest)) → All-are (flat_map stmt_mentions (if b then settled_stmts name rest else renamed_stmt name name stmt ∷ settled_stmts name rest))
+        by true here later = later
+        by false here later =
             both-are (stmt_mentions (renamed_stmt name name stmt)) (flat_map stmt_mentions (settled_stmts name rest))
-            (stmt-are stmt parts.0) (stmts-are rest parts.1)
+            (stmt-are stmt here) later
 
     blocks-are : (blocks : List Block) → All-are (flat_map block_mentions blocks) → All-are (flat_map block_mentions (map (settled_block name) blocks))
     blocks-are [] all = refl

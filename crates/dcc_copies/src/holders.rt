@@ -2,11 +2,10 @@
 
 ghost use Rattle.std.specs.Prelude.{◌≡◌, ◌<◌, true, [], ◌∷◌, length, map, IfOk};
 ghost use Rattle.std.specs.List.{list_all};
-ghost use Rattle.dcc_ir.specs.Tree.{Set as SetOf, Get as GetOf};
 ghost use Rattle.dcc_ir.specs.Use.{writes_of};
 ghost use Rattle.dcc_ir.specs.Views.{stmt_of};
 ghost use Rattle.dcc_flow.specs.Access.{access_in, access_of};
-ghost use Rattle.dcc_copies.specs.Held.{with_written, all_written, with_copied, held_after};
+ghost use Rattle.dcc_copies.specs.Held.{is_own_copy, with_written, all_written, with_copied, held_after};
 ghost use Rattle.dcc_copies.specs.Settled.{stmt_reads};
 ghost use Rattle.dcc_copies.specs.Holders as spec;
 ghost use Rattle.dcc_copies.specs.Holders.{holders_of, with_pair, name_by, held_by, IsSound, IsPlain, IsPassed};
@@ -173,23 +172,31 @@ impl Holders {
         Ok(true)
     }
 
-    // A location that is held is copied to one of the same name; whether both are temporaries that have it.
-    fn copy(&mut self, names: &Names, to: Loc, from: Loc) -> Result<bool, AllocError>
-        requires own { name_by names.now.of.items to ≡ name_by names.now.of.items from }
-        requires held { spec.is_held names.now.of.items (holders_of self.old) from ≡ true }
+    // A temporary that is held is copied to one of the same name; whether both are temporaries that have it.
+    fn copy(&mut self, names: &Names, stmt: &Stmt) -> Result<bool, AllocError>
+        requires own { is_own_copy (name_by names.now.of.items) (stmt_of stmt.now) ≡ true }
+        requires held { list_all (spec.is_held names.now.of.items (holders_of self.old)) (stmt_reads (stmt_of stmt.now))
+            ≡ true }
         ensures { IfOk result (λ there. there ≡ true → IsPassed names.now.of.items (holders_of self.old)
-            (holders_of self.new) (with_copied (SetOf to (GetOf from)))) }
+            (holders_of self.new) (with_copied (stmt_of stmt.now))) }
     {
-        match (to, from) {
-            (Loc::Temp(second), Loc::Temp(first)) => {
-                self.put(names.number(first), Pair { first, second })
+        match stmt {
+            Stmt::Set {
+                place: Loc::Temp(second),
+                value: Expr::Get(Loc::Temp(first)),
+            } => {
+                let pair = Pair {
+                    first: *first,
+                    second: *second,
+                };
+                self.put(names.number(*first), pair)
             }
             _ => Ok(false),
         }
     }
 
-    // From what is held before a statement, which reads what is held, to what is held after it; whether there are the
-    // names of what it writes.
+    // From what is held before a statement, which reads what is held, to what is held after it; whether it writes
+    // temporaries that have names.
     fn pass(
         &mut self,
         names: &Names,
@@ -202,12 +209,10 @@ impl Holders {
         ensures { IfOk result (λ there. there ≡ true → IsPassed names.now.of.items (holders_of self.old)
             (holders_of self.new) (held_after (name_by names.now.of.items) (stmt_of stmt.now))) }
     {
-        match stmt {
-            Stmt::Set {
-                place,
-                value: Expr::Get(from),
-            } if names.name(*place) == names.name(*from) => self.copy(names, *place, *from),
-            _ => self.write_all(names, writes),
+        if names.is_own_copy(stmt) {
+            self.copy(names, stmt)
+        } else {
+            self.write_all(names, writes)
         }
     }
 
