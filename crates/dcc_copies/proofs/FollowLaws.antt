@@ -1,5 +1,5 @@
 -- A graph with right names for its locations, and without copies of locations to their own names, stands for the graph.
-use Rattle.std.proofs.Common.{◌≡◌, ℕ, suc, Bool, true, false, ◌&&◌, List, [], ◌∷◌, ◌++◌, length, Option, Some, None, refl, sym, ap, ap₂, ◌∙◌, subst, true≢false, map, flat_map, option_map, slice_get, Contains, append-nil}
+use Rattle.std.proofs.Common.{◌≡◌, ℕ, zero, suc, Bool, true, false, ◌&&◌, List, [], ◌∷◌, ◌++◌, length, Option, Some, None, refl, sym, ap, ap₂, ◌∙◌, subst, true≢false, map, flat_map, option_map, slice_get, Contains, append-nil}
 use Rattle.std.specs.Prelude.{if◌then◌else◌, ◌/◌, All, option_to_list}
 use Rattle.std.specs.List.{list_all}
 use Rattle.std.proofs.lemmas.Bool.{and_parts}
@@ -15,6 +15,7 @@ use Rattle.dcc_ir.specs.Live.{block_in}
 use Rattle.dcc_ir.specs.Flow.{targets}
 use Rattle.dcc_ir.specs.WellFormed.{is_stmt, is_exit, is_block, is_dos, is_byte_place, IsGraph}
 use Rattle.dcc_ir.specs.Run.{State, Activation, scene_of, argument_in, no_block, is_call, passing}
+use Rattle.dcc_ir.specs.Passes.{with_values}
 use Rattle.dcc_ir.proofs.ListLaws.{all_had, left_part}
 use Rattle.dcc_ir.proofs.ReachedLaws.{contained, all_at}
 use Rattle.dcc_ir.proofs.passes.SameLaws.{taken_same}
@@ -62,7 +63,7 @@ own-form name (Dos number place argument) own = absurd (true≢false (sym own))
 found-settled : (name : Loc → Loc) (blocks : List Block) (place : ℕ) (block new : Block) → slice_get blocks place ≡ Some block
     → slice_get (map (settled_block name) blocks) place ≡ Some new → new ≡ settled_block name block
 found-settled name [] place block new found there = absurd (cc)
-found-settled name (b ∷ blocks) 0 block new found there = cc
+found-settled name (b ∷ blocks) zero block new found there = cc
 found-settled name (b ∷ blocks) (suc place) block new found there = found-settled name blocks place block new found there
 
 module _ (name : Loc → Loc) (before : Graph) (formed : IsGraph before) (right : IsRight name before) where
@@ -119,14 +120,15 @@ module _ (name : Loc → Loc) (before : Graph) (formed : IsGraph before) (right 
       one-written : is_own_copy name stmt ≡ false → (x : Loc) → writes_of stmt ≡ x ∷ [] → (n n' : ℕ) → n' ≡ n → (s t : State) → RunAlike before after (shares place (stmt ∷ rest)) s t
           → Holds place rest (with_value s.running.values x n) (with_value t.running.values (name x) n')
       one-written other x writes n n' equal s t h =
-          plain other _ _ (subst (λ xs. Same name (all_written name xs here) (with_value s.running.values x n) (with_value t.running.values (name x) n')) (sym writes)
+          plain other (with_value s.running.values x n) (with_value t.running.values (name x) n')
+          (subst (λ xs. Same name (all_written name xs here) (with_value s.running.values x n) (with_value t.running.values (name x) n')) (sym writes)
           (written-same name x n n' here s.running.values t.running.values equal (h.holds passed is)))
 
       -- nothing is written
       none-written : is_own_copy name stmt ≡ false → writes_of stmt ≡ [] → (s t : State) → RunAlike before after (shares place (stmt ∷ rest)) s t
           → Holds place rest s.running.values t.running.values
       none-written other writes s t h =
-          plain other _ _ (subst (λ xs. Same name (all_written name xs here) s.running.values t.running.values) (sym writes) (h.holds passed is))
+          plain other s.running.values t.running.values (subst (λ xs. Same name (all_written name xs here) s.running.values t.running.values) (sym writes) (h.holds passed is))
 
     -- both statements do the same
     does-alike : (passed : List Stmt) (stmt : Stmt) (rest : List Stmt) (is : (block_in before place).stmts ≡ passed ++ stmt ∷ rest)
@@ -194,7 +196,7 @@ module _ (name : Loc → Loc) (before : Graph) (formed : IsGraph before) (right 
             let is' = is ∙ ap (λ x. passed ++ x ∷ rest) copy.is in
             subst (λ x. IsFollowedBy before after (shares place) (x ∷ rest) (settled_stmts name rest)) (sym copy.is)
             (goes refl
-            (λ s t h. onward passed (Set copy.to (Get copy.from)) rest is' _ _
+            (λ s t h. onward passed (Set copy.to (Get copy.from)) rest is' (with_value s.running.values copy.to (s.running.values copy.from)) t.running.values
             (subst (λ b. Same name (if b then with_copied (Set copy.to (Get copy.from)) (now place passed) else with_written name copy.to (now place passed)) (with_value s.running.values copy.to (s.running.values copy.from)) t.running.values)
             (sym copy.own) (copied-same name copy.to copy.from (now place passed) s.running.values t.running.values copy.own (h.holds passed is')))) later)
 
@@ -206,7 +208,8 @@ module _ (name : Loc → Loc) (before : Graph) (formed : IsGraph before) (right 
             calls
             (λ s t h. values-renamed (scene_of s) (scene_of t) h.outside.base h.outside.memory name arguments
             (exprs-same passed (Call results entry arguments depth) rest is s t h held))
-            (λ s t r h fit base memory. plain passed (Call results entry arguments depth) rest is other _ _
+            (λ s t r h fit base memory. plain passed (Call results entry arguments depth) rest is other (with_values s.running.values results r)
+            (with_values t.running.values (map name results) r)
             (given-same name before.bits results r (now place passed) s.running.values t.running.values fit (h.holds passed is)))
             later
         stays (Set x e) is other fine held later = both refl refl (does-alike passed (Set x e) rest is other fine held refl) later
