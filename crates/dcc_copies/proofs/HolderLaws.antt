@@ -16,6 +16,7 @@ use Rattle.dcc_copies.specs.Held.{Held, with_written, all_written, with_copied, 
 use Rattle.dcc_copies.specs.Settled.{stmt_reads, reads_are_held}
 use Rattle.dcc_copies.specs.Holders.{Holders, name_by, is_of, is_own, has_entry, is_own_or_entered, with_pair, IsPlain, is_held, IsSound, IsPassed, AreRead, number_held_by, held_by, is_entry_held, Covers}
 use Rattle.dcc_copies.proofs.HeldLaws.{held-next}
+use Rattle.dcc_copies.proofs.LoopLaws.{written-more}
 
 -- Lists.
 
@@ -75,7 +76,7 @@ module _ (names : List ℕ) where
 
   -- A temporary of a name is written.
 
-  plain-put : (h : Holders) (place : ℕ) (pair : Pair) → IsPlain h → IsPlain (with_pair place pair h)
+  pub plain-put : (h : Holders) (place : ℕ) (pair : Pair) → IsPlain h → IsPlain (with_pair place pair h)
   plain-put h place pair plain place' pair' found out =
       plain place' pair' (sym (set-other h.pairs place place' pair other) ∙ found)
       (λ c. out (Contains-append_left h.noted (place ∷ []) place' c))
@@ -335,3 +336,16 @@ module _ (names : List ℕ) where
     held = λ held sound.
         and_from (list_all held (stmt_reads stmt)) true (all-sound h held sound (stmt_reads stmt) all) refl;
   }
+
+  -- one location more is written
+  pub passed-more : (h k l : Holders) (xs : List Loc) (x : Loc) → IsPassed names h k (all_written (name_by names) xs)
+      → IsPassed names k l (with_written (name_by names) x) → IsPassed names h l (all_written (name_by names) (xs ++ x ∷ []))
+  passed-more h k l xs x before after = record {
+    plain = λ plain. after.plain (before.plain plain);
+    sound = λ held sound.
+        subst (λ (y : Held). IsSound names l y) (sym (written-more (name_by names) xs x held))
+        (after.sound (all_written (name_by names) xs held) (before.sound held sound));
+  }
+
+  pub none-written : (h : Holders) → IsPassed names h h (all_written (name_by names) [])
+  none-written h = record { plain = λ plain. plain; sound = λ held sound. sound }

@@ -243,18 +243,16 @@ impl Walk {
     }
 
     // Settles those of the chain's copies that may be settled.
-    fn settle(&mut self, chain: &[usize], choice: &mut Choice) -> Result<(), AllocError> {
-        while let Some(candidate) = self.candidates.pop() {
+    fn settle(&self, chain: &[usize], choice: &mut Choice) -> Result<(), AllocError> {
+        for candidate in &self.candidates {
             let known = self.of(candidate.from);
             let edges = known.last.saturating_sub(known.block);
             if known.since == known.reads && edges <= EDGES_MOST {
                 choice.name(candidate.from, known.to);
-                let mut number = known.last;
-                while number > known.block {
+                for number in known.block.saturating_add(1)..known.last.saturating_add(1) {
                     if let Some(place) = chain.get(number) {
                         choice.hold(*place, candidate.entry(known.to, number))?;
                     }
-                    number -= 1;
                 }
             }
         }
@@ -285,6 +283,7 @@ pub fn choose(alloc: Global, g: &Graph) -> Result<Choice, AllocError>
             number = number.saturating_add(1);
         }
         walk.settle(chain.as_slice(), &mut choice)?;
+        walk.candidates.clear();
     }
     Ok(choice)
 }

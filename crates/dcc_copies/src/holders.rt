@@ -141,7 +141,8 @@ impl Holders {
         let mut at = entries.len();
         while at > 0 {
             at -= 1;
-            if !self.put(entries[at].place, entries[at].pair)? {
+            let entry = &entries[at];
+            if !self.put(entry.place, entry.pair)? {
                 return Ok(false);
             }
         }
@@ -164,8 +165,8 @@ impl Holders {
         ensures { IfOk result (λ there. there ≡ true → IsPassed names.now.of.items (holders_of self.old)
             (holders_of self.new) (all_written (name_by names.now.of.items) locations.now)) }
     {
-        for location in locations {
-            if !self.write(names, *location)? {
+        for at in 0..locations.len() {
+            if !self.write(names, locations[at])? {
                 return Ok(false);
             }
         }

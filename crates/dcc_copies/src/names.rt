@@ -1,6 +1,7 @@
 //! Trees with names in the place of locations.
 
 ghost use Rattle.std.specs.Prelude.{◌≡◌, map, get_or, IfOk};
+ghost use Rattle.dcc_ir.specs.Location.{same_location};
 ghost use Rattle.dcc_ir.specs.Views.{expr_of, stmt_of, exit_of, block_of, graph_of};
 ghost use Rattle.dcc_passes.specs.Renaming.{renamed, renamed_stmt, renamed_exit};
 ghost use Rattle.dcc_copies.specs.Held as spec;
@@ -9,6 +10,13 @@ ghost use Rattle.dcc_copies.specs.Holders.{name_by};
 
 use dcc_ir::{Block, End, Expr, Graph, Loc, Stmt};
 use std::alloc::{AllocError, Global};
+
+// Whether both are the same location.
+fn is_same(one: Loc, other: Loc) -> bool
+    ensures { result ≡ same_location one other }
+{
+    one == other
+}
 
 /// For each temporary the one that is its name; each other location is its own.
 #[derive(Drop)]
@@ -45,7 +53,7 @@ impl Names {
             Stmt::Set {
                 place,
                 value: Expr::Get(from),
-            } => self.name(*place) == self.name(*from),
+            } => is_same(self.name(*place), self.name(*from)),
             _ => false,
         }
     }

@@ -77,8 +77,8 @@ impl Choice {
     fn all_begin_plain(&self, places: &[u32]) -> bool
         ensures { result ≡ true → All (BeginPlain (begins_of self.now)) places.now }
     {
-        for place in places {
-            if !self.begins_plain(*place) {
+        for at in 0..places.len() {
+            if !self.begins_plain(places[at]) {
                 return false;
             }
         }
