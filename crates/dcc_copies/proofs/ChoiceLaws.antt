@@ -1,5 +1,5 @@
 -- The tests of the code are those of right names.
-use Rattle.std.proofs.Common.{◌≡◌, ℕ, ◌<◌, ◌≤◌, Bool, true, false, inl, inr, List, [], ◌∷◌, length, get_or, map, Some, slice_get, refl, sym, ap, ap₂, ◌∙◌, subst, true≢false, arith, eqb-true, nat_lt, Contains}
+use Rattle.std.proofs.Common.{◌≡◌, ℕ, ◌+◌, ◌<◌, ◌≤◌, Bool, true, false, inl, inr, List, [], ◌∷◌, length, get_or, map, Some, slice_get, refl, sym, ap, ap₂, ◌∙◌, subst, true≢false, arith, eqb-true, nat_lt, Contains}
 use Rattle.std.specs.Prelude.{◌==◌, All}
 use Rattle.std.specs.List.{list_all}
 use Rattle.std.proofs.lemmas.Bool.{cases_lt, lt-ltb}
@@ -14,6 +14,9 @@ use Rattle.dcc_ir.specs.WellFormed.{is_location}
 use Rattle.dcc_ir.proofs.LocationLaws.{Contains-none, Contains-cases}
 use Rattle.dcc_webs.specs.Temporaries.{is_temp}
 use Rattle.dcc_copies.specs.declared.holders.Entry.{Entry}
+use Rattle.dcc_ir.specs.declared.syntax.Block.{Block as BlockOf}
+use Rattle.dcc_ir.specs.Views.{block_of}
+use Rattle.dcc_copies.proofs.LoopLaws.{found-mapped}
 use Rattle.dcc_copies.specs.Held.{Held, held_after_all}
 use Rattle.dcc_copies.specs.Settled.{settled, end_reads, IsRightBlock, IsRight, AreSettled, done, settles}
 use Rattle.dcc_copies.specs.Holders.{Holders, name_by, is_held, IsSound, AreRead, held_by, Covers, entries_at}
@@ -128,3 +131,15 @@ module _ (names bits : List ℕ) (have : HaveWidths names bits) where
 
 pub lot-settled : (g h : Graph) (names : List ℕ) → IsRight (name_by names) g → h ≡ settled (name_by names) g → AreSettled g h
 lot-settled g h names right same = subst (AreSettled g) (sym same) (settles (name_by names) right done)
+
+-- one block more
+pub right-more : (P : ℕ → Block → Type 0) (blocks : List BlockOf) (k : ℕ) (x : BlockOf) → k < length blocks → x ≡ get_or blocks k x
+    → ((place : ℕ) (block : Block) → place < k → slice_get (map block_of blocks) place ≡ Some block → P place block) → P k (block_of x)
+    → (place : ℕ) (block : Block) → place < k + 1 → slice_get (map block_of blocks) place ≡ Some block → P place block
+right-more P blocks k x inside is before here place block less found = elim (cases_lt place k) [
+  | inl earlier ↦ before place block earlier found
+  | inr past ↦
+      let same : place ≡ k = omega (arith, less, past) in
+      let it = found-mapped block_of blocks k x block inside is (ap (slice_get (map block_of blocks)) (sym same) ∙ found) in
+      subst (λ n. P n block) (sym same) (subst (P k) (sym it) here)
+]

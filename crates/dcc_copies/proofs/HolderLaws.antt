@@ -1,5 +1,5 @@
 -- What code tells to be held by names is so.
-use Rattle.std.proofs.Common.{◌≡◌, ℕ, zero, suc, ◌<◌, ◌≤◌, Bool, true, false, ◌&&◌, ◌||◌, inl, inr, List, [], ◌∷◌, ◌++◌, length, get_or, slice_get, slice_set, Option, Some, None, refl, sym, ap, ap₂, ◌∙◌, subst, true≢false, eqb-true, eq-eqb, arith, Contains, ◌⊎◌}
+use Rattle.std.proofs.Common.{◌≡◌, ℕ, zero, suc, ◌+◌, ◌<◌, ◌≤◌, Bool, true, false, ◌&&◌, ◌||◌, inl, inr, List, [], ◌∷◌, ◌++◌, length, get_or, take, slice_get, slice_set, Option, Some, None, refl, sym, ap, ap₂, ◌∙◌, subst, true≢false, eqb-true, eq-eqb, arith, Contains, ◌⊎◌}
 use Rattle.std.specs.Prelude.{if◌then◌else◌, ◌==◌}
 use Rattle.std.specs.List.{list_any, list_all}
 use Rattle.std.proofs.lemmas.Bool.{and_parts, and_from}
@@ -16,7 +16,7 @@ use Rattle.dcc_copies.specs.Held.{Held, with_written, all_written, with_copied, 
 use Rattle.dcc_copies.specs.Settled.{stmt_reads, reads_are_held}
 use Rattle.dcc_copies.specs.Holders.{Holders, name_by, is_of, is_own, has_entry, is_own_or_entered, with_pair, IsPlain, is_held, IsSound, IsPassed, AreRead, number_held_by, held_by, is_entry_held, Covers}
 use Rattle.dcc_copies.proofs.HeldLaws.{held-next}
-use Rattle.dcc_copies.proofs.LoopLaws.{written-more}
+use Rattle.dcc_copies.proofs.LoopLaws.{written-more, taken-at}
 
 -- Lists.
 
@@ -347,5 +347,10 @@ module _ (names : List ℕ) where
         (after.sound (all_written (name_by names) xs held) (before.sound held sound));
   }
 
-  pub none-written : (h : Holders) → IsPassed names h h (all_written (name_by names) [])
-  none-written h = record { plain = λ plain. plain; sound = λ held sound. sound }
+  pub written-at : (h k l : Holders) (locations : List Loc) (at : ℕ) {d : Loc} → at < length locations
+      → IsPassed names h k (all_written (name_by names) (take at locations))
+      → IsPassed names k l (with_written (name_by names) (get_or locations at d))
+      → IsPassed names h l (all_written (name_by names) (take (at + 1) locations))
+  written-at h k l locations at {d = d} less before after =
+      subst (λ xs. IsPassed names h l (all_written (name_by names) xs)) (sym (taken-at locations at d less))
+      (passed-more h k l (take at locations) (get_or locations at d) before after)

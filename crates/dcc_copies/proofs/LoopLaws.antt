@@ -106,3 +106,20 @@ if-ok (Err e) P Q f h = tt
 pub if-ok-two : {A E : Type 0} (r : Result A E) (P P' Q : A → Type 0) → ((a : A) → P a → P' a → Q a) → IfOk r P → IfOk r P' → IfOk r Q
 if-ok-two (Ok x) P P' Q f h h' = f x h h'
 if-ok-two (Err e) P P' Q f h h' = tt
+
+-- An element that is read with some default.
+
+get-same : {X : Type 0} (xs : List X) (k : ℕ) (d e : X) → k < length xs → get_or xs k d ≡ get_or xs k e
+get-same [] k d e less = absurd (omega (arith, less))
+get-same (x ∷ xs) zero d e less = refl
+get-same (x ∷ xs) (suc k) d e less = get-same xs k d e (omega (arith, less))
+
+pub drop-at : {X : Type 0} (xs : List X) (k : ℕ) (d : X) → k < length xs → drop k xs ≡ get_or xs k d ∷ drop (suc k) xs
+drop-at xs k d less = drop-here xs k (get_or xs k d) less (get-same xs k d (get_or xs k d) less)
+
+pub taken-at : {X : Type 0} (xs : List X) (i : ℕ) (d : X) → i < length xs → take (i + 1) xs ≡ take i xs ++ get_or xs i d ∷ []
+taken-at xs i d less = taken-one xs i (get_or xs i d) (get-same xs i d (get_or xs i d) less) less
+
+pub all-taken-at : {X : Type 0} (P : X → Type 0) (xs : List X) (i : ℕ) (d : X) → i < length xs → All P (take i xs) → P (get_or xs i d)
+    → All P (take (i + 1) xs)
+all-taken-at P xs i d less all here = all-taken P xs i (get_or xs i d) (get-same xs i d (get_or xs i d) less) less all here

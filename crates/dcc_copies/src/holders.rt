@@ -2,6 +2,7 @@
 
 ghost use Rattle.std.specs.Prelude.{◌≡◌, ◌<◌, true, [], ◌∷◌, length, map, IfOk};
 ghost use Rattle.std.specs.List.{list_all};
+ghost use Rattle.dcc_ir.specs.Tree.{Set as SetOf, Get as GetOf};
 ghost use Rattle.dcc_ir.specs.Use.{writes_of};
 ghost use Rattle.dcc_ir.specs.Views.{stmt_of};
 ghost use Rattle.dcc_flow.specs.Access.{access_in, access_of};
@@ -141,8 +142,7 @@ impl Holders {
         let mut at = entries.len();
         while at > 0 {
             at -= 1;
-            let entry = &entries[at];
-            if !self.put(entry.place, entry.pair)? {
+            if !self.put(entries[at].place, entries[at].pair)? {
                 return Ok(false);
             }
         }
@@ -173,7 +173,24 @@ impl Holders {
         Ok(true)
     }
 
-    // A temporary that is held is copied to one of the same name; whether both are temporaries that have it.
+    // A location that is held is copied to one of the same name; whether both are temporaries that have it.
+    fn copy_one(&mut self, names: &Names, to: Loc, from: Loc) -> Result<bool, AllocError>
+        requires own { is_own_copy (name_by names.now.of.items) (SetOf to (GetOf from)) ≡ true }
+        requires held { list_all (spec.is_held names.now.of.items (holders_of self.old)) (stmt_reads (SetOf to (GetOf from)))
+            ≡ true }
+        ensures { IfOk result (λ there. there ≡ true → IsPassed names.now.of.items (holders_of self.old)
+            (holders_of self.new) (with_copied (SetOf to (GetOf from)))) }
+    {
+        let Loc::Temp(second) = to else {
+            return Ok(false);
+        };
+        let Loc::Temp(first) = from else {
+            return Ok(false);
+        };
+        self.put(names.number(first), Pair { first, second })
+    }
+
+    // A statement copies a location that is held to one of the same name; whether both are temporaries that have it.
     fn copy(&mut self, names: &Names, stmt: &Stmt) -> Result<bool, AllocError>
         requires own { is_own_copy (name_by names.now.of.items) (stmt_of stmt.now) ≡ true }
         requires held { list_all (spec.is_held names.now.of.items (holders_of self.old)) (stmt_reads (stmt_of stmt.now))
@@ -183,15 +200,9 @@ impl Holders {
     {
         match stmt {
             Stmt::Set {
-                place: Loc::Temp(second),
-                value: Expr::Get(Loc::Temp(first)),
-            } => {
-                let pair = Pair {
-                    first: *first,
-                    second: *second,
-                };
-                self.put(names.number(*first), pair)
-            }
+                place,
+                value: Expr::Get(from),
+            } => self.copy_one(names, *place, *from),
             _ => Ok(false),
         }
     }
