@@ -347,10 +347,10 @@ module _ (names : List ℕ) where
         (after.sound (all_written (name_by names) xs held) (before.sound held sound));
   }
 
-  pub written-at : (h k l : Holders) (locations : List Loc) (at : ℕ) {d : Loc} → at < length locations
+  pub written-at : (h k l : Holders) (locations : List Loc) (at : ℕ) (d : Loc) → at < length locations
       → IsPassed names h k (all_written (name_by names) (take at locations))
       → IsPassed names k l (with_written (name_by names) (get_or locations at d))
       → IsPassed names h l (all_written (name_by names) (take (at + 1) locations))
-  written-at h k l locations at {d = d} less before after =
+  written-at h k l locations at d less before after =
       subst (λ xs. IsPassed names h l (all_written (name_by names) xs)) (sym (taken-at locations at d less))
       (passed-more h k l (take at locations) (get_or locations at d) before after)

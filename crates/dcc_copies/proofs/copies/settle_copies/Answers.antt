@@ -3,6 +3,20 @@ use Rattle.dcc_copies.specs.Settled.{done}
 use Rattle.dcc_copies.proofs.SettledLaws.{settled-tidied, settled-depth, settled-temps, settled-compose}
 use Rattle.dcc_copies.proofs.copies.settle_copies.Goals as goal
 
+pub loop-init : goal.loop-init
+loop-init c = record { settled = done; formed = c.requires }
+
+pub loop-preserved : goal.loop-preserved
+loop-preserved c = record {
+  settled =
+      settled-compose (graph_of c.args.g) (graph_of c.loop.left) (graph_of c.in_ok-left.left) c.loop.invariant.settled
+      c.in_ok-left.ensures.settled;
+  formed = c.in_ok-left.ensures.formed;
+}
+
+pub settle_lot-requires : goal.settle_lot-requires
+settle_lot-requires c = c.loop.invariant.formed
+
 pub returns : goal.returns
 returns c =
     let g = graph_of c.args.g in

@@ -5,6 +5,6 @@ use Rattle.dcc_copies.proofs.copies.settle_copies.Given as goal
 
 abbrev pub invariant-loop : goal.invariant-loop
 invariant-loop l = record {
-  settled : AreSettled (graph_of l.initial.g) (graph_of l.left);
+  settled : AreSettled (graph_of l.initial.left) (graph_of l.left);
   formed : IsGraph (graph_of l.left);
 }

@@ -8,7 +8,7 @@ use Rattle.dcc_copies.proofs.holders.Holders.write_all.Goals as goal
 pub loop-at-preserved : goal.loop-at-preserved
 loop-at-preserved c =
     written-at c.args.names.now.of.items (holders_of c.args.self.now) (holders_of c.loop-at.self)
-    (holders_of c.write.new.self) c.args.locations.now c.loop-at.at c.loop-at-test.true c.loop-at.invariant
+    (holders_of c.write.new.self) c.args.locations.now c.loop-at.at _ c.loop-at-test.true c.loop-at.invariant
     (c.in_ok-write.ensures c.if-not-branch.false)
 
 pub returns : goal.returns
