@@ -40,7 +40,6 @@ module _ (name : Loc → Loc) where
       ∙ sym (over (flat_map f (parts_of a ++ parts_of b)) (flat_map f (parts_of c)))
       ∙ ap g (sym (flat_map-append f (parts_of a ++ parts_of b) (parts_of c)))
 
-
   pub addresses-named : (e : Expr) → addresses_of (renamed name e) ≡ addresses_of e
   addresses-named (Const width n) = refl
   addresses-named (Get location) = refl

@@ -209,12 +209,7 @@ impl Holders {
 
     // From what is held before a statement, which reads what is held, to what is held after it; whether it writes
     // temporaries that have names.
-    fn pass(
-        &mut self,
-        names: &Names,
-        stmt: &Stmt,
-        writes: &[Loc],
-    ) -> Result<bool, AllocError>
+    fn pass(&mut self, names: &Names, stmt: &Stmt, writes: &[Loc]) -> Result<bool, AllocError>
         requires writes { writes.now ≡ writes_of (stmt_of stmt.now) }
         requires held { list_all (spec.is_held names.now.of.items (holders_of self.old)) (stmt_reads (stmt_of stmt.now))
             ≡ true }

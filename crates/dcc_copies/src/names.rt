@@ -126,13 +126,17 @@ impl Names {
                 self.rename(division);
             }
             Stmt::Call {
-                results, arguments, ..
+                results,
+                arguments,
+                ..
             } => {
                 self.rename_places(results);
                 self.rename_all(arguments);
             }
             Stmt::Dos {
-                place, argument, ..
+                place,
+                argument,
+                ..
             } => {
                 if let Some(location) = place {
                     *location = self.name(*location);

@@ -125,8 +125,10 @@ impl Choice {
         if !holders.steps(&self.names, block.stmts.as_slice(), access.stmts.as_slice())? {
             return Ok(false);
         }
-        Ok(holders.hold_all(&self.names, access.last.as_slice())
-            && self.leads_right(holders, &block.end))
+        Ok(
+            holders.hold_all(&self.names, access.last.as_slice())
+                && self.leads_right(holders, &block.end),
+        )
     }
 
     // Whether the names have the widths of their temporaries.

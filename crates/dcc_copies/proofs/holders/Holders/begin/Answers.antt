@@ -18,7 +18,7 @@ loop-at-preserved c =
     let inside : k < length entries = omega (arith, e, inv.inside) in
     let put = c.in_ok-put.ensures.put c.if-not-branch.false in
     let front : drop k entries ≡ entry ∷ drop c.loop-at.at entries =
-        drop-at entries k none inside ∙ ap (λ n. entry ∷ drop n entries) (sym e) in
+    drop-at entries k none inside ∙ ap (λ n. entry ∷ drop n entries) (sym e) in
     record {
       inside = omega (arith, e, inv.inside);
       plain = subst (λ (x : Holders). IsPlain x) (sym put) (plain-put names h entry.place entry.pair inv.plain);

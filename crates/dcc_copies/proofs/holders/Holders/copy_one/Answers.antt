@@ -19,11 +19,11 @@ returns c =
     let to = c.in-Temp.second in
     let from = c.in-Temp-from.first in
     let same : Set c.args.to (Get c.args.from) ≡ Set (Temp to) (Get (Temp from)) =
-        ap₂ (λ p e. Set p (Get e)) c.in-Temp.is c.in-Temp-from.is in
+    ap₂ (λ p e. Set p (Get e)) c.in-Temp.is c.in-Temp-from.is in
     let own = eqb-true (get_or names to to) (get_or names from from)
-        (subst (λ (x : Stmt). is_own_copy (name_by names) x ≡ true) same c.requires.own) in
+    (subst (λ (x : Stmt). is_own_copy (name_by names) x ≡ true) same c.requires.own) in
     let held = (and_parts (is_held names h (Temp from)) true
-        (subst (λ (x : Stmt). list_all (is_held names h) (stmt_reads x) ≡ true) same c.requires.held)).0 in
+    (subst (λ (x : Stmt). list_all (is_held names h) (stmt_reads x) ≡ true) same c.requires.held)).0 in
     subst (λ (x : Stmt). IfOk c.put.result (λ there. there ≡ true → IsPassed names h h' (with_copied x))) (sym same)
     (if-ok-two c.put.result (λ there. there ≡ true → c.number.result < length h.pairs)
     (λ there. there ≡ true → h' ≡ with_pair c.number.result (record { first = from; second = to }) h) _
