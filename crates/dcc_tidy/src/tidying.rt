@@ -13,6 +13,7 @@ ghost use Rattle.dcc_tidy.specs.Tidied as spec;
 ghost use Rattle.dcc_tidy.specs.Tidied.{MayStandInText, HasPassesDone, IsTidiedGraph};
 
 use dcc_available::substitute;
+use dcc_copies::settle_copies;
 use dcc_ir::{Graph, Sums};
 use dcc_live::{drop_dead, live};
 use dcc_loads::loads_as_sets;
@@ -47,8 +48,8 @@ fn without_dead(alloc: Global, graph: Graph) -> Result<Graph, AllocError>
 /// So many rounds of passes a graph goes through.
 const ROUNDS: u32 = 4;
 
-// What one round leaves of a graph: its expressions are made simpler, reads give way to what is available, and then the
-// assignments go that nothing wants.
+// What one round leaves of a graph: its expressions are made simpler, reads give way to what is available, the
+// assignments go that nothing wants, and copies let their source write.
 fn round(alloc: Global, graph: Graph, rules: &RuleList) -> Result<Graph, AllocError>
     requires { IsGraph (graph_of graph) }
     ensures tidied { IfOk result (λ after. IsTidied (graph_of graph) (graph_of after)) }
@@ -57,7 +58,8 @@ fn round(alloc: Global, graph: Graph, rules: &RuleList) -> Result<Graph, AllocEr
 {
     let simple = simplified(alloc, graph, rules)?;
     let rewritten = substitute(alloc, simple)?;
-    let after = without_dead(alloc, rewritten)?;
+    let wanted = without_dead(alloc, rewritten)?;
+    let after = settle_copies(alloc, wanted)?;
     Ok(after)
 }
 

@@ -1,0 +1,5 @@
+pub mod Held
+pub mod Settled
+pub mod Holders
+pub mod Choice
+pub mod Laws
