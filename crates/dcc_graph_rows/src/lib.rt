@@ -2,6 +2,8 @@
 #![tactic(auto)]
 
 #[cfg(test)]
+mod dividing;
+#[cfg(test)]
 mod flows;
 #[cfg(test)]
 mod folding;

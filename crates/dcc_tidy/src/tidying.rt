@@ -14,6 +14,7 @@ ghost use Rattle.dcc_tidy.specs.Tidied.{MayStandInText, HasPassesDone, IsTidiedG
 
 use dcc_available::substitute;
 use dcc_copies::settle_copies;
+use dcc_divisions::drop_divisions;
 use dcc_ir::{Graph, Sums};
 use dcc_live::{drop_dead, live};
 use dcc_loads::loads_as_sets;
@@ -48,8 +49,8 @@ fn without_dead(alloc: Global, graph: Graph) -> Result<Graph, AllocError>
 /// So many rounds of passes a graph goes through.
 const ROUNDS: u32 = 4;
 
-// What one round leaves of a graph: its expressions are made simpler, reads give way to what is available, the
-// assignments go that nothing wants, and copies let their source write.
+// What one round leaves of a graph: its expressions are made simpler, reads give way to what is available, one of two
+// divisions that fault alike goes, the assignments go that nothing wants, and copies let their source write.
 fn round(alloc: Global, graph: Graph, rules: &RuleList) -> Result<Graph, AllocError>
     requires { IsGraph (graph_of graph) }
     ensures tidied { IfOk result (λ after. IsTidied (graph_of graph) (graph_of after)) }
@@ -58,7 +59,8 @@ fn round(alloc: Global, graph: Graph, rules: &RuleList) -> Result<Graph, AllocEr
 {
     let simple = simplified(alloc, graph, rules)?;
     let rewritten = substitute(alloc, simple)?;
-    let wanted = without_dead(alloc, rewritten)?;
+    let divided = drop_divisions(alloc, rewritten)?;
+    let wanted = without_dead(alloc, divided)?;
     let after = settle_copies(alloc, wanted)?;
     Ok(after)
 }

@@ -24,5 +24,5 @@ returns-in_default c = nothing
 pub returns-in_default-place : goal.returns-in_default-place
 returns-in_default-place c = nothing
 
-pub returns-then-not-is_simple : goal.returns-then-not-is_simple
-returns-then-not-is_simple c = nothing
+pub returns-then-not-is_wanted : goal.returns-then-not-is_wanted
+returns-then-not-is_wanted c = nothing

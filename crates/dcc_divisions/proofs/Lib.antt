@@ -1,0 +1,4 @@
+pub mod FaultLaws
+pub mod StandLaws
+pub mod LeftLaws
+pub mod WalkLaws
