@@ -1,4 +1,5 @@
 pub mod DeadLaws
+pub mod SettledLaws
 pub mod KindLaws
 pub mod AddressLaws
 pub mod GraphLaws

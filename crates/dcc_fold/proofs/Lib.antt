@@ -1,0 +1,18 @@
+pub mod PassLaws
+pub mod KnownLaws
+pub mod WriteLaws
+pub mod CountLaws
+pub mod AloneLaws
+pub mod CarriedLaws
+pub mod ChainLaws
+pub mod NextLaws
+pub mod SeenLaws
+pub mod DepthLaws
+pub mod FoundLaws
+pub mod BlockLaws
+pub mod ValueLaws
+pub mod PointLaws
+pub mod AvailableLaws
+pub mod WithoutLaws
+pub mod JoinedLaws
+mod Examples

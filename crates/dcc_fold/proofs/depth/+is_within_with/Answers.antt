@@ -1,0 +1,10 @@
+use Rattle.std.proofs.Common.{sym}
+use Rattle.dcc_ir.specs.declared.syntax.Loc.TheVariants.{Temp}
+use Rattle.dcc_ir.specs.Joinable.{with_value_for}
+use Rattle.dcc_ir.specs.Views.{expr_of}
+use Rattle.dcc_available.proofs.WithinLaws.{none_within}
+use Rattle.dcc_fold.proofs.depth.+is_within_with.Goals as goal
+
+pub returns-then-depth-eq0 : goal.returns-then-depth-eq0
+returns-then-depth-eq0 t c =
+    sym (none_within (with_value_for (Temp c.args.temporary) (expr_of c.args.value.now) (expr_of c.args.e.now)) c.args.depth c.if-depth-eq0.true)
