@@ -147,8 +147,8 @@ alone-told graph alone t true counted is =
     turned false fails = refl
 alone-told graph alone t false counted is = λ holds.
     true≢false (sym (ap₂ (λ x y. x && y)
-      (ap₂ (λ x y. x && y) (ap not (counted.params (Temp t) ∙ holds.no_param)) (by-once alone.writes.seen alone.writes.again (all_writes graph) (Temp t) counted.writes holds.written_once))
-      (by-once alone.reads.seen alone.reads.again (all_reads graph) (Temp t) counted.reads holds.read_once)) ∙ sym is)
+    (ap₂ (λ x y. x && y) (ap not (counted.params (Temp t) ∙ holds.no_param)) (by-once alone.writes.seen alone.writes.again (all_writes graph) (Temp t) counted.writes holds.written_once))
+    (by-once alone.reads.seen alone.reads.again (all_reads graph) (Temp t) counted.reads holds.read_once)) ∙ sym is)
 
 -- the test, one part after another
 

@@ -149,7 +149,7 @@ module _ (graph : Graph) (t : ℕ) (is : IsJoinable graph t) where
       never reads =
           let at = stands-at graph is.led.first is.place is.block is.lead is.passed is.rest is.carried.before is.carried.between (Set (Temp t) is.value) is.placed is.led.along is.split is.carried.steps_are in
           let one = one-point graph (Temp t) is.alone.read_once at.place is.place at.block is.block at.passed (Set (Temp t) is.value ∷ at.rest) is.passed is.rest at.placed is.placed at.split is.split
-              (ap (λ xs. is_among xs (Temp t)) (append-nil (reads_of is.value)) ∙ reads) reads-there in
+          (ap (λ xs. is_among xs (Temp t)) (append-nil (reads_of is.value)) ∙ reads) reads-there in
           let lead : at.lead ≡ is.lead = alongs-same graph is.led.first is.led.is_first is.place at.lead is.lead (subst (λ n. IsAlong graph is.led.first n at.lead) one.0 at.along) is.led.along in
           let before : is.carried.before ≡ steps = at.before_is ∙ ap₂ (λ xs ys. xs ++ map statement ys) lead one.1 in
           longer is.carried.before is.carried.between (statement (Set (Temp t) is.value)) (before ∙ is.carried.steps_are)

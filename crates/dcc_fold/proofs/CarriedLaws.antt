@@ -52,11 +52,11 @@ carried-from : (t : ℕ) (value : Expr) (steps : List Step) (known : Option Expr
 carried-from t value [] known is = inr (is, refl)
 carried-from t value (step ∷ steps) known is = elim (carried-from t value steps (carry t step known) is) [
   | inl later ↦ inl (record {
-      before = step ∷ later.before;
-      between = later.between;
-      steps_are = ap (λ xs. step ∷ xs) later.steps_are;
-      passes = later.passes;
-    })
+    before = step ∷ later.before;
+    between = later.between;
+    steps_are = ap (λ xs. step ∷ xs) later.steps_are;
+    passes = later.passes;
+  })
   | inr here ↦ elim (decided (is_among (places_of step) (Temp t))) [
     | inl writes ↦
         let set : set_by step t ≡ Some value = sym (ap (λ b. if b then set_by step t else passing step known) writes) ∙ here.0 in

@@ -74,12 +74,16 @@ module _ (graph : Graph) where
         inl (subst (λ (b : Block). JoinsIn graph past b t) same (subst (λ xs. JoinsIn graph xs joins.block t) is.1 joins.joins))
     | inr later ↦
         let same : later.block ≡ block = some-block later.block block (sym later.only.placed ∙ found) in
-        inr (later.to, record { block = later.block; only = later.only }, record {
-          place = joins.place;
-          block = joins.block;
-          placed = joins.placed;
-          lead = joins.lead;
-          on = subst (λ (b : Block). IsOn graph later.to (past ++ steps_over b) joins.place joins.lead) same later.on;
-          joins = joins.joins;
-        })
+        inr (
+          later.to,
+          record { block = later.block; only = later.only },
+          record {
+            place = joins.place;
+            block = joins.block;
+            placed = joins.placed;
+            lead = joins.lead;
+            on = subst (λ (b : Block). IsOn graph later.to (past ++ steps_over b) joins.place joins.lead) same later.on;
+            joins = joins.joins;
+          },
+        )
   ]

@@ -60,18 +60,18 @@ module _ {X : Type 0} (f : X → List Loc) (l : Loc) where
   one-of (z ∷ xs) x y few there here has also =
       Contains-cases z xs x (x ≡ y)
       (λ is. Contains-cases z xs y (x ≡ y) (λ same. sym is ∙ same)
-        (λ later.
-        let one = some-times (f z) l (subst Has (sym is) has) in
-        let more = some-in xs y later also in
-        absurd (omega (arith, times-cons z xs, one, more, few)))
-        here)
+      (λ later.
+      let one = some-times (f z) l (subst Has (sym is) has) in
+      let more = some-in xs y later also in
+      absurd (omega (arith, times-cons z xs, one, more, few)))
+      here)
       (λ after. Contains-cases z xs y (x ≡ y)
-        (λ same.
-        let one = some-times (f z) l (subst Has (sym same) also) in
-        let more = some-in xs x after has in
-        absurd (omega (arith, times-cons z xs, one, more, few)))
-        (λ later. one-of xs x y (omega (arith, times-cons z xs, few)) after later has also)
-        here)
+      (λ same.
+      let one = some-times (f z) l (subst Has (sym same) also) in
+      let more = some-in xs x after has in
+      absurd (omega (arith, times-cons z xs, one, more, few)))
+      (λ later. one-of xs x y (omega (arith, times-cons z xs, few)) after later has also)
+      here)
       there
 
   -- by its place in the list

@@ -12,7 +12,6 @@ use Rattle.dcc_available.specs.Along.{IsOnlyEdge}
 use Rattle.dcc_fold.specs.Chain.{Step, statement, edge, steps_over, IsFirst, begins, goes_on}
 use Rattle.dcc_fold.specs.Joinable.{lets_by, IsJoinable}
 
-
 abbrev t : Loc
 t = Temp 0
 

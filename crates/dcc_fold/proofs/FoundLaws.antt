@@ -51,12 +51,15 @@ module _ (graph : Graph) where
   joins-found known steps es t is joins = record {
     reader = joins.reader;
     there = joins.there;
-    found = (joins.is_reader.reads, record {
-      alone = joins.alone;
-      value = joins.value;
-      is_told = is.true_of t ∙ joins.carried_is;
-      shallow = joins.is_reader.shallow;
-    });
+    found = (
+      joins.is_reader.reads,
+      record {
+        alone = joins.alone;
+        value = joins.value;
+        is_told = is.true_of t ∙ joins.carried_is;
+        shallow = joins.is_reader.shallow;
+      },
+    );
   }
 
   -- Between what is found along chains and what is joinable.
@@ -70,31 +73,34 @@ module _ (graph : Graph) where
   pub joinable-along : (t : ℕ) → IsJoinable graph t → (first : ℕ) × IsFirst graph first × JoinsAlong graph first t
   joinable-along t is =
       let of-graph : All (IsOf graph) (is.lead ++ map statement is.passed) =
-          all-of is.led.first is.place is.lead is.block is.passed is.rest is.led.along is.placed is.split (IsOf graph) (edge-of graph) (statement-of graph) in
+      all-of is.led.first is.place is.lead is.block is.passed is.rest is.led.along is.placed is.split (IsOf graph) (edge-of graph) (statement-of graph) in
       let there = carried-there graph t is.value (is.lead ++ map statement is.passed) of-graph is.carried in
       let sets : All (SetsIt t is.value) (is.lead ++ map statement is.passed) =
-          all-of is.led.first is.place is.lead is.block is.passed is.rest is.led.along is.placed is.split (SetsIt t is.value) (λ fails. absurd (true≢false (sym fails)))
-          (sets-it graph t is.value is.alone.written_once there) in
-      (is.led.first, is.led.is_first, record {
-        place = is.place;
-        block = is.block;
-        placed = is.placed;
-        lead = is.lead;
-        along = is.led.along;
-        joins = record {
+      all-of is.led.first is.place is.lead is.block is.passed is.rest is.led.along is.placed is.split (SetsIt t is.value) (λ fails. absurd (true≢false (sym fails)))
+      (sets-it graph t is.value is.alone.written_once there) in (
+        is.led.first,
+        is.led.is_first,
+        record {
+          place = is.place;
+          block = is.block;
+          placed = is.placed;
+          lead = is.lead;
+          along = is.led.along;
+          joins = record {
             passed = is.passed;
             rest = is.rest;
             split = is.split;
             joins = record {
-                alone = is.alone;
-                value = is.value;
-                carried_is = is-carried t is.value (is.lead ++ map statement is.passed) sets is.carried;
-                reader = is.reader;
-                there = is.read_next;
-                is_reader = is.is_reader;
-              };
+              alone = is.alone;
+              value = is.value;
+              carried_is = is-carried t is.value (is.lead ++ map statement is.passed) sets is.carried;
+              reader = is.reader;
+              there = is.read_next;
+              is_reader = is.is_reader;
+            };
           };
-      })
+        },
+      )
 
   pub along-joinable : (t first : ℕ) → IsFirst graph first → JoinsAlong graph first t → IsJoinable graph t
   along-joinable t first is_first is = record {

@@ -201,8 +201,8 @@ module _ (graph : Graph) (t : ℕ) (fine : IsGraph graph) (is : IsJoinable graph
   pub one-value : (value : Expr) → Contains (statements_of graph) (Set (Temp t) value) → value ≡ is.value
   one-value value there =
       let same : Set (Temp t) value ≡ Set (Temp t) is.value =
-          one-of writes_of (Temp t) (statements_of graph) (Set (Temp t) value) (Set (Temp t) is.value) (omega (arith, once-written)) there (set-there graph t is)
-          (ap (λ b. b || false) (location_itself (Temp t))) writes-itself in
+      one-of writes_of (Temp t) (statements_of graph) (Set (Temp t) value) (Set (Temp t) is.value) (omega (arith, once-written)) there (set-there graph t is)
+      (ap (λ b. b || false) (location_itself (Temp t))) writes-itself in
       cc
 
   -- One statement less.

@@ -71,13 +71,13 @@ module _ (graph : Graph) where
     along = begins;
     is_true = subst (λ k. IsTrue k []) (sym is) (begun-true known bounded);
     left = λ t joins. record {
-        place = joins.place;
-        block = joins.block;
-        placed = joins.placed;
-        lead = joins.lead;
-        on = along-on graph first joins.place joins.lead joins.along;
-        joins = joins.joins;
-      };
+      place = joins.place;
+      block = joins.block;
+      placed = joins.placed;
+      lead = joins.lead;
+      on = along-on graph first joins.place joins.lead joins.along;
+      joins = joins.joins;
+    };
   }
 
   module _ (first place : ℕ) (known : Known) (seen : List Bool) (comes : ComesTo first place known seen) where

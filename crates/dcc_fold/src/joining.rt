@@ -13,8 +13,8 @@ ghost use Rattle.dcc_passes.specs.Tidied.{IsTidied};
 ghost use Rattle.dcc_fold.specs.Joinable.{IsJoinable};
 ghost use Rattle.dcc_fold.specs.Joined.{stmt_with, exit_with, block_with, stmts_with, sets, IsJoined, statements_of};
 
-use dcc_stdrules::copy::copied;
 use dcc_ir::{Block, End, Expr, Graph, Loc, Stmt};
+use dcc_stdrules::copy::copied;
 use std::alloc::{AllocError, Global};
 
 /// A temporary, and the value that stands for it.

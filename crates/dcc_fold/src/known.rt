@@ -136,7 +136,8 @@ impl<'a> Known<'a> {
             Expr::Get(location) => self.stamp(*location) <= at,
             Expr::Load(_, a) => self.stored <= at && self.crossed <= at && self.is_still(at, a),
             Expr::Un(_, _, a) | Expr::Widen(_, _, a) | Expr::Part(_, _, a) => self.is_still(at, a),
-            Expr::Bin(_, _, a, b) | Expr::Join(a, b) => self.is_still(at, a) && self.is_still(at, b),
+            Expr::Bin(_, _, a, b) | Expr::Join(a, b) => self.is_still(at, a)
+                && self.is_still(at, b),
             Expr::Choose(test, a, b) => {
                 self.is_still(at, test) && self.is_still(at, a) && self.is_still(at, b)
             }

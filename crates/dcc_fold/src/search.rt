@@ -13,7 +13,6 @@ ghost use Rattle.dcc_fold.specs.Joinable.{IsJoinable};
 ghost use Rattle.dcc_fold.specs.Known.{known_of, IsBounded};
 ghost use Rattle.dcc_ir.specs.declared.syntax.Loc.{Loc as LocOf};
 ghost use Rattle.dcc_ir.specs.Tree.{Get as GetOf};
-
 ghost use Rattle.dcc_fold.specs.Found.{AreSeen};
 
 use crate::alone::Alone;
@@ -98,9 +97,9 @@ impl<'a> Search<'a> {
             (IsFoundAmong (graph_of self.now.chains.graph.now) (known_of known.now) (exprs_of (stmt_of stmt.now))) }
     {
         match stmt {
-            Stmt::Set { value: e, .. } | Stmt::Load { address: e, .. } | Stmt::Div { division: e, .. } => {
-                self.in_part(known, e, e)
-            }
+            Stmt::Set { value: e, .. }
+            | Stmt::Load { address: e, .. }
+            | Stmt::Div { division: e, .. } => { self.in_part(known, e, e) }
             Stmt::Store { address, value, .. } => match self.in_part(known, address, address) {
                 Some(temporary) => Some(temporary),
                 None => self.in_part(known, value, value),

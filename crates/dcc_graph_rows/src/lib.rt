@@ -14,6 +14,8 @@ mod graphs;
 #[cfg(test)]
 mod intervals;
 #[cfg(test)]
+mod joining;
+#[cfg(test)]
 mod living;
 #[cfg(test)]
 mod plans;
