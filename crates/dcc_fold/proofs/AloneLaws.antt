@@ -1,6 +1,8 @@
 -- What is counted of a graph tells which temporaries are alone.
-use Rattle.std.proofs.Common.{◌≡◌, ℕ, zero, suc, ◌+◌, ◌≤◌, Bool, true, false, ◌&&◌, ◌||◌, not, inl, inr, List, [], ◌∷◌, ◌++◌, map, flat_map, refl, sym, ap, ap₂, ◌∙◌, subst, arith, true≢false}
+use Rattle.std.proofs.Common.{◌≡◌, ℕ, zero, suc, ◌+◌, ◌<◌, ◌≤◌, length, take, get_or, Bool, true, false, ◌&&◌, ◌||◌, not, inl, inr, List, [], ◌∷◌, ◌++◌, map, flat_map, refl, sym, ap, ap₂, ◌∙◌, subst, arith, true≢false}
 use Rattle.std.specs.Prelude.{nat_le, MatchBool, if◌then◌else◌}
+use Rattle.std.proofs.lemmas.Bool.{le-leb}
+use Rattle.std.proofs.lemmas.List.{take_more}
 use Rattle.std.proofs.lemmas.List.Folds.{list_any-append}
 use Rattle.dcc_ir.specs.declared.syntax.Loc.{Loc}
 use Rattle.dcc_ir.specs.declared.syntax.Loc.TheVariants.{Temp}
@@ -12,12 +14,12 @@ use Rattle.dcc_ir.specs.Use.{reads_of, writes_of, exprs_of, exit_exprs, block_ex
 use Rattle.dcc_ir.proofs.FitLaws.{both}
 use Rattle.dcc_ir.proofs.LocationLaws.{location_same}
 use Rattle.dcc_flow.specs.Access.{Access, BlockAccess, access_of, block_access_of, accesses_of}
-use Rattle.dcc_flow.specs.Marks.{empty, members, with_one}
+use Rattle.dcc_flow.specs.Marks.{empty, members, with_one, with_all}
 use Rattle.dcc_passes.specs.Renaming.{param_places}
 use Rattle.dcc_fold.specs.Alone.{written_by, read_by, block_writes, block_reads, IsCounted, AreCounted}
 use Rattle.dcc_fold.specs.Joinable.{all_writes, all_reads, IsAlone}
 use Rattle.dcc_fold.specs.declared.alone.Alone.{Alone as AloneOf}
-use Rattle.dcc_fold.proofs.CountLaws.{flat-flat, times-joined, some-times, no-times}
+use Rattle.dcc_fold.proofs.CountLaws.{flat-flat, times-by, times-joined, some-times, no-times}
 use Rattle.dcc_fold.proofs.PassLaws.{and-none}
 use Rattle.std.proofs.lemmas.List.Concat.{flat_map-append}
 
@@ -35,13 +37,11 @@ pub none-counted : (seen again : List Bool) → members seen ≡ empty → membe
 none-counted seen again is also l = (ap (λ f. f l) is, ap (λ f. f l) also)
 
 one-more : (b : Bool) (l x : Loc) → same_location l x ≡ b → times_in (x ∷ []) l ≡ (if b then 1 else 0)
-one-more true l x is = ap (λ c. if c then 1 else 0) is
-one-more false l x is = ap (λ c. if c then 1 else 0) is
+one-more true l x is = times-by true x [] l is
+one-more false l x is = times-by false x [] l is
 
 two-or-more : (n : ℕ) → 2 ≤ n → nat_le 2 n ≡ true
-two-or-more zero few = absurd (omega arith)
-two-or-more (suc zero) few = absurd (omega arith)
-two-or-more (suc (suc n)) few = refl
+two-or-more n few = le-leb 2 n few
 
 -- the location that comes stood in the list before, or not
 pub counted-again : (seen again seen' again' : List Bool) (list : List Loc) (x : Loc) → IsCounted seen again list → members seen x ≡ true
@@ -84,6 +84,27 @@ counted-first seen again seen' list x is none more l = by (same_location l x) re
       (is l).1 ∙ ap (nat_le 2) (omega (arith, times-joined list (x ∷ []) l, one-more false l x same)),
     )
 
+-- one location more of a list
+pub taken-again : (seen again seen' again' : List Bool) (list : List Loc) (i : ℕ) (d : Loc) → i < length list → IsCounted seen again (take i list) → members seen (get_or list i d) ≡ true
+    → members seen' ≡ with_one (members seen) (get_or list i d) → members again' ≡ with_one (members again) (get_or list i d) → IsCounted seen' again' (take (i + 1) list)
+taken-again seen again seen' again' list i d less is there more also =
+    subst (IsCounted seen' again') (sym (take_more list i d less)) (counted-again seen again seen' again' (take i list) (get_or list i d) is there more also)
+
+pub taken-first : (seen again seen' again' : List Bool) (list : List Loc) (i : ℕ) (d : Loc) → i < length list → IsCounted seen again (take i list) → members seen (get_or list i d) ≡ false
+    → members seen' ≡ with_one (members seen) (get_or list i d) → again' ≡ again → IsCounted seen' again' (take (i + 1) list)
+taken-first seen again seen' again' list i d less is none more same =
+    subst (IsCounted seen' again') (sym (take_more list i d less))
+    (subst (λ xs. IsCounted seen' xs (take i list ++ get_or list i d ∷ [])) (sym same) (counted-first seen again seen' (take i list) (get_or list i d) is none more))
+
+-- what was put into a set at once
+pub params-counted : (all none : Loc → Bool) (slice places : List Loc) → none ≡ empty → all ≡ with_all none slice → slice ≡ places → (l : Loc) → all l ≡ is_among places l
+params-counted all none slice places is put same l =
+    ap (λ f. f l) put ∙ ap (λ (f : Loc → Bool). is_among slice l || f l) is ∙ or-false (is_among slice l) ∙ ap (λ xs. is_among xs l) same
+  where
+    or-false : (b : Bool) → (b || false) ≡ b
+    or-false true = refl
+    or-false false = refl
+
 -- Whole graphs.
 
 stmts-written : (stmts : List Stmt) → flat_map written_by (map access_of stmts) ≡ flat_map writes_of stmts
@@ -117,7 +138,7 @@ once-by seen again list l is holds =
     by : (n : ℕ) → 1 ≤ n → not (nat_le 2 n) ≡ true → n ≡ 1
     by zero some few = absurd (omega arith)
     by (suc zero) some few = refl
-    by (suc (suc n)) some few = absurd (true≢false (sym few))
+    by (suc (suc n)) some few = absurd (true≢false (sym few ∙ ap not (two-or-more (suc (suc n)) (omega arith))))
 
 by-once : (seen again : List Bool) (list : List Loc) (l : Loc) → IsCounted seen again list → times_in list l ≡ 1 → (members seen l && not (members again l)) ≡ true
 by-once seen again list l is once =

@@ -1,5 +1,5 @@
 -- A walk through a block finds what is joinable at its points.
-use Rattle.std.proofs.Common.{◌≡◌, ◌⊎◌, ℕ, ◌+◌, ◌<◌, inl, inr, List, [], ◌∷◌, ◌++◌, length, map, take, drop, get_or, Option, Some, None, refl, sym, ap, ap₂, ◌∙◌, subst, arith, append_assoc, take-append-drop}
+use Rattle.std.proofs.Common.{◌≡◌, ◌⊎◌, ℕ, ◌+◌, ◌<◌, ◌≤◌, inl, inr, List, [], ◌∷◌, ◌++◌, length, map, take, drop, get_or, Option, Some, None, refl, sym, ap, ap₂, ◌∙◌, subst, arith, append_assoc, take-append-drop}
 use Rattle.std.specs.Prelude.{MatchOption}
 use Rattle.std.proofs.lemmas.List.{append-nil, map-append, take_more, drop_more, take_all, drop_all}
 use Rattle.dcc_ir.specs.Joinable.{next_exprs}
@@ -72,7 +72,7 @@ module _ (graph : Graph) where
 
     module _ (first known : Known) (i : ℕ) (s : S) (got : s ≡ get_or stmts i s) (less : i < length stmts) (comes : ComesIn first known i) where
       more : map of (take (i + 1) stmts) ≡ map of (take i stmts) ++ of s ∷ []
-      more = ap (map of) (take_more i stmts s less) ∙ map-append of (take i stmts) (get_or stmts i s ∷ []) ∙ ap (λ x. map of (take i stmts) ++ of x ∷ []) (sym got)
+      more = ap (map of) (take_more stmts i s less) ∙ map-append of (take i stmts) (get_or stmts i s ∷ []) ∙ ap (λ x. map of (take i stmts) ++ of x ∷ []) (sym got)
 
       steps-more : (steps : List Step) → (steps ++ map statement (map of (take i stmts))) ++ statement (of s) ∷ [] ≡ steps ++ map statement (map of (take (i + 1) stmts))
       steps-more steps =

@@ -2,38 +2,43 @@
 use Rattle.std.proofs.Common.{◌≡◌, ◌⊎◌, ℕ, zero, suc, ◌+◌, ◌<◌, ◌≤◌, Bool, true, false, ◌||◌, inl, inr, List, [], ◌∷◌, ◌++◌, flat_map, Some, refl, sym, ap, ap₂, ◌∙◌, subst, arith, true≢false, slice_get, Contains}
 use Rattle.std.specs.Prelude.{if◌then◌else◌}
 use Rattle.std.proofs.lemmas.List.Concat.{flat_map-append}
+use Rattle.std.proofs.lemmas.List.Sums.{sum_by-cons}
 use Rattle.dcc_ir.specs.declared.syntax.Loc.{Loc}
 use Rattle.dcc_ir.specs.Joinable.{times_in}
 use Rattle.dcc_ir.specs.Live.{is_among}
 use Rattle.dcc_ir.specs.Location.{same_location}
 use Rattle.dcc_ir.proofs.LocationLaws.{Contains-none, Contains-cases}
 
-times-by : (b : Bool) (x : Loc) (xs : List Loc) (l : Loc) → same_location l x ≡ b → times_in (x ∷ xs) l ≡ (if b then suc (times_in xs l) else times_in xs l)
-times-by b x xs l is = ap (λ c. if c then suc (times_in xs l) else times_in xs l) is
+times-cons-by : (x : Loc) (xs : List Loc) (l : Loc) → times_in (x ∷ xs) l ≡ (if same_location l x then 1 else 0) + times_in xs l
+times-cons-by x xs l = sum_by-cons (λ y. if same_location l y then 1 else 0) x xs
+
+pub times-by : (b : Bool) (x : Loc) (xs : List Loc) (l : Loc) → same_location l x ≡ b → times_in (x ∷ xs) l ≡ (if b then suc (times_in xs l) else times_in xs l)
+times-by true x xs l is = omega (arith, times-cons-by x xs l, ap (λ c. if c then 1 else 0) is)
+times-by false x xs l is = omega (arith, times-cons-by x xs l, ap (λ c. if c then 1 else 0) is)
 
 pub some-times : (xs : List Loc) (l : Loc) → is_among xs l ≡ true → 1 ≤ times_in xs l
 some-times [] l is = absurd (true≢false (sym is))
-some-times (x ∷ xs) l is = by (same_location l x) refl is
+some-times (x ∷ xs) l is = by (same_location l x) refl is (some-times xs l)
   where
-    by : (b : Bool) → same_location l x ≡ b → (b || is_among xs l) ≡ true → 1 ≤ times_in (x ∷ xs) l
-    by true same there = omega (arith, times-by true x xs l same)
-    by false same there = let more = some-times xs l there in omega (arith, more, times-by false x xs l same)
+    by : (b : Bool) → same_location l x ≡ b → (b || is_among xs l) ≡ true → (is_among xs l ≡ true → 1 ≤ times_in xs l) → 1 ≤ times_in (x ∷ xs) l
+    by true same there more = omega (arith, times-by true x xs l same)
+    by false same there more = omega (arith, more there, times-by false x xs l same)
 
 pub no-times : (xs : List Loc) (l : Loc) → is_among xs l ≡ false → times_in xs l ≡ 0
 no-times [] l is = refl
-no-times (x ∷ xs) l is = by (same_location l x) refl is
+no-times (x ∷ xs) l is = by (same_location l x) refl is (no-times xs l)
   where
-    by : (b : Bool) → same_location l x ≡ b → (b || is_among xs l) ≡ false → times_in (x ∷ xs) l ≡ 0
-    by true same there = absurd (true≢false there)
-    by false same there = times-by false x xs l same ∙ no-times xs l there
+    by : (b : Bool) → same_location l x ≡ b → (b || is_among xs l) ≡ false → (is_among xs l ≡ false → times_in xs l ≡ 0) → times_in (x ∷ xs) l ≡ 0
+    by true same there more = absurd (true≢false there)
+    by false same there more = times-by false x xs l same ∙ more there
 
 pub times-joined : (xs ys : List Loc) (l : Loc) → times_in (xs ++ ys) l ≡ times_in xs l + times_in ys l
 times-joined [] ys l = refl
-times-joined (x ∷ xs) ys l = by (same_location l x) refl
+times-joined (x ∷ xs) ys l = by (same_location l x) refl (times-joined xs ys l)
   where
-    by : (b : Bool) → same_location l x ≡ b → times_in (x ∷ (xs ++ ys)) l ≡ times_in (x ∷ xs) l + times_in ys l
-    by true same = let more = times-joined xs ys l in omega (arith, more, times-by true x (xs ++ ys) l same, times-by true x xs l same)
-    by false same = let more = times-joined xs ys l in omega (arith, more, times-by false x (xs ++ ys) l same, times-by false x xs l same)
+    by : (b : Bool) → same_location l x ≡ b → times_in (xs ++ ys) l ≡ times_in xs l + times_in ys l → times_in (x ∷ (xs ++ ys)) l ≡ times_in (x ∷ xs) l + times_in ys l
+    by true same more = omega (arith, more, times-by true x (xs ++ ys) l same, times-by true x xs l same)
+    by false same more = omega (arith, more, times-by false x (xs ++ ys) l same, times-by false x xs l same)
 
 pub flat-flat : {X Y Z : Type 0} (f : X → List Y) (g : Y → List Z) (xs : List X) → flat_map g (flat_map f xs) ≡ flat_map (λ x. flat_map g (f x)) xs
 flat-flat f g [] = refl

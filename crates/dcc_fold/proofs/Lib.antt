@@ -9,10 +9,7 @@ pub mod NextLaws
 pub mod SeenLaws
 pub mod DepthLaws
 pub mod FoundLaws
+pub mod PartLaws
 pub mod BlockLaws
-pub mod ValueLaws
-pub mod PointLaws
-pub mod AvailableLaws
-pub mod WithoutLaws
-pub mod JoinedLaws
+pub mod SearchLaws
 mod Examples

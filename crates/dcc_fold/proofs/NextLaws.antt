@@ -11,10 +11,12 @@ use Rattle.dcc_ir.specs.WellFormed.{is_stmt, is_exit, is_block, IsGraph}
 use Rattle.dcc_ir.proofs.FitLaws.{both}
 use Rattle.dcc_ir.proofs.GraphLaws.{or_there}
 use Rattle.dcc_ir.proofs.LocationLaws.{Contains-here, Contains-later, Contains-none, Contains-cases}
-use Rattle.dcc_flow.specs.Edges.{is_in, successors_of, leads, ArePredecessors}
+use Rattle.std.specs.Global.{Vec}
+use Rattle.std.proofs.lemmas.Option.{slice_get-get_or}
+use Rattle.dcc_flow.specs.Edges.{is_in, rows, successors_of, leads, ArePredecessors}
 use Rattle.dcc_available.specs.Along.{IsOnlyEdge}
 use Rattle.dcc_available.specs.Rows.{IsNext}
-use Rattle.dcc_available.proofs.ChainLaws.{one-item, is_next}
+use Rattle.dcc_available.proofs.ChainLaws.{one-item, is_next, row-at}
 use Rattle.dcc_fold.specs.Chain.{IsFirst}
 use Rattle.dcc_fold.proofs.ChainLaws.{one-behind, not-first}
 use Rattle.dcc_fold.proofs.KnownLaws.{placed}
@@ -141,6 +143,69 @@ module _ (graph : Graph) (formed : IsGraph graph) (preds : List (List ℕ)) (are
   pub first-without : (place : ℕ) → length (row place) ≢ 1 → IsFirst graph place
   first-without place many other block only = many (one-edge other place (record { block = block; only = only }))
 
-pub told-by : (b : Bool) (P Q : Type 0) → (b ≡ true → P) → (b ≡ false → Q) → MatchBool b P Q
-told-by true P Q one other = one refl
-told-by false P Q one other = other refl
+-- By the code's lists.
+
+module _ (graph : Graph) (formed : IsGraph graph) (lists : List (Vec ℕ)) (are : ArePredecessors (successors_of graph) (rows lists)) where
+  lists-long : length (rows lists) ≡ length lists
+  lists-long = length-map lists (λ (l : Vec ℕ). l.items)
+
+  pub in-lists : (place to : ℕ) (block : Block) → slice_get graph.blocks place ≡ Some block → block.exit ≡ Goto to → to < length lists
+  in-lists place to block found goes =
+      omega (arith, goto-within graph formed (rows lists) are place to block found goes, next-count graph formed (rows lists) are, are.len, lists-long)
+
+  pub at-list : (to : ℕ) (from : Vec ℕ) → to < length lists → from ≡ get_or lists to from → get_or (rows lists) to [] ≡ from.items
+  at-list to from less is = (row-at lists to from (slice_get-get_or lists to from less ∙ ap Some (sym is))).0
+
+  -- it is the one block that the block may go on to
+  pub only-to : (place to n : ℕ) (block : Block) → slice_get graph.blocks place ≡ Some block → block.exit ≡ Goto to → IsNext graph place n → n ≡ to
+  only-to place to n block found goes next =
+      goto-place n to (sym next.only.goes ∙ ap (λ (b : Block). b.exit) (some-block next.block block (sym next.only.placed ∙ found)) ∙ goes)
+    where
+      some-block : (b c : Block) → Some b ≡ Some c → b ≡ c
+      some-block b c is = cc
+
+      goto-place : (n m : ℕ) → Goto n ≡ Goto m → n ≡ m
+      goto-place n m is = cc
+
+  -- more than one edge leads there, or none
+  pub none-next : (place to : ℕ) (block : Block) (from : Vec ℕ) → slice_get graph.blocks place ≡ Some block → block.exit ≡ Goto to → to < length lists → from ≡ get_or lists to from
+      → length from.items ≢ 1 → (n : ℕ) → ¬ IsNext graph place n
+  none-next place to block from found goes less is many n next =
+      let same = only-to place to n block found goes next in
+      many (ap length (sym (at-list to from less is)) ∙ ap (λ m. length (get_or (rows lists) m [])) (sym same) ∙ one-edge graph formed (rows lists) are place n next)
+
+  pub list-next : (place to : ℕ) (block : Block) (from : Vec ℕ) → slice_get graph.blocks place ≡ Some block → block.exit ≡ Goto to → to < length lists → from ≡ get_or lists to from
+      → to ≢ 0 → length from.items ≡ 1 → IsNext graph place to
+  list-next place to block from found goes less is later one =
+      edge-next graph formed (rows lists) are place to block found goes later (ap length (at-list to from less is) ∙ one)
+
+  -- a block that no one edge leads to
+  pub list-first : (place : ℕ) (from : Vec ℕ) → place < length graph.blocks → from ≡ get_or lists place from → length from.items ≢ 1 → IsFirst graph place
+  list-first place from less is many =
+      first-without graph formed (rows lists) are place (λ one. many (ap length (sym (at-list place from (omega (arith, less, next-count graph formed (rows lists) are, are.len, lists-long)) is)) ∙ one))
+
+  module _ (place : ℕ) (from : Vec ℕ) (n : ℕ) (less : place < length graph.blocks) (is : from ≡ get_or lists place from) (one : length from.items ≡ 1) (item : n ≡ get_or from.items 0 n) where
+    row-is : get_or (rows lists) place [] ≡ from.items
+    row-is = at-list place from (omega (arith, less, next-count graph formed (rows lists) are, are.len, lists-long)) is
+
+    row-long : length (get_or (rows lists) place []) ≡ 1
+    row-long = ap length row-is ∙ one
+
+    first-item : n ≡ get_or (get_or (rows lists) place []) 0 n
+    first-item = item ∙ ap (λ xs. get_or xs 0 n) (sym row-is)
+
+    pub item-within : n < length graph.blocks
+    item-within =
+        row-within graph formed (rows lists) are n place less
+        (subst (λ xs. Contains xs n) (sym (one-item (get_or (rows lists) place []) n n row-long first-item)) (Contains-here n []))
+
+    pub item-first : (¬ IsNext graph n place) → IsFirst graph place
+    item-first none = first-of graph formed (rows lists) are place n row-long first-item none
+
+-- whether the block before goes on to another one tells whether a chain begins
+pub first-told : (graph : Graph) (place from to : ℕ) → IsNext graph from to → ((¬ IsNext graph from place) → IsFirst graph place) → MatchBool (not (to == place)) (IsFirst graph place) (¬ IsFirst graph place)
+first-told graph place from to next first = by (to == place) refl
+  where
+    by : (b : Bool) → (to == place) ≡ b → MatchBool (not b) (IsFirst graph place) (¬ IsFirst graph place)
+    by true same = not-first graph from place (subst (IsNext graph from) (eqb-true to place same) next)
+    by false other = first (λ also. true≢false (sym (eq-eqb to place (one-behind graph from to place next also)) ∙ other))

@@ -156,10 +156,3 @@ module _ (graph : Graph) where
 
 abbrev pub unseen : List Bool → ℕ
 unseen seen = count_by not seen
-
-pub fewer-unseen : (seen : List Bool) (place : ℕ) → place < length seen → get_or seen place false ≡ false → unseen (slice_set seen place true) < unseen seen
-fewer-unseen [] place within fails = absurd (omega (arith, within))
-fewer-unseen (b ∷ seen) zero within fails =
-    subst (λ c. count_by not seen < count_by not (c ∷ seen)) (sym fails) (omega arith)
-fewer-unseen (true ∷ seen) (suc place) within fails = fewer-unseen seen place (omega (arith, within)) fails
-fewer-unseen (false ∷ seen) (suc place) within fails = let less = fewer-unseen seen place (omega (arith, within)) fails in omega (arith, less)

@@ -1,6 +1,5 @@
 pub mod Chain
 pub mod Joinable
-pub mod Joined
 pub mod Alone
 pub mod Known
 pub mod Carried

@@ -30,10 +30,14 @@ impl Chains<'_> {
             return None;
         };
         let to = *to as usize;
-        match self.preds.get(to) {
-            Some(from) if to != 0 && from.len() == 1 => Some(to),
-            _ => None,
+        if to == 0 {
+            return None;
         }
+        let from = &self.preds[to];
+        if from.len() != 1 {
+            return None;
+        }
+        Some(to)
     }
 
     /// Whether a chain begins with the block.
@@ -47,9 +51,9 @@ impl Chains<'_> {
         if from.len() != 1 {
             return true;
         }
-        match self.next(from[0]) {
-            Some(to) => to != place,
-            None => true,
-        }
+        let Some(to) = self.next(from[0]) else {
+            return true;
+        };
+        to != place
     }
 }

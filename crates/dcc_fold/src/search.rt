@@ -46,8 +46,13 @@ impl<'a> Search<'a> {
         if !self.alone.has(temporary) {
             return None;
         }
-        let value = known.value(temporary)?;
-        is_within_with(whole, temporary, value, DEPTH_MOST).then_some(temporary)
+        let Some(value) = known.value(temporary) else {
+            return None;
+        };
+        if !is_within_with(whole, temporary, value, DEPTH_MOST) {
+            return None;
+        }
+        Some(temporary)
     }
 
     // A temporary that a part of the whole expression reads, and whose value may stand there.

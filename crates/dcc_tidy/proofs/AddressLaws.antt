@@ -12,7 +12,7 @@ use Rattle.dcc_passes.specs.Tidied.{IsTidied}
 use Rattle.dcc_variables.specs.Functions.{memory_from, function_shape}
 use Rattle.dcc_variables.specs.Variables.{is_told_from, is_address, has_address, stmt_has_address, block_has_address, takes_address}
 use Rattle.dcc_tidy.specs.Tidied.{has_lone_byte}
-use Rattle.dcc_fold.proofs.WithoutLaws.{each-passes, all-pass}
+use Rattle.dcc_tidy.proofs.DeadLaws.{each-passes, all-pass}
 
 module _ (told : Option ℕ) where
   abbrev FromParameter : Expr → Type 0

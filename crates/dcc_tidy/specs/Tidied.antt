@@ -1,5 +1,5 @@
 -- What tidying leaves of a graph.
-use Rattle.std.specs.Prelude.{◌≡◌, ℕ, ◌+◌, ◌==◌, ◌≤◌, max, Bool, true, false, ◌&&◌, not, List}
+use Rattle.std.specs.Prelude.{◌≡◌, ℕ, ◌+◌, ◌==◌, ◌≤◌, Bool, true, false, ◌&&◌, not, List}
 use Rattle.dcc_ir.specs.Measure.{deepest}
 use Rattle.dcc_ir.specs.Tree.{Graph}
 use Rattle.dcc_ir.specs.Use.{graph_exprs}
@@ -10,8 +10,6 @@ use Rattle.dcc_loads.specs.Sets.{with_sets}
 use Rattle.dcc_words.specs.Words.{ReadsWords}
 use Rattle.dcc_simplify.specs.Reshaped.{IsGraphAs}
 use Rattle.dcc_simplify.specs.Simplified.{IsSimplified}
-use Rattle.dcc_fold.specs.Joinable.{IsJoinable}
-use Rattle.dcc_ir.specs.WellFormed.{IsGraph}
 use Rattle.dcc_variables.specs.Functions.{function_shape}
 
 -- as many levels may an expression have for its text
@@ -29,24 +27,10 @@ pub record MayStandInText (before after : Graph) : Type 0 where
   pub tidied : IsTidied before after
   pub depth : deepest (graph_exprs before) + 3 ≤ text_levels → deepest (graph_exprs after) ≤ text_levels
 
--- What is left at last: no part of an expression has the form of a rule of these numbers; each assignment makes what is
--- wanted after it; and no temporary is joinable.
-pub record IsSettled (ids : List ℕ) (before after : Graph) : Type 0 where
-  pub plain : Graph
-  pub tidied : IsTidied before plain
-  pub depth : deepest (graph_exprs plain) ≤ max 32 (deepest (graph_exprs before))
-  pub simple : Graph
-  pub simpler : IsTidied plain simple
-  pub simplified : IsGraphAs (IsSimplified ids plain.bits) plain simple
-  pub shallow : deepest (graph_exprs simple) ≤ deepest (graph_exprs plain)
-  pub formed : IsGraph after
-  pub last : IsWithoutUnneeded simple after
-  pub joined : (temporary : ℕ) → ¬ IsJoinable after temporary
-
 -- What the passes leave of a graph, one after another: each web has a temporary of its own; each statement that loads is
 -- an assignment of a load; pairs of temporaries that are used as words are words; rounds of passes follow; then no part
--- of an expression has the form of a rule of these numbers, each assignment that is left makes what is wanted after it,
--- and no temporary is left whose value could stand in the place of its only read.
+-- of an expression has the form of a rule of these numbers, and each assignment that is left makes what is wanted after
+-- it.
 pub record HasPassesDone (ids : List ℕ) (before after : Graph) : Type 0 where
   pub split : Graph
   pub told : TellsApart before split
@@ -58,7 +42,6 @@ pub record HasPassesDone (ids : List ℕ) (before after : Graph) : Type 0 where
   pub simple : Graph
   pub simplified : IsGraphAs (IsSimplified ids plain.bits) plain simple
   pub last : IsWithoutUnneeded simple after
-  pub joined : (temporary : ℕ) → ¬ IsJoinable after temporary
 
 -- The passes are done in each graph but in those whose text has an array of one byte for SP's address, which stay as
 -- they are: what names that array is told of their statements.

@@ -10,12 +10,11 @@ ghost use Rattle.dcc_passes.specs.Tidied.{IsTidied};
 ghost use Rattle.dcc_rules.specs.Views.{numbers_of};
 ghost use Rattle.dcc_live.specs.Dead.{IsWithoutUnneeded};
 ghost use Rattle.dcc_tidy.specs.Tidied as spec;
-ghost use Rattle.dcc_tidy.specs.Tidied.{IsSettled, MayStandInText, HasPassesDone, IsTidiedGraph};
+ghost use Rattle.dcc_tidy.specs.Tidied.{MayStandInText, HasPassesDone, IsTidiedGraph};
 
 use dcc_available::substitute;
 use dcc_copies::settle_copies;
 use dcc_divisions::drop_divisions;
-use dcc_fold::{joinable, joined};
 use dcc_ir::{Graph, Sums};
 use dcc_live::{drop_dead, live};
 use dcc_loads::loads_as_sets;
@@ -80,24 +79,6 @@ fn rounds(alloc: Global, graph: Graph, rules: &RuleList) -> Result<Graph, AllocE
     Ok(left)
 }
 
-// The graph with its expressions made simpler, without the assignments that nothing wants, and with the value of each
-// temporary that is joinable in the place of its read. Where rounds went before, few are joinable. Each one that is
-// joined leaves one statement less.
-fn settled(alloc: Global, graph: Graph, rules: &RuleList) -> Result<Graph, AllocError>
-    requires { IsGraph (graph_of graph) }
-    ensures { IfOk result (λ after. IsSettled (numbers_of rules.now) (graph_of graph) (graph_of after)) }
-{
-    let mut left = graph;
-    loop {
-        let simple = simplified(alloc, left, rules)?;
-        let wanted = without_dead(alloc, simple)?;
-        let Some(temporary) = joinable(alloc, &wanted)? else {
-            return Ok(wanted);
-        };
-        left = joined(alloc, wanted, temporary)?;
-    }
-}
-
 // What the passes leave of a graph, in their order.
 fn passed(alloc: Global, graph: Graph, rules: &RuleList) -> Result<Graph, AllocError>
     requires { IsGraph (graph_of graph) }
@@ -109,7 +90,8 @@ fn passed(alloc: Global, graph: Graph, rules: &RuleList) -> Result<Graph, AllocE
     let sets = loads_as_sets(alloc, split)?;
     let words = words(alloc, sets)?;
     let plain = rounds(alloc, words, rules)?;
-    let after = settled(alloc, plain, rules)?;
+    let last = simplified(alloc, plain, rules)?;
+    let after = without_dead(alloc, last)?;
     Ok(after)
 }
 
@@ -127,8 +109,8 @@ fn tidied_graph(alloc: Global, graph: Graph, rules: &RuleList) -> Result<Graph, 
 }
 
 /// What the passes leave of each graph, in its place: each web has a temporary of its own, loads are parts of
-/// assignments, values stand where they are read, no part of an expression has the form of one of the rules, nothing is
-/// assigned that isn't wanted, and no temporary is left whose value could stand in the place of its only read. A graph whose text has an array of one byte for SP's address stays as it is. That there
+/// assignments, values stand where they are read, no part of an expression has the form of one of the rules, and nothing
+/// is assigned that isn't wanted. A graph whose text has an array of one byte for SP's address stays as it is. That there
 /// are more temporaries than 32 bits can number is told as want of memory.
 pub fn tidied_graphs(
     alloc: Global,

@@ -13,15 +13,16 @@ returns-clause-stands g c =
     let sets = graph_of c.in_ok-sets.sets in
     let words = graph_of c.in_ok-words.words in
     let plain = graph_of c.in_ok-plain.plain in
+    let simple = graph_of c.in_ok-last.last in
     let after = graph_of c.in_ok-after.after in
-    let end = c.in_ok-after.ensures in
-    let shallow = dead-depth end.simple after end.last in record {
+    let last = c.in_ok-after.ensures.without in
+    let shallow = dead-depth simple after last in record {
       tidied = tidied-trans given split after c.in_ok-split.ensures.tidied
           (tidied-trans split sets after c.in_ok-sets.ensures.tidied
           (tidied-trans sets words after c.in_ok-words.ensures.tidied
           (tidied-trans words plain after c.in_ok-plain.ensures.tidied
-          (tidied-trans plain end.plain after end.tidied
-          (tidied-trans end.plain end.simple after end.simpler (dead-tidied end.simple after end.formed end.last))))));
+          (tidied-trans plain simple after c.in_ok-last.ensures.tidied
+          (dead-tidied simple after c.in_ok-after.ensures.formed last)))));
       depth = λ few.
           omega (
             arith,
@@ -31,8 +32,7 @@ returns-clause-stands g c =
             c.in_ok-sets.ensures.depth,
             c.in_ok-words.ensures.depth,
             c.in_ok-plain.ensures.depth,
-            end.depth,
-            end.shallow,
+            c.in_ok-last.ensures.depth,
           );
     }
 
@@ -45,12 +45,9 @@ returns-clause-done g c = record {
   reads =
       subst (λ (sets : Graph). ReadsWords sets (graph_of c.in_ok-words.words)) c.in_ok-sets.ensures.sets
       c.in_ok-words.ensures.words;
-  plain = c.in_ok-after.ensures.plain;
-  rounds =
-      tidied-trans (graph_of c.in_ok-words.words) (graph_of c.in_ok-plain.plain) c.in_ok-after.ensures.plain
-      c.in_ok-plain.ensures.tidied c.in_ok-after.ensures.tidied;
-  simple = c.in_ok-after.ensures.simple;
-  simplified = c.in_ok-after.ensures.simplified;
-  last = c.in_ok-after.ensures.last;
-  joined = c.in_ok-after.ensures.joined;
+  plain = graph_of c.in_ok-plain.plain;
+  rounds = c.in_ok-plain.ensures.tidied;
+  simple = graph_of c.in_ok-last.last;
+  simplified = c.in_ok-last.ensures.simplified;
+  last = c.in_ok-after.ensures.without;
 }

@@ -1,24 +1,52 @@
-use Rattle.std.proofs.Common.{◌≡◌, ◌<◌, length, get_or, Some, sym, ap, ◌∙◌, subst, arith, slice_get, ltb-true}
+use Rattle.std.proofs.Common.{◌≡◌, Some, sym, ap, ◌∙◌, arith}
+use Rattle.std.proofs.lemmas.List.{length-map}
 use Rattle.std.proofs.lemmas.Option.{slice_get-get_or}
 use Rattle.dcc_ir.specs.Views.{exit_of, block_of, graph_of}
 use Rattle.dcc_flow.specs.Edges.{rows}
 use Rattle.dcc_available.proofs.GraphLaws.{get-mapped}
-use Rattle.dcc_available.proofs.ChainLaws.{row-at}
-use Rattle.dcc_fold.proofs.NextLaws.{edge-next}
+use Rattle.dcc_fold.proofs.NextLaws.{goto-within, in-lists, none-next, list-next}
 use Rattle.dcc_fold.proofs.chains.Chains.next.Goals as goal
 
-pub returns-in-Some-clause-next : goal.returns-in-Some-clause-next
-returns-in-Some-clause-next c =
+pub index-from-requires : goal.index-from-requires
+index-from-requires c =
     let g = c.args.self.now.graph.now in
     let block = c.index.result.now in
     let preds = c.args.self.now.preds.now.items in
-    let given = c.deref.result.now in
+    let place = c.args.place in
     let to = c.in-Goto.to in
-    let from = c.in-Some.from.now in
-    let lookup = c.in-Some.ensures.lookup in
-    let found : slice_get g.blocks.items c.args.place ≡ Some block = slice_get-get_or g.blocks.items c.args.place block c.requires.place ∙ ap Some (sym c.index.ensures) in
-    let less : to < length given = ltb-true to (length given) (sym lookup.0) in
-    let at : slice_get given to ≡ Some from = slice_get-get_or given to from less ∙ ap Some (sym lookup.1) in
-    let row = row-at preds to from (subst (λ xs. slice_get xs to ≡ Some from) c.deref.ensures.value at) in
-    edge-next (graph_of g) c.requires.graph (rows preds) c.requires.preds c.args.place to (block_of block) (get-mapped g.blocks.items c.args.place block found) (ap exit_of c.in-Goto.is) c.if-to-ne0.true
-    (ap length row.0 ∙ omega (arith, c.len.ensures, c.if-len-eq1.true))
+    let found = get-mapped g.blocks.items place block (slice_get-get_or g.blocks.items place block c.requires.place ∙ ap Some (sym c.index.ensures)) in
+    in-lists (graph_of g) c.requires.graph preds c.requires.preds place to (block_of block) found (ap exit_of c.in-Goto.is)
+
+pub returns-then-len-ne1-clause-next : goal.returns-then-len-ne1-clause-next
+returns-then-len-ne1-clause-next c =
+    let g = c.args.self.now.graph.now in
+    let block = c.index.result.now in
+    let preds = c.args.self.now.preds.now.items in
+    let place = c.args.place in
+    let to = c.in-Goto.to in
+    let found = get-mapped g.blocks.items place block (slice_get-get_or g.blocks.items place block c.requires.place ∙ ap Some (sym c.index.ensures)) in
+    let goes = ap exit_of c.in-Goto.is in
+    none-next (graph_of g) c.requires.graph preds c.requires.preds place to (block_of block) c.index-from.result.now found goes
+    (in-lists (graph_of g) c.requires.graph preds c.requires.preds place to (block_of block) found goes) c.index-from.ensures (λ one. c.if-len-ne1.true (c.len.ensures ∙ one))
+
+pub returns-clause-next : goal.returns-clause-next
+returns-clause-next c =
+    let g = c.args.self.now.graph.now in
+    let block = c.index.result.now in
+    let preds = c.args.self.now.preds.now.items in
+    let place = c.args.place in
+    let to = c.in-Goto.to in
+    let found = get-mapped g.blocks.items place block (slice_get-get_or g.blocks.items place block c.requires.place ∙ ap Some (sym c.index.ensures)) in
+    let goes = ap exit_of c.in-Goto.is in
+    list-next (graph_of g) c.requires.graph preds c.requires.preds place to (block_of block) c.index-from.result.now found goes
+    (in-lists (graph_of g) c.requires.graph preds c.requires.preds place to (block_of block) found goes) c.index-from.ensures c.if-to-eq0.false (sym c.len.ensures ∙ c.if-len-ne1.false)
+
+pub returns-clause-within : goal.returns-clause-within
+returns-clause-within c =
+    let g = c.args.self.now.graph.now in
+    let block = c.index.result.now in
+    let preds = c.args.self.now.preds.now.items in
+    let place = c.args.place in
+    let to = c.in-Goto.to in
+    let found = get-mapped g.blocks.items place block (slice_get-get_or g.blocks.items place block c.requires.place ∙ ap Some (sym c.index.ensures)) in
+    omega (arith, goto-within (graph_of g) c.requires.graph (rows preds) c.requires.preds place to (block_of block) found (ap exit_of c.in-Goto.is), length-map g.blocks.items block_of)

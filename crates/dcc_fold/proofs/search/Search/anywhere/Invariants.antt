@@ -8,6 +8,6 @@ use Rattle.dcc_fold.proofs.search.Search.anywhere.Given as goal
 abbrev pub invariant-loop-place : goal.invariant-loop-place
 invariant-loop-place l = record {
   bounded : IsBounded (known_of l.known);
-  seen : AreSeen (graph_of l.self.chains.graph.now) l.counter l.seen.items;
-  none : (first t : ℕ) → first < l.counter → IsFirst (graph_of l.self.chains.graph.now) first → ¬ JoinsAlong (graph_of l.self.chains.graph.now) first t;
+  seen : AreSeen (graph_of l.self.chains.graph.now) l.place l.seen.items;
+  none : (first t : ℕ) → first < l.place → IsFirst (graph_of l.self.chains.graph.now) first → ¬ JoinsAlong (graph_of l.self.chains.graph.now) first t;
 }
