@@ -13,8 +13,8 @@ times-cons-by : (x : Loc) (xs : List Loc) (l : Loc) → times_in (x ∷ xs) l �
 times-cons-by x xs l = sum_by-cons (λ y. if same_location l y then 1 else 0) x xs
 
 pub times-by : (b : Bool) (x : Loc) (xs : List Loc) (l : Loc) → same_location l x ≡ b → times_in (x ∷ xs) l ≡ (if b then suc (times_in xs l) else times_in xs l)
-times-by true x xs l is = omega (arith, times-cons-by x xs l, ap (λ c. if c then 1 else 0) is)
-times-by false x xs l is = omega (arith, times-cons-by x xs l, ap (λ c. if c then 1 else 0) is)
+times-by true x xs l is = omega (arith, times-cons-by x xs l, ap {B = ℕ} (λ c. if c then 1 else 0) is)
+times-by false x xs l is = omega (arith, times-cons-by x xs l, ap {B = ℕ} (λ c. if c then 1 else 0) is)
 
 pub some-times : (xs : List Loc) (l : Loc) → is_among xs l ≡ true → 1 ≤ times_in xs l
 some-times [] l is = absurd (true≢false (sym is))
@@ -33,7 +33,7 @@ no-times (x ∷ xs) l is = by (same_location l x) refl is (no-times xs l)
     by false same there more = times-by false x xs l same ∙ more there
 
 pub times-joined : (xs ys : List Loc) (l : Loc) → times_in (xs ++ ys) l ≡ times_in xs l + times_in ys l
-times-joined [] ys l = refl
+times-joined [] ys l = let none : times_in [] l ≡ 0 = refl in omega (arith, none)
 times-joined (x ∷ xs) ys l = by (same_location l x) refl (times-joined xs ys l)
   where
     by : (b : Bool) → same_location l x ≡ b → times_in (xs ++ ys) l ≡ times_in xs l + times_in ys l → times_in (x ∷ (xs ++ ys)) l ≡ times_in (x ∷ xs) l + times_in ys l

@@ -25,11 +25,11 @@ use Rattle.dcc_fold.proofs.KnownLaws.{placed}
 
 in-there : (xs : List ℕ) (n : ℕ) → is_in xs n ≡ true → Contains xs n
 in-there [] n is = absurd (true≢false (sym is))
-in-there (x ∷ xs) n is = by (x == n) refl is
+in-there (x ∷ xs) n is = by (x == n) refl is (in-there xs n)
   where
-    by : (b : Bool) → (x == n) ≡ b → (b || is_in xs n) ≡ true → Contains (x ∷ xs) n
-    by true same there = subst (Contains (x ∷ xs)) (eqb-true x n same) (Contains-here x xs)
-    by false same there = Contains-later x xs n (in-there xs n there)
+    by : (b : Bool) → (x == n) ≡ b → (b || is_in xs n) ≡ true → (is_in xs n ≡ true → Contains xs n) → Contains (x ∷ xs) n
+    by true same there more = subst (Contains (x ∷ xs)) (eqb-true x n same) (Contains-here x xs)
+    by false same there more = Contains-later x xs n (more there)
 
 there-in : (xs : List ℕ) (n : ℕ) → Contains xs n → is_in xs n ≡ true
 there-in [] n there = absurd (Contains-none n there)

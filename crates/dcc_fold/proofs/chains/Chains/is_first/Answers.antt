@@ -14,7 +14,7 @@ returns-then-len-ne1 c =
     let g = c.args.self.now.graph.now in
     let preds = c.args.self.now.preds.now.items in
     let less : c.args.place < length (graph_of g).blocks = omega (arith, c.requires.place, length-map g.blocks.items block_of) in
-    list-first (graph_of g) c.requires.graph preds c.requires.preds c.args.place c.index-from.result.now less c.index-from.ensures (λ one. c.if-len-ne1.true (c.len.ensures ∙ one))
+    list-first (graph_of g) c.requires.graph preds c.requires.preds c.args.place c.index-from.result.now less c.index-from.ensures (λ one. c.if-len-ne1.true (omega (arith, one, c.len.ensures, c.index-from.result.now.ok.0)))
 
 pub next-requires-clause-place : goal.next-requires-clause-place
 next-requires-clause-place c =
@@ -23,7 +23,7 @@ next-requires-clause-place c =
     let less : c.args.place < length (graph_of g).blocks = omega (arith, c.requires.place, length-map g.blocks.items block_of) in
     omega (
       arith,
-      item-within (graph_of g) c.requires.graph preds c.requires.preds c.args.place c.index-from.result.now c.index.result.now less c.index-from.ensures (sym c.len.ensures ∙ c.if-len-ne1.false) c.index.ensures,
+      item-within (graph_of g) c.requires.graph preds c.requires.preds c.args.place c.index-from.result.now c.index.result.now less c.index-from.ensures (omega (arith, c.len.ensures, c.if-len-ne1.false, c.index-from.result.now.ok.0)) c.index.ensures,
       length-map g.blocks.items block_of,
     )
 
@@ -32,7 +32,7 @@ returns-in_default c =
     let g = c.args.self.now.graph.now in
     let preds = c.args.self.now.preds.now.items in
     let less : c.args.place < length (graph_of g).blocks = omega (arith, c.requires.place, length-map g.blocks.items block_of) in
-    item-first (graph_of g) c.requires.graph preds c.requires.preds c.args.place c.index-from.result.now c.index.result.now less c.index-from.ensures (sym c.len.ensures ∙ c.if-len-ne1.false) c.index.ensures
+    item-first (graph_of g) c.requires.graph preds c.requires.preds c.args.place c.index-from.result.now c.index.result.now less c.index-from.ensures (omega (arith, c.len.ensures, c.if-len-ne1.false, c.index-from.result.now.ok.0)) c.index.ensures
     (c.in_default.ensures.next c.args.place)
 
 pub returns : goal.returns
@@ -41,4 +41,4 @@ returns c =
     let preds = c.args.self.now.preds.now.items in
     let less : c.args.place < length (graph_of g).blocks = omega (arith, c.requires.place, length-map g.blocks.items block_of) in
     first-told (graph_of g) c.args.place c.index.result.now c.in-Some.to c.in-Some.ensures.next
-    (item-first (graph_of g) c.requires.graph preds c.requires.preds c.args.place c.index-from.result.now c.index.result.now less c.index-from.ensures (sym c.len.ensures ∙ c.if-len-ne1.false) c.index.ensures)
+    (item-first (graph_of g) c.requires.graph preds c.requires.preds c.args.place c.index-from.result.now c.index.result.now less c.index-from.ensures (omega (arith, c.len.ensures, c.if-len-ne1.false, c.index-from.result.now.ok.0)) c.index.ensures)

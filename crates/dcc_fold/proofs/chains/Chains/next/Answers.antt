@@ -15,7 +15,11 @@ index-from-requires c =
     let place = c.args.place in
     let to = c.in-Goto.to in
     let found = get-mapped g.blocks.items place block (slice_get-get_or g.blocks.items place block c.requires.place ∙ ap Some (sym c.index.ensures)) in
-    in-lists (graph_of g) c.requires.graph preds c.requires.preds place to (block_of block) found (ap exit_of c.in-Goto.is)
+    omega (
+      arith,
+      in-lists (graph_of g) c.requires.graph preds c.requires.preds place to (block_of block) found (ap exit_of c.in-Goto.is),
+      c.args.self.now.preds.now.ok.0,
+    )
 
 pub returns-then-len-ne1-clause-next : goal.returns-then-len-ne1-clause-next
 returns-then-len-ne1-clause-next c =
@@ -27,7 +31,7 @@ returns-then-len-ne1-clause-next c =
     let found = get-mapped g.blocks.items place block (slice_get-get_or g.blocks.items place block c.requires.place ∙ ap Some (sym c.index.ensures)) in
     let goes = ap exit_of c.in-Goto.is in
     none-next (graph_of g) c.requires.graph preds c.requires.preds place to (block_of block) c.index-from.result.now found goes
-    (in-lists (graph_of g) c.requires.graph preds c.requires.preds place to (block_of block) found goes) c.index-from.ensures (λ one. c.if-len-ne1.true (c.len.ensures ∙ one))
+    (in-lists (graph_of g) c.requires.graph preds c.requires.preds place to (block_of block) found goes) c.index-from.ensures (λ one. c.if-len-ne1.true (omega (arith, one, c.len.ensures, c.index-from.result.now.ok.0)))
 
 pub returns-clause-next : goal.returns-clause-next
 returns-clause-next c =
@@ -39,7 +43,7 @@ returns-clause-next c =
     let found = get-mapped g.blocks.items place block (slice_get-get_or g.blocks.items place block c.requires.place ∙ ap Some (sym c.index.ensures)) in
     let goes = ap exit_of c.in-Goto.is in
     list-next (graph_of g) c.requires.graph preds c.requires.preds place to (block_of block) c.index-from.result.now found goes
-    (in-lists (graph_of g) c.requires.graph preds c.requires.preds place to (block_of block) found goes) c.index-from.ensures c.if-to-eq0.false (sym c.len.ensures ∙ c.if-len-ne1.false)
+    (in-lists (graph_of g) c.requires.graph preds c.requires.preds place to (block_of block) found goes) c.index-from.ensures c.if-to-eq0.false (omega (arith, c.len.ensures, c.if-len-ne1.false, c.index-from.result.now.ok.0))
 
 pub returns-clause-within : goal.returns-clause-within
 returns-clause-within c =

@@ -1,4 +1,4 @@
-use Rattle.std.proofs.Common.{◌≡◌, ◌<◌, length, map, get_or, slice_set, refl, sym, ap₂, ◌∙◌, subst}
+use Rattle.std.proofs.Common.{◌≡◌, ◌<◌, length, map, get_or, slice_set, refl, ap₂, ◌∙◌, subst, arith}
 use Rattle.std.proofs.lemmas.List.{length-map}
 use Rattle.dcc_flow.specs.Marks.{location_number}
 use Rattle.dcc_fold.specs.Known.{fact_of}
@@ -10,7 +10,7 @@ returns c =
     let room = c.make_room.new.list.items in
     let facts = c.args.self.now.facts.items in
     let place = c.number-place.ensures in
-    let now : c.len.result ≡ length (map fact_of facts) = c.len.ensures ∙ sym (length-map facts fact_of) in
+    let now : c.len.result ≡ length (map fact_of facts) = omega (arith, c.len.ensures, c.args.self.now.facts.ok.0, length-map facts fact_of) in
     record {
       rest = refl;
       stamps = λ other.

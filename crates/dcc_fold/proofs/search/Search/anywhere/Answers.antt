@@ -16,7 +16,7 @@ loop-place-init c =
     let g = c.args.self.now.chains.graph.now in
     let graph = graph_of g in
     let items : c.in_ok-seen.seen.items ≡ replicate c.len-count.result false = c.in_ok-seen.ensures.items_if_clones_equal (λ y same. same) in
-    let count : c.len-count.result ≡ length graph.blocks = c.len-count.ensures ∙ sym (length-map g.blocks.items block_of) in
+    let count : c.len-count.result ≡ length graph.blocks = omega (arith, c.len-count.ensures, g.blocks.ok.0, length-map g.blocks.items block_of) in
     record {
       bounded = empty-bounded (known_of c.new-known.result) c.new-known.ensures;
       seen = subst (AreSeen graph 0) (sym (items ∙ ap (λ n. replicate n false) count)) (none-seen graph);
