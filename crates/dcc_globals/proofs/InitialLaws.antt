@@ -1,0 +1,34 @@
+-- What global variables hold at first, read one byte after another.
+use Rattle.std.proofs.Common.{◌≡◌, ℕ, zero, suc, ◌+◌, ◌*◌, ◌<◌, ◌≤◌, ◌==◌, Bool, true, false, List, [], ◌∷◌, ◌++◌, length, take, get_or, refl, sym, ap, ◌∙◌, subst, arith}
+use Rattle.std.specs.Prelude.{◌&&◌, if◌then◌else◌}
+use Rattle.std.proofs.lemmas.Bool.{eqb-true, eqb-false, cases_Bool, ne_eqb}
+use Rattle.std.proofs.lemmas.Bool.Decides.{nat_tests}
+use Rattle.std.proofs.lemmas.List.{take_more, take_all, length-take-le}
+use Rattle.dcc_globals.specs.Globals.{significant}
+
+-- the count with one byte before
+abbrev with-byte : ℕ → ℕ → ℕ
+with-byte count byte = if (count == 0) && (byte == 0) then 0 else count + 1
+
+pub significant-le : (bytes : List ℕ) → significant bytes ≤ length bytes
+significant-le [] = omega arith
+significant-le (b ∷ bytes) = by ((significant bytes == 0) && (b == 0))
+  where
+    by : (t : Bool) → (if t then 0 else significant bytes + 1) ≤ suc (length bytes)
+    by true = omega arith
+    by false = let h = significant-le bytes in omega (arith, h)
+
+-- one byte more at the end
+pub significant-zero : (bytes : List ℕ) → significant (bytes ++ 0 ∷ []) ≡ significant bytes
+significant-zero [] = refl
+significant-zero (b ∷ bytes) = ap (λ n. with-byte n b) (significant-zero bytes)
+
+some-before : (n b : ℕ) → 0 < n → with-byte n b ≡ n + 1
+some-before n b some =
+    ap (λ t. if t && (b == 0) then 0 else n + 1) (ne_eqb n 0 (λ e. absurd (omega (arith, e, some))))
+
+pub significant-some : (bytes : List ℕ) (byte : ℕ) → (byte ≡ 0 → ⊥) → significant (bytes ++ byte ∷ []) ≡ length bytes + 1
+significant-some [] byte some = ap (λ t. if t then 0 else 0 + 1) (ne_eqb byte 0 some)
+significant-some (b ∷ bytes) byte some =
+    ap (λ n. with-byte n b) (significant-some bytes byte some)
+    ∙ some-before (length bytes + 1) b (omega arith) ∙ omega arith
