@@ -70,8 +70,8 @@ crosses-before at (Broken first) h = absurd (true≢false (sym h))
 
 crossed-covers : (d : Data) (at : ℕ) → is_crossed d at ≡ true → (is_in_run d at ≡ true) × (is_in_run d (at - 1) ≡ true)
 unfolding is_crossed is_in_run
-crossed-covers d at h = (any-implies (crosses at) (has_byte at) (crosses-byte at) (pieces d) h,
-any-implies (crosses at) (has_byte (at - 1)) (crosses-before at) (pieces d) h)
+crossed-covers d at h =
+    (any-implies (crosses at) (has_byte at) (crosses-byte at) (pieces d) h, any-implies (crosses at) (has_byte (at - 1)) (crosses-before at) (pieces d) h)
 
 within-covers : (d : Data) (at : ℕ) → is_within_part d at ≡ true → (is_in_gap d at ≡ true) × (is_in_gap d (at - 1) ≡ true)
 unfolding is_within_part
@@ -112,16 +112,16 @@ extent-some d at = omega arith
 
 pub extent-fits : (d : Data) (at : ℕ) → at < 65536 → at + extent d at ≤ 65536
 unfolding extent
-extent-fits d at inside = let h = count_from-le (goes_on d) (65535 - at) (at + 1) in omega (arith, h, inside)
+extent-fits d at inside = let h = count_from-le (goes_on d) (65536 - (at + 1)) (at + 1) in omega (arith, h, inside)
 
 pub extent-goes : (d : Data) (at i : ℕ) → at < i → i < at + extent d at → goes_on d i ≡ true
 unfolding extent
-extent-goes d at i after below = counted (goes_on d) (65535 - at) (at + 1) i (omega (arith, after)) (omega (arith, below))
+extent-goes d at i after below = counted (goes_on d) (65536 - (at + 1)) (at + 1) i (omega (arith, after)) (omega (arith, below))
 
 pub extent-stops : (d : Data) (at : ℕ) → at + extent d at < 65536 → goes_on d (at + extent d at) ≡ false
 unfolding extent
 extent-stops d at inside =
-    ap (goes_on d) (omega arith) ∙ stops (goes_on d) (65535 - at) (at + 1) (omega (arith, inside))
+    ap (goes_on d) (omega arith) ∙ stops (goes_on d) (65536 - (at + 1)) (at + 1) (omega (arith, inside))
 
 -- all bytes of a variable are covered
 pub extent-covered : (d : Data) (at i : ℕ) → begins d at ≡ true → at ≤ i → i < at + extent d at → is_covered d i ≡ true
@@ -142,22 +142,28 @@ ends-before d at next after first = elim (cases_Bool (nat_lt next (at + extent d
 
 -- the variable that has a byte
 pub record IsOwner (d : Data) (at owner : ℕ) : Type 0 where
-  pub begins : begins d owner ≡ true
+  pub first : begins d owner ≡ true
   pub from : owner ≤ at
   pub below : at < owner + extent d owner
 
 pub owner-of : (d : Data) (at : ℕ) → at < 65536 → is_covered d at ≡ true → (owner : ℕ) × IsOwner d at owner
-owner-of d zero inside covered = (zero, record {
-  begins = begins-from d zero covered (false_from_ne_true (goes_on d zero) (λ goes. let h = (goes-covered d zero goes).0 in absurd (omega (arith, h))));
-  from = omega arith;
-  below = let h = extent-some d zero in omega (arith, h);
-})
-owner-of d (suc at) inside covered = elim (cases_Bool (goes_on d (suc at))) [
-  | inr first ↦ (suc at, record {
-    begins = begins-from d (suc at) covered first;
+owner-of d zero inside covered = (
+  zero,
+  record {
+    first = begins-from d zero covered (false_from_ne_true (goes_on d zero) (λ goes. let h = (goes-covered d zero goes).0 in absurd (omega (arith, h))));
     from = omega arith;
-    below = let h = extent-some d (suc at) in omega (arith, h);
-  })
+    below = let h = extent-some d zero in omega (arith, h);
+  },
+)
+owner-of d (suc at) inside covered = elim (cases_Bool (goes_on d (suc at))) [
+  | inr first ↦ (
+    suc at,
+    record {
+      first = begins-from d (suc at) covered first;
+      from = omega arith;
+      below = let h = extent-some d (suc at) in omega (arith, h);
+    },
+  )
   | inl goes ↦ further goes (owner-of d at (omega (arith, inside)) (before goes))
 ]
   where
@@ -165,11 +171,14 @@ owner-of d (suc at) inside covered = elim (cases_Bool (goes_on d (suc at))) [
     before goes = subst (λ k. is_covered d k ≡ true) (let e : suc at - 1 ≡ at = omega arith in e) (goes-covered d (suc at) goes).2
 
     further : goes_on d (suc at) ≡ true → (owner : ℕ) × IsOwner d at owner → (owner : ℕ) × IsOwner d (suc at) owner
-    further goes (owner, is) = (owner, record {
-      begins = is.begins;
-      from = let h = is.from in omega (arith, h);
-      below = inside-still is;
-    })
+    further goes (owner, is) = (
+      owner,
+      record {
+        first = is.first;
+        from = let h = is.from in omega (arith, h);
+        below = inside-still is;
+      },
+    )
       where
         inside-still : IsOwner d at owner → suc at < owner + extent d owner
         inside-still is = elim (cases_Bool (nat_lt (suc at) (owner + extent d owner))) [

@@ -23,10 +23,10 @@ abbrev pub is_in : ℕ → List Global → Bool
 is_in k globals = list_any (has k) globals
 
 -- the variable holds the bytes of the segment
-pub record HoldsData (data : List ℕ) (g : Global) : Type 0 where
+pub record HoldsData (image : List ℕ) (g : Global) : Type 0 where
   pub bytes : List ℕ
   pub holds : HoldsAt g bytes
-  pub are : (i : ℕ) → g.at + i < after_global g → get_or bytes i 0 ≡ get_or data (g.at + i) 0
+  pub are : (i : ℕ) → g.at + i < after_global g → get_or bytes i 0 ≡ get_or image (g.at + i) 0
 
 not-has : (k : ℕ) (g : Global) → has k g ≡ false → (k < g.at) ⊎ (after_global g ≤ k)
 not-has k g h = elim (cases_Bool (nat_le g.at k)) [
@@ -56,14 +56,17 @@ apart-in k g (x ∷ others) apart there =
       | inr later ↦ apart-in k g others rest later
     ]
 
-module _ (data : List ℕ) where
+abbrev left : Global → List ℕ → List ℕ
+left g memory = c.with_values g.type g.at g.init memory
+
+module _ (image : List ℕ) where
   -- one variable: its bytes are the segment's, and the others stay
-  one-at : (g : Global) → HoldsData data g → (memory : List ℕ) → length memory ≡ 65536
+  one-at : (g : Global) → HoldsData image g → (memory : List ℕ) → length memory ≡ 65536
       → ((k : ℕ) → has k g ≡ true → get_or memory k 0 ≡ 0)
-      → (k : ℕ) → get_or (c.with_values g.type g.at g.init memory) k 0 ≡ (if has k g then get_or data k 0 else get_or memory k 0)
+      → (k : ℕ) → get_or (c.with_values g.type g.at g.init memory) k 0 ≡ (if has k g then get_or image k 0 else get_or memory k 0)
   one-at g is memory whole empty k = by (has k g) refl
     where
-      by : (t : Bool) → has k g ≡ t → get_or (c.with_values g.type g.at g.init memory) k 0 ≡ (if t then get_or data k 0 else get_or memory k 0)
+      by : (t : Bool) → has k g ≡ t → get_or (c.with_values g.type g.at g.init memory) k 0 ≡ (if t then get_or image k 0 else get_or memory k 0)
       by true there =
           let (from, below) = and_parts (nat_le g.at k) (nat_lt k (after_global g)) there in
           let low = leb-true g.at k from in
@@ -74,18 +77,18 @@ module _ (data : List ℕ) where
           (λ j first last. empty j (and_from (nat_le g.at j) (nat_lt j (after_global g)) (le-leb g.at j first) (lt-ltb j (after_global g) last)))
           (omega (arith, at, high))
           ∙ is.are (k - g.at) (omega (arith, at, high))
-          ∙ ap (λ x. get_or data x 0) at
+          ∙ ap (λ x. get_or image x 0) at
       by false away = is.holds.elsewhere memory k (not-has k g away)
 
-  all-at : (globals : List Global) → all_apart globals ≡ true → All (HoldsData data) globals → (memory : List ℕ) → length memory ≡ 65536
+  all-at : (globals : List Global) → all_apart globals ≡ true → All (HoldsData image) globals → (memory : List ℕ) → length memory ≡ 65536
       → ((k : ℕ) → is_in k globals ≡ true → get_or memory k 0 ≡ 0)
-      → (k : ℕ) → get_or (c.with_globals globals memory) k 0 ≡ (if is_in k globals then get_or data k 0 else get_or memory k 0)
+      → (k : ℕ) → get_or (c.with_globals globals memory) k 0 ≡ (if is_in k globals then get_or image k 0 else get_or memory k 0)
   all-at [] apart are memory whole empty k = refl
   all-at (g ∷ globals) apart are memory whole empty k =
-      all-at globals rest (All-tail (HoldsData data) g globals are) after (own.holds.sized memory ∙ whole) still-empty k ∙ by (is_in k globals) refl
+      all-at globals rest (All-tail (HoldsData image) g globals are) (left g memory) (own.holds.sized memory ∙ whole) still-empty k ∙ by (is_in k globals) refl
     where
-      own : HoldsData data g
-      own = All-head (HoldsData data) g globals are
+      own : HoldsData image g
+      own = All-head (HoldsData image) g globals are
 
       first : list_all (are_apart g) globals ≡ true
       first = (and_parts (list_all (are_apart g) globals) (all_apart globals) apart).0
@@ -93,29 +96,26 @@ module _ (data : List ℕ) where
       rest : all_apart globals ≡ true
       rest = (and_parts (list_all (are_apart g) globals) (all_apart globals) apart).1
 
-      abbrev after : List ℕ
-      after = c.with_values g.type g.at g.init memory
-
-      after-at : (k : ℕ) → get_or after k 0 ≡ (if has k g then get_or data k 0 else get_or memory k 0)
+      after-at : (k : ℕ) → get_or (left g memory) k 0 ≡ (if has k g then get_or image k 0 else get_or memory k 0)
       after-at k = one-at g own memory whole (λ j there. empty j (or_left (has j g) (is_in j globals) there)) k
 
-      still-empty : (k : ℕ) → is_in k globals ≡ true → get_or after k 0 ≡ 0
+      still-empty : (k : ℕ) → is_in k globals ≡ true → get_or (left g memory) k 0 ≡ 0
       still-empty k there =
-          after-at k ∙ ap (λ t. if t then get_or data k 0 else get_or memory k 0) (apart-in k g globals first there)
+          after-at k ∙ ap (λ t. if t then get_or image k 0 else get_or memory k 0) (apart-in k g globals first there)
           ∙ empty k (or_right (has k g) (is_in k globals) there)
 
-      by : (t : Bool) → is_in k globals ≡ t → (if t then get_or data k 0 else get_or after k 0) ≡ (if has k g || t then get_or data k 0 else get_or memory k 0)
-      by true is = sym (ap (λ t. if t then get_or data k 0 else get_or memory k 0) (or_right (has k g) true refl))
-      by false is = after-at k ∙ sym (ap (λ t. if t then get_or data k 0 else get_or memory k 0) (or-none (has k g)))
+      by : (t : Bool) → is_in k globals ≡ t → (if t then get_or image k 0 else get_or (left g memory) k 0) ≡ (if has k g || t then get_or image k 0 else get_or memory k 0)
+      by true is = sym (ap (λ t. if t then get_or image k 0 else get_or memory k 0) (or_right (has k g) true refl))
+      by false is = after-at k ∙ sym (ap (λ t. if t then get_or image k 0 else get_or memory k 0) (or-none (has k g)))
         where
           or-none : (t : Bool) → t || false ≡ t
           or-none true = refl
           or-none false = refl
 
-  globals-length : (globals : List Global) → All (HoldsData data) globals → (memory : List ℕ) → length (c.with_globals globals memory) ≡ length memory
+  globals-length : (globals : List Global) → All (HoldsData image) globals → (memory : List ℕ) → length (c.with_globals globals memory) ≡ length memory
   globals-length [] are memory = refl
   globals-length (g ∷ globals) are memory =
-      globals-length globals (All-tail (HoldsData data) g globals are) _ ∙ (All-head (HoldsData data) g globals are).holds.sized memory
+      globals-length globals (All-tail (HoldsData image) g globals are) _ ∙ (All-head (HoldsData image) g globals are).holds.sized memory
 
 -- The whole memory.
 

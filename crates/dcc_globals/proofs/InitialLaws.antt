@@ -32,3 +32,29 @@ significant-some [] byte some = ap (λ t. if t then 0 else 0 + 1) (ne_eqb byte 0
 significant-some (b ∷ bytes) byte some =
     ap (λ n. with-byte n b) (significant-some bytes byte some)
     ∙ some-before (length bytes + 1) b (omega arith) ∙ omega arith
+
+significant-next : (bytes : List ℕ) (byte : ℕ) → significant (bytes ++ byte ∷ []) ≡ (if byte == 0 then significant bytes else length bytes + 1)
+significant-next bytes byte = by (byte == 0) refl
+  where
+    by : (t : Bool) → (byte == 0) ≡ t → significant (bytes ++ byte ∷ []) ≡ (if t then significant bytes else length bytes + 1)
+    by true is = ap (λ b. significant (bytes ++ b ∷ [])) (eqb-true byte 0 is) ∙ significant-zero bytes
+    by false is = significant-some bytes byte (eqb-false byte 0 is)
+
+-- the count of the first bytes with the next one
+pub significant-more : (bytes : List ℕ) (place count : ℕ) → place < length bytes → count ≡ significant (take place bytes)
+    → (if get_or bytes place 0 == 0 then count else place + 1) ≡ significant (take (place + 1) bytes)
+significant-more bytes place count inside is =
+    ap (λ n. if get_or bytes place 0 == 0 then n else place + 1) is
+    ∙ ap (λ n. if get_or bytes place 0 == 0 then significant (take place bytes) else n + 1) (sym (length-take-le place bytes (omega (arith, inside))))
+    ∙ sym (significant-next (take place bytes) (get_or bytes place 0))
+    ∙ ap significant (sym (take_more bytes place 0 inside))
+
+pub significant-all : (bytes : List ℕ) (place : ℕ) → length bytes ≤ place → significant (take place bytes) ≡ significant bytes
+significant-all bytes place past = ap significant (take_all place bytes past)
+
+pub counted-within : (after count place byte : ℕ) → after ≡ (if byte == 0 then count else place + 1) → count ≤ place → after ≤ place + 1
+counted-within after count place byte is small = by (byte == 0) is
+  where
+    by : (t : Bool) → after ≡ (if t then count else place + 1) → after ≤ place + 1
+    by true e = omega (arith, e, small)
+    by false e = omega (arith, e)

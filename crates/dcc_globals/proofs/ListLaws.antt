@@ -1,8 +1,8 @@
 -- The list of what passes a test, one offset after another.
-use Rattle.std.proofs.Common.{◌≡◌, ℕ, zero, suc, ◌+◌, Bool, true, false, List, [], ◌∷◌, ◌++◌, map, cond, refl, sym, ap, ◌∙◌, arith}
-use Rattle.std.specs.Prelude.{filter}
+use Rattle.std.proofs.Common.{◌≡◌, ℕ, zero, suc, ◌+◌, Bool, true, false, List, [], ◌∷◌, ◌++◌, map, refl, sym, ap, ◌∙◌, arith}
+use Rattle.std.specs.Prelude.{filter, if◌then◌else◌}
 use Rattle.std.specs.List.{range_with_len}
-use Rattle.std.proofs.lemmas.List.{map-append, append-nil}
+use Rattle.std.proofs.lemmas.List.{map-append}
 use Rattle.std.proofs.lemmas.List.Elements.{filter-append}
 
 range-more : (at n : ℕ) → range_with_len at (suc n) ≡ range_with_len at n ++ (at + n) ∷ []
@@ -14,16 +14,14 @@ module _ {X : Type 0} (f : ℕ → X) (p : ℕ → Bool) where
   abbrev pub listed : ℕ → List X
   listed n = map f (filter p (range_with_len 0 n))
 
-  listed-more : (n : ℕ) → listed (n + 1) ≡ listed n ++ map f (cond (p n) (n ∷ []) [])
+  pub listed-more : (n : ℕ) → listed (n + 1) ≡ listed n ++ (if p n then f n ∷ [] else [])
   listed-more n =
       ap listed (let e : n + 1 ≡ suc n = omega arith in e)
       ∙ ap (λ xs. map f (filter p xs)) (range-more 0 n ∙ ap (λ x. range_with_len 0 n ++ x ∷ []) (omega arith))
       ∙ ap (map f) (filter-append p (range_with_len 0 n) (n ∷ []))
       ∙ map-append f (filter p (range_with_len 0 n)) (filter p (n ∷ []))
-
-  pub listed-one : (n : ℕ) → p n ≡ true → listed (n + 1) ≡ listed n ++ f n ∷ []
-  listed-one n passes = listed-more n ∙ ap (λ b. listed n ++ map f (cond b (n ∷ []) [])) passes
-
-  pub listed-same : (n : ℕ) → p n ≡ false → listed (n + 1) ≡ listed n
-  listed-same n fails =
-      listed-more n ∙ ap (λ b. listed n ++ map f (cond b (n ∷ []) [])) fails ∙ append-nil (listed n)
+      ∙ ap (λ xs. listed n ++ xs) (by (p n))
+    where
+      by : (t : Bool) → map f (if t then n ∷ [] else []) ≡ (if t then f n ∷ [] else [])
+      by true = refl
+      by false = refl

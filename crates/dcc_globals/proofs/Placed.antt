@@ -333,6 +333,9 @@ module _ (d : Data) where
   unfolding globals_of
   in-off k h = covered-off d k (in-covered k 0 65536 h)
 
+  abbrev list-if : ℕ → ℕ → Bool → List Global
+  list-if at n t = map (global_at d) (if t then at ∷ filter (begins d) (range_with_len (at + 1) n) else filter (begins d) (range_with_len (at + 1) n))
+
   -- what a variable has is in the list
   owned-in : (k owner at n : ℕ) → begins d owner ≡ true → at ≤ owner → owner < at + n → has k (global_at d owner) ≡ true → is_in k (from at n) ≡ true
   owned-in k owner at zero first above below there = absurd (omega (arith, above, below))
@@ -341,26 +344,26 @@ module _ (d : Data) where
     | inr other ↦ by (begins d at) (λ e. true≢false (sym (eq-eqb at owner e) ∙ other))
   ]
     where
-      abbrev list : Bool → List Global
-      list t = map (global_at d) (if t then at ∷ filter (begins d) (range_with_len (at + 1) n) else filter (begins d) (range_with_len (at + 1) n))
-
-      here : at ≡ owner → is_in k (list (begins d at)) ≡ true
+      here : at ≡ owner → is_in k (list-if at n (begins d at)) ≡ true
       here same =
-          ap (λ t. is_in k (list t)) (subst (λ o. begins d o ≡ true) (sym same) first)
+          ap (λ t. is_in k (list-if at n t)) (subst (λ o. begins d o ≡ true) (sym same) first)
           ∙ or_left (has k (global_at d at)) (is_in k (from (at + 1) n)) (subst (λ o. has k (global_at d o) ≡ true) (sym same) there)
 
-      by : (t : Bool) → at ≢ owner → is_in k (list t) ≡ true
+      by : (t : Bool) → at ≢ owner → is_in k (list-if at n t) ≡ true
       by true apart = or_right (has k (global_at d at)) (is_in k (from (at + 1) n)) (owned-in k owner (at + 1) n first (omega (arith, above, apart)) (omega (arith, below)) there)
       by false apart = owned-in k owner (at + 1) n first (omega (arith, above, apart)) (omega (arith, below)) there
 
-  -- a byte off the stack that no variable has is 0
-  pub missing-zero : (k : ℕ) → k < 65536 → is_in_stack d.lo d.hi k ≡ false → is_in k (globals_of d) ≡ false → get_or d.bytes k 0 ≡ 0
-  unfolding globals_of
-  missing-zero k inside off none = elim (cases_Bool (nat_lt k (length d.bytes))) [
+  missing-below : (k : ℕ) → k < 65536 → is_in_stack d.lo d.hi k ≡ false → is_in k (from 0 65536) ≡ false → get_or d.bytes k 0 ≡ 0
+  missing-below k inside off none = elim (cases_Bool (nat_lt k (length d.bytes))) [
     | inr past ↦ get_or_past d.bytes k 0 (ltb-false k (length d.bytes) past)
     | inl there ↦ absurd (owned (owner-of d k inside (image-covered d k inside (ltb-true k (length d.bytes) there) off)))
   ]
     where
       owned : (owner : ℕ) × IsOwner d k owner → ⊥
       owned (owner, is) =
-          true≢false (sym (owned-in k owner 0 65536 is.begins (omega arith) (let h = is.from in omega (arith, h, inside)) (has-from k owner is.from is.below)) ∙ none)
+          true≢false (sym (owned-in k owner 0 65536 is.first (omega arith) (let h = is.from in omega (arith, h, inside)) (has-from k owner is.from is.below)) ∙ none)
+
+  -- a byte off the stack that no variable has is 0
+  pub missing-zero : (k : ℕ) → k < 65536 → is_in_stack d.lo d.hi k ≡ false → is_in k (globals_of d) ≡ false → get_or d.bytes k 0 ≡ 0
+  unfolding globals_of
+  missing-zero k inside off none = missing-below k inside off none

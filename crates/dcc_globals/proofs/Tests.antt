@@ -74,7 +74,7 @@ any-or p q (x ∷ xs) =
 
 -- Pieces that spoil a scalar.
 
-one-place : (at first : ℕ) → nat_le at first && nat_lt first (at + 1) ≡ first == at
+one-place : (at first : ℕ) → nat_le at first && nat_lt first (at + 1) ≡ (first == at)
 one-place at first = grind (arith, nat_tests)
 
 two-places : (at first : ℕ) → nat_le at first && nat_lt first (at + 2) ≡ (first == at) || (first == (at + 1))

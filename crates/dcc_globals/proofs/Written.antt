@@ -87,32 +87,32 @@ insignificant (b ∷ bytes) i past = by ((significant bytes == 0) && (b == 0)) r
 array-size : (at size : ℕ) (bytes : List ℕ) → after_global (array at size bytes) ≡ at + size
 array-size at size bytes = omega arith
 
+abbrev held : List ℕ → List ℕ
+held bytes = take (significant bytes) bytes
+
 pub array-holds : (at size : ℕ) (bytes : List ℕ) → length bytes ≤ size → at + size ≤ 65536 → All IsByte bytes → HoldsAt (array at size bytes) bytes
 array-holds at size bytes short fits are = record {
-  sized = λ memory. written-length at init memory;
+  sized = λ memory. written-length at (held bytes) memory;
   elsewhere = λ memory k where_is. elim where_is [
-    | inl below ↦ written-before at init memory k below (omega (arith, few))
-    | inr above ↦ written-after at init memory k (let e = array-size at size bytes in omega (arith, few, above, e)) (omega (arith, few))
+    | inl below ↦ written-before at (held bytes) memory k below (omega (arith, few))
+    | inr above ↦ written-after at (held bytes) memory k (let e = array-size at size bytes in omega (arith, few, above, e)) (omega (arith, few))
   ];
-  there = λ memory i whole empty inside. elim (cases_Bool (nat_lt i (length init))) [
+  there = λ memory i whole empty inside. elim (cases_Bool (nat_lt i (length (held bytes)))) [
     | inl within ↦
-        written-there at init memory i (ltb-true i (length init) within) (All-take IsByte (significant bytes) bytes are) whole (omega (arith, few))
-        ∙ get_or-take (significant bytes) bytes i 0 (let h = ltb-true i (length init) within in omega (arith, h, count))
+        written-there at (held bytes) memory i (ltb-true i (length (held bytes)) within) (All-take IsByte (significant bytes) bytes are) whole (omega (arith, few))
+        ∙ get_or-take (significant bytes) bytes i 0 (let h = ltb-true i (length (held bytes)) within in omega (arith, h, count))
     | inr past ↦
-        let far : length init ≤ i = ltb-false i (length init) past in
-        written-after at init memory (at + i) (omega (arith, far)) (omega (arith, few))
+        let far : length (held bytes) ≤ i = ltb-false i (length (held bytes)) past in
+        written-after at (held bytes) memory (at + i) (omega (arith, far)) (omega (arith, few))
         ∙ empty (at + i) (omega arith) inside
         ∙ sym (insignificant bytes i (omega (arith, far, count)))
   ];
 }
   where
-    abbrev init : List ℕ
-    init = take (significant bytes) bytes
-
-    count : length init ≡ significant bytes
+    count : length (held bytes) ≡ significant bytes
     count = let e = length-take (significant bytes) bytes in let h = significant-le bytes in omega (arith, e, h)
 
-    few : at + length init ≤ 65536
+    few : at + length (held bytes) ≤ 65536
     few = let h = significant-le bytes in omega (arith, count, h, short, fits)
 
 -- Scalars.
@@ -131,9 +131,12 @@ store-length (suc count) memory at n = store-length count _ (at + 1) (n / 256) �
 store-elsewhere : (count : ℕ) (memory : List ℕ) (at n k : ℕ) → at + count ≤ 65536 → (k < at) ⊎ (at + count ≤ k) → get_or (store count memory at n) k 0 ≡ get_or memory k 0
 store-elsewhere zero memory at n k fits away = refl
 store-elsewhere (suc count) memory at n k fits away =
-    store-elsewhere count _ (at + 1) (n / 256) k (omega (arith, fits)) (elim away [ | inl below ↦ inl (omega (arith, below)) | inr above ↦ inr (omega (arith, above)) ])
+    store-elsewhere count _ (at + 1) (n / 256) k (omega (arith, fits)) (elim away [ inl below ↦ inl (omega (arith, below)) | inr above ↦ inr (omega (arith, above)) ])
     ∙ get_or-set_other memory (at % 65536) k (n % 256) 0
-    (λ e. elim away [ | inl below ↦ absurd (omega (arith, e, below, fits)) | inr above ↦ absurd (omega (arith, e, above, fits)) ])
+    (λ e. elim away [ inl below ↦ absurd (omega (arith, e, below, fits)) | inr above ↦ absurd (omega (arith, e, above, fits)) ])
+
+abbrev stored-low : List ℕ → ℕ → ℕ → List ℕ → List ℕ
+stored-low memory at b bytes = slice_set memory (at % 65536) (number_of (b ∷ bytes) % 256)
 
 store-there : (count : ℕ) (memory : List ℕ) (at : ℕ) (bytes : List ℕ) (i : ℕ) → length bytes ≤ count → at + count ≤ 65536 → length memory ≡ 65536 → All IsByte bytes → i < count
     → get_or (store count memory at (number_of bytes)) (at + i) 0 ≡ get_or bytes i 0
@@ -160,23 +163,17 @@ store-there (suc count) memory at (b ∷ bytes) i short fits whole are inside = 
     place : at % 65536 ≡ at
     place = omega (arith, fits)
 
-    abbrev n : ℕ
-    n = number_of (b ∷ bytes)
-
-    abbrev after : List ℕ
-    after = slice_set memory (at % 65536) (n % 256)
-
-    by : (i : ℕ) → i < suc count → get_or (store count after (at + 1) (n / 256)) (at + i) 0 ≡ get_or (b ∷ bytes) i 0
+    by : (i : ℕ) → i < suc count → get_or (store count (stored-low memory at b bytes) (at + 1) (number_of (b ∷ bytes) / 256)) (at + i) 0 ≡ get_or (b ∷ bytes) i 0
     by zero inside =
-        ap (λ x. get_or (store count after (at + 1) (n / 256)) x 0) (omega arith)
-        ∙ store-elsewhere count after (at + 1) (n / 256) at (omega (arith, fits)) (inl (omega arith))
-        ∙ ap (λ x. get_or after x 0) (sym place)
-        ∙ get_or-set_same memory (at % 65536) (n % 256) 0 (omega (arith, whole))
+        ap (λ x. get_or (store count (stored-low memory at b bytes) (at + 1) (number_of (b ∷ bytes) / 256)) x 0) (omega arith)
+        ∙ store-elsewhere count (stored-low memory at b bytes) (at + 1) (number_of (b ∷ bytes) / 256) at (omega (arith, fits)) (inl (omega arith))
+        ∙ ap (λ x. get_or (stored-low memory at b bytes) x 0) (sym place)
+        ∙ get_or-set_same memory (at % 65536) (number_of (b ∷ bytes) % 256) 0 (omega (arith, whole))
         ∙ low-byte b (number_of bytes) small
     by (suc i) inside =
-        ap (λ x. get_or (store count after (at + 1) (n / 256)) x 0) (omega arith)
-        ∙ ap (λ m. get_or (store count after (at + 1) m) (at + 1 + i) 0) (high-byte b (number_of bytes) small)
-        ∙ store-there count after (at + 1) bytes i (omega (arith, short)) (omega (arith, fits)) (length-set memory (at % 65536) (n % 256) ∙ whole) (All-tail IsByte b bytes are) (omega (arith, inside))
+        ap (λ x. get_or (store count (stored-low memory at b bytes) (at + 1) (number_of (b ∷ bytes) / 256)) x 0) (omega arith)
+        ∙ ap (λ m. get_or (store count (stored-low memory at b bytes) (at + 1) m) (at + 1 + i) 0) (high-byte b (number_of bytes) small)
+        ∙ store-there count (stored-low memory at b bytes) (at + 1) bytes i (omega (arith, short)) (omega (arith, fits)) (length-set memory (at % 65536) (number_of (b ∷ bytes) % 256) ∙ whole) (All-tail IsByte b bytes are) (omega (arith, inside))
 
 -- bytes of the number 0 are 0
 zero-bytes : (bytes : List ℕ) (i : ℕ) → number_of bytes ≡ 0 → get_or bytes i 0 ≡ 0
@@ -212,7 +209,7 @@ module _ (g : Global) (size : ℕ) (bytes : List ℕ) (sized : size_of g.type �
     | inr some ↦ record {
       sized = λ memory. ap length (left-some memory some) ∙ store-length size memory g.at (number_of bytes);
       elsewhere = λ memory k away. ap (λ m. get_or m k 0) (left-some memory some)
-          ∙ store-elsewhere size memory g.at (number_of bytes) k fits (elim away [ | inl below ↦ inl below | inr above ↦ inr (omega (arith, above, end-is)) ]);
+          ∙ store-elsewhere size memory g.at (number_of bytes) k fits (elim away [ inl below ↦ inl below | inr above ↦ inr (omega (arith, above, end-is)) ]);
       there = λ memory i whole empty inside. ap (λ m. get_or m (g.at + i) 0) (left-some memory some)
           ∙ store-there size memory g.at bytes i short fits whole are (omega (arith, inside, end-is));
     }

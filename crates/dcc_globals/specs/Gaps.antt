@@ -87,4 +87,4 @@ begins d at = (is_in_run d at || is_in_gap d at) && not (goes_on d at)
 
 -- how many bytes the global variable has that begins there
 unfoldable pub extent : Data → ℕ → ℕ
-extent d at = suc (count_from (goes_on d) (65535 - at) (at + 1))
+extent d at = suc (count_from (goes_on d) (65536 - (at + 1)) (at + 1))

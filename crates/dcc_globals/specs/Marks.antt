@@ -1,7 +1,8 @@
 -- Tables over the offsets of the data segment, as code keeps them. This stands between the definitions and the code; no
 -- public contract rests on it.
-use Rattle.std.specs.Prelude.{◌≡◌, ℕ, ◌≤◌, ◌==◌, Bool, false, List, length, slice_index, slice_index_or}
+use Rattle.std.specs.Prelude.{◌≡◌, ℕ, ◌≤◌, ◌==◌, Bool, false, if◌then◌else◌, List, [], ◌∷◌, length, slice_index, slice_index_or}
 use Rattle.std.specs.List.{list_any}
+use Rattle.dcc_c.specs.Tree.{Global}
 use Rattle.dcc_globals.specs.declared.pieces.Piece.{Piece}
 use Rattle.dcc_globals.specs.declared.pieces.Piece.TheVariants.{OneByte, OneWord, Broken}
 use Rattle.dcc_globals.specs.declared.source.DataSource.{DataSource}
@@ -10,7 +11,8 @@ use Rattle.dcc_globals.specs.declared.runs.Runs.{Runs}
 use Rattle.dcc_globals.specs.declared.texts.Texts.{Texts}
 use Rattle.dcc_globals.specs.declared.borders.Borders.{Borders}
 use Rattle.dcc_globals.specs.Pieces.{Data, pieces, has_byte, crosses, is_displaced_by}
-use Rattle.dcc_globals.specs.Gaps.{text_before, text_from}
+use Rattle.dcc_globals.specs.Gaps.{text_before, text_from, begins}
+use Rattle.dcc_globals.specs.Globals.{global_at}
 
 -- the data segment that code is given
 abbrev pub data_of : DataSource → Data
@@ -54,6 +56,10 @@ pub record Counts (number : ℕ → ℕ) (table : List ℕ) : Type 0 where
 pub record AreTexts (d : Data) (texts : Texts) : Type 0 where
   pub before : Counts (text_before d) texts.before.items
   pub behind : Counts (text_from d) texts.behind.items
+
+-- the global variable that begins at an offset, if one does
+abbrev pub global_if : Data → ℕ → List Global
+global_if d at = if begins d at then global_at d at ∷ [] else []
 
 -- the runs of a data segment, as its tables tell
 abbrev pub AreRuns : Runs → Type 0

@@ -156,7 +156,10 @@ impl<'a> Borders<'a> {
         ensures some { 0 < result }
     {
         let mut next = at + 1;
-        while next < OFFSETS && self.goes_on(next) {
+        while next < OFFSETS {
+            if !self.goes_on(next) {
+                return next - at;
+            }
             next += 1;
         }
         next - at

@@ -1,9 +1,17 @@
 //! What global variables hold at first.
 
-ghost use Rattle.std.specs.Prelude.{◌≡◌, ◌≤◌, IfOk, length, take, drop};
+ghost use Rattle.std.specs.Prelude.{◌≡◌, ◌+◌, ◌^◌, ◌≤◌, ◌<◌, ◌==◌, if◌then◌else◌, IfOk, length, take, drop};
 ghost use Rattle.dcc_globals.specs.Globals as spec;
 
 use std::alloc::{AllocError, Global};
+
+// How many bytes there are up to the last that isn't 0, with this byte at this place behind the others.
+fn count_with(count: usize, place: usize, byte: u8) -> usize
+    requires { place < 2 ^ 63 }
+    ensures { result ≡ (if byte == 0 then count else place + 1) }
+{
+    if byte == 0 { count } else { place + 1 }
+}
 
 // How many bytes there are up to the last that isn't 0.
 fn significant(bytes: &[u8]) -> usize
@@ -12,9 +20,7 @@ fn significant(bytes: &[u8]) -> usize
 {
     let mut count = 0;
     for (place, byte) in bytes.iter().enumerate() {
-        if *byte != 0 {
-            count = place + 1;
-        }
+        count = count_with(count, place, *byte);
     }
     count
 }

@@ -1,6 +1,6 @@
 //! The bytes of text that stand together in the gaps of the data segment.
 
-ghost use Rattle.std.specs.Prelude.{◌≡◌, IfOk};
+ghost use Rattle.std.specs.Prelude.{◌≡◌, ◌≤◌, ◌+◌, if◌then◌else◌, IfOk};
 ghost use Rattle.dcc_globals.specs.Gaps as spec;
 ghost use Rattle.dcc_globals.specs.Marks.{data_of, AreRuns, Counts, AreTexts};
 
@@ -17,16 +17,24 @@ pub struct Texts {
     pub behind: Vec<usize>,
 }
 
+// The count with one byte more, which is text or isn't.
+fn next_count(count: usize, is_text: bool) -> usize
+    requires { count ≤ 65536 }
+    ensures { result ≡ (if is_text then count + 1 else 0) }
+{
+    if is_text { count + 1 } else { 0 }
+}
+
 // How many bytes of text stand together before each border.
 fn before(alloc: Global, runs: &Runs) -> Result<Vec<usize>, AllocError>
     requires { AreRuns runs.now }
     ensures { IfOk result (λ table. Counts (spec.text_before (data_of runs.now.source)) table.items) }
 {
     let mut table = vec![in alloc; 0; OFFSETS + 1]?;
+    let mut count = 0;
     for at in 0..OFFSETS {
-        if runs.is_text(at) {
-            table[at + 1] = table[at] + 1;
-        }
+        count = next_count(count, runs.is_text(at));
+        table[at + 1] = count;
     }
     Ok(table)
 }
@@ -37,12 +45,12 @@ fn behind(alloc: Global, runs: &Runs) -> Result<Vec<usize>, AllocError>
     ensures { IfOk result (λ table. Counts (spec.text_from (data_of runs.now.source)) table.items) }
 {
     let mut table = vec![in alloc; 0; OFFSETS + 1]?;
+    let mut count = 0;
     let mut at = OFFSETS;
     while at > 0 {
         at -= 1;
-        if runs.is_text(at) {
-            table[at] = table[at + 1] + 1;
-        }
+        count = next_count(count, runs.is_text(at));
+        table[at] = count;
     }
     Ok(table)
 }

@@ -1,10 +1,10 @@
 //! The global variables of a text.
 
-ghost use Rattle.std.specs.Prelude.{◌≡◌, ◌≤◌, ◌<◌, IfOk, length, map};
+ghost use Rattle.std.specs.Prelude.{◌≡◌, ◌≤◌, ◌<◌, ◌++◌, IfOk, OnOk, length, map};
 ghost use Rattle.dcc_c.specs.Views.{global_of};
 ghost use Rattle.dcc_globals.specs.Globals as spec;
 ghost use Rattle.dcc_globals.specs.Globals.{globals_of};
-ghost use Rattle.dcc_globals.specs.Marks.{data_of, AreTables};
+ghost use Rattle.dcc_globals.specs.Marks.{data_of, global_if, AreTables};
 ghost use Rattle.dcc_globals.specs.Pieces.{Data, operands_of};
 
 use crate::borders::Borders;
@@ -60,16 +60,33 @@ fn global_at(alloc: Global, borders: &Borders, at: usize) -> Result<Global_, All
     }
 }
 
+// Appends the global variable that begins at an offset, where one does.
+fn push_global(
+    alloc: Global,
+    globals: &mut Vec<Global_>,
+    borders: &Borders,
+    at: usize,
+) -> Result<(), AllocError>
+    requires tables { AreTables borders.now }
+    requires inside { at < 65536 }
+    ensures { OnOk result (map global_of globals.new.items
+        ≡ map global_of globals.old.items ++ global_if (data_of borders.now.runs.source) at) }
+{
+    if borders.begins(at) {
+        globals.push(global_at(alloc, borders, at)?)?;
+    }
+    Ok(())
+}
+
 // The global variables of a data segment with its tables, in the order of their offsets.
+#[tactic(auto, unfolding(crate::specs::Globals::globals_of))]
 fn all_globals(alloc: Global, borders: &Borders) -> Result<Vec<Global_>, AllocError>
     requires { AreTables borders.now }
     ensures { IfOk result (λ globals. map global_of globals.items ≡ globals_of (data_of borders.now.runs.source)) }
 {
     let mut globals = Vec::new(alloc);
     for at in 0..OFFSETS {
-        if borders.begins(at) {
-            globals.push(global_at(alloc, borders, at)?)?;
-        }
+        push_global(alloc, &mut globals, borders, at)?;
     }
     Ok(globals)
 }
