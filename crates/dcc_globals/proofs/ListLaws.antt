@@ -2,7 +2,12 @@
 use Rattle.std.proofs.Common.{◌≡◌, ℕ, zero, suc, ◌+◌, Bool, true, false, List, [], ◌∷◌, ◌++◌, map, refl, sym, ap, ◌∙◌, arith}
 use Rattle.std.specs.Prelude.{filter, if◌then◌else◌}
 use Rattle.std.specs.List.{range_with_len}
-use Rattle.std.proofs.lemmas.List.{map-append}
+use Rattle.std.proofs.lemmas.List.{map-append, append-nil}
+use Rattle.std.proofs.lemmas.List.Concat.{flat_map-append}
+use Rattle.std.specs.Option.{option_to_list}
+use Rattle.dcc_prog.specs.declared.procedure.Node.{Node}
+use Rattle.dcc_prog.specs.Frame.{memory_operand}
+use Rattle.dcc_globals.specs.Pieces.{operands_in}
 use Rattle.std.proofs.lemmas.List.Elements.{filter-append}
 
 range-more : (at n : ℕ) → range_with_len at (suc n) ≡ range_with_len at n ++ (at + n) ∷ []
@@ -25,3 +30,12 @@ module _ {X : Type 0} (f : ℕ → X) (p : ℕ → Bool) where
       by : (t : Bool) → map f (if t then n ∷ [] else []) ≡ (if t then f n ∷ [] else [])
       by true = refl
       by false = refl
+
+-- The memory operands of procedures, one instruction after another.
+
+pub operands-pushed : {B : Type 0} (read : B → ℕ × Node) (ys : List B) (x : B)
+    → operands_in (map read (ys ++ x ∷ [])) ≡ operands_in (map read ys) ++ option_to_list (memory_operand (read x).1.instr.op)
+operands-pushed read ys x =
+    ap operands_in (map-append read ys (x ∷ []))
+    ∙ flat_map-append (λ (found : ℕ × Node). option_to_list (memory_operand found.1.instr.op)) (map read ys) (read x ∷ [])
+    ∙ ap (λ l. operands_in (map read ys) ++ l) (append-nil (option_to_list (memory_operand (read x).1.instr.op)))

@@ -1,9 +1,10 @@
 -- Tests of pieces, and tables of them.
-use Rattle.std.proofs.Common.{◌≡◌, ◌≢◌, ℕ, zero, suc, ◌+◌, ◌<◌, ◌≤◌, ◌==◌, Bool, true, false, inl, inr, List, [], ◌∷◌, ◌++◌, length, slice_set, slice_index_or, replicate, refl, sym, ap, ap₂, ◌∙◌, subst, arith}
+use Rattle.std.proofs.Common.{◌≡◌, ◌≢◌, ℕ, zero, suc, ◌+◌, ◌<◌, ◌≤◌, ◌==◌, Bool, true, false, inl, inr, List, [], ◌∷◌, ◌++◌, length, take, get_or, slice_set, slice_index_or, replicate, refl, sym, ap, ap₂, ◌∙◌, subst, arith}
 use Rattle.std.specs.Prelude.{◌&&◌, ◌||◌, not, nat_le, nat_lt}
 use Rattle.std.specs.List.{list_any}
 use Rattle.std.proofs.lemmas.Bool.Decides.{nat_tests}
-use Rattle.std.proofs.lemmas.List.{get_or-set_same, get_or-set_other, get_or_read}
+use Rattle.std.proofs.lemmas.List.{get_or-set_same, get_or-set_other, get_or_read, take_all}
+use Rattle.std.proofs.lemmas.List.Folds.{list_any_more}
 use Rattle.dcc_globals.specs.declared.pieces.Piece.{Piece}
 use Rattle.dcc_globals.specs.declared.pieces.Piece.TheVariants.{OneByte, OneWord, Broken}
 use Rattle.dcc_globals.specs.Pieces.{spoils}
@@ -106,3 +107,22 @@ pub told : {X : Type 0} (test : ℕ → X → Bool) (xs : List X) (table : List 
 told test xs table at r is inside read =
     let within : at < length table = omega (arith, is.whole, inside) in
     get_or_read table at r within read false ∙ is.each at
+
+-- A table, one thing after another.
+
+pub table_more : {X : Type 0} (test : ℕ → X → Bool) (xs : List X) (i : ℕ) (x : X) (table new : List Bool) → IsTable test (take i xs) table
+    → i < length xs → x ≡ get_or xs i x → length new ≡ length table → ((k : ℕ) → slice_index_or new k false ≡ slice_index_or table k false || test k x)
+    → IsTable test (take (i + 1) xs) new
+table_more test xs i x table new so_far inside is size marked = record {
+  whole = size ∙ so_far.whole;
+  each = λ k. marked k ∙ ap (λ b. b || test k x) (so_far.each k) ∙ ap (λ y. list_any (test k) (take i xs) || test k y) is
+      ∙ sym (list_any_more (test k) xs i x inside);
+}
+
+pub table_all : {X : Type 0} (test : ℕ → X → Bool) (xs : List X) (i : ℕ) (table : List Bool) → IsTable test (take i xs) table
+    → length xs ≤ i → IsTable test xs table
+table_all test xs i table so_far past = subst (λ ys. IsTable test ys table) (take_all i xs past) so_far
+
+pub table_none : {X : Type 0} (test : ℕ → X → Bool) (xs : List X) (table : List Bool) → length table ≡ 65537
+    → ((k : ℕ) → slice_index_or table k false ≡ false) → IsTable test (take 0 xs) table
+table_none test xs table whole none = record { whole = whole; each = none }
