@@ -1,5 +1,5 @@
 -- Counts of offsets that pass a test one after another.
-use Rattle.std.proofs.Common.{◌≡◌, ◌≢◌, ℕ, zero, suc, ◌+◌, ◌-◌, ◌<◌, ◌≤◌, ◌==◌, Bool, true, false, inl, inr, List, length, get_or, slice_set, refl, sym, ap, ◌∙◌, subst, true≢false, arith}
+use Rattle.std.proofs.Common.{◌≡◌, ◌≢◌, ℕ, zero, suc, ◌+◌, ◌-◌, ◌<◌, ◌≤◌, ◌==◌, Bool, true, false, inl, inr, List, length, replicate, get_or, slice_set, refl, sym, ap, ◌∙◌, subst, true≢false, arith}
 use Rattle.std.specs.Prelude.{if◌then◌else◌}
 use Rattle.std.proofs.lemmas.Bool.{cases_Bool, eqb-true, eq-eqb}
 use Rattle.std.proofs.lemmas.List.{get_or-set_same, get_or-set_other}
@@ -151,3 +151,19 @@ reaches-end d at next is past =
     let e : 65536 - next ≡ 0 = omega (arith, past) in
     let h : count_from (goes_on d) (65536 - next) next ≡ 0 = ap (λ n. count_from (goes_on d) n next) e in
     let g = is.counted in let a = is.after in omega (arith, h, g, a)
+
+pub first-zero : (d : Data) (table : List ℕ) (k : ℕ) → k ≤ 0 → get_or table k 0 ≡ 0 → get_or table k 0 ≡ text_before d k
+first-zero d table k below none =
+    let e : k ≡ 0 = omega (arith, below) in
+    none ∙ sym (ap (text_before d) e ∙ text-before-first d)
+
+pub last-zero : (d : Data) (table : List ℕ) (k : ℕ) → 65536 ≤ k → k ≤ 65536 → get_or table k 0 ≡ 0 → get_or table k 0 ≡ text_from d k
+last-zero d table k above below none =
+    let e : k ≡ 65536 = omega (arith, above, below) in
+    none ∙ sym (ap (text_from d) e ∙ text-from-last d)
+
+-- no count is there at first
+pub zeros_at : (n k : ℕ) → get_or (replicate n 0) k 0 ≡ 0
+zeros_at zero k = refl
+zeros_at (suc n) zero = refl
+zeros_at (suc n) (suc k) = zeros_at n k

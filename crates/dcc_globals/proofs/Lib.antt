@@ -7,3 +7,4 @@ pub mod Written
 pub mod FirstMemory
 pub mod Placed
 pub mod MemoryLaws
+pub mod WritableLaws

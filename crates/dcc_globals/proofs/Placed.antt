@@ -51,7 +51,7 @@ size-either d at size some = by (is_scalar d at size) refl
     by true is = scalar-either d at size some (scalar-small d at size is)
     by false is = an_array refl
 
-either : (d : Data) (at : ℕ) → IsEither d at (extent d at) (global_at d at)
+pub either : (d : Data) (at : ℕ) → IsEither d at (extent d at) (global_at d at)
 either d at = size-either d at (extent d at) (extent-some d at)
 
 either-at : (d : Data) (at size : ℕ) (g : Global) → IsEither d at size g → g.at ≡ at
@@ -79,7 +79,7 @@ values-few bytes = by (number_of bytes == 0)
     by true = omega arith
     by false = omega arith
 
-bytes-short : (d : Data) (at size : ℕ) → length (bytes_at d at size) ≤ size
+pub bytes-short : (d : Data) (at size : ℕ) → length (bytes_at d at size) ≤ size
 bytes-short d at size = let e = length-take size (drop at d.bytes) in omega (arith, e)
 
 array-few : (size : ℕ) (bytes : List ℕ) → length bytes ≤ size → length (take (significant bytes) bytes) ≤ size
@@ -103,7 +103,7 @@ either-allowed d at size g some fits (an_array is) =
 bytes-are : (d : Data) (at size i : ℕ) → i < size → get_or (bytes_at d at size) i 0 ≡ get_or d.bytes (at + i) 0
 bytes-are d at size i inside = get_or-take size (drop at d.bytes) i 0 inside ∙ get_or-drop at d.bytes i 0
 
-bytes-all : (d : Data) (at size : ℕ) → All IsByte d.bytes → All IsByte (bytes_at d at size)
+pub bytes-all : (d : Data) (at size : ℕ) → All IsByte d.bytes → All IsByte (bytes_at d at size)
 bytes-all d at size are = All-take IsByte size (drop at d.bytes) (All-drop IsByte at d.bytes are)
 
 holds-from : (d : Data) (at size : ℕ) (g : Global) → g.at ≡ at → after_global g ≡ at + size → HoldsAt g (bytes_at d at size) → HoldsData d.bytes g
@@ -173,7 +173,7 @@ module _ (d : Data) where
       by true is = All-cons P (global_at d at) (from (at + 1) n) (holds at (omega (arith, fits)) is) rest
       by false is = rest
 
-  all-pass : (p : Global → Bool) → ((at : ℕ) → at < 65536 → begins d at ≡ true → p (global_at d at) ≡ true) → (at n : ℕ) → at + n ≤ 65536 → list_all p (from at n) ≡ true
+  pub all-pass : (p : Global → Bool) → ((at : ℕ) → at < 65536 → begins d at ≡ true → p (global_at d at) ≡ true) → (at n : ℕ) → at + n ≤ 65536 → list_all p (from at n) ≡ true
   all-pass p holds at zero fits = refl
   all-pass p holds at (suc n) fits = by (begins d at) refl
     where

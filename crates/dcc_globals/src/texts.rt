@@ -1,6 +1,6 @@
 //! The bytes of text that stand together in the gaps of the data segment.
 
-ghost use Rattle.std.specs.Prelude.{◌≡◌, ◌≤◌, ◌+◌, if◌then◌else◌, IfOk};
+ghost use Rattle.std.specs.Prelude.{◌≡◌, ◌≤◌, ◌+◌, ℕ, if◌then◌else◌, length, slice_index, IfOk};
 ghost use Rattle.dcc_globals.specs.Gaps as spec;
 ghost use Rattle.dcc_globals.specs.Marks.{data_of, AreRuns, Counts, AreTexts};
 
@@ -17,6 +17,15 @@ pub struct Texts {
     pub behind: Vec<usize>,
 }
 
+// No border is counted yet.
+fn zeros(alloc: Global) -> Result<Vec<usize>, AllocError>
+    ensures whole { IfOk result (λ table. length table.items ≡ 65537) }
+    ensures none { (at : ℕ) → IfOk result (λ table. slice_index table.items at ≡ 0) }
+{
+    let table = vec![in alloc; 0; OFFSETS + 1]?;
+    Ok(table)
+}
+
 // The count with one byte more, which is text or isn't.
 fn next_count(count: usize, is_text: bool) -> usize
     requires { count ≤ 65536 }
@@ -30,7 +39,7 @@ fn before(alloc: Global, runs: &Runs) -> Result<Vec<usize>, AllocError>
     requires { AreRuns runs.now }
     ensures { IfOk result (λ table. Counts (spec.text_before (data_of runs.now.source)) table.items) }
 {
-    let mut table = vec![in alloc; 0; OFFSETS + 1]?;
+    let mut table = zeros(alloc)?;
     let mut count = 0;
     for at in 0..OFFSETS {
         count = next_count(count, runs.is_text(at));
@@ -44,7 +53,7 @@ fn behind(alloc: Global, runs: &Runs) -> Result<Vec<usize>, AllocError>
     requires { AreRuns runs.now }
     ensures { IfOk result (λ table. Counts (spec.text_from (data_of runs.now.source)) table.items) }
 {
-    let mut table = vec![in alloc; 0; OFFSETS + 1]?;
+    let mut table = zeros(alloc)?;
     let mut count = 0;
     let mut at = OFFSETS;
     while at > 0 {

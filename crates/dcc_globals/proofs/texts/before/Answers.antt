@@ -2,7 +2,7 @@ use Rattle.std.proofs.Common.{◌≡◌, ◌+◌, ◌<◌, ◌≤◌, if◌then�
 use Rattle.std.proofs.lemmas.List.{length-set}
 use Rattle.dcc_globals.specs.Gaps.{is_text, text_before}
 use Rattle.dcc_globals.specs.Marks.{data_of}
-use Rattle.dcc_globals.proofs.Counting.{text-before-next, text-before-le, filled-up}
+use Rattle.dcc_globals.proofs.Counting.{text-before-next, text-before-le, text-before-first, first-zero, filled-up}
 use Rattle.dcc_globals.proofs.texts.before.Goals as goal
 
 pub loop-at-preserved : goal.loop-at-preserved
@@ -19,3 +19,19 @@ loop-at-preserved c =
       count = is;
       small = let h = text-before-le d (at + 1) in omega (arith, is, h);
     }
+
+pub loop-at-init : goal.loop-at-init
+loop-at-init c =
+    let d = data_of c.args.runs.now.source in
+    record {
+      whole = c.in_ok-table.ensures.whole;
+      each = λ k below. first-zero d _ k below (c.in_ok-table.ensures.none k);
+      count = sym (text-before-first d);
+      small = omega arith;
+    }
+
+pub returns : goal.returns
+returns c = record {
+  whole = c.loop-at.invariant.whole;
+  each = λ k inside. c.loop-at.invariant.each k (omega (arith, inside, c.loop-at-test.false));
+}

@@ -2,7 +2,7 @@ use Rattle.std.proofs.Common.{◌≡◌, ◌+◌, ◌-◌, ◌<◌, ◌≤◌, i
 use Rattle.std.proofs.lemmas.List.{length-set}
 use Rattle.dcc_globals.specs.Gaps.{is_text, text_from}
 use Rattle.dcc_globals.specs.Marks.{data_of}
-use Rattle.dcc_globals.proofs.Counting.{text-from-next, text-from-le, filled-down}
+use Rattle.dcc_globals.proofs.Counting.{text-from-next, text-from-le, text-from-last, last-zero, filled-down}
 use Rattle.dcc_globals.proofs.texts.behind.Goals as goal
 
 pub loop-at-preserved : goal.loop-at-preserved
@@ -20,3 +20,19 @@ loop-at-preserved c =
       count = is;
       small = let h = text-from-le d at (omega (arith, inside)) in omega (arith, is, h);
     }
+
+pub loop-at-init : goal.loop-at-init
+loop-at-init c =
+    let d = data_of c.args.runs.now.source in
+    record {
+      whole = c.in_ok-table.ensures.whole;
+      each = λ k above below. last-zero d _ k above below (c.in_ok-table.ensures.none k);
+      count = sym (text-from-last d);
+      small = omega arith;
+    }
+
+pub returns : goal.returns
+returns c = record {
+  whole = c.loop-at.invariant.whole;
+  each = λ k inside. c.loop-at.invariant.each k (omega (arith, c.loop-at-test.false)) inside;
+}
