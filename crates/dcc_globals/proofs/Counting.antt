@@ -2,25 +2,26 @@
 use Rattle.std.proofs.Common.{◌≡◌, ◌≢◌, ℕ, zero, suc, ◌+◌, ◌-◌, ◌<◌, ◌≤◌, ◌==◌, Bool, true, false, inl, inr, List, length, replicate, get_or, slice_set, refl, sym, ap, ◌∙◌, subst, true≢false, arith}
 use Rattle.std.specs.Prelude.{if◌then◌else◌}
 use Rattle.std.proofs.lemmas.Bool.{cases_Bool, eqb-true, eq-eqb}
-use Rattle.std.proofs.lemmas.List.{get_or-set_same, get_or-set_other}
+use Rattle.std.proofs.lemmas.List.{get_or-set_same, get_or-set_other, get_or_read}
+use Rattle.dcc_globals.specs.Marks.{Counts}
 use Rattle.dcc_globals.specs.Pieces.{Data}
 use Rattle.dcc_globals.specs.Gaps.{count_from, count_before, is_text, text_before, text_from, goes_on, extent}
 
 pub count_before-le : (test : ℕ → Bool) (at : ℕ) → count_before test at ≤ at
 count_before-le test zero = omega arith
-count_before-le test (suc at) = by (test at)
+count_before-le test (suc at) = by (test at) (count_before-le test at)
   where
-    by : (b : Bool) → (if b then suc (count_before test at) else 0) ≤ suc at
-    by true = let h = count_before-le test at in omega (arith, h)
-    by false = omega arith
+    by : (b : Bool) → count_before test at ≤ at → (if b then suc (count_before test at) else 0) ≤ suc at
+    by true h = omega (arith, h)
+    by false h = omega arith
 
 pub count_from-le : (test : ℕ → Bool) (most at : ℕ) → count_from test most at ≤ most
 count_from-le test zero at = omega arith
-count_from-le test (suc most) at = by (test at)
+count_from-le test (suc most) at = by (test at) (count_from-le test most (at + 1))
   where
-    by : (b : Bool) → (if b then suc (count_from test most (at + 1)) else 0) ≤ suc most
-    by true = let h = count_from-le test most (at + 1) in omega (arith, h)
-    by false = omega arith
+    by : (b : Bool) → count_from test most (at + 1) ≤ most → (if b then suc (count_from test most (at + 1)) else 0) ≤ suc most
+    by true h = omega (arith, h)
+    by false h = omega arith
 
 -- one offset more before the border
 pub before-more : (test : ℕ → Bool) (at : ℕ) → test at ≡ true → count_before test (at + 1) ≡ count_before test at + 1
@@ -163,7 +164,15 @@ last-zero d table k above below none =
     none ∙ sym (ap (text_from d) e ∙ text-from-last d)
 
 -- no count is there at first
-pub zeros_at : (n k : ℕ) → get_or (replicate n 0) k 0 ≡ 0
+abbrev zeros : ℕ → List ℕ
+zeros n = replicate n 0
+
+pub zeros_at : (n k : ℕ) → get_or (zeros n) k 0 ≡ 0
 zeros_at zero k = refl
 zeros_at (suc n) zero = refl
 zeros_at (suc n) (suc k) = zeros_at n k
+
+-- what a table of counts says of a border
+pub told_count : (number : ℕ → ℕ) (table : List ℕ) (at r : ℕ) → Counts number table → at ≤ 65536 → r ≡ get_or table at r → r ≡ number at
+told_count number table at r is inside read =
+    get_or_read table at r (omega (arith, is.whole, inside)) read 0 ∙ is.each at inside

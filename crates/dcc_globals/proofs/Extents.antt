@@ -14,10 +14,10 @@ use Rattle.dcc_globals.specs.Gaps.{count_from, is_in_run, is_crossed, is_in_gap,
 use Rattle.dcc_globals.proofs.Counting.{count_from-le}
 
 any-implies : {X : Type 0} (p q : X → Bool) → ((x : X) → p x ≡ true → q x ≡ true) → (xs : List X) → list_any p xs ≡ true → list_any q xs ≡ true
-any-implies p q then [] h = absurd (true≢false (sym h))
-any-implies p q then (x ∷ xs) h = elim (or_cases (p x) (list_any p xs) h) [
-  | inl here ↦ or_left (q x) (list_any q xs) (then x here)
-  | inr there ↦ or_right (q x) (list_any q xs) (any-implies p q then xs there)
+any-implies p q gives [] h = absurd (true≢false (sym h))
+any-implies p q gives (x ∷ xs) h = elim (or_cases (p x) (list_any p xs) h) [
+  | inl here ↦ or_left (q x) (list_any q xs) (gives x here)
+  | inr there ↦ or_right (q x) (list_any q xs) (any-implies p q gives xs there)
 ]
 
 -- Counts.
@@ -27,18 +27,19 @@ counted test zero at i from below = absurd (omega (arith, from, below))
 counted test (suc most) at i from below = elim (cases_Bool (test at)) [
   | inl passes ↦
       let e : count_from test (suc most) at ≡ suc (count_from test most (at + 1)) = ap (λ b. if b then suc (count_from test most (at + 1)) else 0) passes in
-      by passes (omega (arith, e, below))
+      by passes (omega (arith, e, below)) (λ later less. counted test most (at + 1) i later less)
   | inr fails ↦
       let e : count_from test (suc most) at ≡ 0 = ap (λ b. if b then suc (count_from test most (at + 1)) else 0) fails in
       absurd (omega (arith, e, from, below))
 ]
   where
-    by : test at ≡ true → i < at + suc (count_from test most (at + 1)) → test i ≡ true
-    by passes less = elim (cases_Bool (at == i)) [
+    by : test at ≡ true → i < at + suc (count_from test most (at + 1))
+        → (at + 1 ≤ i → i < at + 1 + count_from test most (at + 1) → test i ≡ true) → test i ≡ true
+    by passes less rest = elim (cases_Bool (at == i)) [
       | inl same ↦ subst (λ k. test k ≡ true) (eqb-true at i same) passes
       | inr other ↦
           let apart : at ≢ i = λ e. true≢false (sym (eq-eqb at i e) ∙ other) in
-          counted test most (at + 1) i (omega (arith, apart, from)) (omega (arith, less))
+          rest (omega (arith, apart, from)) (omega (arith, less))
     ]
 
 pub stops : (test : ℕ → Bool) (most at : ℕ) → count_from test most at < most → test (at + count_from test most at) ≡ false

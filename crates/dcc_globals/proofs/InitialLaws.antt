@@ -12,11 +12,11 @@ with-byte count byte = if (count == 0) && (byte == 0) then 0 else count + 1
 
 pub significant-le : (bytes : List ℕ) → significant bytes ≤ length bytes
 significant-le [] = omega arith
-significant-le (b ∷ bytes) = by ((significant bytes == 0) && (b == 0))
+significant-le (b ∷ bytes) = by ((significant bytes == 0) && (b == 0)) (significant-le bytes)
   where
-    by : (t : Bool) → (if t then 0 else significant bytes + 1) ≤ suc (length bytes)
-    by true = omega arith
-    by false = let h = significant-le bytes in omega (arith, h)
+    by : (t : Bool) → significant bytes ≤ length bytes → (if t then 0 else significant bytes + 1) ≤ suc (length bytes)
+    by true h = omega arith
+    by false h = omega (arith, h)
 
 -- one byte more at the end
 pub significant-zero : (bytes : List ℕ) → significant (bytes ++ 0 ∷ []) ≡ significant bytes

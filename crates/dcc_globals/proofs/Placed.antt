@@ -164,37 +164,28 @@ module _ (d : Data) where
   -- what holds of each variable that begins below the end of the segment
   each : (P : Global → Type 0) → ((at : ℕ) → at < 65536 → begins d at ≡ true → P (global_at d at)) → (at n : ℕ) → at + n ≤ 65536 → All P (from at n)
   each P holds at zero fits = All-nil P
-  each P holds at (suc n) fits = by (begins d at) refl
+  each P holds at (suc n) fits = by (begins d at) refl (each P holds (at + 1) n (omega (arith, fits)))
     where
-      rest : All P (from (at + 1) n)
-      rest = each P holds (at + 1) n (omega (arith, fits))
-
-      by : (t : Bool) → begins d at ≡ t → All P (map (global_at d) (if t then at ∷ filter (begins d) (range_with_len (at + 1) n) else filter (begins d) (range_with_len (at + 1) n)))
-      by true is = All-cons P (global_at d at) (from (at + 1) n) (holds at (omega (arith, fits)) is) rest
-      by false is = rest
+      by : (t : Bool) → begins d at ≡ t → All P (from (at + 1) n) → All P (map (global_at d) (if t then at ∷ filter (begins d) (range_with_len (at + 1) n) else filter (begins d) (range_with_len (at + 1) n)))
+      by true is rest = All-cons P (global_at d at) (from (at + 1) n) (holds at (omega (arith, fits)) is) rest
+      by false is rest = rest
 
   pub all-pass : (p : Global → Bool) → ((at : ℕ) → at < 65536 → begins d at ≡ true → p (global_at d at) ≡ true) → (at n : ℕ) → at + n ≤ 65536 → list_all p (from at n) ≡ true
   all-pass p holds at zero fits = refl
-  all-pass p holds at (suc n) fits = by (begins d at) refl
+  all-pass p holds at (suc n) fits = by (begins d at) refl (all-pass p holds (at + 1) n (omega (arith, fits)))
     where
-      rest : list_all p (from (at + 1) n) ≡ true
-      rest = all-pass p holds (at + 1) n (omega (arith, fits))
-
-      by : (t : Bool) → begins d at ≡ t → list_all p (map (global_at d) (if t then at ∷ filter (begins d) (range_with_len (at + 1) n) else filter (begins d) (range_with_len (at + 1) n))) ≡ true
-      by true is = and_from (p (global_at d at)) (list_all p (from (at + 1) n)) (holds at (omega (arith, fits)) is) rest
-      by false is = rest
+      by : (t : Bool) → begins d at ≡ t → list_all p (from (at + 1) n) ≡ true → list_all p (map (global_at d) (if t then at ∷ filter (begins d) (range_with_len (at + 1) n) else filter (begins d) (range_with_len (at + 1) n))) ≡ true
+      by true is rest = and_from (p (global_at d at)) (list_all p (from (at + 1) n)) (holds at (omega (arith, fits)) is) rest
+      by false is rest = rest
 
   -- a test that holds of later variables
   later-pass : (p : Global → Bool) (low : ℕ) → ((at : ℕ) → low ≤ at → at < 65536 → begins d at ≡ true → p (global_at d at) ≡ true) → (at n : ℕ) → low ≤ at → at + n ≤ 65536 → list_all p (from at n) ≡ true
   later-pass p low holds at zero above fits = refl
-  later-pass p low holds at (suc n) above fits = by (begins d at) refl
+  later-pass p low holds at (suc n) above fits = by (begins d at) refl (later-pass p low holds (at + 1) n (omega (arith, above)) (omega (arith, fits)))
     where
-      rest : list_all p (from (at + 1) n) ≡ true
-      rest = later-pass p low holds (at + 1) n (omega (arith, above)) (omega (arith, fits))
-
-      by : (t : Bool) → begins d at ≡ t → list_all p (map (global_at d) (if t then at ∷ filter (begins d) (range_with_len (at + 1) n) else filter (begins d) (range_with_len (at + 1) n))) ≡ true
-      by true is = and_from (p (global_at d at)) (list_all p (from (at + 1) n)) (holds at above (omega (arith, fits)) is) rest
-      by false is = rest
+      by : (t : Bool) → begins d at ≡ t → list_all p (from (at + 1) n) ≡ true → list_all p (map (global_at d) (if t then at ∷ filter (begins d) (range_with_len (at + 1) n) else filter (begins d) (range_with_len (at + 1) n))) ≡ true
+      by true is rest = and_from (p (global_at d at)) (list_all p (from (at + 1) n)) (holds at above (omega (arith, fits)) is) rest
+      by false is rest = rest
 
   two-apart : (at next : ℕ) → at < next → begins d next ≡ true → are_apart (global_at d at) (global_at d next) ≡ true
   two-apart at next after is =
@@ -203,16 +194,13 @@ module _ (d : Data) where
 
   apart-from : (at n : ℕ) → at + n ≤ 65536 → all_apart (from at n) ≡ true
   apart-from at zero fits = refl
-  apart-from at (suc n) fits = by (begins d at) refl
+  apart-from at (suc n) fits = by (begins d at) refl (apart-from (at + 1) n (omega (arith, fits)))
     where
-      rest : all_apart (from (at + 1) n) ≡ true
-      rest = apart-from (at + 1) n (omega (arith, fits))
-
-      by : (t : Bool) → begins d at ≡ t → all_apart (map (global_at d) (if t then at ∷ filter (begins d) (range_with_len (at + 1) n) else filter (begins d) (range_with_len (at + 1) n))) ≡ true
-      by true is =
+      by : (t : Bool) → begins d at ≡ t → all_apart (from (at + 1) n) ≡ true → all_apart (map (global_at d) (if t then at ∷ filter (begins d) (range_with_len (at + 1) n) else filter (begins d) (range_with_len (at + 1) n))) ≡ true
+      by true is rest =
           and_from (list_all (are_apart (global_at d at)) (from (at + 1) n)) (all_apart (from (at + 1) n))
           (later-pass (are_apart (global_at d at)) (at + 1) (λ next above inside first. two-apart at next (omega (arith, above)) first) (at + 1) n (omega arith) (omega (arith, fits))) rest
-      by false is = rest
+      by false is rest = rest
 
   off-stack : (at : ℕ) → at < 65536 → begins d at ≡ true → is_off_stack d.lo d.hi (global_at d at) ≡ true
   off-stack at inside is = elim (cases_Bool (nat_le d.hi d.lo)) [
@@ -259,40 +247,31 @@ module _ (d : Data) where
 
   names-begin : (at n : ℕ) → at + n ≤ 65536 → list_all is_data_name (map (λ (g : Global). g.name) (from at n)) ≡ true
   names-begin at zero fits = refl
-  names-begin at (suc n) fits = by (begins d at) refl
+  names-begin at (suc n) fits = by (begins d at) refl (names-begin (at + 1) n (omega (arith, fits)))
     where
-      rest : list_all is_data_name (map (λ (g : Global). g.name) (from (at + 1) n)) ≡ true
-      rest = names-begin (at + 1) n (omega (arith, fits))
-
-      by : (t : Bool) → begins d at ≡ t → list_all is_data_name (map (λ (g : Global). g.name) (map (global_at d) (if t then at ∷ filter (begins d) (range_with_len (at + 1) n) else filter (begins d) (range_with_len (at + 1) n)))) ≡ true
-      by true is = and_from (is_data_name (global_at d at).name) _ (named-data at (global_at d at).name (name-is at)) rest
-      by false is = rest
+      by : (t : Bool) → begins d at ≡ t → list_all is_data_name (map (λ (g : Global). g.name) (from (at + 1) n)) ≡ true → list_all is_data_name (map (λ (g : Global). g.name) (map (global_at d) (if t then at ∷ filter (begins d) (range_with_len (at + 1) n) else filter (begins d) (range_with_len (at + 1) n)))) ≡ true
+      by true is rest = and_from (is_data_name (global_at d at).name) _ (named-data at (global_at d at).name (name-is at)) rest
+      by false is rest = rest
 
   not-later : (at low n : ℕ) → at < low → low + n ≤ 65536 → is_among (map (λ (g : Global). g.name) (from low n)) (global_at d at).name ≡ false
   not-later at low zero less fits = refl
-  not-later at low (suc n) less fits = by (begins d low) refl
+  not-later at low (suc n) less fits = by (begins d low) refl (not-later at (low + 1) n (omega (arith, less)) (omega (arith, fits)))
     where
-      rest : is_among (map (λ (g : Global). g.name) (from (low + 1) n)) (global_at d at).name ≡ false
-      rest = not-later at (low + 1) n (omega (arith, less)) (omega (arith, fits))
-
-      by : (t : Bool) → begins d low ≡ t → is_among (map (λ (g : Global). g.name) (map (global_at d) (if t then low ∷ filter (begins d) (range_with_len (low + 1) n) else filter (begins d) (range_with_len (low + 1) n)))) (global_at d at).name ≡ false
-      by true is =
+      by : (t : Bool) → begins d low ≡ t → is_among (map (λ (g : Global). g.name) (from (low + 1) n)) (global_at d at).name ≡ false → is_among (map (λ (g : Global). g.name) (map (global_at d) (if t then low ∷ filter (begins d) (range_with_len (low + 1) n) else filter (begins d) (range_with_len (low + 1) n)))) (global_at d at).name ≡ false
+      by true is rest =
           or_from (same_bytes (global_at d at).name (global_at d low).name) _
           (names-apart at low (global_at d at).name (global_at d low).name (omega (arith, less, fits)) (omega (arith, fits)) (λ e. omega (arith, e, less)) (name-is at) (name-is low)) rest
-      by false is = rest
+      by false is rest = rest
 
   names-differ : (at n : ℕ) → at + n ≤ 65536 → all_differ (map (λ (g : Global). g.name) (from at n)) ≡ true
   names-differ at zero fits = refl
-  names-differ at (suc n) fits = by (begins d at) refl
+  names-differ at (suc n) fits = by (begins d at) refl (names-differ (at + 1) n (omega (arith, fits)))
     where
-      rest : all_differ (map (λ (g : Global). g.name) (from (at + 1) n)) ≡ true
-      rest = names-differ (at + 1) n (omega (arith, fits))
-
-      by : (t : Bool) → begins d at ≡ t → all_differ (map (λ (g : Global). g.name) (map (global_at d) (if t then at ∷ filter (begins d) (range_with_len (at + 1) n) else filter (begins d) (range_with_len (at + 1) n)))) ≡ true
-      by true is =
+      by : (t : Bool) → begins d at ≡ t → all_differ (map (λ (g : Global). g.name) (from (at + 1) n)) ≡ true → all_differ (map (λ (g : Global). g.name) (map (global_at d) (if t then at ∷ filter (begins d) (range_with_len (at + 1) n) else filter (begins d) (range_with_len (at + 1) n)))) ≡ true
+      by true is rest =
           and_from (not (is_among (map (λ (g : Global). g.name) (from (at + 1) n)) (global_at d at).name)) _
           (not_from_false _ (not-later at (at + 1) n (omega arith) (omega (arith, fits)))) rest
-      by false is = rest
+      by false is rest = rest
 
   pub have-names : HaveNames (globals_of d)
   unfolding globals_of
@@ -320,14 +299,14 @@ module _ (d : Data) where
   -- a byte of a variable is covered
   in-covered : (k at n : ℕ) → is_in k (from at n) ≡ true → is_covered d k ≡ true
   in-covered k at zero h = absurd (true≢false (sym h))
-  in-covered k at (suc n) h = by (begins d at) refl h
+  in-covered k at (suc n) h = by (begins d at) refl h (λ later. in-covered k (at + 1) n later)
     where
-      by : (t : Bool) → begins d at ≡ t → is_in k (map (global_at d) (if t then at ∷ filter (begins d) (range_with_len (at + 1) n) else filter (begins d) (range_with_len (at + 1) n))) ≡ true → is_covered d k ≡ true
-      by true is h = elim (or_cases (has k (global_at d at)) (is_in k (from (at + 1) n)) h) [
+      by : (t : Bool) → begins d at ≡ t → is_in k (map (global_at d) (if t then at ∷ filter (begins d) (range_with_len (at + 1) n) else filter (begins d) (range_with_len (at + 1) n))) ≡ true → (is_in k (from (at + 1) n) ≡ true → is_covered d k ≡ true) → is_covered d k ≡ true
+      by true is h rest = elim (or_cases (has k (global_at d at)) (is_in k (from (at + 1) n)) h) [
         | inl here ↦ let (first, last) = has-parts k at here in extent-covered d at k is first last
-        | inr later ↦ in-covered k (at + 1) n later
+        | inr later ↦ rest later
       ]
-      by false is h = in-covered k (at + 1) n h
+      by false is h rest = rest h
 
   pub in-off : (k : ℕ) → is_in k (globals_of d) ≡ true → is_in_stack d.lo d.hi k ≡ false
   unfolding globals_of
@@ -341,7 +320,7 @@ module _ (d : Data) where
   owned-in k owner at zero first above below there = absurd (omega (arith, above, below))
   owned-in k owner at (suc n) first above below there = elim (cases_Bool (at == owner)) [
     | inl same ↦ here (eqb-true at owner same)
-    | inr other ↦ by (begins d at) (λ e. true≢false (sym (eq-eqb at owner e) ∙ other))
+    | inr other ↦ by (begins d at) (λ e. true≢false (sym (eq-eqb at owner e) ∙ other)) (λ more. owned-in k owner (at + 1) n first more (omega (arith, below)) there)
   ]
     where
       here : at ≡ owner → is_in k (list-if at n (begins d at)) ≡ true
@@ -349,9 +328,9 @@ module _ (d : Data) where
           ap (λ t. is_in k (list-if at n t)) (subst (λ o. begins d o ≡ true) (sym same) first)
           ∙ or_left (has k (global_at d at)) (is_in k (from (at + 1) n)) (subst (λ o. has k (global_at d o) ≡ true) (sym same) there)
 
-      by : (t : Bool) → at ≢ owner → is_in k (list-if at n t) ≡ true
-      by true apart = or_right (has k (global_at d at)) (is_in k (from (at + 1) n)) (owned-in k owner (at + 1) n first (omega (arith, above, apart)) (omega (arith, below)) there)
-      by false apart = owned-in k owner (at + 1) n first (omega (arith, above, apart)) (omega (arith, below)) there
+      by : (t : Bool) → at ≢ owner → (at + 1 ≤ owner → is_in k (from (at + 1) n) ≡ true) → is_in k (list-if at n t) ≡ true
+      by true apart rest = or_right (has k (global_at d at)) (is_in k (from (at + 1) n)) (rest (omega (arith, above, apart)))
+      by false apart rest = rest (omega (arith, above, apart))
 
   missing-below : (k : ℕ) → k < 65536 → is_in_stack d.lo d.hi k ≡ false → is_in k (from 0 65536) ≡ false → get_or d.bytes k 0 ≡ 0
   missing-below k inside off none = elim (cases_Bool (nat_lt k (length d.bytes))) [

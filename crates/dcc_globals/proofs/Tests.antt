@@ -110,13 +110,13 @@ told test xs table at r is inside read =
 
 -- A table, one thing after another.
 
-pub table_more : {X : Type 0} (test : ℕ → X → Bool) (xs : List X) (i : ℕ) (x : X) (table new : List Bool) → IsTable test (take i xs) table
-    → i < length xs → x ≡ get_or xs i x → length new ≡ length table → ((k : ℕ) → slice_index_or new k false ≡ slice_index_or table k false || test k x)
+pub table_more : {X : Type 0} (test : ℕ → X → Bool) (xs : List X) (i : ℕ) (d : X) (table old new : List Bool) → IsTable test (take i xs) table
+    → i < length xs → old ≡ table → length new ≡ length old → ((k : ℕ) → slice_index_or new k false ≡ slice_index_or old k false || test k (get_or xs i d))
     → IsTable test (take (i + 1) xs) new
-table_more test xs i x table new so_far inside is size marked = record {
-  whole = size ∙ so_far.whole;
-  each = λ k. marked k ∙ ap (λ b. b || test k x) (so_far.each k) ∙ ap (λ y. list_any (test k) (take i xs) || test k y) is
-      ∙ sym (list_any_more (test k) xs i x inside);
+table_more test xs i d table old new so_far inside same size marked = record {
+  whole = size ∙ ap length same ∙ so_far.whole;
+  each = λ k. marked k ∙ ap (λ b. b || test k (get_or xs i d)) (ap (λ t. slice_index_or t k false) same ∙ so_far.each k)
+      ∙ sym (list_any_more (test k) xs i d inside);
 }
 
 pub table_all : {X : Type 0} (test : ℕ → X → Bool) (xs : List X) (i : ℕ) (table : List Bool) → IsTable test (take i xs) table

@@ -68,21 +68,16 @@ pub record HoldsAt (g : Global) (bytes : List ℕ) : Type 0 where
 -- behind the last byte that isn't 0 all are 0
 insignificant : (bytes : List ℕ) (i : ℕ) → significant bytes ≤ i → get_or bytes i 0 ≡ 0
 insignificant [] i past = refl
-insignificant (b ∷ bytes) i past = by ((significant bytes == 0) && (b == 0)) refl past
+insignificant (b ∷ bytes) i past = by ((significant bytes == 0) && (b == 0)) refl i past (λ k h. insignificant bytes k h)
   where
-    by : (t : Bool) → ((significant bytes == 0) && (b == 0)) ≡ t → (if t then 0 else significant bytes + 1) ≤ i → get_or (b ∷ bytes) i 0 ≡ 0
-    by true is h =
-        let (none, zero-byte) = and_parts (significant bytes == 0) (b == 0) is in
-        at i (eqb-true (significant bytes) 0 none) (eqb-true b 0 zero-byte)
-      where
-        at : (i : ℕ) → significant bytes ≡ 0 → b ≡ 0 → get_or (b ∷ bytes) i 0 ≡ 0
-        at zero none first = first
-        at (suc i) none first = insignificant bytes i (omega (arith, none))
-    by false is h = at i h
-      where
-        at : (i : ℕ) → significant bytes + 1 ≤ i → get_or (b ∷ bytes) i 0 ≡ 0
-        at zero h = absurd (omega (arith, h))
-        at (suc i) h = insignificant bytes i (omega (arith, h))
+    by : (t : Bool) → ((significant bytes == 0) && (b == 0)) ≡ t → (i : ℕ) → (if t then 0 else significant bytes + 1) ≤ i
+        → ((k : ℕ) → significant bytes ≤ k → get_or bytes k 0 ≡ 0) → get_or (b ∷ bytes) i 0 ≡ 0
+    by true is zero h rest = eqb-true b 0 (and_parts (significant bytes == 0) (b == 0) is).1
+    by true is (suc i) h rest =
+        let none = eqb-true (significant bytes) 0 (and_parts (significant bytes == 0) (b == 0) is).0 in
+        rest i (omega (arith, none))
+    by false is zero h rest = absurd (omega (arith, h))
+    by false is (suc i) h rest = rest i (omega (arith, h))
 
 array-size : (at size : ℕ) (bytes : List ℕ) → after_global (array at size bytes) ≡ at + size
 array-size at size bytes = omega arith
@@ -95,7 +90,7 @@ array-holds at size bytes short fits are = record {
   sized = λ memory. written-length at (held bytes) memory;
   elsewhere = λ memory k where_is. elim where_is [
     | inl below ↦ written-before at (held bytes) memory k below (omega (arith, few))
-    | inr above ↦ written-after at (held bytes) memory k (let e = array-size at size bytes in omega (arith, few, above, e)) (omega (arith, few))
+    | inr above ↦ written-after at (held bytes) memory k (let h : at + 1 * size ≤ k = above in omega (arith, count, h, significant-le bytes, short)) (omega (arith, few))
   ];
   there = λ memory i whole empty inside. elim (cases_Bool (nat_lt i (length (held bytes)))) [
     | inl within ↦
@@ -141,21 +136,25 @@ stored-low memory at b bytes = slice_set memory (at % 65536) (number_of (b ∷ b
 store-there : (count : ℕ) (memory : List ℕ) (at : ℕ) (bytes : List ℕ) (i : ℕ) → length bytes ≤ count → at + count ≤ 65536 → length memory ≡ 65536 → All IsByte bytes → i < count
     → get_or (store count memory at (number_of bytes)) (at + i) 0 ≡ get_or bytes i 0
 store-there zero memory at bytes i short fits whole are inside = absurd (omega (arith, inside))
-store-there (suc count) memory at [] i short fits whole are inside = by i inside
+store-there (suc count) memory at [] i short fits whole are inside =
+    by i inside (λ j less. store-there count (slice_set memory (at % 65536) 0) (at + 1) [] j (omega arith) (omega (arith, fits)) (length-set memory (at % 65536) 0 ∙ whole) are less)
   where
     place : at % 65536 ≡ at
     place = omega (arith, fits)
 
-    by : (i : ℕ) → i < suc count → get_or (store count (slice_set memory (at % 65536) 0) (at + 1) 0) (at + i) 0 ≡ 0
-    by zero inside =
+    by : (i : ℕ) → i < suc count → ((j : ℕ) → j < count → get_or (store count (slice_set memory (at % 65536) 0) (at + 1) 0) (at + 1 + j) 0 ≡ 0)
+        → get_or (store count (slice_set memory (at % 65536) 0) (at + 1) 0) (at + i) 0 ≡ 0
+    by zero inside rest =
         ap (λ x. get_or (store count (slice_set memory (at % 65536) 0) (at + 1) 0) x 0) (omega arith)
-        ∙ store-elsewhere count _ (at + 1) 0 at (omega (arith, fits)) (inl (omega arith))
+        ∙ store-elsewhere count (slice_set memory (at % 65536) 0) (at + 1) 0 at (omega (arith, fits)) (inl (omega arith))
         ∙ ap (λ x. get_or (slice_set memory (at % 65536) 0) x 0) (sym place)
         ∙ get_or-set_same memory (at % 65536) 0 0 (omega (arith, whole))
-    by (suc i) inside =
-        ap (λ x. get_or (store count (slice_set memory (at % 65536) 0) (at + 1) 0) x 0) (omega arith)
-        ∙ store-there count _ (at + 1) [] i (omega arith) (omega (arith, fits)) (length-set memory (at % 65536) 0 ∙ whole) are (omega (arith, inside))
-store-there (suc count) memory at (b ∷ bytes) i short fits whole are inside = by i inside
+    by (suc i) inside rest =
+        ap (λ x. get_or (store count (slice_set memory (at % 65536) 0) (at + 1) 0) x 0) (omega arith) ∙ rest i (omega (arith, inside))
+store-there (suc count) memory at (b ∷ bytes) i short fits whole are inside =
+    by i inside
+    (λ j less. store-there count (stored-low memory at b bytes) (at + 1) bytes j (omega (arith, short)) (omega (arith, fits))
+    (length-set memory (at % 65536) (number_of (b ∷ bytes) % 256) ∙ whole) (All-tail IsByte b bytes are) less)
   where
     small : b < 256
     small = All-head IsByte b bytes are
@@ -163,17 +162,18 @@ store-there (suc count) memory at (b ∷ bytes) i short fits whole are inside = 
     place : at % 65536 ≡ at
     place = omega (arith, fits)
 
-    by : (i : ℕ) → i < suc count → get_or (store count (stored-low memory at b bytes) (at + 1) (number_of (b ∷ bytes) / 256)) (at + i) 0 ≡ get_or (b ∷ bytes) i 0
-    by zero inside =
+    by : (i : ℕ) → i < suc count → ((j : ℕ) → j < count → get_or (store count (stored-low memory at b bytes) (at + 1) (number_of bytes)) (at + 1 + j) 0 ≡ get_or bytes j 0)
+        → get_or (store count (stored-low memory at b bytes) (at + 1) (number_of (b ∷ bytes) / 256)) (at + i) 0 ≡ get_or (b ∷ bytes) i 0
+    by zero inside rest =
         ap (λ x. get_or (store count (stored-low memory at b bytes) (at + 1) (number_of (b ∷ bytes) / 256)) x 0) (omega arith)
         ∙ store-elsewhere count (stored-low memory at b bytes) (at + 1) (number_of (b ∷ bytes) / 256) at (omega (arith, fits)) (inl (omega arith))
         ∙ ap (λ x. get_or (stored-low memory at b bytes) x 0) (sym place)
         ∙ get_or-set_same memory (at % 65536) (number_of (b ∷ bytes) % 256) 0 (omega (arith, whole))
         ∙ low-byte b (number_of bytes) small
-    by (suc i) inside =
+    by (suc i) inside rest =
         ap (λ x. get_or (store count (stored-low memory at b bytes) (at + 1) (number_of (b ∷ bytes) / 256)) x 0) (omega arith)
         ∙ ap (λ m. get_or (store count (stored-low memory at b bytes) (at + 1) m) (at + 1 + i) 0) (high-byte b (number_of bytes) small)
-        ∙ store-there count (stored-low memory at b bytes) (at + 1) bytes i (omega (arith, short)) (omega (arith, fits)) (length-set memory (at % 65536) (number_of (b ∷ bytes) % 256) ∙ whole) (All-tail IsByte b bytes are) (omega (arith, inside))
+        ∙ rest i (omega (arith, inside))
 
 -- bytes of the number 0 are 0
 zero-bytes : (bytes : List ℕ) (i : ℕ) → number_of bytes ≡ 0 → get_or bytes i 0 ≡ 0

@@ -93,7 +93,6 @@ fn rest(bytes: &[u8], count: usize) -> &[u8]
 }
 
 /// At most so many bytes from an offset on.
-#[tactic(auto, using(std::proofs::lemmas::List::length_take))]
 pub(crate) fn bytes_at(bytes: &[u8], at: usize, size: usize) -> &[u8]
     ensures value { result.now ≡ take size (drop at bytes.now) }
     ensures short { length result.now ≤ size }

@@ -1,14 +1,26 @@
 //! The memory operands of a program's instructions.
 
 ghost use Rattle.std.specs.Prelude.{◌≡◌, ◌++◌, IfOk, OnOk};
+ghost use Rattle.std.specs.Option.{option_to_list};
+ghost use Rattle.dcc_prog.specs.Frame as frame;
 ghost use Rattle.dcc_globals.specs.Pieces.{operands_in, operands_of};
 
 use dcc_frames::memory_operand;
-use dcc_machine::Ea;
+use dcc_machine::{Ea, Op};
 use dcc_num::Width;
 use dcc_prog::{Node, Proc};
 use indexmap::IndexMap;
 use std::alloc::{AllocError, Global};
+
+// Appends the memory operand of an operation, if it has one.
+fn push_operand(operands: &mut Vec<(Width, Ea)>, op: Op) -> Result<(), AllocError>
+    ensures { OnOk result (operands.new.items ≡ operands.old.items ++ option_to_list (frame.memory_operand op)) }
+{
+    if let Some(operand) = memory_operand(op) {
+        operands.push(operand)?;
+    }
+    Ok(())
+}
 
 // Appends the memory operands of a procedure's instructions.
 fn push_operands(
@@ -18,9 +30,7 @@ fn push_operands(
     ensures { OnOk result (operands.new.items ≡ operands.old.items ++ operands_in nodes.now.entries) }
 {
     for (_at, node) in nodes.iter() {
-        if let Some(operand) = memory_operand(node.instr.op) {
-            operands.push(operand)?;
-        }
+        push_operand(operands, node.instr.op)?;
     }
     Ok(())
 }

@@ -7,6 +7,6 @@ loop-place-preserved c =
     let bytes = c.args.bytes.now in
     let inside : c.loop-place.place < length bytes = omega arith in
     record {
-      value = c.count_with.ensures ∙ significant-more bytes c.loop-place.place c.loop-place.count inside c.loop-place.invariant.value;
-      within = counted-within _ c.loop-place.count c.loop-place.place _ c.count_with.ensures c.loop-place.invariant.within;
+      value = c.count_with-count.ensures ∙ significant-more bytes c.loop-place.place c.loop-place.count inside c.loop-place.invariant.value;
+      within = counted-within _ c.loop-place.count c.loop-place.place _ c.count_with-count.ensures c.loop-place.invariant.within;
     }

@@ -10,12 +10,12 @@ loop-at-preserved c =
     let d = data_of c.args.runs.now.source in
     let at = c.loop-at.at in
     let inside : at < 65536 = omega arith in
-    let is : c.next_count.result ≡ text_before d (at + 1) =
-    c.next_count.ensures ∙ ap (λ t. if t then c.loop-at.count + 1 else 0) c.is_text.ensures
+    let is : c.next_count-count.result ≡ text_before d (at + 1) =
+    c.next_count-count.ensures ∙ ap (λ t. if t then c.loop-at.count + 1 else 0) c.is_text.ensures
     ∙ ap (λ n. if is_text d at then n + 1 else 0) c.loop-at.invariant.count ∙ sym (text-before-next d at) in
     record {
-      whole = length-set c.loop-at.table.items (at + 1) c.next_count.result ∙ c.loop-at.invariant.whole;
-      each = filled-up (text_before d) c.loop-at.table.items at c.next_count.result inside c.loop-at.invariant.whole c.loop-at.invariant.each is;
+      whole = length-set c.loop-at.table.items (at + 1) c.next_count-count.result ∙ c.loop-at.invariant.whole;
+      each = filled-up (text_before d) c.loop-at.table.items at c.next_count-count.result inside c.loop-at.invariant.whole c.loop-at.invariant.each is;
       count = is;
       small = let h = text-before-le d (at + 1) in omega (arith, is, h);
     }

@@ -11,12 +11,12 @@ loop-at-preserved c =
     let at = c.loop-at.at - 1 in
     let more : at + 1 ≡ c.loop-at.at = omega (arith, c.loop-at-test.true) in
     let inside : at < 65536 = let h = c.loop-at.invariant.small in omega (arith, more, h) in
-    let is : c.next_count.result ≡ text_from d at =
-    c.next_count.ensures ∙ ap (λ t. if t then c.loop-at.count + 1 else 0) c.is_text.ensures
+    let is : c.next_count-count.result ≡ text_from d at =
+    c.next_count-count.ensures ∙ ap (λ t. if t then c.loop-at.count + 1 else 0) c.is_text.ensures
     ∙ ap (λ n. if is_text d at then n + 1 else 0) (c.loop-at.invariant.count ∙ ap (text_from d) (sym more)) ∙ sym (text-from-next d at inside) in
     record {
-      whole = length-set c.loop-at.table.items at c.next_count.result ∙ c.loop-at.invariant.whole;
-      each = filled-down (text_from d) c.loop-at.table.items at c.loop-at.at c.next_count.result more inside c.loop-at.invariant.whole c.loop-at.invariant.each is;
+      whole = length-set c.loop-at.table.items at c.next_count-count.result ∙ c.loop-at.invariant.whole;
+      each = filled-down (text_from d) c.loop-at.table.items at c.loop-at.at c.next_count-count.result more inside c.loop-at.invariant.whole c.loop-at.invariant.each is;
       count = is;
       small = let h = text-from-le d at (omega (arith, inside)) in omega (arith, is, h);
     }
