@@ -2,7 +2,7 @@
 use Rattle.std.proofs.Common.{◌≡◌, ◌≢◌, ℕ, zero, suc, ◌+◌, ◌-◌, ◌<◌, ◌≤◌, ◌==◌, Bool, true, false, inl, inr, List, length, replicate, get_or, slice_set, refl, sym, ap, ◌∙◌, subst, true≢false, arith}
 use Rattle.std.specs.Prelude.{if◌then◌else◌}
 use Rattle.std.proofs.lemmas.Bool.{cases_Bool, eqb-true, eq-eqb}
-use Rattle.std.proofs.lemmas.List.{get_or-set_same, get_or-set_other, get_or_read}
+use Rattle.std.proofs.lemmas.List.{get_or-set_same, get_or-set_other, get_or_read, length-replicate}
 use Rattle.dcc_globals.specs.Marks.{Counts}
 use Rattle.dcc_globals.specs.Pieces.{Data}
 use Rattle.dcc_globals.specs.Gaps.{count_from, count_before, is_text, text_before, text_from, goes_on, extent}
@@ -166,6 +166,9 @@ last-zero d table k above below none =
 -- no count is there at first
 abbrev zeros : ℕ → List ℕ
 zeros n = replicate n 0
+
+pub zeros_length : (n : ℕ) → length (zeros n) ≡ n
+zeros_length n = let none : ℕ = 0 in length-replicate n none
 
 pub zeros_at : (n k : ℕ) → get_or (zeros n) k 0 ≡ 0
 zeros_at zero k = refl

@@ -7,7 +7,9 @@ use Rattle.std.proofs.lemmas.List.Concat.{flat_map-append}
 use Rattle.std.specs.Option.{option_to_list}
 use Rattle.dcc_prog.specs.declared.procedure.Node.{Node}
 use Rattle.dcc_prog.specs.Frame.{memory_operand}
-use Rattle.dcc_globals.specs.Pieces.{operands_in}
+use Rattle.dcc_globals.specs.Gaps.{extent}
+use Rattle.dcc_globals.specs.Globals.{scalar, array, is_scalar, bytes_at, global_of_size, global_at}
+use Rattle.dcc_globals.specs.Pieces.{Data, operands_in}
 use Rattle.std.proofs.lemmas.List.Elements.{filter-append}
 
 range-more : (at n : ℕ) → range_with_len at (suc n) ≡ range_with_len at n ++ (at + n) ∷ []
@@ -39,3 +41,21 @@ operands-pushed read ys x =
     ap operands_in (map-append read ys (x ∷ []))
     ∙ flat_map-append (λ (found : ℕ × Node). option_to_list (memory_operand found.1.instr.op)) (map read ys) (read x ∷ [])
     ∙ ap (λ l. operands_in (map read ys) ++ l) (append-nil (option_to_list (memory_operand (read x).1.instr.op)))
+
+-- The variable of a size at an offset.
+
+pub scalar-is : (d : Data) (at size : ℕ) (bytes : List ℕ) → size ≡ extent d at → bytes ≡ bytes_at d at size → is_scalar d at size ≡ true
+    → scalar at size bytes ≡ global_at d at
+unfolding global_of_size
+scalar-is d at size bytes sized are is =
+    ap (scalar at size) are
+    ∙ sym (ap (λ t. if t then scalar at size (bytes_at d at size) else array at size (bytes_at d at size)) is)
+    ∙ ap (global_of_size d at) sized
+
+pub array-is : (d : Data) (at size : ℕ) (bytes : List ℕ) → size ≡ extent d at → bytes ≡ bytes_at d at size → is_scalar d at size ≡ false
+    → array at size bytes ≡ global_at d at
+unfolding global_of_size
+array-is d at size bytes sized are is =
+    ap (array at size) are
+    ∙ sym (ap (λ t. if t then scalar at size (bytes_at d at size) else array at size (bytes_at d at size)) is)
+    ∙ ap (global_of_size d at) sized
