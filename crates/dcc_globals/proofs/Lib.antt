@@ -1,0 +1,10 @@
+pub mod Tests
+pub mod Counting
+pub mod InitialLaws
+pub mod ListLaws
+pub mod Extents
+pub mod Written
+pub mod FirstMemory
+pub mod Placed
+pub mod MemoryLaws
+pub mod WritableLaws

@@ -1,0 +1,7 @@
+-- the pieces so far are marked
+use Rattle.std.proofs.Common.{take}
+use Rattle.dcc_globals.specs.Marks.{IsTable, breaks}
+use Rattle.dcc_globals.proofs.marks.broken.Given as goal
+
+abbrev pub invariant-loop-piece : goal.invariant-loop-piece
+invariant-loop-piece l = IsTable breaks (take l.piece-index l.pieces) l.table.items

@@ -1,0 +1,18 @@
+//! Laws of the global variables of a text. Each function only states a law by its contract, and does nothing.
+
+ghost use Rattle.dcc_globals.specs.Laws.{GlobalsAreAllowed, GlobalsHaveNames, FirstMemoriesAreEqual};
+
+/// The global variables end within memory, have room for what they hold at first, lie apart and off the stack.
+pub fn globals_are_allowed()
+    ensures { GlobalsAreAllowed }
+{}
+
+/// The global variables have names of their own.
+pub fn globals_have_names()
+    ensures { GlobalsHaveNames }
+{}
+
+/// The first memory of a text with the global variables of a program's data segment is the program's.
+pub fn first_memories_are_equal()
+    ensures { FirstMemoriesAreEqual }
+{}
