@@ -1,0 +1,5 @@
+pub mod Rests
+pub mod Variables
+pub mod Calls
+pub mod Steps
+pub mod RunLaws
