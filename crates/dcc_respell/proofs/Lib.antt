@@ -3,3 +3,4 @@ pub mod Variables
 pub mod Calls
 pub mod Steps
 pub mod RunLaws
+pub mod Written
