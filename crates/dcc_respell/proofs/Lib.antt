@@ -4,3 +4,4 @@ pub mod Calls
 pub mod Steps
 pub mod RunLaws
 pub mod Written
+pub mod Allowed

@@ -1,6 +1,6 @@
 -- Ways to write the expressions of a function otherwise, each by where it stands; and the text in which they are.
-use Rattle.std.specs.Prelude.{◌≡◌, true, List, map, Some, option_map}
-use Rattle.std.specs.List.{flat_map, list_any}
+use Rattle.std.specs.Prelude.{◌≡◌, ℕ, true, List, map, Option, Some, option_map}
+use Rattle.std.specs.List.{flat_map, list_all, list_any}
 use Rattle.dcc_c.specs.declared.syntax.Base.TheVariants.{Uint}
 use Rattle.dcc_c.specs.declared.syntax.CType.{CType}
 use Rattle.dcc_c.specs.Types.{plain}
@@ -9,9 +9,11 @@ use Rattle.dcc_c.specs.Tree.{line, Arms, no_arms, arm, Function, Tree}
 use Rattle.dcc_c.specs.Dos.{Signature}
 use Rattle.dcc_c.specs.Parts.{parts_of, exprs_of}
 use Rattle.dcc_c.specs.Placement.{is_address_of}
-use Rattle.dcc_c.specs.Rules.{declared_in, fits, is_number, is_switch_value, fit_all, allows_stmt, signature_in}
+use Rattle.dcc_c.specs.Rules.{declared_in, fits, is_number, is_switch_value, fit_all, allows_stmt, shallow_stmt}
+use Rattle.dcc_c.specs.Rules.{signature_in}
 use Rattle.dcc_c.specs.Typing.{place_type}
 use Rattle.dcc_c.specs.Value.{target_of}
+use Rattle.dcc_c.proofs.Writable.{is_writable_expr, is_writable_place}
 use Rattle.dcc_progress.proofs.Declarations.{Takes}
 use Rattle.dcc_respell.specs.Respelled.{Both, TargetAlike, InAllScopes, TestAlike, BecomesAlike, AssignAlike}
 use Rattle.dcc_respell.specs.Respelled.{ArgumentsAlike}
@@ -85,3 +87,25 @@ abbrev pub KeepsAddresses : Writing → Type 0
 KeepsAddresses w = (stmt : Stmt) (word : Word)
     → list_any (is_address_of word) (flat_map parts_of (exprs_of (stmt_by w stmt)))
     ≡ list_any (is_address_of word) (flat_map parts_of (exprs_of stmt))
+
+-- What is written so may stand in the second function, where it might stand in the first one as it was: names, types,
+-- depth, and that it can be written.
+pub record MayStand (tree after : Tree) (f g : Function) (w : Writing) : Type 0 where
+  pub test : (e : Expr) → is_number (declared_in tree f) e ≡ true → is_number (declared_in after g) (w.test e) ≡ true
+  pub choice : (e : Expr) → is_switch_value (declared_in tree f) e ≡ true
+      → is_switch_value (declared_in after g) (w.choice e) ≡ true
+  pub value : (place e : Expr) → allows_stmt tree f (Assign place e) ≡ true
+      → allows_stmt after g (stmt_by w (Assign place e)) ≡ true
+  pub call : (place : Option Expr) (function : Word) (es : List Expr) (depth : ℕ)
+      → allows_stmt tree f (Call place function es depth) ≡ true
+      → allows_stmt after g (stmt_by w (Call place function es depth)) ≡ true
+  pub returned : (e : Expr) → allows_stmt tree f (Return (Some e)) ≡ true
+      → allows_stmt after g (stmt_by w (Return (Some e))) ≡ true
+  pub shallow : (stmt : Stmt) → shallow_stmt 200 stmt ≡ true → shallow_stmt 200 (stmt_by w stmt) ≡ true
+  pub test_written : (e : Expr) → is_writable_expr e ≡ true → is_writable_expr (w.test e) ≡ true
+  pub choice_written : (e : Expr) → is_writable_expr e ≡ true → is_writable_expr (w.choice e) ≡ true
+  pub place_written : (place : Expr) → is_writable_place place ≡ true → is_writable_place (w.place place) ≡ true
+  pub value_written : (place e : Expr) → is_writable_expr e ≡ true → is_writable_expr (w.value place e) ≡ true
+  pub arguments_written : (function : Word) (es : List Expr) → list_all is_writable_expr es ≡ true
+      → list_all is_writable_expr (w.arguments function es) ≡ true
+  pub returned_written : (e : Expr) → is_writable_expr e ≡ true → is_writable_expr (w.returned e) ≡ true
