@@ -1,0 +1,2 @@
+//! A text without casts that nothing needs.
+#![tactic(auto)]
