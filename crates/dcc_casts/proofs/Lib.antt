@@ -1,3 +1,4 @@
 pub mod Low
 pub mod Shapes
 pub mod Types
+pub mod Values

@@ -79,7 +79,7 @@ mod-in thirty_two Uint small wide n = absurd (true≢false (sym small))
 mod-in thirty_two Long small wide n = absurd (true≢false (sym small))
 mod-in thirty_two Ulong small wide n = absurd (true≢false (sym small))
 
-within : (c : Count) (t : Base) → is_small c ≡ true → is_wide t ≡ true → of_count c ≤ bits_of t
+pub within : (c : Count) (t : Base) → is_small c ≡ true → is_wide t ≡ true → of_count c ≤ bits_of t
 within eight Schar small wide = absurd (true≢false (sym wide))
 within eight Uchar small wide = absurd (true≢false (sym wide))
 within eight Int small wide = omega arith

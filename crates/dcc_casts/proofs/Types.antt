@@ -156,7 +156,7 @@ module _ (names : List Declared) where
   -- Types.
 
   -- the test of an arm is a number
-  tested-number : (test u v t : CType) → tested_type (Some test) (arms_type u v) ≡ Some t → test.pointer ≡ false
+  pub tested-number : (test u v t : CType) → tested_type (Some test) (arms_type u v) ≡ Some t → test.pointer ≡ false
   tested-number test u v t is = by test.pointer is
     where
       by : (b : Bool) → (if b then None else arms_type u v) ≡ Some t → b ≡ false
