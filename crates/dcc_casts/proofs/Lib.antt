@@ -2,3 +2,5 @@ pub mod Low
 pub mod Shapes
 pub mod Types
 pub mod Values
+pub mod Meaning
+pub mod Texts

@@ -202,7 +202,7 @@ numbers-both operator v w a b is also = by v.type w.type is also
 low-is : (c : ℕ) (v : Value) (a : Base) → v.type ≡ plain a → low c v ≡ extended_bits a v.bits % 2 ^ c
 low-is c v a is = ap (λ t. extended_bits (number_of_type t) v.bits % 2 ^ c) is
 
-abbrev SameLow : Count → Value → Value → Type 0
+abbrev pub SameLow : Count → Value → Value → Type 0
 SameLow c v w = low (of_count c) w ≡ low (of_count c) v
 
 module _ (operator : CBin) (is : carries operator ≡ true) (c : Count) (small : is_small c ≡ true) (v w v' w' : Value) (a b a' b' : Base)
@@ -291,7 +291,7 @@ module _ (scope : Scope) where
 
 -- counts of bits
 
-count-of : (t : Base) → (c : Count) × (of_count c ≡ bits_of t)
+pub count-of : (t : Base) → (c : Count) × (of_count c ≡ bits_of t)
 count-of Schar = (eight, refl)
 count-of Uchar = (eight, refl)
 count-of Int = (sixteen, refl)

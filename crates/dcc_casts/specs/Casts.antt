@@ -71,3 +71,39 @@ module _ (names : List Declared) where
         Conditional (kept a) (if numbers then lowered bits b else kept b) (if numbers then lowered bits c else kept c)
     lowered bits (Cast type a) =
         if is_needless names bits type a then lowered bits a else Cast type (lowered (room_of type) a)
+
+-- Where a value becomes one of a type.
+
+-- what becomes a value of the type: of a number the bits count that the type has
+abbrev pub becoming : List Declared → CType → Expr → Expr
+becoming names type e = if type.pointer then kept names e else lowered names (room_of type) e
+
+-- the arguments of parameters of these types
+abbrev pub passed : List Declared → List CType → List Expr → List Expr
+passed names (type ∷ types) (e ∷ es) = becoming names type e ∷ passed names types es
+passed names _ es = es
+
+-- the value of a `switch`, of which 16 bits count, and which is a word
+abbrev pub chosen_by : List Declared → Expr → Expr
+chosen_by names e =
+    let low = lowered names 16 e in
+    if is_switch_value names low then low else kept names e
+
+-- how the functions of a text are written without needless casts
+abbrev pub writing : Tree → Function → Writing
+writing tree f =
+    let names = declared_in tree f in
+    record {
+      test = kept names;
+      choice = chosen_by names;
+      place = kept names;
+      value = λ place e.
+          elim (place_type names place) [ Some type ↦ becoming names type e | None ↦ kept names e ];
+      arguments = λ function es.
+          elim (signature_in tree function) [ Some known ↦ passed names known.params es | None ↦ es ];
+      returned = λ e. elim f.result [ Some type ↦ becoming names type e | None ↦ e ];
+    }
+
+-- the text without needless casts
+abbrev pub without_casts : Tree → Tree
+without_casts tree = text_by (writing tree) tree

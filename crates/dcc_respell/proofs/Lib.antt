@@ -5,3 +5,4 @@ pub mod Steps
 pub mod RunLaws
 pub mod Written
 pub mod Allowed
+pub mod Scopes

@@ -209,7 +209,7 @@ variables-same : (vs : List Variable) → AllZip VariableAlike vs vs
 variables-same [] = tt
 variables-same (v ∷ vs) = (record { name = refl; len = refl; class = refl; room = refl }, variables-same vs)
 
-globals-same : (gs : List Global) → AllZip GlobalAlike gs gs
+pub globals-same : (gs : List Global) → AllZip GlobalAlike gs gs
 globals-same [] = tt
 globals-same (g ∷ gs) = (record { name = refl; at = refl; len = refl; init = refl; room = refl }, globals-same gs)
 
@@ -223,7 +223,7 @@ module _ (writing : Function → Writing) (tree after : Tree) where
       (MeansAlike tree after own other (writing f) × KeepsAddresses (writing f) × (list_all (allows_stmt tree own) (stmts_in own.body) ≡ true))
       × MeanAlike functions (own.last + 1) (other.last + 1)
 
-  functions-alike : (functions : List Function) (at there : ℕ) → MeanAlike functions at there →
+  pub functions-alike : (functions : List Function) (at there : ℕ) → MeanAlike functions at there →
       AllZip (FunctionAlike tree after) (numbered_functions at functions) (numbered_functions there (map (function_by writing) functions))
   functions-alike [] at there mean = tt
   functions-alike (f ∷ functions) at there mean = (
