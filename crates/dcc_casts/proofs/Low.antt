@@ -1,5 +1,5 @@
 -- Low bits of values, and of what operators make of them.
-use Rattle.std.proofs.Common.{◌≡◌, ℕ, ◌+◌, ◌-◌, ◌*◌, ◌/◌, ◌%◌, ◌^◌, ◌<◌, ◌≤◌, Bool, true, false, true≢false, refl, sym, ap, ap₂, ◌∙◌, arith}
+use Rattle.std.proofs.Common.{◌≡◌, ℕ, ◌+◌, ◌-◌, ◌*◌, ◌%◌, ◌^◌, ◌<◌, ◌≤◌, Bool, true, false, true≢false, refl, sym, ap, ap₂, ◌∙◌, arith}
 use Rattle.std.specs.Prelude.{bit_and, bit_or, bit_xor, nat_le, ◌||◌, if◌then◌else◌}
 use Rattle.std.proofs.lemmas.Bool.Decides.{nat_tests}
 use Rattle.std.proofs.lemmas.Nat.{and_mod, or_mod, xor_mod, mul-mod, pow-add}
@@ -7,7 +7,7 @@ use Rattle.std.proofs.Math.Nat.{add-mod, mul-mod_left, mul_assoc, mod-mod}
 use Rattle.std.proofs.lemmas.Bool.{leb-true, leb-false}
 use Rattle.dcc_c.specs.declared.syntax.Base.{Base}
 use Rattle.dcc_c.specs.declared.syntax.Base.TheVariants.{Schar, Uchar, Int, Uint, Long, Ulong}
-use Rattle.dcc_c.specs.Types.{bits_of, extended_bits, wrapped_bits, is_negative, convert, number_of_type}
+use Rattle.dcc_c.specs.Types.{bits_of, extended_bits, wrapped_bits, is_negative, number_of_type}
 use Rattle.dcc_c.specs.Arithmetic.{negated, complement, difference, shifted_left}
 use Rattle.dcc_c.specs.Value.{Value}
 

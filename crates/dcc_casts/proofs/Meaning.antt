@@ -1,32 +1,27 @@
 -- A function means the same without needless casts, and may stand in its text.
-use Rattle.std.proofs.Common.{◌≡◌, ℕ, ◌≤◌, Bool, true, false, ◌&&◌, ◌||◌, not, List, [], ◌∷◌, ◌++◌, map, Option, Some, None, refl, sym, ap, ap₂, ◌∙◌, ◌%◌, ◌^◌, subst, arith}
-use Rattle.std.specs.Prelude.{is_some, if◌then◌else◌, option_map, option_and_then, nat_le}
+use Rattle.std.proofs.Common.{◌≡◌, ℕ, Bool, true, false, ◌&&◌, ◌||◌, List, [], ◌∷◌, ◌++◌, map, Option, Some, None, refl, sym, ap, ◌∙◌, ◌%◌, ◌^◌, subst}
+use Rattle.std.specs.Prelude.{if◌then◌else◌, option_map, option_and_then}
 use Rattle.std.specs.Bool.{beq}
-use Rattle.std.specs.List.{AllZip, list_all, list_any, flat_map}
-use Rattle.std.proofs.lemmas.Bool.{and_parts, and_from, or_left, leb-true}
-use Rattle.std.proofs.lemmas.List.Folds.{list_any-append}
+use Rattle.std.specs.List.{flat_map}
+use Rattle.std.proofs.lemmas.Bool.{and_parts}
 use Rattle.dcc_c.specs.declared.syntax.Base.{Base}
-use Rattle.dcc_c.specs.declared.syntax.Base.TheVariants.{Uint}
 use Rattle.dcc_c.specs.declared.syntax.CType.{CType}
 use Rattle.dcc_c.specs.declared.syntax.CUn.TheVariants.{Deref}
 use Rattle.dcc_c.specs.Token.{same_bytes}
-use Rattle.dcc_c.specs.Types.{bits_of, same_base, plain, number_of_type, extended_bits}
-use Rattle.dcc_c.specs.Tree.{Word, Expr, Number, Name, Unary, Binary, Conditional, Cast, Stmt, Assign, Call, Return, Lines, Function, Tree}
-use Rattle.dcc_c.specs.Dos.{Signature}
-use Rattle.dcc_c.specs.Parts.{parts_of, expr_if, exprs_of}
-use Rattle.dcc_c.specs.Placement.{is_address_of}
+use Rattle.dcc_c.specs.Types.{same_base, plain, number_of_type, extended_bits}
+use Rattle.dcc_c.specs.Tree.{Word, Expr, Name, Unary, Tree}
+use Rattle.dcc_c.specs.Parts.{parts_of}
 use Rattle.dcc_c.specs.Typing.{Declared, unary_type, declared_as, type_of_variable, place_type, type_of}
-use Rattle.dcc_c.specs.Rules.{declared_in, converts, fits, is_number, is_switch_value, fit_all, allows_stmt, signature_in}
-use Rattle.dcc_c.specs.Value.{Value, value, is_zero, converted, Outcome, Gives, Divides, Undefined, and_then, given, Storage, Unplaced, PlacedAt, Binding, declared_by, variable_in, Scope, value_of, Target, ToVariable, ToMemory, variable_target, pointed_target, target_of}
+use Rattle.dcc_c.specs.Rules.{declared_in, converts, fits, fit_all}
+use Rattle.dcc_c.specs.Value.{Value, converted, Outcome, Gives, Divides, Undefined, and_then, given, Storage, Unplaced, PlacedAt, Binding, declared_by, variable_in, Scope, value_of, Target, ToVariable, ToMemory, variable_target, pointed_target, target_of}
 use Rattle.dcc_c.specs.Run.{Frame, global_binding, arguments_of}
 use Rattle.dcc_progress.proofs.Declarations.{AreAs, Takes, takes-later, takes-first, takes-others, place-as}
 use Rattle.dcc_progress.proofs.Frames.{IsFrame, Lands, scope-as, arrays-placed}
 use Rattle.dcc_progress.proofs.Values.{Holds, has-type, typed-gives, place-gives}
-use Rattle.dcc_respell.specs.Respelled.{Both, SameBits, AllBits, TargetAlike, TakesAlike, CallsAlike, scope_in, InAllScopes, TestAlike, BecomesAlike, AssignAlike, ArgumentsAlike}
-use Rattle.dcc_respell.proofs.Scopes.{one-frame, one-scope}
-use Rattle.dcc_casts.specs.Casts.{room_of, kept, lowered, becoming, passed, chosen_by}
-use Rattle.dcc_casts.proofs.Low.{Count, sixteen, of_count}
-use Rattle.dcc_casts.proofs.Types.{plain-is, number-typed, operand-has, kept-typed}
+use Rattle.dcc_respell.specs.Respelled.{Both, AllBits, TargetAlike, TakesAlike, scope_in}
+use Rattle.dcc_casts.specs.Casts.{room_of, kept, lowered, becoming, passed}
+use Rattle.dcc_casts.proofs.Low.{Count, of_count}
+use Rattle.dcc_casts.proofs.Types.{plain-is, operand-has}
 use Rattle.dcc_casts.proofs.Values.{SameLow, count-of, both-then, kept-value, lowered-value}
 
 -- Evaluations that give one thing.

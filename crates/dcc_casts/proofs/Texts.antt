@@ -1,39 +1,36 @@
 -- A text without needless casts is the text otherwise written, and writable.
-use Rattle.std.proofs.Common.{◌≡◌, ℕ, ◌+◌, ◌≤◌, Bool, true, false, ◌&&◌, ◌||◌, not, List, [], ◌∷◌, ◌++◌, map, length, Option, Some, None, inl, inr, refl, sym, ap, ap₂, ◌∙◌, subst, arith}
+use Rattle.std.proofs.Common.{◌≡◌, ℕ, ◌+◌, ◌≤◌, Bool, true, false, ◌&&◌, ◌||◌, not, List, [], ◌∷◌, Option, Some, None, refl, sym, ap, ap₂, ◌∙◌, subst, arith}
 use Rattle.std.specs.Prelude.{if◌then◌else◌, option_map, nat_le}
-use Rattle.std.specs.List.{AllZip, list_all, list_any, flat_map}
+use Rattle.std.specs.List.{list_all, list_any, flat_map}
 use Rattle.std.proofs.lemmas.Bool.{and_parts, and_from, leb-true, le-leb}
 use Rattle.std.proofs.lemmas.List.Folds.{list_any-append}
 use Rattle.dcc_c.specs.declared.syntax.Base.TheVariants.{Uint}
 use Rattle.dcc_c.specs.declared.syntax.CType.{CType}
 use Rattle.dcc_c.specs.declared.syntax.CUn.TheVariants.{Deref}
-use Rattle.dcc_c.specs.Types.{bits_of, plain, promoted_type, same_type, number_of_type, extended_bits}
+use Rattle.dcc_c.specs.Types.{plain, promoted_type, same_type}
 use Rattle.dcc_c.specs.Tree.{Word, Expr, Name, Unary, Stmt, Assign, Call, If, While, DoWhile, Forever, Switch, Break, Continue, Goto, Label, Empty, Return, Function, Tree}
 use Rattle.dcc_c.specs.Dos.{Signature}
-use Rattle.dcc_c.specs.Parts.{stmts_in, parts_of, expr_if, exprs_of}
+use Rattle.dcc_c.specs.Parts.{parts_of, exprs_of}
 use Rattle.dcc_c.specs.Placement.{is_address_of}
 use Rattle.dcc_c.specs.Typing.{Declared, place_type, type_of}
 use Rattle.dcc_c.specs.Rules.{declared_in, converts, fits, is_number, is_switch_value, fit_all, result_fits, call_fits, allows_stmt, expr_depth, shallow_stmt, signature_in, IsAllowedFunction, AreAllowed, IsAllowed}
 use Rattle.dcc_c.specs.Rules as rules
 use Rattle.dcc_c.specs.Numbered.{rows, numbered_function, numbered_functions, numbered}
 use Rattle.dcc_c.specs.Written.{written_globals}
-use Rattle.dcc_c.specs.Value.{Value, is_zero, converted, Outcome, Gives, Scope, value_of, Target, target_of}
+use Rattle.dcc_c.specs.Value.{Value, is_zero, converted, Gives, Scope, value_of, Target, target_of}
 use Rattle.dcc_c.specs.Run.{Frame, arguments_of}
 use Rattle.dcc_c.proofs.Writable.{is_writable_expr, IsWritable}
 use Rattle.dcc_progress.proofs.Declarations.{Takes, takes-first, takes-others}
-use Rattle.dcc_progress.proofs.Frames.{IsFrame}
 use Rattle.dcc_progress.proofs.Values.{has-type}
-use Rattle.dcc_respell.specs.Respelled.{Both, AllBits, TargetAlike, TakesAlike, CallsAlike, scope_in, TestAlike, BecomesAlike, AssignAlike, ArgumentsAlike, IsRespelled}
-use Rattle.dcc_respell.specs.Writing.{Writing, stmt_by, function_by, text_by, MeansAlike, KeepsAddresses, MayStand}
+use Rattle.dcc_respell.specs.Respelled.{Both, AllBits, TargetAlike, TakesAlike, CallsAlike, scope_in, BecomesAlike, AssignAlike, ArgumentsAlike, IsRespelled}
+use Rattle.dcc_respell.specs.Writing.{Writing, stmt_by, function_by, MeansAlike, KeepsAddresses, MayStand}
 use Rattle.dcc_respell.proofs.Scopes.{one-frame, one-scope, numbered-signature, written-signature}
 use Rattle.dcc_respell.proofs.Written.{MeanAlike, functions-alike, globals-same}
 use Rattle.dcc_respell.proofs.Allowed.{AllMayStand, written-writable}
 use Rattle.dcc_casts.specs.Casts.{room_of, kept, lowered, becoming, passed, chosen_by, writing, without_casts}
-use Rattle.dcc_casts.proofs.Low.{sixteen}
 use Rattle.dcc_casts.proofs.Shapes.{kept-addresses, lowered-addresses, kept-written, lowered-written, place-written, kept-depth, lowered-depth}
 use Rattle.dcc_casts.proofs.Types.{plain-is, number-typed, kept-typed, lowered-typed}
-use Rattle.dcc_casts.proofs.Values.{SameLow}
-use Rattle.dcc_casts.proofs.Meaning.{free-from, kept-is, lowered-is, equal-both, becoming-both, place-is, places-alike, assigned-both, passed-both}
+use Rattle.dcc_casts.proofs.Meaning.{free-from, kept-is, equal-both, becoming-both, places-alike, assigned-both, passed-both}
 
 some-same : {A : Type 0} {a b : A} → Some a ≡ Some b → a ≡ b
 some-same e = cc
@@ -96,7 +93,7 @@ module _ (plain_tree : Tree) (own : Function) (at there : ℕ) where
         Both (λ v w. (target to : Target) → target_of here place ≡ Gives target → target_of here (kept names place) ≡ Gives to → TakesAlike frame.variables frame.variables target to v w) (value_of here e) (value_of here (becoming names type e))
     value-alike place e type has fit place_takes takes =
         subst (λ (h : Function). place_type (declared_in tree h) place ≡ Some type → fits (declared_in tree h) type e ≡ true → Takes h.body (parts_of place) → Takes h.body (parts_of e) →
-            Both (λ v w. (target to : Target) → target_of here place ≡ Gives target → target_of here (kept (declared_in tree h) place) ≡ Gives to → TakesAlike frame.variables frame.variables target to v w) (value_of here e) (value_of here (becoming (declared_in tree h) type e))) calls.function
+        Both (λ v w. (target to : Target) → target_of here place ≡ Gives target → target_of here (kept (declared_in tree h) place) ≡ Gives to → TakesAlike frame.variables frame.variables target to v w) (value_of here e) (value_of here (becoming (declared_in tree h) type e))) calls.function
         (λ has fit place_takes takes. assigned-both tree frame calls.is memory place e type place_takes takes has fit) has fit place_takes takes
 
     passed-alike : (types : List CType) (es : List Expr) → fit_all names types es ≡ true → Takes f.body (flat_map parts_of es) → Both AllBits (arguments_of here types es) (arguments_of here types (passed names types es))
@@ -144,11 +141,11 @@ module _ (plain_tree : Tree) (own : Function) (at there : ℕ) where
             in-both frame other memory calls (λ sc. Both TargetAlike (target_of (scope_in tree frame memory) place) (target_of sc (kept names place))) (place-alike frame other memory calls place has.0 has.1 place_takes);
         values = λ frame other memory calls.
             subst (λ o. Both (λ v w. (target to : Target) → target_of (scope_in tree frame memory) place ≡ Gives target → target_of (scope_in after other memory) (kept names place) ≡ Gives to → TakesAlike frame.variables other.variables target to v w)
-                (value_of (scope_in tree frame memory) e) (value_of (scope_in after other memory) (elim o [ Some type ↦ becoming names type e | None ↦ kept names e ]))) (sym has.1)
+            (value_of (scope_in tree frame memory) e) (value_of (scope_in after other memory) (elim o [ Some type ↦ becoming names type e | None ↦ kept names e ]))) (sym has.1)
             (subst (λ vs. Both (λ v w. (target to : Target) → target_of (scope_in tree frame memory) place ≡ Gives target → target_of (scope_in after other memory) (kept names place) ≡ Gives to → TakesAlike frame.variables vs target to v w)
-                (value_of (scope_in tree frame memory) e) (value_of (scope_in after other memory) (becoming names has.0 e))) (sym (one-frame tree after f g frame other refl calls))
+            (value_of (scope_in tree frame memory) e) (value_of (scope_in after other memory) (becoming names has.0 e))) (sym (one-frame tree after f g frame other refl calls))
             (in-both frame other memory calls (λ sc. Both (λ v w. (target to : Target) → target_of (scope_in tree frame memory) place ≡ Gives target → target_of sc (kept names place) ≡ Gives to → TakesAlike frame.variables frame.variables target to v w)
-                (value_of (scope_in tree frame memory) e) (value_of sc (becoming names has.0 e)))
+            (value_of (scope_in tree frame memory) e) (value_of sc (becoming names has.0 e)))
             (value-alike frame other memory calls place e has.0 has.1 fit place_takes e_takes)));
       }
 

@@ -1,7 +1,6 @@
 -- Expressions have types without needless casts: their own, or another number type.
-use Rattle.std.proofs.Common.{◌≡◌, ℕ, Bool, true, false, ◌&&◌, ◌||◌, not, List, Option, Some, None, inl, inr, refl, sym, ap, ap₂, ◌∙◌, subst, true≢false}
+use Rattle.std.proofs.Common.{◌≡◌, ℕ, Bool, true, false, ◌&&◌, ◌||◌, not, List, Option, Some, None, refl, ap, ap₂, ◌∙◌}
 use Rattle.std.specs.Prelude.{nat_le, if◌then◌else◌, option_map, option_and_then}
-use Rattle.std.proofs.lemmas.Bool.{and_parts, cases_Bool}
 use Rattle.dcc_c.specs.declared.syntax.Base.{Base}
 use Rattle.dcc_c.specs.declared.syntax.Base.TheVariants.{Int}
 use Rattle.dcc_c.specs.declared.syntax.CType.{CType}
@@ -9,11 +8,11 @@ use Rattle.dcc_c.specs.declared.syntax.CUn.{CUn}
 use Rattle.dcc_c.specs.declared.syntax.CUn.TheVariants.{Minus, Complement, Not, Deref, AddressOf}
 use Rattle.dcc_c.specs.declared.syntax.CBin.{CBin}
 use Rattle.dcc_c.specs.Types.{bits_of, plain, promoted_type, common_type}
-use Rattle.dcc_c.specs.Tree.{Word, Expr, Number, Name, Unary, Binary, Conditional, Cast}
-use Rattle.dcc_c.specs.Typing.{Declared, unary_type, unary_number_type, number_type, numbers_type, binary_type, both_types, both_arms_type, arms_type, tested_type, is_comparison, is_sum, type_of}
+use Rattle.dcc_c.specs.Tree.{Expr, Number, Name, Unary, Binary, Conditional, Cast}
+use Rattle.dcc_c.specs.Typing.{Declared, unary_type, unary_number_type, numbers_type, binary_type, both_types, both_arms_type, arms_type, tested_type, is_comparison, is_sum, type_of}
 use Rattle.dcc_c.specs.Types.{same_type}
 use Rattle.dcc_c.specs.Rules.{is_number}
-use Rattle.dcc_casts.specs.Casts.{carries, carries_one, is_left_shift, room_of, are_numbers, is_needless, kept, lowered}
+use Rattle.dcc_casts.specs.Casts.{carries, carries_one, is_left_shift, room_of, are_numbers, kept, lowered}
 
 -- Options.
 

@@ -1,8 +1,7 @@
 -- Without needless casts expressions have their values, or values of the same low bits.
-use Rattle.std.proofs.Common.{◌≡◌, ℕ, ◌+◌, ◌-◌, ◌*◌, ◌%◌, ◌^◌, ◌≤◌, Bool, true, false, ◌&&◌, ◌||◌, not, List, [], ◌∷◌, ◌++◌, map, Option, Some, None, refl, sym, ap, ap₂, ◌∙◌, subst, true≢false}
+use Rattle.std.proofs.Common.{◌≡◌, ℕ, ◌+◌, ◌-◌, ◌*◌, ◌%◌, ◌^◌, ◌≤◌, Bool, true, false, ◌&&◌, ◌||◌, not, List, ◌++◌, map, Some, refl, sym, ap, ap₂, ◌∙◌, subst}
 use Rattle.std.specs.Prelude.{nat_le, bit_and, bit_or, bit_xor, if◌then◌else◌}
-use Rattle.std.specs.List.{list_any}
-use Rattle.std.proofs.lemmas.Bool.{and_parts, leb-true, or_left, or_right}
+use Rattle.std.proofs.lemmas.Bool.{leb-true, or_left, or_right}
 use Rattle.dcc_c.specs.declared.syntax.Base.{Base}
 use Rattle.dcc_c.specs.declared.syntax.Base.TheVariants.{Schar, Uchar, Int, Uint, Long, Ulong}
 use Rattle.dcc_c.specs.declared.syntax.CType.{CType}
@@ -10,9 +9,9 @@ use Rattle.dcc_c.specs.declared.syntax.CUn.{CUn}
 use Rattle.dcc_c.specs.declared.syntax.CUn.TheVariants.{Minus, Complement, Not, Deref, AddressOf}
 use Rattle.dcc_c.specs.declared.syntax.CBin.{CBin}
 use Rattle.dcc_c.specs.declared.syntax.CBin.TheVariants.{OrOr, AndAnd, Or, Xor, And, Eq, Ne, Lt, Le, Gt, Ge, Shl, Shr, Add, Sub, Mul, Div, Rem}
-use Rattle.dcc_c.specs.Types.{bits_of, promoted_type, common_type, extended_bits, wrapped_bits, convert, plain, number_of_type}
-use Rattle.dcc_c.specs.Arithmetic.{negated, complement, difference, shifted_left}
-use Rattle.dcc_c.specs.Tree.{Word, Expr, Number, Name, Unary, Binary, Conditional, Cast, Lines}
+use Rattle.dcc_c.specs.Types.{bits_of, promoted_type, common_type, extended_bits, convert, plain, number_of_type}
+use Rattle.dcc_c.specs.Arithmetic.{shifted_left}
+use Rattle.dcc_c.specs.Tree.{Expr, Number, Name, Unary, Binary, Conditional, Cast, Lines}
 use Rattle.dcc_c.specs.Parts.{parts_of}
 use Rattle.dcc_c.specs.Placement.{is_address_of}
 use Rattle.dcc_c.specs.Typing.{Declared, unary_type, both_arms_type, type_of}
@@ -22,7 +21,7 @@ use Rattle.dcc_c.proofs.TypingLaws.{IsOf, ArePlaced, typed-has_value}
 use Rattle.dcc_progress.proofs.Bodies.{any_left, any_right}
 use Rattle.dcc_progress.proofs.Declarations.{AreAs, Takes, takes-later, typed-as}
 use Rattle.dcc_respell.specs.Respelled.{Both}
-use Rattle.dcc_casts.specs.Casts.{carries, carries_one, is_left_shift, room_of, are_numbers, is_needless, kept, lowered}
+use Rattle.dcc_casts.specs.Casts.{carries, carries_one, is_left_shift, room_of, kept, lowered}
 use Rattle.dcc_casts.proofs.Low.{Count, eight, sixteen, thirty_two, of_count, low, is_wide, is_small, cut-low, within, sum-low, product-low, difference-low, and-low, or-low, xor-low, negated-low, complement-low, shift_low, shift-low}
 use Rattle.dcc_casts.proofs.Shapes.{kept-addresses, lowered-addresses}
 use Rattle.dcc_casts.proofs.Types.{number-typed, tested-number, plain-is, pointer-kept, kept-typed, lowered-typed, operand-has, both-have, three-have, cast-has}

@@ -1,13 +1,12 @@
 -- A text without casts that nothing needs: where just the low bits of an expression count, the casts go that keep them.
-use Rattle.std.specs.Prelude.{ℕ, nat_le, Bool, true, false, ◌&&◌, ◌||◌, not, if◌then◌else◌, List, [], ◌∷◌, Option, Some, None}
-use Rattle.dcc_c.specs.declared.syntax.Base.{Base}
+use Rattle.std.specs.Prelude.{ℕ, nat_le, Bool, true, false, ◌&&◌, ◌||◌, not, if◌then◌else◌, List, ◌∷◌, Some, None}
 use Rattle.dcc_c.specs.declared.syntax.CType.{CType}
 use Rattle.dcc_c.specs.declared.syntax.CUn.{CUn}
-use Rattle.dcc_c.specs.declared.syntax.CUn.TheVariants.{Minus, Complement, AddressOf}
+use Rattle.dcc_c.specs.declared.syntax.CUn.TheVariants.{Minus, Complement}
 use Rattle.dcc_c.specs.declared.syntax.CBin.{CBin}
 use Rattle.dcc_c.specs.declared.syntax.CBin.TheVariants.{Or, Xor, And, Add, Sub, Mul, Shl}
 use Rattle.dcc_c.specs.Types.{bits_of, number_of_type}
-use Rattle.dcc_c.specs.Tree.{Word, Expr, Number, Name, Unary, Binary, Conditional, Cast, Function, Tree}
+use Rattle.dcc_c.specs.Tree.{Expr, Number, Name, Unary, Binary, Conditional, Cast, Function, Tree}
 use Rattle.dcc_c.specs.Typing.{Declared, place_type}
 use Rattle.dcc_c.specs.Rules.{declared_in, is_number, is_switch_value, signature_in}
 use Rattle.dcc_respell.specs.Writing.{Writing, text_by}

@@ -1,2 +1,9 @@
-//! A text without casts that nothing needs.
+//! A text without casts that nothing needs: its definition, and that it means what the text means.
 #![tactic(auto)]
+
+ghost use Rattle.dcc_casts.specs.Laws.{NeedlessCastsMayGo};
+
+/// Needless casts may go from a text. The function states this law by its contract, and does nothing.
+pub fn needless_casts_may_go()
+    ensures { NeedlessCastsMayGo }
+{}

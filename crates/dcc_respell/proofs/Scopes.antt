@@ -4,16 +4,16 @@ use Rattle.std.specs.Prelude.{option_map, if◌then◌else◌}
 use Rattle.std.specs.List.{AllZip}
 use Rattle.dcc_c.specs.declared.syntax.CType.{CType}
 use Rattle.dcc_c.specs.Token.{same_bytes}
-use Rattle.dcc_c.specs.Tree.{Word, Lines, Global, Variable, Function, Tree}
+use Rattle.dcc_c.specs.Tree.{Word, Lines, Global, Function, Tree}
 use Rattle.dcc_c.specs.Dos.{dos_of, dos_signature}
 use Rattle.dcc_c.specs.Typing.{Declared}
-use Rattle.dcc_c.specs.Value.{Storage, Binding, declared_by, Scope}
+use Rattle.dcc_c.specs.Value.{Storage, Binding, declared_by}
 use Rattle.dcc_c.specs.Rules.{signature_of, signature_in}
 use Rattle.dcc_c.specs.Run.{Frame, global_binding, function_in}
 use Rattle.dcc_c.specs.Written.{written_globals}
 use Rattle.dcc_c.specs.Numbered.{rows, numbered_function, numbered_functions, numbered}
 use Rattle.dcc_progress.proofs.Declarations.{AreAs}
-use Rattle.dcc_progress.proofs.Frames.{IsFrame, own_declared}
+use Rattle.dcc_progress.proofs.Frames.{own_declared}
 use Rattle.dcc_respell.specs.Respelled.{BindingAlike, CallsAlike, scope_in}
 use Rattle.dcc_respell.specs.Writing.{Writing, function_by, text_by}
 
