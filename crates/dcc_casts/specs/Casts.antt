@@ -2,7 +2,7 @@
 use Rattle.std.specs.Prelude.{ℕ, nat_le, Bool, true, false, ◌&&◌, ◌||◌, not, if◌then◌else◌, List, ◌∷◌, Some, None}
 use Rattle.dcc_c.specs.declared.syntax.CType.{CType}
 use Rattle.dcc_c.specs.declared.syntax.CUn.{CUn}
-use Rattle.dcc_c.specs.declared.syntax.CUn.TheVariants.{Minus, Complement}
+use Rattle.dcc_c.specs.declared.syntax.CUn.TheVariants.{Minus, Complement, AddressOf}
 use Rattle.dcc_c.specs.declared.syntax.CBin.{CBin}
 use Rattle.dcc_c.specs.declared.syntax.CBin.TheVariants.{Or, Xor, And, Add, Sub, Mul, Shl}
 use Rattle.dcc_c.specs.Types.{bits_of, number_of_type}
@@ -33,6 +33,10 @@ is_left_shift operator = false
 -- the bits of a type
 abbrev pub room_of : CType → ℕ
 room_of type = bits_of (number_of_type type)
+
+-- the address of the expression
+abbrev pub address_of : Expr → Expr
+address_of e = Unary AddressOf e
 
 -- both expressions are numbers
 abbrev pub are_numbers : List Declared → Expr → Expr → Bool
