@@ -55,7 +55,7 @@ module _ (tree : Tree) (known : (g : Function) → IsOneOf g tree.functions → 
       at-step rest ways s runs_on frame calls is (λ at stuck_there. way at (past-arms s.frame.function rest at stuck_there))
 
   -- a step of a run that goes on
-  sound-step : (s : State) → s.end ≡ Running → IsSound tree s → IsStep tree (IsStuckAt s.frame.function s.rest) (step tree s)
+  pub sound-step : (s : State) → s.end ≡ Running → IsSound tree s → IsStep tree (IsStuckAt s.frame.function s.rest) (step tree s)
   sound-step s runs_on is =
       subst (λ e. IsStep tree (IsStuckAt s.frame.function s.rest) (if is_over e then s else step_at tree s.rest s)) (sym runs_on) (at-step s.rest (IsStuckAt s.frame.function s.rest) s runs_on is.frame is.calls is.rest (λ at there. there))
 
@@ -147,7 +147,7 @@ module _ (tree : Tree) where
       ap (λ e. (if is_over e then s else step_at tree s.rest s).end) runs_on ∙ place-stuck s at there
 
 -- The first state is sound.
-first-sound : (tree : Tree) (start : Function) (fill : ℕ) (input : List ℕ) → IsKnown tree start → start.params ≡ [] → is_start start ≡ true → IsSound tree (first_state tree start fill input)
+pub first-sound : (tree : Tree) (start : Function) (fill : ℕ) (input : List ℕ) → IsKnown tree start → start.params ≡ [] → is_start start ≡ true → IsSound tree (first_state tree start fill input)
 first-sound tree start fill input known none named = record {
   frame = frame-begins tree start (first_base tree.hi) fill [] known (subst (λ params. SameLength {B = Value} params []) (sym none) tt);
   rest = (λ stmt at stands. stands, known.formed.jumps, refl);

@@ -1,0 +1,6 @@
+pub mod Low
+pub mod Shapes
+pub mod Types
+pub mod Values
+pub mod Meaning
+pub mod Texts

@@ -1,0 +1,3 @@
+pub mod Casts
+pub mod Laws
+pub mod Views

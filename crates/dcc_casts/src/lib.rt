@@ -1,0 +1,14 @@
+//! A text without casts that nothing needs: its definition, and that it means what the text means.
+#![tactic(auto)]
+
+mod expression;
+mod names;
+
+pub use names::Names;
+
+ghost use Rattle.dcc_casts.specs.Laws.{NeedlessCastsMayGo};
+
+/// Needless casts may go from a text. The function states this law by its contract, and does nothing.
+pub fn needless_casts_may_go()
+    ensures { NeedlessCastsMayGo }
+{}
