@@ -1,3 +1,6 @@
+pub mod Faults
+pub mod Growing
 pub mod NameLaws
-pub mod Reread
 pub mod Reading
+pub mod Reread
+pub mod Telling

@@ -5,10 +5,6 @@ use Rattle.dcc_c.specs.Token.{is_digit, is_word}
 use Rattle.dcc_lex.proofs.Words.{run_is_word}
 use Rattle.dcc_sigs.specs.Signature.{IsName}
 
-pub is-true : (b : Bool) → not b ≡ false → IsTrue b
-is-true true h = tt
-is-true false h = let f : ⊥ = cc in absurd f
-
 first-of : (name : List ℕ) → get_or (take 4 name) 0 0 ≡ get_or name 0 0
 first-of [] = refl
 first-of (b ∷ name) = refl

@@ -2,7 +2,7 @@
 use Rattle.std.proofs.Common.{◌≡◌, ◌≢◌, ◌<◌, ◌≤◌, ℕ, zero, suc, ◌+◌, Bool, true, false, List, [], ◌∷◌, ◌++◌, length, map, take, get_or, All, AllPairs, refl, sym, ap, ◌∙◌, subst, arith, ⊎_elim, inl, inr, ◌⊎◌, length-append}
 use Rattle.std.specs.Prelude.{◌||◌, string_bytes}
 use Rattle.std.proofs.lemmas.Bool.{or_cases}
-use Rattle.std.proofs.lemmas.List.{get_or-take, take_more}
+use Rattle.std.proofs.lemmas.List.{get_or-take, take_more, length-map, length-take-le}
 use Rattle.std.proofs.lemmas.List.Elements.{All-head, All-tail, All-nil, All-push}
 use Rattle.std.proofs.lemmas.List.Quantifiers.{all_pairs_push}
 use Rattle.dcc_c.specs.Grammar.{is_among}
@@ -65,14 +65,14 @@ name-stands (sig ∷ sigs) are name h =
 -- what is no name of the signatures differs from each
 name-differs : (sigs : List Sig) (name : Word) → is_among (names_of sigs) name ≡ false → (k : ℕ) (d : Sig) → k < length sigs
     → string_bytes (get_or sigs k d).name ≢ name
-name-differs [] name no k d l e = omega arith
-name-differs (sig ∷ sigs) name no zero d l e =
+name-differs [] name new k d l e = omega arith
+name-differs (sig ∷ sigs) name new zero d l e =
     let same : same_bytes name (string_bytes sig.name) ≡ true =
     subst (λ (w : Word). same_bytes name w ≡ true) (sym e) (same_bytes-refl name) in
     let yes : is_among (names_of (sig ∷ sigs)) name ≡ true = ap (λ b. b || is_among (names_of sigs) name) same in
-    let f : true ≡ false = sym yes ∙ no in absurd (let g : ⊥ = cc in g)
-name-differs (sig ∷ sigs) name no (suc k) d l e =
-    name-differs sigs name (second (same_bytes name (string_bytes sig.name)) (is_among (names_of sigs) name) no) k d (omega arith) e
+    let f : true ≡ false = sym yes ∙ new in absurd (let g : ⊥ = cc in g)
+name-differs (sig ∷ sigs) name new (suc k) d l e =
+    name-differs sigs name (second (same_bytes name (string_bytes sig.name)) (is_among (names_of sigs) name) new) k d (omega arith) e
   where
     second : (a b : Bool) → a || b ≡ false → b ≡ false
     second true b h = absurd (let f : ⊥ = cc in f)
@@ -83,8 +83,7 @@ name-differs (sig ∷ sigs) name no (suc k) d l e =
 count : (pieces : List (List ℕ)) (place : ℕ) (sigs : List Sig) → AreBegun pieces place sigs → length sigs ≡ place
 count pieces place sigs h =
     let within = h.within in
-    let lines : length (map sig_line sigs) ≡ length (take place pieces) = ap length h.lines in
-    grind (arith, lines, within)
+    sym (length-map sigs sig_line) ∙ ap length h.lines ∙ length-take-le place pieces (omega (arith, within))
 
 same-line : (pieces : List (List ℕ)) (place : ℕ) (sigs : List Sig) → AreBegun pieces place sigs → (k : ℕ) → k < place
     → get_or (map sig_line sigs) k [] ≡ piece_at pieces k
@@ -129,11 +128,11 @@ offends-again pieces place sigs name h more is old =
     again l (record { ended = omega arith; line = line }) (record { ended = more; line = is })
 
 -- none of the lines so far offends
-none-before : (pieces : List (List ℕ)) (place : ℕ) (sigs : List Sig) → AreBegun pieces place sigs
+pub none-before : (pieces : List (List ℕ)) (place : ℕ) (sigs : List Sig) → AreBegun pieces place sigs
     → (k : ℕ) (kind : SigKind) → k < place → ¬ Offends pieces k kind
-none-before pieces place sigs h k Form l (no_form more no) =
+none-before pieces place sigs h k Form l (no_form more never) =
     let size = count pieces place sigs h in
-    no (subst HasForm (same-line pieces place sigs h k l) (lines-formed sigs h.each k (omega (arith, size))))
+    never (subst HasForm (same-line pieces place sigs h k l) (lines-formed sigs h.each k (omega (arith, size))))
 none-before pieces place sigs h k Form l (unended last some) =
     let within = h.within in omega arith
 none-before pieces place sigs h k Twice l (again {earlier = j} {name = name} less first second) = by sigs refl

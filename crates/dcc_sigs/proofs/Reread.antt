@@ -1,6 +1,6 @@
 -- A line's name and parts are read back from it.
 use Rattle.std.proofs.Common.{◌≡◌, ◌<◌, ◌≤◌, ℕ, zero, suc, ◌+◌, ◌-◌, ◌*◌, ◌/◌, ◌%◌, Bool, true, false, List, [], ◌∷◌, ◌++◌, length, take, drop, All, refl, sym, ap, ◌∙◌, subst, arith, Option, Some, None}
-use Rattle.std.specs.Prelude.{not, cond, ◌==◌}
+use Rattle.std.specs.Prelude.{not, cond, ◌==◌, if◌then◌else◌}
 use Rattle.std.specs.Global.{Vec}
 use Rattle.std.specs.Fmt.{digit_glyph}
 use Rattle.std.specs.List.{list_all}
@@ -8,6 +8,7 @@ use Rattle.std.proofs.lemmas.Bool.{and_parts, eqb-true}
 use Rattle.std.proofs.lemmas.Bool.Decides.{nat_tests}
 use Rattle.std.proofs.lemmas.List.Elements.{All-tail, All-head}
 use Rattle.dcc_c.specs.Token.{is_word_byte}
+use Rattle.dcc_reread.specs.Reading.{digit_value}
 use Rattle.dcc_reread.proofs.ReadBack.{byte-back, take-all}
 use Rattle.dcc_sigs.specs.declared.line.Line.{Line}
 use Rattle.dcc_sigs.specs.Signature.{part_text, parts_text, line_of, IsName, IsPart, AreParts, IsSignature, IsLineOf, HasForm}
@@ -48,7 +49,10 @@ digit-no_mark d = grind (arith, nat_tests)
 part-back : (b : ℕ) → b < 256 → part_of (digit_glyph true (b / 16 % 16)) (digit_glyph true (b % 16)) ≡ Some b
 part-back b small =
     let e : b % 256 ≡ b = omega arith in
-    ap (λ t. cond t None (Some _)) (digit-no_mark (b / 16 % 16)) ∙ ap (λ n. Some n) (byte-back b ∙ e)
+    let value : ℕ = digit_value (digit_glyph true (b / 16 % 16)) * 16 + digit_value (digit_glyph true (b % 16)) in
+    let read : (if digit_glyph true (b / 16 % 16) == 63 then None else Some value) ≡ Some value =
+    ap (λ t. if t then None else Some value) (digit-no_mark (b / 16 % 16)) in
+    read ∙ ap (λ n. Some n) (byte-back b ∙ e)
 
 both : {a b : Option ℕ} {xs ys : List (Option ℕ)} → a ≡ b → xs ≡ ys → a ∷ xs ≡ b ∷ ys
 both p q = cc
@@ -110,10 +114,10 @@ other-text text found are other parts h =
     other (h.text_is ∙ ap parts_text (sym (are ∙ read-parts text parts h)))
 
 pub no-name : (text : List ℕ) → ¬ IsName (take (name_size text) text) → ¬ HasForm text
-no-name text no h = no (subst IsName (sym (name-back text h.name h.of_name)) h.of_name.signature.is_name)
+no-name text never h = never (subst IsName (sym (name-back text h.name h.of_name)) h.of_name.signature.is_name)
 
 pub no-line : (text : List ℕ) → ((parts : List (Option ℕ)) → ¬ IsTextOf (drop (name_size text) text) parts) → ¬ HasForm text
-no-line text no h = no h.of_name.parts (record {
+no-line text never h = never h.of_name.parts (record {
   may_be = h.of_name.signature.are_parts;
   text_is = rest-back text h.name h.of_name;
 })
@@ -127,3 +131,12 @@ line-told text name parts is same h = (
   ∙ ap (λ (l : List ℕ). l ++ drop (name_size text) text) (sym same)
   ∙ ap (λ (l : List ℕ). name ++ l) h.text_is,
 )
+
+-- Tests --------------------------------------------------------------------------------------
+
+pub none-is_empty : {X : Type 0} (xs : List X) (b : Bool) → b ≡ (length xs == 0) → b ≡ true → 0 < length xs → ⊥
+none-is_empty [] b e h some = omega arith
+none-is_empty (x ∷ xs) b e h some = let f : true ≡ false = sym h ∙ e in absurd (let g : ⊥ = cc in g)
+
+pub never-true : (b : Bool) → b ≡ false → b ≡ true → ⊥
+never-true b f t = let same : true ≡ false = sym t ∙ f in absurd (let g : ⊥ = cc in g)

@@ -1,5 +1,5 @@
 -- Which procedures of a program signatures tell.
-use Rattle.std.specs.Prelude.{◌≡◌, ℕ, ◌==◌, Bool, true, false, ◌&&◌, List, [], ◌∷◌, map, drop, filter, count_by}
+use Rattle.std.specs.Prelude.{ℕ, ◌==◌, Bool, true, false, ◌&&◌, if◌then◌else◌, List, [], ◌∷◌, map, drop, count_by}
 use Rattle.std.specs.Prelude.{Option, Some, None, string_bytes}
 use Rattle.std.specs.List.{flat_map}
 use Rattle.dcc_machine.specs.declared.image.Image.{Image}
@@ -8,7 +8,7 @@ use Rattle.dcc_prog.specs.declared.procedure.Proc.{Proc}
 use Rattle.dcc_prog.specs.Trail.{code_within}
 use Rattle.dcc_c.specs.Tree.{Word}
 use Rattle.dcc_sigs.specs.declared.signature.Sig.{Sig}
-use Rattle.dcc_sigs.specs.declared.recognise.Recognised.{Recognised}
+use Rattle.dcc_sigs.specs.declared.recognised.Recognised.{Recognised}
 
 -- Matches ------------------------------------------------------------------------------------
 
@@ -44,9 +44,17 @@ tells code entries sigs entry sig =
     (count_by (matches_at code entry) sigs == 1)
     && (matches_at code entry sig && (count_by (λ other. matches_at code other sig) entries == 1))
 
+-- the procedure with the entry, where the signature tells it
+abbrev pub told_if : List ℕ → List ℕ → List Sig → ℕ → Sig → List Told
+told_if code entries sigs entry sig = if tells code entries sigs entry sig then told entry sig ∷ [] else []
+
+-- the procedure with the entry, where one of the signatures tells it
+abbrev pub told_at : List ℕ → List ℕ → List Sig → ℕ → List Told
+told_at code entries sigs entry = flat_map (told_if code entries sigs entry) sigs
+
 -- the procedures that signatures tell, in the order of their entries
 abbrev pub told_in : List ℕ → List ℕ → List Sig → List Told
-told_in code entries sigs = flat_map (λ entry. map (told entry) (filter (tells code entries sigs entry) sigs)) entries
+told_in code entries sigs = flat_map (told_at code entries sigs) entries
 
 -- the entries of the procedures but the entry procedure
 abbrev pub entries_of : List Proc → List ℕ

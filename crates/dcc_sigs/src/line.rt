@@ -83,12 +83,13 @@ fn is_name(bytes: &[u8]) -> bool
 fn name_in(bytes: &[u8]) -> Option<&str>
     ensures { MatchOption result (¬ IsName bytes.now) (λ name. IsName bytes.now × (name.now ≡ bytes.now)) }
 {
-    if !is_name(bytes) {
-        return None;
-    }
-    match str::from_utf8(bytes) {
-        Ok(name) => Some(name),
-        Err(_) => unreachable!(),
+    if is_name(bytes) {
+        match str::from_utf8(bytes) {
+            Ok(name) => Some(name),
+            Err(_) => unreachable!(),
+        }
+    } else {
+        None
     }
 }
 

@@ -52,11 +52,12 @@ impl<'a> Begun<'a> {
         let Some(line) = line_in(alloc, text)? else {
             return Ok(Some(SigKind::Form));
         };
-        if !add_new(&mut self.names, line.name)? {
-            return Ok(Some(SigKind::Twice));
+        if add_new(&mut self.names, line.name)? {
+            self.sigs.push(sig_of(alloc, line)?)?;
+            Ok(None)
+        } else {
+            Ok(Some(SigKind::Twice))
         }
-        self.sigs.push(sig_of(alloc, line)?)?;
-        Ok(None)
     }
 }
 
