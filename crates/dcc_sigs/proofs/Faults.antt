@@ -89,13 +89,12 @@ one-place : (pieces : List (List ℕ)) (p q : ℕ) (kind other : SigKind) → Of
 one-place pieces p q kind other a b none before =
     ⊎_elim (λ less. absurd (before p kind less a))
     (λ le. ⊎_elim (λ more. absurd (none q other more b))
-      (λ ge.
-        let same : p ≡ q = omega (arith, le, ge) in
-        (
-          ap (λ n. n + 1) same,
-          one-kind pieces q kind other (subst (λ n. Offends pieces n kind) same a) b,
-        ))
-      (cases_lt q p))
+    (λ ge.
+    let same : p ≡ q = omega (arith, le, ge) in (
+      ap (λ n. n + 1) same,
+      one-kind pieces q kind other (subst (λ n. Offends pieces n kind) same a) b,
+    ))
+    (cases_lt q p))
     (cases_lt p q)
 
 pub one-fault : FaultIsUnique

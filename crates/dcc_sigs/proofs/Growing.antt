@@ -81,9 +81,11 @@ grown pieces place begun text line is_new sig sigs names h more is told e fresh 
     signature : IsSig sig
     signature = subst (λ (n : Word). IsSignature n sig.bytes.items) (sym same.0)
         (subst (λ (v : Vec (Option ℕ)). IsSignature line.name.now v.items) (sym same.1) told.signature)
+
     line-is : piece_at pieces place ≡ sig_line sig
     line-is = is ∙ told.text_is ∙ ap (λ (n : Word). line_of n line.parts.items) (sym same.0)
         ∙ ap (λ (v : Vec (Option ℕ)). line_of (string_bytes sig.name) v.items) (sym same.1)
+
     unknown : is_among (names_of begun.sigs.items) (string_bytes sig.name) ≡ false
     unknown = ap (λ (n : Word). is_among (names_of begun.sigs.items) n) same.0 ∙ sym (h.names line.name.now)
         ∙ new is_new (holds begun.names line.name.now) e fresh

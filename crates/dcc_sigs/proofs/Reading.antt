@@ -57,9 +57,9 @@ name-stands (sig ∷ sigs) are name h =
           (line-of sig (All-head IsSig sig sigs are));
     })
     (λ other.
-      let rest = name-stands sigs (All-tail IsSig sig sigs are) name other in
-      let fits = rest.within in
-      record { place = suc rest.place; within = omega arith; line = rest.line })
+    let rest = name-stands sigs (All-tail IsSig sig sigs are) name other in
+    let fits = rest.within in
+    record { place = suc rest.place; within = omega arith; line = rest.line })
     (or_cases (same_bytes name (string_bytes sig.name)) (is_among (names_of sigs) name) h)
 
 -- what is no name of the signatures differs from each
@@ -139,6 +139,7 @@ none-before pieces place sigs h k Twice l (again {earlier = j} {name = name} les
   where
     size : length sigs ≡ place
     size = count pieces place sigs h
+
     by : (others : List Sig) → others ≡ sigs → ⊥
     by [] e = let none : length sigs ≡ 0 = ap length (sym e) in omega (arith, size, none)
     by (d ∷ others) e =

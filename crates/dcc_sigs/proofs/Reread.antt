@@ -128,8 +128,8 @@ pub line-told : (text name : List ℕ) (parts : List (Option ℕ)) → IsName (t
 line-told text name parts is same h = (
   record { is_name = subst IsName (sym same) is; are_parts = h.may_be },
   sym (take-drop (name_size text) text)
-  ∙ ap (λ (l : List ℕ). l ++ drop (name_size text) text) (sym same)
-  ∙ ap (λ (l : List ℕ). name ++ l) h.text_is,
+      ∙ ap (λ (l : List ℕ). l ++ drop (name_size text) text) (sym same)
+      ∙ ap (λ (l : List ℕ). name ++ l) h.text_is,
 )
 
 -- Tests --------------------------------------------------------------------------------------

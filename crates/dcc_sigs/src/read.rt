@@ -1,7 +1,6 @@
 //! Signatures read from a file.
 
 ghost use Rattle.std.specs.Prelude.{◌≡◌, ◌<◌, ◌≤◌, ◌-◌, ◌^◌, ℕ, List, ◌+◌, ◌||◌, not, length, map, IfOk, IfErr, OnOk, string_bytes};
-
 ghost use Rattle.dcc_c.specs.Token.{same_bytes};
 ghost use Rattle.dcc_c.specs.Tree.{Word};
 ghost use Rattle.dcc_reader.specs.WordViews.{holds};

@@ -51,7 +51,12 @@ fn entries_in(alloc: Global, procs: &[Proc]) -> Result<Vec<u16>, AllocError>
 }
 
 // Adds the procedure with the name of the signature.
-fn push_told(alloc: Global, found: &mut Vec<Recognised>, entry: u16, sig: &Sig) -> Result<(), AllocError>
+fn push_told(
+    alloc: Global,
+    found: &mut Vec<Recognised>,
+    entry: u16,
+    sig: &Sig,
+) -> Result<(), AllocError>
     ensures { OnOk result (map told_by found.new.items ≡ map told_by found.old.items ++ (told entry sig.now ∷ [])) }
 {
     let name = sig.name.clone()?;
@@ -126,7 +131,12 @@ fn push_entry(
 }
 
 // The procedures with these entries that the signatures tell.
-fn told_in(alloc: Global, code: &[u8], entries: &[u16], sigs: &[Sig]) -> Result<Vec<Recognised>, AllocError>
+fn told_in(
+    alloc: Global,
+    code: &[u8],
+    entries: &[u16],
+    sigs: &[Sig],
+) -> Result<Vec<Recognised>, AllocError>
     ensures { IfOk result (λ found. map told_by found.items ≡ told_in code.now entries.now sigs.now) }
 {
     let mut found = Vec::new(alloc);

@@ -31,11 +31,7 @@ fn lines_are_signatures(rt: HostRuntime) -> Result<(), Fail> {
 #[test]
 fn files_that_are_read(rt: HostRuntime) -> Result<(), Fail> {
     let alloc = rt.alloc();
-    let rows: [(&[u8], usize); 3] = [
-        (b"", 0),
-        (b"lib_a 55\n", 1),
-        (b"lib_a 55\nlib_b 55\n", 2),
-    ];
+    let rows: [(&[u8], usize); 3] = [(b"", 0), (b"lib_a 55\n", 1), (b"lib_a 55\nlib_b 55\n", 2)];
     for (text, count) in rows {
         let sigs = read_sigs(alloc, text);
         assert!(&rt; sigs.is_ok());
@@ -95,7 +91,13 @@ fn files_and_lines_that_are_too_long(rt: HostRuntime) -> Result<(), Fail> {
         let answer = read_sigs(alloc, text);
         assert!(&rt; answer.is_err());
         if let Err(fault) = answer {
-            assert_eq!(&rt; fault, SigFault::At { line: *line, kind: SigKind::Form });
+            assert_eq!(&rt;
+                fault,
+                SigFault::At {
+                    line: *line,
+                    kind: SigKind::Form
+                }
+            );
         }
     }
     Ok(())
