@@ -3,7 +3,11 @@ use Rattle.std.proofs.Common.{◌≡◌, ◌≢◌, ◌<◌, ◌≤◌, ℕ, zer
 use Rattle.std.specs.Prelude.{◌==◌, IfErr, Result, Ok, Err}
 use Rattle.std.specs.Global.{Vec}
 use Rattle.std.specs.BTreeSet as set
+use Rattle.std.specs.Prelude.{count_by}
+use Rattle.std.proofs.lemmas.Bool.{eqb-true}
 use Rattle.std.proofs.lemmas.List.{length-map}
+use Rattle.std.proofs.lemmas.List.Splits.{length-slice_split}
+use Rattle.std.proofs.lemmas.List.Sums.{count_by-le-length}
 use denote.Ref.{Bor}
 use Rattle.dcc_c.specs.Grammar.{is_among}
 use Rattle.dcc_c.specs.Tree.{Word}
@@ -51,30 +55,32 @@ offends-first pieces place begun kind fault h o is =
     subst (IsFaultOfPieces pieces) (sym is) (first-of pieces place begun.sigs.items kind h.sigs o)
 
 -- bytes stand behind the last line feed
-pub ends-unfed : (ps : List (Bor (List ℕ))) (place : ℕ) (begun : Begun) (piece : Bor (List ℕ)) (fault : SigFault)
-    → IsBegun (lent_pieces ps) place begun → place + 1 ≡ length ps → piece ≡ get_or ps place piece
-    → (length piece.now == 0) ≡ false → fault ≡ At (place + 1) Form → IsFaultOfPieces (lent_pieces ps) fault
-ends-unfed ps place begun piece fault h last is some fault-is =
-    offends-first (lent_pieces ps) place begun Form fault h
-    (unended (let size = length-lent ps in omega (arith, size, last)) not-empty) fault-is
+pub ends-unfed : (ps : List (Bor (List ℕ))) (place last : ℕ) (begun : Begun) (d : Bor (List ℕ)) (fault : SigFault) (empty : Bool)
+    → IsBegun (lent_pieces ps) place begun → place ≡ last → last + 1 ≡ length ps
+    → empty ≡ (length (get_or ps last d).now == 0) → empty ≡ false → fault ≡ At (last + 1) Form
+    → IsFaultOfPieces (lent_pieces ps) fault
+ends-unfed ps place last begun d fault empty h at end is some fault-is =
+    offends-first (lent_pieces ps) last begun Form fault (subst (λ n. IsBegun (lent_pieces ps) n begun) at h)
+    (unended (let size = length-lent ps in omega (arith, size, end)) not-empty) fault-is
   where
     not-none : (l : List ℕ) → (length l == 0) ≡ false → l ≢ []
     not-none l e none = let f : true ≡ false = ap (λ (t : List ℕ). length t == 0) (sym none) ∙ e in absurd (let g : ⊥ = cc in g)
-    not-empty : piece_at (lent_pieces ps) place ≢ []
-    not-empty none = not-none piece.now some
-        (ap (λ (p : Bor (List ℕ)). p.now) is ∙ sym (piece-lent ps place piece (omega (arith, last))) ∙ none)
+    not-empty : piece_at (lent_pieces ps) last ≢ []
+    not-empty none = not-none (get_or ps last d).now (sym is ∙ some)
+        (sym (piece-lent ps last d (omega (arith, end))) ∙ none)
 
 -- nothing stands behind the last line feed
-pub ends-fed : (ps : List (Bor (List ℕ))) (place : ℕ) (begun : Begun) (piece : Bor (List ℕ)) → IsBegun (lent_pieces ps) place begun
-    → place + 1 ≡ length ps → piece ≡ get_or ps place piece → (length piece.now == 0) ≡ true
-    → AreRead (lent_pieces ps) begun.sigs.items
-ends-fed ps place begun piece h last is none =
-    read-all (lent_pieces ps) place begun.sigs.items h.sigs (let size = length-lent ps in omega (arith, size, last))
-    (piece-lent ps place piece (omega (arith, last)) ∙ ap (λ (p : Bor (List ℕ)). p.now) (sym is) ∙ empty piece.now none)
+pub ends-fed : (ps : List (Bor (List ℕ))) (place last : ℕ) (begun : Begun) (d : Bor (List ℕ)) (empty : Bool)
+    → IsBegun (lent_pieces ps) place begun → place ≡ last → last + 1 ≡ length ps
+    → empty ≡ (length (get_or ps last d).now == 0) → empty ≡ true → AreRead (lent_pieces ps) begun.sigs.items
+ends-fed ps place last begun d empty h at end is none =
+    read-all (lent_pieces ps) place begun.sigs.items h.sigs (let size = length-lent ps in omega (arith, size, end, at))
+    (ap (piece_at (lent_pieces ps)) at ∙ piece-lent ps last d (omega (arith, end))
+    ∙ no-bytes (get_or ps last d).now (eqb-true (length (get_or ps last d).now) 0 (sym is ∙ none)))
   where
-    empty : (l : List ℕ) → (length l == 0) ≡ true → l ≡ []
-    empty [] e = refl
-    empty (x ∷ l) e = absurd (let f : ⊥ = cc in f)
+    no-bytes : (l : List ℕ) → length l ≡ 0 → l ≡ []
+    no-bytes [] e = refl
+    no-bytes (x ∷ l) e = absurd (omega (arith, e))
 
 -- Whole texts --------------------------------------------------------------------------------
 
@@ -91,3 +97,12 @@ pub texts-refused : {T : Type 0} (text : List ℕ) (pieces : List (List ℕ)) (r
     → pieces ≡ pieces_of text → IfErr result (IsFaultOfPieces pieces) → IfErr result (IsFaultOf text)
 texts-refused text pieces (Ok sigs) fits are h = tt
 texts-refused text pieces (Err fault) fits are h = text-refused text pieces fault fits are h
+
+-- a text has a piece, and at most one more than it has bytes
+pub piece-count : (text : List ℕ) (ps : List (Bor (List ℕ))) → map (λ piece. piece.now) ps ≡ pieces_of text
+    → (0 < length ps) × (length ps ≤ length text + 1)
+piece-count text ps h =
+    let size : length (lent_pieces ps) ≡ length ps = length-lent ps in
+    let count : length (lent_pieces ps) ≡ count_by (λ byte. byte == 10) text + 1 = ap length h ∙ length-slice_split (λ byte. byte == 10) text in
+    let few = count_by-le-length (λ byte. byte == 10) text in
+    (omega (arith, size, count), omega (arith, size, count, few))

@@ -12,7 +12,7 @@ use Rattle.dcc_reread.specs.Reading.{digit_value}
 use Rattle.dcc_reread.proofs.ReadBack.{byte-back, take-all}
 use Rattle.dcc_sigs.specs.declared.line.Line.{Line}
 use Rattle.dcc_sigs.specs.Signature.{part_text, parts_text, line_of, IsName, IsPart, AreParts, IsSignature, IsLineOf, HasForm}
-use Rattle.dcc_sigs.specs.Reading.{is_space, name_size, part_of, parts_in, IsTextOf, IsPartsReading, Tells}
+use Rattle.dcc_sigs.specs.Reading.{is_space, name_size, part_of, parts_in, AreSized, IsTextOf, IsPartsReading, Tells}
 
 -- Names --------------------------------------------------------------------------------------
 
@@ -98,14 +98,10 @@ pub read-parts : (text : List ℕ) (parts : List (Option ℕ)) → IsTextOf text
 read-parts text parts h = ap parts_in h.text_is ∙ parts-back parts h.may_be.each
 
 -- no parts were read, or too many
-pub no-parts : (text : List ℕ) (found : List (Option ℕ)) → found ≡ parts_in text → (0 < length found → 64 < length found)
+pub no-parts : (text : List ℕ) (found : List (Option ℕ)) → found ≡ parts_in text → ¬ AreSized found
     → (parts : List (Option ℕ)) → ¬ IsTextOf text parts
 no-parts text found are odd parts h =
-    let same : length found ≡ length parts = ap length (are ∙ read-parts text parts h) in
-    let some = h.may_be.some in
-    let few = h.may_be.few in
-    let more = odd (omega (arith, same, some)) in
-    omega (arith, same, few, more)
+    odd (subst (λ (ps : List (Option ℕ)). AreSized ps) (sym (are ∙ read-parts text parts h)) (h.may_be.some, h.may_be.few))
 
 -- the text isn't that of the parts that were read
 pub other-text : (text : List ℕ) (found : List (Option ℕ)) → found ≡ parts_in text → ¬ (text ≡ parts_text found)
@@ -122,6 +118,15 @@ no-line text never h = never h.of_name.parts (record {
   text_is = rest-back text h.name h.of_name;
 })
 
+-- what was found of a line
+pub no-reading : (text : List ℕ) (size : ℕ) (found : Option (Vec (Option ℕ))) → size ≡ name_size text → found ≡ None
+    → IsPartsReading (drop size text) found → ¬ HasForm text
+no-reading text size None e n h = no-line text (subst (λ k. (parts : List (Option ℕ)) → ¬ IsTextOf (drop k text) parts) e h)
+no-reading text size (Some v) e n h = absurd (let f : ⊥ = cc in f)
+
+pub no-name_read : (text : List ℕ) (size : ℕ) → size ≡ name_size text → ¬ IsName (take size text) → ¬ HasForm text
+no-name_read text size e h = no-name text (subst (λ k. ¬ IsName (take k text)) e h)
+
 pub line-told : (text name : List ℕ) (parts : List (Option ℕ)) → IsName (take (name_size text) text)
     → name ≡ take (name_size text) text → IsTextOf (drop (name_size text) text) parts
     → IsSignature name parts × (text ≡ line_of name parts)
@@ -133,10 +138,6 @@ line-told text name parts is same h = (
 )
 
 -- Tests --------------------------------------------------------------------------------------
-
-pub none-is_empty : {X : Type 0} (xs : List X) (b : Bool) → b ≡ (length xs == 0) → b ≡ true → 0 < length xs → ⊥
-none-is_empty [] b e h some = omega arith
-none-is_empty (x ∷ xs) b e h some = let f : true ≡ false = sym h ∙ e in absurd (let g : ⊥ = cc in g)
 
 pub never-true : (b : Bool) → b ≡ false → b ≡ true → ⊥
 never-true b f t = let same : true ≡ false = sym t ∙ f in absurd (let g : ⊥ = cc in g)

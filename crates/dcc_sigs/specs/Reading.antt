@@ -1,7 +1,7 @@
 -- Reading a line back: its name stands before the first space, and each part in the two bytes behind a space. What is
 -- read from a line of no form doesn't matter, since the text of the parts that were read is compared with the line. This
 -- stands between the definitions and the code; no public contract rests on it.
-use Rattle.std.specs.Prelude.{◌≡◌, ℕ, ◌+◌, ◌*◌, ◌==◌, Bool, if◌then◌else◌, List, [], ◌∷◌, ◌++◌, Option, Some, None}
+use Rattle.std.specs.Prelude.{◌≡◌, ◌<◌, ◌≤◌, length, ℕ, ◌+◌, ◌*◌, ◌==◌, Bool, if◌then◌else◌, List, [], ◌∷◌, ◌++◌, Option, Some, None}
 use Rattle.std.specs.Global.{Vec}
 use Rattle.std.specs.List.{position_or_len}
 use Rattle.dcc_reread.specs.Reading.{digit_value}
@@ -21,6 +21,10 @@ part_of high low = if high == 63 then None else Some (digit_value high * 16 + di
 abbrev pub parts_in : List ℕ → List (Option ℕ)
 parts_in (space ∷ high ∷ low ∷ rest) = part_of high low ∷ parts_in rest
 parts_in text = []
+
+-- there are parts, and no more than 64
+abbrev pub AreSized : List (Option ℕ) → Type 0
+AreSized parts = (0 < length parts) × (length parts ≤ 64)
 
 -- the text is that of the parts
 pub record IsTextOf (text : List ℕ) (parts : List (Option ℕ)) : Type 0 where

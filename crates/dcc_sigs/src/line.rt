@@ -4,7 +4,7 @@ ghost use Rattle.std.specs.Prelude.{◌≡◌, ◌++◌, ◌↔◌, ◌<◌, ◌
 ghost use Rattle.std.specs.List.{list_all};
 ghost use Rattle.dcc_sigs.specs.Signature.{part_text, parts_text, IsPart, IsName};
 ghost use Rattle.dcc_c.specs.Token as tokens;
-ghost use Rattle.dcc_sigs.specs.Reading.{is_space, name_size, part_of, parts_in, IsPartsReading, IsReading};
+ghost use Rattle.dcc_sigs.specs.Reading.{is_space, name_size, part_of, parts_in, AreSized, IsPartsReading, IsReading};
 
 use dcc_reread::{before, digit_value};
 use dcc_spelled::push_byte;
@@ -151,16 +151,24 @@ fn is_written(alloc: Global, parts: &[Option<u8>], text: &[u8]) -> Result<bool, 
     Ok(is_same(text, written.as_slice()))
 }
 
+// Whether there are parts, and no more than 64.
+fn are_sized(parts: &[Option<u8>]) -> bool
+    ensures { IsTrue result ↔ AreSized parts.now }
+{
+    !parts.is_empty() && parts.len() <= PARTS_MOST
+}
+
 // The parts that the text is that of, where they are neither none nor too many.
 fn parts_of(alloc: Global, text: &[u8]) -> Result<Option<Vec<Option<u8>>>, AllocError>
     ensures { IfOk result (IsPartsReading text.now) }
 {
     let parts = parts_in(alloc, text)?;
-    if parts.is_empty() || PARTS_MOST < parts.len() {
-        return Ok(None);
-    }
-    if is_written(alloc, &parts, text)? {
-        Ok(Some(parts))
+    if are_sized(&parts) {
+        if is_written(alloc, &parts, text)? {
+            Ok(Some(parts))
+        } else {
+            Ok(None)
+        }
     } else {
         Ok(None)
     }

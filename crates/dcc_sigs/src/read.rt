@@ -88,10 +88,11 @@ fn read_pieces(alloc: Global, pieces: &[&[u8]]) -> Result<Vec<Sig>, SigFault>
             return Err(fault_at(place, kind));
         }
     }
-    if !pieces[last].is_empty() {
-        return Err(fault_at(last, SigKind::Form));
+    if pieces[last].is_empty() {
+        Ok(begun.sigs)
+    } else {
+        Err(fault_at(last, SigKind::Form))
     }
-    Ok(begun.sigs)
 }
 
 // What stands before the first line feed, between two of them, and behind the last one.
