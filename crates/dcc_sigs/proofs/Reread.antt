@@ -1,5 +1,5 @@
 -- A line's name and parts are read back from it.
-use Rattle.std.proofs.Common.{◌≡◌, ◌<◌, ◌≤◌, ℕ, zero, suc, ◌+◌, ◌-◌, ◌*◌, ◌/◌, ◌%◌, Bool, true, false, List, [], ◌∷◌, ◌++◌, length, take, drop, All, refl, sym, ap, ◌∙◌, subst, arith, Option, Some, None}
+use Rattle.std.proofs.Common.{◌≡◌, ◌<◌, ◌≤◌, ℕ, zero, suc, ◌+◌, ◌-◌, ◌*◌, ◌/◌, ◌%◌, Bool, true, false, List, [], ◌∷◌, ◌++◌, length, take, drop, All, refl, sym, ap, ◌∙◌, subst, arith, Option, Some, None, length-drop}
 use Rattle.std.specs.Prelude.{not, cond, ◌==◌, if◌then◌else◌}
 use Rattle.std.specs.Global.{Vec}
 use Rattle.std.specs.Fmt.{digit_glyph}
@@ -118,10 +118,21 @@ no-line text never h = never h.of_name.parts (record {
   text_is = rest-back text h.name h.of_name;
 })
 
+take-long : (n : ℕ) (xs : List ℕ) → length xs ≤ n → take n xs ≡ xs
+take-long zero [] l = refl
+take-long zero (x ∷ xs) l = absurd (omega (arith, l))
+take-long (suc n) [] l = refl
+take-long (suc n) (x ∷ xs) l = ap (λ (t : List ℕ). x ∷ t) (take-long n xs (omega (arith, l)))
+
+take-rest : (n : ℕ) (xs : List ℕ) → take (length xs - n) (drop n xs) ≡ drop n xs
+take-rest n xs = take-long (length xs - n) (drop n xs) (let e = length-drop n xs in omega (arith, e))
+
 -- what was found of a line
 pub no-reading : (text : List ℕ) (size : ℕ) (found : Option (Vec (Option ℕ))) → size ≡ name_size text → found ≡ None
-    → IsPartsReading (drop size text) found → ¬ HasForm text
-no-reading text size None e n h = no-line text (subst (λ k. (parts : List (Option ℕ)) → ¬ IsTextOf (drop k text) parts) e h)
+    → IsPartsReading (take (length text - size) (drop size text)) found → ¬ HasForm text
+no-reading text size None e n h = no-line text
+    (subst (λ k. (parts : List (Option ℕ)) → ¬ IsTextOf (drop k text) parts) e
+    (subst (λ (t : List ℕ). (parts : List (Option ℕ)) → ¬ IsTextOf t parts) (take-rest size text) h))
 no-reading text size (Some v) e n h = absurd (let f : ⊥ = cc in f)
 
 pub no-name_read : (text : List ℕ) (size : ℕ) → size ≡ name_size text → ¬ IsName (take size text) → ¬ HasForm text
