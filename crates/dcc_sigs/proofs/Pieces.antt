@@ -65,6 +65,7 @@ ends-unfed ps place last begun d fault empty h at end is some fault-is =
   where
     not-none : (l : List ℕ) → (length l == 0) ≡ false → l ≢ []
     not-none l e none = let f : true ≡ false = ap (λ (t : List ℕ). length t == 0) (sym none) ∙ e in absurd (let g : ⊥ = cc in g)
+
     not-empty : piece_at (lent_pieces ps) last ≢ []
     not-empty none = not-none (get_or ps last d).now (sym is ∙ some)
         (sym (piece-lent ps last d (omega (arith, end))) ∙ none)
