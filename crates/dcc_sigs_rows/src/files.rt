@@ -21,9 +21,11 @@ fn lines_are_signatures(rt: HostRuntime) -> Result<(), Fail> {
     if let Ok(sigs) = sigs {
         assert_eq!(&rt; sigs.len(), 2);
         assert_eq!(&rt; sigs[0].name.as_str(), "lib_fact");
-        assert_eq!(&rt; sigs[0].bytes.as_slice(), &[Some(0x55), None, Some(0x0A)]);
+        let first: [Option<u8>; 3] = [Some(0x55), None, Some(0x0A)];
+        assert_eq!(&rt; sigs[0].bytes.as_slice(), first.as_slice());
         assert_eq!(&rt; sigs[1].name.as_str(), "lib_");
-        assert_eq!(&rt; sigs[1].bytes.as_slice(), &[None]);
+        let second: [Option<u8>; 1] = [None];
+        assert_eq!(&rt; sigs[1].bytes.as_slice(), second.as_slice());
     }
     Ok(())
 }
