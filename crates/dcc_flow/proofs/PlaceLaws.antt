@@ -1,9 +1,9 @@
 -- Laws of lists of locations that tell at which place a location is.
-use Rattle.std.proofs.Common.{◌≡◌, ℕ, zero, suc, ◌+◌, ◌<◌, ◌≤◌, Bool, true, false, inl, inr, List, [], ◌∷◌, ◌++◌, length, get_or, slice_get, slice_set, drop, Some, refl, sym, ap, ◌∙◌, subst, true≢false, arith, Contains}
+use Rattle.std.proofs.Common.{◌≡◌, ◌≢◌, ℕ, zero, suc, ◌+◌, ◌<◌, ◌≤◌, Bool, true, false, inl, inr, List, [], ◌∷◌, ◌++◌, length, get_or, slice_get, slice_set, drop, Some, refl, sym, ap, ◌∙◌, subst, true≢false, arith, Contains}
 use Rattle.std.specs.Prelude.{◌↔◌, if◌then◌else◌, All}
 use Rattle.std.proofs.Common.{drop_of_length-le as drop_past}
 use Rattle.std.proofs.lemmas.Bool.{cases_eq, cases_lt}
-use Rattle.std.proofs.lemmas.List.{length-set, length_push, get_or-set_same, get_or-set_other, get_or_append_left, drop_more}
+use Rattle.std.proofs.lemmas.List.{length-set, length_push, get_or_read, get_or-set_same, get_or-set_other, get_or_append_left, drop_more}
 use Rattle.std.proofs.lemmas.List.Elements.{All-weaker, Contains-append_left, Contains-push, All-contains_itself}
 use Rattle.std.proofs.lemmas.Option.{get_or_from_slice_get, slice_get-get_or, slice_get_within, same_Some}
 use Rattle.std.proofs.Math.Seq.{get_or-append_seam}
@@ -43,6 +43,12 @@ place_none list at x n are is away = elim (decided (is_among list x)) [
       absurd (true≢false (away inside (ap (slice_get list) (ap (λ m. get_or at m 0) is ∙ told.1) ∙ one.1)))
   | inr f ↦ f
 ]
+
+-- where the list has another one at the place that its number tells, or no one
+pub place_away : (list : List Loc) (at : List ℕ) (x : Loc) (n k : ℕ) → AreAt list at → n ≡ location_number x → n < length at → k ≡ get_or at n k
+    → (slice_get list k ≡ Some x → true ≡ false) → is_among list x ≡ false
+place_away list at x n k are is inside read away =
+    place_none list at x n are is (λ less e. away (ap (slice_get list) (get_or_read at n k inside read 0) ∙ e))
 
 -- One more location.
 

@@ -1,5 +1,5 @@
 -- Laws of words of bits.
-use Rattle.std.proofs.Common.{◌≡◌, ◌≢◌, ℕ, zero, suc, ◌+◌, ◌-◌, ◌*◌, ◌/◌, ◌%◌, ◌^◌, ◌<◌, ◌≤◌, min, max, Bool, true, false, ◌&&◌, ◌||◌, not, ◌⊎◌, inl, inr, MatchBool, List, [], ◌∷◌, ◌++◌, length, get_or, replicate, slice_set, refl, sym, ap, ◌∙◌, subst, arith, w64, bit_and, bit_or}
+use Rattle.std.proofs.Common.{◌≡◌, ◌≢◌, ℕ, zero, suc, ◌+◌, ◌-◌, ◌*◌, ◌/◌, ◌%◌, ◌^◌, ◌<◌, ◌≤◌, min, max, Bool, true, false, ◌&&◌, ◌||◌, not, ◌⊎◌, inl, inr, MatchBool, MatchOption, Option, Some, None, List, [], ◌∷◌, ◌++◌, length, get_or, replicate, slice_set, refl, sym, ap, ◌∙◌, subst, arith, w64, bit_and, bit_or}
 use Rattle.std.specs.Prelude.{◌==◌}
 use Rattle.std.specs.Int.{bit_at, bit_not, trailing_zeros}
 use Rattle.std.proofs.lemmas.Bool.{false≢true, cases_Bool, cases_eq, cases_lt, eqb-true, eq-eqb, or_parts, not-false}
@@ -397,7 +397,7 @@ shifted_bit w s i = ap (λ x. x % 2) (div-div-eq-div-mul w (2 ^ s) (2 ^ i) ∙ a
 
 -- a bit of a word, by what is left of the word
 module _ (words : List ℕ) (k s : ℕ) (small : s < 64) where
-  abbrev rest : ℕ
+  abbrev pub rest : ℕ
   rest = get_or words k 0 / 2 ^ s
 
   rest_bit : (i : ℕ) → s + i < 64 → bit_in words (64 * k + s + i) ≡ (bit_at rest i == 1)
@@ -416,7 +416,7 @@ module _ (words : List ℕ) (k s : ℕ) (small : s < 64) where
       ap (bit_in words) is ∙ rest_bit i (omega arith) ∙ ap (λ w. bit_at w i == 1) none ∙ ap (λ x. x == 1) (bit_at-zero i)
 
   module _ (word : get_or words k 0 < 2 ^ 64) (some : 0 < rest) where
-    abbrev zeros : ℕ
+    abbrev pub zeros : ℕ
     zeros = trailing_zeros w64 rest
 
     lowest : (zeros < 64) × (bit_at rest zeros ≡ 1) × ((i : ℕ) → i < zeros → bit_at rest i ≡ 0)
@@ -472,6 +472,7 @@ next_kept {words} {len} {bits} k from place is =
       between = λ n low high. sym (place_bit k n (omega (arith, high, inside))) ∙ is.between n low high;
     }
 
--- so many words have no more than 2 ^ 58
-pub few_words : {words : List ℕ} {len : ℕ} {bits : List Bool} → Keep words len bits → len < 2 ^ 64 → length words ≤ 2 ^ 58
-few_words k less = omega (arith, k.are.count, less)
+pub next_of_words : {words : List ℕ} {len : ℕ} {bits : List Bool} → Keep words len bits → (from : ℕ) (r : Option ℕ)
+    → MatchOption r (AreNoneSet words from) (IsNextSet words from) → MatchOption r (AreNoneFrom bits from) (IsNext bits from)
+next_of_words k from (Some place) h = next_kept k from place h
+next_of_words k from None h = none_kept k from h

@@ -1,9 +1,9 @@
 //! Lists of truth values in words of 64 bits.
 
-ghost use Rattle.std.specs.Prelude.{◌≡◌, ◌≢◌, ◌+◌, ◌^◌, ◌<◌, ◌≤◌, true, false, length, replicate, slice_set, IfOk};
+ghost use Rattle.std.specs.Prelude.{◌≡◌, ◌≢◌, ◌+◌, ◌<◌, true, false, length, replicate, slice_set, IfOk};
 ghost use Rattle.std.specs.Prelude.{MatchBool, MatchOption};
 ghost use Rattle.dcc_flow.specs.Bits.{words_for, bit, flowed, differ, IsNext, AreNoneFrom};
-ghost use Rattle.dcc_flow.specs.Words.{flowed_words, IsNextSet, AreNoneSet};
+ghost use Rattle.dcc_flow.specs.Words.{AreWords, flowed_words, IsNextSet, AreNoneSet};
 
 use crate::steps::Steps;
 use std::alloc::{AllocError, Global};
@@ -54,11 +54,14 @@ fn flow_words<L: Ledger>(
     changed
 }
 
-// The first place from one on whose bit is set in these words, if there is one.
-fn next_set(words: &[u64], from: usize) -> Option<usize>
-    requires { length words.now ≤ 2 ^ 58 }
+// The first place from one on whose bit is set in the words of so many places, if there is one.
+fn next_set(words: &[u64], len: usize, from: usize) -> Option<usize>
+    requires { AreWords words.now len }
     ensures { MatchOption result (AreNoneSet words.now from) (IsNextSet words.now from) }
 {
+    if len <= from {
+        return None;
+    }
     let mut skipped = from % 64;
     for k in from / 64..words.len() {
         let rest = words[k] >> skipped;
@@ -103,7 +106,7 @@ impl Bits {
     pub fn next(&self, from: usize) -> Option<usize>
         ensures { MatchOption result (AreNoneFrom self.now from) (IsNext self.now from) }
     {
-        next_set(self.words.as_slice(), from)
+        next_set(self.words.as_slice(), self.len, from)
     }
 
     /// The place takes true.

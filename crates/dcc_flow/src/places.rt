@@ -2,6 +2,7 @@
 
 ghost use Rattle.std.specs.Prelude.{◌≡◌, ℕ, ◌<◌, ◌≤◌, false, [], ◌∷◌, ◌++◌, length, get_or, OnOk, MatchOption};
 ghost use Rattle.dcc_ir.specs.Live.{is_among};
+ghost use Rattle.dcc_ir.specs.Location.{same_location};
 ghost use Rattle.dcc_flow.specs.Places.{IsPlace, with_place, with_places};
 
 use crate::marks::number;
@@ -19,6 +20,13 @@ fn make_room(at: &mut Vec<usize>, place: usize) -> Result<(), AllocError>
         at.push(0)?;
     }
     Ok(())
+}
+
+// Whether the two are one.
+fn is_same(location: Loc, other: Loc) -> bool
+    ensures { result ≡ same_location location other }
+{
+    location == other
 }
 
 /// A list of locations, each once. To tell at which place a location is costs the same however long the list is.
@@ -73,7 +81,7 @@ impl Places {
         let n = number(location);
         if n < self.at.len() {
             let place = self.at[n];
-            if place < self.list.len() && self.list[place] == location {
+            if place < self.list.len() && is_same(self.list[place], location) {
                 return Some(place);
             }
         }
@@ -99,7 +107,10 @@ impl Places {
     {
         match self.place_of(location) {
             Some(_) => Ok(()),
-            None => self.push(location),
+            None => {
+                self.push(location)?;
+                Ok(())
+            }
         }
     }
 
