@@ -6,6 +6,9 @@ use Rattle.dcc_live.specs.First.{Row, row_in}
 use Rattle.dcc_live.proofs.RowLaws.{rows_placed, map_read}
 use Rattle.dcc_live.proofs.rows.places.Goals as goal
 
+pub loop-row-init : goal.loop-row-init
+loop-row-init c = λ k d less. absurd (omega (arith, less))
+
 pub loop-row-preserved : goal.loop-row-preserved
 loop-row-preserved c =
     let items = c.args.rows.now.items in
