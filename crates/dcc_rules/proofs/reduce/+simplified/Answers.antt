@@ -65,4 +65,4 @@ simplified-returns-in-Some-clause-reduced g t c =
 
 pub simplified-returns-then-is_leaf-clause-normal : goal.simplified-returns-then-is_leaf-clause-normal
 simplified-returns-then-is_leaf-clause-normal g t c =
-    normal_leaf _ c.args.bits.now (expr_of c.args.e) (sym c.is_leaf.ensures ∙ c.if-is_leaf.true)
+    normal_leaf (g.A.Answers.ids c.args.answers.now) c.args.bits.now (expr_of c.args.e) (sym c.is_leaf.ensures ∙ c.if-is_leaf.true)
