@@ -83,7 +83,7 @@ selected_next xs bs d from place items len next =
     selected_then xs bs place d items (omega (arith, next.within, len)) len next.there
     ∙ ap (λ l. items ++ l) (sym (selected_skip xs bs d (place - from) from place (omega (arith, next.after)) (omega (arith, next.within, len)) len next.between))
 
--- as above, where the location is read from a list that is the one of the places
+-- the next place that holds true is selected, where its location is read from a list that is that of the places
 pub selected_read : (list xs : List Loc) (bs : List Bool) (d : Loc) (from place : ℕ) (items after : List Loc) → list ≡ xs → after ≡ items ++ get_or list place d ∷ [] → length bs ≡ length xs → IsNext bs from place →
     after ++ selected (drop (place + 1) xs) (drop (place + 1) bs) ≡ items ++ selected (drop from xs) (drop from bs)
 selected_read list xs bs d from place items after same is len next =

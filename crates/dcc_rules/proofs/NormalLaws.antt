@@ -1,5 +1,5 @@
 -- Normal expressions: their parts are, and no rule has a place at their root.
-use Rattle.std.proofs.Common.{◌≡◌, ℕ, zero, suc, Bool, true, false, ◌&&◌, not, List, [], ◌∷◌, ◌++◌, refl, sym, ap, ◌∙◌, true≢false}
+use Rattle.std.proofs.Common.{◌≡◌, ℕ, zero, suc, Bool, true, false, not, List, [], ◌∷◌, ◌++◌, refl, sym, ap, ◌∙◌, true≢false}
 use Rattle.std.specs.Prelude.{◌==◌, if◌then◌else◌, slice_get}
 use Rattle.std.specs.List.{list_all}
 use Rattle.std.proofs.lemmas.Bool.{and_parts}
@@ -7,7 +7,7 @@ use Rattle.std.proofs.lemmas.List.Folds.{list_all-append}
 use Rattle.dcc_ir.specs.Tree.{Expr, Const, Get, Load, Unary, Binary, Widen, Part, Join, Choose, Address}
 use Rattle.dcc_ir.specs.declared.syntax.BinOp.{BinOp}
 use Rattle.dcc_ir.specs.Use.{parts_of}
-use Rattle.dcc_ir.specs.Forms.{forms, passes, has_form}
+use Rattle.dcc_ir.specs.Forms.{forms, passes}
 use Rattle.dcc_rules.specs.Forms.{has_form_under, is_leaf, has_no_form, is_normal_under, has_normal_parts}
 use Rattle.dcc_rules.proofs.AmongLaws.{both_hold}
 

@@ -1,4 +1,4 @@
-use Rattle.std.proofs.Common.{◌≡◌, ◌<◌, ◌≤◌, length, get_or, map, ap, ◌∙◌, subst, arith, Contains}
+use Rattle.std.proofs.Common.{◌<◌, ◌≤◌, length, get_or, map, ap, ◌∙◌, subst, arith, Contains}
 use Rattle.std.specs.Prelude.{All}
 use Rattle.std.proofs.lemmas.List.{length-map, take_all}
 use Rattle.dcc_flow.specs.Places.{with_places}
