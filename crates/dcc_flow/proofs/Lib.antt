@@ -8,4 +8,5 @@ pub mod WordLaws
 pub mod WorkLaws
 pub mod FormedExprs
 pub mod MarkLaws
+pub mod PlaceLaws
 pub mod MentionLaws

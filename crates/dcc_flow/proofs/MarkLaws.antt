@@ -1,11 +1,12 @@
 -- Laws of sets of locations, and of how code keeps one.
-use Rattle.std.proofs.Common.{◌≡◌, ◌≢◌, ℕ, zero, suc, ◌+◌, ◌*◌, ◌/◌, ◌%◌, ◌^◌, ◌<◌, ◌≤◌, Bool, true, false, ◌&&◌, ◌||◌, not, inl, inr, List, [], ◌∷◌, ◌++◌, length, get_or, slice_set, map, drop, refl, sym, ap, ◌∙◌, subst, true≢false, arith, bit_or, Contains}
+use Rattle.std.proofs.Common.{◌≡◌, ◌≢◌, ℕ, zero, suc, ◌+◌, ◌*◌, ◌/◌, ◌%◌, ◌^◌, ◌<◌, ◌≤◌, Bool, true, false, ◌&&◌, ◌||◌, not, inl, inr, List, [], ◌∷◌, ◌++◌, length, get_or, slice_set, map, drop, filter, refl, sym, ap, ◌∙◌, subst, true≢false, arith, bit_or, Contains}
 use Rattle.std.specs.Prelude.{if◌then◌else◌}
 use Rattle.std.proofs.lemmas.Bool.{cases_eq, cases_lt}
-use Rattle.std.proofs.lemmas.List.{length-set, get_or_read, get_or-set_same, get_or-set_other, get_or_past, map-append, drop_more}
+use Rattle.std.proofs.lemmas.List.{length-set, length-map, get_or_read, get_or-map, get_or-set_same, get_or-set_other, get_or_past, map-append, drop_more}
 use Rattle.std.proofs.Common.{drop_of_length-le as drop_past}
 use Rattle.std.proofs.lemmas.List.Folds.{list_any-append}
 use Rattle.std.proofs.lemmas.List.Elements.{Contains-append_left, Contains-push, Contains-push_cases}
+use Rattle.std.proofs.lemmas.Map.Views.{any-filter_same}
 use Rattle.dcc_num.specs.declared.Reg.{Reg}
 use Rattle.dcc_num.specs.declared.Reg.TheVariants.{Ax, Cx, Dx, Bx, Sp, Bp, Si, Di}
 use Rattle.dcc_num.specs.declared.Half.{Half as HalfName}
@@ -17,7 +18,7 @@ use Rattle.dcc_ir.specs.declared.syntax.Loc.TheVariants.{Half, Flag, Cell, Temp}
 use Rattle.dcc_ir.specs.Location.{register_number, half_number, flag_number, same_location}
 use Rattle.dcc_ir.specs.Live.{is_among}
 use Rattle.dcc_ir.proofs.PathLaws.{decided}
-use Rattle.dcc_ir.proofs.LocationLaws.{register_same, half_same, flag_same, location_same, location_itself, Contains-none}
+use Rattle.dcc_ir.proofs.LocationLaws.{register_same, half_same, flag_same, location_same, location_itself, contains_among, Contains-none}
 use Rattle.dcc_flow.specs.Words.{bit_in}
 use Rattle.dcc_flow.proofs.WordLaws.{with_bit, set_here, set_there}
 use Rattle.dcc_flow.specs.Marks.{empty, with_one, without_one, with_all, without_all, location_number, members, AreNoted, AreThoseOf}
@@ -173,6 +174,22 @@ none_noted has noted is are n = elim (decided (get_or has n false)) [
   | inl t ↦ absurd (Contains-none n (subst (λ xs. Contains (map location_number xs) n) is (are n t)))
   | inr f ↦ f
 ]
+
+-- a location whose number is noted is noted
+noted_location : (noted : List Loc) (x : Loc) → Contains (map location_number noted) (location_number x) → Contains noted x
+noted_location noted x c =
+    let inside : c.0 < length noted = omega (arith, c.1, length-map noted location_number) in
+    (c.0, inside, number_same (get_or noted c.0 x) x (sym (get_or-map location_number noted c.0 x (location_number x) inside) ∙ c.2))
+
+-- what was noted and is in the set is all that is in the set
+pub noted_members : (has : List Bool) (noted : List Loc) → AreNoted has noted → (x : Loc) → is_among (filter (members has) noted) x ≡ members has x
+noted_members has noted are x =
+    any-filter_same (same_location x) (members has) (members has x) (λ y same. ap (members has) (sym (location_same x y same))) noted
+    ∙ go (members has x) (λ t. contains_among noted x (noted_location noted x (are (location_number x) t)))
+  where
+    go : (b : Bool) → (b ≡ true → is_among noted x ≡ true) → (b && is_among noted x) ≡ b
+    go true there = there refl
+    go false there = refl
 
 -- Lists of locations.
 

@@ -1,15 +1,16 @@
 -- Laws of words of bits.
-use Rattle.std.proofs.Common.{◌≡◌, ◌≢◌, ℕ, zero, suc, ◌+◌, ◌-◌, ◌*◌, ◌/◌, ◌%◌, ◌^◌, ◌<◌, ◌≤◌, min, max, Bool, true, false, ◌&&◌, ◌||◌, not, ◌⊎◌, inl, inr, MatchBool, List, [], ◌∷◌, ◌++◌, length, get_or, replicate, slice_set, refl, sym, ap, ◌∙◌, subst, arith, w64, bit_and, bit_or}
+use Rattle.std.proofs.Common.{◌≡◌, ◌≢◌, ℕ, zero, suc, ◌+◌, ◌-◌, ◌*◌, ◌/◌, ◌%◌, ◌^◌, ◌<◌, ◌≤◌, min, max, Bool, true, false, ◌&&◌, ◌||◌, not, ◌⊎◌, inl, inr, MatchBool, MatchOption, Option, Some, None, List, [], ◌∷◌, ◌++◌, length, get_or, replicate, slice_set, refl, sym, ap, ◌∙◌, subst, arith, w64, bit_and, bit_or}
 use Rattle.std.specs.Prelude.{◌==◌}
-use Rattle.std.specs.Int.{bit_at, bit_not}
+use Rattle.std.specs.Int.{bit_at, bit_not, trailing_zeros}
 use Rattle.std.proofs.lemmas.Bool.{false≢true, cases_Bool, cases_eq, cases_lt, eqb-true, eq-eqb, or_parts, not-false}
 use Rattle.std.proofs.lemmas.List.{ext_get_or, get_or_read, length-set, length-replicate, get_or-replicate, get_or-set_same, get_or-set_other, set-get_or, get_or_past}
 use Rattle.std.proofs.lemmas.List.Elements.{All-set, All-replicate, All-get_or, All-from_get_or}
 use Rattle.std.proofs.lemmas.List.FromFn.{length-map-range_with_len, get_or-map-range_with_len, fill_by_all}
-use Rattle.std.proofs.lemmas.Nat.{or_lt, and_le_l}
-use Rattle.std.proofs.lemmas.Nat.Bits.{bit_at-zero, bit_at_and, bit_at_or, bit_at_not, bit_at-lt, bit_at_set_same, bit_at_set_other, same_from_bits_below}
-use Rattle.dcc_flow.specs.Bits.{words_for, bit, flowed, is_other, differ}
-use Rattle.dcc_flow.specs.Words.{bit_in, bits_in, AreWords, flowed_word, flowed_words}
+use Rattle.std.proofs.Math.Nat.{div-div-eq-div-mul, div-le_self}
+use Rattle.std.proofs.lemmas.Nat.{or_lt, and_le_l, pow-add}
+use Rattle.std.proofs.lemmas.Nat.Bits.{bit_at-zero, bit_at_and, bit_at_or, bit_at_not, bit_at-lt, bit_at_set_same, bit_at_set_other, bit_at_above, bit_at-trailing_zeros, same_from_bits_below}
+use Rattle.dcc_flow.specs.Bits.{words_for, bit, flowed, is_other, differ, IsNext, AreNoneFrom}
+use Rattle.dcc_flow.specs.Words.{bit_in, bits_in, AreWords, flowed_word, flowed_words, IsNextSet, AreNoneSet}
 
 -- One bit.
 
@@ -388,3 +389,90 @@ flowing {words} {uses} {outs} {writes} {len = len} {bits = bits} {used = used} {
       differs = λ b told. flowed_differ words uses outs writes len k.are us.are os.are ws.are b told
           ∙ ap (λ l. differ l (bits_in (flowed_words words uses outs writes) len)) k.view;
     })
+
+-- The next bit that is set.
+
+shifted_bit : (w s i : ℕ) → bit_at (w / 2 ^ s) i ≡ bit_at w (s + i)
+shifted_bit w s i = ap (λ x. x % 2) (div-div-eq-div-mul w (2 ^ s) (2 ^ i) ∙ ap (λ d. w / d) (sym (pow-add 2 s i)))
+
+-- a bit of a word, by what is left of the word
+module _ (words : List ℕ) (k s : ℕ) (small : s < 64) where
+  abbrev pub rest : ℕ
+  rest = get_or words k 0 / 2 ^ s
+
+  rest_bit : (i : ℕ) → s + i < 64 → bit_in words (64 * k + s + i) ≡ (bit_at rest i == 1)
+  rest_bit i less =
+      let place = 64 * k + s + i in
+      let at : place / 64 ≡ k = omega arith in
+      let low : place % 64 ≡ s + i = omega arith in
+      ap (λ q. bit_at (get_or words q 0) (place % 64) == 1) at ∙ ap (λ j. bit_at (get_or words k 0) j == 1) low
+      ∙ ap (λ x. x == 1) (sym (shifted_bit (get_or words k 0) s i))
+
+  -- where nothing is left, no bit from there to the word's end is set
+  pub rest_none : rest ≡ 0 → (n : ℕ) → 64 * k + s ≤ n → n < 64 * (k + 1) → bit_in words n ≡ false
+  rest_none none n low high =
+      let i = n - (64 * k + s) in
+      let is : n ≡ 64 * k + s + i = omega arith in
+      ap (bit_in words) is ∙ rest_bit i (omega arith) ∙ ap (λ w. bit_at w i == 1) none ∙ ap (λ x. x == 1) (bit_at-zero i)
+
+  module _ (word : get_or words k 0 < 2 ^ 64) (some : 0 < rest) where
+    abbrev pub zeros : ℕ
+    zeros = trailing_zeros w64 rest
+
+    lowest : (zeros < 64) × (bit_at rest zeros ≡ 1) × ((i : ℕ) → i < zeros → bit_at rest i ≡ 0)
+    lowest =
+        let whole : rest ≤ get_or words k 0 = div-le_self (get_or words k 0) (2 ^ s) in
+        bit_at-trailing_zeros w64 rest some (omega (arith, whole, word))
+
+    pub rest_within : s + zeros < 64
+    rest_within = elim (cases_lt (s + zeros) 64) [
+      | inl less ↦ less
+      | inr past ↦
+          let none = bit_at_above (get_or words k 0) 64 (s + zeros) word past in
+          let both : 1 ≡ 0 = sym lowest.1 ∙ shifted_bit (get_or words k 0) s zeros ∙ none in
+          absurd (omega (arith, both))
+    ]
+
+    -- the lowest bit that is left is the next one
+    pub rest_some : (from : ℕ) → from ≤ 64 * k + s → ((n : ℕ) → from ≤ n → n < 64 * k + s → bit_in words n ≡ false)
+        → IsNextSet words from (64 * k + s + zeros)
+    rest_some from after none = record {
+      after = omega arith;
+      there = rest_bit zeros rest_within ∙ ap (λ x. x == 1) lowest.1;
+      between = λ n low high. elim (cases_lt n (64 * k + s)) [
+        | inl less ↦ none n low less
+        | inr past ↦
+            let i = n - (64 * k + s) in
+            let is : n ≡ 64 * k + s + i = omega arith in
+            let below : i < zeros = omega arith in
+            ap (bit_in words) is ∙ rest_bit i (omega (arith, rest_within, below)) ∙ ap (λ x. x == 1) (lowest.2 i below)
+      ];
+    }
+
+-- no bit past the words is set
+pub past_words : (words : List ℕ) (n : ℕ) → length words ≤ n / 64 → bit_in words n ≡ false
+past_words words n past = ap (λ w. bit_at w (n % 64) == 1) (get_or_past words (n / 64) 0 past) ∙ ap (λ x. x == 1) (bit_at-zero (n % 64))
+
+pub none_kept : {words : List ℕ} {len : ℕ} {bits : List Bool} → Keep words len bits → (from : ℕ) → AreNoneSet words from → AreNoneFrom bits from
+none_kept {words} {len} {bits} k from none n low = elim (cases_lt n (length bits)) [
+  | inl inside ↦ sym (place_bit k n inside) ∙ none n low
+  | inr past ↦ get_or_past bits n false past
+]
+
+pub next_kept : {words : List ℕ} {len : ℕ} {bits : List Bool} → Keep words len bits → (from place : ℕ) → IsNextSet words from place → IsNext bits from place
+next_kept {words} {len} {bits} k from place is =
+    let inside : place < length bits = elim (cases_lt place (length bits)) [
+      | inl less ↦ less
+      | inr past ↦ absurd (false≢true (sym (k.are.clear place (omega (arith, past, keep_len k))) ∙ is.there))
+    ] in
+    record {
+      after = is.after;
+      within = inside;
+      there = sym (place_bit k place inside) ∙ is.there;
+      between = λ n low high. sym (place_bit k n (omega (arith, high, inside))) ∙ is.between n low high;
+    }
+
+pub next_of_words : {words : List ℕ} {len : ℕ} {bits : List Bool} → Keep words len bits → (from : ℕ) (r : Option ℕ)
+    → MatchOption r (AreNoneSet words from) (IsNextSet words from) → MatchOption r (AreNoneFrom bits from) (IsNext bits from)
+next_of_words k from (Some place) h = next_kept k from place h
+next_of_words k from None h = none_kept k from h

@@ -1,5 +1,5 @@
 -- Lists of truth values, and how they flow.
-use Rattle.std.specs.Prelude.{ℕ, ◌+◌, ◌/◌, Bool, true, false, ◌&&◌, ◌||◌, not, List, [], ◌∷◌, map, length, get_or}
+use Rattle.std.specs.Prelude.{◌≡◌, ℕ, ◌≤◌, ◌<◌, ◌+◌, ◌/◌, Bool, true, false, ◌&&◌, ◌||◌, not, List, [], ◌∷◌, map, length, get_or}
 use Rattle.std.specs.List.{range_with_len}
 
 -- how many 64-bit words so many bits need
@@ -25,3 +25,14 @@ abbrev pub differ : List Bool → List Bool → Bool
 differ [] [] = false
 differ (x ∷ xs) (y ∷ ys) = is_other x y || differ xs ys
 differ xs ys = true
+
+-- the first place from one on that holds true
+pub record IsNext (bits : List Bool) (from place : ℕ) : Type 0 where
+  pub after : from ≤ place
+  pub within : place < length bits
+  pub there : bit bits place ≡ true
+  pub between : (k : ℕ) → from ≤ k → k < place → bit bits k ≡ false
+
+-- no place from one on holds true
+abbrev pub AreNoneFrom : List Bool → ℕ → Type 0
+AreNoneFrom bits from = (k : ℕ) → from ≤ k → bit bits k ≡ false

@@ -7,6 +7,7 @@ pub mod Sources
 pub mod Search
 pub mod Work
 pub mod Marks
+pub mod Places
 pub mod Access
 pub mod Mentions
 pub use Rattle.dcc_ir.specs.WellFormed

@@ -1,5 +1,5 @@
 -- How words of 64 bits keep a list of truth values. No public contract rests on it.
-use Rattle.std.specs.Prelude.{◌≡◌, ℕ, ◌/◌, ◌%◌, ◌^◌, ◌<◌, ◌≤◌, ◌==◌, Bool, false, List, map, length, get_or, All}
+use Rattle.std.specs.Prelude.{◌≡◌, ℕ, ◌/◌, ◌%◌, ◌^◌, ◌<◌, ◌≤◌, ◌==◌, Bool, true, false, List, map, length, get_or, All}
 use Rattle.std.specs.Prelude.{bit_and, bit_or}
 use Rattle.std.specs.Int.{w64, bit_at, bit_not}
 use Rattle.std.specs.List.{range_with_len}
@@ -28,3 +28,13 @@ abbrev pub flowed_words : List ℕ → List ℕ → List ℕ → List ℕ → Li
 flowed_words words used out written =
     map (λ k. flowed_word (get_or words k 0) (get_or used k 0) (get_or out k 0) (get_or written k 0))
     (range_with_len 0 (length words))
+
+-- the first bit from a place on that is set
+pub record IsNextSet (words : List ℕ) (from place : ℕ) : Type 0 where
+  pub after : from ≤ place
+  pub there : bit_in words place ≡ true
+  pub between : (k : ℕ) → from ≤ k → k < place → bit_in words k ≡ false
+
+-- no bit from a place on is set
+abbrev pub AreNoneSet : List ℕ → ℕ → Type 0
+AreNoneSet words from = (k : ℕ) → from ≤ k → bit_in words k ≡ false

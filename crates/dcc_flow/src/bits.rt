@@ -1,8 +1,9 @@
 //! Lists of truth values in words of 64 bits.
 
-ghost use Rattle.std.specs.Prelude.{◌≡◌, ◌≢◌, ◌+◌, ◌<◌, true, false, length, replicate, slice_set, IfOk, MatchBool};
-ghost use Rattle.dcc_flow.specs.Bits.{words_for, bit, flowed, differ};
-ghost use Rattle.dcc_flow.specs.Words.{flowed_words};
+ghost use Rattle.std.specs.Prelude.{◌≡◌, ◌≢◌, ◌+◌, ◌<◌, true, false, length, replicate, slice_set, IfOk};
+ghost use Rattle.std.specs.Prelude.{MatchBool, MatchOption};
+ghost use Rattle.dcc_flow.specs.Bits.{words_for, bit, flowed, differ, IsNext, AreNoneFrom};
+ghost use Rattle.dcc_flow.specs.Words.{AreWords, flowed_words, IsNextSet, AreNoneSet};
 
 use crate::steps::Steps;
 use std::alloc::{AllocError, Global};
@@ -53,6 +54,25 @@ fn flow_words<L: Ledger>(
     changed
 }
 
+// The first place from one on whose bit is set in the words of so many places, if there is one.
+fn next_set(words: &[u64], len: usize, from: usize) -> Option<usize>
+    requires { AreWords words.now len }
+    ensures { MatchOption result (AreNoneSet words.now from) (IsNextSet words.now from) }
+{
+    if len <= from {
+        return None;
+    }
+    let mut skipped = from % 64;
+    for k in from / 64..words.len() {
+        let rest = words[k] >> skipped;
+        if rest != 0 {
+            return Some(64 * k + skipped + rest.trailing_zeros() as usize);
+        }
+        skipped = 0;
+    }
+    None
+}
+
 impl Bits {
     /// So many values, all false.
     pub fn new(alloc: Global, len: usize) -> Result<Bits, AllocError>
@@ -79,6 +99,14 @@ impl Bits {
         ensures { result ≡ bit self.now i }
     {
         self.words[i / 64] >> (i % 64) & 1 == 1
+    }
+
+    /// The first place from one on that holds true, if there is one. It goes word by word, and so costs little where few
+    /// places hold true.
+    pub fn next(&self, from: usize) -> Option<usize>
+        ensures { MatchOption result (AreNoneFrom self.now from) (IsNext self.now from) }
+    {
+        next_set(self.words.as_slice(), self.len, from)
     }
 
     /// The place takes true.

@@ -1,7 +1,9 @@
 //! Sets of locations.
 
-ghost use Rattle.std.specs.Prelude.{◌≡◌, ℕ, ◌<◌, false, [], length, get_or, OnOk};
+ghost use Rattle.std.specs.Prelude.{◌≡◌, ℕ, ◌<◌, false, [], length, get_or, filter, IfOk, OnOk};
 ghost use Rattle.std.specs.List.{list_any};
+ghost use Rattle.dcc_ir.specs.declared.syntax.Loc.{Loc as Location};
+ghost use Rattle.dcc_ir.specs.Live.{is_among};
 ghost use Rattle.dcc_flow.specs.Marks.{empty, members, with_one, without_one, with_all, without_all, location_number};
 ghost use Rattle.dcc_flow.specs.Marks.{AreNoted};
 
@@ -46,8 +48,22 @@ fn take_out(has: &mut Vec<bool>, noted: &mut Vec<Loc>)
     }
 }
 
+// The locations among these whose numbers hold true.
+fn those_held(alloc: Global, has: &[bool], locations: &[Loc]) -> Result<Vec<Loc>, AllocError>
+    ensures { IfOk result (λ list. list.items ≡ filter (members has.now) locations.now) }
+{
+    let mut list = Vec::new(alloc);
+    for location in locations {
+        let n = number(*location);
+        if n < has.len() && has[n] {
+            list.push(*location)?;
+        }
+    }
+    Ok(list)
+}
+
 /// A set of locations. To look a location up, to put it in and to take it out costs the same however many there are;
-/// to empty the set costs as much as was put in.
+/// to empty the set, or to list what is in it, costs as much as was put in.
 #[derive(Drop)]
 pub struct Marks {
     /// Whether the location of a number is in the set; those of further numbers are not.
@@ -138,6 +154,13 @@ impl Marks {
             }
         }
         false
+    }
+
+    /// The locations in the set, some of them perhaps more than once.
+    pub fn listed(&self, alloc: Global) -> Result<Vec<Loc>, AllocError>
+        ensures { IfOk result (λ list. (x : Location) → is_among list.items x ≡ members self.now x) }
+    {
+        those_held(alloc, self.has.as_slice(), self.noted.as_slice())
     }
 
     /// The set is empty.

@@ -1,11 +1,12 @@
 -- Laws of what blocks read before they write it, of the places of a list, and of loops over lists.
 use Rattle.std.proofs.Common.{◌≡◌, ℕ, zero, suc, ◌+◌, ◌-◌, ◌<◌, ◌≤◌, Bool, true, false, ◌&&◌, ◌||◌, not, inl, inr, List, [], ◌∷◌, ◌++◌, length, get_or, slice_get, slice_set, map, take, drop, flat_map, replicate, Some, refl, sym, ap, ap₂, ◌∙◌, subst, true≢false, arith, Contains, append_assoc}
 use Rattle.std.specs.Prelude.{if◌then◌else◌, All}
-use Rattle.std.proofs.lemmas.Bool.{cases_eq}
-use Rattle.std.proofs.lemmas.List.{length-set, length-replicate, get_or-set_same, get_or-set_other, map_push, get_or-map, take_more, drop_more, flat_map_more}
+use Rattle.std.proofs.Common.{drop_of_length-le as drop_past}
+use Rattle.std.proofs.lemmas.Bool.{cases_eq, cases_lt}
+use Rattle.std.proofs.lemmas.List.{append-nil, get_or-set_same, get_or-set_other, map_push, get_or-map, take_more, drop_more, flat_map_more}
 use Rattle.std.proofs.lemmas.List.Folds.{list_any-append}
-use Rattle.std.proofs.lemmas.List.Elements.{All-push, All-weaker, Contains-append_left, Contains-push, All-contains_itself}
-use Rattle.std.proofs.lemmas.Option.{get_or_from_slice_get, slice_get_within}
+use Rattle.std.proofs.lemmas.List.Elements.{All-push, All-weaker}
+use Rattle.std.proofs.lemmas.Option.{get_or_from_slice_get, slice_get_within, same_Some}
 use Rattle.dcc_ir.specs.declared.syntax.Loc.{Loc}
 use Rattle.dcc_ir.specs.declared.syntax.Expr.{Expr as Expression}
 use Rattle.dcc_ir.specs.Tree.{Stmt, Exit, Block}
@@ -15,11 +16,12 @@ use Rattle.dcc_ir.specs.Use.{reads_of, exprs_of, writes_of, exit_exprs}
 use Rattle.dcc_ir.specs.Live.{is_among, reads_first, writes}
 use Rattle.dcc_ir.proofs.PathLaws.{decided}
 use Rattle.dcc_ir.proofs.LocationLaws.{location_same, location_itself, contains_among, Contains-here, Contains-later, Contains-none, Contains-cases}
-use Rattle.dcc_flow.specs.Bits.{bit}
+use Rattle.dcc_flow.specs.Bits.{bit, IsNext}
 use Rattle.dcc_flow.specs.Access.{Access, access_of, block_access_of}
-use Rattle.dcc_flow.specs.Marks.{empty, with_one, with_all, selected}
-use mathlib.Core.Path.{fun_ext}
-use Rattle.dcc_live.specs.First.{others, first_reads, Row, row_of, IsListed, Tells}
+use Rattle.dcc_flow.specs.Marks.{empty, with_all, selected}
+use Rattle.dcc_flow.specs.Places.{IsPlace, with_places}
+use Rattle.dcc_flow.proofs.PlaceLaws.{with_places_keep, with_places_have}
+use Rattle.dcc_live.specs.First.{others, first_reads, Row, row_of, Tells, TellsOf}
 
 -- Loops that go along a list.
 
@@ -52,6 +54,42 @@ selected_else xs bs i d items inside len out =
     let later = selected (drop (i + 1) xs) (drop (i + 1) bs) in
     sym (ap (λ l. items ++ l) (ap₂ selected (drop_more xs i d inside) (drop_more bs i false (omega (arith, len, inside))) ∙ ap (λ b. if b then get_or xs i d ∷ later else later) out))
 
+-- places that hold false are passed
+pub selected_skip : (xs : List Loc) (bs : List Bool) (d : Loc) (n from to : ℕ) → to ≡ from + n → to ≤ length xs → length bs ≡ length xs → ((k : ℕ) → from ≤ k → k < to → bit bs k ≡ false) →
+    selected (drop from xs) (drop from bs) ≡ selected (drop to xs) (drop to bs)
+selected_skip xs bs d zero from to is within len none = let same : from ≡ to = omega (arith, is) in ap (λ i. selected (drop i xs) (drop i bs)) same
+selected_skip xs bs d (suc n) from to is within len none =
+    sym (selected_else xs bs from d [] (omega (arith, is, within)) len (none from (omega arith) (omega (arith, is))))
+    ∙ selected_skip xs bs d n (from + 1) to (omega (arith, is)) within len (λ k low high. none k (omega (arith, low)) high)
+
+-- no place is left that holds true
+pub selected_none : (xs : List Loc) (bs : List Bool) (d : Loc) (from : ℕ) (items : List Loc) → length bs ≡ length xs → ((k : ℕ) → from ≤ k → bit bs k ≡ false) → items ++ selected (drop from xs) (drop from bs) ≡ items
+selected_none xs bs d from items len none = ap (λ l. items ++ l) rest ∙ append-nil items
+  where
+    past : (i : ℕ) → length xs ≤ i → selected (drop i xs) (drop i bs) ≡ []
+    past i le = ap (λ l. selected l (drop i bs)) (drop_past xs le)
+
+    rest : selected (drop from xs) (drop from bs) ≡ []
+    rest = elim (cases_lt from (length xs)) [
+      | inl less ↦
+          selected_skip xs bs d (length xs - from) from (length xs) (omega (arith, less)) (omega arith) len (λ k low high. none k low) ∙ past (length xs) (omega arith)
+      | inr le ↦ past from le
+    ]
+
+-- the next place that holds true is selected
+pub selected_next : (xs : List Loc) (bs : List Bool) (d : Loc) (from place : ℕ) (items : List Loc) → length bs ≡ length xs → IsNext bs from place →
+    (items ++ get_or xs place d ∷ []) ++ selected (drop (place + 1) xs) (drop (place + 1) bs) ≡ items ++ selected (drop from xs) (drop from bs)
+selected_next xs bs d from place items len next =
+    selected_then xs bs place d items (omega (arith, next.within, len)) len next.there
+    ∙ ap (λ l. items ++ l) (sym (selected_skip xs bs d (place - from) from place (omega (arith, next.after)) (omega (arith, next.within, len)) len next.between))
+
+-- the next place that holds true is selected, where its location is read from a list that is that of the places
+pub selected_read : (list xs : List Loc) (bs : List Bool) (d : Loc) (from place : ℕ) (items after : List Loc) → list ≡ xs → after ≡ items ++ get_or list place d ∷ [] → length bs ≡ length xs → IsNext bs from place →
+    after ++ selected (drop (place + 1) xs) (drop (place + 1) bs) ≡ items ++ selected (drop from xs) (drop from bs)
+selected_read list xs bs d from place items after same is len next =
+    ap (λ l. l ++ selected (drop (place + 1) xs) (drop (place + 1) bs)) (is ∙ ap (λ l. items ++ get_or l place d ∷ []) same)
+    ∙ selected_next xs bs d from place items len next
+
 -- a location is selected by its place
 pub selected_sound : (xs : List Loc) (bs : List Bool) (l : Loc) → Contains (selected xs bs) l → (k : ℕ) × (slice_get xs k ≡ Some l) × (bit bs k ≡ true)
 selected_sound [] bs l c = absurd (Contains-none l c)
@@ -82,63 +120,84 @@ selected_complete (x ∷ xs) (b ∷ bs) (suc k) l at t = go b (selected_complete
     go true d = Contains-later x (selected xs bs) l d
     go false d = d
 
--- Bits that tell.
-
--- the bits tell of the places below one, and hold false from there on
-pub record TellsTo (places : List Loc) (has : Loc → Bool) (i : ℕ) (bits : List Bool) : Type 0 where
-  pub len : length bits ≡ length places
-  pub below : (k : ℕ) (x : Loc) → k < i → slice_get places k ≡ Some x → bit bits k ≡ has x
-  pub above : (k : ℕ) → i ≤ k → bit bits k ≡ false
-
-pub tells_none : (places : List Loc) (has : Loc → Bool) (bits : List Bool) → bits ≡ replicate (length places) false → TellsTo places has 0 bits
-tells_none places has bits is = record {
-  len = ap length is ∙ length-replicate (length places) false;
-  below = λ k x less at. absurd (omega (arith, less));
-  above = λ k le. ap (λ l. bit l k) is ∙ all_false (length places) k;
-}
-  where
-    all_false : (n k : ℕ) → bit (replicate n false) k ≡ false
-    all_false zero k = none k
-      where
-        none : (k : ℕ) → bit [] k ≡ false
-        none zero = refl
-        none (suc k) = refl
-    all_false (suc n) zero = refl
-    all_false (suc n) (suc k) = all_false n k
-
-pub tells_then : (places : List Loc) (has : Loc → Bool) (i : ℕ) (bits : List Bool) (d : Loc) → i < length places → has (get_or places i d) ≡ true → TellsTo places has i bits →
-    TellsTo places has (i + 1) (slice_set bits i true)
-tells_then places has i bits d inside there h = record {
-  len = length-set bits i true ∙ h.len;
-  below = λ k y less at. elim (cases_eq k i) [
-    | inl e ↦
-        let same : get_or places i d ≡ y = get_or_from_slice_get places i y d (subst (λ j. slice_get places j ≡ Some y) e at) in
-        ap (λ j. bit (slice_set bits i true) j) e ∙ get_or-set_same bits i true false (omega (arith, h.len, inside)) ∙ sym there ∙ ap has same
-    | inr o ↦ get_or-set_other bits i k true false o ∙ h.below k y (omega (arith, less, o)) at
-  ];
-  above = λ k le. get_or-set_other bits i k true false (λ e. omega (arith, e, le)) ∙ h.above k (omega (arith, le));
-}
-
-pub tells_else : (places : List Loc) (has : Loc → Bool) (i : ℕ) (bits : List Bool) (d : Loc) → i < length places → has (get_or places i d) ≡ false → TellsTo places has i bits →
-    TellsTo places has (i + 1) bits
-tells_else places has i bits d inside out h = record {
-  len = h.len;
-  below = λ k y less at. elim (cases_eq k i) [
-    | inl e ↦
-        let same : get_or places i d ≡ y = get_or_from_slice_get places i y d (subst (λ j. slice_get places j ≡ Some y) e at) in
-        h.above k (omega (arith, e)) ∙ sym out ∙ ap has same
-    | inr o ↦ h.below k y (omega (arith, less, o)) at
-  ];
-  above = λ k le. h.above k (omega (arith, le));
-}
-
-pub tells_all : (places : List Loc) (has : Loc → Bool) (i : ℕ) (bits : List Bool) → length places ≤ i → TellsTo places has i bits → Tells places has bits
-tells_all places has i bits all h k x at = h.below k x (omega (arith, all, slice_get_within places k x at)) at
-
 -- Reads before writes.
 
 pub among_append : (xs ys : List Loc) (l : Loc) → is_among (xs ++ ys) l ≡ (is_among xs l || is_among ys l)
 among_append xs ys l = list_any-append (same_location l) xs ys
+
+-- Bits that tell of a list.
+
+none_at : (n k : ℕ) → bit (replicate n false) k ≡ false
+none_at zero zero = refl
+none_at zero (suc k) = refl
+none_at (suc n) zero = refl
+none_at (suc n) (suc k) = none_at n k
+
+pub told_none : (places : List Loc) (bits : List Bool) → bits ≡ replicate (length places) false → TellsOf places [] bits
+told_none places bits is k x at = ap (λ l. bit l k) is ∙ none_at (length places) k
+
+-- one more location of a list
+among_more : (xs : List Loc) (i : ℕ) (d y : Loc) → i < length xs → with_all empty (take (i + 1) xs) y ≡ (with_all empty (take i xs) y || same_location y (get_or xs i d))
+among_more xs i d y inside =
+    ap (λ l. with_all empty l y) (take_more xs i d inside) ∙ ap (λ b. b || false) (among_append (take i xs) (get_or xs i d ∷ []) y)
+    ∙ turned (is_among (take i xs) y) (same_location y (get_or xs i d))
+  where
+    turned : (a b : Bool) → ((a || (b || false)) || false) ≡ ((a || false) || b)
+    turned true b = refl
+    turned false true = refl
+    turned false false = refl
+
+-- a location that is another one than the next one of a list
+told_other : (xs : List Loc) (i : ℕ) (d y : Loc) → i < length xs → same_location y (get_or xs i d) ≡ false → with_all empty (take i xs) y ≡ with_all empty (take (i + 1) xs) y
+told_other xs i d y inside other =
+    let b = with_all empty (take i xs) y in
+    sym (among_more xs i d y inside ∙ ap (λ s. b || s) other ∙ none b)
+  where
+    none : (b : Bool) → (b || false) ≡ b
+    none true = refl
+    none false = refl
+
+-- the next location of the list has a place
+pub told_at : (places xs : List Loc) (i : ℕ) (d : Loc) (bits : List Bool) (p : ℕ) → i < length xs → length bits ≡ length places → IsPlace places (get_or xs i d) p → TellsOf places (take i xs) bits →
+    TellsOf places (take (i + 1) xs) (slice_set bits p true)
+told_at places xs i d bits p inside len is told k y at =
+    let x = get_or xs i d in
+    let within = slice_get_within places p x ((is p).1 refl) in
+    elim (cases_eq k p) [
+      | inl e ↦
+          let same : y ≡ x = same_Some y x (sym at ∙ (is k).1 e) in
+          ap (λ j. bit (slice_set bits p true) j) e ∙ get_or-set_same bits p true false (omega (arith, len, within))
+          ∙ sym (among_more xs i d y inside ∙ ap (λ s. with_all empty (take i xs) y || s) (ap (λ z. same_location z x) same ∙ location_itself x) ∙ last (with_all empty (take i xs) y))
+      | inr o ↦
+          get_or-set_other bits p k true false o ∙ told k y at
+          ∙ told_other xs i d y inside (elim (decided (same_location y x)) [
+            | inl t ↦ absurd (o ((is k).0 (subst (λ z. slice_get places k ≡ Some z) (location_same y x t) at)))
+            | inr f ↦ f
+          ])
+    ]
+  where
+    last : (b : Bool) → (b || true) ≡ true
+    last true = refl
+    last false = refl
+
+-- the next location of the list has none
+pub told_away : (places xs : List Loc) (i : ℕ) (d : Loc) (bits : List Bool) → i < length xs → is_among places (get_or xs i d) ≡ false → TellsOf places (take i xs) bits →
+    TellsOf places (take (i + 1) xs) bits
+told_away places xs i d bits inside out told k y at =
+    told k y at ∙ told_other xs i d y inside (elim (decided (same_location y (get_or xs i d))) [
+      | inl t ↦ absurd (true≢false (sym (ap (is_among places) (sym (location_same y (get_or xs i d) t)) ∙ contains_among places y (k, slice_get_within places k y at, get_or_from_slice_get places k y y at)) ∙ out))
+      | inr f ↦ f
+    ])
+
+-- a set and a list of the same locations
+pub tells_listed : (places xs : List Loc) (has : Loc → Bool) (bits : List Bool) → ((x : Loc) → is_among xs x ≡ has x) → TellsOf places xs bits → Tells places has bits
+tells_listed places xs has bits same told k x at = told k x at ∙ none (is_among xs x) ∙ same x
+  where
+    none : (b : Bool) → (b || false) ≡ b
+    none true = refl
+    none false = refl
+
+-- What is read and was not written before.
 
 pub among_others : (written : Loc → Bool) (xs : List Loc) (l : Loc) → is_among (others written xs) l ≡ (not (written l) && is_among xs l)
 among_others written [] l = go (not (written l))
@@ -214,45 +273,17 @@ map_read f xs i x inside read = ap f read ∙ sym (get_or-map f xs i x (f x) ins
 
 -- Places.
 
--- what is put at the end of the list and into the set is listed
-pub listed_more : (list : List Loc) (has has' : Loc → Bool) (x : Loc) → IsListed list has → has' ≡ with_one has x → IsListed (list ++ x ∷ []) has'
-listed_more list has has' x listed is y t = elim (decided (same_location y x)) [
-  | inl same ↦ subst (Contains (list ++ x ∷ [])) (sym (location_same y x same)) (Contains-push list x)
-  | inr other ↦ Contains-append_left list (x ∷ []) y (listed y (sym (ap (λ s. s || has y) other) ∙ sym (ap (λ h. h y) is) ∙ t))
-]
-
--- what is in the set already
-pub with_still : (has : Loc → Bool) (x : Loc) → has x ≡ true → with_one has x ≡ has
-with_still has x there = fun_ext (λ l. elim (decided (same_location l x)) [
-  | inl t ↦ ap (λ s. s || has l) t ∙ sym (ap has (location_same l x t) ∙ there)
-  | inr f ↦ ap (λ s. s || has l) f
-])
-
--- what has been put in stays
-pub with_all_in : (has : Loc → Bool) (xs : List Loc) → All (λ x. with_all has xs x ≡ true) xs
-with_all_in has xs = All-weaker (Contains xs) (λ x. with_all has xs x ≡ true) (λ x c. ap (λ b. b || has x) (contains_among xs x c)) xs (All-contains_itself xs)
-
-pub with_all_still : (has : Loc → Bool) (xs : List Loc) (x : Loc) → has x ≡ true → with_all has xs x ≡ true
-with_all_still has xs x t = go (is_among xs x) t
-  where
-    go : (b : Bool) → has x ≡ true → (b || has x) ≡ true
-    go true t = refl
-    go false t = t
-
-pub rows_known : (rows : List Row) (i : ℕ) (row : Row) (has has' : Loc → Bool) → i < length rows → row ≡ get_or rows i row → has' ≡ with_all has row.first →
-    All (λ (row : Row). All (λ (x : Loc). has x ≡ true) row.first) (take i rows) → All (λ (row : Row). All (λ (x : Loc). has' x ≡ true) row.first) (take (i + 1) rows)
-rows_known rows i row has has' inside read is all =
-    subst (λ h. All (λ (row : Row). All (λ (x : Loc). h x ≡ true) row.first) (take (i + 1) rows)) (sym is)
-    (subst (All (λ (r : Row). All (λ (x : Loc). with_all has row.first x ≡ true) r.first)) (sym (take_more rows i row inside ∙ ap (λ r. take i rows ++ r ∷ []) (sym read)))
-    (All-push (λ (r : Row). All (λ (x : Loc). with_all has row.first x ≡ true) r.first) (take i rows) row
-    (All-weaker (λ (r : Row). All (λ (x : Loc). has x ≡ true) r.first) (λ (r : Row). All (λ (x : Loc). with_all has row.first x ≡ true) r.first)
-    (λ r known. All-weaker (λ x. has x ≡ true) (λ x. with_all has row.first x ≡ true) (λ x t. with_all_still has row.first x t) r.first known) (take i rows) all)
-    (with_all_in has row.first)))
-
-pub rows_listed : (rows : List Row) (places : List Loc) (has : Loc → Bool) → IsListed places has → All (λ (row : Row). All (λ (x : Loc). has x ≡ true) row.first) rows → All (λ (row : Row). All (Contains places) row.first) rows
-rows_listed rows places has listed all =
-    All-weaker (λ (r : Row). All (λ (x : Loc). has x ≡ true) r.first) (λ (r : Row). All (Contains places) r.first)
-    (λ r known. All-weaker (λ x. has x ≡ true) (Contains places) listed r.first known) rows all
+-- one more row whose first reads have their places
+pub rows_placed : (rows : List Row) (i : ℕ) (row : Row) (places after : List Loc) → i < length rows → row ≡ get_or rows i row → after ≡ with_places places row.first →
+    All (λ (row : Row). All (Contains places) row.first) (take i rows) → All (λ (row : Row). All (Contains after) row.first) (take (i + 1) rows)
+rows_placed rows i row places after inside read is all =
+    let more = with_places places row.first in
+    subst (λ l. All (λ (row : Row). All (Contains l) row.first) (take (i + 1) rows)) (sym is)
+    (subst (All (λ (r : Row). All (Contains more) r.first)) (sym (take_more rows i row inside ∙ ap (λ r. take i rows ++ r ∷ []) (sym read)))
+    (All-push (λ (r : Row). All (Contains more) r.first) (take i rows) row
+    (All-weaker (λ (r : Row). All (Contains places) r.first) (λ (r : Row). All (Contains more) r.first)
+    (λ r known. All-weaker (Contains places) (Contains more) (λ x c. with_places_keep places row.first x c) r.first known) (take i rows) all)
+    (with_places_have places row.first)))
 
 -- the last of the first elements of a list begins the rest
 pub drop_last : {A : Type 0} (xs : List A) (at : ℕ) (a : A) → 0 < at → at ≤ length xs → a ≡ get_or xs (at - 1) a → drop (at - 1) xs ≡ a ∷ drop at xs

@@ -1,6 +1,6 @@
 -- What a block reads before it writes it, and how code tells it at the places of a list.
 use Rattle.std.specs.Prelude.{◌≡◌, ℕ, ◌<◌, Bool, true, not, ◌↔◌, List, [], ◌∷◌, ◌++◌, length, get_or, filter, flat_map}
-use Rattle.std.specs.Prelude.{Contains, slice_get, Some}
+use Rattle.std.specs.Prelude.{slice_get, Some}
 use Rattle.dcc_ir.specs.declared.syntax.Loc.{Loc}
 use Rattle.dcc_ir.specs.Tree.{Graph}
 use Rattle.dcc_ir.specs.Live.{IsLiveAfter}
@@ -29,10 +29,6 @@ row_of b = record { first = first_reads empty b.stmts b.last; writes = flat_map 
 
 abbrev pub row_in : RowOf → Row
 row_in r = record { first = r.first.items; writes = r.writes.items }
-
--- all that is in the set is in the list
-abbrev pub IsListed : List Loc → (Loc → Bool) → Type 0
-IsListed xs has = (x : Loc) → has x ≡ true → Contains xs x
 
 -- at the place of each location the bits tell whether it is in the set
 abbrev pub Tells : List Loc → (Loc → Bool) → List Bool → Type 0

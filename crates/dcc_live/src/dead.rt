@@ -58,16 +58,16 @@ fn block_left(
 ) -> Result<Block, AllocError>
     requires empty { members marks.old ≡ empty }
     requires place { place < length needed.now.at_end.items }
-    requires len { All (λ bits. length bits ≡ length needed.now.places.items) needed.now.at_end.items }
+    requires len { All (λ bits. length bits ≡ length needed.now.places) needed.now.at_end.items }
     requires access { block_access_in access.now ≡ block_access_of (block_of block) }
     ensures left { IfOk result (λ left. block_of left
-        ≡ block_left needed.now.places.items (get_or needed.now.at_end.items place []) (block_of block)) }
+        ≡ block_left needed.now.places (get_or needed.now.at_end.items place []) (block_of block)) }
     ensures empty { OnOk result (members marks.new ≡ empty) }
 {
     begin(
         alloc,
         marks,
-        needed.places.as_slice(),
+        &needed.places,
         &needed.at_end[place],
         access.last.as_slice(),
     )?;
@@ -88,10 +88,10 @@ fn blocks_left(
     blocks: Vec<Block>,
 ) -> Result<Vec<Block>, AllocError>
     requires count { length needed.now.at_end.items ≡ length blocks.items }
-    requires len { All (λ bits. length bits ≡ length needed.now.places.items) needed.now.at_end.items }
+    requires len { All (λ bits. length bits ≡ length needed.now.places) needed.now.at_end.items }
     requires accesses { map block_access_in accesses.now.items ≡ map block_access_of (map block_of blocks.items) }
     ensures { IfOk result (λ left. map block_of left.items
-        ≡ blocks_left needed.now.places.items needed.now.at_end.items (map block_of blocks.items)) }
+        ≡ blocks_left needed.now.places needed.now.at_end.items (map block_of blocks.items)) }
 {
     let mut marks = Marks::new(alloc);
     let mut rest = blocks;
@@ -117,7 +117,7 @@ fn needed_in<L: Ledger>(
     requires name { blank.name ≡ L.name }
     requires parts { blank.parts ≡ L.parts }
     requires some { 0 < blank.parts }
-    ensures { IfOk result (λ w. AreNeededAtEnds (graph_of g.now) w.places.items w.at_end.items) }
+    ensures { IfOk result (λ w. AreNeededAtEnds (graph_of g.now) w.places w.at_end.items) }
 {
     let mut steps = Steps::<L>::new(blank);
     needed_at_ends(alloc, g, accesses, &mut steps)

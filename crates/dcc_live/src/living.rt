@@ -1,39 +1,20 @@
 //! Which locations are live at the ends of blocks.
 
-ghost use Rattle.std.specs.Prelude.{◌≡◌, ◌<◌, length, map, All, IfOk, OnOk};
+ghost use Rattle.std.specs.Prelude.{◌≡◌, ◌<◌, length, map, All, IfOk};
 ghost use Rattle.dcc_ir.specs.Views.{graph_of, live_of};
 ghost use Rattle.dcc_ir.specs.WellFormed.{IsGraph};
 ghost use Rattle.dcc_ir.specs.Live.{IsLive};
 ghost use Rattle.dcc_flow.specs.Access.{accesses_of};
-ghost use Rattle.dcc_flow.specs.Marks.{empty, members, selected};
-ghost use Rattle.dcc_live.specs.First.{row_of, row_in, TellsOf, AreTold, AreLiveBits};
+ghost use Rattle.dcc_flow.specs.Marks.{selected};
+ghost use Rattle.dcc_live.specs.First.{row_of, row_in, AreTold, AreLiveBits};
 
-use crate::places::{bits_of, selected};
+use crate::places::{bits_at, selected};
 use crate::rows::{Row, places, rows};
-use dcc_flow::{Bits, Marks, Steps, accesses, solve, successors};
+use dcc_flow::{Bits, Places, Steps, accesses, solve, successors};
 use dcc_ir::{Graph, Live, Loc, Sums};
 use std::alloc::{AllocError, Global};
 use std::marker::Brand;
 use std::sync::ledger::{Blank, Ledger};
-
-// Which of these locations are in the list. The set is empty, before and after.
-fn told<L: Ledger>(
-    alloc: Global,
-    places: &[Loc],
-    marks: &mut Marks,
-    locations: &[Loc],
-    steps: &mut Steps<L>,
-) -> Result<Bits, AllocError>
-    requires { members marks.old ≡ empty }
-    ensures len { IfOk result (λ bits. length bits ≡ length places.now) }
-    ensures tells { IfOk result (TellsOf places.now locations.now) }
-    ensures marks { OnOk result (members marks.new ≡ empty) }
-{
-    marks.add_all(locations)?;
-    let bits = bits_of(alloc, places, marks, steps)?;
-    marks.clear();
-    Ok(bits)
-}
 
 /// For each block which of these locations it reads before it writes them, and which it writes.
 #[derive(Drop)]
@@ -45,19 +26,18 @@ pub struct Table {
 // For each block which of these locations it reads before it writes them, and which it writes.
 fn table_of<L: Ledger>(
     alloc: Global,
-    places: &[Loc],
+    places: &Places,
     rows: &Vec<Row>,
     steps: &mut Steps<L>,
 ) -> Result<Table, AllocError>
     ensures { IfOk result
         (λ table. AreTold places.now (map row_in rows.now.items) table.used.items table.written.items) }
 {
-    let mut marks = Marks::new(alloc);
     let mut used = Vec::new(alloc);
     let mut written = Vec::new(alloc);
     for row in rows {
-        used.push(told(alloc, places, &mut marks, row.first.as_slice(), steps)?)?;
-        written.push(told(alloc, places, &mut marks, row.writes.as_slice(), steps)?)?;
+        used.push(bits_at(alloc, places, row.first.as_slice(), steps)?)?;
+        written.push(bits_at(alloc, places, row.writes.as_slice(), steps)?)?;
     }
     Ok(Table { used, written })
 }
@@ -67,7 +47,7 @@ fn live_bits<L: Ledger>(
     alloc: Global,
     blank: Blank,
     g: &Graph,
-    places: &[Loc],
+    places: &Places,
     rows: &Vec<Row>,
 ) -> Result<Vec<Bits>, AllocError>
     requires graph { IsGraph (graph_of g.now) }
@@ -94,7 +74,7 @@ fn live_bits<L: Ledger>(
 // The locations that each of these selects.
 fn all_selected(
     alloc: Global,
-    places: &[Loc],
+    places: &Places,
     bits: &Vec<Bits>,
 ) -> Result<Vec<Vec<Loc>>, AllocError>
     requires { All (λ b. length b ≡ length places.now) bits.now.items }
@@ -116,8 +96,7 @@ pub fn live(alloc: Global, g: &Graph, _sums: &Sums) -> Result<Live, AllocError>
     let blocks = accesses(alloc, g)?;
     let rows = rows(alloc, &blocks)?;
     let places = places(alloc, &rows)?;
-    let slice = places.as_slice();
-    let bits = live_bits::<Brand>(alloc, Blank::new(1), g, slice, &rows)?;
-    let at_end = all_selected(alloc, slice, &bits)?;
+    let bits = live_bits::<Brand>(alloc, Blank::new(1), g, &places, &rows)?;
+    let at_end = all_selected(alloc, &places, &bits)?;
     Ok(Live { at_end })
 }

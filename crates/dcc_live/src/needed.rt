@@ -10,7 +10,7 @@ ghost use Rattle.dcc_live.specs.Needed.{stays, before_one, before_all, after_stm
 
 use crate::places::{bits_of, selected};
 use crate::rows::{places, rows};
-use dcc_flow::{Access, Bits, BlockAccess, Flow, Marks, Steps, Work, preds, successors};
+use dcc_flow::{Access, Bits, BlockAccess, Flow, Marks, Places, Steps, Work, preds, successors};
 use dcc_ir::{Graph, Loc};
 use std::alloc::{AllocError, Global};
 use std::sync::ledger::Ledger;
@@ -40,7 +40,7 @@ pub fn pass(marks: &mut Marks, access: &Access) -> Result<bool, AllocError>
 pub fn begin(
     alloc: Global,
     marks: &mut Marks,
-    places: &[Loc],
+    places: &Places,
     bits: &Bits,
     last: &[Loc],
 ) -> Result<(), AllocError>
@@ -69,7 +69,7 @@ fn pass_all(marks: &mut Marks, stmts: &[Access]) -> Result<(), AllocError>
 fn needed_before<L: Ledger>(
     alloc: Global,
     marks: &mut Marks,
-    places: &[Loc],
+    places: &Places,
     bits: &Bits,
     block: &BlockAccess,
     steps: &mut Steps<L>,
@@ -91,7 +91,7 @@ fn needed_before<L: Ledger>(
 #[derive(Drop)]
 pub struct NeededEnds {
     /// Some locations, all those among them that are needed at the end of a block.
-    pub places: Vec<Loc>,
+    pub places: Places,
     /// For each block which of them are needed at its end.
     pub at_end: Vec<Bits>,
 }
@@ -100,7 +100,7 @@ pub struct NeededEnds {
 fn solved<L: Ledger>(
     alloc: Global,
     g: &Graph,
-    places: &[Loc],
+    places: &Places,
     blocks: &Vec<BlockAccess>,
     steps: &mut Steps<L>,
 ) -> Result<Vec<Bits>, AllocError>
@@ -141,10 +141,10 @@ pub(crate) fn needed_at_ends<L: Ledger>(
 ) -> Result<NeededEnds, AllocError>
     requires graph { IsGraph (graph_of g.now) }
     requires blocks { map block_access_in blocks.now.items ≡ accesses_of (graph_of g.now) }
-    ensures { IfOk result (λ w. AreNeededAtEnds (graph_of g.now) w.places.items w.at_end.items) }
+    ensures { IfOk result (λ w. AreNeededAtEnds (graph_of g.now) w.places w.at_end.items) }
 {
     let rows = rows(alloc, blocks)?;
     let places = places(alloc, &rows)?;
-    let at_end = solved(alloc, g, places.as_slice(), blocks, steps)?;
+    let at_end = solved(alloc, g, &places, blocks, steps)?;
     Ok(NeededEnds { places, at_end })
 }

@@ -3,9 +3,9 @@
 ghost use Rattle.std.specs.Prelude.{◌≡◌, ◌++◌, [], map, flat_map, All, Contains, IfOk, OnOk};
 ghost use Rattle.dcc_flow.specs.Access.{access_in, block_access_in};
 ghost use Rattle.dcc_flow.specs.Marks.{empty, members, with_all};
-ghost use Rattle.dcc_live.specs.First.{others, row_of, row_in, IsListed};
+ghost use Rattle.dcc_live.specs.First.{others, row_of, row_in};
 
-use dcc_flow::{Access, BlockAccess, Marks};
+use dcc_flow::{Access, BlockAccess, Marks, Places};
 use dcc_ir::Loc;
 use std::alloc::{AllocError, Global};
 
@@ -92,29 +92,13 @@ pub fn rows(alloc: Global, blocks: &Vec<BlockAccess>) -> Result<Vec<Row>, AllocE
     Ok(rows)
 }
 
-// Puts the locations at the end of a list, but for those in the set, and into the set.
-fn add_new(list: &mut Vec<Loc>, known: &mut Marks, locations: &[Loc]) -> Result<(), AllocError>
-    requires { IsListed list.old.items (members known.old) }
-    ensures listed { OnOk result (IsListed list.new.items (members known.new)) }
-    ensures known { OnOk result (members known.new ≡ with_all (members known.old) locations.now) }
-{
-    for location in locations {
-        if !known.contains(*location) {
-            list.push(*location)?;
-            known.add(*location)?;
-        }
-    }
-    Ok(())
-}
-
 /// The locations that some block reads before it writes them, each once.
-pub fn places(alloc: Global, rows: &Vec<Row>) -> Result<Vec<Loc>, AllocError>
-    ensures { IfOk result (λ places. All (λ row. All (Contains places.items) row.first) (map row_in rows.now.items)) }
+pub fn places(alloc: Global, rows: &Vec<Row>) -> Result<Places, AllocError>
+    ensures { IfOk result (λ places. All (λ row. All (Contains places) row.first) (map row_in rows.now.items)) }
 {
-    let mut known = Marks::new(alloc);
-    let mut places = Vec::new(alloc);
+    let mut places = Places::new(alloc);
     for row in rows {
-        add_new(&mut places, &mut known, row.first.as_slice())?;
+        places.add_all(row.first.as_slice())?;
     }
     Ok(places)
 }

@@ -1,6 +1,6 @@
 -- What a rule's stored fact says of a call of it.
-use Rattle.std.proofs.Common.{◌≡◌, ℕ, zero, suc, ◌+◌, ◌-◌, ◌<◌, ◌≤◌, Bool, true, false, not, ◌&&◌, ◌⊎◌, inl, inr, List, [], ◌∷◌, length, Option, Some, None, option_map, Result, Ok, Err, IfOk, refl, sym, ap, ◌∙◌, subst, eqb, arith}
-use Rattle.std.specs.Prelude.{if◌then◌else◌, ◌==◌, slice_get}
+use Rattle.std.proofs.Common.{◌≡◌, ℕ, ◌<◌, ◌≤◌, Bool, true, false, not, ◌&&◌, ◌⊎◌, inl, inr, List, [], ◌∷◌, Option, Some, None, option_map, Result, Ok, Err, IfOk, refl, sym, ap, ◌∙◌, subst, arith}
+use Rattle.std.specs.Prelude.{if◌then◌else◌, ◌==◌}
 use Rattle.std.proofs.Math.Logic.{∥∥₁_elim}
 use Rattle.std.proofs.Props.{props}
 use Rattle.std.proofs.lemmas.Bool.{ne_eqb}
@@ -9,9 +9,9 @@ use Rattle.std.specs.declared.alloc.AllocError.{AllocError}
 use Rattle.dcc_ir.specs.declared.syntax.Expr.{Expr as Expression}
 use Rattle.dcc_ir.specs.Views.{expr_of}
 use Rattle.dcc_ir.specs.Tree.{Expr}
-use Rattle.dcc_ir.specs.Forms.{forms, passes, has_form}
+use Rattle.dcc_ir.specs.Forms.{forms, passes}
 use Rattle.dcc_rules.specs.Simpler.{IsSimplerUnder}
-use Rattle.dcc_rules.specs.Forms.{is_low_half, is_high_half, is_joined_again, is_whole, is_narrowed_again, has_form_under, has_no_form}
+use Rattle.dcc_rules.specs.Forms.{is_low_half, is_high_half, is_joined_again, is_whole, is_narrowed_again, has_form_under}
 use Rattle.dcc_rules.specs.Rules.{AnswersUnder, MeetsRuleUnder, ListAnswers}
 
 simpler-is-prop : (bits : List ℕ) (given other : Expr) → IsProp (IsSimplerUnder bits given other)

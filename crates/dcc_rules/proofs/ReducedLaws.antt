@@ -1,20 +1,18 @@
 -- Reduced expressions: a chain of them, and expressions of which the parts are reduced.
-use Rattle.std.proofs.Common.{◌≡◌, ℕ, suc, ◌+◌, ◌*◌, ◌/◌, ◌%◌, ◌^◌, ◌<◌, ◌≤◌, max, cond, Bool, true, false, ◌&&◌, ◌||◌, not, List, [], ◌∷◌, ◌++◌, length, refl, sym, ap, ◌∙◌, subst, arith, length-append, true≢false}
+use Rattle.std.proofs.Common.{◌≡◌, ℕ, ◌+◌, ◌*◌, ◌/◌, ◌%◌, ◌^◌, ◌<◌, ◌≤◌, cond, Bool, true, false, ◌&&◌, ◌||◌, not, List, ◌∷◌, ◌++◌, length, refl, sym, ap, ◌∙◌, subst, arith, length-append, true≢false}
 use Rattle.std.specs.Prelude.{if◌then◌else◌, ◌==◌, nat_lt, nat_le}
 use Rattle.std.specs.List.{list_all, flat_map, count_by}
 use Rattle.std.proofs.lemmas.List.Sums.{sum_by-cons, sum_by-append}
 use Rattle.std.proofs.lemmas.Grind.{flat_map-append}
-use Rattle.dcc_ir.specs.declared.syntax.Loc.{Loc}
 use Rattle.dcc_ir.specs.declared.syntax.UnOp.{UnOp}
 use Rattle.dcc_ir.specs.declared.syntax.BinOp.{BinOp}
 use Rattle.dcc_ir.specs.Tree.{Expr, Const, Get, Load, Unary, Binary, Widen, Part, Join, Choose, Address}
 use Rattle.dcc_ir.specs.Location.{same_location}
-use Rattle.dcc_ir.specs.Value.{is_comparison, is_test, width_of, signed_at, pattern_at, unary_value, binary_value, bytes_at, Environment, value_of, Fits}
+use Rattle.dcc_ir.specs.Value.{width_of, signed_at, pattern_at, unary_value, binary_value, bytes_at, value_of}
 use Rattle.dcc_ir.specs.WellFormed.{is_width, is_stored_width, is_division, divides_safely, is_expr}
 use Rattle.dcc_ir.specs.Use.{parts_of, got_by, addressed_by, reads_of, addresses_of}
 use Rattle.dcc_ir.specs.Live.{is_among}
-use Rattle.dcc_ir.specs.Measure.{nodes_of, depth_of, is_truth, truths_of}
-use Rattle.dcc_ir.specs.Rules.{are_widths}
+use Rattle.dcc_ir.specs.Measure.{nodes_of, is_truth}
 use Rattle.dcc_ir.proofs.FitLaws.{both}
 use Rattle.dcc_ir.proofs.LocationLaws.{location_same, location_itself}
 use Rattle.dcc_rules.specs.Simpler.{is_distance_among, MeansSame, KeepsMeaning, AddsNothing, IsSimplerUnder, IsReduced}

@@ -1,7 +1,7 @@
 -- The forms of the rewritings that are known by a number, where the widths of temporaries are told.
 use Rattle.std.specs.Prelude.{ℕ, ◌+◌, ◌==◌, Bool, true, false, ◌&&◌, not, if◌then◌else◌, List, drop}
 use Rattle.std.specs.List.{list_all}
-use Rattle.dcc_ir.specs.Tree.{Expr, Widen, Part, Join}
+use Rattle.dcc_ir.specs.Tree.{Expr, Const, Get, Widen, Part, Join, Address}
 use Rattle.dcc_ir.specs.Value.{width_of}
 use Rattle.dcc_ir.specs.Use.{parts_of}
 use Rattle.dcc_ir.specs.Forms.{same_expr, has_form}
@@ -42,6 +42,13 @@ has_form_under id bits e =
     else if id == 38 then is_whole bits e
     else if id == 39 then is_narrowed_again bits e
     else has_form id e
+
+-- the expression has no part but itself
+abbrev pub is_leaf : Expr → Bool
+is_leaf (Const width n) = true
+is_leaf (Get location) = true
+is_leaf (Address distance) = true
+is_leaf _ = false
 
 -- the expression has the form of none of the numbers
 abbrev pub has_no_form : List ℕ → List ℕ → Expr → Bool

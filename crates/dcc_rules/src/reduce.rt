@@ -3,7 +3,7 @@
 ghost use Rattle.std.specs.Prelude.{◌≡◌, ℕ, List, true, IfOk, option_map};
 ghost use Rattle.dcc_ir.specs.Views.{expr_of};
 ghost use Rattle.dcc_rules.specs.Simpler.{IsReduced};
-ghost use Rattle.dcc_rules.specs.Forms.{is_normal_under, has_normal_parts};
+ghost use Rattle.dcc_rules.specs.Forms.{is_leaf, is_normal_under, has_normal_parts};
 ghost use Rattle.dcc_rules.specs.Rules.{ListAnswers};
 ghost use Rattle.dcc_rules.specs.Views.{numbers_of};
 
@@ -22,6 +22,22 @@ pub trait Answers {
             ListAnswers (ids self.now) bits.now (expr_of e.now) (option_map expr_of answer)) };
 }
 
+// Whether the expression has no part but itself.
+fn is_leaf(e: &Expr) -> bool
+    ensures { result ≡ is_leaf (expr_of e.now) }
+{
+    match e {
+        Expr::Const(..) | Expr::Get(_) | Expr::Address(_) => true,
+        Expr::Load(..)
+        | Expr::Un(..)
+        | Expr::Bin(..)
+        | Expr::Widen(..)
+        | Expr::Part(..)
+        | Expr::Join(..)
+        | Expr::Choose(..) => false,
+    }
+}
+
 // The expression, whose parts are simple, made simpler until no rule has a place.
 #[cycle(simplified)]
 fn simplified<A: Answers>(
@@ -33,6 +49,10 @@ fn simplified<A: Answers>(
     ensures reduced { IfOk result (λ o. IsReduced bits.now (expr_of e) (expr_of o)) }
     ensures normal { IfOk result (λ o. is_normal_under (A.ids answers.now) bits.now (expr_of o) ≡ true) }
 {
+    if is_leaf(&e) {
+        // An answer has fewer nodes than what it is for, and so no rule answers for a single node.
+        return Ok(e);
+    }
     let e = parts_simplified(alloc, answers, bits, e)?;
     match answers.answer(alloc, bits, &e)? {
         None => Ok(e),

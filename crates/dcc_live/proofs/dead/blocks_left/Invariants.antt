@@ -9,7 +9,7 @@ invariant-loop-block l = record {
   le : length l.rest.items ≤ length (map block_of l.initial.rest.items);
   front : map block_of l.rest.items ≡ take (length l.rest.items) (map block_of l.initial.rest.items);
   left : map block_of (reverse l.left.items)
-      ≡ blocks_left l.needed.places.items (drop (length l.rest.items) l.needed.at_end.items) (drop (length l.rest.items) (map block_of l.initial.rest.items));
+      ≡ blocks_left l.needed.places (drop (length l.rest.items) l.needed.at_end.items) (drop (length l.rest.items) (map block_of l.initial.rest.items));
   none : members l.marks ≡ empty;
 }
 

@@ -1,6 +1,6 @@
 use Rattle.std.proofs.Common.{sym, subst, length}
 use Rattle.dcc_ir.specs.Views.{graph_of}
-use Rattle.dcc_flow.specs.Edges.{AreWithin}
+use Rattle.dcc_flow.specs.Edges.{rows, AreWithin}
 use Rattle.dcc_flow.specs.Uses.{AreUses}
 use Rattle.dcc_flow.proofs.RowLaws.{successors_within}
 use Rattle.dcc_live.specs.First.{AreTold}
@@ -19,4 +19,5 @@ returns g c =
     let answer = c.in_ok-answer.answer.items in
     live_bits_are graph c.requires.graph places used written answer
     (subst (λ rows. AreTold places rows used written) c.requires.rows c.in_ok-table.ensures)
-    (subst (λ next. AreUses next used written (length places) answer) c.in_ok-next.ensures c.in_ok-answer.ensures.exact)
+    (subst (λ next. AreUses next used written (length places) answer) c.in_ok-next.ensures
+    (subst (λ n. AreUses (rows c.in_ok-next.next.items) used written n answer) c.len.ensures c.in_ok-answer.ensures.exact))

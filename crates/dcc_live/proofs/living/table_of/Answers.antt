@@ -17,15 +17,12 @@ loop-row-preserved g c =
     let inside : i < length items = omega (arith, same) in
     let within : i < length rows = omega (arith, inside, length-map items row_in) in
     let read = map_read row_in items i c.row-item.result inside (c.row-item.is ∙ ap (λ l. get_or l i c.row-item.result) c.deref-row-items.ensures.value) in
-    let u = c.in_ok-told.field-0 in
-    let w = c.in_ok-told-2.field-0 in
-    let first = subst (λ l. TellsOf places l u) c.as_slice.ensures.value c.in_ok-told.ensures.tells in
-    let writes = subst (λ l. TellsOf places l w) c.as_slice-in-loop-row.ensures.value c.in_ok-told-2.ensures.tells in
-    let told = told_push places (take i rows) was.used.items was.written.items row u w was.invariant.told c.in_ok-told.ensures.len c.in_ok-told-2.ensures.len first writes in
+    let u = c.in_ok-bits_at.field-0 in
+    let w = c.in_ok-bits_at-2.field-0 in
+    let first = subst (λ l. TellsOf places l u) c.as_slice.ensures.value c.in_ok-bits_at.ensures.tells in
+    let writes = subst (λ l. TellsOf places l w) c.as_slice-in-loop-row.ensures.value c.in_ok-bits_at-2.ensures.tells in
+    let told = told_push places (take i rows) was.used.items was.written.items row u w was.invariant c.in_ok-bits_at.ensures.len c.in_ok-bits_at-2.ensures.len first writes in
     let more : take (i + 1) rows ≡ take i rows ++ row ∷ [] = take_more rows i row within ∙ ap (λ r. take i rows ++ r ∷ []) (sym read) in
-    record {
-      told = subst (λ r. AreTold places r c.push.new.self.items c.push-in-loop-row.new.self.items) (sym more)
-          (subst (λ l. AreTold places (take i rows ++ row ∷ []) l c.push-in-loop-row.new.self.items) (sym c.in_ok-push.ensures.items)
-          (subst (AreTold places (take i rows ++ row ∷ []) (was.used.items ++ u ∷ [])) (sym c.in_ok-push-2.ensures.items) told));
-      none = c.in_ok-told-2.ensures.marks;
-    }
+    subst (λ r. AreTold places r c.push.new.self.items c.push-in-loop-row.new.self.items) (sym more)
+    (subst (λ l. AreTold places (take i rows ++ row ∷ []) l c.push-in-loop-row.new.self.items) (sym c.in_ok-push.ensures.items)
+    (subst (AreTold places (take i rows ++ row ∷ []) (was.used.items ++ u ∷ [])) (sym c.in_ok-push-2.ensures.items) told))

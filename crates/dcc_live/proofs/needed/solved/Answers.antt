@@ -24,7 +24,7 @@ loop-block-init g c =
     let listed = length_rows c.in_ok-next.next.items in
     let count : length c.in_ok-next.next.items ≡ length graph.blocks = omega (arith, size, listed) in
     record {
-      going = subst (Going graph c.args.places.now) (sym (c.in_ok-work.ensures ∙ ap (λ n. first_work n (length c.args.places.now)) count)) (begin_going graph c.args.places.now);
+      going = subst (Going graph c.args.places.now) (sym (c.in_ok-work.ensures ∙ ap (λ n. first_work n c.len.result) count ∙ ap (first_work (length graph.blocks)) c.len.ensures)) (begin_going graph c.args.places.now);
       none = c.new-marks.ensures;
     }
 

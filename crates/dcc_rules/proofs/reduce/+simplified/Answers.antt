@@ -1,7 +1,8 @@
-use Rattle.std.proofs.Common.{ap}
+use Rattle.std.proofs.Common.{sym, ap, ◌∙◌}
 use Rattle.dcc_ir.specs.Views.{expr_of}
 use Rattle.dcc_ir.specs.Tree.{Load, Unary, Binary, Widen, Part, Join, Choose}
 use Rattle.dcc_rules.proofs.ReducedLaws.{reduced_load, reduced_unary, reduced_binary, reduced_widen, reduced_part, reduced_join, reduced_choose}
+use Rattle.dcc_rules.proofs.NormalLaws.{normal_leaf}
 use Rattle.dcc_rules.proofs.ResultLaws.{made_of_one, made_of_two, made_of_three, reduced_further}
 use Rattle.dcc_rules.proofs.reduce.+simplified.Goals as goal
 
@@ -61,3 +62,7 @@ pub simplified-returns-in-Some-clause-reduced : goal.simplified-returns-in-Some-
 simplified-returns-in-Some-clause-reduced g t c =
     reduced_further _ c.args.bits.now (expr_of c.args.e) (expr_of c.in_ok-e.e) c.in_ok-answer.field-0 c.in-Some.simpler c.simplified.result
     c.in_ok-e.ensures.reduced c.in_ok-answer.ensures c.in-Some.is c.simplified.ensures.reduced
+
+pub simplified-returns-then-is_leaf-clause-normal : goal.simplified-returns-then-is_leaf-clause-normal
+simplified-returns-then-is_leaf-clause-normal g t c =
+    normal_leaf (g.A.Answers.ids c.args.answers.now) c.args.bits.now (expr_of c.args.e) (sym c.is_leaf.ensures ∙ c.if-is_leaf.true)
