@@ -20,18 +20,9 @@ use dcc_live::{drop_dead, live};
 use dcc_loads::loads_as_sets;
 use dcc_rules::RuleList;
 use dcc_simplify::simplified;
-use dcc_variables::Head;
 use dcc_webs::split;
 use dcc_words::words;
 use std::alloc::{AllocError, Global};
-
-// Whether the graph's text has an array of one byte for SP's address.
-fn has_lone_byte(alloc: Global, graph: &Graph) -> Result<bool, AllocError>
-    ensures { IfOk result (λ has. has ≡ spec.has_lone_byte (graph_of graph.now)) }
-{
-    let head = Head::of(alloc, graph)?;
-    Ok(graph.local == 0 && head.variables.frame != 0)
-}
 
 // The graph without the assignments that nothing wants.
 fn without_dead(alloc: Global, graph: Graph) -> Result<Graph, AllocError>
@@ -101,9 +92,6 @@ fn tidied_graph(alloc: Global, graph: Graph, rules: &RuleList) -> Result<Graph, 
     ensures { IfOk result
         (λ after. IsTidiedGraph (numbers_of rules.now) (graph_of graph) (graph_of after)) }
 {
-    if has_lone_byte(alloc, &graph)? {
-        return Ok(graph);
-    }
     let after = passed(alloc, graph, rules)?;
     Ok(after)
 }
