@@ -87,12 +87,15 @@ abbrev pub goal_of : Stmt → Option Word
 goal_of (Assign (Name word) e) = Some word
 goal_of _ = None
 
+-- the statement assigns to a variable of one of these names
+abbrev pub goes_to : (Word → Bool) → Stmt → Bool
+goes_to words stmt = elim (goal_of stmt) [ Some word ↦ words word | None ↦ false ]
+
 -- The statement keeps what these names carry among them: it loads and stores by none of it, and where it sends it
 -- anywhere, then to one of these names, which is that of a variable in no memory.
 abbrev pub keeps : (Word → Bool) → (Word → Bool) → Stmt → Bool
 keeps unplaced names stmt =
-    not (accesses names stmt)
-    && (not (sends names stmt) || elim (goal_of stmt) [ Some word ↦ unplaced word && names word | None ↦ false ])
+    not (accesses names stmt) && (not (sends names stmt) || (goes_to unplaced stmt && goes_to names stmt))
 
 -- Functions.
 

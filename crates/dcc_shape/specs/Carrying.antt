@@ -1,5 +1,5 @@
 -- What the code knows of the names that carry an address. No public contract rests on it.
-use Rattle.std.specs.Prelude.{◌≡◌, ℕ, Bool, true, false, ◌&&◌, ◌||◌, not, List, Some, None, count_by}
+use Rattle.std.specs.Prelude.{◌≡◌, ℕ, Bool, true, false, ◌&&◌, ◌||◌, not, List, count_by}
 use Rattle.std.specs.List.{list_all}
 use Rattle.std.specs.BTreeSet as set
 use Rattle.std.specs.Cmp.Lexicographic.{slice_cmp}
@@ -8,7 +8,7 @@ use denote.Ref.{Bor}
 use Rattle.dcc_c.specs.Tree.{Word, Stmt}
 use Rattle.dcc_c.specs.Views.{stmt_of}
 use Rattle.dcc_shape.specs.declared.seen.Seen.{Seen as SeenOf}
-use Rattle.dcc_shape.specs.Carried.{sends, goal_of, keeps}
+use Rattle.dcc_shape.specs.Carried.{sends, goes_to, keeps}
 
 -- a set of words has the word
 abbrev pub holds : set.BTreeSet (Bor (List ℕ)) → Word → Bool
@@ -17,10 +17,6 @@ holds words word = set.contains_by (λ k. slice_cmp nat_cmp word k.now) words
 -- each of the few words is one of the many
 abbrev pub Within : (Word → Bool) → (Word → Bool) → Type 0
 Within few many = (word : Word) → few word ≡ true → many word ≡ true
-
--- the statement assigns to one of these words
-abbrev pub goes_to : (Word → Bool) → Stmt → Bool
-goes_to words stmt = elim (goal_of stmt) [ Some word ↦ words word | None ↦ false ]
 
 -- a statement that sends what the names carry to a variable in no memory sends it to one of them
 abbrev pub settles : (Word → Bool) → (Word → Bool) → Stmt → Bool

@@ -5,8 +5,9 @@ ghost use Rattle.std.specs.List.{list_any};
 ghost use Rattle.dcc_c.specs.Tree.{Word};
 ghost use Rattle.dcc_c.specs.Views.{expr_of, stmt_of, function_of};
 ghost use Rattle.dcc_shape.specs.Carried as spec;
-ghost use Rattle.dcc_shape.specs.Carried.{is_one, gives_bit, carries, points, accesses, sends, keeps, UsesAddressesAlone};
-ghost use Rattle.dcc_shape.specs.Carrying.{holds, Within, goes_to, settles, all_settle, all_keep, strangers};
+ghost use Rattle.dcc_shape.specs.Carried.{is_one, gives_bit, carries, points, accesses, sends, goes_to, keeps};
+ghost use Rattle.dcc_shape.specs.Carried.{UsesAddressesAlone};
+ghost use Rattle.dcc_shape.specs.Carrying.{holds, Within, settles, all_settle, all_keep, strangers};
 ghost use Rattle.dcc_shape.specs.Seen.{lent};
 
 use crate::seen::{Seen, statements};
@@ -123,6 +124,16 @@ fn goal_of<'a>(stmt: &'a CStmt) -> Option<&'a str>
     }
 }
 
+// Whether a statement assigns to a variable of one of these names.
+fn goes_to(words: &BTreeSet<&str>, stmt: &CStmt) -> bool
+    ensures { result ≡ goes_to (holds words.now) (stmt_of stmt.now) }
+{
+    match goal_of(stmt) {
+        Some(word) => words.contains(word),
+        None => false,
+    }
+}
+
 // Adds the variable in no memory to which a statement sends what the names carry, if there is one, and tells whether its
 // name is new.
 fn follow<'a>(
@@ -189,20 +200,12 @@ fn settle<'a>(
     }
 }
 
-// Whether a statement sends what the names carry nowhere, or to one of them that is in no memory.
+// Whether a statement keeps what the names carry among them.
 fn keeps(names: &BTreeSet<&str>, unplaced: &BTreeSet<&str>, stmt: &CStmt) -> bool
     ensures { result ≡ keeps (holds unplaced.now) (holds names.now) (stmt_of stmt.now) }
 {
-    if accesses(names, stmt) {
-        return false;
-    }
-    if !sends(names, stmt) {
-        return true;
-    }
-    match goal_of(stmt) {
-        Some(word) => unplaced.contains(word) && names.contains(word),
-        None => false,
-    }
+    !accesses(names, stmt)
+        && (!sends(names, stmt) || (goes_to(unplaced, stmt) && goes_to(names, stmt)))
 }
 
 // Whether each of the statements keeps what the names carry among them.

@@ -9,7 +9,6 @@ ghost use Rattle.dcc_ir.specs.Use.{graph_exprs};
 ghost use Rattle.dcc_passes.specs.Tidied.{IsTidied};
 ghost use Rattle.dcc_rules.specs.Views.{numbers_of};
 ghost use Rattle.dcc_live.specs.Dead.{IsWithoutUnneeded};
-ghost use Rattle.dcc_tidy.specs.Tidied as spec;
 ghost use Rattle.dcc_tidy.specs.Tidied.{MayStandInText, HasPassesDone, IsTidiedGraph};
 
 use dcc_available::substitute;
@@ -86,7 +85,7 @@ fn passed(alloc: Global, graph: Graph, rules: &RuleList) -> Result<Graph, AllocE
     Ok(after)
 }
 
-// The graph after the passes; as it is, where its text has an array of one byte for SP's address.
+// What is tidied of a graph.
 fn tidied_graph(alloc: Global, graph: Graph, rules: &RuleList) -> Result<Graph, AllocError>
     requires { IsGraph (graph_of graph) }
     ensures { IfOk result
@@ -98,8 +97,7 @@ fn tidied_graph(alloc: Global, graph: Graph, rules: &RuleList) -> Result<Graph, 
 
 /// What the passes leave of each graph, in its place: each web has a temporary of its own, loads are parts of
 /// assignments, values stand where they are read, no part of an expression has the form of one of the rules, and nothing
-/// is assigned that isn't wanted. A graph whose text has an array of one byte for SP's address stays as it is. That there
-/// are more temporaries than 32 bits can number is told as want of memory.
+/// is assigned that isn't wanted. That there are more temporaries than 32 bits can number is told as want of memory.
 pub fn tidied_graphs(
     alloc: Global,
     graphs: Vec<Graph>,
