@@ -1,11 +1,19 @@
 -- What more names carry; and which names all families have that keep what they carry.
-use Rattle.std.proofs.Common.{◌≡◌, ℕ, ◌+◌, ◌<◌, ◌≤◌, Bool, true, false, inl, inr, List, [], ◌∷◌, get_or, length, zero, suc, refl, sym, ap, ◌∙◌, subst, arith}
+use Rattle.std.proofs.Common.{◌≡◌, ℕ, ◌+◌, ◌<◌, ◌≤◌, Bool, true, false, cond, inl, inr, List, [], ◌∷◌, get_or, length, zero, suc, refl, sym, ap, ◌∙◌, subst, arith}
 use Rattle.std.specs.Prelude.{◌&&◌, ◌||◌, not, if◌then◌else◌, Option, Some, None}
+use Rattle.std.specs.BTreeSet as set
+use Rattle.std.specs.Cmp.Lexicographic.{slice_cmp}
 use Rattle.std.specs.List.{list_all, list_any, count_by}
+use Rattle.std.specs.Ordering.{nat_cmp, is_eq}
 use Rattle.std.proofs.lemmas.Bool.{or_cases, or_left, or_right, and_parts, and_from, false≢true}
+use Rattle.std.proofs.lemmas.Map.Text.{is_eq-slice_cmp}
+use denote.Ref.{Bor}
+use Rattle.dcc_c.specs.Token.{same_bytes}
+use Rattle.dcc_c.proofs.NameLaws.{same_bytes-equal, same_bytes-refl, same_bytes-pointwise}
+use Rattle.dcc_c.proofs.refusals.ListRules.{bytes-symmetric}
 use Rattle.dcc_c.specs.Tree.{Word, Expr, Number, Name, Unary, Binary, Conditional, Cast, Stmt, Assign, Call, If, While, DoWhile, Forever, Switch, Break, Continue, Goto, Label, Empty, Return}
 use Rattle.dcc_shape.specs.Carried.{is_not, is_deref, gives_bit, carries, points, accesses, sends, goal_of, goes_to, keeps}
-use Rattle.dcc_shape.specs.Carrying.{Within, settles}
+use Rattle.dcc_shape.specs.Carrying.{holds, Within, settles}
 
 either : (a b c d : Bool) → (a ≡ true → c ≡ true) → (b ≡ true → d ≡ true) → (a || b) ≡ true → (c || d) ≡ true
 either a b c d f g is = elim (or_cases a b is) [ inl x ↦ or_left c d (f x) | inr y ↦ or_right c d (g y) ]
@@ -149,3 +157,71 @@ module _ {A : Type 0} (p q : A → Bool) (less : (x : A) → q x ≡ true → p 
       omega (arith, rest, had, has)
   fewer-at (x ∷ xs) (suc i) d within yes no =
       let rest = fewer-at xs i d (omega (arith, within)) yes no in omega (arith, step (p x) (q x) (less x), rest)
+
+-- Sets of words.
+
+-- a set with one more word
+pub set-inserted : (s n : set.BTreeSet (Bor (List ℕ))) (k : Bor (List ℕ))
+    → set.Updates (λ x y. slice_cmp nat_cmp x.now y.now) s n k true
+    → (word : Word) → holds n word ≡ same_bytes word k.now || holds s word
+set-inserted s n k updates word =
+    updates.0 (record { ref_ptr = (0, 0); now = word })
+    ∙ by (is_eq (slice_cmp nat_cmp k.now word)) (same_bytes word k.now) (holds s word)
+    (is_eq-slice_cmp k.now word ∙ sym (same_bytes-pointwise k.now word) ∙ bytes-symmetric k.now word)
+  where
+    by : (b c r : Bool) → b ≡ c → cond b true r ≡ c || r
+    by true c r e = subst (λ d. true ≡ d || r) e refl
+    by false c r e = subst (λ d. r ≡ d || r) e refl
+
+module _ (old new : Word → Bool) (word : Word) (added : (other : Word) → new other ≡ same_bytes other word || old other) where
+  pub grown-within : Within old new
+  grown-within other is = added other ∙ or_right (same_bytes other word) (old other) is
+
+  pub goal-in : (stmt : Stmt) → Some word ≡ goal_of stmt → goes_to new stmt ≡ true
+  goal-in stmt goal =
+      ap (λ o. elim o [ Some w ↦ new w | None ↦ false ]) (sym goal)
+      ∙ added word ∙ or_left (same_bytes word word) (old word) (same_bytes-refl word)
+
+  -- all families that keep what the old names carry have the new ones
+  pub forced-in : (all : Word → Bool) → Within old all → (unplaced : Word → Bool) (stmt : Stmt) → Some word ≡ goal_of stmt
+      → sends old stmt ≡ true → keeps unplaced all stmt ≡ true → Within new all
+  forced-in all within unplaced stmt goal sent keep other is =
+      let goes = sent-there old all within unplaced stmt keep sent in
+      let at : all word ≡ true = ap (λ o. elim o [ Some w ↦ all w | None ↦ false ]) goal ∙ goes.1 in
+      elim (or_cases (same_bytes other word) (old other) (sym (added other) ∙ is)) [
+        | inl same ↦ ap all (same_bytes-equal other word same) ∙ at
+        | inr had ↦ within other had
+      ]
+
+-- what doesn't settle is sent to a variable in no memory that is none of the names
+pub unsettled : (s u g : Bool) → (not (s && u) || g) ≡ false → (s ≡ true) × ((u ≡ true) × (g ≡ false))
+unsettled true true false is = (refl, (refl, refl))
+unsettled true true true is = absurd (false≢true (sym is))
+unsettled true false g is = absurd (false≢true (sym is))
+unsettled false u g is = absurd (false≢true (sym is))
+
+-- Lists of statements.
+
+module _ {A : Type 0} where
+  pub each : (p : A → Bool) (xs : List A) (i : ℕ) (d : A) → i < length xs → list_all p xs ≡ true → p (get_or xs i d) ≡ true
+  each p [] i d within all = absurd (omega (arith, within))
+  each p (x ∷ xs) zero d within all = (and_parts (p x) (list_all p xs) all).0
+  each p (x ∷ xs) (suc i) d within all = each p xs i d (omega (arith, within)) (and_parts (p x) (list_all p xs) all).1
+
+  pub all-by : (p q r : A → Bool) → ((x : A) → p x ≡ true → q x ≡ true → r x ≡ true) → (xs : List A)
+      → list_all p xs ≡ true → list_all q xs ≡ true → list_all r xs ≡ true
+  all-by p q r by [] all each = refl
+  all-by p q r by (x ∷ xs) all each =
+      let one = and_parts (p x) (list_all p xs) all in
+      let two = and_parts (q x) (list_all q xs) each in
+      and_from (r x) (list_all r xs) (by x one.0 two.0) (all-by p q r by xs one.1 two.1)
+
+-- the test of statements asks of the names in no memory alone which they are
+pub keeps-same : (u v names : Word → Bool) → ((word : Word) → u word ≡ v word) → (stmt : Stmt)
+    → keeps u names stmt ≡ keeps v names stmt
+keeps-same u v names same stmt =
+    ap (λ b. not (accesses names stmt) && (not (sends names stmt) || (b && goes_to names stmt))) (by (goal_of stmt))
+  where
+    by : (o : Option Word) → elim o [ Some w ↦ u w | None ↦ false ] ≡ elim o [ Some w ↦ v w | None ↦ false ]
+    by (Some w) = same w
+    by None = refl

@@ -134,6 +134,13 @@ fn goes_to(words: &BTreeSet<&str>, stmt: &CStmt) -> bool
     }
 }
 
+// Whether a statement that sends what the names carry to a variable in no memory sends it to one of them.
+fn settles(names: &BTreeSet<&str>, unplaced: &BTreeSet<&str>, stmt: &CStmt) -> bool
+    ensures { result ≡ settles (holds unplaced.now) (holds names.now) (stmt_of stmt.now) }
+{
+    !(sends(names, stmt) && goes_to(unplaced, stmt)) || goes_to(names, stmt)
+}
+
 // Adds the variable in no memory to which a statement sends what the names carry, if there is one, and tells whether its
 // name is new.
 fn follow<'a>(
@@ -149,12 +156,12 @@ fn follow<'a>(
     ensures grown { IfOk result (λ grown. grown ≡ true → (goes_to (holds names.old) (stmt_of stmt.now) ≡ false)
         × (goes_to (holds names.new) (stmt_of stmt.now) ≡ true)) }
 {
+    if settles(names, unplaced, stmt) {
+        return Ok(false);
+    }
     let Some(word) = goal_of(stmt) else {
         return Ok(false);
     };
-    if names.contains(word) || !unplaced.contains(word) || !sends(names, stmt) {
-        return Ok(false);
-    }
     names.insert(word)?;
     Ok(true)
 }
@@ -193,11 +200,11 @@ fn settle<'a>(
         → all_keep (holds unplaced.now) all list.now ≡ true → Within (holds names.new) all) }
     ensures settled { OnOk result (all_settle (holds unplaced.now) (holds names.new) list.now ≡ true) }
 {
-    loop {
-        if !follow_all(names, unplaced, list)? {
-            return Ok(());
-        }
+    let mut grown = true;
+    while grown {
+        grown = follow_all(names, unplaced, list)?;
     }
+    Ok(())
 }
 
 // Whether a statement keeps what the names carry among them.
