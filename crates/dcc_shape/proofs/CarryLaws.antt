@@ -1,5 +1,5 @@
 -- What more names carry; and which names all families have that keep what they carry.
-use Rattle.std.proofs.Common.{◌≡◌, ℕ, ◌+◌, ◌<◌, ◌≤◌, Bool, true, false, cond, inl, inr, List, [], ◌∷◌, get_or, length, zero, suc, refl, sym, ap, ◌∙◌, subst, arith}
+use Rattle.std.proofs.Common.{◌≡◌, ℕ, ◌+◌, ◌<◌, ◌≤◌, Bool, true, false, cond, inl, inr, List, [], ◌∷◌, get_or, map, length, zero, suc, refl, sym, ap, ◌∙◌, subst, arith}
 use Rattle.std.specs.Prelude.{◌&&◌, ◌||◌, not, if◌then◌else◌, Option, Some, None}
 use Rattle.std.specs.BTreeSet as set
 use Rattle.std.specs.Cmp.Lexicographic.{slice_cmp}
@@ -11,9 +11,15 @@ use denote.Ref.{Bor}
 use Rattle.dcc_c.specs.Token.{same_bytes}
 use Rattle.dcc_c.proofs.NameLaws.{same_bytes-equal, same_bytes-refl, same_bytes-pointwise}
 use Rattle.dcc_c.proofs.refusals.ListRules.{bytes-symmetric}
-use Rattle.dcc_c.specs.Tree.{Word, Expr, Number, Name, Unary, Binary, Conditional, Cast, Stmt, Assign, Call, If, While, DoWhile, Forever, Switch, Break, Continue, Goto, Label, Empty, Return}
-use Rattle.dcc_shape.specs.Carried.{is_not, is_deref, gives_bit, carries, points, accesses, sends, goal_of, goes_to, keeps}
-use Rattle.dcc_shape.specs.Carrying.{holds, Within, settles}
+use Rattle.dcc_c.specs.Tree.{Word, Expr, Number, Name, Unary, Binary, Conditional, Cast, Stmt, Assign, Call, If, While, DoWhile, Forever, Switch, Break, Continue, Goto, Label, Empty, Return, Function}
+use Rattle.dcc_c.specs.Views.{stmt_of}
+use Rattle.dcc_shape.specs.declared.seen.Seen.{Seen as SeenOf}
+use Rattle.dcc_shape.specs.Carried.{is_not, is_deref, gives_bit, carries, points, accesses, sends, goal_of, goes_to, keeps, is_local, UsesAddressesAlone}
+use Rattle.dcc_shape.specs.Carrying.{holds, Within, settles, all_settle, all_keep}
+use Rattle.dcc_shape.specs.Seen.{seen, seen_in}
+use Rattle.dcc_shape.specs.Spots.{Spot, spots}
+use Rattle.dcc_shape.proofs.ListLaws.{list_all-same}
+use Rattle.dcc_shape.proofs.SeenLaws.{all-seen}
 
 either : (a b c d : Bool) → (a ≡ true → c ≡ true) → (b ≡ true → d ≡ true) → (a || b) ≡ true → (c || d) ≡ true
 either a b c d f g is = elim (or_cases a b is) [ inl x ↦ or_left c d (f x) | inr y ↦ or_right c d (g y) ]
@@ -225,3 +231,29 @@ keeps-same u v names same stmt =
     by : (o : Option Word) → elim o [ Some w ↦ u w | None ↦ false ] ≡ elim o [ Some w ↦ v w | None ↦ false ]
     by (Some w) = same w
     by None = refl
+
+-- Functions.
+
+module _ (f : Function) (list : List SeenOf) (same : map seen_in list ≡ map seen (spots f.body)) (unplaced : Word → Bool)
+    (told : (word : Word) → unplaced word ≡ is_local false f word) where
+  kept-is : (names : Word → Bool)
+      → all_keep unplaced names list ≡ list_all (λ s. keeps (is_local false f) names s.stmt) (spots f.body)
+  kept-is names =
+      all-seen (λ s. keeps unplaced names s.stmt) list (spots f.body) same
+      ∙ list_all-same (λ (s : Spot). keeps unplaced names s.stmt) (λ (s : Spot). keeps (is_local false f) names s.stmt)
+      (λ s. keeps-same unplaced (is_local false f) names told s.stmt) (spots f.body)
+
+  pub uses-alone : (names : Word → Bool) → Within (is_local true f) names → all_keep unplaced names list ≡ true
+      → UsesAddressesAlone f
+  uses-alone names arrays kept = record { names = names; arrays = arrays; kept = sym (kept-is names) ∙ kept }
+
+  -- names that are those of every family, and settled, keep what they carry if any family does
+  pub alone-keeps : (names : Word → Bool)
+      → ((all : Word → Bool) → Within (is_local true f) all → all_keep unplaced all list ≡ true → Within names all)
+      → all_settle unplaced names list ≡ true → UsesAddressesAlone f → all_keep unplaced names list ≡ true
+  alone-keeps names forced settled alone =
+      let kept = kept-is alone.names ∙ alone.kept in
+      let within = forced alone.names alone.arrays kept in
+      all-by (λ (s : SeenOf). keeps unplaced alone.names (stmt_of s.stmt.now))
+      (λ (s : SeenOf). settles unplaced names (stmt_of s.stmt.now)) (λ (s : SeenOf). keeps unplaced names (stmt_of s.stmt.now))
+      (λ s keep settle. keeps-less names alone.names within unplaced (stmt_of s.stmt.now) keep settle) list kept settled

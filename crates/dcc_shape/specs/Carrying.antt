@@ -1,14 +1,16 @@
 -- What the code knows of the names that carry an address. No public contract rests on it.
-use Rattle.std.specs.Prelude.{◌≡◌, ℕ, Bool, true, false, ◌&&◌, ◌||◌, not, List, count_by}
+use Rattle.std.specs.Prelude.{◌≡◌, ℕ, Bool, true, false, ◌&&◌, ◌||◌, not, List, count_by, string_bytes}
 use Rattle.std.specs.List.{list_all}
 use Rattle.std.specs.BTreeSet as set
 use Rattle.std.specs.Cmp.Lexicographic.{slice_cmp}
 use Rattle.std.specs.Ordering.{nat_cmp}
 use denote.Ref.{Bor}
+use Rattle.dcc_c.specs.declared.syntax.Var.{Var}
+use Rattle.dcc_c.specs.Token.{same_bytes}
 use Rattle.dcc_c.specs.Tree.{Word, Stmt}
 use Rattle.dcc_c.specs.Views.{stmt_of}
 use Rattle.dcc_shape.specs.declared.seen.Seen.{Seen as SeenOf}
-use Rattle.dcc_shape.specs.Carried.{sends, goes_to, keeps}
+use Rattle.dcc_shape.specs.Carried.{sends, goes_to, keeps, is_of_class}
 
 -- a set of words has the word
 abbrev pub holds : set.BTreeSet (Bor (List ℕ)) → Word → Bool
@@ -33,3 +35,7 @@ all_keep unplaced names list = list_all (λ s. keeps unplaced names (stmt_of s.s
 -- how many of the statements assign to none of the names
 abbrev pub strangers : (Word → Bool) → List SeenOf → ℕ
 strangers names list = count_by (λ s. not (goes_to names (stmt_of s.stmt.now))) list
+
+-- the variable has the name and is `auto`, or isn't
+abbrev pub is_such : Bool → Word → Var → Bool
+is_such auto word v = same_bytes word (string_bytes v.name) && is_of_class auto v.class
