@@ -1,24 +1,27 @@
 -- What more names carry; and which names all families have that keep what they carry.
-use Rattle.std.proofs.Common.{◌≡◌, ℕ, ◌+◌, ◌<◌, ◌≤◌, Bool, true, false, cond, inl, inr, List, [], ◌∷◌, get_or, map, length, zero, suc, refl, sym, ap, ◌∙◌, subst, arith}
-use Rattle.std.specs.Prelude.{◌&&◌, ◌||◌, not, if◌then◌else◌, Option, Some, None}
+use Rattle.std.proofs.Common.{◌≡◌, ℕ, ◌+◌, ◌<◌, ◌≤◌, Bool, true, false, cond, inl, inr, List, [], ◌∷◌, get_or, map, take, length, zero, suc, refl, sym, ap, ◌∙◌, subst, arith}
+use Rattle.std.specs.Prelude.{◌&&◌, ◌||◌, not, if◌then◌else◌, string_bytes, Option, Some, None}
 use Rattle.std.specs.BTreeSet as set
 use Rattle.std.specs.Cmp.Lexicographic.{slice_cmp}
 use Rattle.std.specs.List.{list_all, list_any, count_by}
 use Rattle.std.specs.Ordering.{nat_cmp, is_eq}
 use Rattle.std.proofs.lemmas.Bool.{or_cases, or_left, or_right, and_parts, and_from, false≢true}
+use Rattle.std.proofs.lemmas.List.Folds.{list_any_more}
 use Rattle.std.proofs.lemmas.Map.Text.{is_eq-slice_cmp}
 use denote.Ref.{Bor}
 use Rattle.dcc_c.specs.Token.{same_bytes}
 use Rattle.dcc_c.proofs.NameLaws.{same_bytes-equal, same_bytes-refl, same_bytes-pointwise}
 use Rattle.dcc_c.proofs.refusals.ListRules.{bytes-symmetric}
-use Rattle.dcc_c.specs.Tree.{Word, Expr, Number, Name, Unary, Binary, Conditional, Cast, Stmt, Assign, Call, If, While, DoWhile, Forever, Switch, Break, Continue, Goto, Label, Empty, Return, Function}
-use Rattle.dcc_c.specs.Views.{stmt_of}
+use Rattle.dcc_c.specs.Tree.{Word, Expr, Number, Name, Unary, Binary, Conditional, Cast, Stmt, Assign, Call, If, While, DoWhile, Forever, Switch, Break, Continue, Goto, Label, Empty, Return, Function, Variable}
+use Rattle.dcc_c.specs.declared.syntax.Func.{Func}
+use Rattle.dcc_c.specs.declared.syntax.Var.{Var}
+use Rattle.dcc_c.specs.Views.{stmt_of, variable_of, function_of}
 use Rattle.dcc_shape.specs.declared.seen.Seen.{Seen as SeenOf}
-use Rattle.dcc_shape.specs.Carried.{is_not, is_deref, gives_bit, carries, points, accesses, sends, goal_of, goes_to, keeps, is_local, UsesAddressesAlone}
-use Rattle.dcc_shape.specs.Carrying.{holds, Within, settles, all_settle, all_keep}
+use Rattle.dcc_shape.specs.Carried.{is_not, is_deref, gives_bit, carries, points, accesses, sends, goal_of, goes_to, keeps, is_of_class, is_local, UsesAddressesAlone}
+use Rattle.dcc_shape.specs.Carrying.{holds, Within, settles, all_settle, all_keep, strangers, is_such}
 use Rattle.dcc_shape.specs.Seen.{seen, seen_in}
 use Rattle.dcc_shape.specs.Spots.{Spot, spots}
-use Rattle.dcc_shape.proofs.ListLaws.{list_all-same}
+use Rattle.dcc_shape.proofs.ListLaws.{list_all-same, list_any-map}
 use Rattle.dcc_shape.proofs.SeenLaws.{all-seen}
 
 either : (a b c d : Bool) → (a ≡ true → c ≡ true) → (b ≡ true → d ≡ true) → (a || b) ≡ true → (c || d) ≡ true
@@ -257,3 +260,69 @@ module _ (f : Function) (list : List SeenOf) (same : map seen_in list ≡ map se
       all-by (λ (s : SeenOf). keeps unplaced alone.names (stmt_of s.stmt.now))
       (λ (s : SeenOf). settles unplaced names (stmt_of s.stmt.now)) (λ (s : SeenOf). keeps unplaced names (stmt_of s.stmt.now))
       (λ s keep settle. keeps-less names alone.names within unplaced (stmt_of s.stmt.now) keep settle) list kept settled
+
+-- Local variables.
+
+module _ (auto : Bool) (word : Word) (vs : List Var) (i : ℕ) (v : Var) (within : i < length vs) (v_is : v ≡ get_or vs i v) where
+  such-next : list_any (is_such auto word) (take (i + 1) vs)
+      ≡ list_any (is_such auto word) (take i vs) || is_such auto word v
+  such-next =
+      list_any_more (is_such auto word) vs i v within
+      ∙ ap (λ x. list_any (is_such auto word) (take i vs) || is_such auto word x) (sym v_is)
+
+  -- one more name, and none more
+  pub such-added : (names new : Bool) (bytes : List ℕ) → bytes ≡ string_bytes v.name → is_of_class auto v.class ≡ true
+      → names ≡ list_any (is_such auto word) (take i vs) → new ≡ same_bytes word bytes || names
+      → new ≡ list_any (is_such auto word) (take (i + 1) vs)
+  such-added names new bytes named class had is =
+      is ∙ ap (λ bs. same_bytes word bs || names) named
+      ∙ turned (same_bytes word (string_bytes v.name)) names (is_of_class auto v.class) class
+      ∙ ap (λ b. b || is_such auto word v) had ∙ sym such-next
+    where
+      turned : (s n k : Bool) → k ≡ true → (s || n) ≡ (n || (s && k))
+      turned true true k one = refl
+      turned true false k one = sym one
+      turned false true k one = refl
+      turned false false k one = refl
+
+  pub such-left : (names : Bool) → is_of_class auto v.class ≡ false → names ≡ list_any (is_such auto word) (take i vs)
+      → names ≡ list_any (is_such auto word) (take (i + 1) vs)
+  such-left names class had =
+      had ∙ turned (list_any (is_such auto word) (take i vs)) (same_bytes word (string_bytes v.name)) (is_of_class auto v.class) class
+      ∙ sym such-next
+    where
+      turned : (n s k : Bool) → k ≡ false → n ≡ (n || (s && k))
+      turned true s k none = refl
+      turned false true k none = sym none
+      turned false false k none = refl
+
+pub locals-are : (auto : Bool) (f : Func) (word : Word)
+    → list_any (is_such auto word) f.locals.items ≡ is_local auto (function_of f) word
+locals-are auto f word =
+    sym (list_any-map (λ (v : Variable). same_bytes word v.name && is_of_class auto v.class) variable_of f.locals.items)
+
+-- Rounds.
+
+goes-more : (few many : Word → Bool) → Within few many → (stmt : Stmt) → goes_to few stmt ≡ true → goes_to many stmt ≡ true
+goes-more few many within stmt = by (goal_of stmt)
+  where
+    by : (o : Option Word) → elim o [ Some w ↦ few w | None ↦ false ] ≡ true → elim o [ Some w ↦ many w | None ↦ false ] ≡ true
+    by (Some w) is = within w is
+    by None is = is
+
+module _ (few many : Word → Bool) (within : Within few many) where
+  stranger-less : (s : SeenOf) → not (goes_to many (stmt_of s.stmt.now)) ≡ true → not (goes_to few (stmt_of s.stmt.now)) ≡ true
+  stranger-less s =
+      not-less (goes_to few (stmt_of s.stmt.now)) (goes_to many (stmt_of s.stmt.now)) (goes-more few many within (stmt_of s.stmt.now))
+
+  pub no-more-strangers : (list : List SeenOf) → strangers many list ≤ strangers few list
+  no-more-strangers list =
+      no-more (λ (s : SeenOf). not (goes_to few (stmt_of s.stmt.now))) (λ (s : SeenOf). not (goes_to many (stmt_of s.stmt.now)))
+      stranger-less list
+
+  pub fewer-strangers : (list : List SeenOf) (i : ℕ) (s : SeenOf) → i < length list
+      → goes_to few (stmt_of (get_or list i s).stmt.now) ≡ false → goes_to many (stmt_of (get_or list i s).stmt.now) ≡ true
+      → strangers many list < strangers few list
+  fewer-strangers list i s inside away there =
+      fewer-at (λ (s : SeenOf). not (goes_to few (stmt_of s.stmt.now))) (λ (s : SeenOf). not (goes_to many (stmt_of s.stmt.now)))
+      stranger-less list i s inside (ap not away) (ap not there)
