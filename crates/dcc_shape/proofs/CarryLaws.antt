@@ -7,6 +7,7 @@ use Rattle.std.specs.List.{list_all, list_any, count_by}
 use Rattle.std.specs.Ordering.{nat_cmp, is_eq}
 use Rattle.std.proofs.lemmas.Bool.{or_cases, or_left, or_right, and_parts, and_from, false≢true}
 use Rattle.std.proofs.lemmas.List.Folds.{list_any_more}
+use Rattle.std.proofs.lemmas.List.Sums.{sum_by-cons}
 use Rattle.std.proofs.lemmas.Map.Text.{is_eq-slice_cmp}
 use denote.Ref.{Bor}
 use Rattle.dcc_c.specs.Token.{same_bytes}
@@ -152,20 +153,23 @@ module _ {A : Type 0} (p q : A → Bool) (less : (x : A) → q x ≡ true → p 
   step false true f = absurd (false≢true (f refl))
   step false false f = omega arith
 
+  counted : (r : A → Bool) (x : A) (xs : List A) → count_by r (x ∷ xs) ≡ (if r x then 1 else 0) + count_by r xs
+  counted r x xs = sum_by-cons (λ x. if r x then 1 else 0) x xs
+
   pub no-more : (xs : List A) → count_by q xs ≤ count_by p xs
   no-more [] = omega arith
-  no-more (x ∷ xs) = omega (arith, step (p x) (q x) (less x), no-more xs)
+  no-more (x ∷ xs) = omega (arith, step (p x) (q x) (less x), no-more xs, counted p x xs, counted q x xs)
 
   pub fewer-at : (xs : List A) (i : ℕ) (d : A) → i < length xs → p (get_or xs i d) ≡ true → q (get_or xs i d) ≡ false
       → count_by q xs < count_by p xs
-  fewer-at [] i d within yes no = absurd (omega (arith, within))
-  fewer-at (x ∷ xs) zero d within yes no =
-      let rest = no-more xs in
-      let had : (if p x then 1 else 0) ≡ 1 = ap (λ b. if b then 1 else 0) yes in
-      let has : (if q x then 1 else 0) ≡ 0 = ap (λ b. if b then 1 else 0) no in
-      omega (arith, rest, had, has)
-  fewer-at (x ∷ xs) (suc i) d within yes no =
-      let rest = fewer-at xs i d (omega (arith, within)) yes no in omega (arith, step (p x) (q x) (less x), rest)
+  fewer-at [] i d within had has = absurd (omega (arith, within))
+  fewer-at (x ∷ xs) zero d within had has =
+      let one : (if p x then 1 else 0) ≡ 1 = ap (λ b. if b then 1 else 0) had in
+      let none : (if q x then 1 else 0) ≡ 0 = ap (λ b. if b then 1 else 0) has in
+      omega (arith, no-more xs, one, none, counted p x xs, counted q x xs)
+  fewer-at (x ∷ xs) (suc i) d within had has =
+      let rest = fewer-at xs i d (omega (arith, within)) had has in
+      omega (arith, step (p x) (q x) (less x), rest, counted p x xs, counted q x xs)
 
 -- Sets of words.
 
@@ -231,7 +235,8 @@ pub keeps-same : (u v names : Word → Bool) → ((word : Word) → u word ≡ v
 keeps-same u v names same stmt =
     ap (λ b. not (accesses names stmt) && (not (sends names stmt) || (b && goes_to names stmt))) (by (goal_of stmt))
   where
-    by : (o : Option Word) → elim o [ Some w ↦ u w | None ↦ false ] ≡ elim o [ Some w ↦ v w | None ↦ false ]
+    by : (o : Option Word)
+        → ◌≡◌ {A = Bool} (elim o [ Some w ↦ u w | None ↦ false ]) (elim o [ Some w ↦ v w | None ↦ false ])
     by (Some w) = same w
     by None = refl
 

@@ -32,5 +32,5 @@ pub returns : goal.returns
 returns c = λ word.
     let vs = c.args.function.now.locals.items in
     c.loop-variable.invariant word
-    ∙ ap (list_any (is_such c.args.auto word)) (take_all vs c.loop-variable.variable-index (omega (arith, c.loop-variable-test.false)))
+    ∙ ap (list_any (is_such c.args.auto word)) (take_all c.loop-variable.variable-index vs (omega (arith, c.loop-variable-test.false)))
     ∙ locals-are c.args.auto c.args.function.now word

@@ -27,8 +27,8 @@ returns c =
         c.in_ok-settle.ensures.forced all (λ word is. within word (sym (c.in_ok-names.ensures word) ∙ is))
         (ap (all_keep unplaced all) given ∙ kept) in
     (
-      λ yes.
+      λ kept.
           uses-alone f list same unplaced c.in_ok-unplaced.ensures names
-          (λ word is. c.in_ok-settle.ensures.more word (c.in_ok-names.ensures word ∙ is)) (sym result ∙ yes),
+          (λ word is. c.in_ok-settle.ensures.more word (c.in_ok-names.ensures word ∙ is)) (sym result ∙ kept),
       λ alone. result ∙ alone-keeps f list same unplaced c.in_ok-unplaced.ensures names forced settled alone,
     )
