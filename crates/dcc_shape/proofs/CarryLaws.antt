@@ -18,7 +18,7 @@ use Rattle.dcc_c.specs.declared.syntax.Func.{Func}
 use Rattle.dcc_c.specs.declared.syntax.Var.{Var}
 use Rattle.dcc_c.specs.Views.{stmt_of, variable_of, function_of}
 use Rattle.dcc_shape.specs.declared.seen.Seen.{Seen as SeenOf}
-use Rattle.dcc_shape.specs.Carried.{is_not, is_deref, gives_bit, carries, points, accesses, sends, goal_of, goes_to, keeps, is_of_class, is_local, UsesAddressesAlone}
+use Rattle.dcc_shape.specs.Carried.{is_not, is_deref, gives_bit, carries, points, points_if, accesses, sends, goal_of, goes_to, keeps, is_of_class, is_local, UsesAddressesAlone}
 use Rattle.dcc_shape.specs.Carrying.{holds, Within, settles, all_settle, all_keep, strangers, is_such}
 use Rattle.dcc_shape.specs.Seen.{seen, seen_in}
 use Rattle.dcc_shape.specs.Spots.{Spot, spots}
@@ -74,19 +74,22 @@ module _ (few many : Word → Bool) (within : Within few many) where
       (either (points few a) (points few b) (points many a) (points many b) (points-more a) (points-more b)) is
   points-more (Cast type a) is = points-more a is
 
+  place-more : (o : Option Expr) → points_if few o ≡ true → points_if many o ≡ true
+  place-more (Some e) is = points-more e is
+  place-more None is = is
+
   accesses-more : (stmt : Stmt) → accesses few stmt ≡ true → accesses many stmt ≡ true
   accesses-more (Assign place e) is =
       either (points few place) (points few e) (points many place) (points many e) (points-more place) (points-more e) is
   accesses-more (Call place function arguments depth) is =
-      either (elim place [ Some e ↦ points few e | None ↦ false ]) (list_any (points few) arguments)
-      (elim place [ Some e ↦ points many e | None ↦ false ]) (list_any (points many) arguments)
-      (if-more (points few) (points many) points-more place)
+      either (points_if few place) (list_any (points few) arguments) (points_if many place) (list_any (points many) arguments)
+      (place-more place)
       (any-more (points few) (points many) points-more arguments) is
   accesses-more (If e body otherwise) is = points-more e is
   accesses-more (While e body) is = points-more e is
   accesses-more (DoWhile body e) is = points-more e is
   accesses-more (Switch e arms last) is = points-more e is
-  accesses-more (Return e) is = if-more (points few) (points many) points-more e is
+  accesses-more (Return e) is = place-more e is
   accesses-more (Forever body) is = is
   accesses-more Break is = is
   accesses-more Continue is = is
@@ -164,8 +167,8 @@ module _ {A : Type 0} (p q : A → Bool) (less : (x : A) → q x ≡ true → p 
       → count_by q xs < count_by p xs
   fewer-at [] i d within had has = absurd (omega (arith, within))
   fewer-at (x ∷ xs) zero d within had has =
-      let one : (if p x then 1 else 0) ≡ 1 = ap (λ b. if b then 1 else 0) had in
-      let none : (if q x then 1 else 0) ≡ 0 = ap (λ b. if b then 1 else 0) has in
+      let one : ◌≡◌ {A = ℕ} (if p x then 1 else 0) 1 = ap (λ b. if b then 1 else 0) had in
+      let none : ◌≡◌ {A = ℕ} (if q x then 1 else 0) 0 = ap (λ b. if b then 1 else 0) has in
       omega (arith, no-more xs, one, none, counted p x xs, counted q x xs)
   fewer-at (x ∷ xs) (suc i) d within had has =
       let rest = fewer-at xs i d (omega (arith, within)) had has in

@@ -61,16 +61,21 @@ points names (Cast type a) = points names a
 
 -- Statements.
 
+-- there is an expression, and it loads or stores so
+abbrev pub points_if : (Word → Bool) → Option Expr → Bool
+points_if names (Some e) = points names e
+points_if names None = false
+
 -- an expression of the statement loads or stores by one of these names, outside of single bits
 abbrev pub accesses : (Word → Bool) → Stmt → Bool
 accesses names (Assign place e) = points names place || points names e
 accesses names (Call place function arguments depth) =
-    elim place [ Some e ↦ points names e | None ↦ false ] || list_any (points names) arguments
+    points_if names place || list_any (points names) arguments
 accesses names (If e body otherwise) = points names e
 accesses names (While e body) = points names e
 accesses names (DoWhile body e) = points names e
 accesses names (Switch e arms last) = points names e
-accesses names (Return e) = elim e [ Some value ↦ points names value | None ↦ false ]
+accesses names (Return e) = points_if names e
 accesses names _ = false
 
 -- The statement assigns, passes on, gives back or chooses by what one of these names carries. A test of an `if` or of a

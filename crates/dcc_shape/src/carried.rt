@@ -1,11 +1,11 @@
 //! What becomes of the addresses of `auto` variables of which a function uses nothing else.
 
-ghost use Rattle.std.specs.Prelude.{◌≡◌, ◌↔◌, ◌<◌, Bool, true, false, IfOk, OnOk};
+ghost use Rattle.std.specs.Prelude.{◌≡◌, ◌↔◌, ◌<◌, ◌||◌, Bool, true, false, option_map, IfOk, OnOk};
 ghost use Rattle.std.specs.List.{list_any};
 ghost use Rattle.dcc_c.specs.Tree.{Word};
 ghost use Rattle.dcc_c.specs.Views.{expr_of, stmt_of, function_of};
 ghost use Rattle.dcc_shape.specs.Carried as spec;
-ghost use Rattle.dcc_shape.specs.Carried.{is_one, gives_bit, carries, points, accesses, sends, goes_to, keeps};
+ghost use Rattle.dcc_shape.specs.Carried.{is_one, gives_bit, carries, points, points_if, accesses, sends, goes_to, keeps};
 ghost use Rattle.dcc_shape.specs.Carried.{UsesAddressesAlone};
 ghost use Rattle.dcc_shape.specs.Carrying.{holds, Within, settles, all_settle, all_keep, strangers};
 ghost use Rattle.dcc_shape.specs.Seen.{lent};
@@ -85,20 +85,35 @@ fn any_carries(names: &BTreeSet<&str>, list: &[CExpr]) -> bool
     list.iter().any(|e| carries(names, e))
 }
 
+// Whether there is an expression, and a `*` stands so in it.
+fn points_if(names: &BTreeSet<&str>, e: &Option<CExpr>) -> bool
+    ensures { result ≡ points_if (holds names.now) (option_map expr_of e.now) }
+{
+    match e {
+        Some(e) => points(names, e),
+        None => false,
+    }
+}
+
+// Whether a `*` stands so in the place of a result, or in an argument.
+fn call_points(names: &BTreeSet<&str>, place: &Option<CExpr>, arguments: &[CExpr]) -> bool
+    ensures { result ≡ points_if (holds names.now) (option_map expr_of place.now)
+        || list_any (λ e. points (holds names.now) (expr_of e)) arguments.now }
+{
+    points_if(names, place) || any_points(names, arguments)
+}
+
 // Whether an expression of a statement loads or stores by one of these names.
 fn accesses(names: &BTreeSet<&str>, stmt: &CStmt) -> bool
     ensures { result ≡ accesses (holds names.now) (stmt_of stmt.now) }
 {
     match stmt {
         CStmt::Assign(place, e) => points(names, place) || points(names, e),
-        CStmt::Call(Some(place), _, arguments, _) => {
-            points(names, place) || any_points(names, arguments)
-        }
-        CStmt::Call(None, _, arguments, _) => any_points(names, arguments),
+        CStmt::Call(place, _, arguments, _) => call_points(names, place, arguments),
         CStmt::If(e, ..) | CStmt::While(e, _) | CStmt::DoWhile(_, e) | CStmt::Switch(e, ..) => {
             points(names, e)
         }
-        CStmt::Return(Some(e)) => points(names, e),
+        CStmt::Return(e) => points_if(names, e),
         _ => false,
     }
 }

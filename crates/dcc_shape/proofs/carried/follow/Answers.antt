@@ -16,9 +16,9 @@ returns-clause-forced c = λ all within keep.
     let old = c.args.names.now in
     let stmt = stmt_of c.args.stmt.now in
     let unplaced = holds c.args.unplaced.now in
-    let open =
+    let away =
     unsettled (sends (holds old) stmt) (goes_to unplaced stmt) (goes_to (holds old) stmt)
     (sym c.settles.ensures ∙ c.if-settles.false) in
     forced-in (holds old) (holds c.insert.new.self) c.in-Some.word.now
     (set-inserted old c.insert.new.self c.in-Some.word c.in_ok-insert.ensures.updates) all within unplaced stmt
-    c.in-Some.ensures open.0 keep
+    c.in-Some.ensures away.0 keep
