@@ -166,8 +166,7 @@ typed-tree ids image program p q r file of is tidy few control tree same =
     let are = all-numbered control _ r.graphs in
     subst
     (λ (t : Tree). (length procedures ≡ length t.functions)
-    × (HaveShape (asked_of program) t.functions → AreTypedFrames procedures t.functions)) (sym same)
-    (
+    × (HaveShape (asked_of program) t.functions → AreTypedFrames procedures t.functions)) (sym same) (
       sym (AllZip-long (IsOneOf control) r.graphs functions are ∙ AllZip-long HasFrameFor procedures r.graphs frames),
       λ shaped. record {
         names = text-names control _ r.graphs ∙ names-are procedures r.graphs frames;

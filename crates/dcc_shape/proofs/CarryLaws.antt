@@ -63,8 +63,8 @@ module _ (few many : Word → Bool) (within : Within few many) where
   points-more (Unary operator a) is =
       either (is_deref operator && carries few a) (points few a) (is_deref operator && carries many a) (points many a)
       (λ here.
-          let parts = and_parts (is_deref operator) (carries few a) here in
-          and_from (is_deref operator) (carries many a) parts.0 (carries-more a parts.1))
+      let parts = and_parts (is_deref operator) (carries few a) here in
+      and_from (is_deref operator) (carries many a) parts.0 (carries-more a parts.1))
       (points-more a) is
   points-more (Binary operator a b) is =
       either (points few a) (points few b) (points many a) (points many b) (points-more a) (points-more b) is

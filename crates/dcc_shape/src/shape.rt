@@ -10,8 +10,8 @@ ghost use Rattle.dcc_shape.specs.Carried.{UsesAddressesAlone};
 ghost use Rattle.dcc_shape.specs.Shape.{HasShapeOf, IsShapedFor, HaveShape, LacksShape};
 ghost use Rattle.dcc_shape.specs.Asked.{is_shallow, are_looped, is_as_asked};
 
-use crate::carried::uses_addresses_alone;
 use crate::asked::{Asked, asked_by};
+use crate::carried::uses_addresses_alone;
 use crate::counts::{is_at_most, is_counted};
 use crate::jumps::{go_on_or_round, go_where_edges_meet, leave_innermost_alone};
 use crate::loops::are_labelled;
@@ -78,11 +78,7 @@ fn has_shape_of(alloc: Global, proc: &Proc, body: &[Line]) -> Result<bool, Alloc
 }
 
 // Whether nothing of the `auto` variables of a function is used but the addresses, where the frame has no local bytes.
-fn has_addresses_of(
-    alloc: Global,
-    frame: &Frame,
-    function: &Func,
-) -> Result<bool, AllocError>
+fn has_addresses_of(alloc: Global, frame: &Frame, function: &Func) -> Result<bool, AllocError>
     ensures { IfOk result (λ yes. (yes ≡ true)
         ↔ (frame.now.exposed.local ≡ 0 → UsesAddressesAlone (function_of function.now))) }
 {

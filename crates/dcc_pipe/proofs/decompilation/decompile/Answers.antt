@@ -46,15 +46,15 @@ returns-in-Ok-clause-text g c =
 pub returns-in-Ok-clause-typed : goal.returns-in-Ok-clause-typed
 returns-in-Ok-clause-typed g c =
     let typed : HaveShape (asked_of c.in_ok-program.program) (tree_of c.in-Ok.unit).functions
-        → HasTypedFrames c.args.cpu c.args.image.now (tree_of c.in-Ok.unit) = λ shaped. record {
+    → HasTypedFrames c.args.cpu c.args.image.now (tree_of c.in-Ok.unit) = λ shaped. record {
       program = c.in_ok-program.program;
       is_program = c.in_ok-program.ensures.program;
       functions = c.in-Ok.ensures.typed shaped;
     } in
     IfOk-weaker c.shaped.result _ _
     (λ after is.
-        subst (λ unit. HaveShape (asked_of c.in_ok-program.program) (tree_of unit).functions
-        → HasTypedFrames c.args.cpu c.args.image.now (tree_of unit)) (sym is.0) typed is.1)
+    subst (λ unit. HaveShape (asked_of c.in_ok-program.program) (tree_of unit).functions
+    → HasTypedFrames c.args.cpu c.args.image.now (tree_of unit)) (sym is.0) typed is.1)
     c.shaped.ensures.has
 
 pub returns-in-Ok-clause-shaped : goal.returns-in-Ok-clause-shaped

@@ -54,8 +54,7 @@ loop-seen-preserved c =
         | then-branch w ↦ absurd (false≢true (sym still ∙ w.grown-is))
         | else-branch w ↦
             let same = c.in_ok-follow.ensures.same w.if-branch.false in
-            let had = before.settled (sym w.grown-is ∙ still) in
-            (
+            let had = before.settled (sym w.grown-is ∙ still) in (
               same.0 ∙ had.0,
               settle-next list i s inside c.seen-item.is unplaced new
                   (subst (λ (names : BTreeSet (Bor (List ℕ))). all_settle unplaced (holds names) (take i list) ≡ true) (sym same.0) had.1) same.1,

@@ -24,9 +24,8 @@ returns c =
     let settled : all_settle unplaced names list ≡ true = sym (ap (all_settle unplaced names) given) ∙ c.in_ok-settle.ensures.settled in
     let forced : (all : Word → Bool) → Within (is_local true f) all → all_keep unplaced all list ≡ true → Within names all =
     λ all within kept.
-        c.in_ok-settle.ensures.forced all (λ word is. within word (sym (c.in_ok-names.ensures word) ∙ is))
-        (ap (all_keep unplaced all) given ∙ kept) in
-    (
+    c.in_ok-settle.ensures.forced all (λ word is. within word (sym (c.in_ok-names.ensures word) ∙ is))
+    (ap (all_keep unplaced all) given ∙ kept) in (
       λ kept.
           uses-alone f list same unplaced c.in_ok-unplaced.ensures names
           (λ word is. c.in_ok-settle.ensures.more word (c.in_ok-names.ensures word ∙ is)) (sym result ∙ kept),
