@@ -1,7 +1,7 @@
-use Rattle.std.proofs.Common.{◌≡◌, ℕ, ◌+◌, ◌<◌, ◌⊎◌, inl, inr, List, Option, Some, None, ◌∷◌, [], ◌++◌, map, take, drop, length, get_or, min, sym, ap, ap₂, subst, ◌∙◌, arith}
+use Rattle.std.proofs.Common.{◌≡◌, ℕ, ◌+◌, ◌<◌, ◌≤◌, ◌⊎◌, inl, inr, List, Option, Some, None, ◌∷◌, [], ◌++◌, map, take, drop, length, get_or, min, sym, ap, ap₂, subst, ◌∙◌, arith}
 use Rattle.std.specs.List.{zip}
 use Rattle.std.proofs.lemmas.Bool.{both_ways, cases_lt}
-use Rattle.std.proofs.lemmas.List.{take_more, map-append}
+use Rattle.std.proofs.lemmas.List.{take_more, take_all, map-append}
 use Rattle.std.proofs.lemmas.Slice.Zip.{length-zip}
 use Rattle.dcc_prog.specs.declared.procedure.Proc.{Proc}
 use Rattle.dcc_prog.specs.declared.frame.Frame.{Frame}
@@ -26,9 +26,6 @@ pair-is i procs frames proc frame same within p_is f_is =
 
 pub loop-i-init : goal.loop-i-init
 loop-i-init c = nothing
-
-pub index-frames-i-requires : goal.index-frames-i-requires
-index-frames-i-requires c = omega (arith, c.loop-i-test.true, c.min-count.ensures, c.requires)
 
 pub loop-i-preserved : goal.loop-i-preserved
 loop-i-preserved c =
@@ -87,3 +84,16 @@ returns-else-procs-functions-clause-lacks c = λ j is.
     (lacks-end n pairs functions (omega (arith, many, c.min-count.ensures)) (omega (arith, c.min-count.ensures)) one
     (λ e. c.if-procs-functions.false (sym many ∙ e))
     (subst (λ k. HaveShape (take k pairs) (map function_of (take k functions))) end c.loop-i.invariant))
+
+pub returns-then-procs-functions-clause-has : goal.returns-then-procs-functions-clause-has
+returns-then-procs-functions-clause-has c = λ none.
+    let procs = c.args.procs.now in
+    let pairs = zip procs c.args.frames.now in
+    let functions = c.args.functions.now in
+    let i = c.loop-i.i in
+    let many : length pairs ≡ length procs = long procs c.args.frames.now c.requires in
+    let all : length procs ≤ i =
+    omega (arith, c.loop-i-test.false, c.min-count.ensures, c.if-procs-functions.true) in
+    subst (λ ps. HaveShape ps (map function_of functions)) (take_all i pairs (omega (arith, many, all)))
+    (subst (λ fs. HaveShape (take i pairs) (map function_of fs))
+    (take_all i functions (omega (arith, all, c.if-procs-functions.true))) c.loop-i.invariant)
