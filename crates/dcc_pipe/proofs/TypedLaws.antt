@@ -1,5 +1,5 @@
 -- The functions of a text keep in memory just what the frames of their procedures expose.
-use Rattle.std.proofs.Common.{◌≡◌, ℕ, ◌+◌, Bool, true, false, ◌==◌, List, [], ◌∷◌, ◌++◌, map, length, Option, inl, inr, refl, sym, ap, ap₂, ◌∙◌, subst, true≢false, eqb-true}
+use Rattle.std.proofs.Common.{◌≡◌, ℕ, ◌+◌, Bool, true, false, ◌==◌, List, [], ◌∷◌, ◌++◌, map, length, Option, Some, inl, inr, refl, sym, ap, ap₂, ◌∙◌, subst, true≢false, eqb-true}
 use Rattle.std.specs.Prelude.{filter, if◌then◌else◌, All, codes}
 use Rattle.std.specs.List.{AllZip, zip}
 use Rattle.std.proofs.lemmas.Slice.Zip.{AllZip-long}
@@ -129,6 +129,7 @@ all-alone : (layout : Layout) (procs : List Proc) (frames : List Frame) (fs : Li
     → AllZip IsAloneFor (procedures_of layout procs frames) fs
 all-alone layout [] frames _ nothing = tt
 all-alone layout (proc ∷ procs) [] _ nothing = tt
+all-alone layout (proc ∷ procs) (frame ∷ frames) [] shaped = elim shaped [ ]
 all-alone layout (proc ∷ procs) (frame ∷ frames) (f ∷ fs) (one_more has rest) =
     (has.addresses, all-alone layout procs frames fs rest)
 
