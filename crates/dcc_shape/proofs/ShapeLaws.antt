@@ -14,7 +14,7 @@ use Rattle.dcc_interval.specs.Derived.{IsDerived, ends_in_one}
 use Rattle.dcc_flow.specs.Edges.{leads}
 use Rattle.dcc_shape.specs.declared.asked.Asked.{Asked}
 use Rattle.dcc_shape.specs.declared.seen.Seen.{Seen as SeenOf}
-use Rattle.dcc_shape.specs.Procedures.{Flow, flow_of, place_at, next_of, edges_to, edges, headers}
+use Rattle.dcc_shape.specs.Procedures.{Flow, place_at, next_of, edges_to, edges, headers}
 use Rattle.dcc_shape.specs.Spots.{Spot, has_blocks, goal_passes, spots}
 use Rattle.dcc_shape.specs.Shape as shape
 use Rattle.dcc_shape.specs.Shape.{is_label, is_jump, is_empty, is_labelled, is_loop_at, names_one, goes_where_edges_meet, leaves_innermost_alone, goes_on_or_round, loops_are_labelled, each_labels_one, HasLoops, IsCounted, HasShapeOf, IsShapedFor, HaveShape, nothing, one_more, LacksShape, here, no_function, no_procedure, later}

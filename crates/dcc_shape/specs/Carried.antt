@@ -1,6 +1,6 @@
 -- What becomes of the address of an `auto` array in a function that uses nothing of the array but its address. What is
 -- reckoned from the address may go to variables in no memory; single bits of it, as flags are, may go anywhere.
-use Rattle.std.specs.Prelude.{◌≡◌, ℕ, ◌==◌, Bool, true, false, ◌&&◌, ◌||◌, not, Option, Some, None}
+use Rattle.std.specs.Prelude.{◌≡◌, ◌==◌, Bool, true, false, ◌&&◌, ◌||◌, not, Option, Some, None}
 use Rattle.std.specs.List.{list_any, list_all}
 use Rattle.dcc_c.specs.declared.syntax.CBin.{CBin}
 use Rattle.dcc_c.specs.declared.syntax.CBin.TheVariants.{OrOr, AndAnd, And, Eq, Ne, Lt, Le, Gt, Ge}

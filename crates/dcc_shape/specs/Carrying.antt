@@ -1,5 +1,5 @@
 -- What the code knows of the names that carry an address. No public contract rests on it.
-use Rattle.std.specs.Prelude.{◌≡◌, ℕ, Bool, true, false, ◌&&◌, ◌||◌, not, List, count_by, string_bytes}
+use Rattle.std.specs.Prelude.{◌≡◌, ℕ, Bool, true, ◌&&◌, ◌||◌, not, List, count_by, string_bytes}
 use Rattle.std.specs.List.{list_all}
 use Rattle.std.specs.BTreeSet as set
 use Rattle.std.specs.Cmp.Lexicographic.{slice_cmp}

@@ -1,4 +1,4 @@
-use Rattle.std.proofs.Common.{◌≡◌, true, false, List, ℕ, sym, ◌∙◌}
+use Rattle.std.proofs.Common.{sym, ◌∙◌}
 use Rattle.dcc_c.specs.Views.{stmt_of}
 use Rattle.dcc_shape.specs.Carried.{sends, goes_to}
 use Rattle.dcc_shape.specs.Carrying.{holds}

@@ -1,4 +1,4 @@
-use Rattle.std.proofs.Common.{◌≡◌, ℕ, ◌+◌, Bool, true, false}
+use Rattle.std.proofs.Common.{◌≡◌, ◌+◌, Bool, true, false}
 use Rattle.std.specs.Prelude.{if◌then◌else◌}
 use Rattle.dcc_c.specs.Tree.{Word}
 use Rattle.dcc_shape.specs.Carrying.{holds, Within, all_settle, all_keep, strangers}

@@ -1,7 +1,6 @@
-use Rattle.std.proofs.Common.{◌≡◌, Bool, true, List, map, sym, ap, subst, ◌∙◌}
+use Rattle.std.proofs.Common.{◌≡◌, Bool, true, map, sym, ap, ◌∙◌}
 use Rattle.dcc_c.specs.Tree.{Word}
 use Rattle.dcc_c.specs.Views.{function_of, lines_of}
-use Rattle.dcc_shape.specs.declared.seen.Seen.{Seen as SeenOf}
 use Rattle.dcc_shape.specs.Carried.{is_local}
 use Rattle.dcc_shape.specs.Carrying.{holds, Within, all_settle, all_keep}
 use Rattle.dcc_shape.specs.Seen.{seen, seen_in}
