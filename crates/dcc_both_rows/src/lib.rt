@@ -13,6 +13,8 @@ mod lifted;
 #[cfg(test)]
 mod memory;
 #[cfg(test)]
+mod moves;
+#[cfg(test)]
 mod processors;
 #[cfg(test)]
 mod structure;

@@ -36,9 +36,6 @@ pub mod GraphAddresses
 pub mod LeftAddresses
 pub mod MovesLaws
 pub mod TidiedFrames
-pub mod AccessTexts
-pub mod ByteTexts
-pub mod ArrayTexts
 pub mod TypedLaws
 mod CallExample
 pub mod PipeLaws

@@ -106,5 +106,5 @@ module _ (p q : Program) (is : IsPrepared p q) where
 
     pub prepared-fits : All HasFewNames r.graphs → FitsText r
     prepared-fits few =
-        tidied-fits q r (graphs-tidied ids q.graphs r.graphs is.simplified.textable.formed.graphs tidy.graphs)
+        tidied-fits q r (graphs-tidied ids q.graphs r.graphs tidy.graphs)
         left-simplified.textable prepared-gives prepared-takes is.apart few

@@ -20,7 +20,6 @@ use Rattle.dcc_pipe.specs.Agreement.{IsTextOf}
 use Rattle.dcc_pipe.specs.declared.no_text.NoText.{NoText}
 use Rattle.dcc_pipe.specs.declared.no_text.NoText.TheVariants.{Refused, NotYet}
 use Rattle.dcc_pipe.specs.Shaped.{IsMadeOf, HasNoTextFor, LacksFirst}
-use Rattle.dcc_pipe.specs.TypedFrames.{HasTypedFrame}
 
 as-many : (image : Image) (layout : Layout) (procs : List Proc) (frames : List Frame)
     → AllZip (IsFrameOf image layout) procs frames → length (procedures_of layout procs frames) ≡ length procs
@@ -30,14 +29,19 @@ as-many image layout (proc ∷ procs) (frame ∷ frames) framed = ap suc (as-man
 
 -- functions that have the frames of a program's procedures are as many as these
 pub functions-as_many : (cpu : Cpu) (image : Image) (program : Analysed) (functions : List Function)
-    → IsProgramOf cpu image program → AllZip HasTypedFrame (procedures_in program) functions
+    → IsProgramOf cpu image program → length (procedures_in program) ≡ length functions
     → length program.procs.items ≡ length functions
-functions-as_many cpu image program functions is typed =
-    sym (AllZip-long HasTypedFrame (procedures_in program) functions typed
-    ∙ as-many image program.layout program.procs.items program.cells.frames.items is.cells.frames)
+functions-as_many cpu image program functions is same =
+    sym (as-many image program.layout program.procs.items program.cells.frames.items is.cells.frames) ∙ same
+
+-- there is a frame for each procedure
+pub frames-as_many : (cpu : Cpu) (image : Image) (program : Analysed) → IsProgramOf cpu image program
+    → length program.procs.items ≡ length program.cells.frames.items
+frames-as_many cpu image program is =
+    sym (AllZip-long (IsFrameOf image program.layout) program.procs.items program.cells.frames.items is.cells.frames)
 
 -- where there is a function for each procedure, what lacks its shape is a procedure's
-pub lacking-within : (i : ℕ) (procs : List Proc) (functions : List Function) → length procs ≡ length functions
+pub lacking-within : (i : ℕ) (procs : List (Proc × Frame)) (functions : List Function) → length procs ≡ length functions
     → LacksShape i procs functions → i < length procs
 lacking-within _ _ _ same no_function = absurd (omega (arith, same))
 lacking-within _ _ _ same no_procedure = absurd (omega (arith, same))

@@ -108,7 +108,7 @@ tidied-keeps : (ids : List ℕ) (p q r : Program) → IsPrepared p q → HasEach
     → KeepsReturns p r
 tidied-keeps ids p q r is tidy =
     let simplified = left-simplified p q is ids r tidy in
-    let each = graphs-tidied ids q.graphs r.graphs is.simplified.textable.formed.graphs tidy.graphs in record {
+    let each = graphs-tidied ids q.graphs r.graphs tidy.graphs in record {
       formed = simplified.textable.formed.graphs;
       keeps = simplified.keeps;
       returning = λ entry.

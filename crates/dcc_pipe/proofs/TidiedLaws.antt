@@ -12,7 +12,7 @@ use Rattle.dcc_passes.specs.Tidied.{IsTidied}
 use Rattle.dcc_passes.proofs.ReplacedLaws.{left-from}
 use Rattle.dcc_tidy.specs.Tidied.{text_levels, IsTidiedGraph}
 use Rattle.dcc_tidy.proofs.KindLaws.{kind-addresses}
-use Rattle.dcc_tidy.proofs.GraphLaws.{graphs-tidied, graph-depth}
+use Rattle.dcc_tidy.proofs.GraphLaws.{graphs-tidied}
 use Rattle.dcc_pipe.specs.Textable.{levels, IsTextable}
 use Rattle.dcc_pipe.specs.Simplified.{HasEachChanged, IsSimplified}
 use Rattle.dcc_pipe.proofs.ReplacedLaws.{HasSameBlocks, blocks-stay}
@@ -24,7 +24,7 @@ use Rattle.dcc_pipe.proofs.SimplifiedLaws.{deepest-of, none-deeper, never-stuck}
 graph-shallow : (ids : List ℕ) (g h : Graph) → IsTidiedGraph ids g h → IsShallow levels g → IsShallow text_levels h
 graph-shallow ids g h left shallow =
     let few = deepest-of levels (graph_exprs g) shallow in
-    none-deeper text_levels (graph_exprs h) (graph-depth ids g h left (omega (arith, few)))
+    none-deeper text_levels (graph_exprs h) (left.stands.depth (omega (arith, few)))
 
 kind-blocks : (g h : Graph) → StaysInKind g h → HasSameBlocks g h
 kind-blocks g h is = record { entry = is.entry; addresses = kind-addresses g h is }
@@ -41,7 +41,7 @@ kind-ends g h is =
 pub program-tidied : (ids : List ℕ) (p q : Program) → IsTextable levels p → HasEachChanged (IsTidiedGraph ids) p q
     → IsSimplified text_levels p q
 program-tidied ids p q textable is =
-    let each = graphs-tidied ids p.graphs q.graphs textable.formed.graphs is.graphs in
+    let each = graphs-tidied ids p.graphs q.graphs is.graphs in
     let stand = weaker_zipped IsTidied StandsFor (λ g h tidy. tidy.stands) p.graphs q.graphs each in
     let same : with_graphs p.image p.lo p.hi q.graphs ≡ q =
     λ i. record { graphs = q.graphs; image = sym is.image i; lo = sym is.lo i; hi = sym is.hi i } in

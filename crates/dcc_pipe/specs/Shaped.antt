@@ -1,7 +1,9 @@
 -- Texts of the shape that procedures ask for, and images that have none.
 use Rattle.std.specs.Prelude.{◌≡◌, ℕ, List, Some, option_map, slice_get}
+use Rattle.std.specs.List.{zip}
 use Rattle.dcc_machine.specs.declared.cpu.Cpu.{Cpu}
 use Rattle.dcc_machine.specs.declared.image.Image.{Image}
+use Rattle.dcc_prog.specs.declared.frame.Frame.{Frame}
 use Rattle.dcc_prog.specs.declared.frame.Program.{Program as Analysed}
 use Rattle.dcc_prog.specs.declared.procedure.Proc.{Proc}
 use Rattle.dcc_prog.specs.declared.refusal.Refusal.TheVariants.{Memory}
@@ -21,16 +23,20 @@ use Rattle.dcc_pipe.specs.WholeText.{IsWholeText}
 use Rattle.dcc_pipe.specs.declared.no_text.NoText.{NoText}
 use Rattle.dcc_pipe.specs.declared.no_text.NoText.TheVariants.{Refused, NotYet}
 
+-- the procedures of a program, each with its frame
+abbrev pub asked_of : Analysed → List (Proc × Frame)
+asked_of program = zip program.procs.items program.cells.frames.items
+
 -- the functions of the tree have the shape that the procedures ask for which are found in the image on the processor
 pub record HasShape (cpu : Cpu) (image : Image) (tree : Tree) : Type 0 where
   pub program : Analysed
   pub is_program : IsProgramOf cpu image program
-  pub functions : HaveShape program.procs.items tree.functions
+  pub functions : HaveShape (asked_of program) tree.functions
 
 -- the first procedure whose function lacks the shape that it asks for has this entry
 pub record LacksShapeAt (program : Analysed) (tree : Tree) (at : ℕ) : Type 0 where
   pub number : ℕ
-  pub lacks : LacksShape number program.procs.items tree.functions
+  pub lacks : LacksShape number (asked_of program) tree.functions
   pub entry : option_map (λ (proc : Proc). proc.entry) (slice_get program.procs.items number) ≡ Some at
 
 -- The tree is that of a text that is made of the program in the image: the program is lifted and prepared, what all

@@ -12,7 +12,7 @@ ghost use Rattle.dcc_c.specs.Views.{tree_of};
 ghost use Rattle.dcc_c.specs.Written.{written_form};
 ghost use Rattle.dcc_shape.specs.Shape.{HaveShape};
 ghost use Rattle.dcc_pipe.specs.Agreement.{IsTextOf};
-ghost use Rattle.dcc_pipe.specs.Shaped.{HasShape, IsMadeOf, HasNoTextFor, LacksFirst};
+ghost use Rattle.dcc_pipe.specs.Shaped.{asked_of, HasShape, IsMadeOf, HasNoTextFor, LacksFirst};
 ghost use Rattle.dcc_pipe.specs.Faults.{refusal_for};
 ghost use Rattle.dcc_pipe.specs.TypedFrames.{AreTypedFrames, HasTypedFrames};
 
@@ -44,7 +44,9 @@ fn text_of(
     requires program { IsProgramOf program.now.layout.cpu image.now program.now }
     ensures text { IfOk result
         (λ unit. IsTextOf program.now.layout.cpu image.now (written_form (tree_of unit)) (tree_of unit)) }
-    ensures typed { IfOk result (λ unit. AreTypedFrames (procedures_in program.now) (tree_of unit).functions) }
+    ensures as_many { IfOk result (λ unit. length program.now.procs.items ≡ length (tree_of unit).functions) }
+    ensures typed { IfOk result (λ unit. HaveShape (asked_of program.now) (tree_of unit).functions
+        → AreTypedFrames (procedures_in program.now) (tree_of unit).functions) }
     ensures made { IfOk result (λ unit. IsMadeOf image.now program.now (tree_of unit)) }
     ensures none { IfOk result
         (λ unit. (kind : ConstructKind) (at : ℕ) → ¬ IsOfSummaries (bodies_of program.now) kind at) }
@@ -81,11 +83,17 @@ fn refusal_of(fault: SumsFault) -> Refusal
 // The text, where each of its functions has the shape that its procedure asks for; else the entry of the first procedure
 // whose function lacks it.
 fn shaped(alloc: Global, program: &Program, unit: Unit) -> Result<Unit, NoText>
-    requires { length program.now.procs.items ≡ length (tree_of unit).functions }
-    ensures has { IfOk result (λ after. after ≡ unit × HaveShape program.now.procs.items (tree_of after).functions) }
+    requires functions { length program.now.procs.items ≡ length (tree_of unit).functions }
+    requires frames { length program.now.procs.items ≡ length program.now.cells.frames.items }
+    ensures has { IfOk result (λ after. after ≡ unit × HaveShape (asked_of program.now) (tree_of after).functions) }
     ensures lacks { IfErr result (LacksFirst program.now (tree_of unit)) }
 {
-    match has_shape(alloc, program.procs.as_slice(), unit.funcs.as_slice())? {
+    match has_shape(
+        alloc,
+        program.procs.as_slice(),
+        program.cells.frames.as_slice(),
+        unit.funcs.as_slice(),
+    )? {
         None => Ok(unit),
         Some(first) => Err(NoText::NotYet {
             at: program.procs[first].entry,
@@ -99,8 +107,9 @@ fn shaped(alloc: Global, program: &Program, unit: Unit) -> Result<Unit, NoText>
 /// the rules of a list; what is promised holds for every list. The written form stands for the unit's tree, whose run on
 /// every input and from every fill agrees with that of the program on the processor, as long as that is clean. The
 /// `auto` parameters and variables of a function are just the arguments and the local bytes that its procedure's frame
-/// exposes; where it exposes no local byte, there may be one if the procedure moves SP by ADD, SUB, INC or DEC, and the
-/// array of that byte is named in no load and no store, for its address alone.
+/// exposes; where it exposes no local byte, there may be one if the procedure moves SP by ADD, SUB, INC or DEC. That byte
+/// stands for no cell, and nothing of it is used but the address, of which the flags of such a move tell: neither the
+/// address nor what is reckoned from it comes beneath a `*`, into memory or to another function, but for single bits.
 ///
 /// Each function has the shape that its procedure asks for. Its blocks, labels, jumps and empty statements are no more
 /// than the procedure's instructions, edges and loops give. Where the procedure has fewer than 190 branches and loops,

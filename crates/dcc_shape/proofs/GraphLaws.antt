@@ -1,5 +1,5 @@
 -- The graph of a procedure, from the instructions as the code has them.
-use Rattle.std.proofs.Common.{◌≡◌, ℕ, ◌+◌, ◌-◌, ◌<◌, ◌≤◌, All, Bool, cond, List, [], ◌∷◌, ◌++◌, Some, None, map, take, length, get_or, suc, zero, inl, inr, refl, sym, ap, subst, ◌∙◌, arith}
+use Rattle.std.proofs.Common.{◌≡◌, ℕ, ◌+◌, ◌<◌, ◌≤◌, All, Bool, cond, List, [], ◌∷◌, ◌++◌, Some, None, map, take, length, get_or, suc, zero, inl, inr, refl, sym, ap, subst, ◌∙◌, arith}
 use Rattle.std.specs.Prelude.{◌==◌, if◌then◌else◌, not, nat_lt}
 use Rattle.std.specs.List.{filter, sum_by, count_by, position, position_or_len}
 use Rattle.std.proofs.lemmas.Bool.{cases_Bool, ltb-false}

@@ -9,3 +9,4 @@ mod LoopLaws
 mod KnownLaws
 mod EdgeLaws
 mod GraphLaws
+mod CarryLaws

@@ -1,10 +1,11 @@
 -- A text has the shape that is asked for just where all is as asked.
 use Rattle.std.proofs.Common.{◌≡◌, ℕ, ◌+◌, ◌-◌, ◌<◌, ◌≤◌, ◌⊎◌, Bool, true, inl, inr, List, [], ◌∷◌, ◌++◌, length, get_or, take, drop, map, refl, sym, ap, subst, ◌∙◌, zero, suc, arith}
 use Rattle.std.specs.Prelude.{◌&&◌, ◌||◌, not, ◌==◌, nat_lt, nat_le, Result, Ok, Err, IfOk, Some}
-use Rattle.std.specs.List.{list_all, count_by}
+use Rattle.std.specs.List.{list_all, count_by, zip}
 use Rattle.std.proofs.lemmas.Bool.{cases_Bool, and_parts, and_from, or_cases, or_left, or_right, not_from_false, false≢true, leb-true, le-leb, cases_order}
 use Rattle.std.proofs.lemmas.List.{length-map, length-take, length-drop, map-append, take-append-drop, drop_more, drop_all}
 use Rattle.dcc_prog.specs.declared.procedure.Proc.{Proc}
+use Rattle.dcc_prog.specs.declared.frame.Frame.{Frame}
 use Rattle.dcc_c.specs.declared.syntax.Func.{Func}
 use Rattle.dcc_c.specs.Tree.{Lines, Function}
 use Rattle.dcc_c.specs.Views.{function_of}
@@ -13,10 +14,10 @@ use Rattle.dcc_interval.specs.Derived.{IsDerived, ends_in_one}
 use Rattle.dcc_flow.specs.Edges.{leads}
 use Rattle.dcc_shape.specs.declared.asked.Asked.{Asked}
 use Rattle.dcc_shape.specs.declared.seen.Seen.{Seen as SeenOf}
-use Rattle.dcc_shape.specs.Procedures.{Flow, flow_of, place_at, next_of, edges_to, edges, headers}
+use Rattle.dcc_shape.specs.Procedures.{Flow, place_at, next_of, edges_to, edges, headers}
 use Rattle.dcc_shape.specs.Spots.{Spot, has_blocks, goal_passes, spots}
 use Rattle.dcc_shape.specs.Shape as shape
-use Rattle.dcc_shape.specs.Shape.{is_label, is_jump, is_empty, is_labelled, is_loop_at, names_one, goes_where_edges_meet, leaves_innermost_alone, goes_on_or_round, loops_are_labelled, each_labels_one, HasLoops, IsCounted, HasShapeOf, HaveShape, nothing, one_more, LacksShape, here, no_function, no_procedure, later}
+use Rattle.dcc_shape.specs.Shape.{is_label, is_jump, is_empty, is_labelled, is_loop_at, names_one, goes_where_edges_meet, leaves_innermost_alone, goes_on_or_round, loops_are_labelled, each_labels_one, HasLoops, IsCounted, HasShapeOf, IsShapedFor, HaveShape, nothing, one_more, LacksShape, here, no_function, no_procedure, later}
 use Rattle.dcc_shape.specs.Seen.{seen, seen_in, may_all_go}
 use Rattle.dcc_shape.specs.Asked as asked
 use Rattle.dcc_shape.specs.Asked.{IsAsked, are_counted, are_looped, is_shallow, is_as_asked}
@@ -212,35 +213,46 @@ module _ (flow : Flow) (a : Asked) (is : IsAsked flow a) (found : List SeenOf) (
 -- Whole texts.
 
 -- one procedure more with its function
-pub have-more : {procs : List Proc} {functions : List Function} (proc : Proc) (function : Function) →
-    HaveShape procs functions → HasShapeOf (flow_of proc) function.body → HaveShape (procs ++ proc ∷ []) (functions ++ function ∷ [])
-have-more proc function nothing has = one_more has nothing
-have-more proc function (one_more first others) has = one_more first (have-more proc function others has)
+pub have-more : {procs : List (Proc × Frame)} {functions : List Function} (proc : Proc) (frame : Frame) (function : Function)
+    → HaveShape procs functions → IsShapedFor proc frame function
+    → HaveShape (procs ++ (proc, frame) ∷ []) (functions ++ function ∷ [])
+have-more proc frame function nothing has = one_more has nothing
+have-more proc frame function (one_more first others) has = one_more first (have-more proc frame function others has)
 
 -- the rest of a text lacks the shape at once
-pub lacks-later : {procs : List Proc} {functions : List Function} (i : ℕ) (more : List Proc) (others : List Function) →
-    HaveShape procs functions → length procs ≡ i → LacksShape 0 more others → LacksShape i (procs ++ more) (functions ++ others)
+pub lacks-later : {procs : List (Proc × Frame)} {functions : List Function} (i : ℕ) (more : List (Proc × Frame))
+    (others : List Function)
+    → HaveShape procs functions → length procs ≡ i → LacksShape 0 more others → LacksShape i (procs ++ more) (functions ++ others)
 lacks-later i more others nothing long lacks = subst (λ n. LacksShape n more others) long lacks
 lacks-later zero more others (one_more has rest) long lacks = absurd (omega (arith, long))
 lacks-later (suc i) more others (one_more has rest) long lacks = later has (lacks-later i more others rest (omega (arith, long)) lacks)
 
+-- a procedure with its frame
+pub zip-at : {A B : Type 0} (i : ℕ) (xs : List A) (ys : List B) (x : A) (y : B) → i < length xs → i < length ys
+    → get_or (zip xs ys) i (x, y) ≡ (get_or xs i x, get_or ys i y)
+zip-at i [] ys x y within short = absurd (omega (arith, within))
+zip-at i (a ∷ xs) [] x y within short = absurd (omega (arith, short))
+zip-at zero (a ∷ xs) (b ∷ ys) x y within short = refl
+zip-at (suc i) (a ∷ xs) (b ∷ ys) x y within short = zip-at i xs ys x y (omega (arith, within)) (omega (arith, short))
+
 -- one of the procedures has a function that lacks the shape
-pub lacks-at : (i : ℕ) (procs : List Proc) (functions : List Func) (proc : Proc) (function : Func) → i < length procs → i < length functions →
-    proc ≡ get_or procs i proc → function ≡ get_or functions i function → HaveShape (take i procs) (map function_of (take i functions)) →
-    ¬ (HasShapeOf (flow_of proc) (function_of function).body) → LacksShape i procs (map function_of functions)
-lacks-at i procs functions proc function p_within f_within p_is f_is has lacks =
-    let parts : procs ≡ take i procs ++ proc ∷ drop (i + 1) procs =
-    sym (take-append-drop i procs) ∙ ap (λ l. take i procs ++ l) (drop_more procs i proc p_within ∙ ap (λ x. x ∷ drop (i + 1) procs) (sym p_is)) in
+pub lacks-at : (i : ℕ) (procs : List (Proc × Frame)) (functions : List Func) (proc : Proc) (frame : Frame) (function : Func)
+    → i < length procs → i < length functions → (proc, frame) ≡ get_or procs i (proc, frame)
+    → function ≡ get_or functions i function → HaveShape (take i procs) (map function_of (take i functions))
+    → ¬ (IsShapedFor proc frame (function_of function)) → LacksShape i procs (map function_of functions)
+lacks-at i procs functions proc frame function p_within f_within p_is f_is has lacks =
+    let parts : procs ≡ take i procs ++ (proc, frame) ∷ drop (i + 1) procs =
+    sym (take-append-drop i procs) ∙ ap (λ l. take i procs ++ l) (drop_more procs i (proc, frame) p_within ∙ ap (λ x. x ∷ drop (i + 1) procs) (sym p_is)) in
     let others : functions ≡ take i functions ++ function ∷ drop (i + 1) functions =
     sym (take-append-drop i functions) ∙ ap (λ l. take i functions ++ l) (drop_more functions i function f_within ∙ ap (λ x. x ∷ drop (i + 1) functions) (sym f_is)) in
     let mapped : map function_of functions ≡ map function_of (take i functions) ++ function_of function ∷ map function_of (drop (i + 1) functions) =
     ap (map function_of) others ∙ map-append function_of (take i functions) (function ∷ drop (i + 1) functions) in
     let short : length (take i procs) ≡ i = omega (arith, length-take i procs, p_within) in
     subst (λ ps. LacksShape i ps (map function_of functions)) (sym parts)
-    (subst (λ fs. LacksShape i (take i procs ++ proc ∷ drop (i + 1) procs) fs) (sym mapped)
-    (lacks-later i (proc ∷ drop (i + 1) procs) (function_of function ∷ map function_of (drop (i + 1) functions)) has short (here lacks)))
+    (subst (λ fs. LacksShape i (take i procs ++ (proc, frame) ∷ drop (i + 1) procs) fs) (sym mapped)
+    (lacks-later i ((proc, frame) ∷ drop (i + 1) procs) (function_of function ∷ map function_of (drop (i + 1) functions)) has short (here lacks)))
 
-more-procs : (procs : List Proc) → 0 < length procs → LacksShape 0 procs []
+more-procs : (procs : List (Proc × Frame)) → 0 < length procs → LacksShape 0 procs []
 more-procs [] some = absurd (omega (arith, some))
 more-procs (proc ∷ procs) some = no_function
 
@@ -249,7 +261,7 @@ more-functions [] some = absurd (omega (arith, some))
 more-functions (function ∷ functions) some = no_procedure
 
 -- there are more procedures than functions, or fewer
-pub lacks-end : (n : ℕ) (procs : List Proc) (functions : List Func) → n ≤ length procs → n ≤ length functions → (length procs ≡ n) ⊎ (length functions ≡ n) →
+pub lacks-end : (n : ℕ) (procs : List (Proc × Frame)) (functions : List Func) → n ≤ length procs → n ≤ length functions → (length procs ≡ n) ⊎ (length functions ≡ n) →
     ¬ (length procs ≡ length functions) → HaveShape (take n procs) (map function_of (take n functions)) → LacksShape n procs (map function_of functions)
 lacks-end n procs functions p_few f_few one differ has =
     let more = drop n procs in

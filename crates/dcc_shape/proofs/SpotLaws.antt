@@ -6,7 +6,7 @@ use Rattle.std.proofs.lemmas.List.{at_drop_more, append-nil, map-append}
 use denote.Ref.{Bor}
 use Rattle.dcc_c.specs.declared.syntax.Line.{Line}
 use Rattle.dcc_c.specs.declared.syntax.Arm.{Arm, out-Arm}
-use Rattle.dcc_c.specs.Tree.{Word, Stmt, Lines, line, Arms, no_arms, arm}
+use Rattle.dcc_c.specs.Tree.{Word, Stmt, Lines, line, no_arms}
 use Rattle.dcc_c.specs.Views.{stmt_of, lines_of, arms_of, arm_before}
 use Rattle.dcc_c.proofs.RowLaws.{arm-parts}
 use Rattle.dcc_shape.specs.Spots.{Spot, is_the, label_in, goal_in, block_spots, inner_spots, arm_spots}

@@ -4,3 +4,5 @@ pub mod Shape
 pub mod Seen
 pub mod Known
 pub mod Asked
+pub mod Carried
+pub mod Carrying

@@ -4,12 +4,14 @@ use Rattle.std.specs.Prelude.{◌≡◌, ℕ, suc, ◌+◌, ◌≤◌, ◌==◌,
 use Rattle.std.specs.Prelude.{◌∷◌, length, count_by, codes, Option, Some}
 use Rattle.std.specs.List.{list_any, list_all}
 use Rattle.dcc_prog.specs.declared.procedure.Proc.{Proc}
+use Rattle.dcc_prog.specs.declared.frame.Frame.{Frame}
 use Rattle.dcc_c.specs.Tree.{Word, Stmt, Break, Continue, Goto, Label, Empty, Lines, Function}
 use Rattle.dcc_text.specs.Hex.{name_at}
 use Rattle.dcc_flow.specs.Edges.{leads}
 use Rattle.dcc_interval.specs.Intervals.{Interval}
 use Rattle.dcc_interval.specs.Derived.{IsDerived, ends_in_one}
 use Rattle.dcc_shape.specs.Procedures.{Flow, flow_of, addresses, place_at, next_of, edges_to, edges, headers}
+use Rattle.dcc_shape.specs.Carried.{UsesAddressesAlone}
 use Rattle.dcc_shape.specs.Spots.{Spot, is_loop, has_blocks, label_in, spots, is_the, goal_passes, every_goto}
 
 -- the label of the instruction at an address
@@ -115,26 +117,33 @@ pub record HasShapeOf (flow : Flow) (body : Lines) : Type 0 where
   pub loops : is_shallow flow (headers flow levels) (spots body) ≡ true → HasLoops flow levels (spots body)
   pub counted : IsCounted flow (headers flow levels) (spots body)
 
+-- The function has the shape that a procedure with this frame asks for. Where the frame exposes no local byte, an
+-- `auto` array of the function stands for no cell, and the function uses nothing of it but the address.
+pub record IsShapedFor (proc : Proc) (frame : Frame) (function : Function) : Type 0 where
+  pub shape : HasShapeOf (flow_of proc) function.body
+  pub addresses : frame.exposed.local ≡ 0 → UsesAddressesAlone function
+
 -- there is a function for each procedure, and it has the shape that the procedure asks for
-pub data HaveShape : List Proc → List Function → Type 0 where
+pub data HaveShape : List (Proc × Frame) → List Function → Type 0 where
   nothing : HaveShape [] []
   one_more :
-      {proc : Proc} {function : Function} {procs : List Proc} {functions : List Function}
-      → HasShapeOf (flow_of proc) function.body
+      {proc : Proc} {frame : Frame} {function : Function} {procs : List (Proc × Frame)} {functions : List Function}
+      → IsShapedFor proc frame function
       → HaveShape procs functions
-      → HaveShape (proc ∷ procs) (function ∷ functions)
+      → HaveShape ((proc, frame) ∷ procs) (function ∷ functions)
 
 -- The number of the first procedure without a function that has the shape which the procedure asks for, or of the first
 -- function without a procedure.
-pub data LacksShape : ℕ → List Proc → List Function → Type 0 where
-  no_function : {proc : Proc} {procs : List Proc} → LacksShape 0 (proc ∷ procs) []
+pub data LacksShape : ℕ → List (Proc × Frame) → List Function → Type 0 where
+  no_function : {proc : Proc × Frame} {procs : List (Proc × Frame)} → LacksShape 0 (proc ∷ procs) []
   no_procedure : {function : Function} {functions : List Function} → LacksShape 0 [] (function ∷ functions)
   here :
-      {proc : Proc} {function : Function} {procs : List Proc} {functions : List Function}
-      → ¬ (HasShapeOf (flow_of proc) function.body)
-      → LacksShape 0 (proc ∷ procs) (function ∷ functions)
+      {proc : Proc} {frame : Frame} {function : Function} {procs : List (Proc × Frame)} {functions : List Function}
+      → ¬ (IsShapedFor proc frame function)
+      → LacksShape 0 ((proc, frame) ∷ procs) (function ∷ functions)
   later :
-      {proc : Proc} {function : Function} {procs : List Proc} {functions : List Function} {i : ℕ}
-      → HasShapeOf (flow_of proc) function.body
+      {proc : Proc} {frame : Frame} {function : Function} {procs : List (Proc × Frame)} {functions : List Function}
+      {i : ℕ}
+      → IsShapedFor proc frame function
       → LacksShape i procs functions
-      → LacksShape (suc i) (proc ∷ procs) (function ∷ functions)
+      → LacksShape (suc i) ((proc, frame) ∷ procs) (function ∷ functions)

@@ -1,21 +1,24 @@
 //! Whether a text has the shape that its program's procedures ask for.
 
-ghost use Rattle.std.specs.Prelude.{◌≡◌, ◌↔◌, ℕ, ◌||◌, not, nat_lt, true, Some, None, map, IfOk};
-ghost use Rattle.std.specs.List.{list_all};
+ghost use Rattle.std.specs.Prelude.{◌≡◌, ◌↔◌, ℕ, ◌||◌, not, nat_lt, true, Some, None, length, map};
+ghost use Rattle.std.specs.Prelude.{IfOk};
+ghost use Rattle.std.specs.List.{list_all, zip};
 ghost use Rattle.dcc_c.specs.Views.{stmt_of, lines_of, function_of};
 ghost use Rattle.dcc_shape.specs.Procedures.{flow_of};
 ghost use Rattle.dcc_shape.specs.Spots.{has_blocks};
-ghost use Rattle.dcc_shape.specs.Shape.{HasShapeOf, HaveShape, LacksShape};
+ghost use Rattle.dcc_shape.specs.Carried.{UsesAddressesAlone};
+ghost use Rattle.dcc_shape.specs.Shape.{HasShapeOf, IsShapedFor, HaveShape, LacksShape};
 ghost use Rattle.dcc_shape.specs.Asked.{is_shallow, are_looped, is_as_asked};
 
 use crate::asked::{Asked, asked_by};
+use crate::carried::uses_addresses_alone;
 use crate::counts::{is_at_most, is_counted};
 use crate::jumps::{go_on_or_round, go_where_edges_meet, leave_innermost_alone};
 use crate::loops::are_labelled;
 use crate::seen::{Seen, statements};
 use crate::stmts::has_blocks;
 use dcc_c::{Func, Line};
-use dcc_prog::Proc;
+use dcc_prog::{Frame, Proc};
 use std::alloc::{AllocError, Global};
 
 // From so many branches and loop headers on a text may be too deep for what is asked of jumps and loops.
@@ -74,23 +77,52 @@ fn has_shape_of(alloc: Global, proc: &Proc, body: &[Line]) -> Result<bool, Alloc
     is_as_asked(alloc, &asked, list.as_slice())
 }
 
-/// Of how many procedures, from the first on, the functions have the shape that is asked for, where not all have it or
-/// there is not a function for each procedure; none where there is, and all have it.
+// Whether nothing of the `auto` variables of a function is used but the addresses, where the frame has no local bytes.
+fn has_addresses_of(alloc: Global, frame: &Frame, function: &Func) -> Result<bool, AllocError>
+    ensures { IfOk result (λ yes. (yes ≡ true)
+        ↔ (frame.now.exposed.local ≡ 0 → UsesAddressesAlone (function_of function.now))) }
+{
+    if frame.exposed.local > 0 {
+        return Ok(true);
+    }
+    uses_addresses_alone(alloc, function)
+}
+
+// Whether a function has the shape that a procedure with this frame asks for.
+fn is_shaped_for(
+    alloc: Global,
+    proc: &Proc,
+    frame: &Frame,
+    function: &Func,
+) -> Result<bool, AllocError>
+    ensures { IfOk result (λ yes. (yes ≡ true) ↔ IsShapedFor proc.now frame.now (function_of function.now)) }
+{
+    if !has_shape_of(alloc, proc, &function.body)? {
+        return Ok(false);
+    }
+    has_addresses_of(alloc, frame, function)
+}
+
+/// Of how many procedures with their frames, from the first on, the functions have the shape that is asked for, where
+/// not all have it or there is not a function for each procedure; none where there is, and all have it.
 ///
 /// # Errors
 /// Where memory runs out.
 pub fn has_shape(
     alloc: Global,
     procs: &[Proc],
+    frames: &[Frame],
     functions: &[Func],
 ) -> Result<Option<usize>, AllocError>
-    ensures has { IfOk result (λ lacks. lacks ≡ None → HaveShape procs.now (map function_of functions.now)) }
+    requires { length procs.now ≡ length frames.now }
+    ensures has { IfOk result (λ lacks. lacks ≡ None
+        → HaveShape (zip procs.now frames.now) (map function_of functions.now)) }
     ensures lacks { IfOk result (λ lacks. (i : ℕ) → lacks ≡ Some i
-        → LacksShape i procs.now (map function_of functions.now)) }
+        → LacksShape i (zip procs.now frames.now) (map function_of functions.now)) }
 {
     let count = procs.len().min(functions.len());
     for i in 0..count {
-        if !has_shape_of(alloc, &procs[i], &functions[i].body)? {
+        if !is_shaped_for(alloc, &procs[i], &frames[i], &functions[i])? {
             return Ok(Some(i));
         }
     }

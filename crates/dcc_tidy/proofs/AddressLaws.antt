@@ -1,6 +1,6 @@
 -- Where a graph takes no address that is told from no parameter, what is tidied of it takes none.
-use Rattle.std.proofs.Common.{◌≡◌, ℕ, Bool, true, false, ◌&&◌, List, [], ◌∷◌, flat_map, Option, refl, sym, ap, ap₂, ◌∙◌, eq-eqb}
-use Rattle.std.specs.Prelude.{All, ◌==◌, not, if◌then◌else◌}
+use Rattle.std.proofs.Common.{◌≡◌, ℕ, Bool, true, false, List, [], ◌∷◌, flat_map, Option, refl, sym, ap}
+use Rattle.std.specs.Prelude.{All, not}
 use Rattle.std.specs.List.{list_all, list_any}
 use Rattle.std.proofs.lemmas.Bool.{and_parts, and_from, or_parts, or_from}
 use Rattle.std.proofs.lemmas.List.Elements.{All-nil, All-cons, All-head, All-tail, All-append}
@@ -9,9 +9,7 @@ use Rattle.dcc_ir.specs.Tree.{Expr, Const, Get, Load, Unary, Binary, Widen, Part
 use Rattle.dcc_ir.specs.Use.{parts_of, addressed_by, addresses_of, exprs_of, exit_exprs, block_exprs, graph_exprs}
 use Rattle.dcc_ir.proofs.ListLaws.{left_part}
 use Rattle.dcc_passes.specs.Tidied.{IsTidied}
-use Rattle.dcc_variables.specs.Functions.{memory_from, function_shape}
 use Rattle.dcc_variables.specs.Variables.{is_told_from, is_address, has_address, stmt_has_address, block_has_address, takes_address}
-use Rattle.dcc_tidy.specs.Tidied.{has_lone_byte}
 use Rattle.dcc_tidy.proofs.DeadLaws.{each-passes, all-pass}
 
 module _ (told : Option ℕ) where
@@ -115,20 +113,3 @@ module _ (told : Option ℕ) where
       (each-passes (is_told_from told) (graph_exprs h)
       (tidy.addresses (is_told_from told)
       (all-pass (is_told_from told) (graph_exprs g) (blocks-from g.blocks none))))
-
--- a graph without local bytes whose text has no byte for SP's address takes no such address
-pub no-byte : (g : Graph) → has_lone_byte g ≡ false → g.local ≡ 0 → takes_address (memory_from 0 g.params) g ≡ false
-no-byte g none zero_local = by (takes_address (memory_from 0 g.params) g) refl
-  where
-    is-zero : (g.local == 0) ≡ true
-    is-zero = eq-eqb g.local 0 zero_local
-
-    frame-is : (b : Bool) → takes_address (memory_from 0 g.params) g ≡ b → (function_shape g).frame ≡ (if b then 1 else 0)
-    frame-is b is =
-        ap (λ z. if z then (if takes_address (memory_from 0 g.params) g then 1 else 0) else g.local) is-zero
-        ∙ ap (λ c. if c then 1 else 0) is
-
-    by : (b : Bool) → takes_address (memory_from 0 g.params) g ≡ b → b ≡ false
-    by false is = refl
-    by true is =
-        sym (ap₂ (λ z frame. z && not (frame == 0)) is-zero (frame-is true is)) ∙ none

@@ -1,5 +1,5 @@
 -- What tidying leaves of a graph.
-use Rattle.std.specs.Prelude.{◌≡◌, ℕ, ◌+◌, ◌==◌, ◌≤◌, Bool, true, false, ◌&&◌, not, List}
+use Rattle.std.specs.Prelude.{ℕ, ◌+◌, ◌≤◌, List}
 use Rattle.dcc_ir.specs.Measure.{deepest}
 use Rattle.dcc_ir.specs.Tree.{Graph}
 use Rattle.dcc_ir.specs.Use.{graph_exprs}
@@ -10,16 +10,10 @@ use Rattle.dcc_loads.specs.Sets.{with_sets}
 use Rattle.dcc_words.specs.Words.{ReadsWords}
 use Rattle.dcc_simplify.specs.Reshaped.{IsGraphAs}
 use Rattle.dcc_simplify.specs.Simplified.{IsSimplified}
-use Rattle.dcc_variables.specs.Functions.{function_shape}
 
 -- as many levels may an expression have for its text
 abbrev pub text_levels : ℕ
 text_levels = 32
-
--- The graph has no local bytes in memory, and its text an array of one byte, since it takes an address of none of the
--- arguments: that of SP.
-abbrev pub has_lone_byte : Graph → Bool
-has_lone_byte graph = (graph.local == 0) && not ((function_shape graph).frame == 0)
 
 -- The second graph may stand in the first one's place, and a text can have it where the first is 3 levels less deep than
 -- a text may be.
@@ -43,9 +37,7 @@ pub record HasPassesDone (ids : List ℕ) (before after : Graph) : Type 0 where
   pub simplified : IsGraphAs (IsSimplified ids plain.bits) plain simple
   pub last : IsWithoutUnneeded simple after
 
--- The passes are done in each graph but in those whose text has an array of one byte for SP's address, which stay as
--- they are: what names that array is told of their statements.
-pub data IsTidiedGraph (ids : List ℕ) (before after : Graph) : Type 0 where
-  stays : has_lone_byte before ≡ true → after ≡ before → IsTidiedGraph ids before after
-  tidied : has_lone_byte before ≡ false → MayStandInText before after → HasPassesDone ids before after
-      → IsTidiedGraph ids before after
+-- The second graph is what is tidied of the first: it may stand in its place in a text, and the passes are done.
+pub record IsTidiedGraph (ids : List ℕ) (before after : Graph) : Type 0 where
+  pub stands : MayStandInText before after
+  pub done : HasPassesDone ids before after

@@ -9,7 +9,6 @@ ghost use Rattle.dcc_ir.specs.Use.{graph_exprs};
 ghost use Rattle.dcc_passes.specs.Tidied.{IsTidied};
 ghost use Rattle.dcc_rules.specs.Views.{numbers_of};
 ghost use Rattle.dcc_live.specs.Dead.{IsWithoutUnneeded};
-ghost use Rattle.dcc_tidy.specs.Tidied as spec;
 ghost use Rattle.dcc_tidy.specs.Tidied.{MayStandInText, HasPassesDone, IsTidiedGraph};
 
 use dcc_available::substitute;
@@ -20,18 +19,9 @@ use dcc_live::{drop_dead, live};
 use dcc_loads::loads_as_sets;
 use dcc_rules::RuleList;
 use dcc_simplify::simplified;
-use dcc_variables::Head;
 use dcc_webs::split;
 use dcc_words::words;
 use std::alloc::{AllocError, Global};
-
-// Whether the graph's text has an array of one byte for SP's address.
-fn has_lone_byte(alloc: Global, graph: &Graph) -> Result<bool, AllocError>
-    ensures { IfOk result (λ has. has ≡ spec.has_lone_byte (graph_of graph.now)) }
-{
-    let head = Head::of(alloc, graph)?;
-    Ok(graph.local == 0 && head.variables.frame != 0)
-}
 
 // The graph without the assignments that nothing wants.
 fn without_dead(alloc: Global, graph: Graph) -> Result<Graph, AllocError>
@@ -95,23 +85,19 @@ fn passed(alloc: Global, graph: Graph, rules: &RuleList) -> Result<Graph, AllocE
     Ok(after)
 }
 
-// The graph after the passes; as it is, where its text has an array of one byte for SP's address.
+// What is tidied of a graph.
 fn tidied_graph(alloc: Global, graph: Graph, rules: &RuleList) -> Result<Graph, AllocError>
     requires { IsGraph (graph_of graph) }
     ensures { IfOk result
         (λ after. IsTidiedGraph (numbers_of rules.now) (graph_of graph) (graph_of after)) }
 {
-    if has_lone_byte(alloc, &graph)? {
-        return Ok(graph);
-    }
     let after = passed(alloc, graph, rules)?;
     Ok(after)
 }
 
 /// What the passes leave of each graph, in its place: each web has a temporary of its own, loads are parts of
 /// assignments, values stand where they are read, no part of an expression has the form of one of the rules, and nothing
-/// is assigned that isn't wanted. A graph whose text has an array of one byte for SP's address stays as it is. That there
-/// are more temporaries than 32 bits can number is told as want of memory.
+/// is assigned that isn't wanted. That there are more temporaries than 32 bits can number is told as want of memory.
 pub fn tidied_graphs(
     alloc: Global,
     graphs: Vec<Graph>,

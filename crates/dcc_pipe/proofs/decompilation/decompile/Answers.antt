@@ -6,10 +6,11 @@ use Rattle.dcc_machine_demand.proofs.RefusedLaws.{accepted-is_not_refused}
 use Rattle.dcc_c.specs.Views.{tree_of}
 use Rattle.dcc_c.specs.Written.{written_form}
 use Rattle.dcc_pipe.specs.Agreement.{IsTextOf}
-use Rattle.dcc_pipe.specs.Shaped.{HasShape}
+use Rattle.dcc_shape.specs.Shape.{HaveShape}
+use Rattle.dcc_pipe.specs.Shaped.{asked_of, HasShape}
 use Rattle.dcc_pipe.specs.TypedFrames.{HasTypedFrames}
 use Rattle.dcc_pipe.proofs.RefusedLaws.{fault-refuses}
-use Rattle.dcc_pipe.proofs.ShapedLaws.{functions-as_many, lacking-unshaped}
+use Rattle.dcc_pipe.proofs.ShapedLaws.{frames-as_many, lacking-unshaped}
 use Rattle.dcc_pipe.proofs.decompilation.decompile.Goals as goal
 
 pub returns-in_err-program-clause-refused : goal.returns-in_err-program-clause-refused
@@ -27,9 +28,10 @@ text_of-requires g c =
     }
 
 pub shaped-requires : goal.shaped-requires
-shaped-requires g c =
-    functions-as_many c.args.cpu c.args.image.now c.in_ok-program.program (tree_of c.in-Ok.unit).functions
-    c.in_ok-program.ensures.program c.in-Ok.ensures.typed.frames
+shaped-requires g c = record {
+  functions = c.in-Ok.ensures.as_many;
+  frames = frames-as_many c.args.cpu c.args.image.now c.in_ok-program.program c.in_ok-program.ensures.program;
+}
 
 pub returns-in-Ok-clause-text : goal.returns-in-Ok-clause-text
 returns-in-Ok-clause-text g c =
@@ -43,13 +45,16 @@ returns-in-Ok-clause-text g c =
 
 pub returns-in-Ok-clause-typed : goal.returns-in-Ok-clause-typed
 returns-in-Ok-clause-typed g c =
-    let typed : HasTypedFrames c.args.cpu c.args.image.now (tree_of c.in-Ok.unit) = record {
+    let typed : HaveShape (asked_of c.in_ok-program.program) (tree_of c.in-Ok.unit).functions
+    → HasTypedFrames c.args.cpu c.args.image.now (tree_of c.in-Ok.unit) = λ shaped. record {
       program = c.in_ok-program.program;
       is_program = c.in_ok-program.ensures.program;
-      functions = c.in-Ok.ensures.typed;
+      functions = c.in-Ok.ensures.typed shaped;
     } in
     IfOk-weaker c.shaped.result _ _
-    (λ after is. subst (λ unit. HasTypedFrames c.args.cpu c.args.image.now (tree_of unit)) (sym is.0) typed)
+    (λ after is.
+    subst (λ unit. HaveShape (asked_of c.in_ok-program.program) (tree_of unit).functions
+    → HasTypedFrames c.args.cpu c.args.image.now (tree_of unit)) (sym is.0) typed is.1)
     c.shaped.ensures.has
 
 pub returns-in-Ok-clause-shaped : goal.returns-in-Ok-clause-shaped

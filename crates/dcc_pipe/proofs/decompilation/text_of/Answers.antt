@@ -9,6 +9,7 @@ use Rattle.dcc_pipe.proofs.PreparedFits.{left-simplified, prepared-fits}
 use Rattle.dcc_pipe.proofs.StepPaces.{tidied-paced}
 use Rattle.dcc_pipe.proofs.RefusedLaws.{fault-construct, summed-none}
 use Rattle.dcc_pipe.proofs.TextableLaws.{lifted-has_the_form, left-follows}
+use Rattle.dcc_pipe.proofs.ShapedLaws.{functions-as_many}
 use Rattle.dcc_pipe.proofs.TypedLaws.{typed-tree}
 use Rattle.dcc_pipe.proofs.decompilation.text_of.Goals as goal
 
@@ -62,10 +63,25 @@ returns-clause-typed g c =
     let tidy = c.in_ok-tidied.ensures in
     let ids = numbers_of c.args.rules.now in
     let few = c.in_ok-unit.ensures.few in
-    typed-tree ids c.args.image.now c.args.program.now p q r
+    (typed-tree ids c.args.image.now c.args.program.now p q r
     (record { loaded = c.requires.loaded; is_program = c.requires.program }) c.in_ok-lifted.ensures.lifted is tidy
-    (left-simplified p q is ids r tidy).textable.formed.graphs few c.in_ok-unit.ensures.text.control _
-    (counted-tree r (prepared-fits p q is ids r tidy few) _ _ c.in_ok-unit.ensures.text c.in_ok-number.ensures)
+    few c.in_ok-unit.ensures.text.control _
+    (counted-tree r (prepared-fits p q is ids r tidy few) _ _ c.in_ok-unit.ensures.text c.in_ok-number.ensures)).1
+
+pub returns-clause-as_many : goal.returns-clause-as_many
+returns-clause-as_many g c =
+    let p = program_of c.in_ok-lifted.lifted in
+    let q = program_of c.in_ok-prepared.prepared in
+    let r = program_of c.in_ok-tidied.tidied in
+    let is = c.in_ok-prepared.ensures.ready in
+    let tidy = c.in_ok-tidied.ensures in
+    let ids = numbers_of c.args.rules.now in
+    let few = c.in_ok-unit.ensures.few in
+    functions-as_many c.args.program.now.layout.cpu c.args.image.now c.args.program.now _ c.requires.program
+    (typed-tree ids c.args.image.now c.args.program.now p q r
+    (record { loaded = c.requires.loaded; is_program = c.requires.program }) c.in_ok-lifted.ensures.lifted is tidy
+    few c.in_ok-unit.ensures.text.control _
+    (counted-tree r (prepared-fits p q is ids r tidy few) _ _ c.in_ok-unit.ensures.text c.in_ok-number.ensures)).0
 
 pub returns-clause-made : goal.returns-clause-made
 returns-clause-made g c =

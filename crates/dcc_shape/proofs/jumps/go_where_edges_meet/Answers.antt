@@ -1,10 +1,9 @@
 use Rattle.std.proofs.Common.{◌≡◌, ℕ, ◌+◌, ◌<◌, Bool, List, get_or, sym, ap, subst, ◌∙◌}
-use Rattle.std.specs.Prelude.{◌==◌, ◌&&◌, nat_le, if◌then◌else◌, Some}
+use Rattle.std.specs.Prelude.{◌==◌, ◌&&◌, nat_le, if◌then◌else◌}
 use Rattle.std.specs.List.{count_by}
 use Rattle.std.specs.BTreeSet.{contains}
 use Rattle.std.specs.Ordering.{nat_cmp}
 use Rattle.dcc_flow.specs.Edges.{is_in}
-use Rattle.dcc_shape.specs.Shape.{names_one}
 use Rattle.dcc_shape.specs.Known.{AreNamed}
 use Rattle.dcc_shape.specs.Asked.{edges_at, is_of_meeting, goes_where_edges_meet}
 use Rattle.dcc_shape.proofs.KnownLaws.{named-of, named-offset}

@@ -1,4 +1,4 @@
-use Rattle.std.proofs.Common.{◌≡◌, ◌%◌, ◌/◌, length, sym, ◌∙◌, arith}
+use Rattle.std.proofs.Common.{◌≡◌, length, sym, ◌∙◌, arith}
 use Rattle.dcc_shape.proofs.LabelLaws.{label-read}
 use Rattle.dcc_shape.proofs.labels.offset_named.Goals as goal
 

@@ -1,13 +1,13 @@
 use Rattle.std.proofs.Common.{◌≡◌, ℕ, ◌+◌, ◌<◌, Bool, cond, take, sym, ap, ◌∙◌, arith}
 use Rattle.std.specs.Prelude.{◌==◌}
-use Rattle.std.specs.List.{list_all, count_by}
+use Rattle.std.specs.List.{count_by}
 use Rattle.std.proofs.lemmas.List.{take_all}
 use Rattle.std.proofs.lemmas.List.Folds.{list_all_at}
 use Rattle.dcc_c.specs.Views.{stmt_of}
 use Rattle.dcc_shape.specs.declared.seen.Seen.{Seen as SeenOf}
 use Rattle.dcc_shape.specs.Shape.{is_labelled, is_loop_at}
 use Rattle.dcc_shape.specs.Seen.{lent}
-use Rattle.dcc_shape.proofs.LoopLaws.{fits-in, loop-at, no-loop-at, loop-labelled, no-loop-labelled, loop-unlabelled, all-more, count-more, count-push}
+use Rattle.dcc_shape.proofs.LoopLaws.{loop-at, no-loop-at, loop-labelled, no-loop-labelled, loop-unlabelled, all-more, count-more, count-push}
 use Rattle.dcc_shape.proofs.loops.labels_of_loops.Goals as goal
 use Rattle.dcc_shape.proofs.loops.labels_of_loops.Goals.{then-is_loop+in-Some+in_ok-push, else-is_loop}
 

@@ -1,6 +1,5 @@
-use Rattle.std.proofs.Common.{◌≡◌, ◌≤◌, ◌++◌, ◌∷◌, [], List, map, length, All, sym, ap, subst, ◌∙◌, arith}
+use Rattle.std.proofs.Common.{◌≡◌, ◌++◌, ◌∷◌, [], length, sym, ap, subst, ◌∙◌}
 use Rattle.std.proofs.lemmas.List.{map-append, length-map}
-use Rattle.std.specs.Global.{Vec}
 use Rattle.dcc_flow.specs.Edges.{rows, AreWithin}
 use Rattle.dcc_shape.proofs.GraphLaws.{within-next}
 use Rattle.dcc_shape.proofs.places.next_places.Goals as goal

@@ -1,4 +1,4 @@
-use Rattle.std.proofs.Common.{◌≤◌, ◌++◌, ◌∷◌, [], map, take, length, get_or, All, sym, ap, subst, ◌∙◌}
+use Rattle.std.proofs.Common.{◌≤◌, ◌++◌, ◌∷◌, [], map, take, get_or, All, sym, ap, subst, ◌∙◌}
 use Rattle.std.proofs.lemmas.List.{take_more, map-append}
 use Rattle.std.proofs.lemmas.List.Elements.{All-push}
 use Rattle.indexmap.specs.IndexMap.{keys}

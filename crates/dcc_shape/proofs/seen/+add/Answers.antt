@@ -1,6 +1,5 @@
 use Rattle.std.proofs.Common.{◌≡◌, ◌+◌, ◌-◌, ◌<◌, ◌++◌, ◌∷◌, [], List, None, length, drop, map, OnOk, sym, ap, subst, ◌∙◌, append_assoc, arith}
 use Rattle.std.proofs.lemmas.List.{map-append}
-use Rattle.dcc_c.specs.declared.syntax.Arm.{out-Arm}
 use Rattle.dcc_c.specs.declared.syntax.Line.{Line}
 use Rattle.dcc_c.specs.Views.{stmt_of, lines_of, arms_of, arms_if}
 use Rattle.dcc_c.proofs.RowLaws.{if-tree, while-tree, do_while-tree, forever-tree, switch-tree}

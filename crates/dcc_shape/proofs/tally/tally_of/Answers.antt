@@ -1,7 +1,6 @@
-use Rattle.std.proofs.Common.{◌≡◌, ℕ, take, get_or, refl, sym, ap, ◌∙◌}
+use Rattle.std.proofs.Common.{get_or, sym}
 use Rattle.std.specs.Prelude.{◌==◌}
-use Rattle.std.specs.List.{count_by}
-use Rattle.std.proofs.lemmas.List.{take_all, get_or_default}
+use Rattle.std.proofs.lemmas.List.{get_or_default}
 use Rattle.dcc_shape.proofs.KnownLaws.{tally-same}
 use Rattle.dcc_shape.proofs.LoopLaws.{count-more}
 use Rattle.dcc_shape.proofs.tally.tally_of.Goals as goal
