@@ -4,3 +4,5 @@ pub mod Types
 pub mod Values
 pub mod Meaning
 pub mod Texts
+pub mod Arguments
+pub mod Dos

@@ -2,7 +2,9 @@
 #![tactic(auto)]
 
 mod expression;
+mod functions;
 mod names;
+mod statement;
 
 pub use names::Names;
 
