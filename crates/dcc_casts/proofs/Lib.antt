@@ -5,4 +5,6 @@ pub mod Values
 pub mod Meaning
 pub mod Texts
 pub mod Arguments
+pub mod Callees
+pub mod Bodies
 pub mod Dos

@@ -1,6 +1,7 @@
 //! A text without casts that nothing needs: its definition, and that it means what the text means.
 #![tactic(auto)]
 
+mod body;
 mod expression;
 mod functions;
 mod names;

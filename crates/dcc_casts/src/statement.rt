@@ -5,8 +5,7 @@ ghost use Rattle.dcc_c.specs.Typing as typing;
 ghost use Rattle.dcc_c.specs.Rules as rules;
 
 ghost use Rattle.dcc_c.specs.Tree.{Function, Tree};
-ghost use Rattle.dcc_c.specs.Views.{expr_of, stmt_of, lines_of, arms_of, arms_if, arm_before};
-ghost use Rattle.dcc_respell.specs.Writing.{stmt_by, lines_by, arms_by};
+ghost use Rattle.dcc_c.specs.Views.{expr_of};
 
 ghost use Rattle.dcc_casts.specs.Casts as spec;
 ghost use Rattle.dcc_casts.specs.Views.{IsKnown, IsSceneOf};
@@ -14,7 +13,7 @@ ghost use Rattle.dcc_casts.specs.Views.{IsKnown, IsSceneOf};
 use crate::expression::{kept, lowered, typed};
 use crate::functions::Params;
 use crate::names::Names;
-use dcc_c::{Arm, CExpr, CStmt, CType, CUn, Line};
+use dcc_c::{CExpr, CType, CUn};
 use dcc_ctypes::names::type_of_variable;
 use dcc_ctypes::operators::{is_switch_type, type_of_unary};
 use std::alloc::{AllocError, Global};
@@ -90,8 +89,8 @@ fn is_switch_value(names: &Names, e: &CExpr) -> bool
     }
 }
 
-// The value of a `switch` without needless casts.
-fn chosen(alloc: Global, names: &Names, e: &CExpr) -> Result<CExpr, AllocError>
+/// The value of a `switch` without needless casts.
+pub fn chosen(alloc: Global, names: &Names, e: &CExpr) -> Result<CExpr, AllocError>
     ensures { (ds : List typing.Declared) → IsKnown names.now ds →
         IfOk result (λ after. expr_of after ≡ spec.chosen_by ds (expr_of e.now)) }
 {
@@ -103,8 +102,8 @@ fn chosen(alloc: Global, names: &Names, e: &CExpr) -> Result<CExpr, AllocError>
     }
 }
 
-// What is assigned to the place, without needless casts.
-fn assigned(alloc: Global, names: &Names, place: &CExpr, e: &CExpr) -> Result<CExpr, AllocError>
+/// What is assigned to the place, without needless casts.
+pub fn assigned(alloc: Global, names: &Names, place: &CExpr, e: &CExpr) -> Result<CExpr, AllocError>
     ensures { (ds : List typing.Declared) → IsKnown names.now ds →
         IfOk result (λ after. expr_of after ≡ spec.assigned_to ds (expr_of place.now) (expr_of e.now)) }
 {
@@ -158,8 +157,8 @@ fn all_copied(alloc: Global, es: &[CExpr]) -> Result<Vec<CExpr>, AllocError>
     Ok(copies)
 }
 
-// The arguments of the function with a name, without needless casts.
-fn arguments(
+/// The arguments of the function with a name, without needless casts.
+pub fn arguments(
     alloc: Global,
     scene: &Scene,
     function: &str,
@@ -174,8 +173,8 @@ fn arguments(
     }
 }
 
-// The place of a call's result, where it has one.
-fn place_if(alloc: Global, names: &Names, place: &Option<CExpr>) -> Result<Option<CExpr>, AllocError>
+/// The place of a call's result, where it has one.
+pub fn place_if(alloc: Global, names: &Names, place: &Option<CExpr>) -> Result<Option<CExpr>, AllocError>
     ensures { (ds : List typing.Declared) → IsKnown names.now ds → IfOk result
         (λ after. option_map expr_of after ≡ option_map (spec.kept ds) (option_map expr_of place.now)) }
 {
@@ -196,8 +195,8 @@ fn returned(alloc: Global, scene: &Scene, e: &CExpr) -> Result<CExpr, AllocError
     }
 }
 
-// What is returned, where something is.
-fn returned_if(alloc: Global, scene: &Scene, e: &Option<CExpr>) -> Result<Option<CExpr>, AllocError>
+/// What is returned, where something is.
+pub fn returned_if(alloc: Global, scene: &Scene, e: &Option<CExpr>) -> Result<Option<CExpr>, AllocError>
     ensures { (tree : Tree) (f : Function) → IsSceneOf scene.now tree f → IfOk result
         (λ after. option_map expr_of after ≡ option_map (spec.returned_by tree f) (option_map expr_of e.now)) }
 {
