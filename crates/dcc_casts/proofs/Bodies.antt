@@ -1,12 +1,12 @@
 -- Statements, their blocks and arms, with their expressions otherwise written.
-use Rattle.std.proofs.Common.{◌≡◌, List, [], ◌∷◌, ◌++◌, Vec, Global, Option, Some, None, map, refl, sym, ap, ap₂, ◌∙◌}
+use Rattle.std.proofs.Common.{◌≡◌, List, [], ◌∷◌, ◌++◌, Vec, Global, Option, refl, sym, ap, ap₂, ◌∙◌}
 use Rattle.std.specs.Prelude.{ℕ}
 use Rattle.std.specs.List.{AllZip}
 use Rattle.dcc_c.specs.declared.syntax.CExpr.{CExpr}
-use Rattle.dcc_c.specs.declared.syntax.CStmt.{CStmt, If as IfOf, While as WhileOf, DoWhile as DoWhileOf, Forever as ForeverOf, Switch as SwitchOf}
+use Rattle.dcc_c.specs.declared.syntax.CStmt.{If as IfOf, While as WhileOf, DoWhile as DoWhileOf, Forever as ForeverOf, Switch as SwitchOf}
 use Rattle.dcc_c.specs.declared.syntax.Line.{Line}
 use Rattle.dcc_c.specs.declared.syntax.Arm.{Arm, out-Arm}
-use Rattle.dcc_c.specs.Tree.{Word, Expr, Stmt, Call, If, While, DoWhile, Forever, Switch, Lines, line, Arms, no_arms, arm}
+use Rattle.dcc_c.specs.Tree.{If, While, DoWhile, Forever, Switch, Lines, line, Arms, arm}
 use Rattle.dcc_c.specs.Views.{expr_of, stmt_of, lines_of, arm_before, arms_of, arms_if}
 use Rattle.dcc_c.proofs.RowLaws.{arm-parts, if-tree, while-tree, do_while-tree, forever-tree, switch-tree}
 use Rattle.dcc_respell.specs.Writing.{Writing, stmt_by, lines_by, arms_by}

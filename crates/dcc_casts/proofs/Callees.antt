@@ -1,5 +1,5 @@
 -- What is known of the functions that a text calls.
-use Rattle.std.proofs.Common.{◌≡◌, true≢false, List, [], map, Option, Some, None, refl, sym, ap, ◌∙◌}
+use Rattle.std.proofs.Common.{◌≡◌, true≢false, List, [], Option, Some, None, refl, sym, ap, ◌∙◌}
 use Rattle.std.specs.Prelude.{option_map, is_some}
 use Rattle.std.specs.BTreeMap.{BTreeMap}
 use denote.Ref.{Bor}
@@ -11,7 +11,7 @@ use Rattle.dcc_c.specs.Tree.{Word, Expr, Function, Tree}
 use Rattle.dcc_c.specs.Typing.{Declared}
 use Rattle.dcc_check.specs.Contexts.{held}
 use Rattle.dcc_casts.specs.Casts.{passed, arguments_by}
-use Rattle.dcc_casts.specs.Views.{held_params, params_of, KnowsFunctions}
+use Rattle.dcc_casts.specs.Views.{params_of, KnowsFunctions}
 use Rattle.dcc_casts.specs.declared.functions.Params.{Params}
 
 abbrev written : List Declared → List Expr → Option Signature → List Expr

@@ -7,4 +7,5 @@ pub mod Texts
 pub mod Arguments
 pub mod Callees
 pub mod Bodies
+pub mod Whole
 pub mod Dos

@@ -1,10 +1,10 @@
 -- What the declared names stand for.
-use Rattle.std.specs.Prelude.{◌≡◌, ℕ, List, Option, Some, None, option_map}
+use Rattle.std.specs.Prelude.{◌≡◌, ℕ, List, Option, Some, None, option_map, map}
 use Rattle.std.specs.BTreeMap.{BTreeMap}
 use denote.Ref.{Bor}
 use Rattle.dcc_c.specs.declared.syntax.CType.{CType}
 use Rattle.dcc_c.specs.Dos.{Signature}
-use Rattle.dcc_c.specs.Rules.{declared_in, signature_in}
+use Rattle.dcc_c.specs.Rules.{declared_in, declared_global, signature_in}
 use Rattle.dcc_c.specs.Tree.{Word, Function, Tree}
 use Rattle.dcc_c.specs.Typing as typing
 use Rattle.dcc_ctypes.specs.declared.names.Declared.{Declared}
@@ -13,6 +13,7 @@ use Rattle.dcc_check.specs.Contexts.{held}
 use Rattle.dcc_casts.specs.declared.names.Names.{Names}
 use Rattle.dcc_casts.specs.declared.functions.Params.{Params}
 use Rattle.dcc_casts.specs.declared.statement.Scene.{Scene}
+use Rattle.dcc_casts.specs.declared.text.Known.{Known}
 
 -- the variable with the name: one of the function's own, or else a global one
 abbrev pub variable_in : Names → Word → Option Declared
@@ -43,3 +44,9 @@ pub record IsSceneOf (scene : Scene) (tree : Tree) (f : Function) : Type 0 where
   pub names : IsKnown scene.names (declared_in tree f)
   pub functions : KnowsFunctions scene.functions.now tree
   pub result : scene.result ≡ f.result
+
+-- what is known wherever a statement of a text stands is what the text declares
+pub record KnowsText (known : Known) (tree : Tree) : Type 0 where
+  pub globals : (word : Word) → held known.globals.now word
+      ≡ option_map unnamed (typing.declared_as (map declared_global tree.globals) word)
+  pub functions : KnowsFunctions known.functions.now tree

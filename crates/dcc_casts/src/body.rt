@@ -13,12 +13,7 @@ use dcc_c::{Arm, CExpr, CStmt, Line};
 use std::alloc::{AllocError, Global};
 
 // An assignment without needless casts.
-fn assignment(
-    alloc: Global,
-    scene: &Scene,
-    place: &CExpr,
-    e: &CExpr,
-) -> Result<CStmt, AllocError>
+fn assignment(alloc: Global, scene: &Scene, place: &CExpr, e: &CExpr) -> Result<CStmt, AllocError>
     ensures { (tree : Tree) (f : Function) → IsSceneOf scene.now tree f → IfOk result (λ after. stmt_of after
         ≡ stmt_by (spec.writing tree f) (stmt_of (CStmt.Assign place.now e.now))) }
 {
@@ -84,11 +79,7 @@ fn statement(alloc: Global, scene: &Scene, stmt: &CStmt) -> Result<CStmt, AllocE
 
 // The default arm of a `switch` without needless casts, where there is one.
 #[cycle(write)]
-fn default_arm(
-    alloc: Global,
-    scene: &Scene,
-    last: &Option<Arm>,
-) -> Result<Option<Arm>, AllocError>
+fn default_arm(alloc: Global, scene: &Scene, last: &Option<Arm>) -> Result<Option<Arm>, AllocError>
     ensures { (tree : Tree) (f : Function) → IsSceneOf scene.now tree f → IfOk result
         (λ after. arms_if after ≡ arms_by (spec.writing tree f) (arms_if last.now)) }
 {

@@ -105,7 +105,10 @@ pub fn kept(alloc: Global, names: &Names, e: &CExpr) -> Result<CExpr, AllocError
     match e {
         CExpr::Num(n, base) => Ok(CExpr::Num(*n, *base)),
         CExpr::Name(word) => Ok(CExpr::Name(word.clone()?)),
-        CExpr::Un(operator, a) => Ok(CExpr::Un(*operator, Box::new(alloc, kept(alloc, names, a)?)?)),
+        CExpr::Un(operator, a) => Ok(CExpr::Un(
+            *operator,
+            Box::new(alloc, kept(alloc, names, a)?)?,
+        )),
         CExpr::Bin(operator, a, b) => {
             let a = Box::new(alloc, kept(alloc, names, a)?)?;
             let b = Box::new(alloc, kept(alloc, names, b)?)?;

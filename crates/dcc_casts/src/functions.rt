@@ -68,10 +68,7 @@ fn add_first<'a>(
 }
 
 // Adds what the DOS calls take to an empty map.
-fn add_dos<'a>(
-    alloc: Global,
-    functions: &mut BTreeMap<&'a str, Params>,
-) -> Result<(), AllocError>
+fn add_dos<'a>(alloc: Global, functions: &mut BTreeMap<&'a str, Params>) -> Result<(), AllocError>
     ensures { ((word : Word) → held functions.old word ≡ None) → OnOk result ((word : Word) →
         held_params functions.new word ≡ option_map (λ dos. (dos_signature dos).params) (dos_of word)) }
 {

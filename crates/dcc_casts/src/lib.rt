@@ -6,10 +6,12 @@ mod expression;
 mod functions;
 mod names;
 mod statement;
-
-pub use names::Names;
+mod text;
 
 ghost use Rattle.dcc_casts.specs.Laws.{NeedlessCastsMayGo};
+
+pub use names::Names;
+pub use text::without_casts;
 
 /// Needless casts may go from a text. The function states this law by its contract, and does nothing.
 pub fn needless_casts_may_go()

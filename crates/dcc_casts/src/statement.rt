@@ -3,10 +3,8 @@
 ghost use Rattle.std.specs.Prelude.{◌≡◌, List, IfOk, Some, None, map, option_map};
 ghost use Rattle.dcc_c.specs.Typing as typing;
 ghost use Rattle.dcc_c.specs.Rules as rules;
-
 ghost use Rattle.dcc_c.specs.Tree.{Function, Tree};
 ghost use Rattle.dcc_c.specs.Views.{expr_of};
-
 ghost use Rattle.dcc_casts.specs.Casts as spec;
 ghost use Rattle.dcc_casts.specs.Views.{IsKnown, IsSceneOf};
 
@@ -18,7 +16,6 @@ use dcc_ctypes::names::type_of_variable;
 use dcc_ctypes::operators::{is_switch_type, type_of_unary};
 use std::alloc::{AllocError, Global};
 use std::collections::BTreeMap;
-
 
 /// What is known where a function's statements stand.
 #[derive(Clone, Copy)]
@@ -174,7 +171,11 @@ pub fn arguments(
 }
 
 /// The place of a call's result, where it has one.
-pub fn place_if(alloc: Global, names: &Names, place: &Option<CExpr>) -> Result<Option<CExpr>, AllocError>
+pub fn place_if(
+    alloc: Global,
+    names: &Names,
+    place: &Option<CExpr>,
+) -> Result<Option<CExpr>, AllocError>
     ensures { (ds : List typing.Declared) → IsKnown names.now ds → IfOk result
         (λ after. option_map expr_of after ≡ option_map (spec.kept ds) (option_map expr_of place.now)) }
 {
@@ -196,7 +197,11 @@ fn returned(alloc: Global, scene: &Scene, e: &CExpr) -> Result<CExpr, AllocError
 }
 
 /// What is returned, where something is.
-pub fn returned_if(alloc: Global, scene: &Scene, e: &Option<CExpr>) -> Result<Option<CExpr>, AllocError>
+pub fn returned_if(
+    alloc: Global,
+    scene: &Scene,
+    e: &Option<CExpr>,
+) -> Result<Option<CExpr>, AllocError>
     ensures { (tree : Tree) (f : Function) → IsSceneOf scene.now tree f → IfOk result
         (λ after. option_map expr_of after ≡ option_map (spec.returned_by tree f) (option_map expr_of e.now)) }
 {

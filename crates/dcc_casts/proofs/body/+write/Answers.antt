@@ -1,9 +1,9 @@
-use Rattle.std.proofs.Common.{◌≡◌, ◌+◌, ◌<◌, ◌++◌, ◌∷◌, [], map, drop, length, refl, sym, ap, ◌∙◌, arith}
+use Rattle.std.proofs.Common.{◌+◌, ◌<◌, drop, length, sym, ap, ◌∙◌, arith}
 use Rattle.std.proofs.lemmas.List.{at_drop_more, drop_all}
 use Rattle.dcc_c.specs.declared.syntax.Arm.{roll-Arm, out-Arm, out-roll-Arm}
 use Rattle.dcc_c.specs.declared.syntax.Line.{roll-Line}
 use Rattle.dcc_c.specs.Tree.{no_arms, line}
-use Rattle.dcc_c.specs.Views.{expr_of, stmt_of, lines_of, arms_of, arms_if, arm_before}
+use Rattle.dcc_c.specs.Views.{stmt_of, lines_of, arms_of, arms_if, arm_before}
 use Rattle.dcc_respell.specs.Writing.{stmt_by, lines_by, arms_by}
 use Rattle.dcc_casts.specs.Casts as spec
 use Rattle.dcc_casts.proofs.Bodies.{if-by, while-by, do_while-by, forever-by, switch-by, arm-by, one-more-line, one-more-arm, no-more-lines, no-more-arms, appended_lines, appended_arms, copied-items}
@@ -72,46 +72,46 @@ one_arm-returns t c = λ tree f rest of.
     let w = spec.writing tree f in
     let parts = out-roll-Arm (record { cases = c.in_ok-clone.field-0; body = c.in_ok-lines.field-0 }) in
     arm-by w c.args.arm.now (roll-Arm (record { cases = c.in_ok-clone.field-0; body = c.in_ok-lines.field-0 })) rest
-        (ap (λ a. a.cases.items) parts ∙ copied-items (λ x y same. same) (out-Arm c.args.arm.now).cases.items c.in_ok-clone.field-0.items c.in_ok-clone.ensures.cases.0)
-        (ap (λ a. lines_of a.body.items) parts ∙ c.in_ok-lines.ensures tree f of ∙ ap (λ xs. lines_by w (lines_of xs)) c.as_slice.ensures.value)
+    (ap (λ a. a.cases.items) parts ∙ copied-items (λ x y same. same) (out-Arm c.args.arm.now).cases.items c.in_ok-clone.field-0.items c.in_ok-clone.ensures.cases.0)
+    (ap (λ a. lines_of a.body.items) parts ∙ c.in_ok-lines.ensures tree f of ∙ ap (λ xs. lines_by w (lines_of xs)) c.as_slice.ensures.value)
 
 pub statement-returns-in_ok-lines-in-If : goal.statement-returns-in_ok-lines-in-If
 statement-returns-in_ok-lines-in-If t c = λ tree f of.
     let w = spec.writing tree f in
     if-by w c.in-If.test c.in_ok-test-in-If.test c.in-If.body c.in-If.otherwise c.in_ok-body-in-If.body c.in_ok-lines-in-If.field-0
-        (c.in_ok-test-in-If.ensures (declared_in tree f) of.names)
-        (c.in_ok-body-in-If.ensures tree f of ∙ ap (λ xs. lines_by w (lines_of xs)) c.deref.ensures.value)
-        (c.in_ok-lines-in-If.ensures tree f of ∙ ap (λ xs. lines_by w (lines_of xs)) c.deref-in-If.ensures.value)
+    (c.in_ok-test-in-If.ensures (declared_in tree f) of.names)
+    (c.in_ok-body-in-If.ensures tree f of ∙ ap (λ xs. lines_by w (lines_of xs)) c.deref.ensures.value)
+    (c.in_ok-lines-in-If.ensures tree f of ∙ ap (λ xs. lines_by w (lines_of xs)) c.deref-in-If.ensures.value)
     ∙ ap (λ s. stmt_by w (stmt_of s)) (sym c.in-If.is)
 
 pub statement-returns-in_ok-lines-in-While : goal.statement-returns-in_ok-lines-in-While
 statement-returns-in_ok-lines-in-While t c = λ tree f of.
     let w = spec.writing tree f in
     while-by w c.in-While.test c.in_ok-test-in-While.test c.in-While.body c.in_ok-lines-in-While.field-0
-        (c.in_ok-test-in-While.ensures (declared_in tree f) of.names)
-        (c.in_ok-lines-in-While.ensures tree f of ∙ ap (λ xs. lines_by w (lines_of xs)) c.deref-in-While.ensures.value)
+    (c.in_ok-test-in-While.ensures (declared_in tree f) of.names)
+    (c.in_ok-lines-in-While.ensures tree f of ∙ ap (λ xs. lines_by w (lines_of xs)) c.deref-in-While.ensures.value)
     ∙ ap (λ s. stmt_by w (stmt_of s)) (sym c.in-While.is)
 
 pub statement-returns-in_ok-kept-in-DoWhile : goal.statement-returns-in_ok-kept-in-DoWhile
 statement-returns-in_ok-kept-in-DoWhile t c = λ tree f of.
     let w = spec.writing tree f in
     do_while-by w c.in-DoWhile.test c.in_ok-kept-in-DoWhile.field-0 c.in-DoWhile.body c.in_ok-body-in-DoWhile.body
-        (c.in_ok-kept-in-DoWhile.ensures (declared_in tree f) of.names)
-        (c.in_ok-body-in-DoWhile.ensures tree f of ∙ ap (λ xs. lines_by w (lines_of xs)) c.deref-in-DoWhile.ensures.value)
+    (c.in_ok-kept-in-DoWhile.ensures (declared_in tree f) of.names)
+    (c.in_ok-body-in-DoWhile.ensures tree f of ∙ ap (λ xs. lines_by w (lines_of xs)) c.deref-in-DoWhile.ensures.value)
     ∙ ap (λ s. stmt_by w (stmt_of s)) (sym c.in-DoWhile.is)
 
 pub statement-returns-in_ok-lines-in-Forever : goal.statement-returns-in_ok-lines-in-Forever
 statement-returns-in_ok-lines-in-Forever t c = λ tree f of.
     let w = spec.writing tree f in
     forever-by w c.in-Forever.body c.in_ok-lines-in-Forever.field-0
-        (c.in_ok-lines-in-Forever.ensures tree f of ∙ ap (λ xs. lines_by w (lines_of xs)) c.deref-in-Forever.ensures.value)
+    (c.in_ok-lines-in-Forever.ensures tree f of ∙ ap (λ xs. lines_by w (lines_of xs)) c.deref-in-Forever.ensures.value)
     ∙ ap (λ s. stmt_by w (stmt_of s)) (sym c.in-Forever.is)
 
 pub statement-returns-in_ok-default_arm-in-Switch : goal.statement-returns-in_ok-default_arm-in-Switch
 statement-returns-in_ok-default_arm-in-Switch t c = λ tree f of.
     let w = spec.writing tree f in
     switch-by w c.in-Switch.value c.in_ok-value-in-Switch.value c.in-Switch.arms c.in_ok-arms-in-Switch.arms c.in-Switch.last c.in_ok-default_arm-in-Switch.field-0
-        (c.in_ok-value-in-Switch.ensures (declared_in tree f) of.names)
-        (c.in_ok-arms-in-Switch.ensures tree f of ∙ ap (λ xs. arms_by w (arms_of xs)) c.deref-in-Switch.ensures.value)
-        (c.in_ok-default_arm-in-Switch.ensures tree f of)
+    (c.in_ok-value-in-Switch.ensures (declared_in tree f) of.names)
+    (c.in_ok-arms-in-Switch.ensures tree f of ∙ ap (λ xs. arms_by w (arms_of xs)) c.deref-in-Switch.ensures.value)
+    (c.in_ok-default_arm-in-Switch.ensures tree f of)
     ∙ ap (λ s. stmt_by w (stmt_of s)) (sym c.in-Switch.is)

@@ -1,6 +1,6 @@
 use Rattle.std.proofs.Common.{Option, Some, None, sym, ap, ◌∙◌}
-use Rattle.std.specs.Prelude.{codes, if◌then◌else◌}
-use Rattle.dcc_c.specs.Dos.{Dos, Putc, Getche, Getch, Puts, Leave, dos_name, dos_in}
+use Rattle.std.specs.Prelude.{if◌then◌else◌}
+use Rattle.dcc_c.specs.Dos.{Dos, Putc, Getche, Getch, Puts, Leave, dos_name}
 use Rattle.dcc_c.specs.Token.{same_bytes}
 use Rattle.dcc_check.specs.Contexts.{held}
 use Rattle.dcc_check.specs.Declarations.{first_found}

@@ -1,9 +1,8 @@
-use Rattle.std.proofs.Common.{◌≡◌, Some, None, map, sym, ap, ◌∙◌}
+use Rattle.std.proofs.Common.{map, sym, ap, ◌∙◌}
 use Rattle.std.specs.Prelude.{option_map}
 use Rattle.std.proofs.lemmas.Result.{IfOk-weaker}
 use Rattle.dcc_c.specs.Rules.{declared_in}
 use Rattle.dcc_c.specs.Views.{expr_of}
-use Rattle.dcc_check.specs.Contexts.{held}
 use Rattle.dcc_casts.specs.Casts as spec
 use Rattle.dcc_casts.proofs.Callees.{known-function, unknown-function}
 use Rattle.dcc_casts.proofs.statement.arguments.Goals as goal
