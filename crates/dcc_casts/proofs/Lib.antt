@@ -4,3 +4,8 @@ pub mod Types
 pub mod Values
 pub mod Meaning
 pub mod Texts
+pub mod Arguments
+pub mod Callees
+pub mod Bodies
+pub mod Whole
+pub mod Dos

@@ -1,12 +1,12 @@
 -- A text without casts that nothing needs: where just the low bits of an expression count, the casts go that keep them.
-use Rattle.std.specs.Prelude.{ℕ, nat_le, Bool, true, false, ◌&&◌, ◌||◌, not, if◌then◌else◌, List, ◌∷◌, Some, None}
+use Rattle.std.specs.Prelude.{ℕ, nat_le, Bool, true, false, ◌&&◌, ◌||◌, not, if◌then◌else◌, List, ◌∷◌, Some, None, Option}
 use Rattle.dcc_c.specs.declared.syntax.CType.{CType}
 use Rattle.dcc_c.specs.declared.syntax.CUn.{CUn}
 use Rattle.dcc_c.specs.declared.syntax.CUn.TheVariants.{Minus, Complement, AddressOf}
 use Rattle.dcc_c.specs.declared.syntax.CBin.{CBin}
 use Rattle.dcc_c.specs.declared.syntax.CBin.TheVariants.{Or, Xor, And, Add, Sub, Mul, Shl}
 use Rattle.dcc_c.specs.Types.{bits_of, number_of_type}
-use Rattle.dcc_c.specs.Tree.{Expr, Number, Name, Unary, Binary, Conditional, Cast, Function, Tree}
+use Rattle.dcc_c.specs.Tree.{Word, Expr, Number, Name, Unary, Binary, Conditional, Cast, Function, Tree}
 use Rattle.dcc_c.specs.Typing.{Declared, place_type}
 use Rattle.dcc_c.specs.Rules.{declared_in, is_number, is_switch_value, signature_in}
 use Rattle.dcc_respell.specs.Writing.{Writing, text_by}
@@ -81,6 +81,15 @@ module _ (names : List Declared) where
 abbrev pub becoming : List Declared → CType → Expr → Expr
 becoming names type e = if type.pointer then kept names e else lowered names (room_of type) e
 
+-- what is assigned to a place
+abbrev pub assigned_to : List Declared → Expr → Expr → Expr
+assigned_to names place e =
+    elim (place_type names place) [ Some type ↦ becoming names type e | None ↦ kept names e ]
+
+-- the argument of a parameter, where there is one
+abbrev pub passed_to : List Declared → Option CType → Expr → Expr
+passed_to names o e = elim o [ Some type ↦ becoming names type e | None ↦ e ]
+
 -- the arguments of parameters of these types
 abbrev pub passed : List Declared → List CType → List Expr → List Expr
 passed names (type ∷ types) (e ∷ es) = becoming names type e ∷ passed names types es
@@ -92,6 +101,15 @@ chosen_by names e =
     let low = lowered names 16 e in
     if is_switch_value names low then low else kept names e
 
+-- the arguments of the function with a name, in a function of a text
+abbrev pub arguments_by : Tree → Function → Word → List Expr → List Expr
+arguments_by tree f function es =
+    elim (signature_in tree function) [ Some known ↦ passed (declared_in tree f) known.params es | None ↦ es ]
+
+-- what a function of a text returns
+abbrev pub returned_by : Tree → Function → Expr → Expr
+returned_by tree f e = elim f.result [ Some type ↦ becoming (declared_in tree f) type e | None ↦ e ]
+
 -- how the functions of a text are written without needless casts
 abbrev pub writing : Tree → Function → Writing
 writing tree f =
@@ -100,11 +118,9 @@ writing tree f =
       test = kept names;
       choice = chosen_by names;
       place = kept names;
-      value = λ place e.
-          elim (place_type names place) [ Some type ↦ becoming names type e | None ↦ kept names e ];
-      arguments = λ function es.
-          elim (signature_in tree function) [ Some known ↦ passed names known.params es | None ↦ es ];
-      returned = λ e. elim f.result [ Some type ↦ becoming names type e | None ↦ e ];
+      value = assigned_to names;
+      arguments = arguments_by tree f;
+      returned = returned_by tree f;
     }
 
 -- the text without needless casts

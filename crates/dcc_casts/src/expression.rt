@@ -10,7 +10,7 @@ ghost use Rattle.dcc_casts.specs.Views.{IsKnown};
 use crate::names::Names;
 use dcc_c::{CBin, CExpr, CType, CUn};
 use dcc_ctypes::names::{type_of_address, type_of_name};
-use dcc_ctypes::operators::{both_arms_type, both_types, is_switch_type, type_of_unary};
+use dcc_ctypes::operators::{both_arms_type, both_types, type_of_unary};
 use std::alloc::{AllocError, Global};
 
 // The type of the name's address, where the expression is a name.
@@ -24,8 +24,8 @@ fn type_of_place(names: &Names, e: &CExpr) -> Option<CType>
     }
 }
 
-// The type of the expression's value, where it has one.
-fn typed(names: &Names, e: &CExpr) -> Option<CType>
+/// The type of the expression's value, where it has one.
+pub fn typed(names: &Names, e: &CExpr) -> Option<CType>
     ensures { (ds : List typing.Declared) → IsKnown names.now ds → result ≡ typing.type_of ds (expr_of e.now) }
 {
     match e {
@@ -47,8 +47,8 @@ fn typed(names: &Names, e: &CExpr) -> Option<CType>
     }
 }
 
-// Whether the expression is a number.
-fn is_number(names: &Names, e: &CExpr) -> bool
+/// Whether the expression is a number.
+pub fn is_number(names: &Names, e: &CExpr) -> bool
     ensures { (ds : List typing.Declared) → IsKnown names.now ds → result ≡ rules.is_number ds (expr_of e.now) }
 {
     match typed(names, e) {
@@ -105,7 +105,10 @@ pub fn kept(alloc: Global, names: &Names, e: &CExpr) -> Result<CExpr, AllocError
     match e {
         CExpr::Num(n, base) => Ok(CExpr::Num(*n, *base)),
         CExpr::Name(word) => Ok(CExpr::Name(word.clone()?)),
-        CExpr::Un(operator, a) => Ok(CExpr::Un(*operator, Box::new(alloc, kept(alloc, names, a)?)?)),
+        CExpr::Un(operator, a) => Ok(CExpr::Un(
+            *operator,
+            Box::new(alloc, kept(alloc, names, a)?)?,
+        )),
         CExpr::Bin(operator, a, b) => {
             let a = Box::new(alloc, kept(alloc, names, a)?)?;
             let b = Box::new(alloc, kept(alloc, names, b)?)?;
