@@ -3,6 +3,8 @@
 #![tactic(auto)]
 
 #[cfg(test)]
+mod casts;
+#[cfg(test)]
 mod lexing;
 #[cfg(test)]
 mod parsing;
