@@ -83,7 +83,7 @@ module _ (image : Image) (program : Program) (is : IsProgramOf program.layout.cp
       let also = writable_stands (without q) less.writable in
       let tokens = length also.tokens in
       let few = subst (λ n. n ≤ tokens) (respelled-size (numbered plain) (numbered (without q)) less.respelled)
-          (unit-count 200 also.tokens (numbered (without q)) also.formed) in
+      (unit-count 200 also.tokens (numbered (without q)) also.formed) in
       record {
         stands = also;
         runs = λ input fill bytes small.

@@ -180,7 +180,7 @@ typed-tree ids image program p q r file of is tidy few control respelled tree sa
     (λ (t : Tree). (length procedures ≡ length t.functions)
     × (HaveShape (asked_of program) t.functions → AreTypedFrames procedures t.functions)) (sym same) (
       sym (AllZip-long IsDeclaredAs before functions declared ∙ AllZip-long (IsOneOf control) r.graphs before are
-      ∙ AllZip-long HasFrameFor procedures r.graphs frames),
+          ∙ AllZip-long HasFrameFor procedures r.graphs frames),
       λ shaped. record {
         names = same-names (writing plain) _ _ plain.functions ∙ text-names control _ r.graphs
             ∙ names-are procedures r.graphs frames;
