@@ -12,6 +12,8 @@ pub mod WholeTexts
 pub mod WritableWholes
 pub mod UnitLaws
 pub mod TextRuns
+pub mod RespelledTexts
+pub mod DeclaredFunctions
 pub mod ReplacedLaws
 pub mod SimplifiedLaws
 pub mod ArgumentsApart

@@ -1,5 +1,5 @@
 -- The text of a loaded program, from its parts.
-use Rattle.std.proofs.Common.{◌≡◌, ℕ, ◌<◌, true, List, [], ◌∷◌, length, refl, sym, ap, ◌∙◌, subst, arith}
+use Rattle.std.proofs.Common.{◌≡◌, ℕ, ◌<◌, ◌≤◌, true, List, [], ◌∷◌, length, refl, sym, ap, ◌∙◌, subst, arith}
 use Rattle.dcc_machine.specs.declared.image.Image.{Image}
 use Rattle.dcc_prog.specs.declared.frame.Program.{Program}
 use Rattle.dcc_prog.specs.Analysed.{IsProgramOf}
@@ -18,6 +18,11 @@ use Rattle.dcc_pipe.specs.WholeText.{whole_text, IsWholeText, FitsText}
 use Rattle.dcc_pipe.specs.Agreement.{IsTextOf}
 use Rattle.dcc_pipe.specs.Following.{IsFollowing}
 use Rattle.dcc_pipe.proofs.TextRuns.{text-agrees}
+use Rattle.dcc_pipe.proofs.RespelledTexts.{respelled-size, runs-agree}
+use Rattle.dcc_pipe.proofs.TokenCounts.{unit-count}
+use Rattle.dcc_casts.specs.Casts.{without_casts}
+use Rattle.dcc_casts.specs.Laws.{NeedlessCastsMayGo}
+use Rattle.dcc_respell.specs.Laws.{RespelledTextsRunAlike}
 use Rattle.dcc_print.proofs.UnbrokenText.{tree-unbroken}
 use Rattle.dcc_pipe.proofs.WholeTexts.{with_first}
 use Rattle.dcc_pipe.proofs.WritableWholes.{whole-writable}
@@ -45,38 +50,55 @@ fits-writable control p fits controls =
     (λ fits. whole-writable control it.first it.others p.image p.lo p.hi fits.textable.formed fits.few
     fits.textable.shallow fits.takes) fits controls
 
--- the tree whose lines are counted is that text's
-pub counted-tree : (p : inner.Program) → FitsText p → (counted tree : Tree) (whole : IsWholeText p tree)
-    → (is_unbroken_tree tree ≡ true → counted ≡ numbered tree) → counted ≡ numbered (whole_text whole.control p)
-counted-tree p fits counted tree whole counts =
-    counts (ap is_unbroken_tree whole.is
-    ∙ tree-unbroken (whole_text whole.control p) (fits-writable whole.control p fits whole.controls))
-    ∙ ap numbered whole.is
+-- the tree whose lines are counted is that text's, without needless casts
+pub counted-tree : NeedlessCastsMayGo → (p : inner.Program) → FitsText p → (counted written tree : Tree)
+    (whole : IsWholeText p tree) → written ≡ without_casts tree
+    → (is_unbroken_tree written ≡ true → counted ≡ numbered written)
+    → counted ≡ numbered (without_casts (whole_text whole.control p))
+counted-tree casts p fits counted written tree whole same counts =
+    let plain = whole_text whole.control p in
+    let is = same ∙ ap without_casts whole.is in
+    let less = casts plain (fits-writable whole.control p fits whole.controls) in
+    counts (ap is_unbroken_tree is ∙ tree-unbroken (without_casts plain) less.writable) ∙ ap numbered is
 
 -- The text of a program that follows the image.
-module _ (image : Image) (program : Program) (is : IsProgramOf program.layout.cpu image program) (control : Control) where
+module _ (image : Image) (program : Program) (is : IsProgramOf program.layout.cpu image program) (control : Control)
+    (casts : NeedlessCastsMayGo) (law : RespelledTextsRunAlike) where
+  abbrev without : inner.Program → Tree
+  without p = without_casts (whole_text control p)
+
   -- the text of a program that follows the image agrees with the image
   agreeing-text : (p : inner.Program) → FitsText p → AreControls control p → IsFollowing image program p
-      → IsTextOf program.layout.cpu image (written_form (whole_text control p)) (numbered (whole_text control p))
+      → IsTextOf program.layout.cpu image (written_form (without p)) (numbered (without p))
   agreeing-text p fits controls follows =
       let it = first-of p fits in
       subst (λ p. FitsText p → AreControls control p → IsFollowing image program p
-      → IsTextOf program.layout.cpu image (written_form (whole_text control p)) (numbered (whole_text control p))) it.is
+      → IsTextOf program.layout.cpu image (written_form (without p)) (numbered (without p))) it.is
       (λ fits controls follows.
       let q = with_first it.first it.others p.image p.lo p.hi in
-      let stands = writable_stands (whole_text control q) (fits-writable control q fits controls) in
+      let plain = whole_text control q in
+      let writable = fits-writable control q fits controls in
+      let less = casts plain writable in
+      let stands = writable_stands plain writable in
+      let also = writable_stands (without q) less.writable in
+      let tokens = length also.tokens in
+      let few = subst (λ n. n ≤ tokens) (respelled-size (numbered plain) (numbered (without q)) less.respelled)
+      (unit-count 200 also.tokens (numbered (without q)) also.formed) in
       record {
-        stands = stands;
-        runs = λ input fill bytes small. text-agrees image program control it.first it.others p.image p.lo p.hi
-            controls is fits follows (written_form (whole_text control q)) stands input fill bytes small;
+        stands = also;
+        runs = λ input fill bytes small.
+            runs-agree law program.layout.cpu image (written_form plain) (written_form (without q)) (numbered plain)
+            (numbered (without q)) stands also less.respelled tokens input fill
+            (text-agrees image program control it.first it.others p.image p.lo p.hi controls is fits follows
+            (written_form plain) stands tokens few input fill bytes small);
       }) fits controls follows
 
   -- what is told of a unit whose tree is that text's, with its lines counted
   pub text-is : (p : inner.Program) → FitsText p → AreControls control p → IsFollowing image program p
-      → (unit : TextUnit) → tree_of unit ≡ numbered (whole_text control p)
+      → (unit : TextUnit) → tree_of unit ≡ numbered (without p)
       → IsTextOf program.layout.cpu image (written_form (tree_of unit)) (tree_of unit)
   text-is p fits controls follows unit same =
-      let tree = numbered (whole_text control p) in
+      let tree = numbered (without p) in
       subst (λ t. IsTextOf program.layout.cpu image (written_form t) t) (sym same)
-      (subst (λ text. IsTextOf program.layout.cpu image text tree) (sym (written_numbered (whole_text control p)))
+      (subst (λ text. IsTextOf program.layout.cpu image text tree) (sym (written_numbered (without p)))
       (agreeing-text p fits controls follows))

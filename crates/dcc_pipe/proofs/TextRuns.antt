@@ -1,5 +1,5 @@
 -- The text of a program that shadows an image agrees with the image.
-use Rattle.std.proofs.Common.{◌≡◌, ◌≢◌, ℕ, zero, suc, ◌+◌, ◌*◌, ◌^◌, ◌<◌, Bool, false, List, ◌∷◌, length, refl, sym, ap, ◌∙◌, subst, true≢false, arith}
+use Rattle.std.proofs.Common.{◌≡◌, ◌≢◌, ℕ, zero, suc, ◌+◌, ◌*◌, ◌^◌, ◌<◌, ◌≤◌, Bool, false, List, ◌∷◌, refl, sym, ap, ◌∙◌, subst, true≢false, arith}
 use Rattle.std.specs.Prelude.{All}
 use Rattle.std.proofs.Math.Nat.{mul_comm}
 use Rattle.dcc_run.specs.End.{Stuck, is_over}
@@ -37,7 +37,7 @@ use Rattle.dcc_pipe.specs.Agreement.{RunsAgree}
 use Rattle.dcc_pipe.specs.Following.{IsFollowing}
 use Rattle.dcc_pipe.proofs.SimplifiedLaws.{only-within}
 use Rattle.dcc_pipe.proofs.StepPlaces.{step-has}
-use Rattle.dcc_pipe.proofs.TokenCounts.{unit-count}
+use Rattle.dcc_plan.specs.Programs.{text_size}
 use Rattle.dcc_pipe.proofs.WholeTexts.{texts, start-is, whole-text, whole-begins, all-kept}
 use Rattle.dcc_pipe.proofs.WholeTexts.{with_first}
 
@@ -78,6 +78,7 @@ module _ (image : Image) (program : Program) (control : Control) (g : inner.Grap
     (fits : FitsText (with_first g others bytes_of lo hi))
     (follows : IsFollowing image program (with_first g others bytes_of lo hi))
     (text : List ℕ) (stands : StandsFor text (numbered (whole_text control (with_first g others bytes_of lo hi))))
+    (tokens : ℕ) (few : text_size (numbered (whole_text control (with_first g others bytes_of lo hi))).functions ≤ tokens)
     (input : List ℕ) (fill : ℕ) (bytes : All (λ b. b < 256) input) (small : fill < 2 ^ 16) where
   abbrev p : inner.Program
   p = with_first g others bytes_of lo hi
@@ -94,9 +95,6 @@ module _ (image : Image) (program : Program) (control : Control) (g : inner.Grap
   abbrev start : Function
   start = stands.allowed.start
 
-  abbrev tokens : ℕ
-  tokens = length stands.tokens
-
   unstuck : (n at : ℕ) → end_after (run.inner_system p fill) n (run.first_state p fill input) ≢ Stuck at
   unstuck n at = fits.textable.never_stuck fill input n at small bytes
 
@@ -109,8 +107,7 @@ module _ (image : Image) (program : Program) (control : Control) (g : inner.Grap
       (programs-count opened (texts control g others bytes_of lo hi) p tree g others fill input kept
       (whole-text control g others bytes_of lo hi well fits.few fits.apart fits.gives controls)
       (whole-begins control g others bytes_of lo hi well fits.few fits.apart fits.gives controls)
-      (all-kept control g others bytes_of lo hi well fits.few fits.apart fits.gives controls) bytes unstuck tokens
-      (unit-count 200 stands.tokens tree stands.formed))
+      (all-kept control g others bytes_of lo hi well fits.few fits.apart fits.gives controls) bytes unstuck tokens few)
 
   -- The machine watched, in the places of blocks.
   abbrev machine : Watched Watch ProgramPoint

@@ -38,6 +38,9 @@ use Rattle.dcc_pipe.specs.WholeText.{whole_text}
 use Rattle.dcc_pipe.specs.Shaped.{asked_of}
 use Rattle.dcc_pipe.specs.TypedFrames.{param_classes, procedure_names, HasArrayOf, exposed, for_moves, HasTypedFrame, AreTypedFrames}
 use Rattle.dcc_pipe.proofs.FunctionTables.{IsOne, IsOneOf, all-numbered}
+use Rattle.dcc_casts.specs.Casts.{without_casts, writing}
+use Rattle.dcc_respell.specs.Respelled.{IsRespelled}
+use Rattle.dcc_pipe.proofs.DeclaredFunctions.{IsDeclaredAs, declared-functions, same-names, unplaced-as}
 use Rattle.dcc_pipe.proofs.MovesLaws.{lifted-pass, graphs-move}
 use Rattle.dcc_pipe.proofs.StandingLaws.{prepared-stands, procedures-found}
 use Rattle.dcc_pipe.proofs.TidiedFrames.{AddressesTold, HasFrameFor, all-frames}
@@ -97,31 +100,35 @@ module _ (p : Procedure) (g : Graph) (frame : HasFrameFor p g) where
 
   -- The function.
 
-  typed-frame : HasFewNames g → (plan : Plan) (f : Function) → IsOne plan g f → IsAloneFor p f → HasTypedFrame p f
-  typed-frame few plan f is alone =
+  typed-frame : HasFewNames g → (plan : Plan) (f h : Function) → IsOne plan g f → IsDeclaredAs f h → IsAloneFor p h
+      → HasTypedFrame p h
+  typed-frame few plan f h is declared alone =
       let number = is.1 in record {
         others = frame.others;
-        params = ap (λ (h : Function). map (λ (v : Variable). v.class) h.params) number.is ∙ params-classes;
+        params = ap (map (λ (v : Variable). v.class)) declared.params
+            ∙ ap (λ (h : Function). map (λ (v : Variable). v.class) h.params) number.is ∙ params-classes;
         bytes = bytes;
-        array = array-of f alone;
-        locals = ap (λ (h : Function). autos h.locals) number.is
+        array = array-of h alone;
+        locals = ap autos declared.locals ∙ ap (λ (h : Function). autos h.locals) number.is
             ∙ locals-auto (function_shape g) (filter (is_own g) (function_shape g).locations) bytes;
-        addresses = one-unplaced g plan f is few;
+        addresses = unplaced-as f h declared (one-unplaced g plan f is few);
       }
 
 -- The functions of a text.
 
-all-typed : (control : Control) (ps : List Procedure) (gs : List Graph) (fs : List Function)
-    → AllZip HasFrameFor ps gs → All HasFewNames gs → AllZip (IsOneOf control) gs fs → AllZip IsAloneFor ps fs
-    → AllZip HasTypedFrame ps fs
-all-typed control [] [] [] frames few are alone = tt
-all-typed control [] [] (f ∷ fs) frames few are alone = absurd are
-all-typed control [] (g ∷ gs) fs frames few are alone = absurd frames
-all-typed control (p ∷ ps) [] fs frames few are alone = absurd frames
-all-typed control (p ∷ ps) (g ∷ gs) [] frames few are alone = absurd are
-all-typed control (p ∷ ps) (g ∷ gs) (f ∷ fs) frames few are alone = (
-  typed-frame p g frames.0 (All-head HasFewNames g gs few) (control g) f are.0 alone.0,
-  all-typed control ps gs fs frames.1 (All-tail HasFewNames g gs few) are.1 alone.1,
+all-typed : (control : Control) (ps : List Procedure) (gs : List Graph) (fs hs : List Function)
+    → AllZip HasFrameFor ps gs → All HasFewNames gs → AllZip (IsOneOf control) gs fs → AllZip IsDeclaredAs fs hs
+    → AllZip IsAloneFor ps hs → AllZip HasTypedFrame ps hs
+all-typed control [] [] [] [] frames few are declared alone = tt
+all-typed control [] [] [] (h ∷ hs) frames few are declared alone = absurd declared
+all-typed control [] [] (f ∷ fs) hs frames few are declared alone = absurd are
+all-typed control [] (g ∷ gs) fs hs frames few are declared alone = absurd frames
+all-typed control (p ∷ ps) [] fs hs frames few are declared alone = absurd frames
+all-typed control (p ∷ ps) (g ∷ gs) [] hs frames few are declared alone = absurd are
+all-typed control (p ∷ ps) (g ∷ gs) (f ∷ fs) [] frames few are declared alone = absurd declared
+all-typed control (p ∷ ps) (g ∷ gs) (f ∷ fs) (h ∷ hs) frames few are declared alone = (
+  typed-frame p g frames.0 (All-head HasFewNames g gs few) (control g) f h are.0 declared.0 alone.0,
+  all-typed control ps gs fs hs frames.1 (All-tail HasFewNames g gs few) are.1 declared.1 alone.1,
 )
 
 -- where the functions have their shape, they are so
@@ -151,10 +158,11 @@ names-are (p ∷ ps) (g ∷ gs) frames = ap (λ ws. codes "start" ∷ ws) (other
 pub typed-tree : (ids : List ℕ) (image : Image) (program : Analysed) (p q r : Program)
     → IsProgramOfFile program.layout.cpu image program → IsLiftOf image program p → IsPrepared p q
     → HasEachChanged (IsTidiedGraph ids) q r → All HasFewNames r.graphs → (control : Control)
-    (tree : Tree) → tree ≡ numbered (whole_text control r)
+    → IsRespelled (numbered (whole_text control r)) (numbered (without_casts (whole_text control r)))
+    → (tree : Tree) → tree ≡ numbered (without_casts (whole_text control r))
     → (length (procedures_in program) ≡ length tree.functions)
     × (HaveShape (asked_of program) tree.functions → AreTypedFrames (procedures_in program) tree.functions)
-typed-tree ids image program p q r file of is tidy few control tree same =
+typed-tree ids image program p q r file of is tidy few control respelled tree same =
     let translated : IsTranslated image program p = record { of_file = file; translation = of.translation } in
     let stand = prepared-stands image program p q file of is in
     let procedures = procedures_in program in
@@ -163,16 +171,21 @@ typed-tree ids image program p q r file of is tidy few control tree same =
     p.graphs q.graphs of.lifted.graphs (procedures-found image program p q file of is)
     (lifted-pass image program p translated) stand is.made.graphs in
     let frames = all-frames ids procedures q.graphs r.graphs stand move tidy.graphs in
-    let functions = (numbered (whole_text control r)).functions in
+    let plain = whole_text control r in
+    let before = (numbered plain).functions in
+    let functions = (numbered (without_casts plain)).functions in
     let are = all-numbered control _ r.graphs in
+    let declared = declared-functions (writing plain) (numbered plain) (numbered (without_casts plain)) _ _ plain.functions respelled.functions in
     subst
     (λ (t : Tree). (length procedures ≡ length t.functions)
     × (HaveShape (asked_of program) t.functions → AreTypedFrames procedures t.functions)) (sym same) (
-      sym (AllZip-long (IsOneOf control) r.graphs functions are ∙ AllZip-long HasFrameFor procedures r.graphs frames),
+      sym (AllZip-long IsDeclaredAs before functions declared ∙ AllZip-long (IsOneOf control) r.graphs before are
+          ∙ AllZip-long HasFrameFor procedures r.graphs frames),
       λ shaped. record {
-        names = text-names control _ r.graphs ∙ names-are procedures r.graphs frames;
+        names = same-names (writing plain) _ _ plain.functions ∙ text-names control _ r.graphs
+            ∙ names-are procedures r.graphs frames;
         frames =
-            all-typed control procedures r.graphs functions frames few are
+            all-typed control procedures r.graphs before functions frames few are declared
             (all-alone program.layout program.procs.items program.cells.frames.items functions shaped);
       },
     )

@@ -4,7 +4,7 @@ use Rattle.dcc_stack.specs.Accepted.{IsProgramOfFile}
 use Rattle.dcc_ir.specs.Views.{program_of}
 use Rattle.dcc_rules.specs.Views.{numbers_of}
 use Rattle.dcc_pipe.specs.WholeText.{whole_text}
-use Rattle.dcc_pipe.proofs.PipeLaws.{counted-tree, text-is}
+use Rattle.dcc_pipe.proofs.PipeLaws.{counted-tree, fits-writable, text-is}
 use Rattle.dcc_pipe.proofs.PreparedFits.{left-simplified, prepared-fits}
 use Rattle.dcc_pipe.proofs.StepPaces.{tidied-paced}
 use Rattle.dcc_pipe.proofs.RefusedLaws.{fault-construct, summed-none}
@@ -38,14 +38,15 @@ returns-clause-text g c =
     let is = c.in_ok-prepared.ensures.ready in
     let tidy = c.in_ok-tidied.ensures in
     let ids = numbers_of c.args.rules.now in
-    let fits = prepared-fits p q is ids r tidy c.in_ok-unit.ensures.few in
-    let whole = c.in_ok-unit.ensures.text in
+    let fits = prepared-fits p q is ids r tidy c.in_ok-plain.ensures.few in
+    let whole = c.in_ok-plain.ensures.text in
     let file : IsProgramOfFile program.layout.cpu image program =
     record { loaded = c.requires.loaded; is_program = c.requires.program } in
     let pace = tidied-paced ids image program p q r file c.in_ok-lifted.ensures.lifted is tidy in
-    text-is image program c.requires.program whole.control r fits whole.controls
+    text-is image program c.requires.program whole.control c.needless_casts_may_go.ensures c.respelled_texts_run_alike.ensures
+    r fits whole.controls
     (left-follows image program p r c.in_ok-lifted.ensures.lifted.lifted (left-simplified p q is ids r tidy) pace)
-    c.in_ok-number.field-0 (counted-tree r fits _ _ whole c.in_ok-number.ensures)
+    c.in_ok-number.field-0 (counted-tree c.needless_casts_may_go.ensures r fits _ _ _ whole c.in_ok-unit.ensures c.in_ok-number.ensures)
 
 pub returns-clause-none : goal.returns-clause-none
 returns-clause-none g c =
@@ -62,11 +63,14 @@ returns-clause-typed g c =
     let is = c.in_ok-prepared.ensures.ready in
     let tidy = c.in_ok-tidied.ensures in
     let ids = numbers_of c.args.rules.now in
-    let few = c.in_ok-unit.ensures.few in
+    let few = c.in_ok-plain.ensures.few in
+    let whole = c.in_ok-plain.ensures.text in
+    let fits = prepared-fits p q is ids r tidy few in
+    let less = c.needless_casts_may_go.ensures (whole_text whole.control r) (fits-writable whole.control r fits whole.controls) in
     (typed-tree ids c.args.image.now c.args.program.now p q r
     (record { loaded = c.requires.loaded; is_program = c.requires.program }) c.in_ok-lifted.ensures.lifted is tidy
-    few c.in_ok-unit.ensures.text.control _
-    (counted-tree r (prepared-fits p q is ids r tidy few) _ _ c.in_ok-unit.ensures.text c.in_ok-number.ensures)).1
+    few whole.control less.respelled _
+    (counted-tree c.needless_casts_may_go.ensures r fits _ _ _ whole c.in_ok-unit.ensures c.in_ok-number.ensures)).1
 
 pub returns-clause-as_many : goal.returns-clause-as_many
 returns-clause-as_many g c =
@@ -76,12 +80,15 @@ returns-clause-as_many g c =
     let is = c.in_ok-prepared.ensures.ready in
     let tidy = c.in_ok-tidied.ensures in
     let ids = numbers_of c.args.rules.now in
-    let few = c.in_ok-unit.ensures.few in
+    let few = c.in_ok-plain.ensures.few in
+    let whole = c.in_ok-plain.ensures.text in
+    let fits = prepared-fits p q is ids r tidy few in
+    let less = c.needless_casts_may_go.ensures (whole_text whole.control r) (fits-writable whole.control r fits whole.controls) in
     functions-as_many c.args.program.now.layout.cpu c.args.image.now c.args.program.now _ c.requires.program
     (typed-tree ids c.args.image.now c.args.program.now p q r
     (record { loaded = c.requires.loaded; is_program = c.requires.program }) c.in_ok-lifted.ensures.lifted is tidy
-    few c.in_ok-unit.ensures.text.control _
-    (counted-tree r (prepared-fits p q is ids r tidy few) _ _ c.in_ok-unit.ensures.text c.in_ok-number.ensures)).0
+    few whole.control less.respelled _
+    (counted-tree c.needless_casts_may_go.ensures r fits _ _ _ whole c.in_ok-unit.ensures c.in_ok-number.ensures)).0
 
 pub returns-clause-made : goal.returns-clause-made
 returns-clause-made g c =
@@ -91,7 +98,7 @@ returns-clause-made g c =
     let is = c.in_ok-prepared.ensures.ready in
     let tidy = c.in_ok-tidied.ensures in
     let ids = numbers_of c.args.rules.now in
-    let whole = c.in_ok-unit.ensures.text in
+    let whole = c.in_ok-plain.ensures.text in
     record {
       lifted = p;
       is_lifted = c.in_ok-lifted.ensures.lifted;
@@ -103,7 +110,8 @@ returns-clause-made g c =
       plain = whole_text whole.control r;
       is_text = record { control = whole.control; controls = whole.controls; is = refl };
       is =
-          counted-tree r (prepared-fits p q is ids r tidy c.in_ok-unit.ensures.few) _ _ whole c.in_ok-number.ensures;
+          counted-tree c.needless_casts_may_go.ensures r (prepared-fits p q is ids r tidy c.in_ok-plain.ensures.few) _ _ _ whole
+          c.in_ok-unit.ensures c.in_ok-number.ensures;
     }
 
 pub unit_of-requires : goal.unit_of-requires
