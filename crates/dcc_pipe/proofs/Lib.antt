@@ -14,6 +14,8 @@ pub mod UnitLaws
 pub mod TextRuns
 pub mod RespelledTexts
 pub mod DeclaredFunctions
+pub mod KeptTexts
+pub mod FinishedTexts
 pub mod ReplacedLaws
 pub mod SimplifiedLaws
 pub mod ArgumentsApart

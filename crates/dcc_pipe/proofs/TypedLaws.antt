@@ -38,9 +38,8 @@ use Rattle.dcc_pipe.specs.WholeText.{whole_text}
 use Rattle.dcc_pipe.specs.Shaped.{asked_of}
 use Rattle.dcc_pipe.specs.TypedFrames.{param_classes, procedure_names, HasArrayOf, exposed, for_moves, HasTypedFrame, AreTypedFrames}
 use Rattle.dcc_pipe.proofs.FunctionTables.{IsOne, IsOneOf, all-numbered}
-use Rattle.dcc_casts.specs.Casts.{without_casts, writing}
-use Rattle.dcc_respell.specs.Respelled.{IsRespelled}
-use Rattle.dcc_pipe.proofs.DeclaredFunctions.{IsDeclaredAs, declared-functions, same-names, unplaced-as}
+use Rattle.dcc_pipe.specs.Kept.{IsDeclaredAs, IsKept}
+use Rattle.dcc_pipe.proofs.DeclaredFunctions.{names-as, unplaced-as}
 use Rattle.dcc_pipe.proofs.MovesLaws.{lifted-pass, graphs-move}
 use Rattle.dcc_pipe.proofs.StandingLaws.{prepared-stands, procedures-found}
 use Rattle.dcc_pipe.proofs.TidiedFrames.{AddressesTold, HasFrameFor, all-frames}
@@ -105,11 +104,11 @@ module _ (p : Procedure) (g : Graph) (frame : HasFrameFor p g) where
   typed-frame few plan f h is declared alone =
       let number = is.1 in record {
         others = frame.others;
-        params = ap (map (λ (v : Variable). v.class)) declared.params
+        params = declared.classes
             ∙ ap (λ (h : Function). map (λ (v : Variable). v.class) h.params) number.is ∙ params-classes;
         bytes = bytes;
         array = array-of h alone;
-        locals = ap autos declared.locals ∙ ap (λ (h : Function). autos h.locals) number.is
+        locals = declared.autos ∙ ap (λ (h : Function). autos h.locals) number.is
             ∙ locals-auto (function_shape g) (filter (is_own g) (function_shape g).locations) bytes;
         addresses = unplaced-as f h declared (one-unplaced g plan f is few);
       }
@@ -153,16 +152,15 @@ names-are [] (g ∷ gs) frames = absurd frames
 names-are (p ∷ ps) [] frames = absurd frames
 names-are (p ∷ ps) (g ∷ gs) frames = ap (λ ws. codes "start" ∷ ws) (others-are ps gs frames.1)
 
--- Of the text of what is tidied of a prepared program there is a function for each procedure; where they have their
+-- Of a text that is otherwise written than that of what is tidied of a prepared program there is a function for each procedure; where they have their
 -- shape, they keep in memory just what the frames expose.
 pub typed-tree : (ids : List ℕ) (image : Image) (program : Analysed) (p q r : Program)
     → IsProgramOfFile program.layout.cpu image program → IsLiftOf image program p → IsPrepared p q
     → HasEachChanged (IsTidiedGraph ids) q r → All HasFewNames r.graphs → (control : Control)
-    → IsRespelled (numbered (whole_text control r)) (numbered (without_casts (whole_text control r)))
-    → (tree : Tree) → tree ≡ numbered (without_casts (whole_text control r))
+    → (final : Tree) → IsKept (whole_text control r) final → (tree : Tree) → tree ≡ numbered final
     → (length (procedures_in program) ≡ length tree.functions)
     × (HaveShape (asked_of program) tree.functions → AreTypedFrames (procedures_in program) tree.functions)
-typed-tree ids image program p q r file of is tidy few control respelled tree same =
+typed-tree ids image program p q r file of is tidy few control final kept tree same =
     let translated : IsTranslated image program p = record { of_file = file; translation = of.translation } in
     let stand = prepared-stands image program p q file of is in
     let procedures = procedures_in program in
@@ -173,19 +171,18 @@ typed-tree ids image program p q r file of is tidy few control respelled tree sa
     let frames = all-frames ids procedures q.graphs r.graphs stand move tidy.graphs in
     let plain = whole_text control r in
     let before = (numbered plain).functions in
-    let functions = (numbered (without_casts plain)).functions in
+    let functions = (numbered final).functions in
     let are = all-numbered control _ r.graphs in
-    let declared = declared-functions (writing plain) (numbered plain) (numbered (without_casts plain)) _ _ plain.functions respelled.functions in
     subst
     (λ (t : Tree). (length procedures ≡ length t.functions)
     × (HaveShape (asked_of program) t.functions → AreTypedFrames procedures t.functions)) (sym same) (
-      sym (AllZip-long IsDeclaredAs before functions declared ∙ AllZip-long (IsOneOf control) r.graphs before are
+      sym (AllZip-long IsDeclaredAs before functions kept.declared ∙ AllZip-long (IsOneOf control) r.graphs before are
           ∙ AllZip-long HasFrameFor procedures r.graphs frames),
       λ shaped. record {
-        names = same-names (writing plain) _ _ plain.functions ∙ text-names control _ r.graphs
+        names = names-as before functions kept.declared ∙ text-names control _ r.graphs
             ∙ names-are procedures r.graphs frames;
         frames =
-            all-typed control procedures r.graphs before functions frames few are declared
+            all-typed control procedures r.graphs before functions frames few are kept.declared
             (all-alone program.layout program.procs.items program.cells.frames.items functions shaped);
       },
     )

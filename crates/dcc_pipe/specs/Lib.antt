@@ -9,6 +9,8 @@ pub mod WrittenFunctions
 pub mod TypedFrames
 pub mod Lines
 pub mod Agreement
+pub mod Kept
+pub mod Finished
 pub mod Shaped
 pub mod Faults
 pub mod Decompiled

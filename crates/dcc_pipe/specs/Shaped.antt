@@ -14,9 +14,9 @@ use Rattle.dcc_lift.specs.Lifted.{IsLiftOf}
 use Rattle.dcc_c.specs.Numbered.{numbered}
 use Rattle.dcc_c.specs.Tree.{Tree}
 use Rattle.dcc_c.specs.Written.{written_form}
-use Rattle.dcc_casts.specs.Casts.{without_casts}
 use Rattle.dcc_shape.specs.Shape.{HaveShape, LacksShape}
 use Rattle.dcc_pipe.specs.Agreement.{IsTextOf}
+use Rattle.dcc_pipe.specs.Finished.{finished}
 use Rattle.dcc_pipe.specs.Prepared.{IsPrepared}
 use Rattle.dcc_pipe.specs.Simplified.{HasEachChanged}
 use Rattle.dcc_tidy.specs.Tidied.{IsTidiedGraph}
@@ -41,7 +41,7 @@ pub record LacksShapeAt (program : Analysed) (tree : Tree) (at : ℕ) : Type 0 w
   pub entry : option_map (λ (proc : Proc). proc.entry) (slice_get program.procs.items number) ≡ Some at
 
 -- The tree is that of a text that is made of the program in the image: the program is lifted and prepared, what all
--- passes leave of it is written with a plan for each graph, needless casts go, and the lines are counted.
+-- passes leave of it is written with a plan for each graph, the text is finished, and its lines are counted.
 pub record IsMadeOf (image : Image) (program : Analysed) (tree : Tree) : Type 0 where
   pub lifted : Program
   pub is_lifted : IsLiftOf image program lifted
@@ -52,7 +52,7 @@ pub record IsMadeOf (image : Image) (program : Analysed) (tree : Tree) : Type 0 
   pub is_tidy : HasEachChanged (IsTidiedGraph ids) ready tidy
   pub plain : Tree
   pub is_text : IsWholeText tidy plain
-  pub is : tree ≡ numbered (without_casts plain)
+  pub is : tree ≡ numbered (finished plain)
 
 -- Nothing refuses the image, and a text that is made of the program in it, and agrees with it, lacks its shape first in
 -- the function of the procedure with this entry.

@@ -17,19 +17,17 @@ ghost use Rattle.dcc_pipe.specs.Faults.{refusal_for};
 ghost use Rattle.dcc_pipe.specs.TypedFrames.{AreTypedFrames, HasTypedFrames};
 
 use crate::analysis::analyse;
+use crate::finishing::finished;
 use crate::no_text::NoText;
 use crate::preparation::prepared;
 use crate::tidying::tidied;
 use crate::unit::unit_of;
 use dcc_c::Unit;
-use dcc_casts::{needless_casts_may_go, without_casts};
 use dcc_instruction_demand::lifted_relations_are_the_machines;
 use dcc_kinds::{faults_are_constructs, summed_programs_have_none};
 use dcc_lift::lift;
 use dcc_machine::{Cpu, Image};
-use dcc_print::number;
 use dcc_prog::{ConstructKind, Program, Refusal};
-use dcc_respell::respelled_texts_run_alike;
 use dcc_rules::RuleList;
 use dcc_shape::has_shape;
 use dcc_summaries::SumsFault;
@@ -62,11 +60,7 @@ fn text_of(
     let prepared = prepared(alloc, lifted)?;
     let tidied = tidied(alloc, prepared, rules)?;
     let plain = unit_of(alloc, &tidied)?;
-    // The text runs as it does with all its casts, by the two laws that are called here.
-    needless_casts_may_go();
-    respelled_texts_run_alike();
-    let unit = without_casts(alloc, &plain)?;
-    Ok(number(alloc, unit)?)
+    Ok(finished(alloc, &plain)?)
 }
 
 // The refusal of a program for what is at fault between its procedures.

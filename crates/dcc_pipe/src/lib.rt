@@ -5,6 +5,7 @@ mod allowed;
 mod analysis;
 mod control;
 mod decompilation;
+mod finishing;
 pub mod laws;
 mod no_text;
 mod passes;

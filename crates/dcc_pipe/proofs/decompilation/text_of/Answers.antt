@@ -4,7 +4,9 @@ use Rattle.dcc_stack.specs.Accepted.{IsProgramOfFile}
 use Rattle.dcc_ir.specs.Views.{program_of}
 use Rattle.dcc_rules.specs.Views.{numbers_of}
 use Rattle.dcc_pipe.specs.WholeText.{whole_text}
-use Rattle.dcc_pipe.proofs.PipeLaws.{counted-tree, fits-writable, text-is}
+use Rattle.dcc_pipe.specs.Finished.{finished}
+use Rattle.dcc_pipe.proofs.FinishedTexts.{finished-whole}
+use Rattle.dcc_pipe.proofs.PipeLaws.{whole-is-writable, text-is}
 use Rattle.dcc_pipe.proofs.PreparedFits.{left-simplified, prepared-fits}
 use Rattle.dcc_pipe.proofs.StepPaces.{tidied-paced}
 use Rattle.dcc_pipe.proofs.RefusedLaws.{fault-construct, summed-none}
@@ -38,15 +40,15 @@ returns-clause-text g c =
     let is = c.in_ok-prepared.ensures.ready in
     let tidy = c.in_ok-tidied.ensures in
     let ids = numbers_of c.args.rules.now in
-    let fits = prepared-fits p q is ids r tidy c.in_ok-plain.ensures.few in
     let whole = c.in_ok-plain.ensures.text in
+    let fits = prepared-fits p q is ids r tidy c.in_ok-plain.ensures.few in
     let file : IsProgramOfFile program.layout.cpu image program =
     record { loaded = c.requires.loaded; is_program = c.requires.program } in
     let pace = tidied-paced ids image program p q r file c.in_ok-lifted.ensures.lifted is tidy in
-    text-is image program c.requires.program whole.control c.needless_casts_may_go.ensures c.respelled_texts_run_alike.ensures
-    r fits whole.controls
+    let made = finished-whole r whole _ c.in_ok-finished.ensures in
+    text-is image program c.requires.program whole.control (finished (whole_text whole.control r)) r fits whole.controls
     (left-follows image program p r c.in_ok-lifted.ensures.lifted.lifted (left-simplified p q is ids r tidy) pace)
-    c.in_ok-number.field-0 (counted-tree c.needless_casts_may_go.ensures r fits _ _ _ whole c.in_ok-unit.ensures c.in_ok-number.ensures)
+    made.kept _ made.is
 
 pub returns-clause-none : goal.returns-clause-none
 returns-clause-none g c =
@@ -60,59 +62,54 @@ returns-clause-typed g c =
     let p = program_of c.in_ok-lifted.lifted in
     let q = program_of c.in_ok-prepared.prepared in
     let r = program_of c.in_ok-tidied.tidied in
-    let is = c.in_ok-prepared.ensures.ready in
-    let tidy = c.in_ok-tidied.ensures in
-    let ids = numbers_of c.args.rules.now in
-    let few = c.in_ok-plain.ensures.few in
     let whole = c.in_ok-plain.ensures.text in
-    let fits = prepared-fits p q is ids r tidy few in
-    let less = c.needless_casts_may_go.ensures (whole_text whole.control r) (fits-writable whole.control r fits whole.controls) in
-    (typed-tree ids c.args.image.now c.args.program.now p q r
-    (record { loaded = c.requires.loaded; is_program = c.requires.program }) c.in_ok-lifted.ensures.lifted is tidy
-    few whole.control less.respelled _
-    (counted-tree c.needless_casts_may_go.ensures r fits _ _ _ whole c.in_ok-unit.ensures c.in_ok-number.ensures)).1
+    let made = finished-whole r whole _ c.in_ok-finished.ensures in
+    (typed-tree (numbers_of c.args.rules.now) c.args.image.now c.args.program.now p q r
+    (record { loaded = c.requires.loaded; is_program = c.requires.program }) c.in_ok-lifted.ensures.lifted
+    c.in_ok-prepared.ensures.ready c.in_ok-tidied.ensures c.in_ok-plain.ensures.few whole.control
+    (finished (whole_text whole.control r)) made.kept _ made.is).1
 
 pub returns-clause-as_many : goal.returns-clause-as_many
 returns-clause-as_many g c =
     let p = program_of c.in_ok-lifted.lifted in
     let q = program_of c.in_ok-prepared.prepared in
     let r = program_of c.in_ok-tidied.tidied in
-    let is = c.in_ok-prepared.ensures.ready in
-    let tidy = c.in_ok-tidied.ensures in
-    let ids = numbers_of c.args.rules.now in
-    let few = c.in_ok-plain.ensures.few in
     let whole = c.in_ok-plain.ensures.text in
-    let fits = prepared-fits p q is ids r tidy few in
-    let less = c.needless_casts_may_go.ensures (whole_text whole.control r) (fits-writable whole.control r fits whole.controls) in
+    let made = finished-whole r whole _ c.in_ok-finished.ensures in
     functions-as_many c.args.program.now.layout.cpu c.args.image.now c.args.program.now _ c.requires.program
-    (typed-tree ids c.args.image.now c.args.program.now p q r
-    (record { loaded = c.requires.loaded; is_program = c.requires.program }) c.in_ok-lifted.ensures.lifted is tidy
-    few whole.control less.respelled _
-    (counted-tree c.needless_casts_may_go.ensures r fits _ _ _ whole c.in_ok-unit.ensures c.in_ok-number.ensures)).0
+    (typed-tree (numbers_of c.args.rules.now) c.args.image.now c.args.program.now p q r
+    (record { loaded = c.requires.loaded; is_program = c.requires.program }) c.in_ok-lifted.ensures.lifted
+    c.in_ok-prepared.ensures.ready c.in_ok-tidied.ensures c.in_ok-plain.ensures.few whole.control
+    (finished (whole_text whole.control r)) made.kept _ made.is).0
 
 pub returns-clause-made : goal.returns-clause-made
 returns-clause-made g c =
     let p = program_of c.in_ok-lifted.lifted in
     let q = program_of c.in_ok-prepared.prepared in
     let r = program_of c.in_ok-tidied.tidied in
-    let is = c.in_ok-prepared.ensures.ready in
-    let tidy = c.in_ok-tidied.ensures in
-    let ids = numbers_of c.args.rules.now in
     let whole = c.in_ok-plain.ensures.text in
     record {
       lifted = p;
       is_lifted = c.in_ok-lifted.ensures.lifted;
       ready = q;
-      is_ready = is;
+      is_ready = c.in_ok-prepared.ensures.ready;
       tidy = r;
-      ids = ids;
-      is_tidy = tidy;
+      ids = numbers_of c.args.rules.now;
+      is_tidy = c.in_ok-tidied.ensures;
       plain = whole_text whole.control r;
       is_text = record { control = whole.control; controls = whole.controls; is = refl };
-      is =
-          counted-tree c.needless_casts_may_go.ensures r (prepared-fits p q is ids r tidy c.in_ok-plain.ensures.few) _ _ _ whole
-          c.in_ok-unit.ensures c.in_ok-number.ensures;
+      is = (finished-whole r whole _ c.in_ok-finished.ensures).is;
     }
+
+pub finished-requires : goal.finished-requires
+finished-requires g c =
+    let p = program_of c.in_ok-lifted.lifted in
+    let q = program_of c.in_ok-prepared.prepared in
+    let r = program_of c.in_ok-tidied.tidied in
+    let whole = c.in_ok-plain.ensures.text in
+    whole-is-writable r whole
+    (prepared-fits p q c.in_ok-prepared.ensures.ready (numbers_of c.args.rules.now) r c.in_ok-tidied.ensures
+    c.in_ok-plain.ensures.few)
 
 pub unit_of-requires : goal.unit_of-requires
 unit_of-requires g c =

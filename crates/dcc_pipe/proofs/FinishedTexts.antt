@@ -1,0 +1,38 @@
+-- What is kept where a text is finished.
+use Rattle.std.proofs.Common.{◌≡◌, true, sym, ap, ◌∙◌, subst}
+use Rattle.dcc_ir.specs.Tree as inner
+use Rattle.dcc_c.specs.Numbered.{numbered}
+use Rattle.dcc_c.specs.Tree.{Tree}
+use Rattle.dcc_c.proofs.Writable.{IsWritable}
+use Rattle.dcc_casts.specs.Casts.{without_casts, writing}
+use Rattle.dcc_casts.specs.Laws.{NeedlessCastsMayGo}
+use Rattle.dcc_respell.specs.Laws.{RespelledTextsRunAlike}
+use Rattle.dcc_print.specs.Unbroken.{is_unbroken_tree}
+use Rattle.dcc_print.proofs.UnbrokenText.{tree-unbroken}
+use Rattle.dcc_pipe.specs.Finished.{finished, IsFinishedFrom}
+use Rattle.dcc_pipe.specs.Kept.{IsKept}
+use Rattle.dcc_pipe.specs.WholeText.{whole_text, IsWholeText}
+use Rattle.dcc_pipe.proofs.DeclaredFunctions.{same-autos}
+use Rattle.dcc_pipe.proofs.KeptTexts.{kept-by}
+
+pub finished-kept : RespelledTextsRunAlike → NeedlessCastsMayGo → (plain : Tree) → IsWritable plain
+    → IsKept plain (finished plain)
+finished-kept law casts plain writable =
+    let less = casts plain writable in
+    kept-by law plain (without_casts plain) less.writable less.respelled (same-autos (writing plain) _ _ plain.functions)
+
+-- a tree whose lines are counted, and which was written without needless casts
+pub is-finished : RespelledTextsRunAlike → NeedlessCastsMayGo → (plain written counted : Tree) → IsWritable plain
+    → written ≡ finished plain → (is_unbroken_tree written ≡ true → counted ≡ numbered written)
+    → IsFinishedFrom plain counted
+is-finished law casts plain written counted writable same counts =
+    let kept = finished-kept law casts plain writable in
+    record {
+      is = counts (ap is_unbroken_tree same ∙ tree-unbroken (finished plain) kept.writable) ∙ ap numbered same;
+      kept = kept;
+    }
+
+-- what is told of the text of a program that is finished
+pub finished-whole : (p : inner.Program) {plain : Tree} (whole : IsWholeText p plain) (tree : Tree)
+    → IsFinishedFrom plain tree → IsFinishedFrom (whole_text whole.control p) tree
+finished-whole p whole tree is = subst (λ plain. IsFinishedFrom plain tree) whole.is is
