@@ -17,7 +17,8 @@ use Rattle.dcc_text.proofs.HexLaws.{name_at-differ}
 use Rattle.dcc_globals.specs.Pieces.{Data, pieces, is_in_stack, spoils}
 use Rattle.dcc_globals.specs.Gaps.{is_in_run, begins, extent}
 use Rattle.dcc_globals.specs.Globals.{number_of, significant, scalar_values, scalar, array, is_scalar, bytes_at, global_of_size, global_at, globals_of}
-use Rattle.dcc_globals.specs.Laws.{is_data_name, AreAllowed, HaveNames}
+use Rattle.dcc_variables.specs.Globals.{is_data_name, HaveNames}
+use Rattle.dcc_globals.specs.Laws.{AreAllowed}
 use Rattle.dcc_globals.proofs.InitialLaws.{significant-le}
 use Rattle.dcc_globals.proofs.Extents.{is_covered, covered-off, image-covered, extent-some, extent-fits, extent-covered, ends-before, IsOwner, owner-of}
 use Rattle.dcc_globals.proofs.Written.{IsByte, HoldsAt, array-holds, scalar-holds}

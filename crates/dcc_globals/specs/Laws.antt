@@ -5,9 +5,11 @@ use Rattle.dcc_num.specs.declared.Width.{Width}
 use Rattle.dcc_machine.specs.declared.instr.Ea.{Ea}
 use Rattle.dcc_ir.specs.Tree as inner
 use Rattle.dcc_ir.specs.Run as inner_run
-use Rattle.dcc_c.specs.Rules.{all_differ, allows_global, all_apart, is_off_stack}
+use Rattle.dcc_c.specs.Rules.{allows_global, all_apart, is_off_stack}
+use Rattle.dcc_c.proofs.Writable.{is_writable_global}
 use Rattle.dcc_c.specs.Run as text_run
 use Rattle.dcc_c.specs.Tree.{Word, Global, Tree}
+use Rattle.dcc_variables.specs.Globals.{HaveNames}
 use Rattle.dcc_globals.specs.Pieces.{Data}
 use Rattle.dcc_globals.specs.Globals.{globals_of}
 
@@ -20,18 +22,13 @@ pub record AreAllowed (lo hi : ℕ) (globals : List Global) : Type 0 where
 abbrev pub GlobalsAreAllowed : Type 0
 GlobalsAreAllowed = (d : Data) → AreAllowed d.lo d.hi (globals_of d)
 
--- the names begin with `g_` or `d_`, as those of functions, parameters and other variables don't
-abbrev pub is_data_name : Word → Bool
-is_data_name (a ∷ b ∷ word) = ((a == 103) || (a == 100)) && (b == 95)
-is_data_name word = false
-
 -- The global variables have names of their own.
-pub record HaveNames (globals : List Global) : Type 0 where
-  pub begin : list_all is_data_name (map (λ g. g.name) globals) ≡ true
-  pub differ : all_differ (map (λ g. g.name) globals) ≡ true
-
 abbrev pub GlobalsHaveNames : Type 0
 GlobalsHaveNames = (d : Data) → HaveNames (globals_of d)
+
+-- The written form of a text can hold them.
+abbrev pub GlobalsAreWritable : Type 0
+GlobalsAreWritable = (d : Data) → All (λ byte. byte < 256) d.bytes → list_all is_writable_global (globals_of d) ≡ true
 
 -- the data segment of a program of the inner language, in which these memory operands stand
 abbrev pub data_in : inner.Program → List (Width × Ea) → Data

@@ -13,5 +13,7 @@ mod source;
 mod texts;
 mod variables;
 
-pub use laws::{first_memories_are_equal, globals_are_allowed, globals_have_names};
+pub use laws::{
+    first_memories_are_equal, globals_are_allowed, globals_are_writable, globals_have_names,
+};
 pub use variables::globals;

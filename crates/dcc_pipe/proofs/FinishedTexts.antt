@@ -1,8 +1,8 @@
 -- What is kept where a text is finished.
-use Rattle.std.proofs.Common.{◌≡◌, true, sym, ap, ◌∙◌, subst}
+use Rattle.std.proofs.Common.{◌≡◌, true, List, sym, ap, ◌∙◌, subst}
 use Rattle.dcc_ir.specs.Tree as inner
 use Rattle.dcc_c.specs.Numbered.{numbered}
-use Rattle.dcc_c.specs.Tree.{Tree}
+use Rattle.dcc_c.specs.Tree.{Global, Tree}
 use Rattle.dcc_c.proofs.Writable.{IsWritable}
 use Rattle.dcc_casts.specs.Casts.{without_casts, writing}
 use Rattle.dcc_casts.specs.Laws.{NeedlessCastsMayGo}
@@ -33,6 +33,6 @@ is-finished law casts plain written counted writable same counts =
     }
 
 -- what is told of the text of a program that is finished
-pub finished-whole : (p : inner.Program) {plain : Tree} (whole : IsWholeText p plain) (tree : Tree)
-    → IsFinishedFrom plain tree → IsFinishedFrom (whole_text whole.control p) tree
-finished-whole p whole tree is = subst (λ plain. IsFinishedFrom plain tree) whole.is is
+pub finished-whole : (globals : List Global) (p : inner.Program) {plain : Tree} (whole : IsWholeText globals p plain)
+    (tree : Tree) → IsFinishedFrom plain tree → IsFinishedFrom (whole_text whole.control globals p) tree
+finished-whole globals p whole tree is = subst (λ plain. IsFinishedFrom plain tree) whole.is is

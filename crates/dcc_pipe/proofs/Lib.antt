@@ -8,6 +8,7 @@ pub mod MatteringLaws
 pub mod StepPlaces
 pub mod ControlLaws
 pub mod AllowedItems
+pub mod GlobalLaws
 pub mod WholeTexts
 pub mod WritableWholes
 pub mod UnitLaws

@@ -23,7 +23,7 @@ use Rattle.dcc_ir.specs.Tree as inner
 use Rattle.dcc_ir.specs.Run as run
 use Rattle.dcc_ir.specs.Keeps.{has_block}
 use Rattle.dcc_lift.specs.Lifted.{steps_between, steps_at_start}
-use Rattle.dcc_c.specs.Tree.{Function, Tree}
+use Rattle.dcc_c.specs.Tree.{Global, Function, Tree}
 use Rattle.dcc_c.specs.Numbered.{numbered}
 use Rattle.dcc_c.specs.Run as c
 use Rattle.dcc_c.specs.Run.{text_system}
@@ -32,6 +32,7 @@ use Rattle.dcc_c.proofs.RunLaws.{text_lawful}
 use Rattle.dcc_plan.specs.Laws.{IsCountedBy}
 use Rattle.dcc_plan.proofs.PlanRuns.{programs-count}
 use Rattle.dcc_pipe.specs.Control.{Control, AreControls, keeps_step}
+use Rattle.dcc_pipe.specs.GlobalData.{AreGlobalsFor}
 use Rattle.dcc_pipe.specs.WholeText.{opened, whole_text, FitsText}
 use Rattle.dcc_pipe.specs.Agreement.{RunsAgree}
 use Rattle.dcc_pipe.specs.Following.{IsFollowing}
@@ -72,13 +73,15 @@ module _ {T : Type 0} (program : Program) (w : Watch) (other : System T) (t : T)
             record { end = ap (λ (s : Machine). s.end) (sym same) ∙ z.end; events = ap (λ (s : Machine). s.events) (sym same) ∙ z.events };
       }
 
-module _ (image : Image) (program : Program) (control : Control) (g : inner.Graph) (others : List inner.Graph)
+module _ (image : Image) (program : Program) (control : Control) (globals : List Global) (g : inner.Graph)
+    (others : List inner.Graph)
     (bytes_of : List ℕ) (lo hi : ℕ) (controls : AreControls control (with_first g others bytes_of lo hi))
     (is_program : IsProgramOf program.layout.cpu image program)
     (fits : FitsText (with_first g others bytes_of lo hi))
+    (data : AreGlobalsFor (with_first g others bytes_of lo hi) globals)
     (follows : IsFollowing image program (with_first g others bytes_of lo hi))
-    (text : List ℕ) (stands : StandsFor text (numbered (whole_text control (with_first g others bytes_of lo hi))))
-    (tokens : ℕ) (few : text_size (numbered (whole_text control (with_first g others bytes_of lo hi))).functions ≤ tokens)
+    (text : List ℕ) (stands : StandsFor text (numbered (whole_text control globals (with_first g others bytes_of lo hi))))
+    (tokens : ℕ) (few : text_size (numbered (whole_text control globals (with_first g others bytes_of lo hi))).functions ≤ tokens)
     (input : List ℕ) (fill : ℕ) (bytes : All (λ b. b < 256) input) (small : fill < 2 ^ 16) where
   abbrev p : inner.Program
   p = with_first g others bytes_of lo hi
@@ -87,7 +90,7 @@ module _ (image : Image) (program : Program) (control : Control) (g : inner.Grap
   layout = program.layout
 
   abbrev tree : Tree
-  tree = numbered (whole_text control p)
+  tree = numbered (whole_text control globals p)
 
   abbrev kept : ProgramPoint → Bool
   kept = keeps_step control p
@@ -102,12 +105,12 @@ module _ (image : Image) (program : Program) (control : Control) (g : inner.Grap
   together : IsCountedBy kept p tree start fill input tokens
   together =
       let well = fits.textable.formed in
-      let first-is = start-is control g others bytes_of lo hi well fits.few fits.apart fits.gives controls in
+      let first-is = start-is control globals g others bytes_of lo hi well fits.few fits.apart fits.gives controls data in
       subst (λ f. IsCountedBy kept p tree f fill input tokens) (first-is ∙ head-equal stands.allowed.first)
-      (programs-count opened (texts control g others bytes_of lo hi) p tree g others fill input kept
-      (whole-text control g others bytes_of lo hi well fits.few fits.apart fits.gives controls)
-      (whole-begins control g others bytes_of lo hi well fits.few fits.apart fits.gives controls)
-      (all-kept control g others bytes_of lo hi well fits.few fits.apart fits.gives controls) bytes unstuck tokens few)
+      (programs-count opened (texts control globals g others bytes_of lo hi) p tree g others fill input kept
+      (whole-text control globals g others bytes_of lo hi well fits.few fits.apart fits.gives controls data)
+      (whole-begins control globals g others bytes_of lo hi well fits.few fits.apart fits.gives controls data)
+      (all-kept control globals g others bytes_of lo hi well fits.few fits.apart fits.gives controls data) bytes unstuck tokens few)
 
   -- The machine watched, in the places of blocks.
   abbrev machine : Watched Watch ProgramPoint

@@ -23,7 +23,7 @@ use Rattle.dcc_c.specs.declared.syntax.Class.TheVariants.{Auto}
 use Rattle.dcc_c.specs.Placement.{is_auto}
 use Rattle.dcc_c.specs.Types.{plain}
 use Rattle.dcc_c.specs.Numbered.{numbered}
-use Rattle.dcc_c.specs.Tree.{Word, Variable, Function, Tree}
+use Rattle.dcc_c.specs.Tree.{Word, Global, Variable, Function, Tree}
 use Rattle.dcc_shape.specs.Carried.{UsesAddressesAlone}
 use Rattle.dcc_shape.specs.Shape.{HaveShape, nothing, one_more}
 use Rattle.dcc_variables.specs.FunctionLaws.{HasFewNames}
@@ -157,10 +157,10 @@ names-are (p ∷ ps) (g ∷ gs) frames = ap (λ ws. codes "start" ∷ ws) (other
 pub typed-tree : (ids : List ℕ) (image : Image) (program : Analysed) (p q r : Program)
     → IsProgramOfFile program.layout.cpu image program → IsLiftOf image program p → IsPrepared p q
     → HasEachChanged (IsTidiedGraph ids) q r → All HasFewNames r.graphs → (control : Control)
-    → (final : Tree) → IsKept (whole_text control r) final → (tree : Tree) → tree ≡ numbered final
+    (globals : List Global) (final : Tree) → IsKept (whole_text control globals r) final → (tree : Tree) → tree ≡ numbered final
     → (length (procedures_in program) ≡ length tree.functions)
     × (HaveShape (asked_of program) tree.functions → AreTypedFrames (procedures_in program) tree.functions)
-typed-tree ids image program p q r file of is tidy few control final kept tree same =
+typed-tree ids image program p q r file of is tidy few control globals final kept tree same =
     let translated : IsTranslated image program p = record { of_file = file; translation = of.translation } in
     let stand = prepared-stands image program p q file of is in
     let procedures = procedures_in program in
@@ -169,7 +169,7 @@ typed-tree ids image program p q r file of is tidy few control final kept tree s
     p.graphs q.graphs of.lifted.graphs (procedures-found image program p q file of is)
     (lifted-pass image program p translated) stand is.made.graphs in
     let frames = all-frames ids procedures q.graphs r.graphs stand move tidy.graphs in
-    let plain = whole_text control r in
+    let plain = whole_text control globals r in
     let before = (numbered plain).functions in
     let functions = (numbered final).functions in
     let are = all-numbered control _ r.graphs in

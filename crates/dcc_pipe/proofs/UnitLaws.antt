@@ -8,7 +8,7 @@ use Rattle.std.proofs.lemmas.List.Elements.{All-nil, All-cons, All-head, All-tai
 use Rattle.dcc_ir.specs.declared.syntax.Graph.{Graph as GraphOf}
 use Rattle.dcc_ir.specs.Views.{graph_of}
 use Rattle.dcc_c.specs.declared.syntax.Func.{Func}
-use Rattle.dcc_c.specs.Tree.{Word, Function, Tree}
+use Rattle.dcc_c.specs.Tree.{Word, Global, Function, Tree}
 use Rattle.dcc_control.specs.Plan.{Plan, no_items}
 use Rattle.dcc_ir.specs.declared.syntax.Loc.{Loc}
 use Rattle.dcc_ir.specs.declared.syntax.Param.{Param}
@@ -21,7 +21,6 @@ use Rattle.dcc_c.specs.Tree.{line}
 use Rattle.dcc_c.specs.Views.{function_of, stmt_of, lines_of}
 use Rattle.dcc_variables.specs.FunctionLaws.{HasFewNames}
 use Rattle.dcc_variables.specs.Functions.{function_name, function_shape, spelling_by, openings_from}
-use Rattle.dcc_variables.specs.Globals.{globals_of}
 use Rattle.dcc_variables.specs.Variables.{Shape}
 use Rattle.dcc_plan.specs.PlanText.{plan_text}
 use Rattle.dcc_pipe.specs.Lines.{fresh_line}
@@ -162,9 +161,9 @@ written-by control (g ∷ graphs) (f ∷ functions) all same =
     (written-by control graphs functions all.1 (tails-equal both))
 
 -- a tree is the text of a program whose functions are written one by one
-pub whole-from : (p : Program) (tree : Tree) → IsProgram p → tree.version ≡ 1 → tree.lo ≡ p.lo → tree.hi ≡ p.hi
-    → tree.globals ≡ globals_of p → AreFunctionsBy p.graphs tree.functions → IsWholeText p tree
-whole-from p tree well version lo hi globals are =
+pub whole-from : (known : List Global) (p : Program) (tree : Tree) → IsProgram p → tree.version ≡ 1 → tree.lo ≡ p.lo → tree.hi ≡ p.hi
+    → tree.globals ≡ known → AreFunctionsBy p.graphs tree.functions → IsWholeText known p tree
+whole-from known p tree well version lo hi globals are =
     let x = by p.graphs tree.functions well.entries are in
     record {
       control = x.0;

@@ -13,11 +13,10 @@ use Rattle.dcc_c.specs.Numbered.{rows, numbered, numbered_lines, numbered_functi
 use Rattle.dcc_c.specs.Placement.{is_auto, takes_address}
 use Rattle.dcc_c.specs.Rules as rules
 use Rattle.dcc_c.specs.Run.{function_in}
-use Rattle.dcc_c.specs.Tree.{Word, Function, Tree}
+use Rattle.dcc_c.specs.Tree.{Word, Global, Function, Tree}
 use Rattle.dcc_c.specs.Written.{written_globals}
 use Rattle.dcc_variables.specs.FunctionLaws.{HasFewNames}
 use Rattle.dcc_variables.specs.Functions.{function_name, function_names, function_spelling, openings, BeginsWith, IsFunctionOf}
-use Rattle.dcc_variables.specs.Globals.{globals_of}
 use Rattle.dcc_variables.proofs.ParamNames.{spelling-is}
 use Rattle.dcc_variables.proofs.Words.{known-differ-all}
 use Rattle.dcc_plan.specs.CallLaws.{IsBeginning}
@@ -27,6 +26,7 @@ use Rattle.dcc_plan.specs.Programs.{Texts, OpensWith, IsGraphText, open_setting,
 use Rattle.dcc_control.specs.Plan.{Plan}
 use Rattle.dcc_plan.proofs.TextLaws.{numbered-text}
 use Rattle.dcc_pipe.specs.Control.{Control, IsControlOf, AreControls, keeps_step}
+use Rattle.dcc_pipe.specs.GlobalData.{AreGlobalsFor}
 use Rattle.dcc_pipe.specs.WholeText.{opened, text_function, other_functions, text_functions, whole_text}
 use Rattle.dcc_pipe.proofs.MatteringLaws.{mattering, mattering-matters, matters-opened, opened-named}
 use Rattle.dcc_pipe.proofs.OpeningLines.{openings-assign, GoesOn, goes-on, after_lines, after-opens}
@@ -107,15 +107,15 @@ module _ (control : Control) where
 abbrev pub with_first : inner.Graph → List inner.Graph → List ℕ → ℕ → ℕ → inner.Program
 with_first first others image lo hi = record { graphs = first ∷ others; image = image; lo = lo; hi = hi }
 
-module _ (control : Control) (first : inner.Graph) (others : List inner.Graph) (image : List ℕ) (lo hi : ℕ) where
+module _ (control : Control) (globals : List Global) (first : inner.Graph) (others : List inner.Graph) (image : List ℕ) (lo hi : ℕ) where
   abbrev pub program : inner.Program
   program = with_first first others image lo hi
 
   abbrev pub tree : Tree
-  tree = numbered (whole_text control program)
+  tree = numbered (whole_text control globals program)
 
   abbrev pub head : ℕ
-  head = 3 + rows (written_globals None (globals_of program))
+  head = 3 + rows (written_globals None globals)
 
   abbrev pub start : Function
   start = numbered_function head (text_function (control first) (codes "start") first)
@@ -141,7 +141,8 @@ module _ (control : Control) (first : inner.Graph) (others : List inner.Graph) (
 
   module _ (well : IsProgram program) (few : All HasFewNames program.graphs)
       (apart : All (λ g. locations_differ (all_places g.params) ≡ true) program.graphs)
-      (gives : All (λ g. All GivesFew g.blocks) program.graphs) (controls : AreControls control program) where
+      (gives : All (λ g. All GivesFew g.blocks) program.graphs) (controls : AreControls control program)
+      (data : AreGlobalsFor program globals) where
     each-one : All (λ g. IsOneOf control g (function g)) program.graphs
     each-one = each-value start (IsOneOf control) program.graphs (start ∷ later) (all-numbered control head program.graphs) well.entries
 
@@ -215,7 +216,7 @@ module _ (control : Control) (first : inner.Graph) (others : List inner.Graph) (
     functions-differ : rules.all_differ (map (λ f. f.name) tree.functions) ≡ true
     functions-differ =
         differ-left (map (λ f. f.name) tree.functions) _
-        (differ-right (map (λ g. g.name) tree.globals) _ (known-differ-all program tree well refl all-names))
+        (differ-right (map (λ g. g.name) tree.globals) _ (known-differ-all program tree well data.names all-names))
 
     pub start-is : function first ≡ start
     start-is = ap (λ b. if b then start else value_for start others later first) (eq-eqb first.entry first.entry refl)
@@ -259,9 +260,8 @@ module _ (control : Control) (first : inner.Graph) (others : List inner.Graph) (
       well = well;
       functions = all-functions;
       start = subst (IsFunctionOf first (codes "start")) (sym start-is) refl;
-      lo = refl;
       hi = refl;
-      globals = refl;
+      memory = λ fill. data.memory tree fill refl refl refl;
     }
 
     pub all-kept : AreAllKept program texts (keeps_step control program)

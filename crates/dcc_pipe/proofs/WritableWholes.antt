@@ -19,7 +19,7 @@ use Rattle.dcc_c.specs.Grammar.{outermost, is_name}
 use Rattle.dcc_c.specs.Rules as rules
 use Rattle.dcc_c.specs.Rules.{declared_in, has_element, allows_stmt, shallow_stmt, allows_labels, IsAllowedFunction, AreAllowed, no_more as all_allowed, one_more as next_allowed}
 use Rattle.dcc_c.specs.Parts.{stmts_in}
-use Rattle.dcc_c.specs.Tree.{Word, Stmt, Assign, Lines, Variable, Function, Tree}
+use Rattle.dcc_c.specs.Tree.{Word, Stmt, Assign, Lines, Global, Variable, Function, Tree}
 use Rattle.dcc_c.proofs.Writable.{is_writable_param, is_writable_local, is_writable_function, is_writable_stmt, are_writable_lines, IsWritable}
 use Rattle.dcc_text.specs.Allowed.{AreDeclared, IsAllowedStmt}
 use Rattle.dcc_text.specs.Holding.{IsWithin}
@@ -28,7 +28,7 @@ use Rattle.dcc_sums.proofs.ArgumentLaws.{contains_flat}
 use Rattle.dcc_variables.specs.FunctionLaws.{HasFewNames, has_name, IsServedStmt, IsServedByFunction}
 use Rattle.dcc_variables.specs.Functions.{function_name, function_names, parameter_name, parameters_from, function_spelling, is_own, memory_from, function_shape, type_for, type_for_any, openings}
 use Rattle.dcc_variables.specs.Variables.{Shape, shape_of, variable, declarations, frame_array}
-use Rattle.dcc_variables.proofs.Declared.{globals-allowed, globals-off, globals-writable, globals-apart, locals-writable, locals-have-elements}
+use Rattle.dcc_variables.proofs.Declared.{locals-writable, locals-have-elements}
 use Rattle.dcc_variables.proofs.DeclaredFunctions.{parameter-word, function-declared}
 use Rattle.dcc_variables.proofs.FramePlaces.{fewer-bytes}
 use Rattle.dcc_variables.proofs.Served.{functions-served}
@@ -40,6 +40,7 @@ use Rattle.dcc_plan.proofs.AllowedCalls.{function-word, calls-allowed, openings-
 use Rattle.dcc_plan.proofs.AllowedPlans.{texts-allowed}
 use Rattle.dcc_plan.proofs.SpelledGraphs.{spelled-graph}
 use Rattle.dcc_pipe.specs.Control.{Control, IsControlOf, AreControls}
+use Rattle.dcc_pipe.specs.GlobalData.{AreGlobalsFor}
 use Rattle.dcc_tidy.specs.Tidied.{text_levels}
 use Rattle.dcc_pipe.specs.WholeText.{TakesFew, opened, before_lines, body_of, text_function, other_functions, whole_text}
 use Rattle.dcc_pipe.proofs.OpeningLines.{is_assignment, openings-assign}
@@ -134,12 +135,12 @@ found (x ∷ graphs) entry g is = by (x.entry == entry) refl is (found graphs en
 
 -- A program.
 
-module _ (control : Control) (first : inner.Graph) (others : List inner.Graph) (image : List ℕ) (lo hi : ℕ) where
+module _ (control : Control) (globals : List Global) (first : inner.Graph) (others : List inner.Graph) (image : List ℕ) (lo hi : ℕ) where
   abbrev program : inner.Program
   program = with_first first others image lo hi
 
   abbrev tree : Tree
-  tree = whole_text control program
+  tree = whole_text control globals program
 
   other-names : (graphs : List inner.Graph)
       → map (λ f. f.name) (other_functions control graphs) ≡ map (λ graph. function_name graph.entry) graphs
@@ -152,11 +153,11 @@ module _ (control : Control) (first : inner.Graph) (others : List inner.Graph) (
   module _ (well : IsProgram program) (few : All HasFewNames program.graphs)
       (shallow : All (λ g. All (λ e. depth_of e ≤ text_levels) (graph_exprs g)) program.graphs)
       (takes : All (λ g. All (λ b. All (TakesFew program) b.stmts) g.blocks) program.graphs)
-      (controls : AreControls control program) where
+      (controls : AreControls control program) (data : AreGlobalsFor program globals) where
     functions-differ : rules.all_differ (map (λ f. f.name) tree.functions) ≡ true
     functions-differ =
         differ-left (map (λ f. f.name) tree.functions) _
-        (differ-right (map (λ g. g.name) tree.globals) _ (known-differ-all program tree well refl all-names))
+        (differ-right (map (λ g. g.name) tree.globals) _ (known-differ-all program tree well data.names all-names))
 
     module _ (name : Word) (g : inner.Graph) (c : Contains program.graphs g) where
       abbrev f : Function
@@ -259,7 +260,7 @@ module _ (control : Control) (first : inner.Graph) (others : List inner.Graph) (
 
       function-allowed : IsAllowedFunction tree f
       function-allowed = record {
-        own_names = own-differ-all program tree well refl all-names g own-few.variables own-few.params formed f refl refl;
+        own_names = own-differ-all program tree well data.names all-names g own-few.variables own-few.params formed f refl refl;
         labels = body-allowed.labels;
         types = body-allowed.types;
         arrays = own-pass (λ v. has_element v.len) (shape_of g) (is_own g) (function_shape g).frame fewer (locals-have-elements g own-few.variables formed);
@@ -291,7 +292,7 @@ module _ (control : Control) (first : inner.Graph) (others : List inner.Graph) (
         let c = Contains-here first others in
         let rest = others-allowed others (λ g d. d) in record {
           version = refl;
-          globals = globals-writable program well.hi well.image;
+          globals = data.writable;
           functions = and_from (is_writable_function (text_function (control first) (codes "start") first)) (list_all is_writable_function (other_functions control others))
               (function-writable (codes "start") first c refl) rest.1;
           allowed = record {
@@ -301,12 +302,12 @@ module _ (control : Control) (first : inner.Graph) (others : List inner.Graph) (
             name = refl;
             no_params = ap (parameters_from first.bits 0) (All-head (λ (g : inner.Graph). g.params ≡ []) first [] well.start);
             no_result = no-type (all_ret_widths first) (All-head (λ (g : inner.Graph). All (λ widths. widths ≡ []) (all_ret_widths g)) first [] well.start_rets);
-            names = known-differ-all program tree well refl all-names;
+            names = known-differ-all program tree well data.names all-names;
             functions = next_allowed (function-allowed (codes "start") first c) rest.0;
             lo = omega (arith, well.lo);
             hi = omega (arith, well.hi);
-            globals = globals-allowed program well.hi;
-            apart = globals-apart program well.hi;
-            off_stack = globals-off program well.hi;
+            globals = data.allowed.allowed;
+            apart = data.allowed.apart;
+            off_stack = data.allowed.off_stack;
           };
         }

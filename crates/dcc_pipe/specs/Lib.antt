@@ -4,6 +4,7 @@ pub mod Prepared
 pub mod Standing
 pub mod Control
 pub mod Following
+pub mod GlobalData
 pub mod WholeText
 pub mod WrittenFunctions
 pub mod TypedFrames

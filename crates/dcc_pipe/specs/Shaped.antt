@@ -17,6 +17,7 @@ use Rattle.dcc_c.specs.Written.{written_form}
 use Rattle.dcc_shape.specs.Shape.{HaveShape, LacksShape}
 use Rattle.dcc_pipe.specs.Agreement.{IsTextOf}
 use Rattle.dcc_pipe.specs.Finished.{finished}
+use Rattle.dcc_pipe.specs.GlobalData.{globals_in}
 use Rattle.dcc_pipe.specs.Prepared.{IsPrepared}
 use Rattle.dcc_pipe.specs.Simplified.{HasEachChanged}
 use Rattle.dcc_tidy.specs.Tidied.{IsTidiedGraph}
@@ -51,7 +52,7 @@ pub record IsMadeOf (image : Image) (program : Analysed) (tree : Tree) : Type 0 
   pub ids : List ℕ
   pub is_tidy : HasEachChanged (IsTidiedGraph ids) ready tidy
   pub plain : Tree
-  pub is_text : IsWholeText tidy plain
+  pub is_text : IsWholeText (globals_in program.procs.items tidy) tidy plain
   pub is : tree ≡ numbered (finished plain)
 
 -- Nothing refuses the image, and a text that is made of the program in it, and agrees with it, lacks its shape first in

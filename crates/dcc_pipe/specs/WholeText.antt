@@ -1,4 +1,4 @@
--- The text of a program, with a function for each graph: the arrays of its image, and functions with the parameters and
+-- The text of a program, with a function for each graph: its global variables, and functions with the parameters and
 -- variables of their graphs, the assignments that open the bytes of arguments, and the text of a plan of the graph.
 use Rattle.std.specs.Prelude.{◌≡◌, ◌<◌, ◌≤◌, Bool, List, [], ◌∷◌, length, map, drop, codes, All, Some}
 use Rattle.dcc_ir.specs.declared.syntax.Loc.{Loc}
@@ -6,11 +6,10 @@ use Rattle.dcc_ir.specs.Tree.{Stmt as Statement, Call, Graph, Program}
 use Rattle.dcc_ir.specs.Run.{graph_at}
 use Rattle.dcc_ir.specs.WellFormed.{all_ret_widths}
 use Rattle.dcc_live.specs.Start.{begins_live}
-use Rattle.dcc_c.specs.Tree.{Word, Stmt, Lines, line, Function, Tree}
+use Rattle.dcc_c.specs.Tree.{Word, Stmt, Lines, line, Global, Function, Tree}
 use Rattle.dcc_control.specs.Plan.{Plan}
 use Rattle.dcc_plan.specs.Programs.{GivesFew}
 use Rattle.dcc_plan.specs.PlanText.{plan_text}
-use Rattle.dcc_variables.specs.Globals.{globals_of}
 use Rattle.dcc_variables.specs.FunctionLaws.{HasFewNames}
 use Rattle.dcc_variables.specs.Functions.{function_name, function_spelling, function_of, openings}
 use Rattle.dcc_pipe.specs.Control.{Control, AreControls}
@@ -44,21 +43,21 @@ text_functions control [] = []
 text_functions control (first ∷ others) =
     text_function (control first) (codes "start") first ∷ other_functions control others
 
--- the text of a program by the control
-abbrev pub whole_text : Control → Program → Tree
-whole_text control p = record {
+-- the text of a program by the control, with these global variables
+abbrev pub whole_text : Control → List Global → Program → Tree
+whole_text control globals p = record {
   version = 1;
   lo = p.lo;
   hi = p.hi;
-  globals = globals_of p;
+  globals = globals;
   functions = text_functions control p.graphs;
 }
 
--- The tree is a text of the program, whose control has a plan of each graph.
-pub record IsWholeText (p : Program) (tree : Tree) : Type 0 where
+-- The tree is a text of the program with these global variables, whose control has a plan of each graph.
+pub record IsWholeText (globals : List Global) (p : Program) (tree : Tree) : Type 0 where
   pub control : Control
   pub controls : AreControls control p
-  pub is : tree ≡ whole_text control p
+  pub is : tree ≡ whole_text control globals p
 
 -- A Call takes one value at most, of a graph that has a Ret.
 abbrev pub TakesFew : Program → Statement → Type 0

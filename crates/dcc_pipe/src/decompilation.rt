@@ -23,6 +23,9 @@ use crate::preparation::prepared;
 use crate::tidying::tidied;
 use crate::unit::unit_of;
 use dcc_c::Unit;
+use dcc_globals::{
+    first_memories_are_equal, globals_are_allowed, globals_are_writable, globals_have_names,
+};
 use dcc_instruction_demand::lifted_relations_are_the_machines;
 use dcc_kinds::{faults_are_constructs, summed_programs_have_none};
 use dcc_lift::lift;
@@ -59,7 +62,12 @@ fn text_of(
     summed_programs_have_none();
     let prepared = prepared(alloc, lifted)?;
     let tidied = tidied(alloc, prepared, rules)?;
-    let plain = unit_of(alloc, &tidied)?;
+    let plain = unit_of(alloc, &tidied, program.procs.as_slice())?;
+    // The text may declare its global variables, by the four laws that are called here.
+    globals_are_allowed();
+    globals_have_names();
+    globals_are_writable();
+    first_memories_are_equal();
     Ok(finished(alloc, &plain)?)
 }
 
@@ -101,8 +109,7 @@ fn shaped(alloc: Global, program: &Program, unit: Unit) -> Result<Unit, NoText>
     }
 }
 
-/// The text of a loaded program for a processor: its image outside the stack as arrays, and a function for each
-/// procedure, with variables for its values, an array for the local bytes of the frame that are in memory, and loops,
+/// The text of a loaded program for a processor: global variables for its data, and a function for each procedure, with variables for its values, an array for the local bytes of the frame that are in memory, and loops,
 /// tests, choices and jumps, with the lines where statements stand in the written form. Expressions are made simpler by
 /// the rules of a list; what is promised holds for every list. The written form stands for the unit's tree, whose run on
 /// every input and from every fill agrees with that of the program on the processor, as long as that is clean. The

@@ -9,6 +9,7 @@ ghost use Rattle.dcc_variables.specs.Functions.{function_shape};
 ghost use Rattle.dcc_variables.specs.Views.{shape_in};
 ghost use Rattle.dcc_variables.specs.FunctionLaws.{HasFewNames};
 ghost use Rattle.dcc_control.specs.Views.{plan_of};
+ghost use Rattle.dcc_pipe.specs.GlobalData.{globals_in};
 ghost use Rattle.dcc_pipe.specs.WholeText as spec;
 ghost use Rattle.dcc_pipe.specs.WholeText.{IsWholeText};
 ghost use Rattle.dcc_pipe.specs.WrittenFunctions.{IsFunctionBy, IsOwnFunction, AreFunctionsBy};
@@ -17,10 +18,12 @@ ghost use Rattle.dcc_pipe.specs.Lines.{fresh_line};
 use crate::control::control_of;
 use dcc_c::{CStmt, Func, Line, Unit};
 use dcc_control::Item;
+use dcc_globals::globals;
 use dcc_ir::{Graph, IrProgram};
 use dcc_live::live_at_start;
 use dcc_plan::plan_text::plan_text;
-use dcc_variables::{Head, function_name, image_arrays, openings, result_type};
+use dcc_prog::Proc;
+use dcc_variables::{Head, function_name, openings, result_type};
 use std::alloc::{AllocError, Global};
 
 // Each statement in a line that is not counted yet.
@@ -111,19 +114,20 @@ fn all_functions(alloc: Global, graphs: &[Graph]) -> Result<Vec<Func>, AllocErro
     Ok(funcs)
 }
 
-/// The text of a program, whose lines are not counted yet: the image outside the stack as arrays, and a function for
-/// each graph, with a variable for each location that it reads or writes, an array for the bytes of its frame that are
+/// The text of a program, whose lines are not counted yet: the global variables for its data segment, as the memory
+/// operands of these procedures access it, and a function for each graph, with a variable for each location that it reads or writes, an array for the bytes of its frame that are
 /// in memory, and the text of a plan of the graph. Numbers that 32 bits can't hold are told as want of memory.
-pub(crate) fn unit_of(alloc: Global, p: &IrProgram) -> Result<Unit, AllocError>
+pub(crate) fn unit_of(alloc: Global, p: &IrProgram, procs: &[Proc]) -> Result<Unit, AllocError>
     requires { IsProgram (program_of p.now) }
-    ensures text { IfOk result (λ unit. IsWholeText (program_of p.now) (tree_of unit)) }
+    ensures text { IfOk result
+        (λ unit. IsWholeText (globals_in procs.now (program_of p.now)) (program_of p.now) (tree_of unit)) }
     ensures few { OnOk result (All HasFewNames (program_of p.now).graphs) }
 {
     Ok(Unit {
         version: 1,
         lo: p.lo,
         hi: p.hi,
-        globals: image_arrays(alloc, p)?,
+        globals: globals(alloc, p.image.as_slice(), p.lo, p.hi, procs)?,
         funcs: all_functions(alloc, p.graphs.as_slice())?,
     })
 }

@@ -18,7 +18,6 @@ use Rattle.dcc_c.specs.Tree.{Function, Tree}
 use Rattle.dcc_c.specs.Value.{Binding}
 use Rattle.dcc_text.specs.Holding.{Locations, Holds, Setting, AreWaiting}
 use Rattle.dcc_text.proofs.FirstRuns.{opening}
-use Rattle.dcc_variables.proofs.Arrays.{memory-is}
 use Rattle.dcc_variables.specs.Functions.{parameters_from, function_spelling}
 use Rattle.dcc_plan.specs.CallLaws.{IsBeginning, FirstStatesStand}
 use Rattle.dcc_variables.specs.FunctionLaws.{has_name}
@@ -100,7 +99,7 @@ module _ (opens : Opens) (function : inner.Graph → Function) (matters : inner.
       begun.running refl (sym (ap (λ ps. values_after ps [] (filled g.bits fill)) no-params)) refl start.frame (ap first_base is.hi) variables-there in record {
         frame = frame-weaker (function_spelling g) Held (matters g first first.stmts) held begun.running first first.stmts true start.frame x;
         waiting = tt;
-        memory = memory-is p fill is.well.hi is.well.image tree is.lo is.hi is.globals;
+        memory = is.memory fill;
         input = refl;
         events = refl;
         end = refl;

@@ -13,7 +13,8 @@ use Rattle.dcc_c.specs.Numbered.{numbered_lines}
 use Rattle.dcc_c.specs.Tree.{Word, Lines, Tree}
 use Rattle.dcc_text.specs.Holding.{Locations, IsWithin}
 use Rattle.dcc_text.specs.Laws.{IsStep}
-use Rattle.dcc_variables.specs.Globals.{globals_of}
+use Rattle.dcc_c.specs.Run.{stack_memory}
+use Rattle.dcc_ir.specs.Run.{first_memory}
 use Rattle.dcc_variables.specs.Functions.{function_name, function_spelling, function_of, openings, openings_from, BeginsWith}
 use Rattle.dcc_plan.specs.CallLaws.{IsBeginning}
 use Rattle.dcc_variables.specs.FunctionLaws.{HasFewNames}
@@ -62,7 +63,7 @@ texts = record {
 }
 
 abbrev tree : Tree
-tree = record { version = 1; lo = p.lo; hi = p.hi; globals = globals_of p; functions = map texts.function p.graphs }
+tree = record { version = 1; lo = p.lo; hi = p.hi; globals = []; functions = map texts.function p.graphs }
 
 first-well : IsGraph first
 first-well = All-contains IsGraph p.graphs first well.graphs (0, lit< tt, refl)
@@ -182,4 +183,5 @@ whole = record {
 
 -- the first state of the example's text stands for the program's
 begins : IsBeginning opens (open_setting texts) p tree first (second ∷ [])
-begins = record { graphs = refl; well = well; functions = all-functions; start = refl; lo = refl; hi = refl; globals = refl }
+unfolding first_memory stack_memory
+begins = record { graphs = refl; well = well; functions = all-functions; start = refl; hi = refl; memory = λ fill. refl }

@@ -14,23 +14,21 @@ use Rattle.dcc_c.specs.Tree.{Lines, Tree}
 use Rattle.dcc_text.specs.Holding.{Setting, IsWithin, target_for}
 use Rattle.dcc_text.specs.Spelling.{Spelling}
 use Rattle.dcc_text.specs.Stmts.{stmt_text}
-use Rattle.dcc_variables.specs.Globals.{globals_of}
 use Rattle.dcc_variables.specs.Functions.{openings, BeginsWith, ret_text, IsFunctionOf}
 use Rattle.dcc_plan.specs.Calls.{Opens, AreFunctions, StandsFor, StandsThere, IsReadyCall}
 
 -- The start.
 
 -- What the text of a program needs for its first state: the program is well formed, this is its first graph, whose
--- function is `start`, and the text has the program's stack and the arrays of its image.
+-- function is `start`, and the text has the upper end of the program's stack, and from every fill its first memory.
 pub record IsBeginning (opens : Opens) (setting : Setting) (p : inner.Program) (tree : Tree) (first : inner.Graph)
     (others : List inner.Graph) : Type 0 where
   pub graphs : p.graphs ≡ first ∷ others
   pub well : IsProgram p
   pub functions : AreFunctions opens setting p tree
   pub start : IsFunctionOf first (codes "start") (setting.function first)
-  pub lo : tree.lo ≡ p.lo
   pub hi : tree.hi ≡ p.hi
-  pub globals : tree.globals ≡ globals_of p
+  pub memory : (fill : ℕ) → text_run.first_memory tree fill ≡ inner_run.first_memory p fill
 
 -- Where the text begins as the program does, its first state stands for the program's.
 abbrev pub FirstStatesStand : Opens → Setting → Type 0

@@ -32,11 +32,9 @@ use Rattle.dcc_text.specs.Holding.{Alike, Holds}
 use Rattle.dcc_text.proofs.FirstRuns.{opening, first_state-is}
 use Rattle.dcc_text.proofs.Sizes.{Size, bit, byte, word, long, bits, size-of}
 use Rattle.dcc_variables.specs.Variables.{locations, Shape, shape_of, variable_name, frame_name, variable, frame_array, declarations, frame_place, placed_at, graph_spelling}
-use Rattle.dcc_variables.specs.Globals.{globals_of}
 use Rattle.dcc_variables.specs.Laws.{AreFew}
 use Rattle.dcc_variables.proofs.Numbers.{locations-there}
 use Rattle.dcc_variables.proofs.Names.{names-same, frame-apart}
-use Rattle.dcc_variables.proofs.Arrays.{memory-is}
 
 among-first : (x : Loc) (xs : List Loc) → is_among (x ∷ xs) x ≡ true
 among-first x xs = or_left (same_location x x) (is_among xs x) (location_itself x)
@@ -202,8 +200,8 @@ module _ (g : inner.Graph) (few : AreFew (shape_of g)) (formed : IsGraph g) wher
       ]
 
   module _ (p : inner.Program) (one : p.graphs ≡ g ∷ []) (whole : IsProgram p) (tree : Tree) (f : Function) (AreAlike : Alike) (alike : AreAlike [] [])
-      (lo_is : tree.lo ≡ p.lo) (hi_is : tree.hi ≡ p.hi) (globals_are : tree.globals ≡ globals_of p)
-      (no_params : f.params ≡ []) (locals : f.locals ≡ declarations shape) (fill : ℕ) (input : List ℕ) where
+      (hi_is : tree.hi ≡ p.hi) (no_params : f.params ≡ []) (locals : f.locals ≡ declarations shape) (fill : ℕ)
+      (memory_is : c.first_memory tree fill ≡ run.first_memory p fill) (input : List ℕ) where
     abbrev base : ℕ
     base = (p.hi + 2) % 65536
 
@@ -224,7 +222,7 @@ module _ (g : inner.Graph) (few : AreFew (shape_of g)) (formed : IsGraph g) wher
         places = place-is fill _ base frame-are;
       };
       waiting = alike;
-      memory = memory-is p fill whole.hi whole.image tree lo_is hi_is globals_are;
+      memory = memory_is;
       input = refl;
       events = refl;
       end = refl;

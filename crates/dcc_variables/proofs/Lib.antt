@@ -1,4 +1,3 @@
-pub mod Arrays
 pub mod Lists
 pub mod Numbers
 pub mod Names

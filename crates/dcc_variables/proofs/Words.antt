@@ -1,6 +1,6 @@
 -- The names of a text differ: each kind begins in its own way, and within a kind numbers and offsets differ.
-use Rattle.std.proofs.Common.{◌≡◌, ℕ, Some, ◌+◌, ◌<◌, ◌^◌, Bool, true, false, ◌==◌, inl, inr, List, [], ◌∷◌, ◌++◌, length, map, append_assoc, refl, sym, ap, ◌∙◌, true≢false, arith}
-use Rattle.std.specs.Prelude.{◌&&◌, not, filter, codes, if◌then◌else◌, All}
+use Rattle.std.proofs.Common.{◌≡◌, ℕ, Some, ◌+◌, ◌<◌, ◌^◌, Bool, true, false, ◌==◌, inl, inr, List, [], ◌∷◌, ◌++◌, length, map, append_assoc, refl, sym, ap, ◌∙◌, true≢false, eqb-true, arith}
+use Rattle.std.specs.Prelude.{◌&&◌, ◌||◌, not, filter, codes, if◌then◌else◌, All}
 use Rattle.std.specs.List.{list_all, list_any}
 use Rattle.std.proofs.lemmas.Bool.{and_from, and_parts, eqb-false, not-true, not_from_false, or_from, or_parts, false_from_ne_true}
 use Rattle.std.proofs.lemmas.List.{append-nil}
@@ -21,10 +21,10 @@ use Rattle.dcc_c.specs.Rules.{all_differ, names_of, known_names, own_variables}
 use Rattle.dcc_c.specs.Token.{same_bytes}
 use Rattle.dcc_c.specs.Tree.{Word, Global, Variable, Function, Tree}
 use Rattle.dcc_text.proofs.HexLaws.{name_at-differ}
-use Rattle.dcc_variables.specs.Globals.{array_of, bytes_below, bytes_above, globals_of}
+use Rattle.dcc_variables.specs.Globals.{is_data_name, HaveNames}
 use Rattle.dcc_variables.specs.Laws.{AreFew}
 use Rattle.dcc_variables.specs.Variables.{locations, Shape, shape_of, frame_name, variable, frame_array, declarations}
-use Rattle.dcc_variables.proofs.Declared.{own-differ, known-differ, all_names}
+use Rattle.dcc_variables.proofs.Declared.{own-differ}
 use Rattle.dcc_variables.specs.Functions.{function_name, function_names, parameter_name, parameters_from, parameters, memory_from, is_own, function_shape, own_declarations}
 use Rattle.dcc_variables.proofs.FramePlaces.{fewer-bytes}
 use Rattle.dcc_variables.proofs.ParamNames.{places-apart}
@@ -96,9 +96,22 @@ abbrev begins : ℕ → Word → Bool
 begins byte [] = false
 begins byte (b ∷ word) = b == byte
 
-abbrev is_array_name : Word → Bool
-is_array_name (a ∷ b ∷ word) = (a == 100) && (b == 95)
-is_array_name word = false
+-- names of global variables begin otherwise than with these
+data-otherwise : (byte : ℕ) → (byte == 103) ≡ false → (byte == 100) ≡ false → (word : Word) → is_data_name word ≡ true → not (begins byte word) ≡ true
+data-otherwise byte one two [] is = absurd (true≢false (sym is))
+data-otherwise byte one two (a ∷ []) is = absurd (true≢false (sym is))
+data-otherwise byte one two (a ∷ b ∷ word) is =
+    not_from_false (a == byte) (false_from_ne_true _ (λ same.
+    let e = eqb-true a byte same in
+    let none : ((a == 103) || (a == 100)) ≡ false =
+    or_from (a == 103) (a == 100) (ap (λ x. x == 103) e ∙ one) (ap (λ x. x == 100) e ∙ two) in
+    true≢false (sym (and_parts ((a == 103) || (a == 100)) (b == 95) is).0 ∙ none)))
+
+all-pass : (test more : Word → Bool) → ((word : Word) → test word ≡ true → more word ≡ true) → (words : List Word) → Passes test words → Passes more words
+all-pass test more each [] pass = refl
+all-pass test more each (w ∷ words) pass =
+    let (here, rest) = and_parts (test w) (list_all test words) pass in
+    and_from (more w) (list_all more words) (each w here) (all-pass test more each words rest)
 
 -- Functions.
 
@@ -138,36 +151,30 @@ functions-known (g ∷ graphs) are differ =
 
 -- All known names.
 
-array-words : (p : Program) → List Word
-array-words p = map (λ (x : Global). x.name) (globals_of p)
-
-arrays-begin : (test : Word → Bool) → ((word : Word) → test (100 ∷ 95 ∷ word) ≡ true) → (hi : ℕ) (low high : List ℕ) → Passes test (map (λ (x : Global). x.name) (array_of 0 low ++ array_of hi high))
-arrays-begin test each hi [] [] = refl
-arrays-begin test each hi [] (b ∷ high) = and_from _ true (each _) refl
-arrays-begin test each hi (a ∷ low) [] = and_from _ true (each _) refl
-arrays-begin test each hi (a ∷ low) (b ∷ high) = and_from _ _ (each _) (and_from _ true (each _) refl)
-
 functions-begin : (test : Word → Bool) → test (codes "start") ≡ true → ((entry : ℕ) → test (function_name entry) ≡ true) → Passes test dos_names → (graphs : List Graph)
     → Passes test (function_names graphs ++ dos_names)
 functions-begin test start each dos [] = dos
 functions-begin test start each dos (g ∷ graphs) =
     and_from (test (codes "start")) _ start (list_all-append test (map (λ (x : Graph). function_name x.entry) graphs) dos_names ∙ and_from _ _ (all-functions test each graphs) dos)
 
-module _ (p : Program) (well : IsProgram p) where
+module _ (gs : List Global) (have : HaveNames gs) (p : Program) (well : IsProgram p) where
+  abbrev data : List Word
+  data = map (λ (x : Global). x.name) gs
+
   abbrev pub known : List Word
-  known = map (λ (x : Global). x.name) (globals_of p) ++ (function_names p.graphs ++ dos_names)
+  known = data ++ (function_names p.graphs ++ dos_names)
 
   pub known-apart : all_differ known ≡ true
   known-apart =
-      differ-join is_array_name (map (λ (x : Global). x.name) (globals_of p)) (function_names p.graphs ++ dos_names)
-      (arrays-begin is_array_name (λ word. refl) p.hi (bytes_below p) (bytes_above p)) (functions-begin (λ w. not (is_array_name w)) refl (λ entry. refl) refl p.graphs)
-      (differ-first (map (λ (x : Global). x.name) (globals_of p)) (codes "start" ∷ dos_names) (known-differ p well.hi)) (functions-known p.graphs well.graphs well.entries)
+      differ-join is_data_name data (function_names p.graphs ++ dos_names)
+      have.begin (functions-begin (λ w. not (is_data_name w)) refl (λ entry. refl) refl p.graphs)
+      have.differ (functions-known p.graphs well.graphs well.entries)
 
   -- all known names begin otherwise than parameters and variables
-  known-begin : (test : Word → Bool) → ((word : Word) → test (100 ∷ 95 ∷ word) ≡ true) → test (codes "start") ≡ true → ((entry : ℕ) → test (function_name entry) ≡ true) → Passes test dos_names → Passes test known
-  known-begin test array start each dos =
-      list_all-append test (map (λ (x : Global). x.name) (globals_of p)) (function_names p.graphs ++ dos_names)
-      ∙ and_from _ _ (arrays-begin test array p.hi (bytes_below p) (bytes_above p)) (functions-begin test start each dos p.graphs)
+  known-begin : (test : Word → Bool) → ((word : Word) → is_data_name word ≡ true → test word ≡ true) → test (codes "start") ≡ true → ((entry : ℕ) → test (function_name entry) ≡ true) → Passes test dos_names → Passes test known
+  known-begin test each start entries dos =
+      list_all-append test data (function_names p.graphs ++ dos_names)
+      ∙ and_from _ _ (all-pass is_data_name test each data have.begin) (functions-begin test start entries dos p.graphs)
 
 -- Parameters.
 
@@ -222,11 +229,11 @@ module _ (g : Graph) (few : AreFew (shape_of g)) (few_params : length g.params <
       by false = and_from _ true (each _) refl
   own-begin test each (x ∷ xs) = and_from _ _ (each _) (own-begin test each xs)
 
-  module _ (p : Program) (well : IsProgram p) where
+  module _ (gs : List Global) (have : HaveNames gs) (p : Program) (well : IsProgram p) where
     -- the names with the array of all addresses differ, so those without an array do
     names-apart : all_differ (own_names (locations g)) ≡ true
     names-apart =
-        let all = ap all_differ (sym (own-is shape.frame (locations g))) ∙ differ-first (names_of (declarations shape)) (all_names (globals_of p)) (own-differ g few formed_graph p well.hi) in
+        let all = ap all_differ (sym (own-is shape.frame (locations g))) ∙ own-differ g few formed_graph in
         elim (fewer-bytes (memory_from 0 g.params) g) [
           | inl none ↦
               ap (λ count. all_differ (names_with count (locations g))) none
@@ -242,31 +249,30 @@ module _ (g : Graph) (few : AreFew (shape_of g)) (few_params : length g.params <
     abbrev own : List Word
     own = own_names (filter (is_own g) (locations g))
 
-    pub all-apart : all_differ (names_of (parameters g ++ own_declarations g) ++ known p well) ≡ true
+    pub all-apart : all_differ (names_of (parameters g ++ own_declarations g) ++ known gs have p well) ≡ true
     all-apart =
         let names = names_of (parameters g) in
-        ap (λ ws. all_differ (ws ++ known p well)) (names-append (parameters g) (own_declarations g) ∙ ap (λ ws. names ++ ws) (own-is bytes (filter (is_own g) (locations g))))
-        ∙ ap all_differ (append_assoc names own (known p well))
-        ∙ differ-join (begins 112) names (own ++ known p well) (parameters-begin (begins 112) (λ place. refl) g.bits 0 g.params)
-        (list_all-append (λ w. not (begins 112 w)) own (known p well) ∙ and_from _ _ (own-begin (λ w. not (begins 112 w)) (λ word. refl) (filter (is_own g) (locations g)))
-        (known-begin p well (λ w. not (begins 112 w)) (λ word. refl) refl (λ entry. refl) refl)) (parameters-differ g.bits 0 g.params (omega (arith, few_params)))
-        (differ-join (begins 118) own (known p well) (own-begin (begins 118) (λ word. refl) (filter (is_own g) (locations g)))
-        (known-begin p well (λ w. not (begins 118 w)) (λ word. refl) refl (λ entry. refl) refl) own-apart (known-apart p well))
+        ap (λ ws. all_differ (ws ++ known gs have p well)) (names-append (parameters g) (own_declarations g) ∙ ap (λ ws. names ++ ws) (own-is bytes (filter (is_own g) (locations g))))
+        ∙ ap all_differ (append_assoc names own (known gs have p well))
+        ∙ differ-join (begins 112) names (own ++ known gs have p well) (parameters-begin (begins 112) (λ place. refl) g.bits 0 g.params)
+        (list_all-append (λ w. not (begins 112 w)) own (known gs have p well) ∙ and_from _ _ (own-begin (λ w. not (begins 112 w)) (λ word. refl) (filter (is_own g) (locations g)))
+        (known-begin gs have p well (λ w. not (begins 112 w)) (data-otherwise 112 refl refl) refl (λ entry. refl) refl)) (parameters-differ g.bits 0 g.params (omega (arith, few_params)))
+        (differ-join (begins 118) own (known gs have p well) (own-begin (begins 118) (λ word. refl) (filter (is_own g) (locations g)))
+        (known-begin gs have p well (λ w. not (begins 118 w)) (data-otherwise 118 refl refl) refl (λ entry. refl) refl) own-apart (known-apart gs have p well))
 
 -- The names of a text.
 
-module _ (p : Program) (tree : Tree) (well : IsProgram p) (globals : tree.globals ≡ globals_of p) (functions : map (λ (f : Function). f.name) tree.functions ≡ function_names p.graphs) where
-  known-is : known_names tree ≡ known p well
-  known-is =
-      ap (λ gs. map (λ (x : Global). x.name) gs ++ (map (λ (f : Function). f.name) tree.functions ++ dos_names)) globals
-      ∙ ap (λ ws. map (λ (x : Global). x.name) (globals_of p) ++ (ws ++ dos_names)) functions
+module _ (p : Program) (tree : Tree) (well : IsProgram p) (have : HaveNames tree.globals) (functions : map (λ (f : Function). f.name) tree.functions ≡ function_names p.graphs) where
+  known-is : known_names tree ≡ known tree.globals have p well
+  known-is = ap (λ ws. map (λ (x : Global). x.name) tree.globals ++ (ws ++ dos_names)) functions
 
   pub known-differ-all : all_differ (known_names tree) ≡ true
-  known-differ-all = ap all_differ known-is ∙ known-apart p well
+  known-differ-all = ap all_differ known-is ∙ known-apart tree.globals have p well
 
   pub own-differ-all : (g : Graph) → AreFew (shape_of g) → length g.params < 2 ^ 32 → IsGraph g → (f : Function) → f.params ≡ parameters g → f.locals ≡ own_declarations g
       → all_differ (names_of (own_variables f) ++ known_names tree) ≡ true
   own-differ-all g few few_params formed_graph f params locals =
       ap (λ ws. all_differ (names_of (own_variables f) ++ ws)) known-is
-      ∙ ap (λ vs. all_differ (names_of (vs ++ f.locals) ++ known p well)) params ∙ ap (λ vs. all_differ (names_of (parameters g ++ vs) ++ known p well)) locals
-      ∙ all-apart g few few_params formed_graph p well
+      ∙ ap (λ vs. all_differ (names_of (vs ++ f.locals) ++ known tree.globals have p well)) params
+      ∙ ap (λ vs. all_differ (names_of (parameters g ++ vs) ++ known tree.globals have p well)) locals
+      ∙ all-apart g few few_params formed_graph tree.globals have p well

@@ -8,7 +8,7 @@ use Rattle.dcc_c.specs.Tree.{Function, Tree}
 use Rattle.dcc_text.specs.Allowed.{AreDeclared}
 use Rattle.dcc_text.specs.Holding.{Locations, IsSpelling, IsWithin}
 use Rattle.dcc_variables.specs.Functions.{function_names, parameters, function_spelling, own_declarations}
-use Rattle.dcc_variables.specs.Globals.{globals_of}
+use Rattle.dcc_variables.specs.Globals.{HaveNames}
 use Rattle.dcc_variables.specs.Laws.{AreFew}
 use Rattle.dcc_variables.specs.Variables.{shape_of}
 
@@ -31,15 +31,15 @@ FunctionNamesAreDeclared = (graph : inner.Graph) (tree : Tree) (f : Function) �
     → f.params ≡ parameters graph → f.locals ≡ own_declarations graph
     → AreDeclared (declared_in tree f) (function_spelling graph)
 
--- The arrays of a program's image and the functions of its graphs have names of their own.
+-- Global variables that have names of their own, and the functions of a program's graphs, have different names.
 abbrev pub KnownNamesDiffer : Type 0
-KnownNamesDiffer = (p : inner.Program) (tree : Tree) → IsProgram p → tree.globals ≡ globals_of p
+KnownNamesDiffer = (p : inner.Program) (tree : Tree) → IsProgram p → HaveNames tree.globals
     → map (λ f. f.name) tree.functions ≡ function_names p.graphs → all_differ (known_names tree) ≡ true
 
--- The parameters and the variables of each function have names of their own.
+-- The parameters and the variables of each function have names of their own, where the global variables do.
 abbrev pub OwnNamesDiffer : Type 0
 OwnNamesDiffer = (p : inner.Program) (graph : inner.Graph) (tree : Tree) (f : Function) → IsProgram p → IsGraph graph
-    → HasFewNames graph → tree.globals ≡ globals_of p
+    → HasFewNames graph → HaveNames tree.globals
     → map (λ f. f.name) tree.functions ≡ function_names p.graphs
     → f.params ≡ parameters graph → f.locals ≡ own_declarations graph
     → all_differ (names_of (own_variables f) ++ known_names tree) ≡ true

@@ -1,37 +1,15 @@
--- The global variables of a text: the bytes of the program's image outside the stack, as arrays.
-use Rattle.std.specs.Prelude.{ℕ, ◌==◌, min, if◌then◌else◌, List, [], ◌∷◌, ◌++◌, length, take, drop, codes, Some}
+-- The names of a text's global variables.
+use Rattle.std.specs.Prelude.{◌≡◌, ◌==◌, Bool, true, false, ◌&&◌, ◌||◌, List, [], ◌∷◌, map}
 use Rattle.std.specs.List.{list_all}
-use Rattle.dcc_ir.specs.Tree.{Program}
-use Rattle.dcc_c.specs.declared.syntax.Base.TheVariants.{Uchar}
-use Rattle.dcc_c.specs.Types.{plain}
+use Rattle.dcc_c.specs.Rules.{all_differ}
 use Rattle.dcc_c.specs.Tree.{Word, Global}
-use Rattle.dcc_text.specs.Hex.{name_at}
 
--- the name of the array at an address, below 65536: four digits in hexadecimal
-abbrev pub array_name : ℕ → Word
-array_name at = name_at (codes "d_") at
+-- the names begin with `g_` or `d_`, as those of functions, parameters and other variables don't
+abbrev pub is_data_name : Word → Bool
+is_data_name (a ∷ b ∷ word) = ((a == 103) || (a == 100)) && (b == 95)
+is_data_name word = false
 
--- the initial values of an array with the bytes: none where all of them are 0
-abbrev pub initial_values : List ℕ → List ℕ
-initial_values bytes = if list_all (λ byte. byte == 0) bytes then [] else bytes
-
--- the array of the bytes at an address, if there are any
-abbrev pub array_of : ℕ → List ℕ → List Global
-array_of at [] = []
-array_of at (byte ∷ bytes) = record {
-  name = array_name at;
-  at = at;
-  type = plain Uchar;
-  len = Some (length (byte ∷ bytes));
-  init = initial_values (byte ∷ bytes);
-} ∷ []
-
--- the bytes of the image below the stack; `bytes_above`: those from the stack's upper end on
-abbrev pub bytes_below : Program → List ℕ
-bytes_below p = take (min p.lo p.hi) p.image
-
-abbrev pub bytes_above : Program → List ℕ
-bytes_above p = drop p.hi (take 65536 p.image)
-
-abbrev pub globals_of : Program → List Global
-globals_of p = array_of 0 (bytes_below p) ++ array_of p.hi (bytes_above p)
+-- The global variables have names of their own.
+pub record HaveNames (globals : List Global) : Type 0 where
+  pub begin : list_all is_data_name (map (λ g. g.name) globals) ≡ true
+  pub differ : all_differ (map (λ g. g.name) globals) ≡ true

@@ -1,19 +1,17 @@
 -- Laws of the variables of a text.
 use Rattle.std.specs.Prelude.{◌≡◌, ℕ, ◌<◌, ◌≤◌, ◌^◌, true, false, List, [], ◌∷◌, length, All}
-use Rattle.std.specs.List.{list_all}
 use Rattle.dcc_ir.specs.Families.{Family}
 use Rattle.dcc_ir.specs.Run as run
 use Rattle.dcc_ir.specs.Tree as inner
 use Rattle.dcc_ir.specs.Use.{exit_exprs}
 use Rattle.dcc_ir.specs.WellFormed.{IsGraph, IsProgram}
-use Rattle.dcc_c.specs.Rules.{declared_in, allows_global, all_apart, is_off_stack}
+use Rattle.dcc_c.specs.Rules.{declared_in}
 use Rattle.dcc_c.specs.Run as c
 use Rattle.dcc_c.specs.Tree.{Function, Tree}
 use Rattle.dcc_text.specs.Allowed.{AreDeclared}
 use Rattle.dcc_text.specs.Holding.{Locations, Alike, IsSpelling, Holds, IsWithin}
 use Rattle.dcc_text.specs.Laws.{IsStep}
 use Rattle.dcc_variables.specs.Variables.{Shape, shape_of, declarations, graph_spelling}
-use Rattle.dcc_variables.specs.Globals.{globals_of}
 
 -- Each variable has a number of 64 bits, and the array of the frame's bytes ends within memory.
 pub record AreFew (shape : Shape) : Type 0 where
@@ -38,25 +36,12 @@ abbrev pub NamesAreDeclared : Type 0
 NamesAreDeclared = (graph : inner.Graph) (tree : Tree) (f : Function) → IsGraph graph → AreFew (shape_of graph)
     → f.params ≡ [] → f.locals ≡ declarations (shape_of graph) → AreDeclared (declared_in tree f) (graph_spelling graph)
 
--- The arrays of a program's image end within memory, lie apart and off the stack.
-pub record AreArraysAllowed (p : inner.Program) : Type 0 where
-  pub allowed : list_all allows_global (globals_of p) ≡ true
-  pub apart : all_apart (globals_of p) ≡ true
-  pub off_stack : list_all (is_off_stack p.lo p.hi) (globals_of p) ≡ true
-
-abbrev pub ArraysAreAllowed : Type 0
-ArraysAreAllowed = (p : inner.Program) → p.hi < 65536 → AreArraysAllowed p
-
--- The first memory of a text with the arrays of a program's image is the program's, from every fill.
-abbrev pub FirstMemoriesAreEqual : Type 0
-FirstMemoriesAreEqual = (p : inner.Program) (tree : Tree) (fill : ℕ) → p.hi < 65536 → All (λ byte. byte < 256) p.image
-    → tree.lo ≡ p.lo → tree.hi ≡ p.hi → tree.globals ≡ globals_of p → c.first_memory tree fill ≡ run.first_memory p fill
-
--- The first state of a text with the variables and arrays of a program of one graph stands for the program's.
+-- The first state of a text with the variables of a program of one graph, and with its first memory, stands for the
+-- program's.
 abbrev pub FirstStatesHold : Alike → Type 0
 FirstStatesHold AreAlike = (p : inner.Program) (graph : inner.Graph) (tree : Tree) (f : Function) (fill : ℕ)
     (input : List ℕ) → AreAlike [] [] → p.graphs ≡ graph ∷ [] → IsProgram p → AreFew (shape_of graph)
-    → tree.lo ≡ p.lo → tree.hi ≡ p.hi → tree.globals ≡ globals_of p → f.params ≡ []
+    → tree.hi ≡ p.hi → c.first_memory tree fill ≡ run.first_memory p fill → f.params ≡ []
     → f.locals ≡ declarations (shape_of graph)
     → Holds (graph_spelling graph) (named graph) AreAlike (run.first_state p fill input) (c.first_state tree f fill input)
 

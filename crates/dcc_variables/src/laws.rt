@@ -4,8 +4,7 @@ ghost use Rattle.dcc_text.specs.Holding.{Alike};
 ghost use Rattle.dcc_variables.specs.Addresses.{BodiesTakeWhatStatementsTake, TextsTakeNoAddress};
 ghost use Rattle.dcc_variables.specs.FunctionLaws.{FunctionNamesDiffer, FunctionNamesAreDeclared};
 ghost use Rattle.dcc_variables.specs.FunctionLaws.{KnownNamesDiffer, OwnNamesDiffer, FunctionsAreServed};
-ghost use Rattle.dcc_variables.specs.Laws.{NamesDiffer, NamesAreDeclared, ArraysAreAllowed};
-ghost use Rattle.dcc_variables.specs.Laws.{FirstMemoriesAreEqual, FirstStatesHold, GraphsAreServed};
+ghost use Rattle.dcc_variables.specs.Laws.{NamesDiffer, NamesAreDeclared, FirstStatesHold, GraphsAreServed};
 
 /// Variables of different locations have different names, and the array has another one.
 pub fn names_differ()
@@ -17,22 +16,12 @@ pub fn names_are_declared()
     ensures { NamesAreDeclared }
 {}
 
-/// The arrays of a program's image keep to the rules of texts.
-pub fn arrays_are_allowed()
-    ensures { ArraysAreAllowed }
-{}
-
-/// The first memory of a text with the arrays of a program's image is the program's.
-pub fn first_memories_are_equal()
-    ensures { FirstMemoriesAreEqual }
-{}
-
 /// What holds of calls that wait.
 pub trait SomeAlike {
     ghost alike: { Alike };
 }
 
-/// The first state of a program's text stands for the program's.
+/// The first state of a program's text with the program's first memory stands for the program's.
 pub fn first_states_hold<A: SomeAlike>()
     ensures { FirstStatesHold A.alike }
 {}
@@ -52,12 +41,12 @@ pub fn function_names_are_declared()
     ensures { FunctionNamesAreDeclared }
 {}
 
-/// The arrays of a program's image and the functions of its graphs have names of their own.
+/// Global variables that have names of their own, and the functions of a program's graphs, have different names.
 pub fn known_names_differ()
     ensures { KnownNamesDiffer }
 {}
 
-/// The parameters and variables of each function have names of their own.
+/// The parameters and variables of each function have names of their own, where the global variables do.
 pub fn own_names_differ()
     ensures { OwnNamesDiffer }
 {}

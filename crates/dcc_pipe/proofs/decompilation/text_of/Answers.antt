@@ -4,7 +4,10 @@ use Rattle.dcc_stack.specs.Accepted.{IsProgramOfFile}
 use Rattle.dcc_ir.specs.Views.{program_of}
 use Rattle.dcc_rules.specs.Views.{numbers_of}
 use Rattle.dcc_pipe.specs.WholeText.{whole_text}
+use Rattle.dcc_globals.specs.Pieces.{operands_of}
 use Rattle.dcc_pipe.specs.Finished.{finished}
+use Rattle.dcc_pipe.specs.GlobalData.{globals_in}
+use Rattle.dcc_pipe.proofs.GlobalLaws.{globals-for}
 use Rattle.dcc_pipe.proofs.FinishedTexts.{finished-whole}
 use Rattle.dcc_pipe.proofs.PipeLaws.{whole-is-writable, text-is}
 use Rattle.dcc_pipe.proofs.PreparedFits.{left-simplified, prepared-fits}
@@ -40,13 +43,16 @@ returns-clause-text g c =
     let is = c.in_ok-prepared.ensures.ready in
     let tidy = c.in_ok-tidied.ensures in
     let ids = numbers_of c.args.rules.now in
+    let gs = globals_in c.args.program.now.procs.items r in
     let whole = c.in_ok-plain.ensures.text in
     let fits = prepared-fits p q is ids r tidy c.in_ok-plain.ensures.few in
     let file : IsProgramOfFile program.layout.cpu image program =
     record { loaded = c.requires.loaded; is_program = c.requires.program } in
     let pace = tidied-paced ids image program p q r file c.in_ok-lifted.ensures.lifted is tidy in
-    let made = finished-whole r whole _ c.in_ok-finished.ensures in
-    text-is image program c.requires.program whole.control (finished (whole_text whole.control r)) r fits whole.controls
+    let made = finished-whole gs r whole _ c.in_ok-finished.ensures in
+    text-is image program c.requires.program whole.control gs (finished (whole_text whole.control gs r)) r fits whole.controls
+    (globals-for c.globals_are_allowed.ensures c.globals_have_names.ensures c.globals_are_writable.ensures
+    c.first_memories_are_equal.ensures r (operands_of program.procs.items) fits.textable.formed.image)
     (left-follows image program p r c.in_ok-lifted.ensures.lifted.lifted (left-simplified p q is ids r tidy) pace)
     made.kept _ made.is
 
@@ -62,31 +68,34 @@ returns-clause-typed g c =
     let p = program_of c.in_ok-lifted.lifted in
     let q = program_of c.in_ok-prepared.prepared in
     let r = program_of c.in_ok-tidied.tidied in
+    let gs = globals_in c.args.program.now.procs.items r in
     let whole = c.in_ok-plain.ensures.text in
-    let made = finished-whole r whole _ c.in_ok-finished.ensures in
+    let made = finished-whole gs r whole _ c.in_ok-finished.ensures in
     (typed-tree (numbers_of c.args.rules.now) c.args.image.now c.args.program.now p q r
     (record { loaded = c.requires.loaded; is_program = c.requires.program }) c.in_ok-lifted.ensures.lifted
-    c.in_ok-prepared.ensures.ready c.in_ok-tidied.ensures c.in_ok-plain.ensures.few whole.control
-    (finished (whole_text whole.control r)) made.kept _ made.is).1
+    c.in_ok-prepared.ensures.ready c.in_ok-tidied.ensures c.in_ok-plain.ensures.few whole.control gs
+    (finished (whole_text whole.control gs r)) made.kept _ made.is).1
 
 pub returns-clause-as_many : goal.returns-clause-as_many
 returns-clause-as_many g c =
     let p = program_of c.in_ok-lifted.lifted in
     let q = program_of c.in_ok-prepared.prepared in
     let r = program_of c.in_ok-tidied.tidied in
+    let gs = globals_in c.args.program.now.procs.items r in
     let whole = c.in_ok-plain.ensures.text in
-    let made = finished-whole r whole _ c.in_ok-finished.ensures in
+    let made = finished-whole gs r whole _ c.in_ok-finished.ensures in
     functions-as_many c.args.program.now.layout.cpu c.args.image.now c.args.program.now _ c.requires.program
     (typed-tree (numbers_of c.args.rules.now) c.args.image.now c.args.program.now p q r
     (record { loaded = c.requires.loaded; is_program = c.requires.program }) c.in_ok-lifted.ensures.lifted
-    c.in_ok-prepared.ensures.ready c.in_ok-tidied.ensures c.in_ok-plain.ensures.few whole.control
-    (finished (whole_text whole.control r)) made.kept _ made.is).0
+    c.in_ok-prepared.ensures.ready c.in_ok-tidied.ensures c.in_ok-plain.ensures.few whole.control gs
+    (finished (whole_text whole.control gs r)) made.kept _ made.is).0
 
 pub returns-clause-made : goal.returns-clause-made
 returns-clause-made g c =
     let p = program_of c.in_ok-lifted.lifted in
     let q = program_of c.in_ok-prepared.prepared in
     let r = program_of c.in_ok-tidied.tidied in
+    let gs = globals_in c.args.program.now.procs.items r in
     let whole = c.in_ok-plain.ensures.text in
     record {
       lifted = p;
@@ -96,9 +105,9 @@ returns-clause-made g c =
       tidy = r;
       ids = numbers_of c.args.rules.now;
       is_tidy = c.in_ok-tidied.ensures;
-      plain = whole_text whole.control r;
+      plain = whole_text whole.control gs r;
       is_text = record { control = whole.control; controls = whole.controls; is = refl };
-      is = (finished-whole r whole _ c.in_ok-finished.ensures).is;
+      is = (finished-whole gs r whole _ c.in_ok-finished.ensures).is;
     }
 
 pub finished-requires : goal.finished-requires
@@ -106,10 +115,13 @@ finished-requires g c =
     let p = program_of c.in_ok-lifted.lifted in
     let q = program_of c.in_ok-prepared.prepared in
     let r = program_of c.in_ok-tidied.tidied in
+    let gs = globals_in c.args.program.now.procs.items r in
     let whole = c.in_ok-plain.ensures.text in
-    whole-is-writable r whole
-    (prepared-fits p q c.in_ok-prepared.ensures.ready (numbers_of c.args.rules.now) r c.in_ok-tidied.ensures
-    c.in_ok-plain.ensures.few)
+    let fits = prepared-fits p q c.in_ok-prepared.ensures.ready (numbers_of c.args.rules.now) r c.in_ok-tidied.ensures
+    c.in_ok-plain.ensures.few in
+    whole-is-writable gs r whole fits
+    (globals-for c.globals_are_allowed.ensures c.globals_have_names.ensures c.globals_are_writable.ensures
+    c.first_memories_are_equal.ensures r (operands_of c.args.program.now.procs.items) fits.textable.formed.image)
 
 pub unit_of-requires : goal.unit_of-requires
 unit_of-requires g c =

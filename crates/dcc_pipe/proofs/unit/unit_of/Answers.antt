@@ -13,6 +13,6 @@ all_functions-requires c =
 
 pub returns-clause-text : goal.returns-clause-text
 returns-clause-text c =
-    whole-from (program_of c.args.p.now) _ c.requires refl refl refl c.in_ok-globals.ensures
+    whole-from _ (program_of c.args.p.now) _ c.requires refl refl refl c.in_ok-globals.ensures
     (subst (λ graphs. AreFunctionsBy (map graph_of graphs) (map function_of c.in_ok-all_functions.field-0.items))
     c.as_slice.ensures.value c.in_ok-all_functions.ensures.functions)
