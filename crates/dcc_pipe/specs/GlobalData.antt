@@ -1,7 +1,12 @@
 -- The global variables of a program's text.
 use Rattle.std.specs.Prelude.{◌≡◌, ℕ, true, List}
 use Rattle.std.specs.List.{list_all}
+use Rattle.dcc_machine.specs.declared.cpu.Cpu.{Cpu}
+use Rattle.dcc_machine.specs.declared.image.Image.{Image}
+use Rattle.dcc_prog.specs.declared.frame.Program.{Program as Analysed}
 use Rattle.dcc_prog.specs.declared.procedure.Proc.{Proc}
+use Rattle.dcc_prog.specs.Analysed.{IsProgramOf}
+use Rattle.dcc_lift.specs.Translation.{data_image}
 use Rattle.dcc_ir.specs.Run as inner_run
 use Rattle.dcc_ir.specs.Tree as inner
 use Rattle.dcc_c.specs.Run as text_run
@@ -10,7 +15,7 @@ use Rattle.dcc_c.proofs.Writable.{is_writable_global}
 use Rattle.dcc_variables.specs.Globals.{HaveNames}
 use Rattle.dcc_globals.specs.Globals.{globals_of}
 use Rattle.dcc_globals.specs.Laws.{AreAllowed, data_in}
-use Rattle.dcc_globals.specs.Pieces.{operands_of}
+use Rattle.dcc_globals.specs.Pieces.{Data, operands_of}
 
 -- the global variables for the data segment of a program, as the memory operands of these procedures access it
 abbrev pub globals_in : List Proc → inner.Program → List Global
@@ -25,3 +30,20 @@ pub record AreGlobalsFor (p : inner.Program) (globals : List Global) : Type 0 wh
   pub memory :
       (tree : Tree) (fill : ℕ) → tree.lo ≡ p.lo → tree.hi ≡ p.hi → tree.globals ≡ globals
       → text_run.first_memory tree fill ≡ inner_run.first_memory p fill
+
+-- the data segment of an analysed program: the bytes of the image in it, its stack, and the memory operands of all
+-- instructions
+abbrev pub data_of : Image → Analysed → Data
+data_of image program = record {
+  bytes = data_image image program.layout;
+  lo = program.layout.lo;
+  hi = program.layout.hi;
+  operands = operands_of program.procs.items;
+}
+
+-- the tree's global variables are just those for the data segment of the program that is found in the image on the
+-- processor
+pub record HasGlobals (cpu : Cpu) (image : Image) (tree : Tree) : Type 0 where
+  pub program : Analysed
+  pub is_program : IsProgramOf cpu image program
+  pub globals : tree.globals ≡ globals_of (data_of image program)

@@ -13,6 +13,8 @@ ghost use Rattle.dcc_c.specs.Written.{written_form};
 ghost use Rattle.dcc_shape.specs.Shape.{HaveShape};
 ghost use Rattle.dcc_pipe.specs.Agreement.{IsTextOf};
 ghost use Rattle.dcc_pipe.specs.Shaped.{asked_of, HasShape, IsMadeOf, HasNoTextFor, LacksFirst};
+ghost use Rattle.dcc_globals.specs.Globals.{globals_of};
+ghost use Rattle.dcc_pipe.specs.GlobalData.{data_of, HasGlobals};
 ghost use Rattle.dcc_pipe.specs.Faults.{refusal_for};
 ghost use Rattle.dcc_pipe.specs.TypedFrames.{AreTypedFrames, HasTypedFrames};
 
@@ -51,6 +53,7 @@ fn text_of(
     ensures typed { IfOk result (λ unit. HaveShape (asked_of program.now) (tree_of unit).functions
         → AreTypedFrames (procedures_in program.now) (tree_of unit).functions) }
     ensures made { IfOk result (λ unit. IsMadeOf image.now program.now (tree_of unit)) }
+    ensures globals { IfOk result (λ unit. (tree_of unit).globals ≡ globals_of (data_of image.now program.now)) }
     ensures none { IfOk result
         (λ unit. (kind : ConstructKind) (at : ℕ) → ¬ IsOfSummaries (bodies_of program.now) kind at) }
     ensures fault { IfErr result (IsConstructOf (bodies_of program.now)) }
@@ -118,6 +121,10 @@ fn shaped(alloc: Global, program: &Program, unit: Unit) -> Result<Unit, NoText>
 /// stands for no cell, and nothing of it is used but the address, of which the flags of such a move tell: neither the
 /// address nor what is reckoned from it comes beneath a `*`, into memory or to another function, but for single bits.
 ///
+/// The global variables are those for the data that the program accesses at fixed offsets: a scalar for each byte or word
+/// that is always accessed as a whole, and arrays for all other data and for what is left of the image. Each holds at
+/// first what the image has there.
+///
 /// Each function has the shape that its procedure asks for. Its blocks, labels, jumps and empty statements are no more
 /// than the procedure's instructions, edges and loops give. Where the procedure has fewer than 190 branches and loops,
 /// or nothing in the text has 199 blocks around it: each address with a label that jumps go to is one to which at least
@@ -134,6 +141,7 @@ pub fn decompile(alloc: Global, image: &Image, cpu: Cpu, rules: &RuleList) -> Re
     ensures text { IfOk result (λ unit. IsTextOf cpu image.now (written_form (tree_of unit)) (tree_of unit)) }
     ensures typed { IfOk result (λ unit. HasTypedFrames cpu image.now (tree_of unit)) }
     ensures shaped { IfOk result (λ unit. HasShape cpu image.now (tree_of unit)) }
+    ensures globals { IfOk result (λ unit. HasGlobals cpu image.now (tree_of unit)) }
     ensures accepted { IfOk result (λ unit. IsAcceptedProgram cpu image.now) }
     ensures refused { IfErr result (HasNoTextFor cpu image.now) }
 {

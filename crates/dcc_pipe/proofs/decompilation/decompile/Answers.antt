@@ -6,6 +6,7 @@ use Rattle.dcc_machine_demand.proofs.RefusedLaws.{accepted-is_not_refused}
 use Rattle.dcc_c.specs.Views.{tree_of}
 use Rattle.dcc_c.specs.Written.{written_form}
 use Rattle.dcc_pipe.specs.Agreement.{IsTextOf}
+use Rattle.dcc_pipe.specs.GlobalData.{HasGlobals}
 use Rattle.dcc_shape.specs.Shape.{HaveShape}
 use Rattle.dcc_pipe.specs.Shaped.{asked_of, HasShape}
 use Rattle.dcc_pipe.specs.TypedFrames.{HasTypedFrames}
@@ -55,6 +56,17 @@ returns-in-Ok-clause-typed g c =
     (λ after is.
     subst (λ unit. HaveShape (asked_of c.in_ok-program.program) (tree_of unit).functions
     → HasTypedFrames c.args.cpu c.args.image.now (tree_of unit)) (sym is.0) typed is.1)
+    c.shaped.ensures.has
+
+pub returns-in-Ok-clause-globals : goal.returns-in-Ok-clause-globals
+returns-in-Ok-clause-globals g c =
+    let has : HasGlobals c.args.cpu c.args.image.now (tree_of c.in-Ok.unit) = record {
+      program = c.in_ok-program.program;
+      is_program = c.in_ok-program.ensures.program;
+      globals = c.in-Ok.ensures.globals;
+    } in
+    IfOk-weaker c.shaped.result _ _
+    (λ after is. subst (λ unit. HasGlobals c.args.cpu c.args.image.now (tree_of unit)) (sym is.0) has)
     c.shaped.ensures.has
 
 pub returns-in-Ok-clause-shaped : goal.returns-in-Ok-clause-shaped

@@ -1,13 +1,14 @@
-use Rattle.std.proofs.Common.{refl}
+use Rattle.std.proofs.Common.{refl, ap, ◌∙◌}
 use Rattle.std.proofs.lemmas.Result.{err_from_is_err_and}
 use Rattle.dcc_stack.specs.Accepted.{IsProgramOfFile}
 use Rattle.dcc_ir.specs.Views.{program_of}
+use Rattle.dcc_c.specs.Tree.{Tree}
 use Rattle.dcc_rules.specs.Views.{numbers_of}
 use Rattle.dcc_pipe.specs.WholeText.{whole_text}
 use Rattle.dcc_globals.specs.Pieces.{operands_of}
 use Rattle.dcc_pipe.specs.Finished.{finished}
 use Rattle.dcc_pipe.specs.GlobalData.{globals_in}
-use Rattle.dcc_pipe.proofs.GlobalLaws.{globals-for}
+use Rattle.dcc_pipe.proofs.GlobalLaws.{globals-for, globals-are}
 use Rattle.dcc_pipe.proofs.FinishedTexts.{finished-whole}
 use Rattle.dcc_pipe.proofs.PipeLaws.{whole-is-writable, text-is}
 use Rattle.dcc_pipe.proofs.PreparedFits.{left-simplified, prepared-fits}
@@ -109,6 +110,17 @@ returns-clause-made g c =
       is_text = record { control = whole.control; controls = whole.controls; is = refl };
       is = (finished-whole gs r whole _ c.in_ok-finished.ensures).is;
     }
+
+pub returns-clause-globals : goal.returns-clause-globals
+returns-clause-globals g c =
+    let p = program_of c.in_ok-lifted.lifted in
+    let q = program_of c.in_ok-prepared.prepared in
+    let r = program_of c.in_ok-tidied.tidied in
+    let gs = globals_in c.args.program.now.procs.items r in
+    let made = finished-whole gs r c.in_ok-plain.ensures.text _ c.in_ok-finished.ensures in
+    ap (λ (tree : Tree). tree.globals) made.is
+    ∙ globals-are (numbers_of c.args.rules.now) c.args.image.now c.args.program.now p q r
+    c.in_ok-lifted.ensures.lifted.lifted c.in_ok-prepared.ensures.ready c.in_ok-tidied.ensures
 
 pub finished-requires : goal.finished-requires
 finished-requires g c =

@@ -20,7 +20,7 @@ pub returns-in-Ok-print-clause-answers : goal.returns-in-Ok-print-clause-answers
 returns-in-Ok-print-clause-answers g c = record {
   output = written_form (tree_of c.in-Ok.unit);
   wrote = c.in-Ok-print.ensures.whole;
-  is_answer = image_made (record { accepted = c.in-Ok.ensures.accepted; tree = tree_of c.in-Ok.unit; is_text = c.in-Ok.ensures.text; typed = c.in-Ok.ensures.typed; shaped = c.in-Ok.ensures.shaped; written_is = refl });
+  is_answer = image_made (record { accepted = c.in-Ok.ensures.accepted; tree = tree_of c.in-Ok.unit; is_text = c.in-Ok.ensures.text; typed = c.in-Ok.ensures.typed; shaped = c.in-Ok.ensures.shaped; globals = c.in-Ok.ensures.globals; written_is = refl });
 }
 
 pub returns-clause-answers : goal.returns-clause-answers
@@ -30,6 +30,6 @@ returns-clause-answers g c =
 pub returns-in-Err-Failed-clause-cut_short : goal.returns-in-Err-Failed-clause-cut_short
 returns-in-Err-Failed-clause-cut_short g c = record {
   due = written_form (tree_of c.in-Ok.unit);
-  is_due = record { accepted = c.in-Ok.ensures.accepted; tree = tree_of c.in-Ok.unit; is_text = c.in-Ok.ensures.text; typed = c.in-Ok.ensures.typed; shaped = c.in-Ok.ensures.shaped; written_is = refl };
+  is_due = record { accepted = c.in-Ok.ensures.accepted; tree = tree_of c.in-Ok.unit; is_text = c.in-Ok.ensures.text; typed = c.in-Ok.ensures.typed; shaped = c.in-Ok.ensures.shaped; globals = c.in-Ok.ensures.globals; written_is = refl };
   part = rw c.in-Err-Failed.field-0-is at c.in-Err-Failed.ensures.part refl;
 }

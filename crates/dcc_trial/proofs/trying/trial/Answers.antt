@@ -69,6 +69,7 @@ returns-clause-trial g c =
       is_text = unit.text;
       typed = unit.typed;
       shaped = unit.shaped;
+      globals = unit.globals;
     } in
     record {
       image = image;
