@@ -40,16 +40,16 @@ first-of p fits = has-first p.graphs p.image p.lo p.hi fits.textable.formed.begi
 -- a text of a program that fits is writable
 fits-writable : (control : Control) (globals : List Global) (p : inner.Program) → FitsText p → AreControls control p
     → AreGlobalsFor p globals → IsWritable (whole_text control globals p)
-fits-writable control globals p fits controls data =
+fits-writable control globals p fits controls may_declare =
     let it = first-of p fits in
     subst (λ p. FitsText p → AreControls control p → AreGlobalsFor p globals → IsWritable (whole_text control globals p)) it.is
     (λ fits. whole-writable control globals it.first it.others p.image p.lo p.hi fits.textable.formed fits.few
-    fits.textable.shallow fits.takes) fits controls data
+    fits.textable.shallow fits.takes) fits controls may_declare
 
 pub whole-is-writable : (globals : List Global) (p : inner.Program) {tree : Tree} (whole : IsWholeText globals p tree)
     → FitsText p → AreGlobalsFor p globals → IsWritable tree
-whole-is-writable globals p whole fits data =
-    subst IsWritable (sym whole.is) (fits-writable whole.control globals p fits whole.controls data)
+whole-is-writable globals p whole fits may_declare =
+    subst IsWritable (sym whole.is) (fits-writable whole.control globals p fits whole.controls may_declare)
 
 -- The text of a program that follows the image, otherwise written.
 module _ (image : Image) (program : Program) (is : IsProgramOf program.layout.cpu image program) (control : Control)
@@ -57,15 +57,15 @@ module _ (image : Image) (program : Program) (is : IsProgramOf program.layout.cp
   -- such a text agrees with the image
   agreeing-text : (p : inner.Program) → FitsText p → AreControls control p → AreGlobalsFor p globals
       → IsFollowing image program p → IsKept (whole_text control globals p) final → IsTextOf program.layout.cpu image (written_form final) (numbered final)
-  agreeing-text p fits controls data follows kept =
+  agreeing-text p fits controls may_declare follows kept =
       let it = first-of p fits in
       subst (λ p. FitsText p → AreControls control p → AreGlobalsFor p globals → IsFollowing image program p
       → IsKept (whole_text control globals p) final
       → IsTextOf program.layout.cpu image (written_form final) (numbered final)) it.is
-      (λ fits controls data follows kept.
+      (λ fits controls may_declare follows kept.
       let q = with_first it.first it.others p.image p.lo p.hi in
       let plain = whole_text control globals q in
-      let stands = writable_stands plain (fits-writable control globals q fits controls data) in
+      let stands = writable_stands plain (fits-writable control globals q fits controls may_declare) in
       let also = writable_stands final kept.writable in
       let tokens = length also.tokens in
       let few = subst (λ n. n ≤ tokens) kept.size (unit-count 200 also.tokens (numbered final) also.formed) in
@@ -73,16 +73,16 @@ module _ (image : Image) (program : Program) (is : IsProgramOf program.layout.cp
         stands = also;
         runs = λ input fill bytes small.
             kept.runs program.layout.cpu image stands also tokens input fill
-            (text-agrees image program control globals it.first it.others p.image p.lo p.hi controls is fits data follows
+            (text-agrees image program control globals it.first it.others p.image p.lo p.hi controls is fits may_declare follows
             (written_form plain) stands tokens few input fill bytes small);
-      }) fits controls data follows kept
+      }) fits controls may_declare follows kept
 
   -- what is told of a unit whose tree is that text's, with its lines counted
   pub text-is : (p : inner.Program) → FitsText p → AreControls control p → AreGlobalsFor p globals
       → IsFollowing image program p → IsKept (whole_text control globals p) final → (unit : TextUnit) → tree_of unit ≡ numbered final
       → IsTextOf program.layout.cpu image (written_form (tree_of unit)) (tree_of unit)
-  text-is p fits controls data follows kept unit same =
+  text-is p fits controls may_declare follows kept unit same =
       let tree = numbered final in
       subst (λ t. IsTextOf program.layout.cpu image (written_form t) t) (sym same)
       (subst (λ text. IsTextOf program.layout.cpu image text tree) (sym (written_numbered final))
-      (agreeing-text p fits controls data follows kept))
+      (agreeing-text p fits controls may_declare follows kept))

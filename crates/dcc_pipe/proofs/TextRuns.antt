@@ -78,7 +78,7 @@ module _ (image : Image) (program : Program) (control : Control) (globals : List
     (bytes_of : List ℕ) (lo hi : ℕ) (controls : AreControls control (with_first g others bytes_of lo hi))
     (is_program : IsProgramOf program.layout.cpu image program)
     (fits : FitsText (with_first g others bytes_of lo hi))
-    (data : AreGlobalsFor (with_first g others bytes_of lo hi) globals)
+    (may_declare : AreGlobalsFor (with_first g others bytes_of lo hi) globals)
     (follows : IsFollowing image program (with_first g others bytes_of lo hi))
     (text : List ℕ) (stands : StandsFor text (numbered (whole_text control globals (with_first g others bytes_of lo hi))))
     (tokens : ℕ) (few : text_size (numbered (whole_text control globals (with_first g others bytes_of lo hi))).functions ≤ tokens)
@@ -105,12 +105,12 @@ module _ (image : Image) (program : Program) (control : Control) (globals : List
   together : IsCountedBy kept p tree start fill input tokens
   together =
       let well = fits.textable.formed in
-      let first-is = start-is control globals g others bytes_of lo hi well fits.few fits.apart fits.gives controls data in
+      let first-is = start-is control globals g others bytes_of lo hi well fits.few fits.apart fits.gives controls may_declare in
       subst (λ f. IsCountedBy kept p tree f fill input tokens) (first-is ∙ head-equal stands.allowed.first)
       (programs-count opened (texts control globals g others bytes_of lo hi) p tree g others fill input kept
-      (whole-text control globals g others bytes_of lo hi well fits.few fits.apart fits.gives controls data)
-      (whole-begins control globals g others bytes_of lo hi well fits.few fits.apart fits.gives controls data)
-      (all-kept control globals g others bytes_of lo hi well fits.few fits.apart fits.gives controls data) bytes unstuck tokens few)
+      (whole-text control globals g others bytes_of lo hi well fits.few fits.apart fits.gives controls may_declare)
+      (whole-begins control globals g others bytes_of lo hi well fits.few fits.apart fits.gives controls may_declare)
+      (all-kept control globals g others bytes_of lo hi well fits.few fits.apart fits.gives controls may_declare) bytes unstuck tokens few)
 
   -- The machine watched, in the places of blocks.
   abbrev machine : Watched Watch ProgramPoint

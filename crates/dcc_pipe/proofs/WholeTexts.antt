@@ -142,7 +142,7 @@ module _ (control : Control) (globals : List Global) (first : inner.Graph) (othe
   module _ (well : IsProgram program) (few : All HasFewNames program.graphs)
       (apart : All (λ g. locations_differ (all_places g.params) ≡ true) program.graphs)
       (gives : All (λ g. All GivesFew g.blocks) program.graphs) (controls : AreControls control program)
-      (data : AreGlobalsFor program globals) where
+      (may_declare : AreGlobalsFor program globals) where
     each-one : All (λ g. IsOneOf control g (function g)) program.graphs
     each-one = each-value start (IsOneOf control) program.graphs (start ∷ later) (all-numbered control head program.graphs) well.entries
 
@@ -216,7 +216,7 @@ module _ (control : Control) (globals : List Global) (first : inner.Graph) (othe
     functions-differ : rules.all_differ (map (λ f. f.name) tree.functions) ≡ true
     functions-differ =
         differ-left (map (λ f. f.name) tree.functions) _
-        (differ-right (map (λ g. g.name) tree.globals) _ (known-differ-all program tree well data.names all-names))
+        (differ-right (map (λ g. g.name) tree.globals) _ (known-differ-all program tree well may_declare.names all-names))
 
     pub start-is : function first ≡ start
     start-is = ap (λ b. if b then start else value_for start others later first) (eq-eqb first.entry first.entry refl)
@@ -261,7 +261,7 @@ module _ (control : Control) (globals : List Global) (first : inner.Graph) (othe
       functions = all-functions;
       start = subst (IsFunctionOf first (codes "start")) (sym start-is) refl;
       hi = refl;
-      memory = λ fill. data.memory tree fill refl refl refl;
+      memory = λ fill. may_declare.memory tree fill refl refl refl;
     }
 
     pub all-kept : AreAllKept program texts (keeps_step control program)

@@ -153,11 +153,11 @@ module _ (control : Control) (globals : List Global) (first : inner.Graph) (othe
   module _ (well : IsProgram program) (few : All HasFewNames program.graphs)
       (shallow : All (λ g. All (λ e. depth_of e ≤ text_levels) (graph_exprs g)) program.graphs)
       (takes : All (λ g. All (λ b. All (TakesFew program) b.stmts) g.blocks) program.graphs)
-      (controls : AreControls control program) (data : AreGlobalsFor program globals) where
+      (controls : AreControls control program) (may_declare : AreGlobalsFor program globals) where
     functions-differ : rules.all_differ (map (λ f. f.name) tree.functions) ≡ true
     functions-differ =
         differ-left (map (λ f. f.name) tree.functions) _
-        (differ-right (map (λ g. g.name) tree.globals) _ (known-differ-all program tree well data.names all-names))
+        (differ-right (map (λ g. g.name) tree.globals) _ (known-differ-all program tree well may_declare.names all-names))
 
     module _ (name : Word) (g : inner.Graph) (c : Contains program.graphs g) where
       abbrev f : Function
@@ -260,7 +260,7 @@ module _ (control : Control) (globals : List Global) (first : inner.Graph) (othe
 
       function-allowed : IsAllowedFunction tree f
       function-allowed = record {
-        own_names = own-differ-all program tree well data.names all-names g own-few.variables own-few.params formed f refl refl;
+        own_names = own-differ-all program tree well may_declare.names all-names g own-few.variables own-few.params formed f refl refl;
         labels = body-allowed.labels;
         types = body-allowed.types;
         arrays = own-pass (λ v. has_element v.len) (shape_of g) (is_own g) (function_shape g).frame fewer (locals-have-elements g own-few.variables formed);
@@ -292,7 +292,7 @@ module _ (control : Control) (globals : List Global) (first : inner.Graph) (othe
         let c = Contains-here first others in
         let rest = others-allowed others (λ g d. d) in record {
           version = refl;
-          globals = data.writable;
+          globals = may_declare.writable;
           functions = and_from (is_writable_function (text_function (control first) (codes "start") first)) (list_all is_writable_function (other_functions control others))
               (function-writable (codes "start") first c refl) rest.1;
           allowed = record {
@@ -302,12 +302,12 @@ module _ (control : Control) (globals : List Global) (first : inner.Graph) (othe
             name = refl;
             no_params = ap (parameters_from first.bits 0) (All-head (λ (g : inner.Graph). g.params ≡ []) first [] well.start);
             no_result = no-type (all_ret_widths first) (All-head (λ (g : inner.Graph). All (λ widths. widths ≡ []) (all_ret_widths g)) first [] well.start_rets);
-            names = known-differ-all program tree well data.names all-names;
+            names = known-differ-all program tree well may_declare.names all-names;
             functions = next_allowed (function-allowed (codes "start") first c) rest.0;
             lo = omega (arith, well.lo);
             hi = omega (arith, well.hi);
-            globals = data.allowed.allowed;
-            apart = data.allowed.apart;
-            off_stack = data.allowed.off_stack;
+            globals = may_declare.allowed.allowed;
+            apart = may_declare.allowed.apart;
+            off_stack = may_declare.allowed.off_stack;
           };
         }

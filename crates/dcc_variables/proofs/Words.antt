@@ -97,10 +97,10 @@ begins byte [] = false
 begins byte (b ∷ word) = b == byte
 
 -- names of global variables begin otherwise than with these
-data-otherwise : (byte : ℕ) → (byte == 103) ≡ false → (byte == 100) ≡ false → (word : Word) → is_data_name word ≡ true → not (begins byte word) ≡ true
-data-otherwise byte one two [] is = absurd (true≢false (sym is))
-data-otherwise byte one two (a ∷ []) is = absurd (true≢false (sym is))
-data-otherwise byte one two (a ∷ b ∷ word) is =
+data_names-otherwise : (byte : ℕ) → (byte == 103) ≡ false → (byte == 100) ≡ false → (word : Word) → is_data_name word ≡ true → not (begins byte word) ≡ true
+data_names-otherwise byte one two [] is = absurd (true≢false (sym is))
+data_names-otherwise byte one two (a ∷ []) is = absurd (true≢false (sym is))
+data_names-otherwise byte one two (a ∷ b ∷ word) is =
     not_from_false (a == byte) (false_from_ne_true _ (λ same.
     let e = eqb-true a byte same in
     let none : ((a == 103) || (a == 100)) ≡ false =
@@ -158,23 +158,23 @@ functions-begin test start each dos (g ∷ graphs) =
     and_from (test (codes "start")) _ start (list_all-append test (map (λ (x : Graph). function_name x.entry) graphs) dos_names ∙ and_from _ _ (all-functions test each graphs) dos)
 
 module _ (gs : List Global) (have : HaveNames gs) (p : Program) (well : IsProgram p) where
-  abbrev data : List Word
-  data = map (λ (x : Global). x.name) gs
+  abbrev data_names : List Word
+  data_names = map (λ (x : Global). x.name) gs
 
   abbrev pub known : List Word
-  known = data ++ (function_names p.graphs ++ dos_names)
+  known = data_names ++ (function_names p.graphs ++ dos_names)
 
   pub known-apart : all_differ known ≡ true
   known-apart =
-      differ-join is_data_name data (function_names p.graphs ++ dos_names)
+      differ-join is_data_name data_names (function_names p.graphs ++ dos_names)
       have.begin (functions-begin (λ w. not (is_data_name w)) refl (λ entry. refl) refl p.graphs)
       have.differ (functions-known p.graphs well.graphs well.entries)
 
   -- all known names begin otherwise than parameters and variables
   known-begin : (test : Word → Bool) → ((word : Word) → is_data_name word ≡ true → test word ≡ true) → test (codes "start") ≡ true → ((entry : ℕ) → test (function_name entry) ≡ true) → Passes test dos_names → Passes test known
   known-begin test each start entries dos =
-      list_all-append test data (function_names p.graphs ++ dos_names)
-      ∙ and_from _ _ (all-pass is_data_name test each data have.begin) (functions-begin test start entries dos p.graphs)
+      list_all-append test data_names (function_names p.graphs ++ dos_names)
+      ∙ and_from _ _ (all-pass is_data_name test each data_names have.begin) (functions-begin test start entries dos p.graphs)
 
 -- Parameters.
 
@@ -256,9 +256,9 @@ module _ (g : Graph) (few : AreFew (shape_of g)) (few_params : length g.params <
         ∙ ap all_differ (append_assoc names own (known gs have p well))
         ∙ differ-join (begins 112) names (own ++ known gs have p well) (parameters-begin (begins 112) (λ place. refl) g.bits 0 g.params)
         (list_all-append (λ w. not (begins 112 w)) own (known gs have p well) ∙ and_from _ _ (own-begin (λ w. not (begins 112 w)) (λ word. refl) (filter (is_own g) (locations g)))
-        (known-begin gs have p well (λ w. not (begins 112 w)) (data-otherwise 112 refl refl) refl (λ entry. refl) refl)) (parameters-differ g.bits 0 g.params (omega (arith, few_params)))
+        (known-begin gs have p well (λ w. not (begins 112 w)) (data_names-otherwise 112 refl refl) refl (λ entry. refl) refl)) (parameters-differ g.bits 0 g.params (omega (arith, few_params)))
         (differ-join (begins 118) own (known gs have p well) (own-begin (begins 118) (λ word. refl) (filter (is_own g) (locations g)))
-        (known-begin gs have p well (λ w. not (begins 118 w)) (data-otherwise 118 refl refl) refl (λ entry. refl) refl) own-apart (known-apart gs have p well))
+        (known-begin gs have p well (λ w. not (begins 118 w)) (data_names-otherwise 118 refl refl) refl (λ entry. refl) refl) own-apart (known-apart gs have p well))
 
 -- The names of a text.
 
