@@ -25,7 +25,7 @@ use Rattle.dcc_progress.proofs.Values.{has-type}
 use Rattle.dcc_respell.specs.Respelled.{Both, AllBits, TargetAlike, TakesAlike, CallsAlike, scope_in, BecomesAlike, AssignAlike, ArgumentsAlike, IsRespelled}
 use Rattle.dcc_respell.specs.Writing.{Writing, stmt_by, function_by, MeansAlike, KeepsAddresses, MayStand}
 use Rattle.dcc_respell.proofs.Scopes.{one-frame, one-scope, numbered-signature, written-signature}
-use Rattle.dcc_respell.proofs.Written.{MeanAlike, functions-alike, globals-same}
+use Rattle.dcc_respell.proofs.Written.{MeanAlike, functions-alike}
 use Rattle.dcc_respell.proofs.Allowed.{AllMayStand, written-writable}
 use Rattle.dcc_casts.specs.Casts.{room_of, kept, lowered, becoming, passed, chosen_by, writing, without_casts}
 use Rattle.dcc_casts.proofs.Shapes.{kept-addresses, lowered-addresses, kept-written, lowered-written, place-written, kept-depth, lowered-depth}
@@ -447,8 +447,7 @@ module _ (tree : Tree) where
   pub casts-respelled : IsAllowed (numbered tree) → IsRespelled (numbered tree) (numbered (without_casts tree))
   casts-respelled allowed =
       let at = 3 + rows (written_globals None tree.globals) in record {
-        lo = refl;
         hi = refl;
-        globals = globals-same tree.globals;
+        memory = λ fill. refl;
         functions = functions-alike (writing tree) (numbered tree) (numbered (without_casts tree)) tree.functions at at (all-mean tree.functions at at allowed.functions);
       }

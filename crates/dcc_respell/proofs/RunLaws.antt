@@ -1,5 +1,5 @@
 -- A text runs as the one does of which it is another spelling.
-use Rattle.std.proofs.Common.{◌≡◌, ◌≢◌, ℕ, zero, suc, true, List, [], ◌∷◌, refl, sym, ap, ap₂, ◌∙◌, subst}
+use Rattle.std.proofs.Common.{◌≡◌, ◌≢◌, ℕ, zero, suc, true, List, [], ◌∷◌, refl, sym, ap, ◌∙◌, subst}
 use Rattle.std.specs.Prelude.{codes, if◌then◌else◌}
 use Rattle.std.specs.List.{AllZip}
 use Rattle.dcc_run.specs.End.{Running, Exit, Divide, Stuck, is_over}
@@ -7,7 +7,7 @@ use Rattle.dcc_run.specs.System.{after as after_steps}
 use Rattle.dcc_c.specs.Token.{same_bytes}
 use Rattle.dcc_c.specs.Tree.{Function, Tree}
 use Rattle.dcc_c.specs.Placement.{first_base}
-use Rattle.dcc_c.specs.Run.{State, is_start, step_at, step, stack_memory, with_globals, first_state, frame_of}
+use Rattle.dcc_c.specs.Run.{State, is_start, step_at, step, first_state, frame_of}
 use Rattle.dcc_c.proofs.NameLaws.{same_bytes-refl}
 use Rattle.dcc_progress.specs.Stuck.{IsOneOf, is_first}
 use Rattle.dcc_progress.proofs.Known.{IsKnown, all-known}
@@ -16,7 +16,6 @@ use Rattle.dcc_progress.proofs.StuckLaws.{sound-step, first-sound}
 use Rattle.dcc_respell.specs.Respelled.{FunctionAlike, IsRespelled, BindingAlike}
 use Rattle.dcc_respell.specs.Laws.{RespelledTextsRunAlike}
 use Rattle.dcc_respell.proofs.Rests.{goes, ends}
-use Rattle.dcc_respell.proofs.Variables.{globals-written}
 use Rattle.dcc_respell.proofs.Calls.{StateAlike, AfterAlike, alike, over, stuck, frames-begin}
 use Rattle.dcc_respell.proofs.Steps.{step-alike}
 
@@ -75,7 +74,7 @@ first-states tree after start first fill input is function = record {
   rest = goes function.body ends;
   waiting = tt;
   fill = refl;
-  memory = ap₂ (λ lo hi. with_globals after.globals (stack_memory lo hi fill)) is.lo is.hi ∙ globals-written tree.globals after.globals (stack_memory tree.lo tree.hi fill) is.globals;
+  memory = is.memory fill;
   input = refl;
   events = refl;
   running = refl;

@@ -8,11 +8,11 @@ use Rattle.dcc_c.specs.declared.syntax.CType.{CType}
 use Rattle.dcc_c.specs.Token.{same_bytes}
 use Rattle.dcc_c.specs.Types.{bits_of, number_of_type, size_of, extended_bits}
 use Rattle.dcc_c.specs.Memory.{store}
-use Rattle.dcc_c.specs.Tree.{Word, Lines, Global, Variable}
+use Rattle.dcc_c.specs.Tree.{Word, Lines, Variable}
 use Rattle.dcc_c.specs.Value.{Value, number, converted, Unplaced, Binding, variable_in, after_assignment}
 use Rattle.dcc_c.specs.Placement.{is_auto, is_register, bytes_of, elements, below, takes_address, wants_place, param_places, local_places}
-use Rattle.dcc_c.specs.Run.{storage_of, variable_binding, local_bindings, param_bindings, with_arguments, with_values, with_globals}
-use Rattle.dcc_respell.specs.Respelled.{SameRoom, AllBits, BindingAlike, VariableAlike, GlobalAlike}
+use Rattle.dcc_c.specs.Run.{storage_of, variable_binding, local_bindings, param_bindings, with_arguments}
+use Rattle.dcc_respell.specs.Respelled.{SameRoom, AllBits, BindingAlike, VariableAlike}
 
 -- Types of one size.
 
@@ -155,20 +155,3 @@ arguments-written (Some at ∷ places) (a ∷ xs) (b ∷ ys) memory same =
     ∙ ap (λ k. with_arguments places ys (store (size_of a.type) memory at k)) same.0.bits
     ∙ arguments-written places xs ys (store (size_of a.type) memory at a.bits) same.1
 arguments-written (None ∷ places) (a ∷ xs) (b ∷ ys) memory same = arguments-written places xs ys memory same.1
-
-values-written : (t u : CType) (at : ℕ) (values memory : List ℕ) → SameRoom t u → with_values u at values memory ≡ with_values t at values memory
-values-written t u at [] memory same = refl
-values-written t u at (n ∷ values) memory same =
-    ap (λ k. with_values u (at + k) values (store k memory at n)) same
-    ∙ values-written t u (at + size_of t) values (store (size_of t) memory at n) same
-
--- after the initial values of global variables are written
-pub globals-written : (gs hs : List Global) (memory : List ℕ) → AllZip GlobalAlike gs hs → with_globals hs memory ≡ with_globals gs memory
-globals-written [] [] memory is = refl
-globals-written [] (h ∷ hs) memory is = absurd is
-globals-written (g ∷ gs) [] memory is = absurd is
-globals-written (g ∷ gs) (h ∷ hs) memory is =
-    ap (λ at. with_globals hs (with_values h.type at h.init memory)) is.0.at
-    ∙ ap (λ init. with_globals hs (with_values h.type g.at init memory)) is.0.init
-    ∙ ap (with_globals hs) (values-written g.type h.type g.at g.init memory is.0.room)
-    ∙ globals-written gs hs (with_values g.type g.at g.init memory) is.1

@@ -5,7 +5,7 @@ use Rattle.std.specs.List.{AllZip, list_all, list_any, flat_map}
 use Rattle.std.proofs.lemmas.Bool.{and_parts}
 use Rattle.std.proofs.lemmas.List.Folds.{list_all-append}
 use Rattle.dcc_c.specs.declared.syntax.CType.{CType}
-use Rattle.dcc_c.specs.Tree.{Word, Expr, Stmt, Assign, Call, If, While, DoWhile, Forever, Switch, Break, Continue, Goto, Label, Empty, Return, Lines, no_lines, line, Arms, no_arms, arm, Global, Variable, Function, Tree}
+use Rattle.dcc_c.specs.Tree.{Word, Expr, Stmt, Assign, Call, If, While, DoWhile, Forever, Switch, Break, Continue, Goto, Label, Empty, Return, Lines, no_lines, line, Arms, no_arms, arm, Variable, Function, Tree}
 use Rattle.dcc_c.specs.Dos.{Signature}
 use Rattle.dcc_c.specs.Parts.{stmts_in, inner_stmts, arm_stmts, parts_of, expr_if, exprs_of}
 use Rattle.dcc_c.specs.Placement.{is_address_of, takes_address}
@@ -19,7 +19,7 @@ use Rattle.dcc_progress.specs.Stuck.{in_default, StandsInside, StandsInArms, in_
 use Rattle.dcc_progress.proofs.Bodies.{all_left, all_right, any_flat}
 use Rattle.dcc_progress.proofs.Declarations.{Takes, takes-stmt, takes-first, takes-others}
 use Rattle.dcc_progress.proofs.Values.{has-type}
-use Rattle.dcc_respell.specs.Respelled.{Both, TargetAlike, IfTargetsAlike, ResultAlike, StmtAlike, LinesAlike, ArmsAlike, assigns, calls, repeats, tests_after, turns_round, chooses, breaks, continues, jumps, is_label, is_empty, returns, gives, no_more, one_more, no_arm, one_arm, VariableAlike, GlobalAlike, FunctionAlike, IsRespelled}
+use Rattle.dcc_respell.specs.Respelled.{Both, TargetAlike, IfTargetsAlike, ResultAlike, StmtAlike, LinesAlike, ArmsAlike, assigns, calls, repeats, tests_after, turns_round, chooses, breaks, continues, jumps, is_label, is_empty, returns, gives, no_more, one_more, no_arm, one_arm, VariableAlike, FunctionAlike}
 use Rattle.dcc_respell.specs.Respelled as spelled
 use Rattle.dcc_respell.specs.Writing.{Writing, stmt_by, lines_by, arms_by, function_by, MeansAlike, KeepsAddresses}
 
@@ -208,10 +208,6 @@ addresses-kept w keeps lines depth at own there word =
 variables-same : (vs : List Variable) → AllZip VariableAlike vs vs
 variables-same [] = tt
 variables-same (v ∷ vs) = (record { name = refl; len = refl; class = refl; room = refl }, variables-same vs)
-
-pub globals-same : (gs : List Global) → AllZip GlobalAlike gs gs
-globals-same [] = tt
-globals-same (g ∷ gs) = (record { name = refl; at = refl; len = refl; init = refl; room = refl }, globals-same gs)
 
 module _ (writing : Function → Writing) (tree after : Tree) where
   -- the functions of the two texts, numbered from these lines on

@@ -5,14 +5,13 @@ use Rattle.dcc_c.specs.declared.syntax.Base.TheVariants.{Uint}
 use Rattle.dcc_c.specs.declared.syntax.CType.{CType}
 use Rattle.dcc_c.specs.Types.{plain, size_of}
 use Rattle.dcc_c.specs.Tree.{Word, Expr, Stmt, Assign, Call, If, While, DoWhile, Forever, Switch, Break, Continue, Goto}
-use Rattle.dcc_c.specs.Tree.{Label, Empty, Return, Lines, no_lines, line, Arms, no_arms, arm, Global, Variable}
-use Rattle.dcc_c.specs.Tree.{Function, Tree}
+use Rattle.dcc_c.specs.Tree.{Label, Empty, Return, Lines, no_lines, line, Arms, no_arms, arm, Variable, Function, Tree}
 use Rattle.dcc_c.specs.Value.{Value, is_zero, converted, Outcome, Gives, Divides, Undefined, Binding, variable_in, Scope}
 use Rattle.dcc_c.specs.Value.{value_of, Target, ToVariable, ToMemory, target_of}
 use Rattle.dcc_c.specs.Dos.{Signature}
 use Rattle.dcc_c.specs.Placement.{takes_address}
 use Rattle.dcc_c.specs.Rules.{signature_in}
-use Rattle.dcc_c.specs.Run.{Frame, global_binding, arguments_of, result_target}
+use Rattle.dcc_c.specs.Run.{Frame, global_binding, arguments_of, result_target, first_memory}
 use Rattle.dcc_progress.proofs.Frames.{IsFrame}
 
 -- Evaluations.
@@ -167,13 +166,6 @@ pub record VariableAlike (v w : Variable) : Type 0 where
   pub class : w.class ≡ v.class
   pub room : SameRoom v.type w.type
 
-pub record GlobalAlike (g h : Global) : Type 0 where
-  pub name : h.name ≡ g.name
-  pub at : h.at ≡ g.at
-  pub len : h.len ≡ g.len
-  pub init : h.init ≡ g.init
-  pub room : SameRoom g.type h.type
-
 -- The function has the name, the result and the variables of the other one, takes the addresses of the same names, and
 -- its statements stand for the other one's.
 pub record FunctionAlike (tree after : Tree) (f g : Function) : Type 0 where
@@ -184,9 +176,9 @@ pub record FunctionAlike (tree after : Tree) (f g : Function) : Type 0 where
   pub addresses : (word : Word) → takes_address g.body word ≡ takes_address f.body word
   pub body : LinesAlike tree after f g f.body g.body
 
--- The second text is the first one with expressions and types written otherwise.
+-- The second text is the first one with expressions and types written otherwise. Its global variables may be others, by
+-- which expressions name what lies where they lie: they leave the same first memory, from every fill.
 pub record IsRespelled (tree after : Tree) : Type 0 where
-  pub lo : after.lo ≡ tree.lo
   pub hi : after.hi ≡ tree.hi
-  pub globals : AllZip GlobalAlike tree.globals after.globals
+  pub memory : (fill : ℕ) → first_memory after fill ≡ first_memory tree fill
   pub functions : AllZip (FunctionAlike tree after) tree.functions after.functions
