@@ -7,8 +7,7 @@ use Rattle.dcc_c.specs.declared.syntax.CType.{CType}
 use Rattle.dcc_c.specs.declared.syntax.CUn.{CUn}
 use Rattle.dcc_c.specs.declared.syntax.CUn.TheVariants.{Minus, Complement, Not, Deref, AddressOf}
 use Rattle.dcc_c.specs.declared.syntax.CBin.{CBin}
-use Rattle.dcc_c.specs.declared.syntax.CBin.TheVariants.{OrOr, AndAnd, Or, Xor, And, Eq, Ne, Lt, Le, Gt, Ge, Shl, Shr}
-use Rattle.dcc_c.specs.declared.syntax.CBin.TheVariants.{Add, Sub, Mul, Div, Rem}
+use Rattle.dcc_c.specs.declared.syntax.CBin.TheVariants.{Add, Sub}
 use Rattle.dcc_c.specs.Token.{same_bytes}
 use Rattle.dcc_c.specs.Types.{same_base, same_type, plain, pointer_to, size_of, wrapped_bits, convert}
 use Rattle.dcc_c.specs.Placement.{after_global}
@@ -52,26 +51,38 @@ counted count = Number count (if nat_le count 32767 then Int else Uint)
 abbrev pub number_at : Base → Expr → Expr
 number_at base address = Unary Deref (if same_base base Uchar then address else Cast (pointer_to base) address)
 
+-- the address so many bytes behind the first one of an array
+abbrev pub behind : Word → Expr → Expr
+behind name index = Binary Add (Name name) index
+
 -- the address of the byte of an array with so many before it, where a number of the type begins; the array's name
 -- alone is the address of a wider number at its begin
 abbrev pub byte_address : Base → Word → ℕ → Expr
 byte_address base name count =
-    if count == 0 && not (same_base base Uchar) then Name name else Binary Add (Name name) (counted count)
+    if count == 0 && not (same_base base Uchar) then Name name else behind name (counted count)
 
--- the number of the type at an offset: a scalar, or bytes of an array
+-- the global variable has all of so many bytes from an offset on, at which it doesn't begin later
+abbrev pub reaches : ℕ → ℕ → Global → Bool
+reaches at bytes g = nat_le (at + bytes) (after_global g)
+
+-- the number of the type at an offset, in the global variable that begins there or before: a scalar, or bytes of an
+-- array
 abbrev pub direct_in : Base → ℕ → Global → Option Expr
 direct_in base at g =
     if g.at == at && is_scalar base g then Some (Name g.name)
-    else if is_bytes g && nat_le (at + size_of (plain base)) (after_global g) then
+    else if is_bytes g && reaches at (size_of (plain base)) g then
     Some (number_at base (byte_address base g.name (at - g.at)))
     else None
 
 -- the number of the type so many bytes behind the first one of an array
 abbrev pub indexed_in : Base → Expr → Global → Option Expr
-indexed_in base index g =
-    if is_bytes g then Some (number_at base (Binary Add (Name g.name) index)) else None
+indexed_in base index g = if is_bytes g then Some (number_at base (behind g.name index)) else None
 
 module _ (globals : List Global) (names : List Declared) where
+  -- the number of the type at an offset
+  abbrev pub direct : Base → ℕ → Option Expr
+  direct base at = option_and_then (direct_in base at) (begins_before globals at)
+
   -- The number of the type at the address that is the sum of a number and an offset at which an array begins. The
   -- offsets 0 and 1 are taken for distances.
   abbrev pub indexed : Base → Expr → ℕ → Option Expr
@@ -79,34 +90,41 @@ module _ (globals : List Global) (names : List Declared) where
       if nat_le 2 at && is_number names index then option_and_then (indexed_in base index) (begins_at globals at)
       else None
 
-  -- an address that is the sum of an expression and a number
-  abbrev pub moved_by : Base → CBin → Expr → Expr → Option Expr
-  moved_by base Add index (Number n type) = indexed base index (offset_of n type)
-  moved_by base Sub index (Number n type) = indexed base index ((65536 - offset_of n type) % 65536)
-  moved_by base operator index other = None
+  -- the number of the type at the address that is the sum or the difference of an expression and an offset
+  abbrev pub moved_by : Base → CBin → Expr → ℕ → Option Expr
+  moved_by base Add index at = indexed base index at
+  moved_by base Sub index at = indexed base index ((65536 - at) % 65536)
+  moved_by base operator index at = None
 
-  -- the number of the type at an address, by names
+  -- the number of the type at the address that an operator makes of an expression and another one
+  abbrev pub moved : Base → CBin → Expr → Expr → Option Expr
+  moved base operator index (Number n type) = moved_by base operator index (offset_of n type)
+  moved base operator index other = None
+
+  -- the number of the type at an address
   abbrev pub accessed : Base → Expr → Option Expr
-  accessed base (Number n type) = option_and_then (direct_in base (offset_of n type)) (begins_before globals (offset_of n type))
-  accessed base (Binary operator index other) = moved_by base operator index other
+  accessed base (Number n type) = direct base (offset_of n type)
+  accessed base (Binary operator index other) = moved base operator index other
   accessed base address = None
 
-  -- what a pointer points to, by names where it is a number that was cast to one
+  -- what a pointer points to, where it is a number that was cast to one
+  abbrev pub pointed_by : Expr → Option Expr
+  pointed_by (Cast type address) = if type.pointer then accessed type.base address else None
+  pointed_by e = None
+
+  -- what a pointer points to
   abbrev pub pointed : Expr → Expr
-  pointed (Cast type address) =
-      elim (if type.pointer then accessed type.base address else None) [
-        | Some e ↦ e
-        | None ↦ Unary Deref (Cast type address)
-      ]
-  pointed e = Unary Deref e
+  pointed e = elim (pointed_by e) [ Some by_names ↦ by_names | None ↦ Unary Deref e ]
 
   -- Expressions.
 
-  -- an operator on an expression that is also written by names; the operand of `&` is a name
+  -- an operator on an expression that is also written by names; the operand of `&` stays, which is a name
   abbrev pub unary_named : CUn → Expr → Expr → Expr
-  unary_named AddressOf a by_names = Unary AddressOf a
   unary_named Deref a by_names = pointed by_names
-  unary_named operator a by_names = Unary operator by_names
+  unary_named AddressOf a by_names = Unary AddressOf a
+  unary_named Minus a by_names = Unary Minus by_names
+  unary_named Complement a by_names = Unary Complement by_names
+  unary_named Not a by_names = Unary Not by_names
 
   -- an expression whose accesses are written by names
   abbrev pub named : Expr → Expr
@@ -127,11 +145,13 @@ shallow_or other e = if nat_le (expr_depth e) 200 then e else other
 abbrev pub by_names : Tree → Function → Expr → Expr
 by_names tree f e = shallow_or e (named tree.globals (declared_in tree f) e)
 
--- the address of a text that is written: that of an array of bytes, by its name
+-- the address of an array of bytes, as a number
+abbrev pub address_in : Global → Option Expr
+address_in g = if is_bytes g then Some (Cast (plain Uint) (Name g.name)) else None
+
+-- the address of a text that is written, by the name of the array that begins there
 abbrev pub written_text : List Global → Expr → Option Expr
-written_text globals (Number n type) =
-    option_and_then (λ g. if is_bytes g then Some (Cast (plain Uint) (Name g.name)) else None)
-    (begins_at globals (offset_of n type))
+written_text globals (Number n type) = option_and_then address_in (begins_at globals (offset_of n type))
 written_text globals e = None
 
 -- the argument of `dos_puts`
