@@ -149,6 +149,26 @@ fn moved_by(
     }
 }
 
+// The number of the type at the address that an operator makes of an expression and another one.
+fn moved(
+    alloc: Global,
+    scene: &Scene,
+    base: Base,
+    operator: CBin,
+    index: &CExpr,
+    other: &CExpr,
+) -> Result<Option<CExpr>, AllocError>
+    ensures { (globals : List tree.Global) (ds : List typing.Declared) → KnowsPlaces scene.now.places.now globals →
+        IsKnown scene.now.names ds →
+        IfOk result (λ o. option_map expr_of o
+        ≡ spec.moved globals ds base operator (expr_of index.now) (expr_of other.now)) }
+{
+    match other {
+        CExpr::Num(n, ty) => moved_by(alloc, scene, base, operator, index, offset_of(*n, *ty)),
+        _ => Ok(None),
+    }
+}
+
 /// The number of the type at an address, by names where it has any. Want of memory is the only error.
 pub fn accessed(
     alloc: Global,
@@ -162,10 +182,7 @@ pub fn accessed(
 {
     match address {
         CExpr::Num(n, ty) => direct(alloc, scene, base, offset_of(*n, *ty)),
-        CExpr::Bin(operator, index, other) => match other {
-            CExpr::Num(n, ty) => moved_by(alloc, scene, base, *operator, index, offset_of(*n, *ty)),
-            _ => Ok(None),
-        },
+        CExpr::Bin(operator, index, other) => moved(alloc, scene, base, *operator, index, other),
         _ => Ok(None),
     }
 }

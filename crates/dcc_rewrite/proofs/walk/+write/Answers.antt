@@ -1,5 +1,11 @@
-use Rattle.std.proofs.Common.{◌+◌, ◌<◌, drop, length, sym, ap, ◌∙◌, arith}
+use Rattle.std.proofs.Common.{rules, ◌+◌, ◌*◌, ◌<◌, Vec, Global, drop, length, sym, ap, ◌∙◌, arith}
 use Rattle.std.proofs.lemmas.List.{at_drop_more, drop_all}
+use denote.Param.Weighed.{most}
+use Rattle.dcc_c.specs.declared.syntax.CExpr.{CExpr}
+use Rattle.dcc_c.specs.declared.syntax.CStmt.TheViews.{If, the_lemmas}
+use Rattle.dcc_c.proofs.syntax.CStmt.TheLaws.{the_size}
+use Rattle.dcc_c.proofs.syntax.Line.TheLaws.{the_size as line_size}
+use Rattle.dcc_c.specs.declared.syntax.Line.{Line}
 use Rattle.dcc_c.specs.declared.syntax.Arm.{roll-Arm, out-Arm, out-roll-Arm}
 use Rattle.dcc_c.specs.declared.syntax.Line.{roll-Line}
 use Rattle.dcc_c.specs.Tree.{no_arms, line}
@@ -103,3 +109,26 @@ statement-returns-in_ok-default_arm-in-Switch g t c = λ w is.
     (c.in_ok-arms-in-Switch.ensures w is ∙ ap (λ xs. arms_by w (arms_of xs)) c.deref-in-Switch.ensures.value)
     (c.in_ok-default_arm-in-Switch.ensures w is)
     ∙ ap (λ s. stmt_by w (stmt_of s)) (sym c.in-Switch.is)
+
+-- the sides of a test are less deep than the test
+first-less : (e : CExpr) (body otherwise : Vec Line Global) → most (λ x. line_size x) body.items < the_size (If e body otherwise)
+first-less e body otherwise = search (rules, the_lemmas) depth 9 fits 4000
+
+second-less : (e : CExpr) (body otherwise : Vec Line Global) → most (λ x. line_size x) otherwise.items < the_size (If e body otherwise)
+second-less e body otherwise = search (rules, the_lemmas) depth 9 fits 4000
+
+pub statement-lines-requires : goal.statement-lines-requires
+statement-lines-requires g t c κs within =
+    let less = first-less c.in-If.test c.in-If.body c.in-If.otherwise in
+    let is = ap (λ x. the_size x) c.in-If.is in
+    let lent = ap (λ l. most (λ x. line_size x) l) c.deref.ensures.value in
+    let falls : 2 * most (λ x. line_size x) c.deref.result.now + 1 < t = omega (arith, c.decreases, less, is, lent) in
+    (falls, within)
+
+pub statement-lines-requires-in-If : goal.statement-lines-requires-in-If
+statement-lines-requires-in-If g t c κs within =
+    let less = second-less c.in-If.test c.in-If.body c.in-If.otherwise in
+    let is = ap (λ x. the_size x) c.in-If.is in
+    let lent = ap (λ l. most (λ x. line_size x) l) c.deref-in-If.ensures.value in
+    let falls : 2 * most (λ x. line_size x) c.deref-in-If.result.now + 1 < t = omega (arith, c.decreases, less, is, lent) in
+    (falls, within)
