@@ -158,7 +158,7 @@ module _ (globals : List Global) (names : List Declared) where
 
   -- Values, in a call of a function with this body.
 
-  module _ (body : Lines) (scope : Scope) (as : AreAs body names (map declared_by scope.variables)) (placed : ArePlaced scope.variables) (declared : AreDeclared globals names) (found : AreFound globals names scope) where
+  module _ (body : Lines) (scope : Scope) (are_as : AreAs body names (map declared_by scope.variables)) (placed : ArePlaced scope.variables) (declared : AreDeclared globals names) (found : AreFound globals names scope) where
     abbrev own_names : List Declared
     own_names = map declared_by scope.variables
 
@@ -166,7 +166,7 @@ module _ (globals : List Global) (names : List Declared) where
     TakesFor e = Takes body (parts_of e)
 
     own-typed : (e : Expr) (t : CType) → TakesFor e → type_of names e ≡ Some t → type_of own_names e ≡ Some t
-    own-typed e t takes is = typed-as body names own_names as e t takes is
+    own-typed e t takes is = typed-as body names own_names are_as e t takes is
 
     pub has-value : (e : Expr) (t : CType) → TakesFor e → type_of names e ≡ Some t → IsOf t (value_of scope e)
     has-value e t takes is = typed-has_value scope placed e t (own-typed e t takes is)

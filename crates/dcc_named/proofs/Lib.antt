@@ -4,3 +4,6 @@ pub mod Found
 pub mod Accesses
 pub mod Values
 pub mod Expressions
+pub mod Meaning
+pub mod Texts
+pub mod Offsets

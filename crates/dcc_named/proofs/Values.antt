@@ -86,7 +86,7 @@ module _ (globals : List Global) (names : List Declared) (scope : Scope) where
   IsNumber e = Holds (λ v. v.type.pointer ≡ false) (value_of scope e)
 
   module _ (found : AreFound) where
-    array-gives : (g : Global) → variable_in scope.variables g.name ≡ Some (global_binding g) → is_bytes g ≡ true → value_of scope (Name g.name) ≡ Gives (value (pointer_to Uchar) g.at)
+    pub array-gives : (g : Global) → variable_in scope.variables g.name ≡ Some (global_binding g) → is_bytes g ≡ true → value_of scope (Name g.name) ≡ Gives (value (pointer_to Uchar) g.at)
     array-gives g there bytes =
         let are = bytes-are g bytes in
         ap (λ o. and_then (variable_value scope.memory) (given o)) there
@@ -157,11 +157,11 @@ module _ (globals : List Global) (names : List Declared) (scope : Scope) where
         (value_of scope (Name g.name) ≡ Gives (loaded scope.memory (plain base) here)) × (target_of scope (Name g.name) ≡ Gives (ToMemory (plain base) here))
     scalar-same base g here there at single type = (
       ap (λ o. and_then (variable_value scope.memory) (given o)) there
-      ∙ ap (λ b. if b then array_value g.type (PlacedAt g.at) else Gives (loaded scope.memory g.type g.at)) single
-      ∙ ap₂ (λ t k. Gives (loaded scope.memory t k)) type at,
+          ∙ ap (λ b. if b then array_value g.type (PlacedAt g.at) else Gives (loaded scope.memory g.type g.at)) single
+          ∙ ap₂ (λ t k. Gives (loaded scope.memory t k)) type at,
       ap (λ o. and_then (variable_target g.name) (given o)) there
-      ∙ ap (λ b. if b then Undefined else Gives (ToMemory g.type g.at)) single
-      ∙ ap₂ (λ t k. Gives (ToMemory t k)) type at,
+          ∙ ap (λ b. if b then Undefined else Gives (ToMemory g.type g.at)) single
+          ∙ ap₂ (λ t k. Gives (ToMemory t k)) type at,
     )
 
     pub by-same : (base : Base) {a h : Expr} → By globals names base a h → ((index : Expr) (n : ℕ) (type : Base) → is_number names index ≡ true → a ≡ Binary Add index (Number n type) → IsNumber index) →

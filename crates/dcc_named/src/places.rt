@@ -1,6 +1,6 @@
 //! Where global variables begin.
 
-ghost use Rattle.std.specs.Prelude.{◌≡◌, ℕ, List, IfOk, OnOk, option_map, map};
+ghost use Rattle.std.specs.Prelude.{◌≡◌, ◌==◌, ℕ, List, Some, None, IfOk, OnOk, option_map, map, if◌then◌else◌};
 ghost use Rattle.dcc_c.specs.Tree as tree;
 ghost use Rattle.dcc_c.specs.Types.{plain};
 ghost use Rattle.dcc_c.specs.Views.{global_of};
@@ -13,15 +13,24 @@ use dcc_c::{Base, CType, Global_};
 use std::alloc::{AllocError, Global};
 use std::collections::BTreeMap;
 
+// Adds a global variable to the map, unless another one is there at its offset.
+fn add_first<'n>(places: &mut BTreeMap<u32, &'n Global_>, g: &'n Global_) -> Result<(), AllocError>
+    ensures { OnOk result ((at : ℕ) → placed places.new at ≡ first_found (placed places.old at)
+        (if (global_of g.now).at == at then Some (global_of g.now) else None)) }
+{
+    if let Some(first) = places.insert(g.at, g)? {
+        places.insert(g.at, first)?;
+    }
+    Ok(())
+}
+
 /// Where global variables begin. Want of memory is the only error.
 pub fn places_of(alloc: Global, globals: &[Global_]) -> Result<BTreeMap<u32, &Global_>, AllocError>
     ensures { IfOk result (λ places. KnowsPlaces places (map global_of globals.now)) }
 {
     let mut places = BTreeMap::new(alloc);
     for g in globals {
-        if let Some(first) = places.insert(g.at, g)? {
-            places.insert(g.at, first)?;
-        }
+        add_first(&mut places, g)?;
     }
     Ok(places)
 }
