@@ -10,6 +10,7 @@ use Rattle.dcc_c.specs.declared.syntax.Base.{Base}
 use Rattle.dcc_c.specs.declared.syntax.Base.TheVariants.{Schar, Uchar, Int, Uint, Long, Ulong}
 use Rattle.dcc_c.specs.declared.syntax.CType.{CType}
 use Rattle.dcc_c.specs.declared.syntax.CUn.TheVariants.{Deref}
+use Rattle.dcc_c.specs.declared.syntax.CBin.{CBin}
 use Rattle.dcc_c.specs.declared.syntax.CBin.TheVariants.{Add, Sub}
 use Rattle.dcc_c.specs.Types.{same_base, same_type, plain, pointer_to, size_of}
 use Rattle.dcc_c.specs.Grammar.{is_name}
@@ -44,8 +45,8 @@ module _ (globals : List Global) (names : List Declared) where
   -- What an access to a number of a type at an address is by names: a scalar, bytes of an array, or bytes behind those
   -- of an array.
   pub data By (base : Base) : Expr → Expr → Type 0 where
-    by_scalar : {n below : ℕ} {type : Base} {g : Global} → begins_at globals below ≡ Some g → g.at ≡ offset_of n type → is_scalar base g ≡ true → By base (Number n type) (Name g.name)
-    by_bytes : {n below : ℕ} {type : Base} {g : Global} → begins_at globals below ≡ Some g → below ≤ offset_of n type → is_bytes g ≡ true →
+    by_scalar : {n : ℕ} {type : Base} {g : Global} (below : ℕ) → begins_at globals below ≡ Some g → g.at ≡ offset_of n type → is_scalar base g ≡ true → By base (Number n type) (Name g.name)
+    by_bytes : {n : ℕ} {type : Base} {g : Global} (below : ℕ) → begins_at globals below ≡ Some g → below ≤ offset_of n type → is_bytes g ≡ true →
         By base (Number n type) (number_at base (byte_address base g.name (offset_of n type - g.at)))
     by_sum : {n : ℕ} {type : Base} {g : Global} {index : Expr} → begins_at globals (offset_of n type) ≡ Some g → is_bytes g ≡ true → is_number names index ≡ true →
         By base (Binary Add index (Number n type)) (number_at base (behind g.name index))
@@ -62,9 +63,9 @@ module _ (globals : List Global) (names : List Declared) where
           (if p then Some (Name g.name) else if q then Some (number_at base (byte_address base g.name (here - g.at))) else None) ≡ Some h → By base (Number n type) h
       chosen g below before there true q scalar bytes is =
           let parts = and_parts (g.at == here) (is_scalar base g) scalar in
-          subst (By base (Number n type)) (some-same is) (by_scalar there (eqb-true g.at here parts.0) parts.1)
+          subst (By base (Number n type)) (some-same is) (by_scalar below there (eqb-true g.at here parts.0) parts.1)
       chosen g below before there false true scalar bytes is =
-          subst (By base (Number n type)) (some-same is) (by_bytes there before (and_parts (is_bytes g) (reaches here (size_of (plain base)) g) bytes).0)
+          subst (By base (Number n type)) (some-same is) (by_bytes below there before (and_parts (is_bytes g) (reaches here (size_of (plain base)) g) bytes).0)
       chosen g below before there false false scalar bytes is = absurd cc
 
       by : (o : Option Global) → begins_before globals here ≡ o → option_and_then (direct_in base here) o ≡ Some h → By base (Number n type) h
@@ -92,13 +93,20 @@ module _ (globals : List Global) (names : List Declared) where
       tested true own is = by (begins_at globals at) refl (and_parts (nat_le 2 at) (is_number names index) own).1 is
       tested false own is = absurd cc
 
+  number-is : (base : Base) (operator : CBin) (index : Expr) (n : ℕ) (type : Base) (h : Expr) → moved_by globals names base operator index (offset_of n type) ≡ Some h → By base (Binary operator index (Number n type)) h
+  number-is base Add index n type h is =
+      let f = indexed-is base index (offset_of n type) h is in subst (By base (Binary Add index (Number n type))) f.4 (by_sum f.1 f.2 f.3)
+  number-is base Sub index n type h is =
+      let f = indexed-is base index ((65536 - offset_of n type) % 65536) h is in subst (By base (Binary Sub index (Number n type))) f.4 (by_difference f.1 f.2 f.3)
+  number-is base operator index n type h is = absurd cc
+
+  moved-is : (base : Base) (operator : CBin) (index other h : Expr) → moved globals names base operator index other ≡ Some h → By base (Binary operator index other) h
+  moved-is base operator index (Number n type) h is = number-is base operator index n type h is
+  moved-is base operator index other h is = absurd cc
+
   accessed-is : (base : Base) (a h : Expr) → accessed globals names base a ≡ Some h → By base a h
   accessed-is base (Number n type) h is = direct-is base n type h is
-  accessed-is base (Binary Add index (Number n type)) h is =
-      let f = indexed-is base index (offset_of n type) h is in subst (By base (Binary Add index (Number n type))) f.4 (by_sum f.1 f.2 f.3)
-  accessed-is base (Binary Sub index (Number n type)) h is =
-      let f = indexed-is base index ((65536 - offset_of n type) % 65536) h is in subst (By base (Binary Sub index (Number n type))) f.4 (by_difference f.1 f.2 f.3)
-  accessed-is base (Binary operator index other) h is = absurd cc
+  accessed-is base (Binary operator index other) h is = moved-is base operator index other h is
   accessed-is base a h is = absurd cc
 
   -- what a pointer points to
@@ -143,22 +151,22 @@ module _ (globals : List Global) (names : List Declared) where
       by false = behind-typed name (counted count) _ has refl
 
   pub by-typed : AreDeclared → (base : Base) {a h : Expr} → By base a h → type_of names h ≡ Some (plain base)
-  by-typed declared base (by_scalar {g = g} there at scalar) =
+  by-typed declared base (by_scalar {g = g} below there at scalar) =
       let is = scalar-is base g scalar in
-      ap (option_and_then type_of_name) (declared _ g there) ∙ ap (λ b. if not b then Some g.type else if g.type.pointer then None else Some (pointer_to g.type.base)) is.0 ∙ ap Some is.1
-  by-typed declared base (by_bytes {g = g} there before bytes) = number-at-typed base _ (byte-typed base g.name _ (bytes-typed declared _ g there bytes))
+      ap (option_and_then type_of_name) (declared below g there) ∙ ap (λ b. if not b then Some g.type else if g.type.pointer then None else Some (pointer_to g.type.base)) is.0 ∙ ap Some is.1
+  by-typed declared base (by_bytes {g = g} below there before bytes) = number-at-typed base _ (byte-typed base g.name _ (bytes-typed declared _ g there bytes))
   by-typed declared base (by_sum {g = g} {index = index} there bytes number) =
       let has = number-typed names index number in number-at-typed base _ (behind-typed g.name index has.0 (bytes-typed declared _ g there bytes) has.1)
   by-typed declared base (by_difference {g = g} {index = index} there bytes number) =
       let has = number-typed names index number in number-at-typed base _ (behind-typed g.name index has.0 (bytes-typed declared _ g there bytes) has.1)
 
   pub by-placed : AreDeclared → (base : Base) {a h : Expr} → By base a h → place_type names h ≡ Some (plain base)
-  by-placed declared base (by_scalar {g = g} there at scalar) =
+  by-placed declared base (by_scalar {g = g} below there at scalar) =
       let is = scalar-is base g scalar in
-      ap (option_and_then type_of_variable) (declared _ g there) ∙ ap (λ b. if b then None else Some g.type) is.0 ∙ ap Some is.1
-  by-placed declared base (by_bytes there before bytes) = by-typed declared base (by_bytes there before bytes)
-  by-placed declared base (by_sum there bytes number) = by-typed declared base (by_sum there bytes number)
-  by-placed declared base (by_difference there bytes number) = by-typed declared base (by_difference there bytes number)
+      ap (option_and_then type_of_variable) (declared below g there) ∙ ap (λ b. if b then None else Some g.type) is.0 ∙ ap Some is.1
+  by-placed declared base (by_bytes {n} {type} below there before bytes) = by-typed declared base (by_bytes {n = n} {type = type} below there before bytes)
+  by-placed declared base (by_sum {n} {type} there bytes number) = by-typed declared base (by_sum {n = n} {type = type} there bytes number)
+  by-placed declared base (by_difference {n} {type} there bytes number) = by-typed declared base (by_difference {n = n} {type = type} there bytes number)
 
   -- Addresses.
 
@@ -186,8 +194,8 @@ module _ (globals : List Global) (names : List Declared) where
     or-false false = refl
 
     pub by-taken : (base : Base) {a h : Expr} → By base a h → Taken h ≡ Taken (Unary Deref (Cast (pointer_to base) a))
-    by-taken base (by_scalar there at scalar) = refl
-    by-taken base (by_bytes {g = g} there before bytes) = number-at-taken base _ ∙ byte-taken base g.name _
+    by-taken base (by_scalar below there at scalar) = refl
+    by-taken base (by_bytes {g = g} below there before bytes) = number-at-taken base _ ∙ byte-taken base g.name _
     by-taken base (by_sum {n} {type = type} {index = index} there bytes number) =
         number-at-taken base _ ∙ or-false (Taken index) ∙ sym (list_any-append (is_address_of word) (parts_of index) (Number n type ∷ []))
     by-taken base (by_difference {n} {type = type} {index = index} there bytes number) =
@@ -222,8 +230,8 @@ module _ (globals : List Global) (names : List Declared) where
       by false = and_from (is_name name) (is_writable_expr (counted count)) named (counted-written count few)
 
   pub by-written : AreNames → (base : Base) {a h : Expr} → By base a h → is_writable_expr a ≡ true → is_writable_expr h ≡ true
-  by-written named base (by_scalar {g = g} there at scalar) is = named _ g there
-  by-written named base (by_bytes {n} {type = type} {g = g} there before bytes) is =
+  by-written named base (by_scalar {g = g} below there at scalar) is = named _ g there
+  by-written named base (by_bytes {n} {type = type} {g = g} below there before bytes) is =
       number-at-written base _ ∙ byte-written base g.name (offset_of n type - g.at) (few n type g.at) (named _ g there)
     where
       few : (n : ℕ) (type : Base) (at : ℕ) → offset_of n type - at < 65536
@@ -234,7 +242,7 @@ module _ (globals : List Global) (names : List Declared) where
       number-at-written base _ ∙ and_from (is_name g.name) (is_writable_expr index) (named _ g there) (and_parts (is_writable_expr index) (is_writable_expr (Number n type)) is).0
 
   pub by-place : (base : Base) {a h : Expr} → By base a h → is_place h ≡ true
-  by-place base (by_scalar there at scalar) = refl
-  by-place base (by_bytes there before bytes) = refl
+  by-place base (by_scalar below there at scalar) = refl
+  by-place base (by_bytes below there before bytes) = refl
   by-place base (by_sum there bytes number) = refl
   by-place base (by_difference there bytes number) = refl

@@ -182,12 +182,12 @@ module _ (globals : List Global) (names : List Declared) where
 
     is-number : (index : Expr) → is_number names index ≡ true → TakesFor index → IsNumber globals names scope index
     is-number index number takes =
-        let typed = number-typed names index number in by (value_of scope index) (has-value index (plain typed.0) takes typed.1)
+        let typed = number-typed names index number in by typed.0 (value_of scope index) (has-value index (plain typed.0) takes typed.1)
       where
-        by : {b : Base} (o : Outcome Value) → IsOf (plain b) o → Holds (λ v. v.type.pointer ≡ false) o
-        by (Gives v) is = ap (λ (t : CType). t.pointer) is
-        by Divides is = tt
-        by Undefined is = absurd is
+        by : (b : Base) (o : Outcome Value) → IsOf (plain b) o → Holds (λ v. v.type.pointer ≡ false) o
+        by b (Gives v) is = ap (λ (t : CType). t.pointer) is
+        by b Divides is = tt
+        by b Undefined is = absurd is
 
     abbrev IsSame : Expr → Expr → Type 0
     IsSame h e = (value_of scope h ≡ value_of scope e) × (target_of scope h ≡ target_of scope e)

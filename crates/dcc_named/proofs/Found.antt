@@ -39,8 +39,8 @@ pub record Stands (gs : List Global) (g : Global) : Type 0 where
   pub among : is_among (map (λ h. h.name) gs) g.name ≡ true
 
 not-both : (b : Bool) → b ≡ true → not b ≡ true → ⊥
-not-both true is no = absurd cc
-not-both false is no = absurd cc
+not-both true is other = absurd cc
+not-both false is other = absurd cc
 
 stands-first : (h : Global) (gs : List Global) → Stands (h ∷ gs) h
 stands-first h gs = record {
@@ -92,9 +92,9 @@ differs-from (u ∷ us) ws word differ there =
         absurd (not-both (is_among (us ++ ws) u) (ap (is_among (us ++ ws)) (sym (same_bytes-equal word u is)) ∙ any_right (same_bytes word) us ws there) alone)
 
 turned : (a b : Word) (s : Bool) → same_bytes a b ≡ false → same_bytes b a ≡ s → s ≡ false
-turned a b false no is = refl
-turned a b true no is =
-    absurd (not-both (same_bytes a b) (ap (λ w. same_bytes w b) (sym (same_bytes-equal b a is)) ∙ same_bytes-refl b) (ap not no))
+turned a b false other is = refl
+turned a b true other is =
+    absurd (not-both (same_bytes a b) (ap (λ w. same_bytes w b) (sym (same_bytes-equal b a is)) ∙ same_bytes-refl b) (ap not other))
 
 or-parts : (a b : Bool) → (a || b) ≡ false → (a ≡ false) × (b ≡ false)
 or-parts false b is = (refl, is)

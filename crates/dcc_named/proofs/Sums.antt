@@ -16,7 +16,17 @@ is_wide t = true
 
 pub common-wide : (a b : Base) → is_wide (common_type a b) ≡ true
 common-wide Schar Schar = refl
-common-wide _ _ = refl
+common-wide Schar _ = refl
+common-wide Uchar Schar = refl
+common-wide Uchar _ = refl
+common-wide Int Schar = refl
+common-wide Int _ = refl
+common-wide Uint Schar = refl
+common-wide Uint _ = refl
+common-wide Long Schar = refl
+common-wide Long _ = refl
+common-wide Ulong Schar = refl
+common-wide Ulong _ = refl
 
 cut-16 : (t : Base) (n : ℕ) → is_wide t ≡ true → extended_bits t (n % 2 ^ bits_of t) % 65536 ≡ n % 65536
 cut-16 Schar n wide = absurd (true≢false (sym wide))

@@ -166,9 +166,9 @@ module _ (globals : List Global) (names : List Declared) (scope : Scope) where
 
     pub by-same : (base : Base) {a h : Expr} → By globals names base a h → ((index : Expr) (n : ℕ) (type : Base) → is_number names index ≡ true → a ≡ Binary Add index (Number n type) → IsNumber index) →
         ((index : Expr) (n : ℕ) (type : Base) → is_number names index ≡ true → a ≡ Binary Sub index (Number n type) → IsNumber index) → IsSame h (Unary Deref (Cast (pointer_to base) a))
-    by-same base (by_scalar {n} {type = type} {g = g} there at scalar) add sub =
-        let is = scalar-is base g scalar in scalar-same base g (offset_of n type) (found _ g there).1 at is.0 is.1
-    by-same base (by_bytes {n} {below} {type} {g} there before bytes) add sub =
+    by-same base (by_scalar {n} {type} {g} below there at scalar) add sub =
+        let is = scalar-is base g scalar in scalar-same base g (offset_of n type) (found below g there).1 at is.0 is.1
+    by-same base (by_bytes {n} {type} {g} below there before bytes) add sub =
         let own = found below g there in
         let here = offset_of n type in
         let not_later : g.at ≤ here = omega (arith, own.0, before) in
