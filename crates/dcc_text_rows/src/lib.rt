@@ -7,6 +7,8 @@ mod casts;
 #[cfg(test)]
 mod lexing;
 #[cfg(test)]
+mod named;
+#[cfg(test)]
 mod parsing;
 #[cfg(test)]
 mod printing;

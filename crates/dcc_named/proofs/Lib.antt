@@ -1,0 +1,9 @@
+pub mod Operands
+pub mod Sums
+pub mod Found
+pub mod Accesses
+pub mod Values
+pub mod Expressions
+pub mod Meaning
+pub mod Texts
+pub mod Offsets
