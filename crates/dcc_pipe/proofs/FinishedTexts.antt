@@ -6,6 +6,9 @@ use Rattle.dcc_c.specs.Tree.{Global, Tree}
 use Rattle.dcc_c.proofs.Writable.{IsWritable}
 use Rattle.dcc_casts.specs.Casts.{without_casts, writing}
 use Rattle.dcc_casts.specs.Laws.{NeedlessCastsMayGo}
+use Rattle.dcc_named.specs.Laws.{AccessesMayBeNamed}
+use Rattle.dcc_named.specs.Named as named
+use Rattle.dcc_named.specs.Named.{with_names}
 use Rattle.dcc_respell.specs.Laws.{RespelledTextsRunAlike}
 use Rattle.dcc_print.specs.Unbroken.{is_unbroken_tree}
 use Rattle.dcc_print.proofs.UnbrokenText.{tree-unbroken}
@@ -13,20 +16,33 @@ use Rattle.dcc_pipe.specs.Finished.{finished, IsFinishedFrom}
 use Rattle.dcc_pipe.specs.Kept.{IsKept}
 use Rattle.dcc_pipe.specs.WholeText.{whole_text, IsWholeText}
 use Rattle.dcc_pipe.proofs.DeclaredFunctions.{same-autos}
-use Rattle.dcc_pipe.proofs.KeptTexts.{kept-by}
+use Rattle.dcc_pipe.proofs.KeptTexts.{kept-by, kept-further}
 
-pub finished-kept : RespelledTextsRunAlike → NeedlessCastsMayGo → (plain : Tree) → IsWritable plain
-    → IsKept plain (finished plain)
-finished-kept law casts plain writable =
-    let less = casts plain writable in
-    kept-by law plain (without_casts plain) less.writable less.respelled (same-autos (writing plain) _ _ plain.functions)
+named-kept : RespelledTextsRunAlike → AccessesMayBeNamed → (plain : Tree) → IsWritable plain
+    → IsKept plain (with_names plain)
+named-kept law names plain writable =
+    let by_names = names plain writable in
+    kept-by law plain (with_names plain) by_names.writable by_names.respelled
+    (same-autos (named.writing plain) _ _ plain.functions)
+
+casts-kept : RespelledTextsRunAlike → NeedlessCastsMayGo → (tree : Tree) → IsWritable tree
+    → IsKept tree (without_casts tree)
+casts-kept law casts tree writable =
+    let less = casts tree writable in
+    kept-by law tree (without_casts tree) less.writable less.respelled (same-autos (writing tree) _ _ tree.functions)
+
+pub finished-kept : RespelledTextsRunAlike → AccessesMayBeNamed → NeedlessCastsMayGo → (plain : Tree)
+    → IsWritable plain → IsKept plain (finished plain)
+finished-kept law names casts plain writable =
+    let first = named-kept law names plain writable in
+    kept-further plain (with_names plain) (finished plain) first (casts-kept law casts (with_names plain) first.writable)
 
 -- a tree whose lines are counted, and which was written without needless casts
-pub is-finished : RespelledTextsRunAlike → NeedlessCastsMayGo → (plain written counted : Tree) → IsWritable plain
-    → written ≡ finished plain → (is_unbroken_tree written ≡ true → counted ≡ numbered written)
+pub is-finished : RespelledTextsRunAlike → AccessesMayBeNamed → NeedlessCastsMayGo → (plain written counted : Tree)
+    → IsWritable plain → written ≡ finished plain → (is_unbroken_tree written ≡ true → counted ≡ numbered written)
     → IsFinishedFrom plain counted
-is-finished law casts plain written counted writable same counts =
-    let kept = finished-kept law casts plain writable in
+is-finished law names casts plain written counted writable same counts =
+    let kept = finished-kept law names casts plain writable in
     record {
       is = counts (ap is_unbroken_tree same ∙ tree-unbroken (finished plain) kept.writable) ∙ ap numbered same;
       kept = kept;
