@@ -15,7 +15,7 @@ returns-in-Bin c = λ globals ds knows known.
     let operator = c.in-Bin.operator in
     IfOk-weaker c.moved.result _ _
     (λ o own. own
-    ∙ ap (λ x. spec.moved globals ds base operator (expr_of x) (expr_of c.deref-in-Bin.result.now)) c.deref.ensures.value
-    ∙ ap (λ x. spec.moved globals ds base operator (expr_of c.in-Bin.index.value) (expr_of x)) c.deref-in-Bin.ensures.value
+    ∙ ap (λ x. spec.moved globals ds base operator (expr_of x) (expr_of c.deref-in-Bin.result.now)) c.deref.ensures
+    ∙ ap (λ x. spec.moved globals ds base operator (expr_of c.in-Bin.index.value) (expr_of x)) c.deref-in-Bin.ensures
     ∙ ap (λ x. spec.accessed globals ds base (expr_of x)) (sym c.in-Bin.is))
     (c.moved.ensures globals ds knows known)

@@ -10,7 +10,7 @@ returns-then-ty c = λ globals ds knows known.
     let type = c.in-Cast.ty in
     IfOk-weaker c.accessed.result _ _
     (λ o own. own
-    ∙ ap (λ x. spec.accessed globals ds type.base (expr_of x)) c.deref.ensures.value
+    ∙ ap (λ x. spec.accessed globals ds type.base (expr_of x)) c.deref.ensures
     ∙ ap (λ b. if b then spec.accessed globals ds type.base (expr_of c.in-Cast.address.value) else None) (sym c.if-ty.true)
     ∙ ap (λ x. spec.pointed_by globals ds (expr_of x)) (sym c.in-Cast.is))
     (c.accessed.ensures globals ds knows known)

@@ -9,4 +9,4 @@ returns-in-Some c = λ globals knows.
 
 pub returns-in-None : goal.returns-in-None
 returns-in-None c = λ globals knows.
-    before-nothing c.args.places.now globals c.args.at knows (λ q upto. (c.range.ensures.in_range tt).5 c.in-None.ensures.steps q (tt, upto))
+    before-nothing c.args.places.now globals c.args.at knows (λ q upto. (c.range.ensures.in_range tt).5 c.in-None.ensures.steps.0 q (tt, upto))
