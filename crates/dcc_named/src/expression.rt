@@ -58,7 +58,8 @@ pub fn named(alloc: Global, scene: &Scene, e: &CExpr) -> Result<CExpr, AllocErro
         CExpr::Name(word) => Ok(CExpr::Name(word.clone()?)),
         CExpr::Un(CUn::Deref, a) => {
             let a = named(alloc, scene, a)?;
-            pointed(alloc, scene, a)
+            let by_names = pointed(alloc, scene, a)?;
+            Ok(by_names)
         }
         CExpr::Un(CUn::AddressOf, a) => {
             let a = Box::new(alloc, copied(alloc, a)?)?;
