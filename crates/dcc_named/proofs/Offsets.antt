@@ -46,8 +46,8 @@ not-less : (k q : ℕ) → is_lt (nat_cmp k q) ≡ false → k < q → ⊥
 not-less k q is less = grind (arith, nat_tests)
 
 none-by : {X : Type 0} (o : Option X) → (IsSome o → ⊥) → o ≡ None
-none-by None no = refl
-none-by (Some x) no = absurd (no tt)
+none-by None never = refl
+none-by (Some x) never = absurd (never refl)
 
 upto : (q at : ℕ) → q ≤ at → is_gt (nat_cmp q at) ≡ false
 upto q at most = grind (arith, nat_tests)

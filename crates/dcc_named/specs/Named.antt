@@ -10,7 +10,7 @@ use Rattle.dcc_c.specs.declared.syntax.CBin.{CBin}
 use Rattle.dcc_c.specs.declared.syntax.CBin.TheVariants.{Add, Sub}
 use Rattle.dcc_c.specs.Token.{same_bytes}
 use Rattle.dcc_c.specs.Types.{same_base, same_type, plain, pointer_to, size_of, wrapped_bits, convert}
-use Rattle.dcc_c.specs.Placement.{after_global}
+use Rattle.dcc_c.specs.Placement.{elements}
 use Rattle.dcc_c.specs.Tree.{Word, Expr, Number, Name, Unary, Binary, Conditional, Cast, Global, Function, Tree}
 use Rattle.dcc_c.specs.Typing.{Declared}
 use Rattle.dcc_c.specs.Rules.{declared_in, is_number, expr_depth}
@@ -61,9 +61,9 @@ abbrev pub byte_address : Base → Word → ℕ → Expr
 byte_address base name count =
     if count == 0 && not (same_base base Uchar) then Name name else behind name (counted count)
 
--- the global variable has all of so many bytes from an offset on, at which it doesn't begin later
+-- the array of bytes has all of so many bytes from an offset on, at which it doesn't begin later
 abbrev pub reaches : ℕ → ℕ → Global → Bool
-reaches at bytes g = nat_le (at + bytes) (after_global g)
+reaches at bytes g = nat_le (at + bytes) (g.at + elements g.len)
 
 -- the number of the type at an offset, in the global variable that begins there or before: a scalar, or bytes of an
 -- array

@@ -38,7 +38,7 @@ pub record IsSceneOf (scene : Scene) (tree : Tree) (f : Function) : Type 0 where
 pub record IsWriting (scene : Scene) (w : Writing) : Type 0 where
   pub tree : Tree
   pub function : Function
-  pub scene : IsSceneOf scene tree function
+  pub known : IsSceneOf scene tree function
   pub is : w ≡ writing tree function
 
 -- what is known wherever a function of a text stands is what the text declares

@@ -1,7 +1,8 @@
 //! Expressions whose accesses are written by names.
 
 ghost use Rattle.std.specs.Prelude.{◌≡◌, nat_le, List, IfOk, option_map, map};
-ghost use Rattle.dcc_c.specs.Tree as tree;
+ghost use Rattle.dcc_c.specs.Tree as trees;
+ghost use Rattle.dcc_c.specs.Tree.{Function, Tree};
 ghost use Rattle.dcc_c.specs.Rules as rules;
 ghost use Rattle.dcc_c.specs.Typing as typing;
 ghost use Rattle.dcc_c.specs.Views.{expr_of, global_of};
@@ -18,7 +19,7 @@ use std::alloc::{AllocError, Global};
 
 // What a pointer points to, where it is a number that was cast to one.
 fn pointed_by(alloc: Global, scene: &Scene, e: &CExpr) -> Result<Option<CExpr>, AllocError>
-    ensures { (globals : List tree.Global) (ds : List typing.Declared) → KnowsPlaces scene.now.places.now globals →
+    ensures { (globals : List trees.Global) (ds : List typing.Declared) → KnowsPlaces scene.now.places.now globals →
         IsKnown scene.now.names ds →
         IfOk result (λ o. option_map expr_of o ≡ spec.pointed_by globals ds (expr_of e.now)) }
 {
@@ -36,7 +37,7 @@ fn pointed_by(alloc: Global, scene: &Scene, e: &CExpr) -> Result<Option<CExpr>, 
 
 // What a pointer points to.
 fn pointed(alloc: Global, scene: &Scene, e: CExpr) -> Result<CExpr, AllocError>
-    ensures { (globals : List tree.Global) (ds : List typing.Declared) → KnowsPlaces scene.now.places.now globals →
+    ensures { (globals : List trees.Global) (ds : List typing.Declared) → KnowsPlaces scene.now.places.now globals →
         IsKnown scene.now.names ds →
         IfOk result (λ after. expr_of after ≡ spec.pointed globals ds (expr_of e)) }
 {
@@ -48,7 +49,7 @@ fn pointed(alloc: Global, scene: &Scene, e: CExpr) -> Result<CExpr, AllocError>
 
 /// The expression with its accesses by names. Want of memory is the only error.
 pub fn named(alloc: Global, scene: &Scene, e: &CExpr) -> Result<CExpr, AllocError>
-    ensures { (globals : List tree.Global) (ds : List typing.Declared) → KnowsPlaces scene.now.places.now globals →
+    ensures { (globals : List trees.Global) (ds : List typing.Declared) → KnowsPlaces scene.now.places.now globals →
         IsKnown scene.now.names ds →
         IfOk result (λ after. expr_of after ≡ spec.named globals ds (expr_of e.now)) }
 {
@@ -57,7 +58,8 @@ pub fn named(alloc: Global, scene: &Scene, e: &CExpr) -> Result<CExpr, AllocErro
         CExpr::Name(word) => Ok(CExpr::Name(word.clone()?)),
         CExpr::Un(CUn::Deref, a) => {
             let a = named(alloc, scene, a)?;
-            pointed(alloc, scene, a)
+            let by_names = pointed(alloc, scene, a)?;
+            Ok(by_names)
         }
         CExpr::Un(CUn::AddressOf, a) => {
             let a = Box::new(alloc, copied(alloc, a)?)?;
@@ -105,7 +107,7 @@ fn is_shallow(e: &CExpr, limit: u32) -> bool
 /// The expression of a function with its accesses by names, unless it would be too deep. Want of memory is the only
 /// error.
 pub fn by_names(alloc: Global, scene: &Scene, e: &CExpr) -> Result<CExpr, AllocError>
-    ensures { (tree : tree.Tree) (f : tree.Function) → IsSceneOf scene.now tree f →
+    ensures { (tree : Tree) (f : Function) → IsSceneOf scene.now tree f →
         IfOk result (λ after. expr_of after ≡ spec.by_names tree f (expr_of e.now)) }
 {
     let after = named(alloc, scene, e)?;
@@ -130,7 +132,7 @@ fn address_in(alloc: Global, g: &Global_) -> Result<Option<CExpr>, AllocError>
 
 // The address of a text that is written, by the name of the array that begins there.
 fn written_text(alloc: Global, scene: &Scene, e: &CExpr) -> Result<Option<CExpr>, AllocError>
-    ensures { (globals : List tree.Global) → KnowsPlaces scene.now.places.now globals →
+    ensures { (globals : List trees.Global) → KnowsPlaces scene.now.places.now globals →
         IfOk result (λ o. option_map expr_of o ≡ spec.written_text globals (expr_of e.now)) }
 {
     match e {
@@ -144,7 +146,7 @@ fn written_text(alloc: Global, scene: &Scene, e: &CExpr) -> Result<Option<CExpr>
 
 // The argument of `dos_puts`.
 fn text_argument(alloc: Global, scene: &Scene, e: &CExpr) -> Result<CExpr, AllocError>
-    ensures { (tree : tree.Tree) (f : tree.Function) → IsSceneOf scene.now tree f →
+    ensures { (tree : Tree) (f : Function) → IsSceneOf scene.now tree f →
         IfOk result (λ after. expr_of after ≡ spec.text_argument tree f (expr_of e.now)) }
 {
     match written_text(alloc, scene, e)? {
@@ -155,7 +157,7 @@ fn text_argument(alloc: Global, scene: &Scene, e: &CExpr) -> Result<CExpr, Alloc
 
 // An argument of the function with a name.
 fn argument(alloc: Global, scene: &Scene, function: &str, e: &CExpr) -> Result<CExpr, AllocError>
-    ensures { (tree : tree.Tree) (f : tree.Function) → IsSceneOf scene.now tree f →
+    ensures { (tree : Tree) (f : Function) → IsSceneOf scene.now tree f →
         IfOk result (λ after. expr_of after ≡ spec.argument_named tree f function.now (expr_of e.now)) }
 {
     if function == "dos_puts" {
@@ -172,7 +174,7 @@ pub fn arguments(
     function: &str,
     es: &[CExpr],
 ) -> Result<Vec<CExpr>, AllocError>
-    ensures { (tree : tree.Tree) (f : tree.Function) → IsSceneOf scene.now tree f → IfOk result
+    ensures { (tree : Tree) (f : Function) → IsSceneOf scene.now tree f → IfOk result
         (λ after. map expr_of after.items ≡ map (spec.argument_named tree f function.now) (map expr_of es.now)) }
 {
     let mut after = Vec::with_capacity(alloc, es.len())?;

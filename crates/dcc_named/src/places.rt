@@ -2,9 +2,7 @@
 
 ghost use Rattle.std.specs.Prelude.{◌≡◌, ◌==◌, ℕ, List, Some, None, IfOk, OnOk, option_map, map, if◌then◌else◌};
 ghost use Rattle.dcc_c.specs.Tree as tree;
-ghost use Rattle.dcc_c.specs.Types.{plain};
 ghost use Rattle.dcc_c.specs.Views.{global_of};
-ghost use Rattle.dcc_c.specs.Placement as placement;
 ghost use Rattle.dcc_check.specs.Declarations.{first_found};
 ghost use Rattle.dcc_named.specs.Named as spec;
 ghost use Rattle.dcc_named.specs.Views.{lent, placed, KnowsPlaces};
@@ -48,8 +46,10 @@ pub fn begins_before<'n>(places: &BTreeMap<u32, &'n Global_>, at: u32) -> Option
     ensures { (globals : List tree.Global) → KnowsPlaces places.now globals →
         option_map lent result ≡ spec.begins_before globals at }
 {
-    let (_, g) = places.range(..=at).next_back()?;
-    Some(*g)
+    match places.range(..=at).next_back() {
+        Some((_, g)) => Some(*g),
+        None => None,
+    }
 }
 
 /// Whether the global variable is one number of the type.
@@ -66,13 +66,13 @@ pub fn is_bytes(g: &Global_) -> bool
     g.len.is_some() && g.ty == CType::plain(Base::Uchar)
 }
 
-/// Whether the global variable has all of so many bytes from an offset on.
+/// Whether the array of bytes has all of so many bytes from an offset on, at which it doesn't begin later.
 pub fn reaches(g: &Global_, at: u32, bytes: u32) -> bool
     ensures { result ≡ spec.reaches at bytes (global_of g.now) }
 {
-    let elements = match g.len {
-        Some(len) => u64::from(len),
-        None => 1,
+    let last = match g.len {
+        Some(len) => u64::from(g.at) + u64::from(len),
+        None => u64::from(g.at) + 1,
     };
-    u64::from(at) + u64::from(bytes) <= u64::from(g.at) + u64::from(g.ty.size()) * elements
+    u64::from(at) + u64::from(bytes) <= last
 }

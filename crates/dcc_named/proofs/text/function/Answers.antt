@@ -23,7 +23,7 @@ returns c = λ tree knows.
     c.function_after.ensures (spec.writing tree f) (record {
       tree = tree;
       function = f;
-      scene = record {
+      known = record {
         names = λ word. known-variable (held c.in_ok-own.own word) (held c.args.known.now.globals.now word) params locals (map declared_global tree.globals) word (own word) (knows.globals word);
         places = knows.places;
       };
