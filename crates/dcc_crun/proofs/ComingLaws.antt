@@ -185,7 +185,7 @@ step_performs program m procedure row here within there inside done tree points 
         running = call.running;
         procedure_is = is;
         own = rest.own;
-        acts = is.rows.acts m.call.at rest.own row rest.here at_row refl;
+        acts = (is.rows.acts m.call.at rest.own row rest.here at_row refl).acts;
         is = call.is ∙ sym (rest.alike s);
       },
       refl,

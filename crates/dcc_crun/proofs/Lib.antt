@@ -9,6 +9,7 @@ pub mod FunctionLaws
 pub mod MomentLaws
 pub mod OpenLaws
 pub mod RunLaws
+pub mod LineLaws
 pub mod Scenes
 pub mod StandingLaws
 pub mod StepLaws

@@ -14,12 +14,13 @@ ghost use Rattle.dcc_c.specs.Run.{arguments_of, result_target, stmt_step};
 ghost use Rattle.dcc_value.specs.Evaluation.{typed, itself, outcome_of};
 ghost use Rattle.dcc_value.specs.Resolved.{Names, Fits, Stands, IsTargetIn, contents_of, scope_over, evaluated};
 ghost use Rattle.dcc_value.specs.Resolved.{target_named};
+ghost use Rattle.dcc_prepare.specs.Lines.{next_line, IsLine};
 ghost use Rattle.dcc_prepare.specs.Points.{Goes, StandsIf, StandAll, case_point, label_point, locals_declared};
 ghost use Rattle.dcc_prepare.specs.Points.{dos_call};
 ghost use Rattle.dcc_prepare.specs.declared.program.Dos.{Dos as DosCall};
 ghost use Rattle.dcc_prepare.specs.Programs.{IsProgram, IsProcedure};
 ghost use Rattle.dcc_console.specs.Counts.{CountsFaults};
-ghost use Rattle.dcc_crun.specs.Standing.{IsTargetIf, IsRunning};
+ghost use Rattle.dcc_crun.specs.Standing.{IsTargetIf, IsRunning, IsGoing};
 ghost use Rattle.dcc_crun.specs.Doing.{scene_in, names_at, AreGlobals, single, ArgumentsAre, resolved_arguments};
 ghost use Rattle.dcc_crun.specs.Doing.{IsSame, StaysAt, StepsAside, Keeps, Led, IsLed, Kept, Stood, ComesTo};
 ghost use Rattle.dcc_crun.specs.Doing.{StaysIfRefused, CallsForKey, CallsDos, CallsFunction, CallsAny, IsNoCall, Stays};
@@ -551,6 +552,23 @@ impl Moment {
             Action::Call(row) => self.call(alloc, program, row, input, out),
             _ => Ok(self.act(program, procedure, action)?),
         }
+    }
+
+    /// The line of the next step of a run that is not over.
+    pub(crate) fn line(&self, program: &Program) -> u32
+        ensures { (tree : Tree) (points : ℕ → List Continuation) (s : State) → IsProgram tree points program.now →
+            IsGoing tree points self.now s → IsLine (next_line s.rest) result }
+    {
+        let number = self.call.procedure;
+        if number >= program.procedures.len() {
+            return 0;
+        }
+        let procedure = &program.procedures[number];
+        let at = self.call.at;
+        if at >= procedure.rows.len() {
+            return 0;
+        }
+        procedure.rows[at].line
     }
 
     /// Makes one step of a run that is not over.

@@ -2,9 +2,11 @@
 
 ghost use Rattle.std.specs.Prelude.{◌≡◌, ◌≤◌, ℕ, List, [], ◌∷◌, IfOk};
 ghost use Rattle.dcc_io.specs.Count.{Rose};
-ghost use Rattle.dcc_c.specs.Tree.{Function};
-ghost use Rattle.dcc_c.specs.Run.{first_state};
+ghost use Rattle.dcc_run.specs.End.{Running as running};
+ghost use Rattle.dcc_c.specs.Tree.{Function, Tree};
+ghost use Rattle.dcc_c.specs.Run.{State, first_state};
 ghost use Rattle.dcc_c.specs.Views.{tree_of};
+ghost use Rattle.dcc_prepare.specs.Lines.{next_line, IsLine};
 ghost use Rattle.dcc_console.specs.WithConsole.{beside_console};
 ghost use Rattle.dcc_console.specs.Steps.{Steps, HasEnded, Runs};
 ghost use Rattle.dcc_crun.specs.Standing.{StandsAt};
@@ -61,6 +63,15 @@ impl CRun {
             end,
         };
         Ok(CRun { program, moment })
+    }
+
+    /// The line of the statement that the next step of a run executes that is not over, or of the closing brace. Where the
+    /// next step is a further turn of a `for`, which begins its body again, the line is open.
+    pub fn line(&self) -> u32
+        ensures { (tree : Tree) (s : State) → StandsAt tree self.now s → s.end ≡ running →
+            IsLine (next_line s.rest) result }
+    {
+        self.moment.line(&self.program)
     }
 
     /// Makes one step. A run that is over answers its end again and changes nothing.

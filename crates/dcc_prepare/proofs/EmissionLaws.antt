@@ -12,10 +12,11 @@ use Rattle.dcc_prepare.specs.declared.program.Action.{Action}
 use Rattle.dcc_prepare.specs.declared.program.Row.{Row}
 use Rattle.dcc_prepare.specs.declared.program.Label.{Label}
 use Rattle.dcc_prepare.specs.declared.code.Code.{Code}
-use Rattle.dcc_prepare.specs.Points.{Goes, MayGo, label_named, point_named, IsPass, IsStuck, Acts, AreRows}
+use Rattle.dcc_prepare.specs.Lines.{next_line, IsLine}
+use Rattle.dcc_prepare.specs.Points.{Goes, MayGo, label_named, point_named, IsPass, IsStuck, IsRow, AreRows}
 use Rattle.dcc_prepare.specs.Emission.{Stay, KeepNumbers, Relabels, Grows, Emits}
 use Rattle.dcc_c.proofs.NameLaws.{same_bytes-equal, same_bytes-refl}
-use Rattle.dcc_prepare.proofs.PointLaws.{goes_alike, get-push, some_same, stay_push, stay_all, goes_stay, goes_new, acts_stay, rows_push}
+use Rattle.dcc_prepare.proofs.PointLaws.{goes_alike, get-push, some_same, stay_push, stay_all, goes_stay, goes_new, row_stays, rows_push}
 
 -- Tests.
 
@@ -89,7 +90,7 @@ rows_kept tree f is_open points rows now labels more are keep same =
     (record {
       same = are.same;
       acts = λ at rest row here has shut.
-          acts_stay tree f points points labels more rest row.line row.action (stay_all points) keep (are.acts at rest row here has shut);
+          row_stays tree f points points labels more rest row.line row.action (stay_all points) keep (are.acts at rest row here has shut);
     })
 
 -- Pieces.
@@ -153,7 +154,7 @@ emits_none tree f is_open points code at rest are goes =
 pub pushed : (tree : Tree) (f : Function) (is_open : ℕ → Bool) (points : List Continuation) (before now : Code)
     (own : Continuation) (line at : ℕ) (action : Action) →
     AreRows tree f is_open points before.rows.items before.labels.items →
-    Acts tree f (points ++ own ∷ []) before.labels.items own line action →
+    IsRow tree f (points ++ own ∷ []) before.labels.items own line action →
     at ≡ length before.rows.items →
     now.rows.items ≡ before.rows.items ++ record { action = action; line = line } ∷ [] → now.labels ≡ before.labels →
     Emits tree f is_open points before now (λ word. None) at own
@@ -175,7 +176,7 @@ pushed tree f is_open points before now own line at action are acts place rows l
 pub pushed_ok : (tree : Tree) (f : Function) (is_open : ℕ → Bool) (points : List Continuation) (before now : Code)
     (own : Continuation) (line : ℕ) (action : Action) (r : Result ℕ AllocError) →
     AreRows tree f is_open points before.rows.items before.labels.items →
-    Acts tree f (points ++ own ∷ []) before.labels.items own line action →
+    IsRow tree f (points ++ own ∷ []) before.labels.items own line action →
     IfOk r (λ at. at ≡ length before.rows.items) →
     OnOk r (now.rows.items ≡ before.rows.items ++ record { action = action; line = line } ∷ []) → now.labels ≡ before.labels →
     IfOk r (λ at. Emits tree f is_open points before now (λ word. None) at own)
@@ -197,7 +198,7 @@ reserved tree f is_open points rows labels k row are = record {
   acts = λ at rest other here has closed.
       let (shut, apart) = neither (is_open at) (at == length rows) closed in
       let away : at ≢ length rows = λ is. clash (eqb_same at (length rows) is) apart in
-      acts_stay tree f points (points ++ k ∷ []) labels labels rest other.line other.action (stay_push points k) (keep_all labels)
+      row_stays tree f points (points ++ k ∷ []) labels labels rest other.line other.action (stay_push points k) (keep_all labels)
       (are.acts at rest other (get-push points k at rest here (λ is. away (is ∙ are.same))) (get-push rows row at other has away) shut);
 }
 
@@ -205,7 +206,7 @@ reserved tree f is_open points rows labels k row are = record {
 pub closed : (tree : Tree) (f : Function) (is_open : ℕ → Bool) (points : List Continuation) (rows : List Row)
     (labels : List Label) (slot : ℕ) (k : Continuation) (line : ℕ) (action : Action) →
     AreRows tree f (with_open is_open slot) points rows labels → slice_get points slot ≡ Some k →
-    Acts tree f points labels k line action →
+    IsRow tree f points labels k line action →
     AreRows tree f is_open points (slice_set rows slot (record { action = action; line = line })) labels
 closed tree f is_open points rows labels slot k line action are here acts = record {
   same = are.same ∙ sym (length-set rows slot (record { action = action; line = line }));
@@ -214,8 +215,8 @@ closed tree f is_open points rows labels slot k line action are here acts = reco
         let own : k ≡ rest = some_same _ _ (sym here ∙ ap (slice_get points) (sym same) ∙ is) in
         let new : record { action = action; line = line } ≡ row =
         set-same rows slot (record { action = action; line = line }) row (ap (slice_get (slice_set rows slot (record { action = action; line = line }))) (sym same) ∙ has) in
-        subst (λ (r : Row). Acts tree f points labels rest r.line r.action) new
-        (subst (λ (c : Continuation). Acts tree f points labels c line action) own acts)
+        subst (λ (r : Row). IsRow tree f points labels rest r.line r.action) new
+        (subst (λ (c : Continuation). IsRow tree f points labels c line action) own acts)
     | inr other ↦
         are.acts at rest row is (set-other rows slot (record { action = action; line = line }) at row has other)
         (both_false (is_open at) (at == slot) shut (eqb_other at slot other))
@@ -258,18 +259,6 @@ emits_found tree f is_open points before now found other (Ok at) rest same emits
     labels = λ word. subst (λ o. Relabels tree emits.grows.grown before.labels.items now.labels.items word o) (same word) (emits.grows.labels word);
   };
   goes = emits.goes;
-}
-
--- from a point where the text goes on as it does here
-pub emits_alike : (tree : Tree) (f : Function) (is_open : ℕ → Bool) (points : List Continuation) (before now : Code)
-    (found : Word → Option Continuation) (r : Result ℕ AllocError) (rest other : Continuation) →
-    ((s : State) → step_at tree rest s ≡ step_at tree other s) →
-    IfOk r (λ at. Emits tree f is_open points before now found at rest) →
-    IfOk r (λ at. Emits tree f is_open points before now found at other)
-emits_alike tree f is_open points before now found (Err e) rest other same emits = emits
-emits_alike tree f is_open points before now found (Ok at) rest other same emits = record {
-  grows = emits.grows;
-  goes = goes_alike tree emits.grows.grown at rest other same emits.goes;
 }
 
 pub first_of-none : (o : Option Continuation) → o ≡ first_of o None

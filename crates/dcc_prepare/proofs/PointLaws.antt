@@ -9,7 +9,8 @@ use Rattle.dcc_prepare.specs.declared.program.Action.{Action}
 use Rattle.dcc_prepare.specs.declared.program.Action.TheVariants.{Pass, Assign as Assigns, Call as Calls, Test, Switch, Goto, Return as Returns, Close, Stuck}
 use Rattle.dcc_prepare.specs.declared.program.Row.{Row}
 use Rattle.dcc_prepare.specs.declared.program.Label.{Label}
-use Rattle.dcc_prepare.specs.Points.{Goes, MayGo, Acts, AreRows, StandAll}
+use Rattle.dcc_prepare.specs.Lines.{next_line, IsLine}
+use Rattle.dcc_prepare.specs.Points.{Goes, MayGo, Acts, IsRow, AreRows, StandAll}
 use Rattle.dcc_value.specs.declared.expression.Resolved.{Resolved}
 use Rattle.dcc_value.specs.Resolved.{Names, Stands}
 use Rattle.dcc_prepare.specs.Emission.{Stay, KeepNumbers}
@@ -47,7 +48,7 @@ stay_push points k at rest is = get-left points (k ∷ []) at rest is
 pub goes_stay : (tree : Tree) (before now : List Continuation) (at : ℕ) (rest : Continuation) → Stay before now →
     Goes tree before at rest → Goes tree now at rest
 goes_stay tree before now at rest stay goes =
-    record { own = goes.own; here = stay at goes.own goes.here; alike = goes.alike }
+    record { own = goes.own; here = stay at goes.own goes.here; alike = goes.alike; in_line = goes.in_line }
 
 pub may_stay : (tree : Tree) (before now : List Continuation) (at : Option ℕ) (rest : Option Continuation) →
     Stay before now → MayGo tree before at rest → MayGo tree now at rest
@@ -58,13 +59,19 @@ may_stay tree before now None (Some rest) stay goes = absurd goes
 
 -- a point goes on as another continuation that takes the same steps
 pub goes_alike : (tree : Tree) (points : List Continuation) (at : ℕ) (rest other : Continuation) →
-    ((s : State) → step_at tree rest s ≡ step_at tree other s) → Goes tree points at rest → Goes tree points at other
-goes_alike tree points at rest other same goes =
-    record { own = goes.own; here = goes.here; alike = λ s. goes.alike s ∙ same s }
+    ((s : State) → step_at tree rest s ≡ step_at tree other s) →
+    ((number : ℕ) → IsLine (next_line rest) number → IsLine (next_line other) number) → Goes tree points at rest →
+    Goes tree points at other
+goes_alike tree points at rest other same in_line goes = record {
+  own = goes.own;
+  here = goes.here;
+  alike = λ s. goes.alike s ∙ same s;
+  in_line = λ number is. in_line number (goes.in_line number is);
+}
 
 -- a new point
 pub goes_new : (tree : Tree) (points : List Continuation) (k : Continuation) → Goes tree (points ++ k ∷ []) (length points) k
-goes_new tree points k = record { own = k; here = get-last points k; alike = λ s. refl }
+goes_new tree points k = record { own = k; here = get-last points k; alike = λ s. refl; in_line = λ number is. is }
 
 -- Actions that stay.
 
@@ -121,11 +128,19 @@ acts_stay tree f before now labels more rest line (Returns e) stay keep acts = a
 acts_stay tree f before now labels more rest line Close stay keep acts = acts
 acts_stay tree f before now labels more rest line Stuck stay keep acts = acts
 
+pub row_stays : (tree : Tree) (f : Function) (before now : List Continuation) (labels more : List Label)
+    (rest : Continuation) (line : ℕ) (action : Action) → Stay before now → KeepNumbers labels more →
+    IsRow tree f before labels rest line action → IsRow tree f now more rest line action
+row_stays tree f before now labels more rest line action stay keep row = record {
+  in_line = row.in_line;
+  acts = acts_stay tree f before now labels more rest line action stay keep row.acts;
+}
+
 -- Rows that grow.
 
 pub rows_push : (tree : Tree) (f : Function) (is_open : ℕ → Bool) (points : List Continuation) (rows : List Row)
     (labels : List Label) (k : Continuation) (line : ℕ) (action : Action) →
-    AreRows tree f is_open points rows labels → Acts tree f (points ++ k ∷ []) labels k line action →
+    AreRows tree f is_open points rows labels → IsRow tree f (points ++ k ∷ []) labels k line action →
     AreRows tree f is_open (points ++ k ∷ []) (rows ++ record { action = action; line = line } ∷ []) labels
 rows_push tree f is_open points rows labels k line action are acts = record {
   same = length_push points k ∙ ap (λ n. n + 1) are.same ∙ sym (length_push rows (record { action = action; line = line }));
@@ -135,10 +150,10 @@ rows_push tree f is_open points rows labels k line action are acts = record {
             let own : k ≡ rest = some_same _ _ (sym (get-last points k) ∙ ap (slice_get (points ++ k ∷ [])) (sym is) ∙ here) in
             let new : record { action = action; line = line } ≡ row =
             some_same _ _ (sym (get-last rows (record { action = action; line = line })) ∙ ap (slice_get (rows ++ record { action = action; line = line } ∷ [])) (sym are.same ∙ sym is) ∙ has) in
-            subst (λ (r : Row). Acts tree f (points ++ k ∷ []) labels rest r.line r.action) new
-            (subst (λ (c : Continuation). Acts tree f (points ++ k ∷ []) labels c line action) own acts)
+            subst (λ (r : Row). IsRow tree f (points ++ k ∷ []) labels rest r.line r.action) new
+            (subst (λ (c : Continuation). IsRow tree f (points ++ k ∷ []) labels c line action) own acts)
         | inr other ↦
-            acts_stay tree f points (points ++ k ∷ []) labels labels rest row.line row.action (stay_push points k) (λ word number named. named)
+            row_stays tree f points (points ++ k ∷ []) labels labels rest row.line row.action (stay_push points k) (λ word number named. named)
             (are.acts at rest row (get-push points k at rest here other)
             (get-push rows (record { action = action; line = line }) at row has (λ same. other (same ∙ sym are.same))) closed)
       ];

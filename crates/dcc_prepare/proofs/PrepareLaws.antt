@@ -34,7 +34,7 @@ pub closes : (tree : Tree) (f : Function) (before now : Code) (at line : ℕ) �
     Emits tree f none_open [] before now (λ word. None) at (ends_function line)
 closes tree f before now at line none place rows labels =
     pushed tree f none_open [] before now (ends_function line) line at Close (no_rows tree f before.rows.items before.labels.items none)
-    (record { does = λ s. refl }) place rows labels
+    (record { in_line = refl; acts = record { does = λ s. refl } }) place rows labels
 
 -- after the body there is the closing brace, and nothing to break or to continue
 pub body_leads : (tree : Tree) (points : List Continuation) (at line : ℕ) → Goes tree points at (ends_function line) →

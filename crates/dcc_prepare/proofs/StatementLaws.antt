@@ -18,7 +18,7 @@ use Rattle.dcc_prepare.specs.declared.program.Case.{Case}
 use Rattle.dcc_prepare.specs.declared.code.Code.{Code}
 use Rattle.dcc_prepare.specs.declared.emit.Following.{Following}
 use Rattle.dcc_value.specs.Resolved.{Names, Stands}
-use Rattle.dcc_prepare.specs.Points.{names_in, Goes, MayGo, label_named, point_named, case_point, IsTest, IsSwitch, Acts, AreRows}
+use Rattle.dcc_prepare.specs.Points.{names_in, Goes, MayGo, label_named, point_named, case_point, IsTest, IsSwitch, IsRow, AreRows}
 use Rattle.dcc_prepare.specs.Emission.{Stay, Grows, Emits, EmitsArms, Leads}
 use Rattle.dcc_prepare.proofs.PointLaws.{get-last, stay_push, goes_new, goes_stay, may_stay}
 use Rattle.dcc_prepare.proofs.EmissionLaws.{stay_after, with_open, reserved, closed, relabels_moved, pushed_ok, grows_after, emits_after, emits_after_ok}
@@ -113,7 +113,7 @@ stands_here names there e r same stands = subst (λ (n : Names). Stands n e r) s
 pub emits_push : (tree : Tree) (f : Function) (is_open : ℕ → Bool) (points : List Continuation) (before mid now : Code)
     (found : Word → Option Continuation) (own : Continuation) (at : ℕ) (action : Action) (r : Result ℕ AllocError)
     (g : Grows tree f is_open points before mid found) →
-    Acts tree f (g.grown ++ own ∷ []) mid.labels.items own at action →
+    IsRow tree f (g.grown ++ own ∷ []) mid.labels.items own at action →
     IfOk r (λ p. p ≡ length mid.rows.items) →
     OnOk r (now.rows.items ≡ mid.rows.items ++ record { action = action; line = at } ∷ []) → now.labels ≡ mid.labels →
     IfOk r (λ p. Emits tree f is_open points before now (λ word. found word) p own)
@@ -202,7 +202,7 @@ pub loop_made : (tree : Tree) (f : Function) (is_open : ℕ → Bool) (points : 
     ((are : AreRows tree f (with_open is_open slot) (points ++ turn ∷ []) opened.rows.items opened.labels.items) →
     Goes tree (points ++ turn ∷ []) slot turn →
     (e : Emits tree f (with_open is_open slot) (points ++ turn ∷ []) opened mid found at first) ×
-    Acts tree f e.grows.grown mid.labels.items turn row.line action) →
+    IsRow tree f e.grows.grown mid.labels.items turn row.line action) →
     now.rows.items ≡ slice_set mid.rows.items slot (record { action = action; line = row.line }) → now.labels ≡ mid.labels →
     (e : Emits tree f is_open points before now found at first) × Goes tree e.grows.grown slot turn
 loop_made tree f is_open points before opened mid now found turn slot at first row action place are rows_opened same made set labels =
@@ -232,7 +232,7 @@ loop_made tree f is_open points before opened mid now found turn slot at first r
         };
         goes = one.0.goes;
       },
-      record { own = turn; here = there; alike = λ s. refl },
+      record { own = turn; here = there; alike = λ s. refl; in_line = λ number is. is },
     )
 
 -- Arms.

@@ -1,5 +1,6 @@
 pub mod Emission
 pub mod Frames
+pub mod Lines
 pub mod Placing
 pub mod Points
 pub mod Prepared

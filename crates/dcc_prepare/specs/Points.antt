@@ -30,6 +30,7 @@ use Rattle.dcc_prepare.specs.declared.program.Action.TheVariants.{Goto, Return a
 use Rattle.dcc_prepare.specs.declared.program.Row.{Row}
 use Rattle.dcc_prepare.specs.declared.program.Label.{Label}
 use Rattle.dcc_value.specs.Places.{first_place}
+use Rattle.dcc_prepare.specs.Lines.{next_line, IsLine}
 use Rattle.dcc_value.specs.Resolved.{Names, Stands}
 
 -- Names.
@@ -51,11 +52,13 @@ names_in tree f = record { locals = locals_declared f; globals = map declared_gl
 
 -- Points.
 
--- the text goes on from the point as the continuation does: the first list has the continuations of all points
+-- The text goes on from the point as the continuation does, and in no other line: the first list has the continuations
+-- of all points.
 pub record Goes (tree : Tree) (points : List Continuation) (at : ℕ) (rest : Continuation) : Type 0 where
   pub own : Continuation
   pub here : slice_get points at ≡ Some own
   pub alike : (s : State) → step_at tree own s ≡ step_at tree rest s
+  pub in_line : (number : ℕ) → IsLine (next_line own) number → IsLine (next_line rest) number
 
 -- where there is a continuation, the text goes on from the point as it does; and there is a point exactly where there
 -- is one
@@ -205,9 +208,15 @@ Acts tree f points labels rest line (Returns e) = IsReturn tree f rest line e
 Acts tree f points labels rest line Close = IsClose tree rest line
 Acts tree f points labels rest line Stuck = IsStuck tree rest line
 
--- each point that is not open has its action
+-- the action is the next step of the continuation, and the line is that of the step
+pub record IsRow (tree : Tree) (f : Function) (points : List Continuation) (labels : List Label) (rest : Continuation)
+    (line : ℕ) (action : Action) : Type 0 where
+  pub in_line : IsLine (next_line rest) line
+  pub acts : Acts tree f points labels rest line action
+
+-- each point that is not open has its action, and its line
 pub record AreRows (tree : Tree) (f : Function) (is_open : ℕ → Bool) (points : List Continuation)
     (rows : List Row) (labels : List Label) : Type 0 where
   pub same : length points ≡ length rows
   pub acts : (at : ℕ) (rest : Continuation) (row : Row) → slice_get points at ≡ Some rest →
-      slice_get rows at ≡ Some row → is_open at ≡ false → Acts tree f points labels rest row.line row.action
+      slice_get rows at ≡ Some row → is_open at ≡ false → IsRow tree f points labels rest row.line row.action

@@ -3,12 +3,13 @@
 
 ghost use Rattle.std.specs.Prelude.{◌≡◌, ℕ, Bool, if◌then◌else◌, List, map, Option, None, Some, IfOk, MatchOption};
 ghost use Rattle.std.specs.Prelude.{string_bytes, slice_get, option_map};
-ghost use Rattle.dcc_c.specs.Tree.{Lines, line as before_lines, Arms, Assign, If, While, DoWhile, Switch, Goto, Label};
-ghost use Rattle.dcc_c.specs.Tree.{Return, Function, Tree};
-ghost use Rattle.dcc_c.specs.Run.{Continuation, runs, tests, turns, from_label, from_label_inside, from_label_in_arms};
+ghost use Rattle.dcc_c.specs.Tree.{Lines, line as before_lines, Arms, Assign, If, While, DoWhile, Forever};
+ghost use Rattle.dcc_c.specs.Tree.{Switch, Goto, Label, Return, Function, Tree};
+ghost use Rattle.dcc_c.specs.Run.{Continuation, runs, tests, from_label, from_label_inside, from_label_in_arms};
 ghost use Rattle.dcc_c.specs.Run.{default_body, ends_switch, State, step_at, jump_step, goes_on};
 ghost use Rattle.dcc_c.specs.Dos.{dos_of};
 ghost use Rattle.dcc_c.specs.Views.{expr_of, stmt_of, lines_of, arms_of, arms_if};
+ghost use Rattle.dcc_prepare.specs.Lines.{next_line, IsLine};
 ghost use Rattle.dcc_prepare.specs.Points.{Goes, MayGo, AreRows, IsCallee, StandsIf, StandAll, dos_call};
 ghost use Rattle.dcc_value.specs.Resolved.{names_of};
 ghost use Rattle.dcc_prepare.specs.Emission.{Emits, EmitsAlone, EmitsArms, EmitsIn, EmitsBefore, EmitsStmt, Leads};
@@ -291,7 +292,8 @@ fn emit_return(
 fn emit_jump(line: u32, to: Option<usize>, code: &mut Code<'_>) -> Result<usize, AllocError>
     ensures { (tree : Tree) (f : Function) (is_open : ℕ → Bool) (points : List Continuation)
         (own following : Continuation) (target : Option Continuation) →
-        AreRows tree f is_open points code.old.rows.items code.old.labels.items → MayGo tree points to target →
+        AreRows tree f is_open points code.old.rows.items code.old.labels.items →
+        IsLine (next_line own) line → MayGo tree points to target →
         ((s : State) → step_at tree own s ≡ jump_step target line (goes_on following s)) →
         IfOk result (λ at. Emits tree f is_open points code.old code.new (λ word. None) at own) }
 {
@@ -323,7 +325,8 @@ fn emit_repeated<'a>(
     Ok(yes)
 }
 
-// Makes the points of a body that is executed again and again. The answer is the point of its turn.
+// Makes the points of a `for` in its line: one for its turns, at which it begins, and those of its body. The answer is
+// the point of the turns.
 #[cycle(emit)]
 fn emit_forever<'a>(
     context: &Context<'_, '_, '_>,
@@ -332,10 +335,7 @@ fn emit_forever<'a>(
     next: usize,
     code: &mut Code<'a>,
 ) -> Result<usize, AllocError>
-    ensures { (rest : Continuation) →
-        let turn = turns (lines_of body.now) rest in
-        EmitsIn context.now code.old code.new result (λ tree points. Goes tree points next rest)
-        (λ word. from_label word (lines_of body.now) turn) turn }
+    ensures { EmitsStmt context.now code.old code.new result next (Forever (lines_of body.now)) line }
 {
     let turn = code.push(line, Action::Stuck)?;
     let first = emit_lines(context, body, Following::in_loop(turn, next), code)?;

@@ -12,7 +12,7 @@ use Rattle.dcc_prepare.specs.Points.{Goes, StandsIf, StandAll}
 use Rattle.dcc_prepare.specs.declared.emit.Following.{Following}
 use Rattle.dcc_prepare.specs.Emission.{Emits, EmitsArms, Leads}
 use Rattle.dcc_prepare.proofs.PointLaws.{stay_push, stay_all, goes_stay, goes_alike}
-use Rattle.dcc_prepare.proofs.EmissionLaws.{emits_none, emits_found, emits_alike, first_of-none, emits_after_ok, pushed_ok}
+use Rattle.dcc_prepare.proofs.EmissionLaws.{emits_none, emits_found, first_of-none, emits_after_ok, pushed_ok}
 use Rattle.dcc_prepare.proofs.StatementLaws.{stmt_at, lines_step, leads_stay, leads_after, in_loop_leads, loop_test, stands_here, emits_push, goes_push, if_test, while_test, switch_test, loop_made, first_arm, arms_step}
 use Rattle.dcc_c.proofs.RowLaws.{arm-parts, if-tree, while-tree, do_while-tree, forever-tree, switch-tree}
 use Rattle.dcc_prepare.proofs.emit.+emit.Goals as goal
@@ -36,9 +36,12 @@ emit_repeated-returns t c rest tree f is_open points context are goes =
     let there = goes_stay tree points (points ++ turn ∷ []) c.args.next rest (stay_push points turn) goes in
     let one = c.in_ok-yes.ensures turn tree f _ (points ++ turn ∷ []) context opened (in_loop_leads tree (points ++ turn ∷ []) turn rest c.in_ok-turn.turn c.args.next c.in_loop.result c.in_loop.ensures refl refl own there) in (
       one,
-      loop_test tree f one.grows.grown e body c.args.test.now.line rest c.in_ok-value.value c.in_ok-yes.yes c.args.next
-          (stands_here _ _ _ _ context.names c.in_ok-value.ensures) one.goes
-          (goes_stay tree (points ++ turn ∷ []) one.grows.grown c.args.next rest one.grows.stay there),
+      record {
+        in_line = refl;
+        acts = loop_test tree f one.grows.grown e body c.args.test.now.line rest c.in_ok-value.value c.in_ok-yes.yes c.args.next
+            (stands_here _ _ _ _ context.names c.in_ok-value.ensures) one.goes
+            (goes_stay tree (points ++ turn ∷ []) one.grows.grown c.args.next rest one.grows.stay there);
+      },
     ))
     c.set.ensures.rows c.set.ensures.labels).0
 
@@ -52,7 +55,7 @@ emit_lines-loop-i-init t c =
       made = λ tree f is_open points rest context are leads.
           subst (λ ls. Emits tree f is_open points c.args.code.now c.args.code.now (λ word. from_label word (lines_of ls) rest) c.args.following.next (runs (lines_of ls) rest)) (sym none)
           (emits_none tree f is_open points c.args.code.now c.args.following.next (runs no_lines rest) are
-          (record { own = leads.next.own; here = leads.next.here; alike = leads.next.alike }));
+          (record { own = leads.next.own; here = leads.next.here; alike = leads.next.alike; in_line = leads.next.in_line }));
     }
 
 pub emit_lines-loop-i-preserved : goal.emit_lines-loop-i-preserved
@@ -94,16 +97,19 @@ emit_stmt-returns-in_ok-row-in-Call t c lines rest tree f is_open points context
     stmt_at tree f is_open points c.args.code.now c.push.new.self c.args.line lines rest c.push.result st (stmt_of c.args.stmt.now) named
     (pushed_ok tree f is_open points c.args.code.now c.push.new.self own c.args.line _ c.push.result are
     (record {
-      to = runs lines rest;
-      place = place;
-      word = word;
-      arguments = arguments;
-      place_stands = subst (λ (n : Names). StandsIf n place row.place) context.names made.place;
-      callee = made.callee tree context.functions;
-      stand = subst (λ (n : Names). StandAll n arguments row.arguments.items) context.names made.arguments;
-      goes = subst (λ n. Goes tree (points ++ own ∷ []) n (runs lines rest)) (sym made.next)
-          (goes_stay tree points (points ++ own ∷ []) c.args.following.next (runs lines rest) (stay_push points own) leads.next);
-      does = λ s. refl;
+      in_line = refl;
+      acts = record {
+        to = runs lines rest;
+        place = place;
+        word = word;
+        arguments = arguments;
+        place_stands = subst (λ (n : Names). StandsIf n place row.place) context.names made.place;
+        callee = made.callee tree context.functions;
+        stand = subst (λ (n : Names). StandAll n arguments row.arguments.items) context.names made.arguments;
+        goes = subst (λ n. Goes tree (points ++ own ∷ []) n (runs lines rest)) (sym made.next)
+            (goes_stay tree points (points ++ own ∷ []) c.args.following.next (runs lines rest) (stay_push points own) leads.next);
+        does = λ s. refl;
+      };
     })
     c.push.ensures.point c.push.ensures.rows c.push.ensures.labels)
 
@@ -136,10 +142,13 @@ emit_if-returns t c otherwise lines rest tree f is_open points context are leads
     let one = c.in_ok-yes.ensures following tree f is_open points context are leads.0 in
     let grown = one.grows.grown in
     emits_push tree f is_open points c.args.code.now c.emit_lines.new.code c.push.new.self _ own c.args.test.now.line _ c.push.result one.grows
-    (if_test tree f (grown ++ own ∷ []) e body otherwise lines c.args.test.now.line rest c.in_ok-value.value c.in_ok-yes.yes c.args.no
-    (stands_here _ _ _ _ context.names c.in_ok-value.ensures)
-    (goes_push tree grown grown own c.in_ok-yes.yes (runs body following) (stay_all grown) one.goes)
-    (goes_push tree points grown own c.args.no (runs otherwise following) one.grows.stay leads.1))
+    (record {
+      in_line = refl;
+      acts = if_test tree f (grown ++ own ∷ []) e body otherwise lines c.args.test.now.line rest c.in_ok-value.value c.in_ok-yes.yes c.args.no
+          (stands_here _ _ _ _ context.names c.in_ok-value.ensures)
+          (goes_push tree grown grown own c.in_ok-yes.yes (runs body following) (stay_all grown) one.goes)
+          (goes_push tree points grown own c.args.no (runs otherwise following) one.grows.stay leads.1);
+    })
     c.push.ensures.point c.push.ensures.rows c.push.ensures.labels
 
 pub emit_stmt-returns-in-While : goal.emit_stmt-returns-in-While
@@ -175,10 +184,13 @@ emit_loop-returns-in_ok-value t c lines rest tree f is_open points context are g
     let grown = one.grows.grown in
     rw c.if-tests_first.true
     (emits_push tree f is_open points c.args.code.now c.emit_repeated.new.code c.push.new.self _ own c.args.test.now.line _ c.push.result one.grows
-    (while_test tree f (grown ++ own ∷ []) e body lines c.args.test.now.line rest c.in_ok-value.value c.in_ok-yes.yes c.args.next
-    (stands_here _ _ _ _ context.names c.in_ok-value.ensures)
-    (goes_push tree grown grown own c.in_ok-yes.yes (runs body (tests e body c.args.test.now.line following)) (stay_all grown) one.goes)
-    (goes_push tree points grown own c.args.next following one.grows.stay goes))
+    (record {
+      in_line = refl;
+      acts = while_test tree f (grown ++ own ∷ []) e body lines c.args.test.now.line rest c.in_ok-value.value c.in_ok-yes.yes c.args.next
+          (stands_here _ _ _ _ context.names c.in_ok-value.ensures)
+          (goes_push tree grown grown own c.in_ok-yes.yes (runs body (tests e body c.args.test.now.line following)) (stay_all grown) one.goes)
+          (goes_push tree points grown own c.args.next following one.grows.stay goes);
+    })
     c.push.ensures.point c.push.ensures.rows c.push.ensures.labels)
 
 -- a `do`, which passes to its body
@@ -193,9 +205,12 @@ emit_loop-returns-else-tests_first t c lines rest tree f is_open points context 
     rw c.if-tests_first.false
     (emits_push tree f is_open points c.args.code.now c.emit_repeated.new.code c.push-else-tests_first.new.self _ own c.args.test.now.line _ c.push-else-tests_first.result one.grows
     (record {
-      to = runs body (tests e body c.args.test.now.line following);
-      goes = goes_push tree grown grown own c.in_ok-yes.yes (runs body (tests e body c.args.test.now.line following)) (stay_all grown) one.goes;
-      does = λ s. refl;
+      in_line = refl;
+      acts = record {
+        to = runs body (tests e body c.args.test.now.line following);
+        goes = goes_push tree grown grown own c.in_ok-yes.yes (runs body (tests e body c.args.test.now.line following)) (stay_all grown) one.goes;
+        does = λ s. refl;
+      };
     })
     c.push-else-tests_first.ensures.point c.push-else-tests_first.ensures.rows c.push-else-tests_first.ensures.labels)
 
@@ -210,9 +225,7 @@ emit_stmt-returns-in-Forever t c lines rest tree f is_open points context are le
     ∙ sym (forever-tree c.in-Forever.body)
     ∙ sym (ap stmt_of c.in-Forever.is) in
     stmt_at tree f is_open points c.args.code.now c.emit_forever.new.code c.args.line lines rest c.emit_forever.result st (stmt_of c.args.stmt.now) named
-    (emits_alike tree f is_open points c.args.code.now c.emit_forever.new.code (λ word. from_label word body (turns body following)) c.emit_forever.result (turns body following) own
-    (λ s. refl)
-    (c.emit_forever.ensures following tree f is_open points context are leads.next))
+    (c.emit_forever.ensures lines rest tree f is_open points context are leads.next)
 
 pub emit_stmt-returns-in_ok-otherwise-in-Switch : goal.emit_stmt-returns-in_ok-otherwise-in-Switch
 emit_stmt-returns-in_ok-otherwise-in-Switch t c lines rest tree f is_open points context are leads =
@@ -228,7 +241,7 @@ emit_stmt-returns-in_ok-otherwise-in-Switch t c lines rest tree f is_open points
     ∙ sym (ap stmt_of c.in-Switch.is) in
     let leads_inside : Leads tree points c.inside_switch-inside.result inside =
     subst (λ (b : Following). Leads tree points b inside) (sym c.inside_switch-inside.ensures)
-    (record { next = goes_alike tree points c.args.following.next (runs lines rest) inside (λ s. refl) leads.next; on_break = leads.next; on_continue = leads.on_continue }) in
+    (record { next = goes_alike tree points c.args.following.next (runs lines rest) inside (λ s. refl) (λ number is. is) leads.next; on_break = leads.next; on_continue = leads.on_continue }) in
     let first = c.in_ok-otherwise-in-Switch.ensures inside tree f is_open points context are leads_inside in
     stmt_at tree f is_open points c.args.code.now c.emit_switch.new.code c.args.line lines rest c.emit_switch.result st (stmt_of c.args.stmt.now) named
     (emits_after_ok tree f is_open points c.args.code.now c.emit_default.new.code c.emit_switch.new.code
@@ -245,10 +258,13 @@ emit_switch-returns t c last lines rest tree f is_open points context are leads 
     let one = c.in_ok-cases.ensures tree f is_open points inside context are leads.0 in
     let grown = one.grows.grown in
     emits_push tree f is_open points c.args.code.now c.emit_arms.new.code c.push.new.self _ own c.args.test.now.line _ c.push.result one.grows
-    (switch_test tree f (grown ++ own ∷ []) e arms last lines c.args.test.now.line rest c.in_ok-value.value c.in_ok-cases.cases.items c.args.otherwise
-    (stands_here _ _ _ _ context.names c.in_ok-value.ensures)
-    (λ n. one.goes (grown ++ own ∷ []) n c.args.otherwise (default_body last) (stay_push grown own)
-    (goes_push tree points grown own c.args.otherwise (runs (default_body last) inside) one.grows.stay leads.1)))
+    (record {
+      in_line = refl;
+      acts = switch_test tree f (grown ++ own ∷ []) e arms last lines c.args.test.now.line rest c.in_ok-value.value c.in_ok-cases.cases.items c.args.otherwise
+          (stands_here _ _ _ _ context.names c.in_ok-value.ensures)
+          (λ n. one.goes (grown ++ own ∷ []) n c.args.otherwise (default_body last) (stay_push grown own)
+          (goes_push tree points grown own c.args.otherwise (runs (default_body last) inside) one.grows.stay leads.1));
+    })
     c.push.ensures.point c.push.ensures.rows c.push.ensures.labels
 
 pub emit_stmt-returns-in-Break : goal.emit_stmt-returns-in-Break
@@ -256,14 +272,14 @@ emit_stmt-returns-in-Break t c lines rest tree f is_open points context are lead
     let own = runs (line Break c.args.line lines) rest in
     stmt_at tree f is_open points c.args.code.now c.emit_jump.new.code c.args.line lines rest c.emit_jump.result Break (stmt_of c.args.stmt.now)
     (sym (ap stmt_of c.in-Break.is))
-    (c.emit_jump.ensures tree f is_open points own (runs lines rest) (after_break rest) are leads.on_break (λ s. refl))
+    (c.emit_jump.ensures tree f is_open points own (runs lines rest) (after_break rest) are refl leads.on_break (λ s. refl))
 
 pub emit_stmt-returns-in-Continue : goal.emit_stmt-returns-in-Continue
 emit_stmt-returns-in-Continue t c lines rest tree f is_open points context are leads =
     let own = runs (line Continue c.args.line lines) rest in
     stmt_at tree f is_open points c.args.code.now c.emit_jump-in-Continue.new.code c.args.line lines rest c.emit_jump-in-Continue.result Continue (stmt_of c.args.stmt.now)
     (sym (ap stmt_of c.in-Continue.is))
-    (c.emit_jump-in-Continue.ensures tree f is_open points own (runs lines rest) (after_continue rest) are leads.on_continue (λ s. refl))
+    (c.emit_jump-in-Continue.ensures tree f is_open points own (runs lines rest) (after_continue rest) are refl leads.on_continue (λ s. refl))
 
 pub emit_stmt-returns-in-Goto : goal.emit_stmt-returns-in-Goto
 emit_stmt-returns-in-Goto t c lines rest tree f is_open points context are leads =
@@ -286,9 +302,12 @@ emit_stmt-returns-in-Empty t c lines rest tree f is_open points context are lead
     (sym (ap stmt_of c.in-Empty.is))
     (pushed_ok tree f is_open points c.args.code.now c.push-in-Empty.new.self own c.args.line _ c.push-in-Empty.result are
     (record {
-      to = runs lines rest;
-      goes = goes_stay tree points (points ++ own ∷ []) c.args.following.next (runs lines rest) (stay_push points own) leads.next;
-      does = λ s. refl;
+      in_line = refl;
+      acts = record {
+        to = runs lines rest;
+        goes = goes_stay tree points (points ++ own ∷ []) c.args.following.next (runs lines rest) (stay_push points own) leads.next;
+        does = λ s. refl;
+      };
     })
     c.push-in-Empty.ensures.point c.push-in-Empty.ensures.rows c.push-in-Empty.ensures.labels)
 
@@ -300,16 +319,19 @@ emit_stmt-returns-in-Return t c lines rest tree f is_open points context are lea
     (c.emit_return.ensures tree f is_open points lines rest context are)
 
 pub emit_forever-returns : goal.emit_forever-returns
-emit_forever-returns t c rest tree f is_open points context are goes =
+emit_forever-returns t c lines rest tree f is_open points context are goes =
     let body = lines_of c.args.body.now in
-    let turn = turns body rest in
+    let following = runs lines rest in
+    let turn = turns body following in
+    let own = runs (line (Forever body) c.args.line lines) rest in
     let all = loop_made tree f is_open points c.args.code.now c.push.new.self c.emit_lines.new.code c.set.new.self
-    (λ word. from_label word body turn) turn c.in_ok-turn.turn c.in_ok-first.first (runs body turn) _ _
+    (λ word. from_label word body turn) own c.in_ok-turn.turn c.in_ok-first.first (runs body turn) _ _
     c.in_ok-turn.ensures.point are c.in_ok-turn.ensures.rows c.in_ok-turn.ensures.labels
-    (λ opened own.
-    let there = goes_stay tree points (points ++ turn ∷ []) c.args.next rest (stay_push points turn) goes in
-    let one = c.in_ok-first.ensures turn tree f _ (points ++ turn ∷ []) context opened (in_loop_leads tree (points ++ turn ∷ []) turn rest c.in_ok-turn.turn c.args.next c.in_loop.result c.in_loop.ensures refl refl own there) in
-    (one, record { to = runs body turn; goes = one.goes; does = λ s. refl }))
+    (λ opened here.
+    let there = goes_stay tree points (points ++ own ∷ []) c.args.next following (stay_push points own) goes in
+    let again = goes_alike tree (points ++ own ∷ []) c.in_ok-turn.turn own turn (λ s. refl) (λ number is. tt) here in
+    let one = c.in_ok-first.ensures turn tree f _ (points ++ own ∷ []) context opened (in_loop_leads tree (points ++ own ∷ []) turn following c.in_ok-turn.turn c.args.next c.in_loop.result c.in_loop.ensures refl refl again there) in
+    (one, record { in_line = refl; acts = record { to = runs body turn; goes = one.goes; does = λ s. refl } }))
     c.set.ensures.rows c.set.ensures.labels in
     record { grows = all.0.grows; goes = all.1 }
 
@@ -330,7 +352,7 @@ emit_default-returns-in-None t c rest tree f is_open points context are leads =
     subst (λ (a : Arms). Emits tree f is_open points c.args.code.now c.args.code.now (λ word. from_label_in_arms word a rest) c.args.following.next (runs (default_body a) rest))
     (ap arms_if (sym c.in-None.is))
     (emits_none tree f is_open points c.args.code.now c.args.following.next (runs no_lines rest) are
-    (record { own = leads.next.own; here = leads.next.here; alike = leads.next.alike }))
+    (record { own = leads.next.own; here = leads.next.here; alike = leads.next.alike; in_line = leads.next.in_line }))
 
 pub emit_arms-loop-i-preserved : goal.emit_arms-loop-i-preserved
 emit_arms-loop-i-preserved t c = record {

@@ -14,9 +14,12 @@ returns c tree f is_open points lines rest are goes =
     let one : Emits tree f is_open points c.args.code.now c.push.new.self (λ word. None) at own =
     pushed tree f is_open points c.args.code.now c.push.new.self own c.args.line at _ are
     (record {
-      to = runs lines rest;
-      goes = goes_stay tree points (points ++ own ∷ []) c.args.next (runs lines rest) (stay_push points own) goes;
-      does = λ s. refl;
+      in_line = refl;
+      acts = record {
+        to = runs lines rest;
+        goes = goes_stay tree points (points ++ own ∷ []) c.args.next (runs lines rest) (stay_push points own) goes;
+        does = λ s. refl;
+      };
     })
     c.in_ok-point.ensures.point c.in_ok-point.ensures.rows c.in_ok-point.ensures.labels in
     label_placed tree f is_open points c.args.code.now c.push.new.self c.place_label.new.self word at own one

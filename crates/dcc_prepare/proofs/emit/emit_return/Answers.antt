@@ -14,9 +14,12 @@ returns c tree f is_open points lines rest context are =
     let own = runs (line (Return e) c.args.line lines) rest in
     pushed_ok tree f is_open points c.args.code.now c.push.new.self own c.args.line _ c.push.result are
     (record {
-      expr = e;
-      following = runs lines rest;
-      stands = subst (λ (n : Names). StandsIf n e c.in_ok-value.value) context.names c.in_ok-value.ensures;
-      does = λ s. refl;
+      in_line = refl;
+      acts = record {
+        expr = e;
+        following = runs lines rest;
+        stands = subst (λ (n : Names). StandsIf n e c.in_ok-value.value) context.names c.in_ok-value.ensures;
+        does = λ s. refl;
+      };
     })
     c.push.ensures.point c.push.ensures.rows c.push.ensures.labels
