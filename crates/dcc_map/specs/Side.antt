@@ -66,9 +66,9 @@ module _ {W C S : Type 0} (executor : Executor W C S) (place : S → ℕ) (w : W
     pub events : coming ≡ side.pending ++ placed_events (executor.console w).system place side.steps state
     pub ends : end ≡ end_after (executor.console w).system side.steps state
 
-  -- What an answer leaves of the events that were to come: none is left, and the run has ended; or an event, which is of
-  -- a step at this place, was the first of them, and the others are still to come.
+  -- What an answer leaves of the events that were to come: there was none; or an event, which is of a step at this
+  -- place, was the first of them, and the others are still to come.
   abbrev pub Leaves : Side C → ℕ → List Placed → RunEnd → Option Event → Type 0
-  Leaves now at coming end None = (coming ≡ []) × (now.end ≡ end)
+  Leaves now at coming end None = (coming ≡ []) × Coming now [] end
   Leaves now at coming end (Some event) =
       (rest : List Placed) × (coming ≡ record { at = at; event = event_of event } ∷ rest) × Coming now rest end

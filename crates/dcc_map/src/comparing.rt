@@ -1,9 +1,12 @@
 //! The comparison of a run of an executable with a run of a text.
 
-ghost use Rattle.std.specs.Prelude.{◌≡◌, ◌≤◌, IfOk};
+ghost use Rattle.std.specs.Prelude.{◌≤◌, IfOk};
+ghost use Rattle.dcc_machine.specs.declared.cpu.Cpu.{Cpu};
 ghost use Rattle.dcc_machine.specs.MzImage.{IsLoaded};
 ghost use Rattle.dcc_c.specs.Rules.{IsAllowed};
+ghost use Rattle.dcc_c.specs.Tree.{Tree};
 ghost use Rattle.dcc_c.specs.Views.{tree_of};
+ghost use Rattle.dcc_map.specs.Agreed.{Lists, AreWhole, Differs};
 ghost use Rattle.dcc_map.specs.Compared.{Compares};
 
 use crate::event::are_same;
@@ -22,7 +25,11 @@ fn first_difference(
     machine: &mut MachineSide,
     text: &mut TextSide,
     tally: &mut Tally,
-) -> Result<Option<(u32, u16)>, AllocError> {
+) -> Result<Option<(u32, u16)>, AllocError>
+    ensures { (cpu : Cpu) (tree : Tree) (lists : Lists) →
+        AreWhole cpu tree machine.old text.old tally.old lists →
+        IfOk result (Differs cpu tree machine.new text.new tally.new lists) }
+{
     for _count in 0..u64::MAX {
         let Some(first) = machine.next(alloc)? else {
             return Ok(None);

@@ -1,58 +1,68 @@
 //! The lines of a report.
 
-ghost use Rattle.std.specs.Prelude.{Some, IfOk, string_bytes};
-ghost use Rattle.dcc_map.specs.Lines.{end_words, pair_words, report_lines};
+ghost use Rattle.std.specs.Prelude.{◌≡◌, ◌++◌, IfOk, OnOk};
+ghost use Rattle.std.specs.List.{flat_map};
+ghost use Rattle.dcc_map.specs.Lines.{end_words, pair_line, report_lines};
 
 use crate::report::{End, Pair, Report};
+use dcc_spelled::push_word;
 use std::alloc::{AllocError, Global};
-use std::fmt;
 
-impl fmt::Display for End {
-    ghost output = { λ end. Some (end_words end) };
+// Adds a text to lines.
+fn push_text(lines: &mut Vec<u8>, text: &str) -> Result<(), AllocError>
+    ensures { OnOk result (lines.new.items ≡ lines.old.items ++ text.now) }
+{
+    lines.extend_from_slice(text.as_bytes())
+}
 
-    fn fmt<W: fmt::Write>(&self, f: &mut fmt::Formatter<W>) -> fmt::Result {
-        match *self {
-            End::Running => write!(f, "running"),
-            End::Exit(code) => write!(f, "exit {code}"),
-            End::Divide => write!(f, "divide"),
-            End::Outside(at) => write!(f, "outside {at:04X}"),
-            End::Stuck(line) => write!(f, "stuck {line}"),
+// Adds how a run has ended.
+fn push_end(alloc: Global, lines: &mut Vec<u8>, end: End) -> Result<(), AllocError>
+    ensures { OnOk result (lines.new.items ≡ lines.old.items ++ end_words end) }
+{
+    match end {
+        End::Running => push_text(lines, "running"),
+        End::Exit(code) => push_text(lines, &format!(in alloc; "exit {code}")?),
+        End::Divide => push_text(lines, "divide"),
+        End::Outside(at) => {
+            push_text(lines, "outside ")?;
+            push_word(lines, at)
         }
+        End::Stuck(line) => push_text(lines, &format!(in alloc; "stuck {line}")?),
     }
 }
 
-impl fmt::Display for Pair {
-    ghost output = { λ pair. Some (pair_words pair) };
-
-    fn fmt<W: fmt::Write>(&self, f: &mut fmt::Formatter<W>) -> fmt::Result {
-        let Pair { line, at, count } = *self;
-        write!(f, "{line} {at:04X} {count}")
-    }
+// Adds the line of a pair.
+fn push_pair(alloc: Global, lines: &mut Vec<u8>, pair: &Pair) -> Result<(), AllocError>
+    ensures { OnOk result (lines.new.items ≡ lines.old.items ++ pair_line pair.now) }
+{
+    let Pair { line, at, count } = pair;
+    push_text(lines, &format!(in alloc; "{line} ")?)?;
+    push_word(lines, *at)?;
+    push_text(lines, &format!(in alloc; " {count}\n")?)
 }
 
-// The lines of pairs, after other lines.
-fn add_pairs(alloc: Global, lines: &mut String, pairs: &[Pair]) -> Result<(), AllocError> {
+// Adds the lines of pairs.
+fn push_pairs(alloc: Global, lines: &mut Vec<u8>, pairs: &[Pair]) -> Result<(), AllocError>
+    ensures { OnOk result (lines.new.items ≡ lines.old.items ++ flat_map pair_line pairs.now) }
+{
     for pair in pairs {
-        let line = format!(in alloc; "{pair}\n")?;
-        lines.push_str(&line)?;
+        push_pair(alloc, lines, pair)?;
     }
     Ok(())
 }
 
 /// The lines of a report: how many bytes were written, each line with each offset and how often, and both ends.
-pub fn lines(alloc: Global, report: &Report) -> Result<String, AllocError>
-    ensures { IfOk result (λ lines. string_bytes lines ≡ report_lines report.now) }
+pub fn lines(alloc: Global, report: &Report) -> Result<Vec<u8>, AllocError>
+    ensures { IfOk result (λ lines. lines.items ≡ report_lines report.now) }
 {
-    let Report {
-        bytes,
-        pairs,
-        differs: _,
-        machine,
-        text,
-    } = report;
-    let mut lines = format!(in alloc; "bytes {bytes}\n")?;
-    add_pairs(alloc, &mut lines, pairs)?;
-    let ends = format!(in alloc; "machine {machine}\nc {text}\n")?;
-    lines.push_str(&ends)?;
+    let bytes = report.bytes;
+    let mut lines = Vec::new(alloc);
+    push_text(&mut lines, &format!(in alloc; "bytes {bytes}\n")?)?;
+    push_pairs(alloc, &mut lines, &report.pairs)?;
+    push_text(&mut lines, "machine ")?;
+    push_end(alloc, &mut lines, report.machine)?;
+    push_text(&mut lines, "\nc ")?;
+    push_end(alloc, &mut lines, report.text)?;
+    push_text(&mut lines, "\n")?;
     Ok(lines)
 }

@@ -1,0 +1,12 @@
+pub mod Kinds
+pub mod MachineKinds
+pub mod TextKinds
+pub mod StepLaws
+pub mod SideLaws
+pub mod CommonLaws
+pub mod FewLaws
+pub mod TallyLaws
+pub mod AgreedLaws
+pub mod ReportLaws
+pub mod RunLaws
+pub mod LineLaws
