@@ -568,7 +568,8 @@ impl Moment {
         if at >= procedure.rows.len() {
             return 0;
         }
-        procedure.rows[at].line
+        let row = &procedure.rows[at];
+        row.line
     }
 
     /// Makes one step of a run that is not over.

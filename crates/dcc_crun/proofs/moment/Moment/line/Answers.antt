@@ -17,6 +17,6 @@ pub returns : goal.returns
 returns c tree points s is_program going =
     let program = c.args.program.now in
     let procedure = c.index-procedure.result.now in
-    line_is program c.args.self.now tree points s is_program going procedure c.index-rows-at.result.now c.index-procedure.ensures
-    (omega (arith, program.procedures.ok.0, c.len.ensures, c.if-number-len.false)) c.index-rows-at.ensures
+    line_is program c.args.self.now tree points s is_program going procedure c.index-row.result.now c.index-procedure.ensures
+    (omega (arith, program.procedures.ok.0, c.len.ensures, c.if-number-len.false)) c.index-row.ensures
     (omega (arith, procedure.rows.ok.0, c.len-2.ensures, c.if-at-len.false))
