@@ -1,8 +1,10 @@
-pub mod Kinds
+pub mod StepKinds
 pub mod MachineKinds
 pub mod TextKinds
 pub mod StepLaws
+pub mod PendingLaws
 pub mod SideLaws
+pub mod BothSides
 pub mod CommonLaws
 pub mod FewLaws
 pub mod TallyLaws

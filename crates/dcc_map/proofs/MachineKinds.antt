@@ -18,7 +18,7 @@ use Rattle.dcc_machine.specs.Step.{code_bytes, op_step, instruction_step, step}
 use Rattle.dcc_machine.proofs.ConsoleLaws.{with_console_of, op-keeps, op-keeps_events}
 use Rattle.dcc_console.specs.Console.{Console}
 use Rattle.dcc_step.specs.Stepped.{console_by}
-use Rattle.dcc_map.proofs.Kinds.{IsApart, WritesBytes, TakesKey, StepKind, writes_bytes, takes_key}
+use Rattle.dcc_map.proofs.StepKinds.{IsApart, WritesBytes, TakesKey, StepKind, writes_bytes, takes_key}
 
 module _ (operation : State → State) where
   abbrev pub console : Console State

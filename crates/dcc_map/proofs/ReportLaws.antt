@@ -101,15 +101,15 @@ module _ (machine text : List Placed) (machine_end text_end : RunEnd) (report : 
   pub equal_agree : report.differs ≡ None → AreComparable (events_of machine) (events_of text)
   equal_agree none = elim (one_ends (slice_get machine (length r.common)) (slice_get text (length r.common)) (sym r.differs ∙ none)) [
     | inl ends ↦
-      let short = past_end machine (length r.common) ends in
-      let same : events_of machine ≡ r.common =
-      whole_prefix r.common (events_of machine) r.longest.of_first (let long = length-events machine in omega (arith, short, long)) in
-      inl (subst (λ (l : List RunEvent). IsPrefix l (events_of text)) (sym same) r.longest.of_second)
+        let short = past_end machine (length r.common) ends in
+        let same : events_of machine ≡ r.common =
+        whole_prefix r.common (events_of machine) r.longest.of_first (let long = length-events machine in omega (arith, short, long)) in
+        inl (subst (λ (l : List RunEvent). IsPrefix l (events_of text)) (sym same) r.longest.of_second)
     | inr ends ↦
-      let short = past_end text (length r.common) ends in
-      let same : events_of text ≡ r.common =
-      whole_prefix r.common (events_of text) r.longest.of_second (let long = length-events text in omega (arith, short, long)) in
-      inr (subst (λ (l : List RunEvent). IsPrefix l (events_of machine)) (sym same) r.longest.of_first)
+        let short = past_end text (length r.common) ends in
+        let same : events_of text ≡ r.common =
+        whole_prefix r.common (events_of text) r.longest.of_second (let long = length-events text in omega (arith, short, long)) in
+        inr (subst (λ (l : List RunEvent). IsPrefix l (events_of machine)) (sym same) r.longest.of_first)
   ]
 
   -- where one list is a prefix of the other, no events differ
@@ -128,16 +128,16 @@ module _ (machine text : List Placed) (machine_end text_end : RunEnd) (report : 
       ends (inl front) = elim (some_there machine (length r.common)) [
         | inl none ↦ inl none
         | inr within ↦
-          let few = prefix-length (events_of machine) r.common (r.longest.longest (events_of machine) (prefix_refl (events_of machine)) front) in
-          let long = length-events machine in
-          absurd (omega (arith, within, few, long))
+            let few = prefix-length (events_of machine) r.common (r.longest.longest (events_of machine) (prefix_refl (events_of machine)) front) in
+            let long = length-events machine in
+            absurd (omega (arith, within, few, long))
       ]
       ends (inr front) = elim (some_there text (length r.common)) [
         | inl none ↦ inr none
         | inr within ↦
-          let few = prefix-length (events_of text) r.common (r.longest.longest (events_of text) front (prefix_refl (events_of text))) in
-          let long = length-events text in
-          absurd (omega (arith, within, few, long))
+            let few = prefix-length (events_of text) r.common (r.longest.longest (events_of text) front (prefix_refl (events_of text))) in
+            let long = length-events text in
+            absurd (omega (arith, within, few, long))
       ]
 
 either-way : (m n : ℕ) → (m ≤ n) ⊎ (n ≤ m)

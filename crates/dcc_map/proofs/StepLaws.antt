@@ -10,7 +10,7 @@ use Rattle.dcc_console.specs.Key.{key_events, echoed}
 use Rattle.dcc_console.specs.Laws.{IsLawfulExecutor}
 use Rattle.dcc_console.specs.Steps.{Comes, Makes, IsRefusedRead}
 use Rattle.dcc_console.specs.WithConsole.{WithConsole, beside_console, told_bytes}
-use Rattle.dcc_map.proofs.Kinds.{IsApart, WritesBytes, TakesKey, StepKind, writes_bytes, takes_key}
+use Rattle.dcc_map.proofs.StepKinds.{IsApart, WritesBytes, TakesKey, StepKind, writes_bytes, takes_key}
 
 some_same : {X : Type 0} (x y : X) → Some x ≡ Some y → x ≡ y
 some_same x y e = cc
@@ -74,13 +74,13 @@ module _ {W C S : Type 0} (executor : Executor W C S) (laws : IsLawfulExecutor e
       let bytes : out ≡ written_by m.happened = wrote (0 ∷ []) before out refl m in
       elim kind [
         | writes_bytes k ↦
-          let same : m.happened ≡ writes k.bytes = append_cancel_left (console.system.events s) m.happened (writes k.bytes) (sym c.events ∙ k.events (0 ∷ [])) in
-          let out_is : out ≡ k.bytes = bytes ∙ ap written_by same ∙ written-writes k.bytes in
-          let moved = k.apart (console.left s) (0 ∷ []) in
-          stepped now (console.left s) (console.left s) (writes out) refl
-          (subst (λ (t : S). executor.stands w now t) (sym moved) (laws.stands_with w (console.left s) now (next (0 ∷ [])) c.stands))
-          (ap console.left moved ∙ apart.left (console.left s) (next (0 ∷ [])))
-          (k.events (console.left s) ∙ ap (λ l. console.system.events s ++ writes l) (sym out_is))
+            let same : m.happened ≡ writes k.bytes = append_cancel_left (console.system.events s) m.happened (writes k.bytes) (sym c.events ∙ k.events (0 ∷ [])) in
+            let out_is : out ≡ k.bytes = bytes ∙ ap written_by same ∙ written-writes k.bytes in
+            let moved = k.apart (console.left s) (0 ∷ []) in
+            stepped now (console.left s) (console.left s) (writes out) refl
+            (subst (λ (t : S). executor.stands w now t) (sym moved) (laws.stands_with w (console.left s) now (next (0 ∷ [])) c.stands))
+            (ap console.left moved ∙ apart.left (console.left s) (next (0 ∷ [])))
+            (k.events (console.left s) ∙ ap (λ l. console.system.events s ++ writes l) (sym out_is))
         | takes_key k ↦ absurd (clash (sym (k.key_left 0) ∙ c.left))
       ]
     where

@@ -11,7 +11,7 @@ use Rattle.dcc_c.specs.Dos.{Dos, Putc, Getche, Getch, Puts, Leave, dos_of, dos_s
 use Rattle.dcc_c.specs.Run.{Continuation, ends_function, runs, tests, turns, ends_switch, State, Waiting, with_end, goes_on, on, scope_of, takes, after_break, after_continue, after_goto, if_step, test_step, switch_step, jump_step, result_step, back_step, is_start, close_step, return_step, give_step, with_events, key_step, dos_step, arguments_of, enter_step, result_target, function_in, param_types, call_step, dos_or_call_step, stmt_step, step_at, step}
 use Rattle.dcc_crun.specs.Stepped.{console_of}
 use Rattle.dcc_console.specs.Console.{Console}
-use Rattle.dcc_map.proofs.Kinds.{IsApart, WritesBytes, TakesKey, StepKind, writes_bytes, takes_key, either_kind}
+use Rattle.dcc_map.proofs.StepKinds.{IsApart, WritesBytes, TakesKey, StepKind, writes_bytes, takes_key, either_kind}
 
 module _ (tree : Tree) where
   abbrev console : Console State

@@ -4,6 +4,8 @@ use Rattle.dcc_run.specs.End.{End as RunEnd, Running as running}
 use Rattle.dcc_run.specs.Event.{Event as RunEvent, Wrote as wrote, Took as took, MetEnd as met_end}
 use Rattle.dcc_run.specs.System.{end_after}
 use Rattle.dcc_console.specs.Console.{Executor, left_in, end_in}
+use Rattle.dcc_console.specs.Steps.{IsRefusedRead}
+use Rattle.dcc_console.specs.WithConsole.{beside_console}
 use Rattle.dcc_step.specs.Core.{Core}
 use Rattle.dcc_crun.specs.declared.run.CRun.{CRun}
 use Rattle.dcc_map.specs.declared.event.Event.{Event}
@@ -54,6 +56,11 @@ text_side side = record {
 -- no event is pending, and a further step may be made
 abbrev pub MaySteps : {C : Type 0} → Side C → Type 0
 MaySteps side = (side.pending ≡ []) × (0 < side.steps) × (side.end ≡ running)
+
+-- A step of the code fails at a read while a key is withheld: it is one that takes a key.
+abbrev pub Refuses : {W C S : Type 0} → Executor W C S → C → Type 0
+Refuses executor code =
+    IsRefusedRead executor (beside_console code (Some (0 ∷ [])) (Some [])) (beside_console code (Some (0 ∷ [])) (Some []))
 
 module _ {W C S : Type 0} (executor : Executor W C S) (place : S → ℕ) (w : W) where
   -- These events are still to come, and the run ends so after them: it stands at a state of the system, has told how

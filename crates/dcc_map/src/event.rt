@@ -1,11 +1,11 @@
 //! What happens at a console, and input that is withheld.
 
-ghost use Rattle.std.specs.Prelude.{◌≡◌, ◌^◌, ◌-◌, ◌++◌, ◌∷◌, [], map, Some, OnOk, IsTrue, ◌↔◌};
+ghost use Rattle.std.specs.Prelude.{◌≡◌, ◌^◌, ◌-◌, ◌++◌, ◌∷◌, [], map, Some, IfOk, OnOk, option_to_list, IsTrue, ◌↔◌};
 ghost use Rattle.dcc_map.specs.declared.event.Event.TheVariants.{Wrote};
 ghost use Rattle.dcc_map.specs.Side.{event_of, key_event};
 
 use dcc_io::{Failed, Source};
-use std::alloc::AllocError;
+use std::alloc::{AllocError, Global};
 use std::collections::VecDeque;
 
 /// An event at the console.
@@ -40,6 +40,28 @@ pub(crate) fn key_event(key: Option<u8>) -> Event
     }
 }
 
+/// The key alone, or nothing.
+pub(crate) fn given(alloc: Global, key: Option<u8>) -> Result<Vec<u8>, AllocError>
+    ensures { IfOk result (λ given. given.items ≡ option_to_list key) }
+{
+    let mut given = Vec::new(alloc);
+    if let Some(byte) = key {
+        given.push(byte)?;
+    }
+    Ok(given)
+}
+
+/// The input, from whose front keys are taken.
+pub(crate) fn keys_of(alloc: Global, input: &[u8]) -> Result<VecDeque<u8>, AllocError>
+    ensures { IfOk result (λ keys. keys.items ≡ input.now) }
+{
+    let mut keys = VecDeque::new(alloc);
+    for byte in input {
+        keys.push_back(*byte)?;
+    }
+    Ok(keys)
+}
+
 /// Adds that the bytes were written.
 pub(crate) fn add_written(events: &mut VecDeque<Event>, bytes: &[u8]) -> Result<(), AllocError>
     ensures { OnOk result (events.new.items ≡ events.old.items ++ map Wrote bytes.now) }
@@ -51,6 +73,7 @@ pub(crate) fn add_written(events: &mut VecDeque<Event>, bytes: &[u8]) -> Result<
 }
 
 /// Input of one byte that is withheld: each read fails. A step that fails with it is one that takes a key.
+#[derive(Drop)]
 pub(crate) struct WithheldKey;
 
 impl Source for WithheldKey {

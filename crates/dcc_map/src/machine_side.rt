@@ -11,9 +11,9 @@ ghost use Rattle.dcc_step.specs.Stepped.{machine, end_told};
 ghost use Rattle.dcc_map.specs.Placed.{Placed};
 ghost use Rattle.dcc_map.specs.Comparison.{end_of};
 ghost use Rattle.dcc_map.specs.Compared.{address_of, machine_events};
-ghost use Rattle.dcc_map.specs.Side.{Coming, Leaves, MaySteps, machine_side};
+ghost use Rattle.dcc_map.specs.Side.{Coming, Leaves, MaySteps, Refuses, machine_side};
 
-use crate::event::{Event, WithheldKey, add_written, key_event};
+use crate::event::{Event, WithheldKey, add_written, given, key_event, keys_of};
 use crate::report::{End, Settings};
 use dcc_io::{MemSink, MemSource};
 use dcc_machine::Image;
@@ -63,11 +63,9 @@ impl MachineSide {
             (machine_events settings.now image.now input.now)
             (end_after (machine_system settings.now.cpu) settings.now.most (start_state image.now input.now))) }
     {
-        let mut keys = VecDeque::new(alloc);
-        keys.extend(input.iter().copied())?;
         Ok(MachineSide {
             machine: Machine::new(alloc, image, settings.cpu)?,
-            keys,
+            keys: keys_of(alloc, input)?,
             steps: settings.most,
             at: image.ip,
             pending: VecDeque::new(alloc),
@@ -89,7 +87,7 @@ impl MachineSide {
             IfOk result (Leaves machine address_of cpu (machine_side self.new) self.new.at coming end) }
     {
         let mut out = MemSink::new(alloc, Vec::new(alloc), usize::MAX);
-        while self.is_silent() {
+        'steps: while self.is_silent() {
             self.step(alloc, &mut out)?;
         }
         Ok(self.pending.pop_front())
@@ -102,7 +100,7 @@ impl MachineSide {
             IfOk result (λ found. end_of found ≡ end) }
     {
         self.pending.clear();
-        while self.is_silent() {
+        'steps: while self.is_silent() {
             let mut out = MemSink::new(alloc, Vec::new(alloc), usize::MAX);
             self.step(alloc, &mut out)?;
             self.pending.clear();
@@ -110,7 +108,7 @@ impl MachineSide {
         Ok(self.end)
     }
 
-    // Makes a step.
+    // Makes a step. What it writes goes to an output that is empty yet.
     #[inline(always)]
     fn step(&mut self, alloc: Global, out: &mut MemSink) -> Result<(), AllocError>
         requires may { MaySteps (machine_side self.old) }
@@ -118,16 +116,17 @@ impl MachineSide {
         ensures comes { (cpu : Cpu) (coming : List Placed) (end : RunEnd) →
             Coming machine address_of cpu (machine_side self.old) coming end →
             OnOk result (Coming machine address_of cpu (machine_side self.new) coming end) }
-        ensures steps { self.new.steps < self.old.steps }
+        ensures steps { OnOk result (self.new.steps < self.old.steps) }
         ensures unwritten { OnOk result (self.new.pending.items ≡ [] → out.new.taken ≡ []) }
     {
-        self.at = self.machine.ip();
-        self.steps -= 1;
+        let at = self.machine.ip();
         match self.machine.step(&mut WithheldKey, out) {
             Stepped::InFault => self.take_key(alloc),
             // A write fails only where memory is wanting.
             Stepped::OutFault => Err(AllocError),
             answer => {
+                self.at = at;
+                self.steps -= 1;
                 self.end = end_of(answer);
                 add_written(&mut self.pending, out.taken())
             }
@@ -135,18 +134,25 @@ impl MachineSide {
     }
 
     // Makes a step that takes a key.
-    fn take_key(&mut self, alloc: Global) -> Result<(), AllocError> {
+    fn take_key(&mut self, alloc: Global) -> Result<(), AllocError>
+        requires may { MaySteps (machine_side self.old) }
+        requires takes { Refuses machine self.old.machine }
+        ensures comes { (cpu : Cpu) (coming : List Placed) (end : RunEnd) →
+            Coming machine address_of cpu (machine_side self.old) coming end →
+            OnOk result (Coming machine address_of cpu (machine_side self.new) coming end) }
+        ensures steps { OnOk result (self.new.steps < self.old.steps) }
+        ensures some { OnOk result (0 < length self.new.pending.items) }
+    {
         let mut out = MemSink::new(alloc, Vec::new(alloc), usize::MAX);
         let key = self.keys.pop_front();
-        let mut given = Vec::new(alloc);
-        if let Some(byte) = key {
-            given.push(byte)?;
-        }
-        let mut input = MemSource::new(given, Vec::new(alloc), 1);
+        let mut input = MemSource::new(given(alloc, key)?, Vec::new(alloc), 1);
+        let at = self.machine.ip();
         match self.machine.step(&mut input, &mut out) {
             // No read of this input fails, and a write only where memory is wanting.
             Stepped::InFault | Stepped::OutFault => Err(AllocError),
             answer => {
+                self.at = at;
+                self.steps -= 1;
                 self.end = end_of(answer);
                 self.pending.push_back(key_event(key))?;
                 add_written(&mut self.pending, out.taken())

@@ -35,8 +35,10 @@ impl Tally {
     /// Counts an event of a line and of an offset.
     pub(crate) fn count(&mut self, line: u32, at: u16, event: Event) -> Result<(), AllocError>
         ensures { (both : List (Placed × Placed)) → length both < 2 ^ 63 → Tallies both self.old →
-            OnOk result (Tallies (both ++ (record { at = at; event = event_of event },
-            record { at = line; event = event_of event }) ∷ []) self.new) }
+            OnOk result (Tallies (both ++ (
+              record { at = at; event = event_of event },
+              record { at = line; event = event_of event },
+            ) ∷ []) self.new) }
     {
         if let Event::Wrote(_) = event {
             self.bytes = self.bytes.saturating_add(1);

@@ -1,6 +1,6 @@
 //! The run of a text, event by event.
 
-ghost use Rattle.std.specs.Prelude.{◌≡◌, ◌<◌, ℕ, List, [], IfOk, OnOk, IsTrue, ◌↔◌};
+ghost use Rattle.std.specs.Prelude.{◌≡◌, ◌<◌, ℕ, List, [], IfOk, OnOk, IsTrue, ◌↔◌, length};
 ghost use Rattle.dcc_run.specs.End.{End as RunEnd};
 ghost use Rattle.dcc_run.specs.System.{end_after};
 ghost use Rattle.dcc_c.specs.Run.{text_system, first_state};
@@ -11,9 +11,9 @@ ghost use Rattle.dcc_crun.specs.Stepped.{texts, end_told};
 ghost use Rattle.dcc_map.specs.Placed.{Placed};
 ghost use Rattle.dcc_map.specs.Comparison.{end_of};
 ghost use Rattle.dcc_map.specs.Compared.{line_of, text_events};
-ghost use Rattle.dcc_map.specs.Side.{Coming, Leaves, MaySteps, text_side};
+ghost use Rattle.dcc_map.specs.Side.{Coming, Leaves, MaySteps, Refuses, text_side};
 
-use crate::event::{Event, WithheldKey, add_written, key_event};
+use crate::event::{Event, WithheldKey, add_written, given, key_event, keys_of};
 use crate::report::{End, Settings};
 use dcc_c::Unit;
 use dcc_crun::{CRun, CStepped};
@@ -46,7 +46,8 @@ fn end_of(answer: CStepped) -> End
         CStepped::Exit(code) => End::Exit(code),
         CStepped::Divide => End::Divide,
         CStepped::Stuck(line) => End::Stuck(line),
-        CStepped::Running | CStepped::InFault | CStepped::OutFault | CStepped::Memory => End::Running,
+        CStepped::Running | CStepped::InFault | CStepped::OutFault | CStepped::Memory =>
+            End::Running,
     }
 }
 
@@ -64,11 +65,9 @@ impl TextSide {
             (end_after (text_system (tree_of unit.now)) settings.now.most
             (first_state (tree_of unit.now) allowed.start settings.now.fill input.now))) }
     {
-        let mut keys = VecDeque::new(alloc);
-        keys.extend(input.iter().copied())?;
         Ok(TextSide {
             run: CRun::new(alloc, unit, settings.fill)?,
-            keys,
+            keys: keys_of(alloc, input)?,
             steps: settings.most,
             line: 0,
             pending: VecDeque::new(alloc),
@@ -90,7 +89,7 @@ impl TextSide {
             IfOk result (Leaves texts line_of tree (text_side self.new) self.new.line coming end) }
     {
         let mut out = MemSink::new(alloc, Vec::new(alloc), usize::MAX);
-        while self.is_silent() {
+        'steps: while self.is_silent() {
             self.step(alloc, &mut out)?;
         }
         Ok(self.pending.pop_front())
@@ -103,7 +102,7 @@ impl TextSide {
             IfOk result (λ found. end_of found ≡ end) }
     {
         self.pending.clear();
-        while self.is_silent() {
+        'steps: while self.is_silent() {
             let mut out = MemSink::new(alloc, Vec::new(alloc), usize::MAX);
             self.step(alloc, &mut out)?;
             self.pending.clear();
@@ -111,7 +110,7 @@ impl TextSide {
         Ok(self.end)
     }
 
-    // Makes a step.
+    // Makes a step. What it writes goes to an output that is empty yet.
     #[inline(always)]
     fn step(&mut self, alloc: Global, out: &mut MemSink) -> Result<(), AllocError>
         requires may { MaySteps (text_side self.old) }
@@ -119,16 +118,17 @@ impl TextSide {
         ensures comes { (tree : Tree) (coming : List Placed) (end : RunEnd) →
             Coming texts line_of tree (text_side self.old) coming end →
             OnOk result (Coming texts line_of tree (text_side self.new) coming end) }
-        ensures steps { self.new.steps < self.old.steps }
+        ensures steps { OnOk result (self.new.steps < self.old.steps) }
         ensures unwritten { OnOk result (self.new.pending.items ≡ [] → out.new.taken ≡ []) }
     {
-        self.line = self.run.line();
-        self.steps -= 1;
+        let line = self.run.line();
         match self.run.step(alloc, &mut WithheldKey, out) {
             CStepped::InFault => self.take_key(alloc),
             // A write fails only where memory is wanting.
             CStepped::OutFault | CStepped::Memory => Err(AllocError),
             answer => {
+                self.line = line;
+                self.steps -= 1;
                 self.end = end_of(answer);
                 add_written(&mut self.pending, out.taken())
             }
@@ -136,18 +136,25 @@ impl TextSide {
     }
 
     // Makes a step that takes a key.
-    fn take_key(&mut self, alloc: Global) -> Result<(), AllocError> {
+    fn take_key(&mut self, alloc: Global) -> Result<(), AllocError>
+        requires may { MaySteps (text_side self.old) }
+        requires takes { Refuses texts self.old.run }
+        ensures comes { (tree : Tree) (coming : List Placed) (end : RunEnd) →
+            Coming texts line_of tree (text_side self.old) coming end →
+            OnOk result (Coming texts line_of tree (text_side self.new) coming end) }
+        ensures steps { OnOk result (self.new.steps < self.old.steps) }
+        ensures some { OnOk result (0 < length self.new.pending.items) }
+    {
         let mut out = MemSink::new(alloc, Vec::new(alloc), usize::MAX);
         let key = self.keys.pop_front();
-        let mut given = Vec::new(alloc);
-        if let Some(byte) = key {
-            given.push(byte)?;
-        }
-        let mut input = MemSource::new(given, Vec::new(alloc), 1);
+        let mut input = MemSource::new(given(alloc, key)?, Vec::new(alloc), 1);
+        let line = self.run.line();
         match self.run.step(alloc, &mut input, &mut out) {
             // No read of this input fails, and a write only where memory is wanting.
             CStepped::InFault | CStepped::OutFault | CStepped::Memory => Err(AllocError),
             answer => {
+                self.line = line;
+                self.steps -= 1;
                 self.end = end_of(answer);
                 self.pending.push_back(key_event(key))?;
                 add_written(&mut self.pending, out.taken())
