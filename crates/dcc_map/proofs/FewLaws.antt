@@ -4,7 +4,7 @@ use Rattle.std.specs.Prelude.{if◌then◌else◌, ◌==◌}
 use Rattle.std.specs.List.{take_while, range_with_len}
 use Rattle.std.proofs.lemmas.List.FromFn.{length-map-range_with_len}
 use Rattle.dcc_run.specs.End.{is_over}
-use Rattle.dcc_run.specs.Event.{Event, Wrote, writes}
+use Rattle.dcc_run.specs.Event.{Event, Wrote, Took, MetEnd, writes}
 use Rattle.dcc_num.specs.declared.Reg.TheVariants.{Ax, Dx}
 use Rattle.dcc_num.specs.declared.dos.TheConstants.{GETCHE, PUTC, GETCH, PUTS, EXIT}
 use Rattle.dcc_machine.specs.declared.cpu.Cpu.{Cpu}
@@ -49,9 +49,9 @@ either_few true s t u p q = p
 either_few false s t u p q = q
 
 key_few : (echo : Bool) (input : List ℕ) (s : State) → IsFew s (with_key echo input s)
-key_few echo [] s = omega (arith, length-append s.events)
-key_few true (byte ∷ rest) s = omega (arith, length-append s.events)
-key_few false (byte ∷ rest) s = omega (arith, length-append s.events)
+key_few echo [] s = let long = length-append s.events (MetEnd ∷ []) in omega (arith, long)
+key_few true (byte ∷ rest) s = let long = length-append s.events (Took byte ∷ Wrote byte ∷ []) in omega (arith, long)
+key_few false (byte ∷ rest) s = let long = length-append s.events (Took byte ∷ []) in omega (arith, long)
 
 dos_few : (number at : ℕ) (s : State) → IsFew s (dos_step number at s)
 dos_few number at s =

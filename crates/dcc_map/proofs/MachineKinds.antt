@@ -1,5 +1,5 @@
 -- What a step of the machine does at the console.
-use Rattle.std.proofs.Common.{◌≡◌, ◌≢◌, ℕ, ◌+◌, ◌/◌, ◌%◌, Bool, true, false, List, [], ◌∷◌, ◌++◌, Option, Some, None, refl, sym, ap, ◌∙◌}
+use Rattle.std.proofs.Common.{◌≡◌, ◌≢◌, ℕ, ◌+◌, ◌/◌, ◌%◌, Bool, true, false, List, [], ◌∷◌, ◌++◌, Option, Some, None, refl, sym, ap, ◌∙◌, subst}
 use Rattle.std.proofs.lemmas.List.{append-nil}
 use Rattle.std.specs.Prelude.{if◌then◌else◌, ◌==◌}
 use Rattle.dcc_run.specs.End.{Exit, Outside, is_over}
@@ -12,7 +12,7 @@ use Rattle.dcc_machine.specs.declared.instr.Op.TheVariants.{Int21}
 use Rattle.dcc_machine.specs.declared.instr.Instr.{Instr}
 use Rattle.dcc_machine.specs.Machine.{State, word_in}
 use Rattle.dcc_machine.specs.Operations.{with_end}
-use Rattle.dcc_machine.specs.Dos.{dos_string, after_write, key_step}
+use Rattle.dcc_machine.specs.Dos.{bytes_from, dos_string, after_write, key_step}
 use Rattle.dcc_machine.specs.Table.{instruction_at}
 use Rattle.dcc_machine.specs.Step.{code_bytes, op_step, instruction_step, step}
 use Rattle.dcc_machine.proofs.ConsoleLaws.{with_console_of, op-keeps, op-keeps_events}
@@ -76,11 +76,19 @@ module _ (operation : State → State) where
   dos_kind false false false false false character string at s =
       writes_bytes (record { bytes = []; events = λ input. sym (append-nil s.events); apart = λ input after. refl })
 
+  string_beside : (input : List ℕ) (s : State) → dos_string s ≡ dos_string (given input s)
+  unfolding dos_string bytes_from
+  string_beside input s = refl
+
   op_kind : (cpu : Cpu) (op : Op) (at : ℕ) (s : State)
       → StepKind console s.events (λ input. op_step cpu op at (given input s))
   op_kind cpu Int21 at s =
       let ah : ℕ = word_in s Ax / 256 in
-      dos_kind (ah == PUTC) (ah == EXIT) (ah == GETCHE) (ah == GETCH) (ah == PUTS) (word_in s Dx % 256 ∷ []) (dos_string s) at s
+      let step : List ℕ → List ℕ → State =
+      λ string input. dos_by (ah == PUTC) (ah == EXIT) (ah == GETCHE) (ah == GETCH) (ah == PUTS) (word_in s Dx % 256 ∷ []) string at (given input s) in
+      let same : step (dos_string s) ≡ (λ input. step (dos_string (given input s)) input) = λ i input. step (string_beside input s i) input in
+      subst (λ (next : List ℕ → State). StepKind console s.events next) same
+      (dos_kind (ah == PUTC) (ah == EXIT) (ah == GETCHE) (ah == GETCH) (ah == PUTS) (word_in s Dx % 256 ∷ []) (dos_string s) at s)
   op_kind cpu op at s = quiet_op cpu op at s (λ e. cc)
 
   found_kind : (cpu : Cpu) (found : Option Instr) (s : State)

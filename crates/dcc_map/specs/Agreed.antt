@@ -2,7 +2,8 @@
 use Rattle.std.specs.Prelude.{◌≡◌, ◌^◌, ◌<◌, ℕ, List, [], ◌∷◌, ◌++◌, length, map, All, slice_get, Option}
 use Rattle.std.specs.Option.{unwrap_or}
 use Rattle.std.specs.List.{zip}
-use Rattle.std.specs.Ordering.{Ordering, nat_cmp, ordering_then}
+use Rattle.std.specs.declared.cmp.Ordering.{Ordering}
+use Rattle.std.specs.Ordering.{nat_cmp, ordering_then}
 use Rattle.std.specs.BTreeMap.{get, values}
 use Rattle.dcc_run.specs.End.{End as RunEnd}
 use Rattle.dcc_run.specs.Event.{written_by}

@@ -65,12 +65,12 @@ both_places _ _ = None
 -- What is told of the machine's list of events and of the text's: how many bytes are written in the events with which
 -- both begin, which lines and addresses stand beside each other there, and those of the first event of each after these,
 -- where there is one in both lists; and both ends.
-pub record IsReport (machine text : List Placed) (machine_end text_end : RunEnd) (report : Report) : Type 0 where
+pub record IsReport (machine text : List Placed) (ends text_ends : RunEnd) (report : Report) : Type 0 where
   pub common : List Event
   pub longest : IsLongestCommon common (events_of machine) (events_of text)
   pub bytes : report.bytes ≡ length (written_by common)
   pub pairs : ArePairs (zip (take (length common) machine) (take (length common) text)) report.pairs.items
   pub differs :
       report.differs ≡ both_places (slice_get machine (length common)) (slice_get text (length common))
-  pub machine_end : end_of report.machine ≡ machine_end
-  pub text_end : end_of report.text ≡ text_end
+  pub machine_end : end_of report.machine ≡ ends
+  pub text_end : end_of report.text ≡ text_ends
