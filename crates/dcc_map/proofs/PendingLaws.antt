@@ -1,0 +1,41 @@
+-- The events that are pending after a step, and the keys that are left.
+use Rattle.std.proofs.Common.{◌≡◌, ℕ, List, [], ◌∷◌, ◌++◌, length, map, Option, Some, None, refl, sym, ap, ◌∙◌, arith}
+use Rattle.std.specs.Prelude.{MatchOption, option_to_list}
+use Rattle.dcc_run.specs.Event.{Event as RunEvent, writes}
+use Rattle.dcc_map.specs.declared.event.Event.{Event}
+use Rattle.dcc_map.specs.declared.event.Event.TheVariants.{Wrote}
+use Rattle.dcc_map.specs.Placed.{placed_at}
+use Rattle.dcc_map.specs.Side.{event_of, key_event}
+
+code_writes : (bytes : List ℕ) → map event_of (map Wrote bytes) ≡ writes bytes
+code_writes [] = refl
+code_writes (b ∷ bytes) = ap (λ l. event_of (Wrote b) ∷ l) (code_writes bytes)
+
+pub none_pending : (at : ℕ) (held : List Event) → placed_at at (map event_of held) ≡ [] → held ≡ []
+none_pending at [] none = refl
+none_pending at (e ∷ held) none = cc
+
+-- after bytes were written
+pub pending_written : (before at : ℕ) (held items : List Event) (bytes : List ℕ) → placed_at before (map event_of held) ≡ []
+    → items ≡ held ++ map Wrote bytes → placed_at at (map event_of items) ≡ placed_at at (writes bytes)
+pending_written before at held items bytes none is =
+    ap (λ (l : List Event). placed_at at (map event_of l)) (is ∙ ap (λ (l : List Event). l ++ map Wrote bytes) (none_pending before held none))
+    ∙ ap (λ (l : List RunEvent). placed_at at l) (code_writes bytes)
+
+-- after a key was taken and bytes were written
+pub pending_key : (before at : ℕ) (held mid items : List Event) (key : Option ℕ) (bytes : List ℕ) → placed_at before (map event_of held) ≡ []
+    → mid ≡ held ++ key_event key ∷ [] → items ≡ mid ++ map Wrote bytes
+    → placed_at at (map event_of items) ≡ placed_at at (event_of (key_event key) ∷ writes bytes)
+pending_key before at held mid items key bytes none first is =
+    ap (λ (l : List Event). placed_at at (map event_of l))
+    (is ∙ ap (λ (l : List Event). l ++ map Wrote bytes) (first ∙ ap (λ (l : List Event). l ++ key_event key ∷ []) (none_pending before held none)))
+    ∙ ap (λ (l : List RunEvent). placed_at at (event_of (key_event key) ∷ l)) (code_writes bytes)
+
+-- where there was no key, none is left
+pub no_keys : (keys now : List ℕ) → MatchOption None ((length keys ≡ 0) × (length now ≡ 0)) (λ (_ : ℕ). length now + 1 ≡ length keys)
+    → (keys ≡ []) × (now ≡ [])
+no_keys keys now gone = (empty keys gone.0, empty now gone.1)
+  where
+    empty : (xs : List ℕ) → length xs ≡ 0 → xs ≡ []
+    empty [] none = refl
+    empty (x ∷ xs) none = absurd (omega (arith, none))
